@@ -1,0 +1,300 @@
+//! What a call does to the rows of one object.
+ghost use Rattle.std.specs.Prelude.{◌≡◌, ◌<◌, ◌^◌, ◌↔◌, pos, length, OnOk, OnErr, IfOk, IsTrue};
+ghost use Rattle.sto_model.specs.Told.{told};
+ghost use Rattle.sto_model.specs.Rows.{keys_beside, rows_between, least_from};
+ghost use Rattle.sto_model.specs.Operations.{operation_of};
+ghost use Rattle.sto_model.specs.Objects.{only_value, value_or_absent, box_effect, counter_effect, array_effect, hash_effect, tree_effect, put_effect, remove_effect, effect_by, takes_by, takes as takes_operation, IsTaken};
+
+use crate::call::Call;
+use crate::operation::{Operation, test_at};
+use crate::reply::{Pairs, Reply};
+use crate::rows::Rows;
+use crate::shape::{Shape, Shapes};
+use std::alloc::Global;
+use sto_part::{NoMemory, compare, wrapping_difference, wrapping_sum};
+
+/// Whether a call is one that its object's shape takes.
+///
+/// A box takes get and set; a counter get, add, test with a number from 0 to 5, and take; an array
+/// get, set and add; a hash table get, put, remove, has and len; a tree get, put, remove, len,
+/// next, count and scan.
+pub fn takes(shapes: &Shapes, call: &Call) -> bool
+    ensures { IsTrue result ↔ IsTaken shapes.now.items call.now }
+{
+    if call.object < shapes.len() {
+        takes_code(*shapes.get(call.object), call.code, call.a)
+    } else {
+        false
+    }
+}
+
+fn takes_code(shape: Shape, code: u8, a: i64) -> bool
+    ensures { result ≡ takes_by shape (operation_of code) a }
+{
+    match Operation::from_code(code) {
+        Some(operation) => match shape {
+            Shape::Single(_) => matches!(operation, Operation::Get | Operation::Set),
+            Shape::Counter(_) => match operation {
+                Operation::Get | Operation::Add | Operation::Take => true,
+                Operation::Test => test_at(a).is_some(),
+                _ => false,
+            },
+            Shape::Array { .. } => {
+                matches!(operation, Operation::Get | Operation::Set | Operation::Add)
+            }
+            Shape::Hash { buckets, .. } => buckets > 0 && is_of_a_table(operation),
+            Shape::Tree { .. } => is_of_a_tree(operation),
+        },
+        None => false,
+    }
+}
+
+fn is_of_a_table(operation: Operation) -> bool
+    ensures { result ≡ takes_operation (Shape.Hash 1 0) operation (pos 0) }
+{
+    matches!(
+        operation,
+        Operation::Get | Operation::Put | Operation::Remove | Operation::Has | Operation::Len
+    )
+}
+
+fn is_of_a_tree(operation: Operation) -> bool
+    ensures { result ≡ takes_operation (Shape.Tree 0) operation (pos 0) }
+{
+    matches!(
+        operation,
+        Operation::Get
+            | Operation::Put
+            | Operation::Remove
+            | Operation::Len
+            | Operation::Next
+            | Operation::Count
+            | Operation::Scan
+    )
+}
+
+pub(crate) fn ask_rows(
+    alloc: Global,
+    rows: &mut Rows,
+    shape: Shape,
+    call: &Call,
+) -> Result<Reply, NoMemory>
+    requires { IsTrue (takes_by shape (operation_of call.now.code) call.now.a) }
+    ensures reply { IfOk result (λ r. told r ≡ (effect_by shape (operation_of call.now.code) call.now.a call.now.b rows.old.items).reply) }
+    ensures after { OnOk result (rows.new.items ≡ (effect_by shape (operation_of call.now.code) call.now.a call.now.b rows.old.items).after) }
+    ensures err { OnErr result (rows.new.items ≡ rows.old.items) }
+{
+    match Operation::from_code(call.code) {
+        Some(operation) => match shape {
+            Shape::Single(_) => ask_box(rows, operation, call.a),
+            Shape::Counter(_) => ask_counter(rows, operation, call.a, call.b),
+            Shape::Array { .. } => ask_array(rows, operation, call.a, call.b),
+            Shape::Hash { buckets, places } => ask_hash(
+                rows, buckets, places, operation, call.a, call.b,
+            ),
+            Shape::Tree { leaves } => ask_tree(alloc, rows, leaves, operation, call.a, call.b),
+        },
+        None => Ok(Reply::Absent),
+    }
+}
+
+fn ask_box(rows: &mut Rows, operation: Operation, a: i64) -> Result<Reply, NoMemory>
+    ensures reply { IfOk result (λ r. told r ≡ (box_effect operation a rows.old.items).reply) }
+    ensures after { OnOk result (rows.new.items ≡ (box_effect operation a rows.old.items).after) }
+    ensures err { OnErr result (rows.new.items ≡ rows.old.items) }
+{
+    match operation {
+        Operation::Get => Ok(Reply::Value(value_of_one(rows))),
+        Operation::Set => {
+            rows.put(0, a)?;
+            Ok(Reply::Done)
+        }
+        _ => Ok(Reply::Absent),
+    }
+}
+
+fn ask_counter(rows: &mut Rows, operation: Operation, a: i64, b: i64) -> Result<Reply, NoMemory>
+    ensures reply { IfOk result (λ r. told r ≡ (counter_effect operation a b rows.old.items).reply) }
+    ensures after { OnOk result (rows.new.items ≡ (counter_effect operation a b rows.old.items).after) }
+    ensures err { OnErr result (rows.new.items ≡ rows.old.items) }
+{
+    let value = value_of_one(rows);
+    match operation {
+        Operation::Get => Ok(Reply::Value(value)),
+        Operation::Add => {
+            rows.put(0, wrapping_sum(value, a))?;
+            Ok(Reply::Done)
+        }
+        Operation::Test => match test_at(a) {
+            Some(test) => Ok(Reply::Flag(compare(test, value, b))),
+            None => Ok(Reply::Flag(false)),
+        },
+        Operation::Take => {
+            if a <= value {
+                rows.put(0, wrapping_difference(value, a))?;
+                Ok(Reply::Flag(true))
+            } else {
+                Ok(Reply::Flag(false))
+            }
+        }
+        _ => Ok(Reply::Absent),
+    }
+}
+
+fn ask_array(rows: &mut Rows, operation: Operation, a: i64, b: i64) -> Result<Reply, NoMemory>
+    ensures reply { IfOk result (λ r. told r ≡ (array_effect operation a b rows.old.items).reply) }
+    ensures after { OnOk result (rows.new.items ≡ (array_effect operation a b rows.old.items).after) }
+    ensures err { OnErr result (rows.new.items ≡ rows.old.items) }
+{
+    let value = rows.value(a);
+    match operation {
+        Operation::Get => Ok(shown(value)),
+        Operation::Set => match value {
+            Some(_) => {
+                rows.put(a, b)?;
+                Ok(Reply::Done)
+            }
+            None => Ok(Reply::Absent),
+        },
+        Operation::Add => match value {
+            Some(old) => {
+                rows.put(a, wrapping_sum(old, b))?;
+                Ok(Reply::Done)
+            }
+            None => Ok(Reply::Absent),
+        },
+        _ => Ok(Reply::Absent),
+    }
+}
+
+fn ask_hash(
+    rows: &mut Rows,
+    buckets: u32,
+    places: u32,
+    operation: Operation,
+    a: i64,
+    b: i64,
+) -> Result<Reply, NoMemory>
+    requires { 0 < buckets }
+    ensures reply { IfOk result (λ r. told r ≡ (hash_effect buckets places operation a b rows.old.items).reply) }
+    ensures after { OnOk result (rows.new.items ≡ (hash_effect buckets places operation a b rows.old.items).after) }
+    ensures err { OnErr result (rows.new.items ≡ rows.old.items) }
+{
+    match operation {
+        Operation::Get => Ok(shown(rows.value(a))),
+        Operation::Put => {
+            let full = places <= beside(rows, buckets, a);
+            put_pair(rows, full, a, b)
+        }
+        Operation::Remove => Ok(remove_pair(rows, a)),
+        Operation::Has => Ok(Reply::Flag(rows.value(a).is_some())),
+        Operation::Len => Ok(Reply::Value(i64::from(rows.len()))),
+        _ => Ok(Reply::Absent),
+    }
+}
+
+fn ask_tree(
+    alloc: Global,
+    rows: &mut Rows,
+    leaves: u32,
+    operation: Operation,
+    a: i64,
+    b: i64,
+) -> Result<Reply, NoMemory>
+    ensures reply { IfOk result (λ r. told r ≡ (tree_effect leaves operation a b rows.old.items).reply) }
+    ensures after { OnOk result (rows.new.items ≡ (tree_effect leaves operation a b rows.old.items).after) }
+    ensures err { OnErr result (rows.new.items ≡ rows.old.items) }
+{
+    match operation {
+        Operation::Get => Ok(shown(rows.value(a))),
+        Operation::Put => {
+            let full = 4 * u64::from(leaves) <= u64::from(rows.len());
+            put_pair(rows, full, a, b)
+        }
+        Operation::Remove => Ok(remove_pair(rows, a)),
+        Operation::Len => Ok(Reply::Value(i64::from(rows.len()))),
+        Operation::Next => Ok(shown(next_key(rows, a))),
+        Operation::Count => Ok(Reply::Value(i64::from(count_between(rows, a, b)))),
+        Operation::Scan => Ok(Reply::Pairs(pairs_between(alloc, rows, a, b)?)),
+        _ => Ok(Reply::Absent),
+    }
+}
+
+// The value of the one row, or 0 where there is none.
+fn value_of_one(rows: &Rows) -> i64
+    ensures { result ≡ only_value rows.now.items }
+{
+    rows.value(0).unwrap_or(0)
+}
+
+fn shown(value: Option<i64>) -> Reply
+    ensures { told result ≡ value_or_absent value }
+{
+    match value {
+        Some(value) => Reply::Value(value),
+        None => Reply::Absent,
+    }
+}
+
+fn put_pair(rows: &mut Rows, full: bool, key: i64, value: i64) -> Result<Reply, NoMemory>
+    ensures reply { IfOk result (λ r. told r ≡ (put_effect full key value rows.old.items).reply) }
+    ensures after { OnOk result (rows.new.items ≡ (put_effect full key value rows.old.items).after) }
+    ensures err { OnErr result (rows.new.items ≡ rows.old.items) }
+{
+    if rows.value(key).is_none() && full {
+        Ok(Reply::Full)
+    } else {
+        rows.put(key, value)?;
+        Ok(Reply::Done)
+    }
+}
+
+fn remove_pair(rows: &mut Rows, key: i64) -> Reply
+    ensures reply { told result ≡ (remove_effect key rows.old.items).reply }
+    ensures after { rows.new.items ≡ (remove_effect key rows.old.items).after }
+{
+    Reply::Flag(rows.remove(key))
+}
+
+// How many keys stand in the bucket of a key.
+fn beside(rows: &Rows, buckets: u32, key: i64) -> u32
+    requires { 0 < buckets }
+    ensures { result ≡ keys_beside rows.now.items buckets key }
+{
+    let modulus = i64::from(buckets);
+    let bucket = key.rem_euclid(modulus);
+    rows.as_slice()
+        .iter()
+        .filter(|row| row.0.rem_euclid(modulus) == bucket)
+        .count() as u32
+}
+
+fn next_key(rows: &Rows, key: i64) -> Option<i64>
+    ensures { result ≡ least_from rows.now.items key }
+{
+    rows.as_slice()
+        .iter()
+        .find(|row| key <= row.0)
+        .map(|row| row.0)
+}
+
+fn count_between(rows: &Rows, low: i64, high: i64) -> u32
+    ensures { result ≡ length (rows_between rows.now.items low high) }
+{
+    rows.as_slice()
+        .iter()
+        .filter(|row| low <= row.0 && row.0 <= high)
+        .count() as u32
+}
+
+fn pairs_between(alloc: Global, rows: &Rows, low: i64, high: i64) -> Result<Pairs, NoMemory>
+    ensures { IfOk result (λ p. p.items ≡ rows_between rows.now.items low high) }
+{
+    let mut pairs = Pairs::new(alloc);
+    for row in rows.as_slice() {
+        if low <= row.0 && row.0 <= high {
+            pairs.push(*row)?;
+        }
+    }
+    Ok(pairs)
+}
