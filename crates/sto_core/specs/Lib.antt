@@ -1,0 +1,16 @@
+pub mod Lists
+pub mod Versions
+pub mod Reads
+pub mod History
+pub mod Views
+pub mod Event
+pub mod Puts
+pub mod Allowed
+pub mod Core
+pub mod Rule
+pub mod Opened
+pub mod Cut
+pub mod Gathered
+pub mod Reopened
+pub mod Tells
+pub mod Calls

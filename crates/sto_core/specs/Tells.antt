@@ -1,0 +1,106 @@
+-- What a pass learns from an event, beside its view after it: four facts of its own view.
+use Rattle.std.specs.Prelude.{◌≡◌, ◌≢◌, ◌+◌, ◌*◌, ◌^◌, ◌<◌, ◌≤◌, ℕ, ℤ, List, true}
+use mathlib.Core.Option.{some}
+use lib.ListN.{get_elem?}
+use Rattle.sto_part.specs.Parts.{part_of}
+use Rattle.sto_core.specs.declared.view.Entry.{Entry}
+use Rattle.sto_core.specs.declared.view.Claim.{Claim}
+use Rattle.sto_core.specs.declared.view.Wrote.{Wrote}
+use Rattle.sto_core.specs.declared.view.Finding.{Finding}
+use Rattle.sto_core.specs.declared.view.OpenRead.{OpenRead}
+use Rattle.sto_core.specs.declared.view.Phase.{Phase}
+use Rattle.sto_core.specs.declared.view.Phase.TheVariants.{Looking, Locking, Testing}
+use Rattle.sto_core.specs.declared.view.View.{View}
+use Rattle.sto_core.specs.Lists.{Each, Among}
+use Rattle.sto_core.specs.Versions.{ticket_of, is_free}
+use Rattle.sto_core.specs.Reads.{words_read}
+use Rattle.sto_core.specs.History.{Contents, Validity}
+use Rattle.sto_core.specs.Views.{hold_of, width_in}
+use Rattle.sto_core.specs.Event.{Event, Start, Open, Word, Close, Lock, Test, Draw, Check, Decide, Put, Release}
+use Rattle.sto_core.specs.Event.{Unlock, after, is_own_or_free}
+
+-- the first fact: the claims of one number are part of some valid contents
+abbrev pub ClaimsFit : Validity → View → Type 0
+ClaimsFit valid v =
+    (n : ℕ) → (whole : Contents) × valid v.sizes whole
+    × Each (λ (c : Claim). c.number ≡ n → part_of whole c.part ≡ c.words) v.claims
+
+-- the second and the third fact of a ticket t that is found at part p, free or under the pass's own hold
+pub record Fresh (v : View) (p t : ℕ) : Type 0 where
+  -- it is the ticket of each claim of the part whose number it does not pass
+  pub same : Each (λ (c : Claim). c.part ≡ p → t ≤ c.number → t ≡ c.ticket) v.claims
+  -- it is not below the ticket of a claim of the part
+  pub claims : Each (λ (c : Claim). c.part ≡ p → c.ticket ≤ t) v.claims
+  pub wrote : Each (λ (c : Wrote). c.part ≡ p → c.ticket ≤ t) v.wrote
+
+-- the fourth fact, where the words were opened or reopened with one pass
+abbrev pub FoundAlone : View → ℕ → ℕ → Type 0
+FoundAlone v p n = (is_own_or_free v p n ≡ true) × (ticket_of n ≤ v.at)
+
+-- what every version n that is found at part p tells, with the view w after it
+pub record Finds (passes : ℕ) (v : View) (p n : ℕ) (w : View) : Type 0 where
+  -- the second fact: a ticket that is found free or under the own hold is claimed to have written the part
+  pub wrote : is_own_or_free v p n ≡ true → 0 < ticket_of n
+      → Among (record { start = v.starts; ticket = ticket_of n; part = p }) w.wrote
+  pub fresh : is_own_or_free v p n ≡ true → Fresh v p (ticket_of n)
+  pub alone : passes ≡ 1 → FoundAlone v p n
+
+-- a close that finds the part free with another ticket than its open or test did finds a later one
+abbrev pub IsLater : OpenRead → View → ℕ → Type 0
+IsLater r v n = is_free n ≡ true → ticket_of n ≢ r.ticket → (r.ticket < ticket_of n) × (v.at < ticket_of n)
+
+-- words that were read under the ticket t are those of each claim of the part whose number t does not pass
+abbrev pub HasClaimed : View → ℕ → ℕ → List ℤ → Type 0
+HasClaimed v p t words = Each (λ (c : Claim). c.part ≡ p → t ≤ c.number → words ≡ c.words) v.claims
+
+-- what a close that finds the version n tells of the words read
+abbrev pub Closes : Phase → View → ℕ → ℕ → Type 0
+Closes (Looking r) v p n =
+    IsLater r v n × (n ≡ 2 * r.ticket → HasClaimed v p r.ticket (words_read r.reads (width_in v p)))
+Closes (Testing r) v p n =
+    IsLater r v n × (n ≡ 2 * r.ticket → HasClaimed v p r.ticket (words_read r.reads (width_in v p)))
+Closes _ v p n = Unit {0}
+
+-- a word that is read under a hold is that of each claim of the part whose number the ticket of the hold
+-- does not pass
+abbrev pub ReadsHeld : Phase → View → ℕ → ℕ → ℤ → Type 0
+ReadsHeld Locking v p i x =
+    Each (λ (c : Claim). c.part ≡ p → (hold_of p v.held).ticket ≤ c.number
+    → get_elem? c.words i ≡ some x) v.claims
+ReadsHeld _ v p i x = Unit {0}
+
+-- a number of the clock is at least all numbers that the view has
+pub record Covers (v : View) (n : ℕ) : Type 0 where
+  pub at : v.at ≤ n
+  pub entries : Each (λ (e : Entry). e.ticket ≤ n) v.entries
+  pub claims : Each (λ (c : Claim). (c.number ≤ n) × (c.ticket ≤ n)) v.claims
+  pub wrote : Each (λ (c : Wrote). c.ticket ≤ n) v.wrote
+
+-- no claim or finding is of the attempt that begins
+pub record Begins (w : View) : Type 0 where
+  pub claims : Each (λ (c : Claim). c.start < w.starts) w.claims
+  pub wrote : Each (λ (c : Wrote). c.start < w.starts) w.wrote
+  pub findings : Each (λ (f : Finding). f.start < w.starts) w.findings
+
+-- what an event tells a pass with the view v that finds the number n or the value x, and has the view w
+-- after it
+abbrev pub Learns : ℕ → Event → View → ℕ → ℤ → View → Type 0
+Learns passes Start v n x w = Covers v n × Begins w
+Learns passes (Open p) v n x w = Finds passes v p n w
+Learns passes (Word p i) v n x w = ReadsHeld v.phase v p i x
+Learns passes (Close p) v n x w = Finds passes v p n w × Closes v.phase v p n
+Learns passes (Lock p) v n x w = Finds passes v p n w
+Learns passes (Test p) v n x w = Finds passes v p n w
+Learns passes (Draw us seen loaded) v n x w = Covers v n × (n + 1 ≤ 2 ^ 56)
+Learns passes (Check p) v n x w = Finds passes v p n w
+Learns passes (Decide commit) v n x w = Unit {0}
+Learns passes (Put p i y) v n x w = Unit {0}
+Learns passes (Release p) v n x w = Unit {0}
+Learns passes (Unlock p) v n x w = Unit {0}
+
+-- all that an event tells: the view after it, the first fact, and the others
+pub record Tells (valid : Validity) (passes : ℕ) (e : Event) (v : View) (n : ℕ) (x : ℤ)
+    (w : View) : Type 0 where
+  pub after : w ≡ after e v n x
+  pub fit : ClaimsFit valid w
+  pub learns : Learns passes e v n x w
