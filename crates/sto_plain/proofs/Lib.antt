@@ -1,0 +1,8 @@
+pub mod Remembering
+pub mod Stepping
+pub mod Calls
+pub mod Shown
+pub mod Asked
+pub mod Operations
+pub mod Opening
+pub mod Scenes

@@ -1,0 +1,78 @@
+-- The passes of one thread: their views, and what an event of one of them makes of the core state.
+use Rattle.std.specs.Prelude.{◌≡◌, ◌≢◌, ◌<◌, refl, ℕ, ℤ, List, [], length, slice_set, slice_index_or}
+use Rattle.std.proofs.Common.{◌∙◌}
+use Rattle.sto_core.specs.declared.view.View.{View}
+use Rattle.sto_core.specs.declared.view.Phase.TheVariants.{Idle}
+use Rattle.sto_core.specs.Core.{Core, core_after, number_found, value_found}
+use Rattle.sto_core.specs.Event.{Event, Open, Close, Test, Check, after}
+use Rattle.sto_core.specs.History.{Validity}
+use Rattle.sto_core.specs.Allowed.{Allowed}
+use Rattle.sto_core.specs.Tells.{Tells}
+
+-- the view of no pass
+abbrev pub no_view : View
+no_view = record {
+  number = 0;
+  phase = Idle;
+  at = 0;
+  starts = 0;
+  draws = 0;
+  held = [];
+  checked = [];
+  entries = [];
+  claims = [];
+  wrote = [];
+  findings = [];
+  sizes = [];
+  opening = [];
+  gathered = 0;
+}
+
+-- the view of the pass at a place
+abbrev pub view_at : List View → ℕ → View
+view_at views pass = slice_index_or views pass no_view
+
+abbrev pub view_of : Core → ℕ → View
+view_of c pass = view_at c.views pass
+
+-- the views after an event of one pass, which found the number n or the value x
+abbrev pub noted : Event → List View → ℕ → ℕ → ℤ → List View
+noted e views pass n x = slice_set views pass (after e (view_at views pass) n x)
+
+-- the core state after an event of one pass
+abbrev pub stepped : Event → Core → ℕ → Core
+stepped e c pass = core_after e c pass (view_of c pass)
+
+-- the same pass of as many, and the views of the others are as they were
+abbrev pub IsSame : Core → ℕ → Core → ℕ → Type 0
+IsSame c pass d now =
+    (now ≡ pass) × (length d.statuses ≡ length c.statuses) × (length d.views ≡ length c.views)
+    × ((other : ℕ) → other ≢ pass → view_of d other ≡ view_of c other)
+
+pub same_as_itself : (c : Core) (pass : ℕ) → IsSame c pass c pass
+same_as_itself c pass = (refl, refl, refl, λ other ne. refl)
+
+pub same_through : (c : Core) (i : ℕ) (d : Core) (j : ℕ) (e : Core) (k : ℕ) → IsSame c i d j
+    → IsSame d j e k → IsSame c i e k
+same_through c i d j e k p q =
+    (q.0 ∙ p.0, q.1 ∙ p.1, q.2 ∙ p.2, λ other ne. q.3 other (λ is. ne (is ∙ p.0)) ∙ p.3 other ne)
+
+-- the event loads the version of the part
+abbrev pub LoadsVersion : Event → ℕ → Type 0
+LoadsVersion (Open q) p = q ≡ p
+LoadsVersion (Close q) p = q ≡ p
+LoadsVersion (Test q) p = q ≡ p
+LoadsVersion (Check q) p = q ≡ p
+LoadsVersion e p = ⊥
+
+-- the event of a pass that a call was: it answers what the word held, and tells what the pass learns
+pub record Steps (valid : Validity) (e : Event) (c : Core) (pass n : ℕ) (x : ℤ) (later : Core) : Type 0
+  where
+    pub number : n ≡ number_found e c
+    pub value : x ≡ value_found e c
+    pub core : later ≡ stepped e c pass
+    pub tells : Tells valid (length c.statuses) e (view_of c pass) n x (view_of later pass)
+
+-- the pass may make the event
+abbrev pub Can : Validity → Event → Core → ℕ → Type 0
+Can valid e c pass = (pass < length c.views) × Allowed valid e (view_of c pass)

@@ -1,0 +1,244 @@
+//! The words of one thread, and what the passes over them know.
+ghost use Rattle.std.specs.Prelude.{◌≡◌, ℕ, suc, pos, ◌^◌, ◌<◌, ◌≤◌, [], length, map, IfOk};
+ghost use Rattle.sto_core.specs.Event.{Start, Open, Word, Close, Lock, Test, Draw, Check, Decide, Put, Release, Unlock};
+ghost use Rattle.sto_core.specs.Allowed.{Allowed};
+ghost use Rattle.sto_core.specs.Core.{status_word};
+ghost use Rattle.sto_core.specs.Lists.{Each};
+ghost use Rattle.sto_core.specs.Opened.{opened_views, opened_core};
+ghost use Rattle.sto_plain.specs.Kept.{AreUpToDate};
+ghost use Rattle.sto_plain.specs.Passes.{view_of, noted, LoadsVersion, Steps};
+
+use std::alloc::Global;
+use std::marker::{Brand, Model, PhantomData};
+use sto_core::{Notebook, Noted, Told, Versions};
+use sto_item::Updates;
+use sto_part::{Contents, List, Naming, NoMemory, Parts};
+use sto_version::{FREE0, Version};
+
+/// Several passes in one thread, over words that they share.
+#[derive(Drop)]
+pub struct Plain<T: Naming> {
+    clock: u64,
+    statuses: List<u64>,
+    versions: Versions,
+    contents: Contents,
+    book: Notebook,
+    // The ticket that each pass drew last. It is no word of the core state.
+    tickets: List<u64>,
+    of: PhantomData<T>,
+}
+
+impl<T: Naming> Model for Plain<T> {
+    ghost use Rattle.std.specs.Prelude.{◌≡◌, length};
+    ghost use Rattle.sto_core.specs.Core.{Core};
+    ghost use Rattle.sto_plain.specs.Words.{core_shown};
+    ghost use Rattle.sto_plain.specs.Kept.{Kept};
+
+    ghost Value = { Core };
+
+    ghost view = { λ p. core_shown p.clock p.statuses.items p.versions.items p.contents.items p.book };
+
+    ghost invariant = { λ p. Kept T.valid p.tickets.items (core_shown p.clock p.statuses.items p.versions.items p.contents.items p.book) × (length p.versions.items ≡ length p.contents.items) };
+}
+
+// Writes down what an event makes of the view of its pass.
+fn note_event<E: Told>(book: &mut Notebook, pass: u32, found: u64, value: i64)
+    ensures { book.new ≡ noted E.event book.old pass found value }
+{
+    note_views::<E, Brand>(book, pass, found, value);
+}
+
+fn note_views<E: Told, N: Noted>(book: &mut Notebook, pass: u32, found: u64, value: i64)
+    requires { N.views ≡ noted E.event book.old pass found value }
+    ensures { book.new ≡ noted E.event book.old pass found value }
+{
+    book.note::<N>();
+}
+
+// What a decision stores.
+fn status_of(ticket: u64, commit: bool) -> u64
+    requires { ticket ≤ 2 ^ 56 }
+    ensures { result ≡ status_word commit ticket }
+{
+    if commit { 2 * ticket + 1 } else { 2 * ticket }
+}
+
+// Writes down the views of passes over words that were just opened.
+fn note_opening<T: Naming, N: Noted>(book: &mut Notebook, ty: &T, contents: &Contents, passes: u32)
+    requires { N.views ≡ opened_views (T.sizes ty.now) contents.now.items 0 passes }
+    ensures { book.new ≡ opened_views (T.sizes ty.now) contents.now.items 0 passes }
+{
+    book.note::<N>();
+}
+
+// The same contents in a list of its own.
+fn copied(alloc: Global, contents: &Contents) -> Result<Contents, NoMemory>
+    ensures { IfOk result (λ c. c.items ≡ contents.now.items) }
+{
+    let mut made = Contents::new(alloc, &[])?;
+    for part in 0..contents.parts() {
+        made.push(contents.get(part).copied()?)?;
+    }
+    Ok(made)
+}
+
+impl<T: Naming> Plain<T> {
+    /// Opens words with these contents for so many idle passes: the clock is 0, and so is every ticket.
+    /// Each pass may draw 2^40 tickets.
+    pub fn open(
+        alloc: Global,
+        ty: &T,
+        contents: &Contents,
+        passes: u32,
+    ) -> Result<Plain<T>, NoMemory>
+        requires valid { T.valid (T.sizes ty.now) contents.now.items }
+        requires passes { (1 ≤ passes) × (passes ≤ 65536) }
+        ensures { IfOk result (λ p. p ≡ opened_core (T.sizes ty.now) contents.now.items passes) }
+    {
+        let own = copied(alloc, contents)?;
+        let versions = Versions::filled(alloc, FREE0, contents.parts())?;
+        let statuses = List::filled(alloc, 0, passes)?;
+        let tickets = List::filled(alloc, 0, passes)?;
+        let mut book = Notebook::new(alloc)?;
+        note_opening::<T, Brand>(&mut book, ty, contents, passes);
+        Ok(Plain {
+            clock: 0,
+            statuses,
+            versions,
+            contents: own,
+            book,
+            tickets,
+            of: PhantomData,
+        })
+    }
+
+    /// The contents after all commits, where no pass holds a part.
+    pub fn contents(&self) -> Result<Contents, NoMemory>
+        requires { Each (λ v. v.held ≡ []) self.now.views }
+        ensures words { IfOk result (λ c. c.items ≡ map (λ part. part.words) self.now.parts) }
+        ensures commits { IfOk result (λ c. AreUpToDate T.valid self.now c.items) }
+    {
+        copied(self.tickets.allocator(), &self.contents)
+    }
+
+    // The load of the clock that begins an attempt.
+    pub(crate) fn load_clock<E: Told>(&mut self, pass: u32) -> u64
+        requires event { E.event ≡ Start }
+        requires inside { pass < length self.old.views }
+        requires allowed { Allowed T.valid E.event (view_of self.old pass) }
+        ensures { Steps T.valid E.event self.old pass result (pos 0) self.new }
+    {
+        let found = self.clock;
+        note_event::<E>(&mut self.book, pass, found, 0);
+        found
+    }
+
+    // The load of a version that begins or ends a read or a test, or checks the part.
+    pub(crate) fn load_version<E: Told>(&mut self, pass: u32, part: u32) -> Version
+        requires event { LoadsVersion E.event part }
+        requires inside { pass < length self.old.views }
+        requires allowed { Allowed T.valid E.event (view_of self.old pass) }
+        ensures { Steps T.valid E.event self.old pass result.0 (pos 0) self.new }
+    {
+        let found = *self.versions.get(part);
+        note_event::<E>(&mut self.book, pass, found.0, 0);
+        found
+    }
+
+    // The load of a content word.
+    pub(crate) fn load_word<E: Told>(&mut self, pass: u32, part: u32, word: u32) -> i64
+        requires event { E.event ≡ Word part word }
+        requires inside { pass < length self.old.views }
+        requires allowed { Allowed T.valid E.event (view_of self.old pass) }
+        ensures { Steps T.valid E.event self.old pass 0 result self.new }
+    {
+        let value = self.contents.word(part, word);
+        note_event::<E>(&mut self.book, pass, 0, value);
+        value
+    }
+
+    // The lock bit set, as by `fetch_or`.
+    pub(crate) fn set_lock<E: Told>(&mut self, pass: u32, part: u32) -> Version
+        requires event { E.event ≡ Lock part }
+        requires inside { pass < length self.old.views }
+        requires allowed { Allowed T.valid E.event (view_of self.old pass) }
+        ensures { Steps T.valid E.event self.old pass result.0 (pos 0) self.new }
+    {
+        let before = *self.versions.get(part);
+        self.versions.set(part, before.locked());
+        note_event::<E>(&mut self.book, pass, before.0, 0);
+        before
+    }
+
+    // The clock raised by 1, as by `fetch_add`.
+    pub(crate) fn raise_clock<E: Told>(
+        &mut self,
+        pass: u32,
+        updates: &Updates,
+        seen: &Parts,
+        loaded: &Parts,
+    ) -> u64
+        requires event { E.event ≡ Draw updates.now.items seen.now.items loaded.now.items }
+        requires inside { pass < length self.old.views }
+        requires allowed { Allowed T.valid E.event (view_of self.old pass) }
+        ensures ticket { result ≡ suc self.old.clock }
+        ensures steps { Steps T.valid E.event self.old pass self.old.clock (pos 0) self.new }
+    {
+        let before = self.clock;
+        let ticket = before + 1;
+        self.clock = ticket;
+        self.tickets.set(pass, ticket);
+        note_event::<E>(&mut self.book, pass, before, 0);
+        ticket
+    }
+
+    // The status word stored.
+    pub(crate) fn store_status<E: Told>(&mut self, pass: u32, commit: bool)
+        requires event { E.event ≡ Decide commit }
+        requires inside { pass < length self.old.views }
+        requires allowed { Allowed T.valid E.event (view_of self.old pass) }
+        ensures { Steps T.valid E.event self.old pass 0 (pos 0) self.new }
+    {
+        let ticket = *self.tickets.get(pass);
+        self.statuses.set(pass, status_of(ticket, commit));
+        note_event::<E>(&mut self.book, pass, 0, 0);
+    }
+
+    // A content word stored.
+    pub(crate) fn store_word<E: Told>(&mut self, pass: u32, part: u32, word: u32, value: i64)
+        requires event { E.event ≡ Put part word value }
+        requires inside { pass < length self.old.views }
+        requires allowed { Allowed T.valid E.event (view_of self.old pass) }
+        ensures { Steps T.valid E.event self.old pass 0 (pos 0) self.new }
+    {
+        self.contents.set_word(part, word, value);
+        note_event::<E>(&mut self.book, pass, 0, 0);
+    }
+
+    // The version stored with the pass's ticket and a clear lock bit.
+    pub(crate) fn store_version<E: Told>(&mut self, pass: u32, part: u32)
+        requires event { E.event ≡ Release part }
+        requires inside { pass < length self.old.views }
+        requires allowed { Allowed T.valid E.event (view_of self.old pass) }
+        ensures { Steps T.valid E.event self.old pass 0 (pos 0) self.new }
+    {
+        let ticket = *self.tickets.get(pass);
+        self.versions.set(part, Version::released(ticket));
+        note_event::<E>(&mut self.book, pass, 0, 0);
+    }
+
+    // The lock bit cleared, as by `fetch_and`.
+    pub(crate) fn clear_lock<E: Told>(&mut self, pass: u32, part: u32)
+        requires event { E.event ≡ Unlock part }
+        requires inside { pass < length self.old.views }
+        requires allowed { Allowed T.valid E.event (view_of self.old pass) }
+        ensures { Steps T.valid E.event self.old pass 0 (pos 0) self.new }
+    {
+        let held = *self.versions.get(part);
+        self.versions.set(part, Version::released(held.ticket()));
+        note_event::<E>(&mut self.book, pass, 0, 0);
+    }
+}
+
+#[cfg(test)]
+mod tests;
