@@ -1,0 +1,30 @@
+//! Scripts: what they say, which bytes are one, and how they are read.
+#![tactic(auto)]
+
+mod arg;
+mod begun;
+mod draft;
+mod fault;
+mod faults;
+mod file;
+mod kind;
+mod limit;
+mod name_table;
+mod objects;
+mod order;
+mod place;
+mod range;
+mod reader;
+mod stmt;
+mod text;
+mod turns;
+mod usage;
+mod weight;
+
+pub use arg::Arg;
+pub use fault::{FaultKind, ReadError, ScriptFault};
+pub use file::{Decl, Decls, File, Names, Schedule, Script, Scripts, Threads, Turns};
+pub use order::shapes;
+pub use reader::read;
+pub use stmt::{Stmt, Stmts};
+pub use text::Text;

@@ -1,0 +1,98 @@
+//! The limits, each tested at the line that goes past it.
+ghost use Rattle.std.specs.Prelude.{◌≡◌, ◌+◌, not, length, nat_lt, ◌||◌};
+ghost use Rattle.std.specs.List.{list_all};
+ghost use Rattle.sto_form.specs.Views.{entries as entries_of, name_option, form as form_of};
+ghost use Rattle.sto_lang.specs.Drafts.{variables_in, with_assigned};
+ghost use Rattle.sto_lang.specs.Shapes.{is_in_ranges, shape_of};
+ghost use Rattle.sto_lang.specs.Limits.{is_full, is_deep, is_heavy, is_in_range, is_turn, is_beyond};
+ghost use Rattle.sto_lang.specs.DraftViews.{draft_of};
+
+use crate::draft::Draft;
+use crate::range::{in_range, is_in_ranges, natural, shape};
+use crate::turns::own_weight;
+use sto_form::{Declared, Entries, Entry, Form, Name};
+
+#[tactic(auto, using(crate::proofs::LimitLemmas::small_parts, crate::proofs::LimitLemmas::small_words))]
+/// Whether a declaration has a number outside its range, or goes past a limit.
+fn is_declared_beyond(draft: &Draft, declared: &Declared) -> bool
+    ensures { result ≡ (not (is_in_ranges declared.now) || is_full draft.now.objects (shape_of declared.now)) }
+{
+    !is_in_ranges(declared) || draft.objects.is_full(&shape(declared))
+}
+
+#[tactic(auto, using(crate::proofs::LimitLemmas::upon_count))]
+/// Whether one more choice or repetition would be too deep.
+fn is_deep(draft: &Draft) -> bool
+    ensures { result ≡ is_deep (draft_of draft.now) }
+{
+    match &draft.begun {
+        Some(begun) => 8 < u64::from(begun.blocks.len()) + 1,
+        None => false,
+    }
+}
+
+/// Whether a transaction, or with it the file, weighs too much.
+fn is_heavy(draft: &Draft) -> bool
+    ensures { result ≡ is_heavy (draft_of draft.now) (draft_of draft.now).inside }
+{
+    match &draft.begun {
+        Some(begun) => {
+            let own = own_weight(&draft.objects, begun);
+            4096 < own || 131_072 < u64::from(draft.weight) + own
+        }
+        None => false,
+    }
+}
+
+/// Whether an entry has the number of a thread of the file and 1 to 1,000,000 steps.
+fn is_turn(threads: u32, entry: Entry) -> bool
+    ensures { result ≡ is_turn threads entry }
+{
+    in_range(0, 1_000_000, entry.thread)
+        && in_range(1, 1_000_000, entry.steps)
+        && natural(entry.thread) < threads
+}
+
+fn are_turns(threads: u32, entries: Entries<'_>) -> bool
+    ensures { result ≡ list_all (is_turn threads) (entries_of entries.entry) }
+{
+    let mut rest = entries;
+    while let Some((entry, after)) = rest.next() {
+        if !is_turn(threads, entry) {
+            return false;
+        }
+        rest = after;
+    }
+    true
+}
+
+/// Whether a transaction has too many variables with the one that a line assigns.
+fn has_many_variables(draft: &Draft, to: Option<Name<'_>>) -> bool
+    ensures { result ≡ nat_lt 64 (length (with_assigned (variables_in (draft_of draft.now).inside) (name_option to.entry))) }
+{
+    let (count, is_new) = match (&draft.begun, to) {
+        (None, None) => (0, false),
+        (None, Some(_)) => (0, true),
+        (Some(begun), None) => (begun.variables.len(), false),
+        (Some(begun), Some(to)) => (begun.variables.len(), begun.variables.find(&to).is_none()),
+    };
+    64 < u64::from(count) + u64::from(is_new)
+}
+
+/// Whether a number is outside the range of its place, or the line brings the file past a limit.
+pub(crate) fn is_beyond(draft: &Draft, form: &Form<'_>) -> bool
+    ensures { result ≡ is_beyond (draft_of draft.now) (form_of form.now) }
+{
+    match form {
+        Form::Declare { declared, .. } => is_declared_beyond(draft, declared),
+        Form::Thread => 16 < u64::from(draft.threads.len()) + 1,
+        Form::Begin => 10_000 < u64::from(draft.transactions) + 1,
+        Form::If { .. } => is_deep(draft),
+        Form::Repeat { times } => !in_range(0, 4096, *times) || is_deep(draft),
+        Form::Commit => is_heavy(draft),
+        Form::Schedule { entries } => !are_turns(draft.threads.len(), *entries),
+        Form::Call { to, .. } => has_many_variables(draft, *to),
+        Form::Sum { to, .. } | Form::Diff { to, .. } => has_many_variables(draft, Some(*to)),
+        _ => has_many_variables(draft, None),
+    }
+}

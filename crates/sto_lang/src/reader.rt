@@ -1,0 +1,117 @@
+//! Reads a script.
+ghost use Rattle.std.specs.Prelude.{◌≡◌, ◌+◌, ◌^◌, ◌<◌, ◌≤◌, length};
+ghost use Rattle.std.specs.List.{list_all};
+ghost use Rattle.sto_form.specs.Lines.{lines_of};
+ghost use Rattle.sto_lang.specs.Drafts.{opening};
+ghost use Rattle.sto_lang.specs.Files.{is_allowed, with_line, with_lines, whole, file_of};
+ghost use Rattle.sto_lang.specs.Reads.{Gives};
+ghost use Rattle.sto_lang.specs.Views.{file};
+ghost use Rattle.sto_lang.specs.DraftViews.{draft_of};
+
+use crate::draft::Draft;
+use crate::faults::fault_of;
+use crate::{FaultKind, File, ReadError, ScriptFault};
+use std::alloc::Global;
+use sto_form::{form_of, next_line, next_word};
+
+/// The greatest number of bytes of a script.
+const MOST_BYTES: usize = 1_048_576;
+
+fn is_allowed(byte: u8) -> bool
+    ensures { result ≡ is_allowed byte }
+{
+    byte == b'\t' || byte == b'\n' || byte == b'\r' || (b' ' <= byte && byte <= b'~')
+}
+
+/// Whether a line has only bytes that may stand in a script.
+fn all_allowed(line: &[u8]) -> bool
+    ensures { result ≡ list_all is_allowed line.now }
+{
+    line.iter().all(|byte| is_allowed(*byte))
+}
+
+fn fault(line: u32, kind: FaultKind) -> ReadError
+    ensures { result ≡ ReadError.Fault (record { line = line; kind = kind }) }
+{
+    ReadError::Fault(ScriptFault { line, kind })
+}
+
+impl Draft {
+    /// The draft after the line with this number; `later` are the bytes that follow it.
+    fn with_line(
+        self,
+        alloc: Global,
+        number: u32,
+        later: &[u8],
+        line: &[u8],
+    ) -> Result<Draft, ReadError>
+        requires { length line.now < 2 ^ 32 }
+        ensures { Gives draft_of result (with_line (draft_of self) number (lines_of later.now) line.now) }
+    {
+        if !all_allowed(line) {
+            return Err(fault(number, FaultKind::BadByte));
+        }
+        let Some((word, rest)) = next_word(line) else {
+            return Ok(self);
+        };
+        let Some(form) = form_of(word, rest) else {
+            return Err(fault(number, FaultKind::BadLine));
+        };
+        match fault_of(&self, later, &form) {
+            Some(kind) => Err(fault(number, kind)),
+            None => Ok(self.with_form(alloc, &form)?),
+        }
+    }
+
+    /// The file, where the lines end outside a transaction.
+    fn finish(self, alloc: Global, number: u32) -> Result<File, ReadError>
+        ensures { Gives file result (whole (draft_of self) number (draft_of self).inside) }
+    {
+        let Draft {
+            objects,
+            threads,
+            begun,
+            schedule,
+            transactions: _,
+            weight: _,
+        } = self;
+        match begun {
+            Some(_) => Err(fault(number, FaultKind::Unfinished)),
+            None => {
+                let decls = objects.into_decls(alloc)?;
+                Ok(File {
+                    decls,
+                    threads,
+                    schedule,
+                })
+            }
+        }
+    }
+}
+
+fn read_lines(alloc: Global, bytes: &[u8]) -> Result<File, ReadError>
+    requires { length bytes.now ≤ 1048576 }
+    ensures { Gives file result (with_lines opening 1 (lines_of bytes.now)) }
+{
+    let mut draft = Draft::opening(alloc);
+    let mut rest = bytes;
+    let mut number = 1;
+    while let Some((line, later)) = next_line(rest) {
+        draft = draft.with_line(alloc, number, later, line)?;
+        rest = later;
+        number += 1;
+    }
+    draft.finish(alloc, number)
+}
+
+/// The file that the bytes are, or their first fault.
+///
+/// A file comes exactly where no fault stands in the bytes, and else the first fault in line order.
+pub fn read(alloc: Global, bytes: &[u8]) -> Result<File, ReadError>
+    ensures { Gives file result (file_of bytes.now) }
+{
+    if bytes.len() > MOST_BYTES {
+        return Err(fault(0, FaultKind::TooLarge));
+    }
+    read_lines(alloc, bytes)
+}

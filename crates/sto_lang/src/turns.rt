@@ -1,0 +1,40 @@
+//! The schedule, and what a transaction weighs.
+ghost use Rattle.std.specs.Prelude.{◌≡◌, ◌+◌, ◌^◌, ◌<◌, length, map, IfOk, true, min};
+ghost use Rattle.std.specs.List.{list_all};
+ghost use Rattle.sto_form.specs.Views.{entries as entries_of};
+ghost use Rattle.sto_lang.specs.Limits.{is_in_range};
+ghost use Rattle.sto_lang.specs.Drafts.{turns_of, script_of};
+ghost use Rattle.sto_lang.specs.BegunViews.{begun_of};
+
+use crate::begun::Begun;
+use crate::objects::Objects;
+use crate::range::natural;
+use crate::weight::weight;
+use crate::{Schedule, Turns};
+use std::alloc::Global;
+use sto_form::Entries;
+use sto_part::{List, NoMemory};
+
+/// What a transaction weighs, or the least weight that no transaction may have.
+pub(crate) fn own_weight(objects: &Objects, begun: &Begun) -> u64
+    ensures { result ≡ min (script_of objects.now (begun_of begun.now)).weight 4097 }
+{
+    (1 + weight(objects.in_order(), &begun.statements)).min(4097)
+}
+
+/// The entries of a schedule.
+pub(crate) fn turns(alloc: Global, entries: Entries<'_>) -> Result<Schedule, NoMemory>
+    requires { list_all is_in_range (entries_of entries) ≡ true }
+    ensures { IfOk result (λ s. s.items ≡ map turns_of (entries_of entries.entry)) }
+{
+    let mut made = List::new(alloc);
+    let mut rest = entries;
+    while let Some((entry, after)) = rest.next() {
+        made.push(Turns {
+            thread: natural(entry.thread),
+            steps: natural(entry.steps),
+        })?;
+        rest = after;
+    }
+    Ok(made)
+}
