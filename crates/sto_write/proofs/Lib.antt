@@ -1,0 +1,15 @@
+pub mod TextLemmas
+pub mod StatementLemmas
+pub mod NumberLemmas
+pub mod LineLemmas
+pub mod FormLemmas
+pub mod PlainLemmas
+pub mod WrittenForms
+pub mod WrittenText
+pub mod GoodForms
+pub mod VariableLemmas
+pub mod CallLemmas
+pub mod BegunLines
+pub mod Runs
+pub mod DraftLines
+pub mod ReadBack

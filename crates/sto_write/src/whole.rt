@@ -1,0 +1,156 @@
+//! The text of a whole file.
+ghost use Rattle.std.specs.Prelude.{◌≡◌, ◌++◌, ◌∷◌, true, map, flat_map, OnOk, IfOk};
+ghost use Rattle.std.specs.List.{list_all};
+ghost use Rattle.std.specs.Option.{option_map};
+ghost use Rattle.std.specs.Fmt.{signed_decimal};
+ghost use Rattle.sto_lang.specs.Ascii.{is_ascii};
+ghost use Rattle.sto_lang.specs.Views.{declaration, script as script_of, file as file_of};
+ghost use Rattle.sto_write.specs.Laws.{ReadsAs};
+ghost use Rattle.sto_write.specs.Texts.{declare_line, script_lines, thread_lines, schedule_lines, entry_for, entry_word, line_text, text_of};
+
+use crate::line::push_alone;
+use crate::statement::push_statements;
+use crate::word::push_number;
+use std::alloc::Global;
+use sto_lang::{Decl, File, Schedule, Script, Scripts, Text, Turns};
+use sto_model::Shape;
+use sto_part::NoMemory;
+
+/// Adds a number after a space.
+fn push_next_number(out: &mut Text, value: i64) -> Result<(), NoMemory>
+    ensures { OnOk result (out.new.items ≡ out.old.items ++ 32 ∷ signed_decimal value) }
+{
+    out.append(" ")?;
+    push_number(out, value)
+}
+
+/// Adds the word of a kind and a name.
+fn push_named(out: &mut Text, kind: &str, name: &Text) -> Result<(), NoMemory>
+    requires { list_all is_ascii kind.now ≡ true }
+    ensures { OnOk result (out.new.items ≡ out.old.items ++ (kind.now ++ 32 ∷ name.now.items)) }
+{
+    out.append(kind)?;
+    out.append(" ")?;
+    out.append(name.as_str())
+}
+
+/// Adds a declaration.
+fn push_declaration(out: &mut Text, decl: &Decl) -> Result<(), NoMemory>
+    ensures { OnOk result (out.new.items ≡ out.old.items ++ line_text (declare_line (declaration decl.now))) }
+{
+    match &decl.shape {
+        Shape::Single(value) => {
+            push_named(out, "box", &decl.name)?;
+            push_next_number(out, *value)?;
+        }
+        Shape::Counter(value) => {
+            push_named(out, "counter", &decl.name)?;
+            push_next_number(out, *value)?;
+        }
+        Shape::Array { len, value } => {
+            push_named(out, "array", &decl.name)?;
+            push_next_number(out, i64::from(*len))?;
+            push_next_number(out, *value)?;
+        }
+        Shape::Hash { buckets, places } => {
+            push_named(out, "hash", &decl.name)?;
+            push_next_number(out, i64::from(*buckets))?;
+            push_next_number(out, i64::from(*places))?;
+        }
+        Shape::Tree { leaves } => {
+            push_named(out, "tree", &decl.name)?;
+            push_next_number(out, i64::from(*leaves))?;
+        }
+    }
+    out.append("\n")
+}
+
+fn push_declarations(out: &mut Text, decls: &[Decl]) -> Result<(), NoMemory>
+    ensures { OnOk result (out.new.items ≡ out.old.items ++ flat_map (λ d. line_text (declare_line (declaration d))) decls.now) }
+{
+    for decl in decls {
+        push_declaration(out, decl)?;
+    }
+    Ok(())
+}
+
+/// Adds a transaction.
+fn push_script(out: &mut Text, decls: &[Decl], script: &Script) -> Result<(), NoMemory>
+    ensures { OnOk result (out.new.items ≡ out.old.items ++ flat_map line_text (script_lines (map declaration decls.now) (script_of script.now))) }
+{
+    push_alone(out, "begin")?;
+    push_statements(out, decls, &script.vars, &script.body)?;
+    push_alone(out, "commit")
+}
+
+fn push_scripts(out: &mut Text, decls: &[Decl], scripts: &[Script]) -> Result<(), NoMemory>
+    ensures { OnOk result (out.new.items ≡ out.old.items ++ flat_map (λ s. flat_map line_text (script_lines (map declaration decls.now) (script_of s))) scripts.now) }
+{
+    for script in scripts {
+        push_script(out, decls, script)?;
+    }
+    Ok(())
+}
+
+/// Adds a thread.
+fn push_thread(out: &mut Text, decls: &[Decl], thread: &Scripts) -> Result<(), NoMemory>
+    ensures { OnOk result (out.new.items ≡ out.old.items ++ flat_map line_text (thread_lines (map declaration decls.now) (map script_of thread.now.items))) }
+{
+    push_alone(out, "thread")?;
+    push_scripts(out, decls, thread.as_slice())
+}
+
+fn push_threads(out: &mut Text, decls: &[Decl], threads: &[Scripts]) -> Result<(), NoMemory>
+    ensures { OnOk result (out.new.items ≡ out.old.items ++ flat_map (λ t. flat_map line_text (thread_lines (map declaration decls.now) (map script_of t.items))) threads.now) }
+{
+    for thread in threads {
+        push_thread(out, decls, thread)?;
+    }
+    Ok(())
+}
+
+/// Adds an entry after a space.
+fn push_entry(out: &mut Text, turns: Turns) -> Result<(), NoMemory>
+    ensures { OnOk result (out.new.items ≡ out.old.items ++ 32 ∷ entry_word (entry_for turns)) }
+{
+    push_next_number(out, i64::from(turns.thread))?;
+    out.append(":")?;
+    push_number(out, i64::from(turns.steps))
+}
+
+fn push_entries(out: &mut Text, turns: &[Turns]) -> Result<(), NoMemory>
+    ensures { OnOk result (out.new.items ≡ out.old.items ++ flat_map (λ t. 32 ∷ entry_word (entry_for t)) turns.now) }
+{
+    for entry in turns {
+        push_entry(out, *entry)?;
+    }
+    Ok(())
+}
+
+/// Adds the schedule, where there is one.
+fn push_schedule(out: &mut Text, schedule: &Option<Schedule>) -> Result<(), NoMemory>
+    ensures { OnOk result (out.new.items ≡ out.old.items ++ flat_map line_text (schedule_lines (option_map (λ s. s.items) schedule.now))) }
+{
+    match schedule {
+        None => Ok(()),
+        Some(turns) => {
+            out.append("schedule")?;
+            push_entries(out, turns.as_slice())?;
+            out.append("\n")
+        }
+    }
+}
+
+/// The canonical text of a file: one line for each form, its words separated by one space.
+///
+/// It asks for a file that `read` can give. The text of such a file reads as the file where it has at most 1,048,576 bytes.
+pub fn write(alloc: Global, file: &File) -> Result<Text, NoMemory>
+    ensures text { IfOk result (λ text. text.items ≡ text_of (file_of file.now)) }
+    ensures reads_as { IfOk result (λ text. ReadsAs (file_of file.now) text.items) }
+{
+    let mut out = Text::new(alloc);
+    push_declarations(&mut out, file.decls.as_slice())?;
+    push_threads(&mut out, file.decls.as_slice(), file.threads.as_slice())?;
+    push_schedule(&mut out, &file.schedule)?;
+    Ok(out)
+}
