@@ -1,0 +1,53 @@
+//! Draws of a linear congruential generator, and the transfers that they make.
+ghost use Rattle.std.specs.Prelude.{◌≡◌, ◌<◌, ◌%◌, ◌≤◌};
+ghost use Rattle.sto_gen.specs.Draws.{next, draw, transfer_after};
+
+/// An amount to be moved from one account to another.
+#[derive(Clone, Copy, PartialEq, Eq, Debug)]
+pub(crate) struct Transfer {
+    pub(crate) from: u64,
+    pub(crate) to: u64,
+    pub(crate) amount: u64,
+}
+
+/// The draws that a number begins.
+#[derive(Drop)]
+pub(crate) struct Draws {
+    pub(crate) state: u64,
+}
+
+impl Draws {
+    /// The next draw, below 2^31.
+    fn draw(&mut self) -> u64
+        ensures state { self.new.state ≡ next self.old.state }
+        ensures draw { result ≡ draw self.new.state }
+    {
+        self.state = self
+            .state
+            .wrapping_mul(6_364_136_223_846_793_005)
+            .wrapping_add(1_442_695_040_888_963_407);
+        self.state >> 33
+    }
+
+    /// A number below another.
+    fn pick(&mut self, below: u64) -> u64
+        requires { 0 < below }
+        ensures state { self.new.state ≡ next self.old.state }
+        ensures pick { result ≡ draw self.new.state % below }
+    {
+        self.draw() % below
+    }
+
+    /// The transfer of the next three draws, between two of 64 accounts.
+    pub(crate) fn transfer(&mut self) -> Transfer
+        ensures state { self.new.state ≡ next (next (next self.old.state)) }
+        ensures transfer { result ≡ transfer_after self.old.state }
+        ensures accounts { (result.from < 64) × (result.to < 64) }
+        ensures amount { result.amount ≤ 100 }
+    {
+        let from = self.pick(64);
+        let to = (from + 1 + self.pick(63)) % 64;
+        let amount = 1 + self.pick(100);
+        Transfer { from, to, amount }
+    }
+}
