@@ -1,0 +1,179 @@
+-- What `clap` finds in the words after a command, and that it is what they give.
+use Rattle.std.proofs.Common.{◌≡◌, ◌∙◌, ◌||◌, ℕ, Bool, true, false, refl, sym, ap, subst, codes, List, [], ◌∷◌, map, Option, Some, None, true≢false}
+use Rattle.std.specs.Prelude.{if◌then◌else◌, fold, find, slice_get}
+use Rattle.std.specs.List.{list_any}
+use Rattle.std.specs.Option.{option_and_then, option_map}
+use Rattle.std.specs.Str.{bytes_eq}
+use Rattle.std.proofs.lemmas.Slice.Eq.{bytes_eq-Decides}
+use Rattle.clap.specs.Matches.{first_value, found_of}
+use Rattle.clap.specs.Walk.{Held, Row, Rule, arg_by_id, arg_by_long, first_of, has_row, nothing_held, rows_of, settled, walk, walk_from, with_default}
+use Rattle.clap.specs.Simple.{App, built, matches_of, names_of}
+use Rattle.clap.specs.Kinds.{Kinds, or_else}
+use Rattle.clap.specs.Faults.{built_fault, check_fault, default_fault, defaults_fault, fault_of, is_simple_and_free, settle_fault, walk_fault}
+use Rattle.clap.specs.declared.parser.matches.ArgMatches.{ArgMatches}
+use Rattle.clap.proofs.FaultLemmas.{leaf_fault}
+use Rattle.clap.proofs.WalkLemmas.{first_value-rows}
+use Rattle.clap.proofs.OnLiterals.{clap_on_literals}
+use Rattle.sto_words.specs.Given.{Text, Takes, Given, is_option, number_name, value_of, given_by, is_refused}
+use Rattle.sto_words.specs.Commands.{run_takes, gen_takes}
+use Rattle.sto_words.specs.Grammars.{Finds, app_for}
+use Rattle.sto_words.proofs.Rows.{valued, row}
+use Rattle.sto_words.proofs.Walks.{AreRules, Agrees, between, faults_after, number_built, option_built, reads, rows_after, shape_with}
+
+-- the command is built with these rules, none of which has a default value or must be given
+pub record IsBuilt (nm : Text) (t : Takes) (c : List Rule) : Type 0 where
+  pub rules : AreRules c t
+  pub built_as : built (app_for nm t) ≡ record { top = shape_with nm c; subs = [] }
+  pub defaults : (rows : List Row) → defaults_fault rows c ≡ []
+  pub finished_as : (rows : List Row) → fold with_default rows c ≡ rows
+  pub checks : (rows : List Row) → check_fault (shape_with nm c) rows false ≡ []
+
+nothing_else : (k : Kinds) → or_else k [] ≡ k
+nothing_else [] = refl
+nothing_else (x ∷ k) = refl
+
+first_of_row : (id : Text) (given : Given) → first_of id (map row given) ≡ value_of id given
+first_of_row id [] = refl
+first_of_row id (g ∷ given) = go (bytes_eq g.0 id) (first_of_row id given)
+  where
+    go : (b : Bool) → first_of id (map row given) ≡ value_of id given
+        → option_and_then (λ r. slice_get r.values 0) (if b then Some (row g) else find (λ r. bytes_eq r.id id) (map row given))
+        ≡ option_map (λ x. x.1) (if b then Some g else find (λ x. bytes_eq x.0 id) given)
+    go true rest = refl
+    go false rest = rest
+
+module _ (nm : Text) (t : Takes) (c : List Rule) (r : IsBuilt nm t c) where
+  faults_are : (words : List Text) → fault_of (app_for nm t) words ≡ faults_after (shape_with nm c) [] (between nothing_held 1) words
+  faults_are words =
+      let s = shape_with nm c in
+      let end : Held = (walk c [] nothing_held words).held in
+      let first : Kinds = walk_fault s [] (walk_from nothing_held) words in
+      let last : Kinds = settle_fault c false end in
+      let none = ap (λ k. or_else k (check_fault s (fold with_default (settled c end).rows c) false)) (r.defaults (settled c end).rows) ∙ r.checks (fold with_default (settled c end).rows c) in
+      ap (λ a. built_fault a nothing_held words) r.built_as ∙ leaf_fault (record { top = s; subs = [] }) nothing_held words refl
+      ∙ ap (λ k. or_else first (or_else last k)) none ∙ ap (or_else first) (nothing_else last)
+
+  rows_are : (words : List Text) → matches_of (app_for nm t) words ≡ rows_after (shape_with nm c) (between nothing_held 1) words
+  rows_are words = ap (λ a. fold with_default (settled a.top.rules (walk a.top.rules (names_of a) nothing_held words).held).rows a.top.rules) r.built_as
+      ∙ r.finished_as (settled c (walk c [] nothing_held words).held).rows
+
+  agreed : (words : List Text) → list_any is_refused words ≡ false → Agrees (fault_of (app_for nm t) words) (matches_of (app_for nm t) words) (given_by t words)
+  agreed words allowed =
+      subst (λ k. Agrees k (matches_of (app_for nm t) words) (given_by t words)) (sym (faults_are words))
+      (subst (λ rows. Agrees (faults_after (shape_with nm c) [] (between nothing_held 1) words) rows (given_by t words)) (sym (rows_are words))
+      ((reads nm c t r.rules words allowed).0 [] nothing_held 1 (refl, refl) refl))
+
+  abbrev pub Takes_as : ArgMatches → List Text → Type 0
+  Takes_as m words = (given : Given) × ((given_by t words ≡ Some given) × ((id : Text) → first_value (found_of m) id ≡ value_of id given))
+
+  pub taken : (app : App) → app ≡ app_for nm t → (words : List Text) → list_any is_refused words ≡ false → (m : ArgMatches) → Finds app words (Some m) → Takes_as m words
+  taken app same words allowed m finds = go (given_by t words) refl (agreed words allowed)
+    where
+      none : fault_of (app_for nm t) words ≡ []
+      none = subst (λ a. fault_of a words ≡ []) same finds.0
+
+      kept : rows_of (found_of m) ≡ matches_of (app_for nm t) words
+      kept = subst (λ a. rows_of (found_of m) ≡ matches_of a words) same finds.1
+
+      go : (g : Option Given) → given_by t words ≡ g → Agrees (fault_of (app_for nm t) words) (matches_of (app_for nm t) words) g → Takes_as m words
+      go None e h = absurd (h none)
+      go (Some given) e h = (given, (e, λ id. first_value-rows (found_of m) id ∙ ap (first_of id) (kept ∙ h.1) ∙ first_of_row id given))
+
+  pub not_taken : (app : App) → app ≡ app_for nm t → (words : List Text) → list_any is_refused words ≡ false → Finds app words None → given_by t words ≡ None
+  not_taken app same words allowed finds = go (given_by t words) (agreed words allowed)
+    where
+      some : fault_of (app_for nm t) words ≡ [] → ⊥
+      some = subst (λ a. fault_of a words ≡ [] → ⊥) same finds
+
+      go : (g : Option Given) → Agrees (fault_of (app_for nm t) words) (matches_of (app_for nm t) words) g → g ≡ None
+      go None h = refl
+      go (Some given) h = absurd (some h.0)
+
+-- ---- a rule without default value
+
+abbrev none_if : Bool → Kinds
+none_if b = if b || true then [] else []
+
+default_none : (name : Text) (long : Option Text) (index : Option ℕ) (rows : List Row) → default_fault rows (valued name long index) ≡ []
+default_none name long index rows = go (has_row name rows)
+  where
+    go : (b : Bool) → none_if b ≡ []
+    go true = refl
+    go false = refl
+
+default_same : (name : Text) (long : Option Text) (index : Option ℕ) (rows : List Row) → with_default rows (valued name long index) ≡ rows
+default_same name long index rows = go (has_row name rows)
+  where
+    go : (b : Bool) → (if b then rows else rows) ≡ rows
+    go true = refl
+    go false = refl
+
+-- ---- `run`
+
+abbrev tries : Text
+tries = codes "tries"
+
+abbrev pub run_rules : List Rule
+run_rules = option_built tries ∷ []
+
+tries_only : (name : Text) → is_option run_takes name ≡ true → tries ≡ name
+tries_only name o = go (bytes_eq tries name) refl
+  where
+    go : (b : Bool) → bytes_eq tries name ≡ b → tries ≡ name
+    go true e = (bytes_eq-Decides tries name).0 e
+    go false e = absurd (true≢false (sym o ∙ ap (λ b. b || false) e))
+
+run_rules_are : AreRules run_rules run_takes
+run_rules_are = record {
+  long = λ name o. subst (λ n. arg_by_long run_rules n ≡ Some (option_built n)) (tries_only name o) refl;
+  by_id = λ name o. subst (λ n. arg_by_id run_rules n ≡ Some (option_built n)) (tries_only name o) refl;
+  unknown = λ name o. ap (λ b. if b then Some (option_built tries) else None) o;
+  apart = λ name o. subst (λ n. bytes_eq n number_name ≡ false) (tries_only name o) refl;
+  first = refl;
+  second = refl;
+  by_number = λ e. absurd (true≢false (sym e));
+}
+
+pub run_is_built : IsBuilt (codes "run") run_takes run_rules
+unfolding clap_on_literals
+run_is_built = record {
+  rules = run_rules_are;
+  built_as = refl;
+  defaults = λ rows. ap (λ k. or_else k []) (default_none tries (Some tries) None rows);
+  finished_as = λ rows. default_same tries (Some tries) None rows;
+  checks = λ rows. refl;
+}
+
+pub run_is_simple : is_simple_and_free (app_for (codes "run") run_takes) ≡ true
+unfolding clap_on_literals
+run_is_simple = refl
+
+-- ---- `gen`
+
+abbrev pub gen_rules : List Rule
+gen_rules = number_built ∷ []
+
+gen_rules_are : AreRules gen_rules gen_takes
+gen_rules_are = record {
+  long = λ name o. absurd (true≢false (sym o));
+  by_id = λ name o. absurd (true≢false (sym o));
+  unknown = λ name o. refl;
+  apart = λ name o. absurd (true≢false (sym o));
+  first = refl;
+  second = refl;
+  by_number = λ e. refl;
+}
+
+pub gen_is_built : IsBuilt (codes "gen") gen_takes gen_rules
+unfolding clap_on_literals
+gen_is_built = record {
+  rules = gen_rules_are;
+  built_as = refl;
+  defaults = λ rows. ap (λ k. or_else k []) (default_none number_name None (Some 1) rows);
+  finished_as = λ rows. default_same number_name None (Some 1) rows;
+  checks = λ rows. refl;
+}
+
+pub gen_is_simple : is_simple_and_free (app_for (codes "gen") gen_takes) ≡ true
+unfolding clap_on_literals
+gen_is_simple = refl

@@ -1,0 +1,51 @@
+-- The grammar of the words: which commands there are, and what each takes.
+use Rattle.std.specs.Prelude.{ℕ, ◌≤◌, List, [], ◌∷◌, ◌&&◌, true, false, Option, None, Some, codes, nat_le, nat_lt, decimal, ◌^◌, if◌then◌else◌}
+use Rattle.std.specs.Option.{option_map, option_and_then}
+use Rattle.std.specs.Str.{bytes_eq}
+use Rattle.std.specs.Str.Parse.{digits_value}
+use Rattle.sto_words.specs.Given.{Text, Takes, Given, value_of, number_name, given_by}
+use Rattle.sto_words.specs.declared.command.Command.{Command}
+use Rattle.sto_words.specs.declared.command.Command.TheVariants.{Run, Gen}
+
+-- the number of 64 bits that a text is: decimal digits without a sign, and no leading zero unless it is 0 alone
+abbrev pub decimal_of : Text → Option ℕ
+decimal_of text = let n = digits_value 10 text in if bytes_eq (decimal n) text && nat_lt n (2 ^ 64) then Some n else None
+
+-- a number from low to high
+abbrev pub number_in : ℕ → ℕ → Text → Option ℕ
+number_in low high text = option_and_then (λ n. if nat_le low n && nat_le n high then Some n else None) (decimal_of text)
+
+-- `run [--tries N]`
+abbrev pub run_takes : Takes
+run_takes = record { options = codes "tries" ∷ []; number = false }
+
+-- 1 to 64 tries; 64 where none is given
+abbrev pub tries_of : Option Text → Option ℕ
+tries_of None = Some 64
+tries_of (Some text) = number_in 1 64 text
+
+abbrev pub run_of : Given → Option Command
+run_of given = option_map (λ tries. Run tries) (tries_of (value_of (codes "tries") given))
+
+-- `gen NUMBER`
+abbrev pub gen_takes : Takes
+gen_takes = record { options = []; number = true }
+
+abbrev pub gen_of : Given → Option Command
+gen_of given = option_map (λ number. Gen number) (option_and_then decimal_of (value_of number_name given))
+
+-- the command that the first word names, with what the other words give it
+abbrev pub command_from : Text → List Text → Option Command
+command_from word words =
+    if bytes_eq word (codes "run") then option_and_then run_of (given_by run_takes words)
+    else (if bytes_eq word (codes "gen") then option_and_then gen_of (given_by gen_takes words)
+    else None)
+
+abbrev pub command_of : List Text → Option Command
+command_of [] = None
+command_of (word ∷ words) = command_from word words
+
+-- the tries are in their range
+abbrev pub HasRange : Command → Type 0
+HasRange (Run tries) = (1 ≤ tries) × (tries ≤ 64)
+HasRange (Gen number) = Unit {0}

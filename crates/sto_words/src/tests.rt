@@ -1,0 +1,75 @@
+//! Words that are commands, and words that are not.
+use crate::{Command, find_command};
+use std::alloc::{AllocError, Global};
+use std::test::Fail;
+
+fn words_of(alloc: Global, words: &[&str]) -> Result<Vec<String>, AllocError> {
+    let mut texts = Vec::new(alloc);
+    for word in words {
+        texts.push(String::from_str(alloc, word)?)?;
+    }
+    Ok(texts)
+}
+
+const COMMANDS: [(&[&str], Command); 7] = [
+    (&["run"], Command::Run { tries: 64 }),
+    (&["run", "--tries=3"], Command::Run { tries: 3 }),
+    (&["run", "--tries", "1"], Command::Run { tries: 1 }),
+    (&["run", "--tries", "64"], Command::Run { tries: 64 }),
+    (&["gen", "0"], Command::Gen { number: 0 }),
+    (&["gen", "1"], Command::Gen { number: 1 }),
+    (
+        &["gen", "18446744073709551615"],
+        Command::Gen { number: u64::MAX },
+    ),
+];
+
+// The commands of the program, with their options in both forms.
+#[test]
+fn example_commands(rt: HostRuntime) -> Result<(), Fail> {
+    let alloc = rt.alloc();
+    for (words, want) in COMMANDS {
+        let words = words_of(alloc, words)?;
+        assert_eq!(rt; find_command(alloc, words.as_slice()), Ok(Some(want)));
+    }
+    Ok(())
+}
+
+const NO_COMMANDS: [&[&str]; 26] = [
+    &[],
+    &["run", "--tries", "0"],
+    &["run", "--tries", "65"],
+    &["run", "--tries=65"],
+    &["run", "--tries", "2", "--tries", "2"],
+    &["run", "--tries=2", "--tries=2"],
+    &["run", "--threads", "17"],
+    &["run", "--"],
+    &["run", "--help"],
+    &["run", "-h"],
+    &["run", "--version"],
+    &["run", "--tries="],
+    &["run", "--tries"],
+    &["run", "--tries", "--"],
+    &["run", "--tries", "+1"],
+    &["run", "--tries", "01"],
+    &["run", ""],
+    &["run", "1"],
+    &["gen"],
+    &["gen", "01"],
+    &["gen", "-1"],
+    &["gen", "18446744073709551616"],
+    &["gen", "1", "2"],
+    &["gen", "--NUMBER=1"],
+    &["Run"],
+    &["--help"],
+];
+
+#[test]
+fn words_outside_the_grammar(rt: HostRuntime) -> Result<(), Fail> {
+    let alloc = rt.alloc();
+    for words in NO_COMMANDS {
+        let words = words_of(alloc, words)?;
+        assert_eq!(rt; find_command(alloc, words.as_slice()), Ok(None));
+    }
+    Ok(())
+}
