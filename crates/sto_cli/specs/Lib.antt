@@ -1,0 +1,4 @@
+pub mod Outputs
+pub mod Answers
+pub mod Ends
+pub mod Statuses

@@ -1,0 +1,18 @@
+//! The program: its words, its source and its sinks, and all that a call of it does.
+#![tactic(auto)]
+
+mod answer;
+mod gate;
+mod refusal;
+mod say;
+mod top;
+mod work;
+
+pub use gate::{Gate, NoGate};
+pub use sto_io::{
+    Failed, MemSink, MemSource, QuietSink, QuietSource, Sink, Source, StdSink, StdSource,
+};
+pub use top::sto;
+
+#[cfg(test)]
+mod tests;

@@ -1,0 +1,69 @@
+//! The top call.
+ghost use Rattle.std.specs.Prelude.{◌≡◌, ◌≢◌, ◌⊎◌, map, string_bytes, None};
+ghost use Rattle.sto_io.specs.Told.{Rose};
+ghost use Rattle.sto_words.specs.Commands.{command_of};
+ghost use Rattle.sto_cli.specs.Ends.{Ends};
+ghost use Rattle.sto_lang.specs.declared.fault.ScriptFault.{ScriptFault};
+ghost use Rattle.sto_cli.specs.Statuses.{status_of, line_of, Says, EndsWith, IsDone, IsFaulty, IsStopped, IsFaultless, IsToldFault};
+
+use crate::gate::Gate;
+use crate::refusal::Refusal;
+use crate::say::say;
+use crate::work::perform;
+use std::alloc::Global;
+use sto_io::{Sink, Source};
+
+fn status(outcome: Result<(), Refusal>) -> u8
+    ensures { result ≡ status_of outcome }
+{
+    match outcome {
+        Ok(()) => 0,
+        Err(Refusal::Usage) => 2,
+        Err(Refusal::Script(_)) => 3,
+        Err(Refusal::ReadFault) => 4,
+        Err(Refusal::WriteFault) => 5,
+        Err(Refusal::NoMemory) => 6,
+    }
+}
+
+/// All that the program does with the words after its name. It gives the exit status.
+///
+/// | Status | When | `out` gains | `diag` gains |
+/// |---|---|---|---|
+/// | 0 | all is done | the whole report | nothing |
+/// | 2 | the words are not in the grammar | nothing | `sto: usage` |
+/// | 3 | the bytes that were read have a fault | nothing | `sto: line L: KIND` |
+/// | 4 | the source failed | nothing | `sto: read fault` |
+/// | 5 | `out` failed | a front of the report | `sto: write fault` |
+/// | 6 | memory could not be had | nothing | `sto: out of memory` |
+pub fn sto<S: Source, K: Sink, E: Sink, G: Gate>(
+    alloc: Global,
+    words: &[String],
+    source: &mut S,
+    out: &mut K,
+    diag: &mut E,
+    gate: &G,
+) -> u8
+    // One outcome has this status and these effects, and its line is written beside.
+    ensures ends { EndsWith result (λ outcome.
+        Ends outcome (command_of (map (λ word. string_bytes word) words.now)) (S.left source.old) (S.left source.new) (K.held out.old) (K.held out.new)
+        × Says (line_of outcome) (E.held diag.old) (E.held diag.new) (E.faults diag.old) (E.faults diag.new)) }
+    // The headline.
+    ensures done { result ≡ 0 → IsDone (command_of (map (λ word. string_bytes word) words.now)) (S.left source.old) (S.left source.new) (K.held out.old) (K.held out.new) }
+    ensures usage { result ≡ 2 → command_of (map (λ word. string_bytes word) words.now) ≡ None }
+    ensures usage_only { command_of (map (λ word. string_bytes word) words.now) ≡ None → (result ≡ 2) ⊎ (result ≡ 6) }
+    ensures faulty { result ≡ 3 → IsFaulty (command_of (map (λ word. string_bytes word) words.now)) (S.left source.old) (S.left source.new) }
+    ensures refused { (fault : ScriptFault) → IsToldFault fault (command_of (map (λ word. string_bytes word) words.now)) (S.left source.old) (S.left source.new) → (result ≡ 3) ⊎ (result ≡ 4) ⊎ (result ≡ 6) }
+    ensures complete { IsFaultless (command_of (map (λ word. string_bytes word) words.now)) (S.left source.old) (S.left source.new)
+        → (Rose (S.faults source.old) (S.faults source.new) → ⊥) → (Rose (K.faults out.old) (K.faults out.new) → ⊥) → (result ≡ 0) ⊎ (result ≡ 6) }
+    ensures stopped { result ≡ 5 → IsStopped (command_of (map (λ word. string_bytes word) words.now)) (S.left source.old) (S.left source.new) (K.held out.old) (K.held out.new) }
+    ensures unchanged { result ≢ 0 → result ≢ 5 → K.held out.new ≡ K.held out.old }
+    ensures read_fault { result ≡ 4 → Rose (S.faults source.old) (S.faults source.new) }
+    ensures no_read_fault { result ≢ 4 → S.faults source.new ≡ S.faults source.old }
+    ensures write_fault { result ≡ 5 → Rose (K.faults out.old) (K.faults out.new) }
+    ensures no_write_fault { result ≢ 5 → K.faults out.new ≡ K.faults out.old }
+{
+    let _ = gate;
+    let outcome = perform(alloc, words, source, out);
+    status(say(alloc, diag, outcome))
+}

@@ -1,0 +1,61 @@
+//! The order of work: the words, the source, the script, the run, the text, the writing.
+ghost use Rattle.std.specs.Prelude.{◌≡◌, ℕ, IfOk, IfErr, map, string_bytes};
+ghost use Rattle.sto_words.specs.Commands.{command_of};
+ghost use Rattle.sto_words.specs.declared.command.Command.TheVariants as commands;
+ghost use Rattle.sto_cli.specs.declared.refusal.Refusal.TheVariants.{ReadFault, WriteFault};
+ghost use Rattle.sto_cli.specs.Ends.{Made, Unmade, Ends, RoseFor, RoseForText};
+
+use crate::answer::{gen_text, run_text};
+use crate::refusal::Refusal;
+use std::alloc::Global;
+use sto_io::{ReadAllError, Sink, Source, read_all, write_all};
+use sto_lang::Text;
+use sto_words::{Command, find_command};
+
+/// Reads the source to its end or past the limit, and runs the script.
+fn run_source<S: Source>(alloc: Global, source: &mut S) -> Result<Text, Refusal>
+    ensures made { IfOk result (λ text. (tries : ℕ) → Made (commands.Run tries) (S.left source.old) (S.left source.new) text.items) }
+    ensures unmade { IfErr result (λ e. (tries : ℕ) → Unmade e (commands.Run tries) (S.left source.old) (S.left source.new)) }
+    ensures source_faults { RoseForText result (S.faults source.old) (S.faults source.new) }
+{
+    let bytes = match read_all(alloc, source, 1_048_577) {
+        Ok(bytes) => bytes,
+        Err(ReadAllError::Fault) => return Err(Refusal::ReadFault),
+        Err(ReadAllError::NoMemory) => return Err(Refusal::NoMemory),
+    };
+    run_text(alloc, bytes.as_slice())
+}
+
+/// Makes the whole text of a command. `run` reads the source to its end or past the limit; `gen` does not touch it.
+fn text_for<S: Source>(alloc: Global, command: Command, source: &mut S) -> Result<Text, Refusal>
+    ensures made { IfOk result (λ text. Made command (S.left source.old) (S.left source.new) text.items) }
+    ensures unmade { IfErr result (λ e. Unmade e command (S.left source.old) (S.left source.new)) }
+    ensures source_faults { RoseForText result (S.faults source.old) (S.faults source.new) }
+{
+    let number = match command {
+        Command::Run { .. } => return run_source(alloc, source),
+        Command::Gen { number } => number,
+    };
+    Ok(gen_text(alloc, number)?)
+}
+
+/// Does what the words say: makes the whole text, and writes it.
+pub(crate) fn perform<S: Source, K: Sink>(
+    alloc: Global,
+    words: &[String],
+    source: &mut S,
+    out: &mut K,
+) -> Result<(), Refusal>
+    ensures ends { Ends result (command_of (map (λ word. string_bytes word) words.now)) (S.left source.old) (S.left source.new) (K.held out.old) (K.held out.new) }
+    ensures source_faults { RoseFor ReadFault result (S.faults source.old) (S.faults source.new) }
+    ensures out_faults { RoseFor WriteFault result (K.faults out.old) (K.faults out.new) }
+{
+    let Some(command) = find_command(alloc, words)? else {
+        return Err(Refusal::Usage);
+    };
+    let text = text_for(alloc, command, source)?;
+    match write_all(out, text.as_bytes()) {
+        Ok(()) => Ok(()),
+        Err(_) => Err(Refusal::WriteFault),
+    }
+}
