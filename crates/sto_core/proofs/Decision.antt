@@ -28,7 +28,7 @@ use Rattle.sto_core.specs.Lists.{Each, Among, weight}
 use Rattle.sto_core.specs.History.{Contents, Validity, Log, writes, pending_updates, if_pending, status_after}
 use Rattle.sto_core.specs.History.{status_by, last_writer, up, PartAsOf}
 use Rattle.sto_core.specs.Views.{own_entry, entry_of, hold_of, own_ticket, width_in, count, times, if_drawn}
-use Rattle.sto_core.specs.Reads.{Agrees}
+use Rattle.sto_core.specs.Reads.{ReadsAgree}
 use Rattle.sto_core.specs.Event.{settle, settle_entry}
 use Rattle.sto_core.specs.Allowed.{HoldsPart, IsHeldAs, IsConfirmed}
 use Rattle.sto_core.specs.Core.{part_at, status_word}
@@ -192,7 +192,7 @@ module _ {valid : Validity} {sizes : List ℕ} {opening : Contents} (step : Step
 
         knows_still : (h : Phase) → InPhase opening (world step) (IsSettled step) h u
             → InPhase opening later_world IsSettledAfter h u
-        knows_still (Looking r) d = (read_still u.at r d.0, d.1)
+        knows_still (Looking r) d = (read_still u.at r d.0, d.1, d.2)
         knows_still (Testing r) d = read_still u.at r d
         knows_still (Drawn x) d = drawn_still x d
         knows_still (Won x puts) d = let same = same_other x (other_ticket x d.own) in record {
@@ -225,7 +225,7 @@ module _ {valid : Validity} {sizes : List ℕ} {opening : Contents} (step : Step
           part = o.part;
           there = o.there;
           ticket = o.ticket;
-          reads = subst (Agrees x.reads) (sym (same_up x.part (y - 1) (inl (apart x.part some_held)))) o.reads;
+          reads = subst (ReadsAgree x.reads) (sym (same_up x.part (y - 1) (inl (apart x.part some_held)))) o.reads;
         }
         hold_still _ x some_held o = o
 

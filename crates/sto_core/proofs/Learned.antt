@@ -21,21 +21,22 @@ use Rattle.sto_core.specs.declared.view.Phase.TheVariants.{Lost}
 use Rattle.sto_core.specs.Lists.{Among, weight}
 use Rattle.sto_core.specs.Versions.{ticket_of, is_free}
 use Rattle.sto_core.specs.History.{Contents, Validity, if_committed, writes, committed_updates, last_writer, up}
-use Rattle.sto_core.specs.Views.{hold_of, holds, width_in, count}
+use Rattle.sto_core.specs.Views.{hold_of, holds, width_in, count, any_claim, is_claimed}
 use Rattle.sto_core.specs.Reads.{words_read, AllRead}
-use Rattle.sto_core.specs.Event.{Event, after, Start, Open, Word, Close, Lock, Test, Draw, Check}
-use Rattle.sto_core.specs.Event.{is_own_or_free, found, closed_by, locked_by, checked_by, passes_check}
-use Rattle.sto_core.specs.Allowed.{MayRead, MayClose, MayLock, Allowed}
+use Rattle.sto_core.specs.Event.{Event, after, Start, Open, Word, Close, Lock, Test, Draw, Check, Renew, Recheck}
+use Rattle.sto_core.specs.Event.{is_own_or_free, found, closed_by, locked_by, checked_by, passes_check, rechecked_by, is_claimed_still}
+use Rattle.sto_core.specs.Allowed.{IsIdle, MayRead, MayClose, MayLock, Allowed}
 use Rattle.sto_core.specs.Core.{Part, part_at, version_at, number_found, value_found, view_after}
 use Rattle.sto_core.specs.Rule.{total, IsPart, IsLaterThan, IsTrueRead, HoldsInPhase, Alone, InPhase}
-use Rattle.sto_core.specs.Tells.{Fresh, Finds, IsLater, HasClaimed, Closes, ReadsHeld, Covers, Begins, Learns}
+use Rattle.sto_core.specs.Tells.{Fresh, Finds, IsLater, HasClaimed, Closes, Rechecks, ReadsHeld, Covers, Begins, Learns}
 use Rattle.sto_core.proofs.History.{last_after, last_below, last_rises, last_wrote, unchanged}
 use Rattle.sto_core.proofs.Holds.{held_counts, hold_at, unheld_counts}
-use Rattle.sto_core.proofs.Lists.{at_place, both_true, snoc_if_among}
+use Rattle.sto_core.proofs.Lists.{at_place, both_are, both_true, snoc_if_among}
 use Rattle.sto_core.proofs.OnClose.{claim_true}
 use Rattle.sto_core.proofs.OnDraw.{nobody_else}
+use Rattle.sto_core.proofs.OnRecheck.{free_last, still_words}
 use Rattle.sto_core.proofs.Parts.{found_settled, own_settled}
-use Rattle.sto_core.proofs.Phases.{IsLostPhase, IsWonPhase}
+use Rattle.sto_core.proofs.Phases.{IsLostPhase, IsWonPhase, idle_holds, idle_plain, plain_undrawn}
 use Rattle.sto_core.proofs.Step.{Step, IsSettled, world, fits, in_range, own_part, phased, width_at}
 use Rattle.sto_core.proofs.Sums.{counts, total-at}
 use Rattle.sto_core.proofs.Versions.{free_is, ticket_is}
@@ -59,6 +60,10 @@ locked_wrote false v p n = refl
 checked_wrote : (b : Bool) (v : View) (p n : ℕ) → (checked_by b v p n).wrote ≡ v.wrote
 checked_wrote true v p n = refl
 checked_wrote false v p n = refl
+
+rechecked_wrote : (b : Bool) (v : View) (p n : ℕ) → (rechecked_by b v p n).wrote ≡ v.wrote
+rechecked_wrote true v p n = refl
+rechecked_wrote false v p n = refl
 
 -- a phase in which versions are found
 record Finding (h : Phase) : Type 0 where
@@ -265,13 +270,33 @@ module _ {valid : Validity} {sizes : List ℕ} {opening : Contents} (step : Step
       (later p range r may.0 may.1 known, claimed p range r may.0 may.1 known)
   closes_in p range _ e may = absurd may
 
+  -- A recheck
+
+  rechecks : (p : ℕ) → p < length view.opening → Rechecks view p (version_at core p)
+  rechecks p range still j c there of_part le =
+      let k = (fits step).claims j c there in
+      let free =
+      (both_are (is_free (version_at core p))
+      (any_claim (is_claimed view p (ticket_of (version_at core p))) view.claims) still).0 in
+      let last = free_last step p range free in
+      let since = unchanged opening past.log p c.number core.clock k.within (omega arith) in
+      still_words step p range still ∙ since.0
+      ∙ ap (λ (m : ℕ). up opening past.log m c.number) (sym of_part)
+      ∙ sym k.stands.words
+
   -- A start and a draw
 
-  begins : Begins (after Start view core.clock (pos 0))
-  begins = let starts = (fits step).starts in record {
+  begins : IsIdle view.phase → Begins valid (after Start view core.clock (pos 0))
+  begins idle = let starts = (fits step).starts in let serves = (fits step).serves live in record {
+    held = idle_holds view.phase view.held idle (fits step).holds;
+    decided = λ j e there pending. plain_undrawn view.phase e.ticket (idle_plain view.phase idle)
+        ((fits step).own j e there pending);
     claims = λ j c there. let before = starts.claims j c there in omega arith;
     wrote = λ j c there. let before = starts.wrote j c there in omega arith;
     findings = λ j f there. let before = starts.findings j f there in omega arith;
+    opened =
+        subst (λ (z : List ℕ × Contents). valid z.0 z.1)
+        (λ j. (sym serves.same_sizes j, sym serves.same_opening j)) rule.opened;
   }
 
   draw_fits : 0 < view.draws → core.clock + 1 ≤ 2 ^ 56
@@ -315,12 +340,18 @@ module _ {valid : Validity} {sizes : List ℕ} {opening : Contents} (step : Step
 
   -- what each event tells
   pub event_learns : (e : Event) → Allowed valid e view
-      → Learns (length core.statuses) e view (number_found e core) (value_found e core) (view_after e core view)
-  event_learns Start may = (covers, begins)
+      → Learns valid (length core.statuses) e view (number_found e core) (value_found e core) (view_after e core view)
+  event_learns Start may = (covers, begins may)
   event_learns (Open p) may = finds_in p may.1 Reading may.0 reading_finds _ refl
   event_learns (Word p i) may = reads_in p i may.1.0 may.1.1 view.phase refl may.0
   event_learns (Close p) may =
       (close_finds p may.1 view.phase refl may.0, closes_in p may.1 view.phase refl may.0)
+  event_learns Renew may = covers
+  event_learns (Recheck p) may = (
+    finds_in p may.1 Reading may.0 reading_finds _
+        (rechecked_wrote (is_claimed_still view p (version_at core p)) (found view p (version_at core p)) p _),
+    rechecks p may.1,
+  )
   event_learns (Lock p) may = lock_finds p may.1 view.phase refl may.0
   event_learns (Test p) may = finds_in p may.1 Locking may.0 locking_finds _ refl
   event_learns (Draw us seen loaded) may = (covers, draw_fits may.draws)

@@ -12,6 +12,8 @@ pub mod DecidedHistory
 pub mod DrawnHistory
 pub mod Parts
 pub mod Valid
+pub mod Places
+pub mod Remembering
 pub mod Step
 pub mod Quiet
 pub mod Plain
@@ -22,6 +24,8 @@ pub mod OnStart
 pub mod OnOpen
 pub mod OnWord
 pub mod OnClose
+pub mod OnRenew
+pub mod OnRecheck
 pub mod OnLock
 pub mod OnTest
 pub mod OnDraw
@@ -40,6 +44,9 @@ pub mod Opened
 pub mod Gathering
 pub mod Stated
 pub mod Examples
+pub mod Loaded
+pub mod Refused
 pub mod Reopening
 pub mod Closing
 pub mod Cutting
+pub mod ClosedWords

@@ -23,11 +23,11 @@ use Rattle.sto_core.specs.declared.view.Phase.{Phase}
 use Rattle.sto_core.specs.declared.view.Phase.TheVariants.{Idle, Looking, Locking, Testing, Drawn, Won, Lost}
 use Rattle.sto_core.specs.Lists.{Each, weight}
 use Rattle.sto_core.specs.History.{Contents, Validity, Updates, Log, writes, committed_updates, pending_updates}
-use Rattle.sto_core.specs.History.{KeepsValid, HasWidths, up, PartAsOf}
+use Rattle.sto_core.specs.History.{KeepsValid, UpdatesFit, up, PartAsOf}
 use Rattle.sto_core.specs.Views.{drawn_entry, looked_parts, seen_part, loaded_part, looked_by_claim}
 use Rattle.sto_core.specs.Views.{looked_by_hold, last_claim, no_claim, is_recent, is_standing, hold_of, holds}
 use Rattle.sto_core.specs.Views.{width_in, count, times, if_won, if_drawn}
-use Rattle.sto_core.specs.Reads.{words_read, Agrees}
+use Rattle.sto_core.specs.Reads.{words_read, ReadsAgree}
 use Rattle.sto_core.specs.Event.{Draw, drawn}
 use Rattle.sto_core.specs.Allowed.{MayDraw, WasSeen, LoadedByHold, LoadedByClaim}
 use Rattle.sto_core.specs.Core.{part_at, core_after}
@@ -174,7 +174,7 @@ module _ {valid : Validity} {sizes : List ℕ} {opening : Contents} (step : Step
 
       knows_later : (h : Phase) → u.phase ≡ h → InPhase opening (world step) (IsSettled step) h u
           → InPhase opening later_world (Settled (views_with step next)) h u
-      knows_later (Looking r) is k = (read_later u.at r k.0, k.1)
+      knows_later (Looking r) is k = (read_later u.at r k.0, k.1, k.2)
       knows_later (Testing r) is k = read_later u.at r k
       knows_later (Drawn t) is k = drawn_later t is k
       knows_later (Won t puts) is k = let within = k.within in let same = as_before t within in record {
@@ -207,7 +207,7 @@ module _ {valid : Validity} {sizes : List ℕ} {opening : Contents} (step : Step
         part = o.part;
         there = o.there;
         ticket = o.ticket;
-        reads = subst (Agrees x.reads) (sym (up_same x.part (t - 1) (omega arith))) o.reads;
+        reads = subst (ReadsAgree x.reads) (sym (up_same x.part (t - 1) (omega arith))) o.reads;
       }
       hold_later _ k x o = o
 
@@ -332,7 +332,7 @@ module _ {valid : Validity} {sizes : List ℕ} {opening : Contents} (step : Step
       within = (omega arith);
       logged = new_entry;
       rising = may.updates.0;
-      widths = subst (λ (c : Contents). HasWidths c us) ((fits step).serves live).same_opening may.widths;
+      widths = subst (λ (c : Contents). UpdatesFit c us) ((fits step).serves live).same_opening may.widths;
       keeps = subst (λ (ns : List ℕ). KeepsValid valid ns (looked_parts view seen loaded) us)
           ((fits step).serves live).same_sizes may.keeps;
       looked = λ committed. absurd (not_both committed);

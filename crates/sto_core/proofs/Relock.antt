@@ -18,7 +18,7 @@ use Rattle.sto_core.specs.declared.view.Phase.TheVariants.{Looking, Testing, Won
 use Rattle.sto_core.specs.Lists.{weight}
 use Rattle.sto_core.specs.History.{Contents, Validity, Log}
 use Rattle.sto_core.specs.Views.{count, times, if_won, if_drawn}
-use Rattle.sto_core.specs.Reads.{Agrees}
+use Rattle.sto_core.specs.Reads.{ReadsAgree}
 use Rattle.sto_core.specs.Core.{Part, no_part, part_at, with_lock, edited}
 use Rattle.sto_core.specs.Rule.{total, Settled, World, IsPart, ReadBeside, IsLaterThan, IsTrueRead, held_words}
 use Rattle.sto_core.specs.Rule.{IsTrueHold, InPhase, Fits, Rule}
@@ -89,7 +89,7 @@ module _ (opening : Contents) (clock passes : ℕ) (log : Log) (before after : L
     part = f.0;
     there = f.1;
     ticket = sym f.2 ∙ k.ticket;
-    reads = subst (Agrees x.reads) (words_alike h k.part f.0 x.part f.3) k.reads;
+    reads = subst (ReadsAgree x.reads) (words_alike h k.part f.0 x.part f.3) k.reads;
   }
 
   module _ (P Q : ℕ → Type 0) (fewer : (p : ℕ) → Q p → P p) where
@@ -101,12 +101,12 @@ module _ (opening : Contents) (clock passes : ℕ) (log : Log) (before after : L
           (λ (still : f.0.ticket ≡ r.ticket). inl (sym f.2 ∙ still))
           (λ (later : IsLaterThan r at f.0.ticket). inr (subst (IsLaterThan r at) f.2 later)) (k.now f.0 f.1);
       words = λ y there settled ticket. let f = same.back r.part y there in
-          subst (Agrees r.reads) f.3 (k.words f.0 f.1 (fewer r.part settled) (f.2 ∙ ticket));
+          subst (ReadsAgree r.reads) f.3 (k.words f.0 f.1 (fewer r.part settled) (f.2 ∙ ticket));
     }
 
     knows_alike : (h : Phase) (v : View) → InPhase opening (world_with before) P h v
         → InPhase opening (world_with after) Q h v
-    knows_alike (Looking r) v k = (read_alike v.at r k.0, k.1)
+    knows_alike (Looking r) v k = (read_alike v.at r k.0, k.1, k.2)
     knows_alike (Testing r) v k = read_alike v.at r k
     knows_alike (Won t puts) v k = record {
       committed = k.committed;

@@ -9,12 +9,12 @@ use Rattle.sto_core.specs.declared.view.Phase.TheVariants.{Lost}
 use Rattle.sto_core.specs.declared.view.View.{View}
 use Rattle.sto_core.specs.Lists.{Each, Among}
 use Rattle.sto_core.specs.Reads.{words_read, AllRead}
-use Rattle.sto_core.specs.History.{Updates, Validity, writes, HasWidths, KeepsValid}
+use Rattle.sto_core.specs.History.{Updates, Validity, writes, UpdatesFit, KeepsValid}
 use Rattle.sto_core.specs.Views.{holds, hold_of, own_entry, width_in, any_claim, was_put, is_standing}
 use Rattle.sto_core.specs.Views.{is_recent, looked_parts}
 use Rattle.sto_core.specs.Puts.{IsPutOf}
 use Rattle.sto_core.specs.Event.{Event, Start, Open, Word, Close, Lock, Test, Draw, Check, Decide, Put, Release}
-use Rattle.sto_core.specs.Event.{Unlock}
+use Rattle.sto_core.specs.Event.{Unlock, Renew, Recheck}
 
 -- the pass is idle: it may start, and it may be given back
 abbrev pub IsIdle : Phase → Type 0
@@ -22,6 +22,13 @@ IsIdle Idle = Unit {0}
 IsIdle Reading = Unit {0}
 IsIdle (Looking r) = Unit {0}
 IsIdle _ = ⊥
+
+-- the same as a truth value
+abbrev pub is_idle : Phase → Bool
+is_idle Idle = true
+is_idle Reading = true
+is_idle (Looking r) = true
+is_idle _ = false
 
 -- the pass has drawn a ticket and not decided
 abbrev pub IsDrawn : Phase → Type 0
@@ -58,6 +65,10 @@ MayLock v p Reading = Unit {0}
 MayLock v p Locking = Each (λ (h : Held). h.part < p) v.held
 MayLock v p _ = ⊥
 
+-- the running attempt has a claim of the part
+abbrev pub WasClaimed : View → ℕ → Type 0
+WasClaimed v p = any_claim (is_recent v p) v.claims ≡ true
+
 -- these part numbers rise, and are above n
 abbrev pub RisesFrom : ℕ → List ℕ → Type 0
 RisesFrom n [] = Unit {0}
@@ -78,14 +89,14 @@ LoadedByHold v p = HoldsPart v p × AllRead (hold_of p v.held).reads (width_in v
 
 -- the commit loaded the part by a test, without a hold
 abbrev pub LoadedByClaim : View → ℕ → Type 0
-LoadedByClaim v p = (holds p v.held ≡ false) × (any_claim (is_recent v p) v.claims ≡ true)
+LoadedByClaim v p = (holds p v.held ≡ false) × WasClaimed v p
 
 -- a ticket may be drawn for these updates, parts seen, and other parts loaded
 pub record MayDraw (valid : Validity) (us : Updates) (seen loaded : List ℕ) (v : View) : Type 0 where
   pub phase : v.phase ≡ Locking
   pub draws : 0 < v.draws
   pub updates : AreUpdates us
-  pub widths : HasWidths v.opening us
+  pub widths : UpdatesFit v.opening us
   -- the updates write exactly the held parts
   pub held : (p : ℕ) → writes us p ≡ holds p v.held
   pub seen_rise : Rises seen
@@ -138,6 +149,8 @@ Allowed valid Start v = IsIdle v.phase
 Allowed valid (Open p) v = (v.phase ≡ Reading) × HasPart v p
 Allowed valid (Word p i) v = MayRead v p v.phase × HasWord v p i
 Allowed valid (Close p) v = MayClose v p v.phase × HasPart v p
+Allowed valid Renew v = v.phase ≡ Reading
+Allowed valid (Recheck p) v = (v.phase ≡ Reading) × HasPart v p × WasClaimed v p
 Allowed valid (Lock p) v = MayLock v p v.phase × HasPart v p
 Allowed valid (Test p) v = (v.phase ≡ Locking) × HasPart v p × (holds p v.held ≡ false)
 Allowed valid (Draw us seen loaded) v = MayDraw valid us seen loaded v

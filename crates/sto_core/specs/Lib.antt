@@ -6,11 +6,15 @@ pub mod Views
 pub mod Event
 pub mod Puts
 pub mod Allowed
+pub mod Places
+pub mod Remembered
 pub mod Core
 pub mod Rule
 pub mod Opened
 pub mod Cut
 pub mod Gathered
 pub mod Reopened
+pub mod Words
+pub mod Closed
 pub mod Tells
 pub mod Calls

@@ -17,9 +17,9 @@ use Rattle.sto_core.specs.declared.view.Phase.TheVariants.{Idle, Reading, Lookin
 use Rattle.sto_core.specs.declared.view.Phase.TheVariants.{Lost}
 use Rattle.sto_core.specs.declared.view.View.{View}
 use Rattle.sto_core.specs.Lists.{Each, weight}
-use Rattle.sto_core.specs.Reads.{Agrees}
+use Rattle.sto_core.specs.Reads.{ReadsAgree}
 use Rattle.sto_core.specs.History.{Contents, Validity, Log, writes, committed_updates, pending_updates, up}
-use Rattle.sto_core.specs.History.{last_writer, TicketAsOf, PartAsOf, KeepsValid, HasWidths, status_after}
+use Rattle.sto_core.specs.History.{last_writer, TicketAsOf, PartAsOf, KeepsValid, UpdatesFit, status_after}
 use Rattle.sto_core.specs.Views.{count, times, if_won, if_drawn, was_put}
 use Rattle.sto_core.specs.Core.{Part, Core}
 
@@ -134,14 +134,14 @@ pub record IsTrueRead (clock : ℕ) (parts : List Part) (settled : ℕ → Type 
   pub within : r.ticket ≤ clock
   pub now : (part : Part) → IsPart parts r.part part → (part.ticket ≡ r.ticket) ⊎ IsLaterThan r at part.ticket
   pub words : (part : Part) → IsPart parts r.part part → settled r.part → part.ticket ≡ r.ticket
-      → Agrees r.reads part.words
+      → ReadsAgree r.reads part.words
 
 -- a held part has the ticket that its lock found, and reads under the hold found these words of it
 pub record IsTrueHold (parts : List Part) (words : Part → ℕ → List ℤ) (h : Held) : Type 0 where
   pub part : Part
   pub there : IsPart parts h.part part
   pub ticket : part.ticket ≡ h.ticket
-  pub reads : Agrees h.reads (words part h.part)
+  pub reads : ReadsAgree h.reads (words part h.part)
 
 -- a pass that has dropped the ticket t and still holds parts
 pub record HasLost (log : Log) (clock t : ℕ) (entries : List Entry) (held : List Held) : Type 0 where
@@ -207,12 +207,16 @@ module _ (opening : Contents) (log : Log) where
     pub rest : (p i : ℕ) (part : Part) → 0 < count p held → IsPart parts p part → was_put puts p i ≡ false
         → get_elem? part.words i ≡ get_elem? (up opening log p (t - 1)) i
 
+-- the claims of the running attempt are of numbers up to `at`, as they are before its commit begins
+abbrev pub HasEarlyClaims : View → Type 0
+HasEarlyClaims v = Each (λ (c : Claim). c.start ≡ v.starts → c.number ≤ v.at) v.claims
+
 -- what the rule says of a view by its phase
 abbrev pub InPhase : Contents → World → (ℕ → Type 0) → Phase → View → Type 0
 InPhase opening world settled Idle v = Unit {0}
-InPhase opening world settled Reading v = Unit {0}
+InPhase opening world settled Reading v = HasEarlyClaims v
 InPhase opening world settled (Looking r) v =
-    IsTrueRead world.clock world.parts settled v.at r × (r.ticket ≤ v.at)
+    IsTrueRead world.clock world.parts settled v.at r × (r.ticket ≤ v.at) × HasEarlyClaims v
 InPhase opening world settled Locking v = Unit {0}
 InPhase opening world settled (Testing r) v = IsTrueRead world.clock world.parts settled v.at r
 InPhase opening world settled (Drawn t) v =
@@ -234,7 +238,7 @@ module _ (valid : Validity) (sizes : List ℕ) (opening : Contents) where
     pub within : e.ticket ≤ clock
     pub logged : log e.ticket ≡ e
     pub rising : IsRising e.updates
-    pub widths : HasWidths opening e.updates
+    pub widths : UpdatesFit opening e.updates
     pub keeps : KeepsValid valid sizes e.looked e.updates
     pub looked : e.fate ≡ Committed → Each (WasSoBefore opening log e.ticket) e.looked
 

@@ -1,9 +1,10 @@
 -- What a pass learns from an event, beside its view after it: four facts of its own view.
-use Rattle.std.specs.Prelude.{◌≡◌, ◌≢◌, ◌+◌, ◌*◌, ◌^◌, ◌<◌, ◌≤◌, ℕ, ℤ, List, true}
+use Rattle.std.specs.Prelude.{◌≡◌, ◌≢◌, ◌+◌, ◌*◌, ◌^◌, ◌<◌, ◌≤◌, ℕ, ℤ, List, [], true}
 use mathlib.Core.Option.{some}
 use lib.ListN.{get_elem?}
 use Rattle.sto_part.specs.Parts.{part_of}
 use Rattle.sto_core.specs.declared.view.Entry.{Entry}
+use Rattle.sto_core.specs.declared.view.Fate.TheVariants.{Pending}
 use Rattle.sto_core.specs.declared.view.Claim.{Claim}
 use Rattle.sto_core.specs.declared.view.Wrote.{Wrote}
 use Rattle.sto_core.specs.declared.view.Finding.{Finding}
@@ -17,7 +18,8 @@ use Rattle.sto_core.specs.Reads.{words_read}
 use Rattle.sto_core.specs.History.{Contents, Validity}
 use Rattle.sto_core.specs.Views.{hold_of, width_in}
 use Rattle.sto_core.specs.Event.{Event, Start, Open, Word, Close, Lock, Test, Draw, Check, Decide, Put, Release}
-use Rattle.sto_core.specs.Event.{Unlock, after, is_own_or_free}
+use Rattle.sto_core.specs.Event.{Unlock, Renew, Recheck, after, is_own_or_free, is_claimed_still, words_claimed}
+use Rattle.sto_core.specs.Allowed.{Allowed}
 
 -- the first fact: the claims of one number are part of some valid contents
 abbrev pub ClaimsFit : Validity → View → Type 0
@@ -61,6 +63,10 @@ Closes (Testing r) v p n =
     IsLater r v n × (n ≡ 2 * r.ticket → HasClaimed v p r.ticket (words_read r.reads (width_in v p)))
 Closes _ v p n = Unit {0}
 
+-- what a recheck that finds the version n tells of the words that it claims again
+abbrev pub Rechecks : View → ℕ → ℕ → Type 0
+Rechecks v p n = is_claimed_still v p n ≡ true → HasClaimed v p (ticket_of n) (words_claimed v p n)
+
 -- a word that is read under a hold is that of each claim of the part whose number the ticket of the hold
 -- does not pass
 abbrev pub ReadsHeld : Phase → View → ℕ → ℕ → ℤ → Type 0
@@ -76,31 +82,38 @@ pub record Covers (v : View) (n : ℕ) : Type 0 where
   pub claims : Each (λ (c : Claim). (c.number ≤ n) × (c.ticket ≤ n)) v.claims
   pub wrote : Each (λ (c : Wrote). c.ticket ≤ n) v.wrote
 
--- no claim or finding is of the attempt that begins
-pub record Begins (w : View) : Type 0 where
+-- an attempt begins: its pass holds nothing and has no pending entry, no claim or finding is of this attempt, and
+-- the contents of the opening are valid
+pub record Begins (valid : Validity) (w : View) : Type 0 where
+  pub held : w.held ≡ []
+  pub decided : Each (λ (e : Entry). e.fate ≢ Pending) w.entries
   pub claims : Each (λ (c : Claim). c.start < w.starts) w.claims
   pub wrote : Each (λ (c : Wrote). c.start < w.starts) w.wrote
   pub findings : Each (λ (f : Finding). f.start < w.starts) w.findings
+  pub opened : valid w.sizes w.opening
 
 -- what an event tells a pass with the view v that finds the number n or the value x, and has the view w
 -- after it
-abbrev pub Learns : ℕ → Event → View → ℕ → ℤ → View → Type 0
-Learns passes Start v n x w = Covers v n × Begins w
-Learns passes (Open p) v n x w = Finds passes v p n w
-Learns passes (Word p i) v n x w = ReadsHeld v.phase v p i x
-Learns passes (Close p) v n x w = Finds passes v p n w × Closes v.phase v p n
-Learns passes (Lock p) v n x w = Finds passes v p n w
-Learns passes (Test p) v n x w = Finds passes v p n w
-Learns passes (Draw us seen loaded) v n x w = Covers v n × (n + 1 ≤ 2 ^ 56)
-Learns passes (Check p) v n x w = Finds passes v p n w
-Learns passes (Decide commit) v n x w = Unit {0}
-Learns passes (Put p i y) v n x w = Unit {0}
-Learns passes (Release p) v n x w = Unit {0}
-Learns passes (Unlock p) v n x w = Unit {0}
+abbrev pub Learns : Validity → ℕ → Event → View → ℕ → ℤ → View → Type 0
+Learns valid passes Start v n x w = Covers v n × Begins valid w
+Learns valid passes (Open p) v n x w = Finds passes v p n w
+Learns valid passes (Word p i) v n x w = ReadsHeld v.phase v p i x
+Learns valid passes (Close p) v n x w = Finds passes v p n w × Closes v.phase v p n
+Learns valid passes Renew v n x w = Covers v n
+Learns valid passes (Recheck p) v n x w = Finds passes v p n w × Rechecks v p n
+Learns valid passes (Lock p) v n x w = Finds passes v p n w
+Learns valid passes (Test p) v n x w = Finds passes v p n w
+Learns valid passes (Draw us seen loaded) v n x w = Covers v n × (n + 1 ≤ 2 ^ 56)
+Learns valid passes (Check p) v n x w = Finds passes v p n w
+Learns valid passes (Decide commit) v n x w = Unit {0}
+Learns valid passes (Put p i y) v n x w = Unit {0}
+Learns valid passes (Release p) v n x w = Unit {0}
+Learns valid passes (Unlock p) v n x w = Unit {0}
 
--- all that an event tells: the view after it, the first fact, and the others
+-- all that an event tells: that it was allowed, the view after it, the first fact, and the others
 pub record Tells (valid : Validity) (passes : ℕ) (e : Event) (v : View) (n : ℕ) (x : ℤ)
     (w : View) : Type 0 where
+  pub allowed : Allowed valid e v
   pub after : w ≡ after e v n x
   pub fit : ClaimsFit valid w
-  pub learns : Learns passes e v n x w
+  pub learns : Learns valid passes e v n x w

@@ -1,4 +1,3 @@
-pub mod Remembering
 pub mod Stepping
 pub mod Calls
 pub mod Shown
@@ -6,3 +5,4 @@ pub mod Asked
 pub mod Operations
 pub mod Opening
 pub mod Scenes
+pub mod Reopened

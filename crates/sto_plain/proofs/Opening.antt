@@ -12,7 +12,7 @@ use Rattle.sto_core.specs.declared.view.Phase.{Phase}
 use Rattle.sto_core.specs.declared.view.Phase.TheVariants.{Idle, Reading, Looking, Locking, Testing, Drawn, Won, Lost}
 use Rattle.sto_core.specs.declared.view.View.{View}
 use Rattle.sto_core.specs.Lists.{Each}
-use Rattle.sto_core.specs.History.{Contents, Validity, Log, contents_after}
+use Rattle.sto_core.specs.History.{Contents, Validity, Log, contents_as_of}
 use Rattle.sto_core.specs.Views.{count, if_won}
 use Rattle.sto_core.specs.Core.{Part, Core, no_part}
 use Rattle.sto_core.specs.Opened.{opened_view, opened_views, opened_part, opened_core}
@@ -20,7 +20,7 @@ use Rattle.sto_core.specs.Rule.{Settled}
 use Rattle.sto_core.proofs.Parts.{at_place, length_of_map, parts_many}
 use Rattle.sto_core.proofs.Opened.{opened_holds}
 use Rattle.sto_core.proofs.Valid.{part_after, widths_after}
-use Rattle.sto_plain.specs.Words.{parts_shown, core_shown}
+use Rattle.sto_core.specs.Words.{parts_shown, core_shown}
 use Rattle.sto_plain.specs.Kept.{IsSeated, Kept, AreUpToDate}
 
 -- one more part is copied
@@ -66,18 +66,19 @@ module _ (sizes : List ℕ) (opening : Contents) where
   seated_from k zero j v ticket is = absurd (some-ne-none v (sym is))
   seated_from k (suc n) zero v ticket is =
       subst (IsSeated (k + 0) ticket) (some-injective (opened_view sizes opening k) v is)
-      (record { number = (omega arith); live = (omega arith); remembers = tt })
+      (record { number = (omega arith); live = (omega arith); remembers = refl })
   seated_from k (suc n) (suc j) v ticket is =
       let same : suc k + j ≡ k + suc j =
       omega arith in subst (λ (m : ℕ). IsSeated m ticket v) same (seated_from (suc k) n j v ticket is)
 
   -- what is kept holds of them
-  pub opening_kept : (valid : Validity) (passes : ℕ) → valid sizes opening → passes ≤ 65536
+  pub opening_kept : (valid : Validity) (passes : ℕ) → valid sizes opening → 1 ≤ passes → passes ≤ 65536
       → Kept valid (replicate passes 0) (opened_core sizes opening passes)
-  opening_kept valid passes ok few = record {
+  opening_kept valid passes ok some_pass few = record {
     sizes = sizes;
     opening = opening;
     rule = opened_holds sizes opening valid passes ok few;
+    some_pass = subst (λ (n : ℕ). 0 < n) (sym (views_many 0 passes)) some_pass;
     tickets_of_all = length-replicate passes 0 ∙ sym (views_many 0 passes);
     seated = λ pass v is. let same : 0 + pass ≡ pass =
         omega arith in
@@ -122,7 +123,7 @@ module _ (valid : Validity) (tickets : List ℕ) (core : Core) (kept : Kept vali
   words = map (λ (q : Part). q.words) core.parts
 
   abbrev all : List (List ℤ)
-  all = contents_after kept.opening log core.clock
+  all = contents_as_of kept.opening log core.clock
 
   many_words : length words ≡ length core.parts
   many_words = length_of_map (λ (q : Part). q.words) core.parts

@@ -9,16 +9,18 @@ use Rattle.sto_version.specs.Versions.{ticket_of, is_free, version_of}
 use Rattle.sto_core.specs.declared.view.View.{View}
 use Rattle.sto_core.specs.History.{Updates, Validity}
 use Rattle.sto_core.specs.Views.{own_ticket}
-use Rattle.sto_core.specs.Event.{Event, Start, Open, Word, Close, Lock, Test, Draw, Check, Decide, Put, Release, Unlock}
+use Rattle.sto_core.specs.Event.{Event, Start, Open, Word, Close, Renew, Recheck, Lock, Test, Draw, Check, Decide, Put, Release, Unlock}
 use Rattle.sto_core.specs.Allowed.{Allowed, HasPart, HasWord}
+use Rattle.sto_core.specs.Places.{LoadsClock, LoadsVersion}
 use Rattle.sto_core.specs.Core.{Part, Core, part_at, version_at, status_word, with_lock, with_ticket, with_value, edited}
 use Rattle.sto_core.specs.Rule.{world_of, Settled}
 use Rattle.sto_core.proofs.Parts.{ticket_is, free_is, at_place}
-use Rattle.sto_plain.specs.Words.{part_shown, parts_shown, core_shown}
-use Rattle.sto_plain.specs.Passes.{no_view, view_at, view_of, noted, LoadsVersion}
+use Rattle.sto_core.proofs.Places.{part_in_range, word_in_range}
+use Rattle.sto_core.specs.Words.{part_shown, parts_shown, core_shown}
+use Rattle.sto_plain.specs.Passes.{no_view, view_at, view_of, noted}
 use Rattle.sto_plain.specs.Kept.{IsSeated, Kept}
 use Rattle.sto_plain.proofs.Calls.{Made, call}
-use Rattle.sto_plain.proofs.Shown.{length_shown, part_is, version_is, set_version, set_words, part_in_range, word_in_range}
+use Rattle.sto_plain.proofs.Shown.{length_shown, part_is, version_is, set_version, set_words}
 use Rattle.sto_plain.proofs.Asked.{HasTicket, own_is, own_within}
 
 module _
@@ -46,14 +48,14 @@ module _
   version_there p has =
       let has' = subst (λ (c : Core). HasPart (view_of c pass) p) (sym same) has in
       subst (λ (n : ℕ). p < n) (length_shown versions contents long)
-      (part_in_range valid tickets before kept pass inside_book p has')
+      (part_in_range kept.rule.1 pass (view_at book pass) (at_place no_view book pass inside_book) seat.live p has')
 
   pub word_there : (p i : ℕ) → HasWord (view_of now pass) p i → i < length (part_of contents p)
   word_there p i has =
       let has' = subst (λ (c : Core). HasWord (view_of c pass) p i) (sym same) has in
       let there = slice_get-get_or versions p (record { 0 = 0 }) (version_there p has.0) in
       subst (λ (q : Part). i < length q.words) (part_is versions contents p _ long there)
-      (word_in_range valid tickets before kept pass inside_book p i has')
+      (word_in_range kept.rule.1 pass (view_at book pass) (at_place no_view book pass inside_book) seat.live p i has')
 
   pub status_there : pass < length statuses
   status_there =
@@ -85,11 +87,30 @@ module _
 
   module _ (e : Event) (may : Allowed valid e (view_of now pass)) (views : List View) where
     -- the load of the clock
-    pub clock_loaded : e ≡ Start → views ≡ noted e book pass clock (pos 0)
+    clock_read : (d : Event) → e ≡ d → LoadsClock d → views ≡ noted e book pass clock (pos 0)
         → Made valid e now (core_shown clock statuses versions contents views) tickets pass clock (pos 0)
-    clock_loaded told are =
+    clock_read Start told is are =
         call valid tickets before pass kept e Start now same told inside may clock (pos 0) refl refl clock
         statuses parts views refl refl refl are
+    clock_read Renew told is are =
+        call valid tickets before pass kept e Renew now same told inside may clock (pos 0) refl refl clock
+        statuses parts views refl refl refl are
+    clock_read (Open q) told is are = absurd is
+    clock_read (Word q i) told is are = absurd is
+    clock_read (Close q) told is are = absurd is
+    clock_read (Recheck q) told is are = absurd is
+    clock_read (Lock q) told is are = absurd is
+    clock_read (Test q) told is are = absurd is
+    clock_read (Draw us seen looked) told is are = absurd is
+    clock_read (Check q) told is are = absurd is
+    clock_read (Decide b) told is are = absurd is
+    clock_read (Put q i x) told is are = absurd is
+    clock_read (Release q) told is are = absurd is
+    clock_read (Unlock q) told is are = absurd is
+
+    pub clock_loaded : LoadsClock e → views ≡ noted e book pass clock (pos 0)
+        → Made valid e now (core_shown clock statuses versions contents views) tickets pass clock (pos 0)
+    clock_loaded is are = clock_read e refl is are
 
     module _ (p : ℕ) (n : Version) (got : slice_get versions p ≡ Some n) where
       -- the load of a version
@@ -103,6 +124,10 @@ module _
           call valid tickets before pass kept e (Close q) now same told inside may n.0 (pos 0)
           (ap (version_at before) is ∙ version_is versions contents p n long got clock statuses book)
           refl clock statuses parts views refl refl refl are
+      loaded (Recheck q) told is are =
+          call valid tickets before pass kept e (Recheck q) now same told inside may n.0 (pos 0)
+          (ap (version_at before) is ∙ version_is versions contents p n long got clock statuses book)
+          refl clock statuses parts views refl refl refl are
       loaded (Test q) told is are =
           call valid tickets before pass kept e (Test q) now same told inside may n.0 (pos 0)
           (ap (version_at before) is ∙ version_is versions contents p n long got clock statuses book)
@@ -112,6 +137,7 @@ module _
           (ap (version_at before) is ∙ version_is versions contents p n long got clock statuses book)
           refl clock statuses parts views refl refl refl are
       loaded Start told is are = absurd is
+      loaded Renew told is are = absurd is
       loaded (Word q i) told is are = absurd is
       loaded (Lock q) told is are = absurd is
       loaded (Draw us seen looked) told is are = absurd is

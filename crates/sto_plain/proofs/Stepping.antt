@@ -5,7 +5,7 @@ use lib.ListN.{get_elem?}
 use Rattle.atomic_table.proofs.Lists.{at_set}
 use Rattle.sto_core.specs.declared.view.View.{View}
 use Rattle.sto_core.specs.History.{Validity}
-use Rattle.sto_core.specs.Event.{Event, Start, Open, Word, Close, Lock, Test, Draw, Check, Decide, Put, Release, Unlock, after}
+use Rattle.sto_core.specs.Event.{Event, Start, Open, Word, Close, Renew, Recheck, Lock, Test, Draw, Check, Decide, Put, Release, Unlock, after}
 use Rattle.sto_core.specs.Allowed.{Allowed}
 use Rattle.sto_core.specs.Core.{Core, number_found, value_found}
 use Rattle.sto_core.specs.Rule.{Holds}
@@ -14,8 +14,9 @@ use Rattle.sto_core.proofs.Parts.{at_place}
 use Rattle.sto_core.proofs.Lasting.{lasts}
 use Rattle.sto_core.proofs.Whole.{event_tells}
 use Rattle.sto_plain.specs.Passes.{no_view, view_of, stepped}
-use Rattle.sto_plain.specs.Kept.{Remembers, remembered, all_remembered, IsSeated, Kept}
-use Rattle.sto_plain.proofs.Remembering.{remembers_after}
+use Rattle.sto_core.specs.Remembered.{Remembers, remembered}
+use Rattle.sto_plain.specs.Kept.{all_remembered, IsSeated, Kept}
+use Rattle.sto_core.proofs.Remembering.{remembers_after}
 
 -- a draw sets the ticket of its pass, and no event that of another
 length_remembered : (e : Event) (n : ℕ) (tickets : List ℕ) (pass : ℕ)
@@ -25,6 +26,8 @@ length_remembered Start n tickets pass = refl
 length_remembered (Open p) n tickets pass = refl
 length_remembered (Word p i) n tickets pass = refl
 length_remembered (Close p) n tickets pass = refl
+length_remembered Renew n tickets pass = refl
+length_remembered (Recheck p) n tickets pass = refl
 length_remembered (Lock p) n tickets pass = refl
 length_remembered (Test p) n tickets pass = refl
 length_remembered (Check p) n tickets pass = refl
@@ -40,6 +43,8 @@ own_remembered Start n tickets pass lt = refl
 own_remembered (Open p) n tickets pass lt = refl
 own_remembered (Word p i) n tickets pass lt = refl
 own_remembered (Close p) n tickets pass lt = refl
+own_remembered Renew n tickets pass lt = refl
+own_remembered (Recheck p) n tickets pass lt = refl
 own_remembered (Lock p) n tickets pass lt = refl
 own_remembered (Test p) n tickets pass lt = refl
 own_remembered (Check p) n tickets pass lt = refl
@@ -56,6 +61,8 @@ other_remembered Start n tickets pass other ne = refl
 other_remembered (Open p) n tickets pass other ne = refl
 other_remembered (Word p i) n tickets pass other ne = refl
 other_remembered (Close p) n tickets pass other ne = refl
+other_remembered Renew n tickets pass other ne = refl
+other_remembered (Recheck p) n tickets pass other ne = refl
 other_remembered (Lock p) n tickets pass other ne = refl
 other_remembered (Test p) n tickets pass other ne = refl
 other_remembered (Check p) n tickets pass other ne = refl
@@ -104,6 +111,7 @@ module _ (valid : Validity) (e : Event) (tickets : List ℕ) (c : Core) (pass : 
       sizes = kept.sizes;
       opening = kept.opening;
       rule = step.0;
+      some_pass = subst (λ (n : ℕ). 0 < n) (sym (length-set c.views pass w)) kept.some_pass;
       tickets_of_all =
           length_remembered e n tickets pass ∙ (kept.tickets_of_all ∙ sym (length-set c.views pass w));
       seated = λ i u is. ⊎_elim

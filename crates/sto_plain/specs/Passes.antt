@@ -4,7 +4,7 @@ use Rattle.std.proofs.Common.{◌∙◌}
 use Rattle.sto_core.specs.declared.view.View.{View}
 use Rattle.sto_core.specs.declared.view.Phase.TheVariants.{Idle}
 use Rattle.sto_core.specs.Core.{Core, core_after, number_found, value_found}
-use Rattle.sto_core.specs.Event.{Event, Open, Close, Test, Check, after}
+use Rattle.sto_core.specs.Event.{Event, after}
 use Rattle.sto_core.specs.History.{Validity}
 use Rattle.sto_core.specs.Allowed.{Allowed}
 use Rattle.sto_core.specs.Tells.{Tells}
@@ -56,14 +56,6 @@ pub same_through : (c : Core) (i : ℕ) (d : Core) (j : ℕ) (e : Core) (k : ℕ
     → IsSame d j e k → IsSame c i e k
 same_through c i d j e k p q =
     (q.0 ∙ p.0, q.1 ∙ p.1, q.2 ∙ p.2, λ other ne. q.3 other (λ is. ne (is ∙ p.0)) ∙ p.3 other ne)
-
--- the event loads the version of the part
-abbrev pub LoadsVersion : Event → ℕ → Type 0
-LoadsVersion (Open q) p = q ≡ p
-LoadsVersion (Close q) p = q ≡ p
-LoadsVersion (Test q) p = q ≡ p
-LoadsVersion (Check q) p = q ≡ p
-LoadsVersion e p = ⊥
 
 -- the event of a pass that a call was: it answers what the word held, and tells what the pass learns
 pub record Steps (valid : Validity) (e : Event) (c : Core) (pass n : ℕ) (x : ℤ) (later : Core) : Type 0

@@ -1,10 +1,11 @@
 -- What the passes of a scene do, in order: each event with the number of its pass.
-use Rattle.std.specs.Prelude.{ℕ, ℤ, pos, List, [], ◌∷◌, true, false}
-use Rattle.sto_part.specs.declared.change.Change.TheVariants.{Put as PutChange}
+use Rattle.std.specs.Prelude.{ℕ, ℤ, pos, negsuc, List, [], ◌∷◌, true, false}
+use Rattle.sto_part.specs.declared.change.Change.TheVariants.{Put as PutChange, Add as AddChange}
 use Rattle.sto_core.specs.History.{Updates, Validity}
-use Rattle.sto_core.specs.Event.{Event, Start, Open, Word, Close, Lock, Draw, Check, Decide, Put, Release, Unlock}
+use Rattle.sto_core.specs.Event.{Event, Start, Open, Word, Close, Lock, Test, Draw, Check, Decide, Put, Release, Unlock}
 use Rattle.sto_core.specs.Core.{Core}
 use Rattle.sto_core.specs.Opened.{opened_core}
+use Rattle.sto_core.specs.Reopened.{reopened_core}
 use Rattle.sto_plain.specs.Passes.{stepped}
 
 -- all contents are valid
@@ -69,3 +70,38 @@ abbrev pub first_failed : Core
 first_failed =
     played ((0, Lock 0) ∷ (0, Draw (one_put 0 (pos 1)) (0 ∷ []) []) ∷ (0, Check 0) ∷ (0, Decide false) ∷
     (0, Unlock 0) ∷ []) other_committed
+
+-- a pass that reads on as of a later number
+abbrev pub other_written : Core
+other_written =
+    played ((1, Start) ∷ (1, Lock 1) ∷ (1, Draw (one_put 1 (pos 9)) [] []) ∷ (1, Decide true) ∷
+    (1, Put 1 0 (pos 9)) ∷ (1, Release 1) ∷ []) first_read
+
+-- a pass that adds to a part which another has read, and that one, which loads the part under its hold, and part 1
+-- by a test
+abbrev pub one_add : ℕ → ℤ → Updates
+one_add part value = (part, AddChange value ∷ []) ∷ []
+
+abbrev pub other_drew_sum : Core
+other_drew_sum =
+    played ((1, Start) ∷ (1, Lock 0) ∷ (1, Word 0 0) ∷ (1, Draw (one_add 0 (pos 5)) [] (0 ∷ [])) ∷ []) first_read
+
+abbrev pub other_added : Core
+other_added = played ((1, Decide true) ∷ (1, Put 0 0 (pos 5)) ∷ (1, Release 0) ∷ []) other_drew_sum
+
+abbrev pub both_loaded : Core
+both_loaded =
+    played ((0, Lock 0) ∷ (0, Word 0 0) ∷ (0, Test 1) ∷ (0, Word 1 0) ∷ (0, Close 1) ∷ []) other_added
+
+abbrev pub first_drew : Core
+first_drew = played ((0, Draw (one_add 0 (negsuc 1)) [] (0 ∷ 1 ∷ [])) ∷ (0, Check 1) ∷ []) both_loaded
+
+-- words that were closed after a commit and a drop, and opened again with one pass, which then draws a ticket
+abbrev pub went_on : Core
+went_on = reopened_core [] ((pos 0 ∷ []) ∷ (pos 0 ∷ []) ∷ []) first_gave_up
+
+abbrev pub drew_further : Core
+drew_further = played ((0, Start) ∷ (0, Lock 1) ∷ (0, Draw (one_put 1 (pos 8)) [] []) ∷ []) went_on
+
+abbrev pub wrote_further : Core
+wrote_further = played ((0, Decide true) ∷ (0, Put 1 0 (pos 8)) ∷ (0, Release 1) ∷ []) drew_further

@@ -7,6 +7,8 @@
 
 mod at;
 mod committing;
+mod extending;
+mod loading;
 mod plain;
 
 pub use at::At;

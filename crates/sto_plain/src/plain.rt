@@ -1,16 +1,19 @@
 //! The words of one thread, and what the passes over them know.
-ghost use Rattle.std.specs.Prelude.{◌≡◌, ℕ, suc, pos, ◌^◌, ◌<◌, ◌≤◌, [], length, map, IfOk};
+ghost use Rattle.std.specs.Prelude.{◌≡◌, ℕ, suc, pos, ◌^◌, ◌<◌, ◌≤◌, [], ◌∷◌, length, map, IfOk, IfErr};
 ghost use Rattle.sto_core.specs.Event.{Start, Open, Word, Close, Lock, Test, Draw, Check, Decide, Put, Release, Unlock};
-ghost use Rattle.sto_core.specs.Allowed.{Allowed};
+ghost use Rattle.sto_core.specs.Allowed.{Allowed, IsIdle};
+ghost use Rattle.sto_core.specs.Closed.{closed_core, live_view, reopened_from, AreClosed};
 ghost use Rattle.sto_core.specs.Core.{status_word};
 ghost use Rattle.sto_core.specs.Lists.{Each};
 ghost use Rattle.sto_core.specs.Opened.{opened_views, opened_core};
+ghost use Rattle.sto_core.specs.Places.{LoadsClock, LoadsVersion};
+ghost use Rattle.sto_core.specs.Reopened.{reopened_view};
 ghost use Rattle.sto_plain.specs.Kept.{AreUpToDate};
-ghost use Rattle.sto_plain.specs.Passes.{view_of, noted, LoadsVersion, Steps};
+ghost use Rattle.sto_plain.specs.Passes.{view_of, noted, Steps};
 
 use std::alloc::Global;
 use std::marker::{Brand, Model, PhantomData};
-use sto_core::{Notebook, Noted, Told, Versions};
+use sto_core::{Closed, Notebook, Noted, Told, Versions};
 use sto_item::Updates;
 use sto_part::{Contents, List, Naming, NoMemory, Parts};
 use sto_version::{FREE0, Version};
@@ -31,7 +34,7 @@ pub struct Plain<T: Naming> {
 impl<T: Naming> Model for Plain<T> {
     ghost use Rattle.std.specs.Prelude.{◌≡◌, length};
     ghost use Rattle.sto_core.specs.Core.{Core};
-    ghost use Rattle.sto_plain.specs.Words.{core_shown};
+    ghost use Rattle.sto_core.specs.Words.{core_shown};
     ghost use Rattle.sto_plain.specs.Kept.{Kept};
 
     ghost Value = { Core };
@@ -69,6 +72,23 @@ fn note_opening<T: Naming, N: Noted>(book: &mut Notebook, ty: &T, contents: &Con
     ensures { book.new ≡ opened_views (T.sizes ty.now) contents.now.items 0 passes }
 {
     book.note::<N>();
+}
+
+// Writes down the view of the one pass over words that are opened again.
+fn note_reopening<N: Noted>(book: &mut Notebook)
+    requires { N.views ≡ reopened_view (live_view book.old).sizes (live_view book.old).opening book.old ∷ [] }
+    ensures { book.new ≡ reopened_view (live_view book.old).sizes (live_view book.old).opening book.old ∷ [] }
+{
+    book.note::<N>();
+}
+
+// The status words and the remembered tickets of one pass that has drawn none.
+fn of_one_pass(alloc: Global) -> Result<(List<u64>, List<u64>), NoMemory>
+    ensures { IfOk result (λ made. (made.0.items ≡ 0 ∷ []) × (made.1.items ≡ 0 ∷ [])) }
+{
+    let statuses = List::filled(alloc, 0, 1)?;
+    let tickets = List::filled(alloc, 0, 1)?;
+    Ok((statuses, tickets))
 }
 
 // The same contents in a list of its own.
@@ -112,6 +132,48 @@ impl<T: Naming> Plain<T> {
         })
     }
 
+    /// Gives up the passes, which are all idle. The words stay, and what all passes know, with the whole history.
+    /// It takes no memory.
+    pub fn close(self) -> Closed<T>
+        requires { Each (λ v. IsIdle v.phase) self.views }
+        ensures words { closed_core result self.statuses ≡ self }
+        ensures closed { AreClosed T.valid result }
+    {
+        let Plain {
+            clock,
+            statuses: _,
+            versions,
+            contents,
+            book,
+            tickets: _,
+            of: _,
+        } = self;
+        Closed::new(clock, versions, contents, book)
+    }
+
+    /// Goes on from closed words with one idle pass, which has what all closed passes knew.
+    pub fn reopen(closed: Closed<T>) -> Result<Plain<T>, (Closed<T>, NoMemory)>
+        ensures ok { IfOk result (λ p. p ≡ reopened_from closed) }
+        ensures err { IfErr result (λ e. e.0 ≡ closed) }
+    {
+        let (clock, versions, contents, mut book) = closed.into_parts();
+        match of_one_pass(versions.allocator()) {
+            Ok((statuses, tickets)) => {
+                note_reopening::<Brand>(&mut book);
+                Ok(Plain {
+                    clock,
+                    statuses,
+                    versions,
+                    contents,
+                    book,
+                    tickets,
+                    of: PhantomData,
+                })
+            }
+            Err(NoMemory) => Err((Closed::new(clock, versions, contents, book), NoMemory)),
+        }
+    }
+
     /// The contents after all commits, where no pass holds a part.
     pub fn contents(&self) -> Result<Contents, NoMemory>
         requires { Each (λ v. v.held ≡ []) self.now.views }
@@ -121,9 +183,9 @@ impl<T: Naming> Plain<T> {
         copied(self.tickets.allocator(), &self.contents)
     }
 
-    // The load of the clock that begins an attempt.
+    // The load of the clock that begins an attempt, or renews the number that it reads as of.
     pub(crate) fn load_clock<E: Told>(&mut self, pass: u32) -> u64
-        requires event { E.event ≡ Start }
+        requires event { LoadsClock E.event }
         requires inside { pass < length self.old.views }
         requires allowed { Allowed T.valid E.event (view_of self.old pass) }
         ensures { Steps T.valid E.event self.old pass result (pos 0) self.new }
@@ -133,7 +195,7 @@ impl<T: Naming> Plain<T> {
         found
     }
 
-    // The load of a version that begins or ends a read or a test, or checks the part.
+    // The load of a version that begins or ends a read or a test, or looks whether the part is as it was.
     pub(crate) fn load_version<E: Told>(&mut self, pass: u32, part: u32) -> Version
         requires event { LoadsVersion E.event part }
         requires inside { pass < length self.old.views }

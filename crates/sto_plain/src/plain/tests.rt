@@ -3,13 +3,17 @@ ghost use Rattle.std.specs.Prelude.{◌≡◌, ◌≤◌, [], ◌∷◌, IfOk};
 ghost use Rattle.sto_core.specs.Event.{Start, Open, Word, Close};
 ghost use Rattle.sto_core.specs.Opened.{opened_core};
 ghost use Rattle.sto_plain.specs.Passes.{Can, stepped};
-ghost use Rattle.sto_plain.specs.Scenes.{always, one_put, three_passes, first_reads, second_reads, third_reads, fourth_reads};
+ghost use Rattle.sto_plain.specs.Scenes.{always, one_put, one_add, three_passes, first_reads, second_reads, third_reads, fourth_reads};
 
 use super::Plain;
 use crate::committing::{
     Always, both_draw, first_fails, first_gives_up, first_reads, first_tries_again, other_commits,
     other_draws, other_reads, second_commits,
 };
+use crate::extending::{
+    close_both, commits_further, draws_further, goes_on, other_writes, reads_later, rests_on_read,
+};
+use crate::loading::{first_loads, first_takes, other_adds, other_draws_sum};
 use std::alloc::Global;
 use std::process::Abort;
 use sto_core::Cells;
@@ -194,4 +198,92 @@ fn example_of_a_lost_update_that_is_found(rt: HostRuntime) {
     let (plain, ticket) = first_tries_again(plain, &updates, &seen, &none);
     assert_eq!(rt; ticket, 3);
     assert_eq!(rt; plain.clock, 3);
+}
+
+// A part is written after another was read. The reader renews its number and reads it.
+#[test]
+fn example_of_a_later_part(rt: HostRuntime) {
+    let plain = open_words(rt.alloc(), 2, 0, 0).expect(&rt, "memory");
+    let updates = one_update(rt.alloc(), 1, 9).expect(&rt, "memory");
+    let (plain, ticket) = other_writes(first_reads(plain), &updates, &Parts::new(rt.alloc()));
+    assert_eq!(rt; ticket, 1);
+    let (plain, word) = reads_later(plain);
+    assert_eq!(rt; word, 9);
+    assert_eq!(rt; plain.clock, 1);
+}
+
+// The same, where the reader writes the later part by what it read before.
+#[test]
+fn example_of_a_recheck(rt: HostRuntime) {
+    let plain = open_words(rt.alloc(), 2, 0, 0).expect(&rt, "memory");
+    let none = Parts::new(rt.alloc());
+    let updates = one_update(rt.alloc(), 1, 9).expect(&rt, "memory");
+    let (plain, _) = other_writes(first_reads(plain), &updates, &none);
+    let mut seen = Parts::new(rt.alloc());
+    seen.push(0).expect(&rt, "memory");
+    let updates = one_update(rt.alloc(), 1, 8).expect(&rt, "memory");
+    let (plain, ticket) = rests_on_read(plain, &updates, &seen, &none);
+    assert_eq!(rt; ticket, 2);
+    assert_eq!(rt;
+        plain.versions.as_slice(),
+        [FREE0, Version::released(1).locked()].as_slice()
+    );
+}
+
+// Words are closed, and opened again with one pass.
+#[test]
+fn example_of_closed_words(rt: HostRuntime) {
+    let plain = open_words(rt.alloc(), 2, 0, 0).expect(&rt, "memory");
+    let first = one_update(rt.alloc(), 0, 1).expect(&rt, "memory");
+    let second = one_update(rt.alloc(), 1, 9).expect(&rt, "memory");
+    let (plain, _, _) = both_draw(plain, &first, &second, &Parts::new(rt.alloc()));
+    let closed = close_both(first_gives_up(second_commits(plain)));
+    assert_eq!(rt; closed.clock(), 2);
+    let updates = one_update(rt.alloc(), 1, 8).expect(&rt, "memory");
+    let plain = goes_on(closed).expect(&rt, "memory");
+    assert_eq!(rt; plain.clock, 2);
+    assert_eq!(rt; plain.statuses.as_slice(), [0].as_slice());
+    let (plain, ticket) = draws_further(plain, &updates, &Parts::new(rt.alloc()));
+    assert_eq!(rt; ticket, 3);
+    let plain = commits_further(plain);
+    assert_eq!(rt;
+        plain.versions.as_slice(),
+        [FREE0, Version::released(3)].as_slice()
+    );
+    let contents = plain.contents().expect(&rt, "memory");
+    assert_eq!(rt; contents.word(1, 0), 8);
+}
+
+// The one update that adds to the one word of a part.
+fn one_addition(alloc: Global, part: u32, value: i64) -> Result<Updates, NoMemory>
+    ensures { IfOk result (λ u. u.items ≡ one_add part value) }
+{
+    let mut update = Update::keep(alloc, 1)?;
+    update.set_change(0, Change::Add(value));
+    let mut updates = Updates::new(alloc);
+    updates.push((part, update))?;
+    Ok(updates)
+}
+
+// A part is added to after another pass has read it. That pass takes 2 from what it loads under its hold, where a
+// part that it tests is as it was.
+#[test]
+fn example_of_loaded_parts(rt: HostRuntime) {
+    let plain = open_words(rt.alloc(), 2, 0, 0).expect(&rt, "memory");
+    let none = Parts::new(rt.alloc());
+    let mut loaded = Parts::new(rt.alloc());
+    loaded.push(0).expect(&rt, "memory");
+    let added = one_addition(rt.alloc(), 0, 5).expect(&rt, "memory");
+    let (plain, _) = other_draws_sum(first_reads(plain), &added, &none, &loaded);
+    let plain = first_loads(other_adds(plain));
+    loaded.push(1).expect(&rt, "memory");
+    let taken = one_addition(rt.alloc(), 0, -2).expect(&rt, "memory");
+    let (plain, ticket) = first_takes(plain, &taken, &none, &loaded);
+    assert_eq!(rt; ticket, 2);
+    assert_eq!(rt;
+        plain.versions.as_slice(),
+        [Version::released(2), FREE0].as_slice()
+    );
+    assert!(rt; plain.contents.parts() == 2);
+    assert_eq!(rt; plain.contents.get(0).as_slice(), [3].as_slice());
 }
