@@ -6,3 +6,5 @@ pub mod Objects
 pub mod Run
 pub mod Serial
 pub mod TestBodies
+pub mod Ranges
+pub mod Sizes

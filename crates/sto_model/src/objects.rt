@@ -1,17 +1,17 @@
 //! What a call does to the rows of one object.
-ghost use Rattle.std.specs.Prelude.{◌≡◌, ◌<◌, ◌^◌, ◌↔◌, pos, length, OnOk, OnErr, IfOk, IsTrue};
+ghost use Rattle.std.specs.Prelude.{◌≡◌, ◌<◌, ◌^◌, ◌↔◌, ◌+ℤ◌, ◌-ℤ◌, pos, length, Some, OnOk, OnErr, IfOk, IsTrue};
 ghost use Rattle.sto_model.specs.Told.{told};
-ghost use Rattle.sto_model.specs.Rows.{keys_beside, rows_between, least_from};
+ghost use Rattle.sto_model.specs.Rows.{keys_beside};
 ghost use Rattle.sto_model.specs.Operations.{operation_of};
-ghost use Rattle.sto_model.specs.Objects.{only_value, value_or_absent, box_effect, counter_effect, array_effect, hash_effect, tree_effect, put_effect, remove_effect, effect_by, takes_by, takes as takes_operation, IsTaken};
+ghost use Rattle.sto_model.specs.Objects.{only_value, value_or_absent, in_range, added_at, box_effect, counter_effect, array_effect, hash_effect, tree_effect, put_effect, remove_effect, effect_by, takes_by, takes as takes_operation, IsTaken};
 
 use crate::call::Call;
 use crate::operation::{Operation, test_at};
-use crate::reply::{Pairs, Reply};
+use crate::reply::Reply;
 use crate::rows::Rows;
 use crate::shape::{Shape, Shapes};
 use std::alloc::Global;
-use sto_part::{NoMemory, compare, wrapping_difference, wrapping_sum};
+use sto_part::{NoMemory, compare};
 
 /// Whether a call is one that its object's shape takes.
 ///
@@ -28,7 +28,8 @@ pub fn takes(shapes: &Shapes, call: &Call) -> bool
     }
 }
 
-fn takes_code(shape: Shape, code: u8, a: i64) -> bool
+/// Whether an object of a shape takes calls of this code with this first number, as `takes` says.
+pub fn takes_code(shape: Shape, code: u8, a: i64) -> bool
     ensures { result ≡ takes_by shape (operation_of code) a }
 {
     match Operation::from_code(code) {
@@ -121,18 +122,26 @@ fn ask_counter(rows: &mut Rows, operation: Operation, a: i64, b: i64) -> Result<
     let value = value_of_one(rows);
     match operation {
         Operation::Get => Ok(Reply::Value(value)),
-        Operation::Add => {
-            rows.put(0, wrapping_sum(value, a))?;
-            Ok(Reply::Done)
-        }
+        Operation::Add => match checked_sum(value, a) {
+            Some(sum) => {
+                rows.put(0, sum)?;
+                Ok(Reply::Done)
+            }
+            None => Ok(Reply::Range),
+        },
         Operation::Test => match test_at(a) {
             Some(test) => Ok(Reply::Flag(compare(test, value, b))),
             None => Ok(Reply::Flag(false)),
         },
         Operation::Take => {
             if a <= value {
-                rows.put(0, wrapping_difference(value, a))?;
-                Ok(Reply::Flag(true))
+                match checked_difference(value, a) {
+                    Some(difference) => {
+                        rows.put(0, difference)?;
+                        Ok(Reply::Flag(true))
+                    }
+                    None => Ok(Reply::Range),
+                }
             } else {
                 Ok(Reply::Flag(false))
             }
@@ -157,10 +166,7 @@ fn ask_array(rows: &mut Rows, operation: Operation, a: i64, b: i64) -> Result<Re
             None => Ok(Reply::Absent),
         },
         Operation::Add => match value {
-            Some(old) => {
-                rows.put(a, wrapping_sum(old, b))?;
-                Ok(Reply::Done)
-            }
+            Some(old) => add_to_row(rows, a, old, b),
             None => Ok(Reply::Absent),
         },
         _ => Ok(Reply::Absent),
@@ -213,9 +219,9 @@ fn ask_tree(
         }
         Operation::Remove => Ok(remove_pair(rows, a)),
         Operation::Len => Ok(Reply::Value(i64::from(rows.len()))),
-        Operation::Next => Ok(shown(next_key(rows, a))),
-        Operation::Count => Ok(Reply::Value(i64::from(count_between(rows, a, b)))),
-        Operation::Scan => Ok(Reply::Pairs(pairs_between(alloc, rows, a, b)?)),
+        Operation::Next => Ok(shown(rows.next_key(a))),
+        Operation::Count => Ok(Reply::Value(i64::from(rows.count_between(a, b)))),
+        Operation::Scan => Ok(Reply::Pairs(rows.pairs_between(alloc, a, b)?)),
         _ => Ok(Reply::Absent),
     }
 }
@@ -225,6 +231,35 @@ fn value_of_one(rows: &Rows) -> i64
     ensures { result ≡ only_value rows.now.items }
 {
     rows.value(0).unwrap_or(0)
+}
+
+// The sum, where it is a number of 64 bits.
+fn checked_sum(one: i64, other: i64) -> Option<i64>
+    ensures { result ≡ in_range (one +ℤ other) }
+{
+    one.checked_add(other)
+}
+
+// The difference, where it is one.
+fn checked_difference(one: i64, other: i64) -> Option<i64>
+    ensures { result ≡ in_range (one -ℤ other) }
+{
+    one.checked_sub(other)
+}
+
+// Adds to the value of a key.
+fn add_to_row(rows: &mut Rows, key: i64, value: i64, more: i64) -> Result<Reply, NoMemory>
+    ensures reply { IfOk result (λ r. told r ≡ (added_at (Some value) key more rows.old.items).reply) }
+    ensures after { OnOk result (rows.new.items ≡ (added_at (Some value) key more rows.old.items).after) }
+    ensures err { OnErr result (rows.new.items ≡ rows.old.items) }
+{
+    match checked_sum(value, more) {
+        Some(sum) => {
+            rows.put(key, sum)?;
+            Ok(Reply::Done)
+        }
+        None => Ok(Reply::Range),
+    }
 }
 
 fn shown(value: Option<i64>) -> Reply
@@ -267,34 +302,4 @@ fn beside(rows: &Rows, buckets: u32, key: i64) -> u32
         .iter()
         .filter(|row| row.0.rem_euclid(modulus) == bucket)
         .count() as u32
-}
-
-fn next_key(rows: &Rows, key: i64) -> Option<i64>
-    ensures { result ≡ least_from rows.now.items key }
-{
-    rows.as_slice()
-        .iter()
-        .find(|row| key <= row.0)
-        .map(|row| row.0)
-}
-
-fn count_between(rows: &Rows, low: i64, high: i64) -> u32
-    ensures { result ≡ length (rows_between rows.now.items low high) }
-{
-    rows.as_slice()
-        .iter()
-        .filter(|row| low <= row.0 && row.0 <= high)
-        .count() as u32
-}
-
-fn pairs_between(alloc: Global, rows: &Rows, low: i64, high: i64) -> Result<Pairs, NoMemory>
-    ensures { IfOk result (λ p. p.items ≡ rows_between rows.now.items low high) }
-{
-    let mut pairs = Pairs::new(alloc);
-    for row in rows.as_slice() {
-        if low <= row.0 && row.0 <= high {
-            pairs.push(*row)?;
-        }
-    }
-    Ok(pairs)
 }

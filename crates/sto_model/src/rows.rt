@@ -1,8 +1,9 @@
 //! Rows in rising key order.
 ghost use Rattle.std.specs.Prelude.{◌≡◌, ◌+◌, ◌-◌, ◌^◌, ◌<◌, ◌≤◌, [], ◌∷◌, ◌++◌, length, position, OnOk, OnErr, IfErr, IfOk, IsOk, MatchOption, IfSome, slice_get, Some};
 ghost use Rattle.std.specs.Ordering.{int_eq};
-ghost use Rattle.sto_model.specs.Rows.{IsRising, value_at, has_key, with_row, without, place_of};
+ghost use Rattle.sto_model.specs.Rows.{IsRising, value_at, has_key, with_row, without, place_of, least_from, rows_between};
 
+use crate::reply::Pairs;
 use std::alloc::Global;
 use std::marker::Model;
 use sto_part::{List, NoMemory};
@@ -121,8 +122,43 @@ impl Rows {
         value_in(self.list.as_slice(), key)
     }
 
-    /// Makes the value at a key this one.
-    pub(crate) fn put(&mut self, key: i64, value: i64) -> Result<(), NoMemory>
+    /// The least key that is not below this one; None where all keys are below it.
+    pub fn next_key(&self, key: i64) -> Option<i64>
+        ensures { result ≡ least_from self.now.items key }
+    {
+        self.as_slice()
+            .iter()
+            .find(|row| key <= row.0)
+            .map(|row| row.0)
+    }
+
+    /// How many keys are from `low` to `high`.
+    pub fn count_between(&self, low: i64, high: i64) -> u32
+        ensures { result ≡ length (rows_between self.now.items low high) }
+    {
+        self.as_slice()
+            .iter()
+            .filter(|row| low <= row.0 && row.0 <= high)
+            .count() as u32
+    }
+
+    /// The rows whose keys are from `low` to `high`, in rising key order.
+    pub fn pairs_between(&self, alloc: Global, low: i64, high: i64) -> Result<Pairs, NoMemory>
+        ensures { IfOk result (λ p. p.items ≡ rows_between self.now.items low high) }
+    {
+        let mut pairs = Pairs::new(alloc);
+        for row in self.as_slice() {
+            if low <= row.0 && row.0 <= high {
+                pairs.push(*row)?;
+            }
+        }
+        Ok(pairs)
+    }
+
+    /// Makes the value at a key this one, whether the key was there or not.
+    ///
+    /// After `NoMemory` the rows are as before.
+    pub fn put(&mut self, key: i64, value: i64) -> Result<(), NoMemory>
         ensures ok { OnOk result (self.new.items ≡ with_row self.old.items key value) }
         ensures err { OnErr result (self.new.items ≡ self.old.items) }
     {
