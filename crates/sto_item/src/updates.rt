@@ -1,9 +1,9 @@
 //! Pending updates, in rising part number.
-ghost use Rattle.std.specs.Prelude.{◌≡◌, ◌+◌, ◌-◌, ◌^◌, ◌<◌, ◌≤◌, [], ◌∷◌, ◌++◌, length, map, slice_get, slice_set, Some, IfOk, OnOk, OnErr, IsOk, IfErr, MatchOption, MatchResult};
+ghost use Rattle.std.specs.Prelude.{◌≡◌, ℕ, ◌+◌, ◌-◌, ◌^◌, ◌<◌, ◌≤◌, [], ◌∷◌, ◌++◌, length, map, slice_get, slice_set, Some, IfOk, OnOk, OnErr, IsOk, IfErr, MatchOption, MatchResult};
 ghost use Rattle.std.specs.Option.{option_map_or};
 ghost use Rattle.std.specs.List.{insert, list_all};
 ghost use Rattle.sto_part.specs.Changes.{composed_all};
-ghost use Rattle.sto_item.specs.Pending.{plain, is_keep, is_put, changes_of, change_at, with_update, AreUpdates, IsWidthOf};
+ghost use Rattle.sto_item.specs.Pending.{plain, renumbered, is_keep, is_put, changes_of, change_at, with_update, AreUpdates, IsRising, IsWidthOf};
 ghost use Rattle.sto_item.specs.Places.{entry_at, IsPlaceOf, IsPlaceFor};
 ghost use Rattle.sto_item.specs.Rebase.{overwrites};
 
@@ -114,10 +114,18 @@ impl Updates {
         })
     }
 
-    // Composes an update after the pending one of its part.
-    pub(crate) fn compose(&mut self, part: u32, update: &Update) -> Result<(), NoMemory>
-        requires width { IsWidthOf self.old.items part update.now.items }
-        requires few { length self.old.items + 1 < 2 ^ 32 }
+    /// Gives each update the part number that it has where so many parts stand before.
+    pub fn renumber(&mut self, first: u32)
+        requires { (place : ℕ) → place < length self.old.items → first + (entry_at self.old.items place).0 < 2 ^ 32 }
+        ensures items { self.new.items ≡ map (renumbered first) self.old.items }
+        ensures room { self.new.spare ≡ self.old.spare }
+    {
+        renumber_all(&mut self.list, first);
+    }
+
+    /// Composes an update after the pending one of its part, word by word. One that keeps every word adds nothing.
+    pub fn compose(&mut self, part: u32, update: &Update) -> Result<(), NoMemory>
+        requires { IsWidthOf self.old.items part update.now.items }
         ensures ok { OnOk result (self.new.items ≡ with_update self.old.items part update.now.items) }
         ensures err { OnErr result (self.new.items ≡ self.old.items) }
         ensures ordered { AreUpdates self.new.items }
@@ -140,6 +148,8 @@ fn copied_entries(alloc: Global, entries: &[(u32, Update)]) -> Result<List<(u32,
 
 /// The pending change of a word, or `Keep`.
 pub(crate) fn change_of(entries: &[(u32, Update)], part: u32, word: u32) -> Change
+    requires few { length entries.now < 2 ^ 32 }
+    requires rising { IsRising (map plain entries.now) }
     ensures { result ≡ change_at (map plain entries.now) part word }
 {
     match find(entries, part) {
@@ -150,6 +160,8 @@ pub(crate) fn change_of(entries: &[(u32, Update)], part: u32, word: u32) -> Chan
 
 /// Whether a part has a pending update that puts a value at every word.
 pub(crate) fn overwrites(entries: &[(u32, Update)], part: u32) -> bool
+    requires few { length entries.now < 2 ^ 32 }
+    requires rising { IsRising (map plain entries.now) }
     ensures { result ≡ overwrites (changes_of (map plain entries.now) part) }
 {
     match find(entries, part) {
@@ -160,14 +172,14 @@ pub(crate) fn overwrites(entries: &[(u32, Update)], part: u32) -> bool
 
 // The update of a part, if it has one.
 fn find(entries: &[(u32, Update)], part: u32) -> Option<&Update>
+    requires few { length entries.now < 2 ^ 32 }
+    requires rising { IsRising (map plain entries.now) }
     ensures { changes_of (map plain entries.now) part ≡ option_map_or (λ u. u.now.items) result [] }
 {
-    for entry in entries {
-        if entry.0 == part {
-            return Some(&entry.1);
-        }
+    match place_of(entries, part) {
+        Ok(place) => Some(&entries[place as usize].1),
+        Err(_) => None,
     }
-    None
 }
 
 // Whether each is a `Put`, and there is one.
@@ -203,8 +215,8 @@ fn is_keep(change: &Change) -> bool
 
 // Adds an update to the pending ones.
 fn add(entries: &mut List<(u32, Update)>, part: u32, update: &Update) -> Result<(), NoMemory>
+    requires rising { IsRising (map plain entries.old.items) }
     requires width { IsWidthOf (map plain entries.old.items) part update.now.items }
-    requires few { length entries.old.items + 1 < 2 ^ 32 }
     ensures ok { OnOk result (map plain entries.new.items ≡ with_update (map plain entries.old.items) part update.now.items) }
     ensures err { OnErr result (entries.new.items ≡ entries.old.items) }
 {
@@ -222,18 +234,17 @@ fn add(entries: &mut List<(u32, Update)>, part: u32, update: &Update) -> Result<
 
 // Where the entry of a part stands, or where it belongs.
 fn place_of(entries: &[(u32, Update)], part: u32) -> Result<u32, u32>
-    requires { length entries.now < 2 ^ 32 }
-    ensures { MatchResult result (IsPlaceOf (map plain entries.now) part) (IsPlaceFor (map plain entries.now) part) }
+    requires few { length entries.now < 2 ^ 32 }
+    requires rising { IsRising (map plain entries.now) }
+    ensures place { MatchResult result (IsPlaceOf (map plain entries.now) part) (IsPlaceFor (map plain entries.now) part) }
+    ensures changes { MatchResult result (λ i. changes_of (map plain entries.now) part ≡ (entry_at (map plain entries.now) i).1) (λ i. changes_of (map plain entries.now) part ≡ []) }
 {
-    for (place, entry) in entries.iter().enumerate() {
-        if entry.0 == part {
-            return Ok(place as u32);
-        }
-        if entry.0 > part {
-            return Err(place as u32);
-        }
+    let place = entries.partition_point(|entry| entry.0 < part);
+    if place < entries.len() && entries[place].0 == part {
+        Ok(place as u32)
+    } else {
+        Err(place as u32)
     }
-    Err(entries.len() as u32)
 }
 
 // Composes an update after the one that stands at a place.
@@ -246,6 +257,28 @@ fn put_over(entries: &mut List<(u32, Update)>, place: u32, update: &Update)
     compose(&mut entry.1, update);
 }
 
+// Adds to the part number of each.
+fn renumber_all(entries: &mut List<(u32, Update)>, first: u32)
+    requires { (place : ℕ) → place < length entries.old.items → first + (entry_at (map plain entries.old.items) place).0 < 2 ^ 32 }
+    ensures items { map plain entries.new.items ≡ map (renumbered first) (map plain entries.old.items) }
+    ensures room { entries.new.spare ≡ entries.old.spare }
+{
+    for place in 0..entries.len() {
+        renumber_one(entries, place, first);
+    }
+}
+
+// Adds to the part number of the one at a place.
+fn renumber_one(entries: &mut List<(u32, Update)>, place: u32, first: u32)
+    requires place { place < length entries.old.items }
+    requires few { first + (entry_at (map plain entries.old.items) place).0 < 2 ^ 32 }
+    ensures items { map plain entries.new.items ≡ slice_set (map plain entries.old.items) place (renumbered first (entry_at (map plain entries.old.items) place)) }
+    ensures room { entries.new.spare ≡ entries.old.spare }
+{
+    let entry = entries.get_mut(place);
+    entry.0 += first;
+}
+
 // Puts an update of its own at a place.
 fn put_new(
     entries: &mut List<(u32, Update)>,
@@ -253,11 +286,13 @@ fn put_new(
     part: u32,
     update: &Update,
 ) -> Result<(), NoMemory>
-    requires place { place ≤ length entries.old.items }
-    requires few { length entries.old.items + 1 < 2 ^ 32 }
+    requires { place ≤ length entries.old.items }
     ensures ok { OnOk result (map plain entries.new.items ≡ insert (map plain entries.old.items) place (part, update.now.items)) }
     ensures err { OnErr result (entries.new.items ≡ entries.old.items) }
 {
+    if entries.len() == u32::MAX {
+        return Err(NoMemory);
+    }
     let copy = update.copied()?;
     entries.reserve(1)?;
     entries.insert_spare(place, (part, copy));
