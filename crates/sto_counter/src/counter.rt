@@ -1,0 +1,144 @@
+//! The type of a counter.
+ghost use Rattle.std.specs.Prelude.{◌≡◌, [], ◌∷◌, pos, IfOk, IsTrue};
+ghost use Rattle.std.specs.Int.{w64};
+ghost use Rattle.std.specs.Int.RustNames.{FitsSigned};
+ghost use Rattle.sto_model.specs.Objects.{effect_by, compared, takes_by};
+ghost use Rattle.sto_model.specs.Told.{Flag};
+ghost use Rattle.sto_model.specs.Operations.{operation_of};
+ghost use Rattle.sto_model.specs.declared.shape.Shape.TheVariants.{Counter};
+ghost use Rattle.sto_type.specs.Plans.{IsSaid};
+ghost use Rattle.sto_counter.specs.Counted.{counter_meaning, counter_items, counter_updates, only_row, test_items, IsCounter};
+ghost use Rattle.sto_counter.specs.CountedLaw.{counter_lawful};
+
+use crate::sums::{add_answer, take_answer, word_pred};
+use std::alloc::Global;
+use sto_item::{Item, Items, Updates};
+use sto_model::{Call, Operation, Reply, Rows, Shape, State, takes_code, test_at};
+use sto_part::{Contents, Naming, NoMemory, PartWords, Test, compare, negate};
+use sto_type::{Answer, Home, KnownParts, TxType, one_item};
+
+/// A counter. Its contents are one part of one word.
+#[derive(Drop)]
+pub struct TCounter {
+    first: i64,
+    ghost fits: { FitsSigned w64 first },
+}
+
+impl TCounter {
+    /// A counter with this number at first.
+    pub fn new(first: i64) -> TCounter
+        ensures { result.first ≡ first }
+    {
+        TCounter { first }
+    }
+}
+
+impl Naming for TCounter {
+    ghost sizes = { λ _. [] };
+
+    ghost valid = { λ _ c. IsCounter c };
+}
+
+impl TxType for TCounter {
+    ghost meaning = { λ x. counter_meaning x.first };
+
+    ghost valid_is = { λ _ c. (λ h. h, λ h. h) };
+
+    ghost lawful = { λ x. counter_lawful x.first x.fits };
+
+    fn objects(&self) -> u32 {
+        1
+    }
+
+    fn parts(&self) -> u32 {
+        1
+    }
+
+    fn width(&self, part: u32) -> u32 {
+        1
+    }
+
+    fn home(&self, part: u32) -> Home {
+        Home {
+            object: 0,
+            local: 0,
+        }
+    }
+
+    fn takes(&self, call: &Call) -> bool {
+        let _first = call.a;
+        let _second = call.b;
+        call.object == 0 && takes_code(Shape::Counter(0), call.code, call.a)
+    }
+
+    fn opening(&self, alloc: Global) -> Result<Contents, NoMemory> {
+        let mut words = PartWords::new(alloc);
+        words.push(self.first)?;
+        let mut contents = Contents::new(alloc, &[])?;
+        contents.push(words)?;
+        Ok(contents)
+    }
+
+    fn rows_at(&self, alloc: Global, contents: &Contents, first: u32) -> Result<State, NoMemory> {
+        let mut rows = Rows::new(alloc);
+        rows.push((0, contents.word(first, 0)))?;
+        let mut state = State::new(alloc);
+        state.push(rows)?;
+        Ok(state)
+    }
+
+    fn plan(&self, alloc: Global, call: &Call, cache: &KnownParts<'_>) -> Result<Answer, NoMemory> {
+        match cache.get(0) {
+            None => Ok(Answer::Need(0)),
+            Some(words) => answer(alloc, call, words[0]),
+        }
+    }
+}
+
+// The answer where the value is known.
+fn answer(alloc: Global, call: &Call, value: i64) -> Result<Answer, NoMemory>
+    ensures { IfOk result (IsSaid (effect_by (Counter (pos 0)) (operation_of call.now.code) call.now.a call.now.b (only_row value)).reply (counter_items (operation_of call.now.code) call.now.a call.now.b value) (counter_updates (operation_of call.now.code) call.now.a value)) }
+{
+    match Operation::from_code(call.code) {
+        Some(Operation::Get) => Ok(Answer::Done {
+            reply: Reply::Value(value),
+            items: one_item(alloc, Item::Seen(0))?,
+            updates: Updates::new(alloc),
+        }),
+        Some(Operation::Add) => add_answer(alloc, 0, call.a, value),
+        Some(Operation::Test) => test_answer(alloc, test_at(call.a), call.b, value),
+        Some(Operation::Take) => take_answer(alloc, 0, call.a, value),
+        _ => Ok(Answer::Done {
+            reply: Reply::Absent,
+            items: Items::new(alloc),
+            updates: Updates::new(alloc),
+        }),
+    }
+}
+
+// The answer to a test with a number, where the value is known.
+fn test_answer(
+    alloc: Global,
+    test: Option<Test>,
+    bound: i64,
+    value: i64,
+) -> Result<Answer, NoMemory>
+    ensures { IfOk result (IsSaid (Flag (compared test value bound)) (test_items test bound value) []) }
+{
+    match test {
+        Some(test) => {
+            let flag = compare(test, value, bound);
+            let seen = if flag { test } else { negate(test) };
+            Ok(Answer::Done {
+                reply: Reply::Flag(flag),
+                items: one_item(alloc, Item::Holds(word_pred(0, seen, bound)))?,
+                updates: Updates::new(alloc),
+            })
+        }
+        None => Ok(Answer::Done {
+            reply: Reply::Flag(false),
+            items: Items::new(alloc),
+            updates: Updates::new(alloc),
+        }),
+    }
+}
