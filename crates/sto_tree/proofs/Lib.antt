@@ -1,0 +1,16 @@
+pub mod Adding
+pub mod Codes
+pub mod Parts
+pub mod Whole
+pub mod RangeSlots
+pub mod KnownRange
+pub mod Leaves
+pub mod Walks
+pub mod BetweenPlan
+pub mod NextPlan
+pub mod GetPlan
+pub mod RemovePlan
+pub mod PutPlan
+pub mod SplitPlan
+pub mod RepackPlan
+pub mod LenPlan

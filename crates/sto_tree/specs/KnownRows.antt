@@ -1,0 +1,24 @@
+-- The rows of a range, as far as what is known tells them.
+use Rattle.std.specs.Prelude.{◌/◌, ◌%◌, ◌*◌, ℕ, ℤ, pos, Option, Some, None, List, if◌then◌else◌}
+use Rattle.sto_model.specs.Rows.{Row}
+use Rattle.sto_type.specs.Known.{Known}
+use Rattle.sto_tree_law.specs.Slots.{Slots, gathered}
+use Rattle.sto_tree_law.specs.Layout.{key_part, value_part, is_present, key, word, slot_of}
+use Rattle.sto_tree_law.specs.Between.{meets}
+
+-- a value that is known, else 0
+abbrev pub known_value : Option (List ℤ) → ℤ
+known_value (Some ws) = word ws 0
+known_value None = pos 0
+
+-- the row at a place of a key part that is known
+abbrev pub known_place : Option (List ℤ) → ℕ → ℤ → Option Row
+known_place (Some ks) i v = slot_of (is_present ks i) (key ks i) v
+known_place None i v = None
+
+-- the rows of the leaves that have some number from a to b
+abbrev pub known_slot : Known → List ℤ → ℤ → ℤ → Slots
+known_slot k dir a b j = if meets dir a b (j / 8) then known_place (k (key_part (j / 8))) (j % 8) (known_value (k (value_part (j / 8) (j % 8)))) else None
+
+abbrev pub known_rows : ℕ → Known → List ℤ → ℤ → ℤ → List Row
+known_rows leaves k dir a b = gathered (known_slot k dir a b) (8 * leaves)

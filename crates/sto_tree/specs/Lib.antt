@@ -1,0 +1,4 @@
+pub mod Found
+pub mod KnownRows
+pub mod Named
+pub mod Walked

@@ -1,0 +1,82 @@
+//! What operations observe.
+ghost use Rattle.std.specs.Prelude.{◌≡◌, ◌<◌, ◌≤◌, ◌^◌, ◌*◌, ◌+◌, [], ◌∷◌, IfOk};
+ghost use Rattle.sto_item.specs.declared.item.Item.TheVariants.{Seen as SeenPart};
+ghost use Rattle.sto_tree_law.specs.Layout.{parts_of, key_part as the_key_part, value_part as the_value_part};
+ghost use Rattle.sto_tree_law.specs.Said.{compared, cover as the_cover, here as at_place};
+
+use std::alloc::Global;
+use sto_item::{Item, Items};
+use sto_part::{NoMemory, Pred, Test};
+
+/// The key part of a leaf.
+pub(crate) fn key_part(leaf: u32) -> u32
+    requires { the_key_part leaf < 2 ^ 32 }
+    ensures { result ≡ the_key_part leaf }
+{
+    2 + 9 * leaf
+}
+
+/// The part of a value.
+pub(crate) fn value_part(leaf: u32, place: u32) -> u32
+    requires { the_value_part leaf place < 2 ^ 32 }
+    ensures { result ≡ the_value_part leaf place }
+{
+    3 + 9 * leaf + place
+}
+
+/// That a word compares with a number.
+pub(crate) fn compares(part: u32, word: u32, test: Test, bound: i64) -> Item
+    ensures { result ≡ compared part word test bound }
+{
+    Item::Holds(Pred {
+        part,
+        word,
+        shift: 0,
+        test,
+        bound,
+    })
+}
+
+/// That a leaf has a key, and what its whole key part says.
+pub(crate) fn leaf_items(alloc: Global, leaf: u32, key: i64) -> Result<Items, NoMemory>
+    requires { the_key_part leaf < 2 ^ 32 }
+    ensures { IfOk result (λ l. l.items ≡ the_cover leaf key key (SeenPart (the_key_part leaf) ∷ [])) }
+{
+    let mut items = Items::new(alloc);
+    items.push(compares(1, 3 * leaf, Test::Eq, 1))?;
+    items.push(compares(1, 3 * leaf + 1, Test::Le, key))?;
+    items.push(compares(1, 3 * leaf + 2, Test::Ge, key))?;
+    items.push(Item::Seen(key_part(leaf)))?;
+    Ok(items)
+}
+
+/// That a leaf has a key, at a place, and what its value part says.
+pub(crate) fn value_items(alloc: Global, leaf: u32, place: u32, key: i64) -> Result<Items, NoMemory>
+    requires part { the_value_part leaf place < 2 ^ 32 }
+    requires place { place < 8 }
+    ensures { IfOk result (λ l. l.items ≡ the_cover leaf key key (at_place leaf place key (SeenPart (the_value_part leaf place) ∷ []))) }
+{
+    let mut items = Items::new(alloc);
+    items.push(compares(1, 3 * leaf, Test::Eq, 1))?;
+    items.push(compares(1, 3 * leaf + 1, Test::Le, key))?;
+    items.push(compares(1, 3 * leaf + 2, Test::Ge, key))?;
+    items.push(compares(key_part(leaf), 2 * place, Test::Eq, 1))?;
+    items.push(compares(key_part(leaf), 2 * place + 1, Test::Eq, key))?;
+    items.push(Item::Seen(value_part(leaf, place)))?;
+    Ok(items)
+}
+
+/// That a leaf has a key, at a place.
+pub(crate) fn here_items(alloc: Global, leaf: u32, place: u32, key: i64) -> Result<Items, NoMemory>
+    requires part { the_key_part leaf < 2 ^ 32 }
+    requires place { place < 8 }
+    ensures { IfOk result (λ l. l.items ≡ the_cover leaf key key (at_place leaf place key [])) }
+{
+    let mut items = Items::new(alloc);
+    items.push(compares(1, 3 * leaf, Test::Eq, 1))?;
+    items.push(compares(1, 3 * leaf + 1, Test::Le, key))?;
+    items.push(compares(1, 3 * leaf + 2, Test::Ge, key))?;
+    items.push(compares(key_part(leaf), 2 * place, Test::Eq, 1))?;
+    items.push(compares(key_part(leaf), 2 * place + 1, Test::Eq, key))?;
+    Ok(items)
+}
