@@ -1,0 +1,191 @@
+-- One shape more is built.
+use Rattle.std.proofs.Common.{◌≡◌, ◌<◌, ◌≤◌, ◌+◌, ◌^◌, ℕ, zero, suc, Bool, true, false, nat_eq, if◌then◌else◌, Some, ℤ, pos, List, [], ◌∷◌, ◌++◌, length, map, take, drop, slice_get, slice_index_or, refl, ap, sym, ◌∙◌, subst, arith, length-append}
+use Rattle.std.specs.Prelude.{sum_by}
+use Rattle.std.proofs.lemmas.List.{length-take, map-append, take-append-drop}
+use Rattle.std.proofs.lemmas.List.Sums.{sum_by-cons}
+use Rattle.std.proofs.lemmas.Option.{slice_get_within}
+use Rattle.sto_model.specs.declared.shape.Shape.{Shape}
+use Rattle.sto_model.specs.declared.shape.Shape.TheVariants.{Single, Counter, Array, Hash, Tree}
+use Rattle.sto_model.specs.Objects.{machines_of}
+use Rattle.sto_model.specs.Sizes.{part_count}
+use Rattle.sto_array.specs.ArrayedRows.{length-replicate}
+use Rattle.sto_hash.specs.HashedParts.{length-widths}
+use Rattle.sto_type.specs.Meaning.{Meaning, IsLawful}
+use Rattle.sto_type.specs.Joined.{all_joined}
+use Rattle.sto_type.specs.JoinedLaw.{joined_lawful}
+use Rattle.sto_type.specs.Members.{AreFew, parts_of}
+use Rattle.sto_type.proofs.Answering.{take_get}
+use Rattle.sto_type.proofs.Members.{parts-all, parts-append}
+use Rattle.sto_store.specs.Stores.{rank, of_kind, mean_of, means_of, means, IsFit, AreFit}
+use Rattle.sto_store.specs.StoresLaw.{kind_ranks, all_machines, length-machines, map_shapes}
+
+by_test : {P : Type 0} (b : Bool) → (b ≡ true → P) → (b ≡ false → P) → P
+by_test true f g = f refl
+by_test false f g = g refl
+
+pub kind_append : (r : ℕ) (xs ys : List Shape) → of_kind r (xs ++ ys) ≡ of_kind r xs ++ of_kind r ys
+kind_append r [] ys = refl
+kind_append r (x ∷ xs) ys = by_test (nat_eq (rank x) r) (λ e. rw e (ap (λ l. x ∷ l) (kind_append r xs ys))) (λ e. rw e (kind_append r xs ys))
+
+length-kind : (r : ℕ) (ss : List Shape) → length (of_kind r ss) ≤ length ss
+length-kind r [] = omega arith
+length-kind r (s ∷ ss) = let h = length-kind r ss in by_test (nat_eq (rank s) r) (λ e. rw e (omega (arith, h))) (λ e. rw e (omega (arith, h)))
+
+one_more : (ss : List Shape) (i : ℕ) (s : Shape) → slice_get ss i ≡ Some s → take (i + 1) ss ≡ take i ss ++ s ∷ []
+one_more ss i s e = let z : i + 1 ≡ suc i = omega arith in ap (λ n. take n ss) z ∙ take_get ss i s e
+
+module _ (r : ℕ) (ss : List Shape) (i : ℕ) (s : Shape) (at : slice_get ss i ≡ Some s) where
+  pub kind_there : nat_eq (rank s) r ≡ true → of_kind r (take (i + 1) ss) ≡ of_kind r (take i ss) ++ s ∷ []
+  kind_there t = ap (of_kind r) (one_more ss i s at) ∙ kind_append r (take i ss) (s ∷ []) ∙ ap (λ b. of_kind r (take i ss) ++ (if b then s ∷ [] else [])) t
+
+  pub kind_past : nat_eq (rank s) r ≡ false → of_kind r (take (i + 1) ss) ≡ of_kind r (take i ss)
+  kind_past t = ap (of_kind r) (one_more ss i s at) ∙ kind_append r (take i ss) (s ∷ []) ∙ ap (λ b. of_kind r (take i ss) ++ (if b then s ∷ [] else [])) t ∙ nothing_more (of_kind r (take i ss))
+    where
+      nothing_more : (l : List Shape) → l ++ [] ≡ l
+      nothing_more [] = refl
+      nothing_more (x ∷ l) = ap (λ t. x ∷ t) (nothing_more l)
+
+  module _ {A : Type 0} (f : A → Shape) (made : List A) (now : map f made ≡ of_kind r (take i ss)) where
+    pub past : nat_eq (rank s) r ≡ false → map f made ≡ of_kind r (take (i + 1) ss)
+    past t = now ∙ sym (kind_past t)
+
+    pub few_members : length ss < 2 ^ 32 → length made + 1 < 2 ^ 32
+    few_members l =
+        let same : length made ≡ length (of_kind r (take i ss)) = length_map made ∙ ap length now in
+        let few = length-kind r (take i ss) in
+        let long = length-take i ss in
+        let within = slice_get_within ss i s at in
+        omega (arith, same, few, long, within, l)
+      where
+        length_map : (l : List A) → length l ≡ length (map f l)
+        length_map [] = refl
+        length_map (x ∷ l) = ap suc (length_map l)
+
+    module _ (new : A) (is : f new ≡ s) (t : nat_eq (rank s) r ≡ true) where
+      pub there : map f (made ++ new ∷ []) ≡ of_kind r (take (i + 1) ss)
+      there = map-append f made (new ∷ []) ∙ (λ j. now j ++ is j ∷ []) ∙ sym (kind_there t)
+
+      pub few : r < 4 → length ss < 2 ^ 32 → length (all_joined (means_of r ss)).widths < 2 ^ 32 → AreFew (λ x. mean_of (f x)) (made ++ new ∷ [])
+      few k l w =
+          let front : List Shape = of_kind r (take (i + 1) ss) in
+          let all : of_kind r ss ≡ of_kind r (take (i + 1) ss) ++ of_kind r (drop (i + 1) ss) =
+          ap (of_kind r) (sym (take-append-drop (i + 1) ss)) ∙ kind_append r (take (i + 1) ss) (drop (i + 1) ss) in
+          let parts : parts_of (means_of r ss) ≡ parts_of (map mean_of (of_kind r (take (i + 1) ss))) + parts_of (map mean_of (of_kind r (drop (i + 1) ss))) =
+          ap (λ x. parts_of (map mean_of x)) all ∙ ap parts_of (map-append mean_of (of_kind r (take (i + 1) ss)) (of_kind r (drop (i + 1) ss)))
+          ∙ parts-append (map mean_of (of_kind r (take (i + 1) ss))) (map mean_of (of_kind r (drop (i + 1) ss))) in
+          let whole = parts-all (means_of r ss) in
+          let own = parts-all (map mean_of (of_kind r (take (i + 1) ss))) in
+          let machines : length (all_joined (map mean_of (of_kind r (take (i + 1) ss)))).machines ≡ length (of_kind r (take (i + 1) ss)) =
+          ap length (all_machines r (of_kind r (take (i + 1) ss)) k (kind_ranks r (take (i + 1) ss))) ∙ length-machines (of_kind r (take (i + 1) ss)) in
+          let most = length-kind r (take (i + 1) ss) in
+          let long = length-take (i + 1) ss in
+          let objects : length (all_joined (map mean_of (of_kind r (take (i + 1) ss)))).machines < 2 ^ 32 = omega (arith, machines, most, long, l) in
+          let widths : length (all_joined (map mean_of (of_kind r (take (i + 1) ss)))).widths < 2 ^ 32 = omega (arith, own, whole, parts, w) in
+          subst (λ ms. (length (all_joined ms).machines < 2 ^ 32) × (length (all_joined ms).widths < 2 ^ 32)) (sym (map_shapes f (made ++ new ∷ []) (of_kind r (take (i + 1) ss)) there)) (objects, widths)
+
+-- the shape at a place is fit
+pub fit_at : (ss : List Shape) (i : ℕ) (s : Shape) → AreFit ss → slice_get ss i ≡ Some s → IsFit s
+fit_at [] zero s h e = cc
+fit_at [] (suc i) s h e = cc
+fit_at (x ∷ ss) zero s h e = let same : x ≡ s = cc in subst IsFit same h.0
+fit_at (x ∷ ss) (suc i) s h e = fit_at ss i s h.1 e
+
+-- the first word of a box of one
+pub first_word : (x y v : ℤ) → take 1 (x ∷ y ∷ []) ≡ v ∷ [] → x ≡ v
+first_word x y v e = ap (λ (l : List ℤ). slice_index_or l 0 (pos 0)) e
+
+-- the kinds have no more members than there are shapes
+pub sum_kinds : (ss : List Shape) → length (of_kind 0 ss) + (length (of_kind 1 ss) + (length (of_kind 2 ss) + length (of_kind 3 ss))) ≤ length ss
+sum_kinds [] = omega arith
+sum_kinds (Single v ∷ ss) = let h = sum_kinds ss in omega (arith, h)
+sum_kinds (Counter v ∷ ss) = let h = sum_kinds ss in omega (arith, h)
+sum_kinds (Array len v ∷ ss) = let h = sum_kinds ss in omega (arith, h)
+sum_kinds (Hash buckets places ∷ ss) = let h = sum_kinds ss in omega (arith, h)
+sum_kinds (Tree leaves ∷ ss) = let h = sum_kinds ss in omega (arith, h)
+
+pub kind_objects :
+    {A : Type 0} (r : ℕ) (ss : List Shape) (f : A → Shape) (xs : List A) → r < 4 → map f xs ≡ of_kind r ss → length (all_joined (map (λ x. mean_of (f x)) xs)).machines ≡ length (of_kind r ss)
+kind_objects r ss f xs l e =
+    ap (λ ms. length (all_joined ms).machines) (map_shapes f xs (of_kind r ss) e) ∙ ap length (all_machines r (of_kind r ss) l (kind_ranks r ss)) ∙ length-machines (of_kind r ss)
+
+pub kind_widths : {A : Type 0} (r : ℕ) (ss : List Shape) (f : A → Shape) (xs : List A) → map f xs ≡ of_kind r ss → length (all_joined (map (λ x. mean_of (f x)) xs)).widths ≡ length (all_joined (means_of r ss)).widths
+kind_widths r ss f xs e = ap (λ ms. length (all_joined ms).widths) (map_shapes f xs (of_kind r ss) e)
+
+-- a shape that is not of a kind has another rank
+pub not_box : (s : Shape) → ((v : ℤ) → s ≡ Single v → ⊥) → nat_eq (rank s) 0 ≡ false
+not_box (Single v) n = absurd (n v refl)
+not_box (Counter v) n = refl
+not_box (Array len v) n = refl
+not_box (Hash buckets places) n = refl
+not_box (Tree leaves) n = refl
+
+pub not_counter : (s : Shape) → ((v : ℤ) → s ≡ Counter v → ⊥) → nat_eq (rank s) 1 ≡ false
+not_counter (Single v) n = refl
+not_counter (Counter v) n = absurd (n v refl)
+not_counter (Array len v) n = refl
+not_counter (Hash buckets places) n = refl
+not_counter (Tree leaves) n = refl
+
+pub not_array : (s : Shape) → ((len : ℕ) (v : ℤ) → s ≡ Array len v → ⊥) → nat_eq (rank s) 2 ≡ false
+not_array (Single v) n = refl
+not_array (Counter v) n = refl
+not_array (Array len v) n = absurd (n len v refl)
+not_array (Hash buckets places) n = refl
+not_array (Tree leaves) n = refl
+
+pub not_hash : (s : Shape) → ((buckets places : ℕ) → s ≡ Hash buckets places → ⊥) → nat_eq (rank s) 3 ≡ false
+not_hash (Single v) n = refl
+not_hash (Counter v) n = refl
+not_hash (Array len v) n = refl
+not_hash (Hash buckets places) n = absurd (n buckets places refl)
+not_hash (Tree leaves) n = refl
+
+-- an object has no more parts than its shape tells
+one_width : (s : Shape) → length (mean_of s).widths ≤ part_count s
+one_width (Single v) = omega arith
+one_width (Counter v) = omega arith
+one_width (Array len v) = omega (arith, length-replicate len)
+one_width (Hash buckets places) = omega (arith, length-widths buckets places)
+one_width (Tree leaves) = omega arith
+
+all_widths : (ss : List Shape) → length (all_joined (map mean_of ss)).widths ≤ sum_by part_count ss
+all_widths [] = omega arith
+all_widths (s ∷ ss) =
+    let both = length-append (mean_of s).widths (all_joined (map mean_of ss)).widths in
+    let one = one_width s in
+    let rest = all_widths ss in
+    omega (arith, both, one, rest, sum_by-cons part_count s ss)
+
+-- the parts of the kinds are those of the shapes
+kinds_total : (ss : List Shape) → sum_by part_count (of_kind 0 ss) + (sum_by part_count (of_kind 1 ss) + (sum_by part_count (of_kind 2 ss) + sum_by part_count (of_kind 3 ss))) ≤ sum_by part_count ss
+kinds_total [] = omega arith
+kinds_total (Single v ∷ ss) = let h = kinds_total ss in omega (arith, h, sum_by-cons part_count (Single v) ss, sum_by-cons part_count (Single v) (of_kind 0 ss))
+kinds_total (Counter v ∷ ss) = let h = kinds_total ss in omega (arith, h, sum_by-cons part_count (Counter v) ss, sum_by-cons part_count (Counter v) (of_kind 1 ss))
+kinds_total (Array len v ∷ ss) = let h = kinds_total ss in omega (arith, h, sum_by-cons part_count (Array len v) ss, sum_by-cons part_count (Array len v) (of_kind 2 ss))
+kinds_total (Hash buckets places ∷ ss) =
+    let h = kinds_total ss in omega (arith, h, sum_by-cons part_count (Hash buckets places) ss, sum_by-cons part_count (Hash buckets places) (of_kind 3 ss))
+kinds_total (Tree leaves ∷ ss) = let h = kinds_total ss in omega (arith, h, sum_by-cons part_count (Tree leaves) ss)
+
+pub whole_widths :
+    (ss all : List Shape) → ss ≡ all → sum_by part_count all < 2 ^ 32
+    → length (all_joined (means_of 0 ss)).widths + (length (all_joined (means_of 1 ss)).widths + (length (all_joined (means_of 2 ss)).widths + length (all_joined (means_of 3 ss)).widths)) < 2 ^ 32
+whole_widths ss all e l =
+    let h : sum_by part_count ss < 2 ^ 32 = subst (λ (t : List Shape). sum_by part_count t < 2 ^ 32) (sym e) l in
+    let zero_parts = all_widths (of_kind 0 ss) in
+    let one_parts = all_widths (of_kind 1 ss) in
+    let two_parts = all_widths (of_kind 2 ss) in
+    let three_parts = all_widths (of_kind 3 ss) in
+    let total = kinds_total ss in
+    omega (arith, h, zero_parts, one_parts, two_parts, three_parts, total)
+
+-- a store is lawful where its kinds are
+pub means_lawful :
+    (ss all : List Shape) → ss ≡ all → IsLawful (all_joined (means_of 0 ss)) → IsLawful (all_joined (means_of 1 ss)) → IsLawful (all_joined (means_of 2 ss)) → IsLawful (all_joined (means_of 3 ss)) → IsLawful (means all)
+means_lawful ss all e zero_law one_law two_law three_law =
+    subst (λ t. IsLawful (means t)) e
+    (joined_lawful (all_joined (means_of 0 ss)) _ zero_law
+    (joined_lawful (all_joined (means_of 1 ss)) _ one_law
+    (joined_lawful (all_joined (means_of 2 ss)) (all_joined (means_of 3 ss)) two_law three_law)))
+
+pub kind_lawful : {A : Type 0} (r : ℕ) (ss : List Shape) (f : A → Shape) (xs : List A) → map f xs ≡ of_kind r ss → IsLawful (all_joined (map (λ x. mean_of (f x)) xs)) → IsLawful (all_joined (means_of r ss))
+kind_lawful r ss f xs e law = subst (λ ms. IsLawful (all_joined ms)) (map_shapes f xs (of_kind r ss) e) law

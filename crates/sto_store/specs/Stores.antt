@@ -1,0 +1,63 @@
+-- What a store of objects means, by their shapes.
+use Rattle.std.specs.Prelude.{◌≡◌, ◌<◌, ◌+◌, ◌*◌, ◌^◌, ℕ, nat_eq, if◌then◌else◌, List, [], ◌∷◌, ◌++◌, map}
+use Rattle.sto_part.specs.Codes.{IsSignedCode}
+use Rattle.sto_model.specs.declared.shape.Shape.{Shape}
+use Rattle.sto_model.specs.declared.shape.Shape.TheVariants.{Single, Counter, Array, Hash, Tree}
+use Rattle.sto_type.specs.Meaning.{Meaning}
+use Rattle.sto_type.specs.Joined.{joined, no_meaning, all_joined}
+use Rattle.sto_box.specs.Boxed.{box_meaning}
+use Rattle.sto_counter.specs.Counted.{counter_meaning}
+use Rattle.sto_array.specs.Arrayed.{array_meaning}
+use Rattle.sto_hash.specs.Hashed.{hash_meaning}
+
+-- the number of a shape's kind
+abbrev pub rank : Shape → ℕ
+rank (Single v) = 0
+rank (Counter v) = 1
+rank (Array len v) = 2
+rank (Hash buckets places) = 3
+rank (Tree leaves) = 4
+
+-- the shapes of one kind, as they stand
+abbrev pub of_kind : ℕ → List Shape → List Shape
+of_kind r [] = []
+of_kind r (s ∷ ss) = if nat_eq (rank s) r then s ∷ of_kind r ss else of_kind r ss
+
+-- what one object means; a tree stands in no store
+abbrev pub mean_of : Shape → Meaning
+mean_of (Single v) = box_meaning 1 IsSignedCode (v ∷ [])
+mean_of (Counter v) = counter_meaning v
+mean_of (Array len v) = array_meaning len v
+mean_of (Hash buckets places) = hash_meaning buckets places
+mean_of (Tree leaves) = no_meaning
+
+-- what the objects of one kind mean
+abbrev pub means_of : ℕ → List Shape → List Meaning
+means_of r shapes = map mean_of (of_kind r shapes)
+
+-- what a store means: its boxes, its counters, its arrays and its hash tables side by side
+abbrev pub means : List Shape → Meaning
+means shapes = joined (all_joined (means_of 0 shapes)) (joined (all_joined (means_of 1 shapes)) (joined (all_joined (means_of 2 shapes)) (all_joined (means_of 3 shapes))))
+
+-- the shapes stand in the order of their kinds, and none is a tree
+abbrev pub AreInOrder : List Shape → Type 0
+AreInOrder shapes = shapes ≡ of_kind 0 shapes ++ (of_kind 1 shapes ++ (of_kind 2 shapes ++ of_kind 3 shapes))
+
+-- the shapes of the boxes, counters, arrays and hash tables of a store are those of these shapes, each kind as it stands there
+pub record AreKinds (boxes counters arrays hashes shapes : List Shape) : Type 0 where
+  pub boxes_are : boxes ≡ of_kind 0 shapes
+  pub counters_are : counters ≡ of_kind 1 shapes
+  pub arrays_are : arrays ≡ of_kind 2 shapes
+  pub hashes_are : hashes ≡ of_kind 3 shapes
+
+-- a hash table has a bucket, and its parts and words are in u32; a tree is not built
+abbrev pub IsFit : Shape → Type 0
+IsFit (Single v) = Unit {0}
+IsFit (Counter v) = Unit {0}
+IsFit (Array len v) = Unit {0}
+IsFit (Hash buckets places) = (0 < buckets) × (buckets * (1 + places) < 2 ^ 32) × (2 * places < 2 ^ 32)
+IsFit (Tree leaves) = Unit {0}
+
+abbrev pub AreFit : List Shape → Type 0
+AreFit [] = Unit {0}
+AreFit (s ∷ ss) = IsFit s × AreFit ss

@@ -1,0 +1,319 @@
+-- The meaning of a store has the plain objects of its shapes, takes what they take, and numbers its parts in the order of the objects.
+use Rattle.std.specs.Prelude.{◌≡◌, ◌<◌, ◌≤◌, ◌+◌, ◌-◌, ◌*◌, ℕ, zero, suc, ℤ, pos, nat_eq, nat_lt, Bool, true, false, if◌then◌else◌, Option, Some, None, List, [], ◌∷◌, ◌++◌, map, length, slice_get, IsTrue, refl}
+use Rattle.std.specs.Int.{w64}
+use Rattle.std.specs.Int.RustNames.{FitsSigned}
+use Rattle.std.proofs.Common.{ap, sym, ◌∙◌, arith, subst, inl, inr, length-append, append_assoc}
+use Rattle.std.proofs.lemmas.Bool.{cases_Bool}
+use Rattle.std.proofs.lemmas.Bool.Decides.{nat_tests}
+use Rattle.std.proofs.lemmas.List.{map-append}
+use Rattle.sto_part.specs.Codes.{IsSignedCode}
+use Rattle.sto_model.specs.declared.call.Call.{Call}
+use Rattle.sto_model.specs.declared.operation.Operation.{Operation}
+use Rattle.sto_model.specs.declared.operation.Operation.TheVariants.{Get, Set, Add, Test as TestWord, Take, Put, Remove, Has, Len, Next, Count, Scan}
+use Rattle.sto_model.specs.declared.shape.Shape.{Shape}
+use Rattle.sto_model.specs.declared.shape.Shape.TheVariants.{Single, Counter, Array, Hash, Tree}
+use Rattle.sto_model.specs.Operations.{operation_of}
+use Rattle.sto_model.specs.Sizes.{part_count}
+use Rattle.sto_model.specs.Objects.{machine_of, machines_of, takes_by, IsTaken}
+use Rattle.sto_type.specs.Meaning.{Meaning}
+use Rattle.sto_type.specs.Joined.{call_beyond, home_moved, joined, no_meaning, all_joined}
+use Rattle.sto_type.proofs.Answering.{home_past}
+use Rattle.sto_box.specs.Boxed.{BoxTakes}
+use Rattle.sto_counter.specs.Counted.{CounterTakes}
+use Rattle.sto_array.specs.Arrayed.{ArrayTakes, homes_from as array_homes}
+use Rattle.sto_hash.specs.Hashed.{HashTakes, homes_from as hash_homes}
+use Rattle.sto_store.specs.Homes.{homes_within, homes_from, HasParts}
+use Rattle.sto_store.specs.Stores.{rank, of_kind, mean_of, means_of, means, AreInOrder, AreKinds}
+
+same_rank : (m n : ℕ) → nat_eq m n ≡ true → m ≡ n
+same_rank m n e = grind (arith, nat_tests)
+
+by_test : {P : Type 0} (b : Bool) → (b ≡ true → P) → (b ≡ false → P) → P
+by_test true f g = f refl
+by_test false f g = g refl
+
+-- each shape of a kind has its rank
+abbrev pub EachRank : ℕ → List Shape → Type 0
+EachRank r [] = Unit {0}
+EachRank r (s ∷ ss) = (rank s ≡ r) × EachRank r ss
+
+pub kind_ranks : (r : ℕ) (ss : List Shape) → EachRank r (of_kind r ss)
+kind_ranks r [] = tt
+kind_ranks r (s ∷ ss) = by_test (nat_eq (rank s) r) (λ e. rw e (same_rank (rank s) r e, kind_ranks r ss)) (λ e. rw e (kind_ranks r ss))
+
+-- the machines
+one_machine : (s : Shape) → rank s < 4 → (mean_of s).machines ≡ machine_of s ∷ []
+one_machine (Single v) l = refl
+one_machine (Counter v) l = refl
+one_machine (Array len v) l = refl
+one_machine (Hash buckets places) l = refl
+one_machine (Tree leaves) l = absurd (omega (arith, l))
+
+pub all_machines : (r : ℕ) (ss : List Shape) → r < 4 → EachRank r ss → (all_joined (map mean_of ss)).machines ≡ machines_of ss
+all_machines r [] l h = refl
+all_machines r (s ∷ ss) l h =
+    let e = h.0 in
+    let one : (mean_of s).machines ≡ machine_of s ∷ [] = one_machine s (omega (arith, l, e)) in
+    let rest : (all_joined (map mean_of ss)).machines ≡ machines_of ss = all_machines r ss l h.1 in
+    λ i. one i ++ rest i
+
+pub length-machines : (ss : List Shape) → length (machines_of ss) ≡ length ss
+length-machines [] = refl
+length-machines (s ∷ ss) = ap suc (length-machines ss)
+
+-- what is taken
+pub record IsFitting (call : Call) : Type 0 where
+  pub first : FitsSigned w64 call.a
+  pub second : FitsSigned w64 call.b
+
+-- the meaning is of as many objects as there are shapes, and takes each call with numbers of 64 bits that these take
+pub record TakesAll (m : Meaning) (ss : List Shape) : Type 0 where
+  pub many : length m.machines ≡ length ss
+  pub takes : (call : Call) → IsTaken ss call → IsFitting call → m.takes call
+
+first_got : (xs ys : List Shape) (i : ℕ) (s : Shape) → i < length xs → slice_get (xs ++ ys) i ≡ Some s → slice_get xs i ≡ Some s
+first_got [] ys i s l e = absurd (omega (arith, l))
+first_got (x ∷ xs) ys zero s l e = e
+first_got (x ∷ xs) ys (suc i) s l e = first_got xs ys i s (omega (arith, l)) e
+
+pub both_take : (a b : Meaning) (xs ys : List Shape) → TakesAll a xs → TakesAll b ys → TakesAll (joined a b) (xs ++ ys)
+both_take a b xs ys ha hb = record {
+  many = length-append a.machines b.machines ∙ (let m = ha.many in let n = hb.many in let s = length-append xs ys in omega (arith, m, n, s));
+  takes = λ call t f. by_test (nat_lt call.object (length a.machines))
+      (λ e.
+      let l : call.object < length xs = (let m = ha.many in grind (arith, nat_tests)) in
+      rw e (ha.takes call (t.0, first_got xs ys call.object t.0 l t.1, t.2) f))
+      (λ e.
+      let l : length xs ≤ call.object = (let m = ha.many in grind (arith, nat_tests)) in
+      let n : call.object - length xs ≡ call.object - length a.machines = (let m = ha.many in omega (arith, m)) in
+      let got : slice_get ys (call.object - length a.machines) ≡ Some t.0 = ap (slice_get ys) (sym n) ∙ sym (home_past xs ys call.object l) ∙ t.1 in
+      rw e (hb.takes (call_beyond (length a.machines) call) (t.0, got, t.2) (record { first = f.first; second = f.second })));
+}
+
+pub none_take : TakesAll no_meaning []
+none_take = record { many = refl; takes = λ call t f. no_object call.object t.0 t.1 }
+  where
+    no_object : (i : ℕ) (s : Shape) → slice_get [] i ≡ Some s → ⊥
+    no_object zero s e = cc
+    no_object (suc i) s e = cc
+
+-- one object
+one_got : (s t : Shape) (i : ℕ) → slice_get (s ∷ []) i ≡ Some t → (i ≡ 0) × (s ≡ t)
+one_got s t zero e = (refl, cc)
+one_got s t (suc zero) e = cc
+one_got s t (suc (suc i)) e = cc
+
+-- a box takes the codes 0 and 1
+box_far : (v : ℤ) (n : ℕ) (a : ℤ) → takes_by (Single v) (slice_get (Add ∷ TestWord ∷ Take ∷ Put ∷ Remove ∷ Has ∷ Len ∷ Next ∷ Count ∷ Scan ∷ []) n) a ≡ false
+box_far v zero a = refl
+box_far v (suc zero) a = refl
+box_far v (suc (suc zero)) a = refl
+box_far v (suc (suc (suc zero))) a = refl
+box_far v (suc (suc (suc (suc zero)))) a = refl
+box_far v (suc (suc (suc (suc (suc zero))))) a = refl
+box_far v (suc (suc (suc (suc (suc (suc zero)))))) a = refl
+box_far v (suc (suc (suc (suc (suc (suc (suc zero))))))) a = refl
+box_far v (suc (suc (suc (suc (suc (suc (suc (suc zero)))))))) a = refl
+box_far v (suc (suc (suc (suc (suc (suc (suc (suc (suc zero))))))))) a = refl
+box_far v (suc (suc (suc (suc (suc (suc (suc (suc (suc (suc n)))))))))) a = refl
+
+box_code : (v : ℤ) (code : ℕ) (a : ℤ) → takes_by (Single v) (operation_of code) a ≡ true → code ≤ 1
+box_code v zero a e = omega arith
+box_code v (suc zero) a e = omega arith
+box_code v (suc (suc n)) a e = let z : false ≡ true = sym (box_far v n a) ∙ e in cc
+
+-- what a counter, an array and a hash table take does not hang on their numbers
+counter_alike : (v : ℤ) (o : Option Operation) (a : ℤ) → takes_by (Counter v) o a ≡ takes_by (Counter (pos 0)) o a
+counter_alike v None a = refl
+counter_alike v (Some Get) a = refl
+counter_alike v (Some Set) a = refl
+counter_alike v (Some Add) a = refl
+counter_alike v (Some TestWord) a = refl
+counter_alike v (Some Take) a = refl
+counter_alike v (Some Put) a = refl
+counter_alike v (Some Remove) a = refl
+counter_alike v (Some Has) a = refl
+counter_alike v (Some Len) a = refl
+counter_alike v (Some Next) a = refl
+counter_alike v (Some Count) a = refl
+counter_alike v (Some Scan) a = refl
+
+array_alike : (n : ℕ) (v : ℤ) (o : Option Operation) (a : ℤ) → takes_by (Array n v) o a ≡ takes_by (Array 0 (pos 0)) o a
+array_alike n v None a = refl
+array_alike n v (Some Get) a = refl
+array_alike n v (Some Set) a = refl
+array_alike n v (Some Add) a = refl
+array_alike n v (Some TestWord) a = refl
+array_alike n v (Some Take) a = refl
+array_alike n v (Some Put) a = refl
+array_alike n v (Some Remove) a = refl
+array_alike n v (Some Has) a = refl
+array_alike n v (Some Len) a = refl
+array_alike n v (Some Next) a = refl
+array_alike n v (Some Count) a = refl
+array_alike n v (Some Scan) a = refl
+
+hash_alike : (b p : ℕ) (o : Option Operation) (a : ℤ) → takes_by (Hash b p) o a ≡ takes_by (Hash b 0) o a
+hash_alike b p None a = refl
+hash_alike b p (Some Get) a = refl
+hash_alike b p (Some Set) a = refl
+hash_alike b p (Some Add) a = refl
+hash_alike b p (Some TestWord) a = refl
+hash_alike b p (Some Take) a = refl
+hash_alike b p (Some Put) a = refl
+hash_alike b p (Some Remove) a = refl
+hash_alike b p (Some Has) a = refl
+hash_alike b p (Some Len) a = refl
+hash_alike b p (Some Next) a = refl
+hash_alike b p (Some Count) a = refl
+hash_alike b p (Some Scan) a = refl
+
+one_taken : (s : Shape) (call : Call) → IsTaken (s ∷ []) call → (call.object ≡ 0) × IsTrue (takes_by s (operation_of call.code) call.a)
+one_taken s call t =
+    let g : (call.object ≡ 0) × (s ≡ t.0) = one_got s t.0 call.object t.1 in
+    (g.0, subst (λ x. IsTrue (takes_by x (operation_of call.code) call.a)) (sym g.1) t.2)
+
+pub one_takes : (s : Shape) → rank s < 4 → TakesAll (mean_of s) (s ∷ [])
+one_takes (Single v) l = record {
+  many = refl;
+  takes = λ call t f.
+      let g : (call.object ≡ 0) × IsTrue (takes_by (Single v) (operation_of call.code) call.a) = one_taken (Single v) call t in
+      record { object = g.0; code = box_code v call.code call.a g.1; value = λ e. ∣ tt ∣₁; fits = f.first; fits_too = f.second };
+}
+one_takes (Counter v) l = record {
+  many = refl;
+  takes = λ call t f.
+      let g : (call.object ≡ 0) × IsTrue (takes_by (Counter v) (operation_of call.code) call.a) = one_taken (Counter v) call t in
+      record { object = g.0; taken = sym (counter_alike v (operation_of call.code) call.a) ∙ g.1; fits = f.first; fits_too = f.second };
+}
+one_takes (Array len v) l = record {
+  many = refl;
+  takes = λ call t f.
+      let g : (call.object ≡ 0) × IsTrue (takes_by (Array len v) (operation_of call.code) call.a) = one_taken (Array len v) call t in
+      record { object = g.0; taken = sym (array_alike len v (operation_of call.code) call.a) ∙ g.1; fits = f.first; fits_too = f.second };
+}
+one_takes (Hash buckets places) l = record {
+  many = refl;
+  takes = λ call t f.
+      let g : (call.object ≡ 0) × IsTrue (takes_by (Hash buckets places) (operation_of call.code) call.a) = one_taken (Hash buckets places) call t in
+      record { object = g.0; taken = sym (hash_alike buckets places (operation_of call.code) call.a) ∙ g.1; fits = f.first; fits_too = f.second };
+}
+one_takes (Tree leaves) l = absurd (omega (arith, l))
+
+pub all_take : (r : ℕ) (ss : List Shape) → r < 4 → EachRank r ss → TakesAll (all_joined (map mean_of ss)) ss
+all_take r [] l h = none_take
+all_take r (s ∷ ss) l h = let e = h.0 in both_take (mean_of s) (all_joined (map mean_of ss)) (s ∷ []) ss (one_takes s (omega (arith, l, e))) (all_take r ss l h.1)
+
+-- the homes
+within_moved : (n object first count : ℕ) → map (home_moved n) (homes_within object first count) ≡ homes_within (n + object) first count
+within_moved n object first zero = refl
+within_moved n object first (suc count) = ap (λ (l : List (ℕ × ℕ)). (n + object, first) ∷ l) (within_moved n object (suc first) count)
+
+from_moved : (n object : ℕ) (counts : List ℕ) → map (home_moved n) (homes_from object counts) ≡ homes_from (n + object) counts
+from_moved n object [] = refl
+from_moved n object (count ∷ counts) =
+    let next : n + suc object ≡ suc (n + object) = omega arith in
+    map-append (home_moved n) (homes_within object 0 count) (homes_from (suc object) counts)
+    ∙ ap (λ (l : List (ℕ × ℕ)). l ++ map (home_moved n) (homes_from (suc object) counts)) (within_moved n object 0 count)
+    ∙ ap (λ (l : List (ℕ × ℕ)). homes_within (n + object) 0 count ++ l) (from_moved n (suc object) counts ∙ ap (λ (x : ℕ). homes_from x counts) next)
+
+from_append : (object : ℕ) (xs ys : List ℕ) → homes_from object (xs ++ ys) ≡ homes_from object xs ++ homes_from (length xs + object) ys
+from_append object [] ys = let e : 0 + object ≡ object = omega arith in ap (λ (x : ℕ). homes_from x ys) (sym e)
+from_append object (x ∷ xs) ys =
+    let e : length xs + suc object ≡ suc (length xs) + object = omega arith in
+    ap (λ (l : List (ℕ × ℕ)). homes_within object 0 x ++ l) (from_append (suc object) xs ys ∙ ap (λ (k : ℕ). homes_from (suc object) xs ++ homes_from k ys) e)
+    ∙ sym (append_assoc (homes_within object 0 x) (homes_from (suc object) xs) (homes_from (suc (length xs) + object) ys))
+
+pub no_parts : HasParts no_meaning []
+no_parts = record { objects = refl; homes = refl }
+
+nothing_more : (l : List (ℕ × ℕ)) → l ≡ l ++ []
+nothing_more [] = refl
+nothing_more (x ∷ l) = ap (λ (t : List (ℕ × ℕ)). x ∷ t) (nothing_more l)
+
+pub one_object : (m : Meaning) (count : ℕ) → length m.machines ≡ 1 → m.homes ≡ homes_within 0 0 count → HasParts m (count ∷ [])
+one_object m count one is = record { objects = one; homes = is ∙ nothing_more (homes_within 0 0 count) }
+
+pub both_parts : (a b : Meaning) (xs ys : List ℕ) → HasParts a xs → HasParts b ys → HasParts (joined a b) (xs ++ ys)
+both_parts a b xs ys h k =
+    let e : length a.machines + 0 ≡ length xs + 0 = (let o = h.objects in omega (arith, o)) in
+    record {
+      objects = length-append a.machines b.machines ∙ (let o = h.objects in let p = k.objects in let s = length-append xs ys in omega (arith, o, p, s));
+      homes =
+          ap (λ (l : List (ℕ × ℕ)). l ++ map (home_moved (length a.machines)) b.homes) h.homes
+          ∙ ap (λ (l : List (ℕ × ℕ)). homes_from 0 xs ++ map (home_moved (length a.machines)) l) k.homes
+          ∙ ap (λ (l : List (ℕ × ℕ)). homes_from 0 xs ++ l) (from_moved (length a.machines) 0 ys ∙ ap (λ (n : ℕ). homes_from n ys) e)
+          ∙ sym (from_append 0 xs ys);
+    }
+
+array_within : (i n : ℕ) → array_homes i n ≡ homes_within 0 i n
+array_within i zero = refl
+array_within i (suc n) = ap (λ (l : List (ℕ × ℕ)). (0, i) ∷ l) (array_within (suc i) n)
+
+hash_within : (i n : ℕ) → hash_homes i n ≡ homes_within 0 i n
+hash_within i zero = refl
+hash_within i (suc n) = ap (λ (l : List (ℕ × ℕ)). (0, i) ∷ l) (hash_within (suc i) n)
+
+pub one_parts : (s : Shape) → rank s < 4 → HasParts (mean_of s) (part_count s ∷ [])
+one_parts (Single v) l = record { objects = refl; homes = refl }
+one_parts (Counter v) l = record { objects = refl; homes = refl }
+one_parts (Array len v) l = one_object (mean_of (Array len v)) len refl (array_within 0 len)
+one_parts (Hash buckets places) l = one_object (mean_of (Hash buckets places)) (buckets * (1 + places)) refl (hash_within 0 (buckets * (1 + places)))
+one_parts (Tree leaves) l = absurd (omega (arith, l))
+
+pub all_parts : (r : ℕ) (ss : List Shape) → r < 4 → EachRank r ss → HasParts (all_joined (map mean_of ss)) (map part_count ss)
+all_parts r [] l h = no_parts
+all_parts r (s ∷ ss) l h = let e = h.0 in both_parts (mean_of s) (all_joined (map mean_of ss)) (part_count s ∷ []) (map part_count ss) (one_parts s (omega (arith, l, e))) (all_parts r ss l h.1)
+
+-- the whole store
+module _ (shapes : List Shape) (order : AreInOrder shapes) where
+  abbrev k : ℕ → List Shape
+  k r = of_kind r shapes
+
+  four : (f : Shape → ℕ) → map f (k 0 ++ (k 1 ++ (k 2 ++ k 3))) ≡ map f (k 0) ++ (map f (k 1) ++ (map f (k 2) ++ map f (k 3)))
+  four f =
+      map-append f (k 0) (k 1 ++ (k 2 ++ k 3))
+      ∙ ap (λ l. map f (k 0) ++ l) (map-append f (k 1) (k 2 ++ k 3) ∙ ap (λ l. map f (k 1) ++ l) (map-append f (k 2) (k 3)))
+
+  four_machines : machines_of (k 0 ++ (k 1 ++ (k 2 ++ k 3))) ≡ machines_of (k 0) ++ (machines_of (k 1) ++ (machines_of (k 2) ++ machines_of (k 3)))
+  four_machines =
+      map-append machine_of (k 0) (k 1 ++ (k 2 ++ k 3))
+      ∙ ap (λ l. machines_of (k 0) ++ l) (map-append machine_of (k 1) (k 2 ++ k 3) ∙ ap (λ l. machines_of (k 1) ++ l) (map-append machine_of (k 2) (k 3)))
+
+  pub machines_are : (means shapes).machines ≡ machines_of shapes
+  machines_are =
+      (λ i. all_machines 0 (k 0) (omega arith) (kind_ranks 0 shapes) i ++ (all_machines 1 (k 1) (omega arith) (kind_ranks 1 shapes) i ++ (all_machines 2 (k 2) (omega arith) (kind_ranks 2 shapes) i ++ all_machines 3 (k 3) (omega arith) (kind_ranks 3 shapes) i)))
+      ∙ sym four_machines
+      ∙ ap machines_of (sym order)
+
+  pub takes_all : TakesAll (means shapes) shapes
+  takes_all =
+      subst (TakesAll (means shapes)) (sym order)
+      (both_take (all_joined (means_of 0 shapes)) _ (k 0) (k 1 ++ (k 2 ++ k 3)) (all_take 0 (k 0) (omega arith) (kind_ranks 0 shapes))
+      (both_take (all_joined (means_of 1 shapes)) _ (k 1) (k 2 ++ k 3) (all_take 1 (k 1) (omega arith) (kind_ranks 1 shapes))
+      (both_take (all_joined (means_of 2 shapes)) _ (k 2) (k 3) (all_take 2 (k 2) (omega arith) (kind_ranks 2 shapes)) (all_take 3 (k 3) (omega arith) (kind_ranks 3 shapes)))))
+
+  pub has_parts : HasParts (means shapes) (map part_count shapes)
+  has_parts =
+      subst (λ ss. HasParts (means shapes) (map part_count ss)) (sym order)
+      (subst (HasParts (means shapes)) (sym (four part_count))
+      (both_parts (all_joined (means_of 0 shapes)) _ (map part_count (k 0)) (map part_count (k 1) ++ (map part_count (k 2) ++ map part_count (k 3))) (all_parts 0 (k 0) (omega arith) (kind_ranks 0 shapes))
+      (both_parts (all_joined (means_of 1 shapes)) _ (map part_count (k 1)) (map part_count (k 2) ++ map part_count (k 3)) (all_parts 1 (k 1) (omega arith) (kind_ranks 1 shapes))
+      (both_parts (all_joined (means_of 2 shapes)) _ (map part_count (k 2)) (map part_count (k 3)) (all_parts 2 (k 2) (omega arith) (kind_ranks 2 shapes)) (all_parts 3 (k 3) (omega arith) (kind_ranks 3 shapes))))))
+
+-- What is built means what its shapes mean. The members of each kind mean what their shapes mean.
+pub map_shapes : {A : Type 0} (shape : A → Shape) (xs : List A) (ss : List Shape) → map shape xs ≡ ss → map (λ x. mean_of (shape x)) xs ≡ map mean_of ss
+map_shapes {A} shape xs ss e = map_twice xs ∙ ap (map mean_of) e
+  where
+    map_twice : (l : List A) → map (λ x. mean_of (shape x)) l ≡ map mean_of (map shape l)
+    map_twice [] = refl
+    map_twice (x ∷ l) = ap (λ t. mean_of (shape x) ∷ t) (map_twice l)
+
+pub means_is :
+    {A B C D : Type 0} (f : A → Shape) (g : B → Shape) (h : C → Shape) (k : D → Shape) (xs : List A) (ys : List B) (zs : List C) (ws : List D) (shapes : List Shape)
+    → AreKinds (map f xs) (map g ys) (map h zs) (map k ws) shapes
+    → joined (all_joined (map (λ x. mean_of (f x)) xs)) (joined (all_joined (map (λ x. mean_of (g x)) ys)) (joined (all_joined (map (λ x. mean_of (h x)) zs)) (all_joined (map (λ x. mean_of (k x)) ws)))) ≡ means shapes
+means_is f g h k xs ys zs ws shapes e i =
+    joined (all_joined (map_shapes f xs (of_kind 0 shapes) e.boxes_are i))
+    (joined (all_joined (map_shapes g ys (of_kind 1 shapes) e.counters_are i))
+    (joined (all_joined (map_shapes h zs (of_kind 2 shapes) e.arrays_are i)) (all_joined (map_shapes k ws (of_kind 3 shapes) e.hashes_are i))))

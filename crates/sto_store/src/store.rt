@@ -1,0 +1,104 @@
+//! The store of shapes.
+ghost use Rattle.std.specs.Prelude.{◌≡◌, ◌<◌, ◌^◌, length, map, sum_by, IfOk};
+ghost use Rattle.sto_type.specs.Meaning.{IsLawful};
+ghost use Rattle.sto_type.specs.Joined.{all_joined};
+ghost use Rattle.sto_model.specs.Objects.{IsTaken};
+ghost use Rattle.sto_model.specs.Sizes.{part_count};
+ghost use Rattle.sto_model.specs.declared.call.Call.{Call};
+ghost use Rattle.sto_store.specs.StoresLaw.{IsFitting};
+ghost use Rattle.sto_model.specs.declared.shape.Shape.TheVariants.{Single, Counter, Array, Hash};
+ghost use Rattle.sto_store.specs.Stores.{means, means_of, of_kind, AreFit, AreInOrder, AreKinds};
+
+use std::alloc::Global;
+use sto_array::TArray;
+use sto_box::TBox;
+use sto_counter::TCounter;
+use sto_hash::THash;
+use sto_model::{Shape, Shapes};
+use sto_part::NoMemory;
+use sto_type::{Both, Many, TxType};
+
+/// The objects of one kind.
+type Boxes = Many<TBox<i64>>;
+
+type Counters = Many<TCounter>;
+
+type Arrays = Many<TArray>;
+
+type Hashes = Many<THash>;
+
+/// Boxes, counters, arrays and hash tables, in this order.
+pub type Store = Both<Boxes, Both<Counters, Both<Arrays, Hashes>>>;
+
+/// The store of objects of these shapes.
+pub fn build(alloc: Global, shapes: &Shapes) -> Result<Store, NoMemory>
+    requires fit { AreFit shapes.now.items }
+    requires parts { sum_by part_count shapes.now.items < 2 ^ 32 }
+    ensures lawful { IfOk result (λ s. IsLawful (means shapes.now.items)) }
+    ensures takes { IfOk result (λ s. AreInOrder shapes.now.items → (call : Call) → IsTaken shapes.now.items call → IsFitting call → (⟦<Store as TxType>⟧.meaning s).takes call) }
+    ensures kinds { IfOk result (λ s. AreKinds (map (λ x. Single x.first) s.first) (map (λ x. Counter x.first) s.second.first) (map (λ x. Array x.len x.first) s.second.second.first) (map (λ x. Hash x.buckets x.places) s.second.second.second) shapes.now.items) }
+{
+    let all = shapes.as_slice();
+    let boxes = build_boxes(alloc, all)?;
+    let counters = build_counters(alloc, all)?;
+    let arrays = build_arrays(alloc, all)?;
+    let hashes = build_hashes(alloc, all)?;
+    Ok(Both::new(boxes, Both::new(counters, Both::new(arrays, hashes))))
+}
+
+fn build_boxes(alloc: Global, shapes: &[Shape]) -> Result<Boxes, NoMemory>
+    requires few { length shapes.now < 2 ^ 32 }
+    requires parts { length (all_joined (means_of 0 shapes.now)).widths < 2 ^ 32 }
+    ensures { IfOk result (λ m. map (λ x. Single x.first) m ≡ of_kind 0 shapes.now) }
+{
+    let mut made = Many::new(alloc);
+    for shape in shapes {
+        if let Shape::Single(value) = shape {
+            made.push(TBox::new(value))?;
+        }
+    }
+    Ok(made)
+}
+
+fn build_counters(alloc: Global, shapes: &[Shape]) -> Result<Counters, NoMemory>
+    requires few { length shapes.now < 2 ^ 32 }
+    requires parts { length (all_joined (means_of 1 shapes.now)).widths < 2 ^ 32 }
+    ensures { IfOk result (λ m. map (λ x. Counter x.first) m ≡ of_kind 1 shapes.now) }
+{
+    let mut made = Many::new(alloc);
+    for shape in shapes {
+        if let Shape::Counter(value) = shape {
+            made.push(TCounter::new(*value))?;
+        }
+    }
+    Ok(made)
+}
+
+fn build_arrays(alloc: Global, shapes: &[Shape]) -> Result<Arrays, NoMemory>
+    requires few { length shapes.now < 2 ^ 32 }
+    requires parts { length (all_joined (means_of 2 shapes.now)).widths < 2 ^ 32 }
+    ensures { IfOk result (λ m. map (λ x. Array x.len x.first) m ≡ of_kind 2 shapes.now) }
+{
+    let mut made = Many::new(alloc);
+    for shape in shapes {
+        if let Shape::Array { len, value } = shape {
+            made.push(TArray::new(*len, *value))?;
+        }
+    }
+    Ok(made)
+}
+
+fn build_hashes(alloc: Global, shapes: &[Shape]) -> Result<Hashes, NoMemory>
+    requires few { length shapes.now < 2 ^ 32 }
+    requires fit { AreFit shapes.now }
+    requires parts { length (all_joined (means_of 3 shapes.now)).widths < 2 ^ 32 }
+    ensures { IfOk result (λ m. map (λ x. Hash x.buckets x.places) m ≡ of_kind 3 shapes.now) }
+{
+    let mut made = Many::new(alloc);
+    for shape in shapes {
+        if let Shape::Hash { buckets, places } = shape {
+            made.push(THash::new(*buckets, *places))?;
+        }
+    }
+    Ok(made)
+}
