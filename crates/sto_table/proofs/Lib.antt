@@ -1,0 +1,15 @@
+pub mod Flat
+pub mod Words
+pub mod Places
+pub mod Moved
+pub mod Ranges
+pub mod Apart
+pub mod Passes
+pub mod Joins
+pub mod Laying
+pub mod Cuts
+pub mod Sharing
+pub mod Closings
+pub mod Steps
+pub mod Additions
+pub mod Ended

@@ -1,0 +1,28 @@
+use Rattle.std.proofs.Common.{◌≡◌, ◌+◌, ◌≤◌, ◌^◌, ℕ, suc, sym, refl, ap, ◌∙◌, subst, arith}
+use Rattle.sto_core.specs.Event.{Decide}
+use Rattle.sto_core.specs.Remembered.{Remembers}
+use Rattle.sto_table.proofs.Passes.{stays}
+use Rattle.sto_table.proofs.pass.PassCells.decide.Goals as goal
+
+pub invariant_of-self : goal.invariant_of-self
+invariant_of-self g c =
+    let old = c.args.self.now in
+    let k = stays g.T.Naming.valid c.args.self.now.shared.now.table.shared.key.passes (Decide c.args.commit)
+    c.args.self.now.seat.me 0 c.store_status.new.seat.me c.store_status.ensures.tells in record {
+      table = c.store_status.ensures.table ∙ old.table;
+      bare = k.bare old.bare;
+      live = k.live old.live;
+      opening = k.opening ∙ old.opening;
+      numbered = k.number ∙ old.numbered;
+      listed = old.listed;
+      remembers = k.remembers old.ticket c.requires old.remembers;
+      small = old.small;
+    }
+
+pub returns : goal.returns
+returns g c =
+    let k = stays g.T.Naming.valid c.args.self.now.shared.now.table.shared.key.passes (Decide c.args.commit)
+    c.args.self.now.seat.me 0 c.store_status.new.seat.me c.store_status.ensures.tells in record {
+      tells = c.store_status.ensures.tells.1;
+      same = (refl, c.store_status.ensures.table, k.opening, k.number, k.sizes, k.gathered);
+    }

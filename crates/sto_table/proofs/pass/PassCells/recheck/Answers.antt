@@ -1,0 +1,28 @@
+use Rattle.std.proofs.Common.{◌≡◌, ◌+◌, ◌≤◌, ◌^◌, ℕ, suc, sym, refl, ap, ◌∙◌, subst, arith}
+use Rattle.sto_core.specs.Event.{Recheck}
+use Rattle.sto_core.specs.Remembered.{Remembers}
+use Rattle.sto_table.proofs.Passes.{stays}
+use Rattle.sto_table.proofs.pass.PassCells.recheck.Goals as goal
+
+pub invariant_of-self : goal.invariant_of-self
+invariant_of-self g c =
+    let old = c.args.self.now in
+    let k = stays g.T.Naming.valid c.args.self.now.shared.now.table.shared.key.passes (Recheck c.args.part)
+    c.args.self.now.seat.me c.load_version.result c.load_version.new.seat.me c.load_version.ensures.tells in record {
+      table = c.load_version.ensures.table ∙ old.table;
+      bare = k.bare old.bare;
+      live = k.live old.live;
+      opening = k.opening ∙ old.opening;
+      numbered = k.number ∙ old.numbered;
+      listed = old.listed;
+      remembers = k.remembers old.ticket c.requires old.remembers;
+      small = old.small;
+    }
+
+pub returns : goal.returns
+returns g c =
+    let k = stays g.T.Naming.valid c.args.self.now.shared.now.table.shared.key.passes (Recheck c.args.part)
+    c.args.self.now.seat.me c.load_version.result c.load_version.new.seat.me c.load_version.ensures.tells in record {
+      tells = c.load_version.ensures.tells.1;
+      same = (refl, c.load_version.ensures.table, k.opening, k.number, k.sizes, k.gathered);
+    }

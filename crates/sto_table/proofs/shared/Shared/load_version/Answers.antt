@@ -1,0 +1,27 @@
+use Rattle.std.proofs.Common.{◌≡◌, ◌+◌, ◌*◌, ◌%◌, ◌^◌, ◌<◌, ℕ, suc, sym, refl, ap, ◌∙◌, subst, arith, bit_and, bit_or, length}
+use Rattle.sto_part.specs.Parts.{part_of}
+use Rattle.sto_core.specs.History.{Contents}
+use Rattle.sto_table.specs.Laid.{place_of, words_of}
+use Rattle.sto_core.proofs.Places.{version_named}
+use Rattle.sto_table.proofs.Steps.{loads, told_as, version_at}
+use Rattle.sto_table.proofs.shared.Shared.load_version.Goals as goal
+
+pub version_place-place-requires : goal.version_place-place-requires
+version_place-place-requires g c =
+    subst (λ (o : Contents). c.args.part < length o) c.requires.fits.opening
+    (version_named g.T.Naming.valid g.J.Telling.event c.args.seat.now.me.0.view c.args.part c.requires.allowed c.requires.event)
+
+pub load-requires : goal.load-requires
+load-requires g c =
+    let s = c.args.self.now in
+    let k = s.table.shared.key in
+    let sizes = g.T.Naming.sizes k.ty.value in
+    let opening : Contents = k.opening.value.items in
+    let me = c.args.seat.now.me in
+    let live = c.requires.fits.live in (
+      c.requires.fits.table,
+      c.version_place-place.ensures.within,
+      told_as g.T.Naming.valid sizes opening k.passes s.table.shared.table_id.slots c.args.seat.now.id me g.J.Telling.event
+          (c.version_place-place.result) (λ n. n) g.J.Telling.passes c.requires.passes
+          (loads g.T.Naming.valid sizes opening k.passes s.table.shared.table_id.slots c.args.seat.now.id me g.J.Telling.event live c.requires.allowed c.version_place-place.result (version_at k.passes opening g.J.Telling.event c.args.part c.version_place-place.result c.requires.event c.version_place-place.ensures.is)),
+    )

@@ -1,0 +1,159 @@
+//! Passes that count on threads of their own, call by call. A test plays it; a call that is left out or changed is
+//! refused by what a later one asks.
+ghost use Rattle.std.specs.Prelude.{◌≡◌, ◌≤◌, ◌<◌, ◌+◌, ◌-◌, [], IfOk};
+ghost use Rattle.sto_table.specs.Counter.{always, one_more, Rests};
+ghost use Rattle.sto_table.specs.Rests.{IsOf};
+
+use crate::closing::close;
+use crate::opening::{Opened, open};
+use crate::shared::{Rest, Shared};
+use std::alloc::Global;
+use std::thread::{Threads, join};
+use sto_core::Cells;
+use sto_item::Updates;
+use sto_part::{Change, Contents, Naming, NoMemory, Parts, Update, wrapping_sum};
+
+/// A type at which all contents are valid.
+#[derive(Drop)]
+pub(crate) struct Always;
+
+impl Naming for Always {
+    ghost sizes = { λ _. [] };
+
+    ghost valid = { always };
+}
+
+// One transaction adds 1 to the word, where it finds the part free. It answers its ticket.
+pub(crate) fn add<C: Cells<Always>>(pass: &mut C, updates: &Updates, none: &Parts) -> Option<u64>
+    requires pass { Rests 1 (C.view pass.old) }
+    requires updates { (updates.now.items ≡ one_more) × (none.now.items ≡ []) }
+    ensures same { C.same pass.old pass.new }
+    ensures rests { Rests ((C.view pass.old).draws - 1) (C.view pass.new) }
+{
+    pass.start();
+    let found = pass.lock(0);
+    if found.is_locked() {
+        return None;
+    }
+    let value = pass.word(0, 0);
+    let ticket = pass.draw(updates, none, none);
+    pass.decide(true);
+    pass.put(0, 0, wrapping_sum(value, 1));
+    pass.release(0);
+    Some(ticket)
+}
+
+// How many transactions committed, and the ticket of the last one.
+pub(crate) type Added = (u32, u64);
+
+// A hundred transactions of one pass, each with at most 64 tries.
+pub(crate) fn add_hundred(
+    shared: &Shared<Always>,
+    rest: Rest<Always>,
+    updates: &Updates,
+    none: &Parts,
+) -> (Added, Rest<Always>)
+    requires of { IsOf shared.now rest.seat }
+    requires pass { Rests 6400 rest.seat.me.0.view }
+    requires updates { (updates.now.items ≡ one_more) × (none.now.items ≡ []) }
+    ensures of { IsOf shared.now result.1.seat }
+    ensures pass { Rests 0 result.1.seat.me.0.view }
+    ensures same { result.1.seat.me.0.view.gathered ≡ rest.seat.me.0.view.gathered }
+{
+    let mut pass = shared.pass(rest);
+    let mut done = 0;
+    let mut last = 0;
+    let mut tries = 64_u32;
+    for _ in 0..6400_u32 {
+        if done < 100 && tries > 0 {
+            if let Some(ticket) = add(&mut pass, updates, none) {
+                done += 1;
+                last = ticket;
+                tries = 64;
+            } else {
+                tries -= 1;
+            }
+        }
+    }
+    ((done, last), pass.rest())
+}
+
+// The update that adds 1.
+fn one_update(alloc: Global) -> Result<Updates, NoMemory>
+    ensures { IfOk result (λ u. u.items ≡ one_more) }
+{
+    let mut update = Update::keep(alloc, 1)?;
+    update.set_change(0, Change::Add(1));
+    let mut updates = Updates::new(alloc);
+    updates.push((0, update))?;
+    Ok(updates)
+}
+
+/// What two threads added, and what they left.
+#[derive(Drop)]
+pub(crate) struct Left {
+    pub(crate) first: Added,
+    pub(crate) other: Added,
+    pub(crate) word: i64,
+    pub(crate) ticket: u64,
+    pub(crate) clock: u64,
+}
+
+// Two threads count in one word.
+pub(crate) fn both_add<R: Threads + Sync>(rt: &R, alloc: Global) -> Result<Left, NoMemory> {
+    let contents = Contents::new(alloc, &[1])?;
+    let updates = one_update(alloc)?;
+    let none = Parts::new(alloc);
+    let Opened { shared, rests } = open(alloc, &Always, &contents, 2)?;
+    let mut rests = rests;
+    let (Some(first), Some(other)) = (rests.pop(), rests.pop()) else {
+        return Err(NoMemory);
+    };
+    let words = &shared;
+    let updates = &updates;
+    let none = &none;
+    let ((a, first), (b, other)) = join(
+        rt,
+        move || -> (Added, Rest<Always>)
+            requires own { IsOf words.now first.seat × Rests 6400 first.seat.me.0.view × (first.seat.me.0.view.gathered ≡ 1) }
+            requires updates { (updates.now.items ≡ one_more) × (none.now.items ≡ []) }
+            ensures { IsOf words.entry.now result.1.seat × Rests 0 result.1.seat.me.0.view × (result.1.seat.me.0.view.gathered ≡ 1) }
+        { add_hundred(words, first, updates, none) },
+        move || -> (Added, Rest<Always>)
+            requires own { IsOf words.now other.seat × Rests 6400 other.seat.me.0.view × (other.seat.me.0.view.gathered ≡ 1) }
+            requires updates { (updates.now.items ≡ one_more) × (none.now.items ≡ []) }
+            ensures { IsOf words.entry.now result.1.seat × Rests 0 result.1.seat.me.0.view × (result.1.seat.me.0.view.gathered ≡ 1) }
+        { add_hundred(words, other, updates, none) },
+    );
+    let rest = shared.gather(first, other);
+    let closed = close(alloc, shared, rest)?;
+    Ok(Left {
+        first: a,
+        other: b,
+        word: closed.word(0, 0),
+        ticket: closed.version(0).ticket(),
+        clock: closed.clock(),
+    })
+}
+
+#[cfg(test)]
+mod tests {
+    use super::both_add;
+
+    // The word is the number of commits, and its version has the last one's ticket.
+    #[test]
+    fn example_of_two_threads(rt: HostRuntime) {
+        let left = both_add(&rt, rt.alloc()).expect(&rt, "memory");
+        assert!(rt; left.first.0 <= 100 && left.other.0 <= 100);
+        let commits = u64::from(left.first.0) + u64::from(left.other.0);
+        assert!(rt; left.word >= 0);
+        assert_eq!(rt; left.word.cast_unsigned(), commits);
+        assert!(rt; left.clock >= commits);
+        let last = if left.first.1 > left.other.1 {
+            left.first.1
+        } else {
+            left.other.1
+        };
+        assert_eq!(rt; left.ticket, last);
+    }
+}
