@@ -1,17 +1,52 @@
-//! The entries of a schedule.
-ghost use Rattle.std.specs.Prelude.{◌≡◌, ◌^◌, ◌+◌, ◌<◌, ◌≤◌, [], ◌∷◌, length, MatchOption, IfSome, is_some, position, true};
+//! An entry of a schedule.
+ghost use Rattle.std.specs.Prelude.{◌≡◌, [], ◌∷◌, position};
 ghost use Rattle.std.specs.List.{slice_split};
-ghost use Rattle.sto_form.specs.Lines.{words_of};
-ghost use Rattle.sto_form.specs.Forms.{all_of, entry_of, entry_of_pieces, is_colon};
+ghost use Rattle.sto_form.specs.Forms.{entry_of, entry_of_pieces, thread_word, is_colon};
+ghost use Rattle.sto_form.specs.Views.{thread_word_option, entry_option};
 
-use crate::next_word;
+use crate::Name;
 use crate::word::number;
 
+/// The thread of an entry: a number, where it is one, or a name.
+#[derive(Clone, Copy, Debug)]
+pub enum ThreadWord<'a> {
+    Numbered(Option<i64>),
+    Named(Name<'a>),
+}
+
 /// The two parts of an entry; one that is no number is `None`.
-#[derive(Clone, Copy, PartialEq, Eq, Debug)]
-pub struct Entry {
-    pub thread: Option<i64>,
+#[derive(Clone, Copy, Debug)]
+pub struct Entry<'a> {
+    pub thread: ThreadWord<'a>,
     pub steps: Option<i64>,
+}
+
+impl Entry<'_> {
+    ghost use Rattle.sto_form.specs.Numbers.{is_good_entry};
+    ghost use Rattle.sto_form.specs.Views.{entry};
+
+    /// Whether its numbers are numbers.
+    pub(crate) fn has_numbers(self) -> bool
+        ensures { result ≡ is_good_entry (entry self.entry) }
+    {
+        match self.thread {
+            ThreadWord::Numbered(None) => false,
+            _ => self.steps.is_some(),
+        }
+    }
+}
+
+/// What names a thread: in version 2 its name, else its number.
+fn thread_word(version: u32, word: &[u8]) -> Option<ThreadWord<'_>>
+    ensures { thread_word_option result ≡ thread_word version word.now }
+{
+    if version != 2 {
+        return Some(ThreadWord::Numbered(number(word)));
+    }
+    match Name::of(word) {
+        Some(name) => Some(ThreadWord::Named(name)),
+        None => None,
+    }
 }
 
 fn colon(word: &[u8]) -> Option<usize>
@@ -21,91 +56,30 @@ fn colon(word: &[u8]) -> Option<usize>
 }
 
 /// The entry that a word is.
-fn entry_of(word: &[u8]) -> Option<Entry>
-    ensures { result ≡ entry_of word.now }
+pub(crate) fn entry_of(version: u32, word: &[u8]) -> Option<Entry<'_>>
+    ensures { entry_option result ≡ entry_of version word.now }
 {
     match colon(word) {
         None => None,
-        Some(end) => two_parts(&word[..end], &word[end + 1..]),
+        Some(end) => two_parts(version, &word[..end], &word[end + 1..]),
     }
 }
 
 /// The entry, where the second part has no colon.
-fn two_parts(thread: &[u8], steps: &[u8]) -> Option<Entry>
-    ensures { result ≡ entry_of_pieces (thread.now ∷ slice_split is_colon steps.now) }
+fn two_parts<'a>(version: u32, thread: &'a [u8], steps: &[u8]) -> Option<Entry<'a>>
+    ensures { entry_option result ≡ entry_of_pieces version (thread.now ∷ slice_split is_colon steps.now) }
 {
     match colon(steps) {
-        None => Some(Entry {
-            thread: number(thread),
-            steps: number(steps),
-        }),
+        None => of_parts(version, thread, steps),
         Some(_) => None,
     }
 }
 
-/// Whether all words are entries.
-fn all_entries(rest: &[u8]) -> bool
-    ensures { result ≡ is_some (all_of entry_of (words_of rest.now)) }
+/// The entry of two parts.
+fn of_parts<'a>(version: u32, thread: &'a [u8], steps: &[u8]) -> Option<Entry<'a>>
+    ensures { entry_option result ≡ entry_of_pieces version (thread.now ∷ steps.now ∷ []) }
 {
-    let mut rest = rest;
-    while let Some((word, after)) = next_word(rest) {
-        if entry_of(word).is_none() {
-            return false;
-        }
-        rest = after;
-    }
-    true
-}
-
-/// Words that are entries.
-#[derive(Clone, Copy, Debug)]
-pub struct Entries<'a> {
-    bytes: &'a [u8],
-    ghost entries: { is_some (all_of entry_of (words_of bytes.now)) ≡ true },
-    ghost short: { length bytes.now < 2 ^ 32 },
-}
-
-impl<'a> Entries<'a> {
-    ghost use Rattle.std.specs.List.{list_all};
-    ghost use Rattle.sto_form.specs.Numbers.{is_good_entry};
-    ghost use Rattle.sto_form.specs.Views.{entries};
-
-    /// The words of these bytes, where all are entries.
-    pub fn of(bytes: &'a [u8]) -> Option<Entries<'a>>
-        requires { length bytes.now < 2 ^ 32 }
-        ensures { MatchOption result (all_of entry_of (words_of bytes.now) ≡ None) (λ e. all_of entry_of (words_of bytes.now) ≡ Some (entries e)) }
-    {
-        if all_entries(bytes) {
-            Some(Entries { bytes })
-        } else {
-            None
-        }
-    }
-
-    /// The first entry, and those after it.
-    pub fn next(self) -> Option<(Entry, Entries<'a>)>
-        ensures found { MatchOption result (entries self.entry ≡ []) (λ found. entries self.entry ≡ found.0 ∷ entries found.1) }
-        ensures less { IfSome result (λ found. length found.1.bytes.now < length self.entry.bytes.now) }
-        ensures short { length self.entry.bytes.now < 2 ^ 32 }
-    {
-        let (word, rest) = next_word(self.bytes)?;
-        match entry_of(word) {
-            Some(entry) => Some((entry, Entries { bytes: rest })),
-            None => unreachable!(),
-        }
-    }
-
-    /// Whether both parts of all are numbers.
-    pub fn are_numbers(self) -> bool
-        ensures { result ≡ list_all is_good_entry (entries self.entry) }
-    {
-        let mut rest = self;
-        while let Some((entry, after)) = rest.next() {
-            if entry.thread.is_none() || entry.steps.is_none() {
-                return false;
-            }
-            rest = after;
-        }
-        true
-    }
+    let thread = thread_word(version, thread)?;
+    let steps = number(steps);
+    Some(Entry { thread, steps })
 }

@@ -1,5 +1,5 @@
 -- The generated file keeps the names, the numbers and the limits that a file which can be read keeps.
-use Rattle.std.proofs.Common.{◌≡◌, ◌≤◌, ◌+◌, ◌*◌, ◌==◌, ◌%◌, ◌/◌, refl, arith, ℕ, zero, suc, Bool, true, false, List, [], ◌∷◌, ◌++◌, length, codes, None, pos}
+use Rattle.std.proofs.Common.{◌≡◌, ◌≤◌, ◌+◌, ◌*◌, ◌==◌, ◌%◌, ◌/◌, refl, arith, ℕ, zero, suc, Bool, true, false, List, [], ◌∷◌, ◌++◌, length, codes, None, pos, subst, sym, ap, inl}
 use Rattle.std.specs.Prelude.{All, if◌then◌else◌, fold, sum_by}
 use Rattle.std.proofs.lemmas.List.Elements.{All-nil, All-cons, All-push}
 use Rattle.sto_form.specs.Words.{is_name}
@@ -10,8 +10,9 @@ use Rattle.sto_lang.specs.declared.arg.Arg.TheVariants.{Var}
 use Rattle.sto_lang.specs.Statements.{Statements, Nothing, Ask, Choose, ◌then◌}
 use Rattle.sto_lang.specs.Scripts.{Script}
 use Rattle.sto_lang.specs.Objects.{Object, shapes_of}
-use Rattle.sto_lang.specs.Drafts.{transaction_count, weight_total}
-use Rattle.sto_lang.specs.Sound.{HasPlaces, HasRanges, IsSound, IsSoundScript}
+use Rattle.sto_lang.specs.Drafts.{numbered_name, transaction_count, weight_total}
+use Rattle.sto_lang.specs.Sound.{AllDiffer, HasPlaces, HasRanges, numbered_from, NameThreads, IsSound, IsSoundScript}
+use Rattle.sto_lang.proofs.Differing.{differ_push, numbers_last, numbers_name, numbers_differ}
 use Rattle.sto_lang.proofs.SoundObjects.{names_declared, numbered, ranges_declared}
 use Rattle.sto_lang.proofs.SoundNumbers.{own_numbers}
 use Rattle.sto_gen.specs.declared.draws.Transfer.{Transfer}
@@ -176,15 +177,39 @@ all_four P a d o l = All-cons P acct (done ∷ owner ∷ log ∷ []) a (All-cons
 names_are : All (λ o. is_name o.name ≡ true) declared
 names_are = all_four (λ o. is_name o.name ≡ true) refl refl refl refl
 
-ranges_are : All (λ o. HasRanges o.shape) declared
-ranges_are = all_four (λ o. HasRanges o.shape) (omega arith, omega arith) tt ((omega arith, omega arith), (omega arith, omega arith)) (omega arith, omega arith)
+ranges_are : All (λ o. HasRanges 1 o.shape) declared
+ranges_are = all_four (λ o. HasRanges 1 o.shape) (omega arith, omega arith) tt ((omega arith, omega arith), (omega arith, omega arith)) (omega arith, omega arith)
+
+-- ---- the names of the threads
+
+names_named : (count : ℕ) → count ≤ 64 → All (λ name. is_name name ≡ true) (numbered_from 0 count)
+names_named zero h = All-nil (λ name. is_name name ≡ true)
+names_named (suc count) h =
+    subst (All (λ name. is_name name ≡ true)) (sym (numbers_last count))
+    (All-push (λ name. is_name name ≡ true) (numbered_from 0 count) (numbered_name count) (names_named count (omega (arith, h))) (numbers_name count (omega (arith, h))))
+
+names_differ : (count : ℕ) → count ≤ 64 → AllDiffer (numbered_from 0 count)
+names_differ zero h = tt
+names_differ (suc count) h =
+    subst AllDiffer (sym (numbers_last count)) (differ_push (numbered_from 0 count) (numbered_name count) (numbers_differ count (omega (arith, h))) (names_differ count (omega (arith, h))))
+
+names_are_of_threads : (n : ℕ) → NameThreads 1 (length (threads n 16)) (numbered_from 0 16)
+names_are_of_threads n = record {
+  each = sym (thread_count n 16);
+  are_names = names_named 16 (omega arith);
+  differ = names_differ 16 (omega arith);
+  numbered = λ e. ap (λ (count : ℕ). numbered_from 0 count) (sym (thread_count n 16));
+}
 
 -- the generated file is sound, whatever its number
 pub generated_sound : (n : ℕ) → IsSound (file_of n)
 generated_sound n = record {
+  versioned = inl refl;
+  own_names = (refl, (refl, (refl, (refl, tt))));
+  thread_names = names_are_of_threads n;
   named = names_declared declared names_are;
   few_objects = omega arith;
-  in_ranges = ranges_declared declared ranges_are;
+  in_ranges = ranges_declared 1 declared ranges_are;
   few_parts = omega arith;
   few_words = omega arith;
   numbered = numbered declared;

@@ -1,6 +1,9 @@
 -- One more of each: statements, transactions, threads.
-use Rattle.std.proofs.Common.{◌≡◌, ◌+◌, refl, ap, arith, ℕ, suc, List, [], ◌∷◌, ◌++◌, map, length}
+use Rattle.std.proofs.Common.{◌≡◌, ◌+◌, refl, ap, sym, ◌∙◌, arith, ℕ, suc, List, [], ◌∷◌, ◌++◌, map, length}
 use Rattle.sto_lang.specs.Statements.{Statements, Nothing, Ask, Sum, Diff, Choose, Repeat, Cancel, ◌then◌}
+use Rattle.sto_lang.specs.Drafts.{numbered_name}
+use Rattle.sto_lang.specs.Sound.{numbered_from}
+use Rattle.sto_lang.proofs.Differing.{numbers_last}
 use Rattle.sto_gen.specs.Draws.{next, state_after, transfer_after}
 use Rattle.sto_gen.specs.Generated.{transaction, transactions, state_before, threads}
 
@@ -32,6 +35,9 @@ one_more_thread state count = ap (λ n. threads state n) (next_is count)
 pub one_more_state : (count state : ℕ) → state_after 200 (state_before count state) ≡ state_before (count + 1) state
 unfolding state_before
 one_more_state count state = ap (λ n. state_before n state) (next_is count)
+
+pub one_more_name : (count : ℕ) → numbered_from 0 count ++ numbered_name count ∷ [] ≡ numbered_from 0 (count + 1)
+one_more_name count = sym (numbers_last count) ∙ ap (λ (n : ℕ). numbered_from 0 n) (next_is count)
 
 pub map_last : {X Y : Type 0} (f : X → Y) (xs : List X) (x : X) → map f (xs ++ x ∷ []) ≡ map f xs ++ f x ∷ []
 map_last f [] x = refl

@@ -7,6 +7,7 @@ use Rattle.sto_lang.specs.declared.arg.Arg.TheVariants.{Num, Var}
 use Rattle.sto_lang.specs.Objects.{Declaration}
 use Rattle.sto_lang.specs.Statements.{Statements, Nothing, Ask, Choose, ◌then◌}
 use Rattle.sto_lang.specs.Scripts.{Script, File}
+use Rattle.sto_lang.specs.Sound.{numbered_from}
 use Rattle.sto_gen.specs.declared.draws.Transfer.{Transfer}
 use Rattle.sto_gen.specs.Draws.{transfer_after, state_after}
 
@@ -74,6 +75,6 @@ unfoldable pub threads : ℕ → ℕ → List (List Script)
 threads state zero = []
 threads state (suc count) = threads state count ++ transactions count (state_before count state) 200 ∷ []
 
--- the file of a number has 16 threads
+-- the file of a number is of version 1 and has 16 threads
 abbrev pub file_of : ℕ → File
-file_of n = record { declarations = objects; threads = threads n 16; schedule = None }
+file_of n = record { version = 1; declarations = objects; names = numbered_from 0 16; threads = threads n 16; schedule = None }

@@ -1,15 +1,15 @@
 //! The whole generated file.
 ghost use Rattle.std.specs.Prelude.{◌≡◌, ◌<◌, ◌^◌, length, IfOk, OnOk, map};
 ghost use Rattle.std.specs.Str.{IsAscii};
-ghost use Rattle.sto_lang.specs.Views.{declaration, script, file};
-ghost use Rattle.sto_lang.specs.Sound.{IsSound};
+ghost use Rattle.sto_lang.specs.Views.{declaration, script, threads_of, names_of, file};
+ghost use Rattle.sto_lang.specs.Sound.{IsSound, numbered_from};
 ghost use Rattle.sto_gen.specs.Draws.{state_after};
 ghost use Rattle.sto_gen.specs.Generated.{objects, transactions, threads, file_of};
 
 use crate::draws::Draws;
 use crate::transaction::transaction;
 use std::alloc::Global;
-use sto_lang::{Decl, Decls, File, Scripts, Text, Threads};
+use sto_lang::{Decl, Decls, File, Scripts, Text, Thread, Threads, numbered_name};
 use sto_model::Shape;
 use sto_part::{List, NoMemory};
 
@@ -63,17 +63,20 @@ fn transactions(alloc: Global, thread: u64, draws: &mut Draws) -> Result<Scripts
 
 /// The 16 threads.
 fn threads(alloc: Global, number: u64) -> Result<Threads, NoMemory>
-    ensures { IfOk result (λ l. map (λ thread. map script thread.items) l.items ≡ threads number 16) }
+    ensures threads { IfOk result (λ l. threads_of l.items ≡ threads number 16) }
+    ensures names { IfOk result (λ l. names_of l.items ≡ numbered_from 0 16) }
 {
     let mut draws = Draws { state: number };
     let mut threads = List::new(alloc);
     for thread in 0..16 {
-        threads.push(transactions(alloc, thread, &mut draws)?)?;
+        let name = numbered_name(alloc, thread as u32)?;
+        let scripts = transactions(alloc, thread, &mut draws)?;
+        threads.push(Thread { name, scripts })?;
     }
     Ok(threads)
 }
 
-/// The file that a number generates: 16 threads of 200 transactions each. A transaction moves an
+/// The file that a number generates, of version 1: 16 threads of 200 transactions each. A transaction moves an
 /// amount between two of 64 accounts, where the first has as much, and counts the move. Each 20th
 /// of a thread is noted in a log, and each 25th in a table of owners.
 ///
@@ -85,6 +88,7 @@ pub fn generate(alloc: Global, number: u64) -> Result<File, NoMemory>
     ensures sound { IfOk result (λ f. IsSound (file f)) }
 {
     Ok(File {
+        version: 1,
         decls: objects(alloc)?,
         threads: threads(alloc, number)?,
         schedule: None,

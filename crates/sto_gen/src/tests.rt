@@ -21,7 +21,11 @@ fn first_draws_of_one(rt: HostRuntime) {
 fn example_file_of_one(rt: HostRuntime) -> Result<(), Fail> {
     let file = generate(rt.alloc(), 1)?;
     let thread = file.threads.as_slice().first().expect(&rt, "a thread");
-    let script = thread.as_slice().first().expect(&rt, "a transaction");
+    let script = thread
+        .scripts
+        .as_slice()
+        .first()
+        .expect(&rt, "a transaction");
     match script.body.as_slice() {
         [Stmt::Ask { a, .. }, Stmt::Choose { b, yes, .. }] => {
             assert_eq!(rt; *a, Arg::Num(22));
@@ -39,7 +43,7 @@ fn size_of_the_last_file(rt: HostRuntime) -> Result<(), Fail> {
     assert_eq!(rt; file.decls.len(), 4);
     assert_eq!(rt; file.threads.len(), 16);
     for thread in file.threads.as_slice() {
-        assert_eq!(rt; thread.len(), 200);
+        assert_eq!(rt; thread.scripts.len(), 200);
     }
     Ok(())
 }

@@ -11,8 +11,10 @@ pub mod FittingLemmas
 pub mod InnerLemmas
 pub mod FaultLemmas
 pub mod AsciiLemmas
+pub mod Differing
 pub mod SoundStatements
 pub mod SoundCalls
+pub mod Branches
 pub mod SoundForms
 pub mod SoundObjects
 pub mod SoundNumbers
@@ -21,3 +23,5 @@ pub mod SoundPlaces
 pub mod SoundLines
 pub mod SoundSteps
 pub mod SoundFiles
+pub mod VersionLemmas
+pub mod WorkedRows

@@ -1,5 +1,5 @@
 -- Each file that can be read is sound.
-use Rattle.std.proofs.Common.{◌≡◌, ◌≤◌, ◌<◌, ℕ, suc, List, [], ◌∷◌, length, refl, sym, ◌∙◌, arith, Bool, true, false, Option, None, Some, Result, Ok, Err, IfOk, cond, nat_lt, subst, slice_get, map}
+use Rattle.std.proofs.Common.{◌≡◌, ◌≤◌, ◌<◌, ℕ, suc, List, [], ◌∷◌, length, refl, sym, ◌∙◌, arith, Bool, true, false, Option, None, Some, Result, Ok, Err, IfOk, cond, nat_lt, subst, slice_get, map, inl}
 use Rattle.std.specs.Prelude.{All}
 use Rattle.std.specs.List.{list_all}
 use Rattle.std.proofs.lemmas.List.{length-map}
@@ -17,25 +17,28 @@ use Rattle.sto_lang.specs.Objects.{Object, shapes_in, declarations_of, shapes_of
 use Rattle.sto_lang.specs.Drafts.{Draft, Begun, opening, with_form}
 use Rattle.sto_lang.specs.Faults.{fault_of}
 use Rattle.sto_lang.specs.Files.{fault, is_allowed, unless, with_line_of, with_words, with_line, whole, ◌>>=◌, with_lines, file_of, IsFile}
-use Rattle.sto_lang.specs.Sound.{HasRanges, IsNumbered, IsSoundScript, IsSound}
+use Rattle.sto_lang.specs.Sound.{HasRanges, AllDiffer, IsNumbered, IsSoundScript, IsSound}
 use Rattle.sto_lang.specs.Sizes.{calls_of}
 use Rattle.sto_lang.proofs.SoundStatements.{calls_weigh}
 use Rattle.sto_lang.proofs.SoundLines.{all_get}
 use Rattle.sto_lang.specs.declared.file.File as code
 use Rattle.sto_lang.specs.Views.{declaration, file as seen}
 use Rattle.sto_lang.proofs.SoundForms.{Well, NamesWell, form_well}
-use Rattle.sto_lang.proofs.SoundObjects.{names_declared, ranges_declared, total_declared, numbered, declaration_count, shapes_are, order_count}
+use Rattle.sto_lang.proofs.SoundObjects.{names_declared, same_names, ranges_declared, total_declared, numbered, declaration_count, shapes_are, order_count}
 use Rattle.sto_lang.proofs.SoundNumbers.{own_numbers}
 use Rattle.sto_lang.proofs.SoundDrafts.{IsSoundDraft}
 use Rattle.sto_lang.proofs.SoundSteps.{no_fault, form_sound}
 
 -- before the first line
-opening_sound : IsSoundDraft opening
+pub opening_sound : IsSoundDraft opening
 opening_sound =
     record {
+      versioned = inl refl;
       named = All-nil (λ (o : Object). is_name o.name ≡ true);
+      own_names = tt;
+      thread_names = record { each = refl; are_names = All-nil (λ (n : List ℕ). is_name n ≡ true); differ = tt; numbered = λ e. refl };
       few_objects = omega arith;
-      in_ranges = All-nil (λ (o : Object). HasRanges o.shape);
+      in_ranges = All-nil (λ (o : Object). HasRanges 1 o.shape);
       few_parts = omega arith;
       few_words = omega arith;
       few_threads = omega arith;
@@ -47,17 +50,17 @@ opening_sound =
       scheduled = tt;
     }
 
-by_fault : (d : Draft) (number : ℕ) (later : List (List ℕ)) (form : Form) (found : Option FaultKind) → fault_of d later form ≡ found → IsSoundDraft d → NamesWell form → IfOk (unless (with_form d form) number found) IsSoundDraft
+by_fault : (d : Draft) (number : ℕ) (later : List (List ℕ)) (form : Form) (found : Option FaultKind) → fault_of d later form ≡ found → IsSoundDraft d → NamesWell d.version form → IfOk (unless (with_form d form) number found) IsSoundDraft
 by_fault d number later form None e s named = form_sound d later form s named (no_fault d later form e)
 by_fault d number later form (Some kind) e s named = tt
 
-line_of_sound : (d : Draft) (number : ℕ) (later : List (List ℕ)) (form : Option Form) → IsSoundDraft d → Well form → IfOk (with_line_of d number later form) IsSoundDraft
+line_of_sound : (d : Draft) (number : ℕ) (later : List (List ℕ)) (form : Option Form) → IsSoundDraft d → Well d.version form → IfOk (with_line_of d number later form) IsSoundDraft
 line_of_sound d number later None s named = tt
 line_of_sound d number later (Some form) s named = by_fault d number later form (fault_of d later form) refl s named
 
 words_sound : (d : Draft) (number : ℕ) (later words : List (List ℕ)) → IsSoundDraft d → IfOk (with_words d number later words) IsSoundDraft
 words_sound d number later [] s = s
-words_sound d number later (word ∷ words) s = line_of_sound d number later (form_of word words) s (form_well word words)
+words_sound d number later (word ∷ words) s = line_of_sound d number later (form_of d.version word words) s (form_well d.version word words)
 
 by_bytes : (allowed : Bool) (r : Result Draft ScriptFault) (number : ℕ) → IfOk r IsSoundDraft → IfOk (cond allowed r (fault number BadByte)) IsSoundDraft
 by_bytes true r number h = h
@@ -67,12 +70,15 @@ line_sound : (d : Draft) (number : ℕ) (later : List (List ℕ)) (line : List �
 line_sound d number later line s = by_bytes (list_all is_allowed line) (with_words d number later (words_of line)) number (words_sound d number later (words_of line) s)
 
 -- a file by its objects
-file_sound : (d : Draft) → IsSoundDraft d → IsSound (record { declarations = declarations_of d.objects; threads = d.threads; schedule = d.schedule })
+file_sound : (d : Draft) → IsSoundDraft d → IsSound (record { version = d.version; declarations = declarations_of d.objects; names = d.names; threads = d.threads; schedule = d.schedule })
 file_sound d s =
     record {
+      versioned = s.versioned;
       named = names_declared d.objects s.named;
+      own_names = subst AllDiffer (sym (same_names d.objects)) s.own_names;
+      thread_names = s.thread_names;
       few_objects = omega (arith, declaration_count d.objects, s.few_objects);
-      in_ranges = ranges_declared d.objects s.in_ranges;
+      in_ranges = ranges_declared d.version d.objects s.in_ranges;
       few_parts = omega (arith, total_declared part_count d.objects, s.few_parts);
       few_words = omega (arith, total_declared word_count d.objects, s.few_words);
       numbered = numbered d.objects;
@@ -86,7 +92,7 @@ file_sound d s =
 
 whole_sound : (d : Draft) (number : ℕ) (inside : Option Begun) (file : File) → IsSoundDraft d → whole d number inside ≡ Ok file → IsSound file
 whole_sound d number None file s e =
-    let same : record { declarations = declarations_of d.objects; threads = d.threads; schedule = d.schedule } ≡ file = cc in
+    let same : record { version = d.version; declarations = declarations_of d.objects; names = d.names; threads = d.threads; schedule = d.schedule } ≡ file = cc in
     subst IsSound same (file_sound d s)
 whole_sound d number (Some t) file s e = absurd cc
 

@@ -1,6 +1,5 @@
 -- What a line declares or assigns has a name.
-use Rattle.std.proofs.Common.{◌≡◌, ℕ, List, [], ◌∷◌, refl, Bool, true, false, not, ◌&&◌, Option, None, Some, cond, option_and_then}
-use Rattle.std.specs.Option.{option_map}
+use Rattle.std.proofs.Common.{◌≡◌, ℕ, List, [], ◌∷◌, refl, Bool, true, false, not, ◌&&◌, ◌==◌, Option, None, Some, cond}
 use Rattle.std.specs.Str.{bytes_eq}
 use Rattle.std.specs.Prelude.{codes}
 use Rattle.sto_form.specs.Words.{is_name}
@@ -8,132 +7,128 @@ use Rattle.sto_form.specs.declared.declared.Declared.{Declared}
 use Rattle.sto_form.specs.declared.operation.Operation.{Operation}
 use Rattle.sto_form.specs.declared.operation.Operation.TheVariants.{Compare}
 use Rattle.sto_form.specs.Operations.{operation_of, test_of, kinds_with}
-use Rattle.sto_form.specs.Forms.{Operand, Form, DeclareLine, ThreadLine, BeginLine, CallLine, SumLine, DiffLine, IfLine, ElseLine, EndLine, CancelLine, CommitLine, ScheduleLine, all_of, operand_of, entry_of, declaration, box_line, counter_line, array_line, hash_line, tree_line, alone, asked, call, test_line, call_line, sum_line, diff_line, if_line, repeat_line, schedule_line, assignment, acting, statement, form_of, is_empty}
+use Rattle.sto_form.specs.Forms.{Operand, Form, DeclareLine, ThreadLine, BeginLine, CallLine, SumLine, DiffLine, IfLine, ElseLine, EndLine, CancelLine, CommitLine, ScheduleLine, all_of, operand_of, entry_of, declaration, box_line, counter_line, array_line, hash_line, tree_line, alone, asked, call, test_line, call_line, sum_line, diff_line, if_line, repeat_line, schedule_line, assignment, acting, statement, form_of, is_empty, version_line, named_line, thread_line}
+use Rattle.sto_lang.proofs.Branches.{Where, either, where_true, where_false, after, made}
 
 -- no name, or one that is a name
 abbrev pub IsNamed : Option (List ℕ) → Type 0
 IsNamed None = Unit {0}
 IsNamed (Some name) = is_name name ≡ true
 
--- the name that a line declares or assigns is one
-abbrev pub NamesWell : Form → Type 0
-NamesWell (DeclareLine name declared) = is_name name ≡ true
-NamesWell (CallLine to operation object operands) = IsNamed to
-NamesWell (SumLine to a b) = is_name to ≡ true
-NamesWell (DiffLine to a b) = is_name to ≡ true
-NamesWell form = Unit {0}
+-- the name that a line declares or assigns is one; a thread has one in version 2 alone
+abbrev pub NamesWell : ℕ → Form → Type 0
+NamesWell version (DeclareLine name declared) = is_name name ≡ true
+NamesWell version (ThreadLine None) = (version == 2) ≡ false
+NamesWell version (ThreadLine (Some name)) = ((version == 2) ≡ true) × (is_name name ≡ true)
+NamesWell version (CallLine to operation object operands) = IsNamed to
+NamesWell version (SumLine to a b) = is_name to ≡ true
+NamesWell version (DiffLine to a b) = is_name to ≡ true
+NamesWell version form = Unit {0}
 
-abbrev pub Well : Option Form → Type 0
-Well None = Unit {0}
-Well (Some form) = NamesWell form
+abbrev pub Well : ℕ → Option Form → Type 0
+Well version form = Where (NamesWell version) form
 
-either : (b : Bool) (x y : Option Form) → Well x → Well y → Well (cond b x y)
-either true x y h k = h
-either false x y h k = k
+declares_well : (v : ℕ) (name : List ℕ) (declared : Declared) → Well v (declaration name declared)
+declares_well v name declared = where_true (NamesWell v) (is_name name) _ (λ h. h)
 
-where_true : (b : Bool) (x : Option Form) → (b ≡ true → Well x) → Well (cond b x None)
-where_true true x h = h refl
-where_true false x h = tt
+box_well : (v : ℕ) (words : List (List ℕ)) → Well v (box_line words)
+box_well v (name ∷ value ∷ []) = declares_well v name _
+box_well v words = tt
 
-after : {Y : Type 0} (o : Option Y) (f : Y → Option Form) → ((y : Y) → Well (f y)) → Well (option_and_then f o)
-after None f h = tt
-after (Some y) f h = h y
+counter_well : (v : ℕ) (words : List (List ℕ)) → Well v (counter_line words)
+counter_well v (name ∷ value ∷ []) = declares_well v name _
+counter_well v words = tt
 
-made : {Y : Type 0} (o : Option Y) (f : Y → Form) → ((y : Y) → NamesWell (f y)) → Well (option_map f o)
-made None f h = tt
-made (Some y) f h = h y
+array_well : (v : ℕ) (words : List (List ℕ)) → Well v (array_line words)
+array_well v (name ∷ len ∷ value ∷ []) = declares_well v name _
+array_well v words = tt
 
-declares_well : (name : List ℕ) (declared : Declared) → Well (declaration name declared)
-declares_well name declared = where_true (is_name name) _ (λ h. h)
+hash_well : (v : ℕ) (words : List (List ℕ)) → Well v (hash_line words)
+hash_well v (name ∷ buckets ∷ places ∷ []) = declares_well v name _
+hash_well v words = tt
 
-box_well : (words : List (List ℕ)) → Well (box_line words)
-box_well (name ∷ value ∷ []) = declares_well name _
-box_well words = tt
+tree_well : (v : ℕ) (words : List (List ℕ)) → Well v (tree_line words)
+tree_well v (name ∷ leaves ∷ []) = declares_well v name _
+tree_well v words = tt
 
-counter_well : (words : List (List ℕ)) → Well (counter_line words)
-counter_well (name ∷ value ∷ []) = declares_well name _
-counter_well words = tt
+alone_well : (v : ℕ) (form : Form) (words : List (List ℕ)) → NamesWell v form → Well v (alone form words)
+alone_well v form [] h = h
+alone_well v form (word ∷ words) h = tt
 
-array_well : (words : List (List ℕ)) → Well (array_line words)
-array_well (name ∷ len ∷ value ∷ []) = declares_well name _
-array_well words = tt
+asked_well : (v : ℕ) (to : Option (List ℕ)) (object : List ℕ) (operation : Operation) (operands : List Operand) → IsNamed to → Well v (asked to object operation operands)
+asked_well v to object operation operands h = where_true (NamesWell v) (is_name object && not (is_empty (kinds_with operation operands))) _ (λ t. h)
 
-hash_well : (words : List (List ℕ)) → Well (hash_line words)
-hash_well (name ∷ buckets ∷ places ∷ []) = declares_well name _
-hash_well words = tt
+call_well : (v : ℕ) (to : Option (List ℕ)) (object : List ℕ) (words : List (List ℕ)) (operation : Operation) → IsNamed to → Well v (call to object words operation)
+call_well v to object words operation h = after (NamesWell v) (all_of operand_of words) (asked to object operation) (λ operands. asked_well v to object operation operands h)
 
-tree_well : (words : List (List ℕ)) → Well (tree_line words)
-tree_well (name ∷ leaves ∷ []) = declares_well name _
-tree_well words = tt
+test_well : (v : ℕ) (to : Option (List ℕ)) (object : List ℕ) (words : List (List ℕ)) → IsNamed to → Well v (test_line to object words)
+test_well v to object [] h = tt
+test_well v to object (test ∷ words) h = after (NamesWell v) (test_of test) _ (λ t. call_well v to object words (Compare t) h)
 
-alone_well : (form : Form) (words : List (List ℕ)) → NamesWell form → Well (alone form words)
-alone_well form [] h = h
-alone_well form (word ∷ words) h = tt
+call_line_well : (v : ℕ) (to : Option (List ℕ)) (word : List ℕ) (words : List (List ℕ)) → IsNamed to → Well v (call_line to word words)
+call_line_well v to word [] h = tt
+call_line_well v to word (object ∷ words) h =
+    either (NamesWell v) (bytes_eq word (codes "test")) _ _ (test_well v to object words h) (after (NamesWell v) (operation_of word) (call to object words) (λ operation. call_well v to object words operation h))
 
-asked_well : (to : Option (List ℕ)) (object : List ℕ) (operation : Operation) (operands : List Operand) → IsNamed to → Well (asked to object operation operands)
-asked_well to object operation operands h = where_true (is_name object && not (is_empty (kinds_with operation operands))) _ (λ t. h)
+sum_well : (v : ℕ) (to : List ℕ) (words : List (List ℕ)) → is_name to ≡ true → Well v (sum_line to words)
+sum_well v to (a ∷ b ∷ []) h = after (NamesWell v) (operand_of a) _ (λ x. made (NamesWell v) (operand_of b) (λ y. SumLine to x y) (λ y. h))
+sum_well v to words h = tt
 
-call_well : (to : Option (List ℕ)) (object : List ℕ) (words : List (List ℕ)) (operation : Operation) → IsNamed to → Well (call to object words operation)
-call_well to object words operation h = after (all_of operand_of words) (asked to object operation) (λ operands. asked_well to object operation operands h)
+diff_well : (v : ℕ) (to : List ℕ) (words : List (List ℕ)) → is_name to ≡ true → Well v (diff_line to words)
+diff_well v to (a ∷ b ∷ []) h = after (NamesWell v) (operand_of a) _ (λ x. made (NamesWell v) (operand_of b) (λ y. DiffLine to x y) (λ y. h))
+diff_well v to words h = tt
 
-test_well : (to : Option (List ℕ)) (object : List ℕ) (words : List (List ℕ)) → IsNamed to → Well (test_line to object words)
-test_well to object [] h = tt
-test_well to object (test ∷ words) h = after (test_of test) _ (λ t. call_well to object words (Compare t) h)
+if_well : (v : ℕ) (words : List (List ℕ)) → Well v (if_line words)
+if_well v (a ∷ test ∷ b ∷ []) = after (NamesWell v) (operand_of a) _ (λ x. after (NamesWell v) (test_of test) _ (λ t. made (NamesWell v) (operand_of b) (λ y. IfLine x t y) (λ y. tt)))
+if_well v words = tt
 
-call_line_well : (to : Option (List ℕ)) (word : List ℕ) (words : List (List ℕ)) → IsNamed to → Well (call_line to word words)
-call_line_well to word [] h = tt
-call_line_well to word (object ∷ words) h =
-    either (bytes_eq word (codes "test")) _ _ (test_well to object words h) (after (operation_of word) (call to object words) (λ operation. call_well to object words operation h))
+repeat_well : (v : ℕ) (words : List (List ℕ)) → Well v (repeat_line words)
+repeat_well v (times ∷ []) = tt
+repeat_well v words = tt
 
-sum_well : (to : List ℕ) (words : List (List ℕ)) → is_name to ≡ true → Well (sum_line to words)
-sum_well to (a ∷ b ∷ []) h = after (operand_of a) _ (λ x. made (operand_of b) (λ y. SumLine to x y) (λ y. h))
-sum_well to words h = tt
+version_well : (v : ℕ) (words : List (List ℕ)) → Well v (version_line words)
+version_well v (version ∷ []) = tt
+version_well v words = tt
 
-diff_well : (to : List ℕ) (words : List (List ℕ)) → is_name to ≡ true → Well (diff_line to words)
-diff_well to (a ∷ b ∷ []) h = after (operand_of a) _ (λ x. made (operand_of b) (λ y. DiffLine to x y) (λ y. h))
-diff_well to words h = tt
+by_version : (v : ℕ) (second : Bool) → (v == 2) ≡ second → (words : List (List ℕ)) → Well v (cond second (named_line words) (alone (ThreadLine None) words))
+by_version v true e [] = tt
+by_version v true e (name ∷ []) = where_true (NamesWell v) (is_name name) _ (λ h. (e, h))
+by_version v true e (name ∷ other ∷ words) = tt
+by_version v false e words = alone_well v (ThreadLine None) words e
 
-if_well : (words : List (List ℕ)) → Well (if_line words)
-if_well (a ∷ test ∷ b ∷ []) = after (operand_of a) _ (λ x. after (test_of test) _ (λ t. made (operand_of b) (λ y. IfLine x t y) (λ y. tt)))
-if_well words = tt
+thread_well : (v : ℕ) (words : List (List ℕ)) → Well v (thread_line v words)
+thread_well v words = by_version v (v == 2) refl words
 
-repeat_well : (words : List (List ℕ)) → Well (repeat_line words)
-repeat_well (times ∷ []) = tt
-repeat_well words = tt
+schedule_well : (v : ℕ) (words : List (List ℕ)) → Well v (schedule_line v words)
+schedule_well v [] = tt
+schedule_well v (word ∷ words) = made (NamesWell v) (all_of (entry_of v) (word ∷ words)) ScheduleLine (λ entries. tt)
 
-schedule_well : (words : List (List ℕ)) → Well (schedule_line words)
-schedule_well [] = tt
-schedule_well (word ∷ words) = made (all_of entry_of (word ∷ words)) ScheduleLine (λ entries. tt)
+assignment_well : (v : ℕ) (to : List ℕ) (words : List (List ℕ)) → Well v (assignment to words)
+assignment_well v to [] = tt
+assignment_well v to (word ∷ words) =
+    where_false (NamesWell v) (is_name to) _ (λ h. either (NamesWell v) (bytes_eq word (codes "sum")) _ _ (sum_well v to words h) (either (NamesWell v) (bytes_eq word (codes "diff")) _ _ (diff_well v to words h) (call_line_well v (Some to) word words h)))
 
-unless_name : (b : Bool) (x : Option Form) → (b ≡ true → Well x) → Well (cond (not b) None x)
-unless_name true x h = h refl
-unless_name false x h = tt
+acting_well : (v : ℕ) (word : List ℕ) (words : List (List ℕ)) → Well v (acting word words)
+acting_well v word words =
+    either (NamesWell v) (bytes_eq word (codes "if")) _ _ (if_well v words)
+    (either (NamesWell v) (bytes_eq word (codes "else")) _ _ (alone_well v ElseLine words tt)
+    (either (NamesWell v) (bytes_eq word (codes "repeat")) _ _ (repeat_well v words)
+    (either (NamesWell v) (bytes_eq word (codes "end")) _ _ (alone_well v EndLine words tt)
+    (either (NamesWell v) (bytes_eq word (codes "cancel")) _ _ (alone_well v CancelLine words tt)
+    (either (NamesWell v) (bytes_eq word (codes "commit")) _ _ (alone_well v CommitLine words tt) (call_line_well v None word words tt))))))
 
-assignment_well : (to : List ℕ) (words : List (List ℕ)) → Well (assignment to words)
-assignment_well to [] = tt
-assignment_well to (word ∷ words) =
-    unless_name (is_name to) _ (λ h. either (bytes_eq word (codes "sum")) _ _ (sum_well to words h) (either (bytes_eq word (codes "diff")) _ _ (diff_well to words h) (call_line_well (Some to) word words h)))
+statement_well : (v : ℕ) (word : List ℕ) (words : List (List ℕ)) → Well v (statement v word words)
+statement_well v word words =
+    either (NamesWell v) (bytes_eq word (codes "sto")) _ _ (version_well v words)
+    (either (NamesWell v) (bytes_eq word (codes "box")) _ _ (box_well v words)
+    (either (NamesWell v) (bytes_eq word (codes "counter")) _ _ (counter_well v words)
+    (either (NamesWell v) (bytes_eq word (codes "array")) _ _ (array_well v words)
+    (either (NamesWell v) (bytes_eq word (codes "hash")) _ _ (hash_well v words)
+    (either (NamesWell v) (bytes_eq word (codes "tree")) _ _ (tree_well v words)
+    (either (NamesWell v) (bytes_eq word (codes "thread")) _ _ (thread_well v words)
+    (either (NamesWell v) (bytes_eq word (codes "begin")) _ _ (alone_well v BeginLine words tt)
+    (either (NamesWell v) (bytes_eq word (codes "schedule")) _ _ (schedule_well v words) (acting_well v word words)))))))))
 
-acting_well : (word : List ℕ) (words : List (List ℕ)) → Well (acting word words)
-acting_well word words =
-    either (bytes_eq word (codes "if")) _ _ (if_well words)
-    (either (bytes_eq word (codes "else")) _ _ (alone_well ElseLine words tt)
-    (either (bytes_eq word (codes "repeat")) _ _ (repeat_well words)
-    (either (bytes_eq word (codes "end")) _ _ (alone_well EndLine words tt)
-    (either (bytes_eq word (codes "cancel")) _ _ (alone_well CancelLine words tt)
-    (either (bytes_eq word (codes "commit")) _ _ (alone_well CommitLine words tt) (call_line_well None word words tt))))))
-
-statement_well : (word : List ℕ) (words : List (List ℕ)) → Well (statement word words)
-statement_well word words =
-    either (bytes_eq word (codes "box")) _ _ (box_well words)
-    (either (bytes_eq word (codes "counter")) _ _ (counter_well words)
-    (either (bytes_eq word (codes "array")) _ _ (array_well words)
-    (either (bytes_eq word (codes "hash")) _ _ (hash_well words)
-    (either (bytes_eq word (codes "tree")) _ _ (tree_well words)
-    (either (bytes_eq word (codes "thread")) _ _ (alone_well ThreadLine words tt)
-    (either (bytes_eq word (codes "begin")) _ _ (alone_well BeginLine words tt)
-    (either (bytes_eq word (codes "schedule")) _ _ (schedule_well words) (acting_well word words))))))))
-
-pub form_well : (word : List ℕ) (words : List (List ℕ)) → Well (form_of word words)
-form_well word [] = statement_well word []
-form_well word (second ∷ words) = either (bytes_eq second (codes "=")) _ _ (assignment_well word words) (statement_well word (second ∷ words))
+pub form_well : (v : ℕ) (word : List ℕ) (words : List (List ℕ)) → Well v (form_of v word words)
+form_well v word [] = statement_well v word []
+form_well v word (second ∷ words) = either (NamesWell v) (bytes_eq second (codes "=")) _ _ (assignment_well v word words) (statement_well v word (second ∷ words))

@@ -17,14 +17,16 @@ mod range;
 mod reader;
 mod stmt;
 mod text;
+mod thread;
 mod turns;
 mod usage;
 mod weight;
 
 pub use arg::Arg;
 pub use fault::{FaultKind, ReadError, ScriptFault};
-pub use file::{Decl, Decls, File, Names, Schedule, Script, Scripts, Threads, Turns};
+pub use file::{Decl, Decls, File, Names, Schedule, Script, Scripts, Thread, Threads, Turns};
 pub use order::shapes;
 pub use reader::read;
 pub use stmt::{Stmt, Stmts};
 pub use text::Text;
+pub use thread::numbered_name;

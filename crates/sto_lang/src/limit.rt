@@ -1,23 +1,24 @@
 //! The limits, each tested at the line that goes past it.
-ghost use Rattle.std.specs.Prelude.{◌≡◌, ◌+◌, not, length, nat_lt, ◌||◌};
+ghost use Rattle.std.specs.Prelude.{◌≡◌, ◌+◌, not, length, nat_lt, ◌||◌, true};
 ghost use Rattle.std.specs.List.{list_all};
-ghost use Rattle.sto_form.specs.Views.{entries as entries_of, name_option, form as form_of};
+ghost use Rattle.sto_form.specs.Views.{entries as entries_of, entry as entry_of, thread_word, name_option, form as form_of};
 ghost use Rattle.sto_lang.specs.Drafts.{variables_in, with_assigned};
 ghost use Rattle.sto_lang.specs.Shapes.{is_in_ranges, shape_of};
-ghost use Rattle.sto_lang.specs.Limits.{is_full, is_deep, is_heavy, is_in_range, is_turn, is_beyond};
+ghost use Rattle.sto_lang.specs.Limits.{is_full, is_deep, is_heavy, is_in_range, has_range, has_thread, is_turn, is_beyond, most_threads};
 ghost use Rattle.sto_lang.specs.DraftViews.{draft_of};
 
 use crate::draft::Draft;
 use crate::range::{in_range, is_in_ranges, natural, shape};
 use crate::turns::own_weight;
-use sto_form::{Declared, Entries, Entry, Form, Name};
+use sto_form::{Declared, Entries, Entry, Form, Name, ThreadWord};
 
-#[tactic(auto, using(crate::proofs::LimitLemmas::small_parts, crate::proofs::LimitLemmas::small_words))]
+#[tactic(auto, using(crate::proofs::LimitLemmas::widest, crate::proofs::LimitLemmas::small_parts, crate::proofs::LimitLemmas::small_words))]
 /// Whether a declaration has a number outside its range, or goes past a limit.
 fn is_declared_beyond(draft: &Draft, declared: &Declared) -> bool
-    ensures { result ≡ (not (is_in_ranges declared.now) || is_full draft.now.objects (shape_of declared.now)) }
+    ensures { result ≡ (not (is_in_ranges draft.now.version declared.now) || is_full draft.now.version draft.now.objects (shape_of declared.now)) }
 {
-    !is_in_ranges(declared) || draft.objects.is_full(&shape(declared))
+    let version = draft.version;
+    !is_in_ranges(version, declared) || draft.objects.is_full(version, &shape(declared))
 }
 
 #[tactic(auto, using(crate::proofs::LimitLemmas::upon_count))]
@@ -45,12 +46,39 @@ fn is_heavy(draft: &Draft) -> bool
 }
 
 /// Whether an entry has the number of a thread of the file and 1 to 1,000,000 steps.
-fn is_turn(threads: u32, entry: Entry) -> bool
-    ensures { result ≡ is_turn threads entry }
+fn is_turn(threads: u32, entry: Entry<'_>) -> bool
+    ensures { result ≡ is_turn threads (entry_of entry.entry) }
 {
-    in_range(0, 1_000_000, entry.thread)
+    has_range(entry.thread)
         && in_range(1, 1_000_000, entry.steps)
-        && natural(entry.thread) < threads
+        && has_thread(threads, entry.thread)
+}
+
+fn has_range(word: ThreadWord<'_>) -> bool
+    ensures { result ≡ has_range (thread_word word.entry) }
+{
+    match word {
+        ThreadWord::Numbered(value) => in_range(0, 1_000_000, value),
+        ThreadWord::Named(_) => true,
+    }
+}
+
+#[tactic(auto, using(crate::proofs::LimitLemmas::at_most))]
+fn has_thread(threads: u32, word: ThreadWord<'_>) -> bool
+    requires { has_range (thread_word word) ≡ true }
+    ensures { result ≡ has_thread threads (thread_word word.entry) }
+{
+    match word {
+        ThreadWord::Numbered(value) => natural(value) < threads,
+        ThreadWord::Named(_) => true,
+    }
+}
+
+/// The greatest number of threads.
+fn most_threads(version: u32) -> u64
+    ensures { result ≡ most_threads version }
+{
+    if version == 2 { 64 } else { 16 }
 }
 
 fn are_turns(threads: u32, entries: Entries<'_>) -> bool
@@ -85,7 +113,8 @@ pub(crate) fn is_beyond(draft: &Draft, form: &Form<'_>) -> bool
 {
     match form {
         Form::Declare { declared, .. } => is_declared_beyond(draft, declared),
-        Form::Thread => 16 < u64::from(draft.threads.len()) + 1,
+        Form::Version { version } => !in_range(2, 2, *version),
+        Form::Thread { .. } => { most_threads(draft.version) < u64::from(draft.threads.len()) + 1 }
         Form::Begin => 10_000 < u64::from(draft.transactions) + 1,
         Form::If { .. } => is_deep(draft),
         Form::Repeat { times } => !in_range(0, 4096, *times) || is_deep(draft),

@@ -1,10 +1,11 @@
 //! Reads a script.
-ghost use Rattle.std.specs.Prelude.{◌≡◌, ◌+◌, ◌^◌, ◌<◌, ◌≤◌, length};
+ghost use Rattle.std.specs.Prelude.{◌≡◌, ◌+◌, ◌^◌, ◌<◌, ◌≤◌, length, IfOk};
 ghost use Rattle.std.specs.List.{list_all};
 ghost use Rattle.sto_form.specs.Lines.{lines_of};
 ghost use Rattle.sto_lang.specs.Drafts.{opening};
 ghost use Rattle.sto_lang.specs.Files.{is_allowed, with_line, with_lines, whole, file_of};
 ghost use Rattle.sto_lang.specs.Reads.{Gives};
+ghost use Rattle.sto_lang.specs.Versions.{version_of};
 ghost use Rattle.sto_lang.specs.Views.{file};
 ghost use Rattle.sto_lang.specs.DraftViews.{draft_of};
 
@@ -54,7 +55,7 @@ impl Draft {
         let Some((word, rest)) = next_word(line) else {
             return Ok(self);
         };
-        let Some(form) = form_of(word, rest) else {
+        let Some(form) = form_of(self.version, word, rest) else {
             return Err(fault(number, FaultKind::BadLine));
         };
         match fault_of(&self, later, &form) {
@@ -68,6 +69,7 @@ impl Draft {
         ensures { Gives file result (whole (draft_of self) number (draft_of self).inside) }
     {
         let Draft {
+            version,
             objects,
             threads,
             begun,
@@ -80,6 +82,7 @@ impl Draft {
             None => {
                 let decls = objects.into_decls(alloc)?;
                 Ok(File {
+                    version,
                     decls,
                     threads,
                     schedule,
@@ -104,11 +107,14 @@ fn read_lines(alloc: Global, bytes: &[u8]) -> Result<File, ReadError>
     draft.finish(alloc, number)
 }
 
+#[tactic(auto, using(crate::proofs::VersionLemmas::read_version))]
 /// The file that the bytes are, or their first fault.
 ///
 /// A file comes exactly where no fault stands in the bytes, and else the first fault in line order.
+/// Its version is 2 where the first line with words is `sto 2`, and else 1.
 pub fn read(alloc: Global, bytes: &[u8]) -> Result<File, ReadError>
-    ensures { Gives file result (file_of bytes.now) }
+    ensures given { Gives file result (file_of bytes.now) }
+    ensures version { IfOk result (λ f. f.version ≡ version_of bytes.now) }
 {
     if bytes.len() > MOST_BYTES {
         return Err(fault(0, FaultKind::TooLarge));

@@ -5,12 +5,14 @@ ghost use Rattle.sto_form.specs.Views.{entries as entries_of};
 ghost use Rattle.sto_lang.specs.Limits.{is_in_range};
 ghost use Rattle.sto_lang.specs.Drafts.{turns_of, script_of};
 ghost use Rattle.sto_lang.specs.BegunViews.{begun_of};
+ghost use Rattle.sto_lang.specs.Views.{names_of};
 
 use crate::begun::Begun;
 use crate::objects::Objects;
 use crate::range::natural;
+use crate::thread::thread_number;
 use crate::weight::weight;
-use crate::{Schedule, Turns};
+use crate::{Schedule, Thread, Turns};
 use std::alloc::Global;
 use sto_form::Entries;
 use sto_part::{List, NoMemory};
@@ -23,15 +25,20 @@ pub(crate) fn own_weight(objects: &Objects, begun: &Begun) -> u64
 }
 
 /// The entries of a schedule.
-pub(crate) fn turns(alloc: Global, entries: Entries<'_>) -> Result<Schedule, NoMemory>
-    requires { list_all is_in_range (entries_of entries) ≡ true }
-    ensures { IfOk result (λ s. s.items ≡ map turns_of (entries_of entries.entry)) }
+pub(crate) fn turns(
+    alloc: Global,
+    threads: &[Thread],
+    entries: Entries<'_>,
+) -> Result<Schedule, NoMemory>
+    requires few { length threads.now < 2 ^ 32 }
+    requires ranges { list_all is_in_range (entries_of entries) ≡ true }
+    ensures { IfOk result (λ s. s.items ≡ map (turns_of (names_of threads.now)) (entries_of entries.entry)) }
 {
     let mut made = List::new(alloc);
     let mut rest = entries;
     while let Some((entry, after)) = rest.next() {
         made.push(Turns {
-            thread: natural(entry.thread),
+            thread: thread_number(threads, entry.thread),
             steps: natural(entry.steps),
         })?;
         rest = after;

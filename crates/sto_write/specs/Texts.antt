@@ -11,11 +11,10 @@ use Rattle.sto_form.specs.Kinds.{Kind, Box, Counter}
 use Rattle.sto_lang.specs.Shapes.{kind_of}
 use Rattle.sto_form.specs.declared.declared.Declared.{Declared}
 use Rattle.sto_form.specs.declared.declared.Declared.TheVariants as declares
-use Rattle.sto_form.specs.declared.entry.Entry.{Entry}
 use Rattle.sto_form.specs.declared.operation.Operation.{Operation}
 use Rattle.sto_form.specs.declared.operation.Operation.TheVariants.{Get, Set, Add, Compare, Take, Put, Remove, Has, Len, Next, Count, Scan}
 use Rattle.sto_form.specs.Operations.{operation_word, test_word}
-use Rattle.sto_form.specs.Forms.{Operand, Number, Variable, Form, DeclareLine, ThreadLine, BeginLine, CallLine, SumLine, DiffLine, IfLine, ElseLine, RepeatLine, EndLine, CancelLine, CommitLine, ScheduleLine}
+use Rattle.sto_form.specs.Forms.{Operand, Number, Variable, ThreadWord, Numbered, Named, Entry, Form, VersionLine, DeclareLine, ThreadLine, BeginLine, CallLine, SumLine, DiffLine, IfLine, ElseLine, RepeatLine, EndLine, CancelLine, CommitLine, ScheduleLine}
 use Rattle.sto_lang.specs.declared.arg.Arg.{Arg}
 use Rattle.sto_lang.specs.declared.arg.Arg.TheVariants.{Num, Var}
 use Rattle.sto_lang.specs.declared.file.Turns.{Turns}
@@ -34,8 +33,12 @@ abbrev pub operand_word : Operand → List ℕ
 operand_word (Number value) = number_word value
 operand_word (Variable name) = name
 
+abbrev pub thread_text : ThreadWord → List ℕ
+thread_text (Numbered value) = number_word value
+thread_text (Named name) = name
+
 abbrev pub entry_word : Entry → List ℕ
-entry_word entry = number_word entry.thread ++ 58 ∷ number_word entry.steps
+entry_word entry = thread_text entry.thread ++ 58 ∷ number_word entry.steps
 
 abbrev pub declare_words : List ℕ → Declared → List (List ℕ)
 declare_words name (declares.Box value) = codes "box" ∷ name ∷ number_word value ∷ []
@@ -55,7 +58,9 @@ to_words (Some name) = name ∷ codes "=" ∷ []
 
 abbrev pub form_words : Form → List (List ℕ)
 form_words (DeclareLine name declared) = declare_words name declared
-form_words ThreadLine = codes "thread" ∷ []
+form_words (VersionLine version) = codes "sto" ∷ number_word version ∷ []
+form_words (ThreadLine None) = codes "thread" ∷ []
+form_words (ThreadLine (Some name)) = codes "thread" ∷ name ∷ []
 form_words BeginLine = codes "begin" ∷ []
 form_words (CallLine to operation object operands) = to_words to ++ operation_word operation ∷ object ∷ call_words operation operands
 form_words (SumLine to a b) = to ∷ codes "=" ∷ codes "sum" ∷ operand_word a ∷ operand_word b ∷ []
@@ -150,18 +155,42 @@ statement_lines ds vs (Cancel rest) = CancelLine ∷ statement_lines ds vs rest
 abbrev pub script_lines : List Declaration → Script → List Form
 script_lines ds script = BeginLine ∷ statement_lines ds script.variables script.body ++ CommitLine ∷ []
 
-abbrev pub thread_lines : List Declaration → List Script → List Form
-thread_lines ds thread = ThreadLine ∷ flat_map (script_lines ds) thread
+-- the name of a thread on its line
+abbrev pub name_on_line : ℕ → List ℕ → Option (List ℕ)
+name_on_line version name = if version == 2 then Some name else None
 
-abbrev pub entry_for : Turns → Entry
-entry_for turns = record { thread = whole_number turns.thread; steps = whole_number turns.steps }
+abbrev pub thread_lines : ℕ → List Declaration → List ℕ → List Script → List Form
+thread_lines version ds name thread = ThreadLine (name_on_line version name) ∷ flat_map (script_lines ds) thread
 
-abbrev pub schedule_lines : Option (List Turns) → List Form
-schedule_lines None = []
-schedule_lines (Some schedule) = ScheduleLine (map entry_for schedule) ∷ []
+-- the threads beside their names
+abbrev pub threads_lines : ℕ → List Declaration → List (List ℕ) → List (List Script) → List Form
+threads_lines version ds [] threads = []
+threads_lines version ds names [] = []
+threads_lines version ds (name ∷ names) (thread ∷ threads) = thread_lines version ds name thread ++ threads_lines version ds names threads
+
+-- what names a thread in an entry
+abbrev pub word_for : ℕ → List (List ℕ) → ℕ → ThreadWord
+word_for version names number = if version == 2 then Named (variable_name names number) else Numbered (whole_number number)
+
+abbrev pub entry_for : ℕ → List (List ℕ) → Turns → Entry
+entry_for version names turns = record { thread = word_for version names turns.thread; steps = whole_number turns.steps }
+
+abbrev pub schedule_lines : ℕ → List (List ℕ) → Option (List Turns) → List Form
+schedule_lines version names None = []
+schedule_lines version names (Some schedule) = ScheduleLine (map (entry_for version names) schedule) ∷ []
+
+-- version 1 has no line of its own
+abbrev pub version_lines : ℕ → List Form
+version_lines version = if version == 2 then VersionLine (whole_number 2) ∷ [] else []
+
+-- the lines of a file after that of its version
+abbrev pub body_lines : File → List Form
+body_lines file =
+    map declare_line file.declarations ++ threads_lines file.version file.declarations file.names file.threads
+    ++ schedule_lines file.version file.names file.schedule
 
 abbrev pub lines_for : File → List Form
-lines_for file = map declare_line file.declarations ++ flat_map (thread_lines file.declarations) file.threads ++ schedule_lines file.schedule
+lines_for file = version_lines file.version ++ body_lines file
 
 -- one line for each form, its words separated by one space
 abbrev pub line_text : Form → List ℕ
@@ -169,3 +198,7 @@ line_text form = join_with_byte 32 (form_words form) ++ 10 ∷ []
 
 abbrev pub text_of : File → List ℕ
 text_of file = flat_map line_text (lines_for file)
+
+-- the file with its version set to 2
+abbrev pub upgraded : File → File
+upgraded file = record file { version = 2 }

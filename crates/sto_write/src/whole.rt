@@ -4,15 +4,16 @@ ghost use Rattle.std.specs.List.{list_all};
 ghost use Rattle.std.specs.Option.{option_map};
 ghost use Rattle.std.specs.Fmt.{signed_decimal};
 ghost use Rattle.sto_lang.specs.Ascii.{is_ascii};
-ghost use Rattle.sto_lang.specs.Views.{declaration, script as script_of, file as file_of};
+ghost use Rattle.sto_lang.specs.Views.{declaration, script as script_of, names_of, file as file_of};
+ghost use Rattle.sto_form.specs.Forms.{ThreadLine};
 ghost use Rattle.sto_write.specs.Laws.{ReadsAs};
-ghost use Rattle.sto_write.specs.Texts.{declare_line, script_lines, thread_lines, schedule_lines, entry_for, entry_word, line_text, text_of};
+ghost use Rattle.sto_write.specs.Texts.{declare_line, script_lines, version_lines, name_on_line, thread_lines, schedule_lines, word_for, thread_text, entry_for, entry_word, line_text, text_of};
 
 use crate::line::push_alone;
 use crate::statement::push_statements;
 use crate::word::push_number;
 use std::alloc::Global;
-use sto_lang::{Decl, File, Schedule, Script, Scripts, Text, Turns};
+use sto_lang::{Decl, File, Schedule, Script, Text, Thread, Turns};
 use sto_model::Shape;
 use sto_part::NoMemory;
 
@@ -93,51 +94,119 @@ fn push_scripts(out: &mut Text, decls: &[Decl], scripts: &[Script]) -> Result<()
 }
 
 /// Adds a thread.
-fn push_thread(out: &mut Text, decls: &[Decl], thread: &Scripts) -> Result<(), NoMemory>
-    ensures { OnOk result (out.new.items ≡ out.old.items ++ flat_map line_text (thread_lines (map declaration decls.now) (map script_of thread.now.items))) }
+fn push_thread(
+    out: &mut Text,
+    version: u32,
+    decls: &[Decl],
+    thread: &Thread,
+) -> Result<(), NoMemory>
+    ensures { OnOk result (out.new.items ≡ out.old.items ++ flat_map line_text (thread_lines version (map declaration decls.now) thread.now.name.items (map script_of thread.now.scripts.items))) }
 {
-    push_alone(out, "thread")?;
-    push_scripts(out, decls, thread.as_slice())
+    push_thread_line(out, version, &thread.name)?;
+    push_scripts(out, decls, thread.scripts.as_slice())
 }
 
-fn push_threads(out: &mut Text, decls: &[Decl], threads: &[Scripts]) -> Result<(), NoMemory>
-    ensures { OnOk result (out.new.items ≡ out.old.items ++ flat_map (λ t. flat_map line_text (thread_lines (map declaration decls.now) (map script_of t.items))) threads.now) }
+/// Adds the line of a thread; in version 2 it has the thread's name.
+fn push_thread_line(out: &mut Text, version: u32, name: &Text) -> Result<(), NoMemory>
+    ensures { OnOk result (out.new.items ≡ out.old.items ++ line_text (ThreadLine (name_on_line version name.now.items))) }
+{
+    if version == 2 {
+        push_named(out, "thread", name)?;
+        out.append("\n")
+    } else {
+        push_alone(out, "thread")
+    }
+}
+
+fn push_threads(
+    out: &mut Text,
+    version: u32,
+    decls: &[Decl],
+    threads: &[Thread],
+) -> Result<(), NoMemory>
+    ensures { OnOk result (out.new.items ≡ out.old.items ++ flat_map (λ t. flat_map line_text (thread_lines version (map declaration decls.now) t.name.items (map script_of t.scripts.items))) threads.now) }
 {
     for thread in threads {
-        push_thread(out, decls, thread)?;
+        push_thread(out, version, decls, thread)?;
     }
     Ok(())
 }
 
-/// Adds an entry after a space.
-fn push_entry(out: &mut Text, turns: Turns) -> Result<(), NoMemory>
-    ensures { OnOk result (out.new.items ≡ out.old.items ++ 32 ∷ entry_word (entry_for turns)) }
+/// Adds what names a thread in an entry.
+fn push_thread_word(
+    out: &mut Text,
+    version: u32,
+    threads: &[Thread],
+    number: u32,
+) -> Result<(), NoMemory>
+    ensures { OnOk result (out.new.items ≡ out.old.items ++ thread_text (word_for version (names_of threads.now) number)) }
 {
-    push_next_number(out, i64::from(turns.thread))?;
+    if version == 2 {
+        match threads.get(number as usize) {
+            Some(thread) => out.append(thread.name.as_str()),
+            None => Ok(()),
+        }
+    } else {
+        push_number(out, i64::from(number))
+    }
+}
+
+/// Adds an entry after a space.
+fn push_entry(
+    out: &mut Text,
+    version: u32,
+    threads: &[Thread],
+    turns: Turns,
+) -> Result<(), NoMemory>
+    ensures { OnOk result (out.new.items ≡ out.old.items ++ 32 ∷ entry_word (entry_for version (names_of threads.now) turns)) }
+{
+    out.append(" ")?;
+    push_thread_word(out, version, threads, turns.thread)?;
     out.append(":")?;
     push_number(out, i64::from(turns.steps))
 }
 
-fn push_entries(out: &mut Text, turns: &[Turns]) -> Result<(), NoMemory>
-    ensures { OnOk result (out.new.items ≡ out.old.items ++ flat_map (λ t. 32 ∷ entry_word (entry_for t)) turns.now) }
+fn push_entries(
+    out: &mut Text,
+    version: u32,
+    threads: &[Thread],
+    turns: &[Turns],
+) -> Result<(), NoMemory>
+    ensures { OnOk result (out.new.items ≡ out.old.items ++ flat_map (λ t. 32 ∷ entry_word (entry_for version (names_of threads.now) t)) turns.now) }
 {
     for entry in turns {
-        push_entry(out, *entry)?;
+        push_entry(out, version, threads, *entry)?;
     }
     Ok(())
 }
 
 /// Adds the schedule, where there is one.
-fn push_schedule(out: &mut Text, schedule: &Option<Schedule>) -> Result<(), NoMemory>
-    ensures { OnOk result (out.new.items ≡ out.old.items ++ flat_map line_text (schedule_lines (option_map (λ s. s.items) schedule.now))) }
+fn push_schedule(
+    out: &mut Text,
+    version: u32,
+    threads: &[Thread],
+    schedule: &Option<Schedule>,
+) -> Result<(), NoMemory>
+    ensures { OnOk result (out.new.items ≡ out.old.items ++ flat_map line_text (schedule_lines version (names_of threads.now) (option_map (λ s. s.items) schedule.now))) }
 {
     match schedule {
         None => Ok(()),
         Some(turns) => {
             out.append("schedule")?;
-            push_entries(out, turns.as_slice())?;
+            push_entries(out, version, threads, turns.as_slice())?;
             out.append("\n")
         }
+    }
+}
+
+/// Adds the line of the version, which version 1 has not.
+fn push_version(out: &mut Text, version: u32) -> Result<(), NoMemory>
+    ensures { OnOk result (out.new.items ≡ out.old.items ++ flat_map line_text (version_lines version)) }
+{
+    if version == 2 {
+        out.append("sto 2\n")
+    } else {
+        Ok(())
     }
 }
 
@@ -149,8 +218,19 @@ pub fn write(alloc: Global, file: &File) -> Result<Text, NoMemory>
     ensures reads_as { IfOk result (λ text. ReadsAs (file_of file.now) text.items) }
 {
     let mut out = Text::new(alloc);
+    push_version(&mut out, file.version)?;
     push_declarations(&mut out, file.decls.as_slice())?;
-    push_threads(&mut out, file.decls.as_slice(), file.threads.as_slice())?;
-    push_schedule(&mut out, &file.schedule)?;
+    push_threads(
+        &mut out,
+        file.version,
+        file.decls.as_slice(),
+        file.threads.as_slice(),
+    )?;
+    push_schedule(
+        &mut out,
+        file.version,
+        file.threads.as_slice(),
+        &file.schedule,
+    )?;
     Ok(out)
 }

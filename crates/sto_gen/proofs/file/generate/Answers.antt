@@ -1,4 +1,4 @@
-use Rattle.std.proofs.Common.{ap₂, subst, sym, List, None}
+use Rattle.std.proofs.Common.{subst, sym, ℕ, List, None}
 use Rattle.sto_lang.specs.Objects.{Declaration}
 use Rattle.sto_lang.specs.Scripts.{File, Script}
 use Rattle.sto_lang.specs.Sound.{IsSound}
@@ -7,5 +7,7 @@ use Rattle.sto_gen.proofs.file.generate.Goals as goal
 
 pub returns-clause-sound : goal.returns-clause-sound
 returns-clause-sound c =
-    let whole : List Declaration → List (List Script) → File = λ objects all. record { declarations = objects; threads = all; schedule = None } in
-    subst IsSound (sym (ap₂ whole c.in_ok-objects.ensures c.in_ok-threads.ensures)) (generated_sound c.args.number)
+    let whole : List Declaration → List (List ℕ) → List (List Script) → File =
+    λ objects names all. record { version = 1; declarations = objects; names = names; threads = all; schedule = None } in
+    let made = c.in_ok-threads.ensures in
+    subst IsSound (sym (λ i. whole (c.in_ok-objects.ensures i) (made.names i) (made.threads i))) (generated_sound c.args.number)
