@@ -4,6 +4,7 @@ use Rattle.sto_model.specs.declared.shape.Shape.{Shape}
 use Rattle.sto_lang.specs.Objects.{shapes_of}
 use Rattle.sto_lang.specs.Scripts.{Script, File}
 use Rattle.sto_lang.specs.Sound.{IsNumbered, IsSoundScript, IsSound}
+use Rattle.sto_lang.proofs.LimitLemmas.{threads_most}
 use Rattle.sto_lang.proofs.SoundFiles.{calls_within, script_at}
 use Rattle.std.proofs.lemmas.Option.{slice_get_within}
 use Rattle.std.proofs.lemmas.List.Elements.{All-weaker}
@@ -41,6 +42,6 @@ sound_runnable file s = record {
   scripts = λ place script e.
       let f : Found (slice_get file.threads place.0) place.1 script = found (slice_get file.threads place.0) place.1 script e in
       can_run (shapes_of file.declarations) script (script_at file place.0 f.earlier f.scripts script s f.in_thread f.stands);
-  few_threads = s.few_threads;
+  few_threads = omega (arith, s.few_threads, threads_most file.version);
   few_transactions = λ thread. omega (arith, s.few_transactions, count_total file.threads thread);
 }

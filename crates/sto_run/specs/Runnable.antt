@@ -18,5 +18,5 @@ pub record IsRunnable (file : File) : Type 0 where
   pub names : HaveNames file.declarations
   pub numbered : All (λ d. d.number < length (shapes_of file.declarations)) file.declarations
   pub scripts : (place : Place) (script : Script) → transaction_at file place ≡ Some script → CanRun (shapes_of file.declarations) script
-  pub few_threads : length file.threads ≤ 16
+  pub few_threads : length file.threads ≤ 64
   pub few_transactions : (thread : ℕ) → count_in file.threads thread ≤ 10000

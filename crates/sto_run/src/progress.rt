@@ -43,7 +43,7 @@ impl Progress {
         ensures placed { OnOk result (places self.new.lines.items ≡ places self.old.lines.items ++ (thread, position) ∷ []) }
         ensures counted { OnOk result (length self.new.lines.items ≡ length self.old.lines.items + 1) }
     {
-        let script = file.threads.get(thread).get(position - 1);
+        let script = file.threads.get(thread).scripts.get(position - 1);
         let Ran { outcome, writer } = run_transaction(alloc, script, shapes, &mut self.state)?;
         if writer {
             self.writers += 1;
@@ -75,7 +75,7 @@ impl Progress {
         ensures placed { OnOk result (places self.new.lines.items ≡ places self.old.lines.items ++ places_of thread (count_in (view file.now).threads thread)) }
         ensures counted { OnOk result (length self.new.lines.items ≡ length self.old.lines.items + count_in (view file.now).threads thread) }
     {
-        let count = file.threads.get(thread).len();
+        let count = file.threads.get(thread).scripts.len();
         for earlier in 0..count {
             self.run_one(alloc, file, shapes, thread, earlier + 1)?;
         }

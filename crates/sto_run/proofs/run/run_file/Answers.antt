@@ -6,7 +6,7 @@ use Rattle.sto_lawful.specs.Orders.{Place, count_in, IsOrder}
 use Rattle.sto_journal.specs.Journals.{places}
 use Rattle.sto_run.specs.Runs.{places_of, places_from, thread_order}
 use Rattle.sto_run.proofs.Sound.{sound_runnable}
-use Rattle.sto_run.proofs.Places.{length-threads, length-opening, have_rows}
+use Rattle.sto_run.proofs.Places.{length-threads, length-opening, have_rows, have_threads}
 use Rattle.sto_run.proofs.Replayed.{places_from-more, thread_order-is_order}
 use Rattle.sto_run.proofs.run.run_file.Goals as goal
 
@@ -49,3 +49,11 @@ returns-clause-rows c =
     let rows : length (shapes_of file.declarations) ≡ length c.loop-thread.run.state.items =
     sym (c.loop-thread.invariant.so_far.objects ∙ length-opening (shapes_of file.declarations)) in
     have_rows c.args.file.now.decls.items (length (shapes_of file.declarations)) c.loop-thread.run.state.items (sound_runnable file c.requires).numbered rows
+
+pub returns-clause-threads : goal.returns-clause-threads
+returns-clause-threads c =
+    let file = view c.args.file.now in
+    let past : length file.threads ≤ c.loop-thread.thread = omega (arith, c.loop-thread-test.false, c.len-thread-end.ensures, length-threads c.args.file.now.threads.items) in
+    let placed : places c.loop-thread.run.lines.items ≡ thread_order file =
+    c.loop-thread.invariant.placed ∙ ap (places_from 0) (take_all c.loop-thread.thread file.threads past) in
+    have_threads file c.loop-thread.run.lines.items (length c.args.file.now.threads.items) placed (length-threads c.args.file.now.threads.items)

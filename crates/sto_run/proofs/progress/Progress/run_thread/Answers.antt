@@ -13,7 +13,7 @@ run_one-requires-clause-last c =
 
 pub run_one-requires-clause-room : goal.run_one-requires-clause-room
 run_one-requires-clause-room c =
-    let few : length c.args.file.now.threads.items ≤ 16 = omega (arith, c.requires.runnable.few_threads, length-threads c.args.file.now.threads.items) in
+    let few : length c.args.file.now.threads.items ≤ 64 = omega (arith, c.requires.runnable.few_threads, length-threads c.args.file.now.threads.items) in
     omega (arith, c.loop-earlier-test.true, c.len-count.ensures, c.requires.runnable.few_transactions c.args.thread, c.loop-earlier.invariant.counted, c.requires.room, count_at c.args.file.now.threads.items c.args.thread c.get.result.now c.get.ensures)
 
 pub loop-earlier-preserved : goal.loop-earlier-preserved

@@ -1,0 +1,12 @@
+use Rattle.std.proofs.Common.{◌++◌, ℕ, List, ap, sym, ◌∙◌}
+use Rattle.serde_json.specs.Data.{string}
+use Rattle.sto_model.specs.Told.{told}
+use Rattle.sto_lawful.specs.Report.{reply_text}
+use Rattle.sto_journal.proofs.Values.{told_is, view-String}
+use Rattle.sto_journal.proofs.object.reply_value.Goals as goal
+
+pub returns-clause-value : goal.returns-clause-value
+returns-clause-value c =
+    view-String c.push_reply.new.out
+    ∙ ap string (c.in_ok-push_reply.ensures.text ∙ ap (λ (b : List ℕ). b ++ reply_text (told c.args.reply.now)) c.new-text.ensures.bytes)
+    ∙ sym (told_is c.args.reply.now)
