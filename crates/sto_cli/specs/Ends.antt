@@ -3,10 +3,10 @@ use Rattle.std.specs.Prelude.{◌≡◌, ℕ, List, Option, None, Some, take, Re
 use Rattle.sto_io.specs.Told.{Takes, Gains, AtEnd, Rose}
 use Rattle.sto_lang.specs.declared.fault.ScriptFault.{ScriptFault}
 use Rattle.sto_words.specs.declared.command.Command.{Command}
-use Rattle.sto_words.specs.declared.command.Command.TheVariants.{Run, Gen}
+use Rattle.sto_words.specs.declared.command.Command.TheVariants.{Run, Upgrade, Gen}
 use Rattle.sto_cli.specs.declared.refusal.Refusal.{Refusal}
 use Rattle.sto_cli.specs.declared.refusal.Refusal.TheVariants.{Usage, Script, ReadFault, WriteFault, NoMemory}
-use Rattle.sto_cli.specs.Outputs.{IsOutput, HasFault}
+use Rattle.sto_cli.specs.Outputs.{IsOutput, IsReader, HasFault}
 
 -- the bytes that were left, where they are told before and after
 abbrev pub IfTold : Option (List ℕ) → Option (List ℕ) → (List ℕ → Type 0) → Type 0
@@ -14,9 +14,10 @@ IfTold (Some bytes) (Some rest) P = P bytes
 IfTold (Some bytes) None P = Unit {0}
 IfTold None new P = Unit {0}
 
--- what a command reads: `run` all that was left, `gen` nothing
+-- what a command reads: `run` and `upgrade` all that was left, `gen` nothing
 abbrev pub Reads : Command → Option (List ℕ) → Option (List ℕ) → List ℕ → Type 0
-Reads (Run tries) left rest bytes = Takes left rest bytes × AtEnd rest
+Reads (Run threads tries json) left rest bytes = Takes left rest bytes × AtEnd rest
+Reads Upgrade left rest bytes = Takes left rest bytes × AtEnd rest
 Reads (Gen number) left rest bytes = rest ≡ left
 
 -- a text that the command may print for what it read
@@ -40,13 +41,17 @@ pub record Stopped (command : Command) (left rest held now : Option (List ℕ)) 
 
 -- the bytes that the command read have this fault
 abbrev pub Faulty : Command → ScriptFault → Option (List ℕ) → Option (List ℕ) → Type 0
-Faulty (Run tries) fault left rest = IfTold left rest (λ bytes. HasFault (Run tries) bytes fault)
+Faulty (Run threads tries json) fault left rest = IfTold left rest (λ bytes. HasFault (Run threads tries json) bytes fault)
+Faulty Upgrade fault left rest = IfTold left rest (λ bytes. HasFault Upgrade bytes fault)
 Faulty (Gen number) fault left rest = ⊥
 
--- the command reads its source
-abbrev pub IsReader : Command → Type 0
-IsReader (Run tries) = Unit {0}
-IsReader (Gen number) = ⊥
+-- why the bytes could not be read
+abbrev pub IsReadRefusal : Refusal → Type 0
+IsReadRefusal ReadFault = Unit {0}
+IsReadRefusal NoMemory = Unit {0}
+IsReadRefusal Usage = ⊥
+IsReadRefusal (Script fault) = ⊥
+IsReadRefusal WriteFault = ⊥
 
 -- why no text of the command was made
 abbrev pub Unmade : Refusal → Command → Option (List ℕ) → Option (List ℕ) → Type 0

@@ -3,7 +3,7 @@ use Rattle.std.specs.Prelude.{◌≡◌, ℕ, List, [], ◌++◌, ◌⊎◌, Opt
 use Rattle.sto_io.specs.Told.{Gains, Rose}
 use Rattle.sto_lang.specs.FaultTexts.{kind_text}
 use Rattle.sto_words.specs.declared.command.Command.{Command}
-use Rattle.sto_words.specs.declared.command.Command.TheVariants.{Run, Gen}
+use Rattle.sto_words.specs.declared.command.Command.TheVariants.{Run, Upgrade, Gen}
 use Rattle.sto_cli.specs.declared.refusal.Refusal.{Refusal}
 use Rattle.sto_cli.specs.declared.refusal.Refusal.TheVariants.{Usage, Script, ReadFault, WriteFault, NoMemory}
 use Rattle.sto_cli.specs.Ends.{Done, Stopped, Faulty}
@@ -69,13 +69,18 @@ abbrev pub EndsSo : Result (Unit {0}) Refusal → Result (Unit {0}) Refusal → 
 EndsSo (Err (Script fault)) ending = (ending ≡ Err (Script fault)) ⊎ (ending ≡ Err NoMemory)
 EndsSo outcome ending = ending ≡ outcome
 
+-- the bytes are told to the end of the call and have no fault
+abbrev pub IsToldWell : Command → Option (List ℕ) → Option (List ℕ) → Type 0
+IsToldWell command None rest = ⊥
+IsToldWell command (Some bytes) None = ⊥
+IsToldWell command (Some bytes) (Some rest) = (fault : ScriptFault) → HasFault command bytes fault → ⊥
+
 -- the words are a command, and the bytes that it reads, if it reads any, are told to the end of the call and have no fault
 abbrev pub IsFaultless : Option Command → Option (List ℕ) → Option (List ℕ) → Type 0
 IsFaultless None left rest = ⊥
 IsFaultless (Some (Gen number)) left rest = Unit {0}
-IsFaultless (Some (Run tries)) None rest = ⊥
-IsFaultless (Some (Run tries)) (Some bytes) None = ⊥
-IsFaultless (Some (Run tries)) (Some bytes) (Some rest) = (fault : ScriptFault) → HasFault (Run tries) bytes fault → ⊥
+IsFaultless (Some (Run threads tries json)) left rest = IsToldWell (Run threads tries json) left rest
+IsFaultless (Some Upgrade) left rest = IsToldWell Upgrade left rest
 
 -- the words are a command, the bytes are told to the end of the call, and they have this fault
 abbrev pub IsToldFault : ScriptFault → Option Command → Option (List ℕ) → Option (List ℕ) → Type 0

@@ -12,7 +12,7 @@ pub use gate::{Gate, NoGate};
 pub use sto_io::{
     Failed, MemSink, MemSource, QuietSink, QuietSource, Sink, Source, StdSink, StdSource,
 };
-pub use top::sto;
+pub use top::{WordsFault, refuse_words, sto};
 
 #[cfg(test)]
 mod tests;

@@ -59,7 +59,7 @@ fn example_one_get(rt: HostRuntime) -> Result<(), Fail> {
 }
 
 // Scripts, and their reports.
-const REPORTS: [(&[u8], &[u8]); 15] = [
+const REPORTS: [(&[u8], &[u8]); 16] = [
     // cancel and choice
     (
         b"box a 1\nthread\nbegin\nx = get a\nif x lt 1\nset a 5\nelse\nset a 9\ncancel\nend\ncommit\n",
@@ -70,7 +70,7 @@ const REPORTS: [(&[u8], &[u8]); 15] = [
     // ends of the type
     (
         b"counter c 9223372036854775807\narray r 2 0\nthread\nbegin\nadd c 1\nx = get c\ny = get r -1\ny = get r 2\nset r 2 5\ny = get r 1\ncommit\n",
-        b"1 t0.1 commit ok -9223372036854775808 none none none 0\nstate\nc = -9223372036854775808\nr = [0,0]\n",
+        b"0 t0.1 read range 9223372036854775807 none none none 0\nstate\nc = 9223372036854775807\nr = [0,0]\n",
     ),
     // full bucket
     (
@@ -123,6 +123,11 @@ const REPORTS: [(&[u8], &[u8]); 15] = [
     (
         b"tree t 2\nthread\nbegin\nput t 1 1\nput t 2 2\nput t 3 3\nput t 4 4\nput t 5 5\nput t 6 6\nput t 7 7\nput t 8 8\nput t 9 9\nput t 8 5\nn = len t\ncommit\n",
         b"1 t0.1 commit ok ok ok ok ok ok ok ok full ok 8\nstate\nt = [1:1,2:2,3:3,4:4,5:5,6:6,7:7,8:5]\n",
+    ),
+    // named threads
+    (
+        b"sto 2\nbox a 0\nthread up\nbegin\nset a 1\ncommit\nthread down\nschedule up:4 down:10\n",
+        b"1 up.1 commit ok\nstate\na = 1\n",
     ),
     // split and repack, written out
     (
@@ -221,8 +226,49 @@ fn faults_of_scripts(rt: HostRuntime) -> Result<(), Fail> {
     Ok(())
 }
 
+// The script with one transaction that reads, in version 2.
+const ONE_GET_NAMED: &[u8] = b"sto 2\nbox a 5\nthread t0\nbegin\nx = get a\ncommit\n";
+
+// What each command prints for this script.
+const OUTPUTS: [(&[&str], &[u8], &[u8]); 4] = [
+    (&["upgrade"], ONE_GET, ONE_GET_NAMED),
+    (&["upgrade"], ONE_GET_NAMED, ONE_GET_NAMED),
+    (
+        &["run", "--threads=2", "--json"],
+        ONE_GET,
+        b"{\"aborts\":[],\"journal\":[{\"end\":\"read\",\"k\":0,\"position\":1,\"replies\":[\"5\"],\"thread\":\"t0\"}],\"state\":[{\"name\":\"a\",\"text\":\"5\"}]}\n",
+    ),
+    (
+        &["run", "--threads", "2"],
+        ONE_GET_NAMED,
+        b"0 t0.1 read 5\nstate\na = 5\n",
+    ),
+];
+
+#[test]
+fn outputs_of_commands(rt: HostRuntime) -> Result<(), Fail> {
+    let alloc = rt.alloc();
+    for (words, input, want) in OUTPUTS {
+        let words = words_of(alloc, words)?;
+        let mut source = QuietSource::new(bytes_of(alloc, input)?);
+        let mut out = QuietSink::new(alloc, 1000)?;
+        let mut diag = QuietSink::new(alloc, 100)?;
+        let status = sto(
+            alloc,
+            words.as_slice(),
+            &mut source,
+            &mut out,
+            &mut diag,
+            &NoGate,
+        );
+        assert_eq!(rt; status, 0);
+        assert_eq!(rt; out.held(), Some(want));
+    }
+    Ok(())
+}
+
 // Words that are outside the grammar.
-const USAGES: [&[&str]; 8] = [
+const USAGES: [&[&str]; 10] = [
     &["gen"],
     &["run", "--help"],
     &[],
@@ -231,6 +277,8 @@ const USAGES: [&[&str]; 8] = [
     &["run", "--tries", "0"],
     &["run", "--"],
     &["step", "--tries", "65"],
+    &["run", "--json", "--json"],
+    &["upgrade", "--json"],
 ];
 
 #[test]

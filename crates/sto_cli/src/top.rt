@@ -1,8 +1,9 @@
 //! The top call.
-ghost use Rattle.std.specs.Prelude.{◌≡◌, ◌≢◌, ◌⊎◌, map, string_bytes, None};
+ghost use Rattle.std.specs.Prelude.{◌≡◌, ◌≢◌, ◌⊎◌, None, Err};
 ghost use Rattle.sto_io.specs.Told.{Rose};
-ghost use Rattle.sto_words.specs.Commands.{command_of};
+ghost use Rattle.sto_words.specs.Commands.{command_in};
 ghost use Rattle.sto_cli.specs.Ends.{Ends};
+ghost use Rattle.sto_cli.specs.Words.{refusal_of};
 ghost use Rattle.sto_lang.specs.declared.fault.ScriptFault.{ScriptFault};
 ghost use Rattle.sto_cli.specs.Statuses.{status_of, line_of, Says, EndsWith, IsDone, IsFaulty, IsStopped, IsFaultless, IsToldFault};
 
@@ -30,11 +31,11 @@ fn status(outcome: Result<(), Refusal>) -> u8
 ///
 /// | Status | When | `out` gains | `diag` gains |
 /// |---|---|---|---|
-/// | 0 | all is done | the whole report | nothing |
+/// | 0 | all is done | the whole text | nothing |
 /// | 2 | the words are not in the grammar | nothing | `sto: usage` |
 /// | 3 | the bytes that were read have a fault | nothing | `sto: line L: KIND` |
 /// | 4 | the source failed | nothing | `sto: read fault` |
-/// | 5 | `out` failed | a front of the report | `sto: write fault` |
+/// | 5 | `out` failed | a front of the text | `sto: write fault` |
 /// | 6 | memory could not be had | nothing | `sto: out of memory` |
 pub fn sto<S: Source, K: Sink, E: Sink, G: Gate>(
     alloc: Global,
@@ -46,17 +47,17 @@ pub fn sto<S: Source, K: Sink, E: Sink, G: Gate>(
 ) -> u8
     // One outcome has this status and these effects, and its line is written beside.
     ensures ends { EndsWith result (λ outcome.
-        Ends outcome (command_of (map (λ word. string_bytes word) words.now)) (S.left source.old) (S.left source.new) (K.held out.old) (K.held out.new)
+        Ends outcome (command_in words.now) (S.left source.old) (S.left source.new) (K.held out.old) (K.held out.new)
         × Says (line_of outcome) (E.held diag.old) (E.held diag.new) (E.faults diag.old) (E.faults diag.new)) }
     // The headline.
-    ensures done { result ≡ 0 → IsDone (command_of (map (λ word. string_bytes word) words.now)) (S.left source.old) (S.left source.new) (K.held out.old) (K.held out.new) }
-    ensures usage { result ≡ 2 → command_of (map (λ word. string_bytes word) words.now) ≡ None }
-    ensures usage_only { command_of (map (λ word. string_bytes word) words.now) ≡ None → (result ≡ 2) ⊎ (result ≡ 6) }
-    ensures faulty { result ≡ 3 → IsFaulty (command_of (map (λ word. string_bytes word) words.now)) (S.left source.old) (S.left source.new) }
-    ensures refused { (fault : ScriptFault) → IsToldFault fault (command_of (map (λ word. string_bytes word) words.now)) (S.left source.old) (S.left source.new) → (result ≡ 3) ⊎ (result ≡ 4) ⊎ (result ≡ 6) }
-    ensures complete { IsFaultless (command_of (map (λ word. string_bytes word) words.now)) (S.left source.old) (S.left source.new)
+    ensures done { result ≡ 0 → IsDone (command_in words.now) (S.left source.old) (S.left source.new) (K.held out.old) (K.held out.new) }
+    ensures usage { result ≡ 2 → command_in words.now ≡ None }
+    ensures usage_only { command_in words.now ≡ None → (result ≡ 2) ⊎ (result ≡ 6) }
+    ensures faulty { result ≡ 3 → IsFaulty (command_in words.now) (S.left source.old) (S.left source.new) }
+    ensures refused { (fault : ScriptFault) → IsToldFault fault (command_in words.now) (S.left source.old) (S.left source.new) → (result ≡ 3) ⊎ (result ≡ 4) ⊎ (result ≡ 6) }
+    ensures complete { IsFaultless (command_in words.now) (S.left source.old) (S.left source.new)
         → (Rose (S.faults source.old) (S.faults source.new) → ⊥) → (Rose (K.faults out.old) (K.faults out.new) → ⊥) → (result ≡ 0) ⊎ (result ≡ 6) }
-    ensures stopped { result ≡ 5 → IsStopped (command_of (map (λ word. string_bytes word) words.now)) (S.left source.old) (S.left source.new) (K.held out.old) (K.held out.new) }
+    ensures stopped { result ≡ 5 → IsStopped (command_in words.now) (S.left source.old) (S.left source.new) (K.held out.old) (K.held out.new) }
     ensures unchanged { result ≢ 0 → result ≢ 5 → K.held out.new ≡ K.held out.old }
     ensures read_fault { result ≡ 4 → Rose (S.faults source.old) (S.faults source.new) }
     ensures no_read_fault { result ≢ 4 → S.faults source.new ≡ S.faults source.old }
@@ -66,4 +67,24 @@ pub fn sto<S: Source, K: Sink, E: Sink, G: Gate>(
     let _ = gate;
     let outcome = perform(alloc, words, source, out);
     status(say(alloc, diag, outcome))
+}
+
+/// Why the words of a call cannot be read.
+#[derive(Clone, Copy, PartialEq, Eq, Debug)]
+pub enum WordsFault {
+    /// A word is not UTF-8.
+    NotText,
+    NoMemory,
+}
+
+/// Says beside why the words cannot be read, and gives the exit status: 2 where one of them is not
+/// UTF-8, since such a word is in no grammar, and 6 for want of memory.
+pub fn refuse_words<E: Sink>(alloc: Global, fault: WordsFault, diag: &mut E) -> u8
+    ensures status { result ≡ status_of (Err (refusal_of fault)) }
+    ensures says { Says (line_of (Err (refusal_of fault))) (E.held diag.old) (E.held diag.new) (E.faults diag.old) (E.faults diag.new) }
+{
+    match fault {
+        WordsFault::NotText => status(say(alloc, diag, Err(Refusal::Usage))),
+        WordsFault::NoMemory => status(say(alloc, diag, Err(Refusal::NoMemory))),
+    }
 }

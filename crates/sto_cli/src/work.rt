@@ -1,39 +1,64 @@
 //! The order of work: the words, the source, the script, the run, the text, the writing.
-ghost use Rattle.std.specs.Prelude.{◌≡◌, ℕ, IfOk, IfErr, map, string_bytes};
-ghost use Rattle.sto_words.specs.Commands.{command_of};
+ghost use Rattle.std.specs.Prelude.{◌<◌, ◌≤◌, ℕ, Option, length, IfOk, IfErr};
+ghost use Rattle.sto_io.specs.Told.{Takes, AtEnd};
+ghost use Rattle.sto_words.specs.Commands.{command_in};
 ghost use Rattle.sto_words.specs.declared.command.Command.TheVariants as commands;
 ghost use Rattle.sto_cli.specs.declared.refusal.Refusal.TheVariants.{ReadFault, WriteFault};
-ghost use Rattle.sto_cli.specs.Ends.{Made, Unmade, Ends, RoseFor, RoseForText};
+ghost use Rattle.sto_cli.specs.Ends.{Made, IsReadRefusal, Unmade, Ends, RoseFor, RoseForText};
 
-use crate::answer::{gen_text, run_text};
+use crate::answer::{gen_text, run_text, upgrade_text};
 use crate::refusal::Refusal;
 use std::alloc::Global;
 use sto_io::{ReadAllError, Sink, Source, read_all, write_all};
 use sto_lang::Text;
+use sto_part::Bytes;
 use sto_words::{Command, find_command};
 
-/// Reads the source to its end or past the limit, and runs the script.
-fn run_source<S: Source>(alloc: Global, source: &mut S) -> Result<Text, Refusal>
-    ensures made { IfOk result (λ text. (tries : ℕ) → Made (commands.Run tries) (S.left source.old) (S.left source.new) text.items) }
-    ensures unmade { IfErr result (λ e. (tries : ℕ) → Unmade e (commands.Run tries) (S.left source.old) (S.left source.new)) }
+/// Reads the source to its end or past the limit.
+fn bytes_left<S: Source>(alloc: Global, source: &mut S) -> Result<Bytes, Refusal>
+    ensures taken { IfOk result (λ bytes. Takes (S.left source.old) (S.left source.new) bytes.items) }
+    ensures few { IfOk result (λ bytes. length bytes.items ≤ 1048577) }
+    ensures end { IfOk result (λ bytes. length bytes.items < 1048577 → AtEnd (S.left source.new)) }
+    ensures refused { IfErr result IsReadRefusal }
     ensures source_faults { RoseForText result (S.faults source.old) (S.faults source.new) }
 {
-    let bytes = match read_all(alloc, source, 1_048_577) {
-        Ok(bytes) => bytes,
-        Err(ReadAllError::Fault) => return Err(Refusal::ReadFault),
-        Err(ReadAllError::NoMemory) => return Err(Refusal::NoMemory),
-    };
-    run_text(alloc, bytes.as_slice())
+    match read_all(alloc, source, 1_048_577) {
+        Ok(bytes) => Ok(bytes),
+        Err(ReadAllError::Fault) => Err(Refusal::ReadFault),
+        Err(ReadAllError::NoMemory) => Err(Refusal::NoMemory),
+    }
 }
 
-/// Makes the whole text of a command. `run` reads the source to its end or past the limit; `gen` does not touch it.
+/// Reads the source, and runs the script.
+fn run_source<S: Source>(alloc: Global, source: &mut S, json: bool) -> Result<Text, Refusal>
+    ensures made { IfOk result (λ text. (threads : Option ℕ) (tries : ℕ) → Made (commands.Run threads tries json) (S.left source.old) (S.left source.new) text.items) }
+    ensures unmade { IfErr result (λ e. (threads : Option ℕ) (tries : ℕ) → Unmade e (commands.Run threads tries json) (S.left source.old) (S.left source.new)) }
+    ensures source_faults { RoseForText result (S.faults source.old) (S.faults source.new) }
+{
+    let bytes = bytes_left(alloc, source)?;
+    run_text(alloc, bytes.as_slice(), json)
+}
+
+/// Reads the source, and writes the script in version 2.
+fn upgrade_source<S: Source>(alloc: Global, source: &mut S) -> Result<Text, Refusal>
+    ensures made { IfOk result (λ text. Made commands.Upgrade (S.left source.old) (S.left source.new) text.items) }
+    ensures unmade { IfErr result (λ e. Unmade e commands.Upgrade (S.left source.old) (S.left source.new)) }
+    ensures source_faults { RoseForText result (S.faults source.old) (S.faults source.new) }
+{
+    let bytes = bytes_left(alloc, source)?;
+    upgrade_text(alloc, bytes.as_slice())
+}
+
+/// Makes the whole text of a command. `run` and `upgrade` read the source to its end or past the limit;
+/// `gen` does not touch it.
 fn text_for<S: Source>(alloc: Global, command: Command, source: &mut S) -> Result<Text, Refusal>
     ensures made { IfOk result (λ text. Made command (S.left source.old) (S.left source.new) text.items) }
     ensures unmade { IfErr result (λ e. Unmade e command (S.left source.old) (S.left source.new)) }
     ensures source_faults { RoseForText result (S.faults source.old) (S.faults source.new) }
 {
     let number = match command {
-        Command::Run { .. } => return run_source(alloc, source),
+        Command::Run { json, .. } => return run_source(alloc, source, json),
+        Command::Upgrade => return upgrade_source(alloc, source),
         Command::Gen { number } => number,
     };
     Ok(gen_text(alloc, number)?)
@@ -46,7 +71,7 @@ pub(crate) fn perform<S: Source, K: Sink>(
     source: &mut S,
     out: &mut K,
 ) -> Result<(), Refusal>
-    ensures ends { Ends result (command_of (map (λ word. string_bytes word) words.now)) (S.left source.old) (S.left source.new) (K.held out.old) (K.held out.new) }
+    ensures ends { Ends result (command_in words.now) (S.left source.old) (S.left source.new) (K.held out.old) (K.held out.new) }
     ensures source_faults { RoseFor ReadFault result (S.faults source.old) (S.faults source.new) }
     ensures out_faults { RoseFor WriteFault result (K.faults out.old) (K.faults out.new) }
 {

@@ -1,12 +1,12 @@
 -- What `clap` finds in the words after a command, and that it is what they give.
-use Rattle.std.proofs.Common.{◌≡◌, ◌∙◌, ◌||◌, ℕ, Bool, true, false, refl, sym, ap, subst, codes, List, [], ◌∷◌, map, Option, Some, None, true≢false}
+use Rattle.std.proofs.Common.{◌≡◌, ◌∙◌, ◌||◌, ◌&&◌, not, is_some, ℕ, Bool, true, false, refl, sym, ap, subst, codes, List, [], ◌∷◌, map, Option, Some, None, true≢false}
 use Rattle.std.specs.Prelude.{if◌then◌else◌, fold, find, slice_get}
 use Rattle.std.specs.List.{list_any}
 use Rattle.std.specs.Option.{option_and_then, option_map}
 use Rattle.std.specs.Str.{bytes_eq}
 use Rattle.std.proofs.lemmas.Slice.Eq.{bytes_eq-Decides}
 use Rattle.clap.specs.Matches.{first_value, found_of}
-use Rattle.clap.specs.Walk.{Held, Row, Rule, arg_by_id, arg_by_long, first_of, has_row, nothing_held, rows_of, settled, walk, walk_from, with_default}
+use Rattle.clap.specs.Walk.{Held, Row, Rule, first_of, has_long, has_row, nothing_held, rows_of, settled, walk, walk_from, with_default}
 use Rattle.clap.specs.Simple.{App, built, matches_of, names_of}
 use Rattle.clap.specs.Kinds.{Kinds, or_else}
 use Rattle.clap.specs.Faults.{built_fault, check_fault, default_fault, defaults_fault, fault_of, is_simple_and_free, settle_fault, walk_fault}
@@ -14,7 +14,7 @@ use Rattle.clap.specs.declared.parser.matches.ArgMatches.{ArgMatches}
 use Rattle.clap.proofs.FaultLemmas.{leaf_fault}
 use Rattle.clap.proofs.WalkLemmas.{first_value-rows}
 use Rattle.clap.proofs.OnLiterals.{clap_on_literals}
-use Rattle.sto_words.specs.Given.{Text, Takes, Given, is_option, number_name, value_of, given_by, is_refused}
+use Rattle.sto_words.specs.Given.{Text, Takes, Given, number_name, value_of, given_by, is_refused}
 use Rattle.sto_words.specs.Commands.{run_takes, gen_takes}
 use Rattle.sto_words.specs.Grammars.{Finds, app_for}
 use Rattle.sto_words.proofs.Rows.{valued, row}
@@ -108,39 +108,98 @@ default_same name long index rows = go (has_row name rows)
     go true = refl
     go false = refl
 
+-- ---- options alone
+
+same_text : (one other : Text) → bytes_eq one other ≡ true → one ≡ other
+same_text one other e = (bytes_eq-Decides one other).0 e
+
+module _ (p : Rule → Text → Bool) (reads : (n name : Text) → p (option_built n) name ≡ bytes_eq n name) where
+  found_rule : (names : List Text) (name : Text) → list_any (λ other. bytes_eq other name) names ≡ true → find (λ a. p a name) (map option_built names) ≡ Some (option_built name)
+  found_rule [] name o = absurd (true≢false (sym o))
+  found_rule (n ∷ names) name o = go (bytes_eq n name) refl (found_rule names name)
+    where
+      go : (b : Bool) → bytes_eq n name ≡ b → (list_any (λ other. bytes_eq other name) names ≡ true → find (λ a. p a name) (map option_built names) ≡ Some (option_built name))
+          → (if p (option_built n) name then Some (option_built n) else find (λ a. p a name) (map option_built names)) ≡ Some (option_built name)
+      go true e rest = ap (λ b. if b then Some (option_built n) else find (λ a. p a name) (map option_built names)) (reads n name ∙ e) ∙ ap (λ x. Some (option_built x)) (same_text n name e)
+      go false e rest = ap (λ b. if b then Some (option_built n) else find (λ a. p a name) (map option_built names)) (reads n name ∙ e)
+          ∙ rest (sym (ap (λ b. b || list_any (λ other. bytes_eq other name) names) e) ∙ o)
+
+  no_rule : (names : List Text) (name : Text) → list_any (λ other. bytes_eq other name) names ≡ false → find (λ a. p a name) (map option_built names) ≡ None
+  no_rule [] name o = refl
+  no_rule (n ∷ names) name o = go (bytes_eq n name) refl (no_rule names name)
+    where
+      go : (b : Bool) → bytes_eq n name ≡ b → (list_any (λ other. bytes_eq other name) names ≡ false → find (λ a. p a name) (map option_built names) ≡ None)
+          → (if p (option_built n) name then Some (option_built n) else find (λ a. p a name) (map option_built names)) ≡ None
+      go true e rest = absurd (true≢false (sym (ap (λ b. b || list_any (λ other. bytes_eq other name) names) e) ∙ o))
+      go false e rest = ap (λ b. if b then Some (option_built n) else find (λ a. p a name) (map option_built names)) (reads n name ∙ e)
+          ∙ rest (sym (ap (λ b. b || list_any (λ other. bytes_eq other name) names) e) ∙ o)
+
+apart_from : (other : Text) (names : List Text) (name : Text) → list_any (λ n. bytes_eq n other) names ≡ false → list_any (λ n. bytes_eq n name) names ≡ true → bytes_eq name other ≡ false
+apart_from other [] name e o = absurd (true≢false (sym o))
+apart_from other (n ∷ names) name e o = go (bytes_eq n name) refl (bytes_eq n other) refl (apart_from other names name)
+  where
+    go : (b : Bool) → bytes_eq n name ≡ b → (d : Bool) → bytes_eq n other ≡ d
+        → (list_any (λ m. bytes_eq m other) names ≡ false → list_any (λ m. bytes_eq m name) names ≡ true → bytes_eq name other ≡ false) → bytes_eq name other ≡ false
+    go b f true g rest = absurd (true≢false (sym (ap (λ x. x || list_any (λ m. bytes_eq m other) names) g) ∙ e))
+    go true f false g rest = ap (λ m. bytes_eq m other) (sym (same_text n name f)) ∙ g
+    go false f false g rest = rest (sym (ap (λ x. x || list_any (λ m. bytes_eq m other) names) g) ∙ e) (sym (ap (λ x. x || list_any (λ m. bytes_eq m name) names) f) ∙ o)
+
+or_nothing : (b : Bool) → (b || false) ≡ b
+or_nothing true = refl
+or_nothing false = refl
+
+by_long : (n name : Text) → (not (is_some (option_built n).index) && has_long (option_built n) name) ≡ bytes_eq n name
+by_long n name = or_nothing (bytes_eq n name)
+
+by_name : (n name : Text) → bytes_eq (option_built n).id name ≡ bytes_eq n name
+by_name n name = refl
+
 -- ---- `run`
+
+abbrev threads : Text
+threads = codes "threads"
 
 abbrev tries : Text
 tries = codes "tries"
 
-abbrev pub run_rules : List Rule
-run_rules = option_built tries ∷ []
+abbrev json : Text
+json = codes "json"
 
-tries_only : (name : Text) → is_option run_takes name ≡ true → tries ≡ name
-tries_only name o = go (bytes_eq tries name) refl
-  where
-    go : (b : Bool) → bytes_eq tries name ≡ b → tries ≡ name
-    go true e = (bytes_eq-Decides tries name).0 e
-    go false e = absurd (true≢false (sym o ∙ ap (λ b. b || false) e))
+abbrev pub run_rules : List Rule
+run_rules = option_built threads ∷ option_built tries ∷ option_built json ∷ []
 
 run_rules_are : AreRules run_rules run_takes
 run_rules_are = record {
-  long = λ name o. subst (λ n. arg_by_long run_rules n ≡ Some (option_built n)) (tries_only name o) refl;
-  by_id = λ name o. subst (λ n. arg_by_id run_rules n ≡ Some (option_built n)) (tries_only name o) refl;
-  unknown = λ name o. ap (λ b. if b then Some (option_built tries) else None) o;
-  apart = λ name o. subst (λ n. bytes_eq n number_name ≡ false) (tries_only name o) refl;
+  long = λ name o. found_rule (λ a n. not (is_some a.index) && has_long a n) by_long run_takes.options name o;
+  by_id = λ name o. found_rule (λ a n. bytes_eq a.id n) by_name run_takes.options name o;
+  unknown = λ name o. no_rule (λ a n. not (is_some a.index) && has_long a n) by_long run_takes.options name o;
+  apart = λ name o. apart_from number_name run_takes.options name refl o;
   first = refl;
   second = refl;
   by_number = λ e. absurd (true≢false (sym e));
 }
+
+three_defaults : (rows : List Row) → defaults_fault rows run_rules ≡ []
+unfolding defaults_fault
+three_defaults rows =
+    let one = default_same threads (Some threads) None rows in
+    let two = ap (λ r. with_default r (option_built tries)) one ∙ default_same tries (Some tries) None rows in
+    λ i. or_else (default_none threads (Some threads) None rows i)
+    (or_else ((ap (λ r. default_fault r (option_built tries)) one ∙ default_none tries (Some tries) None rows) i)
+    (or_else ((ap (λ r. default_fault r (option_built json)) two ∙ default_none json (Some json) None rows) i) []))
+
+three_finished : (rows : List Row) → fold with_default rows run_rules ≡ rows
+three_finished rows =
+    ap (λ r. with_default (with_default r (option_built tries)) (option_built json)) (default_same threads (Some threads) None rows)
+    ∙ ap (λ r. with_default r (option_built json)) (default_same tries (Some tries) None rows) ∙ default_same json (Some json) None rows
 
 pub run_is_built : IsBuilt (codes "run") run_takes run_rules
 unfolding clap_on_literals
 run_is_built = record {
   rules = run_rules_are;
   built_as = refl;
-  defaults = λ rows. ap (λ k. or_else k []) (default_none tries (Some tries) None rows);
-  finished_as = λ rows. default_same tries (Some tries) None rows;
+  defaults = three_defaults;
+  finished_as = three_finished;
   checks = λ rows. refl;
 }
 

@@ -1,5 +1,5 @@
 -- Words that are refused whatever the command is.
-use Rattle.std.proofs.Common.{◌≡◌, ◌∙◌, ◌-◌, ◌||◌, Bool, true, false, refl, sym, ap, ap₂, arith, List, [], ◌∷◌, map, take, drop, length, Option, Some, None, true≢false}
+use Rattle.std.proofs.Common.{◌≡◌, ◌∙◌, ◌-◌, ◌≤◌, get_or, ◌||◌, Bool, true, false, refl, sym, ap, arith, List, [], ◌∷◌, map, take, drop, length, Option, Some, None, true≢false}
 use Rattle.std.specs.Prelude.{if◌then◌else◌}
 use Rattle.std.specs.List.{list_any}
 use Rattle.std.specs.Option.{option_and_then}
@@ -8,8 +8,8 @@ use Rattle.std.specs.Prelude.{codes}
 use Rattle.std.proofs.lemmas.List.{take_all}
 use Rattle.clap.proofs.WalkLemmas.{list_any-map}
 use Rattle.sto_words.specs.declared.command.Command.{Command}
-use Rattle.sto_words.specs.Given.{Text, Takes, Given, Word, Bare, Valued, Alone, Refused, Reading, with_word, with_awaited, kind_of, after_word, given_after, given_by, is_refused, is_refused_kind}
-use Rattle.sto_words.specs.Commands.{command_of, command_from, run_of, run_takes, gen_of, gen_takes}
+use Rattle.sto_words.specs.Given.{Text, Takes, Given, Word, Bare, Valued, Alone, Refused, Reading, with_word, with_awaited, kind_of, after_word, given_after, given_by, is_refused, is_refused_kind, as_option, gives_flag}
+use Rattle.sto_words.specs.Commands.{command_of, command_from, run_of, run_takes, upgrade_of, gen_of, gen_takes}
 
 is_refused_word : (kind : Word) → is_refused_kind kind ≡ true → kind ≡ Refused
 is_refused_word (Bare name) e = absurd (true≢false (sym e))
@@ -34,22 +34,42 @@ refused_given t (word ∷ words) r e = go (is_refused word) refl (refused_given 
     go true f rest = ap (option_and_then (given_after t words)) (refused_here t r.given word r.waiting f)
     go false f rest = later (after_word t r.given word r.waiting) (λ x. rest x (sym (ap (λ b. b || list_any is_refused words) f) ∙ e))
 
-abbrev command_by : Bool → Bool → Option Given → Option Given → Option Command
-command_by is_run is_gen run gen = if is_run then option_and_then run_of run else (if is_gen then option_and_then gen_of gen else None)
+abbrev command_by : Bool → Bool → Bool → Option Given → Option Command → Option Given → Option Command
+command_by is_run is_upgrade is_gen run upgrade gen =
+    if is_run then option_and_then run_of run else (if is_upgrade then upgrade else (if is_gen then option_and_then gen_of gen else None))
 
-no_command : (is_run is_gen : Bool) → None ≡ command_by is_run is_gen None None
-no_command true is_gen = refl
-no_command false true = refl
-no_command false false = refl
+no_command : (is_run is_upgrade is_gen : Bool) → None ≡ command_by is_run is_upgrade is_gen None None None
+no_command true is_upgrade is_gen = refl
+no_command false true is_gen = refl
+no_command false false true = refl
+no_command false false false = refl
 
-command_refused : (word : Text) (words : List Text) → list_any is_refused words ≡ true → None ≡ command_from word words
+no_upgrade : (words : List Text) → list_any is_refused words ≡ true → None ≡ upgrade_of words
+no_upgrade [] e = absurd (true≢false (sym e))
+no_upgrade (word ∷ words) e = refl
+
+pub command_refused : (word : Text) (words : List Text) → list_any is_refused words ≡ true → None ≡ command_from word words
 command_refused word words e =
     let is_run = bytes_eq word (codes "run") in
+    let is_upgrade = bytes_eq word (codes "upgrade") in
     let is_gen = bytes_eq word (codes "gen") in
     let none : (t : Takes) → None ≡ given_by t words = λ t. sym (refused_given t words (record { given = []; waiting = None }) e) in
-    no_command is_run is_gen ∙ ap₂ (command_by is_run is_gen) (none run_takes) (none gen_takes)
+    no_command is_run is_upgrade is_gen ∙ (λ i. command_by is_run is_upgrade is_gen (none run_takes i) (no_upgrade words e i) (none gen_takes i))
 
--- words after the first one that are refused
-pub refused_after_first : {X : Type 0} (f : X → Text) (xs : List X) → true ≡ list_any (λ x. is_refused (f x)) (take (length xs - 1) (drop 1 xs)) → None ≡ command_of (map f xs)
-refused_after_first f [] e = refl
-refused_after_first f (x ∷ xs) e = command_refused (f x) (map f xs) (sym (e ∙ ap (list_any (λ y. is_refused (f y))) (take_all (length (x ∷ xs) - 1) xs (omega arith)) ∙ list_any-map is_refused f xs))
+-- words after the first one that give a value to a flag
+pub valued_after_first : {X : Type 0} (f : X → Text) (xs : List X) → true ≡ list_any (λ x. gives_flag (f x)) (take (length xs - 1) (drop 1 xs)) → None ≡ command_of (map f xs)
+valued_after_first f [] e = refl
+valued_after_first f (x ∷ xs) e =
+    let found : list_any gives_flag (map f xs) ≡ true = sym (e ∙ ap (list_any (λ y. gives_flag (f y))) (take_all (length (x ∷ xs) - 1) xs (omega arith)) ∙ list_any-map gives_flag f xs) in
+    sym (ap (λ b. if b then None else command_from (f x) (map as_option (map f xs))) found)
+
+-- words after the first one that give none
+pub options_after_first : {X : Type 0} (f : X → Text) (xs : List X) (x : X) (options : List Text) → 1 ≤ length xs → x ≡ get_or xs 0 x
+    → false ≡ list_any (λ y. gives_flag (f y)) (take (length xs - 1) (drop 1 xs)) → options ≡ map as_option (map f (take (length xs - 1) (drop 1 xs)))
+    → command_from (f x) options ≡ command_of (map f xs)
+options_after_first f [] x options some is e same = absurd (omega (arith, some))
+options_after_first f (y ∷ ys) x options some is e same =
+    let all : take (length (y ∷ ys) - 1) ys ≡ ys = take_all (length (y ∷ ys) - 1) ys (omega arith) in
+    let none : list_any gives_flag (map f ys) ≡ false = sym (e ∙ ap (list_any (λ z. gives_flag (f z))) all ∙ list_any-map gives_flag f ys) in
+    (λ i. command_from (f (is i)) ((same ∙ ap (λ zs. map as_option (map f zs)) all) i))
+    ∙ sym (ap (λ b. if b then None else command_from (f y) (map as_option (map f ys))) none)

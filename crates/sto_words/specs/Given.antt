@@ -1,6 +1,6 @@
 -- What the words after a command give: values by the names of what they are for.
-use Rattle.std.specs.Prelude.{ℕ, List, [], ◌∷◌, ◌++◌, Bool, true, false, is_some, Option, None, Some, codes, find, if◌then◌else◌}
-use Rattle.std.specs.List.{list_any}
+use Rattle.std.specs.Prelude.{ℕ, List, [], ◌∷◌, ◌++◌, Bool, true, false, is_some, Option, None, Some, codes, eqb, find, if◌then◌else◌}
+use Rattle.std.specs.List.{list_any, starts_with}
 use Rattle.std.specs.Option.{option_map, option_and_then}
 use Rattle.std.specs.Str.{bytes_eq}
 use Rattle.clap.specs.Lexer.{long_of, strip_byte}
@@ -101,3 +101,11 @@ is_refused_kind kind = false
 
 abbrev pub is_refused : Text → Bool
 is_refused word = is_refused_kind (kind_of word)
+
+-- `--json` is a word of its own: it stands for the option without a value, that is with the empty one
+abbrev pub as_option : Text → Text
+as_option word = if bytes_eq word (codes "--json") then codes "--json=" else word
+
+-- no word gives it a value
+abbrev pub gives_flag : Text → Bool
+gives_flag word = starts_with eqb word (codes "--json=")

@@ -1,5 +1,5 @@
 -- What `clap` is told of a command.
-use Rattle.std.specs.Prelude.{◌≡◌, List, [], ◌∷◌, ◌++◌, Bool, true, map, Option, None, Some, if◌then◌else◌}
+use Rattle.std.specs.Prelude.{◌≡◌, List, [], ◌∷◌, ◌++◌, Bool, true, false, map, Option, None, Some, if◌then◌else◌}
 use Rattle.clap.specs.Walk.{Rule, rows_of}
 use Rattle.clap.specs.Matches.{found_of}
 use Rattle.clap.specs.Simple.{App, new_rule, new_shape, matches_of}
@@ -20,6 +20,10 @@ app_for name t = record {
   top = record (new_shape name) { rules = map option_rule t.options ++ number_rules t.number; no_binary_name = true; disable_help_flag = true };
   subs = [];
 }
+
+-- no option and no number
+abbrev pub nothing : Takes
+nothing = record { options = []; number = false }
 
 -- what `clap` finds in words: none exactly where it has a fault to tell of
 abbrev pub Finds : App → List Text → Option ArgMatches → Type 0

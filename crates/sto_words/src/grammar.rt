@@ -1,23 +1,43 @@
 //! The options of each command, as `clap` reads them.
-ghost use Rattle.std.specs.Prelude.{◌≡◌, IfOk, map, string_bytes, true, codes};
+ghost use Rattle.std.specs.Prelude.{◌≡◌, IfOk, map, true, codes};
 ghost use Rattle.clap.specs.Words.{app_of, is_simple_and_free};
+ghost use Rattle.clap.specs.Simple.{with_rule};
 ghost use Rattle.sto_words.specs.Commands.{run_takes, gen_takes};
-ghost use Rattle.sto_words.specs.Grammars.{Finds, app_for};
+ghost use Rattle.sto_words.specs.Grammars.{Finds, app_for, option_rule, nothing};
 
 use clap::error::ErrorKind;
 use clap::{Arg, ArgMatches, Command};
 use std::alloc::{AllocError, Global};
 use sto_part::NoMemory;
 
-/// `run [--tries N]`
+/// A command without options.
+fn bare<'a>(alloc: Global, name: &'a str) -> Command<'a>
+    ensures { app_of result ≡ app_for name.entry.now nothing }
+{
+    Command::new(alloc, name)
+        .no_binary_name(true)
+        .disable_help_flag(true)
+}
+
+/// The command with an option more.
+fn with_option<'a>(
+    alloc: Global,
+    command: Command<'a>,
+    name: &'a str,
+) -> Result<Command<'a>, AllocError>
+    ensures { IfOk result (λ c. app_of c ≡ with_rule (app_of command.entry) (option_rule name.entry.now)) }
+{
+    let option = Arg::new(alloc, name).long(name);
+    command.arg(option)
+}
+
+/// `run [--threads N] [--tries N] [--json]`
 pub(crate) fn run_grammar<'a>(alloc: Global) -> Result<Command<'a>, AllocError>
     ensures { IfOk result (λ c. app_of c ≡ app_for (codes "run") run_takes) }
 {
-    let tries = Arg::new(alloc, "tries").long("tries");
-    Command::new(alloc, "run")
-        .no_binary_name(true)
-        .disable_help_flag(true)
-        .arg(tries)
+    let first = with_option(alloc, bare(alloc, "run"), "threads")?;
+    let second = with_option(alloc, first, "tries")?;
+    with_option(alloc, second, "json")
 }
 
 /// `gen NUMBER`
@@ -34,10 +54,10 @@ pub(crate) fn gen_grammar<'a>(alloc: Global) -> Result<Command<'a>, AllocError>
 /// What the words give the command, where it takes them.
 pub(crate) fn matches_in<'a>(
     command: Command<'a>,
-    words: &'a [String],
+    words: &'a [&'a str],
 ) -> Result<Option<ArgMatches<'a>>, NoMemory>
     requires { is_simple_and_free (app_of command) ≡ true }
-    ensures { IfOk result (λ m. Finds (app_of command.entry) (map (λ word. string_bytes word) words.entry.now) m) }
+    ensures { IfOk result (λ m. Finds (app_of command.entry) (map (λ word. word.now) words.entry.now) m) }
 {
     match command.try_get_matches_from(words) {
         Ok(matches) => Ok(Some(matches)),

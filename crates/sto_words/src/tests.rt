@@ -11,13 +11,51 @@ fn words_of(alloc: Global, words: &[&str]) -> Result<Vec<String>, AllocError> {
     Ok(texts)
 }
 
-const COMMANDS: [(&[&str], Command); 7] = [
-    (&["run"], Command::Run { tries: 64 }),
-    (&["run", "--tries=3"], Command::Run { tries: 3 }),
-    (&["run", "--tries", "1"], Command::Run { tries: 1 }),
-    (&["run", "--tries", "64"], Command::Run { tries: 64 }),
+const COMMANDS: [(&[&str], Command); 10] = [
+    (
+        &["run"],
+        Command::Run {
+            threads: None,
+            tries: 64,
+            json: false,
+        },
+    ),
+    (
+        &["run", "--tries=3"],
+        Command::Run {
+            threads: None,
+            tries: 3,
+            json: false,
+        },
+    ),
+    (
+        &["run", "--tries", "1"],
+        Command::Run {
+            threads: None,
+            tries: 1,
+            json: false,
+        },
+    ),
+    (
+        &["run", "--json", "--tries", "64", "--threads=16"],
+        Command::Run {
+            threads: Some(16),
+            tries: 64,
+            json: true,
+        },
+    ),
+    (
+        &["run", "--threads", "1", "--json"],
+        Command::Run {
+            threads: Some(1),
+            tries: 64,
+            json: true,
+        },
+    ),
+    (&["upgrade"], Command::Upgrade),
     (&["gen", "0"], Command::Gen { number: 0 }),
     (&["gen", "1"], Command::Gen { number: 1 }),
+    (&["gen", "7"], Command::Gen { number: 7 }),
     (
         &["gen", "18446744073709551615"],
         Command::Gen { number: u64::MAX },
@@ -35,7 +73,7 @@ fn example_commands(rt: HostRuntime) -> Result<(), Fail> {
     Ok(())
 }
 
-const NO_COMMANDS: [&[&str]; 26] = [
+const NO_COMMANDS: [&[&str]; 34] = [
     &[],
     &["run", "--tries", "0"],
     &["run", "--tries", "65"],
@@ -43,6 +81,14 @@ const NO_COMMANDS: [&[&str]; 26] = [
     &["run", "--tries", "2", "--tries", "2"],
     &["run", "--tries=2", "--tries=2"],
     &["run", "--threads", "17"],
+    &["run", "--threads=0"],
+    &["run", "--json", "--json"],
+    &["run", "--json="],
+    &["run", "--json=1"],
+    &["run", "--tries", "--json", "3"],
+    &["upgrade", "--json"],
+    &["upgrade", "1"],
+    &["gen", "1", "--json"],
     &["run", "--"],
     &["run", "--help"],
     &["run", "-h"],

@@ -1,9 +1,9 @@
-use Rattle.sto_lang.specs.Views.{file}
+use Rattle.sto_lang.specs.Views.{file as view}
 use Rattle.sto_lang.proofs.SoundFiles.{readable_sound}
 use Rattle.sto_cli.proofs.answer.run_text.Goals as goal
 
-pub run_file-requires : goal.run_file-requires
-run_file-requires c = readable_sound c.args.bytes.now (file c.in-Ok.file) c.in-Ok.ensures
+pub report-requires : goal.report-requires
+report-requires c = readable_sound c.args.bytes.now (view c.in_ok-file.file) c.in_ok-file.ensures.file
 
-pub report-requires-clause-names : goal.report-requires-clause-names
-report-requires-clause-names c = (readable_sound c.args.bytes.now (file c.in-Ok.file) c.in-Ok.ensures).named
+pub returns-clause-text : goal.returns-clause-text
+returns-clause-text c = λ threads tries. (view c.in_ok-file.file, c.in_ok-file.ensures.file, λ u. c.in_ok-report.ensures u tries)

@@ -1,4 +1,4 @@
-use Rattle.std.proofs.Common.{ℕ, List, subst}
+use Rattle.std.proofs.Common.{ℕ, List, Option, subst}
 use Rattle.std.proofs.lemmas.Result.{IfOk-weaker}
 use Rattle.sto_words.specs.declared.command.Command.TheVariants as commands
 use Rattle.sto_cli.specs.Outputs.{IsOutput}
@@ -9,14 +9,14 @@ use Rattle.sto_cli.proofs.work.run_source.Goals as goal
 pub returns-clause-made : goal.returns-clause-made
 returns-clause-made g c =
     IfOk-weaker c.run_text.result
-    (λ text. (tries : ℕ) → IsOutput (commands.Run tries) c.as_slice.result.now text.items)
-    (λ text. (tries : ℕ) → Made (commands.Run tries) (g.S.Source.left c.args.source.now) (g.S.Source.left c.read_all.new.source) text.items)
-    (λ text h tries.
-    let output : IsOutput (commands.Run tries) c.in-Ok.bytes.items text.items =
-    subst (λ (bytes : List ℕ). IsOutput (commands.Run tries) bytes text.items) c.as_slice.ensures.items (h tries) in
+    (λ text. (threads : Option ℕ) (tries : ℕ) → IsOutput (commands.Run threads tries c.args.json) c.as_slice.result.now text.items)
+    (λ text. (threads : Option ℕ) (tries : ℕ) → Made (commands.Run threads tries c.args.json) (g.S.Source.left c.args.source.now) (g.S.Source.left c.bytes_left.new.source) text.items)
+    (λ text h threads tries.
+    let output : IsOutput (commands.Run threads tries c.args.json) c.in_ok-bytes.bytes.items text.items =
+    subst (λ (bytes : List ℕ). IsOutput (commands.Run threads tries c.args.json) bytes text.items) c.as_slice.ensures.items (h threads tries) in
     record {
-      bytes = c.in-Ok.bytes.items;
-      reads = (c.in-Ok.ensures.taken, c.in-Ok.ensures.end (small_file c.in-Ok.bytes.items output.0 output.1));
+      bytes = c.in_ok-bytes.bytes.items;
+      reads = (c.in_ok-bytes.ensures.taken, c.in_ok-bytes.ensures.end (small_file c.in_ok-bytes.bytes.items output.0 output.1));
       output = output;
     })
     c.run_text.ensures.text

@@ -1,14 +1,19 @@
-use Rattle.std.proofs.Common.{◌∙◌, ◌-◌, sym, string_bytes, take, drop, length}
-use Rattle.clap.proofs.WalkLemmas.{list_any-map}
-use Rattle.sto_words.specs.Given.{is_refused}
-use Rattle.sto_words.proofs.Refused.{refused_after_first}
+use Rattle.std.proofs.Common.{◌≡◌, ◌∙◌, sym, map, string_bytes}
+use Rattle.std.proofs.lemmas.Result.{IfOk-weaker}
+use Rattle.sto_words.specs.Commands.{command_in, command_from}
+use Rattle.sto_words.proofs.Refused.{valued_after_first, options_after_first}
 use Rattle.sto_words.proofs.command.find_command.Goals as goal
 
-pub returns-then-has_refused-clause-command : goal.returns-then-has_refused-clause-command
-returns-then-has_refused-clause-command c = refused_after_first (λ word. string_bytes word) c.args.words.now (sym c.if-has_refused.true ∙ c.has_refused.ensures)
+pub returns-then-has_flag_value-clause-command : goal.returns-then-has_flag_value-clause-command
+returns-then-has_flag_value-clause-command c = valued_after_first (λ word. string_bytes word) c.args.words.now (sym c.if-has_flag_value.true ∙ c.has_flag_value.ensures)
 
-pub run-requires : goal.run-requires
-run-requires c = sym (list_any-map is_refused (λ word. string_bytes word) (take (length c.args.words.now - 1) (drop 1 c.args.words.now))) ∙ sym c.has_refused.ensures ∙ c.if-has_refused.false
-
-pub generate-requires : goal.generate-requires
-generate-requires c = sym (list_any-map is_refused (λ word. string_bytes word) (take (length c.args.words.now - 1) (drop 1 c.args.words.now))) ∙ sym c.has_refused.ensures ∙ c.if-has_refused.false
+pub returns-clause-command : goal.returns-clause-command
+returns-clause-command c =
+    IfOk-weaker c.command_from.result
+    (λ x. x ≡ command_from c.as_str.result.now (map (λ option. option.now) c.as_slice.result.now))
+    (λ x. x ≡ command_in c.args.words.now)
+    (λ x h. h
+    ∙ (λ i. command_from (c.as_str.ensures.value i) (map (λ option. option.now) (c.as_slice.ensures.value i)))
+    ∙ options_after_first (λ word. string_bytes word) c.args.words.now c.word-item.result (map (λ option. option.now) c.in_ok-options.options.items)
+    c.in-len1-up.len_at_least c.word-item.is (sym c.if-has_flag_value.false ∙ c.has_flag_value.ensures) c.in_ok-options.ensures)
+    c.command_from.ensures.command

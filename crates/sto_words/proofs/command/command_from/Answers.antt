@@ -1,0 +1,15 @@
+use Rattle.std.proofs.Common.{◌∙◌, sym, map}
+use Rattle.clap.proofs.WalkLemmas.{list_any-map}
+use Rattle.sto_words.specs.Given.{is_refused}
+use Rattle.sto_words.proofs.Refused.{command_refused}
+use Rattle.sto_words.proofs.command.command_from.Goals as goal
+
+pub returns-then-has_refused-clause-command : goal.returns-then-has_refused-clause-command
+returns-then-has_refused-clause-command c =
+    command_refused c.args.word.now (map (λ option. option.now) c.args.options.now) (sym (list_any-map is_refused (λ option. option.now) c.args.options.now) ∙ sym c.has_refused.ensures ∙ c.if-has_refused.true)
+
+pub run-requires : goal.run-requires
+run-requires c = sym (list_any-map is_refused (λ option. option.now) c.args.options.now) ∙ sym c.has_refused.ensures ∙ c.if-has_refused.false
+
+pub generate-requires : goal.generate-requires
+generate-requires c = sym (list_any-map is_refused (λ option. option.now) c.args.options.now) ∙ sym c.has_refused.ensures ∙ c.if-has_refused.false
