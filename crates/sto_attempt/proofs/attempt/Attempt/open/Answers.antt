@@ -1,0 +1,117 @@
+use Rattle.std.proofs.Common.{◌≡◌, ◌≤◌, ◌<◌, true, false, List, ℤ, ℕ, [], ap, sym, ◌∙◌, subst, map, arith, refl}
+use Rattle.sto_part.specs.Listed.{Listed}
+use Rattle.sto_model.specs.Told.{told}
+use Rattle.sto_core.specs.Versions.{ticket_of, is_free}
+use Rattle.sto_core.proofs.Lists.{locked_is, unlocked_is}
+use Rattle.sto_attempt.specs.declared.stand.Stand.TheVariants.{Reading, Renewing}
+use Rattle.sto_attempt.specs.Standing.{Fits}
+use Rattle.sto_attempt.specs.Answers.{WasChanged}
+use Rattle.sto_attempt.proofs.Reading.{open_within, open_locked, open_goes, open_renews, open_changed}
+use Rattle.std.proofs.Common.{pos, true≢false}
+use Rattle.sto_attempt.proofs.Alone.{open_alone}
+use Rattle.std.proofs.Common.{◌-◌, false, ◌<◌}
+use Rattle.sto_attempt.proofs.Lowering.{open_renew}
+use Rattle.sto_attempt.proofs.Causing.{by_open}
+use Rattle.sto_attempt.proofs.attempt.Attempt.open.Goals as goal
+
+pub returns-then-is_locked-clause-turned : goal.returns-then-is_locked-clause-turned
+returns-then-is_locked-clause-turned g c =
+    let a = c.args.self.now in
+    let n = c.open-found.result.0 in
+    let locked : is_free n ≡ false = unlocked_is (is_free n) (sym c.is_locked.ensures ∙ c.if-is_locked.true) in
+    let h =
+    open_locked (g.T.TxType.meaning a.course.ty.now) g.T.Naming.valid (g.T.Naming.sizes a.course.ty.now) (g.B.Body.script a.course.body) a.at c.args.part a.words.items a.course.base.items a.course.set.items a.course.set.updates
+    (map told a.course.replies.items) (g.C.Cells.view c.args.cells.now) (g.C.Cells.view c.open-found.new.self) (g.C.Cells.passes c.args.cells.now) n c.requires.fits c.requires.course.course c.open-found.ensures.tells locked in
+    (refl, h.0, open_within (g.T.TxType.meaning a.course.ty.now) g.T.Naming.valid (g.T.Naming.sizes a.course.ty.now) (g.B.Body.script a.course.body) a.at c.args.part a.words.items a.course.base.items a.course.set.items a.course.set.updates (map told a.course.replies.items) (g.C.Cells.view c.args.cells.now) (g.C.Cells.view c.open-found.new.self) (g.C.Cells.passes c.args.cells.now) n c.requires.fits c.requires.course.course c.open-found.ensures.tells, (refl, h.1))
+
+pub returns-then-ticket-self-clause-turned : goal.returns-then-ticket-self-clause-turned
+returns-then-ticket-self-clause-turned g c =
+    let a = c.args.self.now in
+    let m = g.T.TxType.meaning a.course.ty.now in
+    let sizes = g.T.Naming.sizes a.course.ty.now in
+    let f = g.B.Body.script a.course.body in
+    let rs = map told a.course.replies.items in
+    let w = g.C.Cells.view c.open-found.new.self in
+    let n = c.open-found.result.0 in
+    let free : is_free n ≡ true = locked_is (is_free n) (sym c.is_locked.ensures ∙ c.if-is_locked.false) in
+    let early : ticket_of n ≤ a.at = omega (arith, c.if-ticket-self.true, c.ticket-ticket.ensures.ticket) in
+    let h =
+    open_goes m g.T.Naming.valid sizes f a.at c.args.part a.words.items a.course.base.items a.course.set.items a.course.set.updates rs (g.C.Cells.view c.args.cells.now) w (g.C.Cells.passes c.args.cells.now) n c.requires.fits
+    c.requires.course.course c.open-found.ensures.tells free early in
+    let none : c.new.result.items ≡ [] = ap (λ (l : Listed ℤ). l.items) c.new.ensures in (
+      subst (λ (ws : List ℤ). Fits m g.T.Naming.valid sizes f a.at (Reading c.args.part c.ticket-ticket.result) ws a.course.base.items a.course.set.updates rs w) (sym none)
+          (subst (λ (s : ℕ). Fits m g.T.Naming.valid sizes f a.at (Reading c.args.part s) [] a.course.base.items a.course.set.updates rs w) (sym c.ticket-ticket.ensures.ticket) h),
+      c.requires.as_of,
+    )
+
+pub returns-then-self-clause-turned : goal.returns-then-self-clause-turned
+returns-then-self-clause-turned g c =
+    let a = c.args.self.now in
+    let m = g.T.TxType.meaning a.course.ty.now in
+    let f = g.B.Body.script a.course.body in
+    let rs = map told a.course.replies.items in
+    let w = g.C.Cells.view c.open-found.new.self in
+    let n = c.open-found.result.0 in
+    let free : is_free n ≡ true = locked_is (is_free n) (sym c.is_locked.ensures ∙ c.if-is_locked.false) in
+    let later : a.at < ticket_of n = omega (arith, c.if-ticket-self.false, c.ticket-ticket.ensures.ticket) in
+    let h =
+    open_changed m g.T.Naming.valid (g.T.Naming.sizes a.course.ty.now) f a.at c.args.part a.words.items a.course.base.items a.course.set.items a.course.set.updates rs (g.C.Cells.view c.args.cells.now) w
+    (g.C.Cells.passes c.args.cells.now) n c.requires.fits c.requires.course.course c.open-found.ensures.tells free later in
+    (refl, h.0, open_within (g.T.TxType.meaning a.course.ty.now) g.T.Naming.valid (g.T.Naming.sizes a.course.ty.now) (g.B.Body.script a.course.body) a.at c.args.part a.words.items a.course.base.items a.course.set.items a.course.set.updates (map told a.course.replies.items) (g.C.Cells.view c.args.cells.now) (g.C.Cells.view c.open-found.new.self) (g.C.Cells.passes c.args.cells.now) n c.requires.fits c.requires.course.course c.open-found.ensures.tells, (refl, subst (λ (s : ℕ). WasChanged m f w a.at c.args.part s rs) (sym c.ticket-ticket.ensures.ticket) h.1))
+
+pub returns-clause-turned : goal.returns-clause-turned
+returns-clause-turned g c =
+    let a = c.args.self.now in
+    let n = c.open-found.result.0 in
+    let free : is_free n ≡ true = locked_is (is_free n) (sym c.is_locked.ensures ∙ c.if-is_locked.false) in
+    let later : a.at < ticket_of n = omega (arith, c.if-ticket-self.false, c.ticket-ticket.ensures.ticket) in
+    let m = g.T.TxType.meaning a.course.ty.now in
+    let sizes = g.T.Naming.sizes a.course.ty.now in
+    let f = g.B.Body.script a.course.body in
+    let rs = map told a.course.replies.items in
+    let w = g.C.Cells.view c.open-found.new.self in
+    subst (λ (s : ℕ). Fits m g.T.Naming.valid sizes f a.at (Renewing c.args.part s) a.words.items a.course.base.items a.course.set.updates rs w) (sym c.ticket-ticket.ensures.ticket)
+    (open_renews (g.T.TxType.meaning a.course.ty.now) g.T.Naming.valid (g.T.Naming.sizes a.course.ty.now) (g.B.Body.script a.course.body) a.at c.args.part a.words.items a.course.base.items a.course.set.items a.course.set.updates
+    (map told a.course.replies.items) (g.C.Cells.view c.args.cells.now) (g.C.Cells.view c.open-found.new.self) (g.C.Cells.passes c.args.cells.now) n c.requires.fits c.requires.course.course c.open-found.ensures.tells free later)
+
+pub returns-then-is_locked-clause-alone : goal.returns-then-is_locked-clause-alone
+returns-then-is_locked-clause-alone g c one =
+    let a = c.args.self.now in
+    let v = g.C.Cells.view c.args.cells.now in
+    let n = c.open-found.result.0 in
+    let h = open_alone g.T.Naming.valid (g.C.Cells.passes c.args.cells.now) v (g.C.Cells.view c.open-found.new.self) c.args.part n (pos 0) c.requires.fits.unheld c.open-found.ensures.tells one in
+    absurd (true≢false (sym h.0 ∙ unlocked_is (is_free n) (sym c.is_locked.ensures ∙ c.if-is_locked.true)))
+
+pub returns-then-ticket-self-clause-alone : goal.returns-then-ticket-self-clause-alone
+returns-then-ticket-self-clause-alone g c one = (tt, tt)
+
+pub returns-then-self-clause-alone : goal.returns-then-self-clause-alone
+returns-then-self-clause-alone g c one =
+    let a = c.args.self.now in
+    let v = g.C.Cells.view c.args.cells.now in
+    let n = c.open-found.result.0 in
+    let h = open_alone g.T.Naming.valid (g.C.Cells.passes c.args.cells.now) v (g.C.Cells.view c.open-found.new.self) c.args.part n (pos 0) c.requires.fits.unheld c.open-found.ensures.tells one in
+    absurd (omega (arith, h.1, c.requires.fits.number, c.if-ticket-self.false, c.ticket-ticket.ensures.ticket))
+
+pub returns-clause-alone : goal.returns-clause-alone
+returns-clause-alone g c one =
+    let a = c.args.self.now in
+    let v = g.C.Cells.view c.args.cells.now in
+    let n = c.open-found.result.0 in
+    let h = open_alone g.T.Naming.valid (g.C.Cells.passes c.args.cells.now) v (g.C.Cells.view c.open-found.new.self) c.args.part n (pos 0) c.requires.fits.unheld c.open-found.ensures.tells one in
+    absurd (omega (arith, h.1, c.requires.fits.number, c.if-ticket-self.false, c.ticket-ticket.ensures.ticket))
+
+pub returns-then-self-clause-reason : goal.returns-then-self-clause-reason
+returns-then-self-clause-reason g c =
+    let a = c.args.self.now in
+    by_open a.course.set.items (g.C.Cells.view c.open-found.new.self) c.args.part c.ticket-ticket.result a.renewal.extended a.renewal.bound c.if-self.true (omega (arith, c.if-ticket-self.false, c.requires.as_of c.if-self.true))
+
+pub returns-clause-left : goal.returns-clause-left
+returns-clause-left g c =
+    let a = c.args.self.now in
+    let m = g.T.TxType.meaning a.course.ty.now in
+    let law = g.met.T.TxType.lawful a.course.ty.now in
+    let f = g.B.Body.script a.course.body in
+    let rs = map told a.course.replies.items in
+    let base = a.course.base.items in
+    open_renew m law f rs c.args.part base c.requires.fits.awaits (g.B.Body.left a.course.body - 1) a.renewal.extended c.if-self.false

@@ -1,0 +1,152 @@
+use Rattle.std.proofs.Common.{◌≡◌, ◌≤◌, ◌<◌, true, false, List, ℤ, ℕ, [], ap, sym, ◌∙◌, subst, map, length, arith, refl}
+use Rattle.sto_part.specs.Listed.{Listed}
+use Rattle.sto_item.specs.Watched.{watched}
+use Rattle.sto_model.specs.Told.{told}
+use Rattle.sto_type.specs.Known.{Parts}
+use Rattle.sto_core.specs.Versions.{ticket_of, is_free}
+use Rattle.sto_core.proofs.Lists.{locked_is, unlocked_is}
+use Rattle.sto_attempt.specs.declared.stand.Stand.TheVariants.{Rereading}
+use Rattle.sto_attempt.specs.Sights.{words_in}
+use Rattle.sto_attempt.specs.Answers.{WasChanged}
+use Rattle.sto_attempt.specs.Standing.{Renews}
+use Rattle.sto_attempt.proofs.Again.{reopen_allowed, reopened_within, reopened_locked, reopened_changed, reopened_goes}
+use Rattle.std.proofs.Common.{◌-◌, ◌+◌, drop}
+use Rattle.sto_attempt.specs.Bounds.{left_extending}
+use Rattle.sto_attempt.proofs.Lowering.{reopen_over, reopen_fewer}
+use Rattle.sto_attempt.proofs.Causing.{by_open}
+use Rattle.sto_attempt.proofs.attempt.Attempt.reopen.Goals as goal
+
+pub open-found-requires : goal.open-found-requires
+open-found-requires g c =
+    let a = c.args.self.now in
+    let m = g.T.TxType.meaning a.course.ty.now in
+    let law = g.met.T.TxType.lawful a.course.ty.now in
+    let sizes = g.T.Naming.sizes a.course.ty.now in
+    let is : (d : Parts) → g.T.Naming.valid sizes d → m.valid d = λ d h. (g.met.T.TxType.valid_is a.course.ty.now d).1 h in
+    let f = g.B.Body.script a.course.body in
+    let rs = map told a.course.replies.items in
+    let v = g.C.Cells.view c.args.cells.now in
+    let fresh = a.renewal.fresh.items in
+    let ws = map watched a.renewal.watches.items in
+    let goes = c.requires.goes in
+    reopen_allowed m law g.T.Naming.valid sizes is f a.at a.renewal.bound c.args.part false a.course.base.items fresh a.course.set.items ws a.course.set.updates rs v goes.spans goes.observed goes.stands.1 c.requires.course.course goes.stands.0
+
+pub returns-then-is_locked-clause-turned : goal.returns-then-is_locked-clause-turned
+returns-then-is_locked-clause-turned g c =
+    let a = c.args.self.now in
+    let m = g.T.TxType.meaning a.course.ty.now in
+    let law = g.met.T.TxType.lawful a.course.ty.now in
+    let sizes = g.T.Naming.sizes a.course.ty.now in
+    let is : (d : Parts) → g.T.Naming.valid sizes d → m.valid d = λ d h. (g.met.T.TxType.valid_is a.course.ty.now d).1 h in
+    let f = g.B.Body.script a.course.body in
+    let rs = map told a.course.replies.items in
+    let v = g.C.Cells.view c.args.cells.now in
+    let fresh = a.renewal.fresh.items in
+    let ws = map watched a.renewal.watches.items in
+    let goes = c.requires.goes in
+    let w = g.C.Cells.view c.open-found.new.self in
+    let passes = g.C.Cells.passes c.args.cells.now in
+    let n = c.open-found.result.0 in
+    let locked : is_free n ≡ false = unlocked_is (is_free n) (sym c.is_locked.ensures ∙ c.if-is_locked.true) in
+    let h = reopened_locked m law g.T.Naming.valid sizes is f a.at a.renewal.bound c.args.part false a.course.base.items fresh a.course.set.items ws a.course.set.updates rs v goes.spans goes.observed goes.stands.1 c.requires.course.course goes.stands.0 w passes n c.open-found.ensures.tells locked in
+    (refl, h.0, reopened_within m law g.T.Naming.valid sizes is f a.at a.renewal.bound c.args.part false a.course.base.items fresh a.course.set.items ws a.course.set.updates rs v goes.spans goes.observed goes.stands.1 c.requires.course.course goes.stands.0 w passes n c.open-found.ensures.tells, (refl, h.1))
+
+pub returns-then-ticket-self-clause-turned : goal.returns-then-ticket-self-clause-turned
+returns-then-ticket-self-clause-turned g c =
+    let a = c.args.self.now in
+    let m = g.T.TxType.meaning a.course.ty.now in
+    let law = g.met.T.TxType.lawful a.course.ty.now in
+    let sizes = g.T.Naming.sizes a.course.ty.now in
+    let is : (d : Parts) → g.T.Naming.valid sizes d → m.valid d = λ d h. (g.met.T.TxType.valid_is a.course.ty.now d).1 h in
+    let f = g.B.Body.script a.course.body in
+    let rs = map told a.course.replies.items in
+    let v = g.C.Cells.view c.args.cells.now in
+    let fresh = a.renewal.fresh.items in
+    let ws = map watched a.renewal.watches.items in
+    let goes = c.requires.goes in
+    let w = g.C.Cells.view c.open-found.new.self in
+    let passes = g.C.Cells.passes c.args.cells.now in
+    let n = c.open-found.result.0 in
+    let free : is_free n ≡ true = locked_is (is_free n) (sym c.is_locked.ensures ∙ c.if-is_locked.false) in
+    let later : a.renewal.bound < ticket_of n = omega (arith, c.if-ticket-self.true, c.ticket-ticket.ensures.ticket) in
+    let h = reopened_changed m law g.T.Naming.valid sizes is f a.at a.renewal.bound c.args.part false a.course.base.items fresh a.course.set.items ws a.course.set.updates rs v goes.spans goes.observed goes.stands.1 c.requires.course.course goes.stands.0 w passes n c.open-found.ensures.tells free later in
+    (refl, h.0, reopened_within m law g.T.Naming.valid sizes is f a.at a.renewal.bound c.args.part false a.course.base.items fresh a.course.set.items ws a.course.set.updates rs v goes.spans goes.observed goes.stands.1 c.requires.course.course goes.stands.0 w passes n c.open-found.ensures.tells, (refl, subst (λ (k : ℕ). WasChanged m f w a.at c.args.part k rs) (sym c.ticket-ticket.ensures.ticket) h.1))
+
+pub returns-clause-turned : goal.returns-clause-turned
+returns-clause-turned g c =
+    let a = c.args.self.now in
+    let m = g.T.TxType.meaning a.course.ty.now in
+    let law = g.met.T.TxType.lawful a.course.ty.now in
+    let sizes = g.T.Naming.sizes a.course.ty.now in
+    let is : (d : Parts) → g.T.Naming.valid sizes d → m.valid d = λ d h. (g.met.T.TxType.valid_is a.course.ty.now d).1 h in
+    let f = g.B.Body.script a.course.body in
+    let rs = map told a.course.replies.items in
+    let v = g.C.Cells.view c.args.cells.now in
+    let fresh = a.renewal.fresh.items in
+    let ws = map watched a.renewal.watches.items in
+    let goes = c.requires.goes in
+    let w = g.C.Cells.view c.open-found.new.self in
+    let passes = g.C.Cells.passes c.args.cells.now in
+    let n = c.open-found.result.0 in
+    let free : is_free n ≡ true = locked_is (is_free n) (sym c.is_locked.ensures ∙ c.if-is_locked.false) in
+    let early : ticket_of n ≤ a.renewal.bound = omega (arith, c.if-ticket-self.false, c.ticket-ticket.ensures.ticket) in
+    let h = reopened_goes m law g.T.Naming.valid sizes is f a.at a.renewal.bound c.args.part false a.course.base.items fresh a.course.set.items ws a.course.set.updates rs v goes.spans goes.observed goes.stands.1 c.requires.course.course goes.stands.0 w passes n c.open-found.ensures.tells free early in
+    let none : c.new.result.items ≡ [] = ap (λ (l : Listed ℤ). l.items) c.new.ensures in
+    let made : Renews m g.T.Naming.valid sizes a.at (Rereading c.args.part (ticket_of n)) [] a.renewal a.course.base.items a.course.set.items w = record { spans = h.0; observed = goes.observed; extended = goes.extended; stands = (h.1, early, omega arith, goes.stands.1) } in
+    subst (λ (ks : List ℤ). Renews m g.T.Naming.valid sizes a.at (Rereading c.args.part c.ticket-ticket.result) ks a.renewal a.course.base.items a.course.set.items w) (sym none)
+    (subst (λ (k : ℕ). Renews m g.T.Naming.valid sizes a.at (Rereading c.args.part k) [] a.renewal a.course.base.items a.course.set.items w) (sym c.ticket-ticket.ensures.ticket) made)
+
+pub returns-then-ticket-self-clause-reason : goal.returns-then-ticket-self-clause-reason
+returns-then-ticket-self-clause-reason g c =
+    let a = c.args.self.now in
+    by_open a.course.set.items (g.C.Cells.view c.open-found.new.self) c.args.part c.ticket-ticket.result a.renewal.extended a.renewal.bound c.requires.goes.extended c.if-ticket-self.true
+
+pub returns-then-is_locked-clause-left : goal.returns-then-is_locked-clause-left
+returns-then-is_locked-clause-left g c =
+    let a = c.args.self.now in
+    let m = g.T.TxType.meaning a.course.ty.now in
+    let law = g.met.T.TxType.lawful a.course.ty.now in
+    let sizes = g.T.Naming.sizes a.course.ty.now in
+    let is : (d : Parts) → g.T.Naming.valid sizes d → m.valid d = λ d h. (g.met.T.TxType.valid_is a.course.ty.now d).1 h in
+    let f = g.B.Body.script a.course.body in
+    let rs = map told a.course.replies.items in
+    let v = g.C.Cells.view c.args.cells.now in
+    let fresh = a.renewal.fresh.items in
+    let ws = map watched a.renewal.watches.items in
+    let goes = c.requires.goes in
+    let passes = g.C.Cells.passes c.args.cells.now in
+    reopen_over m.widths (words_in a.course.base.items) fresh ws c.args.part goes.stands.1 (g.B.Body.left a.course.body - 1)
+
+pub returns-then-ticket-self-clause-left : goal.returns-then-ticket-self-clause-left
+returns-then-ticket-self-clause-left g c =
+    let a = c.args.self.now in
+    let m = g.T.TxType.meaning a.course.ty.now in
+    let law = g.met.T.TxType.lawful a.course.ty.now in
+    let sizes = g.T.Naming.sizes a.course.ty.now in
+    let is : (d : Parts) → g.T.Naming.valid sizes d → m.valid d = λ d h. (g.met.T.TxType.valid_is a.course.ty.now d).1 h in
+    let f = g.B.Body.script a.course.body in
+    let rs = map told a.course.replies.items in
+    let v = g.C.Cells.view c.args.cells.now in
+    let fresh = a.renewal.fresh.items in
+    let ws = map watched a.renewal.watches.items in
+    let goes = c.requires.goes in
+    let passes = g.C.Cells.passes c.args.cells.now in
+    reopen_over m.widths (words_in a.course.base.items) fresh ws c.args.part goes.stands.1 (g.B.Body.left a.course.body - 1)
+
+pub returns-clause-left : goal.returns-clause-left
+returns-clause-left g c =
+    let a = c.args.self.now in
+    let m = g.T.TxType.meaning a.course.ty.now in
+    let law = g.met.T.TxType.lawful a.course.ty.now in
+    let sizes = g.T.Naming.sizes a.course.ty.now in
+    let is : (d : Parts) → g.T.Naming.valid sizes d → m.valid d = λ d h. (g.met.T.TxType.valid_is a.course.ty.now d).1 h in
+    let f = g.B.Body.script a.course.body in
+    let rs = map told a.course.replies.items in
+    let v = g.C.Cells.view c.args.cells.now in
+    let fresh = a.renewal.fresh.items in
+    let ws = map watched a.renewal.watches.items in
+    let goes = c.requires.goes in
+    let passes = g.C.Cells.passes c.args.cells.now in
+    let none : c.new.result.items ≡ [] = ap (λ (l : Listed ℤ). l.items) c.new.ensures in
+    let most = left_extending (g.B.Body.left a.course.body - 1) m.widths (drop (length fresh) ws) in
+    subst (λ (l : List ℤ). most - (1 + length l) < most) (sym none) (reopen_fewer m.widths (words_in a.course.base.items) fresh ws c.args.part goes.stands.1 (g.B.Body.left a.course.body - 1))

@@ -1,0 +1,41 @@
+use Rattle.std.proofs.Common.{◌≡◌, ◌≤◌, ◌*◌, List, ap, sym, subst, map, arith, length}
+use Rattle.sto_item.specs.Pending.{Entry as Update}
+use Rattle.sto_model.specs.Told.{told}
+use Rattle.sto_attempt.specs.declared.stage.Stage.TheVariants.{Locking}
+use Rattle.sto_attempt.specs.Bounds.{round, words_of}
+use Rattle.sto_attempt.specs.Remaining.{commit_left}
+use Rattle.sto_attempt.specs.Stages.{deal, IsPlanned}
+use Rattle.sto_attempt.proofs.Sealing.{gathered_planned, gathered_bounded}
+use Rattle.sto_attempt.proofs.attempt.Attempt.stock.Goals as goal
+
+pub width_of_all-requires : goal.width_of_all-requires
+width_of_all-requires g c =
+    let a = c.args.self.now in
+    let law = g.met.T.TxType.lawful a.course.ty.now in
+    let l = c.in_ok-lists.lists in
+    let is = c.in_ok-lists.ensures in
+    let same : length l.updates.items ≡ length a.course.set.updates = ap (λ (x : List Update). length x) is.updates in
+    let it = gathered_planned (g.T.TxType.meaning a.course.ty.now) law g.T.Naming.valid (g.T.Naming.sizes a.course.ty.now) (g.B.Body.script a.course.body) a.at a.course.base.items a.course.set.items (map told a.course.replies.items) a.course.set.updates c.requires.course c.requires.some l.seen.items l.loaded.items l.tasks.items l.checks.items l.places.items is.gathered is.checks is.places (omega (arith, same, is.few)) in
+    it.in_range
+
+pub returns-clause-planned : goal.returns-clause-planned
+returns-clause-planned g c =
+    let a = c.args.self.now in
+    let law = g.met.T.TxType.lawful a.course.ty.now in
+    let l = c.in_ok-lists.lists in
+    let is = c.in_ok-lists.ensures in
+    let same : length l.updates.items ≡ length a.course.set.updates = ap (λ (x : List Update). length x) is.updates in
+    let it = gathered_planned (g.T.TxType.meaning a.course.ty.now) law g.T.Naming.valid (g.T.Naming.sizes a.course.ty.now) (g.B.Body.script a.course.body) a.at a.course.base.items a.course.set.items (map told a.course.replies.items) a.course.set.updates c.requires.course c.requires.some l.seen.items l.loaded.items l.tasks.items l.checks.items l.places.items is.gathered is.checks is.places (omega (arith, same, is.few)) in
+    subst (λ (x : List Update). IsPlanned (deal (g.T.TxType.meaning a.course.ty.now) g.T.Naming.valid (g.T.Naming.sizes a.course.ty.now) (g.B.Body.script a.course.body) a.at a.course.base.items a.course.set.items (map told a.course.replies.items) x l.seen.items l.loaded.items l.tasks.items l.checks.items l.places.items)) (sym is.updates) it
+
+pub returns-clause-left : goal.returns-clause-left
+returns-clause-left g c =
+    let a = c.args.self.now in
+    let law = g.met.T.TxType.lawful a.course.ty.now in
+    let l = c.in_ok-lists.lists in
+    let is = c.in_ok-lists.ensures in
+    let same : length l.updates.items ≡ length a.course.set.updates = ap (λ (x : List Update). length x) is.updates in
+    let it = gathered_planned (g.T.TxType.meaning a.course.ty.now) law g.T.Naming.valid (g.T.Naming.sizes a.course.ty.now) (g.B.Body.script a.course.body) a.at a.course.base.items a.course.set.items (map told a.course.replies.items) a.course.set.updates c.requires.course c.requires.some l.seen.items l.loaded.items l.tasks.items l.checks.items l.places.items is.gathered is.checks is.places (omega (arith, same, is.few)) in
+    let m = g.T.TxType.meaning a.course.ty.now in
+    let few = gathered_bounded m law g.T.Naming.valid (g.T.Naming.sizes a.course.ty.now) (g.B.Body.script a.course.body) a.at a.course.base.items a.course.set.items (map told a.course.replies.items) a.course.set.updates c.requires.course c.requires.some l.seen.items l.loaded.items l.tasks.items l.checks.items l.places.items is.gathered it in
+    subst (λ (x : List Update). commit_left (deal m g.T.Naming.valid (g.T.Naming.sizes a.course.ty.now) (g.B.Body.script a.course.body) a.at a.course.base.items a.course.set.items (map told a.course.replies.items) x l.seen.items l.loaded.items l.tasks.items l.checks.items l.places.items) (Locking 0) ≤ 2 * round (length m.widths) (words_of m.widths)) (sym is.updates) few

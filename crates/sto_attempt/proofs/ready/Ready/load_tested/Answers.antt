@@ -1,0 +1,77 @@
+use Rattle.std.proofs.Common.{◌≡◌, ◌<◌, ◌+◌, ◌∙◌, ℕ, ℤ, List, [], ◌∷◌, ◌++◌, ap, sym, subst, map, arith, slice_index_or, rules, Fits, FitsSigned, w64, w32}
+use Rattle.std.proofs.lemmas.Option.{get_or_from_slice_get}
+use Rattle.std.proofs.lemmas.Int.{to_z-of_z}
+use Rattle.sto_part.specs.Listed.{Listed}
+use Rattle.sto_model.specs.Told.{told}
+use Rattle.sto_core.specs.Event.{Word}
+use Rattle.sto_core.specs.Tells.{Tells}
+use Rattle.sto_core.specs.Views.{width_in}
+use Rattle.sto_core.specs.Allowed.{HasPart, MayRead}
+use Rattle.sto_attempt.specs.declared.stage.Loaded.{Loaded}
+use Rattle.sto_attempt.specs.Stages.{Deal, deal, task, IsTestedWord}
+use Rattle.sto_attempt.proofs.Unheld.{may_read_word, word_goes}
+use Rattle.sto_attempt.proofs.Space.{space_more}
+use Rattle.sto_attempt.proofs.Remaining.{word_lowers}
+use Rattle.sto_attempt.proofs.ready.Ready.load_tested.Goals as goal
+
+pub word-value-requires : goal.word-value-requires
+word-value-requires g c =
+    let a = c.args.self.now in
+    let d : Deal = deal (g.T.TxType.meaning a.course.ty.now) g.T.Naming.valid (g.T.Naming.sizes a.course.ty.now) (g.B.Body.script a.course.body) a.at a.course.base.items a.course.set.items (map told a.course.replies.items) a.updates.items a.seen.items a.loaded.items a.tasks.items a.checks.items a.places.items in
+    let law = g.met.T.TxType.lawful a.course.ty.now in
+    let v = g.C.Cells.view c.args.cells.now in
+    let n = c.args.place in
+    let i = c.args.word in
+    let p = c.get-part.result.now in
+    let at : slice_index_or a.tasks.items n 0 ≡ p = get_or_from_slice_get a.tasks.items n p 0 c.get-part.ensures in
+    subst (λ (q : ℕ). MayRead v q v.phase × (HasPart v q × (i < width_in v q))) at (may_read_word d law n i c.args.ticket a.finds a.loads.items v c.requires.stands (omega (arith, c.requires.more, c.requires.width)))
+
+pub overflow_add-self : goal.overflow_add-self
+overflow_add-self g c =
+    let fit : Fits w32 c.args.width = search rules in
+    omega (arith, c.requires.more, fit)
+
+pub returns-clause-space : goal.returns-clause-space
+returns-clause-space g c =
+    let a = c.args.self.now in
+    let h = c.requires.stands in
+    space_more (g.T.TxType.meaning a.course.ty.now).widths a.tasks.items c.args.place c.args.word a.loads c.requires.space h.below (omega (arith, c.requires.more, c.requires.width)) _ c.push_spare.new.self c.push_spare.ensures (c.args.word + 1) (omega arith)
+
+pub returns-clause-said : goal.returns-clause-said
+returns-clause-said g c =
+    let a = c.args.self.now in
+    let d : Deal = deal (g.T.TxType.meaning a.course.ty.now) g.T.Naming.valid (g.T.Naming.sizes a.course.ty.now) (g.B.Body.script a.course.body) a.at a.course.base.items a.course.set.items (map told a.course.replies.items) a.updates.items a.seen.items a.loaded.items a.tasks.items a.checks.items a.places.items in
+    let law = g.met.T.TxType.lawful a.course.ty.now in
+    let v = g.C.Cells.view c.args.cells.now in
+    let n = c.args.place in
+    let i = c.args.word in
+    let p = c.get-part.result.now in
+    let at : slice_index_or a.tasks.items n 0 ≡ p = get_or_from_slice_get a.tasks.items n p 0 c.get-part.ensures in
+    let w = g.C.Cells.view c.word-value.new.self in
+    let passes = g.C.Cells.passes c.args.cells.now in
+    let x = c.word-value.result in
+    let tells : Tells g.T.Naming.valid passes (Word (task d n) i) v 0 x w = subst (λ (q : ℕ). Tells g.T.Naming.valid passes (Word q i) v 0 x w) (sym at) c.word-value.ensures.tells in
+    let loads = c.push_spare.new.self in
+    let fit : FitsSigned w64 x = search rules in
+    let pushed : loads.items ≡ a.loads.items ++ record { part = p; word = i; value = x } ∷ [] = ap (λ (l : Listed Loaded). l.items) c.push_spare.ensures ∙ ap (λ (y : ℤ). a.loads.items ++ record { part = p; word = i; value = y } ∷ []) (to_z-of_z w64 x fit) in
+    let items : loads.items ≡ a.loads.items ++ record { part = task d n; word = i; value = x } ∷ [] = pushed ∙ ap (λ (q : ℕ). a.loads.items ++ record { part = q; word = i; value = x } ∷ []) (sym at) in
+    let it = word_goes d law n i c.args.ticket a.finds a.loads.items v c.requires.stands (omega (arith, c.requires.more, c.requires.width)) w _ _ x tells (i + 1) (omega arith) in
+    subst (λ (l : List Loaded). IsTestedWord d n (i + 1) c.args.ticket a.finds l w) (sym items) it
+
+pub returns-clause-left : goal.returns-clause-left
+returns-clause-left g c =
+    let a = c.args.self.now in
+    let d : Deal = deal (g.T.TxType.meaning a.course.ty.now) g.T.Naming.valid (g.T.Naming.sizes a.course.ty.now) (g.B.Body.script a.course.body) a.at a.course.base.items a.course.set.items (map told a.course.replies.items) a.updates.items a.seen.items a.loaded.items a.tasks.items a.checks.items a.places.items in
+    let h = c.requires.stands in
+    let k = c.args.place in
+    word_lowers d k c.args.word h.below c.args.ticket (omega (arith, c.requires.more, c.requires.width)) (c.args.word + 1) (omega arith)
+
+pub returns-clause-reason : goal.returns-clause-reason
+returns-clause-reason g c =
+    let a = c.args.self.now in
+    λ y e. absurd e
+
+pub returns-clause-alone : goal.returns-clause-alone
+returns-clause-alone g c =
+    let a = c.args.self.now in
+    λ one quiet. record { early = quiet.early; unaborted = λ y e. absurd e }

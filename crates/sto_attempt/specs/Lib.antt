@@ -1,0 +1,17 @@
+pub mod Sights
+pub mod Asked
+pub mod Course
+pub mod Answers
+pub mod Growing
+pub mod Reached
+pub mod Remaining
+pub mod Led
+pub mod Standing
+pub mod Reasons
+pub mod Bounds
+pub mod Extending
+pub mod Looking
+pub mod Committing
+pub mod Stages
+pub mod Gathering
+pub mod Verdicts

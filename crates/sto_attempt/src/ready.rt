@@ -1,0 +1,546 @@
+//! The commit of an attempt.
+ghost use Rattle.std.specs.Prelude.{◌≡◌, ◌⊎◌, ◌<◌, ◌≤◌, [], Some, None, length, map};
+ghost use Rattle.std.specs.List.{list_any, list_all};
+ghost use Rattle.std.specs.Option.{option_map_or};
+ghost use Rattle.sto_attempt.specs.Sights.{ticket_in};
+ghost use Rattle.sto_model.specs.Told.{told};
+ghost use Rattle.sto_attempt.specs.declared.stage.Stage.{Stage};
+ghost use Rattle.sto_attempt.specs.Answers.{OneEvent, IsCommitEvent, IsPrefix};
+ghost use Rattle.sto_attempt.specs.Remaining.{commit_left};
+ghost use Rattle.sto_attempt.specs.Verdicts.{ComesTo, HasReason, IsUndisturbed};
+ghost use Rattle.sto_attempt.specs.declared.verdict.Verdict.{Verdict};
+ghost use Rattle.sto_attempt.specs.Stages.{deal, Stands, Said, EndsBy, IsAim, IsNextCheck, IsNextPut, HasSpace, SpaceAt, is_so, is_load_of, is_of_part, is_same_part, reads_of, ticket_from, expected_of};
+ghost use Rattle.sto_core.specs.Reads.{value_read};
+
+use crate::course::Course;
+use crate::sight::Sight;
+use crate::stage::{Finds, Found, Loaded, Loads, Stage};
+use crate::verdict::{Heard, Verdict};
+use sto_core::Cells;
+use sto_item::{Item, Updates};
+use sto_model::{Body, Replies};
+use sto_part::{List, Parts, Update, holds};
+use sto_type::TxType;
+
+/// An attempt whose body commits, with all memory that the commit takes.
+#[derive(Drop)]
+pub struct Ready<'t, T: TxType, B: Body> {
+    pub(crate) course: Course<'t, T, B>,
+    /// The value of the clock as of which it has read.
+    pub(crate) at: u64,
+    pub(crate) updates: Updates,
+    /// The parts that are seen.
+    pub(crate) seen: Parts,
+    /// The other parts that are observed.
+    pub(crate) loaded: Parts,
+    /// The parts whose words are loaded.
+    pub(crate) tasks: Parts,
+    /// The parts that are checked.
+    pub(crate) checks: Parts,
+    /// The words that are put: part and place.
+    pub(crate) places: List<(u32, u32)>,
+    /// What locks and tests have found.
+    pub(crate) finds: Finds,
+    /// What the commit has read.
+    pub(crate) loads: Loads,
+    pub(crate) stage: Stage,
+}
+
+impl<T: TxType, B: Body> Ready<'_, T, B> {
+    /// The replies of the body.
+    pub fn replies(&self) -> &Replies
+        ensures { result.now ≡ self.now.course.replies }
+    {
+        &self.course.replies
+    }
+
+    /// The body and what it heard.
+    pub fn end(self) -> Heard<B>
+        ensures body { result.body ≡ self.entry.course.body }
+        ensures replies { result.replies ≡ self.entry.course.replies }
+    {
+        let Ready { course, .. } = self;
+        let Course { body, replies, .. } = course;
+        Heard { body, replies }
+    }
+
+    /// Makes the next event of the commit, or of its giving up, and answers the verdict with the last one.
+    ///
+    /// It takes no memory. The pass is that of the earlier steps, with its view as they left it, and no verdict was given yet.
+    pub fn step<C: Cells<T>>(&mut self, cells: &mut C) -> Option<Verdict>
+        requires stands { Stands (deal (T.meaning self.old.course.ty.now) T.valid (T.sizes self.old.course.ty.now) (B.script self.old.course.body) self.old.at self.old.course.base.items self.old.course.set.items (map told self.old.course.replies.items) self.old.updates.items self.old.seen.items self.old.loaded.items self.old.tasks.items self.old.checks.items self.old.places.items) self.old.finds self.old.loads.items self.old.stage (C.view cells.old) }
+        requires space { SpaceAt (T.meaning self.old.course.ty.now).widths self.old.tasks.items self.old.loads self.old.stage }
+        requires copy { self.old.course.set.updates ≡ self.old.updates.items }
+
+        // What the step leaves for the next one, or what the verdict tells.
+        ensures said { Said (deal (T.meaning self.old.course.ty.now) T.valid (T.sizes self.old.course.ty.now) (B.script self.old.course.body) self.old.at self.old.course.base.items self.old.course.set.items (map told self.old.course.replies.items) self.old.updates.items self.old.seen.items self.old.loaded.items self.old.tasks.items self.old.checks.items self.old.places.items) self.new.finds self.new.loads.items self.new.stage (C.view cells.new) result }
+        ensures space { SpaceAt (T.meaning self.old.course.ty.now).widths self.old.tasks.items self.new.loads self.new.stage }
+        ensures kept { self.new ≡ record self.old { finds = self.new.finds; loads = self.new.loads; stage = self.new.stage } }
+
+        // The replies are still the first ones of the body's serial run on contents that have the claims.
+        ensures prefix { IsPrefix (T.meaning self.old.course.ty.now) (B.script self.old.course.body) (C.view cells.new) self.old.at (map told self.old.course.replies.items) }
+
+        // Exactly one event, and fewer are left.
+        ensures event { OneEvent (IsCommitEvent self.old.updates.items) T.valid (C.passes cells.old) (C.view cells.old) (C.view cells.new) }
+        ensures left { commit_left (deal (T.meaning self.old.course.ty.now) T.valid (T.sizes self.old.course.ty.now) (B.script self.old.course.body) self.old.at self.old.course.base.items self.old.course.set.items (map told self.old.course.replies.items) self.old.updates.items self.old.seen.items self.old.loaded.items self.old.tasks.items self.old.checks.items self.old.places.items) self.new.stage < commit_left (deal (T.meaning self.old.course.ty.now) T.valid (T.sizes self.old.course.ty.now) (B.script self.old.course.body) self.old.at self.old.course.base.items self.old.course.set.items (map told self.old.course.replies.items) self.old.updates.items self.old.seen.items self.old.loaded.items self.old.tasks.items self.old.checks.items self.old.places.items) self.old.stage }
+
+        // A verdict that the commit comes to has its reason; where the words have one pass, it is no abort.
+        ensures reason { (x : Verdict) → ComesTo result self.new.stage x → ComesTo None self.old.stage x ⊎ HasReason self.old.course.set.items (C.view cells.new) x }
+        ensures alone { C.passes cells.old ≡ 1 → IsUndisturbed self.old.at self.old.finds.items None self.old.stage → IsUndisturbed self.old.at self.new.finds.items result self.new.stage }
+        ensures by { EndsBy (C.view cells.old).phase result }
+        ensures same { C.same cells.old cells.new }
+    {
+        match self.stage {
+            Stage::Locking { place } => self.lock(cells, place),
+            Stage::Loading { place, word } => self.load(cells, place, word),
+            Stage::Testing { place } => self.test(cells, place),
+            Stage::Tested {
+                place,
+                word,
+                ticket,
+            } => self.go_on_testing(cells, place, word, ticket),
+            Stage::Drawing => self.draw(cells),
+            Stage::Checking { place, ticket } => self.check(cells, place, ticket),
+            Stage::Deciding { ticket } => self.commit(cells, ticket),
+            Stage::Putting { place, ticket } => self.put(cells, place, ticket),
+            Stage::Releasing { place, ticket } => self.release(cells, place, ticket),
+            Stage::Dropping { ticket, verdict } => self.drop_entry(cells, ticket, verdict),
+            Stage::Leaving {
+                place,
+                end,
+                verdict,
+            } => self.leave(cells, place, end, verdict),
+            Stage::Over => unreachable!(),
+        }
+    }
+
+    // Locks a written part.
+    pub(crate) fn lock<C: Cells<T>>(&mut self, cells: &mut C, place: u32) -> Option<Verdict>
+        requires stands { Stands (deal (T.meaning self.old.course.ty.now) T.valid (T.sizes self.old.course.ty.now) (B.script self.old.course.body) self.old.at self.old.course.base.items self.old.course.set.items (map told self.old.course.replies.items) self.old.updates.items self.old.seen.items self.old.loaded.items self.old.tasks.items self.old.checks.items self.old.places.items) self.old.finds self.old.loads.items (Stage.Locking place) (C.view cells.old) }
+        requires space { HasSpace (T.meaning self.old.course.ty.now).widths self.old.tasks.items 0 0 self.old.loads }
+        ensures said { Said (deal (T.meaning self.old.course.ty.now) T.valid (T.sizes self.old.course.ty.now) (B.script self.old.course.body) self.old.at self.old.course.base.items self.old.course.set.items (map told self.old.course.replies.items) self.old.updates.items self.old.seen.items self.old.loaded.items self.old.tasks.items self.old.checks.items self.old.places.items) self.new.finds self.new.loads.items self.new.stage (C.view cells.new) result }
+        ensures space { SpaceAt (T.meaning self.old.course.ty.now).widths self.old.tasks.items self.new.loads self.new.stage }
+        ensures left { commit_left (deal (T.meaning self.old.course.ty.now) T.valid (T.sizes self.old.course.ty.now) (B.script self.old.course.body) self.old.at self.old.course.base.items self.old.course.set.items (map told self.old.course.replies.items) self.old.updates.items self.old.seen.items self.old.loaded.items self.old.tasks.items self.old.checks.items self.old.places.items) self.new.stage < commit_left (deal (T.meaning self.old.course.ty.now) T.valid (T.sizes self.old.course.ty.now) (B.script self.old.course.body) self.old.at self.old.course.base.items self.old.course.set.items (map told self.old.course.replies.items) self.old.updates.items self.old.seen.items self.old.loaded.items self.old.tasks.items self.old.checks.items self.old.places.items) (Stage.Locking place) }
+        ensures reason { (x : Verdict) → ComesTo result self.new.stage x → ComesTo None (Stage.Locking place) x ⊎ HasReason self.old.course.set.items (C.view cells.new) x }
+        ensures alone { C.passes cells.old ≡ 1 → IsUndisturbed self.old.at self.old.finds.items None (Stage.Locking place) → IsUndisturbed self.old.at self.new.finds.items result self.new.stage }
+        ensures by { EndsBy (C.view cells.old).phase result }
+        ensures event { OneEvent (IsCommitEvent self.old.updates.items) T.valid (C.passes cells.old) (C.view cells.old) (C.view cells.new) }
+        ensures kept { self.new ≡ record self.old { finds = self.new.finds; stage = self.new.stage } }
+        ensures same { C.same cells.old cells.new }
+    {
+        let part = self.updates.get(place).0;
+        let found = cells.lock(part);
+        if found.is_locked() {
+            let verdict = Verdict::Locked { at: self.at, part };
+            return self.give_up(place, verdict);
+        }
+        let ticket = found.ticket();
+        self.finds.push_spare(Found { part, ticket });
+        let next = place + 1;
+        self.stage = if next < self.updates.len() {
+            Stage::Locking { place: next }
+        } else {
+            self.aim(0)
+        };
+        None
+    }
+
+    // Where the loading of the part at a place begins; or the draw, where all are loaded.
+    pub(crate) fn aim(&self, place: u32) -> Stage
+        requires { place ≤ length self.now.tasks.items }
+        ensures { IsAim self.now.updates.items self.now.tasks.items place result }
+    {
+        if place == self.tasks.len() {
+            return Stage::Drawing;
+        }
+        if is_written(self.updates.as_slice(), *self.tasks.get(place)) {
+            Stage::Loading { place, word: 0 }
+        } else {
+            Stage::Testing { place }
+        }
+    }
+
+    // Loads a word of a held part.
+    pub(crate) fn load<C: Cells<T>>(
+        &mut self,
+        cells: &mut C,
+        place: u32,
+        word: u32,
+    ) -> Option<Verdict>
+        requires stands { Stands (deal (T.meaning self.old.course.ty.now) T.valid (T.sizes self.old.course.ty.now) (B.script self.old.course.body) self.old.at self.old.course.base.items self.old.course.set.items (map told self.old.course.replies.items) self.old.updates.items self.old.seen.items self.old.loaded.items self.old.tasks.items self.old.checks.items self.old.places.items) self.old.finds self.old.loads.items (Stage.Loading place word) (C.view cells.old) }
+        requires space { HasSpace (T.meaning self.old.course.ty.now).widths self.old.tasks.items place word self.old.loads }
+        ensures said { Said (deal (T.meaning self.old.course.ty.now) T.valid (T.sizes self.old.course.ty.now) (B.script self.old.course.body) self.old.at self.old.course.base.items self.old.course.set.items (map told self.old.course.replies.items) self.old.updates.items self.old.seen.items self.old.loaded.items self.old.tasks.items self.old.checks.items self.old.places.items) self.new.finds self.new.loads.items self.new.stage (C.view cells.new) result }
+        ensures space { SpaceAt (T.meaning self.old.course.ty.now).widths self.old.tasks.items self.new.loads self.new.stage }
+        ensures left { commit_left (deal (T.meaning self.old.course.ty.now) T.valid (T.sizes self.old.course.ty.now) (B.script self.old.course.body) self.old.at self.old.course.base.items self.old.course.set.items (map told self.old.course.replies.items) self.old.updates.items self.old.seen.items self.old.loaded.items self.old.tasks.items self.old.checks.items self.old.places.items) self.new.stage < commit_left (deal (T.meaning self.old.course.ty.now) T.valid (T.sizes self.old.course.ty.now) (B.script self.old.course.body) self.old.at self.old.course.base.items self.old.course.set.items (map told self.old.course.replies.items) self.old.updates.items self.old.seen.items self.old.loaded.items self.old.tasks.items self.old.checks.items self.old.places.items) (Stage.Loading place word) }
+        ensures reason { (x : Verdict) → ComesTo result self.new.stage x → ComesTo None (Stage.Loading place word) x ⊎ HasReason self.old.course.set.items (C.view cells.new) x }
+        ensures alone { C.passes cells.old ≡ 1 → IsUndisturbed self.old.at self.old.finds.items None (Stage.Loading place word) → IsUndisturbed self.old.at self.new.finds.items result self.new.stage }
+        ensures by { EndsBy (C.view cells.old).phase result }
+        ensures event { OneEvent (IsCommitEvent self.old.updates.items) T.valid (C.passes cells.old) (C.view cells.old) (C.view cells.new) }
+        ensures kept { self.new ≡ record self.old { loads = self.new.loads; stage = self.new.stage } }
+        ensures same { C.same cells.old cells.new }
+    {
+        let part = *self.tasks.get(place);
+        let width = self.course.ty.width(part);
+        let value = cells.word(part, word);
+        self.loads.push_spare(Loaded { part, word, value });
+        if word + 1 < width {
+            self.stage = Stage::Loading {
+                place,
+                word: word + 1,
+            };
+            return None;
+        }
+        if all_so(self.course.set.items(), self.loads.as_slice(), part) {
+            self.stage = self.aim(place + 1);
+            return None;
+        }
+        let ticket = ticket_found(self.finds.as_slice(), part);
+        let verdict = Verdict::Changed {
+            at: self.at,
+            part,
+            ticket,
+        };
+        self.stage = Stage::Leaving {
+            place: 0,
+            end: self.updates.len(),
+            verdict,
+        };
+        None
+    }
+
+    // Draws the ticket.
+    pub(crate) fn draw<C: Cells<T>>(&mut self, cells: &mut C) -> Option<Verdict>
+        requires stands { Stands (deal (T.meaning self.old.course.ty.now) T.valid (T.sizes self.old.course.ty.now) (B.script self.old.course.body) self.old.at self.old.course.base.items self.old.course.set.items (map told self.old.course.replies.items) self.old.updates.items self.old.seen.items self.old.loaded.items self.old.tasks.items self.old.checks.items self.old.places.items) self.old.finds self.old.loads.items Stage.Drawing (C.view cells.old) }
+        ensures said { Said (deal (T.meaning self.old.course.ty.now) T.valid (T.sizes self.old.course.ty.now) (B.script self.old.course.body) self.old.at self.old.course.base.items self.old.course.set.items (map told self.old.course.replies.items) self.old.updates.items self.old.seen.items self.old.loaded.items self.old.tasks.items self.old.checks.items self.old.places.items) self.new.finds self.new.loads.items self.new.stage (C.view cells.new) result }
+        ensures space { SpaceAt (T.meaning self.old.course.ty.now).widths self.old.tasks.items self.new.loads self.new.stage }
+        ensures left { commit_left (deal (T.meaning self.old.course.ty.now) T.valid (T.sizes self.old.course.ty.now) (B.script self.old.course.body) self.old.at self.old.course.base.items self.old.course.set.items (map told self.old.course.replies.items) self.old.updates.items self.old.seen.items self.old.loaded.items self.old.tasks.items self.old.checks.items self.old.places.items) self.new.stage < commit_left (deal (T.meaning self.old.course.ty.now) T.valid (T.sizes self.old.course.ty.now) (B.script self.old.course.body) self.old.at self.old.course.base.items self.old.course.set.items (map told self.old.course.replies.items) self.old.updates.items self.old.seen.items self.old.loaded.items self.old.tasks.items self.old.checks.items self.old.places.items) Stage.Drawing }
+        ensures reason { (x : Verdict) → ComesTo result self.new.stage x → ComesTo None Stage.Drawing x ⊎ HasReason self.old.course.set.items (C.view cells.new) x }
+        ensures alone { C.passes cells.old ≡ 1 → IsUndisturbed self.old.at self.old.finds.items None Stage.Drawing → IsUndisturbed self.old.at self.new.finds.items result self.new.stage }
+        ensures by { EndsBy (C.view cells.old).phase result }
+        ensures event { OneEvent (IsCommitEvent self.old.updates.items) T.valid (C.passes cells.old) (C.view cells.old) (C.view cells.new) }
+        ensures kept { self.new ≡ record self.old { stage = self.new.stage } }
+        ensures same { C.same cells.old cells.new }
+    {
+        let ticket = cells.draw(&self.updates, &self.seen, &self.loaded);
+        self.stage = self.next_check(0, ticket);
+        None
+    }
+
+    // The check of the part at a place; or the decision, where all are checked.
+    fn next_check(&self, place: u32, ticket: u64) -> Stage
+        requires { place ≤ length self.now.checks.items }
+        ensures { IsNextCheck self.now.checks.items place ticket result }
+    {
+        if place == self.checks.len() {
+            Stage::Deciding { ticket }
+        } else {
+            Stage::Checking { place, ticket }
+        }
+    }
+
+    // Checks a part.
+    pub(crate) fn check<C: Cells<T>>(
+        &mut self,
+        cells: &mut C,
+        place: u32,
+        ticket: u64,
+    ) -> Option<Verdict>
+        requires stands { Stands (deal (T.meaning self.old.course.ty.now) T.valid (T.sizes self.old.course.ty.now) (B.script self.old.course.body) self.old.at self.old.course.base.items self.old.course.set.items (map told self.old.course.replies.items) self.old.updates.items self.old.seen.items self.old.loaded.items self.old.tasks.items self.old.checks.items self.old.places.items) self.old.finds self.old.loads.items (Stage.Checking place ticket) (C.view cells.old) }
+        ensures said { Said (deal (T.meaning self.old.course.ty.now) T.valid (T.sizes self.old.course.ty.now) (B.script self.old.course.body) self.old.at self.old.course.base.items self.old.course.set.items (map told self.old.course.replies.items) self.old.updates.items self.old.seen.items self.old.loaded.items self.old.tasks.items self.old.checks.items self.old.places.items) self.new.finds self.new.loads.items self.new.stage (C.view cells.new) result }
+        ensures space { SpaceAt (T.meaning self.old.course.ty.now).widths self.old.tasks.items self.new.loads self.new.stage }
+        ensures left { commit_left (deal (T.meaning self.old.course.ty.now) T.valid (T.sizes self.old.course.ty.now) (B.script self.old.course.body) self.old.at self.old.course.base.items self.old.course.set.items (map told self.old.course.replies.items) self.old.updates.items self.old.seen.items self.old.loaded.items self.old.tasks.items self.old.checks.items self.old.places.items) self.new.stage < commit_left (deal (T.meaning self.old.course.ty.now) T.valid (T.sizes self.old.course.ty.now) (B.script self.old.course.body) self.old.at self.old.course.base.items self.old.course.set.items (map told self.old.course.replies.items) self.old.updates.items self.old.seen.items self.old.loaded.items self.old.tasks.items self.old.checks.items self.old.places.items) (Stage.Checking place ticket) }
+        ensures reason { (x : Verdict) → ComesTo result self.new.stage x → ComesTo None (Stage.Checking place ticket) x ⊎ HasReason self.old.course.set.items (C.view cells.new) x }
+        ensures alone { C.passes cells.old ≡ 1 → IsUndisturbed self.old.at self.old.finds.items None (Stage.Checking place ticket) → IsUndisturbed self.old.at self.new.finds.items result self.new.stage }
+        ensures by { EndsBy (C.view cells.old).phase result }
+        ensures event { OneEvent (IsCommitEvent self.old.updates.items) T.valid (C.passes cells.old) (C.view cells.old) (C.view cells.new) }
+        ensures kept { self.new ≡ record self.old { stage = self.new.stage } }
+        ensures same { C.same cells.old cells.new }
+    {
+        let part = *self.checks.get(place);
+        let found = cells.check(part);
+        if found.is_locked() && !is_written(self.updates.as_slice(), part) {
+            let verdict = Verdict::Locked { at: self.at, part };
+            self.stage = Stage::Dropping { ticket, verdict };
+            return None;
+        }
+        let newer = found.ticket();
+        if newer != self.expected(part) {
+            let verdict = Verdict::Changed {
+                at: self.at,
+                part,
+                ticket: newer,
+            };
+            self.stage = Stage::Dropping { ticket, verdict };
+            return None;
+        }
+        self.stage = self.next_check(place + 1, ticket);
+        None
+    }
+
+    // The ticket that the check of a part is to find.
+    fn expected(&self, part: u32) -> u64
+        ensures { result ≡ expected_of self.now.course.base.items self.now.finds.items self.now.seen.items part }
+    {
+        if is_seen(self.seen.as_slice(), part) {
+            ticket_seen(self.course.base.as_slice(), part)
+        } else {
+            ticket_found(self.finds.as_slice(), part)
+        }
+    }
+
+    // Drops the entry.
+    pub(crate) fn drop_entry<C: Cells<T>>(
+        &mut self,
+        cells: &mut C,
+        ticket: u64,
+        verdict: Verdict,
+    ) -> Option<Verdict>
+        requires stands { Stands (deal (T.meaning self.old.course.ty.now) T.valid (T.sizes self.old.course.ty.now) (B.script self.old.course.body) self.old.at self.old.course.base.items self.old.course.set.items (map told self.old.course.replies.items) self.old.updates.items self.old.seen.items self.old.loaded.items self.old.tasks.items self.old.checks.items self.old.places.items) self.old.finds self.old.loads.items (Stage.Dropping ticket verdict) (C.view cells.old) }
+        ensures said { Said (deal (T.meaning self.old.course.ty.now) T.valid (T.sizes self.old.course.ty.now) (B.script self.old.course.body) self.old.at self.old.course.base.items self.old.course.set.items (map told self.old.course.replies.items) self.old.updates.items self.old.seen.items self.old.loaded.items self.old.tasks.items self.old.checks.items self.old.places.items) self.new.finds self.new.loads.items self.new.stage (C.view cells.new) result }
+        ensures space { SpaceAt (T.meaning self.old.course.ty.now).widths self.old.tasks.items self.new.loads self.new.stage }
+        ensures left { commit_left (deal (T.meaning self.old.course.ty.now) T.valid (T.sizes self.old.course.ty.now) (B.script self.old.course.body) self.old.at self.old.course.base.items self.old.course.set.items (map told self.old.course.replies.items) self.old.updates.items self.old.seen.items self.old.loaded.items self.old.tasks.items self.old.checks.items self.old.places.items) self.new.stage < commit_left (deal (T.meaning self.old.course.ty.now) T.valid (T.sizes self.old.course.ty.now) (B.script self.old.course.body) self.old.at self.old.course.base.items self.old.course.set.items (map told self.old.course.replies.items) self.old.updates.items self.old.seen.items self.old.loaded.items self.old.tasks.items self.old.checks.items self.old.places.items) (Stage.Dropping ticket verdict) }
+        ensures reason { (x : Verdict) → ComesTo result self.new.stage x → ComesTo None (Stage.Dropping ticket verdict) x ⊎ HasReason self.old.course.set.items (C.view cells.new) x }
+        ensures alone { C.passes cells.old ≡ 1 → IsUndisturbed self.old.at self.old.finds.items None (Stage.Dropping ticket verdict) → IsUndisturbed self.old.at self.new.finds.items result self.new.stage }
+        ensures by { EndsBy (C.view cells.old).phase result }
+        ensures event { OneEvent (IsCommitEvent self.old.updates.items) T.valid (C.passes cells.old) (C.view cells.old) (C.view cells.new) }
+        ensures kept { self.new ≡ record self.old { stage = self.new.stage } }
+        ensures same { C.same cells.old cells.new }
+    {
+        cells.decide(false);
+        self.stage = Stage::Leaving {
+            place: 0,
+            end: self.updates.len(),
+            verdict,
+        };
+        None
+    }
+
+    // Commits the entry.
+    pub(crate) fn commit<C: Cells<T>>(&mut self, cells: &mut C, ticket: u64) -> Option<Verdict>
+        requires stands { Stands (deal (T.meaning self.old.course.ty.now) T.valid (T.sizes self.old.course.ty.now) (B.script self.old.course.body) self.old.at self.old.course.base.items self.old.course.set.items (map told self.old.course.replies.items) self.old.updates.items self.old.seen.items self.old.loaded.items self.old.tasks.items self.old.checks.items self.old.places.items) self.old.finds self.old.loads.items (Stage.Deciding ticket) (C.view cells.old) }
+        ensures said { Said (deal (T.meaning self.old.course.ty.now) T.valid (T.sizes self.old.course.ty.now) (B.script self.old.course.body) self.old.at self.old.course.base.items self.old.course.set.items (map told self.old.course.replies.items) self.old.updates.items self.old.seen.items self.old.loaded.items self.old.tasks.items self.old.checks.items self.old.places.items) self.new.finds self.new.loads.items self.new.stage (C.view cells.new) result }
+        ensures space { SpaceAt (T.meaning self.old.course.ty.now).widths self.old.tasks.items self.new.loads self.new.stage }
+        ensures left { commit_left (deal (T.meaning self.old.course.ty.now) T.valid (T.sizes self.old.course.ty.now) (B.script self.old.course.body) self.old.at self.old.course.base.items self.old.course.set.items (map told self.old.course.replies.items) self.old.updates.items self.old.seen.items self.old.loaded.items self.old.tasks.items self.old.checks.items self.old.places.items) self.new.stage < commit_left (deal (T.meaning self.old.course.ty.now) T.valid (T.sizes self.old.course.ty.now) (B.script self.old.course.body) self.old.at self.old.course.base.items self.old.course.set.items (map told self.old.course.replies.items) self.old.updates.items self.old.seen.items self.old.loaded.items self.old.tasks.items self.old.checks.items self.old.places.items) (Stage.Deciding ticket) }
+        ensures reason { (x : Verdict) → ComesTo result self.new.stage x → ComesTo None (Stage.Deciding ticket) x ⊎ HasReason self.old.course.set.items (C.view cells.new) x }
+        ensures alone { C.passes cells.old ≡ 1 → IsUndisturbed self.old.at self.old.finds.items None (Stage.Deciding ticket) → IsUndisturbed self.old.at self.new.finds.items result self.new.stage }
+        ensures by { EndsBy (C.view cells.old).phase result }
+        ensures event { OneEvent (IsCommitEvent self.old.updates.items) T.valid (C.passes cells.old) (C.view cells.old) (C.view cells.new) }
+        ensures kept { self.new ≡ record self.old { stage = self.new.stage } }
+        ensures same { C.same cells.old cells.new }
+    {
+        cells.decide(true);
+        self.stage = self.next_put(0, ticket);
+        None
+    }
+
+    // The put of the word at a place; or the first release, where all were put.
+    fn next_put(&self, place: u32, ticket: u64) -> Stage
+        requires { place ≤ length self.now.places.items }
+        ensures { IsNextPut self.now.places.items place ticket result }
+    {
+        if place == self.places.len() {
+            Stage::Releasing { place: 0, ticket }
+        } else {
+            Stage::Putting { place, ticket }
+        }
+    }
+
+    // Puts a word.
+    pub(crate) fn put<C: Cells<T>>(
+        &mut self,
+        cells: &mut C,
+        place: u32,
+        ticket: u64,
+    ) -> Option<Verdict>
+        requires stands { Stands (deal (T.meaning self.old.course.ty.now) T.valid (T.sizes self.old.course.ty.now) (B.script self.old.course.body) self.old.at self.old.course.base.items self.old.course.set.items (map told self.old.course.replies.items) self.old.updates.items self.old.seen.items self.old.loaded.items self.old.tasks.items self.old.checks.items self.old.places.items) self.old.finds self.old.loads.items (Stage.Putting place ticket) (C.view cells.old) }
+        requires copy { self.old.course.set.updates ≡ self.old.updates.items }
+        ensures said { Said (deal (T.meaning self.old.course.ty.now) T.valid (T.sizes self.old.course.ty.now) (B.script self.old.course.body) self.old.at self.old.course.base.items self.old.course.set.items (map told self.old.course.replies.items) self.old.updates.items self.old.seen.items self.old.loaded.items self.old.tasks.items self.old.checks.items self.old.places.items) self.new.finds self.new.loads.items self.new.stage (C.view cells.new) result }
+        ensures space { SpaceAt (T.meaning self.old.course.ty.now).widths self.old.tasks.items self.new.loads self.new.stage }
+        ensures left { commit_left (deal (T.meaning self.old.course.ty.now) T.valid (T.sizes self.old.course.ty.now) (B.script self.old.course.body) self.old.at self.old.course.base.items self.old.course.set.items (map told self.old.course.replies.items) self.old.updates.items self.old.seen.items self.old.loaded.items self.old.tasks.items self.old.checks.items self.old.places.items) self.new.stage < commit_left (deal (T.meaning self.old.course.ty.now) T.valid (T.sizes self.old.course.ty.now) (B.script self.old.course.body) self.old.at self.old.course.base.items self.old.course.set.items (map told self.old.course.replies.items) self.old.updates.items self.old.seen.items self.old.loaded.items self.old.tasks.items self.old.checks.items self.old.places.items) (Stage.Putting place ticket) }
+        ensures reason { (x : Verdict) → ComesTo result self.new.stage x → ComesTo None (Stage.Putting place ticket) x ⊎ HasReason self.old.course.set.items (C.view cells.new) x }
+        ensures alone { C.passes cells.old ≡ 1 → IsUndisturbed self.old.at self.old.finds.items None (Stage.Putting place ticket) → IsUndisturbed self.old.at self.new.finds.items result self.new.stage }
+        ensures by { EndsBy (C.view cells.old).phase result }
+        ensures event { OneEvent (IsCommitEvent self.old.updates.items) T.valid (C.passes cells.old) (C.view cells.old) (C.view cells.new) }
+        ensures kept { self.new ≡ record self.old { stage = self.new.stage } }
+        ensures same { C.same cells.old cells.new }
+    {
+        let (part, word) = *self.places.get(place);
+        let change = self.course.set.pending(part, word);
+        let value = self
+            .course
+            .ty
+            .install(change, value_of(self.loads.as_slice(), part, word));
+        cells.put(part, word, value);
+        self.stage = self.next_put(place + 1, ticket);
+        None
+    }
+
+    // Releases a part.
+    pub(crate) fn release<C: Cells<T>>(
+        &mut self,
+        cells: &mut C,
+        place: u32,
+        ticket: u64,
+    ) -> Option<Verdict>
+        requires stands { Stands (deal (T.meaning self.old.course.ty.now) T.valid (T.sizes self.old.course.ty.now) (B.script self.old.course.body) self.old.at self.old.course.base.items self.old.course.set.items (map told self.old.course.replies.items) self.old.updates.items self.old.seen.items self.old.loaded.items self.old.tasks.items self.old.checks.items self.old.places.items) self.old.finds self.old.loads.items (Stage.Releasing place ticket) (C.view cells.old) }
+        ensures said { Said (deal (T.meaning self.old.course.ty.now) T.valid (T.sizes self.old.course.ty.now) (B.script self.old.course.body) self.old.at self.old.course.base.items self.old.course.set.items (map told self.old.course.replies.items) self.old.updates.items self.old.seen.items self.old.loaded.items self.old.tasks.items self.old.checks.items self.old.places.items) self.new.finds self.new.loads.items self.new.stage (C.view cells.new) result }
+        ensures space { SpaceAt (T.meaning self.old.course.ty.now).widths self.old.tasks.items self.new.loads self.new.stage }
+        ensures left { commit_left (deal (T.meaning self.old.course.ty.now) T.valid (T.sizes self.old.course.ty.now) (B.script self.old.course.body) self.old.at self.old.course.base.items self.old.course.set.items (map told self.old.course.replies.items) self.old.updates.items self.old.seen.items self.old.loaded.items self.old.tasks.items self.old.checks.items self.old.places.items) self.new.stage < commit_left (deal (T.meaning self.old.course.ty.now) T.valid (T.sizes self.old.course.ty.now) (B.script self.old.course.body) self.old.at self.old.course.base.items self.old.course.set.items (map told self.old.course.replies.items) self.old.updates.items self.old.seen.items self.old.loaded.items self.old.tasks.items self.old.checks.items self.old.places.items) (Stage.Releasing place ticket) }
+        ensures reason { (x : Verdict) → ComesTo result self.new.stage x → ComesTo None (Stage.Releasing place ticket) x ⊎ HasReason self.old.course.set.items (C.view cells.new) x }
+        ensures alone { C.passes cells.old ≡ 1 → IsUndisturbed self.old.at self.old.finds.items None (Stage.Releasing place ticket) → IsUndisturbed self.old.at self.new.finds.items result self.new.stage }
+        ensures by { EndsBy (C.view cells.old).phase result }
+        ensures event { OneEvent (IsCommitEvent self.old.updates.items) T.valid (C.passes cells.old) (C.view cells.old) (C.view cells.new) }
+        ensures kept { self.new ≡ record self.old { stage = self.new.stage } }
+        ensures same { C.same cells.old cells.new }
+    {
+        let part = self.updates.get(place).0;
+        cells.release(part);
+        let next = place + 1;
+        if next < self.updates.len() {
+            self.stage = Stage::Releasing {
+                place: next,
+                ticket,
+            };
+            return None;
+        }
+        self.stage = Stage::Over;
+        Some(Verdict::Wrote { ticket })
+    }
+
+    // Gives up before the draw, with so many parts locked.
+    fn give_up(&mut self, held: u32, verdict: Verdict) -> Option<Verdict>
+        ensures over { held ≡ 0 → (result ≡ Some verdict) × (self.new.stage ≡ Stage.Over) }
+        ensures more { 0 < held → (result ≡ None) × (self.new.stage ≡ Stage.Leaving 0 held verdict) }
+        ensures kept { self.new ≡ record self.old { stage = self.new.stage } }
+    {
+        if held == 0 {
+            self.stage = Stage::Over;
+            return Some(verdict);
+        }
+        self.stage = Stage::Leaving {
+            place: 0,
+            end: held,
+            verdict,
+        };
+        None
+    }
+
+    // Unlocks a part, where the commit gives up.
+    pub(crate) fn leave<C: Cells<T>>(
+        &mut self,
+        cells: &mut C,
+        place: u32,
+        end: u32,
+        verdict: Verdict,
+    ) -> Option<Verdict>
+        requires stands { Stands (deal (T.meaning self.old.course.ty.now) T.valid (T.sizes self.old.course.ty.now) (B.script self.old.course.body) self.old.at self.old.course.base.items self.old.course.set.items (map told self.old.course.replies.items) self.old.updates.items self.old.seen.items self.old.loaded.items self.old.tasks.items self.old.checks.items self.old.places.items) self.old.finds self.old.loads.items (Stage.Leaving place end verdict) (C.view cells.old) }
+        ensures said { Said (deal (T.meaning self.old.course.ty.now) T.valid (T.sizes self.old.course.ty.now) (B.script self.old.course.body) self.old.at self.old.course.base.items self.old.course.set.items (map told self.old.course.replies.items) self.old.updates.items self.old.seen.items self.old.loaded.items self.old.tasks.items self.old.checks.items self.old.places.items) self.new.finds self.new.loads.items self.new.stage (C.view cells.new) result }
+        ensures space { SpaceAt (T.meaning self.old.course.ty.now).widths self.old.tasks.items self.new.loads self.new.stage }
+        ensures left { commit_left (deal (T.meaning self.old.course.ty.now) T.valid (T.sizes self.old.course.ty.now) (B.script self.old.course.body) self.old.at self.old.course.base.items self.old.course.set.items (map told self.old.course.replies.items) self.old.updates.items self.old.seen.items self.old.loaded.items self.old.tasks.items self.old.checks.items self.old.places.items) self.new.stage < commit_left (deal (T.meaning self.old.course.ty.now) T.valid (T.sizes self.old.course.ty.now) (B.script self.old.course.body) self.old.at self.old.course.base.items self.old.course.set.items (map told self.old.course.replies.items) self.old.updates.items self.old.seen.items self.old.loaded.items self.old.tasks.items self.old.checks.items self.old.places.items) (Stage.Leaving place end verdict) }
+        ensures reason { (x : Verdict) → ComesTo result self.new.stage x → ComesTo None (Stage.Leaving place end verdict) x ⊎ HasReason self.old.course.set.items (C.view cells.new) x }
+        ensures alone { C.passes cells.old ≡ 1 → IsUndisturbed self.old.at self.old.finds.items None (Stage.Leaving place end verdict) → IsUndisturbed self.old.at self.new.finds.items result self.new.stage }
+        ensures by { EndsBy (C.view cells.old).phase result }
+        ensures event { OneEvent (IsCommitEvent self.old.updates.items) T.valid (C.passes cells.old) (C.view cells.old) (C.view cells.new) }
+        ensures kept { self.new ≡ record self.old { stage = self.new.stage } }
+        ensures same { C.same cells.old cells.new }
+    {
+        let part = self.updates.get(place).0;
+        cells.unlock(part);
+        let next = place + 1;
+        if next < end {
+            self.stage = Stage::Leaving {
+                place: next,
+                end,
+                verdict,
+            };
+            return None;
+        }
+        self.stage = Stage::Over;
+        Some(verdict)
+    }
+}
+
+// Whether the updates name the part.
+pub(crate) fn is_written(updates: &[(u32, Update)], part: u32) -> bool
+    ensures { result ≡ list_any (is_of_part part) updates.now }
+{
+    updates.iter().any(|update| is_of(update, part))
+}
+
+fn is_of(update: &(u32, Update), part: u32) -> bool
+    ensures { result ≡ is_of_part part update.now }
+{
+    update.0 == part
+}
+
+// The word that was loaded, or 0.
+fn value_of(loads: &[Loaded], part: u32, word: u32) -> i64
+    ensures { result ≡ value_read (reads_of loads.now part) word }
+{
+    for load in loads {
+        if is_at(load, part, word) {
+            return load.value;
+        }
+    }
+    0
+}
+
+fn is_at(load: &Loaded, part: u32, word: u32) -> bool
+    ensures { result ≡ is_load_of part word load.now }
+{
+    load.part == part && load.word == word
+}
+
+// Whether the part is one of these.
+pub(crate) fn is_seen(parts: &[u32], part: u32) -> bool
+    ensures { result ≡ list_any (is_same_part part) parts.now }
+{
+    parts.iter().any(|one| is_same(*one, part))
+}
+
+fn is_same(one: u32, part: u32) -> bool
+    ensures { result ≡ is_same_part part one }
+{
+    one == part
+}
+
+// The ticket with which a part was read, or 0.
+fn ticket_seen(sights: &[Sight], part: u32) -> u64
+    ensures { result ≡ option_map_or (λ t. t) (ticket_in sights.now part) 0 }
+{
+    for sight in sights {
+        if sight.part == part {
+            return sight.ticket;
+        }
+    }
+    0
+}
+
+// The last ticket that was found of a part, or 0.
+pub(crate) fn ticket_found(finds: &[Found], part: u32) -> u64
+    ensures { result ≡ ticket_from 0 finds.now part }
+{
+    let mut ticket = 0;
+    for find in finds {
+        if find.part == part {
+            ticket = find.ticket;
+        }
+    }
+    ticket
+}
+
+// Whether the predicates on a part are true of the words that were loaded.
+pub(crate) fn all_so(items: &[Item], loads: &[Loaded], part: u32) -> bool
+    ensures { result ≡ list_all (is_so part loads.now) items.now }
+{
+    items.iter().all(|item| is_so(item, loads, part))
+}
+
+fn is_so(item: &Item, loads: &[Loaded], part: u32) -> bool
+    ensures { result ≡ is_so part loads.now item.now }
+{
+    match item {
+        Item::Seen(_) => true,
+        Item::Holds(pred) => pred.part != part || holds(pred, value_of(loads, part, pred.word)),
+    }
+}

@@ -1,0 +1,82 @@
+//! Where the machine of a commit stands between two events.
+use crate::verdict::Verdict;
+use sto_part::List;
+
+/// Which event is next.
+#[derive(Clone, Copy)]
+pub(crate) enum Stage {
+    /// The written part at this place is locked.
+    Locking {
+        place: u32,
+    },
+    /// A word of the held part at this place of those to be loaded is read.
+    Loading {
+        place: u32,
+        word: u32,
+    },
+    /// The test of the part at this place of those to be loaded begins.
+    Testing {
+        place: u32,
+    },
+    /// A word of that part is read; or, where all were, its test ends.
+    Tested {
+        place: u32,
+        word: u32,
+        ticket: u64,
+    },
+    /// The ticket is drawn.
+    Drawing,
+    /// The part at this place of those to be checked is checked.
+    Checking {
+        place: u32,
+        ticket: u64,
+    },
+    /// The entry is committed.
+    Deciding {
+        ticket: u64,
+    },
+    /// The word at this place of those to be put is put.
+    Putting {
+        place: u32,
+        ticket: u64,
+    },
+    /// The written part at this place is released.
+    Releasing {
+        place: u32,
+        ticket: u64,
+    },
+    /// The entry is dropped.
+    Dropping {
+        ticket: u64,
+        verdict: Verdict,
+    },
+    /// The written part at this place is unlocked; those before `end` are locked.
+    Leaving {
+        place: u32,
+        end: u32,
+        verdict: Verdict,
+    },
+    /// There is none.
+    Over,
+}
+
+/// A ticket that a lock or a test has found.
+#[derive(Drop)]
+pub(crate) struct Found {
+    pub(crate) part: u32,
+    pub(crate) ticket: u64,
+}
+
+/// Tickets in the order in which they were found.
+pub(crate) type Finds = List<Found>;
+
+/// A word that the commit has read.
+#[derive(Drop)]
+pub(crate) struct Loaded {
+    pub(crate) part: u32,
+    pub(crate) word: u32,
+    pub(crate) value: i64,
+}
+
+/// Words in the order in which they were read.
+pub(crate) type Loads = List<Loaded>;
