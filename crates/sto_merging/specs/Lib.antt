@@ -1,0 +1,6 @@
+pub mod Plain
+pub mod Tickets
+pub mod Splits
+pub mod PlainLines
+pub mod PlainAborts
+pub mod Sorting

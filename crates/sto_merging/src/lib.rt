@@ -1,0 +1,16 @@
+//! Records of attempts as the code keeps them, and the journal that they make.
+#![tactic(auto)]
+
+mod abort;
+mod journal;
+mod line;
+mod order;
+mod rank;
+mod record;
+mod split;
+#[cfg(test)]
+mod tests;
+
+pub use journal::merge;
+pub use record::{Record, Verdict};
+pub use sto_journal::{AbortLine, Aborts, Cause, Journal, Line, Lines};

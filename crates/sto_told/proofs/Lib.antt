@@ -1,0 +1,6 @@
+pub mod Among
+pub mod Events
+pub mod Later
+pub mod Progress
+pub mod Ended
+pub mod Tries

@@ -1,0 +1,4 @@
+pub mod Plain
+pub mod Resting
+pub mod Ran
+pub mod Going

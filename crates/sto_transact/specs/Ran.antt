@@ -1,0 +1,28 @@
+-- What a run of one transaction on an idle pass ensures.
+use Rattle.std.specs.Prelude.{◌≡◌, ◌≤◌, ℕ, ◌+◌, List, [], ◌∷◌, ◌++◌, length, Bool, true, false, if◌then◌else◌}
+use Rattle.std.specs.List.{All}
+use Rattle.sto_model.specs.Run.{Script as Steps}
+use Rattle.sto_type.specs.Meaning.{Meaning}
+use Rattle.sto_core.specs.declared.view.View.{View}
+use Rattle.sto_told.specs.Records.{Place, Record}
+use Rattle.sto_told.specs.Counted.{aborted_times, finished_places}
+use Rattle.sto_told.specs.Added.{HasAdded}
+use Rattle.sto_told.specs.Trying.{HasFinding}
+use Rattle.sto_transact.specs.Resting.{IsAtRest}
+
+-- from the view v to the view w, on words with so many passes, a transaction that does f was run with so many tries. It has
+-- ended, or all its tries were aborted
+pub record HasRun (m : Meaning) (sizes : List ℕ) (tries passes : ℕ) (v w : View) (f : Steps) (place : Place) (before later : List Record) (ended : Bool) : Type 0 where
+  pub new : List Record
+  pub whole : later ≡ before ++ new
+  pub added : HasAdded m tries v w f place new
+  -- as many records as starts, each aborted one with its finding
+  pub starts : w.starts ≡ v.starts + length new
+  pub found : All (HasFinding v w) new
+  -- the last record is not aborted, or all are
+  pub ends : finished_places new ≡ (if ended then place ∷ [] else [])
+  pub used : ended ≡ false → aborted_times place new ≡ tries
+  pub rests : IsAtRest m sizes w
+  pub draws : v.draws ≤ w.draws + tries
+  -- beside no other pass it ends at once
+  pub alone : passes ≡ 1 → (ended ≡ true) × (aborted_times place new ≡ 0)
