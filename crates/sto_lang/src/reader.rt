@@ -38,29 +38,29 @@ fn fault(line: u32, kind: FaultKind) -> ReadError
 }
 
 impl Draft {
-    /// The draft after the line with this number; `later` are the bytes that follow it.
-    fn with_line(
-        self,
+    /// Takes in the line with this number; `later` are the bytes that follow it.
+    fn add_line(
+        &mut self,
         alloc: Global,
         number: u32,
         later: &[u8],
         line: &[u8],
-    ) -> Result<Draft, ReadError>
+    ) -> Result<(), ReadError>
         requires { length line.now < 2 ^ 32 }
-        ensures { Gives draft_of result (with_line (draft_of self) number (lines_of later.now) line.now) }
+        ensures { Gives (λ _. draft_of self.new) result (with_line (draft_of self.old) number (lines_of later.now) line.now) }
     {
         if !all_allowed(line) {
             return Err(fault(number, FaultKind::BadByte));
         }
         let Some((word, rest)) = next_word(line) else {
-            return Ok(self);
+            return Ok(());
         };
         let Some(form) = form_of(self.version, word, rest) else {
             return Err(fault(number, FaultKind::BadLine));
         };
-        match fault_of(&self, later, &form) {
+        match fault_of(self, later, &form) {
             Some(kind) => Err(fault(number, kind)),
-            None => Ok(self.with_form(alloc, &form)?),
+            None => Ok(self.add_form(alloc, &form)?),
         }
     }
 
@@ -100,7 +100,7 @@ fn read_lines(alloc: Global, bytes: &[u8]) -> Result<File, ReadError>
     let mut rest = bytes;
     let mut number = 1;
     while let Some((line, later)) = next_line(rest) {
-        draft = draft.with_line(alloc, number, later, line)?;
+        draft.add_line(alloc, number, later, line)?;
         rest = later;
         number += 1;
     }

@@ -1,0 +1,19 @@
+use Rattle.std.proofs.Common.{sym}
+use Rattle.sto_form.specs.Lines.{lines_of}
+use Rattle.sto_form.specs.Views.{form}
+use Rattle.sto_lang.specs.DraftViews.{draft_of}
+use Rattle.sto_lang.proofs.FaultLemmas.{no_fault}
+use Rattle.sto_lang.proofs.draft.Draft.add_line.Goals as goal
+
+pub add_form-requires-clause-placed : goal.add_form-requires-clause-placed
+add_form-requires-clause-placed c =
+    let free = no_fault (draft_of c.args.self.now) (lines_of c.args.later.now) (form c.in-Some-form_of.form) (sym c.in-None.ensures) in
+    (lines_of c.args.later.now, free.placed)
+
+pub add_form-requires-clause-free : goal.add_form-requires-clause-free
+add_form-requires-clause-free c =
+    (no_fault (draft_of c.args.self.now) (lines_of c.args.later.now) (form c.in-Some-form_of.form) (sym c.in-None.ensures)).free
+
+pub add_form-requires-clause-within : goal.add_form-requires-clause-within
+add_form-requires-clause-within c =
+    (no_fault (draft_of c.args.self.now) (lines_of c.args.later.now) (form c.in-Some-form_of.form) (sym c.in-None.ensures)).within
