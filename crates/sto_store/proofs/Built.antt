@@ -1,23 +1,23 @@
 -- One shape more is built.
-use Rattle.std.proofs.Common.{◌≡◌, ◌<◌, ◌≤◌, ◌+◌, ◌^◌, ℕ, zero, suc, Bool, true, false, nat_eq, if◌then◌else◌, Some, ℤ, pos, List, [], ◌∷◌, ◌++◌, length, map, take, drop, slice_get, slice_index_or, refl, ap, sym, ◌∙◌, subst, arith, length-append}
+use Rattle.std.proofs.Common.{◌≡◌, ◌<◌, ◌≤◌, ◌+◌, ◌*◌, ◌^◌, ℕ, zero, suc, Bool, true, false, nat_eq, if◌then◌else◌, Some, ℤ, pos, List, [], ◌∷◌, ◌++◌, length, map, take, drop, slice_get, slice_index_or, refl, ap, sym, ◌∙◌, subst, arith, length-append}
 use Rattle.std.specs.Prelude.{sum_by}
 use Rattle.std.proofs.lemmas.List.{length-take, map-append, take-append-drop}
 use Rattle.std.proofs.lemmas.List.Sums.{sum_by-cons}
 use Rattle.std.proofs.lemmas.Option.{slice_get_within}
 use Rattle.sto_model.specs.declared.shape.Shape.{Shape}
 use Rattle.sto_model.specs.declared.shape.Shape.TheVariants.{Single, Counter, Array, Hash, Tree}
-use Rattle.sto_model.specs.Objects.{machines_of}
 use Rattle.sto_model.specs.Sizes.{part_count}
 use Rattle.sto_array.specs.ArrayedRows.{length-replicate}
 use Rattle.sto_hash.specs.HashedParts.{length-widths}
+use Rattle.sto_tree_law.specs.Layout.{listed, width_of}
 use Rattle.sto_type.specs.Meaning.{Meaning, IsLawful}
-use Rattle.sto_type.specs.Joined.{all_joined}
+use Rattle.sto_type.specs.Joined.{joined, all_joined}
 use Rattle.sto_type.specs.JoinedLaw.{joined_lawful}
 use Rattle.sto_type.specs.Members.{AreFew, parts_of}
 use Rattle.sto_type.proofs.Answering.{take_get}
 use Rattle.sto_type.proofs.Members.{parts-all, parts-append}
-use Rattle.sto_store.specs.Stores.{rank, of_kind, mean_of, means_of, means, IsFit, AreFit}
-use Rattle.sto_store.specs.StoresLaw.{kind_ranks, all_machines, length-machines, map_shapes}
+use Rattle.sto_store.specs.Stores.{rank, of_kind, mean_of, means_of, wide_means, means, IsFit, AreFit, AreWide}
+use Rattle.sto_store.specs.StoresLaw.{all_machines, length-machines, map_shapes, wide_is}
 
 by_test : {P : Type 0} (b : Bool) → (b ≡ true → P) → (b ≡ false → P) → P
 by_test true f g = f refl
@@ -65,8 +65,8 @@ module _ (r : ℕ) (ss : List Shape) (i : ℕ) (s : Shape) (at : slice_get ss i 
       pub there : map f (made ++ new ∷ []) ≡ of_kind r (take (i + 1) ss)
       there = map-append f made (new ∷ []) ∙ (λ j. now j ++ is j ∷ []) ∙ sym (kind_there t)
 
-      pub few : r < 4 → length ss < 2 ^ 32 → length (all_joined (means_of r ss)).widths < 2 ^ 32 → AreFew (λ x. mean_of (f x)) (made ++ new ∷ [])
-      few k l w =
+      pub few : length ss < 2 ^ 32 → length (all_joined (means_of r ss)).widths < 2 ^ 32 → AreFew (λ x. mean_of (f x)) (made ++ new ∷ [])
+      few l w =
           let front : List Shape = of_kind r (take (i + 1) ss) in
           let all : of_kind r ss ≡ of_kind r (take (i + 1) ss) ++ of_kind r (drop (i + 1) ss) =
           ap (of_kind r) (sym (take-append-drop (i + 1) ss)) ∙ kind_append r (take (i + 1) ss) (drop (i + 1) ss) in
@@ -76,7 +76,7 @@ module _ (r : ℕ) (ss : List Shape) (i : ℕ) (s : Shape) (at : slice_get ss i 
           let whole = parts-all (means_of r ss) in
           let own = parts-all (map mean_of (of_kind r (take (i + 1) ss))) in
           let machines : length (all_joined (map mean_of (of_kind r (take (i + 1) ss)))).machines ≡ length (of_kind r (take (i + 1) ss)) =
-          ap length (all_machines r (of_kind r (take (i + 1) ss)) k (kind_ranks r (take (i + 1) ss))) ∙ length-machines (of_kind r (take (i + 1) ss)) in
+          ap length (all_machines (of_kind r (take (i + 1) ss))) ∙ length-machines (of_kind r (take (i + 1) ss)) in
           let most = length-kind r (take (i + 1) ss) in
           let long = length-take (i + 1) ss in
           let objects : length (all_joined (map mean_of (of_kind r (take (i + 1) ss)))).machines < 2 ^ 32 = omega (arith, machines, most, long, l) in
@@ -95,7 +95,7 @@ pub first_word : (x y v : ℤ) → take 1 (x ∷ y ∷ []) ≡ v ∷ [] → x �
 first_word x y v e = ap (λ (l : List ℤ). slice_index_or l 0 (pos 0)) e
 
 -- the kinds have no more members than there are shapes
-pub sum_kinds : (ss : List Shape) → length (of_kind 0 ss) + (length (of_kind 1 ss) + (length (of_kind 2 ss) + length (of_kind 3 ss))) ≤ length ss
+pub sum_kinds : (ss : List Shape) → length (of_kind 0 ss) + (length (of_kind 1 ss) + (length (of_kind 2 ss) + (length (of_kind 3 ss) + length (of_kind 4 ss)))) ≤ length ss
 sum_kinds [] = omega arith
 sum_kinds (Single v ∷ ss) = let h = sum_kinds ss in omega (arith, h)
 sum_kinds (Counter v ∷ ss) = let h = sum_kinds ss in omega (arith, h)
@@ -103,13 +103,31 @@ sum_kinds (Array len v ∷ ss) = let h = sum_kinds ss in omega (arith, h)
 sum_kinds (Hash buckets places ∷ ss) = let h = sum_kinds ss in omega (arith, h)
 sum_kinds (Tree leaves ∷ ss) = let h = sum_kinds ss in omega (arith, h)
 
-pub kind_objects :
-    {A : Type 0} (r : ℕ) (ss : List Shape) (f : A → Shape) (xs : List A) → r < 4 → map f xs ≡ of_kind r ss → length (all_joined (map (λ x. mean_of (f x)) xs)).machines ≡ length (of_kind r ss)
-kind_objects r ss f xs l e =
-    ap (λ ms. length (all_joined ms).machines) (map_shapes f xs (of_kind r ss) e) ∙ ap length (all_machines r (of_kind r ss) l (kind_ranks r ss)) ∙ length-machines (of_kind r ss)
+kind_count : (r : ℕ) (ss : List Shape) → length (all_joined (means_of r ss)).machines ≡ length (of_kind r ss)
+kind_count r ss = ap length (all_machines (of_kind r ss)) ∙ length-machines (of_kind r ss)
+
+pub kind_objects : {A : Type 0} (r : ℕ) (ss : List Shape) (f : A → Shape) (xs : List A) → map f xs ≡ of_kind r ss → length (all_joined (map (λ x. mean_of (f x)) xs)).machines ≡ length (of_kind r ss)
+kind_objects r ss f xs e = ap (λ ms. length (all_joined ms).machines) (map_shapes f xs (of_kind r ss) e) ∙ kind_count r ss
 
 pub kind_widths : {A : Type 0} (r : ℕ) (ss : List Shape) (f : A → Shape) (xs : List A) → map f xs ≡ of_kind r ss → length (all_joined (map (λ x. mean_of (f x)) xs)).widths ≡ length (all_joined (means_of r ss)).widths
 kind_widths r ss f xs e = ap (λ ms. length (all_joined ms).widths) (map_shapes f xs (of_kind r ss) e)
+
+-- what the three kinds that may have more than one part come to
+module _ {C D E : Type 0} (ss : List Shape) (h : C → Shape) (k : D → Shape) (l : E → Shape) (zs : List C) (ws : List D) (vs : List E) (e : AreWide (map h zs) (map k ws) (map l vs) ss) where
+  abbrev wide : Meaning
+  wide = joined (all_joined (map (λ x. mean_of (h x)) zs)) (joined (all_joined (map (λ x. mean_of (k x)) ws)) (all_joined (map (λ x. mean_of (l x)) vs)))
+
+  pub wide_objects : length wide.machines ≡ length (of_kind 2 ss) + (length (of_kind 3 ss) + length (of_kind 4 ss))
+  wide_objects =
+      let outer = length-append (all_joined (means_of 2 ss)).machines ((all_joined (means_of 3 ss)).machines ++ (all_joined (means_of 4 ss)).machines) in
+      let inner = length-append (all_joined (means_of 3 ss)).machines (all_joined (means_of 4 ss)).machines in
+      ap (λ m. length m.machines) (wide_is h k l zs ws vs ss e) ∙ omega (arith, outer, inner, kind_count 2 ss, kind_count 3 ss, kind_count 4 ss)
+
+  pub wide_widths : length wide.widths ≡ length (all_joined (means_of 2 ss)).widths + (length (all_joined (means_of 3 ss)).widths + length (all_joined (means_of 4 ss)).widths)
+  wide_widths =
+      let outer = length-append (all_joined (means_of 2 ss)).widths ((all_joined (means_of 3 ss)).widths ++ (all_joined (means_of 4 ss)).widths) in
+      let inner = length-append (all_joined (means_of 3 ss)).widths (all_joined (means_of 4 ss)).widths in
+      ap (λ m. length m.widths) (wide_is h k l zs ws vs ss e) ∙ omega (arith, outer, inner)
 
 -- a shape that is not of a kind has another rank
 pub not_box : (s : Shape) → ((v : ℤ) → s ≡ Single v → ⊥) → nat_eq (rank s) 0 ≡ false
@@ -140,13 +158,24 @@ not_hash (Array len v) n = refl
 not_hash (Hash buckets places) n = absurd (n buckets places refl)
 not_hash (Tree leaves) n = refl
 
--- an object has no more parts than its shape tells
+pub not_tree : (s : Shape) → ((leaves : ℕ) → s ≡ Tree leaves → ⊥) → nat_eq (rank s) 4 ≡ false
+not_tree (Single v) n = refl
+not_tree (Counter v) n = refl
+not_tree (Array len v) n = refl
+not_tree (Hash buckets places) n = refl
+not_tree (Tree leaves) n = absurd (n leaves refl)
+
+-- an object has as many parts as its shape tells
+length-listed : (f : ℕ → ℕ) (i n : ℕ) → length (listed f i n) ≡ n
+length-listed f i zero = refl
+length-listed f i (suc n) = ap suc (length-listed f (suc i) n)
+
 one_width : (s : Shape) → length (mean_of s).widths ≤ part_count s
 one_width (Single v) = omega arith
 one_width (Counter v) = omega arith
 one_width (Array len v) = omega (arith, length-replicate len)
 one_width (Hash buckets places) = omega (arith, length-widths buckets places)
-one_width (Tree leaves) = omega arith
+one_width (Tree leaves) = omega (arith, length-listed (width_of leaves) 0 (2 + 9 * leaves))
 
 all_widths : (ss : List Shape) → length (all_joined (map mean_of ss)).widths ≤ sum_by part_count ss
 all_widths [] = omega arith
@@ -157,35 +186,36 @@ all_widths (s ∷ ss) =
     omega (arith, both, one, rest, sum_by-cons part_count s ss)
 
 -- the parts of the kinds are those of the shapes
-kinds_total : (ss : List Shape) → sum_by part_count (of_kind 0 ss) + (sum_by part_count (of_kind 1 ss) + (sum_by part_count (of_kind 2 ss) + sum_by part_count (of_kind 3 ss))) ≤ sum_by part_count ss
+abbrev parts_in : ℕ → List Shape → ℕ
+parts_in r ss = sum_by part_count (of_kind r ss)
+
+kinds_total : (ss : List Shape) → parts_in 0 ss + (parts_in 1 ss + (parts_in 2 ss + (parts_in 3 ss + parts_in 4 ss))) ≤ sum_by part_count ss
 kinds_total [] = omega arith
 kinds_total (Single v ∷ ss) = let h = kinds_total ss in omega (arith, h, sum_by-cons part_count (Single v) ss, sum_by-cons part_count (Single v) (of_kind 0 ss))
 kinds_total (Counter v ∷ ss) = let h = kinds_total ss in omega (arith, h, sum_by-cons part_count (Counter v) ss, sum_by-cons part_count (Counter v) (of_kind 1 ss))
 kinds_total (Array len v ∷ ss) = let h = kinds_total ss in omega (arith, h, sum_by-cons part_count (Array len v) ss, sum_by-cons part_count (Array len v) (of_kind 2 ss))
 kinds_total (Hash buckets places ∷ ss) =
     let h = kinds_total ss in omega (arith, h, sum_by-cons part_count (Hash buckets places) ss, sum_by-cons part_count (Hash buckets places) (of_kind 3 ss))
-kinds_total (Tree leaves ∷ ss) = let h = kinds_total ss in omega (arith, h, sum_by-cons part_count (Tree leaves) ss)
+kinds_total (Tree leaves ∷ ss) = let h = kinds_total ss in omega (arith, h, sum_by-cons part_count (Tree leaves) ss, sum_by-cons part_count (Tree leaves) (of_kind 4 ss))
 
 pub whole_widths :
-    (ss all : List Shape) → ss ≡ all → sum_by part_count all < 2 ^ 32
-    → length (all_joined (means_of 0 ss)).widths + (length (all_joined (means_of 1 ss)).widths + (length (all_joined (means_of 2 ss)).widths + length (all_joined (means_of 3 ss)).widths)) < 2 ^ 32
-whole_widths ss all e l =
-    let h : sum_by part_count ss < 2 ^ 32 = subst (λ (t : List Shape). sum_by part_count t < 2 ^ 32) (sym e) l in
-    let zero_parts = all_widths (of_kind 0 ss) in
-    let one_parts = all_widths (of_kind 1 ss) in
-    let two_parts = all_widths (of_kind 2 ss) in
-    let three_parts = all_widths (of_kind 3 ss) in
-    let total = kinds_total ss in
-    omega (arith, h, zero_parts, one_parts, two_parts, three_parts, total)
+    (ss : List Shape) → sum_by part_count ss < 2 ^ 32
+    → length (all_joined (means_of 0 ss)).widths
+    + (length (all_joined (means_of 1 ss)).widths + (length (all_joined (means_of 2 ss)).widths + (length (all_joined (means_of 3 ss)).widths + length (all_joined (means_of 4 ss)).widths)))
+    < 2 ^ 32
+whole_widths ss h = omega (arith, h, all_widths (of_kind 0 ss), all_widths (of_kind 1 ss), all_widths (of_kind 2 ss), all_widths (of_kind 3 ss), all_widths (of_kind 4 ss), kinds_total ss)
+
+pub same_parts : (ss all : List Shape) → ss ≡ all → sum_by part_count all < 2 ^ 32 → sum_by part_count ss < 2 ^ 32
+same_parts ss all e h = subst (λ (t : List Shape). sum_by part_count t < 2 ^ 32) (sym e) h
 
 -- a store is lawful where its kinds are
 pub means_lawful :
-    (ss all : List Shape) → ss ≡ all → IsLawful (all_joined (means_of 0 ss)) → IsLawful (all_joined (means_of 1 ss)) → IsLawful (all_joined (means_of 2 ss)) → IsLawful (all_joined (means_of 3 ss)) → IsLawful (means all)
-means_lawful ss all e zero_law one_law two_law three_law =
-    subst (λ t. IsLawful (means t)) e
-    (joined_lawful (all_joined (means_of 0 ss)) _ zero_law
+    (ss : List Shape) → IsLawful (all_joined (means_of 0 ss)) → IsLawful (all_joined (means_of 1 ss)) → IsLawful (all_joined (means_of 2 ss)) → IsLawful (all_joined (means_of 3 ss)) → IsLawful (all_joined (means_of 4 ss))
+    → IsLawful (means ss)
+means_lawful ss zero_law one_law two_law three_law four_law =
+    joined_lawful (all_joined (means_of 0 ss)) _ zero_law
     (joined_lawful (all_joined (means_of 1 ss)) _ one_law
-    (joined_lawful (all_joined (means_of 2 ss)) (all_joined (means_of 3 ss)) two_law three_law)))
+    (joined_lawful (all_joined (means_of 2 ss)) _ two_law (joined_lawful (all_joined (means_of 3 ss)) (all_joined (means_of 4 ss)) three_law four_law)))
 
 pub kind_lawful : {A : Type 0} (r : ℕ) (ss : List Shape) (f : A → Shape) (xs : List A) → map f xs ≡ of_kind r ss → IsLawful (all_joined (map (λ x. mean_of (f x)) xs)) → IsLawful (all_joined (means_of r ss))
 kind_lawful r ss f xs e law = subst (λ ms. IsLawful (all_joined ms)) (map_shapes f xs (of_kind r ss) e) law

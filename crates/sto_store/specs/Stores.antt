@@ -1,14 +1,16 @@
 -- What a store of objects means, by their shapes.
-use Rattle.std.specs.Prelude.{◌≡◌, ◌<◌, ◌+◌, ◌*◌, ◌^◌, ℕ, nat_eq, if◌then◌else◌, List, [], ◌∷◌, ◌++◌, map}
+use Rattle.std.specs.Prelude.{◌≡◌, ◌<◌, ◌≤◌, ◌+◌, ◌*◌, ◌^◌, ℕ, nat_eq, if◌then◌else◌, List, [], ◌∷◌, ◌++◌, map}
 use Rattle.sto_part.specs.Codes.{IsSignedCode}
 use Rattle.sto_model.specs.declared.shape.Shape.{Shape}
 use Rattle.sto_model.specs.declared.shape.Shape.TheVariants.{Single, Counter, Array, Hash, Tree}
 use Rattle.sto_type.specs.Meaning.{Meaning}
-use Rattle.sto_type.specs.Joined.{joined, no_meaning, all_joined}
+use Rattle.sto_type.specs.Joined.{joined, all_joined}
 use Rattle.sto_box.specs.Boxed.{box_meaning}
 use Rattle.sto_counter.specs.Counted.{counter_meaning}
 use Rattle.sto_array.specs.Arrayed.{array_meaning}
 use Rattle.sto_hash.specs.Hashed.{hash_meaning}
+use Rattle.sto_tree_law.specs.Layout.{parts_of}
+use Rattle.sto_tree_law.specs.Meaning.{tree_meaning}
 
 -- the number of a shape's kind
 abbrev pub rank : Shape → ℕ
@@ -23,40 +25,49 @@ abbrev pub of_kind : ℕ → List Shape → List Shape
 of_kind r [] = []
 of_kind r (s ∷ ss) = if nat_eq (rank s) r then s ∷ of_kind r ss else of_kind r ss
 
--- what one object means; a tree stands in no store
+-- what one object means
 abbrev pub mean_of : Shape → Meaning
 mean_of (Single v) = box_meaning 1 IsSignedCode (v ∷ [])
 mean_of (Counter v) = counter_meaning v
 mean_of (Array len v) = array_meaning len v
 mean_of (Hash buckets places) = hash_meaning buckets places
-mean_of (Tree leaves) = no_meaning
+mean_of (Tree leaves) = tree_meaning leaves
 
 -- what the objects of one kind mean
 abbrev pub means_of : ℕ → List Shape → List Meaning
 means_of r shapes = map mean_of (of_kind r shapes)
 
--- what a store means: its boxes, its counters, its arrays and its hash tables side by side
+-- what the arrays, the hash tables and the trees mean side by side
+abbrev pub wide_means : List Shape → Meaning
+wide_means shapes = joined (all_joined (means_of 2 shapes)) (joined (all_joined (means_of 3 shapes)) (all_joined (means_of 4 shapes)))
+
+-- what a store means: its boxes and its counters, and then these
 abbrev pub means : List Shape → Meaning
-means shapes = joined (all_joined (means_of 0 shapes)) (joined (all_joined (means_of 1 shapes)) (joined (all_joined (means_of 2 shapes)) (all_joined (means_of 3 shapes))))
+means shapes = joined (all_joined (means_of 0 shapes)) (joined (all_joined (means_of 1 shapes)) (wide_means shapes))
 
--- the shapes stand in the order of their kinds, and none is a tree
+-- the shapes stand in the order of their kinds
 abbrev pub AreInOrder : List Shape → Type 0
-AreInOrder shapes = shapes ≡ of_kind 0 shapes ++ (of_kind 1 shapes ++ (of_kind 2 shapes ++ of_kind 3 shapes))
+AreInOrder shapes = shapes ≡ of_kind 0 shapes ++ (of_kind 1 shapes ++ (of_kind 2 shapes ++ (of_kind 3 shapes ++ of_kind 4 shapes)))
 
--- the shapes of the boxes, counters, arrays and hash tables of a store are those of these shapes, each kind as it stands there
-pub record AreKinds (boxes counters arrays hashes shapes : List Shape) : Type 0 where
-  pub boxes_are : boxes ≡ of_kind 0 shapes
-  pub counters_are : counters ≡ of_kind 1 shapes
+-- the shapes of the arrays, the hash tables and the trees are those of these shapes, each kind as it stands there
+pub record AreWide (arrays hashes trees shapes : List Shape) : Type 0 where
   pub arrays_are : arrays ≡ of_kind 2 shapes
   pub hashes_are : hashes ≡ of_kind 3 shapes
+  pub trees_are : trees ≡ of_kind 4 shapes
 
--- a hash table has a bucket, and its parts and words are in u32; a tree is not built
+-- the same of all kinds
+pub record AreKinds (boxes counters arrays hashes trees shapes : List Shape) : Type 0 where
+  pub boxes_are : boxes ≡ of_kind 0 shapes
+  pub counters_are : counters ≡ of_kind 1 shapes
+  pub wide : AreWide arrays hashes trees shapes
+
+-- a hash table has a bucket and a tree a leaf, and their parts and words are in u32
 abbrev pub IsFit : Shape → Type 0
 IsFit (Single v) = Unit {0}
 IsFit (Counter v) = Unit {0}
 IsFit (Array len v) = Unit {0}
 IsFit (Hash buckets places) = (0 < buckets) × (buckets * (1 + places) < 2 ^ 32) × (2 * places < 2 ^ 32)
-IsFit (Tree leaves) = Unit {0}
+IsFit (Tree leaves) = (1 ≤ leaves) × (parts_of leaves < 2 ^ 32)
 
 abbrev pub AreFit : List Shape → Type 0
 AreFit [] = Unit {0}

@@ -1,9 +1,8 @@
 -- The meaning of a store has the plain objects of its shapes, takes what they take, and numbers its parts in the order of the objects.
-use Rattle.std.specs.Prelude.{◌≡◌, ◌<◌, ◌≤◌, ◌+◌, ◌-◌, ◌*◌, ℕ, zero, suc, ℤ, pos, nat_eq, nat_lt, Bool, true, false, if◌then◌else◌, Option, Some, None, List, [], ◌∷◌, ◌++◌, map, length, slice_get, IsTrue, refl}
+use Rattle.std.specs.Prelude.{◌≡◌, ◌<◌, ◌≤◌, ◌+◌, ◌-◌, ◌*◌, ℕ, zero, suc, ℤ, pos, nat_lt, Bool, true, false, Option, Some, None, List, [], ◌∷◌, ◌++◌, map, length, slice_get, IsTrue, refl}
 use Rattle.std.specs.Int.{w64}
 use Rattle.std.specs.Int.RustNames.{FitsSigned}
-use Rattle.std.proofs.Common.{ap, sym, ◌∙◌, arith, subst, inl, inr, length-append, append_assoc}
-use Rattle.std.proofs.lemmas.Bool.{cases_Bool}
+use Rattle.std.proofs.Common.{ap, sym, ◌∙◌, arith, subst, length-append, append_assoc}
 use Rattle.std.proofs.lemmas.Bool.Decides.{nat_tests}
 use Rattle.std.proofs.lemmas.List.{map-append}
 use Rattle.sto_part.specs.Codes.{IsSignedCode}
@@ -22,39 +21,28 @@ use Rattle.sto_box.specs.Boxed.{BoxTakes}
 use Rattle.sto_counter.specs.Counted.{CounterTakes}
 use Rattle.sto_array.specs.Arrayed.{ArrayTakes, homes_from as array_homes}
 use Rattle.sto_hash.specs.Hashed.{HashTakes, homes_from as hash_homes}
+use Rattle.sto_tree_law.specs.Layout.{listed}
+use Rattle.sto_tree_law.specs.Meaning.{TreeTakes}
 use Rattle.sto_store.specs.Homes.{homes_within, homes_from, HasParts}
-use Rattle.sto_store.specs.Stores.{rank, of_kind, mean_of, means_of, means, AreInOrder, AreKinds}
-
-same_rank : (m n : ℕ) → nat_eq m n ≡ true → m ≡ n
-same_rank m n e = grind (arith, nat_tests)
+use Rattle.sto_store.specs.Stores.{of_kind, mean_of, means_of, wide_means, means, AreInOrder, AreWide, AreKinds}
 
 by_test : {P : Type 0} (b : Bool) → (b ≡ true → P) → (b ≡ false → P) → P
 by_test true f g = f refl
 by_test false f g = g refl
 
--- each shape of a kind has its rank
-abbrev pub EachRank : ℕ → List Shape → Type 0
-EachRank r [] = Unit {0}
-EachRank r (s ∷ ss) = (rank s ≡ r) × EachRank r ss
-
-pub kind_ranks : (r : ℕ) (ss : List Shape) → EachRank r (of_kind r ss)
-kind_ranks r [] = tt
-kind_ranks r (s ∷ ss) = by_test (nat_eq (rank s) r) (λ e. rw e (same_rank (rank s) r e, kind_ranks r ss)) (λ e. rw e (kind_ranks r ss))
-
 -- the machines
-one_machine : (s : Shape) → rank s < 4 → (mean_of s).machines ≡ machine_of s ∷ []
-one_machine (Single v) l = refl
-one_machine (Counter v) l = refl
-one_machine (Array len v) l = refl
-one_machine (Hash buckets places) l = refl
-one_machine (Tree leaves) l = absurd (omega (arith, l))
+one_machine : (s : Shape) → (mean_of s).machines ≡ machine_of s ∷ []
+one_machine (Single v) = refl
+one_machine (Counter v) = refl
+one_machine (Array len v) = refl
+one_machine (Hash buckets places) = refl
+one_machine (Tree leaves) = refl
 
-pub all_machines : (r : ℕ) (ss : List Shape) → r < 4 → EachRank r ss → (all_joined (map mean_of ss)).machines ≡ machines_of ss
-all_machines r [] l h = refl
-all_machines r (s ∷ ss) l h =
-    let e = h.0 in
-    let one : (mean_of s).machines ≡ machine_of s ∷ [] = one_machine s (omega (arith, l, e)) in
-    let rest : (all_joined (map mean_of ss)).machines ≡ machines_of ss = all_machines r ss l h.1 in
+pub all_machines : (ss : List Shape) → (all_joined (map mean_of ss)).machines ≡ machines_of ss
+all_machines [] = refl
+all_machines (s ∷ ss) =
+    let one : (mean_of s).machines ≡ machine_of s ∷ [] = one_machine s in
+    let rest : (all_joined (map mean_of ss)).machines ≡ machines_of ss = all_machines ss in
     λ i. one i ++ rest i
 
 pub length-machines : (ss : List Shape) → length (machines_of ss) ≡ length ss
@@ -173,36 +161,41 @@ one_taken s call t =
     let g : (call.object ≡ 0) × (s ≡ t.0) = one_got s t.0 call.object t.1 in
     (g.0, subst (λ x. IsTrue (takes_by x (operation_of call.code) call.a)) (sym g.1) t.2)
 
-pub one_takes : (s : Shape) → rank s < 4 → TakesAll (mean_of s) (s ∷ [])
-one_takes (Single v) l = record {
+pub one_takes : (s : Shape) → TakesAll (mean_of s) (s ∷ [])
+one_takes (Single v) = record {
   many = refl;
   takes = λ call t f.
       let g : (call.object ≡ 0) × IsTrue (takes_by (Single v) (operation_of call.code) call.a) = one_taken (Single v) call t in
       record { object = g.0; code = box_code v call.code call.a g.1; value = λ e. ∣ tt ∣₁; fits = f.first; fits_too = f.second };
 }
-one_takes (Counter v) l = record {
+one_takes (Counter v) = record {
   many = refl;
   takes = λ call t f.
       let g : (call.object ≡ 0) × IsTrue (takes_by (Counter v) (operation_of call.code) call.a) = one_taken (Counter v) call t in
       record { object = g.0; taken = sym (counter_alike v (operation_of call.code) call.a) ∙ g.1; fits = f.first; fits_too = f.second };
 }
-one_takes (Array len v) l = record {
+one_takes (Array len v) = record {
   many = refl;
   takes = λ call t f.
       let g : (call.object ≡ 0) × IsTrue (takes_by (Array len v) (operation_of call.code) call.a) = one_taken (Array len v) call t in
       record { object = g.0; taken = sym (array_alike len v (operation_of call.code) call.a) ∙ g.1; fits = f.first; fits_too = f.second };
 }
-one_takes (Hash buckets places) l = record {
+one_takes (Hash buckets places) = record {
   many = refl;
   takes = λ call t f.
       let g : (call.object ≡ 0) × IsTrue (takes_by (Hash buckets places) (operation_of call.code) call.a) = one_taken (Hash buckets places) call t in
       record { object = g.0; taken = sym (hash_alike buckets places (operation_of call.code) call.a) ∙ g.1; fits = f.first; fits_too = f.second };
 }
-one_takes (Tree leaves) l = absurd (omega (arith, l))
+one_takes (Tree leaves) = record {
+  many = refl;
+  takes = λ call t f.
+      let g : (call.object ≡ 0) × IsTrue (takes_by (Tree leaves) (operation_of call.code) call.a) = one_taken (Tree leaves) call t in
+      record { object = g.0; operation = g.1; fits = f.first; fits_too = f.second };
+}
 
-pub all_take : (r : ℕ) (ss : List Shape) → r < 4 → EachRank r ss → TakesAll (all_joined (map mean_of ss)) ss
-all_take r [] l h = none_take
-all_take r (s ∷ ss) l h = let e = h.0 in both_take (mean_of s) (all_joined (map mean_of ss)) (s ∷ []) ss (one_takes s (omega (arith, l, e))) (all_take r ss l h.1)
+pub all_take : (ss : List Shape) → TakesAll (all_joined (map mean_of ss)) ss
+all_take [] = none_take
+all_take (s ∷ ss) = both_take (mean_of s) (all_joined (map mean_of ss)) (s ∷ []) ss (one_takes s) (all_take ss)
 
 -- the homes
 within_moved : (n object first count : ℕ) → map (home_moved n) (homes_within object first count) ≡ homes_within (n + object) first count
@@ -254,52 +247,53 @@ hash_within : (i n : ℕ) → hash_homes i n ≡ homes_within 0 i n
 hash_within i zero = refl
 hash_within i (suc n) = ap (λ (l : List (ℕ × ℕ)). (0, i) ∷ l) (hash_within (suc i) n)
 
-pub one_parts : (s : Shape) → rank s < 4 → HasParts (mean_of s) (part_count s ∷ [])
-one_parts (Single v) l = record { objects = refl; homes = refl }
-one_parts (Counter v) l = record { objects = refl; homes = refl }
-one_parts (Array len v) l = one_object (mean_of (Array len v)) len refl (array_within 0 len)
-one_parts (Hash buckets places) l = one_object (mean_of (Hash buckets places)) (buckets * (1 + places)) refl (hash_within 0 (buckets * (1 + places)))
-one_parts (Tree leaves) l = absurd (omega (arith, l))
+tree_within : (i n : ℕ) → listed {A = ℕ × ℕ} (λ p. (0, p)) i n ≡ homes_within 0 i n
+tree_within i zero = refl
+tree_within i (suc n) = ap (λ (l : List (ℕ × ℕ)). (0, i) ∷ l) (tree_within (suc i) n)
 
-pub all_parts : (r : ℕ) (ss : List Shape) → r < 4 → EachRank r ss → HasParts (all_joined (map mean_of ss)) (map part_count ss)
-all_parts r [] l h = no_parts
-all_parts r (s ∷ ss) l h = let e = h.0 in both_parts (mean_of s) (all_joined (map mean_of ss)) (part_count s ∷ []) (map part_count ss) (one_parts s (omega (arith, l, e))) (all_parts r ss l h.1)
+pub one_parts : (s : Shape) → HasParts (mean_of s) (part_count s ∷ [])
+one_parts (Single v) = record { objects = refl; homes = refl }
+one_parts (Counter v) = record { objects = refl; homes = refl }
+one_parts (Array len v) = one_object (mean_of (Array len v)) len refl (array_within 0 len)
+one_parts (Hash buckets places) = one_object (mean_of (Hash buckets places)) (buckets * (1 + places)) refl (hash_within 0 (buckets * (1 + places)))
+one_parts (Tree leaves) = one_object (mean_of (Tree leaves)) (2 + 9 * leaves) refl (tree_within 0 (2 + 9 * leaves))
+
+pub all_parts : (ss : List Shape) → HasParts (all_joined (map mean_of ss)) (map part_count ss)
+all_parts [] = no_parts
+all_parts (s ∷ ss) = both_parts (mean_of s) (all_joined (map mean_of ss)) (part_count s ∷ []) (map part_count ss) (one_parts s) (all_parts ss)
 
 -- the whole store
 module _ (shapes : List Shape) (order : AreInOrder shapes) where
   abbrev k : ℕ → List Shape
   k r = of_kind r shapes
 
-  four : (f : Shape → ℕ) → map f (k 0 ++ (k 1 ++ (k 2 ++ k 3))) ≡ map f (k 0) ++ (map f (k 1) ++ (map f (k 2) ++ map f (k 3)))
-  four f =
-      map-append f (k 0) (k 1 ++ (k 2 ++ k 3))
-      ∙ ap (λ l. map f (k 0) ++ l) (map-append f (k 1) (k 2 ++ k 3) ∙ ap (λ l. map f (k 1) ++ l) (map-append f (k 2) (k 3)))
-
-  four_machines : machines_of (k 0 ++ (k 1 ++ (k 2 ++ k 3))) ≡ machines_of (k 0) ++ (machines_of (k 1) ++ (machines_of (k 2) ++ machines_of (k 3)))
-  four_machines =
-      map-append machine_of (k 0) (k 1 ++ (k 2 ++ k 3))
-      ∙ ap (λ l. machines_of (k 0) ++ l) (map-append machine_of (k 1) (k 2 ++ k 3) ∙ ap (λ l. machines_of (k 1) ++ l) (map-append machine_of (k 2) (k 3)))
+  by_kind : {A : Type 0} (f : Shape → A) → map f shapes ≡ map f (k 0) ++ (map f (k 1) ++ (map f (k 2) ++ (map f (k 3) ++ map f (k 4))))
+  by_kind f =
+      ap (map f) order
+      ∙ map-append f (k 0) (k 1 ++ (k 2 ++ (k 3 ++ k 4)))
+      ∙ ap (λ l. map f (k 0) ++ l) (map-append f (k 1) (k 2 ++ (k 3 ++ k 4))
+      ∙ ap (λ l. map f (k 1) ++ l) (map-append f (k 2) (k 3 ++ k 4) ∙ ap (λ l. map f (k 2) ++ l) (map-append f (k 3) (k 4))))
 
   pub machines_are : (means shapes).machines ≡ machines_of shapes
   machines_are =
-      (λ i. all_machines 0 (k 0) (omega arith) (kind_ranks 0 shapes) i ++ (all_machines 1 (k 1) (omega arith) (kind_ranks 1 shapes) i ++ (all_machines 2 (k 2) (omega arith) (kind_ranks 2 shapes) i ++ all_machines 3 (k 3) (omega arith) (kind_ranks 3 shapes) i)))
-      ∙ sym four_machines
-      ∙ ap machines_of (sym order)
+      (λ i. all_machines (k 0) i ++ (all_machines (k 1) i ++ (all_machines (k 2) i ++ (all_machines (k 3) i ++ all_machines (k 4) i))))
+      ∙ sym (by_kind machine_of)
 
   pub takes_all : TakesAll (means shapes) shapes
   takes_all =
       subst (TakesAll (means shapes)) (sym order)
-      (both_take (all_joined (means_of 0 shapes)) _ (k 0) (k 1 ++ (k 2 ++ k 3)) (all_take 0 (k 0) (omega arith) (kind_ranks 0 shapes))
-      (both_take (all_joined (means_of 1 shapes)) _ (k 1) (k 2 ++ k 3) (all_take 1 (k 1) (omega arith) (kind_ranks 1 shapes))
-      (both_take (all_joined (means_of 2 shapes)) _ (k 2) (k 3) (all_take 2 (k 2) (omega arith) (kind_ranks 2 shapes)) (all_take 3 (k 3) (omega arith) (kind_ranks 3 shapes)))))
+      (both_take (all_joined (means_of 0 shapes)) _ (k 0) (k 1 ++ (k 2 ++ (k 3 ++ k 4))) (all_take (k 0))
+      (both_take (all_joined (means_of 1 shapes)) _ (k 1) (k 2 ++ (k 3 ++ k 4)) (all_take (k 1))
+      (both_take (all_joined (means_of 2 shapes)) _ (k 2) (k 3 ++ k 4) (all_take (k 2))
+      (both_take (all_joined (means_of 3 shapes)) _ (k 3) (k 4) (all_take (k 3)) (all_take (k 4))))))
 
   pub has_parts : HasParts (means shapes) (map part_count shapes)
   has_parts =
-      subst (λ ss. HasParts (means shapes) (map part_count ss)) (sym order)
-      (subst (HasParts (means shapes)) (sym (four part_count))
-      (both_parts (all_joined (means_of 0 shapes)) _ (map part_count (k 0)) (map part_count (k 1) ++ (map part_count (k 2) ++ map part_count (k 3))) (all_parts 0 (k 0) (omega arith) (kind_ranks 0 shapes))
-      (both_parts (all_joined (means_of 1 shapes)) _ (map part_count (k 1)) (map part_count (k 2) ++ map part_count (k 3)) (all_parts 1 (k 1) (omega arith) (kind_ranks 1 shapes))
-      (both_parts (all_joined (means_of 2 shapes)) _ (map part_count (k 2)) (map part_count (k 3)) (all_parts 2 (k 2) (omega arith) (kind_ranks 2 shapes)) (all_parts 3 (k 3) (omega arith) (kind_ranks 3 shapes))))))
+      subst (HasParts (means shapes)) (sym (by_kind part_count))
+      (both_parts (all_joined (means_of 0 shapes)) _ (map part_count (k 0)) _ (all_parts (k 0))
+      (both_parts (all_joined (means_of 1 shapes)) _ (map part_count (k 1)) _ (all_parts (k 1))
+      (both_parts (all_joined (means_of 2 shapes)) _ (map part_count (k 2)) _ (all_parts (k 2))
+      (both_parts (all_joined (means_of 3 shapes)) _ (map part_count (k 3)) (map part_count (k 4)) (all_parts (k 3)) (all_parts (k 4))))))
 
 -- What is built means what its shapes mean. The members of each kind mean what their shapes mean.
 pub map_shapes : {A : Type 0} (shape : A → Shape) (xs : List A) (ss : List Shape) → map shape xs ≡ ss → map (λ x. mean_of (shape x)) xs ≡ map mean_of ss
@@ -309,11 +303,21 @@ map_shapes {A} shape xs ss e = map_twice xs ∙ ap (map mean_of) e
     map_twice [] = refl
     map_twice (x ∷ l) = ap (λ t. mean_of (shape x) ∷ t) (map_twice l)
 
+pub wide_is :
+    {C D E : Type 0} (h : C → Shape) (k : D → Shape) (l : E → Shape) (zs : List C) (ws : List D) (vs : List E) (shapes : List Shape) → AreWide (map h zs) (map k ws) (map l vs) shapes
+    → joined (all_joined (map (λ x. mean_of (h x)) zs)) (joined (all_joined (map (λ x. mean_of (k x)) ws)) (all_joined (map (λ x. mean_of (l x)) vs)))
+    ≡ wide_means shapes
+wide_is h k l zs ws vs shapes e i =
+    joined (all_joined (map_shapes h zs (of_kind 2 shapes) e.arrays_are i))
+    (joined (all_joined (map_shapes k ws (of_kind 3 shapes) e.hashes_are i)) (all_joined (map_shapes l vs (of_kind 4 shapes) e.trees_are i)))
+
 pub means_is :
-    {A B C D : Type 0} (f : A → Shape) (g : B → Shape) (h : C → Shape) (k : D → Shape) (xs : List A) (ys : List B) (zs : List C) (ws : List D) (shapes : List Shape)
-    → AreKinds (map f xs) (map g ys) (map h zs) (map k ws) shapes
-    → joined (all_joined (map (λ x. mean_of (f x)) xs)) (joined (all_joined (map (λ x. mean_of (g x)) ys)) (joined (all_joined (map (λ x. mean_of (h x)) zs)) (all_joined (map (λ x. mean_of (k x)) ws)))) ≡ means shapes
-means_is f g h k xs ys zs ws shapes e i =
+    {A B C D E : Type 0} (f : A → Shape) (g : B → Shape) (h : C → Shape) (k : D → Shape) (l : E → Shape) (xs : List A) (ys : List B) (zs : List C) (ws : List D) (vs : List E) (shapes : List Shape)
+    → AreKinds (map f xs) (map g ys) (map h zs) (map k ws) (map l vs) shapes
+    → joined (all_joined (map (λ x. mean_of (f x)) xs))
+    (joined (all_joined (map (λ x. mean_of (g x)) ys))
+    (joined (all_joined (map (λ x. mean_of (h x)) zs)) (joined (all_joined (map (λ x. mean_of (k x)) ws)) (all_joined (map (λ x. mean_of (l x)) vs)))))
+    ≡ means shapes
+means_is f g h k l xs ys zs ws vs shapes e i =
     joined (all_joined (map_shapes f xs (of_kind 0 shapes) e.boxes_are i))
-    (joined (all_joined (map_shapes g ys (of_kind 1 shapes) e.counters_are i))
-    (joined (all_joined (map_shapes h zs (of_kind 2 shapes) e.arrays_are i)) (all_joined (map_shapes k ws (of_kind 3 shapes) e.hashes_are i))))
+    (joined (all_joined (map_shapes g ys (of_kind 1 shapes) e.counters_are i)) (wide_is h k l zs ws vs shapes e.wide i))

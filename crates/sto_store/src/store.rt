@@ -6,8 +6,8 @@ ghost use Rattle.sto_model.specs.Objects.{IsTaken};
 ghost use Rattle.sto_model.specs.Sizes.{part_count};
 ghost use Rattle.sto_model.specs.declared.call.Call.{Call};
 ghost use Rattle.sto_store.specs.StoresLaw.{IsFitting};
-ghost use Rattle.sto_model.specs.declared.shape.Shape.TheVariants.{Single, Counter, Array, Hash};
-ghost use Rattle.sto_store.specs.Stores.{means, means_of, of_kind, AreFit, AreInOrder, AreKinds};
+ghost use Rattle.sto_model.specs.declared.shape.Shape.TheVariants.{Single, Counter, Array, Hash, Tree};
+ghost use Rattle.sto_store.specs.Stores.{means, means_of, of_kind, AreFit, AreInOrder, AreKinds, AreWide};
 
 use std::alloc::Global;
 use sto_array::TArray;
@@ -16,6 +16,7 @@ use sto_counter::TCounter;
 use sto_hash::THash;
 use sto_model::{Shape, Shapes};
 use sto_part::NoMemory;
+use sto_tree::TTree;
 use sto_type::{Both, Many, TxType};
 
 /// The objects of one kind.
@@ -27,8 +28,13 @@ type Arrays = Many<TArray>;
 
 type Hashes = Many<THash>;
 
-/// Boxes, counters, arrays and hash tables, in this order.
-pub type Store = Both<Boxes, Both<Counters, Both<Arrays, Hashes>>>;
+type Trees = Many<TTree>;
+
+/// The objects that may have more than one part.
+type Wide = Both<Arrays, Both<Hashes, Trees>>;
+
+/// Boxes, counters, arrays, hash tables and trees, in this order.
+pub type Store = Both<Boxes, Both<Counters, Wide>>;
 
 /// The store of objects of these shapes.
 pub fn build(alloc: Global, shapes: &Shapes) -> Result<Store, NoMemory>
@@ -36,14 +42,25 @@ pub fn build(alloc: Global, shapes: &Shapes) -> Result<Store, NoMemory>
     requires parts { sum_by part_count shapes.now.items < 2 ^ 32 }
     ensures lawful { IfOk result (λ s. IsLawful (means shapes.now.items)) }
     ensures takes { IfOk result (λ s. AreInOrder shapes.now.items → (call : Call) → IsTaken shapes.now.items call → IsFitting call → (⟦<Store as TxType>⟧.meaning s).takes call) }
-    ensures kinds { IfOk result (λ s. AreKinds (map (λ x. Single x.first) s.first) (map (λ x. Counter x.first) s.second.first) (map (λ x. Array x.len x.first) s.second.second.first) (map (λ x. Hash x.buckets x.places) s.second.second.second) shapes.now.items) }
+    ensures kinds { IfOk result (λ s. AreKinds (map (λ x. Single x.first) s.first) (map (λ x. Counter x.first) s.second.first) (map (λ x. Array x.len x.first) s.second.second.first) (map (λ x. Hash x.buckets x.places) s.second.second.second.first) (map (λ x. Tree x.leaves) s.second.second.second.second) shapes.now.items) }
 {
     let all = shapes.as_slice();
     let boxes = build_boxes(alloc, all)?;
     let counters = build_counters(alloc, all)?;
-    let arrays = build_arrays(alloc, all)?;
-    let hashes = build_hashes(alloc, all)?;
-    Ok(Both::new(boxes, Both::new(counters, Both::new(arrays, hashes))))
+    let wide = build_wide(alloc, all)?;
+    Ok(Both::new(boxes, Both::new(counters, wide)))
+}
+
+fn build_wide(alloc: Global, shapes: &[Shape]) -> Result<Wide, NoMemory>
+    requires few { length shapes.now < 2 ^ 32 }
+    requires fit { AreFit shapes.now }
+    requires parts { sum_by part_count shapes.now < 2 ^ 32 }
+    ensures { IfOk result (λ w. AreWide (map (λ x. Array x.len x.first) w.first) (map (λ x. Hash x.buckets x.places) w.second.first) (map (λ x. Tree x.leaves) w.second.second) shapes.now) }
+{
+    let arrays = build_arrays(alloc, shapes)?;
+    let hashes = build_hashes(alloc, shapes)?;
+    let trees = build_trees(alloc, shapes)?;
+    Ok(Both::new(arrays, Both::new(hashes, trees)))
 }
 
 fn build_boxes(alloc: Global, shapes: &[Shape]) -> Result<Boxes, NoMemory>
@@ -98,6 +115,21 @@ fn build_hashes(alloc: Global, shapes: &[Shape]) -> Result<Hashes, NoMemory>
     for shape in shapes {
         if let Shape::Hash { buckets, places } = shape {
             made.push(THash::new(*buckets, *places))?;
+        }
+    }
+    Ok(made)
+}
+
+fn build_trees(alloc: Global, shapes: &[Shape]) -> Result<Trees, NoMemory>
+    requires few { length shapes.now < 2 ^ 32 }
+    requires fit { AreFit shapes.now }
+    requires parts { length (all_joined (means_of 4 shapes.now)).widths < 2 ^ 32 }
+    ensures { IfOk result (λ m. map (λ x. Tree x.leaves) m ≡ of_kind 4 shapes.now) }
+{
+    let mut made = Many::new(alloc);
+    for shape in shapes {
+        if let Shape::Tree { leaves } = shape {
+            made.push(TTree::new(*leaves))?;
         }
     }
     Ok(made)

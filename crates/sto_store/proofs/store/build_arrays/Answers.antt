@@ -15,7 +15,7 @@ pub push-requires-clause-few : goal.push-requires-clause-few
 push-requires-clause-few c =
     let fits : FitsSigned w64 c.in-Array.value = search rules in
     few 2 c.args.shapes.now c.loop-shape.shape-index (Array c.in-Array.len c.in-Array.value) (slice_get-get_or c.args.shapes.now c.loop-shape.shape-index (Single (pos 0)) c.loop-shape-test.true ∙ ap Some c.in-Array.is) (λ x. Array x.len x.first) c.loop-shape.made c.loop-shape.invariant c.new.result
-    ((let e = simp to_z-of_z at c.new.ensures.first in λ i. Array (c.new.ensures.len i) (e i))) refl (omega arith) c.requires.few c.requires.parts
+    ((let e = simp to_z-of_z at c.new.ensures.first in λ i. Array (c.new.ensures.len i) (e i))) refl c.requires.few c.requires.parts
 
 pub loop-shape-preserved : goal.loop-shape-preserved
 loop-shape-preserved c =

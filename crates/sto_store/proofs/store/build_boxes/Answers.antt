@@ -15,7 +15,7 @@ pub push-requires-clause-few : goal.push-requires-clause-few
 push-requires-clause-few c =
     let fits : FitsSigned w64 c.in-Single.value = search rules in
     few 0 c.args.shapes.now c.loop-shape.shape-index (Single c.in-Single.value) (slice_get-get_or c.args.shapes.now c.loop-shape.shape-index (Single (pos 0)) c.loop-shape-test.true ∙ ap Some c.in-Single.is) (λ x. Single x.first) c.loop-shape.made c.loop-shape.invariant c.new.result
-    (ap Single (first_word c.new.result.first c.new.result.second c.in-Single.value c.new.ensures)) refl (omega arith) c.requires.few c.requires.parts
+    (ap Single (first_word c.new.result.first c.new.result.second c.in-Single.value c.new.ensures)) refl c.requires.few c.requires.parts
 
 pub loop-shape-preserved : goal.loop-shape-preserved
 loop-shape-preserved c =

@@ -15,7 +15,7 @@ pub push-requires-clause-few : goal.push-requires-clause-few
 push-requires-clause-few c =
     let fits : FitsSigned w64 c.in-Counter.value = search rules in
     few 1 c.args.shapes.now c.loop-shape.shape-index (Counter c.in-Counter.value) (slice_get-get_or c.args.shapes.now c.loop-shape.shape-index (Single (pos 0)) c.loop-shape-test.true ∙ ap Some c.in-Counter.is) (λ x. Counter x.first) c.loop-shape.made c.loop-shape.invariant c.new.result
-    (ap Counter (simp to_z-of_z at c.new.ensures)) refl (omega arith) c.requires.few c.requires.parts
+    (ap Counter (simp to_z-of_z at c.new.ensures)) refl c.requires.few c.requires.parts
 
 pub loop-shape-preserved : goal.loop-shape-preserved
 loop-shape-preserved c =

@@ -23,7 +23,7 @@ push-requires-clause-members c =
 pub push-requires-clause-few : goal.push-requires-clause-few
 push-requires-clause-few c =
     few 3 c.args.shapes.now c.loop-shape.shape-index (Hash c.in-Hash.buckets c.in-Hash.places) (slice_get-get_or c.args.shapes.now c.loop-shape.shape-index (Single (pos 0)) c.loop-shape-test.true ∙ ap Some c.in-Hash.is) (λ x. Hash x.buckets x.places) c.loop-shape.made c.loop-shape.invariant c.new.result
-    ((λ i. Hash (c.new.ensures.buckets i) (c.new.ensures.places i))) refl (omega arith) c.requires.few c.requires.parts
+    ((λ i. Hash (c.new.ensures.buckets i) (c.new.ensures.places i))) refl c.requires.few c.requires.parts
 
 pub loop-shape-preserved : goal.loop-shape-preserved
 loop-shape-preserved c =
