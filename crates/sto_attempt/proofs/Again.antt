@@ -33,7 +33,7 @@ use Rattle.sto_attempt.specs.Sights.{words_in, claim_of, IsClaimed, AreClaimed, 
 use Rattle.sto_attempt.specs.Course.{IsCourse}
 use Rattle.sto_attempt.specs.Answers.{IsPrefix, HasFound, WasLocked, WasChanged}
 use Rattle.sto_attempt.specs.Standing.{numbered, Spans, IsRenewed, IsNext, IsLeft}
-use Rattle.sto_attempt.proofs.Sights.{words_new}
+use Rattle.sto_attempt.proofs.Claimed.{words_new}
 use Rattle.sto_attempt.proofs.Asking.{asked_range}
 use Rattle.sto_attempt.proofs.Numbered.{numbered_more, all_numbered, words_numbered}
 use Rattle.sto_attempt.specs.Reasons.{WasReadUnder}

@@ -25,7 +25,7 @@ use Rattle.sto_attempt.specs.Extending.{StaysSo, IsWatched, StaysWatched}
 use Rattle.sto_attempt.specs.Standing.{IsRenewed, IsNext}
 use Rattle.sto_attempt.proofs.Every.{all_contained, all_map, all_append}
 use Rattle.sto_attempt.proofs.Asking.{asked_range}
-use Rattle.sto_attempt.proofs.Sights.{words_more}
+use Rattle.sto_attempt.proofs.Claimed.{words_more}
 use Rattle.sto_attempt.proofs.Extended.{carried_over}
 use Rattle.sto_attempt.proofs.Observing.{WasTrue, all_stay}
 

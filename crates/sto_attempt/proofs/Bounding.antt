@@ -22,7 +22,7 @@ use Rattle.sto_attempt.specs.Sights.{words_in}
 use Rattle.sto_attempt.specs.Led.{IsLed}
 use Rattle.sto_attempt.specs.Standing.{IsRenewed, IsNext}
 use Rattle.sto_attempt.specs.Bounds.{words_of, round, reading, unread, renewing, later, left_opening, left_renewing, left_committing, events_left}
-use Rattle.sto_attempt.proofs.Sights.{words_new}
+use Rattle.sto_attempt.proofs.Claimed.{words_new}
 use Rattle.sto_attempt.proofs.Reading.{some_more}
 
 -- what is not known can be read with one reading

@@ -30,7 +30,7 @@ use Rattle.sto_attempt.specs.Sights.{words_in, IsTrueIn, HasClaims}
 use Rattle.sto_attempt.specs.Looking.{LooksAt, IsCovered}
 use Rattle.sto_attempt.specs.Stages.{Deal, ticket_from, reads_of, words_loaded, IsNamed, IsTrueOn, IsDone, WasFound, WasTested, IsLookedAt, IsChecked, IsLoadingAt, IsCheckingAt}
 use Rattle.sto_attempt.proofs.Every.{all_contained}
-use Rattle.sto_attempt.proofs.Sights.{claims_fit, part_of_claims, claimed_words}
+use Rattle.sto_attempt.proofs.Claimed.{claims_fit, part_of_claims, claimed_words}
 use Rattle.sto_attempt.proofs.Drawing.{was_seen, seen_ticket, read_words, draw_looks, were_true}
 use Rattle.sto_attempt.proofs.Ticketing.{held_written, may_draw}
 use Rattle.sto_attempt.proofs.Leaving.{Sealed, sealed_still}

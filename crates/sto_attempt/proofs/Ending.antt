@@ -42,7 +42,7 @@ use Rattle.sto_part.specs.Parts.{part_of}
 use Rattle.sto_item.specs.Pending.{Entry as Update}
 use Rattle.sto_attempt.specs.declared.stage.Stage.{Stage}
 use Rattle.sto_attempt.specs.declared.stage.Stage.TheVariants as S
-use Rattle.sto_attempt.proofs.Sights.{claimed_still, claims_fit, part_of_claims, claimed_words}
+use Rattle.sto_attempt.proofs.Claimed.{claimed_still, claims_fit, part_of_claims, claimed_words}
 use Rattle.sto_attempt.proofs.Drawing.{were_true}
 use Rattle.sto_attempt.proofs.Observing.{WasTrue}
 use Rattle.sto_attempt.specs.Reasons.{WasReadUnder, IsByPredicate, IsByTest}

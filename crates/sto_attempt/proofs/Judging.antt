@@ -35,7 +35,7 @@ use Rattle.sto_attempt.specs.Sights.{words_in, IsTrueIn, HasClaims}
 use Rattle.sto_attempt.specs.Reasons.{IsReadHeld, IsByPredicate}
 use Rattle.sto_attempt.specs.Stages.{Deal, task, ticket_from, reads_of, is_so, words_loaded, IsTrueOn, IsDone, IsAsBefore, IsFreshAt, WasFound, IsLeaving, IsLoadingAt, IsLoadingWord}
 use Rattle.sto_attempt.proofs.Every.{all_contained}
-use Rattle.sto_attempt.proofs.Sights.{claims_fit, part_of_claims, claimed_words}
+use Rattle.sto_attempt.proofs.Claimed.{claims_fit, part_of_claims, claimed_words}
 use Rattle.sto_attempt.proofs.Drawing.{read_words, were_true}
 use Rattle.sto_attempt.proofs.Moving.{width_of}
 use Rattle.sto_attempt.proofs.Observing.{WasTrue}

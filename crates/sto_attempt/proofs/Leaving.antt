@@ -27,7 +27,7 @@ use Rattle.sto_attempt.specs.Answers.{IsPrefix, WasLocked, WasChanged}
 use Rattle.sto_attempt.specs.Standing.{IsLeft}
 use Rattle.sto_attempt.specs.Committing.{written, IsSealed}
 use Rattle.sto_attempt.specs.Stages.{Deal, FailsWith, EndsWith, IsLeaving, IsDropping}
-use Rattle.sto_attempt.proofs.Sights.{claimed_still}
+use Rattle.sto_attempt.proofs.Claimed.{claimed_still}
 use Rattle.sto_attempt.proofs.Reading.{own_still, has_part}
 use Rattle.sto_attempt.proofs.Holding.{parts_held, all_get, rest_from, drop_past, without_first, holds_first, none_left, phase_stays}
 

@@ -1,6 +1,7 @@
 pub mod Every
 pub mod Asking
-pub mod Sights
+pub mod Claimed
+pub mod Placed
 pub mod Items
 pub mod Written
 pub mod Moving
@@ -41,6 +42,7 @@ pub mod Drawn
 pub mod Installing
 pub mod Checks
 pub mod Gathering
+pub mod Finding
 pub mod Planning
 pub mod Placing
 pub mod Sealing

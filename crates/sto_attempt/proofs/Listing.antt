@@ -1,5 +1,5 @@
 -- The next of a list, and updates as the code holds them.
-use Rattle.std.proofs.Common.{◌≡◌, ◌<◌, ◌≤◌, ◌+◌, ℕ, zero, suc, Some, List, [], ◌∷◌, ◌++◌, length, take, drop, map, refl, ap, sym, ◌∙◌, subst, arith, eq-eqb, slice_index_or}
+use Rattle.std.proofs.Common.{◌≡◌, ◌<◌, ◌≤◌, ◌+◌, ℕ, zero, suc, List, [], ◌∷◌, ◌++◌, length, take, drop, map, refl, ap, sym, ◌∙◌, subst, arith, slice_index_or}
 use Rattle.std.proofs.lemmas.List.{take_more, length-map, get_or-map}
 use Rattle.sto_part.specs.Listed.{Listed}
 use Rattle.sto_part.specs.Parts.{part_of}
@@ -7,8 +7,6 @@ use Rattle.sto_part.specs.declared.change.Change.{Change}
 use Rattle.sto_item.specs.Pending.{Entry, plain, with_update, with_updates}
 use Rattle.sto_item.specs.Agreement.{HasWidths}
 use Rattle.sto_type.specs.Known.{Parts}
-use Rattle.sto_attempt.specs.declared.sight.Sight.{Sight}
-use Rattle.sto_attempt.specs.Sights.{words_in}
 
 pub take_next : {A : Type 0} (xs : List A) (i : ℕ) (x : A) → i < length xs → x ≡ slice_index_or xs i x → take (i + 1) xs ≡ take i xs ++ x ∷ []
 take_next xs i x h is = take_more xs i x h ∙ ap (λ y. take i xs ++ y ∷ []) (sym is)
@@ -22,10 +20,6 @@ pub drop_next : {A : Type 0} (xs : List A) (i : ℕ) (x : A) → i < length xs �
 drop_next [] i x h is = absurd (omega (arith, h))
 drop_next (y ∷ xs) zero x h is = ap (λ z. z ∷ xs) (sym is)
 drop_next (y ∷ xs) (suc i) x h is = drop_next xs i x (omega (arith, h)) is
-
-pub found_at : (ss : List Sight) (i p : ℕ) (x : Sight) → i < length ss → x ≡ slice_index_or ss i x → x.part ≡ p → words_in ss p ≡ words_in (drop i ss) p → words_in ss p ≡ Some x.words.items
-found_at ss i p x h is same inv =
-    inv ∙ ap (λ l. words_in l p) (drop_next ss i x h is) ∙ (rw (eq-eqb x.part p same) refl)
 
 pub with_updates-more : (es us : List Entry) (u : Entry) → with_updates es (us ++ u ∷ []) ≡ with_update (with_updates es us) u.0 u.1
 with_updates-more es [] u = refl

@@ -18,7 +18,7 @@ use Rattle.sto_attempt.specs.Sights.{words_in, AreClaimed, HasClaims}
 use Rattle.sto_attempt.specs.Course.{IsCourse}
 use Rattle.sto_attempt.specs.Answers.{IsPrefix, HasRead, HasCancelled}
 use Rattle.sto_attempt.proofs.OneReply.{run_on}
-use Rattle.sto_attempt.proofs.Sights.{part_of_claims, claims_fit}
+use Rattle.sto_attempt.proofs.Claimed.{part_of_claims, claims_fit}
 
 module _ (m : Meaning) (f : Script) (v : View) (at : ℕ) (base : List Sight) (items : List Item) (es : List Entry) (rs : List Told) (h : IsCourse m f (words_in base) items es rs) (a : AreClaimed v at base) where
   on_claims : (d : Parts) → m.valid d → HasClaims v at d → IsRunOn m f d es rs

@@ -43,7 +43,7 @@ use Rattle.sto_attempt.specs.Led.{IsLed}
 use Rattle.sto_attempt.specs.Standing.{numbered, AreDecided, IsOwn, IsAsOf, Fits, Turned, IsLeft}
 use Rattle.sto_attempt.proofs.Asking.{asked_next, asked_there}
 use Rattle.sto_attempt.proofs.Every.{all_map}
-use Rattle.sto_attempt.proofs.Sights.{words_more, ticket_more, ticket_new, part_of_fewer, claimed_still, claimed_more}
+use Rattle.sto_attempt.proofs.Claimed.{words_more, ticket_more, ticket_new, part_of_fewer, claimed_still, claimed_more}
 use Rattle.sto_item.specs.Observed.{part_of_item}
 use Rattle.sto_attempt.proofs.Moving.{width_of}
 use Rattle.sto_attempt.proofs.Numbered.{numbered_more, all_numbered, words_numbered}

@@ -20,7 +20,7 @@ use Rattle.sto_attempt.specs.Sights.{claim_of, IsClaimed, AreClaimed}
 use Rattle.sto_attempt.specs.Asked.{IsAsked}
 use Rattle.sto_attempt.specs.Answers.{IsPrefix, HasFound, WasLocked, WasChanged}
 use Rattle.sto_attempt.specs.Standing.{IsLeft}
-use Rattle.sto_attempt.proofs.Sights.{claimed_still}
+use Rattle.sto_attempt.proofs.Claimed.{claimed_still}
 use Rattle.sto_attempt.proofs.Prefix.{prefix_on}
 use Rattle.sto_attempt.proofs.Drawing.{any_at}
 use Rattle.sto_attempt.proofs.Reading.{AtRest, own_still, idle_reading, among_front}

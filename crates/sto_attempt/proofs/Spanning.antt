@@ -21,7 +21,7 @@ use Rattle.sto_attempt.specs.declared.sight.Sight.{Sight}
 use Rattle.sto_attempt.specs.declared.stand.Stand.TheVariants as S
 use Rattle.sto_attempt.specs.Sights.{words_in, ticket_in, claim_of, IsClaimed, AreClaimed}
 use Rattle.sto_attempt.specs.Standing.{Fits, Spans, IsLeft}
-use Rattle.sto_attempt.proofs.Sights.{claimed_still, claimed_more, ticket_more, ticket_new}
+use Rattle.sto_attempt.proofs.Claimed.{claimed_still, claimed_more, ticket_more, ticket_new}
 use Rattle.sto_attempt.proofs.Reading.{AtRest, own_still, among_front}
 use Rattle.sto_attempt.proofs.Renewing.{was_claimed, recheck_words}
 

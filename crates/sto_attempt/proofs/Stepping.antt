@@ -23,7 +23,7 @@ use Rattle.sto_attempt.specs.Course.{IsCourse}
 use Rattle.sto_attempt.specs.Answers.{IsPrefix}
 use Rattle.std.proofs.lemmas.Bool.Decides.{nat_tests}
 use Rattle.sto_core.specs.Event.{Word, Close}
-use Rattle.sto_attempt.specs.Standing.{Goes, Ends, Turned, IsFirst, IsUnaborted, reading_event}
+use Rattle.sto_attempt.specs.Standing.{Goes, Ends, Turned, HasBegun, Moves, IsFirst, IsUnaborted, reading_event}
 use Rattle.sto_attempt.specs.declared.course.Reached.{Reached}
 use Rattle.sto_attempt.specs.declared.course.Reached.TheVariants.{Needs, Commits, Cancels}
 use Rattle.sto_attempt.specs.Led.{IsLed}
@@ -83,6 +83,15 @@ led_alone at es Commits stand turn l = elim l [
 ]
 led_alone at es Cancels stand turn l = (subst IsFirst (sym l.0) tt, subst IsUnaborted (sym l.1) tt)
 
+-- where the body leads, the attempt has begun
+pub led_begun : (at : ℕ) (es : List Update) (reached : Reached) (stand : Stand) (turn : Turn) → IsLed at es reached stand turn → HasBegun stand
+led_begun at es (Needs p) stand turn l = subst HasBegun (sym l.0) tt
+led_begun at es Commits stand turn l = elim l [
+  | inl none ↦ subst HasBegun (sym none.1) tt
+  | inr wrote ↦ subst HasBegun (sym wrote.1) tt
+]
+led_begun at es Cancels stand turn l = subst HasBegun (sym l.0) tt
+
 -- the event within a read
 pub word_next : (widths : List ℕ) (p : ℕ) (ws : List ℤ) → length ws < slice_index_or widths p 0 → reading_event widths p ws ≡ Word p (length ws)
 word_next widths p ws l =
@@ -93,3 +102,22 @@ pub close_next : (widths : List ℕ) (p : ℕ) (ws : List ℤ) → slice_index_o
 close_next widths p ws l =
     let all : nat_lt (length ws) (slice_index_or widths p 0) ≡ false = grind (arith, nat_tests) in
     rw all refl
+
+-- how a later step moves the number
+pub moves_on : (stand : Stand) → HasBegun stand → (old : ℕ) (new : Stand) (at : ℕ) (v : View) → HasBegun new × (old ≤ at) → Moves stand old new at v
+moves_on Unstarted begun old new at v h = absurd begun
+moves_on (Opening p) begun old new at v h = h
+moves_on (Reading p t) begun old new at v h = h
+moves_on (Renewing p t) begun old new at v h = h
+moves_on (Rechecking p) begun old new at v h = h
+moves_on (Reopening p) begun old new at v h = h
+moves_on (Rereading p t) begun old new at v h = h
+moves_on Committing begun old new at v h = h
+moves_on Over begun old new at v h = h
+
+pub moves_ok : (r : Result Turn NoMemory) (stand : Stand) → HasBegun stand → (old : ℕ) (new : Stand) (at : ℕ) (v : View) → OnOk r (HasBegun new × (old ≤ at)) → OnOk r (Moves stand old new at v)
+moves_ok r stand begun old new at v h = ok_map r (HasBegun new × (old ≤ at)) (Moves stand old new at v) (moves_on stand begun old new at v) h
+
+pub moves_same : (r : Result Turn NoMemory) (stand : Stand) → HasBegun stand → (old : ℕ) (new : Stand) (at : ℕ) (v : View) → OnOk r (HasBegun new × (at ≡ old)) → OnOk r (Moves stand old new at v)
+moves_same r stand begun old new at v h =
+    ok_map r (HasBegun new × (at ≡ old)) (Moves stand old new at v) (λ k. moves_on stand begun old new at v (k.0, omega (arith, k.1))) h

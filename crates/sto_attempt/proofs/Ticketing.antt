@@ -27,7 +27,7 @@ use Rattle.sto_attempt.specs.Looking.{LooksAt, IsCovered}
 use Rattle.sto_attempt.specs.Committing.{written, IsSealed, HoldsFirst}
 use Rattle.sto_attempt.proofs.Moving.{width_of}
 use Rattle.sto_attempt.proofs.OneReply.{run_on}
-use Rattle.sto_attempt.proofs.Sights.{part_of_claims, claims_fit, claimed_words}
+use Rattle.sto_attempt.proofs.Claimed.{part_of_claims, claims_fit, claimed_words}
 use Rattle.sto_attempt.proofs.Drawing.{was_seen, read_words, draw_looks, draw_keeps_valid, were_true}
 
 -- a number stands in a list

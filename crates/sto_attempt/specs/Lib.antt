@@ -1,4 +1,5 @@
 pub mod Sights
+pub mod Placed
 pub mod Asked
 pub mod Course
 pub mod Answers

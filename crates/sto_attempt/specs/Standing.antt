@@ -188,6 +188,16 @@ abbrev pub KeepsRenewal : Stand → View → Renewal → List Told → Renewal �
 KeepsRenewal (Renewing p t) v old rs new now = (new.bound ≡ v.at) × (new.extended ≡ true → now ≡ rs)
 KeepsRenewal _ v old rs new now = (new.bound ≡ old.bound) × (new.extended ≡ true → (old.extended ≡ true) × (now ≡ rs))
 
+-- the attempt has made an event
+abbrev pub HasBegun : Stand → Type 0
+HasBegun Unstarted = ⊥
+HasBegun _ = Unit {0}
+
+-- how a step moves the number of an attempt: the first takes that of the view, and no later one lowers it
+abbrev pub Moves : Stand → ℕ → Stand → ℕ → View → Type 0
+Moves Unstarted old new at v = HasBegun new × (at ≡ v.at)
+Moves _ old new at v = HasBegun new × (old ≤ at)
+
 -- the attempt has not come to an extension
 abbrev pub IsFirst : Stand → Type 0
 IsFirst (Renewing p t) = ⊥

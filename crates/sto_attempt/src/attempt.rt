@@ -15,10 +15,9 @@ ghost use Rattle.sto_attempt.specs.Answers.{OneEvent, IsPrefix};
 ghost use Rattle.sto_attempt.specs.Bounds.{bound, words_of, left_extending, left_renewing, events_left};
 ghost use Rattle.sto_attempt.specs.Growing.{HasHeard};
 ghost use Rattle.sto_attempt.specs.Reasons.{IsCaused};
-ghost use Rattle.sto_attempt.specs.Standing.{Goes, IsFirst, IsUnaborted, KeepsRenewal, next_event, IsAsOf, Fits, Renews, Spans, IsRenewed, Turned, IsLeft};
+ghost use Rattle.sto_attempt.specs.Standing.{Goes, HasBegun, IsFirst, IsUnaborted, KeepsRenewal, Moves, next_event, IsAsOf, Fits, Renews, Spans, IsRenewed, Turned, IsLeft};
 
 use crate::course::Course;
-use crate::recall::find;
 use crate::renewal::Renewal;
 use crate::sight::{Sight, Sights};
 use crate::stand::{Stand, lead};
@@ -125,6 +124,9 @@ impl<'t, T: TxType, B: Body> Attempt<'t, T, B> {
         ensures reason { IfOk result (λ turn. IsCaused (next_event (T.meaning self.old.course.ty.now).widths self.old.stand self.old.words.items) self.new.course.set.items (C.view cells.new) self.old.renewal turn) }
         ensures renewed { OnOk result (KeepsRenewal self.old.stand (C.view cells.new) self.old.renewal (map told self.old.course.replies.items) self.new.renewal (map told self.new.course.replies.items)) }
 
+        // The first step takes the number of the view, and no later one lowers it.
+        ensures moves { OnOk result (Moves self.old.stand self.old.at self.new.stand self.new.at (C.view cells.new)) }
+
         // There are fewer events left.
         ensures left { OnOk result (events_left (B.left self.new.course.body) (T.meaning self.old.course.ty.now).widths self.new.stand self.new.words.items self.new.renewal self.new.course.base.items < events_left (B.left self.old.course.body) (T.meaning self.old.course.ty.now).widths self.old.stand self.old.words.items self.old.renewal self.old.course.base.items) }
         ensures err { OnErr result (IsLeft (C.view cells.new)) }
@@ -168,6 +170,7 @@ impl<'t, T: TxType, B: Body> Attempt<'t, T, B> {
         ensures turned { IfOk result (λ turn. Turned (T.meaning self.old.course.ty.now) T.valid (T.sizes self.old.course.ty.now) (B.script self.old.course.body) self.new.at self.new.stand self.new.words.items self.new.renewal self.new.course.base.items self.new.course.set.items self.new.course.set.updates (map told self.new.course.replies.items) (C.view cells.new) turn) }
         ensures grown { OnOk result (HasHeard (T.meaning self.old.course.ty.now) (B.script self.old.course.body) (words_in self.new.course.base.items) (map told self.old.course.replies.items) self.old.course.set (map told self.new.course.replies.items) self.new.course.set) }
         ensures renewal { self.new.renewal ≡ self.old.renewal }
+        ensures moves { OnOk result (HasBegun self.new.stand × (self.new.at ≡ (C.view cells.new).at)) }
         ensures left { OnOk result (events_left (B.left self.new.course.body) (T.meaning self.old.course.ty.now).widths self.new.stand self.new.words.items self.new.renewal self.new.course.base.items < events_left (B.left self.old.course.body) (T.meaning self.old.course.ty.now).widths Stand.Unstarted self.old.words.items self.old.renewal self.old.course.base.items) }
         ensures alone { IfOk result (λ turn. IsFirst self.new.stand × IsUnaborted turn) }
         ensures event { OneEvent (λ e. e ≡ Start) T.valid (C.passes cells.old) (C.view cells.old) (C.view cells.new) }
@@ -192,6 +195,7 @@ impl<'t, T: TxType, B: Body> Attempt<'t, T, B> {
         ensures turned { Turned (T.meaning self.old.course.ty.now) T.valid (T.sizes self.old.course.ty.now) (B.script self.old.course.body) self.new.at self.new.stand self.new.words.items self.new.renewal self.new.course.base.items self.new.course.set.items self.new.course.set.updates (map told self.new.course.replies.items) (C.view cells.new) result }
         ensures reason { IsCaused (Open part) self.new.course.set.items (C.view cells.new) self.old.renewal result }
         ensures renewal { self.new.renewal ≡ self.old.renewal }
+        ensures moves { HasBegun self.new.stand × (self.new.at ≡ self.old.at) }
         ensures left { events_left (B.left self.new.course.body) (T.meaning self.old.course.ty.now).widths self.new.stand self.new.words.items self.new.renewal self.new.course.base.items < events_left (B.left self.old.course.body) (T.meaning self.old.course.ty.now).widths (Stand.Opening part) self.old.words.items self.old.renewal self.old.course.base.items }
         ensures alone { C.passes cells.old ≡ 1 → IsFirst self.new.stand × IsUnaborted result }
         ensures event { OneEvent (λ e. e ≡ Open part) T.valid (C.passes cells.old) (C.view cells.old) (C.view cells.new) }
@@ -231,6 +235,7 @@ impl<'t, T: TxType, B: Body> Attempt<'t, T, B> {
         requires few { length self.old.words.items + 1 < 2 ^ 32 }
         ensures turned { IfOk result (λ turn. Turned (T.meaning self.old.course.ty.now) T.valid (T.sizes self.old.course.ty.now) (B.script self.old.course.body) self.new.at self.new.stand self.new.words.items self.new.renewal self.new.course.base.items self.new.course.set.items self.new.course.set.updates (map told self.new.course.replies.items) (C.view cells.new) turn) }
         ensures renewal { self.new.renewal ≡ self.old.renewal }
+        ensures moves { OnOk result (HasBegun self.new.stand × (self.new.at ≡ self.old.at)) }
         ensures left { OnOk result (events_left (B.left self.new.course.body) (T.meaning self.old.course.ty.now).widths self.new.stand self.new.words.items self.new.renewal self.new.course.base.items < events_left (B.left self.old.course.body) (T.meaning self.old.course.ty.now).widths (Stand.Reading part ticket) self.old.words.items self.old.renewal self.old.course.base.items) }
         ensures alone { IfOk result (λ turn. IsFirst self.new.stand × IsUnaborted turn) }
         ensures event { OneEvent (λ e. e ≡ Word part (length self.old.words.items)) T.valid (C.passes cells.old) (C.view cells.old) (C.view cells.new) }
@@ -260,6 +265,7 @@ impl<'t, T: TxType, B: Body> Attempt<'t, T, B> {
         ensures reason { IfOk result (λ turn. IsCaused (Close part) self.new.course.set.items (C.view cells.new) self.old.renewal turn) }
         ensures grown { OnOk result (HasHeard (T.meaning self.old.course.ty.now) (B.script self.old.course.body) (words_in self.new.course.base.items) (map told self.old.course.replies.items) self.old.course.set (map told self.new.course.replies.items) self.new.course.set) }
         ensures renewed { OnOk result ((self.new.renewal.bound ≡ self.old.renewal.bound) × (self.new.renewal.extended ≡ true → (self.old.renewal.extended ≡ true) × ((map told self.new.course.replies.items) ≡ (map told self.old.course.replies.items)))) }
+        ensures moves { OnOk result (HasBegun self.new.stand × (self.new.at ≡ self.old.at)) }
         ensures left { OnOk result (events_left (B.left self.new.course.body) (T.meaning self.old.course.ty.now).widths self.new.stand self.new.words.items self.new.renewal self.new.course.base.items < events_left (B.left self.old.course.body) (T.meaning self.old.course.ty.now).widths (Stand.Reading part ticket) self.old.words.items self.old.renewal self.old.course.base.items) }
         ensures alone { C.passes cells.old ≡ 1 → IfOk result (λ turn. IsFirst self.new.stand × IsUnaborted turn) }
         ensures event { OneEvent (λ e. e ≡ Close part) T.valid (C.passes cells.old) (C.view cells.old) (C.view cells.new) }
@@ -306,6 +312,7 @@ impl<'t, T: TxType, B: Body> Attempt<'t, T, B> {
         requires observed { IsObserved self.old.course.set.items (map watched self.old.renewal.watches.items) }
         requires extended { self.old.renewal.extended ≡ true }
         requires renewed { (left : List Watched) × IsRenewed (length (T.meaning self.old.course.ty.now).widths) (words_in self.old.course.base.items) self.old.renewal.fresh.items (map watched self.old.renewal.watches.items) left }
+        requires bound { self.old.at ≤ self.old.renewal.bound }
         requires some { (d : List (List ℤ)) × (T.meaning self.old.course.ty.now).valid d × IsPartOf (words_in self.old.course.base.items) d }
         requires some_new { (d : List (List ℤ)) × (T.meaning self.old.course.ty.now).valid d × IsPartOf (words_in self.old.renewal.fresh.items) d }
         ensures course { OnOk result (IsOnCourse (T.meaning self.old.course.ty.now) (B.then self.new.course.body) (B.script self.old.course.body) (B.left self.new.course.body) (B.may_ask self.new.course.body) self.new.course.base.items self.new.course.set self.new.course.cache self.new.course.replies.items) }
@@ -313,6 +320,7 @@ impl<'t, T: TxType, B: Body> Attempt<'t, T, B> {
         ensures unaborted { IfOk result IsUnaborted }
         ensures grown { OnOk result (HasHeard (T.meaning self.old.course.ty.now) (B.script self.old.course.body) (words_in self.new.course.base.items) (map told self.old.course.replies.items) self.old.course.set (map told self.new.course.replies.items) self.new.course.set) }
         ensures renewed { OnOk result ((self.new.renewal.bound ≡ self.old.renewal.bound) × (self.new.renewal.extended ≡ true → (map told self.new.course.replies.items) ≡ (map told self.old.course.replies.items))) }
+        ensures moves { OnOk result (HasBegun self.new.stand × (self.old.at ≤ self.new.at)) }
         ensures left { OnOk result (events_left (B.left self.new.course.body) (T.meaning self.old.course.ty.now).widths self.new.stand self.new.words.items self.new.renewal self.new.course.base.items < 1 + left_extending (B.left self.old.course.body - 1) (T.meaning self.old.course.ty.now).widths (drop (length self.old.renewal.fresh.items) (map watched self.old.renewal.watches.items))) }
         ensures stopped { (v : View) → Spans (T.meaning self.old.course.ty.now) T.valid (T.sizes self.old.course.ty.now) self.old.at self.old.renewal.bound self.old.course.base.items self.old.renewal.fresh.items v → OnErr result (IsPrefix (T.meaning self.old.course.ty.now) (B.script self.old.course.body) v self.new.at (map told self.new.course.replies.items)) }
         ensures script { B.script self.new.course.body ≡ B.script self.old.course.body }
@@ -349,6 +357,7 @@ impl<'t, T: TxType, B: Body> Attempt<'t, T, B> {
         ensures unaborted { IfOk result IsUnaborted }
         ensures grown { OnOk result (HasHeard (T.meaning self.old.course.ty.now) (B.script self.old.course.body) (words_in self.new.course.base.items) (map told self.old.course.replies.items) self.old.course.set (map told self.new.course.replies.items) self.new.course.set) }
         ensures renewed { OnOk result ((self.new.renewal.bound ≡ (C.view cells.new).at) × (self.new.renewal.extended ≡ true → (map told self.new.course.replies.items) ≡ (map told self.old.course.replies.items))) }
+        ensures moves { OnOk result (HasBegun self.new.stand × (self.old.at ≤ self.new.at)) }
         ensures left { OnOk result (events_left (B.left self.new.course.body) (T.meaning self.old.course.ty.now).widths self.new.stand self.new.words.items self.new.renewal self.new.course.base.items < left_renewing (B.left self.old.course.body - 1) (T.meaning self.old.course.ty.now).widths) }
         ensures event { OneEvent (λ e. e ≡ Renew) T.valid (C.passes cells.old) (C.view cells.old) (C.view cells.new) }
         ensures err { OnErr result (IsLeft (C.view cells.new) × IsPrefix (T.meaning self.old.course.ty.now) (B.script self.old.course.body) (C.view cells.new) self.new.at (map told self.new.course.replies.items)) }
@@ -381,6 +390,7 @@ impl<'t, T: TxType, B: Body> Attempt<'t, T, B> {
         ensures reason { IfOk result (λ turn. IsCaused (Recheck part) self.new.course.set.items (C.view cells.new) self.old.renewal turn) }
         ensures grown { OnOk result (HasHeard (T.meaning self.old.course.ty.now) (B.script self.old.course.body) (words_in self.new.course.base.items) (map told self.old.course.replies.items) self.old.course.set (map told self.new.course.replies.items) self.new.course.set) }
         ensures renewed { OnOk result ((self.new.renewal.bound ≡ self.old.renewal.bound) × (self.new.renewal.extended ≡ true → (self.old.renewal.extended ≡ true) × ((map told self.new.course.replies.items) ≡ (map told self.old.course.replies.items)))) }
+        ensures moves { OnOk result (HasBegun self.new.stand × (self.old.at ≤ self.new.at)) }
         ensures left { OnOk result (events_left (B.left self.new.course.body) (T.meaning self.old.course.ty.now).widths self.new.stand self.new.words.items self.new.renewal self.new.course.base.items < events_left (B.left self.old.course.body) (T.meaning self.old.course.ty.now).widths (Stand.Rechecking part) self.old.words.items self.old.renewal self.old.course.base.items) }
         ensures event { OneEvent (λ e. e ≡ Recheck part) T.valid (C.passes cells.old) (C.view cells.old) (C.view cells.new) }
         ensures err { OnErr result (IsLeft (C.view cells.new) × IsPrefix (T.meaning self.old.course.ty.now) (B.script self.old.course.body) (C.view cells.new) self.new.at (map told self.new.course.replies.items)) }
@@ -388,7 +398,7 @@ impl<'t, T: TxType, B: Body> Attempt<'t, T, B> {
         ensures ty { self.new.course.ty ≡ self.old.course.ty }
         ensures same { C.same cells.old cells.new }
     {
-        let Some(sight) = find(self.course.base.as_slice(), part) else {
+        let Some(sight) = self.course.base.find(part) else {
             unreachable!()
         };
         let ticket = sight.ticket;
@@ -426,6 +436,7 @@ impl<'t, T: TxType, B: Body> Attempt<'t, T, B> {
         ensures turned { Turned (T.meaning self.old.course.ty.now) T.valid (T.sizes self.old.course.ty.now) (B.script self.old.course.body) self.new.at self.new.stand self.new.words.items self.new.renewal self.new.course.base.items self.new.course.set.items self.new.course.set.updates (map told self.new.course.replies.items) (C.view cells.new) result }
         ensures reason { IsCaused (Open part) self.new.course.set.items (C.view cells.new) self.old.renewal result }
         ensures renewal { self.new.renewal ≡ self.old.renewal }
+        ensures moves { HasBegun self.new.stand × (self.new.at ≡ self.old.at) }
         ensures left { events_left (B.left self.new.course.body) (T.meaning self.old.course.ty.now).widths self.new.stand self.new.words.items self.new.renewal self.new.course.base.items < events_left (B.left self.old.course.body) (T.meaning self.old.course.ty.now).widths (Stand.Reopening part) self.old.words.items self.old.renewal self.old.course.base.items }
         ensures event { OneEvent (λ e. e ≡ Open part) T.valid (C.passes cells.old) (C.view cells.old) (C.view cells.new) }
         ensures course { self.new.course ≡ self.old.course }
@@ -465,6 +476,7 @@ impl<'t, T: TxType, B: Body> Attempt<'t, T, B> {
         ensures turned { IfOk result (λ turn. Turned (T.meaning self.old.course.ty.now) T.valid (T.sizes self.old.course.ty.now) (B.script self.old.course.body) self.new.at self.new.stand self.new.words.items self.new.renewal self.new.course.base.items self.new.course.set.items self.new.course.set.updates (map told self.new.course.replies.items) (C.view cells.new) turn) }
         ensures unaborted { IfOk result IsUnaborted }
         ensures renewal { self.new.renewal ≡ self.old.renewal }
+        ensures moves { OnOk result (HasBegun self.new.stand × (self.old.at ≤ self.new.at)) }
         ensures left { OnOk result (events_left (B.left self.new.course.body) (T.meaning self.old.course.ty.now).widths self.new.stand self.new.words.items self.new.renewal self.new.course.base.items < events_left (B.left self.old.course.body) (T.meaning self.old.course.ty.now).widths (Stand.Rereading part ticket) self.old.words.items self.old.renewal self.old.course.base.items) }
         ensures event { OneEvent (λ e. e ≡ Word part (length self.old.words.items)) T.valid (C.passes cells.old) (C.view cells.old) (C.view cells.new) }
         ensures course { self.new.course ≡ self.old.course }
@@ -492,6 +504,7 @@ impl<'t, T: TxType, B: Body> Attempt<'t, T, B> {
         ensures reason { IfOk result (λ turn. IsCaused (Close part) self.new.course.set.items (C.view cells.new) self.old.renewal turn) }
         ensures grown { OnOk result (HasHeard (T.meaning self.old.course.ty.now) (B.script self.old.course.body) (words_in self.new.course.base.items) (map told self.old.course.replies.items) self.old.course.set (map told self.new.course.replies.items) self.new.course.set) }
         ensures renewed { OnOk result ((self.new.renewal.bound ≡ self.old.renewal.bound) × (self.new.renewal.extended ≡ true → (self.old.renewal.extended ≡ true) × ((map told self.new.course.replies.items) ≡ (map told self.old.course.replies.items)))) }
+        ensures moves { OnOk result (HasBegun self.new.stand × (self.old.at ≤ self.new.at)) }
         ensures left { OnOk result (events_left (B.left self.new.course.body) (T.meaning self.old.course.ty.now).widths self.new.stand self.new.words.items self.new.renewal self.new.course.base.items < events_left (B.left self.old.course.body) (T.meaning self.old.course.ty.now).widths (Stand.Rereading part ticket) self.old.words.items self.old.renewal self.old.course.base.items) }
         ensures event { OneEvent (λ e. e ≡ Close part) T.valid (C.passes cells.old) (C.view cells.old) (C.view cells.new) }
         ensures err { OnErr result (IsLeft (C.view cells.new) × IsPrefix (T.meaning self.old.course.ty.now) (B.script self.old.course.body) (C.view cells.new) self.new.at (map told self.new.course.replies.items)) }

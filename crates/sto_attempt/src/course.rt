@@ -66,7 +66,7 @@ impl<T: TxType, B: Body> Course<'_, T, B> {
                         alloc,
                         self.ty,
                         &call,
-                        self.base.as_slice(),
+                        &self.base,
                         &self.set,
                         &mut self.cache,
                     )? {

@@ -10,10 +10,10 @@ ghost use Rattle.sto_attempt.specs.Remaining.{commit_left};
 ghost use Rattle.sto_attempt.specs.Verdicts.{ComesTo, HasReason, IsUndisturbed};
 ghost use Rattle.sto_attempt.specs.declared.verdict.Verdict.{Verdict};
 ghost use Rattle.sto_attempt.specs.Stages.{deal, Stands, Said, EndsBy, IsAim, IsNextCheck, IsNextPut, HasSpace, SpaceAt, is_so, is_load_of, is_of_part, is_same_part, reads_of, ticket_from, expected_of};
+ghost use Rattle.sto_core.specs.Allowed.{Rises};
 ghost use Rattle.sto_core.specs.Reads.{value_read};
 
 use crate::course::Course;
-use crate::sight::Sight;
 use crate::stage::{Finds, Found, Loaded, Loads, Stage};
 use crate::verdict::{Heard, Verdict};
 use sto_core::Cells;
@@ -279,10 +279,11 @@ impl<T: TxType, B: Body> Ready<'_, T, B> {
 
     // The ticket that the check of a part is to find.
     fn expected(&self, part: u32) -> u64
+        requires { Rises self.now.seen.items }
         ensures { result ≡ expected_of self.now.course.base.items self.now.finds.items self.now.seen.items part }
     {
         if is_seen(self.seen.as_slice(), part) {
-            ticket_seen(self.course.base.as_slice(), part)
+            self.course.base.ticket(part)
         } else {
             ticket_found(self.finds.as_slice(), part)
         }
@@ -493,27 +494,10 @@ fn is_at(load: &Loaded, part: u32, word: u32) -> bool
 
 // Whether the part is one of these.
 pub(crate) fn is_seen(parts: &[u32], part: u32) -> bool
+    requires { Rises parts.now }
     ensures { result ≡ list_any (is_same_part part) parts.now }
 {
-    parts.iter().any(|one| is_same(*one, part))
-}
-
-fn is_same(one: u32, part: u32) -> bool
-    ensures { result ≡ is_same_part part one }
-{
-    one == part
-}
-
-// The ticket with which a part was read, or 0.
-fn ticket_seen(sights: &[Sight], part: u32) -> u64
-    ensures { result ≡ option_map_or (λ t. t) (ticket_in sights.now part) 0 }
-{
-    for sight in sights {
-        if sight.part == part {
-            return sight.ticket;
-        }
-    }
-    0
+    parts.binary_search(&part).is_ok()
 }
 
 // The last ticket that was found of a part, or 0.

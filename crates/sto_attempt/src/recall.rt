@@ -12,26 +12,12 @@ ghost use Rattle.sto_attempt.specs.Sights.{words_in};
 ghost use Rattle.sto_attempt.specs.Course.{IsPending, IsRecalled, IsCache};
 ghost use Rattle.sto_item.specs.Recorded.{AddsItems};
 
-use crate::sight::Sight;
+use crate::sight::Sights;
 use std::alloc::Global;
 use sto_item::{ItemSet, Items, Updates};
 use sto_model::Call;
 use sto_part::{NoMemory, PartWords};
 use sto_type::{Answer, Cache, TxType};
-
-/// The part as it was read; the first counts.
-pub(crate) fn find(sights: &[Sight], part: u32) -> Option<&Sight>
-    ensures words { words_in sights.now part ≡ option_map (λ s. s.now.words.items) result }
-    ensures part { IfSome result (λ s. s.now.part ≡ part) }
-    ensures among { IfSome result (λ s. Contains sights.now s.now) }
-{
-    for sight in sights {
-        if sight.part == part {
-            return Some(sight);
-        }
-    }
-    None
-}
 
 // The words with the pending updates of their part applied.
 fn updated<T: TxType>(
@@ -56,15 +42,15 @@ fn updated<T: TxType>(
 pub(crate) fn recall<T: TxType>(
     alloc: Global,
     ty: &T,
-    base: &[Sight],
+    base: &Sights,
     set: &ItemSet,
     part: u32,
 ) -> Result<Option<PartWords>, NoMemory>
     requires range { part < length (T.meaning ty.now).widths }
-    requires pending { IsPending (T.meaning ty.now) (words_in base.now) set.now.updates }
-    ensures known { IfOk result (λ o. MatchOption o (words_in base.now part ≡ None) (λ ws. IsRecalled (T.meaning ty.now) (words_in base.now) set.now.updates part ws.items)) }
+    requires pending { IsPending (T.meaning ty.now) (words_in base.now.items) set.now.updates }
+    ensures known { IfOk result (λ o. MatchOption o (words_in base.now.items part ≡ None) (λ ws. IsRecalled (T.meaning ty.now) (words_in base.now.items) set.now.updates part ws.items)) }
 {
-    if let Some(sight) = find(base, part) {
+    if let Some(sight) = base.find(part) {
         return Ok(Some(updated(alloc, ty, set, part, sight.words.as_slice())?));
     }
     if set.overwrites(part) {
@@ -79,16 +65,16 @@ pub(crate) fn ask<T: TxType>(
     alloc: Global,
     ty: &T,
     call: &Call,
-    base: &[Sight],
+    base: &Sights,
     set: &ItemSet,
     cache: &mut Cache,
 ) -> Result<Answer, NoMemory>
     requires takes { (T.meaning ty.now).takes call.now }
-    requires pending { IsPending (T.meaning ty.now) (words_in base.now) set.now.updates }
-    requires cache { IsCache (T.meaning ty.now) (words_in base.now) set.now.updates (known cache.old) }
+    requires pending { IsPending (T.meaning ty.now) (words_in base.now.items) set.now.updates }
+    requires cache { IsCache (T.meaning ty.now) (words_in base.now.items) set.now.updates (known cache.old) }
     ensures plan { IfOk result (λ a. IsPlan (T.meaning ty.now) call.now (known cache.new) (planned a)) }
-    ensures cache { OnOk result (IsCache (T.meaning ty.now) (words_in base.now) set.now.updates (known cache.new)) }
-    ensures need { IfOk result (λ a. (p : ℕ) → a ≡ Answer.Need p → words_in base.now p ≡ None) }
+    ensures cache { OnOk result (IsCache (T.meaning ty.now) (words_in base.now.items) set.now.updates (known cache.new)) }
+    ensures need { IfOk result (λ a. (p : ℕ) → a ≡ Answer.Need p → words_in base.now.items p ≡ None) }
 {
     loop {
         match ty.plan(alloc, call, &cache.all())? {

@@ -14,14 +14,14 @@ updated-requires-clause-fits g c =
     let law = g.met.T.TxType.lawful c.args.ty.now in
     let ws = c.in-Some.sight.now.words.items in
     let f : length (changes_of c.args.set.now.updates c.args.part) ≤ length ws =
-    fits_read m law (words_in c.args.base.now) c.args.set.now.updates c.requires.pending c.args.part ws c.requires.range c.in-Some.ensures.words in
+    fits_read m law (words_in c.args.base.now.items) c.args.set.now.updates c.requires.pending c.args.part ws c.requires.range c.in-Some.ensures.words in
     omega (arith, f, ap length c.as_slice.ensures.items)
 
 pub returns-in-Some : goal.returns-in-Some
 returns-in-Some g c =
     let m = g.T.TxType.meaning c.args.ty.now in
     let law = g.met.T.TxType.lawful c.args.ty.now in
-    let base = words_in c.args.base.now in
+    let base = words_in c.args.base.now.items in
     let es = c.args.set.now.updates in
     let ws = c.in-Some.sight.now.words.items in
     record {
@@ -38,13 +38,13 @@ updated-requires-then-overwrites-clause-fits g c =
     let width : slice_index_or m.widths c.args.part 0 ≡ c.width.result = get_or_from_slice_get m.widths c.args.part c.width.result 0 c.width.ensures in
     let long : length ws ≡ slice_index_or m.widths c.args.part 0 =
     ap length (c.as_slice-then-overwrites.ensures.items ∙ c.in_ok-zeros.ensures) ∙ length-replicate c.width.result (pos 0) ∙ sym width in
-    fits_whole m law (words_in c.args.base.now) c.args.set.now.updates c.requires.pending c.args.part ws long
+    fits_whole m law (words_in c.args.base.now.items) c.args.set.now.updates c.requires.pending c.args.part ws long
 
 pub returns-then-overwrites : goal.returns-then-overwrites
 returns-then-overwrites g c =
     let m = g.T.TxType.meaning c.args.ty.now in
     let law = g.met.T.TxType.lawful c.args.ty.now in
-    let base = words_in c.args.base.now in
+    let base = words_in c.args.base.now.items in
     let es = c.args.set.now.updates in
     let ws = c.as_slice-then-overwrites.result.now in
     let width : slice_index_or m.widths c.args.part 0 ≡ c.width.result = get_or_from_slice_get m.widths c.args.part c.width.result 0 c.width.ensures in

@@ -1,6 +1,17 @@
-use Rattle.std.proofs.Common.{◌∙◌, ap, []}
+use Rattle.std.proofs.Common.{◌∙◌, ap, sym, subst, ℕ, List, []}
+use Rattle.sto_core.specs.Allowed.{Rises}
+use Rattle.sto_attempt.proofs.Gathering.{gathered-rises}
 use Rattle.sto_attempt.specs.Gathering.{gathered, seen_part, other_part, unwritten_part}
 use Rattle.sto_attempt.proofs.seal.lists_of.Goals as goal
+
+pub loaded_of-requires : goal.loaded_of-requires
+loaded_of-requires c = subst (λ (l : List ℕ). Rises l) (sym (c.as_slice.ensures.items ∙ c.in_ok-seen.ensures)) (gathered-rises seen_part [] c.items.result.now tt)
+
+pub tasks_of-requires : goal.tasks_of-requires
+tasks_of-requires c = subst (λ (l : List ℕ). Rises l) (sym c.in_ok-loaded.ensures) (gathered-rises (other_part c.as_slice.result.now) [] c.items-2.result.now tt)
+
+pub checks_of-requires : goal.checks_of-requires
+checks_of-requires c = subst (λ (l : List ℕ). Rises l) (sym c.in_ok-seen.ensures) (gathered-rises seen_part [] c.items.result.now tt)
 
 pub returns-clause-gathered : goal.returns-clause-gathered
 returns-clause-gathered c = record {

@@ -24,6 +24,7 @@ use Rattle.sto_attempt.proofs.Prefix.{prefix_of}
 use Rattle.sto_attempt.proofs.Reading.{always_err}
 use Rattle.sto_attempt.proofs.Lowering.{advance_fewer, less_next}
 use Rattle.sto_attempt.proofs.Causing.{replies_on, replies_same}
+use Rattle.sto_attempt.proofs.Stepping.{led_begun}
 use Rattle.sto_attempt.proofs.attempt.Attempt.advance.Goals as goal
 
 pub returns-then-watch-clause-turned : goal.returns-then-watch-clause-turned
@@ -161,3 +162,9 @@ returns-in_err-reached-clause-stopped g c v spans =
     let same : made ≡ a.renewal.fresh.items = ap (λ (l : Listed Sight). l.items) c.replace.ensures.value in
     let claimed : AreClaimed v a.renewal.bound made = subst (λ (l : List Sight). AreClaimed v a.renewal.bound l) (sym same) spans.renewed in
     always_err c.from_residual.result (IsPrefix m f v a.renewal.bound now) (prefix_of m f v a.renewal.bound made now c.go_on.ensures.runs claimed)
+
+pub returns-clause-moves : goal.returns-clause-moves
+returns-clause-moves g c = (
+  led_begun c.args.self.now.renewal.bound c.go_on.new.self.set.updates c.in_ok-reached.reached c.lead-stand.result.0 c.lead-stand.result.1 c.lead-stand.ensures,
+  c.requires.bound,
+)

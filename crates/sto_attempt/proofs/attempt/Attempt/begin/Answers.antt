@@ -9,6 +9,8 @@ use Rattle.sto_attempt.proofs.Stepping.{led_alone}
 use Rattle.sto_attempt.proofs.Lowering.{began_fewer}
 use Rattle.sto_attempt.proofs.Causing.{replies_on}
 use Rattle.std.proofs.Common.{◌≤◌, ◌∙◌, arith, length}
+use Rattle.sto_attempt.proofs.Stepping.{led_begun}
+use Rattle.sto_core.specs.declared.view.View.{View}
 use Rattle.sto_attempt.proofs.attempt.Attempt.begin.Goals as goal
 
 pub returns-clause-turned : goal.returns-clause-turned
@@ -47,3 +49,9 @@ returns-clause-left g c =
     let on : length a.course.replies.items ≤ length c.go_on.new.self.replies.items = replies_on a.course.replies.items c.go_on.new.self.replies.items c.in_ok-reached.ensures.grown.grown.more c.in_ok-reached.ensures.grown.grown.replies in
     began_fewer c.start-at.result c.go_on.new.self.set.updates c.in_ok-reached.reached c.lead-stand.result.0 c.lead-stand.result.1 c.lead-stand.ensures (g.B.Body.left a.course.body) (g.B.Body.left c.go_on.new.self.body) m.widths
     a.words.items a.renewal c.go_on.new.self.base.items (omega (arith, c.in_ok-reached.ensures.left, on)) c.in_ok-reached.ensures.asks
+
+pub returns-clause-moves : goal.returns-clause-moves
+returns-clause-moves g c = (
+  led_begun c.start-at.result c.go_on.new.self.set.updates c.in_ok-reached.reached c.lead-stand.result.0 c.lead-stand.result.1 c.lead-stand.ensures,
+  sym (ap (λ (u : View). u.at) c.start-at.ensures.tells.after),
+)

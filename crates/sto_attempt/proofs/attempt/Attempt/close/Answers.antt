@@ -25,6 +25,7 @@ use Rattle.sto_attempt.proofs.Prefix.{prefix_of}
 use Rattle.sto_attempt.proofs.Lowering.{close_over, close_fewer}
 use Rattle.sto_attempt.proofs.Causing.{by_close, unaborted_caused, replies_on, replies_same}
 use Rattle.sto_attempt.proofs.Onward.{heard_none}
+use Rattle.sto_attempt.proofs.Stepping.{led_begun}
 use Rattle.sto_attempt.proofs.attempt.Attempt.close.Goals as goal
 
 pub close-found-requires : goal.close-found-requires
@@ -318,3 +319,6 @@ pub returns-then-newer-ticket-clause-grown : goal.returns-then-newer-ticket-clau
 returns-then-newer-ticket-clause-grown g c =
     let a = c.args.self.now in
     heard_none (g.T.TxType.meaning a.course.ty.now) (g.B.Body.script a.course.body) (words_in a.course.base.items) (map told a.course.replies.items) a.course.set
+
+pub returns-clause-moves : goal.returns-clause-moves
+returns-clause-moves g c = (led_begun c.args.self.now.at c.go_on.new.self.set.updates c.in_ok-reached.reached c.lead-stand.result.0 c.lead-stand.result.1 c.lead-stand.ensures, refl)

@@ -1,4 +1,4 @@
-use Rattle.std.proofs.Common.{◌≡◌, ◌<◌, true, false, Some, None, List, ℕ, pos, [], ◌∷◌, ◌++◌, ap, sym, ◌∙◌, subst, map, length, refl}
+use Rattle.std.proofs.Common.{◌≡◌, ◌<◌, true, false, Some, None, List, ℕ, pos, [], ◌∷◌, ◌++◌, ap, sym, ◌∙◌, subst, map, length, refl, arith}
 use Rattle.std.specs.List.{Contains}
 use Rattle.sto_item.specs.Watched.{watched}
 use Rattle.sto_item.specs.Observed.{Watched}
@@ -37,7 +37,7 @@ unreachable-requires g c =
     let fresh = a.renewal.fresh.items in
     let ws = map watched a.renewal.watches.items in
     let goes = c.requires.goes in
-    let none : words_in a.course.base.items c.args.part ≡ None = subst (λ (l : List Sight). words_in l c.args.part ≡ None) c.as_slice.ensures.items c.in_default.ensures.words in
+    let none : words_in a.course.base.items c.args.part ≡ None = c.in_default.ensures.words in
     some_none (words_in a.course.base.items c.args.part) (was_read m law g.T.Naming.valid sizes is f a.at a.renewal.bound c.args.part true a.course.base.items fresh a.course.set.items ws a.course.set.updates rs v goes.spans goes.observed goes.stands.1 c.requires.course.course) none
 
 pub recheck-found-requires : goal.recheck-found-requires
@@ -54,7 +54,7 @@ recheck-found-requires g c =
     let ws = map watched a.renewal.watches.items in
     let goes = c.requires.goes in
     let s = c.in-Some.sight.now in
-    let there : Contains a.course.base.items s = subst (λ (l : List Sight). Contains l s) c.as_slice.ensures.items c.in-Some.ensures.among in
+    let there : Contains a.course.base.items s = c.in-Some.ensures.among in
     recheck_allowed m law g.T.Naming.valid sizes is f a.at a.renewal.bound c.args.part true a.course.base.items fresh a.course.set.items ws a.course.set.updates rs v goes.spans goes.observed goes.stands.1 c.requires.course.course goes.stands.0 s there c.in-Some.ensures.part
 
 pub returns-then-is_locked-clause-turned : goal.returns-then-is_locked-clause-turned
@@ -71,7 +71,7 @@ returns-then-is_locked-clause-turned g c =
     let ws = map watched a.renewal.watches.items in
     let goes = c.requires.goes in
     let s = c.in-Some.sight.now in
-    let there : Contains a.course.base.items s = subst (λ (l : List Sight). Contains l s) c.as_slice.ensures.items c.in-Some.ensures.among in
+    let there : Contains a.course.base.items s = c.in-Some.ensures.among in
     let w = g.C.Cells.view c.recheck-found.new.self in
     let passes = g.C.Cells.passes c.args.cells.now in
     let n = c.recheck-found.result.0 in
@@ -92,7 +92,7 @@ returns-then-newer-ticket-clause-turned g c =
     let ws = map watched a.renewal.watches.items in
     let goes = c.requires.goes in
     let s = c.in-Some.sight.now in
-    let there : Contains a.course.base.items s = subst (λ (l : List Sight). Contains l s) c.as_slice.ensures.items c.in-Some.ensures.among in
+    let there : Contains a.course.base.items s = c.in-Some.ensures.among in
     let w = g.C.Cells.view c.recheck-found.new.self in
     let passes = g.C.Cells.passes c.args.cells.now in
     let n = c.recheck-found.result.0 in
@@ -115,14 +115,14 @@ advance-requires-clause-renewed g c =
     let ws = map watched a.renewal.watches.items in
     let goes = c.requires.goes in
     let s = c.in-Some.sight.now in
-    let there : Contains a.course.base.items s = subst (λ (l : List Sight). Contains l s) c.as_slice.ensures.items c.in-Some.ensures.among in
+    let there : Contains a.course.base.items s = c.in-Some.ensures.among in
     let w = g.C.Cells.view c.recheck-found.new.self in
     let passes = g.C.Cells.passes c.args.cells.now in
     let n = c.recheck-found.result.0 in
     let free : is_free n ≡ true = locked_is (is_free n) (sym c.is_locked.ensures ∙ c.if-is_locked.false) in
     let same : ticket_of n ≡ s.ticket = sym c.ticket-newer.ensures.ticket ∙ c.if-newer-ticket.false in
     let y : Sight = record { part = c.args.part; ticket = s.ticket; words = c.in_ok-words.words } in
-    let known : words_in a.course.base.items c.args.part ≡ Some s.words.items = subst (λ (l : List Sight). words_in l c.args.part ≡ Some s.words.items) c.as_slice.ensures.items c.in-Some.ensures.words in
+    let known : words_in a.course.base.items c.args.part ≡ Some s.words.items = c.in-Some.ensures.words in
     let made : c.push.new.self.items ≡ fresh ++ y ∷ [] = c.in_ok-push.ensures.ok in
     let h = rechecked_renewed m law g.T.Naming.valid sizes is f a.at a.renewal.bound c.args.part true a.course.base.items fresh a.course.set.items ws a.course.set.updates rs v goes.spans goes.observed goes.stands.1 c.requires.course.course goes.stands.0 s there c.in-Some.ensures.part w passes n (pos 0) c.recheck-found.ensures.tells free same y refl refl c.in_ok-words.ensures known refl in
     (goes.stands.1.more, subst (λ (l : List Sight). IsRenewed (length m.widths) (words_in a.course.base.items) l ws goes.stands.1.more) (sym made) h)
@@ -156,14 +156,14 @@ advance-requires-clause-some_new g c =
     let ws = map watched a.renewal.watches.items in
     let goes = c.requires.goes in
     let s = c.in-Some.sight.now in
-    let there : Contains a.course.base.items s = subst (λ (l : List Sight). Contains l s) c.as_slice.ensures.items c.in-Some.ensures.among in
+    let there : Contains a.course.base.items s = c.in-Some.ensures.among in
     let w = g.C.Cells.view c.recheck-found.new.self in
     let passes = g.C.Cells.passes c.args.cells.now in
     let n = c.recheck-found.result.0 in
     let free : is_free n ≡ true = locked_is (is_free n) (sym c.is_locked.ensures ∙ c.if-is_locked.false) in
     let same : ticket_of n ≡ s.ticket = sym c.ticket-newer.ensures.ticket ∙ c.if-newer-ticket.false in
     let y : Sight = record { part = c.args.part; ticket = s.ticket; words = c.in_ok-words.words } in
-    let known : words_in a.course.base.items c.args.part ≡ Some s.words.items = subst (λ (l : List Sight). words_in l c.args.part ≡ Some s.words.items) c.as_slice.ensures.items c.in-Some.ensures.words in
+    let known : words_in a.course.base.items c.args.part ≡ Some s.words.items = c.in-Some.ensures.words in
     let made : c.push.new.self.items ≡ fresh ++ y ∷ [] = c.in_ok-push.ensures.ok in
     let h = rechecked_spans m law g.T.Naming.valid sizes is f a.at a.renewal.bound c.args.part true a.course.base.items fresh a.course.set.items ws a.course.set.updates rs v goes.spans goes.observed goes.stands.1 c.requires.course.course goes.stands.0 s there c.in-Some.ensures.part w passes n (pos 0) c.recheck-found.ensures.tells free same y refl refl c.in_ok-words.ensures known in
     let d = some_anew m law g.T.Naming.valid sizes is f a.at a.renewal.bound c.args.part true a.course.base.items fresh a.course.set.items ws a.course.set.updates rs v goes.spans goes.observed goes.stands.1 c.requires.course.course w (fresh ++ y ∷ []) h.0 in
@@ -183,14 +183,14 @@ returns-clause-turned g c =
     let ws = map watched a.renewal.watches.items in
     let goes = c.requires.goes in
     let s = c.in-Some.sight.now in
-    let there : Contains a.course.base.items s = subst (λ (l : List Sight). Contains l s) c.as_slice.ensures.items c.in-Some.ensures.among in
+    let there : Contains a.course.base.items s = c.in-Some.ensures.among in
     let w = g.C.Cells.view c.recheck-found.new.self in
     let passes = g.C.Cells.passes c.args.cells.now in
     let n = c.recheck-found.result.0 in
     let free : is_free n ≡ true = locked_is (is_free n) (sym c.is_locked.ensures ∙ c.if-is_locked.false) in
     let same : ticket_of n ≡ s.ticket = sym c.ticket-newer.ensures.ticket ∙ c.if-newer-ticket.false in
     let y : Sight = record { part = c.args.part; ticket = s.ticket; words = c.in_ok-words.words } in
-    let known : words_in a.course.base.items c.args.part ≡ Some s.words.items = subst (λ (l : List Sight). words_in l c.args.part ≡ Some s.words.items) c.as_slice.ensures.items c.in-Some.ensures.words in
+    let known : words_in a.course.base.items c.args.part ≡ Some s.words.items = c.in-Some.ensures.words in
     let made : c.push.new.self.items ≡ fresh ++ y ∷ [] = c.in_ok-push.ensures.ok in
     let h = rechecked_spans m law g.T.Naming.valid sizes is f a.at a.renewal.bound c.args.part true a.course.base.items fresh a.course.set.items ws a.course.set.updates rs v goes.spans goes.observed goes.stands.1 c.requires.course.course goes.stands.0 s there c.in-Some.ensures.part w passes n (pos 0) c.recheck-found.ensures.tells free same y refl refl c.in_ok-words.ensures known in
     c.advance.ensures.turned w (subst (λ (l : List Sight). Spans m g.T.Naming.valid sizes a.at a.renewal.bound a.course.base.items l w) (sym made) h.0) h.1
@@ -273,7 +273,7 @@ returns-in_err-words-clause-err g c =
     let goes = c.requires.goes in
     let passes = g.C.Cells.passes c.args.cells.now in
     let s = c.in-Some.sight.now in
-    let there : Contains a.course.base.items s = subst (λ (l : List Sight). Contains l s) c.as_slice.ensures.items c.in-Some.ensures.among in
+    let there : Contains a.course.base.items s = c.in-Some.ensures.among in
     let w = g.C.Cells.view c.recheck-found.new.self in
     let n = c.recheck-found.result.0 in
     always_err c.from_residual.result (IsLeft w × IsPrefix m f w a.at rs) (rechecked_left m law g.T.Naming.valid sizes is f a.at a.renewal.bound c.args.part true a.course.base.items fresh a.course.set.items ws a.course.set.updates rs v goes.spans goes.observed goes.stands.1 c.requires.course.course goes.stands.0 s there c.in-Some.ensures.part w passes n (pos 0) c.recheck-found.ensures.tells, rechecked_prefix m law g.T.Naming.valid sizes is f a.at a.renewal.bound c.args.part true a.course.base.items fresh a.course.set.items ws a.course.set.updates rs v goes.spans goes.observed goes.stands.1 c.requires.course.course goes.stands.0 s there c.in-Some.ensures.part w passes n (pos 0) c.recheck-found.ensures.tells)
@@ -293,7 +293,7 @@ returns-then-len-eq4294967295-clause-err g c =
     let goes = c.requires.goes in
     let passes = g.C.Cells.passes c.args.cells.now in
     let s = c.in-Some.sight.now in
-    let there : Contains a.course.base.items s = subst (λ (l : List Sight). Contains l s) c.as_slice.ensures.items c.in-Some.ensures.among in
+    let there : Contains a.course.base.items s = c.in-Some.ensures.among in
     let w = g.C.Cells.view c.recheck-found.new.self in
     let n = c.recheck-found.result.0 in
     (rechecked_left m law g.T.Naming.valid sizes is f a.at a.renewal.bound c.args.part true a.course.base.items fresh a.course.set.items ws a.course.set.updates rs v goes.spans goes.observed goes.stands.1 c.requires.course.course goes.stands.0 s there c.in-Some.ensures.part w passes n (pos 0) c.recheck-found.ensures.tells, rechecked_prefix m law g.T.Naming.valid sizes is f a.at a.renewal.bound c.args.part true a.course.base.items fresh a.course.set.items ws a.course.set.updates rs v goes.spans goes.observed goes.stands.1 c.requires.course.course goes.stands.0 s there c.in-Some.ensures.part w passes n (pos 0) c.recheck-found.ensures.tells)
@@ -313,7 +313,7 @@ returns-in_err-push-clause-err g c =
     let goes = c.requires.goes in
     let passes = g.C.Cells.passes c.args.cells.now in
     let s = c.in-Some.sight.now in
-    let there : Contains a.course.base.items s = subst (λ (l : List Sight). Contains l s) c.as_slice.ensures.items c.in-Some.ensures.among in
+    let there : Contains a.course.base.items s = c.in-Some.ensures.among in
     let w = g.C.Cells.view c.recheck-found.new.self in
     let n = c.recheck-found.result.0 in
     always_err c.from_residual-in_err-push.result (IsLeft w × IsPrefix m f w a.at rs) (rechecked_left m law g.T.Naming.valid sizes is f a.at a.renewal.bound c.args.part true a.course.base.items fresh a.course.set.items ws a.course.set.updates rs v goes.spans goes.observed goes.stands.1 c.requires.course.course goes.stands.0 s there c.in-Some.ensures.part w passes n (pos 0) c.recheck-found.ensures.tells, rechecked_prefix m law g.T.Naming.valid sizes is f a.at a.renewal.bound c.args.part true a.course.base.items fresh a.course.set.items ws a.course.set.updates rs v goes.spans goes.observed goes.stands.1 c.requires.course.course goes.stands.0 s there c.in-Some.ensures.part w passes n (pos 0) c.recheck-found.ensures.tells)
@@ -333,13 +333,13 @@ returns-clause-err g c =
     let goes = c.requires.goes in
     let passes = g.C.Cells.passes c.args.cells.now in
     let s = c.in-Some.sight.now in
-    let there : Contains a.course.base.items s = subst (λ (l : List Sight). Contains l s) c.as_slice.ensures.items c.in-Some.ensures.among in
+    let there : Contains a.course.base.items s = c.in-Some.ensures.among in
     let w = g.C.Cells.view c.recheck-found.new.self in
     let n = c.recheck-found.result.0 in
     let free : is_free n ≡ true = locked_is (is_free n) (sym c.is_locked.ensures ∙ c.if-is_locked.false) in
     let same : ticket_of n ≡ s.ticket = sym c.ticket-newer.ensures.ticket ∙ c.if-newer-ticket.false in
     let y : Sight = record { part = c.args.part; ticket = s.ticket; words = c.in_ok-words.words } in
-    let known : words_in a.course.base.items c.args.part ≡ Some s.words.items = subst (λ (l : List Sight). words_in l c.args.part ≡ Some s.words.items) c.as_slice.ensures.items c.in-Some.ensures.words in
+    let known : words_in a.course.base.items c.args.part ≡ Some s.words.items = c.in-Some.ensures.words in
     let made : c.push.new.self.items ≡ fresh ++ y ∷ [] = c.in_ok-push.ensures.ok in
     let h = rechecked_spans m law g.T.Naming.valid sizes is f a.at a.renewal.bound c.args.part true a.course.base.items fresh a.course.set.items ws a.course.set.updates rs v goes.spans goes.observed goes.stands.1 c.requires.course.course goes.stands.0 s there c.in-Some.ensures.part w passes n (pos 0) c.recheck-found.ensures.tells free same y refl refl c.in_ok-words.ensures known in
     let now = map told c.advance.new.self.course.replies.items in
@@ -362,13 +362,13 @@ returns-clause-left g c =
     let goes = c.requires.goes in
     let passes = g.C.Cells.passes c.args.cells.now in
     let s = c.in-Some.sight.now in
-    let there : Contains a.course.base.items s = subst (λ (l : List Sight). Contains l s) c.as_slice.ensures.items c.in-Some.ensures.among in
+    let there : Contains a.course.base.items s = c.in-Some.ensures.among in
     let w = g.C.Cells.view c.recheck-found.new.self in
     let n = c.recheck-found.result.0 in
     let free : is_free n ≡ true = locked_is (is_free n) (sym c.is_locked.ensures ∙ c.if-is_locked.false) in
     let same : ticket_of n ≡ s.ticket = sym c.ticket-newer.ensures.ticket ∙ c.if-newer-ticket.false in
     let y : Sight = record { part = c.args.part; ticket = s.ticket; words = c.in_ok-words.words } in
-    let known : words_in a.course.base.items c.args.part ≡ Some s.words.items = subst (λ (l : List Sight). words_in l c.args.part ≡ Some s.words.items) c.as_slice.ensures.items c.in-Some.ensures.words in
+    let known : words_in a.course.base.items c.args.part ≡ Some s.words.items = c.in-Some.ensures.words in
     let made : c.push.new.self.items ≡ fresh ++ y ∷ [] = c.in_ok-push.ensures.ok in
     let b = c.advance.new.self in
     let old = words_in a.course.base.items in
@@ -381,3 +381,6 @@ returns-clause-left g c =
     subst (λ (l : List Watched). OnOk c.advance.result (now < 1 + left_extending (before - 1) m.widths l)) gone c.advance.ensures.left in
     ok_map c.advance.result (now < 1 + left_extending (before - 1) m.widths next.more) (now < left_extending (before - 1) m.widths (drop (length fresh) ws))
     (recheck_fewer m.widths old fresh ws c.args.part next (before - 1) now) fewer
+
+pub advance-requires-clause-bound : goal.advance-requires-clause-bound
+advance-requires-clause-bound g c = omega (arith, c.requires.goes.spans.above)

@@ -463,3 +463,6 @@ returns-clause-left g c =
     subst (λ (l : List Watched). OnOk c.advance.result (now < 1 + left_extending (before - 1) m.widths l)) gone c.advance.ensures.left in
     ok_map c.advance.result (now < 1 + left_extending (before - 1) m.widths next.more) (now < left_extending (before - 1) m.widths (drop (length fresh) ws) - (1 + length a.words.items))
     (reclose_fewer m.widths old fresh ws c.args.part next (before - 1) (length a.words.items) now c.requires.all) fewer
+
+pub advance-requires-clause-bound : goal.advance-requires-clause-bound
+advance-requires-clause-bound g c = omega (arith, c.requires.goes.spans.above)

@@ -19,6 +19,7 @@ use Rattle.sto_attempt.proofs.Anew.{items_range}
 use Rattle.sto_attempt.proofs.Stepping.{ok_map}
 use Rattle.sto_attempt.proofs.Lowering.{renew_fewer}
 use Rattle.sto_attempt.proofs.Causing.{err_both}
+use Rattle.std.proofs.Common.{arith}
 use Rattle.sto_attempt.proofs.attempt.Attempt.renew.Goals as goal
 
 pub advance-requires-clause-renewed : goal.advance-requires-clause-renewed
@@ -117,3 +118,6 @@ returns-clause-left g c =
     subst (λ (l : List Sight). OnOk c.advance.result (now < 1 + left_extending (before - 1) m.widths (drop (length l) ws))) none c.advance.ensures.left in
     ok_map c.advance.result (now < 1 + left_extending (before - 1) m.widths ws) (now < left_renewing (before - 1) m.widths)
     (renew_fewer m.widths a.course.set.items ws c.in_ok-watches.ensures (items_range m law f base a.course.set.items a.course.set.updates rs c.requires.course.course some.0 some.1 some.2) (before - 1) now) fewer
+
+pub advance-requires-clause-bound : goal.advance-requires-clause-bound
+advance-requires-clause-bound g c = omega (arith, c.renew-bound.ensures.tells.learns.at, c.requires.fits.2.number)

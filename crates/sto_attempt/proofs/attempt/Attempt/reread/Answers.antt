@@ -19,6 +19,7 @@ use Rattle.sto_attempt.proofs.Lowering.{reread_fewer}
 use Rattle.sto_core.specs.Allowed.{IsIdle}
 use Rattle.sto_attempt.proofs.Prefix.{prefix}
 use Rattle.sto_attempt.proofs.Spanning.{left_idle}
+use Rattle.sto_attempt.specs.Standing.{HasBegun}
 use Rattle.sto_attempt.proofs.attempt.Attempt.reread.Goals as goal
 
 pub word-value-requires : goal.word-value-requires
@@ -105,3 +106,6 @@ returns-in_err-push-clause-err g c =
     let h = reread_goes m law g.T.Naming.valid sizes is f a.at a.renewal.bound c.args.part false a.course.base.items fresh a.course.set.items ws a.course.set.updates rs v goes.spans goes.observed goes.stands.3 c.requires.course.course c.args.ticket a.words.items goes.stands.0 goes.stands.1 w passes 0 x tells in
     always_err c.from_residual.result (IsLeft w × IsPrefix m f w a.at rs)
     (left_idle m g.T.Naming.valid sizes a.at a.renewal.bound a.course.base.items fresh f rs w h.0 (subst IsIdle (sym h.1) tt), prefix m f w a.at a.course.base.items a.course.set.items a.course.set.updates rs c.requires.course.course h.0.claimed)
+
+pub returns-clause-moves : goal.returns-clause-moves
+returns-clause-moves g c = (subst HasBegun (sym c.requires.stand) tt, omega arith)

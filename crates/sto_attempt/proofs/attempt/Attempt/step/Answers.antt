@@ -19,6 +19,8 @@ use Rattle.sto_attempt.specs.Reasons.{IsCaused}
 use Rattle.sto_attempt.specs.Standing.{next_event, KeepsRenewal}
 use Rattle.sto_attempt.proofs.Onward.{heard_none}
 use Rattle.sto_attempt.proofs.Stepping.{word_next, close_next}
+use Rattle.sto_attempt.specs.Standing.{HasBegun, Moves}
+use Rattle.sto_attempt.proofs.Stepping.{moves_on, moves_ok, moves_same}
 use Rattle.sto_attempt.proofs.attempt.Attempt.step.Goals as goal
 
 pub width-requires-in-Rereading : goal.width-requires-in-Rereading
@@ -374,3 +376,66 @@ returns-else-len-width-clause-renewed g c =
     let b = c.close.new.self in
     let w = g.C.Cells.view c.close.new.cells in
     subst (λ (s : Stand). OnOk c.close.result (KeepsRenewal s w a.renewal rs b.renewal (map told b.course.replies.items))) (sym c.in-Reading.is) c.close.ensures.renewed
+
+pub returns-in-Unstarted-clause-moves : goal.returns-in-Unstarted-clause-moves
+returns-in-Unstarted-clause-moves g c =
+    let a = c.args.self.now in
+    let b = c.begin.new.self in
+    let w = g.C.Cells.view c.begin.new.cells in
+    subst (λ (s : Stand). OnOk c.begin.result (Moves s a.at b.stand b.at w)) (sym c.in-Unstarted.is) c.begin.ensures.moves
+
+pub returns-in-Opening-clause-moves : goal.returns-in-Opening-clause-moves
+returns-in-Opening-clause-moves g c =
+    let a = c.args.self.now in
+    let b = c.open.new.self in
+    let w = g.C.Cells.view c.open.new.cells in
+    moves_on a.stand (subst HasBegun (sym c.in-Opening.is) tt) a.at b.stand b.at w (c.open.ensures.moves.0, omega (arith, c.open.ensures.moves.1))
+
+pub returns-then-len-width-clause-moves : goal.returns-then-len-width-clause-moves
+returns-then-len-width-clause-moves g c =
+    let a = c.args.self.now in
+    let b = c.word.new.self in
+    let w = g.C.Cells.view c.word.new.cells in
+    moves_same c.word.result a.stand (subst HasBegun (sym c.in-Reading.is) tt) a.at b.stand b.at w c.word.ensures.moves
+
+pub returns-else-len-width-clause-moves : goal.returns-else-len-width-clause-moves
+returns-else-len-width-clause-moves g c =
+    let a = c.args.self.now in
+    let b = c.close.new.self in
+    let w = g.C.Cells.view c.close.new.cells in
+    moves_same c.close.result a.stand (subst HasBegun (sym c.in-Reading.is) tt) a.at b.stand b.at w c.close.ensures.moves
+
+pub returns-in-Renewing-clause-moves : goal.returns-in-Renewing-clause-moves
+returns-in-Renewing-clause-moves g c =
+    let a = c.args.self.now in
+    let b = c.renew.new.self in
+    let w = g.C.Cells.view c.renew.new.cells in
+    moves_ok c.renew.result a.stand (subst HasBegun (sym c.in-Renewing.is) tt) a.at b.stand b.at w c.renew.ensures.moves
+
+pub returns-in-Rechecking-clause-moves : goal.returns-in-Rechecking-clause-moves
+returns-in-Rechecking-clause-moves g c =
+    let a = c.args.self.now in
+    let b = c.recheck.new.self in
+    let w = g.C.Cells.view c.recheck.new.cells in
+    moves_ok c.recheck.result a.stand (subst HasBegun (sym c.in-Rechecking.is) tt) a.at b.stand b.at w c.recheck.ensures.moves
+
+pub returns-in-Reopening-clause-moves : goal.returns-in-Reopening-clause-moves
+returns-in-Reopening-clause-moves g c =
+    let a = c.args.self.now in
+    let b = c.reopen.new.self in
+    let w = g.C.Cells.view c.reopen.new.cells in
+    moves_on a.stand (subst HasBegun (sym c.in-Reopening.is) tt) a.at b.stand b.at w (c.reopen.ensures.moves.0, omega (arith, c.reopen.ensures.moves.1))
+
+pub returns-then-len-width-2-clause-moves : goal.returns-then-len-width-2-clause-moves
+returns-then-len-width-2-clause-moves g c =
+    let a = c.args.self.now in
+    let b = c.reread.new.self in
+    let w = g.C.Cells.view c.reread.new.cells in
+    moves_ok c.reread.result a.stand (subst HasBegun (sym c.in-Rereading.is) tt) a.at b.stand b.at w c.reread.ensures.moves
+
+pub returns-else-len-width-2-clause-moves : goal.returns-else-len-width-2-clause-moves
+returns-else-len-width-2-clause-moves g c =
+    let a = c.args.self.now in
+    let b = c.reclose.new.self in
+    let w = g.C.Cells.view c.reclose.new.cells in
+    moves_ok c.reclose.result a.stand (subst HasBegun (sym c.in-Rereading.is) tt) a.at b.stand b.at w c.reclose.ensures.moves

@@ -1,4 +1,4 @@
-use Rattle.std.proofs.Common.{◌≡◌, List, ℤ, ℕ, [], ◌∷◌, ◌++◌, ap, sym, ◌∙◌, subst, map, length, rules, FitsSigned, w64}
+use Rattle.std.proofs.Common.{◌≡◌, List, ℤ, ℕ, [], ◌∷◌, ◌++◌, ap, sym, ◌∙◌, subst, map, length, rules, FitsSigned, w64, refl}
 use Rattle.std.proofs.lemmas.Int.{to_z-of_z}
 use Rattle.sto_model.specs.Told.{told}
 use Rattle.sto_core.specs.Event.{Word}
@@ -15,6 +15,7 @@ use Rattle.sto_attempt.specs.Answers.{IsPrefix}
 use Rattle.sto_attempt.specs.Standing.{IsLeft}
 use Rattle.sto_attempt.proofs.Lowering.{word_fewer}
 use Rattle.sto_attempt.proofs.Reading.{word_stops, always_err}
+use Rattle.sto_attempt.specs.Standing.{HasBegun}
 use Rattle.sto_attempt.proofs.attempt.Attempt.word.Goals as goal
 
 pub returns-clause-turned : goal.returns-clause-turned
@@ -78,3 +79,6 @@ returns-in_err-push-clause-err g c =
     let tells : Tells valid passes (Word c.args.part (length a.words.items)) v 0 x w = subst (λ (i : ℕ). Tells valid passes (Word c.args.part i) v 0 x w) c.len.ensures c.word-value.ensures.tells in
     always_err c.from_residual.result (IsLeft w × IsPrefix m f w a.at rs)
     (word_stops m valid sizes f a.at c.args.part c.args.ticket a.words.items base a.course.set.items a.course.set.updates rs v c.requires.fits w passes 0 x tells c.requires.more c.requires.course.course)
+
+pub returns-clause-moves : goal.returns-clause-moves
+returns-clause-moves g c = (subst HasBegun (sym c.requires.stand) tt, refl)

@@ -3,7 +3,6 @@ use Rattle.std.proofs.lemmas.List.{map-append}
 use Rattle.sto_model.specs.Told.{told}
 use Rattle.sto_model.specs.declared.body.Next.TheVariants.{Ask}
 use Rattle.sto_type.specs.Known.{known}
-use Rattle.sto_attempt.specs.declared.sight.Sight.{Sight}
 use Rattle.sto_attempt.specs.Sights.{words_in}
 use Rattle.sto_attempt.specs.Course.{IsCache}
 use Rattle.sto_attempt.proofs.OneReply.{cache_none}
@@ -18,7 +17,7 @@ rebase-requires g c =
     let was = c.loop-call.invariant.course in
     let rs = map told c.loop-call.self.replies.items in
     let asks : f rs ≡ Ask c.in-Ask.call = ap f (sym (append-nil rs)) ∙ sym (c.in-Ask.ensures.next ∙ was.then []) in
-    let cache = subst (λ (ss : List Sight). IsCache m (words_in ss) c.loop-call.self.set.updates (known c.ask.new.cache)) c.as_slice.ensures.items c.in_ok-part-in-Ask.ensures.cache in
+    let cache = c.in_ok-part-in-Ask.ensures.cache in
     let plan = rw c.in-Done.is at c.in_ok-part-in-Ask.ensures.plan in
     may_rebase m law f (words_in c.loop-call.self.base.items) c.loop-call.self.set rs c.in-Ask.call (known c.ask.new.cache) was.course cache c.loop-call.invariant.some
     (was.taken c.in-Ask.call c.in-Ask.ensures.may) asks (told c.in-Done.reply) c.in-Done.items.items c.in-Done.updates.items plan
@@ -31,7 +30,7 @@ add_updates-requires-clause-ordered g c =
     let was = c.loop-call.invariant.course in
     let rs = map told c.loop-call.self.replies.items in
     let asks : f rs ≡ Ask c.in-Ask.call = ap f (sym (append-nil rs)) ∙ sym (c.in-Ask.ensures.next ∙ was.then []) in
-    let cache = subst (λ (ss : List Sight). IsCache m (words_in ss) c.loop-call.self.set.updates (known c.ask.new.cache)) c.as_slice.ensures.items c.in_ok-part-in-Ask.ensures.cache in
+    let cache = c.in_ok-part-in-Ask.ensures.cache in
     let plan = rw c.in-Done.is at c.in_ok-part-in-Ask.ensures.plan in
     (may_compose m law f (words_in c.loop-call.self.base.items) c.loop-call.self.set rs c.in-Ask.call (known c.ask.new.cache) was.course cache c.loop-call.invariant.some
     (was.taken c.in-Ask.call c.in-Ask.ensures.may) asks (told c.in-Done.reply) c.in-Done.items.items c.in-Done.updates.items plan c.add_items.new.set c.in_ok-left-in-Done.left.items c.in_ok-add_items-in-Done.ensures).0
@@ -44,7 +43,7 @@ add_updates-requires-clause-widths g c =
     let was = c.loop-call.invariant.course in
     let rs = map told c.loop-call.self.replies.items in
     let asks : f rs ≡ Ask c.in-Ask.call = ap f (sym (append-nil rs)) ∙ sym (c.in-Ask.ensures.next ∙ was.then []) in
-    let cache = subst (λ (ss : List Sight). IsCache m (words_in ss) c.loop-call.self.set.updates (known c.ask.new.cache)) c.as_slice.ensures.items c.in_ok-part-in-Ask.ensures.cache in
+    let cache = c.in_ok-part-in-Ask.ensures.cache in
     let plan = rw c.in-Done.is at c.in_ok-part-in-Ask.ensures.plan in
     (may_compose m law f (words_in c.loop-call.self.base.items) c.loop-call.self.set rs c.in-Ask.call (known c.ask.new.cache) was.course cache c.loop-call.invariant.some
     (was.taken c.in-Ask.call c.in-Ask.ensures.may) asks (told c.in-Done.reply) c.in-Done.items.items c.in-Done.updates.items plan c.add_items.new.set c.in_ok-left-in-Done.left.items c.in_ok-add_items-in-Done.ensures).1
@@ -59,7 +58,7 @@ loop-call-preserved g c =
     let rs = map told c.loop-call.self.replies.items in
     let reply = told c.in-Done.reply in
     let asks : f rs ≡ Ask c.in-Ask.call = ap f (sym (append-nil rs)) ∙ sym (c.in-Ask.ensures.next ∙ was.then []) in
-    let cache = subst (λ (ss : List Sight). IsCache m (words_in ss) c.loop-call.self.set.updates (known c.ask.new.cache)) c.as_slice.ensures.items c.in_ok-part-in-Ask.ensures.cache in
+    let cache = c.in_ok-part-in-Ask.ensures.cache in
     let plan = rw c.in-Done.is at c.in_ok-part-in-Ask.ensures.plan in
     let more : map told c.push.new.self.items ≡ rs ++ reply ∷ [] = ap (map told) c.in_ok-push-in-Done.ensures.ok ∙ map-append told c.loop-call.self.replies.items (c.in-Done.reply ∷ []) in
     let next =

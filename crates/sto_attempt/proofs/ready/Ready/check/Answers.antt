@@ -46,6 +46,9 @@ returns-then-not-is_written-clause-said g c =
     let other = is_in c.as_slice.result.now a.updates.items p c.is_written.result false c.as_slice.ensures.items c.is_written.ensures c.if-not-is_written.true in
     check_locked d law c.args.place c.args.ticket a.finds a.loads.items v h p c.get-part.ensures w _ n _ c.check-found.ensures.tells busy other
 
+pub expected-requires : goal.expected-requires
+expected-requires g c = c.requires.stands.1.planned.seen_rise
+
 pub returns-then-newer-expected-clause-said : goal.returns-then-newer-expected-clause-said
 returns-then-newer-expected-clause-said g c =
     let a = c.args.self.now in
