@@ -17,6 +17,7 @@ use Rattle.sto_core.specs.Views.{holds, without, own_ticket, drawn_entry}
 use Rattle.sto_core.specs.Event.{Event, Start, Open, Word, Close, Lock, Test, Draw, Check, Decide, Put, Release, Unlock, Renew, Recheck, after, found, read_by, closed_by, claimed, locked_by, checked_by, rechecked_by, is_claimed_still, passes_check, settle, settle_entry, phase_left, let_go, with_read, put_by, fresh_read}
 use Rattle.sto_core.specs.Allowed.{Allowed, MayRead, MayClose, MayLock, MayDecide, MayPut, MayRelease, MayUnlock}
 use Rattle.sto_core.specs.Tells.{Tells, Covers, Begins}
+use Rattle.sto_core.proofs.Lasting.{lasts}
 use Rattle.sto_told.specs.Counted.{times_committed, if_won}
 use Rattle.sto_told.specs.Added.{Grows, IsKnown}
 use Rattle.sto_told.specs.Running.{HasNoMore, HasOneMore, HasSettled, Undrawn, Won, Lost, HasDrawn, IsRunning}
@@ -40,6 +41,8 @@ begun_runs valid passes v w n x t =
       starts = refl;
       settled = subst (λ (u : View). Each (λ (e : Entry). e.fate ≢ Pending) u.entries) t.after t.learns.1.decided;
       drawn = record { same = refl; left = refl };
+      sizes = refl;
+      opening = refl;
     })
 
 -- an open leads to a read or stays between two
@@ -207,6 +210,8 @@ kept valid passes e b v w n x t r g starts d =
       starts = starts ∙ r.starts;
       settled = r.settled;
       drawn = d;
+      sizes = (lasts e v n x).sizes ∙ r.sizes;
+      opening = (lasts e v n x).opening ∙ r.opening;
     })
 
 -- the event loads no clock

@@ -28,7 +28,7 @@ written_more : (t : ℕ) (rs : List Record) (r : Record) → times_written t (rs
 written_more t [] r = omega arith
 written_more t (x ∷ rs) r = let k = written_more t rs r in omega (arith, k)
 
-longer : (rs : List Record) (r : Record) → length (rs ++ r ∷ []) ≡ length rs + 1
+pub longer : (rs : List Record) (r : Record) → length (rs ++ r ∷ []) ≡ length rs + 1
 longer [] r = refl
 longer (x ∷ rs) r = let k = longer rs r in omega (arith, k)
 
@@ -36,7 +36,7 @@ longer (x ∷ rs) r = let k = longer rs r in omega (arith, k)
 finding_later : (v w : View) (start part : ℕ) (P : Finding → Type 0) → Grows v w → HasFound v start part P → HasFound w start part P
 finding_later v w start part P g h = record { finding = h.finding; there = g.findings h.finding h.there; begun = h.begun; on = h.on; is = h.is }
 
-found_later : (v w : View) (start : ℕ) (verdict : Verdict) → Grows v w → IsFound v start verdict → IsFound w start verdict
+pub found_later : (v w : View) (start : ℕ) (verdict : Verdict) → Grows v w → IsFound v start verdict → IsFound w start verdict
 found_later v w start (Wrote t) g h = tt
 found_later v w start (Read n) g h = tt
 found_later v w start (Cancelled n) g h = tt

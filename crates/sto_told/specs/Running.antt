@@ -46,3 +46,6 @@ pub record IsRunning (begun v : View) : Type 0 where
   pub starts : v.starts ≡ begun.starts + 1
   pub settled : Each (λ (e : Entry). e.fate ≢ Pending) begun.entries
   pub drawn : HasDrawn begun v.phase v.entries v.draws
+  -- its words are those of the same type
+  pub sizes : v.sizes ≡ begun.sizes
+  pub opening : v.opening ≡ begun.opening

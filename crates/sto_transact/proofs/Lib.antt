@@ -1,1 +1,6 @@
 pub mod Telling
+pub mod Gone
+pub mod Ends
+pub mod Steps
+pub mod Counting
+pub mod Tries

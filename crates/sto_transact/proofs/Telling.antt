@@ -1,6 +1,5 @@
 -- What an attempt tells at its end is what its record tells.
-use Rattle.std.specs.Prelude.{◌⊎◌}
-use Rattle.std.proofs.Common.{◌≡◌, ℕ, ◌<◌, ◌≤◌, List, [], ◌∷◌, refl, sym, subst, arith, true, false, inl, inr}
+use Rattle.std.proofs.Common.{ℕ, ◌≤◌, List, [], ◌∷◌, refl, sym, subst, arith, false, inl, inr}
 use Rattle.sto_model.specs.declared.body.Next.{Next}
 use Rattle.sto_model.specs.declared.body.Next.TheVariants.{Ask, Commit, Cancel}
 use Rattle.sto_model.specs.Told.{Told}
@@ -8,16 +7,15 @@ use Rattle.sto_model.specs.Run.{Script}
 use Rattle.sto_type.specs.Known.{Parts}
 use Rattle.sto_type.specs.Meaning.{Meaning, IsPartOfObject}
 use Rattle.sto_core.specs.declared.view.View.{View}
-use Rattle.sto_core.specs.declared.view.Finding.{Finding}
 use Rattle.sto_attempt.specs.Asked.{IsOfNext, IsAsked}
 use Rattle.sto_attempt.specs.Sights.{HasClaims}
 use Rattle.sto_attempt.specs.Answers as answers
 use Rattle.sto_attempt.specs.Standing.{Ends}
 use Rattle.sto_attempt.specs.declared.verdict.Verdict.{Verdict}
 use Rattle.sto_attempt.specs.declared.verdict.Verdict.TheVariants.{Wrote, Read, Cancelled, Locked, Changed}
-use Rattle.sto_told.specs.Asked.{AsksOf, HasAsked}
+use Rattle.sto_told.specs.Asked.{AsksOf}
 use Rattle.sto_attempt.specs.Stages.{Deal, EndsWith}
-use Rattle.sto_told.specs.Told.{HasFound, IsLockedFinding, IsTicketFinding, HasClaimed, IsAskedPart, IsTold, IsFound, HasWritten, HasRead, HasCancelled, WasAborted, WasChanged}
+use Rattle.sto_told.specs.Told.{HasFound, IsLockedFinding, IsTicketFinding, HasClaimed, IsAskedPart, IsTold, IsFound, HasRead, HasCancelled, WasAborted, WasChanged}
 use Rattle.sto_told.specs.Added.{IsKnown}
 use Rattle.sto_told.specs.Records.{IsSince}
 use Rattle.sto_transact.specs.Plain.{verdict}

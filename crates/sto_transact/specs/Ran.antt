@@ -1,5 +1,5 @@
 -- What a run of one transaction on an idle pass ensures.
-use Rattle.std.specs.Prelude.{◌≡◌, ◌≤◌, ℕ, ◌+◌, List, [], ◌∷◌, ◌++◌, length, Bool, true, false, if◌then◌else◌}
+use Rattle.std.specs.Prelude.{◌≡◌, ◌≤◌, ◌⊎◌, ℕ, ◌+◌, List, [], ◌∷◌, ◌++◌, length, Bool, true, false, if◌then◌else◌}
 use Rattle.std.specs.List.{All}
 use Rattle.sto_model.specs.Run.{Script as Steps}
 use Rattle.sto_type.specs.Meaning.{Meaning}
@@ -26,3 +26,15 @@ pub record HasRun (m : Meaning) (sizes : List ℕ) (tries passes : ℕ) (v w : V
   pub draws : v.draws ≤ w.draws + tries
   -- beside no other pass it ends at once
   pub alone : passes ≡ 1 → (ended ≡ true) × (aborted_times place new ≡ 0)
+
+-- memory was wanting in such a run: the records that it added stay, all of aborted attempts, and the pass is at rest. The attempt
+-- that met it has no record, and no entry; it may have begun
+pub record HasBroken (m : Meaning) (sizes : List ℕ) (tries : ℕ) (v w : View) (f : Steps) (place : Place) (before later : List Record) : Type 0 where
+  pub new : List Record
+  pub whole : later ≡ before ++ new
+  pub added : HasAdded m tries v w f place new
+  pub aborted : aborted_times place new ≡ length new
+  pub starts : (w.starts ≡ v.starts + length new) ⊎ (w.starts ≡ v.starts + length new + 1)
+  pub found : All (HasFinding v w) new
+  pub rests : IsAtRest m sizes w
+  pub draws : v.draws ≤ w.draws + tries

@@ -4,5 +4,9 @@
 #![tactic(auto)]
 
 mod record;
+mod transaction;
+mod trial;
 
 pub use record::Record;
+pub use transaction::{Transacted, Transaction, Unwatched, Watch};
+pub use trial::{Ended, Progress, Trial};

@@ -1,0 +1,117 @@
+-- How an attempt stands, between two of its events, to the view of its pass before its first event, `begun`, and to the view now;
+-- and what it leaves where it ends.
+use Rattle.std.specs.Prelude.{◌≡◌, ◌≤◌, ◌+◌, ℕ, List, map, false, None, Result, Ok, Err}
+use Rattle.sto_part.specs.declared.NoMemory.{NoMemory}
+use Rattle.sto_model.specs.declared.body.Next.{Next}
+use Rattle.sto_model.specs.declared.call.Call.{Call}
+use Rattle.sto_model.specs.Told.{Told, told}
+use Rattle.sto_model.specs.Run.{Script}
+use Rattle.sto_type.specs.Meaning.{Meaning}
+use Rattle.sto_core.specs.declared.view.View.{View}
+use Rattle.sto_core.specs.History.{Validity}
+use Rattle.sto_attempt.specs.declared.attempt.Attempt.{Attempt}
+use Rattle.sto_attempt.specs.declared.ready.Ready.{Ready}
+use Rattle.sto_attempt.specs.declared.stand.Stand.TheVariants.{Committing as CommittingStand}
+use Rattle.sto_attempt.specs.Course.{IsOnCourse}
+use Rattle.sto_attempt.specs.Standing.{Goes, Fits, IsFirst}
+use Rattle.sto_attempt.specs.Stages.{Deal, deal, Stands, SpaceAt}
+use Rattle.sto_attempt.specs.Verdicts.{IsUndisturbed}
+use Rattle.sto_attempt.specs.Bounds.{events_left}
+use Rattle.sto_attempt.specs.Remaining.{commit_left}
+use Rattle.sto_told.specs.Records.{Place, is_abort}
+use Rattle.sto_told.specs.Added.{Grows, IsKnown}
+use Rattle.sto_told.specs.Running.{IsRunning}
+use Rattle.sto_told.specs.Tried.{HasTried}
+use Rattle.sto_transact.specs.Going.{HasGone, InBody}
+use Rattle.sto_transact.specs.Plain.{verdict}
+use Rattle.sto_transact.specs.Resting.{IsAtRest}
+use Rattle.sto_transact.specs.declared.trial.Trial.{Trial}
+use Rattle.sto_transact.specs.declared.trial.Trial.TheVariants.{Running, Committing}
+use Rattle.sto_transact.specs.declared.trial.Progress.{Progress}
+use Rattle.sto_transact.specs.declared.trial.Progress.TheVariants.{More, Over}
+use Rattle.sto_transact.specs.declared.trial.Ended.{Ended}
+
+-- memory was wanting: the pass is at rest, the attempt has begun and drawn nothing
+pub record HasStopped (m : Meaning) (sizes : List ℕ) (begun w : View) : Type 0 where
+  pub rests : IsAtRest m sizes w
+  pub grows : Grows begun w
+  pub entries : w.entries ≡ begun.entries
+  pub starts : w.starts ≡ begun.starts + 1
+  pub draws : w.draws ≡ begun.draws
+
+-- what the traits of the type and of the body say: the meaning of a type, which contents are valid, and its sizes; the script of a
+-- body, what it does next, how many calls it may still ask, and which
+module _ {T B : Type 0} (meaning : T → Meaning) (valid : Validity) (sizes : T → List ℕ) (script : B → Script) (next : B → List Told → Next) (left : B → ℕ) (may : B → Call → Type 0) where
+  -- what a commit is to do
+  abbrev pub deal_of : Ready T B → Deal
+  deal_of r =
+      deal (meaning r.course.ty.now) valid (sizes r.course.ty.now) (script r.course.body) r.at r.course.base.items r.course.set.items (map told r.course.replies.items)
+      r.updates.items r.seen.items r.loaded.items r.tasks.items r.checks.items r.places.items
+
+  -- the course of an attempt of a body with the script f, on a type
+  pub record IsOwnCourse (ty : T) (f : Script) (a : Attempt T B) : Type 0 where
+    pub same_type : a.course.ty.now ≡ ty
+    pub same_script : script a.course.body ≡ f
+    pub course :
+        IsOnCourse (meaning a.course.ty.now) (next a.course.body) (script a.course.body) (left a.course.body) (may a.course.body)
+        a.course.base.items a.course.set a.course.cache a.course.replies.items
+
+  -- the body runs; beside no other pass it has come to no extension
+  pub record RunsBody (passes : ℕ) (ty : T) (f : Script) (a : Attempt T B) (begun v : View) : Type 0 where
+    pub own : IsOwnCourse ty f a
+    pub goes :
+        Goes (meaning a.course.ty.now) valid (sizes a.course.ty.now) (script a.course.body) a.at a.stand a.words.items a.renewal
+        a.course.base.items a.course.set.items a.course.set.updates (map told a.course.replies.items) v
+    pub gone : HasGone a.stand begun v a.at
+    pub alone : passes ≡ 1 → IsFirst a.stand
+
+  -- the body commits with an update
+  pub record IsReady (ty : T) (f : Script) (a : Attempt T B) (begun v : View) : Type 0 where
+    pub own : IsOwnCourse ty f a
+    pub fits :
+        Fits (meaning a.course.ty.now) valid (sizes a.course.ty.now) (script a.course.body) a.at CommittingStand a.words.items
+        a.course.base.items a.course.set.updates (map told a.course.replies.items) v
+    pub in_body : InBody begun v a.at
+
+  -- the commit is under way; beside no other pass it has found no part changed
+  pub record Commits (passes : ℕ) (ty : T) (f : Script) (r : Ready T B) (begun v : View) : Type 0 where
+    pub same_type : r.course.ty.now ≡ ty
+    pub same_script : script r.course.body ≡ f
+    pub taken : (call : Call) → may r.course.body call → (meaning r.course.ty.now).takes call
+    pub stands : Stands (deal_of r) r.finds r.loads.items r.stage v
+    pub space : SpaceAt (meaning r.course.ty.now).widths r.tasks.items r.loads r.stage
+    pub copy : r.course.set.updates ≡ r.updates.items
+    pub running : IsRunning begun v
+    pub late : (k : ℕ) → IsKnown begun k → k ≤ r.at
+    pub alone : passes ≡ 1 → IsUndisturbed r.at r.finds.items None r.stage
+
+  -- an attempt of a body with the script f, on a type and one of so many passes, has led from the view `begun` to the view v, and has
+  -- further events
+  abbrev pub Proceeds : ℕ → T → Script → Trial T B → View → View → Type 0
+  Proceeds passes ty f (Running a) begun v =
+      IsAtRest (meaning ty) (sizes ty) begun × RunsBody passes ty f a begun v
+  Proceeds passes ty f (Committing r) begun v =
+      IsAtRest (meaning ty) (sizes ty) begun × Commits passes ty f r begun v
+
+  -- it has ended: it is told by its record at every place, its pass is at rest, and beside no other pass it was not aborted
+  pub record HasEnded (passes : ℕ) (ty : T) (f : Script) (e : Ended B) (begun w : View) : Type 0 where
+    pub same_script : script e.body ≡ f
+    pub taken : (call : Call) → may e.body call → (meaning ty).takes call
+    pub tried : (place : Place) → HasTried (meaning ty) begun w f place (record { place = place; replies = map told e.replies.items; verdict = verdict e.verdict })
+    pub rests : IsAtRest (meaning ty) (sizes ty) w
+    pub alone : passes ≡ 1 → is_abort (verdict e.verdict) ≡ false
+
+  -- what a step leads to
+  abbrev pub HasStepped : ℕ → T → Script → Result (Progress T B) NoMemory → View → View → Type 0
+  HasStepped passes ty f (Ok (More trial)) begun w = Proceeds passes ty f trial begun w
+  HasStepped passes ty f (Ok (Over e)) begun w = HasEnded passes ty f e begun w
+  HasStepped passes ty f (Err error) begun w = HasStopped (meaning ty) (sizes ty) begun w
+
+  -- how many events it has left at most
+  abbrev pub trial_left : Trial T B → ℕ
+  trial_left (Running a) = events_left (left a.course.body) (meaning a.course.ty.now).widths a.stand a.words.items a.renewal a.course.base.items
+  trial_left (Committing r) = commit_left (deal_of r) r.stage
+
+  abbrev pub left_after : Progress T B → ℕ
+  left_after (More trial) = trial_left trial
+  left_after (Over e) = 0
