@@ -46,12 +46,8 @@ second_grows v u = record {
   findings = λ f h. among_second v.findings u.findings f h;
 }
 
-committed_append : (t : ℕ) (xs ys : List Entry) → times_committed t (xs ++ ys) ≡ times_committed t xs + times_committed t ys
-committed_append t [] ys = omega arith
-committed_append t (x ∷ xs) ys = let k = committed_append t xs ys in omega (arith, k)
-
 -- records that a view is told of stay told
-later_record : (m : Meaning) (file : File) (v w : View) → Grows v w → (rs : List Record) → All (IsRecord m file v) rs → All (IsRecord m file w) rs
+pub later_record : (m : Meaning) (file : File) (v w : View) → Grows v w → (rs : List Record) → All (IsRecord m file v) rs → All (IsRecord m file w) rs
 later_record m file v w g rs h =
     All-weaker (IsRecord m file v) (IsRecord m file w)
     (λ r k. record { script = k.script; transaction = k.transaction; told = told_later m v w (meaning_of k.script) r.replies r.verdict g k.told }) rs h
@@ -69,18 +65,16 @@ gathered_so_far m file tries v u rs ss apart either h k = record {
     | inl none ↦ (let s = aborted_append place rs ss in let b = k.few place in omega (arith, s, none, b))
     | inr none ↦ (let s = aborted_append place rs ss in let b = h.few place in omega (arith, s, none, b))
   ];
-  tickets = λ t. (let a = times_append t rs ss in let b = committed_append t v.entries u.entries in let c = h.tickets t in let d = k.tickets t in omega (arith, a, b, c, d));
   each = All-append (IsRecord m file (gathered_into v u)) rs ss
       (later_record m file v (gathered_into v u) (first_grows v u) rs h.each)
       (later_record m file u (gathered_into v u) (second_grows v u) ss k.each);
 }
 
--- A pass of words that were just opened has no records.
-pub opened_so_far : (m : Meaning) (file : File) (tries : ℕ) (sizes : List ℕ) (opening : Contents) (number : ℕ) → AreSoFar m file tries (opened_view sizes opening number) []
-opened_so_far m file tries sizes opening number = record {
+-- A pass that has made no records yet.
+pub none_so_far : (m : Meaning) (file : File) (tries : ℕ) (v : View) → AreSoFar m file tries v []
+none_so_far m file tries v = record {
   threads = tt;
   few = λ place. omega arith;
-  tickets = λ t. refl;
   each = λ k d l. absurd (omega (arith, l));
 }
 
@@ -99,13 +93,10 @@ pub reopened_so_far : (m : Meaning) (file : File) (tries : ℕ) (sizes : List �
 reopened_so_far m file tries sizes opening v rs h = record {
   threads = h.threads;
   few = h.few;
-  tickets = λ t. h.tickets t ∙ (let a = committed_append t v.entries [] in let z = nothing t in omega (arith, a, z));
   each = later_record m file v (reopened_view sizes opening (v ∷ [])) (reopened_grows sizes opening v) rs h.each;
 }
-  where
-    nothing : (t : ℕ) → times_committed t [] ≡ 0
-    nothing t = refl
 
--- Once each transaction has ended, the run is finished.
-pub finished_run : (m : Meaning) (file : File) (tries : ℕ) (v : View) (rs : List Record) → AreSoFar m file tries v rs → IsOrder file (finished_places rs) → AreFinished m file tries v rs
-finished_run m file tries v rs h order = record { order = order; threads = h.threads; few = h.few; tickets = h.tickets; each = h.each }
+-- Once each transaction has ended, and the records that wrote are the committed entries, the run is finished.
+pub finished_run : (m : Meaning) (file : File) (tries : ℕ) (v : View) (rs : List Record) → AreSoFar m file tries v rs → IsOrder file (finished_places rs)
+    → ((t : ℕ) → times_written t rs ≡ times_committed t v.entries) → AreFinished m file tries v rs
+finished_run m file tries v rs h order tickets = record { order = order; threads = h.threads; few = h.few; tickets = tickets; each = h.each }

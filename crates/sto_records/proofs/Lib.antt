@@ -13,7 +13,6 @@ pub mod Journal
 pub mod Aborting
 pub mod AbortLines
 pub mod Working
-pub mod Homes
 pub mod Headline
 pub mod Numbers
 pub mod Usable

@@ -75,17 +75,23 @@ are_named file sound object shape at =
     )
 
 -- a transaction by its thread and what stands before it there
-record Found (thread : Option (List Script)) (position : ℕ) (script : Script) : Type 0 where
-  scripts : List Script
-  earlier : ℕ
-  in_thread : thread ≡ Some scripts
-  next : position ≡ suc earlier
-  stands : slice_get scripts earlier ≡ Some script
+pub record Found (thread : Option (List Script)) (position : ℕ) (script : Script) : Type 0 where
+  pub scripts : List Script
+  pub earlier : ℕ
+  pub in_thread : thread ≡ Some scripts
+  pub next : position ≡ suc earlier
+  pub stands : slice_get scripts earlier ≡ Some script
 
-found_script : (thread : Option (List Script)) (position : ℕ) (script : Script) → option_and_then (at_position position) thread ≡ Some script → Found thread position script
+pub found_script : (thread : Option (List Script)) (position : ℕ) (script : Script) → option_and_then (at_position position) thread ≡ Some script → Found thread position script
 found_script None position script e = absurd cc
 found_script (Some scripts) zero script e = absurd cc
 found_script (Some scripts) (suc earlier) script e = record { scripts = scripts; earlier = earlier; in_thread = refl; next = refl; stands = e }
+
+-- each transaction of a sound file is sound
+pub sound_script : (file : File) → IsSound file → (place : Place) (script : Script) → transaction_at file place ≡ Some script → IsSoundScript (shapes_of file.declarations) script
+sound_script file sound place script e =
+    let f : Found (slice_get file.threads place.0) place.1 script = found_script (slice_get file.threads place.0) place.1 script e in
+    script_at file place.0 f.earlier f.scripts script sound f.in_thread f.stands
 
 -- A sound file can be used.
 pub sound_usable : (file : File) → IsSound file → IsUsable file
@@ -94,7 +100,5 @@ sound_usable file sound = record {
   words = sound.named;
   threads = record { each = sound.thread_names.are_names; differ = sound.thread_names.differ };
   each_thread = sound.thread_names.each;
-  weighed = λ place script e.
-      let f : Found (slice_get file.threads place.0) place.1 script = found_script (slice_get file.threads place.0) place.1 script e in
-      calls_within (shapes_of file.declarations) script (script_at file place.0 f.earlier f.scripts script sound f.in_thread f.stands);
+  weighed = λ place script e. calls_within (shapes_of file.declarations) script (sound_script file sound place script e);
 }

@@ -83,7 +83,6 @@ more_so_far m file tries v w rs new place s at comes h added few = record {
       }) new
       (every (IsAdded m v w (meaning_of s) place) new added.each)) rs comes (every (IsRecord m file v) rs h.each));
   few = few_more;
-  tickets = λ t. times_append t rs new ∙ (let a = h.tickets t in let b = added.entries t in omega (arith, a, b));
   each = All-append (IsRecord m file w) rs new
       (All-weaker (IsRecord m file v) (IsRecord m file w)
       (λ r k. record { script = k.script; transaction = k.transaction; told = told_later m v w (meaning_of k.script) r.replies r.verdict added.grows k.told }) rs h.each)

@@ -2,5 +2,4 @@ pub mod Finished
 pub mod Working
 pub mod Merged
 pub mod Meanings
-pub mod Homes
 pub mod Headline

@@ -1,0 +1,12 @@
+pub mod Places
+pub mod Threads
+pub mod Accounts
+pub mod Found
+pub mod Runs
+pub mod Joined
+pub mod Resting
+pub mod Claiming
+pub mod Scripts
+pub mod Gathered
+pub mod Opened
+pub mod Reopened
