@@ -1,0 +1,11 @@
+use Rattle.std.proofs.Common.{arith}
+use Rattle.sto_working.proofs.Scripts.{transaction_there}
+use Rattle.sto_stepping.proofs.Seats.{goes_on}
+use Rattle.sto_stepping.proofs.seat.Seat.attempt.Goals as goal
+
+pub begin-requires-clause-there : goal.begin-requires-clause-there
+begin-requires-clause-there g c =
+    let s = c.args.self.now in
+    let next = (goes_on s.ended s.count s.left c.requires.going c.requires.within).0 in
+    let counted = c.requires.counted in
+    transaction_there (g.W.Work.file c.args.work.now) c.args.thread s.ended (omega (arith, next, counted))

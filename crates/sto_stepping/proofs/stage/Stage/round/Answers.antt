@@ -1,0 +1,24 @@
+use Rattle.std.specs.Prelude.{◌⊎◌}
+use Rattle.std.proofs.Common.{◌≡◌, true, false, ◌∙◌, inl, inr}
+use Rattle.sto_stepping.specs.Seated.{events_of_all}
+use Rattle.sto_stepping.proofs.Seats.{round_more}
+use Rattle.sto_stepping.proofs.stage.Stage.round.Goals as goal
+use Rattle.sto_stepping.proofs.stage.Stage.round.Goals.{then-moved, else-moved}
+
+pub loop-thread-preserved : goal.loop-thread-preserved
+loop-thread-preserved g c =
+    let inv = c.loop-thread.invariant in
+    let how : ((c.loop-thread.moved ≡ true) × (c.if-moved.moved ≡ true)) ⊎ ((c.loop-thread.moved ≡ false) × (c.if-moved.moved ≡ c.in_ok-next.made)) =
+    elim c.if-moved.branch [
+      | then-moved w ↦ inl (w.if-moved.true, w.moved-is ∙ w.if-moved.true)
+      | else-moved w ↦ inr (w.if-moved.false, w.moved-is)
+    ] in
+    let k = round_more (events_of_all (g.W.Attempts.left c.args.work.now) (g.W.Attempts.most c.args.work.now)) c.if-moved.moved c.loop-thread.moved c.in_ok-next.made
+    c.args.self.seats.items c.loop-thread.stage.seats.items c.in_ok-next.next.seats.items c.loop-thread.thread inv.fewer inv.rest c.in_ok-next.ensures.made c.in_ok-next.ensures.over how in
+    record {
+      seated = c.in_ok-next.ensures.seated;
+      many = c.in_ok-next.ensures.many ∙ inv.many;
+      end = inv.end;
+      fewer = k.0;
+      rest = k.1;
+    }

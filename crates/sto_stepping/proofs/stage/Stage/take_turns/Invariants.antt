@@ -1,0 +1,9 @@
+use Rattle.std.proofs.Common.{◌≡◌, length}
+use Rattle.sto_stepping.specs.Seated.{AreSeated}
+use Rattle.sto_stepping.proofs.stage.Stage.take_turns.Given as goal
+
+abbrev pub invariant-loop : goal.invariant-loop
+invariant-loop g l = record {
+  seated : AreSeated (g.W.Work.meaning l.work) (g.W.Work.sizes l.work) (g.W.Work.file l.work) (g.W.Work.tries l.work) (g.W.Attempts.fits l.work) l.stage.words l.stage.seats.items;
+  many : length l.stage.seats.items ≡ length l.fn.self.seats.items;
+}

@@ -1,0 +1,4 @@
+pub mod Stepped
+pub mod Counts
+pub mod Seated
+pub mod Proceeding
