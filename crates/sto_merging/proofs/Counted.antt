@@ -7,10 +7,10 @@ use Rattle.std.proofs.lemmas.Bool.Decides.{nat_tests}
 use Rattle.std.proofs.lemmas.List.Sums.{sum_by-cons}
 use Rattle.std.proofs.lemmas.List.Sorted.{sum_by-IsPermutation}
 use Rattle.sto_told.specs.Records.{wrote_within, writers_up_to}
-use Rattle.sto_merging.specs.declared.record.Record.{Record}
-use Rattle.sto_merging.specs.declared.record.Verdict.{Verdict}
-use Rattle.sto_merging.specs.declared.record.Verdict.TheVariants.{Wrote, Read, Cancelled, Locked, Changed}
-use Rattle.sto_merging.specs.Plain.{verdict, plain}
+use Rattle.sto_transact.specs.declared.record.Record.{Record}
+use Rattle.sto_attempt.specs.declared.verdict.Verdict.{Verdict}
+use Rattle.sto_attempt.specs.declared.verdict.Verdict.TheVariants.{Wrote, Read, Cancelled, Locked, Changed}
+use Rattle.sto_transact.specs.Plain.{verdict, plain}
 use Rattle.sto_merging.specs.Tickets.{ticket_in, tickets_of, up_to}
 
 pub tickets_more : (rs : List Record) (i : ℕ) (r : Record) → i < length rs → r ≡ get_or rs i r → tickets_of (take (i + 1) rs) ≡ tickets_of (take i rs) ++ ticket_in r.verdict

@@ -9,8 +9,8 @@ use Rattle.sto_lawful.specs.Replay.{Entry}
 use Rattle.sto_told.specs.Records.{is_finished, stands_at, writers_up_to}
 use Rattle.sto_told.specs.Records as plainly
 use Rattle.sto_records.specs.Merged.{ending_of, line_of, AreInOrder, AreMerged}
-use Rattle.sto_merging.specs.declared.record.Record.{Record}
-use Rattle.sto_merging.specs.Plain.{verdict, plain}
+use Rattle.sto_transact.specs.declared.record.Record.{Record}
+use Rattle.sto_transact.specs.Plain.{verdict, plain}
 use Rattle.sto_merging.specs.Tickets.{up_to}
 use Rattle.sto_merging.specs.Splits.{has_ended}
 use Rattle.sto_merging.specs.PlainLines.{line_at, AreLines}

@@ -1,4 +1,3 @@
-pub mod Plain
 pub mod Tickets
 pub mod Splits
 pub mod PlainLines

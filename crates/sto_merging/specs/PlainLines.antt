@@ -5,8 +5,8 @@ use Rattle.sto_lawful.specs.Replay.{Entry}
 use Rattle.sto_told.specs.Records.{stands_at}
 use Rattle.sto_told.specs.Records as plainly
 use Rattle.sto_records.specs.Merged.{ending_of, line_of, AreMerged}
-use Rattle.sto_merging.specs.declared.record.Record.{Record}
-use Rattle.sto_merging.specs.Plain.{verdict, plain}
+use Rattle.sto_transact.specs.declared.record.Record.{Record}
+use Rattle.sto_transact.specs.Plain.{verdict, plain}
 use Rattle.sto_merging.specs.Tickets.{up_to}
 
 -- the entry of a record, where these are the tickets of all writers

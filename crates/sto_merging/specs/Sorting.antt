@@ -4,9 +4,9 @@ use Rattle.std.specs.Ordering.{nat_cmp}
 use Rattle.std.specs.List.Sorted.{IsPermutation, IsNonDecreasing, IsNonDecreasingBy, IsStableByKey}
 use Rattle.sto_told.specs.Records.{writers_up_to}
 use Rattle.sto_records.specs.Merged.{AreMerged}
-use Rattle.sto_merging.specs.declared.record.Record.{Record}
+use Rattle.sto_transact.specs.declared.record.Record.{Record}
 use Rattle.sto_merging.specs.declared.journal.Sorted.{Sorted}
-use Rattle.sto_merging.specs.Plain.{plain}
+use Rattle.sto_transact.specs.Plain.{plain}
 use Rattle.sto_merging.specs.Tickets.{up_to}
 use Rattle.sto_merging.specs.Splits.{was_aborted}
 

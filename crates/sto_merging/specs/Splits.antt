@@ -1,8 +1,8 @@
 -- Records that are aborted, and records that are not.
 use Rattle.std.specs.Prelude.{Bool, not}
 use Rattle.sto_told.specs.Records.{is_abort}
-use Rattle.sto_merging.specs.declared.record.Record.{Record}
-use Rattle.sto_merging.specs.Plain.{verdict}
+use Rattle.sto_transact.specs.declared.record.Record.{Record}
+use Rattle.sto_transact.specs.Plain.{verdict}
 
 abbrev pub was_aborted : Record → Bool
 was_aborted r = is_abort (verdict r.verdict)

@@ -7,10 +7,11 @@ ghost use Rattle.sto_journal.specs.Journals.{home_pair, abort};
 ghost use Rattle.sto_merging.specs.PlainAborts.{Declarations, aborts_at, IsInRange};
 
 use crate::rank::rank;
-use crate::record::{Record, Verdict};
 use std::alloc::Global;
+use sto_attempt::Verdict;
 use sto_journal::{AbortLine, Aborts, Cause};
 use sto_part::{List, NoMemory};
+use sto_transact::Record;
 use sto_type::Home;
 
 /// The abort lines of aborted records, where these are the tickets of all writers and the homes of all parts.

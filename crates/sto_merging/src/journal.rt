@@ -5,7 +5,7 @@ ghost use Rattle.std.specs.List.Sorted.{IsNonDecreasing};
 ghost use Rattle.sto_lang.specs.Objects.{Declaration};
 ghost use Rattle.sto_records.specs.Merged.{aborts_from};
 ghost use Rattle.sto_journal.specs.Journals.{home_pair, entry, abort};
-ghost use Rattle.sto_merging.specs.Plain.{plain};
+ghost use Rattle.sto_transact.specs.Plain.{plain};
 ghost use Rattle.sto_merging.specs.PlainAborts.{Declarations, IsInRange};
 ghost use Rattle.sto_merging.specs.PlainLines.{line_at, AreLines};
 ghost use Rattle.sto_merging.specs.Sorting.{IsSorted};
@@ -14,12 +14,12 @@ use crate::abort::abort_lines;
 use crate::line::told;
 use crate::order::{sort, sort_by_thread};
 use crate::rank::sorted_tickets;
-use crate::record::Record;
 use crate::split::{Parted, part};
 use std::alloc::{AllocError, Global};
 use sto_journal::{Journal, Lines};
 use sto_model::State;
 use sto_part::{List, NoMemory};
+use sto_transact::Record;
 use sto_type::Home;
 
 /// The lines of sorted records.

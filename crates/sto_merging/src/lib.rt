@@ -6,11 +6,9 @@ mod journal;
 mod line;
 mod order;
 mod rank;
-mod record;
 mod split;
 #[cfg(test)]
 mod tests;
 
 pub use journal::merge;
-pub use record::{Record, Verdict};
 pub use sto_journal::{AbortLine, Aborts, Cause, Journal, Line, Lines};

@@ -3,14 +3,15 @@ ghost use Rattle.std.specs.Prelude.{◌≡◌, ◌<◌, ◌^◌, length, false};
 ghost use Rattle.std.specs.List.Sorted.{IsNonDecreasing};
 ghost use Rattle.sto_told.specs.Records.{is_abort};
 ghost use Rattle.sto_records.specs.Merged.{ending_of};
-ghost use Rattle.sto_merging.specs.Plain.{verdict};
+ghost use Rattle.sto_transact.specs.Plain.{verdict};
 ghost use Rattle.sto_journal.specs.Journals.{entry};
 ghost use Rattle.sto_merging.specs.PlainLines.{line_at};
 
 use crate::order::stands;
 use crate::rank::rank;
-use crate::record::{Record, Verdict};
+use sto_attempt::Verdict;
 use sto_journal::{Ending, Line};
+use sto_transact::Record;
 
 /// How a record that is not aborted is told.
 fn ending(v: Verdict) -> Ending

@@ -4,11 +4,12 @@ ghost use Rattle.std.specs.Ordering.{is_lt, nat_cmp};
 ghost use Rattle.std.specs.List.Sorted.{IsPermutation, IsNonDecreasingBy, IsStableByKey};
 ghost use Rattle.sto_told.specs.Records.{stands_at};
 ghost use Rattle.sto_records.specs.Merged.{key_of, is_before, AreInOrder};
-ghost use Rattle.sto_merging.specs.Plain.{verdict, plain};
+ghost use Rattle.sto_transact.specs.Plain.{verdict, plain};
 
-use crate::record::{Record, Verdict};
 use std::alloc::AllocError;
 use std::cmp::Ordering;
+use sto_attempt::Verdict;
+use sto_transact::Record;
 
 /// The number of the history that a record stands at, and whether it stands after the writer with that number.
 pub(crate) fn stands(v: Verdict) -> (u64, bool)

@@ -2,11 +2,12 @@
 ghost use Rattle.std.specs.Prelude.{◌≡◌, ◌≤◌, ℕ, IfOk, map, length};
 ghost use Rattle.std.specs.List.Sorted.{IsNonDecreasing};
 ghost use Rattle.sto_told.specs.Records.{writers_up_to};
-ghost use Rattle.sto_merging.specs.Plain.{plain};
+ghost use Rattle.sto_transact.specs.Plain.{plain};
 ghost use Rattle.sto_merging.specs.Tickets.{tickets_of, up_to};
 
-use crate::record::{Record, Verdict};
 use std::alloc::{AllocError, Global};
+use sto_attempt::Verdict;
+use sto_transact::Record;
 
 /// The tickets of the records that wrote.
 fn tickets(alloc: Global, records: &[Record]) -> Result<Vec<u64>, AllocError>

@@ -3,12 +3,14 @@ ghost use Rattle.std.specs.Prelude.{◌≡◌, ◌<◌, ◌^◌, length, IfOk};
 ghost use Rattle.std.specs.List.{All};
 ghost use Rattle.sto_merging.specs.PlainAborts.{IsInRange};
 
-use crate::{Cause, Journal, Record, Verdict, merge};
+use crate::{Cause, Journal, merge};
 use std::alloc::{AllocError, Global};
 use std::test::Fail;
+use sto_attempt::Verdict;
 use sto_journal::Ending;
 use sto_model::{Shapes, State};
 use sto_part::List;
+use sto_transact::Record;
 use sto_type::Home;
 
 fn record(alloc: Global, thread: u32, verdict: Verdict) -> Record

@@ -4,8 +4,8 @@ use Rattle.std.specs.List.Sorted.{IsPermutation, IsStableByKey}
 use Rattle.std.specs.Ordering.{nat_cmp}
 use Rattle.std.proofs.lemmas.List.Sorted.{length_permutation}
 use Rattle.sto_told.specs.Records.{writers_up_to}
-use Rattle.sto_merging.specs.declared.record.Record.{Record}
-use Rattle.sto_merging.specs.Plain.{plain}
+use Rattle.sto_transact.specs.declared.record.Record.{Record}
+use Rattle.sto_transact.specs.Plain.{plain}
 use Rattle.sto_merging.specs.Splits.{has_ended, was_aborted}
 use Rattle.sto_merging.proofs.Merging.{merged_records, parted_few, plain_length}
 use Rattle.sto_merging.proofs.journal.arrange.Goals as goal

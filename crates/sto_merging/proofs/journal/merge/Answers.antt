@@ -6,8 +6,8 @@ use Rattle.std.proofs.lemmas.List.Sorted.{All-permutation}
 use Rattle.sto_told.specs.Records.{writers_up_to}
 use Rattle.sto_records.proofs.Chains.{every}
 use Rattle.sto_journal.specs.Journals.{home_pair}
-use Rattle.sto_merging.specs.declared.record.Record.{Record}
-use Rattle.sto_merging.specs.Plain.{plain}
+use Rattle.sto_transact.specs.declared.record.Record.{Record}
+use Rattle.sto_transact.specs.Plain.{plain}
 use Rattle.sto_merging.specs.Tickets.{up_to}
 use Rattle.sto_merging.specs.Splits.{was_aborted}
 use Rattle.sto_merging.specs.PlainAborts.{IsInRange}

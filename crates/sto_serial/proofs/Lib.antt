@@ -1,0 +1,4 @@
+pub mod Walks
+pub mod Replayed
+pub mod Places
+pub mod Sound

@@ -1,0 +1,9 @@
+//! Runs of files: every transaction, and the journal of what each did.
+#![tactic(auto)]
+
+mod progress;
+mod run;
+mod transaction;
+mod written;
+
+pub use run::run_file;
