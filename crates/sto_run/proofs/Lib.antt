@@ -1,4 +1,9 @@
-pub mod Walks
-pub mod Replayed
-pub mod Places
-pub mod Sound
+pub mod Alone
+pub mod Draws
+pub mod Few
+pub mod Closing
+pub mod Placed
+pub mod Merged
+pub mod Meant
+pub mod Printed
+pub mod Taken

@@ -1,3 +1,1 @@
-pub mod Heard
-pub mod Runnable
-pub mod Runs
+pub mod Lawful

@@ -1,9 +1,11 @@
-//! Runs of files: every transaction, and the journal of what each did.
+//! Runs of files, and the journals that they leave.
 #![tactic(auto)]
 
-mod progress;
-mod run;
-mod transaction;
-mod written;
+mod file;
+mod journal;
+mod step;
 
-pub use run::run_file;
+pub use file::{run_file, run_over};
+pub use journal::journal_of;
+pub use step::{step_file, step_over};
+pub use sto_working::{Gate, NoGate};

@@ -1,0 +1,51 @@
+-- Records of transactions of a file are of its threads, and of parts of its objects.
+use Rattle.std.specs.List.{All}
+use Rattle.std.proofs.Common.{◌≡◌, ℕ, ◌<◌, List, [], ◌∷◌, length, map, refl, sym, subst, Option, None, Some, slice_get, option_and_then}
+use Rattle.std.proofs.lemmas.List.Elements.{All-nil, All-cons, All-head, All-tail}
+use Rattle.std.proofs.lemmas.Option.{slice_get_within}
+use Rattle.sto_model.specs.Told.{Told, told}
+use Rattle.sto_model.specs.Run.{Script as Steps}
+use Rattle.sto_lang.specs.Scripts.{Script, File}
+use Rattle.sto_script.specs.Meaning.{meaning_of}
+use Rattle.sto_type.specs.Meaning.{Meaning}
+use Rattle.sto_core.specs.declared.view.View.{View}
+use Rattle.sto_lawful.specs.Orders.{at_position}
+use Rattle.sto_told.specs.Told.{IsTold}
+use Rattle.sto_told.specs.Records as plainly
+use Rattle.sto_records.specs.Finished.{IsRecord}
+use Rattle.sto_attempt.specs.declared.verdict.Verdict.{Verdict}
+use Rattle.sto_attempt.specs.declared.verdict.Verdict.TheVariants.{Wrote, Read, Cancelled, Locked, Changed}
+use Rattle.sto_transact.specs.declared.record.Record.{Record}
+use Rattle.sto_transact.specs.Plain.{verdict, plain}
+use Rattle.sto_merging.specs.PlainAborts.{IsPartIn, IsInRange}
+
+-- a transaction is one of a thread
+has_thread : (threads : List (List Script)) (thread position : ℕ) (s : Script) → option_and_then (at_position position) (slice_get threads thread) ≡ Some s → thread < length threads
+has_thread threads thread position s e = by (slice_get threads thread) refl e
+  where
+    by : (found : Option (List Script)) → slice_get threads thread ≡ found → option_and_then (at_position position) found ≡ Some s → thread < length threads
+    by None is h = absurd cc
+    by (Some scripts) is h = slice_get_within threads thread scripts is
+
+module _ (m : Meaning) (file : File) (v : View) where
+  pub in_threads : (rs : List Record) → All (IsRecord m file v) (map plain rs) → All (λ (r : Record). r.thread < length file.threads) rs
+  in_threads [] h = All-nil (λ (r : Record). r.thread < length file.threads)
+  in_threads (r ∷ rs) h =
+      let here : IsRecord m file v (plain r) = All-head (IsRecord m file v) (plain r) (map plain rs) h in
+      All-cons (λ (x : Record). x.thread < length file.threads) r rs (has_thread file.threads r.thread r.position here.script here.transaction)
+      (in_threads rs (All-tail (IsRecord m file v) (plain r) (map plain rs) h))
+
+  part_in : (f : Steps) (replies : List Told) (w : Verdict) → IsTold m v f replies (verdict w) → IsPartIn (length m.homes) w
+  part_in f replies (Wrote ticket) h = tt
+  part_in f replies (Read at) h = tt
+  part_in f replies (Cancelled at) h = tt
+  part_in f replies (Locked at part) h = h.asked.owned.in_range
+  part_in f replies (Changed at part ticket) h = h.aborted.asked.owned.in_range
+
+  pub in_parts : (count : ℕ) (rs : List Record) → length m.homes ≡ count → All (IsRecord m file v) (map plain rs) → All (IsInRange count) rs
+  in_parts count [] e h = All-nil (IsInRange count)
+  in_parts count (r ∷ rs) e h =
+      let here : IsRecord m file v (plain r) = All-head (IsRecord m file v) (plain r) (map plain rs) h in
+      All-cons (IsInRange count) r rs
+      (subst (λ (n : ℕ). IsPartIn n r.verdict) e (part_in (meaning_of here.script) (map told r.replies.items) r.verdict here.told))
+      (in_parts count rs e (All-tail (IsRecord m file v) (plain r) (map plain rs) h))
