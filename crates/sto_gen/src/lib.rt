@@ -6,6 +6,7 @@ mod file;
 mod transaction;
 
 pub use file::generate;
+pub use transaction::{ACCT, LOG, OWNER};
 
 #[cfg(test)]
 mod tests;

@@ -11,14 +11,17 @@ use std::alloc::Global;
 use sto_lang::{Arg, Script, Stmt, Stmts, Text};
 use sto_part::{List, NoMemory, Test};
 
-/// The numbers of the objects.
+/// The number of the counter of transfers among the objects of a generated file.
 const DONE: u32 = 0;
 
-const ACCT: u32 = 1;
+/// The number of the accounts among the objects of a generated file.
+pub const ACCT: u32 = 1;
 
-const OWNER: u32 = 2;
+/// The number of the table of owners among the objects of a generated file.
+pub const OWNER: u32 = 2;
 
-const LOG: u32 = 3;
+/// The number of the log among the objects of a generated file.
+pub const LOG: u32 = 3;
 
 /// The codes of the operations.
 const GET: u8 = 0;

@@ -6,7 +6,7 @@ use Rattle.std.specs.Str.Parse.{digits_value}
 use Rattle.std.specs.List.{list_any}
 use Rattle.sto_words.specs.Given.{Text, Takes, Given, value_of, number_name, given_by, as_option, gives_flag}
 use Rattle.sto_words.specs.declared.command.Command.{Command}
-use Rattle.sto_words.specs.declared.command.Command.TheVariants.{Run, Upgrade, Gen}
+use Rattle.sto_words.specs.declared.command.Command.TheVariants.{Run, Step, Upgrade, Gen, Bench}
 
 -- the number of 64 bits that a text is: decimal digits without a sign, and no leading zero unless it is 0 alone
 abbrev pub decimal_of : Text → Option ℕ
@@ -33,6 +33,13 @@ tries_of (Some text) = number_in 1 64 text
 abbrev pub run_of : Given → Option Command
 run_of given = option_and_then (λ threads. option_map (λ tries. Run threads tries (is_some (value_of (codes "json") given))) (tries_of (value_of (codes "tries") given))) (threads_of (value_of (codes "threads") given))
 
+-- `step [--tries N] [--json]`
+abbrev pub step_takes : Takes
+step_takes = record { options = codes "tries" ∷ codes "json" ∷ []; number = false }
+
+abbrev pub step_of : Given → Option Command
+step_of given = option_map (λ tries. Step tries (is_some (value_of (codes "json") given))) (tries_of (value_of (codes "tries") given))
+
 -- `upgrade` alone
 abbrev pub upgrade_of : List Text → Option Command
 upgrade_of [] = Some Upgrade
@@ -45,13 +52,22 @@ gen_takes = record { options = []; number = true }
 abbrev pub gen_of : Given → Option Command
 gen_of given = option_map (λ number. Gen number) (option_and_then decimal_of (value_of number_name given))
 
+-- `bench NUMBER [--threads N]`
+abbrev pub bench_takes : Takes
+bench_takes = record { options = codes "threads" ∷ []; number = true }
+
+abbrev pub bench_of : Given → Option Command
+bench_of given = option_and_then (λ number. option_map (λ threads. Bench number threads) (threads_of (value_of (codes "threads") given))) (option_and_then decimal_of (value_of number_name given))
+
 -- the command that the first word names, with what the other words give it
 abbrev pub command_from : Text → List Text → Option Command
 command_from word words =
     if bytes_eq word (codes "run") then option_and_then run_of (given_by run_takes words)
+    else (if bytes_eq word (codes "step") then option_and_then step_of (given_by step_takes words)
     else (if bytes_eq word (codes "upgrade") then upgrade_of words
     else (if bytes_eq word (codes "gen") then option_and_then gen_of (given_by gen_takes words)
-    else None))
+    else (if bytes_eq word (codes "bench") then option_and_then bench_of (given_by bench_takes words)
+    else None))))
 
 abbrev pub command_of : List Text → Option Command
 command_of [] = None
@@ -69,5 +85,7 @@ HasThreads (Some threads) = (1 ≤ threads) × (threads ≤ 16)
 -- the threads and the tries are in their ranges
 abbrev pub HasRange : Command → Type 0
 HasRange (Run threads tries json) = HasThreads threads × (1 ≤ tries) × (tries ≤ 64)
+HasRange (Step tries json) = (1 ≤ tries) × (tries ≤ 64)
 HasRange Upgrade = Unit {0}
 HasRange (Gen number) = Unit {0}
+HasRange (Bench number threads) = HasThreads threads

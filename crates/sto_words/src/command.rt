@@ -3,9 +3,9 @@ ghost use Rattle.std.specs.Prelude.{◌≡◌, ◌≤◌, IfOk, IfSome, false, i
 ghost use Rattle.std.specs.List.{list_any};
 ghost use Rattle.std.specs.Option.{option_and_then, option_map};
 ghost use Rattle.sto_words.specs.Given.{given_by, is_refused};
-ghost use Rattle.sto_words.specs.Commands.{HasThreads, HasRange, command_in, command_from, run_takes, run_of, upgrade_of, gen_takes, gen_of, threads_of, tries_of, decimal_of};
+ghost use Rattle.sto_words.specs.Commands.{HasThreads, HasRange, command_in, command_from, run_takes, run_of, step_takes, step_of, upgrade_of, gen_takes, gen_of, bench_takes, bench_of, threads_of, tries_of, decimal_of};
 
-use crate::grammar::{gen_grammar, matches_in, run_grammar};
+use crate::grammar::{bench_grammar, gen_grammar, matches_in, run_grammar, step_grammar};
 use crate::number::{decimal_of, number_in};
 use crate::word::{as_options, has_flag_value, has_refused};
 use std::alloc::Global;
@@ -21,11 +21,23 @@ pub enum Command {
         tries: u32,
         json: bool,
     },
+    /// Reads a script and runs it in one thread by its schedule, with so many tries of each
+    /// transaction, and prints its report, as JSON or as text.
+    Step {
+        tries: u32,
+        json: bool,
+    },
     /// Reads a script and prints it in the newest version of the language.
     Upgrade,
     /// Prints the generated script of this number.
     Gen {
         number: u64,
+    },
+    /// Runs the generated script of this number, on so many threads, and prints its summary. Where no
+    /// number of threads is given, the script says it.
+    Bench {
+        number: u64,
+        threads: Option<u32>,
     },
 }
 
@@ -88,6 +100,24 @@ fn run(alloc: Global, words: &[&str]) -> Result<Option<Command>, NoMemory>
     }))
 }
 
+fn step(alloc: Global, words: &[&str]) -> Result<Option<Command>, NoMemory>
+    requires { list_any is_refused (map (λ word. word.now) words.now) ≡ false }
+    ensures range { IfOk result (λ c. IfSome c HasRange) }
+    ensures command { IfOk result (λ c. c ≡ option_and_then step_of (given_by step_takes (map (λ word. word.now) words.now))) }
+{
+    let Ok(grammar) = step_grammar(alloc) else {
+        return Err(NoMemory);
+    };
+    let Some(matches) = matches_in(grammar, words)? else {
+        return Ok(None);
+    };
+    let Some(tries) = tries(matches.get_str("tries")) else {
+        return Ok(None);
+    };
+    let json = is_given(matches.get_str("json"));
+    Ok(Some(Command::Step { tries, json }))
+}
+
 fn upgrade(words: &[&str]) -> Option<Command>
     ensures range { IfSome result HasRange }
     ensures command { result ≡ upgrade_of (map (λ word. word.now) words.now) }
@@ -115,16 +145,38 @@ fn generate(alloc: Global, words: &[&str]) -> Result<Option<Command>, NoMemory>
     Ok(Some(Command::Gen { number }))
 }
 
+fn bench(alloc: Global, words: &[&str]) -> Result<Option<Command>, NoMemory>
+    requires { list_any is_refused (map (λ word. word.now) words.now) ≡ false }
+    ensures range { IfOk result (λ c. IfSome c HasRange) }
+    ensures command { IfOk result (λ c. c ≡ option_and_then bench_of (given_by bench_takes (map (λ word. word.now) words.now))) }
+{
+    let Ok(grammar) = bench_grammar(alloc) else {
+        return Err(NoMemory);
+    };
+    let Some(matches) = matches_in(grammar, words)? else {
+        return Ok(None);
+    };
+    let Some(number) = number(matches.get_str("NUMBER")) else {
+        return Ok(None);
+    };
+    let Some(threads) = threads(matches.get_str("threads")) else {
+        return Ok(None);
+    };
+    Ok(Some(Command::Bench { number, threads }))
+}
+
 /// The command that the words after the program's name are. `None` comes exactly where they are
 /// not in the grammar.
 ///
 /// | Words | Command |
 /// |---|---|
 /// | `run [--threads N] [--tries N] [--json]` | `Run`, with 1 to 16 threads, with 1 to 64 tries, and 64 where none is given, and with the form of the report |
+/// | `step [--tries N] [--json]` | `Step`, with tries and a form as for `Run` |
 /// | `upgrade` | `Upgrade` |
 /// | `gen NUMBER` | `Gen`, with a number of 64 bits |
+/// | `bench NUMBER [--threads N]` | `Bench`, with a number of 64 bits, and with threads as for `Run` |
 ///
-/// An option is given at most once, as two words `--tries N` or as one word `--tries=N`, and `--json`
+/// Options stand before or after the NUMBER. An option is given at most once, as two words `--tries N` or as one word `--tries=N`, and `--json`
 /// as a word without a value. A number has decimal digits, no sign, and no leading zero unless it is
 /// `0` alone.
 pub fn find_command(alloc: Global, words: &[String]) -> Result<Option<Command>, NoMemory>
@@ -151,8 +203,10 @@ fn command_from(alloc: Global, word: &str, options: &[&str]) -> Result<Option<Co
     }
     match word {
         "run" => run(alloc, options),
+        "step" => step(alloc, options),
         "upgrade" => Ok(upgrade(options)),
         "gen" => generate(alloc, options),
+        "bench" => bench(alloc, options),
         _ => Ok(None),
     }
 }

@@ -2,7 +2,7 @@
 ghost use Rattle.std.specs.Prelude.{◌≡◌, IfOk, map, true, codes};
 ghost use Rattle.clap.specs.Words.{app_of, is_simple_and_free};
 ghost use Rattle.clap.specs.Simple.{with_rule};
-ghost use Rattle.sto_words.specs.Commands.{run_takes, gen_takes};
+ghost use Rattle.sto_words.specs.Commands.{run_takes, step_takes, gen_takes, bench_takes};
 ghost use Rattle.sto_words.specs.Grammars.{Finds, app_for, option_rule, nothing};
 
 use clap::error::ErrorKind;
@@ -40,15 +40,27 @@ pub(crate) fn run_grammar<'a>(alloc: Global) -> Result<Command<'a>, AllocError>
     with_option(alloc, second, "json")
 }
 
+/// `step [--tries N] [--json]`
+pub(crate) fn step_grammar<'a>(alloc: Global) -> Result<Command<'a>, AllocError>
+    ensures { IfOk result (λ c. app_of c ≡ app_for (codes "step") step_takes) }
+{
+    let first = with_option(alloc, bare(alloc, "step"), "tries")?;
+    with_option(alloc, first, "json")
+}
+
 /// `gen NUMBER`
 pub(crate) fn gen_grammar<'a>(alloc: Global) -> Result<Command<'a>, AllocError>
     ensures { IfOk result (λ c. app_of c ≡ app_for (codes "gen") gen_takes) }
 {
-    let number = Arg::new(alloc, "NUMBER");
-    Command::new(alloc, "gen")
-        .no_binary_name(true)
-        .disable_help_flag(true)
-        .arg(number)
+    bare(alloc, "gen").arg(Arg::new(alloc, "NUMBER"))
+}
+
+/// `bench NUMBER [--threads N]`
+pub(crate) fn bench_grammar<'a>(alloc: Global) -> Result<Command<'a>, AllocError>
+    ensures { IfOk result (λ c. app_of c ≡ app_for (codes "bench") bench_takes) }
+{
+    let first = with_option(alloc, bare(alloc, "bench"), "threads")?;
+    first.arg(Arg::new(alloc, "NUMBER"))
 }
 
 /// What the words give the command, where it takes them.

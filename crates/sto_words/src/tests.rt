@@ -11,7 +11,7 @@ fn words_of(alloc: Global, words: &[&str]) -> Result<Vec<String>, AllocError> {
     Ok(texts)
 }
 
-const COMMANDS: [(&[&str], Command); 10] = [
+const COMMANDS: [(&[&str], Command); 14] = [
     (
         &["run"],
         Command::Run {
@@ -52,6 +52,20 @@ const COMMANDS: [(&[&str], Command); 10] = [
             json: true,
         },
     ),
+    (
+        &["step"],
+        Command::Step {
+            tries: 64,
+            json: false,
+        },
+    ),
+    (
+        &["step", "--json", "--tries", "1"],
+        Command::Step {
+            tries: 1,
+            json: true,
+        },
+    ),
     (&["upgrade"], Command::Upgrade),
     (&["gen", "0"], Command::Gen { number: 0 }),
     (&["gen", "1"], Command::Gen { number: 1 }),
@@ -59,6 +73,20 @@ const COMMANDS: [(&[&str], Command); 10] = [
     (
         &["gen", "18446744073709551615"],
         Command::Gen { number: u64::MAX },
+    ),
+    (
+        &["bench", "1"],
+        Command::Bench {
+            number: 1,
+            threads: None,
+        },
+    ),
+    (
+        &["bench", "--threads", "4", "7"],
+        Command::Bench {
+            number: 7,
+            threads: Some(4),
+        },
     ),
 ];
 
@@ -73,7 +101,7 @@ fn example_commands(rt: HostRuntime) -> Result<(), Fail> {
     Ok(())
 }
 
-const NO_COMMANDS: [&[&str]; 34] = [
+const NO_COMMANDS: [&[&str]; 41] = [
     &[],
     &["run", "--tries", "0"],
     &["run", "--tries", "65"],
@@ -86,6 +114,9 @@ const NO_COMMANDS: [&[&str]; 34] = [
     &["run", "--json="],
     &["run", "--json=1"],
     &["run", "--tries", "--json", "3"],
+    &["step", "--threads", "2"],
+    &["step", "--tries", "65"],
+    &["step", "1"],
     &["upgrade", "--json"],
     &["upgrade", "1"],
     &["gen", "1", "--json"],
@@ -106,6 +137,10 @@ const NO_COMMANDS: [&[&str]; 34] = [
     &["gen", "18446744073709551616"],
     &["gen", "1", "2"],
     &["gen", "--NUMBER=1"],
+    &["bench"],
+    &["bench", "1", "--threads", "17"],
+    &["bench", "1", "--tries", "2"],
+    &["bench", "--json", "1"],
     &["Run"],
     &["--help"],
 ];
