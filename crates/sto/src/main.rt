@@ -31,6 +31,7 @@ fn main(rt: HostRuntime) -> ExitCode {
     let mut source = StdSource::new(&rt);
     let mut out = StdSink::output(&rt);
     ExitCode::from(sto(
+        &rt,
         rt.alloc(),
         words.as_slice(),
         &mut source,

@@ -1,73 +1,72 @@
--- A report of a replay that tells no aborted attempts is lawful.
-use Rattle.std.proofs.Common.{◌≡◌, ℕ, List, [], map, sym, ap, ◌∙◌, subst, arith}
-use Rattle.std.proofs.lemmas.List.Elements.{All-nil}
+-- The report of a lawful journal is lawful.
+use Rattle.std.proofs.Common.{◌≡◌, ℕ, List, length, map, sym, ap, ◌∙◌, subst}
+use Rattle.std.proofs.lemmas.List.{length-map}
 use Rattle.sto_model.specs.Run.{State}
-use Rattle.sto_lang.specs.Objects.{Declaration}
 use Rattle.sto_lang.specs.Scripts.{File}
 use Rattle.sto_lang.specs.Sound.{IsSound}
+use Rattle.sto_lang.specs.declared.file.File as whole
+use Rattle.sto_lang.specs.declared.file.Thread.{Thread}
+use Rattle.sto_lang.specs.Views.{script, declaration}
+use Rattle.sto_lang.specs.Views as views
 use Rattle.sto_lawful.specs.Orders.{Place, IsOrder}
 use Rattle.sto_lawful.specs.Aborts.{Abort}
 use Rattle.sto_lawful.specs.Replay.{Entry, entries_of}
 use Rattle.sto_lawful.specs.Report.{text_of, report_of}
-use Rattle.sto_lawful.specs.Named.{AreNames, order_named}
+use Rattle.sto_lawful.specs.Named.{order_named}
 use Rattle.sto_lawful.specs.NamedAborts.{aborts_named}
 use Rattle.sto_lawful.specs.Json.{json_text, json_of}
 use Rattle.sto_lawful.specs.NamedJson.{json_order_named, json_aborts_named}
 use Rattle.sto_lawful.specs.Updated.{Updating}
-use Rattle.sto_lawful.specs.LawfulAborts.{IsLawfulAbort, AreLawful}
+use Rattle.sto_lawful.specs.LawfulAborts.{AreLawful}
 use Rattle.sto_lawful.specs.Lawful.{IsLawful, IsLawfulJson}
-use Rattle.sto_journal.specs.declared.journal.Line.{Line}
-use Rattle.sto_journal.specs.declared.journal.AbortLine.{AbortLine}
-use Rattle.sto_journal.specs.Journals.{entry, places, IsAbortOf, AreAbortsOf}
-use Rattle.sto_run.specs.Runs.{IsReplay}
+use Rattle.sto_journal.specs.declared.journal.Journal.{Journal}
+use Rattle.sto_journal.specs.Journals.{entry, places, abort, HaveThreads, AreAbortsOf}
+use Rattle.sto_run.specs.Lawful.{IsLawfulJournal}
+use Rattle.sto_run.proofs.Printed.{lawful_threads, lawful_aborts}
 
--- no aborted attempts are lawful
-no_aborts : (u : Updating) (f : File) (tries : ℕ) (order : List Place) → AreLawful u f tries order []
-no_aborts u f tries order = record {
-  each = All-nil (IsLawfulAbort u f order);
-  few = λ place. omega arith;
-  sorted = tt;
-}
+module _ (u : Updating) (f : File) (tries : ℕ) (j : Journal) (lawful : IsLawfulJournal u f tries j) (text : List ℕ) where
+  abbrev order : List Place
+  order = places j.lines.items
 
-pub lawful_report : (u : Updating) (f : File) (tries : ℕ) (lines : List Line) (state : State) (text : List ℕ)
-    → IsReplay f lines state
-    → text ≡ text_of f.names f.declarations (map entry lines) [] state
-    → order_named f.names text ≡ places lines
-    → aborts_named f.names text ≡ []
-    → IsLawful u f tries text
-lawful_report u f tries lines state text replay told order none = record {
-  order = subst (IsOrder f) (sym order) replay.order;
-  aborts = subst (AreLawful u f tries (order_named f.names text)) (sym none) (no_aborts u f tries (order_named f.names text));
-  report =
-      told
-      ∙ ap (λ (es : List Entry). text_of f.names f.declarations es [] state) replay.entries
-      ∙ ap (λ (st : State). text_of f.names f.declarations (entries_of f (places lines)) [] st) replay.final
-      ∙ ap (λ (o : List Place). report_of f o []) (sym order)
-      ∙ ap (λ (named : List Abort). report_of f (order_named f.names text) named) (sym none);
-}
+  abbrev aborts : List Abort
+  aborts = map (abort f.declarations) j.aborts.items
 
--- the same of a JSON report
-pub lawful_json : (u : Updating) (f : File) (tries : ℕ) (lines : List Line) (state : State) (text : List ℕ)
-    → IsReplay f lines state
-    → text ≡ json_text f.names f.declarations (map entry lines) [] state
-    → json_order_named f.names text ≡ places lines
-    → json_aborts_named f.names text ≡ []
-    → IsLawfulJson u f tries text
-lawful_json u f tries lines state text replay told order none = record {
-  order = subst (IsOrder f) (sym order) replay.order;
-  aborts = subst (AreLawful u f tries (json_order_named f.names text)) (sym none) (no_aborts u f tries (json_order_named f.names text));
-  report =
-      told
-      ∙ ap (λ (es : List Entry). json_text f.names f.declarations es [] state) replay.entries
-      ∙ ap (λ (st : State). json_text f.names f.declarations (entries_of f (places lines)) [] st) replay.final
-      ∙ ap (λ (o : List Place). json_of f o []) (sym order)
-      ∙ ap (λ (named : List Abort). json_of f (json_order_named f.names text) named) (sym none);
-}
+  pub lawful_text : text ≡ text_of f.names f.declarations (map entry j.lines.items) aborts j.state.items
+      → order_named f.names text ≡ order → aborts_named f.names text ≡ aborts → IsLawful u f tries text
+  lawful_text told order_is aborts_are = record {
+    order = subst (IsOrder f) (sym order_is) lawful.order;
+    aborts = subst (λ (o : List Place). AreLawful u f tries o (aborts_named f.names text)) (sym order_is)
+        (subst (AreLawful u f tries order) (sym aborts_are) lawful.aborts);
+    report =
+        told
+        ∙ ap (λ (es : List Entry). text_of f.names f.declarations es aborts j.state.items) lawful.entries
+        ∙ ap (λ (st : State). text_of f.names f.declarations (entries_of f order) aborts st) lawful.final
+        ∙ ap (λ (o : List Place). report_of f o aborts) (sym order_is)
+        ∙ ap (λ (named : List Abort). report_of f (order_named f.names text) named) (sym aborts_are);
+  }
 
--- the names of a sound file are those of a report
-pub names_of_sound : (f : File) → IsSound f → AreNames f.names
-names_of_sound f s = record { each = s.thread_names.are_names; differ = s.thread_names.differ }
+  -- the same of a JSON report
+  pub lawful_json : text ≡ json_text f.names f.declarations (map entry j.lines.items) aborts j.state.items
+      → json_order_named f.names text ≡ order → json_aborts_named f.names text ≡ aborts → IsLawfulJson u f tries text
+  lawful_json told order_is aborts_are = record {
+    order = subst (IsOrder f) (sym order_is) lawful.order;
+    aborts = subst (λ (o : List Place). AreLawful u f tries o (json_aborts_named f.names text)) (sym order_is)
+        (subst (AreLawful u f tries order) (sym aborts_are) lawful.aborts);
+    report =
+        told
+        ∙ ap (λ (es : List Entry). json_text f.names f.declarations es aborts j.state.items) lawful.entries
+        ∙ ap (λ (st : State). json_text f.names f.declarations (entries_of f order) aborts st) lawful.final
+        ∙ ap (λ (o : List Place). json_of f o aborts) (sym order_is)
+        ∙ ap (λ (named : List Abort). json_of f (json_order_named f.names text) named) (sym aborts_are);
+  }
 
--- no aborted attempts are those of a file
-pub no_aborts_of : (count : ℕ) (declarations : List Declaration) (aborts : List AbortLine) → aborts ≡ [] → AreAbortsOf count declarations aborts
-no_aborts_of count declarations aborts e = subst (AreAbortsOf count declarations) (sym e) (All-nil (IsAbortOf count declarations))
+-- a lawful journal of a file of the code is one that can be printed
+module _ (u : Updating) (f : whole.File) (tries : ℕ) (j : Journal) (sound : IsSound (views.file f)) (lawful : IsLawfulJournal u (views.file f) tries j) where
+  same_count : length (views.file f).threads ≡ length f.threads.items
+  same_count = length-map f.threads.items (λ (thread : Thread). map script thread.scripts.items)
+
+  pub printed_threads : HaveThreads (length f.threads.items) j.lines.items
+  printed_threads = subst (λ (n : ℕ). HaveThreads n j.lines.items) same_count (lawful_threads u (views.file f) tries j sound lawful)
+
+  pub printed_aborts : AreAbortsOf (length f.threads.items) (map declaration f.decls.items) j.aborts.items
+  printed_aborts = subst (λ (n : ℕ). AreAbortsOf n (map declaration f.decls.items) j.aborts.items) same_count (lawful_aborts u (views.file f) tries j sound lawful)

@@ -3,7 +3,7 @@ use Rattle.std.specs.Prelude.{◌≡◌, ℕ, List, Option, None, Some, take, Re
 use Rattle.sto_io.specs.Told.{Takes, Gains, AtEnd, Rose}
 use Rattle.sto_lang.specs.declared.fault.ScriptFault.{ScriptFault}
 use Rattle.sto_words.specs.declared.command.Command.{Command}
-use Rattle.sto_words.specs.declared.command.Command.TheVariants.{Run, Upgrade, Gen}
+use Rattle.sto_words.specs.declared.command.Command.TheVariants.{Run, Step, Upgrade, Gen, Bench}
 use Rattle.sto_cli.specs.declared.refusal.Refusal.{Refusal}
 use Rattle.sto_cli.specs.declared.refusal.Refusal.TheVariants.{Usage, Script, ReadFault, WriteFault, NoMemory}
 use Rattle.sto_cli.specs.Outputs.{IsOutput, IsReader, HasFault}
@@ -14,11 +14,13 @@ IfTold (Some bytes) (Some rest) P = P bytes
 IfTold (Some bytes) None P = Unit {0}
 IfTold None new P = Unit {0}
 
--- what a command reads: `run` and `upgrade` all that was left, `gen` nothing
+-- what a command reads: `run`, `step` and `upgrade` all that was left, `gen` and `bench` nothing
 abbrev pub Reads : Command → Option (List ℕ) → Option (List ℕ) → List ℕ → Type 0
 Reads (Run threads tries json) left rest bytes = Takes left rest bytes × AtEnd rest
+Reads (Step tries json) left rest bytes = Takes left rest bytes × AtEnd rest
 Reads Upgrade left rest bytes = Takes left rest bytes × AtEnd rest
 Reads (Gen number) left rest bytes = rest ≡ left
+Reads (Bench number threads) left rest bytes = rest ≡ left
 
 -- a text that the command may print for what it read
 pub record Made (command : Command) (left rest : Option (List ℕ)) (text : List ℕ) : Type 0 where
@@ -42,8 +44,10 @@ pub record Stopped (command : Command) (left rest held now : Option (List ℕ)) 
 -- the bytes that the command read have this fault
 abbrev pub Faulty : Command → ScriptFault → Option (List ℕ) → Option (List ℕ) → Type 0
 Faulty (Run threads tries json) fault left rest = IfTold left rest (λ bytes. HasFault (Run threads tries json) bytes fault)
+Faulty (Step tries json) fault left rest = IfTold left rest (λ bytes. HasFault (Step tries json) bytes fault)
 Faulty Upgrade fault left rest = IfTold left rest (λ bytes. HasFault Upgrade bytes fault)
 Faulty (Gen number) fault left rest = ⊥
+Faulty (Bench number threads) fault left rest = ⊥
 
 -- why the bytes could not be read
 abbrev pub IsReadRefusal : Refusal → Type 0

@@ -1,5 +1,5 @@
 -- What a command may print for the bytes that it reads, and the fault that it tells of them.
-use Rattle.std.specs.Prelude.{◌≡◌, ℕ, List, Bool, Ok, Err, if◌then◌else◌}
+use Rattle.std.specs.Prelude.{◌≡◌, ℕ, List, length, Bool, Ok, Err, if◌then◌else◌}
 use Rattle.sto_lang.specs.Files.{file_of}
 use Rattle.sto_lang.specs.Scripts.{File}
 use Rattle.sto_lang.specs.declared.fault.ScriptFault.{ScriptFault}
@@ -7,31 +7,49 @@ use Rattle.sto_write.specs.Texts.{text_of, upgraded}
 use Rattle.sto_gen.specs.Generated.{file_of as generated}
 use Rattle.sto_lawful.specs.declared.form.Form.{Form}
 use Rattle.sto_lawful.specs.declared.form.Form.TheVariants.{Text, Json}
-use Rattle.sto_lawful.specs.Updated.{Updating}
 use Rattle.sto_lawful.specs.Lawful.{IsLawfulIn}
+use Rattle.sto_records.specs.Meanings.{updating_by}
+use Rattle.sto_store.specs.Stores.{means}
+use Rattle.sto_journal.specs.declared.journal.Journal.{Journal}
+use Rattle.sto_summary.specs.Summary.{summary_of}
+use Rattle.sto_run.specs.Lawful.{IsLawfulJournal}
 use Rattle.sto_words.specs.declared.command.Command.{Command}
-use Rattle.sto_words.specs.declared.command.Command.TheVariants.{Run, Upgrade, Gen}
+use Rattle.sto_words.specs.declared.command.Command.TheVariants.{Run, Step, Upgrade, Gen, Bench}
 
 -- the form of the report that is asked for
 abbrev pub form_for : Bool → Form
 form_for json = if json then Json else Text
 
--- `run` prints a lawful report of the file that the bytes are, in the form that is asked for, whatever the types say of
--- updates; `upgrade` prints the canonical text of that file with its version set to 2; `gen` prints the canonical text of
--- the file that the number generates
+-- a lawful report of the file that the bytes are, for so many tries and in the form that is asked for, with what the types of
+-- objects say of updates
+abbrev pub IsReport : ℕ → Bool → List ℕ → List ℕ → Type 0
+IsReport tries json bytes text = (file : File) × (file_of bytes ≡ Ok file) × IsLawfulIn (form_for json) (updating_by means) file tries text
+
+-- the summary of a lawful journal of the file that the number generates, for 64 tries
+abbrev pub IsSummary : ℕ → List ℕ → Type 0
+IsSummary number text = (journal : Journal) × IsLawfulJournal (updating_by means) (generated number) 64 journal × (text ≡ summary_of number (length journal.lines.items) journal.state.items)
+
+-- `run` and `step` print a lawful report; `upgrade` prints the canonical text of the file that the bytes are with its version
+-- set to 2; `gen` prints the canonical text of the file that the number generates, and `bench` the summary of a run of it
 abbrev pub IsOutput : Command → List ℕ → List ℕ → Type 0
-IsOutput (Run threads tries json) bytes text = (file : File) × (file_of bytes ≡ Ok file) × ((u : Updating) → IsLawfulIn (form_for json) u file tries text)
+IsOutput (Run threads tries json) bytes text = IsReport tries json bytes text
+IsOutput (Step tries json) bytes text = IsReport tries json bytes text
 IsOutput Upgrade bytes text = (file : File) × (file_of bytes ≡ Ok file) × (text ≡ text_of (upgraded file))
 IsOutput (Gen number) bytes text = text ≡ text_of (generated number)
+IsOutput (Bench number threads) bytes text = IsSummary number text
 
 -- the command reads a script
 abbrev pub IsReader : Command → Type 0
 IsReader (Run threads tries json) = Unit {0}
+IsReader (Step tries json) = Unit {0}
 IsReader Upgrade = Unit {0}
 IsReader (Gen number) = ⊥
+IsReader (Bench number threads) = ⊥
 
 -- the bytes have this fault
 abbrev pub HasFault : Command → List ℕ → ScriptFault → Type 0
 HasFault (Run threads tries json) bytes fault = file_of bytes ≡ Err fault
+HasFault (Step tries json) bytes fault = file_of bytes ≡ Err fault
 HasFault Upgrade bytes fault = file_of bytes ≡ Err fault
 HasFault (Gen number) bytes fault = ⊥
+HasFault (Bench number threads) bytes fault = ⊥

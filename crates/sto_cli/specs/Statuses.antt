@@ -3,7 +3,7 @@ use Rattle.std.specs.Prelude.{◌≡◌, ℕ, List, [], ◌++◌, ◌⊎◌, Opt
 use Rattle.sto_io.specs.Told.{Gains, Rose}
 use Rattle.sto_lang.specs.FaultTexts.{kind_text}
 use Rattle.sto_words.specs.declared.command.Command.{Command}
-use Rattle.sto_words.specs.declared.command.Command.TheVariants.{Run, Upgrade, Gen}
+use Rattle.sto_words.specs.declared.command.Command.TheVariants.{Run, Step, Upgrade, Gen, Bench}
 use Rattle.sto_cli.specs.declared.refusal.Refusal.{Refusal}
 use Rattle.sto_cli.specs.declared.refusal.Refusal.TheVariants.{Usage, Script, ReadFault, WriteFault, NoMemory}
 use Rattle.sto_cli.specs.Ends.{Done, Stopped, Faulty}
@@ -79,7 +79,9 @@ IsToldWell command (Some bytes) (Some rest) = (fault : ScriptFault) → HasFault
 abbrev pub IsFaultless : Option Command → Option (List ℕ) → Option (List ℕ) → Type 0
 IsFaultless None left rest = ⊥
 IsFaultless (Some (Gen number)) left rest = Unit {0}
+IsFaultless (Some (Bench number threads)) left rest = Unit {0}
 IsFaultless (Some (Run threads tries json)) left rest = IsToldWell (Run threads tries json) left rest
+IsFaultless (Some (Step tries json)) left rest = IsToldWell (Step tries json) left rest
 IsFaultless (Some Upgrade) left rest = IsToldWell Upgrade left rest
 
 -- the words are a command, the bytes are told to the end of the call, and they have this fault

@@ -1,18 +1,24 @@
 //! The texts of the commands.
 ghost use Rattle.std.specs.Prelude.{◌≡◌, ℕ, [], Option, Ok, IfOk, IfErr};
 ghost use Rattle.sto_words.specs.declared.command.Command.TheVariants as commands;
+ghost use Rattle.sto_words.specs.Commands.{HasThreads};
 ghost use Rattle.sto_lang.specs.Files.{file_of};
-ghost use Rattle.sto_lang.specs.Sound.{IsSound};
+ghost use Rattle.sto_lang.specs.Sound.{IsSound, IsFromTo};
 ghost use Rattle.sto_lang.specs.Views.{file as view};
 ghost use Rattle.sto_lawful.specs.Lawful.{IsLawfulIn};
-ghost use Rattle.sto_lawful.specs.Updated.{Updating};
-ghost use Rattle.sto_cli.specs.Outputs.{IsOutput, form_for};
+ghost use Rattle.sto_records.specs.Meanings.{updating_by};
+ghost use Rattle.sto_store.specs.Stores.{means};
+ghost use Rattle.sto_run.specs.Lawful.{IsLawfulJournal};
+ghost use Rattle.sto_cli.specs.Outputs.{IsOutput, IsReport, IsSummary, form_for};
 ghost use Rattle.sto_cli.specs.Answers.{IsAnswerFault};
 
 use crate::refusal::Refusal;
 use std::alloc::Global;
+use std::thread::Threads;
+use sto_journal::Journal;
 use sto_lang::{File, ReadError, Text};
 use sto_part::NoMemory;
+use sto_run::{Gate, run_file, step_file};
 
 /// The file that the bytes are.
 fn file_in(alloc: Global, bytes: &[u8]) -> Result<File, Refusal>
@@ -26,25 +32,64 @@ fn file_in(alloc: Global, bytes: &[u8]) -> Result<File, Refusal>
     }
 }
 
-/// The report of a file in a form, with whatever number of tries.
-fn report(alloc: Global, file: &File, json: bool) -> Result<Text, NoMemory>
-    requires { IsSound (view file.now) }
-    ensures { IfOk result (λ text. (u : Updating) (tries : ℕ) → IsLawfulIn (form_for json) u (view file.now) tries text.items) }
+/// The report of a lawful journal of a file, in a form.
+fn report(alloc: Global, file: &File, journal: &Journal, json: bool) -> Result<Text, NoMemory>
+    requires sound { IsSound (view file.now) }
+    requires lawful { (tries : ℕ) × IsLawfulJournal (updating_by means) (view file.now) tries journal.now }
+    ensures { IfOk result (λ text. (tries : ℕ) → IsLawfulJournal (updating_by means) (view file.now) tries journal.now → IsLawfulIn (form_for json) (updating_by means) (view file.now) tries text.items) }
 {
-    let journal = sto_run::run_file(alloc, file)?;
     if json {
-        return Ok(sto_journal::json_report(alloc, file, &journal)?);
+        return Ok(sto_journal::json_report(alloc, file, journal)?);
     }
-    Ok(sto_journal::report(alloc, file, &journal)?)
+    Ok(sto_journal::report(alloc, file, journal)?)
 }
 
-/// What `run` prints for these bytes, on whatever number of threads and with whatever number of tries.
-pub(crate) fn run_text(alloc: Global, bytes: &[u8], json: bool) -> Result<Text, Refusal>
-    ensures text { IfOk result (λ text. (threads : Option ℕ) (tries : ℕ) → IsOutput (commands.Run threads tries json) bytes.now text.items) }
+/// How many workers run a file. Where the words do not say it, there are as many as script threads, but at least 1 and at
+/// most 16.
+fn workers_for(file: &File, threads: Option<u32>) -> u32
+    requires { HasThreads threads }
+    ensures { IsFromTo 1 16 result }
+{
+    match threads {
+        Some(threads) => threads,
+        None => file.threads.len().clamp(1, 16),
+    }
+}
+
+/// What `run` prints for these bytes.
+pub(crate) fn run_text<R: Threads + Sync, G: Gate>(
+    rt: &R,
+    alloc: Global,
+    bytes: &[u8],
+    threads: Option<u32>,
+    tries: u32,
+    json: bool,
+    gate: &G,
+) -> Result<Text, Refusal>
+    requires threads { HasThreads threads }
+    requires tries { IsFromTo 1 64 tries }
+    ensures text { IfOk result (λ text. IsOutput (commands.Run threads tries json) bytes.now text.items) }
     ensures fault { IfErr result (λ e. IsAnswerFault e bytes.now) }
 {
     let file = file_in(alloc, bytes)?;
-    Ok(report(alloc, &file, json)?)
+    let journal = run_file(rt, alloc, &file, workers_for(&file, threads), tries, gate)?;
+    Ok(report(alloc, &file, &journal, json)?)
+}
+
+/// What `step` prints for these bytes.
+pub(crate) fn step_text(
+    alloc: Global,
+    bytes: &[u8],
+    tries: u32,
+    json: bool,
+) -> Result<Text, Refusal>
+    requires { IsFromTo 1 64 tries }
+    ensures text { IfOk result (λ text. IsOutput (commands.Step tries json) bytes.now text.items) }
+    ensures fault { IfErr result (λ e. IsAnswerFault e bytes.now) }
+{
+    let file = file_in(alloc, bytes)?;
+    let journal = step_file(alloc, &file, tries)?;
+    Ok(report(alloc, &file, &journal, json)?)
 }
 
 /// What `upgrade` prints for these bytes.
@@ -63,4 +108,20 @@ pub(crate) fn gen_text(alloc: Global, number: u64) -> Result<Text, NoMemory>
 {
     let file = sto_gen::generate(alloc, number)?;
     sto_write::write(alloc, &file)
+}
+
+/// What `bench` prints for this number.
+pub(crate) fn bench_text<R: Threads + Sync, G: Gate>(
+    rt: &R,
+    alloc: Global,
+    number: u64,
+    threads: Option<u32>,
+    gate: &G,
+) -> Result<Text, NoMemory>
+    requires { HasThreads threads }
+    ensures { IfOk result (λ text. IsOutput (commands.Bench number threads) [] text.items) }
+{
+    let file = sto_gen::generate(alloc, number)?;
+    let journal = run_file(rt, alloc, &file, workers_for(&file, threads), 64, gate)?;
+    sto_summary::summary(alloc, number, &journal)
 }

@@ -2,16 +2,15 @@
 #![tactic(auto)]
 
 mod answer;
-mod gate;
 mod refusal;
 mod say;
 mod top;
 mod work;
 
-pub use gate::{Gate, NoGate};
 pub use sto_io::{
     Failed, MemSink, MemSource, QuietSink, QuietSource, Sink, Source, StdSink, StdSource,
 };
+pub use sto_run::{Gate, NoGate};
 pub use top::{WordsFault, refuse_words, sto};
 
 #[cfg(test)]

@@ -42,6 +42,7 @@ fn example_one_get(rt: HostRuntime) -> Result<(), Fail> {
     let mut out = QuietSink::new(alloc, 100)?;
     let mut diag = QuietSink::new(alloc, 100)?;
     let status = sto(
+        &rt,
         alloc,
         words.as_slice(),
         &mut source,
@@ -145,6 +146,7 @@ fn reports_of_scripts(rt: HostRuntime) -> Result<(), Fail> {
         let mut out = QuietSink::new(alloc, 1000)?;
         let mut diag = QuietSink::new(alloc, 100)?;
         let status = sto(
+            &rt,
             alloc,
             words.as_slice(),
             &mut source,
@@ -212,6 +214,7 @@ fn faults_of_scripts(rt: HostRuntime) -> Result<(), Fail> {
         let mut out = QuietSink::new(alloc, 100)?;
         let mut diag = QuietSink::new(alloc, 100)?;
         let status = sto(
+            &rt,
             alloc,
             words.as_slice(),
             &mut source,
@@ -254,6 +257,7 @@ fn outputs_of_commands(rt: HostRuntime) -> Result<(), Fail> {
         let mut out = QuietSink::new(alloc, 1000)?;
         let mut diag = QuietSink::new(alloc, 100)?;
         let status = sto(
+            &rt,
             alloc,
             words.as_slice(),
             &mut source,
@@ -290,6 +294,7 @@ fn words_outside_the_grammar(rt: HostRuntime) -> Result<(), Fail> {
         let mut out = QuietSink::new(alloc, 100)?;
         let mut diag = QuietSink::new(alloc, 100)?;
         let status = sto(
+            &rt,
             alloc,
             words.as_slice(),
             &mut source,
@@ -313,6 +318,7 @@ fn a_generated_file(rt: HostRuntime) -> Result<(), Fail> {
     let mut out = QuietSink::new(alloc, 1_000_000)?;
     let mut diag = QuietSink::new(alloc, 100)?;
     let status = sto(
+        &rt,
         alloc,
         words.as_slice(),
         &mut source,
@@ -340,6 +346,7 @@ fn a_source_that_fails(rt: HostRuntime) -> Result<(), Fail> {
     let mut out = QuietSink::new(alloc, 100)?;
     let mut diag = QuietSink::new(alloc, 100)?;
     let status = sto(
+        &rt,
         alloc,
         words.as_slice(),
         &mut source,
@@ -361,6 +368,7 @@ fn an_output_that_fails(rt: HostRuntime) -> Result<(), Fail> {
     let mut out = MemSink::new(alloc, 100, 1, calls_of(alloc, 4)?)?;
     let mut diag = QuietSink::new(alloc, 100)?;
     let status = sto(
+        &rt,
         alloc,
         words.as_slice(),
         &mut source,

@@ -7,12 +7,13 @@ ghost use Rattle.sto_cli.specs.Words.{refusal_of};
 ghost use Rattle.sto_lang.specs.declared.fault.ScriptFault.{ScriptFault};
 ghost use Rattle.sto_cli.specs.Statuses.{status_of, line_of, Says, EndsWith, IsDone, IsFaulty, IsStopped, IsFaultless, IsToldFault};
 
-use crate::gate::Gate;
 use crate::refusal::Refusal;
 use crate::say::say;
 use crate::work::perform;
 use std::alloc::Global;
+use std::thread::Threads;
 use sto_io::{Sink, Source};
+use sto_run::Gate;
 
 fn status(outcome: Result<(), Refusal>) -> u8
     ensures { result ≡ status_of outcome }
@@ -37,7 +38,8 @@ fn status(outcome: Result<(), Refusal>) -> u8
 /// | 4 | the source failed | nothing | `sto: read fault` |
 /// | 5 | `out` failed | a front of the text | `sto: write fault` |
 /// | 6 | memory could not be had | nothing | `sto: out of memory` |
-pub fn sto<S: Source, K: Sink, E: Sink, G: Gate>(
+pub fn sto<R: Threads + Sync, S: Source, K: Sink, E: Sink, G: Gate>(
+    rt: &R,
     alloc: Global,
     words: &[String],
     source: &mut S,
@@ -64,8 +66,7 @@ pub fn sto<S: Source, K: Sink, E: Sink, G: Gate>(
     ensures write_fault { result ≡ 5 → Rose (K.faults out.old) (K.faults out.new) }
     ensures no_write_fault { result ≢ 5 → K.faults out.new ≡ K.faults out.old }
 {
-    let _ = gate;
-    let outcome = perform(alloc, words, source, out);
+    let outcome = perform(rt, alloc, words, source, out, gate);
     status(say(alloc, diag, outcome))
 }
 

@@ -18,6 +18,7 @@ fn each_read_fails(rt: HostRuntime) -> Result<(), Fail> {
         let mut out = QuietSink::new(alloc, 1000)?;
         let mut diag = QuietSink::new(alloc, 100)?;
         let status = sto(
+            &rt,
             alloc,
             words.as_slice(),
             &mut source,
@@ -43,6 +44,7 @@ fn each_write_fails(rt: HostRuntime) -> Result<(), Fail> {
         let mut out = MemSink::new(alloc, 1000, 32, calls_of(alloc, call)?)?;
         let mut diag = QuietSink::new(alloc, 100)?;
         let status = sto(
+            &rt,
             alloc,
             words.as_slice(),
             &mut source,
@@ -67,6 +69,7 @@ fn each_line_beside_fails(rt: HostRuntime) -> Result<(), Fail> {
         let mut out = QuietSink::new(alloc, 100)?;
         let mut diag = MemSink::new(alloc, 100, 100, calls_of(alloc, 1)?)?;
         let status = sto(
+            &rt,
             alloc,
             words.as_slice(),
             &mut source,

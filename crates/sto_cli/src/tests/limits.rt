@@ -128,6 +128,7 @@ fn limits_of_a_file(rt: HostRuntime) -> Result<(), Fail> {
         let mut out = QuietSink::new(alloc, 200_000)?;
         let mut diag = QuietSink::new(alloc, 100)?;
         let status = sto(
+            &rt,
             alloc,
             words.as_slice(),
             &mut source,

@@ -1,49 +1,50 @@
-use Rattle.std.proofs.Common.{◌∙◌, sym, ap, subst, map, Bool, List}
+use Rattle.std.proofs.Common.{ℕ, Bool, refl, subst, sym}
 use Rattle.sto_lang.specs.Views.{file as view}
 use Rattle.sto_lang.specs.Scripts.{File}
 use Rattle.sto_lawful.specs.Lawful.{IsLawfulIn}
-use Rattle.sto_lawful.specs.Report.{text_of}
-use Rattle.sto_lawful.specs.Json.{json_text}
-use Rattle.sto_journal.specs.declared.journal.AbortLine.{AbortLine}
-use Rattle.sto_journal.specs.Journals.{entry, abort}
+use Rattle.sto_records.specs.Meanings.{updating_by}
+use Rattle.sto_store.specs.Stores.{means}
+use Rattle.sto_run.proofs.Printed.{names_of_sound, lawful_rows}
 use Rattle.sto_cli.specs.Outputs.{form_for}
-use Rattle.sto_cli.proofs.Reports.{lawful_report, lawful_json, names_of_sound, no_aborts_of}
+use Rattle.sto_cli.proofs.Reports.{lawful_text, lawful_json, printed_threads, printed_aborts}
 use Rattle.sto_cli.proofs.answer.report.Goals as goal
 
 pub json_report-requires-clause-threads : goal.json_report-requires-clause-threads
-json_report-requires-clause-threads c = names_of_sound (view c.args.file.now) c.requires
+json_report-requires-clause-threads c = names_of_sound (view c.args.file.now) c.requires.sound
+
+pub json_report-requires-clause-lines : goal.json_report-requires-clause-lines
+json_report-requires-clause-lines c = printed_threads (updating_by means) c.args.file.now c.requires.lawful.0 c.args.journal.now c.requires.sound c.requires.lawful.1
 
 pub json_report-requires-clause-aborts : goal.json_report-requires-clause-aborts
-json_report-requires-clause-aborts c = no_aborts_of _ _ c.in_ok-journal.journal.aborts.items c.in_ok-journal.ensures.aborts
+json_report-requires-clause-aborts c = printed_aborts (updating_by means) c.args.file.now c.requires.lawful.0 c.args.journal.now c.requires.sound c.requires.lawful.1
+
+pub json_report-requires-clause-rows : goal.json_report-requires-clause-rows
+json_report-requires-clause-rows c =
+    lawful_rows (updating_by means) (view c.args.file.now) c.requires.lawful.0 c.args.journal.now c.requires.sound c.requires.lawful.1 c.args.file.now.decls.items refl
 
 pub report-requires-clause-threads : goal.report-requires-clause-threads
-report-requires-clause-threads c = names_of_sound (view c.args.file.now) c.requires
+report-requires-clause-threads c = names_of_sound (view c.args.file.now) c.requires.sound
+
+pub report-requires-clause-lines : goal.report-requires-clause-lines
+report-requires-clause-lines c = printed_threads (updating_by means) c.args.file.now c.requires.lawful.0 c.args.journal.now c.requires.sound c.requires.lawful.1
 
 pub report-requires-clause-aborts : goal.report-requires-clause-aborts
-report-requires-clause-aborts c = no_aborts_of _ _ c.in_ok-journal.journal.aborts.items c.in_ok-journal.ensures.aborts
+report-requires-clause-aborts c = printed_aborts (updating_by means) c.args.file.now c.requires.lawful.0 c.args.journal.now c.requires.sound c.requires.lawful.1
+
+pub report-requires-clause-rows : goal.report-requires-clause-rows
+report-requires-clause-rows c =
+    lawful_rows (updating_by means) (view c.args.file.now) c.requires.lawful.0 c.args.journal.now c.requires.sound c.requires.lawful.1 c.args.file.now.decls.items refl
 
 pub returns-then-json : goal.returns-then-json
-returns-then-json c = λ u tries.
-    let f : File = view c.args.file.now in
-    let lines = c.in_ok-journal.journal.lines.items in
-    let state = c.in_ok-journal.journal.state.items in
-    let none = c.in_ok-journal.ensures.aborts in
+returns-then-json c = λ tries lawful.
     let made = c.in_ok-json_report.ensures in
     let text = c.in_ok-json_report.field-0.items in
-    subst (λ (b : Bool). IsLawfulIn (form_for b) u f tries text) (sym c.if-json.true)
-    (lawful_json u f tries lines state text c.in_ok-journal.ensures.replay
-    (made.text ∙ ap (λ (aborts : List AbortLine). json_text f.names f.declarations (map entry lines) (map (abort f.declarations) aborts) state) none)
-    made.order (made.aborts ∙ ap (λ (aborts : List AbortLine). map (abort f.declarations) aborts) none))
+    subst (λ (b : Bool). IsLawfulIn (form_for b) (updating_by means) (view c.args.file.now) tries text) (sym c.if-json.true)
+    (lawful_json (updating_by means) (view c.args.file.now) tries c.args.journal.now lawful text made.text made.order made.aborts)
 
 pub returns : goal.returns
-returns c = λ u tries.
-    let f : File = view c.args.file.now in
-    let lines = c.in_ok-journal.journal.lines.items in
-    let state = c.in_ok-journal.journal.state.items in
-    let none = c.in_ok-journal.ensures.aborts in
+returns c = λ tries lawful.
     let made = c.in_ok-report.ensures in
     let text = c.in_ok-report.field-0.items in
-    subst (λ (b : Bool). IsLawfulIn (form_for b) u f tries text) (sym c.if-json.false)
-    (lawful_report u f tries lines state text c.in_ok-journal.ensures.replay
-    (made.text ∙ ap (λ (aborts : List AbortLine). text_of f.names f.declarations (map entry lines) (map (abort f.declarations) aborts) state) none)
-    made.order (made.aborts ∙ ap (λ (aborts : List AbortLine). map (abort f.declarations) aborts) none))
+    subst (λ (b : Bool). IsLawfulIn (form_for b) (updating_by means) (view c.args.file.now) tries text) (sym c.if-json.false)
+    (lawful_text (updating_by means) (view c.args.file.now) tries c.args.journal.now lawful text made.text made.order made.aborts)

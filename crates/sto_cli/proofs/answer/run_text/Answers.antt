@@ -2,8 +2,14 @@ use Rattle.sto_lang.specs.Views.{file as view}
 use Rattle.sto_lang.proofs.SoundFiles.{readable_sound}
 use Rattle.sto_cli.proofs.answer.run_text.Goals as goal
 
-pub report-requires : goal.report-requires
-report-requires c = readable_sound c.args.bytes.now (view c.in_ok-file.file) c.in_ok-file.ensures.file
+pub run_file-requires-clause-sound : goal.run_file-requires-clause-sound
+run_file-requires-clause-sound g c = λ κs within. readable_sound c.args.bytes.now (view c.in_ok-file.file) c.in_ok-file.ensures.file
+
+pub report-requires-clause-sound : goal.report-requires-clause-sound
+report-requires-clause-sound g c = readable_sound c.args.bytes.now (view c.in_ok-file.file) c.in_ok-file.ensures.file
+
+pub report-requires-clause-lawful : goal.report-requires-clause-lawful
+report-requires-clause-lawful g c = (c.args.tries, c.in_ok-journal.ensures.lawful)
 
 pub returns-clause-text : goal.returns-clause-text
-returns-clause-text c = λ threads tries. (view c.in_ok-file.file, c.in_ok-file.ensures.file, λ u. c.in_ok-report.ensures u tries)
+returns-clause-text g c = (view c.in_ok-file.file, c.in_ok-file.ensures.file, c.in_ok-report.ensures c.args.tries c.in_ok-journal.ensures.lawful)
