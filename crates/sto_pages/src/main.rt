@@ -1,16 +1,27 @@
-//! Runs every example that the pages show, and each row of their tables of mistakes.
+//! Runs every example and worked case that the pages show, each row of their tables of mistakes and of faults, and scripts at
+//! the limits of version 2.
 #![tactic(auto)]
 
+mod limits;
 mod page;
 mod run;
 
-use page::{Example, Mistake, Page};
+use limits::LIMITS;
+use page::{Example, Fault, Mistake, Page};
 use run::outcome_of;
 use std::alloc::AllocError;
+use std::thread::Threads;
 use std::{fs, io};
 
 // The pages that show runs. The examples that they name lie beside them.
-const PAGES: [&str; 3] = ["report.md", "statuses.md", "mistakes.md"];
+const PAGES: [&str; 6] = [
+    "language.md",
+    "report.md",
+    "statuses.md",
+    "mistakes.md",
+    "steps.md",
+    "cases.md",
+];
 
 // The examples, each a script and the report of its run.
 const EXAMPLES: [&str; 12] = [
@@ -28,17 +39,24 @@ const EXAMPLES: [&str; 12] = [
     "named",
 ];
 
+// An example with a schedule, and the report of its steps.
+const STEPPED: &str = "schedule";
+
 // Whether a run writes what the page shows, with the status where the page shows it, and else with status 0.
-fn is_as_shown(rt: &HostRuntime, example: &Example) -> io::Result<bool> {
+fn is_as_shown<R: Threads + Sync>(
+    rt: &HostRuntime,
+    threads: &R,
+    example: &Example,
+) -> io::Result<bool> {
     let shown = example.command.as_str();
     let asked = shown.strip_suffix("; echo $?");
     let command = asked.unwrap_or(shown);
     let outcome = match command.split_once(" < ") {
         Some((words, file)) => {
             let script = fs::read_to_string(rt, file)?;
-            outcome_of(rt.alloc(), words, script.as_str())?
+            outcome_of(threads, rt.alloc(), words, script.as_str())?
         }
-        None => outcome_of(rt.alloc(), command, example.script.as_str())?,
+        None => outcome_of(threads, rt.alloc(), command, example.script.as_str())?,
     };
     let output = example.output.as_str();
     if asked.is_none() {
@@ -49,49 +67,91 @@ fn is_as_shown(rt: &HostRuntime, example: &Example) -> io::Result<bool> {
 }
 
 // Whether the wrong script is refused with the line of the row, and the right one runs.
-fn is_as_told(rt: &HostRuntime, mistake: &Mistake) -> Result<bool, AllocError> {
-    let wrong = outcome_of(rt.alloc(), "run", mistake.wrong.as_str())?;
-    let right = outcome_of(rt.alloc(), "run", mistake.right.as_str())?;
+fn is_as_told<R: Threads + Sync>(
+    rt: &HostRuntime,
+    threads: &R,
+    mistake: &Mistake,
+) -> Result<bool, AllocError> {
+    let wrong = outcome_of(threads, rt.alloc(), "run", mistake.wrong.as_str())?;
+    let right = outcome_of(threads, rt.alloc(), "run", mistake.right.as_str())?;
     let line = wrong.written.as_str().strip_suffix("\n");
     Ok(wrong.status == 3 && line == Some(mistake.says.as_str()) && right.status == 0)
 }
 
-fn go_over(rt: &HostRuntime, name: &str) -> io::Result<()> {
+// Whether the script is refused with the line of the row.
+fn is_refused<R: Threads + Sync>(
+    rt: &HostRuntime,
+    threads: &R,
+    fault: &Fault,
+) -> Result<bool, AllocError> {
+    let outcome = outcome_of(threads, rt.alloc(), "run", fault.wrong.as_str())?;
+    let line = outcome.written.as_str().strip_suffix("\n");
+    Ok(outcome.status == 3 && line == Some(fault.says.as_str()))
+}
+
+fn go_over<R: Threads + Sync>(rt: &HostRuntime, threads: &R, name: &str) -> io::Result<()> {
     let text = fs::read_to_string(rt, name)?;
     let page = Page::read(rt.alloc(), text.as_str())?;
     for example in page.examples.iter() {
-        if !is_as_shown(rt, example)? {
+        if !is_as_shown(rt, threads, example)? {
             println!(rt; "{name}, line {}: the run is not as shown", example.line)?;
         }
     }
     for mistake in page.mistakes.iter() {
-        if !is_as_told(rt, mistake)? {
+        if !is_as_told(rt, threads, mistake)? {
             println!(rt; "{name}, line {}: the mistake is not as told", mistake.line)?;
         }
     }
+    for fault in page.faults.iter() {
+        if !is_refused(rt, threads, fault)? {
+            println!(rt; "{name}, line {}: the fault is not as told", fault.line)?;
+        }
+    }
     println!(rt;
-        "{name}: {} runs, {} mistakes",
+        "{name}: {} runs, {} mistakes, {} faults",
         page.examples.len(),
-        page.mistakes.len()
+        page.mistakes.len(),
+        page.faults.len()
     )
 }
 
-fn run_example(rt: &HostRuntime, name: &str) -> io::Result<()> {
+// Runs or steps the script, and what version 2 makes of it, which is in version 2 already.
+fn run_example<R: Threads + Sync>(
+    rt: &HostRuntime,
+    threads: &R,
+    command: &str,
+    name: &str,
+) -> io::Result<()> {
     let script = fs::read_to_string(rt, format!(in rt.alloc(); "examples/{name}.sto")?)?;
     let report = fs::read_to_string(rt, format!(in rt.alloc(); "examples/{name}.report")?)?;
-    let outcome = outcome_of(rt.alloc(), "run", script.as_str())?;
+    let outcome = outcome_of(threads, rt.alloc(), command, script.as_str())?;
     if outcome.status != 0 || outcome.written.as_str() != report.as_str() {
         println!(rt; "examples/{name}.sto: the report is not as written")?;
+    }
+    let upgraded = outcome_of(threads, rt.alloc(), "upgrade", script.as_str())?;
+    let again = outcome_of(threads, rt.alloc(), "upgrade", upgraded.written.as_str())?;
+    if upgraded.status != 0 || again.written.as_str() != upgraded.written.as_str() {
+        println!(rt; "examples/{name}.sto: an upgrade of its upgrade is another")?;
+    }
+    let outcome = outcome_of(threads, rt.alloc(), command, upgraded.written.as_str())?;
+    if outcome.written.as_str() != report.as_str() {
+        println!(rt; "examples/{name}.sto: its upgrade has another report")?;
     }
     Ok(())
 }
 
 fn main(rt: HostRuntime) -> io::Result<()> {
     for name in PAGES {
-        go_over(&rt, name)?;
+        go_over(&rt, &rt, name)?;
     }
     for name in EXAMPLES {
-        run_example(&rt, name)?;
+        run_example(&rt, &rt, "run", name)?;
+    }
+    run_example(&rt, &rt, "step", STEPPED)?;
+    for limit in LIMITS {
+        if !limit.holds(&rt, rt.alloc())? {
+            println!(rt; "the limit on {} is another", limit.name)?;
+        }
     }
     Ok(())
 }

@@ -1,4 +1,4 @@
-//! A page as text, and the runs and mistakes that it shows.
+//! A page as text, and the runs, mistakes and faults that it shows.
 use std::alloc::{AllocError, Global};
 
 // The line of a script in whose place the rows of a table of mistakes stand.
@@ -30,6 +30,17 @@ pub struct Mistake {
     pub right: String,
 }
 
+/// An input of a page's table of faults.
+#[derive(Drop)]
+pub struct Fault {
+    /// The line of the page on which the row stands, from 1.
+    pub line: usize,
+    /// A script that is refused.
+    pub wrong: String,
+    /// The line that the program says of it.
+    pub says: String,
+}
+
 #[derive(Drop)]
 enum Place {
     Text,
@@ -43,6 +54,7 @@ enum Place {
 pub struct Page {
     pub examples: Vec<Example>,
     pub mistakes: Vec<Mistake>,
+    pub faults: Vec<Fault>,
     place: Place,
     script: String,
     alloc: Global,
@@ -50,11 +62,13 @@ pub struct Page {
 
 impl Page {
     /// Reads a page in Markdown. Blocks marked `sto` hold scripts and those marked `console` runs. Below a script with
-    /// a gap, a row of three cells in backquotes is a mistake.
+    /// a gap, a row of three cells in backquotes is a mistake. Elsewhere a row of a kind, a text, inputs and the number
+    /// of a line tells of faults.
     pub fn read(alloc: Global, text: &str) -> Result<Page, AllocError> {
         let mut page = Page {
             examples: Vec::new(alloc),
             mistakes: Vec::new(alloc),
+            faults: Vec::new(alloc),
             place: Place::Text,
             script: String::new(alloc),
             alloc,
@@ -87,7 +101,9 @@ impl Page {
         } else if line.starts_with("```") {
             self.place = Place::Other;
         } else if line.starts_with("| `") && self.script.contains(GAP) {
-            self.take_row(number, line)?;
+            self.take_mistake(number, line)?;
+        } else if line.starts_with("| `") {
+            self.take_faults(number, line)?;
         }
         Ok(())
     }
@@ -107,7 +123,7 @@ impl Page {
         Ok(())
     }
 
-    fn take_row(&mut self, number: usize, line: &str) -> Result<(), AllocError> {
+    fn take_mistake(&mut self, number: usize, line: &str) -> Result<(), AllocError> {
         let mut cells = line.split('`').skip(1).step_by(2);
         let (Some(wrong), Some(says), Some(right)) = (cells.next(), cells.next(), cells.next())
         else {
@@ -120,6 +136,34 @@ impl Page {
             right: self.framed(right)?,
         };
         self.mistakes.push(mistake)?;
+        Ok(())
+    }
+
+    // The inputs stand between semicolons; one that is no script is told in words.
+    fn take_faults(&mut self, number: usize, line: &str) -> Result<(), AllocError> {
+        let mut cells = line.split('|').skip(1);
+        let (Some(kind), Some(_), Some(inputs), Some(at)) = (
+            cells.next(),
+            cells.next(),
+            cells.next(),
+            cells.next(),
+        ) else {
+            return Ok(());
+        };
+        let Ok(at) = at.trim().parse::<u32>() else {
+            return Ok(());
+        };
+        for input in inputs.split(';') {
+            if let Some(wrong) = code_of(self.alloc, input.trim())? {
+                let kind = kind.trim().trim_matches('`');
+                let says = format!(in self.alloc; "sto: line {at}: {kind}")?;
+                self.faults.push(Fault {
+                    line: number,
+                    wrong,
+                    says,
+                })?;
+            }
+        }
         Ok(())
     }
 
@@ -153,4 +197,19 @@ fn add_cell(script: &mut String, cell: &str) -> Result<(), AllocError> {
         add_line(script, line)?;
     }
     Ok(())
+}
+
+// The script whose lines stand in backquotes and are separated by slashes.
+fn code_of(alloc: Global, text: &str) -> Result<Option<String>, AllocError> {
+    let mut script = String::new(alloc);
+    for piece in text.split(" / ") {
+        let Some(line) = piece
+            .strip_prefix("`")
+            .and_then(|rest| rest.strip_suffix("`"))
+        else {
+            return Ok(None);
+        };
+        add_line(&mut script, line)?;
+    }
+    Ok(Some(script))
 }

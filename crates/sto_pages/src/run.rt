@@ -1,5 +1,6 @@
 //! What the program does with words and a script, as a page would show it.
 use std::alloc::{AllocError, Global};
+use std::thread::Threads;
 use sto_cli::{NoGate, QuietSink, QuietSource, sto};
 use sto_part::{Bytes, NoMemory};
 
@@ -13,13 +14,19 @@ pub struct Outcome {
     pub status: u8,
 }
 
-/// Runs the program on these words, with the script as its input.
-pub fn outcome_of(alloc: Global, words: &str, script: &str) -> Result<Outcome, AllocError> {
+/// Runs the program on these words, with the script as its input and its workers on these threads.
+pub fn outcome_of<R: Threads + Sync>(
+    threads: &R,
+    alloc: Global,
+    words: &str,
+    script: &str,
+) -> Result<Outcome, AllocError> {
     let words = words_of(alloc, words)?;
     let mut source = QuietSource::new(bytes_of(alloc, script).map_err(no_memory)?);
     let mut out = QuietSink::new(alloc, ROOM).map_err(no_memory)?;
     let mut diag = QuietSink::new(alloc, ROOM).map_err(no_memory)?;
     let status = sto(
+        threads,
         alloc,
         words.as_slice(),
         &mut source,

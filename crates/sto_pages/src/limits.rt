@@ -1,0 +1,73 @@
+//! Scripts of version 2 that are at its limits, and scripts that go past them.
+use crate::run::outcome_of;
+use std::alloc::{AllocError, Global};
+use std::fmt::Write;
+use std::thread::Threads;
+
+/// A limit of version 2.
+#[derive(Clone, Copy)]
+pub struct Limit {
+    /// What is limited.
+    pub name: &'static str,
+    // A script at the limit: these lines, and then so many with their number between two texts.
+    first: &'static str,
+    count: u32,
+    line: (&'static str, &'static str),
+    // The line that goes past it.
+    more: &'static str,
+}
+
+/// The limits that are wider than those of version 1.
+pub const LIMITS: [Limit; 4] = [
+    Limit {
+        name: "threads",
+        first: "sto 2\n",
+        count: 64,
+        line: ("thread up", "\n"),
+        more: "thread down\n",
+    },
+    Limit {
+        name: "the length of an array",
+        first: "sto 2\n",
+        count: 1,
+        line: ("array r", " 16384 0\n"),
+        more: "array s 16385 0\n",
+    },
+    Limit {
+        name: "parts",
+        first: "sto 2\n",
+        count: 4,
+        line: ("array r", " 16384 0\n"),
+        more: "box b 0\n",
+    },
+    // 3 words for each of 1,024 times 42 places, and one for each value
+    Limit {
+        name: "words",
+        first: "sto 2\nhash h 1024 42\n",
+        count: 1,
+        line: ("array r", " 2048 0\n"),
+        more: "box b 0\n",
+    },
+];
+
+impl Limit {
+    fn script(&self, alloc: Global) -> Result<String, AllocError> {
+        let (before, after) = self.line;
+        let mut text = String::from_str(alloc, self.first)?;
+        for number in 0..self.count {
+            write!(text, "{before}{number}{after}")?;
+        }
+        Ok(text)
+    }
+
+    /// Whether the script at the limit runs, and the line that goes past it is refused.
+    pub fn holds<R: Threads + Sync>(&self, threads: &R, alloc: Global) -> Result<bool, AllocError> {
+        let mut text = self.script(alloc)?;
+        let at = outcome_of(threads, alloc, "run", text.as_str())?;
+        text.push_str(self.more)?;
+        let past = outcome_of(threads, alloc, "run", text.as_str())?;
+        let last = text.lines().count();
+        let says = format!(in alloc; "sto: line {last}: out of limits\n")?;
+        Ok(at.status == 0 && past.status == 3 && past.written.as_str() == says.as_str())
+    }
+}
