@@ -5,7 +5,8 @@ use Rattle.std.proofs.Math.Nat.{mul-le-mul}
 use Rattle.sto_form.specs.declared.declared.Declared.{Declared}
 use Rattle.sto_form.specs.declared.declared.Declared.TheVariants as declares
 use Rattle.sto_lang.specs.declared.begun.Block as blocks
-use Rattle.sto_lang.specs.Shapes.{natural, in_range, is_in_ranges, most_length, shape_of, part_count, word_count}
+use Rattle.sto_model.specs.Sizes.{part_count, word_count}
+use Rattle.sto_lang.specs.Shapes.{natural, in_range, is_in_ranges, most_length, shape_of}
 use Rattle.sto_model.specs.declared.shape.Shape.{Shape}
 use Rattle.sto_lang.specs.Objects.{Object, part_total, word_total}
 use Rattle.sto_lang.specs.Limits.{is_full, most_threads, most_parts, most_words}

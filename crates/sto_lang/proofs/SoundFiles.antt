@@ -12,7 +12,8 @@ use Rattle.sto_lang.specs.declared.fault.ScriptFault.{ScriptFault}
 use Rattle.sto_lang.specs.declared.fault.FaultKind.{FaultKind}
 use Rattle.sto_lang.specs.declared.fault.FaultKind.TheVariants.{TooLarge, BadByte}
 use Rattle.sto_lang.specs.Scripts.{Script, File}
-use Rattle.sto_lang.specs.Shapes.{in_order, part_count, word_count}
+use Rattle.sto_model.specs.Sizes.{part_count, word_count}
+use Rattle.sto_lang.specs.Shapes.{in_order}
 use Rattle.sto_lang.specs.Objects.{Object, shapes_in, declarations_of, shapes_of}
 use Rattle.sto_lang.specs.Drafts.{Draft, Begun, opening, with_form}
 use Rattle.sto_lang.specs.Faults.{fault_of}

@@ -18,7 +18,8 @@ use Rattle.sto_form.specs.Forms.{ThreadWord, Numbered, Named, Entry, Form, Versi
 use Rattle.sto_lang.specs.declared.file.Turns.{Turns}
 use Rattle.sto_lang.specs.declared.fault.FaultKind.TheVariants.{BadNumber, WrongPlace, TakenName, UnknownName, WrongKind, OutOfLimits}
 use Rattle.sto_lang.specs.Scripts.{Script}
-use Rattle.sto_lang.specs.Shapes.{natural, in_range, in_order, most_length, is_in_ranges, shape_of, part_count, word_count}
+use Rattle.sto_model.specs.Sizes.{part_count, word_count}
+use Rattle.sto_lang.specs.Shapes.{natural, in_range, in_order, most_length, is_in_ranges, shape_of}
 use Rattle.sto_lang.specs.Objects.{Object, shapes_in, object_place, part_total, word_total}
 use Rattle.std.specs.Str.{bytes_eq}
 use Rattle.std.specs.List.{list_any}

@@ -8,3 +8,4 @@ pub mod Serial
 pub mod TestBodies
 pub mod Ranges
 pub mod Sizes
+pub mod Asked

@@ -1,5 +1,5 @@
 -- The aborted attempts of a finished run are lawful for the replay of its journal.
-use Rattle.sto_told.specs.Asked as own
+use Rattle.sto_model.specs.Asked.{HasAsked}
 use Rattle.std.specs.Prelude.{if◌then◌else◌, filter, ◌⊎◌, ◌-◌, ◌+◌, take, sum_by, slice_index_or}
 use Rattle.std.specs.List.{All}
 use Rattle.std.proofs.Common.{◌≡◌, ℕ, zero, suc, ◌<◌, ◌≤◌, List, [], ◌∷◌, ◌++◌, length, map, refl, sym, ap, ◌∙◌, subst, arith, Bool, true, false, Some, Option, true≢false, inl, inr}
@@ -14,7 +14,7 @@ use Rattle.sto_model.specs.declared.body.Next.{Next}
 use Rattle.sto_model.specs.declared.body.Next.TheVariants.{Ask, Commit, Cancel}
 use Rattle.sto_model.specs.declared.shape.Shape.{Shape}
 use Rattle.sto_lang.specs.Objects.{Declaration, shapes_of, with_number}
-use Rattle.sto_lang.specs.Shapes.{part_count}
+use Rattle.sto_model.specs.Sizes.{part_count}
 use Rattle.sto_lang.specs.Scripts.{Script, File}
 use Rattle.sto_script.specs.Meaning.{meaning_of}
 use Rattle.sto_type.specs.Known.{Parts}
@@ -28,7 +28,7 @@ use Rattle.sto_lawful.specs.Replay.{Entry, run_at, entries_of, opening_state, sh
 use Rattle.sto_lawful.specs.Updated.{Updating, updated, updated_from}
 use Rattle.sto_lawful.specs.Aborts.{LocalPart, Abort, name_of, part_by_home}
 use Rattle.sto_lawful.specs.Aborts as aborts
-use Rattle.sto_lawful.specs.LawfulAborts.{IsFront, writers_before, IsBefore, IsAfterOwn, AsksOf, HasAsked, declared_as, part_number, IsPartAsked, IsChange, IsLawfulAbort}
+use Rattle.sto_lawful.specs.LawfulAborts.{IsFront, writers_before, IsBefore, IsAfterOwn, declared_as, part_number, IsPartAsked, IsChange, IsLawfulAbort}
 use Rattle.sto_told.specs.Records.{Verdict, Wrote, Read, Cancelled, Locked, Changed, Record, is_abort, is_finished, stands_at, known_after, IsSince, wrote_with, times_written, writers_up_to}
 use Rattle.sto_told.specs.Told.{IsAskedPart}
 use Rattle.sto_records.specs.Finished.{IsRecord, AreFinished}
@@ -47,17 +47,6 @@ use Rattle.sto_records.proofs.Updating.{Stood}
 use Rattle.sto_records.proofs.Writing.{writer_updates}
 use Rattle.sto_records.proofs.Journal as journal
 use Rattle.sto_records.proofs.Journal.{IsClosed}
-
--- what an attempt asks is the same in the words of lawful aborts
-same_next : (object : ℕ) (n : Next) → own.AsksOf object n → AsksOf object n
-same_next object (Ask call) h = h
-same_next object Commit h = h
-same_next object Cancel h = h
-
-same_asked : (object : ℕ) (f : Steps) (replies : List Told) → own.HasAsked object f replies → HasAsked object f replies
-same_asked object f [] h = same_next object (f []) h
-same_asked object f (r ∷ rs) (inl h) = inl (same_next object (f []) h)
-same_asked object f (r ∷ rs) (inr h) = inr (same_asked object (λ xs. f (r ∷ xs)) rs h)
 
 -- two records of a thread, of which one is aborted and the other is not
 
@@ -222,7 +211,7 @@ module _ {valid : Validity} {sizes : List ℕ} {opening : Contents} {past : Past
         asked = record {
           declared = ap (λ (name : List ℕ). find_by name) name_is ∙ is.by_name;
           inside = subst (λ (x : Shape). home.1 < part_count x) shape_is at_home.inside;
-          asked = subst (λ (x : ℕ). HasAsked x (meaning_of s) replies) (sym h.owned.owner ∙ sym is.number) (same_asked h.object (meaning_of s) replies h.asked);
+          asked = subst (λ (x : ℕ). HasAsked x (meaning_of s) replies) (sym h.owned.owner ∙ sym is.number) h.asked;
         };
         number =
             ap (λ (x : ℕ). sum_by part_count (take x (shapes_of file.declarations)) + home.1) is.number

@@ -6,7 +6,7 @@ use Rattle.sto_model.specs.declared.shape.Shape.{Shape}
 use Rattle.sto_model.specs.Objects.{machines_of}
 use Rattle.sto_form.specs.Words.{is_name}
 use Rattle.sto_lang.specs.Objects.{Declaration, HaveNames, shapes_of, with_number}
-use Rattle.sto_lang.specs.Shapes.{part_count}
+use Rattle.sto_model.specs.Sizes.{part_count}
 use Rattle.sto_lang.specs.Scripts.{Script, File}
 use Rattle.sto_lang.specs.Sizes.{calls_of}
 use Rattle.sto_lawful.specs.Orders.{Place, transaction_at}

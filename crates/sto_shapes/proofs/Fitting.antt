@@ -8,7 +8,6 @@ use Rattle.std.proofs.lemmas.List.Sums.{sum_by-cons}
 use Rattle.sto_model.specs.declared.shape.Shape.{Shape}
 use Rattle.sto_model.specs.declared.shape.Shape.TheVariants.{Single, Counter, Array, Hash, Tree}
 use Rattle.sto_model.specs.Sizes.{part_count}
-use Rattle.sto_lang.specs.Shapes as lang
 use Rattle.sto_lang.specs.Shapes.{in_order}
 use Rattle.sto_lang.specs.Limits.{most_parts}
 use Rattle.sto_lang.specs.Objects.{Declaration, shapes_of}
@@ -59,28 +58,12 @@ in_order_fit all h =
 pub sound_fit : (file : File) → IsSound file → AreFit (shapes_of file.declarations)
 sound_fit file sound = in_order_fit (map (λ d. d.shape) file.declarations) (declared_fit file.version file.declarations sound.in_ranges)
 
--- The number of parts that a shape tells is one and the same.
-same_count : (s : Shape) → lang.part_count s ≡ part_count s
-same_count (Single v) = refl
-same_count (Counter v) = refl
-same_count (Array len v) = refl
-same_count (Hash buckets places) = refl
-same_count (Tree leaves) = refl
-
-pub same_counts : (ss : List Shape) → map lang.part_count ss ≡ map part_count ss
-same_counts [] = refl
-same_counts (s ∷ ss) = λ i. same_count s i ∷ same_counts ss i
-
-same_total : (ss : List Shape) → sum_by lang.part_count ss ≡ sum_by part_count ss
-same_total [] = refl
-same_total (s ∷ ss) = omega (arith, same_count s, same_total ss, sum_by-cons lang.part_count s ss, sum_by-cons part_count s ss)
-
 -- The parts of a sound file are in u32.
 most_few : (version : ℕ) → most_parts version ≤ 65536
 most_few version = by_test (nat_eq version 2) (λ e. rw e (omega arith)) (λ e. rw e (omega arith))
 
-pub few_parts : (file : File) → IsSound file → sum_by lang.part_count (shapes_of file.declarations) ≤ 65536
+pub few_parts : (file : File) → IsSound file → sum_by part_count (shapes_of file.declarations) ≤ 65536
 few_parts file sound = omega (arith, sound.few_parts, most_few file.version)
 
 pub parts_fit : (file : File) → IsSound file → sum_by part_count (shapes_of file.declarations) < 2 ^ 32
-parts_fit file sound = omega (arith, few_parts file sound, same_total (shapes_of file.declarations))
+parts_fit file sound = omega (arith, few_parts file sound)

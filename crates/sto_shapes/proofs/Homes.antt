@@ -4,7 +4,7 @@ use Rattle.std.proofs.Common.{◌≡◌, ℕ, zero, suc, ◌+◌, ◌-◌, ◌<�
 use Rattle.std.proofs.lemmas.Bool.{cases_lt}
 use Rattle.std.proofs.lemmas.List.Sums.{sum_by-cons}
 use Rattle.sto_model.specs.declared.shape.Shape.{Shape}
-use Rattle.sto_lang.specs.Shapes.{part_count}
+use Rattle.sto_model.specs.Sizes.{part_count}
 use Rattle.sto_type.specs.Meaning.{Meaning}
 use Rattle.sto_store.specs.Homes.{homes_within, homes_from, HasParts}
 use Rattle.sto_records.specs.Meanings.{IsHomeAt}

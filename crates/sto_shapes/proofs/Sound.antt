@@ -2,7 +2,6 @@
 use Rattle.std.specs.Prelude.{map}
 use Rattle.std.proofs.Common.{◌≤◌, List, length, sym, ap, subst, arith}
 use Rattle.sto_model.specs.declared.shape.Shape.{Shape}
-use Rattle.sto_lang.specs.Shapes as lang
 use Rattle.sto_lang.specs.Objects.{shapes_of}
 use Rattle.sto_lang.specs.Scripts.{File}
 use Rattle.sto_lang.specs.Sound.{IsSoundScript, IsSound}
@@ -15,7 +14,7 @@ use Rattle.sto_records.specs.Meanings.{IsTypeOf}
 use Rattle.sto_records.proofs.Usable.{sound_script}
 use Rattle.sto_shapes.specs.Runnable.{AreRunnable}
 use Rattle.sto_shapes.proofs.Ordered.{is_in_order}
-use Rattle.sto_shapes.proofs.Fitting.{same_counts, few_parts}
+use Rattle.sto_shapes.proofs.Fitting.{few_parts}
 use Rattle.sto_shapes.proofs.Homes.{homes_are, count_homes}
 
 pub sound_in_order : (file : File) → AreInOrder (shapes_of file.declarations)
@@ -27,20 +26,17 @@ sound_runnable file sound place script there =
     let s : IsSoundScript (shapes_of file.declarations) script = sound_script file sound place script there in
     record { weighed = calls_within (shapes_of file.declarations) script s; light = s.light; taken = s.taken }
 
-parts_are : (shapes : List Shape) → AreInOrder shapes → HasParts (means shapes) (map lang.part_count shapes)
-parts_are shapes order = subst (HasParts (means shapes)) (sym (same_counts shapes)) (has_parts shapes order)
-
 -- what shapes in order mean is their type, where it is lawful
 pub is_type_of : (shapes : List Shape) → AreInOrder shapes → IsLawful (means shapes) → IsTypeOf shapes (means shapes)
 is_type_of shapes order law = record {
   lawful = law;
   machines = machines_are shapes order;
-  homes = homes_are shapes (means shapes) (parts_are shapes order);
+  homes = homes_are shapes (means shapes) (has_parts shapes order);
 }
 
 -- there are at most as many homes as a file may have parts
 pub few_homes : (file : File) → IsSound file → length (means (shapes_of file.declarations)).homes ≤ 65536
 few_homes file sound =
     let shapes : List Shape = shapes_of file.declarations in
-    let homes = ap length (parts_are (shapes_of file.declarations) (sound_in_order file)).homes in
+    let homes = ap length (has_parts (shapes_of file.declarations) (sound_in_order file)).homes in
     omega (arith, homes, count_homes 0 (shapes_of file.declarations), few_parts file sound)

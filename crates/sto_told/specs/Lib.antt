@@ -1,4 +1,3 @@
-pub mod Asked
 pub mod Records
 pub mod Told
 pub mod Counted

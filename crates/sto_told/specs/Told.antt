@@ -20,7 +20,7 @@ use Rattle.sto_core.specs.declared.view.View.{View}
 use Rattle.sto_core.specs.Lists.{Each, Among}
 use Rattle.sto_core.specs.Versions.{ticket_of, is_free}
 use Rattle.sto_core.specs.History.{Shows}
-use Rattle.sto_told.specs.Asked.{HasAsked}
+use Rattle.sto_model.specs.Asked.{HasAsked}
 use Rattle.sto_told.specs.Records.{Verdict, Wrote, Read, Cancelled, Locked, Changed}
 
 -- the contents have what the claims of the view say of the number n

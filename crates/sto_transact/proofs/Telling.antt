@@ -13,7 +13,7 @@ use Rattle.sto_attempt.specs.Answers as answers
 use Rattle.sto_attempt.specs.Standing.{Ends}
 use Rattle.sto_attempt.specs.declared.verdict.Verdict.{Verdict}
 use Rattle.sto_attempt.specs.declared.verdict.Verdict.TheVariants.{Wrote, Read, Cancelled, Locked, Changed}
-use Rattle.sto_told.specs.Asked.{AsksOf}
+use Rattle.sto_model.specs.Asked.{AsksOf}
 use Rattle.sto_attempt.specs.Stages.{Deal, EndsWith}
 use Rattle.sto_told.specs.Told.{HasFound, IsLockedFinding, IsTicketFinding, HasClaimed, IsAskedPart, IsTold, IsFound, HasRead, HasCancelled, WasAborted, WasChanged}
 use Rattle.sto_told.specs.Added.{IsKnown}
