@@ -147,13 +147,12 @@ module _ (d : Deal) (law : IsLawful d.m) (n k ticket : ℕ) (puts : List (ℕ ×
       at (z ∷ l) (suc j) e all = at l j e (λ i x s. all (suc i) x s)
 
   -- the value that is put
-  pub put_is : (y : ℕ × ℕ) → slice_get d.places n ≡ Some y → (set : List Update) → set ≡ d.us → (change : Change) → change ≡ change_at set y.0 y.1 → (slice : List Loaded) → slice ≡ loads
-      → (old : ℤ) → old ≡ value_read (reads_of slice y.0) y.1 → (value : ℤ) → value ≡ applied change old → IsPutOf (change_at d.us y.0 y.1) (reads_of loads y.0) y.1 value
-  put_is y get set copy change is slice same old was value sum =
+  pub put_is : (y : ℕ × ℕ) → slice_get d.places n ≡ Some y → (set : List Update) → set ≡ d.us → (change : Change) → change ≡ change_at set y.0 y.1
+      → (old : ℤ) → old ≡ value_read (reads_of loads y.0) y.1 → (value : ℤ) → value ≡ applied change old → IsPutOf (change_at d.us y.0 y.1) (reads_of loads y.0) y.1 value
+  put_is y get set copy change is old was value sum =
       let place : IsPlace d.m.widths d.us y = place_at y get in
       let now : change ≡ change_at d.us y.0 y.1 = is ∙ ap (λ (l : List Update). change_at l y.0 y.1) copy in
-      let before : old ≡ value_read (reads_of loads y.0) y.1 = was ∙ ap (λ (l : List Loaded). value_read (reads_of l y.0) y.1) same in
-      let made : value ≡ applied (change_at d.us y.0 y.1) (value_read (reads_of loads y.0) y.1) = sum ∙ ap (λ (c : Change). applied c old) now ∙ ap (applied (change_at d.us y.0 y.1)) before in
+      let made : value ≡ applied (change_at d.us y.0 y.1) (value_read (reads_of loads y.0) y.1) = sum ∙ ap (λ (c : Change). applied c old) now ∙ ap (applied (change_at d.us y.0 y.1)) was in
       put_value (change_at d.us y.0 y.1) (reads_of loads y.0) y.1 value made place.changes (λ x e. h.adds y.0 y.1 x e (omega (arith, place.within, wide y.0)))
 
   -- a word is put

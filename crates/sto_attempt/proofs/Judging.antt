@@ -222,9 +222,9 @@ module _ (widths : List ℕ) (loads : List Loaded) (v : View) (p : ℕ) (wide : 
     ]
   ]
 
-pub so_of : (p q : ℕ) → q ≡ p → (loads more : List Loaded) → loads ≡ more → (slice : List Loaded) → slice ≡ loads → (given items : List Item) → given ≡ items → (r : Bool) → r ≡ list_all (is_so p slice) given → (b : Bool) → r ≡ b → list_all (is_so q more) items ≡ b
-so_of p q at loads more same slice is given items these r test b e =
-    ap (λ (k : ℕ). list_all (is_so k more) items) at ∙ ap (λ (l : List Loaded). list_all (is_so p l) items) (sym (is ∙ same)) ∙ ap (list_all (is_so p slice)) (sym these) ∙ sym test ∙ e
+pub so_of : (p q : ℕ) → q ≡ p → (loads more : List Loaded) → loads ≡ more → (items : List Item) → (r : Bool) → r ≡ list_all (is_so p loads) items → (b : Bool) → r ≡ b → list_all (is_so q more) items ≡ b
+so_of p q at loads more same items r test b e =
+    ap (λ (k : ℕ). list_all (is_so k more) items) at ∙ ap (λ (l : List Loaded). list_all (is_so p l) items) (sym same) ∙ sym test ∙ e
 
 pub leaving_as : (d : Deal) (n end : ℕ) → end ≡ n → (q p : ℕ) → q ≡ p → (s t : ℕ) → s ≡ t → (w : View) → IsLeaving d 0 n (Changed d.at q s) w → IsLeaving d 0 end (Changed d.at p t) w
 leaving_as d n end e q p at s t same w h = subst (λ (k : ℕ). IsLeaving d 0 k (Changed d.at p t) w) (sym e) (subst (λ (k : ℕ). IsLeaving d 0 n (Changed d.at k t) w) at (subst (λ (k : ℕ). IsLeaving d 0 n (Changed d.at q k) w) same h))

@@ -43,6 +43,9 @@ pub mod Installing
 pub mod Checks
 pub mod Gathering
 pub mod Finding
+pub mod Halving
+pub mod Orders
+pub mod Preds
 pub mod Planning
 pub mod Placing
 pub mod Sealing

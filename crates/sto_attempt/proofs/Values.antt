@@ -11,27 +11,14 @@ use Rattle.sto_core.proofs.Lists.{both_are}
 use Rattle.sto_attempt.specs.declared.stage.Loaded.{Loaded}
 use Rattle.sto_attempt.specs.Stages.{reads_of, is_load_of}
 
-drop_at : (xs : List Loaded) (i : ℕ) (x : Loaded) → i < length xs → x ≡ slice_index_or xs i x → drop i xs ≡ x ∷ drop (suc i) xs
-drop_at [] i x h is = absurd (omega (arith, h))
-drop_at (y ∷ xs) zero x h is = ap (λ z. z ∷ xs) (sym is)
-drop_at (y ∷ xs) (suc i) x h is = drop_at xs i x (omega (arith, h)) is
-
-one_on : (x : Loaded) (xs : List Loaded) (p i : ℕ) → is_load_of p i x ≡ true → value_read (reads_of (x ∷ xs) p) i ≡ x.value
+pub one_on : (x : Loaded) (xs : List Loaded) (p i : ℕ) → is_load_of p i x ≡ true → value_read (reads_of (x ∷ xs) p) i ≡ x.value
 one_on x xs p i e = let b = both_are (nat_eq x.part p) (nat_eq x.word i) e in rw (b.0, b.1) refl
 
-one_off : (x : Loaded) (xs : List Loaded) (p i : ℕ) → is_load_of p i x ≡ false → value_read (reads_of (x ∷ xs) p) i ≡ value_read (reads_of xs p) i
+pub one_off : (x : Loaded) (xs : List Loaded) (p i : ℕ) → is_load_of p i x ≡ false → value_read (reads_of (x ∷ xs) p) i ≡ value_read (reads_of xs p) i
 one_off x xs p i e = elim (cases_Bool (nat_eq x.part p)) [
   | inl hit ↦ let miss : nat_eq x.word i ≡ false = rw hit at e in rw (hit, miss) refl
   | inr miss ↦ rw miss refl
 ]
-
-pub value_here : (xs : List Loaded) (k p i : ℕ) (x : Loaded) → k < length xs → x ≡ slice_index_or xs k x → is_load_of p i x ≡ true
-    → value_read (reads_of xs p) i ≡ value_read (reads_of (drop k xs) p) i → x.value ≡ value_read (reads_of xs p) i
-value_here xs k p i x h is on inv = sym (inv ∙ ap (λ l. value_read (reads_of l p) i) (drop_at xs k x h is) ∙ one_on x (drop (suc k) xs) p i on)
-
-pub value_past : (xs : List Loaded) (k p i : ℕ) (x : Loaded) → k < length xs → x ≡ slice_index_or xs k x → is_load_of p i x ≡ false
-    → value_read (reads_of xs p) i ≡ value_read (reads_of (drop k xs) p) i → value_read (reads_of xs p) i ≡ value_read (reads_of (drop (suc k) xs) p) i
-value_past xs k p i x h is off inv = inv ∙ ap (λ l. value_read (reads_of l p) i) (drop_at xs k x h is) ∙ one_off x (drop (suc k) xs) p i off
 
 -- the value that is put
 pub put_value : (c : Change) (reads : Reads) (i : ℕ) (value : ℤ) → value ≡ applied c (value_read reads i) → is_keep c ≡ false → ((x : ℤ) → c ≡ Add x → was_read reads i ≡ true) → IsPutOf c reads i value

@@ -16,3 +16,5 @@ pub mod Committing
 pub mod Stages
 pub mod Gathering
 pub mod Verdicts
+pub mod Ordered
+pub mod Predicates

@@ -18,6 +18,7 @@ ghost use Rattle.sto_attempt.specs.Reasons.{IsCaused};
 ghost use Rattle.sto_attempt.specs.Standing.{Goes, HasBegun, IsFirst, IsUnaborted, KeepsRenewal, Moves, next_event, IsAsOf, Fits, Renews, Spans, IsRenewed, Turned, IsLeft};
 
 use crate::course::Course;
+use crate::noted::Noted;
 use crate::renewal::Renewal;
 use crate::sight::{Sight, Sights};
 use crate::stand::{Stand, lead};
@@ -25,7 +26,6 @@ use crate::verdict::{Heard, Turn, Verdict};
 use std::alloc::Global;
 use std::mem;
 use sto_core::Cells;
-use sto_item::ItemSet;
 use sto_model::{Body, Replies};
 use sto_part::{NoMemory, PartWords, Pred, holds};
 use sto_type::{Cache, TxType};
@@ -70,7 +70,7 @@ impl<'t, T: TxType, B: Body> Attempt<'t, T, B> {
                 ty,
                 body,
                 replies: Replies::new(alloc),
-                set: ItemSet::new(alloc),
+                set: Noted::new(alloc),
                 base: Sights::new(alloc),
                 cache: Cache::new(alloc),
             },

@@ -9,10 +9,10 @@ ghost use Rattle.sto_model.specs.Run.{IsRun};
 ghost use Rattle.sto_attempt.specs.Growing.{HasHeard};
 ghost use Rattle.sto_model.specs.declared.call.Call.{Call};
 
+use crate::noted::Noted;
 use crate::recall::{add_items, add_updates, ask};
 use crate::sight::Sights;
 use std::alloc::Global;
-use sto_item::{ItemSet, rebase};
 use sto_model::{Body, Next, Replies};
 use sto_part::NoMemory;
 use sto_type::{Answer, Cache, TxType};
@@ -35,7 +35,7 @@ pub(crate) struct Course<'t, T: TxType, B: Body> {
     pub(crate) body: B,
     pub(crate) replies: Replies,
     /// What was observed of the parts that were read, and the pending updates.
-    pub(crate) set: ItemSet,
+    pub(crate) set: Noted,
     /// The parts that were read.
     pub(crate) base: Sights,
     /// What is known with the pending updates applied.
@@ -76,7 +76,7 @@ impl<T: TxType, B: Body> Course<'_, T, B> {
                             items,
                             updates,
                         } => {
-                            let left = rebase(alloc, &items, &self.set)?;
+                            let left = self.set.rebase(alloc, &items)?;
                             add_items(&mut self.set, &left)?;
                             add_updates(&mut self.set, &updates)?;
                             self.cache.forget();

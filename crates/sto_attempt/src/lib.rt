@@ -3,6 +3,10 @@
 
 mod attempt;
 mod course;
+mod finds;
+mod loads;
+mod noted;
+mod predicates;
 mod ready;
 mod recall;
 mod renewal;

@@ -9,17 +9,19 @@ ghost use Rattle.sto_attempt.specs.Answers.{OneEvent, IsCommitEvent, IsPrefix};
 ghost use Rattle.sto_attempt.specs.Remaining.{commit_left};
 ghost use Rattle.sto_attempt.specs.Verdicts.{ComesTo, HasReason, IsUndisturbed};
 ghost use Rattle.sto_attempt.specs.declared.verdict.Verdict.{Verdict};
-ghost use Rattle.sto_attempt.specs.Stages.{deal, Stands, Said, EndsBy, IsAim, IsNextCheck, IsNextPut, HasSpace, SpaceAt, is_so, is_load_of, is_of_part, is_same_part, reads_of, ticket_from, expected_of};
+ghost use Rattle.sto_attempt.specs.Stages.{deal, Stands, Said, EndsBy, IsAim, IsNextCheck, IsNextPut, HasSpace, SpaceAt, is_so, is_of_part, is_same_part, expected_of};
 ghost use Rattle.sto_core.specs.Allowed.{Rises};
-ghost use Rattle.sto_core.specs.Reads.{value_read};
+ghost use Rattle.sto_item.specs.Pending.{IsRising, plain};
 
 use crate::course::Course;
-use crate::stage::{Finds, Found, Loaded, Loads, Stage};
+use crate::finds::Finds;
+use crate::loads::Loads;
+use crate::stage::{Found, Loaded, Stage};
 use crate::verdict::{Heard, Verdict};
 use sto_core::Cells;
-use sto_item::{Item, Updates};
+use sto_item::Updates;
 use sto_model::{Body, Replies};
-use sto_part::{List, Parts, Update, holds};
+use sto_part::{List, Parts, Update};
 use sto_type::TxType;
 
 /// An attempt whose body commits, with all memory that the commit takes.
@@ -190,11 +192,11 @@ impl<T: TxType, B: Body> Ready<'_, T, B> {
             };
             return None;
         }
-        if all_so(self.course.set.items(), self.loads.as_slice(), part) {
+        if self.all_so(part) {
             self.stage = self.aim(place + 1);
             return None;
         }
-        let ticket = ticket_found(self.finds.as_slice(), part);
+        let ticket = self.finds.ticket(part);
         let verdict = Verdict::Changed {
             at: self.at,
             part,
@@ -277,6 +279,13 @@ impl<T: TxType, B: Body> Ready<'_, T, B> {
         None
     }
 
+    // Whether the predicates on a part are true of the words that were loaded.
+    pub(crate) fn all_so(&self, part: u32) -> bool
+        ensures { result ≡ list_all (is_so part self.now.loads.items) self.now.course.set.items }
+    {
+        self.course.set.all_so(&self.loads, part)
+    }
+
     // The ticket that the check of a part is to find.
     fn expected(&self, part: u32) -> u64
         requires { Rises self.now.seen.items }
@@ -285,7 +294,7 @@ impl<T: TxType, B: Body> Ready<'_, T, B> {
         if is_seen(self.seen.as_slice(), part) {
             self.course.base.ticket(part)
         } else {
-            ticket_found(self.finds.as_slice(), part)
+            self.finds.ticket(part)
         }
     }
 
@@ -367,10 +376,7 @@ impl<T: TxType, B: Body> Ready<'_, T, B> {
     {
         let (part, word) = *self.places.get(place);
         let change = self.course.set.pending(part, word);
-        let value = self
-            .course
-            .ty
-            .install(change, value_of(self.loads.as_slice(), part, word));
+        let value = self.course.ty.install(change, self.loads.value(part, word));
         cells.put(part, word, value);
         self.stage = self.next_put(place + 1, ticket);
         None
@@ -463,33 +469,11 @@ impl<T: TxType, B: Body> Ready<'_, T, B> {
 
 // Whether the updates name the part.
 pub(crate) fn is_written(updates: &[(u32, Update)], part: u32) -> bool
+    requires { IsRising (map plain updates.now) }
     ensures { result ≡ list_any (is_of_part part) updates.now }
 {
-    updates.iter().any(|update| is_of(update, part))
-}
-
-fn is_of(update: &(u32, Update), part: u32) -> bool
-    ensures { result ≡ is_of_part part update.now }
-{
-    update.0 == part
-}
-
-// The word that was loaded, or 0.
-fn value_of(loads: &[Loaded], part: u32, word: u32) -> i64
-    ensures { result ≡ value_read (reads_of loads.now part) word }
-{
-    for load in loads {
-        if is_at(load, part, word) {
-            return load.value;
-        }
-    }
-    0
-}
-
-fn is_at(load: &Loaded, part: u32, word: u32) -> bool
-    ensures { result ≡ is_load_of part word load.now }
-{
-    load.part == part && load.word == word
+    let place = updates.partition_point(|update| update.0 < part);
+    place < updates.len() && updates[place].0 == part
 }
 
 // Whether the part is one of these.
@@ -498,33 +482,4 @@ pub(crate) fn is_seen(parts: &[u32], part: u32) -> bool
     ensures { result ≡ list_any (is_same_part part) parts.now }
 {
     parts.binary_search(&part).is_ok()
-}
-
-// The last ticket that was found of a part, or 0.
-pub(crate) fn ticket_found(finds: &[Found], part: u32) -> u64
-    ensures { result ≡ ticket_from 0 finds.now part }
-{
-    let mut ticket = 0;
-    for find in finds {
-        if find.part == part {
-            ticket = find.ticket;
-        }
-    }
-    ticket
-}
-
-// Whether the predicates on a part are true of the words that were loaded.
-pub(crate) fn all_so(items: &[Item], loads: &[Loaded], part: u32) -> bool
-    ensures { result ≡ list_all (is_so part loads.now) items.now }
-{
-    items.iter().all(|item| is_so(item, loads, part))
-}
-
-fn is_so(item: &Item, loads: &[Loaded], part: u32) -> bool
-    ensures { result ≡ is_so part loads.now item.now }
-{
-    match item {
-        Item::Seen(_) => true,
-        Item::Holds(pred) => pred.part != part || holds(pred, value_of(loads, part, pred.word)),
-    }
 }

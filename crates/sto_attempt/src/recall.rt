@@ -12,9 +12,10 @@ ghost use Rattle.sto_attempt.specs.Sights.{words_in};
 ghost use Rattle.sto_attempt.specs.Course.{IsPending, IsRecalled, IsCache};
 ghost use Rattle.sto_item.specs.Recorded.{AddsItems};
 
+use crate::noted::Noted;
 use crate::sight::Sights;
 use std::alloc::Global;
-use sto_item::{ItemSet, Items, Updates};
+use sto_item::{Items, Updates};
 use sto_model::Call;
 use sto_part::{NoMemory, PartWords};
 use sto_type::{Answer, Cache, TxType};
@@ -23,7 +24,7 @@ use sto_type::{Answer, Cache, TxType};
 fn updated<T: TxType>(
     alloc: Global,
     ty: &T,
-    set: &ItemSet,
+    set: &Noted,
     part: u32,
     words: &[i64],
 ) -> Result<PartWords, NoMemory>
@@ -43,7 +44,7 @@ pub(crate) fn recall<T: TxType>(
     alloc: Global,
     ty: &T,
     base: &Sights,
-    set: &ItemSet,
+    set: &Noted,
     part: u32,
 ) -> Result<Option<PartWords>, NoMemory>
     requires range { part < length (T.meaning ty.now).widths }
@@ -66,7 +67,7 @@ pub(crate) fn ask<T: TxType>(
     ty: &T,
     call: &Call,
     base: &Sights,
-    set: &ItemSet,
+    set: &Noted,
     cache: &mut Cache,
 ) -> Result<Answer, NoMemory>
     requires takes { (T.meaning ty.now).takes call.now }
@@ -88,7 +89,7 @@ pub(crate) fn ask<T: TxType>(
 }
 
 /// Adds items that are not there.
-pub(crate) fn add_items(set: &mut ItemSet, items: &Items) -> Result<(), NoMemory>
+pub(crate) fn add_items(set: &mut Noted, items: &Items) -> Result<(), NoMemory>
     ensures { OnOk result (AddsItems set.old items.now.items set.new) }
 {
     for place in 0..items.len() {
@@ -98,7 +99,7 @@ pub(crate) fn add_items(set: &mut ItemSet, items: &Items) -> Result<(), NoMemory
 }
 
 /// Composes updates after the pending ones.
-pub(crate) fn add_updates(set: &mut ItemSet, updates: &Updates) -> Result<(), NoMemory>
+pub(crate) fn add_updates(set: &mut Noted, updates: &Updates) -> Result<(), NoMemory>
     requires ordered { AreUpdates set.old.updates }
     requires widths { (d : List (List ℤ)) × HasWidths set.old.updates d × HasWidths updates.now.items d }
     ensures ok { OnOk result (set.new ≡ record set.old { updates = with_updates set.old.updates updates.now.items }) }

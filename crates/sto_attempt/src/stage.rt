@@ -1,6 +1,5 @@
 //! Where the machine of a commit stands between two events.
 use crate::verdict::Verdict;
-use sto_part::List;
 
 /// Which event is next.
 #[derive(Clone, Copy)]
@@ -67,9 +66,6 @@ pub(crate) struct Found {
     pub(crate) ticket: u64,
 }
 
-/// Tickets in the order in which they were found.
-pub(crate) type Finds = List<Found>;
-
 /// A word that the commit has read.
 #[derive(Drop)]
 pub(crate) struct Loaded {
@@ -77,6 +73,3 @@ pub(crate) struct Loaded {
     pub(crate) word: u32,
     pub(crate) value: i64,
 }
-
-/// Words in the order in which they were read.
-pub(crate) type Loads = List<Loaded>;

@@ -2,8 +2,8 @@
 ghost use Rattle.sto_attempt.specs.Led.{IsLed};
 
 use crate::course::Reached;
+use crate::noted::Noted;
 use crate::verdict::{Turn, Verdict};
-use sto_item::ItemSet;
 
 /// Which event is next.
 #[derive(Clone, Copy)]
@@ -29,7 +29,7 @@ pub(crate) enum Stand {
 }
 
 /// Where the body's end, or the part that it needs, leads.
-pub(crate) fn lead(set: &ItemSet, at: u64, reached: Reached) -> (Stand, Turn)
+pub(crate) fn lead(set: &Noted, at: u64, reached: Reached) -> (Stand, Turn)
     ensures { IsLed at set.now.updates reached result.0 result.1 }
 {
     match reached {

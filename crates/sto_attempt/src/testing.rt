@@ -8,7 +8,7 @@ ghost use Rattle.sto_attempt.specs.Verdicts.{ComesTo, HasReason, IsUndisturbed};
 ghost use Rattle.sto_attempt.specs.declared.verdict.Verdict.{Verdict};
 ghost use Rattle.sto_attempt.specs.Stages.{deal, Stands, Said, EndsBy, HasSpace, SpaceAt};
 
-use crate::ready::{Ready, all_so};
+use crate::ready::Ready;
 use crate::stage::{Found, Loaded, Stage};
 use crate::verdict::Verdict;
 use sto_core::Cells;
@@ -159,7 +159,7 @@ impl<T: TxType, B: Body> Ready<'_, T, B> {
             };
             return None;
         }
-        if all_so(self.course.set.items(), self.loads.as_slice(), part) {
+        if self.all_so(part) {
             self.stage = self.aim(place + 1);
             return None;
         }

@@ -1,4 +1,5 @@
 use Rattle.std.proofs.Common.{◌∙◌, ap, sym, subst, ℕ, List, []}
+use Rattle.sto_item.specs.Pending.{Entry, IsRising}
 use Rattle.sto_core.specs.Allowed.{Rises}
 use Rattle.sto_attempt.proofs.Gathering.{gathered-rises}
 use Rattle.sto_attempt.specs.Gathering.{gathered, seen_part, other_part, unwritten_part}
@@ -10,8 +11,11 @@ loaded_of-requires c = subst (λ (l : List ℕ). Rises l) (sym (c.as_slice.ensur
 pub tasks_of-requires : goal.tasks_of-requires
 tasks_of-requires c = subst (λ (l : List ℕ). Rises l) (sym c.in_ok-loaded.ensures) (gathered-rises (other_part c.as_slice.result.now) [] c.items-2.result.now tt)
 
-pub checks_of-requires : goal.checks_of-requires
-checks_of-requires c = subst (λ (l : List ℕ). Rises l) (sym c.in_ok-seen.ensures) (gathered-rises seen_part [] c.items.result.now tt)
+pub checks_of-requires-clause-seen : goal.checks_of-requires-clause-seen
+checks_of-requires-clause-seen c = subst (λ (l : List ℕ). Rises l) (sym c.in_ok-seen.ensures) (gathered-rises seen_part [] c.items.result.now tt)
+
+pub checks_of-requires-clause-updates : goal.checks_of-requires-clause-updates
+checks_of-requires-clause-updates c = subst (λ (l : List Entry). IsRising l) (sym c.as_slice-entries.ensures.items) c.as_slice-entries.ensures.ordered.0
 
 pub returns-clause-gathered : goal.returns-clause-gathered
 returns-clause-gathered c = record {

@@ -1,6 +1,10 @@
-use Rattle.std.proofs.Common.{true, false, refl, arith}
+use Rattle.std.proofs.Common.{true, false, refl, sym, subst, List, arith}
+use Rattle.sto_item.specs.Pending.{Entry, IsRising}
 use Rattle.sto_attempt.proofs.Aiming.{written_is}
 use Rattle.sto_attempt.proofs.ready.Ready.aim.Goals as goal
+
+pub is_written-requires : goal.is_written-requires
+is_written-requires g c = subst (λ (l : List Entry). IsRising l) (sym c.as_slice.ensures.items) c.as_slice.ensures.ordered.0
 
 pub returns-then-is_written : goal.returns-then-is_written
 returns-then-is_written g c = (

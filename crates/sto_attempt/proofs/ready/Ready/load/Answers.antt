@@ -120,7 +120,7 @@ returns-then-all_so-clause-said g c =
     let more : List Loaded = a.loads.items ++ record { part = task d n; word = i; value = x } ∷ [] in
     let last : suc i ≡ slice_index_or m.widths (slice_index_or a.tasks.items n 0) 0 = omega (arith, h.within, width, c.if-word-width.false) in
     let wide : width_in v (task d n) ≡ slice_index_or m.widths (task d n) 0 = task_wide d law n i a.finds a.loads.items v h in
-    let good : list_all (is_so (task d n) more) a.course.set.items ≡ true = so_of p (task d n) at loads.items more items c.as_slice.result.now c.as_slice.ensures.items c.items.result.now a.course.set.items c.items.ensures.items c.all_so.result c.all_so.ensures true c.if-all_so.true in
+    let good : list_all (is_so (task d n) more) a.course.set.items ≡ true = so_of p (task d n) at loads.items more items a.course.set.items c.all_so.result c.all_so.ensures true c.if-all_so.true in
     let all = all_true m.widths more v (task d n) wide a.course.set.items h.loading.going.sealed.course.inside good in
     let it = load_done d law n i a.finds a.loads.items v h w _ _ x tells last all (n + 1) (omega arith) in
     subst (λ (l : List Loaded). Stands d a.finds l c.aim-self.result w) (sym items) (aimed d (n + 1) a.finds more w it c.aim-self.result c.aim-self.ensures)
@@ -166,12 +166,12 @@ returns-clause-said g c =
     let more : List Loaded = a.loads.items ++ record { part = task d n; word = i; value = x } ∷ [] in
     let last : suc i ≡ slice_index_or m.widths (slice_index_or a.tasks.items n 0) 0 = omega (arith, h.within, width, c.if-word-width.false) in
     let wide : width_in v (task d n) ≡ slice_index_or m.widths (task d n) 0 = task_wide d law n i a.finds a.loads.items v h in
-    let bad : list_all (is_so (task d n) more) a.course.set.items ≡ false = so_of p (task d n) at loads.items more items c.as_slice.result.now c.as_slice.ensures.items c.items.result.now a.course.set.items c.items.ensures.items c.all_so.result c.all_so.ensures false c.if-all_so.false in
+    let bad : list_all (is_so (task d n) more) a.course.set.items ≡ false = so_of p (task d n) at loads.items more items a.course.set.items c.all_so.result c.all_so.ensures false c.if-all_so.false in
     let f = one_fails m.widths more v (task d n) wide a.course.set.items h.loading.going.sealed.course.inside bad in
     let here : (y : Parts) → valid v.sizes y → m.valid y = λ y k. (g.met.T.TxType.valid_is a.course.ty.now y).1 (subst (λ (l : List ℕ). valid l y) h.loading.going.sealed.own.same_sizes k) in
     let it = load_fails d law n i a.finds a.loads.items v h w _ _ x tells last here f.pred f.there f.on f.fails in
-    let ticket : ticket_from 0 a.finds.items (task d n) ≡ c.ticket_found-ticket.result = ap (ticket_from 0 a.finds.items) at ∙ sym (c.ticket_found-ticket.ensures ∙ ap (λ l. ticket_from 0 l p) c.as_slice-2.ensures.items) in
-    leaving_as d (length a.updates.items) c.len.result c.len.ensures (task d n) p at (ticket_from 0 a.finds.items (task d n)) c.ticket_found-ticket.result ticket w it
+    let ticket : ticket_from 0 a.finds.items (task d n) ≡ c.ticket-ticket.result = ap (ticket_from 0 a.finds.items) at ∙ sym c.ticket-ticket.ensures in
+    leaving_as d (length a.updates.items) c.len.result c.len.ensures (task d n) p at (ticket_from 0 a.finds.items (task d n)) c.ticket-ticket.result ticket w it
 
 pub returns-then-word-width-clause-left : goal.returns-then-word-width-clause-left
 returns-then-word-width-clause-left g c =
@@ -244,12 +244,12 @@ returns-clause-reason g c =
     let more : List Loaded = a.loads.items ++ record { part = task d n; word = i; value = x } ∷ [] in
     let last : suc i ≡ slice_index_or m.widths (slice_index_or a.tasks.items n 0) 0 = omega (arith, h.within, width, c.if-word-width.false) in
     let wide : width_in v (task d n) ≡ slice_index_or m.widths (task d n) 0 = task_wide d law n i a.finds a.loads.items v h in
-    let bad : list_all (is_so (task d n) more) a.course.set.items ≡ false = so_of p (task d n) at loads.items more items c.as_slice.result.now c.as_slice.ensures.items c.items.result.now a.course.set.items c.items.ensures.items c.all_so.result c.all_so.ensures false c.if-all_so.false in
+    let bad : list_all (is_so (task d n) more) a.course.set.items ≡ false = so_of p (task d n) at loads.items more items a.course.set.items c.all_so.result c.all_so.ensures false c.if-all_so.false in
     let f = one_fails m.widths more v (task d n) wide a.course.set.items h.loading.going.sealed.course.inside bad in
     let here : (y : Parts) → valid v.sizes y → m.valid y = λ y k. (g.met.T.TxType.valid_is a.course.ty.now y).1 (subst (λ (l : List ℕ). valid l y) h.loading.going.sealed.own.same_sizes k) in
     let it = load_fails d law n i a.finds a.loads.items v h w _ _ x tells last here f.pred f.there f.on f.fails in
-    let ticket : ticket_from 0 a.finds.items (task d n) ≡ c.ticket_found-ticket.result = ap (ticket_from 0 a.finds.items) at ∙ sym (c.ticket_found-ticket.ensures ∙ ap (λ l. ticket_from 0 l p) c.as_slice-2.ensures.items) in
-    λ y e. inr (subst (λ z. HasReason a.course.set.items w z) e (inr (inl (subst (λ (q : ℕ). IsByPredicate a.course.set.items w q c.ticket_found-ticket.result) at (subst (λ (k : ℕ). IsByPredicate a.course.set.items w (task d n) k) ticket (load_reason d law n i a.finds a.loads.items v h w _ _ x tells last here f.pred f.there f.on f.fails))))))
+    let ticket : ticket_from 0 a.finds.items (task d n) ≡ c.ticket-ticket.result = ap (ticket_from 0 a.finds.items) at ∙ sym c.ticket-ticket.ensures in
+    λ y e. inr (subst (λ z. HasReason a.course.set.items w z) e (inr (inl (subst (λ (q : ℕ). IsByPredicate a.course.set.items w q c.ticket-ticket.result) at (subst (λ (k : ℕ). IsByPredicate a.course.set.items w (task d n) k) ticket (load_reason d law n i a.finds a.loads.items v h w _ _ x tells last here f.pred f.there f.on f.fails))))))
 
 pub returns-clause-alone : goal.returns-clause-alone
 returns-clause-alone g c =
@@ -276,9 +276,9 @@ returns-clause-alone g c =
     let more : List Loaded = a.loads.items ++ record { part = task d n; word = i; value = x } ∷ [] in
     let last : suc i ≡ slice_index_or m.widths (slice_index_or a.tasks.items n 0) 0 = omega (arith, h.within, width, c.if-word-width.false) in
     let wide : width_in v (task d n) ≡ slice_index_or m.widths (task d n) 0 = task_wide d law n i a.finds a.loads.items v h in
-    let bad : list_all (is_so (task d n) more) a.course.set.items ≡ false = so_of p (task d n) at loads.items more items c.as_slice.result.now c.as_slice.ensures.items c.items.result.now a.course.set.items c.items.ensures.items c.all_so.result c.all_so.ensures false c.if-all_so.false in
+    let bad : list_all (is_so (task d n) more) a.course.set.items ≡ false = so_of p (task d n) at loads.items more items a.course.set.items c.all_so.result c.all_so.ensures false c.if-all_so.false in
     let f = one_fails m.widths more v (task d n) wide a.course.set.items h.loading.going.sealed.course.inside bad in
     let here : (y : Parts) → valid v.sizes y → m.valid y = λ y k. (g.met.T.TxType.valid_is a.course.ty.now y).1 (subst (λ (l : List ℕ). valid l y) h.loading.going.sealed.own.same_sizes k) in
     let it = load_fails d law n i a.finds a.loads.items v h w _ _ x tells last here f.pred f.there f.on f.fails in
-    let ticket : ticket_from 0 a.finds.items (task d n) ≡ c.ticket_found-ticket.result = ap (ticket_from 0 a.finds.items) at ∙ sym (c.ticket_found-ticket.ensures ∙ ap (λ l. ticket_from 0 l p) c.as_slice-2.ensures.items) in
+    let ticket : ticket_from 0 a.finds.items (task d n) ≡ c.ticket-ticket.result = ap (ticket_from 0 a.finds.items) at ∙ sym c.ticket-ticket.ensures in
     λ one quiet. let early = early_ticket a.at a.finds.items (task d n) 0 (omega arith) quiet.early in absurd (omega (arith, it.ends.1.later, early))

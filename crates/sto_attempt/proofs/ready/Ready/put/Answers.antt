@@ -23,10 +23,10 @@ put-requires g c =
     let fit : FitsSigned w64 c.install-value.result = search rules in
     let value : ℤ = to_z w64 (of_z w64 c.install-value.result) in
     let same : to_z w64 (of_z w64 c.install-value.result) ≡ c.install-value.result = to_z-of_z w64 c.install-value.result fit in
-    let old_fit : FitsSigned w64 c.value_of.result = search rules in
-    let old : ℤ = to_z w64 (of_z w64 c.value_of.result) in
-    let old_same : to_z w64 (of_z w64 c.value_of.result) ≡ c.value_of.result = to_z-of_z w64 c.value_of.result old_fit in
-    let is = put_is d law c.args.place 0 c.args.ticket puts a.loads.items v h y c.get.ensures a.course.set.updates c.requires.copy c.pending-change.result c.pending-change.ensures.change c.as_slice.result.now c.as_slice.ensures.items old (old_same ∙ c.value_of.ensures) value (same ∙ c.install-value.ensures) in
+    let old_fit : FitsSigned w64 c.value.result = search rules in
+    let old : ℤ = to_z w64 (of_z w64 c.value.result) in
+    let old_same : to_z w64 (of_z w64 c.value.result) ≡ c.value.result = to_z-of_z w64 c.value.result old_fit in
+    let is = put_is d law c.args.place 0 c.args.ticket puts a.loads.items v h y c.get.ensures a.course.set.updates c.requires.copy c.pending-change.result c.pending-change.ensures.change old (old_same ∙ c.value.ensures) value (same ∙ c.install-value.ensures) in
     may_put d law c.args.place 0 c.args.ticket puts a.loads.items v h refl y c.get.ensures value is
 
 pub overflow_add-place : goal.overflow_add-place
@@ -46,10 +46,10 @@ returns-clause-said g c =
     let fit : FitsSigned w64 c.install-value.result = search rules in
     let value : ℤ = to_z w64 (of_z w64 c.install-value.result) in
     let same : to_z w64 (of_z w64 c.install-value.result) ≡ c.install-value.result = to_z-of_z w64 c.install-value.result fit in
-    let old_fit : FitsSigned w64 c.value_of.result = search rules in
-    let old : ℤ = to_z w64 (of_z w64 c.value_of.result) in
-    let old_same : to_z w64 (of_z w64 c.value_of.result) ≡ c.value_of.result = to_z-of_z w64 c.value_of.result old_fit in
-    let is = put_is d law c.args.place 0 c.args.ticket puts a.loads.items v h y c.get.ensures a.course.set.updates c.requires.copy c.pending-change.result c.pending-change.ensures.change c.as_slice.result.now c.as_slice.ensures.items old (old_same ∙ c.value_of.ensures) value (same ∙ c.install-value.ensures) in
+    let old_fit : FitsSigned w64 c.value.result = search rules in
+    let old : ℤ = to_z w64 (of_z w64 c.value.result) in
+    let old_same : to_z w64 (of_z w64 c.value.result) ≡ c.value.result = to_z-of_z w64 c.value.result old_fit in
+    let is = put_is d law c.args.place 0 c.args.ticket puts a.loads.items v h y c.get.ensures a.course.set.updates c.requires.copy c.pending-change.result c.pending-change.ensures.change old (old_same ∙ c.value.ensures) value (same ∙ c.install-value.ensures) in
     let w = g.C.Cells.view c.put.new.self in
     let it = put_goes d law c.args.place 0 c.args.ticket puts a.loads.items v h refl y c.get.ensures value is w _ _ _ c.put.ensures.tells (c.args.place + 1) (omega arith) in
     puts_next d (c.args.place + 1) c.args.ticket (puts ++ (y.0, y.1) ∷ []) a.finds a.loads.items w it it.sealed.some c.next_put-self.result c.next_put-self.ensures
