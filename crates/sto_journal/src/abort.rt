@@ -51,8 +51,9 @@ fn push_cause(out: &mut String, decls: &[Decl], why: Cause) -> Result<(), AllocE
     }
 }
 
+/// Adds an abort line to a text: its transaction, the writers that it saw, its replies and its cause.
 #[tactic(auto, using(crate::proofs::Shorts::abort_short, crate::proofs::Shorts::replies_short))]
-fn push_abort(
+pub fn push_abort(
     out: &mut String,
     threads: &[Thread],
     decls: &[Decl],

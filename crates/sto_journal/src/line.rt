@@ -14,7 +14,8 @@ use std::alloc::AllocError;
 use std::fmt::Write;
 use sto_lang::Thread;
 
-fn push_line(out: &mut String, threads: &[Thread], line: &Line) -> Result<(), AllocError>
+/// Adds a journal line to a text: its writers, its transaction, its end and its replies.
+pub fn push_line(out: &mut String, threads: &[Thread], line: &Line) -> Result<(), AllocError>
     requires { line.now.thread < length threads.now }
     ensures text { OnOk result (string_bytes out.new ≡ string_bytes out.old ++ line_text (names_of threads.now) (entry line.now)) }
     ensures short { OnOk result (IsShortEntry (names_of threads.now) (entry line.now)) }

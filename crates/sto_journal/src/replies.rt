@@ -11,7 +11,7 @@ use std::fmt::Write;
 use sto_model::Reply;
 
 /// Adds the text of a reply.
-pub(crate) fn push_reply(out: &mut String, reply: &Reply) -> Result<(), AllocError>
+pub fn push_reply(out: &mut String, reply: &Reply) -> Result<(), AllocError>
     ensures text { OnOk result (string_bytes out.new ≡ string_bytes out.old ++ reply_text (told reply.now)) }
     ensures short { OnOk result (IsShortlyTold reply.now) }
 {
@@ -28,7 +28,7 @@ pub(crate) fn push_reply(out: &mut String, reply: &Reply) -> Result<(), AllocErr
 }
 
 /// Adds each reply behind a space.
-pub(crate) fn push_replies(out: &mut String, replies: &[Reply]) -> Result<(), AllocError>
+pub fn push_replies(out: &mut String, replies: &[Reply]) -> Result<(), AllocError>
     ensures text { OnOk result (string_bytes out.new ≡ string_bytes out.old ++ flat_map spaced_reply (map told replies.now)) }
     ensures short { OnOk result (All IsShortlyTold replies.now) }
 {

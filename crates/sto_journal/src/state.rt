@@ -11,7 +11,8 @@ use std::fmt::Write;
 use sto_lang::Decl;
 use sto_model::State;
 
-fn push_object(out: &mut String, decl: &Decl, state: &State) -> Result<(), AllocError>
+/// Adds the line of an object to a text: its name and its rows in this state.
+pub fn push_object(out: &mut String, decl: &Decl, state: &State) -> Result<(), AllocError>
     requires { decl.now.number < length state.now.items }
     ensures { OnOk result (string_bytes out.new ≡ string_bytes out.old ++ object_text state.now.items (declaration decl.now)) }
 {
