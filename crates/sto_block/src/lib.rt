@@ -8,6 +8,3 @@ mod block;
 
 pub use between::{Places, places_between};
 pub use block::{count_between, count_present, find, free, place_at};
-
-#[cfg(test)]
-mod tests;

@@ -7,6 +7,3 @@ mod transaction;
 
 pub use file::generate;
 pub use transaction::{ACCT, LOG, OWNER};
-
-#[cfg(test)]
-mod tests;

@@ -6,8 +6,6 @@ mod contents;
 mod list;
 mod naming;
 mod pred;
-#[cfg(test)]
-mod tests;
 mod words;
 
 pub use change::{Change, Update, apply_word, then, wrapping_difference, wrapping_sum};

@@ -4,5 +4,4 @@ pub mod Shown
 pub mod Asked
 pub mod Operations
 pub mod Opening
-pub mod Scenes
 pub mod Reopened

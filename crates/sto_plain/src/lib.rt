@@ -6,9 +6,6 @@
 #![tactic(auto)]
 
 mod at;
-mod committing;
-mod extending;
-mod loading;
 mod plain;
 
 pub use at::At;

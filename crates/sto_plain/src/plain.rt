@@ -301,6 +301,3 @@ impl<T: Naming> Plain<T> {
         note_event::<E>(&mut self.book, pass, 0, 0);
     }
 }
-
-#[cfg(test)]
-mod tests;

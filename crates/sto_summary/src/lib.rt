@@ -1,8 +1,6 @@
 //! Summaries of runs of generated files.
 #![tactic(auto)]
 
-#[cfg(test)]
-mod tests;
 mod text;
 
 pub use text::summary;

@@ -7,6 +7,3 @@ mod number;
 mod word;
 
 pub use command::{Command, find_command};
-
-#[cfg(test)]
-mod tests;

@@ -1,0 +1,17 @@
+//! Tests of parts, versions, the plain model, items, blocks and caches: what no clause says.
+#![tactic(auto)]
+
+#[cfg(test)]
+mod block;
+#[cfg(test)]
+mod cache;
+#[cfg(test)]
+mod item;
+#[cfg(test)]
+mod model;
+#[cfg(test)]
+mod part;
+#[cfg(test)]
+mod serial;
+#[cfg(test)]
+mod version;
