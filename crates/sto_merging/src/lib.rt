@@ -7,8 +7,6 @@ mod line;
 mod order;
 mod rank;
 mod split;
-#[cfg(test)]
-mod tests;
 
 pub use journal::merge;
 pub use sto_journal::{AbortLine, Aborts, Cause, Journal, Line, Lines};

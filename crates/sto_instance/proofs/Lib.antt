@@ -1,0 +1,4 @@
+pub mod Turning
+pub mod Closed
+pub mod Told
+pub mod Instance
