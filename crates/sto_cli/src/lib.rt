@@ -12,6 +12,3 @@ pub use sto_io::{
 };
 pub use sto_run::{Gate, NoGate};
 pub use top::{WordsFault, refuse_words, sto};
-
-#[cfg(test)]
-mod tests;
