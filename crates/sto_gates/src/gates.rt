@@ -6,16 +6,20 @@ use sto_cli::Gate;
 // After so many turns a gate holds nobody any more, so that each run ends.
 const TURNS: u32 = 100_000_000;
 
-/// Holds the first transaction of thread 0 after its read, until that of thread 1 has ended; and that of thread 1 until then.
+/// Holds the first transaction of thread 0 after so many events, until that of thread 1 has ended; and that of thread 1 until
+/// then.
 #[derive(Drop)]
 pub struct Middle {
+    events: u64,
     read: AtomicBool,
     ended: AtomicBool,
 }
 
 impl Middle {
-    pub fn new() -> Self {
+    /// A gate that holds after these events, with which the transaction has read.
+    pub fn new(events: u64) -> Self {
         Middle {
+            events,
             read: AtomicBool::new(false),
             ended: AtomicBool::new(false),
         }
@@ -44,7 +48,7 @@ impl Gate for Middle {
     }
 
     fn during(&self, thread: u32, position: u32, events: u64) {
-        if (thread, position, events) == (0, 1, 4) {
+        if (thread, position, events) == (0, 1, self.events) {
             self.read.store(true, Ordering::SeqCst);
             wait_for(&self.ended);
         }

@@ -3,21 +3,26 @@
 //! In the first, an attempt is held between its read and its commit until another transaction has committed. So it is aborted,
 //! and the report names the change. In the second, one worker is held until the other has run all other script threads. A
 //! worker that had threads of its own would leave some to the one that is held. In the third, the transactions of the
-//! generated script are counted as they end.
+//! generated script are counted as they end. In the fourth, a transaction that may be tried once is aborted, and listed all the
+//! same; so are both where no gate holds them.
 #![tactic(auto)]
 
 mod gates;
 
 use gates::{Ends, Middle, Others};
 use std::alloc::{AllocError, Global};
-use std::io;
 use std::thread::Threads;
-use sto_cli::{Gate, QuietSink, QuietSource, sto};
-use sto_part::{Bytes, NoMemory};
-
-const ROOM: u32 = 10_000;
+use std::{io, str};
+use sto_calls::call;
+use sto_cli::{Gate, NoGate};
+use sto_part::NoMemory;
 
 const ON_TWO: [&str; 3] = ["run", "--threads", "2"];
+
+const WITH_ONE_TRY: [&str; 5] = ["run", "--threads", "2", "--tries", "1"];
+
+// How often what no gate holds is run.
+const RUNS: u32 = 200;
 
 const LOST_UPDATE: &str = "box a 0
 thread
@@ -53,54 +58,57 @@ x = get a
 commit
 ";
 
+const WRITE_SKEW: &str = "box x 1
+box y 1
+thread
+begin
+p = get x
+q = get y
+set x 0
+commit
+thread
+begin
+p = get x
+q = get y
+set y 0
+commit
+";
+
 // What the program writes for these words and this script, and its exit status last.
 fn written_for<R: Threads + Sync, G: Gate>(
     rt: &R,
     alloc: Global,
-    asked: &[&str],
+    words: &[&str],
     script: &str,
     gate: &G,
 ) -> Result<String, AllocError> {
-    let mut words = Vec::new(alloc);
-    for word in asked {
-        words.push(String::from_str(alloc, *word)?)?;
-    }
-    let mut source = QuietSource::new(bytes_of(alloc, script).map_err(no_memory)?);
-    let mut out = QuietSink::new(alloc, ROOM).map_err(no_memory)?;
-    let mut diag = QuietSink::new(alloc, ROOM).map_err(no_memory)?;
-    let status = sto(
-        rt,
-        alloc,
-        words.as_slice(),
-        &mut source,
-        &mut out,
-        &mut diag,
-        gate,
-    );
-    let mut written = String::new(alloc);
-    for byte in out.held().unwrap_or(b"") {
-        written.push(char::from(*byte))?;
-    }
-    format!(in alloc; "{written}status {status}\n")
+    let called = match call(rt, alloc, words, script, gate) {
+        Ok(called) => called,
+        Err(NoMemory) => return Err(AllocError),
+    };
+    let written = str::from_utf8(called.out.as_slice()).unwrap_or("no text\n");
+    format!(in alloc; "{written}status {}\n", called.status)
 }
 
-fn no_memory(_: NoMemory) -> AllocError {
-    AllocError
+fn lines_with(report: &str, words: &str) -> usize {
+    report.lines().filter(|line| line.contains(words)).count()
 }
 
-fn bytes_of(alloc: Global, text: &str) -> Result<Bytes, NoMemory> {
-    let mut bytes = Bytes::new(alloc);
-    for byte in text.as_bytes() {
-        if bytes.len() == u32::MAX {
-            return Err(NoMemory);
+// How many of the runs list each transaction once.
+fn complete_runs<R: Threads + Sync>(rt: &R, alloc: Global) -> Result<u32, AllocError> {
+    let mut complete = 0_u32;
+    for _ in 0..RUNS {
+        let report = written_for(rt, alloc, &WITH_ONE_TRY, WRITE_SKEW, &NoGate)?;
+        let report = report.as_str();
+        if lines_with(report, " t0.1 commit ") == 1 && lines_with(report, " t1.1 commit ") == 1 {
+            complete = complete.saturating_add(1);
         }
-        bytes.push(*byte)?;
     }
-    Ok(bytes)
+    Ok(complete)
 }
 
 fn main(rt: HostRuntime) -> io::Result<()> {
-    let middle = Middle::new();
+    let middle = Middle::new(4);
     let written = written_for(&rt, rt.alloc(), &ON_TWO, LOST_UPDATE, &middle)?;
     print!(rt; "{written}")?;
     println!(rt; "both seen: {}", middle.has_seen_both())?;
@@ -111,5 +119,11 @@ fn main(rt: HostRuntime) -> io::Result<()> {
     let ends = Ends::new();
     let written = written_for(&rt, rt.alloc(), &["bench", "1"], "", &ends)?;
     print!(rt; "{written}")?;
-    println!(rt; "transactions that ended: {}", ends.count())
+    println!(rt; "transactions that ended: {}", ends.count())?;
+    let middle = Middle::new(7);
+    let written = written_for(&rt, rt.alloc(), &WITH_ONE_TRY, WRITE_SKEW, &middle)?;
+    print!(rt; "{written}")?;
+    println!(rt; "both seen: {}", middle.has_seen_both())?;
+    let complete = complete_runs(&rt, rt.alloc())?;
+    println!(rt; "{complete} of {RUNS} runs list both transactions")
 }

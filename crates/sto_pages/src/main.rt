@@ -115,7 +115,7 @@ fn go_over<R: Threads + Sync>(rt: &HostRuntime, threads: &R, name: &str) -> io::
     )
 }
 
-// Runs or steps the script, and what version 2 makes of it, which is in version 2 already.
+// Runs or steps the script.
 fn run_example<R: Threads + Sync>(
     rt: &HostRuntime,
     threads: &R,
@@ -127,15 +127,6 @@ fn run_example<R: Threads + Sync>(
     let outcome = outcome_of(threads, rt.alloc(), command, script.as_str())?;
     if outcome.status != 0 || outcome.written.as_str() != report.as_str() {
         println!(rt; "examples/{name}.sto: the report is not as written")?;
-    }
-    let upgraded = outcome_of(threads, rt.alloc(), "upgrade", script.as_str())?;
-    let again = outcome_of(threads, rt.alloc(), "upgrade", upgraded.written.as_str())?;
-    if upgraded.status != 0 || again.written.as_str() != upgraded.written.as_str() {
-        println!(rt; "examples/{name}.sto: an upgrade of its upgrade is another")?;
-    }
-    let outcome = outcome_of(threads, rt.alloc(), command, upgraded.written.as_str())?;
-    if outcome.written.as_str() != report.as_str() {
-        println!(rt; "examples/{name}.sto: its upgrade has another report")?;
     }
     Ok(())
 }

@@ -1,11 +1,9 @@
 //! What the program does with words and a script, as a page would show it.
 use std::alloc::{AllocError, Global};
 use std::thread::Threads;
-use sto_cli::{NoGate, QuietSink, QuietSource, sto};
-use sto_part::{Bytes, NoMemory};
-
-// Room for the longest output that a page shows.
-const ROOM: u32 = 1_000_000;
+use sto_calls::call;
+use sto_cli::NoGate;
+use sto_part::NoMemory;
 
 /// What a run wrote on standard output and then on standard error, and its exit status.
 #[derive(Drop)]
@@ -21,50 +19,22 @@ pub fn outcome_of<R: Threads + Sync>(
     words: &str,
     script: &str,
 ) -> Result<Outcome, AllocError> {
-    let words = words_of(alloc, words)?;
-    let mut source = QuietSource::new(bytes_of(alloc, script).map_err(no_memory)?);
-    let mut out = QuietSink::new(alloc, ROOM).map_err(no_memory)?;
-    let mut diag = QuietSink::new(alloc, ROOM).map_err(no_memory)?;
-    let status = sto(
-        threads,
-        alloc,
-        words.as_slice(),
-        &mut source,
-        &mut out,
-        &mut diag,
-        &NoGate,
-    );
+    let words: Vec<&str> = words.split_whitespace().collect(alloc)?;
+    let called = match call(threads, alloc, words.as_slice(), script, &NoGate) {
+        Ok(called) => called,
+        Err(NoMemory) => return Err(AllocError),
+    };
     let mut written = String::new(alloc);
-    add_bytes(&mut written, out.held())?;
-    add_bytes(&mut written, diag.held())?;
-    Ok(Outcome { written, status })
+    add_bytes(&mut written, called.out.as_slice())?;
+    add_bytes(&mut written, called.line.as_slice())?;
+    Ok(Outcome {
+        written,
+        status: called.status,
+    })
 }
 
-fn no_memory(_: NoMemory) -> AllocError {
-    AllocError
-}
-
-fn words_of(alloc: Global, line: &str) -> Result<Vec<String>, AllocError> {
-    let mut words = Vec::new(alloc);
-    for word in line.split_whitespace() {
-        words.push(String::from_str(alloc, word)?)?;
-    }
-    Ok(words)
-}
-
-fn bytes_of(alloc: Global, text: &str) -> Result<Bytes, NoMemory> {
-    let mut bytes = Bytes::new(alloc);
-    for byte in text.as_bytes() {
-        if bytes.len() == u32::MAX {
-            return Err(NoMemory);
-        }
-        bytes.push(*byte)?;
-    }
-    Ok(bytes)
-}
-
-fn add_bytes(text: &mut String, bytes: Option<&[u8]>) -> Result<(), AllocError> {
-    for byte in bytes.unwrap_or(b"") {
+fn add_bytes(text: &mut String, bytes: &[u8]) -> Result<(), AllocError> {
+    for byte in bytes {
         text.push(char::from(*byte))?;
     }
     Ok(())

@@ -1,0 +1,94 @@
+//! Calls of the whole program on words and a text, for the programs that are tests.
+#![tactic(auto)]
+
+ghost use Rattle.std.specs.Prelude.{◌≡◌, ℕ, List, Option, Some, string_bytes, map, false, IfOk, OnOk};
+ghost use Rattle.sto_words.specs.Commands.{command_of};
+ghost use Rattle.sto_cli.specs.Ends.{Ends};
+ghost use Rattle.sto_cli.specs.Statuses.{EndsWith};
+
+use std::alloc::Global;
+use std::thread::Threads;
+use sto_cli::{Gate, QuietSink, QuietSource, sto};
+use sto_part::{Bytes, NoMemory};
+
+// Room for the longest output of a call.
+const ROOM: u32 = 2_000_000;
+
+/// What a call wrote, and how it ended.
+#[derive(Drop)]
+pub struct Called {
+    /// What it wrote on standard output.
+    pub out: Bytes,
+    /// What it wrote on standard error.
+    pub line: Bytes,
+    /// Its exit status.
+    pub status: u8,
+}
+
+/// Calls the program with these words after its name and the script as its input, on these threads and under this gate. It
+/// ends as `sto` says of these words, of a source that has this script left, and of an output that holds what is given at the end. The answer is `NoMemory` also where more than two million bytes are written.
+pub fn call<R: Threads + Sync, G: Gate>(
+    threads: &R,
+    alloc: Global,
+    words: &[&str],
+    script: &str,
+    gate: &G,
+) -> Result<Called, NoMemory>
+    ensures ends { IfOk result (λ called. EndsWith called.status (λ outcome.
+        (rest held : Option (List ℕ)) × Ends outcome (command_of (map (λ word. word.now) words.now)) (Some script.now) rest held (Some called.out.items))) }
+{
+    let given = owned(alloc, words)?;
+    let mut source = QuietSource::new(copy_of(alloc, script.as_bytes())?);
+    let mut out = QuietSink::new(alloc, ROOM)?;
+    let mut diag = QuietSink::new(alloc, ROOM)?;
+    let status = sto(
+        threads,
+        alloc,
+        given.as_slice(),
+        &mut source,
+        &mut out,
+        &mut diag,
+        gate,
+    );
+    Ok(Called {
+        out: held_by(alloc, &out)?,
+        line: held_by(alloc, &diag)?,
+        status,
+    })
+}
+
+fn owned(alloc: Global, words: &[&str]) -> Result<Vec<String>, NoMemory>
+    ensures { IfOk result (λ given. map (λ word. string_bytes word) given.items ≡ map (λ word. word.now) words.now) }
+{
+    let mut given = Vec::new(alloc);
+    for word in words {
+        let Ok(word) = String::from_str(alloc, *word) else {
+            return Err(NoMemory);
+        };
+        if given.push(word).is_err() {
+            return Err(NoMemory);
+        }
+    }
+    Ok(given)
+}
+
+fn held_by(alloc: Global, sink: &QuietSink) -> Result<Bytes, NoMemory>
+    ensures told { OnOk result (sink.now.dropped ≡ false) }
+    ensures bytes { IfOk result (λ bytes. bytes.items ≡ sink.now.bytes.items) }
+{
+    match sink.held() {
+        Some(bytes) => copy_of(alloc, bytes),
+        None => Err(NoMemory),
+    }
+}
+
+fn copy_of(alloc: Global, bytes: &[u8]) -> Result<Bytes, NoMemory>
+    ensures { IfOk result (λ copy. copy.items ≡ bytes.now) }
+{
+    let mut copy = Bytes::new(alloc);
+    if bytes.len() > u32::MAX as usize {
+        return Err(NoMemory);
+    }
+    copy.extend(bytes)?;
+    Ok(copy)
+}
