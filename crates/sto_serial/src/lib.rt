@@ -6,4 +6,5 @@ mod run;
 mod transaction;
 mod written;
 
+pub use progress::Progress;
 pub use run::run_file;

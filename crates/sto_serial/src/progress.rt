@@ -1,5 +1,7 @@
 //! A run that goes on transaction by transaction.
-ghost use Rattle.std.specs.Prelude.{◌≡◌, ◌+◌, ◌*◌, ◌<◌, ◌≤◌, ◌^◌, [], ◌∷◌, ◌++◌, length, OnOk};
+ghost use Rattle.std.specs.Prelude.{◌≡◌, ◌+◌, ◌*◌, ◌<◌, ◌≤◌, ◌^◌, [], ◌∷◌, ◌++◌, length, IfOk, OnOk};
+ghost use Rattle.sto_model.specs.Machine.{opening_of};
+ghost use Rattle.sto_model.specs.Objects.{machines_of};
 ghost use Rattle.sto_lang.specs.Objects.{shapes_of};
 ghost use Rattle.sto_lang.specs.Views.{file as view};
 ghost use Rattle.sto_lawful.specs.Orders.{transaction_at, count_in};
@@ -16,15 +18,28 @@ use sto_part::NoMemory;
 
 /// What a run has done so far: the lines of its transactions, how many of them were writers, and the state that they left.
 #[derive(Drop)]
-pub(crate) struct Progress {
-    pub(crate) lines: Lines,
-    pub(crate) writers: u32,
-    pub(crate) state: State,
+pub struct Progress {
+    pub lines: Lines,
+    pub writers: u32,
+    pub state: State,
 }
 
 impl Progress {
-    /// Runs the transaction at a place of the file, with its line.
-    pub(crate) fn run_one(
+    /// A run that has done nothing: no line, no writer, and the declared state of objects of these shapes.
+    pub fn opening(alloc: Global, shapes: &Shapes) -> Result<Progress, NoMemory>
+        ensures lines { IfOk result (λ p. p.lines.items ≡ []) }
+        ensures writers { IfOk result (λ p. p.writers ≡ 0) }
+        ensures state { IfOk result (λ p. p.state.items ≡ opening_of (machines_of shapes.now.items)) }
+    {
+        Ok(Progress {
+            lines: Lines::new(alloc),
+            writers: 0,
+            state: State::opening(alloc, shapes)?,
+        })
+    }
+
+    /// Runs the transaction at a place of the file after those that were run so far, and adds its line.
+    pub fn run_one(
         &mut self,
         alloc: Global,
         file: &File,
