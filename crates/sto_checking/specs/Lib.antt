@@ -1,0 +1,10 @@
+pub mod Lines
+pub mod Written
+pub mod Right
+pub mod Answer
+pub mod Tentative
+pub mod Reading
+pub mod Past
+pub mod Shown
+pub mod Last
+pub mod Reached
