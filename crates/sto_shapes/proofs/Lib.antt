@@ -4,4 +4,5 @@ pub mod Fitting
 pub mod Asking
 pub mod Places
 pub mod Sound
+pub mod Meant
 pub mod Entire

@@ -1,13 +1,10 @@
 use Rattle.std.proofs.Common.{◌≡◌, ◌-◌, suc, Some, ap, sym, ◌∙◌, arith}
 use Rattle.std.proofs.lemmas.Result.{IfOk-weaker}
-use Rattle.sto_model.specs.declared.shape.Shape.TheVariants.{Single, Counter, Array, Hash, Tree}
-use Rattle.sto_lang.specs.Objects.{shapes_of}
 use Rattle.sto_lang.specs.Scripts.{Script}
 use Rattle.sto_lang.specs.Views.{file as view, script}
 use Rattle.sto_script.specs.Meaning.{meaning_of}
-use Rattle.sto_shapes.proofs.Asking.{store_takes}
 use Rattle.sto_shapes.proofs.Places.{at_place, has_script}
-use Rattle.sto_shapes.proofs.Sound.{sound_in_order}
+use Rattle.sto_shapes.proofs.Meant.{stored_takes}
 use Rattle.sto_shapes.proofs.stored.StoredFile.body.Goals as goal
 
 pub new-requires : goal.new-requires
@@ -41,13 +38,9 @@ returns-clause-light c =
 pub returns-clause-takes : goal.returns-clause-takes
 returns-clause-takes c =
     let f = c.args.self.now.file.now in
-    let s = c.args.self.now.objects.store in
     let placed = has_script f c.args.thread c.args.position c.requires.0 c.get.result.now c.requires.1 c.get.ensures in
     let next : c.args.position ≡ suc (c.args.position - 1) = omega (arith, placed.first) in
     let there = at_place f c.args.thread c.args.position (c.args.position - 1) c.get.result.now c.get-script.result.now next c.get.ensures c.get-script.ensures in
-    let taken = (c.args.self.now.runnable (c.args.thread, c.args.position) (script c.get-script.result.now) there).taken in
     IfOk-weaker c.new.result _ _
-    (λ b may call asks.
-    store_takes (λ x. Single x.first) (λ x. Counter x.first) (λ x. Array x.len x.first) (λ x. Hash x.buckets x.places) (λ x. Tree x.leaves) s.first s.second.first s.second.second.first s.second.second.second.first s.second.second.second.second
-    (shapes_of (view f).declarations) (sound_in_order (view f)) c.args.self.now.kinds c.get-script.result.now.body taken call (may call asks))
+    (λ b may call asks. stored_takes c.args.self.now (c.args.thread, c.args.position) (script c.get-script.result.now) there call (may call asks))
     c.new.ensures.may
