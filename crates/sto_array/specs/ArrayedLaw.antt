@@ -15,7 +15,7 @@ use Rattle.sto_item.specs.Pending.{Entry, is_keep}
 use Rattle.sto_item.specs.Agreement.{Agrees, AreTrueOf, word_of}
 use Rattle.sto_model.specs.declared.call.Call.{Call}
 use Rattle.sto_model.specs.declared.operation.Operation.{Operation}
-use Rattle.sto_model.specs.declared.operation.Operation.TheVariants.{Get, Set, Add, Test as TestWord, Take, Put, Remove, Has, Len, Next, Count, Scan}
+use Rattle.sto_model.specs.declared.operation.Operation.TheVariants.{Get, Set, Add, Test as TestWord, Take, Put, Remove, Has, Len, Next, Count, Scan, Push, Pop}
 use Rattle.sto_model.specs.declared.shape.Shape.TheVariants.{Array}
 use Rattle.sto_model.specs.Rows.{Row, value_at, has_key, with_row}
 use Rattle.sto_model.specs.Told.{Told, is_write}
@@ -37,7 +37,7 @@ use Rattle.sto_array.specs.ArrayedRows.{by_test, one_at, value_of_place, with_pl
 abbrev call_of : ℕ → ℤ → ℤ → Call
 call_of code a b = record { object = 0; code = code; a = a; b = b }
 
-far : (n : ℕ) (a : ℤ) → takes_by (Array 0 (pos 0)) (slice_get (TestWord ∷ Take ∷ Put ∷ Remove ∷ Has ∷ Len ∷ Next ∷ Count ∷ Scan ∷ []) n) a ≡ false
+far : (n : ℕ) (a : ℤ) → takes_by (Array 0 (pos 0)) (slice_get (TestWord ∷ Take ∷ Put ∷ Remove ∷ Has ∷ Len ∷ Next ∷ Count ∷ Scan ∷ Push ∷ Pop ∷ []) n) a ≡ false
 far zero a = refl
 far (suc zero) a = refl
 far (suc (suc zero)) a = refl
@@ -47,7 +47,9 @@ far (suc (suc (suc (suc (suc zero))))) a = refl
 far (suc (suc (suc (suc (suc (suc zero)))))) a = refl
 far (suc (suc (suc (suc (suc (suc (suc zero))))))) a = refl
 far (suc (suc (suc (suc (suc (suc (suc (suc zero)))))))) a = refl
-far (suc (suc (suc (suc (suc (suc (suc (suc (suc n))))))))) a = refl
+far (suc (suc (suc (suc (suc (suc (suc (suc (suc zero))))))))) a = refl
+far (suc (suc (suc (suc (suc (suc (suc (suc (suc (suc zero)))))))))) a = refl
+far (suc (suc (suc (suc (suc (suc (suc (suc (suc (suc (suc n))))))))))) a = refl
 
 by_code : {P : Type 0} (code : ℕ) (a : ℤ) → IsTrue (takes_by (Array 0 (pos 0)) (operation_of code) a) → (code ≡ 0 → P) → (code ≡ 1 → P) → (code ≡ 2 → P) → P
 by_code zero a h get set add = get refl

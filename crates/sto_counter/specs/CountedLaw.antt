@@ -17,7 +17,7 @@ use Rattle.sto_item.specs.Pending.{Entry}
 use Rattle.sto_item.specs.Agreement.{Agrees, AreTrueOf, word_of}
 use Rattle.sto_model.specs.declared.call.Call.{Call}
 use Rattle.sto_model.specs.declared.operation.Operation.{Operation}
-use Rattle.sto_model.specs.declared.operation.Operation.TheVariants.{Get, Set, Add, Test as TestWord, Take, Put, Remove, Has, Len, Next, Count, Scan}
+use Rattle.sto_model.specs.declared.operation.Operation.TheVariants.{Get, Set, Add, Test as TestWord, Take, Put, Remove, Has, Len, Next, Count, Scan, Push, Pop}
 use Rattle.sto_model.specs.declared.shape.Shape.TheVariants.{Counter}
 use Rattle.sto_model.specs.Told.{Told, is_write}
 use Rattle.sto_model.specs.Told as T
@@ -107,10 +107,12 @@ all_here (Some Len) a b x = tt
 all_here (Some Next) a b x = tt
 all_here (Some Count) a b x = tt
 all_here (Some Scan) a b x = tt
+all_here (Some Push) a b x = tt
+all_here (Some Pop) a b x = tt
 all_here None a b x = tt
 
 -- what a test observes
-test_observed : (t : Test) (k v x : ℤ) (b : Bool) → compares t v k ≡ b → FitsSigned w64 x → IsTrue (holds_of (word_pred_of 0 (if compares t v k then t else negated t) k) x) ↔ (compares t x k ≡ compares t v k)
+pub test_observed : (t : Test) (k v x : ℤ) (b : Bool) → compares t v k ≡ b → FitsSigned w64 x → IsTrue (holds_of (word_pred_of 0 (if compares t v k then t else negated t) k) x) ↔ (compares t x k ≡ compares t v k)
 test_observed t k v x true e f = rw e (λ h. sym (holds_plain 0 t k x f) ∙ h, λ h. holds_plain 0 t k x f ∙ h)
 test_observed t k v x false e f =
     let z : holds_of (word_pred_of 0 (negated t) k) x ≡ not (compares t x k) = holds_plain 0 (negated t) k x f ∙ compares-negated t x k in
@@ -203,7 +205,7 @@ module _ (a : ℤ) (f : FitsSigned w64 a) where
 abbrev call_of : ℕ → ℤ → ℤ → Call
 call_of code a b = record { object = 0; code = code; a = a; b = b }
 
-far : (n : ℕ) (a : ℤ) → takes_by (Counter (pos 0)) (slice_get (Put ∷ Remove ∷ Has ∷ Len ∷ Next ∷ Count ∷ Scan ∷ []) n) a ≡ false
+far : (n : ℕ) (a : ℤ) → takes_by (Counter (pos 0)) (slice_get (Put ∷ Remove ∷ Has ∷ Len ∷ Next ∷ Count ∷ Scan ∷ Push ∷ Pop ∷ []) n) a ≡ false
 far zero a = refl
 far (suc zero) a = refl
 far (suc (suc zero)) a = refl
@@ -211,7 +213,9 @@ far (suc (suc (suc zero))) a = refl
 far (suc (suc (suc (suc zero)))) a = refl
 far (suc (suc (suc (suc (suc zero))))) a = refl
 far (suc (suc (suc (suc (suc (suc zero)))))) a = refl
-far (suc (suc (suc (suc (suc (suc (suc n))))))) a = refl
+far (suc (suc (suc (suc (suc (suc (suc zero))))))) a = refl
+far (suc (suc (suc (suc (suc (suc (suc (suc zero)))))))) a = refl
+far (suc (suc (suc (suc (suc (suc (suc (suc (suc n))))))))) a = refl
 
 some_test : (o : Option Test) → is_some o ≡ true → (t : Test) × (o ≡ Some t)
 some_test None e = cc

@@ -4,7 +4,7 @@ use Rattle.std.specs.Int.{w64}
 use Rattle.std.specs.Int.RustNames.{FitsSigned}
 use Rattle.std.proofs.Common.{sym, ◌∙◌, subst}
 use Rattle.sto_model.specs.declared.call.Call.{Call}
-use Rattle.sto_model.specs.declared.operation.Operation.TheVariants.{Next, Count, Scan}
+use Rattle.sto_model.specs.declared.operation.Operation.TheVariants.{Next, Count, Scan, Push, Pop}
 use Rattle.sto_model.specs.declared.shape.Shape.TheVariants.{Hash}
 use Rattle.sto_model.specs.Operations.{operation_of}
 use Rattle.sto_model.specs.Objects.{takes_by}
@@ -14,11 +14,13 @@ use Rattle.sto_hash.specs.Hashed.{HashTakes}
 abbrev pub call_of : ℕ → ℤ → ℤ → Call
 call_of code a b = record { object = 0; code = code; a = a; b = b }
 
-far : (buckets n : ℕ) (a : ℤ) → takes_by (Hash buckets 0) (slice_get (Next ∷ Count ∷ Scan ∷ []) n) a ≡ false
+far : (buckets n : ℕ) (a : ℤ) → takes_by (Hash buckets 0) (slice_get (Next ∷ Count ∷ Scan ∷ Push ∷ Pop ∷ []) n) a ≡ false
 far buckets zero a = refl
 far buckets (suc zero) a = refl
 far buckets (suc (suc zero)) a = refl
-far buckets (suc (suc (suc n))) a = refl
+far buckets (suc (suc (suc zero))) a = refl
+far buckets (suc (suc (suc (suc zero)))) a = refl
+far buckets (suc (suc (suc (suc (suc n))))) a = refl
 
 pub by_code :
     {P : Type 0} (buckets code : ℕ) (a : ℤ) → IsTrue (takes_by (Hash buckets 0) (operation_of code) a)

@@ -3,7 +3,7 @@ ghost use Rattle.std.specs.Prelude.{◌≡◌, ◌<◌, ◌^◌, ◌↔◌, ◌+
 ghost use Rattle.sto_model.specs.Told.{told};
 ghost use Rattle.sto_model.specs.Rows.{keys_beside};
 ghost use Rattle.sto_model.specs.Operations.{operation_of};
-ghost use Rattle.sto_model.specs.Objects.{only_value, value_or_absent, in_range, added_at, box_effect, counter_effect, array_effect, hash_effect, tree_effect, put_effect, remove_effect, effect_by, takes_by, takes as takes_operation, IsTaken};
+ghost use Rattle.sto_model.specs.Objects.{only_value, value_or_absent, in_range, added_at, box_effect, counter_effect, array_effect, hash_effect, tree_effect, put_effect, remove_effect, vector_effect, push_effect, pop_effect, effect_by, takes_by, takes as takes_operation, IsTaken};
 
 use crate::call::Call;
 use crate::operation::{Operation, test_at};
@@ -17,7 +17,7 @@ use sto_part::{NoMemory, compare};
 ///
 /// A box takes get and set; a counter get, add, test with a number from 0 to 5, and take; an array
 /// get, set and add; a hash table get, put, remove, has and len; a tree get, put, remove, len,
-/// next, count and scan.
+/// next, count and scan; a vector get, test with a number from 0 to 5, len, push and pop.
 pub fn takes(shapes: &Shapes, call: &Call) -> bool
     ensures { IsTrue result ↔ IsTaken shapes.now.items call.now }
 {
@@ -45,6 +45,7 @@ pub fn takes_code(shape: Shape, code: u8, a: i64) -> bool
             }
             Shape::Hash { buckets, .. } => buckets > 0 && is_of_a_table(operation),
             Shape::Tree { .. } => is_of_a_tree(operation),
+            Shape::Vector { .. } => is_of_a_vector(operation, a),
         },
         None => false,
     }
@@ -74,6 +75,16 @@ fn is_of_a_tree(operation: Operation) -> bool
     )
 }
 
+fn is_of_a_vector(operation: Operation, a: i64) -> bool
+    ensures { result ≡ takes_operation (Shape.Vector 0) operation a }
+{
+    match operation {
+        Operation::Get | Operation::Len | Operation::Push | Operation::Pop => true,
+        Operation::Test => test_at(a).is_some(),
+        _ => false,
+    }
+}
+
 pub(crate) fn ask_rows(
     alloc: Global,
     rows: &mut Rows,
@@ -94,6 +105,7 @@ pub(crate) fn ask_rows(
                 rows, buckets, places, operation, call.a, call.b,
             ),
             Shape::Tree { leaves } => ask_tree(alloc, rows, leaves, operation, call.a, call.b),
+            Shape::Vector { capacity } => ask_vector(rows, capacity, operation, call.a, call.b),
         },
         None => Ok(Reply::Absent),
     }
@@ -226,6 +238,33 @@ fn ask_tree(
     }
 }
 
+fn ask_vector(
+    rows: &mut Rows,
+    capacity: u32,
+    operation: Operation,
+    a: i64,
+    b: i64,
+) -> Result<Reply, NoMemory>
+    ensures reply { IfOk result (λ r. told r ≡ (vector_effect capacity operation a b rows.old.items).reply) }
+    ensures after { OnOk result (rows.new.items ≡ (vector_effect capacity operation a b rows.old.items).after) }
+    ensures err { OnErr result (rows.new.items ≡ rows.old.items) }
+{
+    match operation {
+        Operation::Get => Ok(shown(rows.value(a))),
+        Operation::Test => match test_at(a) {
+            Some(test) => Ok(Reply::Flag(compare(test, i64::from(rows.len()), b))),
+            None => Ok(Reply::Flag(false)),
+        },
+        Operation::Len => Ok(Reply::Value(i64::from(rows.len()))),
+        Operation::Push => {
+            let full = capacity <= rows.len();
+            push_value(rows, full, a)
+        }
+        Operation::Pop => Ok(pop_value(rows)),
+        _ => Ok(Reply::Absent),
+    }
+}
+
 // The value of the one row, or 0 where there is none.
 fn value_of_one(rows: &Rows) -> i64
     ensures { result ≡ only_value rows.now.items }
@@ -289,6 +328,38 @@ fn remove_pair(rows: &mut Rows, key: i64) -> Reply
     ensures after { rows.new.items ≡ (remove_effect key rows.old.items).after }
 {
     Reply::Flag(rows.remove(key))
+}
+
+fn push_value(rows: &mut Rows, full: bool, value: i64) -> Result<Reply, NoMemory>
+    ensures reply { IfOk result (λ r. told r ≡ (push_effect full value rows.old.items).reply) }
+    ensures after { OnOk result (rows.new.items ≡ (push_effect full value rows.old.items).after) }
+    ensures err { OnErr result (rows.new.items ≡ rows.old.items) }
+{
+    if full {
+        Ok(Reply::Full)
+    } else {
+        let last = i64::from(rows.len());
+        rows.put(last, value)?;
+        Ok(Reply::Done)
+    }
+}
+
+fn pop_value(rows: &mut Rows) -> Reply
+    ensures reply { told result ≡ (pop_effect (length rows.old.items) rows.old.items).reply }
+    ensures after { rows.new.items ≡ (pop_effect (length rows.old.items) rows.old.items).after }
+{
+    let size = rows.len();
+    if size == 0 {
+        return Reply::Absent;
+    }
+    let last = i64::from(size - 1);
+    match rows.value(last) {
+        Some(value) => {
+            rows.remove(last);
+            Reply::Value(value)
+        }
+        None => Reply::Absent,
+    }
 }
 
 // How many keys stand in the bucket of a key.

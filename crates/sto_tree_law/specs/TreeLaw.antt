@@ -44,7 +44,9 @@ by_code leaves P a b get put remove len next count scan (suc (suc (suc (suc (suc
 by_code leaves P a b get put remove len next count scan (suc (suc (suc (suc (suc (suc (suc (suc (suc zero))))))))) t = next
 by_code leaves P a b get put remove len next count scan (suc (suc (suc (suc (suc (suc (suc (suc (suc (suc zero)))))))))) t = count
 by_code leaves P a b get put remove len next count scan (suc (suc (suc (suc (suc (suc (suc (suc (suc (suc (suc zero))))))))))) t = scan
-by_code leaves P a b get put remove len next count scan (suc (suc (suc (suc (suc (suc (suc (suc (suc (suc (suc (suc n)))))))))))) t = cc
+by_code leaves P a b get put remove len next count scan (suc (suc (suc (suc (suc (suc (suc (suc (suc (suc (suc (suc zero)))))))))))) t = cc
+by_code leaves P a b get put remove len next count scan (suc (suc (suc (suc (suc (suc (suc (suc (suc (suc (suc (suc (suc zero))))))))))))) t = cc
+by_code leaves P a b get put remove len next count scan (suc (suc (suc (suc (suc (suc (suc (suc (suc (suc (suc (suc (suc (suc n)))))))))))))) t = cc
 
 -- each home is the one object
 homes_owned : (i n : ℕ) → EachOwner 1 (listed (λ (q : ℕ). (0, q)) i n)
