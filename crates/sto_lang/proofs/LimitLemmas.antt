@@ -37,6 +37,7 @@ small_parts (declares.Hash buckets places) e =
     let product : natural buckets * (1 + natural places) ≤ 1024 * 65 = mul-le-mul b q in
     omega (arith, product)
 small_parts (declares.Tree leaves) e = omega (arith, at_most 1 256 leaves e)
+small_parts (declares.Vector capacity) e = omega (arith, at_most 1 4096 capacity e)
 
 pub small_words : (declared : Declared) → is_in_ranges 2 declared ≡ true → word_count (shape_of declared) < 2 ^ 32
 small_words (declares.Box value) e = omega arith
@@ -50,6 +51,7 @@ small_words (declares.Hash buckets places) e =
     let product : natural buckets * (3 * natural places) ≤ 1024 * 192 = mul-le-mul b q in
     omega (arith, product)
 small_words (declares.Tree leaves) e = omega (arith, at_most 1 256 leaves e)
+small_words (declares.Vector capacity) e = omega (arith, at_most 1 4096 capacity e)
 
 -- version 2 has the widest limits
 length_by : (b : Bool) → cond b 16384 4096 ≤ 16384
@@ -70,6 +72,7 @@ widest version (declares.Counter value) e = refl
 widest version (declares.Array len value) e = wider (most_length version) len (length_by (version == 2)) e
 widest version (declares.Hash buckets places) e = e
 widest version (declares.Tree leaves) e = e
+widest version (declares.Vector capacity) e = e
 
 threads_by : (b : Bool) → cond b 64 16 ≤ 64
 threads_by true = omega arith

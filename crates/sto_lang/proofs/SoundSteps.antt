@@ -33,7 +33,7 @@ use Rattle.sto_lang.specs.Sound.{HasRanges, AllDiffer, numbered_from, NameThread
 use Rattle.sto_lang.proofs.FittingLemmas.{fits, declared, few_threads, threads_fit, second}
 use Rattle.sto_lang.proofs.LimitLemmas.{length_most}
 use Rattle.sto_lang.proofs.ObjectLemmas as rooms
-use Rattle.sto_lang.proofs.SoundForms.{NamesWell}
+use Rattle.sto_lang.proofs.SoundForms.{NamesWell, IsOfVersion}
 use Rattle.sto_lang.proofs.SoundDrafts.{IsSoundBegun, IsSoundInside, count_inside, IsSoundDraft}
 use Rattle.sto_lang.proofs.SoundPlaces.{both, place_within}
 use Rattle.sto_lang.proofs.Differing.{list_any_map, differ_push, fresh, numbers_name, numbers_last, numbers_differ}
@@ -92,24 +92,29 @@ ranges_2 v (shapes.Counter value) h = tt
 ranges_2 v (shapes.Array len value) h = (h.0, omega (arith, h.1, length_most v))
 ranges_2 v (shapes.Hash buckets places) h = h
 ranges_2 v (shapes.Tree leaves) h = h
+ranges_2 v (shapes.Vector capacity) h = (refl, h.1)
 
 first_of : (v : ℕ) → (v ≡ 1) ⊎ (v ≡ 2) → (v == 2) ≡ false → v ≡ 1
 first_of v (inl e) h = e
 first_of v (inr e) h = absurd (let same : (v == 2) ≡ true = ap (λ w. w == 2) e in cc)
 
-declared_ranges : (v : ℕ) (declared : Declared) → is_in_ranges v declared ≡ true → HasRanges v (shape_of declared)
-declared_ranges v (declares.Box value) e = tt
-declared_ranges v (declares.Counter value) e = tt
-declared_ranges v (declares.Array len value) e = natural_in_range 1 (most_length v) len e
-declared_ranges v (declares.Hash buckets places) e =
+is_second : (v : ℕ) → (v == 2) ≡ true → v ≡ 2
+is_second v e = grind (arith, nat_tests)
+
+declared_ranges : (v : ℕ) (declared : Declared) → IsOfVersion v declared → is_in_ranges v declared ≡ true → HasRanges v (shape_of declared)
+declared_ranges v (declares.Box value) k e = tt
+declared_ranges v (declares.Counter value) k e = tt
+declared_ranges v (declares.Array len value) k e = natural_in_range 1 (most_length v) len e
+declared_ranges v (declares.Hash buckets places) k e =
     let parts = both (in_range 1 1024 buckets) (in_range 1 64 places) e in
     (natural_in_range 1 1024 buckets parts.0, natural_in_range 1 64 places parts.1)
-declared_ranges v (declares.Tree leaves) e = natural_in_range 1 256 leaves e
+declared_ranges v (declares.Tree leaves) k e = natural_in_range 1 256 leaves e
+declared_ranges v (declares.Vector capacity) k e = (is_second v k, natural_in_range 1 4096 capacity e)
 
 free_name : (name : List ℕ) (objects : List Object) → is_some (object_place name objects) ≡ false → list_any (bytes_eq name) (map (λ o. o.name) objects) ≡ false
 free_name name objects e = list_any_map (bytes_eq name) (λ o. o.name) objects ∙ fresh (λ o. bytes_eq name o.name) objects e
 
-declare_sound : (d : Draft) (later : List (List ℕ)) (name : List ℕ) (what : Declared) → IsSoundDraft d → is_name name ≡ true → HasNoFault d later (DeclareLine name what) → IsSoundDraft (with_form d (DeclareLine name what))
+declare_sound : (d : Draft) (later : List (List ℕ)) (name : List ℕ) (what : Declared) → IsSoundDraft d → NamesWell d.version (DeclareLine name what) → HasNoFault d later (DeclareLine name what) → IsSoundDraft (with_form d (DeclareLine name what))
 declare_sound d later name what s named n =
     let o : Object = record { name = name; shape = shape_of what } in
     let room = declared d name what n.within in
@@ -117,11 +122,11 @@ declare_sound d later name what s named n =
     let shapes = in_order (shapes_in (d.objects ++ o ∷ [])) in
     record {
       versioned = s.versioned;
-      named = All-push (λ o. is_name o.name ≡ true) d.objects o s.named named;
+      named = All-push (λ o. is_name o.name ≡ true) d.objects o s.named named.0;
       own_names = subst AllDiffer (sym (map-append (λ o. o.name) d.objects (o ∷ []))) (differ_push (map (λ o. o.name) d.objects) name (free_name name d.objects n.free) s.own_names);
       thread_names = s.thread_names;
       few_objects = omega (arith, length_push d.objects o, space.few);
-      in_ranges = All-push (λ o. HasRanges d.version o.shape) d.objects o s.in_ranges (declared_ranges d.version what room.0);
+      in_ranges = All-push (λ o. HasRanges d.version o.shape) d.objects o s.in_ranges (declared_ranges d.version what named.1 room.0);
       few_parts = omega (arith, sum_by_push (λ object. part_count object.shape) d.objects o, space.few_parts);
       few_words = omega (arith, sum_by_push (λ object. word_count object.shape) d.objects o, space.few_words);
       few_threads = s.few_threads;

@@ -15,7 +15,7 @@ use Rattle.sto_form.specs.declared.operation.Operation.TheVariants.{Compare}
 use Rattle.sto_form.specs.Operations.{operation_of, test_of, kinds_with}
 use Rattle.sto_form.specs.Words.{is_name, is_i64, number_of}
 use Rattle.sto_form.specs.Lines.{lines_of, words_of}
-use Rattle.sto_form.specs.Forms.{Operand, ThreadWord, Numbered, Named, Entry, Form, VersionLine, DeclareLine, ThreadLine, BeginLine, CallLine, SumLine, DiffLine, IfLine, ElseLine, EndLine, CancelLine, CommitLine, ScheduleLine, all_of, operand_of, entry_of, declaration, box_line, counter_line, array_line, hash_line, tree_line, alone, asked, call, test_line, call_line, sum_line, diff_line, if_line, repeat_line, version_line, named_line, thread_line, schedule_line, assignment, acting, statement, form_of, is_empty}
+use Rattle.sto_form.specs.Forms.{Operand, ThreadWord, Numbered, Named, Entry, Form, VersionLine, DeclareLine, ThreadLine, BeginLine, CallLine, SumLine, DiffLine, IfLine, ElseLine, EndLine, CancelLine, CommitLine, ScheduleLine, all_of, operand_of, entry_of, declaration, box_line, counter_line, array_line, hash_line, tree_line, vector_line, alone, asked, call, test_line, call_line, sum_line, diff_line, if_line, repeat_line, version_line, named_line, thread_line, schedule_line, assignment, acting, statement, form_of, is_empty}
 use Rattle.sto_lang.specs.declared.fault.ReadError.{ReadError}
 use Rattle.sto_lang.specs.declared.fault.FaultKind.{FaultKind}
 use Rattle.sto_lang.specs.declared.fault.FaultKind.TheVariants.{TooLarge, BadByte}
@@ -74,6 +74,12 @@ tree_said : (w : List ℕ) (ws words : List (List ℕ)) → Where (Says w ws) (t
 tree_said w ws (name ∷ leaves ∷ []) = declares_said w ws name _
 tree_said w ws words = tt
 
+vector_said : (v : ℕ) (w : List ℕ) (ws words : List (List ℕ)) → Where (Says w ws) (vector_line v words)
+vector_said v w ws [] = tt
+vector_said v w ws (name ∷ []) = tt
+vector_said v w ws (name ∷ capacity ∷ []) = where_true (Says w ws) (v == 2) _ (λ e. declares_said w ws name _)
+vector_said v w ws (name ∷ capacity ∷ other ∷ words) = tt
+
 alone_said : (w : List ℕ) (ws : List (List ℕ)) (form : Form) (words : List (List ℕ)) → Says w ws form → Where (Says w ws) (alone form words)
 alone_said w ws form [] h = h
 alone_said w ws form (word ∷ words) h = tt
@@ -88,10 +94,10 @@ test_said : (w : List ℕ) (ws : List (List ℕ)) (to : Option (List ℕ)) (obje
 test_said w ws to object [] = tt
 test_said w ws to object (test ∷ words) = after (Says w ws) (test_of test) _ (λ t. call_said w ws to object words (Compare t))
 
-call_line_said : (w : List ℕ) (ws : List (List ℕ)) (to : Option (List ℕ)) (word : List ℕ) (words : List (List ℕ)) → Where (Says w ws) (call_line to word words)
-call_line_said w ws to word [] = tt
-call_line_said w ws to word (object ∷ words) =
-    either (Says w ws) (bytes_eq word (codes "test")) _ _ (test_said w ws to object words) (after (Says w ws) (operation_of word) (call to object words) (call_said w ws to object words))
+call_line_said : (v : ℕ) (w : List ℕ) (ws : List (List ℕ)) (to : Option (List ℕ)) (word : List ℕ) (words : List (List ℕ)) → Where (Says w ws) (call_line v to word words)
+call_line_said v w ws to word [] = tt
+call_line_said v w ws to word (object ∷ words) =
+    either (Says w ws) (bytes_eq word (codes "test")) _ _ (test_said w ws to object words) (after (Says w ws) (operation_of v word) (call to object words) (call_said w ws to object words))
 
 sum_said : (w : List ℕ) (ws : List (List ℕ)) (to : List ℕ) (words : List (List ℕ)) → Where (Says w ws) (sum_line to words)
 sum_said w ws to (a ∷ b ∷ []) = after (Says w ws) (operand_of a) _ (λ x. made (Says w ws) (operand_of b) (λ y. SumLine to x y) (λ y. tt))
@@ -141,19 +147,19 @@ schedule_said : (v : ℕ) (w : List ℕ) (ws words : List (List ℕ)) → Where 
 schedule_said v w ws [] = tt
 schedule_said v w ws (word ∷ words) = made_some w ws (all_of (entry_of v) (word ∷ words)) (some_value (entry_of v) word words)
 
-assignment_said : (w : List ℕ) (ws : List (List ℕ)) (to : List ℕ) (words : List (List ℕ)) → Where (Says w ws) (assignment to words)
-assignment_said w ws to [] = tt
-assignment_said w ws to (word ∷ words) =
-    where_false (Says w ws) (is_name to) _ (λ h. either (Says w ws) (bytes_eq word (codes "sum")) _ _ (sum_said w ws to words) (either (Says w ws) (bytes_eq word (codes "diff")) _ _ (diff_said w ws to words) (call_line_said w ws (Some to) word words)))
+assignment_said : (v : ℕ) (w : List ℕ) (ws : List (List ℕ)) (to : List ℕ) (words : List (List ℕ)) → Where (Says w ws) (assignment v to words)
+assignment_said v w ws to [] = tt
+assignment_said v w ws to (word ∷ words) =
+    where_false (Says w ws) (is_name to) _ (λ h. either (Says w ws) (bytes_eq word (codes "sum")) _ _ (sum_said w ws to words) (either (Says w ws) (bytes_eq word (codes "diff")) _ _ (diff_said w ws to words) (call_line_said v w ws (Some to) word words)))
 
-acting_said : (w : List ℕ) (ws : List (List ℕ)) (word : List ℕ) (words : List (List ℕ)) → Where (Says w ws) (acting word words)
-acting_said w ws word words =
+acting_said : (v : ℕ) (w : List ℕ) (ws : List (List ℕ)) (word : List ℕ) (words : List (List ℕ)) → Where (Says w ws) (acting v word words)
+acting_said v w ws word words =
     either (Says w ws) (bytes_eq word (codes "if")) _ _ (if_said w ws words)
     (either (Says w ws) (bytes_eq word (codes "else")) _ _ (alone_said w ws ElseLine words tt)
     (either (Says w ws) (bytes_eq word (codes "repeat")) _ _ (repeat_said w ws words)
     (either (Says w ws) (bytes_eq word (codes "end")) _ _ (alone_said w ws EndLine words tt)
     (either (Says w ws) (bytes_eq word (codes "cancel")) _ _ (alone_said w ws CancelLine words tt)
-    (either (Says w ws) (bytes_eq word (codes "commit")) _ _ (alone_said w ws CommitLine words tt) (call_line_said w ws None word words))))))
+    (either (Says w ws) (bytes_eq word (codes "commit")) _ _ (alone_said w ws CommitLine words tt) (call_line_said v w ws None word words))))))
 
 statement_said : (v : ℕ) (word : List ℕ) (words : List (List ℕ)) → Where (Says word words) (statement v word words)
 statement_said v word words =
@@ -164,14 +170,15 @@ statement_said v word words =
     (either P (bytes_eq word (codes "array")) _ _ (array_said word words words)
     (either P (bytes_eq word (codes "hash")) _ _ (hash_said word words words)
     (either P (bytes_eq word (codes "tree")) _ _ (tree_said word words words)
+    (either P (bytes_eq word (codes "vector")) _ _ (vector_said v word words words)
     (either P (bytes_eq word (codes "thread")) _ _ (thread_said v word words words)
     (either P (bytes_eq word (codes "begin")) _ _ (alone_said word words BeginLine words tt)
-    (either P (bytes_eq word (codes "schedule")) _ _ (schedule_said v word words words) (acting_said word words word words)))))))))
+    (either P (bytes_eq word (codes "schedule")) _ _ (schedule_said v word words words) (acting_said v word words word words))))))))))
 
 form_said : (v : ℕ) (word : List ℕ) (words : List (List ℕ)) → Where (Says word words) (form_of v word words)
 form_said v word [] = statement_said v word []
 form_said v word (second ∷ words) =
-    either (Says word (second ∷ words)) (bytes_eq second (codes "=")) _ _ (assignment_said word (second ∷ words) word words) (statement_said v word (second ∷ words))
+    either (Says word (second ∷ words)) (bytes_eq second (codes "=")) _ _ (assignment_said v word (second ∷ words) word words) (statement_said v word (second ∷ words))
 
 -- The words `sto` and `2` are the form that sets version 2, and no others are.
 

@@ -2,9 +2,9 @@
 use Rattle.std.proofs.Common.{◌≡◌, pos, [], ◌∷◌, refl, None, Some, Ok, codes}
 use Rattle.std.specs.Fmt.{digits}
 use Rattle.std.specs.Int.{int_wrap}
-use Rattle.sto_model.specs.declared.shape.Shape.TheVariants.{Single, Hash}
+use Rattle.sto_model.specs.declared.shape.Shape.TheVariants.{Single, Hash, Vector}
 use Rattle.sto_lang.specs.declared.arg.Arg.TheVariants.{Num, Var}
-use Rattle.sto_lang.specs.declared.fault.FaultKind.TheVariants.{BadLine, WrongPlace, TakenName, UnknownName, OutOfLimits}
+use Rattle.sto_lang.specs.declared.fault.FaultKind.TheVariants.{BadLine, WrongPlace, TakenName, UnknownName, WrongKind, OutOfLimits}
 use Rattle.sto_lang.specs.Statements.{Nothing, Ask, Sum}
 use Rattle.sto_lang.specs.Drafts.{opening}
 use Rattle.sto_lang.specs.Files.{fault, with_lines}
@@ -54,6 +54,42 @@ largest_hash : with_lines opening 1 (lines_of (codes "sto 2\nhash h 682 64\n"))
     ≡ Ok (record { version = 2; declarations = record { name = codes "h"; shape = Hash 682 64; number = 0 } ∷ []; names = []; threads = []; schedule = None })
 unfolding digits int_wrap
 largest_hash = refl
+
+-- vectors are of version 2 alone
+early_vector : with_lines opening 1 (lines_of (codes "vector q 2\n")) ≡ fault 1 BadLine
+unfolding digits int_wrap
+early_vector = refl
+
+early_push : with_lines opening 1 (lines_of (codes "box a 0\nthread\nbegin\npush a 1\ncommit\n")) ≡ fault 4 BadLine
+unfolding digits int_wrap
+early_push = refl
+
+early_pop : with_lines opening 1 (lines_of (codes "box a 0\nthread\nbegin\nx = pop a\ncommit\n")) ≡ fault 4 BadLine
+unfolding digits int_wrap
+early_pop = refl
+
+wide_vector : with_lines opening 1 (lines_of (codes "sto 2\nvector q 4097\n")) ≡ fault 2 OutOfLimits
+unfolding digits int_wrap
+wide_vector = refl
+
+push_of_a_box : with_lines opening 1 (lines_of (codes "sto 2\nbox a 0\nthread p\nbegin\npush a 1\ncommit\n")) ≡ fault 5 WrongKind
+unfolding digits int_wrap
+push_of_a_box = refl
+
+vector_calls : with_lines opening 1 (lines_of (codes "sto 2\nvector q 2\nthread p\nbegin\npush q 5\nx = pop q\nx = test q ge 1\nx = get q 0\nx = len q\ncommit\n"))
+    ≡ Ok (record {
+      version = 2;
+      declarations = record { name = codes "q"; shape = Vector 2; number = 0 } ∷ [];
+      names = codes "p" ∷ [];
+      threads = (record {
+        variables = codes "x" ∷ [];
+        body = Ask None 0 12 (Num (pos 5)) (Num (pos 0)) (Ask (Some 0) 0 13 (Num (pos 0)) (Num (pos 0)) (Ask (Some 0) 0 3 (Num (pos 5)) (Num (pos 1)) (Ask (Some 0) 0 0 (Num (pos 0)) (Num (pos 0)) (Ask (Some 0) 0 8 (Num (pos 0)) (Num (pos 0)) Nothing))));
+        weight = 6;
+      } ∷ []) ∷ [];
+      schedule = None;
+    })
+unfolding digits int_wrap
+vector_calls = refl
 
 named_threads : with_lines opening 1 (lines_of (codes "\nsto 2\nbox a 0\nthread up\nbegin\nx = get a\ny = sum x 1\nset a y\ncommit\nthread down\nschedule up:4 down:10\n"))
     ≡ Ok (record {

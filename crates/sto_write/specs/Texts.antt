@@ -12,7 +12,7 @@ use Rattle.sto_lang.specs.Shapes.{kind_of}
 use Rattle.sto_form.specs.declared.declared.Declared.{Declared}
 use Rattle.sto_form.specs.declared.declared.Declared.TheVariants as declares
 use Rattle.sto_form.specs.declared.operation.Operation.{Operation}
-use Rattle.sto_form.specs.declared.operation.Operation.TheVariants.{Get, Set, Add, Compare, Take, Put, Remove, Has, Len, Next, Count, Scan}
+use Rattle.sto_form.specs.declared.operation.Operation.TheVariants.{Get, Set, Add, Compare, Take, Put, Remove, Has, Len, Next, Count, Scan, Push, Pop}
 use Rattle.sto_form.specs.Operations.{operation_word, test_word}
 use Rattle.sto_form.specs.Forms.{Operand, Number, Variable, ThreadWord, Numbered, Named, Entry, Form, VersionLine, DeclareLine, ThreadLine, BeginLine, CallLine, SumLine, DiffLine, IfLine, ElseLine, RepeatLine, EndLine, CancelLine, CommitLine, ScheduleLine}
 use Rattle.sto_lang.specs.declared.arg.Arg.{Arg}
@@ -46,6 +46,7 @@ declare_words name (declares.Counter value) = codes "counter" ∷ name ∷ numbe
 declare_words name (declares.Array len value) = codes "array" ∷ name ∷ number_word len ∷ number_word value ∷ []
 declare_words name (declares.Hash buckets places) = codes "hash" ∷ name ∷ number_word buckets ∷ number_word places ∷ []
 declare_words name (declares.Tree leaves) = codes "tree" ∷ name ∷ number_word leaves ∷ []
+declare_words name (declares.Vector capacity) = codes "vector" ∷ name ∷ number_word capacity ∷ []
 
 -- after the object of a call: the comparison of a `test`, then the arguments
 abbrev pub call_words : Operation → List Operand → List (List ℕ)
@@ -88,6 +89,7 @@ declared_as (shapes.Counter value) = declares.Counter (Some value)
 declared_as (shapes.Array len value) = declares.Array (whole_number len) (Some value)
 declared_as (shapes.Hash buckets places) = declares.Hash (whole_number buckets) (whole_number places)
 declared_as (shapes.Tree leaves) = declares.Tree (whole_number leaves)
+declared_as (shapes.Vector capacity) = declares.Vector (whole_number capacity)
 
 abbrev pub declare_line : Declaration → Form
 declare_line d = DeclareLine d.name (declared_as d.shape)
@@ -109,7 +111,8 @@ abbrev pub operation_with : ℕ → Arg → Operation
 operation_with code a =
     if code == 0 then Get else if code == 1 then Set else if code == 2 then Add else if code == 3 then Compare (test_with a)
     else if code == 4 then Take else if code == 5 then Put else if code == 6 then Remove else if code == 7 then Has
-    else if code == 8 then Len else if code == 9 then Next else if code == 10 then Count else Scan
+    else if code == 8 then Len else if code == 9 then Next else if code == 10 then Count else if code == 11 then Scan
+    else if code == 12 then Push else Pop
 
 -- the arguments that an operation has on an object of a kind
 abbrev pub arguments_of : Operation → Kind → Arg → Arg → List Arg
@@ -123,6 +126,7 @@ arguments_of Add kind a b = a ∷ b ∷ []
 arguments_of (Compare test) kind a b = b ∷ []
 arguments_of Put kind a b = a ∷ b ∷ []
 arguments_of Len kind a b = []
+arguments_of Pop kind a b = []
 arguments_of Count kind a b = a ∷ b ∷ []
 arguments_of Scan kind a b = a ∷ b ∷ []
 arguments_of operation kind a b = a ∷ []

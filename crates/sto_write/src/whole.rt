@@ -62,6 +62,10 @@ fn push_declaration(out: &mut Text, decl: &Decl) -> Result<(), NoMemory>
             push_named(out, "tree", &decl.name)?;
             push_next_number(out, i64::from(*leaves))?;
         }
+        Shape::Vector { capacity } => {
+            push_named(out, "vector", &decl.name)?;
+            push_next_number(out, i64::from(*capacity))?;
+        }
     }
     out.append("\n")
 }
