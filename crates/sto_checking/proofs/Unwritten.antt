@@ -1,10 +1,10 @@
 -- A run that is no writer's leaves the state as it was.
-use Rattle.std.proofs.Common.{◌≡◌, ℕ, zero, suc, ◌*◌, nat_le, length, ℤ, ◌+ℤ◌, ◌-ℤ◌, int_le, List, [], ◌∷◌, map, refl, sym, ap, ◌∙◌, subst, Bool, true, false, cond, not, ◌||◌, ◌&&◌, Option, None, Some}
-use Rattle.sto_model.specs.Told.{Told, Done, Flag, Absent, Full, is_write}
+use Rattle.std.proofs.Common.{◌≡◌, ℕ, zero, suc, ◌*◌, nat_le, length, ℤ, pos, ◌+ℤ◌, ◌-ℤ◌, int_le, List, [], ◌∷◌, map, refl, sym, ap, ◌∙◌, subst, Bool, true, false, cond, not, ◌||◌, ◌&&◌, Option, None, Some}
+use Rattle.sto_model.specs.Told.{Told, Done, Value, Flag, Absent, Full, is_write}
 use Rattle.sto_model.specs.Rows.{Row, value_at, has_key, with_row, without, keys_beside}
 use Rattle.sto_model.specs.Machine.{Machine, answered, changed, reply_to, state_after}
 use Rattle.sto_model.specs.Operations.{operation_of}
-use Rattle.sto_model.specs.Objects.{Effect, effect, only_value, with_only, in_range, done_in_range, added_at, put_effect, remove_effect, effect_of, effect_by, machine_of, machines_of}
+use Rattle.sto_model.specs.Objects.{Effect, effect, only_value, with_only, in_range, done_in_range, added_at, put_effect, remove_effect, popped, pop_effect, effect_of, effect_by, machine_of, machines_of}
 use Rattle.sto_model.specs.Run.{Script, State}
 use Rattle.sto_model.specs.Serial.{SerialRun, is_written, has_written, is_writer_run, by_next, ended, heard, run_within, settled, serial_run_of}
 use Rattle.sto_model.specs.declared.call.Call.{Call}
@@ -15,7 +15,7 @@ use Rattle.sto_model.specs.declared.run.End.TheVariants as E
 use Rattle.sto_model.specs.declared.operation.Operation.{Operation}
 use Rattle.sto_model.specs.declared.operation.Operation.TheVariants as O
 use Rattle.sto_model.specs.declared.shape.Shape.{Shape}
-use Rattle.sto_model.specs.declared.shape.Shape.TheVariants.{Single, Counter, Array, Hash, Tree}
+use Rattle.sto_model.specs.declared.shape.Shape.TheVariants.{Single, Counter, Array, Hash, Tree, Vector}
 use Rattle.sto_lang.specs.Objects.{shapes_of}
 use Rattle.sto_lang.specs.Scripts.{File}
 use Rattle.sto_lang.specs.Scripts as texts
@@ -36,6 +36,8 @@ code_of O.Len = 8
 code_of O.Next = 9
 code_of O.Count = 10
 code_of O.Scan = 11
+code_of O.Push = 12
+code_of O.Pop = 13
 
 code_in : Option Operation → ℕ
 unfolding code_of
@@ -56,7 +58,9 @@ code_is (suc (suc (suc (suc (suc (suc (suc (suc zero)))))))) o e = ap code_in e
 code_is (suc (suc (suc (suc (suc (suc (suc (suc (suc zero))))))))) o e = ap code_in e
 code_is (suc (suc (suc (suc (suc (suc (suc (suc (suc (suc zero)))))))))) o e = ap code_in e
 code_is (suc (suc (suc (suc (suc (suc (suc (suc (suc (suc (suc zero))))))))))) o e = ap code_in e
-code_is (suc (suc (suc (suc (suc (suc (suc (suc (suc (suc (suc (suc n)))))))))))) o e = absurd cc
+code_is (suc (suc (suc (suc (suc (suc (suc (suc (suc (suc (suc (suc zero)))))))))))) o e = ap code_in e
+code_is (suc (suc (suc (suc (suc (suc (suc (suc (suc (suc (suc (suc (suc zero))))))))))))) o e = ap code_in e
+code_is (suc (suc (suc (suc (suc (suc (suc (suc (suc (suc (suc (suc (suc (suc n)))))))))))))) o e = absurd cc
 
 wrote : {A : Type 0} → true ≡ false → A
 wrote e = absurd cc
@@ -72,6 +76,14 @@ sum_stays (Some x) done rows h = wrote h
 added_stays : (v : Option ℤ) (i d : ℤ) (rows : List Row) → StaysAs 2 rows (added_at v i d rows)
 added_stays None i d rows h = refl
 added_stays (Some x) i d rows h = sum_stays (in_range (x +ℤ d)) (λ y. with_row rows i y) rows h
+
+popped_stays : (o : Option ℤ) (k : ℤ) (rows : List Row) → StaysAs 13 rows (popped o k rows)
+popped_stays None k rows h = refl
+popped_stays (Some x) k rows h = wrote h
+
+pop_stays : (n : ℕ) (rows : List Row) → StaysAs 13 rows (pop_effect n rows)
+pop_stays zero rows h = refl
+pop_stays (suc n) rows h = popped_stays (value_at rows (pos n)) (pos n) rows h
 
 op_stays : (shape : Shape) (o : Operation) (a b : ℤ) (rows : List Row) → StaysAs (code_of o) rows (effect_of shape o a b rows)
 unfolding code_of
@@ -114,6 +126,13 @@ op_stays (Tree leaves) O.Remove a b rows h = by (has_key rows a) h
     by true h = wrote h
     by false h = refl
 op_stays (Tree leaves) o a b rows h = refl
+op_stays (Vector capacity) O.Push a b rows h = by (nat_le capacity (length rows)) h
+  where
+    by : (t : Bool) → StaysAs 12 rows (cond t (effect Full rows) (effect Done (with_row rows (pos (length rows)) a)))
+    by true h = refl
+    by false h = wrote h
+op_stays (Vector capacity) O.Pop a b rows h = pop_stays (length rows) rows h
+op_stays (Vector capacity) o a b rows h = refl
 
 effect_stays : (shape : Shape) (code : ℕ) (a b : ℤ) (rows : List Row) → StaysAs code rows (effect_by shape (operation_of code) a b rows)
 effect_stays shape code a b rows = by (operation_of code) refl
