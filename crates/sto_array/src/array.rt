@@ -111,8 +111,8 @@ impl TxType for TArray {
     }
 }
 
-// The part of an index.
-pub(crate) fn place_in(len: u32, index: i64) -> Option<u32>
+/// The place of an index among so many; None where it is none of them.
+pub fn place_in(len: u32, index: i64) -> Option<u32>
     ensures { result ≡ place_of len index }
 {
     if 0 <= index && index < i64::from(len) {
@@ -161,8 +161,13 @@ fn one_word(alloc: Global, word: i64) -> Result<PartWords, NoMemory>
     Ok(words)
 }
 
-// The rows of so many parts from the first on.
-fn array_rows_at(alloc: Global, contents: &Contents, first: u32, len: u32) -> Result<Rows, NoMemory>
+/// The rows of so many parts of one word each, from the first on: the keys are 0 and up.
+pub fn array_rows_at(
+    alloc: Global,
+    contents: &Contents,
+    first: u32,
+    len: u32,
+) -> Result<Rows, NoMemory>
     requires { IsArray len (take len (drop first contents.now.items)) }
     ensures { IfOk result (λ r. r.items ≡ array_rows 0 (take len (drop first contents.now.items))) }
 {

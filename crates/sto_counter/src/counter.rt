@@ -116,8 +116,8 @@ fn answer(alloc: Global, call: &Call, value: i64) -> Result<Answer, NoMemory>
     }
 }
 
-// The answer to a test with a number, where the value is known.
-fn test_answer(
+/// The answer to a test with a number of the one word of part 0, which has this value.
+pub fn test_answer(
     alloc: Global,
     test: Option<Test>,
     bound: i64,

@@ -1,0 +1,4 @@
+pub mod Vectored
+pub mod VectoredRows
+pub mod VectoredLaw
+pub mod VectoredPlans
