@@ -25,11 +25,12 @@ asked_fits (Repeat times body rest) call (inr h) = asked_fits rest call h
 asked_fits (Cancel rest) call h = asked_fits rest call h
 
 pub store_takes :
-    {A B C D E : Type 0} (f : A → Shape) (g : B → Shape) (h : C → Shape) (k : D → Shape) (l : E → Shape) (xs : List A) (ys : List B) (zs : List C) (ws : List D) (vs : List E)
-    (shapes : List Shape) → AreInOrder shapes → AreKinds (map f xs) (map g ys) (map h zs) (map k ws) (map l vs) shapes
+    {A B C D E F : Type 0} (f : A → Shape) (g : B → Shape) (h : C → Shape) (k : D → Shape) (l : E → Shape) (n : F → Shape)
+    (xs : List A) (ys : List B) (zs : List C) (ws : List D) (vs : List E) (us : List F) (shapes : List Shape) → AreInOrder shapes → AreKinds (map f xs) (map g ys) (map h zs) (map k ws) (map l vs) (map n us) shapes
     → (s : Statements) → are_taken shapes s ≡ true → (call : Call) → Asks s call
     → (joined (all_joined (map (λ x. mean_of (f x)) xs))
     (joined (all_joined (map (λ x. mean_of (g x)) ys))
-    (joined (all_joined (map (λ x. mean_of (h x)) zs)) (joined (all_joined (map (λ x. mean_of (k x)) ws)) (all_joined (map (λ x. mean_of (l x)) vs)))))).takes call
-store_takes f g h k l xs ys zs ws vs shapes order kinds s t call asks =
-    subst (λ m. m.takes call) (sym (means_is f g h k l xs ys zs ws vs shapes kinds)) ((takes_all shapes order).takes call (taken shapes s t call asks) (asked_fits s call asks))
+    (joined (all_joined (map (λ x. mean_of (h x)) zs))
+    (joined (all_joined (map (λ x. mean_of (k x)) ws)) (joined (all_joined (map (λ x. mean_of (l x)) vs)) (all_joined (map (λ x. mean_of (n x)) us))))))).takes call
+store_takes f g h k l n xs ys zs ws vs us shapes order kinds s t call asks =
+    subst (λ m. m.takes call) (sym (means_is f g h k l n xs ys zs ws vs us shapes kinds)) ((takes_all shapes order).takes call (taken shapes s t call asks) (asked_fits s call asks))

@@ -6,7 +6,7 @@ use Rattle.std.proofs.lemmas.Nat.{mul-le}
 use Rattle.std.proofs.lemmas.List.Elements.{All-head, All-tail}
 use Rattle.std.proofs.lemmas.List.Sums.{sum_by-cons}
 use Rattle.sto_model.specs.declared.shape.Shape.{Shape}
-use Rattle.sto_model.specs.declared.shape.Shape.TheVariants.{Single, Counter, Array, Hash, Tree}
+use Rattle.sto_model.specs.declared.shape.Shape.TheVariants.{Single, Counter, Array, Hash, Tree, Vector}
 use Rattle.sto_model.specs.Sizes.{part_count}
 use Rattle.sto_lang.specs.Shapes.{in_order}
 use Rattle.sto_lang.specs.Limits.{most_parts}
@@ -34,6 +34,9 @@ is_fit version (Tree leaves) h =
     let some : 1 ≤ leaves = h.0 in
     let most : leaves ≤ 256 = h.1 in
     (some, omega (arith, most))
+is_fit version (Vector capacity) h =
+    let most : capacity ≤ 4096 = h.1.1 in
+    omega (arith, most)
 
 declared_fit : (version : ℕ) (ds : List Declaration) → All (λ d. HasRanges version d.shape) ds → AreFit (map (λ d. d.shape) ds)
 declared_fit version [] h = tt
@@ -53,7 +56,7 @@ in_order_fit : (all : List Shape) → AreFit all → AreFit (in_order all)
 in_order_fit all h =
     let k : (r : ℕ) → AreFit (of_kind r all) = λ r. fit_kind r all h in
     subst AreFit (sym (order_is all))
-    (fit_append (of_kind 0 all) _ (k 0) (fit_append (of_kind 1 all) _ (k 1) (fit_append (of_kind 2 all) _ (k 2) (fit_append (of_kind 3 all) (of_kind 4 all) (k 3) (k 4)))))
+    (fit_append (of_kind 0 all) _ (k 0) (fit_append (of_kind 1 all) _ (k 1) (fit_append (of_kind 2 all) _ (k 2) (fit_append (of_kind 3 all) _ (k 3) (fit_append (of_kind 4 all) (of_kind 5 all) (k 4) (k 5))))))
 
 pub sound_fit : (file : File) → IsSound file → AreFit (shapes_of file.declarations)
 sound_fit file sound = in_order_fit (map (λ d. d.shape) file.declarations) (declared_fit file.version file.declarations sound.in_ranges)

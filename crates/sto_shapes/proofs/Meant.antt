@@ -2,7 +2,7 @@
 use Rattle.std.specs.Prelude.{map, Some}
 use Rattle.std.proofs.Common.{◌≡◌}
 use Rattle.sto_model.specs.declared.call.Call.{Call}
-use Rattle.sto_model.specs.declared.shape.Shape.TheVariants.{Single, Counter, Array, Hash, Tree}
+use Rattle.sto_model.specs.declared.shape.Shape.TheVariants.{Single, Counter, Array, Hash, Tree, Vector}
 use Rattle.sto_lang.specs.Objects.{shapes_of}
 use Rattle.sto_lang.specs.Scripts.{Script}
 use Rattle.sto_lang.specs.Views.{file as view}
@@ -23,19 +23,20 @@ stored s =
     (joined (all_joined (map (λ x. mean_of (Counter x.first)) s.objects.store.second.first))
     (joined (all_joined (map (λ x. mean_of (Array x.len x.first)) s.objects.store.second.second.first))
     (joined (all_joined (map (λ x. mean_of (Hash x.buckets x.places)) s.objects.store.second.second.second.first))
-    (all_joined (map (λ x. mean_of (Tree x.leaves)) s.objects.store.second.second.second.second)))))
+    (joined (all_joined (map (λ x. mean_of (Tree x.leaves)) s.objects.store.second.second.second.second.first))
+    (all_joined (map (λ x. mean_of (Vector x.capacity)) s.objects.store.second.second.second.second.second))))))
 
 -- it is what their shapes mean
 pub stored_means : (s : StoredFile) → stored s ≡ means (shapes_of (view s.file.now).declarations)
 stored_means s =
-    means_is (λ x. Single x.first) (λ x. Counter x.first) (λ x. Array x.len x.first) (λ x. Hash x.buckets x.places) (λ x. Tree x.leaves)
+    means_is (λ x. Single x.first) (λ x. Counter x.first) (λ x. Array x.len x.first) (λ x. Hash x.buckets x.places) (λ x. Tree x.leaves) (λ x. Vector x.capacity)
     s.objects.store.first s.objects.store.second.first s.objects.store.second.second.first s.objects.store.second.second.second.first
-    s.objects.store.second.second.second.second (shapes_of (view s.file.now).declarations) s.kinds
+    s.objects.store.second.second.second.second.first s.objects.store.second.second.second.second.second (shapes_of (view s.file.now).declarations) s.kinds
 
 -- they take each call that a transaction of the file may ask
 pub stored_takes : (s : StoredFile) (place : Place) (script : Script) → transaction_at (view s.file.now) place ≡ Some script → (call : Call) → Asks script.body call → (stored s).takes call
 stored_takes s place script at call asks =
-    store_takes (λ x. Single x.first) (λ x. Counter x.first) (λ x. Array x.len x.first) (λ x. Hash x.buckets x.places) (λ x. Tree x.leaves)
+    store_takes (λ x. Single x.first) (λ x. Counter x.first) (λ x. Array x.len x.first) (λ x. Hash x.buckets x.places) (λ x. Tree x.leaves) (λ x. Vector x.capacity)
     s.objects.store.first s.objects.store.second.first s.objects.store.second.second.first s.objects.store.second.second.second.first
-    s.objects.store.second.second.second.second (shapes_of (view s.file.now).declarations)
+    s.objects.store.second.second.second.second.first s.objects.store.second.second.second.second.second (shapes_of (view s.file.now).declarations)
     (sound_in_order (view s.file.now)) s.kinds script.body (s.runnable place script at).taken call asks

@@ -1,7 +1,7 @@
 //! A file and the store of its objects.
 ghost use Rattle.std.specs.Prelude.{◌≡◌, ◌≤◌, map, Some, IfOk};
 ghost use Rattle.sto_model.specs.declared.call.Call.{Call};
-ghost use Rattle.sto_model.specs.declared.shape.Shape.TheVariants.{Single, Counter, Array, Hash, Tree};
+ghost use Rattle.sto_model.specs.declared.shape.Shape.TheVariants.{Single, Counter, Array, Hash, Tree, Vector};
 ghost use Rattle.sto_lang.specs.Objects.{shapes_of};
 ghost use Rattle.sto_lang.specs.Scripts.{Script};
 ghost use Rattle.sto_lang.specs.Sound.{IsSound};
@@ -27,7 +27,7 @@ pub struct StoredFile<'f> {
     pub file: &'f File,
     pub objects: Objects,
     ghost runnable: { AreRunnable (view file.now) },
-    ghost kinds: { AreKinds (map (λ x. Single x.first) objects.store.first) (map (λ x. Counter x.first) objects.store.second.first) (map (λ x. Array x.len x.first) objects.store.second.second.first) (map (λ x. Hash x.buckets x.places) objects.store.second.second.second.first) (map (λ x. Tree x.leaves) objects.store.second.second.second.second) (shapes_of (view file.now).declarations) },
+    ghost kinds: { AreKinds (map (λ x. Single x.first) objects.store.first) (map (λ x. Counter x.first) objects.store.second.first) (map (λ x. Array x.len x.first) objects.store.second.second.first) (map (λ x. Hash x.buckets x.places) objects.store.second.second.second.first) (map (λ x. Tree x.leaves) objects.store.second.second.second.second.first) (map (λ x. Vector x.capacity) objects.store.second.second.second.second.second) (shapes_of (view file.now).declarations) },
 }
 
 impl<'f> StoredFile<'f> {

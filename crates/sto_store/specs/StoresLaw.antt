@@ -8,9 +8,9 @@ use Rattle.std.proofs.lemmas.List.{map-append}
 use Rattle.sto_part.specs.Codes.{IsSignedCode}
 use Rattle.sto_model.specs.declared.call.Call.{Call}
 use Rattle.sto_model.specs.declared.operation.Operation.{Operation}
-use Rattle.sto_model.specs.declared.operation.Operation.TheVariants.{Get, Set, Add, Test as TestWord, Take, Put, Remove, Has, Len, Next, Count, Scan}
+use Rattle.sto_model.specs.declared.operation.Operation.TheVariants.{Get, Set, Add, Test as TestWord, Take, Put, Remove, Has, Len, Next, Count, Scan, Push, Pop}
 use Rattle.sto_model.specs.declared.shape.Shape.{Shape}
-use Rattle.sto_model.specs.declared.shape.Shape.TheVariants.{Single, Counter, Array, Hash, Tree}
+use Rattle.sto_model.specs.declared.shape.Shape.TheVariants.{Single, Counter, Array, Hash, Tree, Vector}
 use Rattle.sto_model.specs.Operations.{operation_of}
 use Rattle.sto_model.specs.Sizes.{part_count}
 use Rattle.sto_model.specs.Objects.{machine_of, machines_of, takes_by, IsTaken}
@@ -23,8 +23,9 @@ use Rattle.sto_array.specs.Arrayed.{ArrayTakes, homes_from as array_homes}
 use Rattle.sto_hash.specs.Hashed.{HashTakes, homes_from as hash_homes}
 use Rattle.sto_tree_law.specs.Layout.{listed}
 use Rattle.sto_tree_law.specs.Meaning.{TreeTakes}
+use Rattle.sto_vector.specs.Vectored.{VectorTakes}
 use Rattle.sto_store.specs.Homes.{homes_within, homes_from, HasParts}
-use Rattle.sto_store.specs.Stores.{of_kind, mean_of, means_of, wide_means, means, AreInOrder, AreWide, AreKinds}
+use Rattle.sto_store.specs.Stores.{of_kind, mean_of, means_of, sized_means, wide_means, means, AreInOrder, AreSized, AreWide, AreKinds}
 
 by_test : {P : Type 0} (b : Bool) → (b ≡ true → P) → (b ≡ false → P) → P
 by_test true f g = f refl
@@ -37,6 +38,7 @@ one_machine (Counter v) = refl
 one_machine (Array len v) = refl
 one_machine (Hash buckets places) = refl
 one_machine (Tree leaves) = refl
+one_machine (Vector capacity) = refl
 
 pub all_machines : (ss : List Shape) → (all_joined (map mean_of ss)).machines ≡ machines_of ss
 all_machines [] = refl
@@ -92,7 +94,7 @@ one_got s t (suc zero) e = cc
 one_got s t (suc (suc i)) e = cc
 
 -- a box takes the codes 0 and 1
-box_far : (v : ℤ) (n : ℕ) (a : ℤ) → takes_by (Single v) (slice_get (Add ∷ TestWord ∷ Take ∷ Put ∷ Remove ∷ Has ∷ Len ∷ Next ∷ Count ∷ Scan ∷ []) n) a ≡ false
+box_far : (v : ℤ) (n : ℕ) (a : ℤ) → takes_by (Single v) (slice_get (Add ∷ TestWord ∷ Take ∷ Put ∷ Remove ∷ Has ∷ Len ∷ Next ∷ Count ∷ Scan ∷ Push ∷ Pop ∷ []) n) a ≡ false
 box_far v zero a = refl
 box_far v (suc zero) a = refl
 box_far v (suc (suc zero)) a = refl
@@ -103,14 +105,16 @@ box_far v (suc (suc (suc (suc (suc (suc zero)))))) a = refl
 box_far v (suc (suc (suc (suc (suc (suc (suc zero))))))) a = refl
 box_far v (suc (suc (suc (suc (suc (suc (suc (suc zero)))))))) a = refl
 box_far v (suc (suc (suc (suc (suc (suc (suc (suc (suc zero))))))))) a = refl
-box_far v (suc (suc (suc (suc (suc (suc (suc (suc (suc (suc n)))))))))) a = refl
+box_far v (suc (suc (suc (suc (suc (suc (suc (suc (suc (suc zero)))))))))) a = refl
+box_far v (suc (suc (suc (suc (suc (suc (suc (suc (suc (suc (suc zero))))))))))) a = refl
+box_far v (suc (suc (suc (suc (suc (suc (suc (suc (suc (suc (suc (suc n)))))))))))) a = refl
 
 box_code : (v : ℤ) (code : ℕ) (a : ℤ) → takes_by (Single v) (operation_of code) a ≡ true → code ≤ 1
 box_code v zero a e = omega arith
 box_code v (suc zero) a e = omega arith
 box_code v (suc (suc n)) a e = let z : false ≡ true = sym (box_far v n a) ∙ e in cc
 
--- what a counter, an array and a hash table take does not hang on their numbers
+-- what a counter, an array, a hash table and a vector take does not hang on their numbers
 counter_alike : (v : ℤ) (o : Option Operation) (a : ℤ) → takes_by (Counter v) o a ≡ takes_by (Counter (pos 0)) o a
 counter_alike v None a = refl
 counter_alike v (Some Get) a = refl
@@ -125,6 +129,8 @@ counter_alike v (Some Len) a = refl
 counter_alike v (Some Next) a = refl
 counter_alike v (Some Count) a = refl
 counter_alike v (Some Scan) a = refl
+counter_alike v (Some Push) a = refl
+counter_alike v (Some Pop) a = refl
 
 array_alike : (n : ℕ) (v : ℤ) (o : Option Operation) (a : ℤ) → takes_by (Array n v) o a ≡ takes_by (Array 0 (pos 0)) o a
 array_alike n v None a = refl
@@ -140,6 +146,8 @@ array_alike n v (Some Len) a = refl
 array_alike n v (Some Next) a = refl
 array_alike n v (Some Count) a = refl
 array_alike n v (Some Scan) a = refl
+array_alike n v (Some Push) a = refl
+array_alike n v (Some Pop) a = refl
 
 hash_alike : (b p : ℕ) (o : Option Operation) (a : ℤ) → takes_by (Hash b p) o a ≡ takes_by (Hash b 0) o a
 hash_alike b p None a = refl
@@ -155,6 +163,25 @@ hash_alike b p (Some Len) a = refl
 hash_alike b p (Some Next) a = refl
 hash_alike b p (Some Count) a = refl
 hash_alike b p (Some Scan) a = refl
+hash_alike b p (Some Push) a = refl
+hash_alike b p (Some Pop) a = refl
+
+vector_alike : (n : ℕ) (o : Option Operation) (a : ℤ) → takes_by (Vector n) o a ≡ takes_by (Vector 0) o a
+vector_alike n None a = refl
+vector_alike n (Some Get) a = refl
+vector_alike n (Some Set) a = refl
+vector_alike n (Some Add) a = refl
+vector_alike n (Some TestWord) a = refl
+vector_alike n (Some Take) a = refl
+vector_alike n (Some Put) a = refl
+vector_alike n (Some Remove) a = refl
+vector_alike n (Some Has) a = refl
+vector_alike n (Some Len) a = refl
+vector_alike n (Some Next) a = refl
+vector_alike n (Some Count) a = refl
+vector_alike n (Some Scan) a = refl
+vector_alike n (Some Push) a = refl
+vector_alike n (Some Pop) a = refl
 
 one_taken : (s : Shape) (call : Call) → IsTaken (s ∷ []) call → (call.object ≡ 0) × IsTrue (takes_by s (operation_of call.code) call.a)
 one_taken s call t =
@@ -191,6 +218,12 @@ one_takes (Tree leaves) = record {
   takes = λ call t f.
       let g : (call.object ≡ 0) × IsTrue (takes_by (Tree leaves) (operation_of call.code) call.a) = one_taken (Tree leaves) call t in
       record { object = g.0; operation = g.1; fits = f.first; fits_too = f.second };
+}
+one_takes (Vector capacity) = record {
+  many = refl;
+  takes = λ call t f.
+      let g : (call.object ≡ 0) × IsTrue (takes_by (Vector capacity) (operation_of call.code) call.a) = one_taken (Vector capacity) call t in
+      record { object = g.0; taken = sym (vector_alike capacity (operation_of call.code) call.a) ∙ g.1; fits = f.first; fits_too = f.second };
 }
 
 pub all_take : (ss : List Shape) → TakesAll (all_joined (map mean_of ss)) ss
@@ -257,6 +290,9 @@ one_parts (Counter v) = record { objects = refl; homes = refl }
 one_parts (Array len v) = one_object (mean_of (Array len v)) len refl (array_within 0 len)
 one_parts (Hash buckets places) = one_object (mean_of (Hash buckets places)) (buckets * (1 + places)) refl (hash_within 0 (buckets * (1 + places)))
 one_parts (Tree leaves) = one_object (mean_of (Tree leaves)) (2 + 9 * leaves) refl (tree_within 0 (2 + 9 * leaves))
+one_parts (Vector capacity) =
+    let e : suc capacity ≡ 1 + capacity = omega arith in
+    one_object (mean_of (Vector capacity)) (1 + capacity) refl (array_within 0 (suc capacity) ∙ ap (homes_within 0 0) e)
 
 pub all_parts : (ss : List Shape) → HasParts (all_joined (map mean_of ss)) (map part_count ss)
 all_parts [] = no_parts
@@ -267,25 +303,27 @@ module _ (shapes : List Shape) (order : AreInOrder shapes) where
   abbrev k : ℕ → List Shape
   k r = of_kind r shapes
 
-  by_kind : {A : Type 0} (f : Shape → A) → map f shapes ≡ map f (k 0) ++ (map f (k 1) ++ (map f (k 2) ++ (map f (k 3) ++ map f (k 4))))
+  by_kind : {A : Type 0} (f : Shape → A) → map f shapes ≡ map f (k 0) ++ (map f (k 1) ++ (map f (k 2) ++ (map f (k 3) ++ (map f (k 4) ++ map f (k 5)))))
   by_kind f =
       ap (map f) order
-      ∙ map-append f (k 0) (k 1 ++ (k 2 ++ (k 3 ++ k 4)))
-      ∙ ap (λ l. map f (k 0) ++ l) (map-append f (k 1) (k 2 ++ (k 3 ++ k 4))
-      ∙ ap (λ l. map f (k 1) ++ l) (map-append f (k 2) (k 3 ++ k 4) ∙ ap (λ l. map f (k 2) ++ l) (map-append f (k 3) (k 4))))
+      ∙ map-append f (k 0) (k 1 ++ (k 2 ++ (k 3 ++ (k 4 ++ k 5))))
+      ∙ ap (λ l. map f (k 0) ++ l) (map-append f (k 1) (k 2 ++ (k 3 ++ (k 4 ++ k 5)))
+      ∙ ap (λ l. map f (k 1) ++ l) (map-append f (k 2) (k 3 ++ (k 4 ++ k 5))
+      ∙ ap (λ l. map f (k 2) ++ l) (map-append f (k 3) (k 4 ++ k 5) ∙ ap (λ l. map f (k 3) ++ l) (map-append f (k 4) (k 5)))))
 
   pub machines_are : (means shapes).machines ≡ machines_of shapes
   machines_are =
-      (λ i. all_machines (k 0) i ++ (all_machines (k 1) i ++ (all_machines (k 2) i ++ (all_machines (k 3) i ++ all_machines (k 4) i))))
+      (λ i. all_machines (k 0) i ++ (all_machines (k 1) i ++ (all_machines (k 2) i ++ (all_machines (k 3) i ++ (all_machines (k 4) i ++ all_machines (k 5) i)))))
       ∙ sym (by_kind machine_of)
 
   pub takes_all : TakesAll (means shapes) shapes
   takes_all =
       subst (TakesAll (means shapes)) (sym order)
-      (both_take (all_joined (means_of 0 shapes)) _ (k 0) (k 1 ++ (k 2 ++ (k 3 ++ k 4))) (all_take (k 0))
-      (both_take (all_joined (means_of 1 shapes)) _ (k 1) (k 2 ++ (k 3 ++ k 4)) (all_take (k 1))
-      (both_take (all_joined (means_of 2 shapes)) _ (k 2) (k 3 ++ k 4) (all_take (k 2))
-      (both_take (all_joined (means_of 3 shapes)) _ (k 3) (k 4) (all_take (k 3)) (all_take (k 4))))))
+      (both_take (all_joined (means_of 0 shapes)) _ (k 0) (k 1 ++ (k 2 ++ (k 3 ++ (k 4 ++ k 5)))) (all_take (k 0))
+      (both_take (all_joined (means_of 1 shapes)) _ (k 1) (k 2 ++ (k 3 ++ (k 4 ++ k 5))) (all_take (k 1))
+      (both_take (all_joined (means_of 2 shapes)) _ (k 2) (k 3 ++ (k 4 ++ k 5)) (all_take (k 2))
+      (both_take (all_joined (means_of 3 shapes)) _ (k 3) (k 4 ++ k 5) (all_take (k 3))
+      (both_take (all_joined (means_of 4 shapes)) _ (k 4) (k 5) (all_take (k 4)) (all_take (k 5)))))))
 
   pub has_parts : HasParts (means shapes) (map part_count shapes)
   has_parts =
@@ -293,7 +331,8 @@ module _ (shapes : List Shape) (order : AreInOrder shapes) where
       (both_parts (all_joined (means_of 0 shapes)) _ (map part_count (k 0)) _ (all_parts (k 0))
       (both_parts (all_joined (means_of 1 shapes)) _ (map part_count (k 1)) _ (all_parts (k 1))
       (both_parts (all_joined (means_of 2 shapes)) _ (map part_count (k 2)) _ (all_parts (k 2))
-      (both_parts (all_joined (means_of 3 shapes)) _ (map part_count (k 3)) (map part_count (k 4)) (all_parts (k 3)) (all_parts (k 4))))))
+      (both_parts (all_joined (means_of 3 shapes)) _ (map part_count (k 3)) _ (all_parts (k 3))
+      (both_parts (all_joined (means_of 4 shapes)) _ (map part_count (k 4)) (map part_count (k 5)) (all_parts (k 4)) (all_parts (k 5)))))))
 
 -- What is built means what its shapes mean. The members of each kind mean what their shapes mean.
 pub map_shapes : {A : Type 0} (shape : A → Shape) (xs : List A) (ss : List Shape) → map shape xs ≡ ss → map (λ x. mean_of (shape x)) xs ≡ map mean_of ss
@@ -303,21 +342,30 @@ map_shapes {A} shape xs ss e = map_twice xs ∙ ap (map mean_of) e
     map_twice [] = refl
     map_twice (x ∷ l) = ap (λ t. mean_of (shape x) ∷ t) (map_twice l)
 
+pub sized_is :
+    {E F : Type 0} (l : E → Shape) (n : F → Shape) (vs : List E) (us : List F) (shapes : List Shape) → AreSized (map l vs) (map n us) shapes
+    → joined (all_joined (map (λ x. mean_of (l x)) vs)) (all_joined (map (λ x. mean_of (n x)) us)) ≡ sized_means shapes
+sized_is l n vs us shapes e i = joined (all_joined (map_shapes l vs (of_kind 4 shapes) e.trees_are i)) (all_joined (map_shapes n us (of_kind 5 shapes) e.vectors_are i))
+
 pub wide_is :
-    {C D E : Type 0} (h : C → Shape) (k : D → Shape) (l : E → Shape) (zs : List C) (ws : List D) (vs : List E) (shapes : List Shape) → AreWide (map h zs) (map k ws) (map l vs) shapes
-    → joined (all_joined (map (λ x. mean_of (h x)) zs)) (joined (all_joined (map (λ x. mean_of (k x)) ws)) (all_joined (map (λ x. mean_of (l x)) vs)))
+    {C D E F : Type 0} (h : C → Shape) (k : D → Shape) (l : E → Shape) (n : F → Shape) (zs : List C) (ws : List D) (vs : List E) (us : List F) (shapes : List Shape)
+    → AreWide (map h zs) (map k ws) (map l vs) (map n us) shapes
+    → joined (all_joined (map (λ x. mean_of (h x)) zs))
+    (joined (all_joined (map (λ x. mean_of (k x)) ws)) (joined (all_joined (map (λ x. mean_of (l x)) vs)) (all_joined (map (λ x. mean_of (n x)) us))))
     ≡ wide_means shapes
-wide_is h k l zs ws vs shapes e i =
+wide_is h k l n zs ws vs us shapes e i =
     joined (all_joined (map_shapes h zs (of_kind 2 shapes) e.arrays_are i))
-    (joined (all_joined (map_shapes k ws (of_kind 3 shapes) e.hashes_are i)) (all_joined (map_shapes l vs (of_kind 4 shapes) e.trees_are i)))
+    (joined (all_joined (map_shapes k ws (of_kind 3 shapes) e.hashes_are i)) (sized_is l n vs us shapes e.sized i))
 
 pub means_is :
-    {A B C D E : Type 0} (f : A → Shape) (g : B → Shape) (h : C → Shape) (k : D → Shape) (l : E → Shape) (xs : List A) (ys : List B) (zs : List C) (ws : List D) (vs : List E) (shapes : List Shape)
-    → AreKinds (map f xs) (map g ys) (map h zs) (map k ws) (map l vs) shapes
+    {A B C D E F : Type 0} (f : A → Shape) (g : B → Shape) (h : C → Shape) (k : D → Shape) (l : E → Shape) (n : F → Shape)
+    (xs : List A) (ys : List B) (zs : List C) (ws : List D) (vs : List E) (us : List F) (shapes : List Shape)
+    → AreKinds (map f xs) (map g ys) (map h zs) (map k ws) (map l vs) (map n us) shapes
     → joined (all_joined (map (λ x. mean_of (f x)) xs))
     (joined (all_joined (map (λ x. mean_of (g x)) ys))
-    (joined (all_joined (map (λ x. mean_of (h x)) zs)) (joined (all_joined (map (λ x. mean_of (k x)) ws)) (all_joined (map (λ x. mean_of (l x)) vs)))))
+    (joined (all_joined (map (λ x. mean_of (h x)) zs))
+    (joined (all_joined (map (λ x. mean_of (k x)) ws)) (joined (all_joined (map (λ x. mean_of (l x)) vs)) (all_joined (map (λ x. mean_of (n x)) us))))))
     ≡ means shapes
-means_is f g h k l xs ys zs ws vs shapes e i =
+means_is f g h k l n xs ys zs ws vs us shapes e i =
     joined (all_joined (map_shapes f xs (of_kind 0 shapes) e.boxes_are i))
-    (joined (all_joined (map_shapes g ys (of_kind 1 shapes) e.counters_are i)) (wide_is h k l zs ws vs shapes e.wide i))
+    (joined (all_joined (map_shapes g ys (of_kind 1 shapes) e.counters_are i)) (wide_is h k l n zs ws vs us shapes e.wide i))

@@ -6,8 +6,8 @@ ghost use Rattle.sto_model.specs.Objects.{IsTaken};
 ghost use Rattle.sto_model.specs.Sizes.{part_count};
 ghost use Rattle.sto_model.specs.declared.call.Call.{Call};
 ghost use Rattle.sto_store.specs.StoresLaw.{IsFitting};
-ghost use Rattle.sto_model.specs.declared.shape.Shape.TheVariants.{Single, Counter, Array, Hash, Tree};
-ghost use Rattle.sto_store.specs.Stores.{means, means_of, of_kind, AreFit, AreInOrder, AreKinds, AreWide};
+ghost use Rattle.sto_model.specs.declared.shape.Shape.TheVariants.{Single, Counter, Array, Hash, Tree, Vector};
+ghost use Rattle.sto_store.specs.Stores.{means, means_of, of_kind, AreFit, AreInOrder, AreKinds, AreSized, AreWide};
 
 use std::alloc::Global;
 use sto_array::TArray;
@@ -18,6 +18,7 @@ use sto_model::{Shape, Shapes};
 use sto_part::NoMemory;
 use sto_tree::TTree;
 use sto_type::{Both, Many, TxType};
+use sto_vector::TVector;
 
 /// The objects of one kind.
 type Boxes = Many<TBox<i64>>;
@@ -30,10 +31,15 @@ type Hashes = Many<THash>;
 
 type Trees = Many<TTree>;
 
-/// The objects that may have more than one part.
-type Wide = Both<Arrays, Both<Hashes, Trees>>;
+type Vectors = Many<TVector>;
 
-/// Boxes, counters, arrays, hash tables and trees, in this order.
+/// The objects that have a part for their size.
+type Sized = Both<Trees, Vectors>;
+
+/// The objects that may have more than one part.
+type Wide = Both<Arrays, Both<Hashes, Sized>>;
+
+/// Boxes, counters, arrays, hash tables, trees and vectors, in this order.
 pub type Store = Both<Boxes, Both<Counters, Wide>>;
 
 /// The store of objects of these shapes.
@@ -42,7 +48,7 @@ pub fn build(alloc: Global, shapes: &Shapes) -> Result<Store, NoMemory>
     requires parts { sum_by part_count shapes.now.items < 2 ^ 32 }
     ensures lawful { IfOk result (λ s. IsLawful (means shapes.now.items)) }
     ensures takes { IfOk result (λ s. AreInOrder shapes.now.items → (call : Call) → IsTaken shapes.now.items call → IsFitting call → (⟦<Store as TxType>⟧.meaning s).takes call) }
-    ensures kinds { IfOk result (λ s. AreKinds (map (λ x. Single x.first) s.first) (map (λ x. Counter x.first) s.second.first) (map (λ x. Array x.len x.first) s.second.second.first) (map (λ x. Hash x.buckets x.places) s.second.second.second.first) (map (λ x. Tree x.leaves) s.second.second.second.second) shapes.now.items) }
+    ensures kinds { IfOk result (λ s. AreKinds (map (λ x. Single x.first) s.first) (map (λ x. Counter x.first) s.second.first) (map (λ x. Array x.len x.first) s.second.second.first) (map (λ x. Hash x.buckets x.places) s.second.second.second.first) (map (λ x. Tree x.leaves) s.second.second.second.second.first) (map (λ x. Vector x.capacity) s.second.second.second.second.second) shapes.now.items) }
 {
     let all = shapes.as_slice();
     let boxes = build_boxes(alloc, all)?;
@@ -55,12 +61,23 @@ fn build_wide(alloc: Global, shapes: &[Shape]) -> Result<Wide, NoMemory>
     requires few { length shapes.now < 2 ^ 32 }
     requires fit { AreFit shapes.now }
     requires parts { sum_by part_count shapes.now < 2 ^ 32 }
-    ensures { IfOk result (λ w. AreWide (map (λ x. Array x.len x.first) w.first) (map (λ x. Hash x.buckets x.places) w.second.first) (map (λ x. Tree x.leaves) w.second.second) shapes.now) }
+    ensures { IfOk result (λ w. AreWide (map (λ x. Array x.len x.first) w.first) (map (λ x. Hash x.buckets x.places) w.second.first) (map (λ x. Tree x.leaves) w.second.second.first) (map (λ x. Vector x.capacity) w.second.second.second) shapes.now) }
 {
     let arrays = build_arrays(alloc, shapes)?;
     let hashes = build_hashes(alloc, shapes)?;
+    let sized = build_sized(alloc, shapes)?;
+    Ok(Both::new(arrays, Both::new(hashes, sized)))
+}
+
+fn build_sized(alloc: Global, shapes: &[Shape]) -> Result<Sized, NoMemory>
+    requires few { length shapes.now < 2 ^ 32 }
+    requires fit { AreFit shapes.now }
+    requires parts { sum_by part_count shapes.now < 2 ^ 32 }
+    ensures { IfOk result (λ w. AreSized (map (λ x. Tree x.leaves) w.first) (map (λ x. Vector x.capacity) w.second) shapes.now) }
+{
     let trees = build_trees(alloc, shapes)?;
-    Ok(Both::new(arrays, Both::new(hashes, trees)))
+    let vectors = build_vectors(alloc, shapes)?;
+    Ok(Both::new(trees, vectors))
 }
 
 fn build_boxes(alloc: Global, shapes: &[Shape]) -> Result<Boxes, NoMemory>
@@ -130,6 +147,21 @@ fn build_trees(alloc: Global, shapes: &[Shape]) -> Result<Trees, NoMemory>
     for shape in shapes {
         if let Shape::Tree { leaves } = shape {
             made.push(TTree::new(*leaves))?;
+        }
+    }
+    Ok(made)
+}
+
+fn build_vectors(alloc: Global, shapes: &[Shape]) -> Result<Vectors, NoMemory>
+    requires few { length shapes.now < 2 ^ 32 }
+    requires fit { AreFit shapes.now }
+    requires parts { length (all_joined (means_of 5 shapes.now)).widths < 2 ^ 32 }
+    ensures { IfOk result (λ m. map (λ x. Vector x.capacity) m ≡ of_kind 5 shapes.now) }
+{
+    let mut made = Many::new(alloc);
+    for shape in shapes {
+        if let Shape::Vector { capacity } = shape {
+            made.push(TVector::new(*capacity))?;
         }
     }
     Ok(made)

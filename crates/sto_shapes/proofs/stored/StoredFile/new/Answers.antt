@@ -1,7 +1,7 @@
 use Rattle.std.specs.Prelude.{sum_by}
 use Rattle.std.proofs.Common.{◌<◌, ◌^◌, List, map, subst, sym}
 use Rattle.sto_model.specs.declared.shape.Shape.{Shape}
-use Rattle.sto_model.specs.declared.shape.Shape.TheVariants.{Single, Counter, Array, Hash, Tree}
+use Rattle.sto_model.specs.declared.shape.Shape.TheVariants.{Single, Counter, Array, Hash, Tree, Vector}
 use Rattle.sto_model.specs.Sizes.{part_count}
 use Rattle.sto_lang.specs.Objects.{shapes_of}
 use Rattle.sto_lang.specs.Views.{file as view}
@@ -24,14 +24,14 @@ invariant_of-result c =
     let s = c.in_ok-store.store in
     record {
       runnable = sound_runnable (view c.args.file.now) c.requires;
-      kinds = subst (AreKinds (map (λ x. Single x.first) s.first) (map (λ x. Counter x.first) s.second.first) (map (λ x. Array x.len x.first) s.second.second.first) (map (λ x. Hash x.buckets x.places) s.second.second.second.first) (map (λ x. Tree x.leaves) s.second.second.second.second)) c.in_ok-shapes.ensures c.in_ok-store.ensures.kinds;
+      kinds = subst (AreKinds (map (λ x. Single x.first) s.first) (map (λ x. Counter x.first) s.second.first) (map (λ x. Array x.len x.first) s.second.second.first) (map (λ x. Hash x.buckets x.places) s.second.second.second.first) (map (λ x. Tree x.leaves) s.second.second.second.second.first) (map (λ x. Vector x.capacity) s.second.second.second.second.second)) c.in_ok-shapes.ensures c.in_ok-store.ensures.kinds;
     }
 
 pub returns-clause-type_of : goal.returns-clause-type_of
 returns-clause-type_of c =
     let s = c.in_ok-store.store in
     let shapes = shapes_of (view c.args.file.now).declarations in
-    let kinds = subst (AreKinds (map (λ x. Single x.first) s.first) (map (λ x. Counter x.first) s.second.first) (map (λ x. Array x.len x.first) s.second.second.first) (map (λ x. Hash x.buckets x.places) s.second.second.second.first) (map (λ x. Tree x.leaves) s.second.second.second.second)) c.in_ok-shapes.ensures c.in_ok-store.ensures.kinds in
-    let is = means_is (λ x. Single x.first) (λ x. Counter x.first) (λ x. Array x.len x.first) (λ x. Hash x.buckets x.places) (λ x. Tree x.leaves) s.first s.second.first s.second.second.first s.second.second.second.first s.second.second.second.second shapes kinds in
+    let kinds = subst (AreKinds (map (λ x. Single x.first) s.first) (map (λ x. Counter x.first) s.second.first) (map (λ x. Array x.len x.first) s.second.second.first) (map (λ x. Hash x.buckets x.places) s.second.second.second.first) (map (λ x. Tree x.leaves) s.second.second.second.second.first) (map (λ x. Vector x.capacity) s.second.second.second.second.second)) c.in_ok-shapes.ensures c.in_ok-store.ensures.kinds in
+    let is = means_is (λ x. Single x.first) (λ x. Counter x.first) (λ x. Array x.len x.first) (λ x. Hash x.buckets x.places) (λ x. Tree x.leaves) (λ x. Vector x.capacity) s.first s.second.first s.second.second.first s.second.second.second.first s.second.second.second.second.first s.second.second.second.second.second shapes kinds in
     let law : IsLawful (means shapes) = subst (λ (ss : List Shape). IsLawful (means ss)) c.in_ok-shapes.ensures c.in_ok-store.ensures.lawful in
     subst (IsTypeOf shapes) (sym is) (is_type_of shapes (sound_in_order (view c.args.file.now)) law)
