@@ -24,7 +24,7 @@ const PAGES: [&str; 6] = [
 ];
 
 // The examples, each a script and the report of its run.
-const EXAMPLES: [&str; 12] = [
+const EXAMPLES: [&str; 13] = [
     "one_get",
     "transfer",
     "boxes",
@@ -32,6 +32,7 @@ const EXAMPLES: [&str; 12] = [
     "arrays",
     "hash_tables",
     "trees",
+    "vectors",
     "choices",
     "repetitions",
     "cancel",
