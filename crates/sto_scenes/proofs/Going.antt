@@ -16,26 +16,27 @@ use Rattle.sto_working.proofs.Scripts.{transaction_there}
 use Rattle.sto_stepping.specs.Stepped.{HasStepped}
 use Rattle.sto_stepping.specs.declared.attempts.Stepped.{Stepped}
 use Rattle.sto_stepping.specs.declared.attempts.Stepped.TheVariants.{More, Ended}
-use Rattle.sto_scenes.specs.Going.{IsGoing, AreGoing}
+use Rattle.sto_scenes.specs.declared.way.Way.{Way}
+use Rattle.sto_scenes.specs.Going.{GoesOn, IsGoing, AreGoing}
 
 -- a thread that has transactions has a first one
 pub first_there : (file : File) (thread : ℕ) → 0 < count_in file.threads thread → IsTransaction file (thread, 1)
 first_there file thread some = transaction_there file thread 0 some
 
 -- an attempt after its next event
-pub gone_on : {M : Type 0} (fits : ℕ → M → View → View → Type 0) (left : M → ℕ) (made : View → View → Record → Type 0) (place : Place) (before passes later : ℕ) (begun w : View) (s : Stepped M)
-    → later ≡ passes → HasStepped (fits passes) left made place before begun w s → IsGoing (fits later) w s
-gone_on fits left made place before passes later begun w (More trial) is h = (begun, subst (λ (n : ℕ). fits n trial begun w) (sym is) h.0)
-gone_on fits left made place before passes later begun w (Ended replies x) is h = tt
+pub gone_on : {M : Type 0} (fits : ℕ → M → View → View → Type 0) (left : M → ℕ) (made : View → View → Record → Type 0) (place : Place) (before passes later : ℕ) (trial : M) (begun w : View) (s : Stepped)
+    → later ≡ passes → HasStepped (fits passes) left made place before trial begun w s → GoesOn (fits later) w trial s
+gone_on fits left made place before passes later trial begun w More is h = (begun, subst (λ (n : ℕ). fits n trial begun w) (sym is) h.0)
+gone_on fits left made place before passes later trial begun w (Ended replies x) is h = tt
 
 -- an attempt on the pass of the same number of the same words
-pub going_at : {M : Type 0} (fits : ℕ → M → View → View → Type 0) (c d : Core) (i j : ℕ) (s : Stepped M) → d ≡ c → j ≡ i
+pub going_at : {M : Type 0} (fits : ℕ → M → View → View → Type 0) (c d : Core) (i j : ℕ) (s : Way M) → d ≡ c → j ≡ i
     → IsGoing (fits (length c.statuses)) (view_of c i) s → IsGoing (fits (length d.statuses)) (view_of d j) s
 going_at fits c d i j s is at h =
     subst (λ (e : Core). IsGoing (fits (length e.statuses)) (view_of e j) s) (sym is) (subst (λ (n : ℕ). IsGoing (fits (length c.statuses)) (view_of c n) s) (sym at) h)
 
 -- an attempt that another pass has left as it was
-going_beside : {M : Type 0} (fits : ℕ → M → View → View → Type 0) (c d : Core) (other : ℕ) (s : Stepped M) → length d.statuses ≡ length c.statuses → view_of d other ≡ view_of c other
+going_beside : {M : Type 0} (fits : ℕ → M → View → View → Type 0) (c d : Core) (other : ℕ) (s : Way M) → length d.statuses ≡ length c.statuses → view_of d other ≡ view_of c other
     → IsGoing (fits (length c.statuses)) (view_of c other) s → IsGoing (fits (length d.statuses)) (view_of d other) s
 going_beside fits c d other s passes is h =
     subst (λ (n : ℕ). IsGoing (fits n) (view_of d other) s) (sym passes) (subst (λ (v : View). IsGoing (fits (length c.statuses)) v s) (sym is) h)
@@ -45,27 +46,25 @@ module _ {M : Type 0} (m : Meaning) (sizes : List ℕ) (fits : ℕ → Place →
   abbrev pub HasBegun : ℕ → M → Type 0
   HasBegun thread trial = (passes : ℕ) (v : View) → IsAtRest m sizes v → 1 ≤ v.draws → fits passes (thread, 1) trial v v
 
-  begun_at : (passes thread number : ℕ) (trial : M) → HasBegun thread trial → IsGoing (fits passes (thread, 1)) (opened_view sizes m.opened number) (More trial)
-  begun_at passes thread number trial begins =
+  begun_at : (passes thread number : ℕ) (w : Way M) → w.at ≡ More → HasBegun thread w.trial → IsGoing (fits passes (thread, 1)) (opened_view sizes m.opened number) w
+  begun_at passes thread number w is begins =
+      subst (λ (s : Stepped). GoesOn (fits passes (thread, 1)) (opened_view sizes m.opened number) w.trial s) (sym is)
       (opened_view sizes m.opened number, begins passes (opened_view sizes m.opened number) (opened_rests m sizes m.opened number refl) (omega arith))
 
   -- both attempts of a scene on words that were just opened
-  pub both_begun : (c : Core) (first second : M) (s t : Stepped M) → c ≡ opened_core sizes m.opened 2 → s ≡ More first → t ≡ More second → HasBegun 0 first → HasBegun 1 second → AreGoing fits c s t
-  both_begun c first second s t is one two begins ends =
-      subst (λ (x : Stepped M). AreGoing fits c x t) (sym one)
-      (subst (λ (y : Stepped M). AreGoing fits c (More first) y) (sym two)
-      (subst (λ (d : Core). AreGoing fits d (More first) (More second)) (sym is) (record {
+  pub both_begun : (c : Core) (s t : Way M) → c ≡ opened_core sizes m.opened 2 → s.at ≡ More → t.at ≡ More → HasBegun 0 s.trial → HasBegun 1 t.trial → AreGoing fits c s t
+  both_begun c s t is one two begins ends =
+      subst (λ (d : Core). AreGoing fits d s t) (sym is) (record {
         two = refl;
-        first_is = begun_at 2 0 0 first begins;
-        second_is = begun_at 2 1 1 second ends;
-      })))
+        first_is = begun_at 2 0 0 s one begins;
+        second_is = begun_at 2 1 1 t two ends;
+      })
 
   -- the attempt that is stopped, and the pass beside it
-  pub stopped_begun : (c d : Core) (j : ℕ) (trial : M) (s : Stepped M) → c ≡ opened_core sizes m.opened 2 → d ≡ c → j ≡ 0 → s ≡ More trial → HasBegun 0 trial
+  pub stopped_begun : (c d : Core) (j : ℕ) (s : Way M) → c ≡ opened_core sizes m.opened 2 → d ≡ c → j ≡ 0 → s.at ≡ More → HasBegun 0 s.trial
       → IsGoing (fits (length d.statuses) (0, 1)) (view_of d j) s
-  stopped_begun c d j trial s is same at begun begins =
-      subst (λ (x : Stepped M). IsGoing (fits (length d.statuses) (0, 1)) (view_of d j) x) (sym begun)
-      (going_at (λ (n : ℕ). fits n (0, 1)) (opened_core sizes m.opened 2) d 0 j (More trial) (same ∙ is) at (begun_at 2 0 0 trial begins))
+  stopped_begun c d j s is same at begun begins =
+      going_at (λ (n : ℕ). fits n (0, 1)) (opened_core sizes m.opened 2) d 0 j s (same ∙ is) at (begun_at 2 0 0 s begun begins)
 
   -- the view of the pass beside it stays that of a pass that was just opened
   beside_is : (c d e : Core) (i j : ℕ) → c ≡ opened_core sizes m.opened 2 → d ≡ c → i ≡ 0 → IsSame d i e j → view_of e 1 ≡ opened_view sizes m.opened 1
@@ -90,7 +89,7 @@ module _ {M : Type 0} (m : Meaning) (sizes : List ℕ) (fits : ℕ → Place →
       let all : tries ≤ opening_draws = omega (arith, few) in
       subst (λ (v : View). tries ≤ v.draws) (sym (beside_view c d e f i j k is same at kept back one)) all
 
-module _ {M : Type 0} (fits : ℕ → Place → M → View → View → Type 0) (c d e f : Core) (i j : ℕ) (s t later : Stepped M) (same : d ≡ c) (kept : IsSame d i e j) (back : f ≡ e) (h : AreGoing fits c s t) where
+module _ {M : Type 0} (fits : ℕ → Place → M → View → View → Type 0) (c d e f : Core) (i j : ℕ) (s t later : Way M) (same : d ≡ c) (kept : IsSame d i e j) (back : f ≡ e) (h : AreGoing fits c s t) where
   two_still : length e.views ≡ 2
   two_still = kept.2 ∙ ap (λ (x : Core). length x.views) same ∙ h.two
 

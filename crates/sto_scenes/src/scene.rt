@@ -30,7 +30,7 @@ impl<T: Naming, M: Drop> Scene<T, M> {
         requires first { IsTransaction (W.file work.now) (0, 1) }
         requires second { IsTransaction (W.file work.now) (1, 1) }
         requires opened { words ≡ opened_core (W.sizes work.now) (W.meaning work.now).opened 2 }
-        ensures { IfOk result (λ s. AreGoing (W.fits work.now) s.words s.first.at s.second.at) }
+        ensures { IfOk result (λ s. AreGoing (W.fits work.now) s.words s.first s.second) }
     {
         let trial = work.begin(alloc, 0, 1)?;
         let other = work.begin(alloc, 1, 1)?;
@@ -50,8 +50,8 @@ impl<T: Naming, M: Drop> Scene<T, M> {
         alloc: Global,
         most: u32,
     ) -> Result<Scene<T, M>, NoMemory>
-        requires { AreGoing (W.fits work.now) self.words self.first.at self.second.at }
-        ensures { IfOk result (λ s. AreGoing (W.fits work.now) s.words s.first.at s.second.at) }
+        requires { AreGoing (W.fits work.now) self.words self.first self.second }
+        ensures { IfOk result (λ s. AreGoing (W.fits work.now) s.words s.first s.second) }
     {
         let Scene {
             words,
@@ -75,8 +75,8 @@ impl<T: Naming, M: Drop> Scene<T, M> {
         alloc: Global,
         most: u32,
     ) -> Result<Scene<T, M>, NoMemory>
-        requires { AreGoing (W.fits work.now) self.words self.first.at self.second.at }
-        ensures { IfOk result (λ s. AreGoing (W.fits work.now) s.words s.first.at s.second.at) }
+        requires { AreGoing (W.fits work.now) self.words self.first self.second }
+        ensures { IfOk result (λ s. AreGoing (W.fits work.now) s.words s.first s.second) }
     {
         let Scene {
             words,

@@ -17,7 +17,7 @@ pub(crate) fn push_way<M: Drop>(
 ) -> Result<(), AllocError> {
     write!(text, "t{thread} after {} events", way.events)?;
     match &way.at {
-        Stepped::More(_) => text.push_str(" goes on"),
+        Stepped::More => text.push_str(" goes on"),
         Stepped::Ended { replies, verdict } => push_end(text, replies.as_slice(), *verdict),
     }
 }

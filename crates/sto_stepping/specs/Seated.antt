@@ -41,6 +41,11 @@ abbrev pub IsAt : {M : Type 0} → (View → Type 0) → (M → View → Type 0)
 IsAt between within None v = between v
 IsAt between within (Some trial) v = within trial v
 
+-- an attempt runs, and stands so
+abbrev pub IsIn : {M : Type 0} → (M → View → Type 0) → Option M → View → Type 0
+IsIn within None v = ⊥
+IsIn within (Some trial) v = within trial v
+
 -- the thread at this seat, by the view of its pass
 pub record IsSeated {M : Type 0} (m : Meaning) (sizes : List ℕ) (file : File) (tries passes : ℕ) (fits : Place → M → View → View → Type 0) (thread : ℕ) (v : View) (s : Seat M) : Type 0 where
   pub counted : s.count ≡ count_in file.threads thread

@@ -23,6 +23,6 @@ pub record HasMadeOne (m : Meaning) (sizes : List ℕ) (file : File) (passes : �
   pub alone : passes ≡ 1 → is_abort r.verdict ≡ false
 
 -- a step of an attempt that had so many events left: the attempt goes on with fewer, or it has made a record
-abbrev pub HasStepped : {M : Type 0} → (M → View → View → Type 0) → (M → ℕ) → (View → View → Record → Type 0) → Place → ℕ → View → View → Stepped M → Type 0
-HasStepped fits left made place before v w (More trial) = fits trial v w × (left trial < before)
-HasStepped fits left made place before v w (Ended replies x) = made v w (record { place = place; replies = map told replies.items; verdict = verdict x }) × (0 < before)
+abbrev pub HasStepped : {M : Type 0} → (M → View → View → Type 0) → (M → ℕ) → (View → View → Record → Type 0) → Place → ℕ → M → View → View → Stepped → Type 0
+HasStepped fits left made place before trial v w More = fits trial v w × (left trial < before)
+HasStepped fits left made place before trial v w (Ended replies x) = made v w (record { place = place; replies = map told replies.items; verdict = verdict x }) × (0 < before)

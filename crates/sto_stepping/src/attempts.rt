@@ -1,6 +1,7 @@
 //! Attempts of transactions that are made event by event.
 ghost use Rattle.std.specs.Prelude.{◌≡◌, ◌≤◌, ℕ, IfOk};
 ghost use Rattle.sto_core.specs.declared.view.View.{View};
+ghost use Rattle.sto_attempt.specs.Answers.{OneEvent};
 ghost use Rattle.sto_lawful.specs.Orders.{Place};
 ghost use Rattle.sto_transact.specs.Resting.{IsAtRest};
 ghost use Rattle.sto_working.specs.Ran.{IsTransaction};
@@ -15,9 +16,9 @@ use sto_working::Work;
 
 /// Where a step has led an attempt.
 #[derive(Drop)]
-pub enum Stepped<M> {
+pub enum Stepped {
     /// There is a further event.
-    More(M),
+    More,
     /// It has ended: what its calls were answered, and how.
     Ended { replies: Replies, verdict: Verdict },
 }
@@ -50,13 +51,14 @@ pub trait Attempts<T: Naming, M>: Work<T> {
     fn step<C: Cells<T>>(
         &self,
         alloc: Global,
-        trial: M,
+        trial: &mut M,
         thread: u32,
         position: u32,
         cells: &mut C,
-    ) -> Result<Stepped<M>, NoMemory>
-        requires { (begun : View) × fits self.now (C.passes cells.old) (thread, position) trial begun (C.view cells.old) }
+    ) -> Result<Stepped, NoMemory>
+        requires { (begun : View) × fits self.now (C.passes cells.old) (thread, position) trial.old begun (C.view cells.old) }
         ensures same { C.same cells.old cells.new }
-        ensures stepped { (begun : View) → fits self.now (C.passes cells.old) (thread, position) trial begun (C.view cells.old)
-            → IfOk result (HasStepped (fits self.now (C.passes cells.old) (thread, position)) (left self.now) (HasMadeOne (Self.meaning self.now) (Self.sizes self.now) (Self.file self.now) (C.passes cells.old) (thread, position)) (thread, position) (left self.now trial) begun (C.view cells.new)) };
+        ensures event { OneEvent (λ _. Unit {0}) T.valid (C.passes cells.old) (C.view cells.old) (C.view cells.new) }
+        ensures stepped { (begun : View) → fits self.now (C.passes cells.old) (thread, position) trial.old begun (C.view cells.old)
+            → IfOk result (HasStepped (fits self.now (C.passes cells.old) (thread, position)) (left self.now) (HasMadeOne (Self.meaning self.now) (Self.sizes self.now) (Self.file self.now) (C.passes cells.old) (thread, position)) (thread, position) (left self.now trial.old) trial.new begun (C.view cells.new)) };
 }

@@ -30,7 +30,7 @@ impl<M: Drop> Seat<M> {
     ghost use Rattle.sto_lawful.specs.Orders.{count_in};
     ghost use Rattle.sto_transact.specs.Plain.{plain};
     ghost use Rattle.sto_stepping.specs.Counts.{attempts_left, events_left};
-    ghost use Rattle.sto_stepping.specs.Seated.{IsNew, IsSeated, IsWithin, IsOver, HasKept, events_of};
+    ghost use Rattle.sto_stepping.specs.Seated.{IsNew, IsSeated, IsWithin, IsIn, IsOver, HasKept, events_of};
 
     /// A thread with so many transactions, of which none has begun.
     pub(crate) fn new(alloc: Global, count: u32, tries: u32) -> Seat<M>
@@ -77,40 +77,43 @@ impl<M: Drop> Seat<M> {
         ensures left { OnOk result (events_of (W.left work.now) (W.most work.now) self.new < events_of (W.left work.now) (W.most work.now) self.old) }
     {
         let position = self.ended + 1;
-        let trial = self.attempt(work, alloc, thread)?;
+        self.begin(work, alloc, thread)?;
+        let Some(trial) = &mut self.trial else {
+            unreachable!()
+        };
         match work.step(alloc, trial, thread, position, cells)? {
-            Stepped::More(trial) => {
-                self.trial = Some(trial);
-                Ok(())
+            Stepped::More => Ok(()),
+            Stepped::Ended { replies, verdict } => {
+                self.trial = None;
+                self.keep(Record {
+                    thread,
+                    position,
+                    replies,
+                    verdict,
+                })
             }
-            Stepped::Ended { replies, verdict } => self.keep(Record {
-                thread,
-                position,
-                replies,
-                verdict,
-            }),
         }
     }
 
-    // Takes the attempt that runs, or begins the next one.
-    fn attempt<T: Naming, W: Attempts<T, M>>(
+    // Begins the next attempt where none runs.
+    fn begin<T: Naming, W: Attempts<T, M>>(
         &mut self,
         work: &W,
         alloc: Global,
         thread: u32,
-    ) -> Result<M, NoMemory>
+    ) -> Result<(), NoMemory>
         requires ready { W.ready work.now }
         requires counted { self.old.count ≡ count_in (W.file work.now).threads thread }
         requires within { self.old.ended ≤ self.old.count }
         requires going { IsOver self.old → ⊥ }
-        ensures kept { self.new ≡ record self.old { trial = None } }
-        ensures within { IfOk result (λ trial. (passes : ℕ) (v : View) → IsSeated (W.meaning work.now) (W.sizes work.now) (W.file work.now) (W.tries work.now) passes (W.fits work.now passes) thread v self.old → IsWithin (W.meaning work.now) (W.sizes work.now) (W.file work.now) (W.tries work.now) passes thread self.old.ended self.old.left (map plain self.old.records.items) (W.fits work.now passes (thread, self.old.ended + 1)) trial v) }
-        ensures left { IfOk result (λ trial. events_left (W.left work.now) (W.most work.now) (attempts_left self.old.tries self.old.left (self.old.count - self.old.ended)) (Some trial) ≤ events_of (W.left work.now) (W.most work.now) self.old) }
+        ensures kept { self.new ≡ record self.old { trial = self.new.trial } }
+        ensures within { OnOk result ((passes : ℕ) (v : View) → IsSeated (W.meaning work.now) (W.sizes work.now) (W.file work.now) (W.tries work.now) passes (W.fits work.now passes) thread v self.old → IsIn (IsWithin (W.meaning work.now) (W.sizes work.now) (W.file work.now) (W.tries work.now) passes thread self.old.ended self.old.left (map plain self.old.records.items) (W.fits work.now passes (thread, self.old.ended + 1))) self.new.trial v) }
+        ensures left { OnOk result (events_left (W.left work.now) (W.most work.now) (attempts_left self.old.tries self.old.left (self.old.count - self.old.ended)) self.new.trial ≤ events_of (W.left work.now) (W.most work.now) self.old) }
     {
-        match self.trial.take() {
-            Some(trial) => Ok(trial),
-            None => work.begin(alloc, thread, self.ended + 1),
+        if self.trial.is_none() {
+            self.trial = Some(work.begin(alloc, thread, self.ended + 1)?);
         }
+        Ok(())
     }
 
     // Keeps the record of an attempt of the next transaction: it has ended, or a try is used up.

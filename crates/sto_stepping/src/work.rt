@@ -10,7 +10,7 @@ use std::alloc::Global;
 use sto_core::Cells;
 use sto_part::NoMemory;
 use sto_script::ScriptBody;
-use sto_transact::{Ended, Progress, Trial};
+use sto_transact::{Ended, Trial};
 use sto_type::TxType;
 use sto_working::{FileWork, Gate};
 
@@ -39,14 +39,14 @@ impl<'f, T: TxType, G: Gate> Attempts<T, Trial<'f, T, ScriptBody<'f>>> for FileW
     fn step<C: Cells<T>>(
         &self,
         alloc: Global,
-        trial: Trial<'f, T, ScriptBody<'f>>,
+        trial: &mut Trial<'f, T, ScriptBody<'f>>,
         _thread: u32,
         _position: u32,
         cells: &mut C,
-    ) -> Result<Stepped<Trial<'f, T, ScriptBody<'f>>>, NoMemory> {
+    ) -> Result<Stepped, NoMemory> {
         match trial.step(alloc, cells)? {
-            Progress::More(trial) => Ok(Stepped::More(trial)),
-            Progress::Over(end) => {
+            None => Ok(Stepped::More),
+            Some(end) => {
                 let Ended {
                     replies,
                     verdict,

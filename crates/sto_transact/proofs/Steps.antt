@@ -1,5 +1,5 @@
 -- What a step of an attempt, or of its commit, leaves for the next one.
-use Rattle.std.proofs.Common.{◌≡◌, ◌≤◌, ℕ, List, map, true≢false, IsErr, Some, None, Option, Result, Ok, Err, IfOk, OnOk, OnErr, refl, sym, ap, ◌∙◌, subst, arith}
+use Rattle.std.proofs.Common.{◌≡◌, ◌≤◌, ℕ, List, map, Some, None, Option, Result, Ok, Err, IfOk, OnOk, OnErr, refl, sym, ap, ◌∙◌, subst, arith}
 use denote.Bor.{Bor}
 use Rattle.sto_part.specs.declared.NoMemory.{NoMemory}
 use Rattle.sto_part.specs.Listed.{Listed}
@@ -15,7 +15,7 @@ use Rattle.sto_attempt.specs.declared.attempt.Attempt.{Attempt}
 use Rattle.sto_attempt.specs.declared.course.Course.{Course}
 use Rattle.sto_attempt.specs.declared.ready.Ready.{Ready}
 use Rattle.sto_attempt.specs.declared.stand.Stand.{Stand}
-use Rattle.sto_attempt.specs.declared.stand.Stand.TheVariants.{Committing}
+use Rattle.sto_attempt.specs.declared.stand.Stand.TheVariants as Stood
 use Rattle.sto_attempt.specs.declared.verdict.Verdict.{Verdict}
 use Rattle.sto_attempt.specs.declared.verdict.Turn.{Turn}
 use Rattle.sto_attempt.specs.declared.verdict.Turn.TheVariants as Turns
@@ -26,20 +26,17 @@ use Rattle.sto_attempt.specs.Stages.{Said, EndsBy, Stands, SpaceAt}
 use Rattle.sto_attempt.specs.Verdicts.{IsUndisturbed}
 use Rattle.sto_attempt.proofs.Reading.{idle_reading}
 use Rattle.sto_transact.specs.Resting.{IsAtRest}
-use Rattle.sto_transact.specs.declared.trial.Progress.{Progress}
-use Rattle.sto_transact.specs.Trials.{HasStopped, deal_of, IsOwnCourse, RunsBody, IsReady, Commits, HasEnded, HasStepped}
+use Rattle.sto_transact.specs.declared.trial.Trial.TheVariants.{Running, Committing}
+use Rattle.sto_transact.specs.Trials.{HasStopped, deal_of, IsOwnCourse, RunsBody, IsReady, Commits, HasEnded, HasTurned}
 use Rattle.sto_transact.proofs.Gone.{HasLed, HasMoved, has_led, gone_of, rests_after, stopped}
 use Rattle.sto_transact.proofs.Ends.{ended_reading, ended_commit, commit_runs, unaborted_turn, unaborted_wrote}
 
-module _ {T B : Type 0} (meaning : T → Meaning) (valid : Validity) (sizes : T → List ℕ) (script : B → Script) (next : B → List Told → Next) (left : B → ℕ) (may : B → Call → Type 0) where
-  -- where a turn leads
-  abbrev pub HasTurned : ℕ → T → Script → Result Turn NoMemory → Attempt T B → View → View → Type 0
-  HasTurned passes ty f (Ok Turns.More) b begun w = RunsBody meaning valid sizes script next left may passes ty f b begun w
-  HasTurned passes ty f (Ok Turns.Ready) b begun w = IsReady meaning valid sizes script next left may ty f b begun w
-  HasTurned passes ty f (Ok (Turns.Ended x)) b begun w =
-      HasEnded meaning valid sizes script next left may passes ty f (record { body = b.course.body; replies = b.course.replies; verdict = x }) begun w
-  HasTurned passes ty f (Err error) b begun w = HasStopped (meaning ty) (sizes ty) begun w
+-- what the step of a commit says is to be done next
+abbrev pub turn_of : Option Verdict → Turn
+turn_of None = Turns.More
+turn_of (Some x) = Turns.Ended x
 
+module _ {T B : Type 0} (meaning : T → Meaning) (valid : Validity) (sizes : T → List ℕ) (script : B → Script) (next : B → List Told → Next) (left : B → ℕ) (may : B → Call → Type 0) where
   module _ (passes : ℕ) (a b : Attempt T B) (begun v w : View) (same_type : b.course.ty.now ≡ a.course.ty.now) (same_script : script b.course.body ≡ script a.course.body)
       (rest : IsAtRest (meaning a.course.ty.now) (sizes a.course.ty.now) begun)
       (led : HasLed (meaning a.course.ty.now) valid (sizes a.course.ty.now) (script a.course.body) a.at a.words.items a.renewal a.course.base.items a.course.set.items a.course.set.updates (map told a.course.replies.items) passes begun v w a.stand)
@@ -71,13 +68,13 @@ module _ {T B : Type 0} (meaning : T → Meaning) (valid : Validity) (sizes : T 
         alone = alone;
       }
 
-      ready : OnCourse a.course.ty.now (script a.course.body) → fits b.stand a.course.ty.now (script a.course.body) → b.stand ≡ Committing → HasMoved begun w b.stand b.at
+      ready : OnCourse a.course.ty.now (script a.course.body) → fits b.stand a.course.ty.now (script a.course.body) → b.stand ≡ Stood.Committing → HasMoved begun w b.stand b.at
           → IsReady meaning valid sizes script next left may a.course.ty.now (script a.course.body) b begun w
       unfolding fits
       ready course h stands moved = record {
         own = own course;
-        fits = subst (λ (ty : T). fits Committing ty (script b.course.body)) (sym same_type)
-            (subst (λ (f : Script). fits Committing a.course.ty.now f) (sym same_script) (subst (λ (s : Stand). fits s a.course.ty.now (script a.course.body)) stands h));
+        fits = subst (λ (ty : T). fits Stood.Committing ty (script b.course.body)) (sym same_type)
+            (subst (λ (f : Script). fits Stood.Committing a.course.ty.now f) (sym same_script) (subst (λ (s : Stand). fits s a.course.ty.now (script a.course.body)) stands h));
         in_body = moved.in_body;
       }
 
@@ -97,10 +94,10 @@ module _ {T B : Type 0} (meaning : T → Meaning) (valid : Validity) (sizes : T 
           → IfOk r (λ turn. Turned (meaning a.course.ty.now) valid (sizes a.course.ty.now) (script a.course.body) b.at b.stand b.words.items b.renewal b.course.base.items b.course.set.items b.course.set.updates (map told b.course.replies.items) w turn)
           → (passes ≡ 1 → IfOk r (λ turn. IsFirst b.stand × IsUnaborted turn))
           → OnOk r (Moves a.stand a.at b.stand b.at w) → OnErr r (IsLeft w)
-          → HasTurned passes a.course.ty.now (script a.course.body) r b begun w
+          → HasTurned meaning valid sizes script next left may passes a.course.ty.now (script a.course.body) r (Running b) begun w
       unfolding OnCourse goes fits
-      turned_to (Ok Turns.More) course turned alone moves err = more course turned (led.moved b.stand b.at moves) (λ one. (alone one).0)
-      turned_to (Ok Turns.Ready) course turned alone moves err = ready course turned.0 turned.1 (led.moved b.stand b.at moves)
+      turned_to (Ok Turns.More) course turned alone moves err = (rest, more course turned (led.moved b.stand b.at moves) (λ one. (alone one).0))
+      turned_to (Ok Turns.Ready) course turned alone moves err = (rest, ready course turned.0 turned.1 (led.moved b.stand b.at moves))
       turned_to (Ok (Turns.Ended x)) course turned alone moves err = over x course turned.1 turned.2 turned.3 (led.moved b.stand b.at moves) (λ one. (alone one).1)
       turned_to (Err e) course turned alone moves err = stopped (meaning a.course.ty.now) (sizes a.course.ty.now) begun w rest led.read err
 
@@ -113,19 +110,19 @@ module _ {T B : Type 0} (meaning : T → Meaning) (valid : Validity) (sizes : T 
       → IfOk r (λ turn. Turned (meaning a.course.ty.now) valid (sizes a.course.ty.now) (script a.course.body) b.at b.stand b.words.items b.renewal b.course.base.items b.course.set.items b.course.set.updates (map told b.course.replies.items) w turn)
       → (passes ≡ 1 → IsFirst a.stand → IfOk r (λ turn. IsFirst b.stand × IsUnaborted turn))
       → OnOk r (Moves a.stand a.at b.stand b.at w) → OnErr r (IsLeft w)
-      → HasTurned passes ty f r b begun w
+      → HasTurned meaning valid sizes script next left may passes ty f r (Running b) begun w
   unfolding OnCourse
   reads_on passes ty f a b begun v w r rest h same_ref same_script o course turned alone moves err =
       let types : a.course.ty.now ≡ ty = h.own.same_type in
       let scripts : script a.course.body ≡ f = h.own.same_script in
       let rest_there : IsAtRest (meaning a.course.ty.now) (sizes a.course.ty.now) begun = subst (λ (t : T). IsAtRest (meaning t) (sizes t) begun) (sym types) rest in
       let led = has_led (meaning a.course.ty.now) valid (sizes a.course.ty.now) (script a.course.body) a.at a.words.items a.renewal a.course.base.items a.course.set.items a.course.set.updates (map told a.course.replies.items) passes begun v w a.stand h.goes h.gone o in
-      subst (λ (t : T). HasTurned passes t f r b begun w) types
-      (subst (λ (g : Script). HasTurned passes a.course.ty.now g r b begun w) scripts
+      subst (λ (t : T). HasTurned meaning valid sizes script next left may passes t f r (Running b) begun w) types
+      (subst (λ (g : Script). HasTurned meaning valid sizes script next left may passes a.course.ty.now g r (Running b) begun w) scripts
       (turned_to passes a b begun v w (ap (λ (k : Bor T). k.now) same_ref) same_script rest_there led r course turned (λ one. alone one (h.alone one)) moves err))
 
   -- where a step of the commit leads
-  abbrev pub HasCommitted : ℕ → T → Script → Option Verdict → Ready T B → View → View → Type 0
+  abbrev HasCommitted : ℕ → T → Script → Option Verdict → Ready T B → View → View → Type 0
   HasCommitted passes ty f None r begun w = Commits meaning valid sizes script next left may passes ty f r begun w
   HasCommitted passes ty f (Some x) r begun w =
       HasEnded meaning valid sizes script next left may passes ty f (record { body = r.course.body; replies = r.course.replies; verdict = x }) begun w
@@ -183,6 +180,11 @@ module _ {T B : Type 0} (meaning : T → Meaning) (valid : Validity) (sizes : T 
     alone = h.alone;
   }
 
+  turned_by : (passes : ℕ) (ty : T) (f : Script) (s : Ready T B) (begun w : View) → IsAtRest (meaning ty) (sizes ty) begun → (x : Option Verdict) → HasCommitted passes ty f x s begun w
+      → HasTurned meaning valid sizes script next left may passes ty f (Ok (turn_of x)) (Committing s) begun w
+  turned_by passes ty f s begun w rest None h = (rest, h)
+  turned_by passes ty f s begun w rest (Some x) h = h
+
   -- A step of the commit.
   pub commits_on : (passes : ℕ) (ty : T) (f : Script) (r s : Ready T B) (begun v w : View) (x : Option Verdict)
       → IsAtRest (meaning ty) (sizes ty) begun → Commits meaning valid sizes script next left may passes ty f r begun v
@@ -192,15 +194,16 @@ module _ {T B : Type 0} (meaning : T → Meaning) (valid : Validity) (sizes : T 
       → SpaceAt (meaning r.course.ty.now).widths r.tasks.items s.loads s.stage
       → (passes ≡ 1 → IsUndisturbed r.at r.finds.items None r.stage → IsUndisturbed r.at s.finds.items x s.stage)
       → EndsBy v.phase x
-      → HasCommitted passes ty f x s begun w
+      → HasTurned meaning valid sizes script next left may passes ty f (Ok (turn_of x)) (Committing s) begun w
   commits_on passes ty f r s begun v w x rest h kept o said space alone by =
       let types : r.course.ty.now ≡ ty = h.same_type in
       let scripts : script r.course.body ≡ f = h.same_script in
       let rest_there : IsAtRest (meaning r.course.ty.now) (sizes r.course.ty.now) begun = subst (λ (t : T). IsAtRest (meaning t) (sizes t) begun) (sym types) rest in
       let own = commits_own passes ty f r begun v h in
-      subst (λ (t : T). HasCommitted passes t f x s begun w) types
+      turned_by passes ty f s begun w rest x
+      (subst (λ (t : T). HasCommitted passes t f x s begun w) types
       (subst (λ (g : Script). HasCommitted passes r.course.ty.now g x s begun w) scripts
-      (committed passes r s begun v w kept rest_there own o x (committed_to passes r s begun v w kept rest_there own o x said space alone by)))
+      (committed passes r s begun v w kept rest_there own o x (committed_to passes r s begun v w kept rest_there own o x said space alone by))))
 
   -- The commit of an attempt that is ready, as its seal makes it.
   pub seals : (passes : ℕ) (ty : T) (f : Script) (a : Attempt T B) (r : Ready T B) (begun v : View)
@@ -223,13 +226,7 @@ module _ {T B : Type 0} (meaning : T → Meaning) (valid : Validity) (sizes : T 
     alone = λ one. undisturbed;
   }
 
-  -- Where memory was wanting.
-  pub stops : (passes : ℕ) (ty : T) (f : Script) (r : Result (Progress T B) NoMemory) (begun w : View) → IsErr r → HasStopped (meaning ty) (sizes ty) begun w
-      → HasStepped meaning valid sizes script next left may passes ty f r begun w
-  stops passes ty f (Ok p) begun w h it = absurd (true≢false (sym h))
-  stops passes ty f (Err e) begun w h it = it
-
-  -- also where the seal has met it
+  -- Where the seal has met want of memory.
   pub stops_ready : (passes : ℕ) (ty : T) (f : Script) (a : Attempt T B) (begun w : View) → IsAtRest (meaning ty) (sizes ty) begun → IsReady meaning valid sizes script next left may ty f a begun w
       → HasStopped (meaning ty) (sizes ty) begun w
   stops_ready passes ty f a begun w rest h =

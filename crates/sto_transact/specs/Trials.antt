@@ -1,6 +1,6 @@
 -- How an attempt stands, between two of its events, to the view of its pass before its first event, `begun`, and to the view now;
 -- and what it leaves where it ends.
-use Rattle.std.specs.Prelude.{◌≡◌, ◌≤◌, ◌+◌, ℕ, List, map, false, None, Result, Ok, Err}
+use Rattle.std.specs.Prelude.{◌≡◌, ◌≤◌, ◌+◌, ℕ, List, map, false, Option, None, Some, Result, Ok, Err}
 use Rattle.sto_part.specs.declared.NoMemory.{NoMemory}
 use Rattle.sto_model.specs.declared.body.Next.{Next}
 use Rattle.sto_model.specs.declared.call.Call.{Call}
@@ -11,6 +11,9 @@ use Rattle.sto_core.specs.declared.view.View.{View}
 use Rattle.sto_core.specs.History.{Validity}
 use Rattle.sto_attempt.specs.declared.attempt.Attempt.{Attempt}
 use Rattle.sto_attempt.specs.declared.ready.Ready.{Ready}
+use Rattle.sto_attempt.specs.declared.verdict.Verdict.{Verdict}
+use Rattle.sto_attempt.specs.declared.verdict.Turn.{Turn}
+use Rattle.sto_attempt.specs.declared.verdict.Turn.TheVariants as turns
 use Rattle.sto_attempt.specs.declared.stand.Stand.TheVariants.{Committing as CommittingStand}
 use Rattle.sto_attempt.specs.Course.{IsOnCourse}
 use Rattle.sto_attempt.specs.Standing.{Goes, Fits, IsFirst}
@@ -26,9 +29,7 @@ use Rattle.sto_transact.specs.Going.{HasGone, InBody}
 use Rattle.sto_transact.specs.Plain.{verdict}
 use Rattle.sto_transact.specs.Resting.{IsAtRest}
 use Rattle.sto_transact.specs.declared.trial.Trial.{Trial}
-use Rattle.sto_transact.specs.declared.trial.Trial.TheVariants.{Running, Committing}
-use Rattle.sto_transact.specs.declared.trial.Progress.{Progress}
-use Rattle.sto_transact.specs.declared.trial.Progress.TheVariants.{More, Over}
+use Rattle.sto_transact.specs.declared.trial.Trial.TheVariants.{Running, Committing, Over}
 use Rattle.sto_transact.specs.declared.trial.Ended.{Ended}
 
 -- memory was wanting: the pass is at rest, the attempt has begun and drawn nothing
@@ -92,6 +93,7 @@ module _ {T B : Type 0} (meaning : T → Meaning) (valid : Validity) (sizes : T 
       IsAtRest (meaning ty) (sizes ty) begun × RunsBody passes ty f a begun v
   Proceeds passes ty f (Committing r) begun v =
       IsAtRest (meaning ty) (sizes ty) begun × Commits passes ty f r begun v
+  Proceeds passes ty f Over begun v = ⊥
 
   -- it has ended: it is told by its record at every place, its pass is at rest, and beside no other pass it was not aborted
   pub record HasEnded (passes : ℕ) (ty : T) (f : Script) (e : Ended B) (begun w : View) : Type 0 where
@@ -101,17 +103,36 @@ module _ {T B : Type 0} (meaning : T → Meaning) (valid : Validity) (sizes : T 
     pub rests : IsAtRest (meaning ty) (sizes ty) w
     pub alone : passes ≡ 1 → is_abort (verdict e.verdict) ≡ false
 
-  -- what a step leads to
-  abbrev pub HasStepped : ℕ → T → Script → Result (Progress T B) NoMemory → View → View → Type 0
-  HasStepped passes ty f (Ok (More trial)) begun w = Proceeds passes ty f trial begun w
-  HasStepped passes ty f (Ok (Over e)) begun w = HasEnded passes ty f e begun w
-  HasStepped passes ty f (Err error) begun w = HasStopped (meaning ty) (sizes ty) begun w
+  -- its body is ready to commit with an update
+  abbrev pub IsAtSeal : T → Script → Trial T B → View → View → Type 0
+  IsAtSeal ty f (Running a) begun w = IsAtRest (meaning ty) (sizes ty) begun × IsReady ty f a begun w
+  IsAtSeal ty f _ begun w = ⊥
+
+  -- it has ended so, and what is left of it was not yet taken
+  abbrev pub IsAtEnd : ℕ → T → Script → Trial T B → Verdict → View → View → Type 0
+  IsAtEnd passes ty f (Running a) x begun w = HasEnded passes ty f (record { body = a.course.body; replies = a.course.replies; verdict = x }) begun w
+  IsAtEnd passes ty f (Committing r) x begun w = HasEnded passes ty f (record { body = r.course.body; replies = r.course.replies; verdict = x }) begun w
+  IsAtEnd passes ty f Over x begun w = ⊥
+
+  -- where an event leads it
+  abbrev pub HasTurned : ℕ → T → Script → Result Turn NoMemory → Trial T B → View → View → Type 0
+  HasTurned passes ty f (Ok turns.More) trial begun w = Proceeds passes ty f trial begun w
+  HasTurned passes ty f (Ok turns.Ready) trial begun w = IsAtSeal ty f trial begun w
+  HasTurned passes ty f (Ok (turns.Ended x)) trial begun w = IsAtEnd passes ty f trial x begun w
+  HasTurned passes ty f (Err error) trial begun w = HasStopped (meaning ty) (sizes ty) begun w
+
+  -- what a step leads to: it proceeds, or it has ended
+  abbrev pub HasStepped : ℕ → T → Script → Result (Option (Ended B)) NoMemory → Trial T B → View → View → Type 0
+  HasStepped passes ty f (Ok None) trial begun w = Proceeds passes ty f trial begun w
+  HasStepped passes ty f (Ok (Some e)) trial begun w = HasEnded passes ty f e begun w
+  HasStepped passes ty f (Err error) trial begun w = HasStopped (meaning ty) (sizes ty) begun w
 
   -- how many events it has left at most
   abbrev pub trial_left : Trial T B → ℕ
   trial_left (Running a) = events_left (left a.course.body) (meaning a.course.ty.now).widths a.stand a.words.items a.renewal a.course.base.items
   trial_left (Committing r) = commit_left (deal_of r) r.stage
+  trial_left Over = 0
 
-  abbrev pub left_after : Progress T B → ℕ
-  left_after (More trial) = trial_left trial
-  left_after (Over e) = 0
+  abbrev pub left_after : Option (Ended B) → Trial T B → ℕ
+  left_after None trial = trial_left trial
+  left_after (Some e) trial = 0

@@ -9,4 +9,4 @@ mod trial;
 
 pub use record::Record;
 pub use transaction::{Transacted, Transaction, Unwatched, Watch};
-pub use trial::{Ended, Progress, Trial};
+pub use trial::{Ended, Trial};

@@ -8,7 +8,7 @@ ghost use Rattle.sto_transact.specs.Resting.{IsAtRest};
 ghost use Rattle.sto_transact.specs.Trials.{HasEnded, HasStopped};
 
 use crate::record::Record;
-use crate::trial::{Ended, Progress, Trial};
+use crate::trial::{Ended, Trial};
 use std::alloc::{AllocError, Global};
 use sto_attempt::Verdict;
 use sto_core::Cells;
@@ -130,9 +130,8 @@ fn run_attempt<T: TxType, B: Body + Drop, C: Cells<T>, W: Watch>(
     let mut events: u64 = 0;
     loop {
         watch.before_event(events);
-        match trial.step(alloc, cells)? {
-            Progress::More(next) => trial = next,
-            Progress::Over(ended) => return Ok(ended),
+        if let Some(ended) = trial.step(alloc, cells)? {
+            return Ok(ended);
         }
         events = events.saturating_add(1);
     }

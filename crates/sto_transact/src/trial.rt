@@ -1,24 +1,30 @@
 //! An attempt in all its phases, as one machine.
-ghost use Rattle.std.specs.Prelude.{◌≡◌, ◌<◌, ◌≤◌, ℕ, length, IfOk};
+ghost use Rattle.std.specs.Prelude.{◌≡◌, ◌<◌, ◌≤◌, ℕ, length, IfOk, OnOk};
 ghost use Rattle.sto_model.specs.declared.call.Call.{Call};
 ghost use Rattle.sto_model.specs.Run.{Script};
 ghost use Rattle.sto_core.specs.declared.view.View.{View};
+ghost use Rattle.sto_attempt.specs.Answers.{OneEvent};
 ghost use Rattle.sto_attempt.specs.Bounds.{bound, words_of};
 ghost use Rattle.sto_transact.specs.Resting.{IsAtRest};
-ghost use Rattle.sto_transact.specs.Trials.{Proceeds, HasStepped, trial_left, left_after};
+ghost use Rattle.sto_transact.specs.Trials.{Proceeds, IsAtSeal, IsAtEnd, HasTurned, HasStepped, HasEnded, trial_left, left_after};
 
 use std::alloc::Global;
+use std::mem;
 use sto_attempt::{Attempt, Ready, Turn, Verdict};
 use sto_core::Cells;
 use sto_model::{Body, Replies};
 use sto_part::NoMemory;
 use sto_type::TxType;
 
-/// An attempt that has further events: its body runs, or its commit is under way.
+/// An attempt, which is lent to each of its steps.
 #[derive(Drop)]
 pub enum Trial<'t, T: TxType, B: Body> {
+    /// Its body runs.
     Running(Attempt<'t, T, B>),
+    /// Its commit is under way.
     Committing(Ready<'t, T, B>),
+    /// It has ended, and nothing is left of it.
+    Over,
 }
 
 /// What is left of an attempt that has ended.
@@ -30,13 +36,6 @@ pub struct Ended<B> {
     pub replies: Replies,
     /// How the attempt ended.
     pub verdict: Verdict,
-}
-
-/// Where a step has led.
-#[derive(Drop)]
-pub enum Progress<'t, T: TxType, B: Body> {
-    More(Trial<'t, T, B>),
-    Over(Ended<B>),
 }
 
 impl<'t, T: TxType, B: Body + Drop> Trial<'t, T, B> {
@@ -51,49 +50,83 @@ impl<'t, T: TxType, B: Body + Drop> Trial<'t, T, B> {
         Trial::Running(Attempt::new(alloc, ty, body))
     }
 
-    /// Makes exactly one event, and goes on to the next one or to the end.
+    /// Makes exactly one event. It answers what is left of the attempt where that was the last one, and else goes on to the next.
     ///
     /// The pass is that of the earlier steps, with its view as they left it; steps of other passes leave it so. After `NoMemory` the
     /// attempt has ended: the pass is at rest, and nothing was drawn.
     pub fn step<C: Cells<T>>(
-        self,
+        &mut self,
         alloc: Global,
         cells: &mut C,
-    ) -> Result<Progress<'t, T, B>, NoMemory>
-        requires { (ty : T) × (f : Script) × (begun : View) × Proceeds T.meaning T.valid T.sizes B.script B.then B.left B.may_ask (C.passes cells.old) ty f self begun (C.view cells.old) }
-        ensures stepped { (ty : T) (f : Script) (begun : View) → Proceeds T.meaning T.valid T.sizes B.script B.then B.left B.may_ask (C.passes cells.old) ty f self.entry begun (C.view cells.old) → HasStepped T.meaning T.valid T.sizes B.script B.then B.left B.may_ask (C.passes cells.old) ty f result begun (C.view cells.new) }
+    ) -> Result<Option<Ended<B>>, NoMemory>
+        requires { (ty : T) × (f : Script) × (begun : View) × Proceeds T.meaning T.valid T.sizes B.script B.then B.left B.may_ask (C.passes cells.old) ty f self.old begun (C.view cells.old) }
+        ensures event { OneEvent (λ _. Unit {0}) T.valid (C.passes cells.old) (C.view cells.old) (C.view cells.new) }
+        ensures stepped { (ty : T) (f : Script) (begun : View) → Proceeds T.meaning T.valid T.sizes B.script B.then B.left B.may_ask (C.passes cells.old) ty f self.old begun (C.view cells.old) → HasStepped T.meaning T.valid T.sizes B.script B.then B.left B.may_ask (C.passes cells.old) ty f result self.new begun (C.view cells.new) }
 
         // There are fewer events left.
-        ensures left { IfOk result (λ p. left_after T.meaning T.valid T.sizes B.script B.then B.left B.may_ask p < trial_left T.meaning T.valid T.sizes B.script B.then B.left B.may_ask self.entry) }
+        ensures left { IfOk result (λ end. left_after T.meaning T.valid T.sizes B.script B.then B.left B.may_ask end self.new < trial_left T.meaning T.valid T.sizes B.script B.then B.left B.may_ask self.old) }
+        ensures same { C.same cells.old cells.new }
+    {
+        match self.turn(alloc, cells)? {
+            Turn::More => Ok(None),
+            Turn::Ready => {
+                self.seal(alloc)?;
+                Ok(None)
+            }
+            Turn::Ended(verdict) => Ok(Some(self.end(verdict))),
+        }
+    }
+
+    // Makes one event, and tells what is to be done next.
+    fn turn<C: Cells<T>>(&mut self, alloc: Global, cells: &mut C) -> Result<Turn, NoMemory>
+        requires { (ty : T) × (f : Script) × (begun : View) × Proceeds T.meaning T.valid T.sizes B.script B.then B.left B.may_ask (C.passes cells.old) ty f self.old begun (C.view cells.old) }
+        ensures event { OneEvent (λ _. Unit {0}) T.valid (C.passes cells.old) (C.view cells.old) (C.view cells.new) }
+        ensures turned { (ty : T) (f : Script) (begun : View) → Proceeds T.meaning T.valid T.sizes B.script B.then B.left B.may_ask (C.passes cells.old) ty f self.old begun (C.view cells.old) → HasTurned T.meaning T.valid T.sizes B.script B.then B.left B.may_ask (C.passes cells.old) ty f result self.new begun (C.view cells.new) }
+        ensures left { OnOk result (trial_left T.meaning T.valid T.sizes B.script B.then B.left B.may_ask self.new < trial_left T.meaning T.valid T.sizes B.script B.then B.left B.may_ask self.old) }
         ensures same { C.same cells.old cells.new }
     {
         match self {
-            Trial::Running(mut attempt) => match attempt.step(alloc, cells)? {
-                Turn::More => Ok(Progress::More(Trial::Running(attempt))),
-                Turn::Ready => match attempt.seal(alloc) {
-                    Ok(ready) => Ok(Progress::More(Trial::Committing(ready))),
-                    Err((_, error)) => Err(error),
-                },
-                Turn::Ended(verdict) => {
-                    let heard = attempt.end();
-                    Ok(Progress::Over(Ended {
-                        body: heard.body,
-                        replies: heard.replies,
-                        verdict,
-                    }))
-                }
+            Trial::Running(attempt) => attempt.step(alloc, cells),
+            Trial::Committing(ready) => match ready.step(cells) {
+                None => Ok(Turn::More),
+                Some(verdict) => Ok(Turn::Ended(verdict)),
             },
-            Trial::Committing(mut ready) => match ready.step(cells) {
-                None => Ok(Progress::More(Trial::Committing(ready))),
-                Some(verdict) => {
-                    let heard = ready.end();
-                    Ok(Progress::Over(Ended {
-                        body: heard.body,
-                        replies: heard.replies,
-                        verdict,
-                    }))
+            Trial::Over => unreachable!(),
+        }
+    }
+
+    // Goes on from a body that is ready to its commit.
+    fn seal(&mut self, alloc: Global) -> Result<(), NoMemory>
+        requires { (ty : T) × (f : Script) × (begun : View) × (v : View) × IsAtSeal T.meaning T.valid T.sizes B.script B.then B.left B.may_ask ty f self.old begun v }
+        ensures proceeds { OnOk result ((passes : ℕ) (ty : T) (f : Script) (begun v : View) → IsAtSeal T.meaning T.valid T.sizes B.script B.then B.left B.may_ask ty f self.old begun v → Proceeds T.meaning T.valid T.sizes B.script B.then B.left B.may_ask passes ty f self.new begun v) }
+        ensures left { OnOk result (trial_left T.meaning T.valid T.sizes B.script B.then B.left B.may_ask self.new ≤ trial_left T.meaning T.valid T.sizes B.script B.then B.left B.may_ask self.old) }
+    {
+        match mem::replace(self, Trial::Over) {
+            Trial::Running(attempt) => match attempt.seal(alloc) {
+                Ok(ready) => {
+                    *self = Trial::Committing(ready);
+                    Ok(())
                 }
+                Err((_, error)) => Err(error),
             },
+            _ => unreachable!(),
+        }
+    }
+
+    // Takes what is left of an attempt that has ended.
+    fn end(&mut self, verdict: Verdict) -> Ended<B>
+        requires { (passes : ℕ) × (ty : T) × (f : Script) × (begun : View) × (w : View) × IsAtEnd T.meaning T.valid T.sizes B.script B.then B.left B.may_ask passes ty f self.old verdict begun w }
+        ensures { (passes : ℕ) (ty : T) (f : Script) (begun w : View) → IsAtEnd T.meaning T.valid T.sizes B.script B.then B.left B.may_ask passes ty f self.old verdict begun w → HasEnded T.meaning T.valid T.sizes B.script B.then B.left B.may_ask passes ty f result begun w }
+    {
+        let heard = match mem::replace(self, Trial::Over) {
+            Trial::Running(attempt) => attempt.end(),
+            Trial::Committing(ready) => ready.end(),
+            Trial::Over => unreachable!(),
+        };
+        Ended {
+            body: heard.body,
+            replies: heard.replies,
+            verdict,
         }
     }
 }

@@ -1,11 +1,12 @@
-use Rattle.std.proofs.Common.{◌∙◌}
-use Rattle.sto_scenes.proofs.Going.{stopped_begun, beside_inside, beside_rests, beside_draws}
+use Rattle.std.proofs.Common.{sym, subst, ◌∙◌}
+use Rattle.sto_scenes.proofs.Going.{HasBegun, stopped_begun, beside_inside, beside_rests, beside_draws}
 use Rattle.sto_scenes.proofs.scene.run_beside.Goals as goal
 
 pub advance-requires : goal.advance-requires
 advance-requires g c =
     stopped_begun (g.W.Work.meaning c.args.work.now) (g.W.Work.sizes c.args.work.now) (g.W.Attempts.fits c.args.work.now) c.args.words c.at-pass.result.plain c.at-pass.result.pass
-    c.in_ok-trial.trial c.new-stopped.result.at c.requires.opened c.at-pass.ensures.plain c.at-pass.ensures.pass c.new-stopped.ensures c.in_ok-trial.ensures.fits
+    c.new-stopped.result c.requires.opened c.at-pass.ensures.plain c.at-pass.ensures.pass c.new-stopped.ensures.at
+    (subst (HasBegun (g.W.Work.meaning c.args.work.now) (g.W.Work.sizes c.args.work.now) (g.W.Attempts.fits c.args.work.now) 0) (sym c.new-stopped.ensures.trial) c.in_ok-trial.ensures.fits)
 
 pub at-beside-requires : goal.at-beside-requires
 at-beside-requires g c =

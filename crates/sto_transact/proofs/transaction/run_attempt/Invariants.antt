@@ -1,14 +1,14 @@
--- The trial proceeds from the view at the beginning, on the same pass.
-use Rattle.sto_transact.specs.Trials.{Proceeds, trial_left}
+use Rattle.std.proofs.Common.{◌≡◌, ◌<◌, ◌≤◌, map, true, IfOk, OnErr, ℕ, ◌+◌, ◌-◌, ◌*◌, length}
+use Rattle.sto_model.specs.declared.call.Call.{Call}
+use Rattle.sto_told.specs.Records.{is_abort}
+use Rattle.sto_transact.specs.Plain.{plain, verdict}
+use Rattle.sto_transact.specs.Ran.{HasRun, HasBroken}
+use Rattle.sto_transact.specs.Resting.{IsAtRest}
+use Rattle.sto_transact.specs.Trials.{HasEnded, HasStopped}
 use Rattle.sto_transact.proofs.transaction.run_attempt.Given as goal
 
-abbrev pub invariant-loop-next : goal.invariant-loop-next
-invariant-loop-next g l = record {
-  proceeds :
-      Proceeds g.T.TxType.meaning g.T.Naming.valid g.T.Naming.sizes g.B.Body.script g.B.Body.then g.B.Body.left g.B.Body.may_ask (g.C.Cells.passes l.fn.cells)
-      l.fn.ty (g.B.Body.script l.fn.body) l.trial (g.C.Cells.view l.fn.cells) (g.C.Cells.view l.cells);
-  same : g.C.Cells.same l.fn.cells l.cells;
-}
+abbrev pub invariant-loop-trial : goal.invariant-loop-trial
+invariant-loop-trial g l = ?
 
-abbrev pub decreases-loop-next : goal.decreases-loop-next
-decreases-loop-next g l = trial_left g.T.TxType.meaning g.T.Naming.valid g.T.Naming.sizes g.B.Body.script g.B.Body.then g.B.Body.left g.B.Body.may_ask l.trial
+abbrev pub decreases-loop-trial : goal.decreases-loop-trial
+decreases-loop-trial g l = ?

@@ -1,24 +1,9 @@
-use Rattle.std.specs.Prelude.{Result, Ok}
+use Rattle.std.specs.Prelude.{Option, Result, Ok}
 use Rattle.std.proofs.Common.{ap, ◌∙◌, subst, arith}
 use Rattle.sto_part.specs.declared.NoMemory.{NoMemory}
 use Rattle.sto_script.specs.Meaning.{meaning_of}
 use Rattle.sto_script.specs.Bodies.{then_of, script_of, left_of, MayAskOf}
 use Rattle.sto_script.specs.declared.body.ScriptBody.{ScriptBody}
-use Rattle.sto_transact.specs.declared.trial.Progress.{Progress}
+use Rattle.sto_transact.specs.declared.trial.Ended.{Ended}
 use Rattle.sto_transact.specs.Trials.{HasStepped}
 use Rattle.sto_stepping.proofs.work.FileWorkAttemptsTrialScriptBody.step.Goals as goal
-
-pub returns-in-Over-clause-stepped : goal.returns-in-Over-clause-stepped
-returns-in-Over-clause-stepped g c = λ begun k.
-    let fewer = c.in_ok-trial.ensures.left in
-    let h = subst (λ (r : Result (Progress g.row.T.Denot ScriptBody) NoMemory). HasStepped g.T.TxType.meaning g.T.Naming.valid g.T.Naming.sizes script_of then_of left_of MayAskOf (g.C.Cells.passes c.args.cells.now) c.args.self.now.ty.now (meaning_of k.script) r begun (g.C.Cells.view c.step.new.cells))
-    (c.in_ok-trial.was ∙ ap Ok c.in-Over.is) (c.step.ensures.stepped c.args.self.now.ty.now (meaning_of k.script) begun k.proceeds) in (
-      record {
-        script = k.script;
-        there = k.there;
-        tried = h.tried (c.args._thread, c.args._position);
-        rests = h.rests;
-        alone = h.alone;
-      },
-      omega (arith, fewer),
-    )

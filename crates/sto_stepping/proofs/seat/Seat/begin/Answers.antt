@@ -1,7 +1,7 @@
 use Rattle.std.proofs.Common.{arith}
 use Rattle.sto_working.proofs.Scripts.{transaction_there}
 use Rattle.sto_stepping.proofs.Seats.{goes_on}
-use Rattle.sto_stepping.proofs.seat.Seat.attempt.Goals as goal
+use Rattle.sto_stepping.proofs.seat.Seat.begin.Goals as goal
 
 pub begin-requires-clause-there : goal.begin-requires-clause-there
 begin-requires-clause-there g c =
