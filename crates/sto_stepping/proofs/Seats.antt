@@ -16,7 +16,7 @@ use Rattle.sto_transact.specs.Plain.{plain}
 use Rattle.sto_transact.specs.Resting.{IsAtRest}
 use Rattle.sto_stepping.specs.Counts.{attempts_left, events_left}
 use Rattle.sto_stepping.specs.Stepped.{HasMadeOne}
-use Rattle.sto_stepping.specs.Seated.{IsBetween, IsWithin, IsAt, IsSeated, IsOverAt, AreOver, HasKept, AreSeated, events_of, events_of_all}
+use Rattle.sto_stepping.specs.Seated.{IsBetween, IsWithin, IsAt, IsIn, IsSeated, IsOverAt, AreOver, HasKept, AreSeated, events_of, events_of_all}
 use Rattle.sto_stepping.specs.declared.seat.Seat.{Seat}
 use Rattle.sto_stepping.proofs.Counting.{fewer_tries, fewer_transactions, some_left, times_fewer, one_fewer}
 use Rattle.sto_stepping.proofs.Adding.{kept_aborted, kept_ended}
@@ -46,6 +46,14 @@ begun_within m sizes file tries passes thread ended left count rs fits trial v c
   fits_now = may v h.rests
       (let a = h.draws in let b = some_left tries left (count_in file.threads thread) ended (let a = going.0 in omega (arith, a, counted)) going.1 in omega (arith, a, b));
 }
+
+-- the attempt that runs
+pub in_some : {M : Type 0} (within : M → View → Type 0) (o : Option M) (trial : M) (v : View) → o ≡ Some trial → IsIn within o v → within trial v
+in_some {M} within o trial v is h = subst (λ (x : Option M). IsIn within x v) is h
+
+pub all_events : {M : Type 0} (left : M → ℕ) (most : ℕ) (s : Seat M) (o : Option M) (trial : M) → o ≡ Some trial → events_left left most (attempts_left s.tries s.left (s.count - s.ended)) o ≤ events_of left most s
+    → events_left left most (attempts_left s.tries s.left (s.count - s.ended)) (Some trial) ≤ events_of left most s
+all_events {M} left most s o trial is h = subst (λ (x : Option M). events_left left most (attempts_left s.tries s.left (s.count - s.ended)) x ≤ events_of left most s) is h
 
 -- an attempt goes on
 pub still_within : {M : Type 0} (m : Meaning) (sizes : List ℕ) (file : File) (tries passes thread ended left : ℕ) (rs : List Record) (fits : M → View → View → Type 0) (trial later : M) (v w : View)

@@ -26,8 +26,9 @@ use Rattle.sto_attempt.specs.Stages.{Said, EndsBy, Stands, SpaceAt}
 use Rattle.sto_attempt.specs.Verdicts.{IsUndisturbed}
 use Rattle.sto_attempt.proofs.Reading.{idle_reading}
 use Rattle.sto_transact.specs.Resting.{IsAtRest}
+use Rattle.sto_transact.specs.declared.trial.Ended.{Ended}
 use Rattle.sto_transact.specs.declared.trial.Trial.TheVariants.{Running, Committing}
-use Rattle.sto_transact.specs.Trials.{HasStopped, deal_of, IsOwnCourse, RunsBody, IsReady, Commits, HasEnded, HasTurned}
+use Rattle.sto_transact.specs.Trials.{HasStopped, deal_of, IsOwnCourse, RunsBody, IsReady, Commits, HasEnded, HasTurned, HasFinished}
 use Rattle.sto_transact.proofs.Gone.{HasLed, HasMoved, has_led, gone_of, rests_after, stopped}
 use Rattle.sto_transact.proofs.Ends.{ended_reading, ended_commit, commit_runs, unaborted_turn, unaborted_wrote}
 
@@ -76,6 +77,7 @@ module _ {T B : Type 0} (meaning : T → Meaning) (valid : Validity) (sizes : T 
         fits = subst (λ (ty : T). fits Stood.Committing ty (script b.course.body)) (sym same_type)
             (subst (λ (f : Script). fits Stood.Committing a.course.ty.now f) (sym same_script) (subst (λ (s : Stand). fits s a.course.ty.now (script a.course.body)) stands h));
         in_body = moved.in_body;
+        committing = stands;
       }
 
       over : (x : Verdict) → OnCourse a.course.ty.now (script a.course.body) → IsLeft w → b.at ≤ w.at → Ends (meaning a.course.ty.now) (script a.course.body) w b.at (map told b.course.replies.items) x
@@ -240,3 +242,14 @@ module _ {T B : Type 0} (meaning : T → Meaning) (valid : Validity) (sizes : T 
   ended_as passes ty f body mine replies heard x begun w same_body same_replies h =
       subst (λ (y : B). HasEnded meaning valid sizes script next left may passes ty f (record { body = y; replies = heard; verdict = x }) begun w) (sym same_body)
       (subst (λ (l : Listed Reply). HasEnded meaning valid sizes script next left may passes ty f (record { body = body; replies = l; verdict = x }) begun w) (sym same_replies) h)
+
+  -- What all steps have led to, by their answer.
+  pub finished_ok : (passes : ℕ) (ty : T) (f : Script) (r : Result (Ended B) NoMemory) (begun w : View) → HasFinished meaning valid sizes script next left may passes ty f r begun w
+      → IfOk r (λ e. HasEnded meaning valid sizes script next left may passes ty f e begun w)
+  finished_ok passes ty f (Ok e) begun w h = h
+  finished_ok passes ty f (Err error) begun w h = tt
+
+  pub finished_err : (passes : ℕ) (ty : T) (f : Script) (r : Result (Ended B) NoMemory) (begun w : View) → HasFinished meaning valid sizes script next left may passes ty f r begun w
+      → OnErr r (HasStopped (meaning ty) (sizes ty) begun w)
+  finished_err passes ty f (Ok e) begun w h = tt
+  finished_err passes ty f (Err error) begun w h = h

@@ -73,6 +73,7 @@ module _ {T B : Type 0} (meaning : T → Meaning) (valid : Validity) (sizes : T 
         Fits (meaning a.course.ty.now) valid (sizes a.course.ty.now) (script a.course.body) a.at CommittingStand a.words.items
         a.course.base.items a.course.set.updates (map told a.course.replies.items) v
     pub in_body : InBody begun v a.at
+    pub committing : a.stand ≡ CommittingStand
 
   -- the commit is under way; beside no other pass it has found no part changed
   pub record Commits (passes : ℕ) (ty : T) (f : Script) (r : Ready T B) (begun v : View) : Type 0 where
@@ -126,6 +127,11 @@ module _ {T B : Type 0} (meaning : T → Meaning) (valid : Validity) (sizes : T 
   HasStepped passes ty f (Ok None) trial begun w = Proceeds passes ty f trial begun w
   HasStepped passes ty f (Ok (Some e)) trial begun w = HasEnded passes ty f e begun w
   HasStepped passes ty f (Err error) trial begun w = HasStopped (meaning ty) (sizes ty) begun w
+
+  -- what all steps lead to
+  abbrev pub HasFinished : ℕ → T → Script → Result (Ended B) NoMemory → View → View → Type 0
+  HasFinished passes ty f (Ok e) begun w = HasEnded passes ty f e begun w
+  HasFinished passes ty f (Err error) begun w = HasStopped (meaning ty) (sizes ty) begun w
 
   -- how many events it has left at most
   abbrev pub trial_left : Trial T B → ℕ

@@ -1,15 +1,18 @@
 //! One transaction: attempts of a body until one is not aborted.
 ghost use Rattle.std.specs.Prelude.{◌≡◌, ◌<◌, ◌≤◌, map, true, IfOk, OnErr};
 ghost use Rattle.sto_model.specs.declared.call.Call.{Call};
+ghost use Rattle.sto_model.specs.Run.{Script};
+ghost use Rattle.sto_core.specs.declared.view.View.{View};
 ghost use Rattle.sto_told.specs.Records.{is_abort};
 ghost use Rattle.sto_transact.specs.Plain.{plain, verdict};
 ghost use Rattle.sto_transact.specs.Ran.{HasRun, HasBroken};
 ghost use Rattle.sto_transact.specs.Resting.{IsAtRest};
-ghost use Rattle.sto_transact.specs.Trials.{HasEnded, HasStopped};
+ghost use Rattle.sto_transact.specs.Trials.{Proceeds, HasEnded, HasFinished, HasStopped};
 
 use crate::record::Record;
 use crate::trial::{Ended, Trial};
 use std::alloc::{AllocError, Global};
+use std::mem;
 use sto_attempt::Verdict;
 use sto_core::Cells;
 use sto_model::Body;
@@ -127,13 +130,29 @@ fn run_attempt<T: TxType, B: Body + Drop, C: Cells<T>, W: Watch>(
     ensures same { C.same cells.old cells.new }
 {
     let mut trial = Trial::new(alloc, ty, body);
+    let ended = finish(alloc, &mut trial, cells, watch);
+    mem::drop(trial);
+    ended
+}
+
+// Steps an attempt to its end.
+fn finish<T: TxType, B: Body + Drop, C: Cells<T>, W: Watch>(
+    alloc: Global,
+    trial: &mut Trial<'_, T, B>,
+    cells: &mut C,
+    watch: &mut W,
+) -> Result<Ended<B>, NoMemory>
+    requires { (ty : T) × (f : Script) × (begun : View) × Proceeds T.meaning T.valid T.sizes B.script B.then B.left B.may_ask (C.passes cells.old) ty f trial.old begun (C.view cells.old) }
+    ensures ended { (ty : T) (f : Script) (begun : View) → Proceeds T.meaning T.valid T.sizes B.script B.then B.left B.may_ask (C.passes cells.old) ty f trial.old begun (C.view cells.old) → HasFinished T.meaning T.valid T.sizes B.script B.then B.left B.may_ask (C.passes cells.old) ty f result begun (C.view cells.new) }
+    ensures same { C.same cells.old cells.new }
+{
     let mut events: u64 = 0;
     loop {
         watch.before_event(events);
-        if let Some(ended) = trial.step(alloc, cells)? {
-            return Ok(ended);
+        match trial.step(alloc, cells)? {
+            None => events = events.saturating_add(1),
+            Some(ended) => return Ok(ended),
         }
-        events = events.saturating_add(1);
     }
 }
 

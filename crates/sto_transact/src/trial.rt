@@ -104,10 +104,13 @@ impl<'t, T: TxType, B: Body + Drop> Trial<'t, T, B> {
         match mem::replace(self, Trial::Over) {
             Trial::Running(attempt) => match attempt.seal(alloc) {
                 Ok(ready) => {
-                    *self = Trial::Committing(ready);
+                    mem::drop(mem::replace(self, Trial::Committing(ready)));
                     Ok(())
                 }
-                Err((_, error)) => Err(error),
+                Err((attempt, error)) => {
+                    mem::drop(attempt);
+                    Err(error)
+                }
             },
             _ => unreachable!(),
         }

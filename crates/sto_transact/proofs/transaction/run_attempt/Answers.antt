@@ -1,40 +1,22 @@
-use Rattle.std.proofs.Common.{rules, ◌≡◌, ◌<◌, ◌≤◌, map, true, IfOk, OnErr, ℕ, ◌+◌, ◌-◌, ◌*◌, length, ◌/◌, ◌%◌, Bool, false, nat_eq, nat_lt, List, [], ◌∷◌, ◌++◌, slice_index_or, slice_set, bit_and, bit_or, Fits, w8, w32, w64, Bor, MutBor}
-use Rattle.sto_model.specs.declared.call.Call.{Call}
-use Rattle.sto_told.specs.Records.{is_abort}
-use Rattle.sto_transact.specs.Plain.{plain, verdict}
-use Rattle.sto_transact.specs.Ran.{HasRun, HasBroken}
-use Rattle.sto_transact.specs.Resting.{IsAtRest}
-use Rattle.sto_transact.specs.Trials.{HasEnded, HasStopped}
+-- The attempt begins on a pass that is at rest, and its steps lead to its end.
+use Rattle.sto_transact.proofs.Steps.{finished_ok, finished_err}
 use Rattle.sto_transact.proofs.transaction.run_attempt.Goals as goal
 
--- src/transaction.rt:131:5
-pub loop-trial-init : goal.loop-trial-init
-loop-trial-init g c = ?
+pub finish-ended-requires : goal.finish-ended-requires
+finish-ended-requires g c =
+    let v = g.C.Cells.view c.args.cells.now in
+    (c.args.ty.now, g.B.Body.script c.args.body, v, c.new-trial.ensures.proceeds (g.C.Cells.passes c.args.cells.now) v c.requires.rests c.requires.draws)
 
--- src/transaction.rt:133:30
-pub step-requires : goal.step-requires
-step-requires g c = ?
+pub returns-clause-ended : goal.returns-clause-ended
+returns-clause-ended g c =
+    let v = g.C.Cells.view c.args.cells.now in let passes = g.C.Cells.passes c.args.cells.now in
+    let ty = c.args.ty.now in let f = g.B.Body.script c.args.body in
+    finished_ok g.T.TxType.meaning g.T.Naming.valid g.T.Naming.sizes g.B.Body.script g.B.Body.then g.B.Body.left g.B.Body.may_ask passes ty f c.finish-ended.result v (g.C.Cells.view c.finish-ended.new.cells)
+    (c.finish-ended.ensures.ended ty f v (c.new-trial.ensures.proceeds passes v c.requires.rests c.requires.draws))
 
--- src/transaction.rt:133:30
-pub returns-in_err-ended-clause-err : goal.returns-in_err-ended-clause-err
-returns-in_err-ended-clause-err g c = ?
-
--- src/transaction.rt:133:30
-pub returns-in_err-ended-clause-same : goal.returns-in_err-ended-clause-same
-returns-in_err-ended-clause-same g c = ?
-
--- src/transaction.rt:134:13
-pub returns-in-Some-clause-ended : goal.returns-in-Some-clause-ended
-returns-in-Some-clause-ended g c = ?
-
--- src/transaction.rt:134:13
-pub returns-in-Some-clause-same : goal.returns-in-Some-clause-same
-returns-in-Some-clause-same g c = ?
-
--- src/transaction.rt:131:5
-pub loop-trial-smaller : goal.loop-trial-smaller
-loop-trial-smaller g c = ?
-
--- src/transaction.rt:131:5
-pub loop-trial-preserved : goal.loop-trial-preserved
-loop-trial-preserved g c = ?
+pub returns-clause-err : goal.returns-clause-err
+returns-clause-err g c =
+    let v = g.C.Cells.view c.args.cells.now in let passes = g.C.Cells.passes c.args.cells.now in
+    let ty = c.args.ty.now in let f = g.B.Body.script c.args.body in
+    finished_err g.T.TxType.meaning g.T.Naming.valid g.T.Naming.sizes g.B.Body.script g.B.Body.then g.B.Body.left g.B.Body.may_ask passes ty f c.finish-ended.result v (g.C.Cells.view c.finish-ended.new.cells)
+    (c.finish-ended.ensures.ended ty f v (c.new-trial.ensures.proceeds passes v c.requires.rests c.requires.draws))

@@ -7,3 +7,25 @@ use Rattle.sto_script.specs.declared.body.ScriptBody.{ScriptBody}
 use Rattle.sto_transact.specs.declared.trial.Ended.{Ended}
 use Rattle.sto_transact.specs.Trials.{HasStepped}
 use Rattle.sto_stepping.proofs.work.FileWorkAttemptsTrialScriptBody.step.Goals as goal
+
+pub returns-in-Some-clause-stepped : goal.returns-in-Some-clause-stepped
+returns-in-Some-clause-stepped g c = λ begun k.
+    let fewer = c.in_ok-step.ensures.left in
+    let h = subst (λ (r : Result (Option (Ended ScriptBody)) NoMemory). HasStepped g.T.TxType.meaning g.T.Naming.valid g.T.Naming.sizes script_of then_of left_of MayAskOf (g.C.Cells.passes c.args.cells.now) c.args.self.now.ty.now (meaning_of k.script) r c.step.new.self begun (g.C.Cells.view c.step.new.cells))
+    (c.in_ok-step.was ∙ ap Ok c.in-Some.is) (c.step.ensures.stepped c.args.self.now.ty.now (meaning_of k.script) begun k.proceeds) in (
+      record {
+        script = k.script;
+        there = k.there;
+        tried = h.tried (c.args._thread, c.args._position);
+        rests = h.rests;
+        alone = h.alone;
+      },
+      omega (arith, fewer),
+    )
+
+pub returns-in-None-clause-stepped : goal.returns-in-None-clause-stepped
+returns-in-None-clause-stepped g c = λ begun k.
+    let fewer = c.in_ok-step.ensures.left in
+    let h = subst (λ (r : Result (Option (Ended ScriptBody)) NoMemory). HasStepped g.T.TxType.meaning g.T.Naming.valid g.T.Naming.sizes script_of then_of left_of MayAskOf (g.C.Cells.passes c.args.cells.now) c.args.self.now.ty.now (meaning_of k.script) r c.step.new.self begun (g.C.Cells.view c.step.new.cells))
+    (c.in_ok-step.was ∙ ap Ok c.in-None.is) (c.step.ensures.stepped c.args.self.now.ty.now (meaning_of k.script) begun k.proceeds) in
+    (record { script = k.script; there = k.there; proceeds = h }, fewer)

@@ -1,17 +1,28 @@
-use Rattle.std.proofs.Common.{rules, ◌≡◌, ◌<◌, ◌≤◌, ℕ, length, IfOk, OnOk, ◌+◌, ◌-◌, ◌*◌, ◌/◌, ◌%◌, Bool, true, false, nat_eq, nat_lt, List, [], ◌∷◌, ◌++◌, slice_index_or, slice_set, bit_and, bit_or, Fits, w8, w32, w64, Bor, MutBor}
-use Rattle.sto_model.specs.declared.call.Call.{Call}
-use Rattle.sto_model.specs.Run.{Script}
-use Rattle.sto_core.specs.declared.view.View.{View}
-use Rattle.sto_attempt.specs.Answers.{OneEvent}
-use Rattle.sto_attempt.specs.Bounds.{bound, words_of}
-use Rattle.sto_transact.specs.Resting.{IsAtRest}
-use Rattle.sto_transact.specs.Trials.{Proceeds, IsAtSeal, IsAtEnd, HasTurned, HasStepped, HasEnded, trial_left, left_after}
+-- The commit goes on from the attempt that is sealed.
+use Rattle.std.proofs.Common.{◌≡◌, sym, ap, ◌∙◌, subst, arith}
+use Rattle.sto_attempt.specs.declared.stand.Stand.{Stand}
+use Rattle.sto_attempt.specs.Bounds.{events_left}
+use Rattle.sto_transact.specs.declared.trial.Trial.{Trial}
+use Rattle.sto_transact.specs.declared.trial.Trial.TheVariants.{Running}
+use Rattle.sto_transact.specs.Trials.{Proceeds, IsAtSeal, trial_left}
+use Rattle.sto_transact.proofs.Steps.{seals}
 use Rattle.sto_transact.proofs.trial.Trial.seal.Goals as goal
 
--- src/trial.rt:103:5
 pub returns-in-Ok-clause-proceeds : goal.returns-in-Ok-clause-proceeds
-returns-in-Ok-clause-proceeds g c = ?
+returns-in-Ok-clause-proceeds g c passes ty f begun v h =
+    let under = subst (λ (t : Trial g.row.T.Denot g.row.B.Denot). IsAtSeal g.T.TxType.meaning g.T.Naming.valid g.T.Naming.sizes g.B.Body.script g.B.Body.then g.B.Body.left g.B.Body.may_ask ty f t begun v) (sym c.replace.ensures.value ∙ c.in-Running.is) h in
+    let s = c.in-Ok.ensures in
+    subst (λ (t : Trial g.row.T.Denot g.row.B.Denot). Proceeds g.T.TxType.meaning g.T.Naming.valid g.T.Naming.sizes g.B.Body.script g.B.Body.then g.B.Body.left g.B.Body.may_ask passes ty f t begun v) (sym c.replace-in-Ok.ensures.after)
+    (under.0, seals g.T.TxType.meaning g.T.Naming.valid g.T.Naming.sizes g.B.Body.script g.B.Body.then g.B.Body.left g.B.Body.may_ask passes ty f c.in-Running.attempt c.in-Ok.ready begun v under.1 s.course s.at (s.stands v under.1.fits) s.space s.copy s.undisturbed)
 
--- src/trial.rt:103:5
 pub returns-in-Ok-clause-left : goal.returns-in-Ok-clause-left
-returns-in-Ok-clause-left g c = ?
+returns-in-Ok-clause-left g c =
+    let is = sym c.replace.ensures.value ∙ c.in-Running.is in
+    let r = c.requires in
+    let under = subst (λ (t : Trial g.row.T.Denot g.row.B.Denot). IsAtSeal g.T.TxType.meaning g.T.Naming.valid g.T.Naming.sizes g.B.Body.script g.B.Body.then g.B.Body.left g.B.Body.may_ask r.0 r.1 t r.2 r.3) is r.4 in
+    let a = c.in-Running.attempt in
+    let whole : trial_left g.T.TxType.meaning g.T.Naming.valid g.T.Naming.sizes g.B.Body.script g.B.Body.then g.B.Body.left g.B.Body.may_ask c.args.self.now ≡ trial_left g.T.TxType.meaning g.T.Naming.valid g.T.Naming.sizes g.B.Body.script g.B.Body.then g.B.Body.left g.B.Body.may_ask (Running a) = ap (trial_left g.T.TxType.meaning g.T.Naming.valid g.T.Naming.sizes g.B.Body.script g.B.Body.then g.B.Body.left g.B.Body.may_ask) is in
+    let committing = ap (λ (s : Stand). events_left (g.B.Body.left a.course.body) (g.T.TxType.meaning a.course.ty.now).widths s a.words.items a.renewal a.course.base.items) under.1.committing in
+    let fewer = c.in-Ok.ensures.left in
+    let now = ap (trial_left g.T.TxType.meaning g.T.Naming.valid g.T.Naming.sizes g.B.Body.script g.B.Body.then g.B.Body.left g.B.Body.may_ask) c.replace-in-Ok.ensures.after in
+    omega (arith, whole, committing, fewer, now)

@@ -1,21 +1,39 @@
-use Rattle.std.proofs.Common.{rules, ◌≡◌, ◌<◌, ◌≤◌, ℕ, length, IfOk, OnOk, ◌+◌, ◌-◌, ◌*◌, ◌/◌, ◌%◌, Bool, true, false, nat_eq, nat_lt, List, [], ◌∷◌, ◌++◌, slice_index_or, slice_set, bit_and, bit_or, Fits, w8, w32, w64, Bor, MutBor}
-use Rattle.sto_model.specs.declared.call.Call.{Call}
-use Rattle.sto_model.specs.Run.{Script}
-use Rattle.sto_core.specs.declared.view.View.{View}
-use Rattle.sto_attempt.specs.Answers.{OneEvent}
-use Rattle.sto_attempt.specs.Bounds.{bound, words_of}
-use Rattle.sto_transact.specs.Resting.{IsAtRest}
-use Rattle.sto_transact.specs.Trials.{Proceeds, IsAtSeal, IsAtEnd, HasTurned, HasStepped, HasEnded, trial_left, left_after}
+-- Each way on is one of `proofs/Steps`, at what the step of the attempt or of the commit ensures.
+use Rattle.std.proofs.Common.{Ok, Option, subst}
+use Rattle.sto_attempt.specs.declared.verdict.Verdict.{Verdict}
+use Rattle.sto_transact.specs.declared.trial.Trial.{Trial}
+use Rattle.sto_transact.specs.declared.trial.Trial.TheVariants.{Committing}
+use Rattle.sto_transact.specs.Trials.{Proceeds, HasTurned}
+use Rattle.sto_transact.proofs.Steps.{turn_of, reads_on, commits_on}
 use Rattle.sto_transact.proofs.trial.Trial.turn.Goals as goal
 
--- src/trial.rt:81:5
 pub returns-in-Running-clause-turned : goal.returns-in-Running-clause-turned
-returns-in-Running-clause-turned g c = ?
+returns-in-Running-clause-turned g c ty f begun h =
+    let v = g.C.Cells.view c.args.cells.now in
+    let w = g.C.Cells.view c.step.new.cells in
+    let passes = g.C.Cells.passes c.args.cells.now in
+    let under = subst (λ (t : Trial g.row.T.Denot g.row.B.Denot). Proceeds g.T.TxType.meaning g.T.Naming.valid g.T.Naming.sizes g.B.Body.script g.B.Body.then g.B.Body.left g.B.Body.may_ask passes ty f t begun v) c.in-Running.is h in
+    let k = c.step.ensures in
+    reads_on g.T.TxType.meaning g.T.Naming.valid g.T.Naming.sizes g.B.Body.script g.B.Body.then g.B.Body.left g.B.Body.may_ask passes ty f c.in-Running.attempt c.step.new.self begun v w c.step.result under.0 under.1 k.ty k.script k.event k.course k.turned k.alone k.moves k.err
 
--- src/trial.rt:81:5
 pub returns-in-None-clause-turned : goal.returns-in-None-clause-turned
-returns-in-None-clause-turned g c = ?
+returns-in-None-clause-turned g c ty f begun h =
+    let v = g.C.Cells.view c.args.cells.now in
+    let w = g.C.Cells.view c.step-in-Committing.new.cells in
+    let passes = g.C.Cells.passes c.args.cells.now in
+    let s = c.step-in-Committing.new.self in
+    let under = subst (λ (t : Trial g.row.T.Denot g.row.B.Denot). Proceeds g.T.TxType.meaning g.T.Naming.valid g.T.Naming.sizes g.B.Body.script g.B.Body.then g.B.Body.left g.B.Body.may_ask passes ty f t begun v) c.in-Committing.is h in
+    let k = c.step-in-Committing.ensures in
+    subst (λ (x : Option Verdict). HasTurned g.T.TxType.meaning g.T.Naming.valid g.T.Naming.sizes g.B.Body.script g.B.Body.then g.B.Body.left g.B.Body.may_ask passes ty f (Ok (turn_of x)) (Committing s) begun w) c.in-None.is
+    (commits_on g.T.TxType.meaning g.T.Naming.valid g.T.Naming.sizes g.B.Body.script g.B.Body.then g.B.Body.left g.B.Body.may_ask passes ty f c.in-Committing.ready s begun v w c.step-in-Committing.result under.0 under.1 k.kept k.event k.said k.space k.alone k.by)
 
--- src/trial.rt:81:5
 pub returns-in-Some-clause-turned : goal.returns-in-Some-clause-turned
-returns-in-Some-clause-turned g c = ?
+returns-in-Some-clause-turned g c ty f begun h =
+    let v = g.C.Cells.view c.args.cells.now in
+    let w = g.C.Cells.view c.step-in-Committing.new.cells in
+    let passes = g.C.Cells.passes c.args.cells.now in
+    let s = c.step-in-Committing.new.self in
+    let under = subst (λ (t : Trial g.row.T.Denot g.row.B.Denot). Proceeds g.T.TxType.meaning g.T.Naming.valid g.T.Naming.sizes g.B.Body.script g.B.Body.then g.B.Body.left g.B.Body.may_ask passes ty f t begun v) c.in-Committing.is h in
+    let k = c.step-in-Committing.ensures in
+    subst (λ (x : Option Verdict). HasTurned g.T.TxType.meaning g.T.Naming.valid g.T.Naming.sizes g.B.Body.script g.B.Body.then g.B.Body.left g.B.Body.may_ask passes ty f (Ok (turn_of x)) (Committing s) begun w) c.in-Some.is
+    (commits_on g.T.TxType.meaning g.T.Naming.valid g.T.Naming.sizes g.B.Body.script g.B.Body.then g.B.Body.left g.B.Body.may_ask passes ty f c.in-Committing.ready s begun v w c.step-in-Committing.result under.0 under.1 k.kept k.event k.said k.space k.alone k.by)
