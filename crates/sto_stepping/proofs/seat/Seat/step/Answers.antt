@@ -5,7 +5,7 @@ use Rattle.sto_model.specs.Told.{told}
 use Rattle.sto_told.specs.Records.{Record}
 use Rattle.sto_transact.specs.Plain.{plain, verdict}
 use Rattle.sto_stepping.specs.Stepped.{HasMadeOne, HasStepped}
-use Rattle.sto_stepping.specs.Seated.{IsWithin, IsIn, HasKept}
+use Rattle.sto_stepping.specs.Seated.{IsWithin, HasKept}
 use Rattle.sto_stepping.specs.declared.attempts.Stepped.{Stepped}
 use Rattle.sto_stepping.specs.declared.seat.Seat.{Seat}
 use Rattle.sto_stepping.proofs.Seats.{goes_on, in_some, all_events, seat_kept, kept_events}
