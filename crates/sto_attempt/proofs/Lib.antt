@@ -7,6 +7,7 @@ pub mod Written
 pub mod Moving
 pub mod Listing
 pub mod Recalling
+pub mod Refreshing
 pub mod OneReply
 pub mod Onward
 pub mod Numbered

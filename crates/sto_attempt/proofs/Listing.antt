@@ -40,5 +40,8 @@ module _ (rs : List (ℕ × Listed Change)) (es : List Entry) (i : ℕ) (x : ℕ
   pub one_more : take (i + 1) es ≡ take i es ++ plain x ∷ []
   one_more = take_more es i (plain x) in_range ∙ ap (λ (e : Entry). take i es ++ e ∷ []) at
 
+  pub rest : drop i es ≡ plain x ∷ drop (suc i) es
+  rest = drop_next es i (plain x) in_range (sym at)
+
   pub fits : (c : Parts) → HasWidths es c → (x.0 < length c) × (length (part_of c x.0) ≡ length x.1.items)
   fits c w = HasWidths-at es i (plain x) c in_range at w

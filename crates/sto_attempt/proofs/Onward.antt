@@ -16,12 +16,14 @@ use Rattle.sto_type.specs.Runs.{IsRunOn}
 use Rattle.sto_type.proofs.Carrying.{HoldsWherePut-true}
 use Rattle.sto_type.proofs.Steps.{step_widths}
 use Rattle.sto_attempt.specs.Course.{IsCourse, IsCache, IsPending}
+use Rattle.sto_attempt.specs.Refreshed.{outside}
 use Rattle.sto_item.specs.Recorded.{AddsItems}
 use Rattle.sto_item.proofs.Added.{AddsItems-updates}
 use Rattle.sto_type.specs.Runs.{Answered, IsAnswer, updates_along}
 use Rattle.sto_type.proofs.Growing.{HasGrown-none, HasGrown-more}
 use Rattle.sto_attempt.specs.Growing.{AreKnown, HasHeard}
 use Rattle.sto_attempt.proofs.OneReply.{run_on, true_now, course_more}
+use Rattle.sto_attempt.proofs.Refreshing.{cache_outside}
 
 -- the pending updates fit what was read
 pub pending_of : (m : Meaning) (f : Script) (base : Known) (items : List Item) (es : List Entry) (rs : List Told) → IsCourse m f base items es rs → (d : Parts) × m.valid d × IsPartOf base d → IsPending m base es
@@ -64,6 +66,20 @@ module _ (m : Meaning) (law : IsLawful m) (f : Script) (base : Known) (old : Rec
       let items : new.items ≡ mid.items = ap (λ (s : Recorded). s.items) after in
       let updates : new.updates ≡ with_updates old.updates v = ap (λ (s : Recorded). s.updates) after ∙ ap (λ l. with_updates l v) same in
       subst (λ (l : List Item). IsCourse m f base l new.updates (rs ++ reply ∷ [])) (sym items) (subst (λ (l : List Entry). IsCourse m f base mid.items l (rs ++ reply ∷ [])) (sym updates) h)
+
+  -- the updates fit, and with them pending what is known of other parts is right
+  pub may_refresh : AreUpdates v → (left : List Item) → left ≡ rebased old.updates is → (mid new : Recorded) → AddsItems old left mid → new ≡ record mid { updates = with_updates mid.updates v }
+      → ((d : Parts) × m.valid d × HasWidths v d) × IsPending m base new.updates × IsCache m base new.updates (outside v k)
+  may_refresh ordered left made mid new adds after =
+      let updates : new.updates ≡ with_updates old.updates v = ap (λ (s : Recorded). s.updates) after ∙ ap (λ l. with_updates l v) (AddsItems-updates old left mid adds) in
+      let fits : (d : Parts) → m.valid d → IsPartOf base d → HasWidths old.updates d × HasWidths v d = λ d w p.
+      let here : IsRunOn m f d old.updates rs = run_on m f base old.items old.updates rs d was.carried w p in
+      let says = (plan.2 (applied_updates old.updates d) here.valid (cache.above d w p)).1 in
+      (here.widths, subst (λ (l : List Entry). HasWidths l d) (sym says) (step_widths m law f d old.updates rs call here t)) in (
+        (some.0, some.1, (fits some.0 some.1 some.2).1),
+        pending_of m f base new.items new.updates (rs ++ reply ∷ []) (course_next ordered left made mid new adds after) some,
+        subst (λ (l : List Entry). IsCache m base l (outside v k)) (sym updates) (cache_outside m base old.updates v k on.ordered ordered fits cache),
+      )
 
   -- the call as it was answered
   abbrev pub answered : Answered

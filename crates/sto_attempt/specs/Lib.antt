@@ -2,6 +2,7 @@ pub mod Sights
 pub mod Placed
 pub mod Asked
 pub mod Course
+pub mod Refreshed
 pub mod Answers
 pub mod Growing
 pub mod Reached

@@ -10,7 +10,7 @@ ghost use Rattle.sto_attempt.specs.Growing.{HasHeard};
 ghost use Rattle.sto_model.specs.declared.call.Call.{Call};
 
 use crate::noted::Noted;
-use crate::recall::{add_items, add_updates, ask};
+use crate::recall::{add_items, add_updates, ask, refresh};
 use crate::sight::Sights;
 use std::alloc::Global;
 use sto_model::{Body, Next, Replies};
@@ -79,7 +79,14 @@ impl<T: TxType, B: Body> Course<'_, T, B> {
                             let left = self.set.rebase(alloc, &items)?;
                             add_items(&mut self.set, &left)?;
                             add_updates(&mut self.set, &updates)?;
-                            self.cache.forget();
+                            refresh(
+                                alloc,
+                                self.ty,
+                                &self.base,
+                                &self.set,
+                                &updates,
+                                &mut self.cache,
+                            )?;
                             self.body.hear(&reply);
                             self.replies.push(reply)?;
                         }

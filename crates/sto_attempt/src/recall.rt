@@ -10,6 +10,7 @@ ghost use Rattle.sto_type.specs.Known.{known};
 ghost use Rattle.sto_type.specs.Plans.{planned, IsPlan};
 ghost use Rattle.sto_attempt.specs.Sights.{words_in};
 ghost use Rattle.sto_attempt.specs.Course.{IsPending, IsRecalled, IsCache};
+ghost use Rattle.sto_attempt.specs.Refreshed.{outside, IsLearntAnew};
 ghost use Rattle.sto_item.specs.Recorded.{AddsItems};
 
 use crate::noted::Noted;
@@ -86,6 +87,48 @@ pub(crate) fn ask<T: TxType>(
             done => return Ok(done),
         }
     }
+}
+
+// Recalls a part anew; where it is neither read nor put whole, all becomes unknown.
+fn learn_anew<T: TxType>(
+    alloc: Global,
+    ty: &T,
+    base: &Sights,
+    set: &Noted,
+    part: u32,
+    cache: &mut Cache,
+) -> Result<(), NoMemory>
+    requires range { part < length (T.meaning ty.now).widths }
+    requires pending { IsPending (T.meaning ty.now) (words_in base.now.items) set.now.updates }
+    ensures { OnOk result (IsLearntAnew (T.meaning ty.now) (words_in base.now.items) set.now.updates part (known cache.old) (known cache.new)) }
+{
+    match recall(alloc, ty, base, set, part)? {
+        Some(words) => cache.learn(part, words.as_slice()),
+        None => {
+            cache.forget();
+            Ok(())
+        }
+    }
+}
+
+/// Brings what is known up to date after the updates of a call: the parts that they name are recalled anew, all others stay.
+pub(crate) fn refresh<T: TxType>(
+    alloc: Global,
+    ty: &T,
+    base: &Sights,
+    set: &Noted,
+    updates: &Updates,
+    cache: &mut Cache,
+) -> Result<(), NoMemory>
+    requires widths { (d : List (List ℤ)) × (T.meaning ty.now).valid d × HasWidths updates.now.items d }
+    requires pending { IsPending (T.meaning ty.now) (words_in base.now.items) set.now.updates }
+    requires off { IsCache (T.meaning ty.now) (words_in base.now.items) set.now.updates (outside updates.now.items (known cache.old)) }
+    ensures { OnOk result (IsCache (T.meaning ty.now) (words_in base.now.items) set.now.updates (known cache.new)) }
+{
+    for entry in updates.as_slice() {
+        learn_anew(alloc, ty, base, set, entry.0, cache)?;
+    }
+    Ok(())
 }
 
 /// Adds items that are not there.

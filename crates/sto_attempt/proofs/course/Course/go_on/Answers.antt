@@ -1,12 +1,10 @@
-use Rattle.std.proofs.Common.{refl, arith, ap, sym, subst, ◌∙◌, ◌≡◌, ◌++◌, ◌∷◌, [], length, map, append_assoc, append-nil, length-append, List, ℕ, ℤ}
+use Rattle.std.proofs.Common.{refl, arith, ap, sym, ◌∙◌, ◌≡◌, ◌++◌, ◌∷◌, [], length, map, append_assoc, append-nil, length-append}
 use Rattle.std.proofs.lemmas.List.{map-append}
 use Rattle.sto_model.specs.Told.{told}
 use Rattle.sto_model.specs.declared.body.Next.TheVariants.{Ask}
 use Rattle.sto_type.specs.Known.{known}
 use Rattle.sto_attempt.specs.Sights.{words_in}
-use Rattle.sto_attempt.specs.Course.{IsCache}
-use Rattle.sto_attempt.proofs.OneReply.{cache_none}
-use Rattle.sto_attempt.proofs.Onward.{may_rebase, may_compose, course_next, answered, answer, answer_adds, answer_updates, heard_none, heard_more}
+use Rattle.sto_attempt.proofs.Onward.{may_rebase, may_compose, may_refresh, course_next, answered, answer, answer_adds, answer_updates, heard_none, heard_more}
 use Rattle.sto_attempt.proofs.course.Course.go_on.Goals as goal
 
 pub rebase-requires : goal.rebase-requires
@@ -48,6 +46,48 @@ add_updates-requires-clause-widths g c =
     (may_compose m law f (words_in c.loop-call.self.base.items) c.loop-call.self.set rs c.in-Ask.call (known c.ask.new.cache) was.course cache c.loop-call.invariant.some
     (was.taken c.in-Ask.call c.in-Ask.ensures.may) asks (told c.in-Done.reply) c.in-Done.items.items c.in-Done.updates.items plan c.add_items.new.set c.in_ok-left-in-Done.left.items c.in_ok-add_items-in-Done.ensures).1
 
+pub refresh-requires-clause-widths : goal.refresh-requires-clause-widths
+refresh-requires-clause-widths g c =
+    let m = g.T.TxType.meaning c.loop-call.self.ty.now in
+    let law = g.met.T.TxType.lawful c.loop-call.self.ty.now in
+    let f = g.B.Body.script c.args.self.now.body in
+    let was = c.loop-call.invariant.course in
+    let rs = map told c.loop-call.self.replies.items in
+    let asks : f rs ≡ Ask c.in-Ask.call = ap f (sym (append-nil rs)) ∙ sym (c.in-Ask.ensures.next ∙ was.then []) in
+    let cache = c.in_ok-part-in-Ask.ensures.cache in
+    let plan = rw c.in-Done.is at c.in_ok-part-in-Ask.ensures.plan in
+    (may_refresh m law f (words_in c.loop-call.self.base.items) c.loop-call.self.set rs c.in-Ask.call (known c.ask.new.cache) was.course cache c.loop-call.invariant.some
+    (was.taken c.in-Ask.call c.in-Ask.ensures.may) asks (told c.in-Done.reply) c.in-Done.items.items c.in-Done.updates.items plan c.in_ok-add_updates-in-Done.ensures.ordered
+    c.in_ok-left-in-Done.left.items c.in_ok-left-in-Done.ensures.items c.add_items.new.set c.add_updates.new.set c.in_ok-add_items-in-Done.ensures c.in_ok-add_updates-in-Done.ensures.ok).0
+
+pub refresh-requires-clause-pending : goal.refresh-requires-clause-pending
+refresh-requires-clause-pending g c =
+    let m = g.T.TxType.meaning c.loop-call.self.ty.now in
+    let law = g.met.T.TxType.lawful c.loop-call.self.ty.now in
+    let f = g.B.Body.script c.args.self.now.body in
+    let was = c.loop-call.invariant.course in
+    let rs = map told c.loop-call.self.replies.items in
+    let asks : f rs ≡ Ask c.in-Ask.call = ap f (sym (append-nil rs)) ∙ sym (c.in-Ask.ensures.next ∙ was.then []) in
+    let cache = c.in_ok-part-in-Ask.ensures.cache in
+    let plan = rw c.in-Done.is at c.in_ok-part-in-Ask.ensures.plan in
+    (may_refresh m law f (words_in c.loop-call.self.base.items) c.loop-call.self.set rs c.in-Ask.call (known c.ask.new.cache) was.course cache c.loop-call.invariant.some
+    (was.taken c.in-Ask.call c.in-Ask.ensures.may) asks (told c.in-Done.reply) c.in-Done.items.items c.in-Done.updates.items plan c.in_ok-add_updates-in-Done.ensures.ordered
+    c.in_ok-left-in-Done.left.items c.in_ok-left-in-Done.ensures.items c.add_items.new.set c.add_updates.new.set c.in_ok-add_items-in-Done.ensures c.in_ok-add_updates-in-Done.ensures.ok).1
+
+pub refresh-requires-clause-off : goal.refresh-requires-clause-off
+refresh-requires-clause-off g c =
+    let m = g.T.TxType.meaning c.loop-call.self.ty.now in
+    let law = g.met.T.TxType.lawful c.loop-call.self.ty.now in
+    let f = g.B.Body.script c.args.self.now.body in
+    let was = c.loop-call.invariant.course in
+    let rs = map told c.loop-call.self.replies.items in
+    let asks : f rs ≡ Ask c.in-Ask.call = ap f (sym (append-nil rs)) ∙ sym (c.in-Ask.ensures.next ∙ was.then []) in
+    let cache = c.in_ok-part-in-Ask.ensures.cache in
+    let plan = rw c.in-Done.is at c.in_ok-part-in-Ask.ensures.plan in
+    (may_refresh m law f (words_in c.loop-call.self.base.items) c.loop-call.self.set rs c.in-Ask.call (known c.ask.new.cache) was.course cache c.loop-call.invariant.some
+    (was.taken c.in-Ask.call c.in-Ask.ensures.may) asks (told c.in-Done.reply) c.in-Done.items.items c.in-Done.updates.items plan c.in_ok-add_updates-in-Done.ensures.ordered
+    c.in_ok-left-in-Done.left.items c.in_ok-left-in-Done.ensures.items c.add_items.new.set c.add_updates.new.set c.in_ok-add_items-in-Done.ensures c.in_ok-add_updates-in-Done.ensures.ok).2
+
 pub loop-call-preserved : goal.loop-call-preserved
 loop-call-preserved g c =
     let m = g.T.TxType.meaning c.loop-call.self.ty.now in
@@ -71,7 +111,7 @@ loop-call-preserved g c =
         taken = λ call h. was.taken call (c.hear.ensures.may call h);
         few = omega (arith, was.few, c.hear.ensures.left, ap length c.in_ok-push-in-Done.ensures.ok, length-append c.loop-call.self.replies.items (c.in-Done.reply ∷ []));
         course = rw more next;
-        known_above = subst (λ (l : List (ℕ × List ℤ)). IsCache m base c.add_updates.new.set.updates (known l)) (sym c.forget.ensures) (cache_none m base c.add_updates.new.set.updates);
+        known_above = c.in_ok-refresh-in-Done.ensures;
       };
       some = c.loop-call.invariant.some;
       grown =
