@@ -1,5 +1,5 @@
 -- The value that was loaded of a word.
-use Rattle.std.proofs.Common.{◌≡◌, ◌<◌, ℕ, zero, suc, ℤ, true, false, nat_eq, List, [], ◌∷◌, length, drop, refl, ap, sym, ◌∙◌, arith, slice_index_or, inl, inr, true≢false}
+use Rattle.std.proofs.Common.{◌≡◌, ℕ, ℤ, true, false, nat_eq, List, ◌∷◌, refl, inl, inr, true≢false}
 use Rattle.std.proofs.lemmas.Bool.{cases_Bool}
 use Rattle.sto_part.specs.declared.change.Change.{Change}
 use Rattle.sto_part.specs.declared.change.Change.TheVariants.{Keep, Put, Add}

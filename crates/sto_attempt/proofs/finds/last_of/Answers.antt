@@ -1,4 +1,4 @@
-use Rattle.std.proofs.Common.{◌≡◌, ◌-◌, ℕ, true, nat_eq, leb, slice_index_or, arith, rules, eq-eqb}
+use Rattle.std.proofs.Common.{◌≡◌, ◌-◌, true, nat_eq, leb, slice_index_or, arith, rules, eq-eqb}
 use Rattle.std.proofs.lemmas.List.Sorted.{IsPartitionPoint-from_clause, IsPartitionedBy-leb}
 use Rattle.sto_attempt.specs.declared.stage.Found.{Found}
 use Rattle.sto_attempt.proofs.Orders.{last_ticket}

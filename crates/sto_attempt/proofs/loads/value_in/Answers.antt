@@ -1,4 +1,4 @@
-use Rattle.std.proofs.Common.{ℤ, pos, w64, FitsSigned, slice_index_or, arith, rules, sym, ◌∙◌}
+use Rattle.std.proofs.Common.{ℤ, pos, w64, FitsSigned, slice_index_or, rules, sym, ◌∙◌}
 use Rattle.std.proofs.lemmas.Int.{to_z-of_z}
 use Rattle.std.proofs.lemmas.List.Sorted.{IsPartitionPoint-from_clause}
 use Rattle.sto_attempt.specs.declared.stage.Loaded.{Loaded}
