@@ -1,5 +1,5 @@
 -- Which numbers are of 64 bits, as a test.
-use Rattle.std.specs.Prelude.{◌≡◌, ◌<◌, ◌^◌, ℕ, ℤ, pos, negsuc, int_le, Bool, true, false, ◌&&◌, ◌⊎◌, if◌then◌else◌, Option, Some, None, refl}
+use Rattle.std.specs.Prelude.{◌≡◌, ℤ, pos, negsuc, int_le, Bool, true, false, ◌&&◌, ◌⊎◌, if◌then◌else◌, Option, Some, None, refl}
 use Rattle.std.specs.Int.{w64}
 use Rattle.std.specs.Int.RustNames.{FitsSigned}
 use Rattle.std.specs.Option.{SomeIff}

@@ -119,7 +119,7 @@ impl Rows {
     pub(crate) fn value(&self, key: i64) -> Option<i64>
         ensures { result ≡ value_at self.now.items key }
     {
-        value_in(self.list.as_slice(), key)
+        value_in(self.as_slice(), key)
     }
 
     /// The least key that is not below this one; None where all keys are below it.
@@ -175,17 +175,25 @@ impl Rows {
 }
 
 fn value_in(rows: &[(i64, i64)], key: i64) -> Option<i64>
+    requires few { length rows.now < 2 ^ 32 }
+    requires rising { IsRising rows.now }
     ensures { result ≡ value_at rows.now key }
 {
-    rows.iter().find(|row| row.0 == key).map(|row| row.1)
+    let place = place_in(rows, key) as usize;
+    if place < rows.len() && rows[place].0 == key {
+        Some(rows[place].1)
+    } else {
+        None
+    }
 }
 
 // How many rows stand before those of a key and above.
 fn place_in(rows: &[(i64, i64)], key: i64) -> u32
-    requires { length rows.now < 2 ^ 32 }
+    requires few { length rows.now < 2 ^ 32 }
+    requires rising { IsRising rows.now }
     ensures { result ≡ place_of rows.now key }
 {
-    rows.iter().take_while(|row| row.0 < key).count() as u32
+    rows.partition_point(|row| row.0 < key) as u32
 }
 
 // Where the row of a key stands.
@@ -197,6 +205,7 @@ fn place_at(rows: &[(i64, i64)], key: i64) -> Option<usize>
 }
 
 fn put_row(list: &mut List<(i64, i64)>, key: i64, value: i64) -> Result<(), NoMemory>
+    requires { IsRising list.old.items }
     ensures ok { OnOk result (list.new.items ≡ with_row list.old.items key value) }
     ensures err { OnErr result (list.new.items ≡ list.old.items) }
 {
