@@ -1,7 +1,6 @@
 -- The answers on the key part that is known.
-use Rattle.std.proofs.Common.{◌≡◌, ◌<◌, ◌+◌, ◌*◌, ◌^◌, ℕ, ℤ, Option, Some, None, MatchOption, is_some, List, [], ◌∷◌, pos, slice_index_or, length, refl, ap, sym, ◌∙◌, subst, arith}
+use Rattle.std.proofs.Common.{◌≡◌, ◌<◌, ◌+◌, ◌*◌, ℕ, ℤ, Option, Some, None, MatchOption, is_some, List, [], ◌∷◌, pos, slice_index_or, length, ap, sym, ◌∙◌, subst, arith}
 use Rattle.sto_model.specs.declared.call.Call.{Call}
-use Rattle.sto_model.specs.declared.operation.Operation.{Operation}
 use Rattle.sto_model.specs.declared.operation.Operation.TheVariants.{Get, Has, Remove, Put}
 use Rattle.sto_item.specs.declared.item.Item.TheVariants.{Seen}
 use Rattle.sto_model.specs.Operations.{operation_of}
@@ -9,11 +8,11 @@ use Rattle.sto_model.specs.Told as T
 use Rattle.sto_type.specs.Known.{Parts, Known, IsPartOf}
 use Rattle.sto_type.specs.Plans.{IsSaid, IsPlan, planned}
 use Rattle.sto_type.specs.declared.answer.Answer.{Answer}
-use Rattle.sto_block.specs.Blocks.{Place, find, free, is_here, is_free}
+use Rattle.sto_block.specs.Blocks.{find, free}
 use Rattle.sto_type.specs.Known.{word_known}
 use Rattle.sto_type.proofs.FirstWords.{known_word, unknown_word}
 use Rattle.sto_hash.specs.Hashed.{key_part, value_part, get_items, find_items, put_told, put_updates, remove_updates, hash_meaning, IsHash}
-use Rattle.sto_hash.specs.HashedLaw.{plan_has, plan_remove, plan_put, plan_absent, plan_present, plan_needs_value, known_width, first_within, key_room}
+use Rattle.sto_hash.specs.HashedLaw.{plan_has, plan_remove, plan_put, plan_absent, plan_present, plan_needs_value, known_width, key_room}
 
 pub doubled : (n places : ℕ) (o : Option ℕ) → 2 * places < n → MatchOption o (Unit {0}) (λ i. i < places) → MatchOption o (Unit {0}) (λ i. 2 * i + 1 < n)
 doubled n places None l h = tt

@@ -1,9 +1,8 @@
 -- What a hash table means. It has so many buckets, each a block of so many places.
-use Rattle.std.specs.Prelude.{◌≡◌, ◌<◌, ◌+◌, ◌*◌, ℕ, zero, suc, ℤ, pos, negsuc, nat_lt, Bool, true, false, if◌then◌else◌, Option, Some, None, List, [], ◌∷◌, ◌++◌, map, length, replicate, slice_set, slice_index_or, count_by, IsTrue}
+use Rattle.std.specs.Prelude.{◌≡◌, ◌<◌, ◌+◌, ◌*◌, ℕ, zero, suc, ℤ, pos, negsuc, true, if◌then◌else◌, Option, Some, None, List, [], ◌∷◌, ◌++◌, map, length, replicate, count_by, IsTrue}
 use Rattle.std.specs.Int.{w64}
 use Rattle.std.specs.Int.RustNames.{FitsSigned}
 use Rattle.sto_part.specs.Parts.{part_of, zeros}
-use Rattle.sto_part.specs.declared.change.Change.{Change}
 use Rattle.sto_part.specs.declared.change.Change.TheVariants.{Keep, Put as PutWord}
 use Rattle.sto_part.specs.declared.pred.Pred.{Pred}
 use Rattle.sto_part.specs.declared.pred.Test.TheVariants.{Eq}

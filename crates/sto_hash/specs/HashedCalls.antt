@@ -1,5 +1,5 @@
 -- The calls of a hash table, one by one.
-use Rattle.std.specs.Prelude.{◌≡◌, ℕ, zero, suc, ℤ, pos, false, true, List, [], ◌∷◌, slice_get, IsTrue, refl}
+use Rattle.std.specs.Prelude.{◌≡◌, ℕ, zero, suc, ℤ, false, true, [], ◌∷◌, slice_get, IsTrue, refl}
 use Rattle.std.specs.Int.{w64}
 use Rattle.std.specs.Int.RustNames.{FitsSigned}
 use Rattle.std.proofs.Common.{sym, ◌∙◌, subst}

@@ -1,8 +1,8 @@
 -- The words that the predicates of a hash table name.
-use Rattle.std.specs.Prelude.{◌≡◌, ◌<◌, ◌≤◌, ◌+◌, ◌*◌, ℕ, zero, suc, ℤ, pos, Option, Some, None, List, [], ◌∷◌, slice_index_or, refl}
+use Rattle.std.specs.Prelude.{◌≡◌, ◌<◌, ◌+◌, ◌*◌, ℕ, zero, suc, ℤ, Option, Some, None, slice_index_or, refl}
 use Rattle.std.proofs.Common.{ap, ◌∙◌, arith}
 use Rattle.sto_type.specs.Meaning.{EachInside}
-use Rattle.sto_hash.specs.Hashed.{bucket_part, bucket_number, key_part, value_part, hash_widths, find_items, get_items, all_seen}
+use Rattle.sto_hash.specs.Hashed.{bucket_part, bucket_number, key_part, hash_widths, find_items, get_items, all_seen}
 use Rattle.sto_hash.specs.HashedParts.{bucket_below, width_at}
 
 -- each place is one of so many

@@ -1,10 +1,9 @@
 -- A hash table is lawful.
-use Rattle.std.specs.Prelude.{◌≡◌, MatchOption, ◌<◌, ◌≤◌, ◌+◌, ◌*◌, ◌⊎◌, ◌&&◌, ◌+ℤ◌, ℕ, zero, suc, ℤ, pos, negsuc, nat_lt, nat_le, Bool, true, false, not, if◌then◌else◌, Option, Some, None, List, [], ◌∷◌, ◌++◌, map, length, replicate, slice_index_or, slice_get, slice_set, count_by, is_some, IsSome, IsTrue, refl}
-use Rattle.std.specs.Option.{option_map}
+use Rattle.std.specs.Prelude.{◌≡◌, MatchOption, ◌<◌, ◌≤◌, ◌+◌, ◌*◌, ◌&&◌, ◌+ℤ◌, ℕ, zero, suc, ℤ, pos, nat_le, Bool, true, false, not, if◌then◌else◌, Option, Some, None, List, [], ◌∷◌, ◌++◌, map, length, replicate, slice_index_or, slice_set, count_by, is_some, IsSome, refl}
 use Rattle.std.specs.Int.{w64, int_wrap}
 use Rattle.std.specs.Int.RustNames.{FitsSigned}
 use Rattle.std.specs.Ordering.{int_eq}
-use Rattle.std.proofs.Common.{ap, sym, ◌∙◌, arith, subst, inl, inr}
+use Rattle.std.proofs.Common.{ap, sym, ◌∙◌, arith, subst, inl}
 use Rattle.std.proofs.lemmas.Bool.Decides.{Decides-int_eq, nat_tests}
 use Rattle.std.proofs.Math.Nat.{mul-le-mul_right}
 use Rattle.std.proofs.lemmas.Int.{int_wrap_fits, ints}
@@ -14,33 +13,32 @@ use Rattle.sto_part.specs.Preds.{holds_of}
 use Rattle.sto_part.specs.declared.change.Change.{Change}
 use Rattle.sto_part.specs.declared.change.Change.TheVariants.{Keep, Put as PutWord}
 use Rattle.sto_item.specs.declared.item.Item.{Item}
-use Rattle.sto_item.specs.declared.item.Item.TheVariants.{Seen, Holds}
-use Rattle.sto_item.specs.Pending.{Entry, applied_updates}
-use Rattle.sto_item.specs.Agreement.{Agrees, AreTrueOf, IsTrueOf, HasWidths, word_of}
+use Rattle.sto_item.specs.declared.item.Item.TheVariants.{Seen}
+use Rattle.sto_item.specs.Agreement.{Agrees, AreTrueOf, IsTrueOf, word_of}
 use Rattle.sto_model.specs.declared.call.Call.{Call}
 use Rattle.sto_model.specs.declared.operation.Operation.{Operation}
-use Rattle.sto_model.specs.declared.operation.Operation.TheVariants.{Get, Set, Add, Test as TestWord, Take, Put, Remove, Has, Len, Next, Count, Scan}
+use Rattle.sto_model.specs.declared.operation.Operation.TheVariants.{Get, Put, Remove, Has, Len}
 use Rattle.sto_model.specs.declared.shape.Shape.TheVariants.{Hash}
 use Rattle.sto_model.specs.Rows.{Row, value_at, has_key, with_row, without, keys_beside}
 use Rattle.sto_model.specs.Told.{Told, is_write}
 use Rattle.sto_model.specs.Told as T
 use Rattle.sto_model.specs.Operations.{operation_of}
-use Rattle.sto_model.specs.Objects.{Effect, effect, effect_by, value_or_absent, takes_by}
+use Rattle.sto_model.specs.Objects.{effect, effect_by, value_or_absent}
 use Rattle.sto_type.specs.Plans.{IsSaid, IsPlan, planned, said_is_plan}
 use Rattle.sto_type.specs.declared.answer.Answer.{Answer}
 use Rattle.sto_model.specs.Machine.{reply_to, state_after}
 use Rattle.sto_type.specs.Known.{Parts, Known, IsPartOf, WordsFit, ContentsFit}
-use Rattle.sto_type.specs.Meaning.{Meaning, IsLawful, IsNeed, IsUpdated, IsPartOfObject, EachKnown, EachInside, EachOwner, is_empty}
-use Rattle.sto_block.specs.Blocks.{Place, places_of, is_present, is_free, is_here, first_from, find, free, AreApart}
-use Rattle.sto_block.specs.Found.{by_test, at, here_parts, parts_here, found_there, first_is, full_count, free_count, count_most}
+use Rattle.sto_type.specs.Meaning.{Meaning, IsLawful, IsNeed, IsUpdated, IsPartOfObject, EachKnown, EachInside, EachOwner}
+use Rattle.sto_block.specs.Blocks.{Place, places_of, is_present, is_here, first_from, find, free, AreApart}
+use Rattle.sto_block.specs.Found.{at, here_parts, parts_here, found_there, first_is, full_count, free_count}
 use Rattle.sto_block.specs.Replaced.{place_changes, words_replaced, at_words, length-places, length-place_changes}
-use Rattle.sto_hash.specs.Hashed.{bucket_part, bucket_number, key_part, value_part, hash_widths, homes_from, place_pairs, block_pairs, pairs_from, rows_of, AreOfBucket, IsBucket, IsHash, HashTakes, words_known, asked, asked_or, first_asked, value_asked, get_asked, hash_need, word_is, here, find_items, get_items, all_seen, found_known, known_total, hash_items, new_updates, put_updates, put_told, remove_updates, keys_of, hash_updates, hash_meaning}
+use Rattle.sto_hash.specs.Hashed.{bucket_part, bucket_number, key_part, value_part, hash_widths, homes_from, place_pairs, block_pairs, pairs_from, rows_of, AreOfBucket, IsBucket, IsHash, HashTakes, words_known, asked, asked_or, first_asked, value_asked, get_asked, hash_need, word_is, find_items, get_items, all_seen, found_known, known_total, hash_items, put_updates, put_told, remove_updates, hash_updates, hash_meaning}
 use Rattle.sto_hash.specs.HashedCalls.{call_of, by_call}
 use Rattle.sto_hash.specs.HashedChanges.{place_changes-change}
 use Rattle.sto_hash.specs.HashedItems.{inside_find, inside_get, inside_seen}
 use Rattle.sto_hash.specs.HashedRows.{value_found, beside_is, rows_length, present_total}
-use Rattle.sto_hash.specs.HashedParts.{bucket_below, length-widths, part_below, many_parts, part_there, key_width, value_width, value_is_word, part_set, part_else, words_fit, word_fit, length-homes, home_owner}
-use Rattle.sto_hash.specs.HashedUpdates.{looked_up, rows_at, value_at_is, place_below, free_below, put_value, put_value_valid, put_over, without_place, removed_valid, removed_rows, with_key, with_key_valid, with_pair, with_pair_valid, put_rows, old_key}
+use Rattle.sto_hash.specs.HashedParts.{bucket_below, length-widths, part_below, part_there, key_width, value_width, value_is_word, words_fit, word_fit, length-homes, home_owner}
+use Rattle.sto_hash.specs.HashedUpdates.{value_at_is, place_below, free_below, put_value_valid, put_over, removed_valid, removed_rows, with_key, with_key_valid, with_pair_valid, put_rows}
 
 -- cases
 by_option : {A P : Type 0} (o : Option A) → (o ≡ None → P) → ((i : A) → o ≡ Some i → P) → P

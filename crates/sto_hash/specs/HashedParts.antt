@@ -1,13 +1,12 @@
 -- The parts of a hash table: their widths, which are which, and what an update leaves of them.
-use Rattle.std.specs.Prelude.{◌≡◌, ◌<◌, ◌≤◌, ◌+◌, ◌*◌, ◌⊎◌, ℕ, zero, suc, ℤ, pos, negsuc, Bool, true, false, if◌then◌else◌, Option, Some, None, List, [], ◌∷◌, ◌++◌, map, length, replicate, slice_index_or, slice_set, slice_get, refl}
+use Rattle.std.specs.Prelude.{◌≡◌, ◌<◌, ◌≤◌, ◌+◌, ◌*◌, ℕ, zero, suc, ℤ, pos, negsuc, Some, List, [], ◌∷◌, ◌++◌, map, length, replicate, slice_index_or, slice_set, slice_get, refl}
 use Rattle.std.specs.Int.{w64}
 use Rattle.std.specs.Int.RustNames.{FitsSigned}
-use Rattle.std.proofs.Common.{ap, sym, ◌∙◌, arith, subst, inl, inr, length-append}
+use Rattle.std.proofs.Common.{ap, sym, ◌∙◌, arith, inl, inr, length-append}
 use Rattle.std.proofs.lemmas.Bool.{cases_lt}
 use Rattle.std.proofs.Math.Nat.{mod-lt, mul-le-mul_right}
 use Rattle.sto_part.specs.Parts.{part_of}
 use Rattle.sto_item.specs.Agreement.{word_of}
-use Rattle.sto_model.specs.Rows.{bucket_of}
 use Rattle.sto_type.specs.Known.{Parts, WordsFit, ContentsFit}
 use Rattle.sto_hash.specs.Hashed.{bucket_part, bucket_number, bucket_widths, hash_widths, homes_from}
 

@@ -1,5 +1,5 @@
 -- The rows of a hash table as a map.
-use Rattle.std.specs.Prelude.{◌≡◌, ◌<◌, ◌≤◌, ◌+◌, ◌*◌, ◌⊎◌, ◌&&◌, ℕ, zero, suc, ℤ, pos, negsuc, int_lt, Bool, true, false, not, if◌then◌else◌, Option, Some, None, List, [], ◌∷◌, ◌++◌, map, length, slice_index_or, refl}
+use Rattle.std.specs.Prelude.{◌≡◌, ◌<◌, ◌≤◌, ◌+◌, ◌⊎◌, ℕ, zero, suc, ℤ, pos, negsuc, int_lt, Bool, true, false, if◌then◌else◌, Option, Some, None, List, [], ◌∷◌, ◌++◌, length, refl}
 use Rattle.std.specs.Option.{option_map}
 use Rattle.std.specs.Ordering.{int_eq}
 use Rattle.std.proofs.Common.{ap, sym, ◌∙◌, arith, subst, inl, inr, cond, count_by, length-append}
@@ -9,10 +9,10 @@ use Rattle.sto_part.specs.Parts.{part_of}
 use Rattle.sto_item.specs.Agreement.{word_of}
 use Rattle.sto_model.specs.Rows.{Row, IsRising, value_at, with_row, bucket_of, keys_beside}
 use Rattle.sto_model.proofs.RowFacts.{by_test, same_of, equal_of, not_equal_of, IsRising-with_row, with_row-below, with_row-above}
-use Rattle.sto_model.proofs.Maps.{value_at-with_row_same, value_at-with_row_other, same_maps}
+use Rattle.sto_model.proofs.Maps.{value_at-with_row_same, value_at-with_row_other}
 use Rattle.sto_type.specs.Known.{Parts}
 use Rattle.sto_block.specs.Blocks.{Place, places_of, is_present, is_here, first_from, find, IsNowhere, AreApart}
-use Rattle.sto_hash.specs.Hashed.{place_pairs, block_pairs, pairs_from, rows_of, AreOfBucket, IsBucket, IsHash, bucket_part, value_part, bucket_number}
+use Rattle.sto_hash.specs.Hashed.{place_pairs, block_pairs, pairs_from, rows_of, AreOfBucket, IsBucket, bucket_part, bucket_number}
 
 -- the rows rise
 pub rows_rise : (rs : List Row) → IsRising (rows_of rs)

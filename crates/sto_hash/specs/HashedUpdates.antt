@@ -1,6 +1,5 @@
 -- The contents after each kind of update, and their rows.
-use Rattle.std.specs.Prelude.{◌≡◌, ◌<◌, ◌≤◌, ◌+◌, ◌*◌, ◌⊎◌, ℕ, zero, suc, ℤ, pos, negsuc, Bool, true, false, not, if◌then◌else◌, Option, Some, None, List, [], ◌∷◌, ◌++◌, map, length, slice_index_or, slice_set, refl}
-use Rattle.std.specs.Option.{option_map}
+use Rattle.std.specs.Prelude.{◌≡◌, ◌<◌, ◌+◌, ◌*◌, ◌⊎◌, ℕ, zero, suc, ℤ, pos, Bool, true, false, not, Option, Some, None, List, [], ◌∷◌, length, slice_index_or, slice_set, refl}
 use Rattle.std.specs.Int.{w64}
 use Rattle.std.specs.Int.RustNames.{FitsSigned}
 use Rattle.std.specs.Ordering.{int_eq}
@@ -8,21 +7,17 @@ use Rattle.std.proofs.Common.{ap, sym, ◌∙◌, arith, subst, inl, inr}
 use Rattle.std.proofs.lemmas.Bool.{cases_lt}
 use Rattle.std.proofs.lemmas.Bool.Decides.{Decides-int_eq}
 use Rattle.sto_part.specs.Parts.{part_of}
-use Rattle.sto_part.specs.Changes.{applied, applied_all}
-use Rattle.sto_part.specs.declared.change.Change.{Change}
-use Rattle.sto_part.specs.declared.change.Change.TheVariants.{Keep, Put as PutWord}
-use Rattle.sto_item.specs.Pending.{Entry, applied_updates}
-use Rattle.sto_item.specs.Agreement.{word_of, HasWidths}
-use Rattle.sto_model.specs.Rows.{Row, IsRising, value_at, with_row, without, bucket_of}
+use Rattle.sto_item.specs.Agreement.{word_of}
+use Rattle.sto_model.specs.Rows.{Row, value_at, with_row, without, bucket_of}
 use Rattle.sto_model.proofs.RowFacts.{IsRising-with_row, IsRising-without}
 use Rattle.sto_model.proofs.Maps.{value_at-with_row_same, value_at-with_row_other, value_at-without_same, value_at-without_other, same_maps}
-use Rattle.sto_type.specs.Known.{Parts, WordsFit, ContentsFit}
-use Rattle.sto_block.specs.Blocks.{Place, places_of, is_present, is_free, is_here, first_from, find, free, IsNowhere, AreApart}
-use Rattle.sto_block.specs.Found.{by_test, at, here_parts, parts_here, absent_here, other_here, found_there, none_nowhere, nowhere_none, first_is, set_other, apart_put, apart_remove, removed_none, at-set, length-set}
-use Rattle.sto_block.specs.Replaced.{place_changes, length-place_changes, place_set, words_replaced, places_replaced, at_words, length-places}
-use Rattle.sto_hash.specs.Hashed.{bucket_part, bucket_number, key_part, value_part, hash_widths, pairs_from, rows_of, AreOfBucket, IsBucket, IsHash}
+use Rattle.sto_type.specs.Known.{Parts}
+use Rattle.sto_block.specs.Blocks.{Place, places_of, is_present, is_free, is_here, first_from, find, free, IsNowhere}
+use Rattle.sto_block.specs.Found.{by_test, at, here_parts, parts_here, absent_here, other_here, found_there, none_nowhere, first_is, set_other, apart_put, apart_remove, removed_none, at-set, length-set}
+use Rattle.sto_block.specs.Replaced.{place_set, length-places}
+use Rattle.sto_hash.specs.Hashed.{bucket_part, bucket_number, key_part, pairs_from, rows_of, AreOfBucket, IsBucket, IsHash}
 use Rattle.sto_hash.specs.HashedRows.{value_found, value_is, rows_rise, bucket_is}
-use Rattle.sto_hash.specs.HashedParts.{bucket_below, many_parts, part_there, key_width, value_width, value_is_word, same_parts, part_set, part_else, widths_set, fits_set, words_fit, fit_set, word_fit}
+use Rattle.sto_hash.specs.HashedParts.{bucket_below, part_there, key_width, value_width, same_parts, part_set, part_else, widths_set, fits_set, words_fit, fit_set, word_fit}
 
 -- the places of a bucket after one was replaced
 own_set : (buckets b : ℕ) (ss : List Place) (m : ℕ) (t : Place) → AreOfBucket buckets b ss → (is_present t ≡ true → bucket_of buckets t.1 ≡ pos b) → AreOfBucket buckets b (slice_set ss m t)

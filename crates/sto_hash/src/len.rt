@@ -1,11 +1,10 @@
 //! The plan of len: it needs every key part, and counts what is present there.
-ghost use Rattle.std.specs.Prelude.{◌≡◌, ◌+◌, ◌*◌, ◌<◌, ◌^◌, ℤ, List, [], Some, pos, length, count_by, IfOk};
+ghost use Rattle.std.specs.Prelude.{◌≡◌, ◌+◌, ◌*◌, ◌<◌, ◌^◌, ℤ, List, [], Some, None, pos, IfOk, MatchResult};
 ghost use Rattle.sto_model.specs.Operations.{operation_of};
 ghost use Rattle.sto_model.specs.Told.{Value as ToldValue};
 ghost use Rattle.sto_type.specs.Known.{known, IsPartOf};
 ghost use Rattle.sto_type.specs.Plans.{planned, IsPlan, IsSaid};
-ghost use Rattle.sto_block.specs.Blocks.{places_of, is_present};
-ghost use Rattle.sto_hash.specs.Hashed.{hash_meaning, words_known, first_asked, all_seen, known_total, HashTakes, IsHash};
+ghost use Rattle.sto_hash.specs.Hashed.{hash_meaning, first_asked, all_seen, known_total, HashTakes, IsHash};
 
 use std::alloc::Global;
 use sto_block::count_present;
@@ -30,68 +29,40 @@ pub(crate) fn plan_len(
     requires part { (d : List (List ℤ)) × IsHash buckets places d × IsPartOf (known cache.now) d }
     ensures { IfOk result (λ a. IsPlan (hash_meaning buckets places) call.now (known cache.now) (planned a)) }
 {
-    match first_unknown(buckets, places, cache) {
-        Some(part) => Ok(Answer::Need(part)),
-        None => len_answer(alloc, buckets, places, cache),
+    match count_all(buckets, places, cache) {
+        Err(part) => Ok(Answer::Need(part)),
+        Ok(total) => len_answer(alloc, buckets, places, total),
     }
 }
 
-// The first key part that is not known.
-fn first_unknown(buckets: u32, places: u32, cache: &KnownParts<'_>) -> Option<u32>
+// The answer where every key part is known, and so many keys are present.
+fn len_answer(alloc: Global, buckets: u32, places: u32, total: u32) -> Result<Answer, NoMemory>
     requires few { buckets * (1 + places) < 2 ^ 32 }
-    ensures { result ≡ first_asked places (known cache.now) 0 buckets }
-{
-    for bucket in 0..buckets {
-        let part = bucket * (1 + places);
-        if cache.get(part).is_none() {
-            return Some(part);
-        }
-    }
-    None
-}
-
-// The answer where every key part is known.
-fn len_answer(
-    alloc: Global,
-    buckets: u32,
-    places: u32,
-    cache: &KnownParts<'_>,
-) -> Result<Answer, NoMemory>
-    requires few { buckets * (1 + places) < 2 ^ 32 }
-    requires words { 2 * places < 2 ^ 32 }
-    requires part { (d : List (List ℤ)) × IsHash buckets places d × IsPartOf (known cache.now) d }
-    ensures { IfOk result (IsSaid (ToldValue (pos (known_total places (known cache.now) 0 buckets))) (all_seen places 0 buckets) []) }
+    ensures { IfOk result (IsSaid (ToldValue (pos total)) (all_seen places 0 buckets) []) }
 {
     Ok(Answer::Done {
-        reply: Reply::Value(i64::from(count_all(buckets, places, cache))),
+        reply: Reply::Value(i64::from(total)),
         items: see_all(alloc, buckets, places)?,
         updates: Updates::new(alloc),
     })
 }
 
-// How many keys are present.
-fn count_all(buckets: u32, places: u32, cache: &KnownParts<'_>) -> u32
+// How many keys are present; or the first key part that is not known.
+fn count_all(buckets: u32, places: u32, cache: &KnownParts<'_>) -> Result<u32, u32>
     requires few { buckets * (1 + places) < 2 ^ 32 }
     requires words { 2 * places < 2 ^ 32 }
     requires part { (d : List (List ℤ)) × IsHash buckets places d × IsPartOf (known cache.now) d }
-    ensures { result ≡ known_total places (known cache.now) 0 buckets }
+    ensures { MatchResult result (λ total. (first_asked places (known cache.now) 0 buckets ≡ None) × (total ≡ known_total places (known cache.now) 0 buckets)) (λ part. first_asked places (known cache.now) 0 buckets ≡ Some part) }
 {
     let mut total = 0;
     for bucket in 0..buckets {
-        total += count_known(cache, bucket * (1 + places));
+        let part = bucket * (1 + places);
+        match cache.get(part) {
+            None => return Err(part),
+            Some(words) => total += count_present(words),
+        }
     }
-    total
-}
-
-// How many places of a part are present, where it is known.
-fn count_known(cache: &KnownParts<'_>, part: u32) -> u32
-    requires { length (words_known (known cache.now part)) < 2 ^ 32 }
-    ensures { result ≡ count_by is_present (places_of (words_known (known cache.now part))) }
-{
-    match cache.get(part) {
-        None => 0,
-        Some(words) => count_present(words),
-    }
+    Ok(total)
 }
 
 // An item of each key part.

@@ -1,4 +1,4 @@
-use Rattle.std.proofs.Common.{◌≡◌, false, refl, ap, ◌∙◌}
+use Rattle.std.proofs.Common.{refl, ap, ◌∙◌}
 use Rattle.std.specs.List.{list_all}
 use Rattle.sto_item.specs.Pending.{is_keep}
 use Rattle.sto_hash.specs.HashedChanges.{place_changes-change, one_update_rises}

@@ -1,4 +1,4 @@
-use Rattle.std.proofs.Common.{◌≡◌, ◌<◌, false, refl, ap, ◌∙◌}
+use Rattle.std.proofs.Common.{◌<◌, refl, ap, ◌∙◌}
 use Rattle.std.specs.List.{list_all}
 use Rattle.sto_part.specs.declared.change.Change.TheVariants.{Keep, Put}
 use Rattle.std.proofs.Common.{pos}

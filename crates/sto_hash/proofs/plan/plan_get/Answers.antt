@@ -1,11 +1,11 @@
-use Rattle.std.proofs.Common.{◌≡◌, ◌<◌, Some, sym, ap, ◌∙◌, subst, arith, length, MatchOption}
+use Rattle.std.proofs.Common.{◌<◌, arith}
 use Rattle.std.specs.Int.{w64}
 use Rattle.std.specs.Int.RustNames.{FitsSigned}
 use Rattle.std.proofs.Common.{◌+◌, ◌^◌, rules}
 use Rattle.std.proofs.lemmas.Int.{to_z-of_z}
 use Rattle.std.proofs.lemmas.Result.{IfOk-weaker}
 use Rattle.sto_type.specs.Known.{known}
-use Rattle.sto_block.specs.Blocks.{is_here, is_free, find as find_place, free as free_place}
+use Rattle.sto_block.specs.Blocks.{is_here}
 use Rattle.sto_hash.specs.HashedLaw.{first_within}
 use Rattle.sto_hash.proofs.Plans.{wide, room_for, some_below, absent_on, present_on}
 use Rattle.sto_hash.proofs.plan.plan_get.Goals as goal
