@@ -16,7 +16,7 @@ use Rattle.sto_told.specs.Counted.{times_committed}
 use Rattle.sto_told.proofs.Progress.{committed_append}
 use Rattle.sto_transact.specs.Ran.{HasRun}
 use Rattle.sto_records.proofs.Working.{times_append}
-use Rattle.sto_working.specs.Accounts.{AddsUp, HasGathered}
+use Rattle.sto_working.specs.Accounts.{AddsUp, HasGathered, HasAll}
 
 pub adds_up_none : (v : View) (rs : List Record) → AddsUp v v rs rs
 adds_up_none v rs = record { tickets = λ t. refl; starts = refl }
@@ -120,13 +120,6 @@ opened_new sizes opening (suc n) =
       starts = (let a = k.starts in omega (arith, a));
       tickets = λ t. (let a = k.tickets t in omega (arith, a));
     }
-
--- what one pass knows that has gathered all of those
-pub record HasAll (need passes : ℕ) (v : View) (rs : List Record) : Type 0 where
-  pub gathered : v.gathered ≡ passes
-  pub draws : need ≤ v.draws
-  pub starts : v.starts ≡ length rs
-  pub tickets : (t : ℕ) → times_written t rs ≡ times_committed t v.entries
 
 -- enough is left where each had twice as much
 enough : (need most passes left : ℕ) → 1 ≤ passes → need + need ≤ most → most * passes ≤ left + need * passes → need ≤ left

@@ -130,7 +130,7 @@ past_more count (x ∷ xs) n h l =
     let k = past_more count xs n (omega (arith, h)) l in omega (arith, h, k)
 
 -- a thread of the file, or one that has no transactions
-count_case : (threads : List (List Script)) (u : ℕ) → (u < length threads) ⊎ (count_in threads u ≡ 0)
+pub count_case : (threads : List (List Script)) (u : ℕ) → (u < length threads) ⊎ (count_in threads u ≡ 0)
 count_case [] u = inr refl
 count_case (s ∷ ts) zero = inl (omega arith)
 count_case (s ∷ ts) (suc u) = elim (count_case ts u) [

@@ -107,38 +107,46 @@ either_list xs ys apart x = elim (cases_eq (times x xs) 0) [
   | inr some' ↦ inr (let a = apart x in omega (arith, a, some'))
 ]
 
--- The records of two passes that claimed different threads are those of the pass that gathers both.
-pub gathered_worked : (m : Meaning) (file : File) (tries : ℕ) (v u : View) (xs ys : List ℕ) (rs ss : List Record) → ((x : ℕ) → times x xs + times x ys ≤ 1)
-    → AreOf xs rs → AreOf ys ss → HasWorked m file tries v rs → HasWorked m file tries u ss → HasWorked m file tries (gathered_into v u) (rs ++ ss)
-gathered_worked m file tries v u xs ys rs ss apart own other h k = record {
+-- The records of two passes, of which each thread has none in one, are those of the pass that gathers both.
+pub gathered_apart : (m : Meaning) (file : File) (tries : ℕ) (v u : View) (rs ss : List Record) → ((thread : ℕ) → HasNone thread rs ⊎ HasNone thread ss)
+    → HasWorked m file tries v rs → HasWorked m file tries u ss → HasWorked m file tries (gathered_into v u) (rs ++ ss)
+gathered_apart m file tries v u rs ss apart h k = record {
   so_far = gathered_so_far m file tries v u rs ss pairs each h.so_far k.so_far;
   found = found_both v u (gathered_into v u) rs ss (first_grows v u) (second_grows v u) h.found k.found;
-  under_way = λ thread. elim (either_list xs ys apart thread) [
-    | inl none ↦ in_second file rs ss thread (own thread none) (k.under_way thread)
-    | inr none ↦ in_first file rs ss thread (other thread none) (h.under_way thread)
+  under_way = λ thread. elim (apart thread) [
+    | inl none ↦ in_second file rs ss thread none (k.under_way thread)
+    | inr none ↦ in_first file rs ss thread none (h.under_way thread)
   ];
 }
   where
     each : (place : Place) → (aborted_times place rs ≡ 0) ⊎ (aborted_times place ss ≡ 0)
-    each place = elim (either_list xs ys apart place.0) [
-      | inl none ↦ inl (none_was_aborted place rs (own place.0 none))
-      | inr none ↦ inr (none_was_aborted place ss (other place.0 none))
+    each place = elim (apart place.0) [
+      | inl none ↦ inl (none_was_aborted place rs none)
+      | inr none ↦ inr (none_was_aborted place ss none)
     ]
 
     -- a record of the first beside all of the second
-    beside : (r : Record) → (r.place.0 ≡ r.place.0 → (times r.place.0 xs ≡ 0 → ⊥)) → Every (λ (s : Record). r.place.0 ≡ s.place.0 → ⊥) ss
-    beside r in_own = elim (either_list xs ys apart r.place.0) [
-      | inl none ↦ absurd (in_own refl none)
-      | inr none ↦ every_weaker (λ (s : Record). s.place.0 ≡ r.place.0 → ⊥) (λ (s : Record). r.place.0 ≡ s.place.0 → ⊥) (λ s no e. no (sym e)) ss (none_of r.place.0 ss (other r.place.0 none))
-    ]
+    beside : (r : Record) → ((r.place.0 ≡ r.place.0 → ⊥) ⊎ HasNone r.place.0 ss) → Every (λ (s : Record). r.place.0 ≡ s.place.0 → ⊥) ss
+    beside r (inl none) = absurd (none refl)
+    beside r (inr none) = every_weaker (λ (s : Record). s.place.0 ≡ r.place.0 → ⊥) (λ (s : Record). r.place.0 ≡ s.place.0 → ⊥) (λ s no e. no (sym e)) ss (none_of r.place.0 ss none)
 
-    owned : (qs : List Record) → ((thread : ℕ) → times thread xs ≡ 0 → Every (λ (r : Record). r.place.0 ≡ thread → ⊥) qs)
+    owned : (qs : List Record) → ((thread : ℕ) → Every (λ (r : Record). r.place.0 ≡ thread → ⊥) qs ⊎ HasNone thread ss)
         → Every (λ (r : Record). Every (λ (s : Record). r.place.0 ≡ s.place.0 → ⊥) ss) qs
     owned [] all = tt
-    owned (q ∷ qs) all = (beside q (λ e none. (all q.place.0 none).0 refl), owned qs (λ thread none. (all thread none).1))
+    owned (q ∷ qs) all = (
+      beside q (elim (all q.place.0) [ inl none ↦ inl none.0 | inr none ↦ inr none ]),
+      owned qs (λ thread. elim (all thread) [ inl none ↦ inl none.1 | inr none ↦ inr none ]),
+    )
 
     pairs : Every (λ (r : Record). Every (λ (s : Record). r.place.0 ≡ s.place.0 → ⊥) ss) rs
-    pairs = owned rs (λ thread none. none_of thread rs (own thread none))
+    pairs = owned rs (λ thread. elim (apart thread) [ inl none ↦ inl (none_of thread rs none) | inr none ↦ inr none ])
+
+-- The same where they claimed different threads.
+pub gathered_worked : (m : Meaning) (file : File) (tries : ℕ) (v u : View) (xs ys : List ℕ) (rs ss : List Record) → ((x : ℕ) → times x xs + times x ys ≤ 1)
+    → AreOf xs rs → AreOf ys ss → HasWorked m file tries v rs → HasWorked m file tries u ss → HasWorked m file tries (gathered_into v u) (rs ++ ss)
+gathered_worked m file tries v u xs ys rs ss apart own other =
+    gathered_apart m file tries v u rs ss
+    (λ thread. elim (either_list xs ys apart thread) [ inl none ↦ inl (own thread none) | inr none ↦ inr (other thread none) ])
 
 pub gathered_of : (xs ys : List ℕ) (rs ss : List Record) → AreOf xs rs → AreOf ys ss → AreOf (xs ++ ys) (rs ++ ss)
 gathered_of xs ys rs ss h k thread none =

@@ -14,7 +14,8 @@ use Rattle.sto_records.proofs.Gathering.{reopened_grows, reopened_so_far}
 use Rattle.sto_transact.specs.Resting.{IsAtRest}
 use Rattle.sto_working.specs.Worked.{HasWorked}
 use Rattle.sto_working.proofs.Found.{all_found_later}
-use Rattle.sto_working.proofs.Accounts.{HasAll, reopened_all}
+use Rattle.sto_working.specs.Accounts.{HasAll}
+use Rattle.sto_working.proofs.Accounts.{reopened_all}
 use Rattle.sto_working.proofs.Resting.{reopened_rests}
 
 live_is : (v : View) → 0 < v.gathered → live_view (v ∷ []) ≡ v

@@ -16,3 +16,10 @@ pub record HasGathered (need : ℕ) (before : List View) (v : View) (rs : List R
   pub draws : total (λ u. u.draws) before ≤ v.draws + need * length before
   pub starts : v.starts ≡ total (λ u. u.starts) before + length rs
   pub tickets : (t : ℕ) → times_committed t v.entries ≡ total (λ u. times_committed t u.entries) before + times_written t rs
+
+-- the view has gathered all passes of words with so many, it may draw so often, and its records account for all that was done on them
+pub record HasAll (need passes : ℕ) (v : View) (rs : List Record) : Type 0 where
+  pub gathered : v.gathered ≡ passes
+  pub draws : need ≤ v.draws
+  pub starts : v.starts ≡ length rs
+  pub tickets : (t : ℕ) → times_written t rs ≡ times_committed t v.entries

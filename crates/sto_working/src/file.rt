@@ -3,9 +3,11 @@ ghost use Rattle.std.specs.Prelude.{◌≡◌, ◌≤◌, ◌+◌, ◌*◌, ◌^
 ghost use Rattle.sto_transact.specs.Plain.{plain};
 ghost use Rattle.sto_records.specs.Finished.{AreFinished};
 ghost use Rattle.sto_plain.specs.Passes.{view_of};
+ghost use Rattle.sto_table.specs.Rests.{IsOf};
 ghost use Rattle.std.specs.List.{All};
 ghost use Rattle.sto_working.specs.Counts.{scripts_from};
-ghost use Rattle.sto_working.specs.Worked.{WasFound, AbortsNone};
+ghost use Rattle.sto_working.specs.Accounts.{HasAll};
+ghost use Rattle.sto_working.specs.Worked.{HasWorked, WasFound, AbortsNone};
 ghost use Rattle.sto_transact.specs.Resting.{IsAtRest};
 
 use crate::all::{Worked, work_all};
@@ -15,7 +17,7 @@ use std::alloc::Global;
 use std::thread::Threads;
 use sto_part::{Contents, Naming, NoMemory};
 use sto_plain::Plain;
-use sto_table::{Opened, close, open};
+use sto_table::{Opened, Shared, close, open};
 use sto_transact::Record;
 
 /// What a run of a file leaves: the records of all attempts, and the words with one pass that has gathered all others.
@@ -23,6 +25,39 @@ use sto_transact::Record;
 pub struct Ended<T: Naming> {
     pub records: Vec<Record>,
     pub words: Plain<T>,
+}
+
+/// Closes the words on which workers have run, whose passes were gathered, and runs what they handed back on one pass.
+pub fn run_rest<T: Naming, W: Work<T>>(
+    work: &W,
+    alloc: Global,
+    shared: Shared<T>,
+    worked: Worked<T>,
+) -> Result<Ended<T>, NoMemory>
+    requires ready { W.ready work.now }
+    requires of { IsOf shared worked.rest.seat }
+    requires rests { IsAtRest (W.meaning work.now) (W.sizes work.now) worked.rest.seat.me.0.view }
+    requires worked { HasWorked (W.meaning work.now) (W.file work.now) (W.tries work.now) worked.rest.seat.me.0.view (map plain worked.records.items) }
+    requires all { HasAll (W.tries work.now * scripts_from (W.file work.now).threads 0) shared.table.shared.key.passes worked.rest.seat.me.0.view (map plain worked.records.items) }
+    ensures one { IfOk result (λ e. (length e.words.views ≡ 1) × (length e.words.statuses ≡ 1)) }
+    ensures rests { IfOk result (λ e. IsAtRest (W.meaning work.now) (W.sizes work.now) (view_of e.words 0)) }
+    ensures starts { IfOk result (λ e. (view_of e.words 0).starts ≡ length e.records.items) }
+    ensures found { IfOk result (λ e. All (WasFound (view_of e.words 0)) (map plain e.records.items)) }
+    ensures none { IfOk result (λ e. AbortsNone (map plain worked.records.items) (map plain e.records.items)) }
+    ensures finished { IfOk result (λ e. AreFinished (W.meaning work.now) (W.file work.now) (W.tries work.now) (view_of e.words 0) (map plain e.records.items)) }
+{
+    let Worked { mut records, rest } = worked;
+    let closed = close(alloc, shared, rest)?;
+    let words = match Plain::reopen(closed) {
+        Ok(words) => words,
+        Err(_) => return Err(NoMemory),
+    };
+    let mut pass = words.at(0);
+    run_left(work, alloc, &mut pass, &mut records)?;
+    Ok(Ended {
+        records,
+        words: pass.back(),
+    })
 }
 
 /// Runs all transactions of a file on threads, and what was handed back on one pass.
@@ -47,16 +82,6 @@ pub fn run_threads<R: Threads + Sync, T: Naming + Send + Sync, W: Work<T> + Sync
     ensures finished { IfOk result (λ e. AreFinished (W.meaning work.now) (W.file work.now) (W.tries work.now) (view_of e.words 0) (map plain e.records.items)) }
 {
     let Opened { shared, rests } = open(alloc, ty, contents, workers)?;
-    let Worked { mut records, rest } = work_all(rt, work, alloc, &shared, rests)?;
-    let closed = close(alloc, shared, rest)?;
-    let words = match Plain::reopen(closed) {
-        Ok(words) => words,
-        Err(_) => return Err(NoMemory),
-    };
-    let mut pass = words.at(0);
-    run_left(work, alloc, &mut pass, &mut records)?;
-    Ok(Ended {
-        records,
-        words: pass.back(),
-    })
+    let worked = work_all(rt, work, alloc, &shared, rests)?;
+    run_rest(work, alloc, shared, worked)
 }

@@ -12,7 +12,7 @@ mod work;
 mod worker;
 
 pub use all::{Worked, work_all};
-pub use file::{Ended, run_threads};
+pub use file::{Ended, run_rest, run_threads};
 pub use gate::{Gate, NoGate};
 pub use halves::{gather, work_halves};
 pub use left::run_left;
