@@ -1,7 +1,7 @@
 -- The record of an attempt that has ended is added to those of its thread.
 use Rattle.std.specs.Prelude.{◌&&◌, if◌then◌else◌, ◌==◌, not}
 use Rattle.std.specs.List.{All}
-use Rattle.std.proofs.Common.{◌≡◌, ℕ, suc, ◌+◌, ◌-◌, ◌<◌, ◌≤◌, List, [], ◌∷◌, ◌++◌, map, refl, sym, ap, ◌∙◌, subst, arith, Bool, true, false, true≢false, cond, eq-eqb}
+use Rattle.std.proofs.Common.{◌≡◌, ℕ, suc, ◌+◌, ◌-◌, ◌<◌, ◌≤◌, List, [], ◌∷◌, ◌++◌, map, length, refl, sym, ap, ◌∙◌, subst, arith, Bool, true, false, true≢false, cond, eq-eqb}
 use Rattle.std.proofs.lemmas.List.Elements.{All-cons, All-nil}
 use Rattle.sto_model.specs.Run.{Script as Steps}
 use Rattle.sto_lang.specs.Scripts.{File}
@@ -17,6 +17,7 @@ use Rattle.sto_told.specs.Trying.{HasFinding}
 use Rattle.sto_records.proofs.Working.{times_append, aborted_append}
 use Rattle.sto_working.specs.Running.{ended_of}
 use Rattle.sto_working.specs.Worked.{IsNext}
+use Rattle.sto_working.proofs.Claiming.{snoc_length}
 use Rattle.sto_working.proofs.Runs.{next_more}
 use Rattle.sto_stepping.specs.Stepped.{HasMadeOne}
 use Rattle.sto_stepping.specs.Seated.{IsBetween}
@@ -94,6 +95,9 @@ module _ (m : Meaning) (sizes : List ℕ) (file : File) (tries passes thread end
       at_place true = refl
       at_place false = ap (λ (p : Place). p ∷ []) here.tried.added.placed
 
+  one_start : w.starts ≡ length (rs ++ r ∷ [])
+  one_start = let a = h.starts in let b = here.tried.starts in let c = snoc_length rs r in omega (arith, a, b, c)
+
   -- the attempt was aborted
   pub kept_aborted : (later : ℕ) → is_abort r.verdict ≡ true → later + 1 ≡ left → IsBetween m sizes file tries passes thread ended later (rs ++ r ∷ []) w
   kept_aborted later is used =
@@ -102,6 +106,7 @@ module _ (m : Meaning) (sizes : List ℕ) (file : File) (tries passes thread end
         worked = k.worked;
         tickets = λ t. (let a = times_append t rs (r ∷ []) in let b = h.tickets t in let c = here.tried.committed t in omega (arith, a, b, c));
         own = λ u other. k.adds.apart u other (h.own u other);
+        starts = one_start;
         so_many = k.left refl ∙ h.so_many;
         tried = (let a = aborted_append (thread, suc ended) rs (r ∷ []) in
             let b = aborted_one (thread, suc ended) r (here.tried.added.placed ∙ ap (λ (n : ℕ). (thread, suc n)) h.so_many) is in
@@ -119,6 +124,7 @@ module _ (m : Meaning) (sizes : List ℕ) (file : File) (tries passes thread end
         worked = k.worked;
         tickets = λ t. (let a = times_append t rs (r ∷ []) in let b = h.tickets t in let c = here.tried.committed t in omega (arith, a, b, c));
         own = λ u other. k.adds.apart u other (h.own u other);
+        starts = one_start;
         so_many = (let a = (k.more refl).0 in let b = h.so_many in omega (arith, a, b));
         tried = (let a = subst (λ (n : ℕ). aborted_times (thread, suc n) (rs ++ r ∷ []) ≡ 0)
             (let a = (k.more refl).0 in let b = h.so_many in let e : ended_of thread (rs ++ r ∷ []) ≡ ended + 1 = omega (arith, a, b) in e) (k.more refl).1 in omega (arith, a));

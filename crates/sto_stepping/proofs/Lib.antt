@@ -5,3 +5,4 @@ pub mod Seats
 pub mod Opening
 pub mod Gathered
 pub mod Reopened
+pub mod Turns

@@ -74,6 +74,7 @@ module _ (m : Meaning) (sizes : List ℕ) (file : File) (tries : ℕ)
     worked = none_worked m file tries (opened_view sizes m.opened number) [] refl;
     tickets = λ t. refl;
     own = λ u other. All-nil (λ (r : Record). r.place.0 ≡ u → ⊥);
+    starts = refl;
     so_many = refl;
     tried = omega arith;
     draws =

@@ -23,13 +23,9 @@ use Rattle.sto_transact.specs.Plain.{plain}
 use Rattle.sto_transact.specs.Resting.{IsAtRest}
 use Rattle.sto_working.specs.Counts.{scripts_from}
 use Rattle.sto_working.specs.Worked.{HasWorked, AbortsNone}
-use Rattle.sto_stepping.specs.Seated.{IsBetween, IsWithin, IsAt, IsSeated, IsOver, AreSeated, AreOver}
+use Rattle.sto_stepping.specs.Seated.{IsBetween, IsWithin, IsAt, IsSeated, IsOver, AreSeated, AreOver, records_of}
 use Rattle.sto_stepping.specs.declared.seat.Seat.{Seat}
 use Rattle.sto_stepping.proofs.Gathered.{HasRested, HaveRested, gathered, all_idle}
-
--- the records of a thread
-abbrev pub records_of : {M : Type 0} → Seat M → List Record
-records_of s = map plain s.records.items
 
 -- a thread that is over runs no attempt
 over_between : {M : Type 0} (m : Meaning) (sizes : List ℕ) (file : File) (tries passes : ℕ) (fits : Place → M → View → View → Type 0) (thread : ℕ) (v : View) (s : Seat M)
@@ -103,6 +99,12 @@ module _ {M : Type 0} (m : Meaning) (sizes : List ℕ) (file : File) (tries : �
       subst (λ (n : ℕ). HasRested m sizes file tries (length c.statuses) (tries * scripts_from file.threads 0) n (view_at c.views i) (records_of s)) e
       (rested m sizes file tries (length c.statuses) i s.ended s.left (records_of s) (view_at c.views i)
       (over_between m sizes file tries (length c.statuses) (fits (length c.statuses)) i (view_at c.views i) s (h.each i s at) (over i (slice_get_within seats i s at) s at))))
+
+  -- each thread has a record for each start of its pass
+  pub over_made : (thread : ℕ) (s : Seat M) → slice_get seats thread ≡ Some s → length (records_of s) ≡ (view_of c thread).starts
+  over_made thread s at =
+      let between = over_between m sizes file tries (length c.statuses) (fits (length c.statuses)) thread (view_at c.views thread) s (h.each thread s at) (over thread (slice_get_within seats thread s at) s at) in
+      sym between.starts
 
   pub over_idle : Each (λ (v : View). IsIdle v.phase) c.views
   over_idle = all_idle records_of m sizes file tries (length c.statuses) (tries * scripts_from file.threads 0) 0 c.views seats have_rested

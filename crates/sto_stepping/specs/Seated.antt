@@ -16,13 +16,14 @@ use Rattle.sto_working.specs.Worked.{HasWorked}
 use Rattle.sto_stepping.specs.Counts.{attempts_left, events_left}
 use Rattle.sto_stepping.specs.declared.seat.Seat.{Seat}
 
--- between two attempts: the pass is at rest and has made these records, all of the thread. So many of its transactions have ended, and
+-- between two attempts: the pass is at rest and has made these records, all of the thread, one with each start. So many of its transactions have ended, and
 -- of the next one so many more attempts may be aborted. There are draws for all attempts that are left, and to run the whole file
 pub record IsBetween (m : Meaning) (sizes : List ℕ) (file : File) (tries passes thread ended left : ℕ) (rs : List Record) (v : View) : Type 0 where
   pub rests : IsAtRest m sizes v
   pub worked : HasWorked m file tries v rs
   pub tickets : (t : ℕ) → times_written t rs ≡ times_committed t v.entries
   pub own : (u : ℕ) → (thread ≡ u → ⊥) → HasNone u rs
+  pub starts : v.starts ≡ length rs
   pub so_many : ended_of thread rs ≡ ended
   pub tried : aborted_times (thread, suc ended) rs + left ≡ tries
   pub draws : tries * scripts_from file.threads 0 + attempts_left tries left (count_in file.threads thread - ended) ≤ v.draws
@@ -61,6 +62,10 @@ pub record IsNew {M : Type 0} (count tries : ℕ) (s : Seat M) : Type 0 where
   pub all_left : s.left ≡ tries
   pub each : s.tries ≡ tries
   pub no_records : s.records.items ≡ []
+
+-- the records of a thread
+abbrev pub records_of : {M : Type 0} → Seat M → List Record
+records_of s = map plain s.records.items
 
 -- that of each seat
 abbrev pub AreNew : {M : Type 0} → List (List Script) → ℕ → List (Seat M) → Type 0

@@ -1,6 +1,7 @@
 //! A whole file, stepped.
 ghost use Rattle.std.specs.Prelude.{◌≡◌, ◌≤◌, ◌<◌, ◌+◌, ◌*◌, ◌^◌, [], map, max, length, IfOk};
 ghost use Rattle.std.specs.List.{All, flat_map};
+ghost use Rattle.sto_core.specs.Opened.{opened_core};
 ghost use Rattle.sto_lawful.specs.Orders.{count_in};
 ghost use Rattle.sto_transact.specs.Plain.{plain};
 ghost use Rattle.sto_transact.specs.Resting.{IsAtRest};
@@ -9,6 +10,7 @@ ghost use Rattle.sto_plain.specs.Passes.{view_of};
 ghost use Rattle.sto_working.specs.Counts.{scripts_from};
 ghost use Rattle.sto_working.specs.Worked.{AbortsNone};
 ghost use Rattle.sto_stepping.specs.Seated.{AreNew, AreSeated};
+ghost use Rattle.sto_stepping.specs.Turning.{WereStepped};
 
 use crate::attempts::Attempts;
 use crate::seat::Seat;
@@ -73,6 +75,8 @@ fn open<T: Naming, M: Drop, W: Attempts<T, M>>(
     requires threads { length (W.file work.now).threads ≤ 65536 }
     requires few { W.tries work.now * scripts_from (W.file work.now).threads 0 + W.tries work.now * scripts_from (W.file work.now).threads 0 ≤ 2 ^ 40 }
     ensures many { IfOk result (λ s. length s.seats.items ≡ max 1 (length (W.file work.now).threads)) }
+    ensures opened { IfOk result (λ s. s.words ≡ opened_core (T.sizes ty.now) contents.now.items (length s.seats.items)) }
+    ensures begun { IfOk result (λ s. AreNew (W.file work.now).threads (W.tries work.now) s.seats.items) }
     ensures seated { IfOk result (λ s. AreSeated (W.meaning work.now) (W.sizes work.now) (W.file work.now) (W.tries work.now) (W.fits work.now) s.words s.seats.items) }
 {
     let seats = seats_of(work, alloc)?;
@@ -115,6 +119,9 @@ pub fn step_threads<T: Naming, M: Drop, W: Attempts<T, M>>(
     ensures one { IfOk result (λ e. (length e.words.views ≡ 1) × (length e.words.statuses ≡ 1)) }
     ensures rests { IfOk result (λ e. IsAtRest (W.meaning work.now) (W.sizes work.now) (view_of e.words 0)) }
     ensures finished { IfOk result (λ e. AreFinished (W.meaning work.now) (W.file work.now) (W.tries work.now) (view_of e.words 0) (map plain e.records.items)) }
+
+    // Each event is made in the turn of its thread.
+    ensures stepped { IfOk result (λ e. WereStepped M T.valid (W.file work.now).threads (W.tries work.now) schedule.now (opened_core (T.sizes ty.now) contents.now.items (max 1 (length (W.file work.now).threads))) (map plain e.records.items)) }
 
     // With one thread no attempt is aborted.
     ensures alone { length (W.file work.now).threads ≤ 1 → IfOk result (λ e. AbortsNone [] (map plain e.records.items)) }

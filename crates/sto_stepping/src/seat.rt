@@ -1,5 +1,5 @@
 //! A script thread, as far as it has come.
-ghost use Rattle.std.specs.Prelude.{◌≡◌, ◌≤◌, ◌<◌, ◌+◌, ◌-◌, ◌↔◌, ℕ, map, IsTrue, IfOk, OnOk};
+ghost use Rattle.std.specs.Prelude.{◌≡◌, ◌≤◌, ◌<◌, ◌+◌, ◌-◌, ◌↔◌, ℕ, map, IsTrue, IfOk, OnOk, OnErr};
 ghost use Rattle.sto_core.specs.declared.view.View.{View};
 
 use crate::attempts::{Attempts, Stepped};
@@ -31,6 +31,7 @@ impl<M: Drop> Seat<M> {
     ghost use Rattle.sto_transact.specs.Plain.{plain};
     ghost use Rattle.sto_stepping.specs.Counts.{attempts_left, events_left};
     ghost use Rattle.sto_stepping.specs.Seated.{IsNew, IsSeated, IsWithin, IsIn, IsOver, HasKept, events_of};
+    ghost use Rattle.sto_stepping.specs.Turning.{AnEvent};
 
     /// A thread with so many transactions, of which none has begun.
     pub(crate) fn new(alloc: Global, count: u32, tries: u32) -> Seat<M>
@@ -61,7 +62,7 @@ impl<M: Drop> Seat<M> {
         records
     }
 
-    /// Makes the next event of the thread, which is not over, on its pass.
+    /// Makes the next event of the thread, which is not over, on its pass. Where there is no memory, no record is added.
     pub(crate) fn step<T: Naming, W: Attempts<T, M>, C: Cells<T>>(
         &mut self,
         work: &W,
@@ -73,8 +74,10 @@ impl<M: Drop> Seat<M> {
         requires seated { IsSeated (W.meaning work.now) (W.sizes work.now) (W.file work.now) (W.tries work.now) (C.passes cells.old) (W.fits work.now (C.passes cells.old)) thread (C.view cells.old) self.old }
         requires going { IsOver self.old → ⊥ }
         ensures same { C.same cells.old cells.new }
+        ensures event { OnOk result (AnEvent T.valid (C.passes cells.old) (C.view cells.old) (C.view cells.new)) }
         ensures seated { OnOk result (IsSeated (W.meaning work.now) (W.sizes work.now) (W.file work.now) (W.tries work.now) (C.passes cells.old) (W.fits work.now (C.passes cells.old)) thread (C.view cells.new) self.new) }
         ensures left { OnOk result (events_of (W.left work.now) (W.most work.now) self.new < events_of (W.left work.now) (W.most work.now) self.old) }
+        ensures unmade { OnErr result (self.new.records.items ≡ self.old.records.items) }
     {
         let position = self.ended + 1;
         self.begin(work, alloc, thread)?;
@@ -120,7 +123,8 @@ impl<M: Drop> Seat<M> {
     fn keep(&mut self, attempt: Record) -> Result<(), NoMemory>
         requires next { self.old.ended < self.old.count }
         requires again { 1 ≤ self.old.left }
-        ensures { OnOk result (HasKept (plain attempt) self.old self.new) }
+        ensures kept { OnOk result (HasKept (plain attempt) self.old self.new) }
+        ensures unmade { OnErr result (self.new.records.items ≡ self.old.records.items) }
     {
         match attempt.verdict {
             Verdict::Locked { .. } | Verdict::Changed { .. } => self.left -= 1,

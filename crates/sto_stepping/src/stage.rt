@@ -1,6 +1,7 @@
 //! All script threads, each at its seat, with the words that their passes share.
-ghost use Rattle.std.specs.Prelude.{◌≡◌, ◌<◌, length, true, false, IfOk};
-ghost use Rattle.std.specs.List.{All};
+ghost use Rattle.std.specs.Prelude.{◌≡◌, ◌<◌, ℕ, length, true, false, IfOk};
+ghost use Rattle.std.specs.List.{All, flat_map};
+ghost use Rattle.sto_lawful.specs.Orders.{numbers_from};
 
 use crate::attempts::Attempts;
 use crate::seat::Seat;
@@ -18,6 +19,7 @@ pub(crate) struct Stage<T: Naming, M> {
 
 impl<T: Naming, M: Drop> Stage<T, M> {
     ghost use Rattle.sto_stepping.specs.Seated.{AreSeated, IsOverAt, AreOver, events_of_all};
+    ghost use Rattle.sto_stepping.specs.Turning.{HasTurn, HaveTurns, entry_turns, round_turns};
 
     // Makes an event of the thread, where it is not over. It answers whether it did.
     fn turn<W: Attempts<T, M>>(
@@ -29,6 +31,7 @@ impl<T: Naming, M: Drop> Stage<T, M> {
         requires ready { W.ready work.now }
         requires seated { AreSeated (W.meaning work.now) (W.sizes work.now) (W.file work.now) (W.tries work.now) (W.fits work.now) self.words self.seats.items }
         requires inside { thread < length self.seats.items }
+        ensures turn { IfOk result (λ s. HasTurn T.valid thread self.words self.seats.items s.0.words s.0.seats.items) }
         ensures seated { IfOk result (λ s. AreSeated (W.meaning work.now) (W.sizes work.now) (W.file work.now) (W.tries work.now) (W.fits work.now) s.0.words s.0.seats.items) }
         ensures many { IfOk result (λ s. length s.0.seats.items ≡ length self.seats.items) }
         ensures made { IfOk result (λ s. s.1 ≡ true → events_of_all (W.left work.now) (W.most work.now) s.0.seats.items < events_of_all (W.left work.now) (W.most work.now) self.seats.items) }
@@ -54,6 +57,7 @@ impl<T: Naming, M: Drop> Stage<T, M> {
         requires ready { W.ready work.now }
         requires seated { AreSeated (W.meaning work.now) (W.sizes work.now) (W.file work.now) (W.tries work.now) (W.fits work.now) self.words self.seats.items }
         requires inside { turns.now.thread < length self.seats.items }
+        ensures turns { IfOk result (λ s. HaveTurns T.valid (entry_turns turns.now) self.words self.seats.items s.words s.seats.items) }
         ensures seated { IfOk result (λ s. AreSeated (W.meaning work.now) (W.sizes work.now) (W.file work.now) (W.tries work.now) (W.fits work.now) s.words s.seats.items) }
         ensures many { IfOk result (λ s. length s.seats.items ≡ length self.seats.items) }
     {
@@ -62,7 +66,7 @@ impl<T: Naming, M: Drop> Stage<T, M> {
             let (next, made) = stage.turn(work, alloc, turns.thread)?;
             stage = next;
             if !made {
-                break;
+                return Ok(stage);
             }
         }
         Ok(stage)
@@ -78,6 +82,7 @@ impl<T: Naming, M: Drop> Stage<T, M> {
         requires ready { W.ready work.now }
         requires seated { AreSeated (W.meaning work.now) (W.sizes work.now) (W.file work.now) (W.tries work.now) (W.fits work.now) self.words self.seats.items }
         requires inside { All (λ turns. turns.thread < length self.seats.items) schedule.now }
+        ensures turns { IfOk result (λ s. HaveTurns T.valid (flat_map entry_turns schedule.now) self.words self.seats.items s.words s.seats.items) }
         ensures seated { IfOk result (λ s. AreSeated (W.meaning work.now) (W.sizes work.now) (W.file work.now) (W.tries work.now) (W.fits work.now) s.words s.seats.items) }
         ensures many { IfOk result (λ s. length s.seats.items ≡ length self.seats.items) }
     {
@@ -96,6 +101,7 @@ impl<T: Naming, M: Drop> Stage<T, M> {
     ) -> Result<(Stage<T, M>, bool), NoMemory>
         requires ready { W.ready work.now }
         requires seated { AreSeated (W.meaning work.now) (W.sizes work.now) (W.file work.now) (W.tries work.now) (W.fits work.now) self.words self.seats.items }
+        ensures turns { IfOk result (λ s. HaveTurns T.valid (numbers_from 0 (length self.seats.items)) self.words self.seats.items s.0.words s.0.seats.items) }
         ensures seated { IfOk result (λ s. AreSeated (W.meaning work.now) (W.sizes work.now) (W.file work.now) (W.tries work.now) (W.fits work.now) s.0.words s.0.seats.items) }
         ensures many { IfOk result (λ s. length s.0.seats.items ≡ length self.seats.items) }
         ensures moved { IfOk result (λ s. s.1 ≡ true → events_of_all (W.left work.now) (W.most work.now) s.0.seats.items < events_of_all (W.left work.now) (W.most work.now) self.seats.items) }
@@ -103,7 +109,8 @@ impl<T: Naming, M: Drop> Stage<T, M> {
     {
         let mut stage = self;
         let mut moved = false;
-        for thread in 0..stage.seats.len() as u32 {
+        let count = stage.seats.len() as u32;
+        for thread in 0..count {
             let (next, made) = stage.turn(work, alloc, thread)?;
             stage = next;
             moved = moved || made;
@@ -119,6 +126,7 @@ impl<T: Naming, M: Drop> Stage<T, M> {
     ) -> Result<Stage<T, M>, NoMemory>
         requires ready { W.ready work.now }
         requires seated { AreSeated (W.meaning work.now) (W.sizes work.now) (W.file work.now) (W.tries work.now) (W.fits work.now) self.words self.seats.items }
+        ensures turns { IfOk result (λ s. (rounds : ℕ) × HaveTurns T.valid (round_turns (length self.seats.items) rounds) self.words self.seats.items s.words s.seats.items) }
         ensures seated { IfOk result (λ s. AreSeated (W.meaning work.now) (W.sizes work.now) (W.file work.now) (W.tries work.now) (W.fits work.now) s.words s.seats.items) }
         ensures many { IfOk result (λ s. length s.seats.items ≡ length self.seats.items) }
         ensures over { IfOk result (λ s. AreOver (length s.seats.items) s.seats.items) }

@@ -12,3 +12,8 @@ returns-clause-seated g c =
     let long : c.len.result ≡ length seats = search rules in
     opened_seated m sizes file tries c.requires.few (g.W.Attempts.fits c.args.work.now) c.in_ok-words.words seats (omega (arith, many, few))
     (c.in_ok-words.ensures ∙ λ i. opened_core (c.requires.ty.0 i) (c.requires.ty.1 i) (long i)) c.in_ok-seats.ensures.begun
+
+pub returns-clause-opened : goal.returns-clause-opened
+returns-clause-opened g c =
+    let long : c.len.result ≡ length c.in_ok-seats.seats.items = search rules in
+    c.in_ok-words.ensures ∙ λ i. opened_core (g.T.Naming.sizes c.args.ty.now) c.args.contents.now.items (long i)

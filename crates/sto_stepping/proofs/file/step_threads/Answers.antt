@@ -1,13 +1,18 @@
 use Rattle.std.specs.List.{flat_map}
-use Rattle.std.proofs.Common.{◌≡◌, ◌*◌, ◌≤◌, ℕ, List, map, length, sym, ap, ◌∙◌, subst, arith}
+use Rattle.std.proofs.Common.{◌≡◌, ◌*◌, ◌≤◌, ℕ, List, ◌++◌, map, length, sym, ap, ◌∙◌, subst, arith}
 use Rattle.sto_transact.specs.Plain.{plain}
 use Rattle.sto_transact.specs.Resting.{IsAtRest}
 use Rattle.sto_told.specs.Records.{Record, times_written}
 use Rattle.sto_told.specs.Counted.{times_committed, aborted_times}
+use Rattle.sto_core.specs.Core.{Core}
+use Rattle.sto_core.specs.Opened.{opened_core}
 use Rattle.sto_plain.specs.Passes.{view_of}
 use Rattle.sto_working.specs.Counts.{scripts_from}
 use Rattle.sto_working.specs.Worked.{HasWorked}
-use Rattle.sto_stepping.proofs.Reopened.{records_of, over_idle, over_reopened, all_records}
+use Rattle.sto_stepping.specs.Seated.{AreOver, records_of}
+use Rattle.sto_stepping.specs.Turning.{HaveTurns, entry_turns, round_turns}
+use Rattle.sto_stepping.proofs.Reopened.{over_idle, over_made, over_reopened, all_records}
+use Rattle.sto_stepping.proofs.Turns.{turns_append}
 use Rattle.sto_stepping.proofs.file.step_threads.Goals as goal
 
 pub close-requires : goal.close-requires
@@ -68,3 +73,28 @@ returns-clause-alone g c = λ one place.
     let none = k.alone passes place in
     let later = c.in_ok-run_left.ensures.none place in
     later ∙ ap (aborted_times place) whole ∙ none
+
+pub returns-clause-stepped : goal.returns-clause-stepped
+returns-clause-stepped g c =
+    let valid = g.T.Naming.valid in
+    let first = c.in_ok-stage.stage in let followed = c.in_ok-stage-2.stage in let last = c.in_ok-words.field-0 in
+    let turns = flat_map entry_turns c.args.schedule.now in
+    let rounds = c.in_ok-words.ensures.turns.0 in
+    let opened = c.in_ok-stage.ensures.opened ∙ ap (opened_core (g.T.Naming.sizes c.args.ty.now) c.args.contents.now.items) c.in_ok-stage.ensures.many in
+    let many = c.in_ok-stage-2.ensures.many in
+    let whole = ap (map plain) c.in_ok-records.ensures ∙ all_records last.seats.items in
+    record {
+      seats = first.seats.items;
+      new = c.in_ok-stage.ensures.begun;
+      rounds = rounds;
+      stepped = last.words;
+      later = last.seats.items;
+      turns =
+          subst (λ (d : Core). HaveTurns valid (turns ++ round_turns (length first.seats.items) rounds) d first.seats.items last.words last.seats.items) opened
+          (turns_append valid turns (round_turns (length first.seats.items) rounds) first.words followed.words last.words first.seats.items followed.seats.items last.seats.items c.in_ok-stage-2.ensures.turns
+          (subst (λ (n : ℕ). HaveTurns valid (round_turns n rounds) followed.words followed.seats.items last.words last.seats.items) many c.in_ok-words.ensures.turns.1));
+      over = subst (λ (n : ℕ). AreOver n last.seats.items) (c.in_ok-words.ensures.many ∙ many) c.in_ok-words.ensures.over;
+      made = over_made (g.W.Work.meaning c.args.work.now) (g.W.Work.sizes c.args.work.now) (g.W.Work.file c.args.work.now) (g.W.Work.tries c.args.work.now) (g.W.Attempts.fits c.args.work.now)
+          last.words last.seats.items c.in_ok-words.ensures.seated c.in_ok-words.ensures.over;
+      aborts = λ place. c.in_ok-run_left.ensures.none place ∙ ap (aborted_times place) whole;
+    }

@@ -27,7 +27,7 @@ returns-in-Ended-clause-seated g c =
     on_ok_weaker c.keep.result
     (λ (k : HasKept r idle c.keep.new.self). seat_kept m sizes file tries passes (g.W.Attempts.fits c.args.work.now passes) c.args.thread wi.begun (g.C.Cells.view c.step.new.cells) idle c.keep.new.self r
     seated.counted seated.each going wi.between made k.trial k)
-    (subst (λ (x : Seat g.row.M.Denot). OnOk c.keep.result (HasKept r x c.keep.new.self)) (ap (λ (x : Seat g.row.M.Denot). record x { trial = None }) c.begin.ensures.kept) c.keep.ensures)
+    (subst (λ (x : Seat g.row.M.Denot). OnOk c.keep.result (HasKept r x c.keep.new.self)) (ap (λ (x : Seat g.row.M.Denot). record x { trial = None }) c.begin.ensures.kept) c.keep.ensures.kept)
 
 pub returns-in-Ended-clause-left : goal.returns-in-Ended-clause-left
 returns-in-Ended-clause-left g c =
@@ -46,4 +46,4 @@ returns-in-Ended-clause-left g c =
     on_ok_weaker c.keep.result
     (λ (k : HasKept r idle c.keep.new.self).
     let e = kept_events (g.W.Attempts.left c.args.work.now) (g.W.Attempts.most c.args.work.now) idle c.keep.new.self r c.in-Some.trial going k k.trial some in omega (arith, e, all))
-    (subst (λ (x : Seat g.row.M.Denot). OnOk c.keep.result (HasKept r x c.keep.new.self)) (ap (λ (x : Seat g.row.M.Denot). record x { trial = None }) c.begin.ensures.kept) c.keep.ensures)
+    (subst (λ (x : Seat g.row.M.Denot). OnOk c.keep.result (HasKept r x c.keep.new.self)) (ap (λ (x : Seat g.row.M.Denot). record x { trial = None }) c.begin.ensures.kept) c.keep.ensures.kept)

@@ -1,7 +1,8 @@
 use Rattle.std.specs.Prelude.{◌⊎◌}
-use Rattle.std.proofs.Common.{◌≡◌, true, false, ◌∙◌, inl, inr}
+use Rattle.std.proofs.Common.{◌≡◌, true, false, ◌∙◌, ap, arith, length, inl, inr}
 use Rattle.sto_stepping.specs.Seated.{events_of_all}
 use Rattle.sto_stepping.proofs.Seats.{round_more}
+use Rattle.sto_stepping.proofs.Turns.{round_turn}
 use Rattle.sto_stepping.proofs.stage.Stage.round.Goals as goal
 use Rattle.sto_stepping.proofs.stage.Stage.round.Goals.{then-moved, else-moved}
 
@@ -18,7 +19,16 @@ loop-thread-preserved g c =
     record {
       seated = c.in_ok-next.ensures.seated;
       many = c.in_ok-next.ensures.many ∙ inv.many;
+      turns = round_turn g.T.Naming.valid c.loop-thread.thread c.args.self.words c.loop-thread.stage.words c.in_ok-next.next.words c.args.self.seats.items c.loop-thread.stage.seats.items c.in_ok-next.next.seats.items
+          inv.turns c.in_ok-next.ensures.turn;
       end = inv.end;
       fewer = k.0;
       rest = k.1;
     }
+
+pub returns-clause-over : goal.returns-clause-over
+returns-clause-over g c = λ still thread below s there.
+    let inv = c.loop-thread.invariant in
+    let rest = inv.rest still in
+    let many = ap (λ l. length l) rest.0 in
+    rest.1 thread (omega (arith, below, many, inv.end, c.loop-thread-test.false)) s (rw rest.0 at there)
