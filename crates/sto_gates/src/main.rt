@@ -4,12 +4,15 @@
 //! and the report names the change. In the second, one worker is held until the other has run all other script threads. A
 //! worker that had threads of its own would leave some to the one that is held. In the third, the transactions of the
 //! generated script are counted as they end. In the fourth, a transaction that may be tried once is aborted, and listed all the
-//! same; so are both where no gate holds them.
+//! same; so are both where no gate holds them. Last, the generated script is run on four workers, and each report is compared with
+//! the replay of its own order.
 #![tactic(auto)]
 
 mod gates;
+mod replays;
 
 use gates::{Ends, Middle, Others};
+use replays::{is_replay, transfers_of};
 use std::alloc::{AllocError, Global};
 use std::thread::Threads;
 use std::{io, str};
@@ -23,6 +26,11 @@ const WITH_ONE_TRY: [&str; 5] = ["run", "--threads", "2", "--tries", "1"];
 
 // How often what no gate holds is run.
 const RUNS: u32 = 200;
+
+const ON_FOUR: [&str; 3] = ["run", "--threads", "4"];
+
+// How often the generated script is run.
+const REPORTS: u32 = 100;
 
 const LOST_UPDATE: &str = "box a 0
 thread
@@ -107,6 +115,24 @@ fn complete_runs<R: Threads + Sync>(rt: &R, alloc: Global) -> Result<u32, AllocE
     Ok(complete)
 }
 
+// How many of the reports of the generated script on four workers are what its transactions do one after the other.
+fn replayed_reports<R: Threads + Sync>(rt: &R, alloc: Global) -> Result<u32, AllocError> {
+    let script = written_for(rt, alloc, &["gen", "1"], "", &NoGate)?;
+    let Some(script) = script.as_str().strip_suffix("status 0\n") else {
+        return Ok(0);
+    };
+    let transfers = transfers_of(alloc, script)?;
+    let mut replayed = 0_u32;
+    for _ in 0..REPORTS {
+        let report = written_for(rt, alloc, &ON_FOUR, script, &NoGate)?;
+        if let Some(report) = report.as_str().strip_suffix("status 0\n") {
+            let holds = is_replay(alloc, transfers.as_slice(), report)?;
+            replayed = replayed.saturating_add(u32::from(holds));
+        }
+    }
+    Ok(replayed)
+}
+
 fn main(rt: HostRuntime) -> io::Result<()> {
     let middle = Middle::new(4);
     let written = written_for(&rt, rt.alloc(), &ON_TWO, LOST_UPDATE, &middle)?;
@@ -125,5 +151,7 @@ fn main(rt: HostRuntime) -> io::Result<()> {
     print!(rt; "{written}")?;
     println!(rt; "both seen: {}", middle.has_seen_both())?;
     let complete = complete_runs(&rt, rt.alloc())?;
-    println!(rt; "{complete} of {RUNS} runs list both transactions")
+    println!(rt; "{complete} of {RUNS} runs list both transactions")?;
+    let replayed = replayed_reports(&rt, rt.alloc())?;
+    println!(rt; "{replayed} of {REPORTS} reports are their replays")
 }
