@@ -16,6 +16,7 @@ use Rattle.clap.proofs.WalkLemmas.{first_value-rows}
 use Rattle.clap.proofs.OnLiterals.{clap_on_literals}
 use Rattle.sto_words.specs.Given.{Text, Takes, Given, number_name, is_option, value_of, given_by, is_refused}
 use Rattle.sto_words.specs.Commands.{run_takes, step_takes, gen_takes, bench_takes}
+use Rattle.sto_words.specs.Asked.{check_takes, feed_takes}
 use Rattle.sto_words.specs.Grammars.{Finds, app_for}
 use Rattle.sto_words.proofs.Rows.{valued, row}
 use Rattle.sto_words.proofs.Walks.{AreRules, Agrees, between, faults_after, number_built, number_if, option_built, reads, rows_after, shape_with}
@@ -268,3 +269,21 @@ bench_is_built = is_built (codes "bench") bench_takes refl refl (λ rows. refl)
 pub bench_is_simple : is_simple_and_free (app_for (codes "bench") bench_takes) ≡ true
 unfolding clap_on_literals
 bench_is_simple = refl
+
+-- ---- what the checker and the feed are asked
+
+pub check_is_built : IsBuilt (codes "check") check_takes
+unfolding clap_on_literals
+check_is_built = is_built (codes "check") check_takes refl refl (λ rows. refl)
+
+pub check_is_simple : is_simple_and_free (app_for (codes "check") check_takes) ≡ true
+unfolding clap_on_literals
+check_is_simple = refl
+
+pub feed_is_built : IsBuilt (codes "feed") feed_takes
+unfolding clap_on_literals
+feed_is_built = is_built (codes "feed") feed_takes refl refl (λ rows. refl)
+
+pub feed_is_simple : is_simple_and_free (app_for (codes "feed") feed_takes) ≡ true
+unfolding clap_on_literals
+feed_is_simple = refl

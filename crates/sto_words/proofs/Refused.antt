@@ -34,6 +34,9 @@ refused_given t (word ∷ words) r e = go (is_refused word) refl (refused_given 
     go true f rest = ap (option_and_then (given_after t words)) (refused_here t r.given word r.waiting f)
     go false f rest = later (after_word t r.given word r.waiting) (λ x. rest x (sym (ap (λ b. b || list_any is_refused words) f) ∙ e))
 
+pub words_refused : (t : Takes) (words : List Text) → list_any is_refused words ≡ true → given_by t words ≡ None
+words_refused t words e = refused_given t words (record { given = []; waiting = None }) e
+
 abbrev command_by : Bool → Bool → Bool → Bool → Bool → Option Given → Option Given → Option Command → Option Given → Option Given → Option Command
 command_by is_run is_step is_upgrade is_gen is_bench run step upgrade gen bench =
     if is_run then option_and_then run_of run else (if is_step then option_and_then step_of step else (if is_upgrade then upgrade
@@ -58,7 +61,7 @@ command_refused word words e =
     let is_upgrade = bytes_eq word (codes "upgrade") in
     let is_gen = bytes_eq word (codes "gen") in
     let is_bench = bytes_eq word (codes "bench") in
-    let none : (t : Takes) → None ≡ given_by t words = λ t. sym (refused_given t words (record { given = []; waiting = None }) e) in
+    let none : (t : Takes) → None ≡ given_by t words = λ t. sym (words_refused t words e) in
     no_command is_run is_step is_upgrade is_gen is_bench
     ∙ (λ i. command_by is_run is_step is_upgrade is_gen is_bench (none run_takes i) (none step_takes i) (no_upgrade words e i) (none gen_takes i) (none bench_takes i))
 

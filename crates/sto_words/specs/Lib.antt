@@ -1,3 +1,4 @@
 pub mod Given
 pub mod Commands
 pub mod Grammars
+pub mod Asked

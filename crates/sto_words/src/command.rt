@@ -41,7 +41,8 @@ pub enum Command {
     },
 }
 
-fn threads(text: Option<&str>) -> Option<Option<u32>>
+/// The threads that an option gives, none where it is not given.
+pub(crate) fn threads(text: Option<&str>) -> Option<Option<u32>>
     ensures threads { result ≡ threads_of (option_map (λ t. t.now) text.entry) }
     ensures range { IfSome result HasThreads }
 {
@@ -58,7 +59,8 @@ fn is_given(text: Option<&str>) -> bool
     text.is_some()
 }
 
-fn tries(text: Option<&str>) -> Option<u32>
+/// The tries that an option gives, 64 where it is not given.
+pub(crate) fn tries(text: Option<&str>) -> Option<u32>
     ensures tries { result ≡ tries_of (option_map (λ t. t.now) text.entry) }
     ensures range { IfSome result (λ n. (1 ≤ n) × (n ≤ 64)) }
 {

@@ -2,6 +2,7 @@
 ghost use Rattle.std.specs.Prelude.{◌≡◌, IfOk, map, true, codes};
 ghost use Rattle.clap.specs.Words.{app_of, is_simple_and_free};
 ghost use Rattle.clap.specs.Simple.{with_rule};
+ghost use Rattle.sto_words.specs.Asked.{check_takes, feed_takes};
 ghost use Rattle.sto_words.specs.Commands.{run_takes, step_takes, gen_takes, bench_takes};
 ghost use Rattle.sto_words.specs.Grammars.{Finds, app_for, option_rule, nothing};
 
@@ -61,6 +62,21 @@ pub(crate) fn bench_grammar<'a>(alloc: Global) -> Result<Command<'a>, AllocError
 {
     let first = with_option(alloc, bare(alloc, "bench"), "threads")?;
     first.arg(Arg::new(alloc, "NUMBER"))
+}
+
+/// `[--tries N]`
+pub(crate) fn check_grammar<'a>(alloc: Global) -> Result<Command<'a>, AllocError>
+    ensures { IfOk result (λ c. app_of c ≡ app_for (codes "check") check_takes) }
+{
+    with_option(alloc, bare(alloc, "check"), "tries")
+}
+
+/// `[--threads N] [--tries N]`
+pub(crate) fn feed_grammar<'a>(alloc: Global) -> Result<Command<'a>, AllocError>
+    ensures { IfOk result (λ c. app_of c ≡ app_for (codes "feed") feed_takes) }
+{
+    let first = with_option(alloc, bare(alloc, "feed"), "threads")?;
+    with_option(alloc, first, "tries")
 }
 
 /// What the words give the command, where it takes them.

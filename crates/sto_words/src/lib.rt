@@ -1,9 +1,11 @@
-//! The words after the program's name: their grammar, and the command that they are.
+//! The words after the program's name: their grammar, and the command that they are; what the words of the checker of reports and of the feed ask.
 #![tactic(auto)]
 
+mod asked;
 mod command;
 mod grammar;
 mod number;
 mod word;
 
+pub use asked::{Checking, Feeding, find_checking, find_feeding};
 pub use command::{Command, find_command};

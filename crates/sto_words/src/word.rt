@@ -57,3 +57,16 @@ pub(crate) fn as_options<'a>(alloc: Global, words: &'a [String]) -> Result<Vec<&
     }
     Ok(options)
 }
+
+/// The words as texts.
+pub(crate) fn texts_of<'a>(alloc: Global, words: &'a [String]) -> Result<Vec<&'a str>, NoMemory>
+    ensures { IfOk result (λ texts. map (λ text. text.now) texts.items ≡ map (λ word. string_bytes word) words.entry.now) }
+{
+    let mut texts = Vec::new(alloc);
+    for word in words {
+        if texts.push(word.as_str()).is_err() {
+            return Err(NoMemory);
+        }
+    }
+    Ok(texts)
+}
