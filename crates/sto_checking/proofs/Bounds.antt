@@ -16,7 +16,7 @@ use Rattle.sto_lawful.specs.declared.ending.Ending.{Ending}
 use Rattle.sto_lawful.specs.declared.ending.Ending.TheVariants as endings
 use Rattle.sto_serial.proofs.Sound.{sound_runnable}
 use Rattle.sto_checking.specs.Reading.{IsSmallCause, IsSmall}
-use Rattle.sto_checking.specs.Right.{IsCauseOf, IsRightAbort}
+use Rattle.sto_checking.specs.Right.{IsCauseOf, IsRightAlone}
 use Rattle.sto_checking.specs.Written.{written_of}
 use Rattle.sto_checking.proofs.Kept.{is_inside, length-written}
 use Rattle.sto_checking.proofs.Declared.{few_parts}
@@ -95,8 +95,8 @@ seen_few f order place s k whole at h =
     (let b = bounded f 0 (opening_state f) order place k there h in omega (arith, b))
 
 -- all numbers of a right abort line are of 32 bits
-pub right_small : (f : File) (tries : ℕ) (order : List Place) (before : List Abort) (a : Abort) → IsSound f → IsOrder f order → length order < 2 ^ 32 → IsRightAbort f tries order before a → IsSmall a
-right_small f tries order before a sound whole few r = record {
+pub right_small : (f : File) (order : List Place) (a : Abort) → IsSound f → IsOrder f order → length order < 2 ^ 32 → IsRightAlone f order a → IsSmall a
+right_small f order a sound whole few r = record {
   position =
       let i = is_inside f a.place r.script r.transaction in
       let l = i.last in

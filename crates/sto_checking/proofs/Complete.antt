@@ -199,3 +199,15 @@ begun_more file order place begun next t = by (place.0 == t) refl
     by false e =
         let same : positions_of t (order ++ place ∷ []) ≡ positions_of t order = positions_of-more t order place ∙ ap (λ (b : Bool). positions_of t order ++ cond b (place.1 ∷ []) []) e ∙ append-nil (positions_of t order) in
         subst (λ (ps : List ℕ). (ps ≡ numbers_from 1 (length ps)) × (length ps ≤ count_in file.threads t)) (sym same) (begun t)
+
+-- an order of the file has as many transactions as the file
+pub order_count : (file : File) (order : List Place) → IsOrder file order → AreInside file order → length order ≡ transaction_count file.threads
+unfolding counts
+order_count file order whole inside =
+    order_sum (length file.threads) order (inside_below file order inside)
+    ∙ sums_same (λ t. length (positions_of t order)) (counts file.threads) (length file.threads) (λ t. ap length (whole t) ∙ long 1 (count_in file.threads t))
+    ∙ sym (file_sum file.threads)
+  where
+    long : (first n : ℕ) → length (numbers_from first n) ≡ n
+    long first zero = refl
+    long first (suc n) = ap suc (long (suc first) n)

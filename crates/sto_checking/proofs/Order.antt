@@ -69,7 +69,7 @@ differs x p q (inl h) (inr k) = let e = k.0 in grind (arith, nat_tests)
 differs x p q (inr h) (inl k) = let e = h.0 in grind (arith, nat_tests)
 differs x p q (inr h) (inr k) = let e = h.0 in let f = k.0 in let l = h.1 in let m = k.1 in grind (arith, nat_tests)
 
-count_cons : (x : Abort) (xs : List Abort) (q : Place) → count_at q (x ∷ xs) ≡ count_at q xs + cond ((x.place.0 == q.0) && (x.place.1 == q.1)) 1 0
+pub count_cons : (x : Abort) (xs : List Abort) (q : Place) → count_at q (x ∷ xs) ≡ count_at q xs + cond ((x.place.0 == q.0) && (x.place.1 == q.1)) 1 0
 count_cons x xs q = omega (arith, sum_by-cons (λ (a : Abort). cond ((a.place.0 == q.0) && (a.place.1 == q.1)) 1 0) x xs)
 
 -- none is of a place behind all of them
@@ -81,7 +81,7 @@ none_at (x ∷ xs) p q h k =
     let cons = count_cons x xs q in
     omega (arith, here, more, cons)
 
-count_more : (xs : List Abort) (a : Abort) (q : Place) → count_at q (xs ++ a ∷ []) ≡ count_at q xs + count_at q (a ∷ [])
+pub count_more : (xs : List Abort) (a : Abort) (q : Place) → count_at q (xs ++ a ∷ []) ≡ count_at q xs + count_at q (a ∷ [])
 count_more [] a q = omega arith
 count_more (x ∷ xs) a q =
     let h = count_more xs a q in

@@ -2,6 +2,7 @@ pub mod Lines
 pub mod Written
 pub mod Right
 pub mod Answer
+pub mod Exact
 pub mod Tentative
 pub mod Reading
 pub mod Past

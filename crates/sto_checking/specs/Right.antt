@@ -48,21 +48,29 @@ pub record IsJournalLine (file : File) (order : List Place) (line : List ℕ) : 
   pub next : IsNext file order place
   pub text : line ≡ line_text file.names (entry_after file order place)
 
+-- the writer with a number, from 1, wrote the object, by what each writer wrote
+pub record WroteAt (written : List (List ℕ)) (by object : ℕ) : Type 0 where
+  pub objects : List ℕ
+  pub writer : slice_get written (by - 1) ≡ Some objects
+  pub wrote : Contains objects object
+
+-- the writer run with a number has a call that wrote the object
+abbrev pub HasWritten : File → List Place → ℕ → ℕ → Type 0
+HasWritten file order by object = WroteAt (written_of file order) by object
+
 -- the writer is a later one that the transaction comes after, and one of its calls wrote the object
 pub record IsWrittenBy (file : File) (order : List Place) (place : Place) (seen object by : ℕ) : Type 0 where
-  pub objects : List ℕ
   pub later : seen < by
   pub earlier : IsBefore (entries_of file order) place by
-  pub writer : slice_get (written_of file order) (by - 1) ≡ Some objects
-  pub wrote : Contains objects object
+  pub written : HasWritten file order by object
 
 -- what the cause says of a writer
 abbrev pub IsCauseOf : File → List Place → Abort → Declaration → Cause → Type 0
 IsCauseOf file order abort d (Locked part) = Unit {0}
 IsCauseOf file order abort d (Changed part by) = IsWrittenBy file order abort.place abort.seen d.number by
 
--- the aborted attempt is lawful after those before it, but that the object that its cause names stands for the part
-pub record IsRightAbort (file : File) (tries : ℕ) (order : List Place) (before : List Abort) (abort : Abort) : Type 0 where
+-- the aborted attempt is lawful by itself, but that the object that its cause names stands for the part
+pub record IsRightAlone (file : File) (order : List Place) (abort : Abort) : Type 0 where
   pub script : Script
   pub object : Declaration
   pub transaction : transaction_at file abort.place ≡ Some script
@@ -71,6 +79,10 @@ pub record IsRightAbort (file : File) (tries : ℕ) (order : List Place) (before
   pub earlier : IsBefore (entries_of file order) abort.place abort.seen
   pub part : IsPartAsked file script abort.replies (part_in abort.cause) object
   pub cause : IsCauseOf file order abort object abort.cause
+
+-- and so it is after those before it: its transaction has not more than the tries, and they stand in their order
+pub record IsRightAbort (file : File) (tries : ℕ) (order : List Place) (before : List Abort) (abort : Abort) : Type 0 where
+  pub alone : IsRightAlone file order abort
   pub few : count_at abort.place (before ++ abort ∷ []) ≤ tries
   pub sorted : IsSorted (before ++ abort ∷ [])
 

@@ -9,7 +9,7 @@ use crate::transaction::Transaction;
 
 /// The last abort line: its transaction, how many writers it saw, and how many lines of that transaction there are up to it.
 #[derive(Clone, Copy)]
-pub(crate) struct LastAbort {
+pub struct LastAbort {
     at: Transaction,
     seen: u32,
     count: u32,
@@ -39,7 +39,7 @@ fn is_earlier(one: Transaction, other: Transaction) -> bool
 
 /// The last line with one more, where that may follow: in the order of threads, positions and writers that were seen, and with
 /// no more lines of one transaction than the tries.
-pub(crate) fn followed_by(
+pub fn followed_by(
     last: Option<LastAbort>,
     at: Transaction,
     seen: u32,

@@ -7,13 +7,14 @@
 //! | `Right` | when a line is right: one of the journal, one of an aborted attempt, or one of an object |
 //! | `Answer` | when a report is lawful, and else the line with which it goes wrong |
 //! | `Written` | which objects each writer wrote |
+//!
+//! The code reads lines and what they tell, one at a time. Whole reports are judged by the crate above.
 #![tactic(auto)]
 
 mod found;
 mod last;
 mod past;
 mod reader;
-mod shown;
 mod tentative;
 mod told;
 mod transaction;
@@ -21,3 +22,11 @@ mod walk;
 mod word;
 
 pub use found::Found;
+pub use last::{LastAbort, followed_by};
+pub use past::{Past, add_objects, is_line};
+pub use reader::{GivenLine, Reader};
+pub use tentative::replies_of;
+pub use told::{ToldAbort, ToldCause, heard_in};
+pub use transaction::{Transaction, journal_transaction, transaction_in};
+pub use walk::{has_asked, objects_written};
+pub use word::{first_piece, number};

@@ -31,14 +31,19 @@ use sto_serial::Progress;
 /// The replay of the transactions that the journal lines name, how many of each thread there are, and which objects each
 /// writer wrote.
 #[derive(Drop)]
-pub(crate) struct Past {
-    pub(crate) run: Progress,
-    pub(crate) done: List<u32>,
-    pub(crate) written: List<List<u32>>,
+pub struct Past {
+    pub run: Progress,
+    pub done: List<u32>,
+    pub written: List<List<u32>>,
 }
 
 /// Whether bytes are the text of a journal line.
-fn is_line(alloc: Global, threads: &[Thread], line: &Line, bytes: &[u8]) -> Result<bool, NoMemory>
+pub fn is_line(
+    alloc: Global,
+    threads: &[Thread],
+    line: &Line,
+    bytes: &[u8],
+) -> Result<bool, NoMemory>
     requires { line.now.thread < length threads.now }
     ensures { IfOk result (λ yes. IsTrue yes ↔ (bytes.now ≡ line_text (names_of threads.now) (entry line.now))) }
 {
@@ -59,7 +64,7 @@ fn objects_of(alloc: Global, script: &Script, line: &Line) -> Result<List<u32>, 
 }
 
 /// Adds the objects that the transaction of a line wrote, where it is a writer.
-fn add_objects(
+pub fn add_objects(
     alloc: Global,
     script: &Script,
     line: &Line,
@@ -81,7 +86,7 @@ fn add_objects(
 
 impl Past {
     /// Nothing was told.
-    pub(crate) fn opening(alloc: Global, file: &File, shapes: &Shapes) -> Result<Past, NoMemory>
+    pub fn opening(alloc: Global, file: &File, shapes: &Shapes) -> Result<Past, NoMemory>
         requires { shapes.now.items ≡ shapes_of (view file.now).declarations }
         ensures past { IfOk result (λ past. IsPast (view file.now) past) }
         ensures none { IfOk result (λ past. past.run.lines.items ≡ []) }
@@ -93,8 +98,8 @@ impl Past {
         })
     }
 
-    // Whether the transaction, which the file has, is the next one of its thread.
-    fn is_next(&self, file: &File, at: Transaction) -> bool
+    /// Whether a transaction of a thread of the file is the next one of it.
+    pub fn is_next(&self, file: &File, at: Transaction) -> bool
         requires past { IsPast (view file.now) self.now }
         requires inside { at.thread < length (view file.now).threads }
         ensures { IsTrue result ↔ (at.position ≡ suc (length (positions_of at.thread (places self.now.run.lines.items)))) }

@@ -4,17 +4,17 @@ ghost use Rattle.sto_checking.specs.Lines.{lines_of, HasContent};
 
 /// A line with its line feed, and without it.
 #[derive(Clone, Copy)]
-pub(crate) struct GivenLine<'a> {
-    pub(crate) text: &'a [u8],
-    pub(crate) content: &'a [u8],
+pub struct GivenLine<'a> {
+    pub text: &'a [u8],
+    pub content: &'a [u8],
 }
 
 /// The lines of a report that were read, and the bytes that are left.
 #[derive(Drop)]
-pub(crate) struct Reader<'a> {
-    pub(crate) bytes: &'a [u8],
+pub struct Reader<'a> {
+    pub bytes: &'a [u8],
     rest: &'a [u8],
-    pub(crate) read: u32,
+    pub read: u32,
     ghost few: { length bytes.now + 1 < 2 ^ 32 },
     ghost left: { lines_of rest.now ≡ drop read (lines_of bytes.now) },
     ghost within: { read ≤ length (lines_of bytes.now) },
@@ -23,7 +23,7 @@ pub(crate) struct Reader<'a> {
 #[tactic(auto, using(crate::proofs::Lines::few_lines, crate::proofs::Lines::left_none, crate::proofs::Lines::left_next, crate::proofs::Lines::left_more, crate::proofs::Lines::left_within))]
 impl<'a> Reader<'a> {
     /// A report of which nothing was read.
-    pub(crate) fn new(bytes: &'a [u8]) -> Reader<'a>
+    pub fn new(bytes: &'a [u8]) -> Reader<'a>
         requires { length bytes.now + 1 < 2 ^ 32 }
         ensures bytes { result.bytes.now ≡ bytes.entry.now }
         ensures read { result.read ≡ 0 }
@@ -36,14 +36,14 @@ impl<'a> Reader<'a> {
     }
 
     /// The number of the next line, from 1.
-    pub(crate) fn number(&self) -> u32
+    pub fn number(&self) -> u32
         ensures { result ≡ self.now.read + 1 }
     {
         self.read + 1
     }
 
-    /// Reads the next line.
-    pub(crate) fn next_line(&mut self) -> Option<GivenLine<'a>>
+    /// Reads the next line, also one without its line feed; there is none exactly where all lines were read.
+    pub fn next_line(&mut self) -> Option<GivenLine<'a>>
         ensures same { self.new.bytes.now ≡ self.old.bytes.now }
         ensures line { MatchOption result ((length (lines_of self.old.bytes.now) ≡ self.old.read) × (self.new.read ≡ self.old.read)) (λ line. (slice_get (lines_of self.old.bytes.now) self.old.read ≡ Some line.text.now) × HasContent line.text.now line.content.now × (self.new.read ≡ self.old.read + 1)) }
     {

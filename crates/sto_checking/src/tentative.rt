@@ -49,7 +49,7 @@ impl<B: Body> Body for Tentative<B> {
 }
 
 /// What a body hears from a state, which stays as it is.
-pub(crate) fn replies_of<B: Body + Drop>(
+pub fn replies_of<B: Body + Drop>(
     alloc: Global,
     body: B,
     shapes: &Shapes,

@@ -13,19 +13,19 @@ use sto_lang::Thread;
 
 /// The part that a cause names, and the writer, where one changed it.
 #[derive(Clone, Copy)]
-pub(crate) struct ToldCause<'a> {
-    pub(crate) object: &'a [u8],
-    pub(crate) part: u32,
-    pub(crate) by: Option<u32>,
+pub struct ToldCause<'a> {
+    pub object: &'a [u8],
+    pub part: u32,
+    pub by: Option<u32>,
 }
 
 /// An aborted attempt: its transaction, how many writers it saw, how many replies it heard, and the cause.
 #[derive(Clone, Copy)]
-pub(crate) struct ToldAbort<'a> {
-    pub(crate) place: Transaction,
-    pub(crate) seen: u32,
-    pub(crate) heard: u32,
-    pub(crate) cause: ToldCause<'a>,
+pub struct ToldAbort<'a> {
+    pub place: Transaction,
+    pub seen: u32,
+    pub heard: u32,
+    pub cause: ToldCause<'a>,
 }
 
 // What stands after `locked`.
@@ -65,8 +65,10 @@ fn changed_in(words: &[u8]) -> Option<ToldCause<'_>>
     })
 }
 
-// How many replies stand before the word of a cause, and the cause.
-fn heard_in(words: &[u8]) -> Option<(u32, ToldCause<'_>)>
+/// How many replies stand before the word of a cause, and the cause, where its numbers are below 2^32.
+///
+/// It is asked of the words of an abort line behind `saw`. The replies themselves are not read.
+pub fn heard_in(words: &[u8]) -> Option<(u32, ToldCause<'_>)>
     requires { length words.now < 2 ^ 32 }
     ensures { (h : Heard) → heard_in (slice_split is_space words.now) ≡ Some h → IsSmallCause h.cause → IsHeardRead h result }
 {

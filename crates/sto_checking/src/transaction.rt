@@ -11,9 +11,9 @@ use sto_lang::Thread;
 
 /// A transaction: the number of its thread, from 0, and its position, from 1.
 #[derive(Clone, Copy, PartialEq, Eq, Debug)]
-pub(crate) struct Transaction {
-    pub(crate) thread: u32,
-    pub(crate) position: u32,
+pub struct Transaction {
+    pub thread: u32,
+    pub position: u32,
 }
 
 // Where the thread with a name stands.
@@ -33,8 +33,8 @@ fn place_named(threads: &[Thread], name: &[u8]) -> Option<usize>
     thread_named(threads, name)
 }
 
-/// The transaction that a word `NAME.J` names.
-pub(crate) fn transaction_in(threads: &[Thread], word: &[u8]) -> Option<Transaction>
+/// The transaction that a word `NAME.J` names, where J is below 2^32.
+pub fn transaction_in(threads: &[Thread], word: &[u8]) -> Option<Transaction>
     requires { length threads.now < 2 ^ 32 }
     ensures { IsReadAs (place_of_pieces (names_of threads.now) (slice_split is_dot word.now)) result }
 {
@@ -60,8 +60,8 @@ fn begins_with_digit(word: &[u8]) -> bool
     }
 }
 
-/// The transaction that a journal line names by its second word.
-pub(crate) fn journal_transaction(threads: &[Thread], content: &[u8]) -> Option<Transaction>
+/// The transaction that a journal line names by its second word, where the position is below 2^32.
+pub fn journal_transaction(threads: &[Thread], content: &[u8]) -> Option<Transaction>
     requires { length threads.now < 2 ^ 32 }
     ensures { IsReadAs (named_in (names_of threads.now) (slice_split is_space content.now)) result }
 {

@@ -9,8 +9,8 @@ use std::alloc::Global;
 use sto_model::{Body, Next, Reply, writes};
 use sto_part::{List, NoMemory};
 
-/// The objects of the calls that wrote something.
-pub(crate) fn objects_written<B: Body>(
+/// The objects of the calls that wrote something, where a body hears these replies from its beginning.
+pub fn objects_written<B: Body>(
     alloc: Global,
     body: &mut B,
     replies: &[Reply],
@@ -32,8 +32,8 @@ pub(crate) fn objects_written<B: Body>(
     Ok(objects)
 }
 
-/// Whether one of these calls, or the one that is asked next, is one on an object.
-pub(crate) fn has_asked<B: Body>(body: &mut B, replies: &[Reply], object: u32) -> bool
+/// Whether one of the calls that these replies answer, or the one that is asked next, is one on an object.
+pub fn has_asked<B: Body>(body: &mut B, replies: &[Reply], object: u32) -> bool
     requires { AreHeard (B.script body.old) (map told replies.now) }
     ensures { IsTrue result ↔ HasAsked object (B.script body.old) (map told replies.now) }
 {

@@ -12,7 +12,7 @@ fn place_of(bytes: &[u8], at: u8) -> Option<usize>
 }
 
 /// What stands before the first byte of a kind, and after it.
-pub(crate) fn first_piece(bytes: &[u8], at: u8) -> (&[u8], Option<&[u8]>)
+pub fn first_piece(bytes: &[u8], at: u8) -> (&[u8], Option<&[u8]>)
     ensures pieces { MatchOption result.1 (slice_split (λ b. b == at) bytes.now ≡ result.0.now ∷ []) (λ rest. slice_split (λ b. b == at) bytes.now ≡ result.0.now ∷ slice_split (λ b. b == at) rest.now) }
     ensures less { IfSome result.1 (λ rest. length rest.now < length bytes.now) }
 {
@@ -48,7 +48,7 @@ fn with_digit(value: u32, byte: u8) -> Option<u32>
 
 /// The number that a word writes, where it is below 2^32.
 #[tactic(auto, using(crate::proofs::Digits::one_digit, crate::proofs::Digits::too_many))]
-pub(crate) fn number(word: &[u8]) -> Option<u32>
+pub fn number(word: &[u8]) -> Option<u32>
     ensures { MatchOption result (2 ^ 32 ≤ digits_value 10 word.now) (λ n. digits_value 10 word.now ≡ n) }
 {
     let mut value: u32 = 0;
