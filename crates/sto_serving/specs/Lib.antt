@@ -1,0 +1,4 @@
+pub mod Orders
+pub mod Jobs
+pub mod Passes
+pub mod Served
