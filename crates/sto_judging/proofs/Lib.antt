@@ -1,0 +1,17 @@
+pub mod Lists
+pub mod Windows
+pub mod Taken
+pub mod Judged
+pub mod Hearing
+pub mod Named
+pub mod Walk
+pub mod Gathering
+pub mod Unheard
+pub mod Only
+pub mod Sound
+pub mod Splitting
+pub mod Texts
+pub mod Lawful
+pub mod Givens
+pub mod Replays
+pub mod ObjectLines

@@ -1,0 +1,5 @@
+pub mod Windows
+pub mod Replayed
+pub mod Given
+pub mod Gathered
+pub mod Seen
