@@ -24,7 +24,7 @@ mod word;
 pub use found::Found;
 pub use last::{LastAbort, followed_by};
 pub use past::{Past, add_objects, is_line};
-pub use reader::{GivenLine, Reader};
+pub use reader::{GivenLine, Reader, first_line};
 pub use tentative::replies_of;
 pub use told::{ToldAbort, ToldCause, heard_in};
 pub use transaction::{Transaction, journal_transaction, transaction_in};

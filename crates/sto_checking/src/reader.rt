@@ -62,7 +62,7 @@ fn line_feed(bytes: &[u8]) -> Option<usize>
 }
 
 /// The first line, and what follows it.
-pub(crate) fn first_line(bytes: &[u8]) -> Option<(GivenLine<'_>, &[u8])>
+pub fn first_line(bytes: &[u8]) -> Option<(GivenLine<'_>, &[u8])>
     ensures found { MatchOption result (lines_of bytes.now ≡ []) (λ found. (lines_of bytes.now ≡ found.0.text.now ∷ lines_of found.1.now) × HasContent found.0.text.now found.0.content.now) }
     ensures less { IfSome result (λ found. length found.1.now < length bytes.now) }
 {

@@ -1,0 +1,22 @@
+//! The program `sto_check`: checks reports of scripts of transactions.
+#![tactic(auto)]
+
+use std::process::ExitCode;
+use sto_check_cli::{StdSink, StdSource, check, refuse_words, words_of};
+
+fn main(rt: HostRuntime) -> ExitCode {
+    let mut diag = StdSink::error(&rt);
+    let words = match words_of(&rt) {
+        Ok(words) => words,
+        Err(fault) => return ExitCode::from(refuse_words(rt.alloc(), fault, &mut diag)),
+    };
+    let mut source = StdSource::new(&rt);
+    let mut out = StdSink::output(&rt);
+    ExitCode::from(check(
+        rt.alloc(),
+        words.as_slice(),
+        &mut source,
+        &mut out,
+        &mut diag,
+    ))
+}

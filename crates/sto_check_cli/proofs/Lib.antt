@@ -1,0 +1,3 @@
+pub mod Dividing
+pub mod Faults
+pub mod Endings

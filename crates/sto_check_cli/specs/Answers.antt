@@ -1,0 +1,46 @@
+-- What is said of a report, and why nothing is.
+use Rattle.std.specs.Prelude.{◌≡◌, ℕ, List, Ok, Err}
+use Rattle.sto_lang.specs.Scripts.{File}
+use Rattle.sto_lang.specs.Files.{file_of}
+use Rattle.sto_lawful.specs.Updated.{Updating}
+use Rattle.sto_lawful.specs.Lawful.{IsLawful}
+use Rattle.sto_checking.specs.declared.found.Found.{Found}
+use Rattle.sto_checking.specs.declared.found.Found.TheVariants.{Lawful}
+use Rattle.sto_checking.specs.Answer.{IsFound}
+use Rattle.sto_checking.specs.Exact.{IsRightReport, UpdatesWritten}
+use Rattle.sto_check_cli.specs.Inputs.{Input, input_of}
+use Rattle.sto_check_cli.specs.Inputs as inputs
+use Rattle.sto_check_cli.specs.declared.refusal.Refusal.{Refusal}
+use Rattle.sto_check_cli.specs.declared.refusal.Refusal.TheVariants.{Usage, Script, NoReport, ReadFault, WriteFault, NoMemory}
+
+-- the answer for a report, which no other is; each text that is lawful by what some types say of updates is found so, where
+-- these update only objects that were written; and what is found so is the report of an order of the file
+pub record IsJudged (file : File) (tries : ℕ) (report : List ℕ) (found : Found) : Type 0 where
+  pub is : IsFound file tries report found
+  pub only : (other : Found) → IsFound file tries report other → other ≡ found
+  pub complete : (u : Updating) → UpdatesWritten u file → IsLawful u file tries report → found ≡ Lawful
+  pub right : found ≡ Lawful → IsRightReport file tries report
+
+-- the same of the report in what was read
+pub record IsFoundIn (tries : ℕ) (bytes : List ℕ) (found : Found) : Type 0 where
+  pub input : Input
+  pub reads : input_of bytes ≡ Ok input
+  pub judged : IsJudged input.file tries input.report found
+
+-- why bytes are no file: the fault that is told is theirs; want of memory may come at any time
+abbrev pub IsFileFault : Refusal → List ℕ → Type 0
+IsFileFault (Script fault) script = file_of script ≡ Err fault
+IsFileFault NoMemory script = Unit {0}
+IsFileFault NoReport script = ⊥
+IsFileFault Usage script = ⊥
+IsFileFault ReadFault script = ⊥
+IsFileFault WriteFault script = ⊥
+
+-- the same of what was read
+abbrev pub IsInputFault : Refusal → List ℕ → Type 0
+IsInputFault (Script fault) bytes = input_of bytes ≡ Err (inputs.Script fault)
+IsInputFault NoReport bytes = input_of bytes ≡ Err inputs.NoReport
+IsInputFault NoMemory bytes = Unit {0}
+IsInputFault Usage bytes = ⊥
+IsInputFault ReadFault bytes = ⊥
+IsInputFault WriteFault bytes = ⊥

@@ -1,0 +1,5 @@
+pub mod Inputs
+pub mod Answers
+pub mod Ends
+pub mod Statuses
+pub mod Words

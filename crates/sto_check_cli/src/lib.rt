@@ -1,0 +1,15 @@
+//! The program that checks reports: its words, its source and its sinks, and all that a call of it does.
+#![tactic(auto)]
+
+mod divide;
+mod judge;
+mod refusal;
+mod say;
+mod top;
+mod work;
+
+pub use sto_ending::{WordsFault, words_of};
+pub use sto_io::{
+    Failed, MemSink, MemSource, QuietSink, QuietSource, Sink, Source, StdSink, StdSource,
+};
+pub use top::{check, refuse_words};

@@ -1,0 +1,90 @@
+//! The top call.
+ghost use Rattle.std.specs.Prelude.{◌≡◌, ◌≢◌, ◌⊎◌, None, Ok, Err};
+ghost use Rattle.sto_io.specs.Told.{Rose};
+ghost use Rattle.sto_ending.specs.Said.{Says};
+ghost use Rattle.sto_words.specs.Asked.{checking_in};
+ghost use Rattle.sto_checking.specs.declared.found.Found.TheVariants as found;
+ghost use Rattle.sto_check_cli.specs.Inputs.{InputFault};
+ghost use Rattle.sto_check_cli.specs.Ends.{Ends};
+ghost use Rattle.sto_check_cli.specs.Words.{refusal_of};
+ghost use Rattle.sto_check_cli.specs.Statuses.{status_of, line_of, EndsWith, IsDone, IsWrong, IsFaulty, IsStopped, IsFaultless, IsToldFault, IsToldFound};
+
+use crate::refusal::Refusal;
+use crate::say::say;
+use crate::work::perform;
+use std::alloc::Global;
+use sto_ending::WordsFault;
+use sto_io::{Sink, Source};
+use sto_judging::Found;
+
+fn status(outcome: Result<Found, Refusal>) -> u8
+    ensures { result ≡ status_of outcome }
+{
+    match outcome {
+        Ok(Found::Lawful) => 0,
+        Ok(Found::Not { .. }) => 1,
+        Err(Refusal::Usage) => 2,
+        Err(Refusal::Script(_) | Refusal::NoReport) => 3,
+        Err(Refusal::ReadFault) => 4,
+        Err(Refusal::WriteFault) => 5,
+        Err(Refusal::NoMemory) => 6,
+    }
+}
+
+/// All that the program does with the words after its name: it reads a script, a line `report` and a report in the form of
+/// text, and prints whether the report is lawful for the script and the tries, or else the first line that is not right. It
+/// gives the exit status.
+///
+/// | Status | When | `out` gains | `diag` gains |
+/// |---|---|---|---|
+/// | 0 | the report is lawful | `lawful` | nothing |
+/// | 1 | it goes wrong at line N | `line N` | nothing |
+/// | 2 | the words are not in the grammar | nothing | `sto: usage` |
+/// | 3 | the bytes that were read are too many, have no line `report`, or have a fault before it | nothing | `sto: line L: KIND` |
+/// | 4 | the source failed | nothing | `sto: read fault` |
+/// | 5 | `out` failed | a front of its line | `sto: write fault` |
+/// | 6 | memory could not be had | nothing | `sto: out of memory` |
+pub fn check<S: Source, K: Sink, E: Sink>(
+    alloc: Global,
+    words: &[String],
+    source: &mut S,
+    out: &mut K,
+    diag: &mut E,
+) -> u8
+    // One outcome has this status and these effects, and its line is written beside.
+    ensures ends { EndsWith result (λ outcome.
+        Ends outcome (checking_in words.now) (S.left source.old) (S.left source.new) (K.held out.old) (K.held out.new)
+        × Says (line_of outcome) (E.held diag.old) (E.held diag.new) (E.faults diag.old) (E.faults diag.new)) }
+    ensures lawful { result ≡ 0 → IsDone found.Lawful (checking_in words.now) (S.left source.old) (S.left source.new) (K.held out.old) (K.held out.new) }
+    ensures wrong { result ≡ 1 → IsWrong (checking_in words.now) (S.left source.old) (S.left source.new) (K.held out.old) (K.held out.new) }
+    // What is so of the report is what is printed.
+    ensures exact { (found : Found) → IsToldFound found (checking_in words.now) (S.left source.old) (S.left source.new)
+        → (Rose (S.faults source.old) (S.faults source.new) → ⊥) → (Rose (K.faults out.old) (K.faults out.new) → ⊥) → (result ≡ status_of (Ok found)) ⊎ (result ≡ 6) }
+    ensures usage { result ≡ 2 → checking_in words.now ≡ None }
+    ensures usage_only { checking_in words.now ≡ None → (result ≡ 2) ⊎ (result ≡ 6) }
+    ensures faulty { result ≡ 3 → IsFaulty (checking_in words.now) (S.left source.old) (S.left source.new) }
+    ensures refused { (fault : InputFault) → IsToldFault fault (checking_in words.now) (S.left source.old) (S.left source.new) → (result ≡ 3) ⊎ (result ≡ 4) ⊎ (result ≡ 6) }
+    ensures complete { IsFaultless (checking_in words.now) (S.left source.old) (S.left source.new)
+        → (Rose (S.faults source.old) (S.faults source.new) → ⊥) → (Rose (K.faults out.old) (K.faults out.new) → ⊥) → (result ≡ 0) ⊎ (result ≡ 1) ⊎ (result ≡ 6) }
+    ensures stopped { result ≡ 5 → IsStopped (checking_in words.now) (S.left source.old) (S.left source.new) (K.held out.old) (K.held out.new) }
+    ensures unchanged { result ≢ 0 → result ≢ 1 → result ≢ 5 → K.held out.new ≡ K.held out.old }
+    ensures read_fault { result ≡ 4 → Rose (S.faults source.old) (S.faults source.new) }
+    ensures no_read_fault { result ≢ 4 → S.faults source.new ≡ S.faults source.old }
+    ensures write_fault { result ≡ 5 → Rose (K.faults out.old) (K.faults out.new) }
+    ensures no_write_fault { result ≢ 5 → K.faults out.new ≡ K.faults out.old }
+{
+    let outcome = perform(alloc, words, source, out);
+    status(say(alloc, diag, outcome))
+}
+
+/// Says beside why the words cannot be read, and gives the exit status: 2 where one of them is not
+/// UTF-8, since such a word is in no grammar, and 6 for want of memory.
+pub fn refuse_words<E: Sink>(alloc: Global, fault: WordsFault, diag: &mut E) -> u8
+    ensures status { result ≡ status_of (Err (refusal_of fault)) }
+    ensures says { Says (line_of (Err (refusal_of fault))) (E.held diag.old) (E.held diag.new) (E.faults diag.old) (E.faults diag.new) }
+{
+    match fault {
+        WordsFault::NotText => status(say(alloc, diag, Err(Refusal::Usage))),
+        WordsFault::NoMemory => status(say(alloc, diag, Err(Refusal::NoMemory))),
+    }
+}
