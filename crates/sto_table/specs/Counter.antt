@@ -3,6 +3,10 @@ use Rattle.std.specs.Prelude.{◌≡◌, ◌≤◌, ℕ, ℤ, pos, List, [], ◌
 use Rattle.sto_part.specs.declared.change.Change.TheVariants.{Add}
 use Rattle.sto_core.specs.declared.view.View.{View}
 use Rattle.sto_core.specs.Allowed.{IsIdle}
+use Rattle.sto_table.specs.Rests.{IsOf}
+use Rattle.sto_table.specs.declared.shared.Shared.{Shared}
+use Rattle.sto_table.specs.declared.stance.Stance.{Stance}
+use Rattle.atomic_table.specs.declared.shared.Seat.{Seat}
 use Rattle.sto_core.specs.History.{Updates, Validity, Contents}
 
 -- all contents are valid
@@ -23,3 +27,8 @@ pub record Rests (least : ℕ) (v : View) : Type 0 where
   pub held : v.held ≡ []
   pub counter : IsCounter v.opening
   pub draws : least ≤ v.draws
+
+-- the pass is one of these words, and rests
+abbrev pub Counts : {T : Type 0} → ℕ → Shared T → Seat (Unit {0}) Stance → Type 0
+Counts least s seat =
+    IsOf s seat × Rests least seat.me.0.view × (seat.me.0.view.gathered ≡ 1)

@@ -1,11 +1,11 @@
 //! Passes that count on threads of their own, call by call. A test plays it; a call that is left out or changed is
 //! refused by what a later one asks.
-ghost use Rattle.std.specs.Prelude.{◌≡◌, ◌≤◌, ◌<◌, ◌+◌, ◌-◌, [], IfOk};
-ghost use Rattle.sto_table.specs.Counter.{always, one_more, Rests};
+ghost use Rattle.std.specs.Prelude.{◌≡◌, ◌≤◌, ◌<◌, ◌+◌, ◌-◌, [], ◌∷◌, ◌++◌, IfOk};
+ghost use Rattle.sto_table.specs.Counter.{always, one_more, Counts, IsCounter, Rests};
 ghost use Rattle.sto_table.specs.Rests.{IsOf};
 
 use crate::closing::close;
-use crate::opening::{Opened, open};
+use crate::opening::{Opened, Rests, open};
 use crate::shared::{Rest, Shared};
 use std::alloc::Global;
 use std::thread::{Threads, join};
@@ -99,41 +99,90 @@ pub(crate) struct Left {
     pub(crate) clock: u64,
 }
 
-// Two threads count in one word.
-pub(crate) fn both_add<R: Threads + Sync>(rt: &R, alloc: Global) -> Result<Left, NoMemory> {
+// The last two of passes.
+fn two_of(rests: &mut Rests<Always>) -> Result<(Rest<Always>, Rest<Always>), NoMemory>
+    ensures { IfOk result (λ r. rests.old.items ≡ (rests.new.items ++ r.1 ∷ []) ++ r.0 ∷ []) }
+{
+    match (rests.pop(), rests.pop()) {
+        (Some(first), Some(other)) => Ok((first, other)),
+        _ => Err(NoMemory),
+    }
+}
+
+// A word that two passes may count in.
+fn open_two(alloc: Global) -> Result<(Shared<Always>, Rest<Always>, Rest<Always>), NoMemory>
+    ensures counter { IfOk result (λ o. IsCounter o.0.table.shared.key.opening.value.items) }
+    ensures passes { IfOk result (λ o. o.0.table.shared.key.passes ≡ 2) }
+    ensures first { IfOk result (λ o. Counts 6400 o.0 o.1.seat) }
+    ensures other { IfOk result (λ o. Counts 6400 o.0 o.2.seat) }
+{
     let contents = Contents::new(alloc, &[1])?;
-    let updates = one_update(alloc)?;
-    let none = Parts::new(alloc);
     let Opened { shared, rests } = open(alloc, &Always, &contents, 2)?;
     let mut rests = rests;
-    let (Some(first), Some(other)) = (rests.pop(), rests.pop()) else {
-        return Err(NoMemory);
-    };
-    let words = &shared;
-    let updates = &updates;
-    let none = &none;
-    let ((a, first), (b, other)) = join(
+    let (first, other) = two_of(&mut rests)?;
+    Ok((shared, first, other))
+}
+
+// Two threads add at a time, each with its pass.
+fn add_both<R: Threads + Sync>(
+    rt: &R,
+    words: &Shared<Always>,
+    first: Rest<Always>,
+    other: Rest<Always>,
+    updates: &Updates,
+    none: &Parts,
+) -> ((Added, Rest<Always>), (Added, Rest<Always>))
+    requires first { Counts 6400 words.now first.seat }
+    requires other { Counts 6400 words.now other.seat }
+    requires updates { (updates.now.items ≡ one_more) × (none.now.items ≡ []) }
+    ensures first { Counts 0 words.now result.0.1.seat }
+    ensures other { Counts 0 words.now result.1.1.seat }
+{
+    join(
         rt,
         move || -> (Added, Rest<Always>)
-            requires own { IsOf words.now first.seat × Rests 6400 first.seat.me.0.view × (first.seat.me.0.view.gathered ≡ 1) }
+            requires own { Counts 6400 words.now first.seat }
             requires updates { (updates.now.items ≡ one_more) × (none.now.items ≡ []) }
-            ensures { IsOf words.entry.now result.1.seat × Rests 0 result.1.seat.me.0.view × (result.1.seat.me.0.view.gathered ≡ 1) }
+            ensures { Counts 0 words.entry.now result.1.seat }
         { add_hundred(words, first, updates, none) },
         move || -> (Added, Rest<Always>)
-            requires own { IsOf words.now other.seat × Rests 6400 other.seat.me.0.view × (other.seat.me.0.view.gathered ≡ 1) }
+            requires own { Counts 6400 words.now other.seat }
             requires updates { (updates.now.items ≡ one_more) × (none.now.items ≡ []) }
-            ensures { IsOf words.entry.now result.1.seat × Rests 0 result.1.seat.me.0.view × (result.1.seat.me.0.view.gathered ≡ 1) }
+            ensures { Counts 0 words.entry.now result.1.seat }
         { add_hundred(words, other, updates, none) },
-    );
-    let rest = shared.gather(first, other);
+    )
+}
+
+// What is left of the words.
+fn left_by(
+    alloc: Global,
+    shared: Shared<Always>,
+    rest: Rest<Always>,
+    first: Added,
+    other: Added,
+) -> Result<Left, NoMemory>
+    requires of { IsOf shared rest.seat }
+    requires all { rest.seat.me.0.view.gathered ≡ shared.table.shared.key.passes }
+    requires counter { IsCounter shared.table.shared.key.opening.value.items }
+{
     let closed = close(alloc, shared, rest)?;
     Ok(Left {
-        first: a,
-        other: b,
+        first,
+        other,
         word: closed.word(0, 0),
         ticket: closed.version(0).ticket(),
         clock: closed.clock(),
     })
+}
+
+// Two threads count in one word.
+pub(crate) fn both_add<R: Threads + Sync>(rt: &R, alloc: Global) -> Result<Left, NoMemory> {
+    let updates = one_update(alloc)?;
+    let none = Parts::new(alloc);
+    let (shared, first, other) = open_two(alloc)?;
+    let ((a, first), (b, other)) = add_both(rt, &shared, first, other, &updates, &none);
+    let rest = shared.gather(first, other);
+    left_by(alloc, shared, rest, a, b)
 }
 
 #[cfg(test)]
