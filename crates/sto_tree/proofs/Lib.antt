@@ -4,6 +4,7 @@ pub mod Parts
 pub mod Whole
 pub mod RangeSlots
 pub mod KnownRange
+pub mod Counting
 pub mod Leaves
 pub mod Walks
 pub mod BetweenPlan
