@@ -1,5 +1,5 @@
 -- What a count and a scan come to, on what is known.
-use Rattle.std.proofs.Common.{◌≡◌, ◌<◌, ℕ, ℤ, pos, Bool, true, false, int_le, Option, Some, None, List, [], length, refl, sym, ◌∙◌, ap, subst, arith, inl, inr}
+use Rattle.std.proofs.Common.{◌≡◌, ◌<◌, ℕ, ℤ, pos, Bool, true, false, int_le, Option, Some, None, List, [], refl, sym, ◌∙◌, ap, subst, arith, inr}
 use Rattle.std.specs.Prelude.{unwrap_or, if◌then◌else◌, IsSome}
 use Rattle.std.specs.Int.{w64}
 use Rattle.std.specs.Int.RustNames.{FitsSigned}
@@ -8,8 +8,8 @@ use Rattle.sto_item.specs.declared.item.Item.{Item}
 use Rattle.sto_item.specs.Pending.{Entry}
 use Rattle.sto_model.specs.declared.call.Call.{Call}
 use Rattle.sto_model.specs.Machine.{reply_to}
-use Rattle.sto_model.specs.Rows.{Row, value_at, rows_between}
-use Rattle.sto_model.specs.Told.{Told, Value, Pairs}
+use Rattle.sto_model.specs.Rows.{value_at, rows_between}
+use Rattle.sto_model.specs.Told.{Told}
 use Rattle.sto_type.specs.Known.{Parts, Known, IsPartOf}
 use Rattle.sto_type.specs.Plans.{Ask, Say, IsPlan}
 use Rattle.sto_type.specs.Reading.{Reading, Read, Say as Nothing, need_of, items_of, updates_at, IsRead, when_known}

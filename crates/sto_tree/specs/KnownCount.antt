@@ -1,5 +1,5 @@
 -- How many keys of a range there are, as far as what is known tells it.
-use Rattle.std.specs.Prelude.{◌+◌, ℕ, zero, suc, ℤ, pos, Bool, true, false, ◌&&◌, Option, Some, None, List, length, if◌then◌else◌}
+use Rattle.std.specs.Prelude.{◌+◌, ℕ, zero, suc, ℤ, pos, Bool, true, false, ◌&&◌, Option, Some, None, List, if◌then◌else◌}
 use Rattle.sto_model.specs.Rows.{rows_between}
 use Rattle.sto_model.specs.Told.{Told, Value, Pairs}
 use Rattle.sto_type.specs.Known.{Known}
