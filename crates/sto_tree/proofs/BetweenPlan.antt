@@ -1,5 +1,5 @@
 -- What a count and a scan come to, on what is known.
-use Rattle.std.proofs.Common.{◌≡◌, ◌<◌, ℕ, ℤ, pos, Bool, true, false, int_le, Option, Some, None, List, [], length, refl, sym, ◌∙◌, ap, subst, arith, inl, inr}
+use Rattle.std.proofs.Common.{◌≡◌, ◌<◌, ℕ, ℤ, pos, Bool, true, false, int_le, Option, Some, None, List, [], refl, sym, ◌∙◌, ap, subst, arith, inr}
 use Rattle.std.specs.Prelude.{unwrap_or, if◌then◌else◌, IsSome}
 use Rattle.std.specs.Int.{w64}
 use Rattle.std.specs.Int.RustNames.{FitsSigned}
@@ -8,8 +8,8 @@ use Rattle.sto_item.specs.declared.item.Item.{Item}
 use Rattle.sto_item.specs.Pending.{Entry}
 use Rattle.sto_model.specs.declared.call.Call.{Call}
 use Rattle.sto_model.specs.Machine.{reply_to}
-use Rattle.sto_model.specs.Rows.{Row, value_at, rows_between}
-use Rattle.sto_model.specs.Told.{Told, Value, Pairs}
+use Rattle.sto_model.specs.Rows.{value_at, rows_between}
+use Rattle.sto_model.specs.Told.{Told}
 use Rattle.sto_type.specs.Known.{Parts, Known, IsPartOf}
 use Rattle.sto_type.specs.Plans.{Ask, Say, IsPlan}
 use Rattle.sto_type.specs.Reading.{Reading, Read, Say as Nothing, need_of, items_of, updates_at, IsRead, when_known}
@@ -27,9 +27,11 @@ use Rattle.sto_tree_law.specs.RowsBetween.{lies, value_at-between}
 use Rattle.sto_tree_law.specs.Sized.{tree_length}
 use Rattle.sto_tree_law.specs.Tests.{and_true, true_equal}
 use Rattle.sto_tree.specs.KnownRows.{known_rows}
+use Rattle.sto_tree.specs.KnownCount.{known_told}
 use Rattle.sto_tree.specs.Walked.{IsSaid, told_of}
 use Rattle.sto_tree.proofs.Parts.{known_part}
 use Rattle.sto_tree.proofs.KnownRange.{AreKnown, same_range}
+use Rattle.sto_tree.proofs.Counting.{told_known}
 use Rattle.sto_tree.proofs.Leaves.{plan_as}
 
 pub some_words : (o : Option (List ℤ)) → IsSome o → (ws : List ℤ) × (o ≡ Some ws)
@@ -95,6 +97,9 @@ module _ (leaves : ℕ) (k : Known) (scans : Bool) (a b : ℤ) (fits_a : FitsSig
 
     pub range_told : told_of scans (rows_between (known_rows leaves k dir a b) a b) ≡ told_of scans (rows_between (tree_rows leaves d) a b)
     range_told = same_range leaves k dir a b scans all_known d t part
+
+    pub known_is_told : known_told scans leaves k dir a b ≡ told_of scans (rows_between (known_rows leaves k dir a b) a b)
+    known_is_told = told_known scans leaves k dir a b all_known d t part
 
 -- the code of a scan, or of a count
 abbrev pub code_of : Bool → ℕ

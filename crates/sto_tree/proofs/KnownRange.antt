@@ -97,7 +97,7 @@ module _ (leaves : ℕ) (k : Known) (dir : List ℤ) (a b : ℤ) (scans : Bool) 
       ap known_value ws.1 ∙ ap (λ xs. word xs 0) (sym v))
       ∙ sym (ap (λ o. seen_slot scans (kept a b o)) there)
 
-  seen_same : (j : ℕ) → j < 8 * leaves → seen_slot scans (kept a b (known_slot k dir a b j)) ≡ seen_slot scans (kept a b (tree_slot d j))
+  pub seen_same : (j : ℕ) → j < 8 * leaves → seen_slot scans (kept a b (known_slot k dir a b j)) ≡ seen_slot scans (kept a b (tree_slot d j))
   seen_same j h =
       by_test (meets dir a b (j / 8))
       (λ e. slot_known j h e)

@@ -3,7 +3,9 @@ pub mod Codes
 pub mod Parts
 pub mod Whole
 pub mod RangeSlots
+pub mod LeafRows
 pub mod KnownRange
+pub mod Counting
 pub mod Leaves
 pub mod Walks
 pub mod BetweenPlan

@@ -1,20 +1,21 @@
 //! The plans of a count and a scan.
-ghost use Rattle.std.specs.Prelude.{◌≡◌, ◌<◌, ◌^◌, ℤ, List, IfOk, if◌then◌else◌};
-ghost use Rattle.sto_model.specs.Rows.{rows_between};
+ghost use Rattle.std.specs.Prelude.{◌≡◌, ◌<◌, ◌*◌, ◌^◌, ℤ, List, [], length, IfOk, if◌then◌else◌};
 ghost use Rattle.sto_model.specs.Told.{told};
 ghost use Rattle.sto_type.specs.Known.{known, IsPartOf};
 ghost use Rattle.sto_type.specs.Plans.{planned, IsPlan};
 ghost use Rattle.sto_tree_law.specs.Layout.{parts_of};
 ghost use Rattle.sto_tree_law.specs.Valid.{IsTree};
 ghost use Rattle.sto_tree_law.specs.Meaning.{tree_meaning, TreeTakes};
+ghost use Rattle.sto_tree.specs.KnownCount.{known_told};
 ghost use Rattle.sto_tree.specs.Walked.{told_of};
 
+use crate::count::known_count;
 use crate::listing::listed_leaves;
 use crate::range::known_rows;
 use crate::walk::see_leaves;
 use std::alloc::Global;
 use sto_item::{Items, Updates};
-use sto_model::{Call, Reply, Rows};
+use sto_model::{Call, Pairs, Reply};
 use sto_part::NoMemory;
 use sto_type::{Answer, KnownParts};
 
@@ -34,7 +35,7 @@ pub(crate) fn plan_between(
 {
     if call.a > call.b {
         return Ok(Answer::Done {
-            reply: reply_of(alloc, &Rows::new(alloc), call.a, call.b, scans)?,
+            reply: empty_reply(alloc, scans),
             items: Items::new(alloc),
             updates: Updates::new(alloc),
         });
@@ -55,24 +56,45 @@ pub(crate) fn plan_between(
     )?;
     match seen {
         Err(part) => Ok(Answer::Need(part)),
-        Ok(items) => {
-            let rows = known_rows(alloc, leaves, directory, cache, call.a, call.b)?;
-            Ok(Answer::Done {
-                reply: reply_of(alloc, &rows, call.a, call.b, scans)?,
-                items,
-                updates: Updates::new(alloc),
-            })
-        }
+        Ok(items) => Ok(Answer::Done {
+            reply: reply_of(alloc, leaves, directory, cache, call.a, call.b, scans)?,
+            items,
+            updates: Updates::new(alloc),
+        }),
     }
 }
 
-// What a count, or a scan, of rows answers.
-fn reply_of(alloc: Global, rows: &Rows, from: i64, to: i64, scans: bool) -> Result<Reply, NoMemory>
-    ensures { IfOk result (λ r. told r ≡ told_of scans (rows_between rows.now.items from to)) }
+// What a count, or a scan, answers where all that it needs is known.
+fn reply_of(
+    alloc: Global,
+    leaves: u32,
+    directory: &[i64],
+    cache: &KnownParts<'_>,
+    from: i64,
+    to: i64,
+    scans: bool,
+) -> Result<Reply, NoMemory>
+    requires few { parts_of leaves < 2 ^ 32 }
+    requires width { length directory.now ≡ 3 * leaves }
+    requires part { (d : List (List ℤ)) × IsTree leaves d × IsPartOf (known cache.now) d }
+    ensures { IfOk result (λ r. told r ≡ known_told scans leaves (known cache.now) directory.now from to) }
 {
     if scans {
+        let rows = known_rows(alloc, leaves, directory, cache, from, to)?;
         Ok(Reply::Pairs(rows.pairs_between(alloc, from, to)?))
     } else {
-        Ok(Reply::Value(i64::from(rows.count_between(from, to))))
+        let found = known_count(leaves, directory, cache, from, to);
+        Ok(Reply::Value(i64::from(found)))
+    }
+}
+
+// What they answer where no number is between.
+fn empty_reply(alloc: Global, scans: bool) -> Reply
+    ensures { told result ≡ told_of scans [] }
+{
+    if scans {
+        Reply::Pairs(Pairs::new(alloc))
+    } else {
+        Reply::Value(0)
     }
 }

@@ -4,6 +4,7 @@
 mod between;
 mod changes;
 mod contents;
+mod count;
 mod get;
 mod leaf;
 mod len;

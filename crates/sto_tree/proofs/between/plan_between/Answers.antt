@@ -1,16 +1,15 @@
-use Rattle.std.proofs.Common.{◌≡◌, ◌<◌, ℕ, ℤ, int_le, int_lt, true, false, Some, None, List, [], length, ap, sym, ◌∙◌, subst, arith, w64}
+use Rattle.std.proofs.Common.{◌≡◌, ◌<◌, ℕ, ℤ, int_le, int_lt, true, false, Some, List, [], length, ap, sym, ◌∙◌, subst, arith, w64}
 use Rattle.std.specs.Prelude.{slice_index}
 use Rattle.std.proofs.lemmas.Int.{ints}
 use Rattle.std.specs.Int.RustNames.{FitsSigned}
 use Rattle.std.proofs.lemmas.Int.{to_z-of_z}
 use Rattle.sto_model.specs.declared.call.Call.{Call}
-use Rattle.sto_model.specs.Rows.{Row, rows_between}
 use Rattle.sto_type.specs.Known.{Known, known}
 use Rattle.sto_type.specs.Reading.{need_of}
 use Rattle.sto_tree_law.specs.Between.{leaves_between, between_each}
-use Rattle.sto_tree.specs.Walked.{IsSaid, told_of}
+use Rattle.sto_tree.specs.Walked.{IsSaid}
 use Rattle.sto_tree.proofs.Leaves.{directory_wide}
-use Rattle.sto_tree.proofs.BetweenPlan.{says_empty, needs_part, says_range}
+use Rattle.sto_tree.proofs.BetweenPlan.{known_is_told, says_empty, needs_part, says_range}
 use Rattle.sto_tree.proofs.between.plan_between.Goals as goal
 
 above_false : (x y : ℤ) → int_lt y x ≡ true → int_le x y ≡ false
@@ -27,10 +26,8 @@ returns-then-call c =
     let fb : FitsSigned w64 c.args.call.now.b = c.requires.takes.fits_too in
     let above = simp to_z-of_z at c.if-call.true in
     let none : int_le call.a call.b ≡ false = above_false call.a call.b above in
-    let told = simp to_z-of_z at c.in_ok-reply_of.ensures in
-    says_empty c.args.leaves k c.args.scans call c.requires.takes.object c.requires.code fa fb _ c.new-then-call.result.items c.new-then-call-2.result.items none
-    (told ∙ ap (λ (rows : List Row). told_of c.args.scans (rows_between rows call.a call.b)) (ap (λ r. r.items) c.new.ensures))
-    (ap (λ l. l.items) c.new-then-call.ensures) (ap (λ l. l.items) c.new-then-call-2.ensures)
+    says_empty c.args.leaves k c.args.scans call c.requires.takes.object c.requires.code fa fb _ c.new.result.items c.new-then-call.result.items none
+    c.empty_reply.ensures (ap (λ l. l.items) c.new.ensures) (ap (λ l. l.items) c.new-then-call.ensures)
 
 pub listed_leaves-requires : goal.listed_leaves-requires
 listed_leaves-requires c = directory_wide c.args.leaves (known c.args.cache.now) c.in-Some.directory.now c.requires.part c.in-Some.ensures
@@ -57,8 +54,8 @@ returns-in-Err c =
     needs_part c.args.leaves k c.args.scans call c.requires.takes.object c.requires.code fa fb some dir c.in-Some.ensures c.in-Err.part
     (subst (λ (xs : List ℕ). need_of (between_each c.args.scans dir call.a call.b xs []) k ≡ Some c.in-Err.part) all need)
 
-pub known_rows-requires-clause-width : goal.known_rows-requires-clause-width
-known_rows-requires-clause-width c = directory_wide c.args.leaves (known c.args.cache.now) c.in-Some.directory.now c.requires.part c.in-Some.ensures
+pub reply_of-requires-clause-width : goal.reply_of-requires-clause-width
+reply_of-requires-clause-width c = directory_wide c.args.leaves (known c.args.cache.now) c.in-Some.directory.now c.requires.part c.in-Some.ensures
 
 pub returns : goal.returns
 returns c =
@@ -73,9 +70,10 @@ returns c =
     let all : c.as_slice.result.now ≡ leaves_between c.args.leaves dir call.a call.b = c.as_slice.ensures.items ∙ listed in
     let raw = rw c.in-Ok.is at c.in_ok-seen.ensures in
     let said = simp to_z-of_z at raw in
-    let rows = simp to_z-of_z at c.in_ok-rows-in-Ok.ensures in
+    let range : IsSaid (between_each c.args.scans dir call.a call.b (leaves_between c.args.leaves dir call.a call.b) []) k c.in-Ok.items.items =
+    subst (λ (xs : List ℕ). IsSaid (between_each c.args.scans dir call.a call.b xs []) k c.in-Ok.items.items) all said in
     let told = simp to_z-of_z at c.in_ok-reply_of-in-Ok.ensures in
     says_range c.args.leaves k c.args.scans call c.requires.takes.object c.requires.code fa fb some dir c.in-Some.ensures _ c.in-Ok.items.items c.new-in-Ok.result.items
-    (subst (λ (xs : List ℕ). IsSaid (between_each c.args.scans dir call.a call.b xs []) k c.in-Ok.items.items) all said)
-    (told ∙ ap (λ (xs : List Row). told_of c.args.scans (rows_between xs call.a call.b)) rows)
+    range
+    (told ∙ known_is_told c.args.leaves k c.args.scans call.a call.b fa fb dir c.in-Some.ensures range.0 c.requires.part.0 c.requires.part.1 c.requires.part.2)
     (ap (λ l. l.items) c.new-in-Ok.ensures)

@@ -1,27 +1,25 @@
-use Rattle.std.proofs.Common.{◌≡◌, ◌+◌, ℕ, suc, Some, None, ap, sym, ◌∙◌, arith, rules, w64, to_z, of_z}
-use Rattle.std.specs.Int.RustNames.{FitsSigned}
-use Rattle.std.proofs.lemmas.Int.{to_z-of_z}
-use Rattle.sto_model.specs.Rows.{with_row}
-use Rattle.sto_tree_law.specs.Slots.{Slots, gathered, with_slot}
-use Rattle.sto_type.specs.Known.{known}
-use Rattle.sto_tree.specs.KnownRows.{known_slot}
-use Rattle.sto_tree.proofs.range.known_rows.Goals.{in-Some+in_ok-put, in_default}
+use Rattle.std.proofs.Common.{◌≡◌, ℕ, ℤ, List, true, false, ap, sym, ◌∙◌, w64, to_z, of_z}
+use Rattle.sto_model.specs.Rows.{Row}
+use Rattle.sto_type.specs.Known.{Known, known}
+use Rattle.sto_tree_law.specs.Layout.{key_part}
+use Rattle.sto_tree_law.specs.Between.{meets}
+use Rattle.sto_tree.specs.KnownRows.{known_values, with_part}
+use Rattle.sto_tree.proofs.LeafRows.{leaf_met, leaf_apart}
+use Rattle.sto_tree.proofs.range.known_rows.Goals.{then-meets+in_ok-add_leaf, else-meets}
 use Rattle.sto_tree.proofs.range.known_rows.Goals as goal
 
-pub loop-number-preserved : goal.loop-number-preserved
-loop-number-preserved c =
-    let s : Slots = known_slot (known c.args.cache.now) c.args.directory.now (to_z w64 (of_z w64 c.args.from)) (to_z w64 (of_z w64 c.args.to)) in
-    let n : ℕ = c.loop-number.number in
-    let e : n + 1 ≡ suc n = omega arith in
-    elim c.match-known_row.branch [
-      | in-Some+in_ok-put w ↦
-          let f : FitsSigned w64 w.in-Some.key = search rules in
-          let g : FitsSigned w64 w.in-Some.value = search rules in
-          let put = simp to_z-of_z at w.in_ok-put.ensures.ok in
-          let slot : s n ≡ Some (w.in-Some.key, w.in-Some.value) = sym c.known_row.ensures ∙ w.in-Some.is in
-          ap (λ r. r.items) w.rows-is ∙ put ∙ ap (λ l. with_row l w.in-Some.key w.in-Some.value) c.loop-number.invariant
-          ∙ ap (λ o. with_slot (gathered s n) o) (sym slot) ∙ ap (λ (x : ℕ). gathered s x) (sym e)
-      | in_default w ↦
-          let slot : s n ≡ None = sym c.known_row.ensures ∙ w.in_default.is in
-          ap (λ r. r.items) w.rows-is ∙ c.loop-number.invariant ∙ ap (λ o. with_slot (gathered s n) o) (sym slot) ∙ ap (λ (x : ℕ). gathered s x) (sym e)
+pub loop-leaf-preserved : goal.loop-leaf-preserved
+loop-leaf-preserved c =
+    let k : Known = known c.args.cache.now in
+    let dir : List ℤ = c.args.directory.now in
+    let a : ℤ = to_z w64 (of_z w64 c.args.from) in
+    let b : ℤ = to_z w64 (of_z w64 c.args.to) in
+    let l : ℕ = c.loop-leaf.leaf in
+    elim c.if-meets.branch [
+      | then-meets+in_ok-add_leaf w ↦
+          let met : meets dir a b l ≡ true = sym c.meets.ensures ∙ w.if-meets.true in
+          ap (λ r. r.items) w.rows-is ∙ w.in_ok-add_leaf.ensures ∙ ap (λ (rows : List Row). with_part rows (k (key_part l)) (known_values k l)) c.loop-leaf.invariant ∙ sym (leaf_met k dir a b l met)
+      | else-meets w ↦
+          let apart : meets dir a b l ≡ false = sym c.meets.ensures ∙ w.if-meets.false in
+          ap (λ r. r.items) w.rows-is ∙ c.loop-leaf.invariant ∙ sym (leaf_apart k dir a b l apart)
     ]
