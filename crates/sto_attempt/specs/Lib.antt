@@ -1,3 +1,4 @@
+pub mod Says
 pub mod Sights
 pub mod Placed
 pub mod Asked

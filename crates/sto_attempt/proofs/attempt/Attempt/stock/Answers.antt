@@ -1,18 +1,15 @@
-use Rattle.std.proofs.Common.{◌≡◌, ◌≤◌, ◌*◌, List, ap, sym, ◌∙◌, subst, map, arith, length}
-use Rattle.std.specs.List.{list_all}
-use Rattle.sto_item.specs.declared.item.Item.{Item}
+use Rattle.std.proofs.Common.{◌≡◌, ◌≤◌, ◌*◌, List, ap, sym, subst, map, arith, length}
 use Rattle.sto_item.specs.Pending.{Entry as Update}
 use Rattle.sto_model.specs.Told.{told}
 use Rattle.sto_attempt.specs.declared.stage.Stage.TheVariants.{Locking}
 use Rattle.sto_attempt.specs.Bounds.{round, words_of}
-use Rattle.sto_attempt.specs.Predicates.{preds_in}
 use Rattle.sto_attempt.specs.Remaining.{commit_left}
 use Rattle.sto_attempt.specs.Stages.{deal, IsPlanned}
 use Rattle.sto_attempt.proofs.Sealing.{gathered_planned, gathered_bounded}
 use Rattle.sto_attempt.proofs.attempt.Attempt.stock.Goals as goal
 
-pub width_of_all-requires : goal.width_of_all-requires
-width_of_all-requires g c =
+pub room_for-requires : goal.room_for-requires
+room_for-requires g c =
     let a = c.args.self.now in
     let law = g.met.T.TxType.lawful a.course.ty.now in
     let l = c.in_ok-lists.lists in
@@ -42,6 +39,3 @@ returns-clause-left g c =
     let m = g.T.TxType.meaning a.course.ty.now in
     let few = gathered_bounded m law g.T.Naming.valid (g.T.Naming.sizes a.course.ty.now) (g.B.Body.script a.course.body) a.at a.course.base.items a.course.set.items (map told a.course.replies.items) a.course.set.updates c.requires.course c.requires.some l.seen.items l.loaded.items l.tasks.items l.checks.items l.places.items is.gathered it in
     subst (λ (x : List Update). commit_left (deal m g.T.Naming.valid (g.T.Naming.sizes a.course.ty.now) (g.B.Body.script a.course.body) a.at a.course.base.items a.course.set.items (map told a.course.replies.items) x l.seen.items l.loaded.items l.tasks.items l.checks.items l.places.items) (Locking 0) ≤ 2 * round (length m.widths) (words_of m.widths)) (sym is.updates) few
-
-pub returns-clause-predicates : goal.returns-clause-predicates
-returns-clause-predicates g c = λ f. c.in_ok-predicates.ensures f ∙ ap (λ (l : List Item). list_all f (preds_in l)) c.items.ensures.items
