@@ -38,12 +38,7 @@ pub(crate) fn known_rows(
 }
 
 // Adds the rows of a leaf, as far as they are known.
-fn add_leaf(
-    rows: &mut Rows,
-    leaves: u32,
-    cache: &KnownParts<'_>,
-    leaf: u32,
-) -> Result<(), NoMemory>
+fn add_leaf(rows: &mut Rows, leaves: u32, cache: &KnownParts<'_>, leaf: u32) -> Result<(), NoMemory>
     requires few { parts_of leaves < 2 ^ 32 }
     requires part { (d : List (List ℤ)) × IsTree leaves d × IsPartOf (known cache.now) d }
     requires leaf { leaf < leaves }
