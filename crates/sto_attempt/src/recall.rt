@@ -1,12 +1,12 @@
 //! What is known of a part without an event, with the pending updates applied.
-ghost use Rattle.std.specs.Prelude.{◌≡◌, ◌<◌, ◌≤◌, ◌^◌, ◌++◌, ◌∷◌, ℕ, ℤ, List, None, Some, false, true, length, map, IfOk, OnOk, IfSome, IfNone, MatchOption};
+ghost use Rattle.std.specs.Prelude.{◌≡◌, ◌<◌, ◌≤◌, ◌^◌, ◌++◌, [], ◌∷◌, ℕ, ℤ, List, None, Some, false, true, length, map, IfOk, OnOk, IfSome, IfNone, MatchOption};
 ghost use Rattle.std.specs.Option.{option_map};
 ghost use Rattle.std.specs.List.{Contains};
 ghost use Rattle.sto_part.specs.Changes.{applied_all};
 ghost use Rattle.sto_item.specs.Pending.{changes_of, with_updates, AreUpdates};
 ghost use Rattle.sto_item.specs.Agreement.{HasWidths};
 ghost use Rattle.sto_item.specs.Rebase.{overwrites};
-ghost use Rattle.sto_type.specs.Known.{known};
+ghost use Rattle.sto_type.specs.Known.{known, learnt};
 ghost use Rattle.sto_type.specs.Plans.{planned, IsPlan};
 ghost use Rattle.sto_attempt.specs.Sights.{words_in};
 ghost use Rattle.sto_attempt.specs.Course.{IsPending, IsRecalled, IsCache};
@@ -89,6 +89,21 @@ pub(crate) fn ask<T: TxType>(
     }
 }
 
+// Makes a part of one word known with the pending update of its part applied. It takes no list for the word.
+fn learn_word<T: TxType>(
+    ty: &T,
+    set: &Noted,
+    part: u32,
+    word: i64,
+    cache: &mut Cache,
+) -> Result<(), NoMemory>
+    requires fits { length (changes_of set.now.updates part) ≤ 1 }
+    ensures { OnOk result (known cache.new ≡ learnt (known cache.old) part (applied_all (changes_of set.now.updates part) (word ∷ []))) }
+{
+    let now = ty.install(set.pending(part, 0), word);
+    cache.learn(part, &[now])
+}
+
 // Recalls a part anew; where it is neither read nor put whole, all becomes unknown.
 fn learn_anew<T: TxType>(
     alloc: Global,
@@ -102,6 +117,11 @@ fn learn_anew<T: TxType>(
     requires pending { IsPending (T.meaning ty.now) (words_in base.now.items) set.now.updates }
     ensures { OnOk result (IsLearntAnew (T.meaning ty.now) (words_in base.now.items) set.now.updates part (known cache.old) (known cache.new)) }
 {
+    if let Some(sight) = base.find(part) {
+        if sight.words.len() == 1 {
+            return learn_word(ty, set, part, *sight.words.get(0), cache);
+        }
+    }
     match recall(alloc, ty, base, set, part)? {
         Some(words) => cache.learn(part, words.as_slice()),
         None => {
