@@ -1,11 +1,14 @@
-//! Calls of the whole program on words and a text, for the programs that are tests.
+//! Calls of the whole programs on words and a text, for the programs that are tests.
 #![tactic(auto)]
+
+mod checking;
 
 ghost use Rattle.std.specs.Prelude.{◌≡◌, ℕ, List, Option, Some, string_bytes, map, false, IfOk, OnOk};
 ghost use Rattle.sto_words.specs.Commands.{command_of};
 ghost use Rattle.sto_cli.specs.Ends.{Ends};
 ghost use Rattle.sto_cli.specs.Statuses.{EndsWith};
 
+pub use checking::call_check;
 use std::alloc::Global;
 use std::thread::Threads;
 use sto_cli::{Gate, QuietSink, QuietSource, sto};
@@ -57,7 +60,7 @@ pub fn call<R: Threads + Sync, G: Gate>(
     })
 }
 
-fn owned(alloc: Global, words: &[&str]) -> Result<Vec<String>, NoMemory>
+pub(crate) fn owned(alloc: Global, words: &[&str]) -> Result<Vec<String>, NoMemory>
     ensures { IfOk result (λ given. map (λ word. string_bytes word) given.items ≡ map (λ word. word.now) words.now) }
 {
     let mut given = Vec::new(alloc);
@@ -72,7 +75,7 @@ fn owned(alloc: Global, words: &[&str]) -> Result<Vec<String>, NoMemory>
     Ok(given)
 }
 
-fn held_by(alloc: Global, sink: &QuietSink) -> Result<Bytes, NoMemory>
+pub(crate) fn held_by(alloc: Global, sink: &QuietSink) -> Result<Bytes, NoMemory>
     ensures told { OnOk result (sink.now.dropped ≡ false) }
     ensures bytes { IfOk result (λ bytes. bytes.items ≡ sink.now.bytes.items) }
 {
@@ -82,7 +85,7 @@ fn held_by(alloc: Global, sink: &QuietSink) -> Result<Bytes, NoMemory>
     }
 }
 
-fn copy_of(alloc: Global, bytes: &[u8]) -> Result<Bytes, NoMemory>
+pub(crate) fn copy_of(alloc: Global, bytes: &[u8]) -> Result<Bytes, NoMemory>
     ensures { IfOk result (λ copy. copy.items ≡ bytes.now) }
 {
     let mut copy = Bytes::new(alloc);

@@ -1,0 +1,4 @@
+mod Asking
+mod Along
+mod Writers
+mod Exact
