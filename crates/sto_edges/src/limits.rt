@@ -36,7 +36,7 @@ const NOTHING: Text = Plain("state\n");
 
 const ONE_READ: Text = Plain("0 t0.1 read\nstate\n");
 
-const LIMITS: [Limit; 20] = [
+const LIMITS: [Limit; 21] = [
     Limit {
         name: "objects",
         forms: &[Named],
@@ -190,6 +190,15 @@ const LIMITS: [Limit; 20] = [
         end: "",
         prints: Numbered("", 32, ("0 t0.", " read\n"), "state\n"),
         past: &["begin\ncommit\n"],
+        fault: OUT_OF_LIMITS,
+    },
+    Limit {
+        name: "the capacity of a vector",
+        forms: &[Written],
+        script: Plain("sto 2\nvector q 4096\nvector p 1\n"),
+        end: "",
+        prints: Plain("state\nq = []\np = []\n"),
+        past: &["vector o 0\n", "vector o 4097\n"],
         fault: OUT_OF_LIMITS,
     },
     Limit {
