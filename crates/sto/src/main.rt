@@ -1,26 +1,8 @@
 //! The program `sto`: runs scripts of transactions.
 #![tactic(auto)]
 
-use std::env;
-use std::io::ErrorKind;
 use std::process::ExitCode;
-use sto_cli::{NoGate, StdSink, StdSource, WordsFault, refuse_words, sto};
-
-// The words after the program's name.
-fn words_of(rt: &HostRuntime) -> Result<Vec<String>, WordsFault> {
-    let args = match env::args(rt) {
-        Ok(args) => args,
-        Err(error) if error.kind() == ErrorKind::InvalidData => return Err(WordsFault::NotText),
-        Err(_) => return Err(WordsFault::NoMemory),
-    };
-    let mut words = Vec::new(rt.alloc());
-    for word in args.skip(1) {
-        if words.push(word).is_err() {
-            return Err(WordsFault::NoMemory);
-        }
-    }
-    Ok(words)
-}
+use sto_cli::{NoGate, StdSink, StdSource, refuse_words, sto, words_of};
 
 fn main(rt: HostRuntime) -> ExitCode {
     let mut diag = StdSink::error(&rt);

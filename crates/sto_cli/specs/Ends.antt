@@ -1,18 +1,13 @@
 -- How a call of the program ends, by what its source had left and its sink holds, before and after.
 use Rattle.std.specs.Prelude.{◌≡◌, ℕ, List, Option, None, Some, take, Result, Ok, Err}
 use Rattle.sto_io.specs.Told.{Takes, Gains, AtEnd, Rose}
+use Rattle.sto_ending.specs.Read.{IfTold}
 use Rattle.sto_lang.specs.declared.fault.ScriptFault.{ScriptFault}
 use Rattle.sto_words.specs.declared.command.Command.{Command}
 use Rattle.sto_words.specs.declared.command.Command.TheVariants.{Run, Step, Upgrade, Gen, Bench}
 use Rattle.sto_cli.specs.declared.refusal.Refusal.{Refusal}
 use Rattle.sto_cli.specs.declared.refusal.Refusal.TheVariants.{Usage, Script, ReadFault, WriteFault, NoMemory}
 use Rattle.sto_cli.specs.Outputs.{IsOutput, IsReader, HasFault}
-
--- the bytes that were left, where they are told before and after
-abbrev pub IfTold : Option (List ℕ) → Option (List ℕ) → (List ℕ → Type 0) → Type 0
-IfTold (Some bytes) (Some rest) P = P bytes
-IfTold (Some bytes) None P = Unit {0}
-IfTold None new P = Unit {0}
 
 -- what a command reads: `run`, `step` and `upgrade` all that was left, `gen` and `bench` nothing
 abbrev pub Reads : Command → Option (List ℕ) → Option (List ℕ) → List ℕ → Type 0
@@ -64,6 +59,12 @@ Unmade ReadFault command left rest = IsReader command
 Unmade NoMemory command left rest = Unit {0}
 Unmade Usage command left rest = ⊥
 Unmade WriteFault command left rest = ⊥
+
+-- the whole of a text was written, or a front of it
+abbrev pub IsWritten : Result (Unit {0}) Refusal → List ℕ → Option (List ℕ) → Option (List ℕ) → Type 0
+IsWritten (Ok x) text held now = Gains held now text
+IsWritten (Err WriteFault) text held now = (count : ℕ) × Gains held now (take count text)
+IsWritten (Err refusal) text held now = ⊥
 
 -- a call was refused: what the words or the bytes have to do with it, and what the sink holds after it
 abbrev pub Refused : Refusal → Option Command → Option (List ℕ) → Option (List ℕ) → Option (List ℕ) → Option (List ℕ) → Type 0

@@ -1,7 +1,6 @@
 -- The status of a call of the program, and the line that it writes beside.
-use Rattle.std.specs.Prelude.{◌≡◌, ℕ, List, [], ◌++◌, ◌⊎◌, Option, None, Some, take, Result, Ok, Err, codes, decimal}
-use Rattle.sto_io.specs.Told.{Gains, Rose}
-use Rattle.sto_lang.specs.FaultTexts.{kind_text}
+use Rattle.std.specs.Prelude.{◌≡◌, ℕ, List, [], ◌⊎◌, Option, None, Some, Result, Ok, Err, codes}
+use Rattle.sto_ending.specs.Said.{fault_line}
 use Rattle.sto_words.specs.declared.command.Command.{Command}
 use Rattle.sto_words.specs.declared.command.Command.TheVariants.{Run, Step, Upgrade, Gen, Bench}
 use Rattle.sto_cli.specs.declared.refusal.Refusal.{Refusal}
@@ -19,10 +18,6 @@ status_of (Err ReadFault) = 4
 status_of (Err WriteFault) = 5
 status_of (Err NoMemory) = 6
 
--- the line of a fault
-abbrev pub fault_line : ScriptFault → List ℕ
-fault_line fault = codes "sto: line " ++ (decimal fault.line ++ (codes ": " ++ (kind_text fault.kind ++ codes "\n")))
-
 -- the line that is written beside
 abbrev pub line_of : Result (Unit {0}) Refusal → List ℕ
 line_of (Ok x) = []
@@ -31,10 +26,6 @@ line_of (Err (Script fault)) = fault_line fault
 line_of (Err ReadFault) = codes "sto: read fault\n"
 line_of (Err WriteFault) = codes "sto: write fault\n"
 line_of (Err NoMemory) = codes "sto: out of memory\n"
-
--- all of a line was written, or a front of it where a fault came
-abbrev pub Says : List ℕ → Option (List ℕ) → Option (List ℕ) → ℕ → ℕ → Type 0
-Says line held now old new = (Gains held now line × (new ≡ old)) ⊎ (((count : ℕ) × Gains held now (take count line)) × Rose old new)
 
 -- a call ended with this status, by one outcome
 abbrev pub EndsWith : ℕ → (Result (Unit {0}) Refusal → Type 0) → Type 0

@@ -20,8 +20,8 @@ use sto_lang::{File, ReadError, Text};
 use sto_part::NoMemory;
 use sto_run::{Gate, run_file, step_file};
 
-/// The file that the bytes are.
-fn file_in(alloc: Global, bytes: &[u8]) -> Result<File, Refusal>
+/// The file that the bytes are. They are refused where they have a fault of a script, which is told, or for want of memory.
+pub fn file_in(alloc: Global, bytes: &[u8]) -> Result<File, Refusal>
     ensures file { IfOk result (λ f. file_of bytes.now ≡ Ok (view f)) }
     ensures fault { IfErr result (λ e. IsAnswerFault e bytes.now) }
 {
@@ -32,8 +32,9 @@ fn file_in(alloc: Global, bytes: &[u8]) -> Result<File, Refusal>
     }
 }
 
-/// The report of a lawful journal of a file, in a form.
-fn report(alloc: Global, file: &File, journal: &Journal, json: bool) -> Result<Text, NoMemory>
+/// The report of a lawful journal of a file, as a text or as one line of JSON. It is lawful for each number of tries for which
+/// the journal is.
+pub fn report(alloc: Global, file: &File, journal: &Journal, json: bool) -> Result<Text, NoMemory>
     requires sound { IsSound (view file.now) }
     requires lawful { (tries : ℕ) × IsLawfulJournal (updating_by means) (view file.now) tries journal.now }
     ensures { IfOk result (λ text. (tries : ℕ) → IsLawfulJournal (updating_by means) (view file.now) tries journal.now → IsLawfulIn (form_for json) (updating_by means) (view file.now) tries text.items) }
@@ -46,7 +47,7 @@ fn report(alloc: Global, file: &File, journal: &Journal, json: bool) -> Result<T
 
 /// How many workers run a file. Where the words do not say it, there are as many as script threads, but at least 1 and at
 /// most 16.
-fn workers_for(file: &File, threads: Option<u32>) -> u32
+pub fn workers_for(file: &File, threads: Option<u32>) -> u32
     requires { HasThreads threads }
     ensures { IsFromTo 1 16 result }
 {

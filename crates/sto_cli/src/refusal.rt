@@ -7,7 +7,7 @@ use sto_lang::ScriptFault;
 
 /// Why a call of the program was refused.
 #[derive(Clone, Copy, PartialEq, Eq, Debug)]
-pub(crate) enum Refusal {
+pub enum Refusal {
     /// The words are not in the grammar.
     Usage,
     /// The bytes that were read are no script.

@@ -1,21 +1,24 @@
 //! The top call.
 ghost use Rattle.std.specs.Prelude.{◌≡◌, ◌≢◌, ◌⊎◌, None, Err};
 ghost use Rattle.sto_io.specs.Told.{Rose};
+ghost use Rattle.sto_ending.specs.Said.{Says};
 ghost use Rattle.sto_words.specs.Commands.{command_in};
 ghost use Rattle.sto_cli.specs.Ends.{Ends};
 ghost use Rattle.sto_cli.specs.Words.{refusal_of};
 ghost use Rattle.sto_lang.specs.declared.fault.ScriptFault.{ScriptFault};
-ghost use Rattle.sto_cli.specs.Statuses.{status_of, line_of, Says, EndsWith, IsDone, IsFaulty, IsStopped, IsFaultless, IsToldFault};
+ghost use Rattle.sto_cli.specs.Statuses.{status_of, line_of, EndsWith, IsDone, IsFaulty, IsStopped, IsFaultless, IsToldFault};
 
+use crate::beside::say;
 use crate::refusal::Refusal;
-use crate::say::say;
 use crate::work::perform;
 use std::alloc::Global;
 use std::thread::Threads;
+use sto_ending::WordsFault;
 use sto_io::{Sink, Source};
 use sto_run::Gate;
 
-fn status(outcome: Result<(), Refusal>) -> u8
+/// The exit status of a call that ended so.
+pub fn status(outcome: Result<(), Refusal>) -> u8
     ensures { result ≡ status_of outcome }
 {
     match outcome {
@@ -68,14 +71,6 @@ pub fn sto<R: Threads + Sync, S: Source, K: Sink, E: Sink, G: Gate>(
 {
     let outcome = perform(rt, alloc, words, source, out, gate);
     status(say(alloc, diag, outcome))
-}
-
-/// Why the words of a call cannot be read.
-#[derive(Clone, Copy, PartialEq, Eq, Debug)]
-pub enum WordsFault {
-    /// A word is not UTF-8.
-    NotText,
-    NoMemory,
 }
 
 /// Says beside why the words cannot be read, and gives the exit status: 2 where one of them is not

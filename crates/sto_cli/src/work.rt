@@ -5,7 +5,7 @@ ghost use Rattle.sto_lang.specs.Sound.{IsFromTo};
 ghost use Rattle.sto_words.specs.Commands.{HasThreads, HasRange, command_in};
 ghost use Rattle.sto_words.specs.declared.command.Command.TheVariants as commands;
 ghost use Rattle.sto_cli.specs.declared.refusal.Refusal.TheVariants.{ReadFault, WriteFault};
-ghost use Rattle.sto_cli.specs.Ends.{Made, IsReadRefusal, Unmade, Ends, RoseFor, RoseForText};
+ghost use Rattle.sto_cli.specs.Ends.{Made, IsReadRefusal, Unmade, IsWritten, Ends, RoseFor, RoseForText};
 
 use crate::answer::{bench_text, gen_text, run_text, step_text, upgrade_text};
 use crate::refusal::Refusal;
@@ -17,8 +17,9 @@ use sto_part::Bytes;
 use sto_run::Gate;
 use sto_words::{Command, find_command};
 
-/// Reads the source to its end or past the limit.
-fn bytes_left<S: Source>(alloc: Global, source: &mut S) -> Result<Bytes, Refusal>
+/// Reads the source to its end, or until there is one byte more than a script may have. Where the source fails, what it gave is
+/// let go.
+pub fn bytes_left<S: Source>(alloc: Global, source: &mut S) -> Result<Bytes, Refusal>
     ensures taken { IfOk result (λ bytes. Takes (S.left source.old) (S.left source.new) bytes.items) }
     ensures few { IfOk result (λ bytes. length bytes.items ≤ 1048577) }
     ensures end { IfOk result (λ bytes. length bytes.items < 1048577 → AtEnd (S.left source.new)) }
@@ -105,6 +106,17 @@ fn text_for<R: Threads + Sync, S: Source, G: Gate>(
     }
 }
 
+/// Writes a text. Where the output fails, a front of it was written.
+pub fn write_text<K: Sink>(out: &mut K, text: &Text) -> Result<(), Refusal>
+    ensures written { IsWritten result text.now.items (K.held out.old) (K.held out.new) }
+    ensures out_faults { RoseFor WriteFault result (K.faults out.old) (K.faults out.new) }
+{
+    match write_all(out, text.as_bytes()) {
+        Ok(()) => Ok(()),
+        Err(_) => Err(Refusal::WriteFault),
+    }
+}
+
 /// Does what the words say: makes the whole text, and writes it.
 pub(crate) fn perform<R: Threads + Sync, S: Source, K: Sink, G: Gate>(
     rt: &R,
@@ -122,8 +134,5 @@ pub(crate) fn perform<R: Threads + Sync, S: Source, K: Sink, G: Gate>(
         return Err(Refusal::Usage);
     };
     let text = text_for(rt, alloc, command, source, gate)?;
-    match write_all(out, text.as_bytes()) {
-        Ok(()) => Ok(()),
-        Err(_) => Err(Refusal::WriteFault),
-    }
+    write_text(out, &text)
 }

@@ -1,21 +1,14 @@
 //! What is said beside the output.
-ghost use Rattle.std.specs.Prelude.{◌≡◌, IfOk, string_bytes};
-ghost use Rattle.sto_cli.specs.Statuses.{fault_line, line_of, Says, EndsSo, IsFixed};
+ghost use Rattle.std.specs.Prelude.{◌≡◌};
+ghost use Rattle.sto_ending.specs.Said.{Says};
+ghost use Rattle.sto_cli.specs.Statuses.{line_of, EndsSo, IsFixed};
 
 use crate::refusal::Refusal;
-use std::alloc::{AllocError, Global};
-use sto_io::{Sink, write_all};
-use sto_lang::ScriptFault;
+use std::alloc::Global;
+use sto_ending::{fault_line, write_line};
+use sto_io::Sink;
 
-// The line of a fault of a script.
-fn fault_line(alloc: Global, fault: ScriptFault) -> Result<String, AllocError>
-    ensures { IfOk result (λ text. string_bytes text ≡ fault_line fault) }
-{
-    let ScriptFault { line, kind } = fault;
-    format!(in alloc; "sto: line {line}: {kind}\n")
-}
-
-// The line of every other ending.
+// The line of an ending that is no fault of a script.
 fn fixed_line(outcome: Result<(), Refusal>) -> &'static [u8]
     requires { IsFixed outcome }
     ensures { result.now ≡ line_of outcome }
@@ -30,15 +23,9 @@ fn fixed_line(outcome: Result<(), Refusal>) -> &'static [u8]
     }
 }
 
-// Writes a line beside. A fault of the sink changes nothing else.
-fn write_line<E: Sink>(diag: &mut E, line: &[u8])
-    ensures { Says line.now (E.held diag.old) (E.held diag.new) (E.faults diag.old) (E.faults diag.new) }
-{
-    let _ = write_all(diag, line);
-}
-
-/// Says beside how a call ended. Where there is no memory for the line of a fault, it ends so.
-pub(crate) fn say<E: Sink>(
+/// Says beside how a call ended. Where there is no memory for the line of a fault, it ends so. A fault of the sink changes
+/// nothing else.
+pub fn say<E: Sink>(
     alloc: Global,
     diag: &mut E,
     outcome: Result<(), Refusal>,

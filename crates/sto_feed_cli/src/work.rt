@@ -1,0 +1,52 @@
+//! The order of work: the words, the source, the script, the run, the text, the writing.
+ghost use Rattle.std.specs.Prelude.{IfOk, IfErr};
+ghost use Rattle.sto_words.specs.Asked.{HasNumbers};
+ghost use Rattle.sto_cli.specs.declared.refusal.Refusal.TheVariants.{ReadFault, WriteFault};
+ghost use Rattle.sto_cli.specs.Ends.{Made, Unmade, Ends, RoseFor, RoseForText};
+ghost use Rattle.sto_feed_cli.specs.Commands.{command_for, feed_command};
+
+use crate::answer::feed_text;
+use std::alloc::Global;
+use std::sync::Wait;
+use std::thread::Threads;
+use sto_cli::{Refusal, Sink, Source, bytes_left, write_text};
+use sto_feeding::Gate;
+use sto_lang::Text;
+use sto_words::{Feeding, find_feeding};
+
+/// Reads the source, and feeds its transactions to the workers.
+fn feed_source<R: Threads + Wait + Sync, S: Source, G: Gate>(
+    rt: &R,
+    alloc: Global,
+    asked: Feeding,
+    source: &mut S,
+    gate: &G,
+) -> Result<Text, Refusal>
+    requires { HasNumbers asked }
+    ensures made { IfOk result (λ text. Made (command_for asked) (S.left source.old) (S.left source.new) text.items) }
+    ensures unmade { IfErr result (λ e. Unmade e (command_for asked) (S.left source.old) (S.left source.new)) }
+    ensures source_faults { RoseForText result (S.faults source.old) (S.faults source.new) }
+{
+    let bytes = bytes_left(alloc, source)?;
+    feed_text(rt, alloc, asked, bytes.as_slice(), gate)
+}
+
+/// Does what the words say: makes the whole report, and writes it.
+pub(crate) fn perform<R: Threads + Wait + Sync, S: Source, K: Sink, G: Gate>(
+    rt: &R,
+    alloc: Global,
+    words: &[String],
+    source: &mut S,
+    out: &mut K,
+    gate: &G,
+) -> Result<(), Refusal>
+    ensures ends { Ends result (feed_command words.now) (S.left source.old) (S.left source.new) (K.held out.old) (K.held out.new) }
+    ensures source_faults { RoseFor ReadFault result (S.faults source.old) (S.faults source.new) }
+    ensures out_faults { RoseFor WriteFault result (K.faults out.old) (K.faults out.new) }
+{
+    let Some(asked) = find_feeding(alloc, words)? else {
+        return Err(Refusal::Usage);
+    };
+    let text = feed_source(rt, alloc, asked, source, gate)?;
+    write_text(out, &text)
+}
