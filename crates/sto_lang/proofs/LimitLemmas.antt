@@ -1,6 +1,7 @@
 -- Shapes of declarations in range are small.
-use Rattle.std.proofs.Common.{◌≡◌, ◌+◌, ◌*◌, ◌≤◌, ◌<◌, ◌^◌, ℕ, ℤ, pos, negsuc, List, [], length, refl, ◌∙◌, arith, Bool, true, false, ◌&&◌, ◌||◌, nat_lt, cond, ◌==◌, Option, None, Some, zero-add}
+use Rattle.std.proofs.Common.{◌≡◌, ◌+◌, ◌*◌, ◌≤◌, ◌<◌, ◌^◌, ℕ, ℤ, pos, negsuc, List, [], ◌∷◌, ◌++◌, length, refl, ◌∙◌, arith, Bool, true, false, ◌&&◌, ◌||◌, nat_lt, cond, ◌==◌, Option, None, Some, zero-add}
 use Rattle.std.proofs.lemmas.Bool.Decides.{nat_tests}
+use Rattle.std.proofs.lemmas.List.{length_push}
 use Rattle.std.proofs.Math.Nat.{mul-le-mul}
 use Rattle.sto_form.specs.declared.declared.Declared.{Declared}
 use Rattle.sto_form.specs.declared.declared.Declared.TheVariants as declares
@@ -9,6 +10,7 @@ use Rattle.sto_model.specs.Sizes.{part_count, word_count}
 use Rattle.sto_lang.specs.Shapes.{natural, in_range, is_in_ranges, most_length, shape_of}
 use Rattle.sto_model.specs.declared.shape.Shape.{Shape}
 use Rattle.sto_lang.specs.Objects.{Object, part_total, word_total}
+use Rattle.sto_lang.specs.Drafts.{is_variable, with_variable}
 use Rattle.sto_lang.specs.Limits.{is_full, most_threads, most_parts, most_words}
 use Rattle.sto_lang.specs.BegunViews.{innermost_first}
 use Rattle.sto_lang.proofs.PlaceLemmas as places
@@ -115,3 +117,11 @@ roomiest version objects shape e =
     let few = not_below 65536 parts (omega (arith, parts_most version, not_above (most_parts version) parts tests.1)) in
     let narrow = not_below 131072 words (omega (arith, words_most version, not_above (most_words version) words tests.2)) in
     (λ i. tests.0 i || few i || narrow i)
+
+count_more : (variables : List (List ℕ)) (name : List ℕ) (known : Bool) → length (cond known variables (variables ++ name ∷ [])) ≡ cond known (length variables) (length variables + 1)
+count_more variables name true = refl
+count_more variables name false = length_push variables name
+
+-- an assignment adds a variable where it is new
+pub variables_more : (variables : List (List ℕ)) (name : List ℕ) → length (with_variable variables name) ≡ cond (is_variable variables name) (length variables) (length variables + 1)
+variables_more variables name = count_more variables name (is_variable variables name)

@@ -2,12 +2,13 @@
 ghost use Rattle.std.specs.Prelude.{◌≡◌, ◌+◌, not, length, nat_lt, ◌||◌, true};
 ghost use Rattle.std.specs.List.{list_all};
 ghost use Rattle.sto_form.specs.Views.{entries as entries_of, entry as entry_of, thread_word, name_option, form as form_of};
-ghost use Rattle.sto_lang.specs.Drafts.{variables_in, with_assigned};
+ghost use Rattle.sto_lang.specs.Drafts.{variables_in, with_variable, with_assigned};
 ghost use Rattle.sto_lang.specs.Shapes.{is_in_ranges, shape_of};
 ghost use Rattle.sto_lang.specs.Limits.{is_full, is_deep, is_heavy, is_in_range, has_range, has_thread, is_turn, is_beyond, most_threads};
 ghost use Rattle.sto_lang.specs.DraftViews.{draft_of};
 
 use crate::draft::Draft;
+use crate::name_table::NameTable;
 use crate::range::{in_range, is_in_ranges, natural, shape};
 use crate::turns::own_weight;
 use sto_form::{Declared, Entries, Entry, Form, Name, ThreadWord};
@@ -94,17 +95,25 @@ fn are_turns(threads: u32, entries: Entries<'_>) -> bool
     true
 }
 
+#[tactic(auto, using(crate::proofs::LimitLemmas::variables_more))]
+/// Whether there are too many variables with the one of this name. It is looked up only where there are
+/// as many as there may be.
+fn are_many_with(variables: &NameTable, name: &Name<'_>) -> bool
+    ensures { result ≡ nat_lt 64 (length (with_variable variables.now name.now.bytes.now)) }
+{
+    let count = variables.len();
+    64 < count || (count == 64 && variables.find(name).is_none())
+}
+
 /// Whether a transaction has too many variables with the one that a line assigns.
 fn has_many_variables(draft: &Draft, to: Option<Name<'_>>) -> bool
     ensures { result ≡ nat_lt 64 (length (with_assigned (variables_in (draft_of draft.now).inside) (name_option to.entry))) }
 {
-    let (count, is_new) = match (&draft.begun, to) {
-        (None, None) => (0, false),
-        (None, Some(_)) => (0, true),
-        (Some(begun), None) => (begun.variables.len(), false),
-        (Some(begun), Some(to)) => (begun.variables.len(), begun.variables.find(&to).is_none()),
-    };
-    64 < u64::from(count) + u64::from(is_new)
+    match (&draft.begun, to) {
+        (None, _) => false,
+        (Some(begun), None) => 64 < begun.variables.len(),
+        (Some(begun), Some(to)) => are_many_with(&begun.variables, &to),
+    }
 }
 
 /// Whether a number is outside the range of its place, or the line brings the file past a limit.
