@@ -1,7 +1,7 @@
 //! Runs on two workers under gates, which show what no clause can say: that both workers run.
 //!
 //! In the first, an attempt is held between its read and its commit until another transaction has committed. So it is aborted,
-//! and the report names the change. In the second, one worker is held until the other has run all other script threads. A
+//! and the report names the change. The feed then does the same. In the second, one worker is held until the other has run all other script threads. A
 //! worker that had threads of its own would leave some to the one that is held. In the third, the transactions of the
 //! generated script are counted as they end. In the fourth, a transaction that may be tried once is aborted, and listed all the
 //! same; so are both where no gate holds them. Last, the generated script is run on four workers, and each report is compared with
@@ -14,13 +14,16 @@ mod replays;
 use gates::{Ends, Middle, Others};
 use replays::{is_replay, transfers_of};
 use std::alloc::{AllocError, Global};
+use std::sync::Wait;
 use std::thread::Threads;
 use std::{io, str};
-use sto_calls::call;
+use sto_calls::{Called, call, call_feed};
 use sto_cli::{Gate, NoGate};
 use sto_part::NoMemory;
 
 const ON_TWO: [&str; 3] = ["run", "--threads", "2"];
+
+const FED_TO_TWO: [&str; 2] = ["--threads", "2"];
 
 const WITH_ONE_TRY: [&str; 5] = ["run", "--threads", "2", "--tries", "1"];
 
@@ -82,6 +85,15 @@ set y 0
 commit
 ";
 
+// What a call wrote, and its exit status last.
+fn written_by(alloc: Global, called: Result<Called, NoMemory>) -> Result<String, AllocError> {
+    let Ok(called) = called else {
+        return Err(AllocError);
+    };
+    let written = str::from_utf8(called.out.as_slice()).unwrap_or("no text\n");
+    format!(in alloc; "{written}status {}\n", called.status)
+}
+
 // What the program writes for these words and this script, and its exit status last.
 fn written_for<R: Threads + Sync, G: Gate>(
     rt: &R,
@@ -90,12 +102,18 @@ fn written_for<R: Threads + Sync, G: Gate>(
     script: &str,
     gate: &G,
 ) -> Result<String, AllocError> {
-    let called = match call(rt, alloc, words, script, gate) {
-        Ok(called) => called,
-        Err(NoMemory) => return Err(AllocError),
-    };
-    let written = str::from_utf8(called.out.as_slice()).unwrap_or("no text\n");
-    format!(in alloc; "{written}status {}\n", called.status)
+    written_by(alloc, call(rt, alloc, words, script, gate))
+}
+
+// The same of the feed.
+fn fed_for<R: Threads + Wait + Sync, G: Gate>(
+    rt: &R,
+    alloc: Global,
+    words: &[&str],
+    script: &str,
+    gate: &G,
+) -> Result<String, AllocError> {
+    written_by(alloc, call_feed(rt, alloc, words, script, gate))
 }
 
 fn lines_with(report: &str, words: &str) -> usize {
@@ -136,6 +154,10 @@ fn replayed_reports<R: Threads + Sync>(rt: &R, alloc: Global) -> Result<u32, All
 fn main(rt: HostRuntime) -> io::Result<()> {
     let middle = Middle::new(4);
     let written = written_for(&rt, rt.alloc(), &ON_TWO, LOST_UPDATE, &middle)?;
+    print!(rt; "{written}")?;
+    println!(rt; "both seen: {}", middle.has_seen_both())?;
+    let middle = Middle::new(4);
+    let written = fed_for(&rt, rt.alloc(), &FED_TO_TWO, LOST_UPDATE, &middle)?;
     print!(rt; "{written}")?;
     println!(rt; "both seen: {}", middle.has_seen_both())?;
     let others = Others::new();
