@@ -6,11 +6,14 @@ use crate::known::Known;
 use crate::rule::Law;
 use crossbeam_queue::{Pass, RuledArrayQueue};
 use std::alloc::Global;
+use std::thread::Parker;
 
 /// A queue of jobs, which a feeder and a worker share.
 #[derive(Drop)]
 pub struct JobQueue {
     pub ring: RuledArrayQueue<Job, Known, Law, Global>,
+    // On which the worker sleeps until the next send.
+    pub(crate) bell: Parker,
 }
 
 /// What the feeder or the worker knows of its queue. It has no bytes.

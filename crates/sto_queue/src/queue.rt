@@ -10,6 +10,7 @@ use crossbeam_queue::RuledArrayQueue;
 use std::alloc::Global;
 use std::marker::Brand;
 use std::sync::Wait;
+use std::thread::Parker;
 use sto_part::NoMemory;
 
 /// A queue that was just opened, with its two passes.
@@ -35,7 +36,10 @@ fn opened<L: Listed>(alloc: Global, jobs: &Jobs) -> Result<OpenedQueue, NoMemory
     };
     let other = ring.another::<Opening<L>>(&mut seat);
     Ok(OpenedQueue {
-        queue: JobQueue { ring },
+        queue: JobQueue {
+            ring,
+            bell: Parker::new(),
+        },
         feeder: JobPass { seat },
         worker: JobPass { seat: other },
     })
@@ -52,8 +56,8 @@ pub fn open_queue(alloc: Global, jobs: &Jobs) -> Result<OpenedQueue, NoMemory>
 }
 
 impl JobQueue {
-    /// Sends the job that follows those that the feeder has sent. The queue has room for it. It may wait while the worker
-    /// is at the same place.
+    /// Sends the job that follows those that the feeder has sent, and wakes the worker where it sleeps. The queue has room for
+    /// it. It may wait while the worker is at the same place.
     pub fn send<R: Wait>(&self, rt: &R, feeder: &mut JobPass, job: Job)
         requires of { IsPass self.now feeder.old (feeding (known feeder.old).jobs (known feeder.old).sent) }
         requires next { slice_get (known feeder.old).jobs (known feeder.old).sent ≡ Some job }
@@ -63,6 +67,7 @@ impl JobQueue {
             Ok(()) => {}
             Err(_) => unreachable!(),
         }
+        self.bell.unpark();
     }
 
     /// Takes the job that follows those that the worker has taken. There is none only where the queue was empty at that step;
@@ -76,12 +81,18 @@ impl JobQueue {
         self.ring.pop_as::<Taking, R>(rt, &mut worker.seat)
     }
 
+    /// Sleeps until a job is sent, unless one was sent since the last such call ended. It is for the worker, where it found the
+    /// queue empty, and takes nothing.
+    pub fn wait<R: Wait>(&self, rt: &R) {
+        self.bell.park(rt);
+    }
+
     /// Closes a queue whose jobs were all sent and all taken.
     pub fn close(self, feeder: JobPass, worker: JobPass)
         requires feeder { IsPass self feeder (feeding (known feeder).jobs (length (known feeder).jobs)) }
         requires worker { IsPass self worker (working (known feeder).jobs (length (known feeder).jobs)) }
     {
-        let JobQueue { ring } = self;
+        let JobQueue { ring, .. } = self;
         let JobPass { mut seat } = feeder;
         let JobPass { seat: other } = worker;
         ring.absorb::<Ends>(&mut seat, other);

@@ -38,7 +38,7 @@ pub struct Crew<T: Naming> {
     pub records: Vec<Record>,
 }
 
-// Takes the next job, and tries again where the queue is empty.
+// Takes the next job, and tries again where the queue is empty. After some tries it sleeps until a job is sent.
 fn next_job<R: Wait>(rt: &R, queue: &JobQueue, worker: &mut JobPass) -> Job
     requires of { IsPass queue.now worker.old (working (known worker.old).jobs (known worker.old).taken) }
     ensures next { slice_get (known worker.old).jobs (known worker.old).taken ≡ Some result }
@@ -49,7 +49,11 @@ fn next_job<R: Wait>(rt: &R, queue: &JobQueue, worker: &mut JobPass) -> Job
         if let Some(job) = queue.take(rt, worker) {
             return job;
         }
-        backoff.snooze();
+        if backoff.is_completed() {
+            queue.wait(rt);
+        } else {
+            backoff.snooze();
+        }
     }
     unreachable!()
 }
