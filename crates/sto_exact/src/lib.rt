@@ -14,8 +14,9 @@ ghost use Rattle.sto_exact.specs.Fitting.{AreFitting};
 
 use std::alloc::Global;
 use sto_judging::{Found, check_report};
+use sto_objects::Objects;
 use sto_part::NoMemory;
-use sto_shapes::{Objects, StoredFile};
+use sto_shapes::StoredFile;
 use sto_type::TxType;
 
 /// Checks the text of a report of a file whose objects were built, as `check_report` does. A text that is lawful by what the types

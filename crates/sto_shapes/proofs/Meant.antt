@@ -21,22 +21,22 @@ abbrev pub stored : StoredFile → Meaning
 stored s =
     joined (all_joined (map (λ x. mean_of (Single x.first)) s.objects.store.first))
     (joined (all_joined (map (λ x. mean_of (Counter x.first)) s.objects.store.second.first))
-    (joined (all_joined (map (λ x. mean_of (Array x.len x.first)) s.objects.store.second.second.first))
-    (joined (all_joined (map (λ x. mean_of (Hash x.buckets x.places)) s.objects.store.second.second.second.first))
-    (joined (all_joined (map (λ x. mean_of (Tree x.leaves)) s.objects.store.second.second.second.second.first))
-    (all_joined (map (λ x. mean_of (Vector x.capacity)) s.objects.store.second.second.second.second.second))))))
+    (joined (all_joined (map (λ x. mean_of (Array x.len x.first)) s.objects.store.second.second.kinds.first))
+    (joined (all_joined (map (λ x. mean_of (Hash x.buckets x.places)) s.objects.store.second.second.kinds.second.first))
+    (joined (all_joined (map (λ x. mean_of (Tree x.leaves)) s.objects.store.second.second.kinds.second.second.first))
+    (all_joined (map (λ x. mean_of (Vector x.capacity)) s.objects.store.second.second.kinds.second.second.second))))))
 
 -- it is what their shapes mean
 pub stored_means : (s : StoredFile) → stored s ≡ means (shapes_of (view s.file.now).declarations)
 stored_means s =
     means_is (λ x. Single x.first) (λ x. Counter x.first) (λ x. Array x.len x.first) (λ x. Hash x.buckets x.places) (λ x. Tree x.leaves) (λ x. Vector x.capacity)
-    s.objects.store.first s.objects.store.second.first s.objects.store.second.second.first s.objects.store.second.second.second.first
-    s.objects.store.second.second.second.second.first s.objects.store.second.second.second.second.second (shapes_of (view s.file.now).declarations) s.kinds
+    s.objects.store.first s.objects.store.second.first s.objects.store.second.second.kinds.first s.objects.store.second.second.kinds.second.first
+    s.objects.store.second.second.kinds.second.second.first s.objects.store.second.second.kinds.second.second.second (shapes_of (view s.file.now).declarations) s.kinds
 
 -- they take each call that a transaction of the file may ask
 pub stored_takes : (s : StoredFile) (place : Place) (script : Script) → transaction_at (view s.file.now) place ≡ Some script → (call : Call) → Asks script.body call → (stored s).takes call
 stored_takes s place script at call asks =
     store_takes (λ x. Single x.first) (λ x. Counter x.first) (λ x. Array x.len x.first) (λ x. Hash x.buckets x.places) (λ x. Tree x.leaves) (λ x. Vector x.capacity)
-    s.objects.store.first s.objects.store.second.first s.objects.store.second.second.first s.objects.store.second.second.second.first
-    s.objects.store.second.second.second.second.first s.objects.store.second.second.second.second.second (shapes_of (view s.file.now).declarations)
+    s.objects.store.first s.objects.store.second.first s.objects.store.second.second.kinds.first s.objects.store.second.second.kinds.second.first
+    s.objects.store.second.second.kinds.second.second.first s.objects.store.second.second.kinds.second.second.second (shapes_of (view s.file.now).declarations)
     (sound_in_order (view s.file.now)) s.kinds script.body (s.runnable place script at).taken call asks

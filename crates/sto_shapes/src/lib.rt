@@ -2,10 +2,8 @@
 //! homes of their parts, and the rows of their contents.
 #![tactic(auto)]
 
-mod objects;
 mod stored;
 mod whole;
 
-pub use objects::Objects;
 pub use stored::StoredFile;
 pub use whole::{homes_of, opening_of, rows_of};

@@ -13,9 +13,9 @@ ghost use Rattle.sto_store.specs.Stores.{AreKinds};
 ghost use Rattle.sto_records.specs.Meanings.{IsTypeOf};
 ghost use Rattle.sto_shapes.specs.Runnable.{AreRunnable};
 
-use crate::objects::Objects;
 use std::alloc::Global;
 use sto_lang::{File, shapes};
+use sto_objects::Objects;
 use sto_part::NoMemory;
 use sto_script::ScriptBody;
 use sto_store::build;
@@ -27,7 +27,7 @@ pub struct StoredFile<'f> {
     pub file: &'f File,
     pub objects: Objects,
     ghost runnable: { AreRunnable (view file.now) },
-    ghost kinds: { AreKinds (map (λ x. Single x.first) objects.store.first) (map (λ x. Counter x.first) objects.store.second.first) (map (λ x. Array x.len x.first) objects.store.second.second.first) (map (λ x. Hash x.buckets x.places) objects.store.second.second.second.first) (map (λ x. Tree x.leaves) objects.store.second.second.second.second.first) (map (λ x. Vector x.capacity) objects.store.second.second.second.second.second) (shapes_of (view file.now).declarations) },
+    ghost kinds: { AreKinds (map (λ x. Single x.first) objects.store.first) (map (λ x. Counter x.first) objects.store.second.first) (map (λ x. Array x.len x.first) objects.store.second.second.kinds.first) (map (λ x. Hash x.buckets x.places) objects.store.second.second.kinds.second.first) (map (λ x. Tree x.leaves) objects.store.second.second.kinds.second.second.first) (map (λ x. Vector x.capacity) objects.store.second.second.kinds.second.second.second) (shapes_of (view file.now).declarations) },
 }
 
 impl<'f> StoredFile<'f> {
@@ -38,11 +38,8 @@ impl<'f> StoredFile<'f> {
         ensures type_of { IfOk result (λ s. IsTypeOf (shapes_of (view file.entry.now).declarations) (⟦<Objects as TxType>⟧.meaning s.objects)) }
     {
         let shapes = shapes(alloc, file)?;
-        let store = build(alloc, &shapes)?;
-        Ok(StoredFile {
-            file,
-            objects: Objects { store },
-        })
+        let objects = build(alloc, &shapes)?;
+        Ok(StoredFile { file, objects })
     }
 
     /// The transaction at a position of a thread as a body, at its beginning. The objects take each call that it may ask.

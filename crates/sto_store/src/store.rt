@@ -15,58 +15,41 @@ use sto_box::TBox;
 use sto_counter::TCounter;
 use sto_hash::THash;
 use sto_model::{Shape, Shapes};
+use sto_objects::{Arrays, Boxes, Counters, Hashes, Objects, Sized, Trees, Vectors, Wide};
 use sto_part::NoMemory;
 use sto_tree::TTree;
 use sto_type::{Both, Many, TxType};
 use sto_vector::TVector;
 
-/// The objects of one kind.
-type Boxes = Many<TBox<i64>>;
-
-type Counters = Many<TCounter>;
-
-type Arrays = Many<TArray>;
-
-type Hashes = Many<THash>;
-
-type Trees = Many<TTree>;
-
-type Vectors = Many<TVector>;
-
-/// The objects that have a part for their size.
-type Sized = Both<Trees, Vectors>;
-
-/// The objects that may have more than one part.
-type Wide = Both<Arrays, Both<Hashes, Sized>>;
-
-/// Boxes, counters, arrays, hash tables, trees and vectors, in this order.
-pub type Store = Both<Boxes, Both<Counters, Wide>>;
-
-/// The store of objects of these shapes.
-pub fn build(alloc: Global, shapes: &Shapes) -> Result<Store, NoMemory>
+/// The objects of these shapes, each kind in the order of the shapes.
+pub fn build(alloc: Global, shapes: &Shapes) -> Result<Objects, NoMemory>
     requires fit { AreFit shapes.now.items }
     requires parts { sum_by part_count shapes.now.items < 2 ^ 32 }
     ensures lawful { IfOk result (λ s. IsLawful (means shapes.now.items)) }
-    ensures takes { IfOk result (λ s. AreInOrder shapes.now.items → (call : Call) → IsTaken shapes.now.items call → IsFitting call → (⟦<Store as TxType>⟧.meaning s).takes call) }
-    ensures kinds { IfOk result (λ s. AreKinds (map (λ x. Single x.first) s.first) (map (λ x. Counter x.first) s.second.first) (map (λ x. Array x.len x.first) s.second.second.first) (map (λ x. Hash x.buckets x.places) s.second.second.second.first) (map (λ x. Tree x.leaves) s.second.second.second.second.first) (map (λ x. Vector x.capacity) s.second.second.second.second.second) shapes.now.items) }
+    ensures takes { IfOk result (λ s. AreInOrder shapes.now.items → (call : Call) → IsTaken shapes.now.items call → IsFitting call → (⟦<Objects as TxType>⟧.meaning s).takes call) }
+    ensures kinds { IfOk result (λ s. AreKinds (map (λ x. Single x.first) s.store.first) (map (λ x. Counter x.first) s.store.second.first) (map (λ x. Array x.len x.first) s.store.second.second.kinds.first) (map (λ x. Hash x.buckets x.places) s.store.second.second.kinds.second.first) (map (λ x. Tree x.leaves) s.store.second.second.kinds.second.second.first) (map (λ x. Vector x.capacity) s.store.second.second.kinds.second.second.second) shapes.now.items) }
 {
     let all = shapes.as_slice();
     let boxes = build_boxes(alloc, all)?;
     let counters = build_counters(alloc, all)?;
     let wide = build_wide(alloc, all)?;
-    Ok(Both::new(boxes, Both::new(counters, wide)))
+    Ok(Objects {
+        store: Both::new(boxes, Both::new(counters, wide)),
+    })
 }
 
 fn build_wide(alloc: Global, shapes: &[Shape]) -> Result<Wide, NoMemory>
     requires few { length shapes.now < 2 ^ 32 }
     requires fit { AreFit shapes.now }
     requires parts { sum_by part_count shapes.now < 2 ^ 32 }
-    ensures { IfOk result (λ w. AreWide (map (λ x. Array x.len x.first) w.first) (map (λ x. Hash x.buckets x.places) w.second.first) (map (λ x. Tree x.leaves) w.second.second.first) (map (λ x. Vector x.capacity) w.second.second.second) shapes.now) }
+    ensures { IfOk result (λ w. AreWide (map (λ x. Array x.len x.first) w.kinds.first) (map (λ x. Hash x.buckets x.places) w.kinds.second.first) (map (λ x. Tree x.leaves) w.kinds.second.second.first) (map (λ x. Vector x.capacity) w.kinds.second.second.second) shapes.now) }
 {
     let arrays = build_arrays(alloc, shapes)?;
     let hashes = build_hashes(alloc, shapes)?;
     let sized = build_sized(alloc, shapes)?;
-    Ok(Both::new(arrays, Both::new(hashes, sized)))
+    Ok(Wide {
+        kinds: Both::new(arrays, Both::new(hashes, sized)),
+    })
 }
 
 fn build_sized(alloc: Global, shapes: &[Shape]) -> Result<Sized, NoMemory>

@@ -3,8 +3,9 @@ use std::alloc::Global;
 use std::process::Abort;
 use std::test::Fail;
 use sto_model::{Call, Reply, Shape, Shapes};
+use sto_objects::Objects;
 use sto_part::NoMemory;
-use sto_store::{Store, build};
+use sto_store::build;
 use sto_type::{Answer, Cache, TxType};
 
 // The codes of two calls.
@@ -13,7 +14,7 @@ const GET: u8 = 0;
 const LEN: u8 = 8;
 
 // A box, a counter, an array, a hash table and a tree.
-fn one_of_each_kind(alloc: Global) -> Result<Store, NoMemory> {
+fn one_of_each_kind(alloc: Global) -> Result<Objects, NoMemory> {
     let mut shapes = Shapes::new(alloc);
     shapes.extend(&[
         Shape::Single(7),

@@ -1,4 +1,4 @@
-use Rattle.std.proofs.Common.{◌≡◌, ◌<◌, ◌≤◌, ◌+◌, ◌^◌, ℕ, ap, sym, ◌∙◌, arith, subst, [], ◌∷◌, ◌++◌, map, length, length-append}
+use Rattle.std.proofs.Common.{◌≡◌, ◌<◌, ◌≤◌, ◌+◌, ◌^◌, ℕ, List, ap, sym, ◌∙◌, arith, subst, [], ◌∷◌, ◌++◌, map, length, length-append}
 use Rattle.sto_model.specs.declared.shape.Shape.{Shape}
 use Rattle.sto_model.specs.declared.shape.Shape.TheVariants.{Single, Counter, Array, Hash, Tree, Vector}
 use Rattle.sto_part.specs.Codes.{IsSignedCode}
@@ -14,7 +14,13 @@ use Rattle.sto_vector.specs.VectoredLaw.{vector_lawful}
 use Rattle.sto_store.specs.Stores.{of_kind, mean_of, means, AreKinds, AreWide}
 use Rattle.sto_store.specs.StoresLaw.{means_is, takes_all}
 use Rattle.sto_store.proofs.Built.{sum_kinds, kind_objects, kind_widths, wide_objects, wide_widths, whole_widths, same_parts, means_lawful, kind_lawful}
+use Rattle.sto_objects.specs.declared.wide.Wide.{Wide}
 use Rattle.sto_store.proofs.store.build.Goals as goal
+
+-- what stands in this type is of these shapes
+abbrev AreOf : List Shape → Wide → Type 0
+AreOf ss w =
+    AreWide (map (λ x. Array x.len x.first) w.kinds.first) (map (λ x. Hash x.buckets x.places) w.kinds.second.first) (map (λ x. Tree x.leaves) w.kinds.second.second.first) (map (λ x. Vector x.capacity) w.kinds.second.second.second) ss
 
 pub build_boxes-requires-clause-parts : goal.build_boxes-requires-clause-parts
 build_boxes-requires-clause-parts c = omega (arith, whole_widths c.as_slice-all.result.now (same_parts c.as_slice-all.result.now c.args.shapes.now.items c.as_slice-all.ensures.items c.requires.parts))
@@ -29,14 +35,14 @@ pub new-requires-clause-objects : goal.new-requires-clause-objects
 new-requires-clause-objects c =
     let ss = c.as_slice-all.result.now in
     let one = kind_objects 1 ss (λ x. Counter x.first) c.in_ok-counters.counters c.in_ok-counters.ensures in
-    let wide = wide_objects ss (λ x. Array x.len x.first) (λ x. Hash x.buckets x.places) (λ x. Tree x.leaves) (λ x. Vector x.capacity) c.in_ok-wide.wide.first c.in_ok-wide.wide.second.first c.in_ok-wide.wide.second.second.first c.in_ok-wide.wide.second.second.second c.in_ok-wide.ensures in
+    let wide = wide_objects ss (λ x. Array x.len x.first) (λ x. Hash x.buckets x.places) (λ x. Tree x.leaves) (λ x. Vector x.capacity) c.in_ok-wide.wide.kinds.first c.in_ok-wide.wide.kinds.second.first c.in_ok-wide.wide.kinds.second.second.first c.in_ok-wide.wide.kinds.second.second.second c.in_ok-wide.ensures in
     omega (arith, one, wide, sum_kinds ss, c.as_slice-all.ensures.few)
 
 pub new-requires-clause-parts : goal.new-requires-clause-parts
 new-requires-clause-parts c =
     let ss = c.as_slice-all.result.now in
     let one = kind_widths 1 ss (λ x. Counter x.first) c.in_ok-counters.counters c.in_ok-counters.ensures in
-    let wide = wide_widths ss (λ x. Array x.len x.first) (λ x. Hash x.buckets x.places) (λ x. Tree x.leaves) (λ x. Vector x.capacity) c.in_ok-wide.wide.first c.in_ok-wide.wide.second.first c.in_ok-wide.wide.second.second.first c.in_ok-wide.wide.second.second.second c.in_ok-wide.ensures in
+    let wide = wide_widths ss (λ x. Array x.len x.first) (λ x. Hash x.buckets x.places) (λ x. Tree x.leaves) (λ x. Vector x.capacity) c.in_ok-wide.wide.kinds.first c.in_ok-wide.wide.kinds.second.first c.in_ok-wide.wide.kinds.second.second.first c.in_ok-wide.wide.kinds.second.second.second c.in_ok-wide.ensures in
     omega (arith, one, wide, whole_widths ss (same_parts ss c.args.shapes.now.items c.as_slice-all.ensures.items c.requires.parts))
 
 pub new-requires-2-clause-objects : goal.new-requires-2-clause-objects
@@ -44,15 +50,8 @@ new-requires-2-clause-objects c =
     let ss = c.as_slice-all.result.now in
     let zero = kind_objects 0 ss (λ x. Single x.first) c.in_ok-boxes.boxes c.in_ok-boxes.ensures in
     let one = kind_objects 1 ss (λ x. Counter x.first) c.new.result.first (ap (map (λ x. Counter x.first)) c.new.ensures.first ∙ c.in_ok-counters.ensures) in
-    let now = c.new.result.second in
-    let kinds : AreWide (map (λ x. Array x.len x.first) now.first) (map (λ x. Hash x.buckets x.places) now.second.first) (map (λ x. Tree x.leaves) now.second.second.first) (map (λ x. Vector x.capacity) now.second.second.second) ss = record {
-      arrays_are = ap (λ b. map (λ x. Array x.len x.first) b.first) c.new.ensures.second ∙ c.in_ok-wide.ensures.arrays_are;
-      hashes_are = ap (λ b. map (λ x. Hash x.buckets x.places) b.second.first) c.new.ensures.second ∙ c.in_ok-wide.ensures.hashes_are;
-      sized = record {
-        trees_are = ap (λ b. map (λ x. Tree x.leaves) b.second.second.first) c.new.ensures.second ∙ c.in_ok-wide.ensures.sized.trees_are;
-        vectors_are = ap (λ b. map (λ x. Vector x.capacity) b.second.second.second) c.new.ensures.second ∙ c.in_ok-wide.ensures.sized.vectors_are;
-      };
-    } in
+    let now = c.new.result.second.kinds in
+    let kinds = subst (AreOf ss) (sym c.new.ensures.second) c.in_ok-wide.ensures in
     let wide = wide_objects ss (λ x. Array x.len x.first) (λ x. Hash x.buckets x.places) (λ x. Tree x.leaves) (λ x. Vector x.capacity) now.first now.second.first now.second.second.first now.second.second.second kinds in
     let inner = length-append (all_joined (map (λ x. mean_of (Counter x.first)) c.new.result.first)).machines
     (joined (all_joined (map (λ x. mean_of (Array x.len x.first)) now.first)) (joined (all_joined (map (λ x. mean_of (Hash x.buckets x.places)) now.second.first)) (joined (all_joined (map (λ x. mean_of (Tree x.leaves)) now.second.second.first)) (all_joined (map (λ x. mean_of (Vector x.capacity)) now.second.second.second))))).machines in
@@ -63,15 +62,8 @@ new-requires-2-clause-parts c =
     let ss = c.as_slice-all.result.now in
     let zero = kind_widths 0 ss (λ x. Single x.first) c.in_ok-boxes.boxes c.in_ok-boxes.ensures in
     let one = kind_widths 1 ss (λ x. Counter x.first) c.new.result.first (ap (map (λ x. Counter x.first)) c.new.ensures.first ∙ c.in_ok-counters.ensures) in
-    let now = c.new.result.second in
-    let kinds : AreWide (map (λ x. Array x.len x.first) now.first) (map (λ x. Hash x.buckets x.places) now.second.first) (map (λ x. Tree x.leaves) now.second.second.first) (map (λ x. Vector x.capacity) now.second.second.second) ss = record {
-      arrays_are = ap (λ b. map (λ x. Array x.len x.first) b.first) c.new.ensures.second ∙ c.in_ok-wide.ensures.arrays_are;
-      hashes_are = ap (λ b. map (λ x. Hash x.buckets x.places) b.second.first) c.new.ensures.second ∙ c.in_ok-wide.ensures.hashes_are;
-      sized = record {
-        trees_are = ap (λ b. map (λ x. Tree x.leaves) b.second.second.first) c.new.ensures.second ∙ c.in_ok-wide.ensures.sized.trees_are;
-        vectors_are = ap (λ b. map (λ x. Vector x.capacity) b.second.second.second) c.new.ensures.second ∙ c.in_ok-wide.ensures.sized.vectors_are;
-      };
-    } in
+    let now = c.new.result.second.kinds in
+    let kinds = subst (AreOf ss) (sym c.new.ensures.second) c.in_ok-wide.ensures in
     let wide = wide_widths ss (λ x. Array x.len x.first) (λ x. Hash x.buckets x.places) (λ x. Tree x.leaves) (λ x. Vector x.capacity) now.first now.second.first now.second.second.first now.second.second.second kinds in
     let inner = length-append (all_joined (map (λ x. mean_of (Counter x.first)) c.new.result.first)).widths
     (joined (all_joined (map (λ x. mean_of (Array x.len x.first)) now.first)) (joined (all_joined (map (λ x. mean_of (Hash x.buckets x.places)) now.second.first)) (joined (all_joined (map (λ x. mean_of (Tree x.leaves)) now.second.second.first)) (all_joined (map (λ x. mean_of (Vector x.capacity)) now.second.second.second))))).widths in
@@ -88,33 +80,25 @@ returns-clause-lawful c =
     (all_lawful (λ x. mean_of (Single x.first)) (λ x. box_lawful 1 IsSignedCode (x.first ∷ []) bounds (box_opened 1 IsSignedCode x.first x.second bounds x.first_fits x.second_fits x.code)) c.in_ok-boxes.boxes))
     (kind_lawful 1 ss (λ x. Counter x.first) c.in_ok-counters.counters c.in_ok-counters.ensures
     (all_lawful (λ x. mean_of (Counter x.first)) (λ x. counter_lawful x.first x.fits) c.in_ok-counters.counters))
-    (kind_lawful 2 ss (λ x. Array x.len x.first) c.in_ok-wide.wide.first wide.arrays_are
-    (all_lawful (λ x. mean_of (Array x.len x.first)) (λ x. array_lawful x.len x.first x.fits) c.in_ok-wide.wide.first))
-    (kind_lawful 3 ss (λ x. Hash x.buckets x.places) c.in_ok-wide.wide.second.first wide.hashes_are
-    (all_lawful (λ x. mean_of (Hash x.buckets x.places)) (λ x. hash_lawful x.buckets x.places x.some) c.in_ok-wide.wide.second.first))
-    (kind_lawful 4 ss (λ x. Tree x.leaves) c.in_ok-wide.wide.second.second.first wide.sized.trees_are
-    (all_lawful (λ x. mean_of (Tree x.leaves)) (λ x. tree_is_lawful x.leaves x.some x.few) c.in_ok-wide.wide.second.second.first))
-    (kind_lawful 5 ss (λ x. Vector x.capacity) c.in_ok-wide.wide.second.second.second wide.sized.vectors_are
-    (all_lawful (λ x. mean_of (Vector x.capacity)) (λ x. vector_lawful x.capacity x.few) c.in_ok-wide.wide.second.second.second)))
+    (kind_lawful 2 ss (λ x. Array x.len x.first) c.in_ok-wide.wide.kinds.first wide.arrays_are
+    (all_lawful (λ x. mean_of (Array x.len x.first)) (λ x. array_lawful x.len x.first x.fits) c.in_ok-wide.wide.kinds.first))
+    (kind_lawful 3 ss (λ x. Hash x.buckets x.places) c.in_ok-wide.wide.kinds.second.first wide.hashes_are
+    (all_lawful (λ x. mean_of (Hash x.buckets x.places)) (λ x. hash_lawful x.buckets x.places x.some) c.in_ok-wide.wide.kinds.second.first))
+    (kind_lawful 4 ss (λ x. Tree x.leaves) c.in_ok-wide.wide.kinds.second.second.first wide.sized.trees_are
+    (all_lawful (λ x. mean_of (Tree x.leaves)) (λ x. tree_is_lawful x.leaves x.some x.few) c.in_ok-wide.wide.kinds.second.second.first))
+    (kind_lawful 5 ss (λ x. Vector x.capacity) c.in_ok-wide.wide.kinds.second.second.second wide.sized.vectors_are
+    (all_lawful (λ x. mean_of (Vector x.capacity)) (λ x. vector_lawful x.capacity x.few) c.in_ok-wide.wide.kinds.second.second.second)))
 
 pub returns-clause-takes : goal.returns-clause-takes
 returns-clause-takes c = λ order call t f.
     let shapes = c.args.shapes.now.items in
     let same = c.as_slice-all.ensures.items in
     let s = c.new-2.result in
-    let wide = c.in_ok-wide.ensures in
-    let kinds : AreKinds (map (λ x. Single x.first) s.first) (map (λ x. Counter x.first) s.second.first) (map (λ x. Array x.len x.first) s.second.second.first) (map (λ x. Hash x.buckets x.places) s.second.second.second.first) (map (λ x. Tree x.leaves) s.second.second.second.second.first) (map (λ x. Vector x.capacity) s.second.second.second.second.second) shapes =
+    let kinds : AreKinds (map (λ x. Single x.first) s.first) (map (λ x. Counter x.first) s.second.first) (map (λ x. Array x.len x.first) s.second.second.kinds.first) (map (λ x. Hash x.buckets x.places) s.second.second.kinds.second.first) (map (λ x. Tree x.leaves) s.second.second.kinds.second.second.first) (map (λ x. Vector x.capacity) s.second.second.kinds.second.second.second) shapes =
     record {
       boxes_are = ap (map (λ x. Single x.first)) c.new-2.ensures.first ∙ c.in_ok-boxes.ensures ∙ ap (of_kind 0) same;
       counters_are = ap (map (λ x. Counter x.first)) (ap (λ b. b.first) c.new-2.ensures.second ∙ c.new.ensures.first) ∙ c.in_ok-counters.ensures ∙ ap (of_kind 1) same;
-      wide = record {
-        arrays_are = ap (λ b. map (λ x. Array x.len x.first) b.second.first) c.new-2.ensures.second ∙ ap (λ b. map (λ x. Array x.len x.first) b.first) c.new.ensures.second ∙ wide.arrays_are ∙ ap (of_kind 2) same;
-        hashes_are = ap (λ b. map (λ x. Hash x.buckets x.places) b.second.second.first) c.new-2.ensures.second ∙ ap (λ b. map (λ x. Hash x.buckets x.places) b.second.first) c.new.ensures.second ∙ wide.hashes_are ∙ ap (of_kind 3) same;
-        sized = record {
-          trees_are = ap (λ b. map (λ x. Tree x.leaves) b.second.second.second.first) c.new-2.ensures.second ∙ ap (λ b. map (λ x. Tree x.leaves) b.second.second.first) c.new.ensures.second ∙ wide.sized.trees_are ∙ ap (of_kind 4) same;
-          vectors_are = ap (λ b. map (λ x. Vector x.capacity) b.second.second.second.second) c.new-2.ensures.second ∙ ap (λ b. map (λ x. Vector x.capacity) b.second.second.second) c.new.ensures.second ∙ wide.sized.vectors_are ∙ ap (of_kind 5) same;
-        };
-      };
+      wide = subst (AreOf shapes) (sym (ap (λ b. b.second) c.new-2.ensures.second ∙ c.new.ensures.second)) (subst (λ (t : List Shape). AreOf t c.in_ok-wide.wide) same c.in_ok-wide.ensures);
     } in
-    let is = means_is (λ x. Single x.first) (λ x. Counter x.first) (λ x. Array x.len x.first) (λ x. Hash x.buckets x.places) (λ x. Tree x.leaves) (λ x. Vector x.capacity) s.first s.second.first s.second.second.first s.second.second.second.first s.second.second.second.second.first s.second.second.second.second.second shapes kinds in
+    let is = means_is (λ x. Single x.first) (λ x. Counter x.first) (λ x. Array x.len x.first) (λ x. Hash x.buckets x.places) (λ x. Tree x.leaves) (λ x. Vector x.capacity) s.first s.second.first s.second.second.kinds.first s.second.second.kinds.second.first s.second.second.kinds.second.second.first s.second.second.kinds.second.second.second shapes kinds in
     subst (λ m. m.takes call) (sym is) ((takes_all shapes order).takes call t f)

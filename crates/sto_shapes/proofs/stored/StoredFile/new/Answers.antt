@@ -21,17 +21,17 @@ build-requires-clause-parts c = subst (λ (ss : List Shape). sum_by part_count s
 
 pub invariant_of-result : goal.invariant_of-result
 invariant_of-result c =
-    let s = c.in_ok-store.store in
+    let s = c.in_ok-objects.objects in
     record {
       runnable = sound_runnable (view c.args.file.now) c.requires;
-      kinds = subst (AreKinds (map (λ x. Single x.first) s.first) (map (λ x. Counter x.first) s.second.first) (map (λ x. Array x.len x.first) s.second.second.first) (map (λ x. Hash x.buckets x.places) s.second.second.second.first) (map (λ x. Tree x.leaves) s.second.second.second.second.first) (map (λ x. Vector x.capacity) s.second.second.second.second.second)) c.in_ok-shapes.ensures c.in_ok-store.ensures.kinds;
+      kinds = subst (AreKinds (map (λ x. Single x.first) s.store.first) (map (λ x. Counter x.first) s.store.second.first) (map (λ x. Array x.len x.first) s.store.second.second.kinds.first) (map (λ x. Hash x.buckets x.places) s.store.second.second.kinds.second.first) (map (λ x. Tree x.leaves) s.store.second.second.kinds.second.second.first) (map (λ x. Vector x.capacity) s.store.second.second.kinds.second.second.second)) c.in_ok-shapes.ensures c.in_ok-objects.ensures.kinds;
     }
 
 pub returns-clause-type_of : goal.returns-clause-type_of
 returns-clause-type_of c =
-    let s = c.in_ok-store.store in
+    let s = c.in_ok-objects.objects in
     let shapes = shapes_of (view c.args.file.now).declarations in
-    let kinds = subst (AreKinds (map (λ x. Single x.first) s.first) (map (λ x. Counter x.first) s.second.first) (map (λ x. Array x.len x.first) s.second.second.first) (map (λ x. Hash x.buckets x.places) s.second.second.second.first) (map (λ x. Tree x.leaves) s.second.second.second.second.first) (map (λ x. Vector x.capacity) s.second.second.second.second.second)) c.in_ok-shapes.ensures c.in_ok-store.ensures.kinds in
-    let is = means_is (λ x. Single x.first) (λ x. Counter x.first) (λ x. Array x.len x.first) (λ x. Hash x.buckets x.places) (λ x. Tree x.leaves) (λ x. Vector x.capacity) s.first s.second.first s.second.second.first s.second.second.second.first s.second.second.second.second.first s.second.second.second.second.second shapes kinds in
-    let law : IsLawful (means shapes) = subst (λ (ss : List Shape). IsLawful (means ss)) c.in_ok-shapes.ensures c.in_ok-store.ensures.lawful in
+    let kinds = subst (AreKinds (map (λ x. Single x.first) s.store.first) (map (λ x. Counter x.first) s.store.second.first) (map (λ x. Array x.len x.first) s.store.second.second.kinds.first) (map (λ x. Hash x.buckets x.places) s.store.second.second.kinds.second.first) (map (λ x. Tree x.leaves) s.store.second.second.kinds.second.second.first) (map (λ x. Vector x.capacity) s.store.second.second.kinds.second.second.second)) c.in_ok-shapes.ensures c.in_ok-objects.ensures.kinds in
+    let is = means_is (λ x. Single x.first) (λ x. Counter x.first) (λ x. Array x.len x.first) (λ x. Hash x.buckets x.places) (λ x. Tree x.leaves) (λ x. Vector x.capacity) s.store.first s.store.second.first s.store.second.second.kinds.first s.store.second.second.kinds.second.first s.store.second.second.kinds.second.second.first s.store.second.second.kinds.second.second.second shapes kinds in
+    let law : IsLawful (means shapes) = subst (λ (ss : List Shape). IsLawful (means ss)) c.in_ok-shapes.ensures c.in_ok-objects.ensures.lawful in
     subst (IsTypeOf shapes) (sym is) (is_type_of shapes (sound_in_order (view c.args.file.now)) law)
