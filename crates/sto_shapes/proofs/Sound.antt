@@ -1,13 +1,12 @@
 -- What a sound file and its store give a run.
 use Rattle.std.specs.Prelude.{map}
-use Rattle.std.proofs.Common.{◌≤◌, List, length, sym, ap, subst, arith}
+use Rattle.std.proofs.Common.{◌≤◌, List, length, ap, arith}
 use Rattle.sto_model.specs.declared.shape.Shape.{Shape}
 use Rattle.sto_lang.specs.Objects.{shapes_of}
 use Rattle.sto_lang.specs.Scripts.{File}
 use Rattle.sto_lang.specs.Sound.{IsSoundScript, IsSound}
 use Rattle.sto_lang.proofs.SoundFiles.{calls_within}
 use Rattle.sto_type.specs.Meaning.{IsLawful}
-use Rattle.sto_store.specs.Homes.{HasParts}
 use Rattle.sto_store.specs.Stores.{means, AreInOrder}
 use Rattle.sto_store.specs.StoresLaw.{machines_are, has_parts}
 use Rattle.sto_records.specs.Meanings.{IsTypeOf}

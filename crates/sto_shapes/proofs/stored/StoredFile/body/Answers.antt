@@ -1,7 +1,7 @@
 use Rattle.std.proofs.Common.{◌≡◌, ◌-◌, suc, Some, ap, sym, ◌∙◌, arith}
 use Rattle.std.proofs.lemmas.Result.{IfOk-weaker}
 use Rattle.sto_lang.specs.Scripts.{Script}
-use Rattle.sto_lang.specs.Views.{file as view, script}
+use Rattle.sto_lang.specs.Views.{script}
 use Rattle.sto_script.specs.Meaning.{meaning_of}
 use Rattle.sto_shapes.proofs.Places.{at_place, has_script}
 use Rattle.sto_shapes.proofs.Meant.{stored_takes}
