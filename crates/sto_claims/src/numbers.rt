@@ -197,20 +197,3 @@ pub fn open_claims(alloc: Global, count: u32, seats: u32) -> Result<OpenedClaims
     let claimers = share(alloc, &claims, seat, seats)?;
     Ok(OpenedClaims { claims, claimers })
 }
-
-#[cfg(test)]
-mod tests {
-    use super::{OpenedClaims, close_claims, open_claims};
-
-    // Two numbers are to be claimed, and the third claim finds none.
-    #[test]
-    fn example_of_claims(rt: HostRuntime) {
-        let OpenedClaims { claims, claimers } = open_claims(rt.alloc(), 2, 1).expect(&rt, "memory");
-        let mut claimers = claimers;
-        let mut claimer = claimers.pop().expect(&rt, "a claimer");
-        assert_eq!(rt; claims.claim(&mut claimer), Some(0));
-        assert_eq!(rt; claims.claim(&mut claimer), Some(1));
-        assert_eq!(rt; claims.claim(&mut claimer), None);
-        assert_eq!(rt; close_claims(claims, claimer), 3);
-    }
-}

@@ -11,7 +11,7 @@ use sto_version::Version;
 
 /// A type at which all contents are valid.
 #[derive(Drop)]
-pub(crate) struct Always;
+pub struct Always;
 
 impl Naming for Always {
     ghost sizes = { λ _. [] };
@@ -19,8 +19,8 @@ impl Naming for Always {
     ghost valid = { always };
 }
 
-// Pass 0 draws ticket 1 for part 0, and pass 1 ticket 2 for part 1.
-pub(crate) fn both_draw(
+/// Pass 0 draws ticket 1 for part 0, and pass 1 ticket 2 for part 1.
+pub fn both_draw(
     plain: Plain<Always>,
     first: &Updates,
     second: &Updates,
@@ -44,8 +44,8 @@ pub(crate) fn both_draw(
     (pass.back(), earlier, later)
 }
 
-// The later ticket commits while the earlier one is undecided.
-pub(crate) fn second_commits(plain: Plain<Always>) -> Plain<Always>
+/// The later ticket commits while the earlier one is undecided.
+pub fn second_commits(plain: Plain<Always>) -> Plain<Always>
     requires { plain ≡ both_drawn }
     ensures { result ≡ second_committed }
 {
@@ -56,8 +56,8 @@ pub(crate) fn second_commits(plain: Plain<Always>) -> Plain<Always>
     later.back()
 }
 
-// The earlier ticket is dropped.
-pub(crate) fn first_gives_up(plain: Plain<Always>) -> Plain<Always>
+/// The earlier ticket is dropped.
+pub fn first_gives_up(plain: Plain<Always>) -> Plain<Always>
     requires { plain ≡ second_committed }
     ensures { result ≡ first_gave_up }
 {
@@ -67,8 +67,8 @@ pub(crate) fn first_gives_up(plain: Plain<Always>) -> Plain<Always>
     earlier.back()
 }
 
-// Pass 0 reads part 0.
-pub(crate) fn first_reads(plain: Plain<Always>) -> Plain<Always>
+/// Pass 0 reads part 0.
+pub fn first_reads(plain: Plain<Always>) -> Plain<Always>
     requires { plain ≡ two_passes }
     ensures { result ≡ first_read }
 {
@@ -80,8 +80,8 @@ pub(crate) fn first_reads(plain: Plain<Always>) -> Plain<Always>
     first.back()
 }
 
-// Pass 1 reads it too.
-pub(crate) fn other_reads(plain: Plain<Always>) -> Plain<Always>
+/// Pass 1 reads it too.
+pub fn other_reads(plain: Plain<Always>) -> Plain<Always>
     requires { plain ≡ first_read }
     ensures { result ≡ other_read }
 {
@@ -93,8 +93,8 @@ pub(crate) fn other_reads(plain: Plain<Always>) -> Plain<Always>
     other.back()
 }
 
-// Pass 1 locks the part, draws a ticket for its word plus 1, and then checks the part.
-pub(crate) fn other_draws(
+/// Pass 1 locks the part, draws a ticket for its word plus 1, and then checks the part.
+pub fn other_draws(
     plain: Plain<Always>,
     updates: &Updates,
     seen: &Parts,
@@ -114,8 +114,8 @@ pub(crate) fn other_draws(
     (writer.back(), ticket)
 }
 
-// It commits, puts the word and releases the part.
-pub(crate) fn other_commits(plain: Plain<Always>) -> Plain<Always>
+/// It commits, puts the word and releases the part.
+pub fn other_commits(plain: Plain<Always>) -> Plain<Always>
     requires { plain ≡ other_drew }
     ensures { result ≡ other_committed }
 {
@@ -126,8 +126,8 @@ pub(crate) fn other_commits(plain: Plain<Always>) -> Plain<Always>
     winner.back()
 }
 
-// Pass 0 goes on with what it read before. Its check finds the ticket of pass 1, so it drops its own.
-pub(crate) fn first_fails(
+/// Pass 0 goes on with what it read before. Its check finds the ticket of pass 1, so it drops its own.
+pub fn first_fails(
     plain: Plain<Always>,
     updates: &Updates,
     seen: &Parts,
@@ -150,8 +150,8 @@ pub(crate) fn first_fails(
     (loser.back(), ticket, found)
 }
 
-// Pass 0 reads the part again, and draws a new ticket for the word that it has read now.
-pub(crate) fn first_tries_again(
+/// Pass 0 reads the part again, and draws a new ticket for the word that it has read now.
+pub fn first_tries_again(
     plain: Plain<Always>,
     updates: &Updates,
     seen: &Parts,

@@ -10,12 +10,8 @@ use sto_item::Updates;
 use sto_part::{NoMemory, Parts};
 use sto_plain::Plain;
 
-// Pass 0 has read part 0. Pass 1 commits a word of part 1, with ticket 1.
-pub(crate) fn other_writes(
-    plain: Plain<Always>,
-    updates: &Updates,
-    none: &Parts,
-) -> (Plain<Always>, u64)
+/// Pass 0 has read part 0. Pass 1 commits a word of part 1, with ticket 1.
+pub fn other_writes(plain: Plain<Always>, updates: &Updates, none: &Parts) -> (Plain<Always>, u64)
     requires plain { plain ≡ first_read }
     requires updates { updates.now.items ≡ one_put 1 (pos 9) }
     requires none { none.now.items ≡ [] }
@@ -32,9 +28,9 @@ pub(crate) fn other_writes(
     (writer.back(), ticket)
 }
 
-// Pass 0 finds part 1 with that ticket, which is above its number. It renews its number, finds part 0 as it was,
-// and reads part 1.
-pub(crate) fn reads_later(plain: Plain<Always>) -> (Plain<Always>, i64)
+/// Pass 0 finds part 1 with that ticket, which is above its number. It renews its number, finds part 0 as it was,
+/// and reads part 1.
+pub fn reads_later(plain: Plain<Always>) -> (Plain<Always>, i64)
     requires { plain ≡ other_written }
     ensures { result.1 ≡ pos 9 }
 {
@@ -47,8 +43,8 @@ pub(crate) fn reads_later(plain: Plain<Always>) -> (Plain<Always>, i64)
     (reader.back(), word)
 }
 
-// Pass 0 renews its number, finds part 0 as it was, and draws a ticket for an update of part 1 that rests on part 0.
-pub(crate) fn rests_on_read(
+/// Pass 0 renews its number, finds part 0 as it was, and draws a ticket for an update of part 1 that rests on part 0.
+pub fn rests_on_read(
     plain: Plain<Always>,
     updates: &Updates,
     seen: &Parts,
@@ -68,16 +64,16 @@ pub(crate) fn rests_on_read(
     (writer.back(), ticket)
 }
 
-// Both passes are idle after a commit and a drop, and are closed.
-pub(crate) fn close_both(plain: Plain<Always>) -> Closed<Always>
+/// Both passes are idle after a commit and a drop, and are closed.
+pub fn close_both(plain: Plain<Always>) -> Closed<Always>
     requires { plain ≡ first_gave_up }
     ensures { closed_core result first_gave_up.statuses ≡ first_gave_up }
 {
     plain.close()
 }
 
-// One pass goes on, from the clock as it was.
-pub(crate) fn goes_on(closed: Closed<Always>) -> Result<Plain<Always>, NoMemory>
+/// One pass goes on, from the clock as it was.
+pub fn goes_on(closed: Closed<Always>) -> Result<Plain<Always>, NoMemory>
     requires { closed_core closed first_gave_up.statuses ≡ first_gave_up }
     ensures { IfOk result (λ p. p ≡ went_on) }
 {
@@ -87,12 +83,8 @@ pub(crate) fn goes_on(closed: Closed<Always>) -> Result<Plain<Always>, NoMemory>
     }
 }
 
-// Its first ticket follows the last one of the passes before.
-pub(crate) fn draws_further(
-    plain: Plain<Always>,
-    updates: &Updates,
-    none: &Parts,
-) -> (Plain<Always>, u64)
+/// Its first ticket follows the last one of the passes before.
+pub fn draws_further(plain: Plain<Always>, updates: &Updates, none: &Parts) -> (Plain<Always>, u64)
     requires plain { plain ≡ went_on }
     requires updates { updates.now.items ≡ one_put 1 (pos 8) }
     requires none { none.now.items ≡ [] }
@@ -106,8 +98,8 @@ pub(crate) fn draws_further(
     (pass.back(), ticket)
 }
 
-// It commits.
-pub(crate) fn commits_further(plain: Plain<Always>) -> Plain<Always>
+/// It commits.
+pub fn commits_further(plain: Plain<Always>) -> Plain<Always>
     requires { plain ≡ drew_further }
     ensures { result ≡ wrote_further }
 {

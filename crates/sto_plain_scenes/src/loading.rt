@@ -9,8 +9,8 @@ use sto_item::Updates;
 use sto_part::Parts;
 use sto_plain::Plain;
 
-// Pass 0 has read part 0. Pass 1 locks it, loads it, and draws a ticket for its word plus 5.
-pub(crate) fn other_draws_sum(
+/// Pass 0 has read part 0. Pass 1 locks it, loads it, and draws a ticket for its word plus 5.
+pub fn other_draws_sum(
     plain: Plain<Always>,
     updates: &Updates,
     none: &Parts,
@@ -31,8 +31,8 @@ pub(crate) fn other_draws_sum(
     (adder.back(), ticket)
 }
 
-// It commits the sum.
-pub(crate) fn other_adds(plain: Plain<Always>) -> Plain<Always>
+/// It commits the sum.
+pub fn other_adds(plain: Plain<Always>) -> Plain<Always>
     requires { plain ≡ other_drew_sum }
     ensures { result ≡ other_added }
 {
@@ -43,8 +43,8 @@ pub(crate) fn other_adds(plain: Plain<Always>) -> Plain<Always>
     adder.back()
 }
 
-// Pass 0 loads part 0 under its hold, which has the sum now, and part 1 by a test.
-pub(crate) fn first_loads(plain: Plain<Always>) -> Plain<Always>
+/// Pass 0 loads part 0 under its hold, which has the sum now, and part 1 by a test.
+pub fn first_loads(plain: Plain<Always>) -> Plain<Always>
     requires { plain ≡ other_added }
     ensures { result ≡ both_loaded }
 {
@@ -57,8 +57,8 @@ pub(crate) fn first_loads(plain: Plain<Always>) -> Plain<Always>
     taker.back()
 }
 
-// It takes 2 from part 0 as it is under the hold, where part 1 is as it was tested.
-pub(crate) fn first_takes(
+/// It takes 2 from part 0 as it is under the hold, where part 1 is as it was tested.
+pub fn first_takes(
     plain: Plain<Always>,
     updates: &Updates,
     none: &Parts,

@@ -11,5 +11,3 @@ pub mod Cuts
 pub mod Sharing
 pub mod Closings
 pub mod Steps
-pub mod Additions
-pub mod Ended

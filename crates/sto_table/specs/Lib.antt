@@ -6,4 +6,3 @@ pub mod Fits
 pub mod Rests
 pub mod Openings
 pub mod Closings
-pub mod Counter

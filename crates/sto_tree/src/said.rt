@@ -1,5 +1,5 @@
 //! What operations observe.
-ghost use Rattle.std.specs.Prelude.{◌≡◌, ◌<◌, ◌≤◌, ◌^◌, ◌*◌, ◌+◌, [], ◌∷◌, IfOk};
+ghost use Rattle.std.specs.Prelude.{◌≡◌, ◌<◌, ◌≤◌, ◌^◌, ◌*◌, ◌+◌, [], ◌∷◌, length, IfOk};
 ghost use Rattle.sto_item.specs.declared.item.Item.TheVariants.{Seen as SeenPart};
 ghost use Rattle.sto_tree_law.specs.Layout.{parts_of, key_part as the_key_part, value_part as the_value_part};
 ghost use Rattle.sto_tree_law.specs.Said.{compared, cover as the_cover, here as at_place};
@@ -37,17 +37,28 @@ pub(crate) fn compares(part: u32, word: u32, test: Test, bound: i64) -> Item
     })
 }
 
+/// These items, in their order.
+pub(crate) fn items_of(alloc: Global, items: &[Item]) -> Result<Items, NoMemory>
+    requires { length items.now < 2 ^ 32 }
+    ensures { IfOk result (λ l. l.items ≡ items.now) }
+{
+    let mut made = Items::new(alloc);
+    made.extend(items)?;
+    Ok(made)
+}
+
 /// That a leaf has a key, and what its whole key part says.
 pub(crate) fn leaf_items(alloc: Global, leaf: u32, key: i64) -> Result<Items, NoMemory>
     requires { the_key_part leaf < 2 ^ 32 }
     ensures { IfOk result (λ l. l.items ≡ the_cover leaf key key (SeenPart (the_key_part leaf) ∷ [])) }
 {
-    let mut items = Items::new(alloc);
-    items.push(compares(1, 3 * leaf, Test::Eq, 1))?;
-    items.push(compares(1, 3 * leaf + 1, Test::Le, key))?;
-    items.push(compares(1, 3 * leaf + 2, Test::Ge, key))?;
-    items.push(Item::Seen(key_part(leaf)))?;
-    Ok(items)
+    let items = [
+        compares(1, 3 * leaf, Test::Eq, 1),
+        compares(1, 3 * leaf + 1, Test::Le, key),
+        compares(1, 3 * leaf + 2, Test::Ge, key),
+        Item::Seen(key_part(leaf)),
+    ];
+    items_of(alloc, &items)
 }
 
 /// That a leaf has a key, at a place, and what its value part says.
@@ -56,14 +67,15 @@ pub(crate) fn value_items(alloc: Global, leaf: u32, place: u32, key: i64) -> Res
     requires place { place < 8 }
     ensures { IfOk result (λ l. l.items ≡ the_cover leaf key key (at_place leaf place key (SeenPart (the_value_part leaf place) ∷ []))) }
 {
-    let mut items = Items::new(alloc);
-    items.push(compares(1, 3 * leaf, Test::Eq, 1))?;
-    items.push(compares(1, 3 * leaf + 1, Test::Le, key))?;
-    items.push(compares(1, 3 * leaf + 2, Test::Ge, key))?;
-    items.push(compares(key_part(leaf), 2 * place, Test::Eq, 1))?;
-    items.push(compares(key_part(leaf), 2 * place + 1, Test::Eq, key))?;
-    items.push(Item::Seen(value_part(leaf, place)))?;
-    Ok(items)
+    let items = [
+        compares(1, 3 * leaf, Test::Eq, 1),
+        compares(1, 3 * leaf + 1, Test::Le, key),
+        compares(1, 3 * leaf + 2, Test::Ge, key),
+        compares(key_part(leaf), 2 * place, Test::Eq, 1),
+        compares(key_part(leaf), 2 * place + 1, Test::Eq, key),
+        Item::Seen(value_part(leaf, place)),
+    ];
+    items_of(alloc, &items)
 }
 
 /// That a leaf has a key, at a place.
@@ -72,11 +84,12 @@ pub(crate) fn here_items(alloc: Global, leaf: u32, place: u32, key: i64) -> Resu
     requires place { place < 8 }
     ensures { IfOk result (λ l. l.items ≡ the_cover leaf key key (at_place leaf place key [])) }
 {
-    let mut items = Items::new(alloc);
-    items.push(compares(1, 3 * leaf, Test::Eq, 1))?;
-    items.push(compares(1, 3 * leaf + 1, Test::Le, key))?;
-    items.push(compares(1, 3 * leaf + 2, Test::Ge, key))?;
-    items.push(compares(key_part(leaf), 2 * place, Test::Eq, 1))?;
-    items.push(compares(key_part(leaf), 2 * place + 1, Test::Eq, key))?;
-    Ok(items)
+    let items = [
+        compares(1, 3 * leaf, Test::Eq, 1),
+        compares(1, 3 * leaf + 1, Test::Le, key),
+        compares(1, 3 * leaf + 2, Test::Ge, key),
+        compares(key_part(leaf), 2 * place, Test::Eq, 1),
+        compares(key_part(leaf), 2 * place + 1, Test::Eq, key),
+    ];
+    items_of(alloc, &items)
 }

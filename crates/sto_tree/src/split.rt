@@ -27,7 +27,7 @@ use crate::changes::{
 use crate::get::only_word;
 use crate::leaf::Leaf;
 use crate::listing::{key_at, key_rows};
-use crate::said::{compares, key_part, value_part};
+use crate::said::{compares, items_of, key_part, value_part};
 use crate::search::{high, is_present};
 use crate::seen::{add_item, see_parts};
 use std::alloc::Global;
@@ -123,14 +123,15 @@ fn leaf_items(alloc: Global, found: Leaf<'_>, free: u32, key: i64) -> Result<Ite
 {
     let leaf = found.number;
     let end = high(found.directory, leaf);
-    let mut items = Items::new(alloc);
-    items.push(compares(1, 3 * leaf, Test::Eq, 1))?;
-    items.push(compares(1, 3 * leaf + 1, Test::Le, key))?;
-    items.push(compares(1, 3 * leaf + 2, Test::Eq, end))?;
-    items.push(compares(1, 3 * (free - 1), Test::Eq, 1))?;
-    items.push(compares(1, 3 * free, Test::Eq, 0))?;
-    items.push(Item::Seen(key_part(leaf)))?;
-    Ok(items)
+    let items = [
+        compares(1, 3 * leaf, Test::Eq, 1),
+        compares(1, 3 * leaf + 1, Test::Le, key),
+        compares(1, 3 * leaf + 2, Test::Eq, end),
+        compares(1, 3 * (free - 1), Test::Eq, 1),
+        compares(1, 3 * free, Test::Eq, 0),
+        Item::Seen(key_part(leaf)),
+    ];
+    items_of(alloc, &items)
 }
 
 // The rows of the leaf; the values of places that stay count for nothing.

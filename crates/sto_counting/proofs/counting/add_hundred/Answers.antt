@@ -1,6 +1,6 @@
 use Rattle.std.proofs.Common.{◌≡◌, ◌≤◌, ◌+◌, refl, ap, arith}
-use Rattle.sto_table.proofs.Ended.{weaker, enough}
-use Rattle.sto_table.proofs.counting.add_hundred.Goals as goal
+use Rattle.sto_counting.proofs.Ended.{weaker, enough}
+use Rattle.sto_counting.proofs.counting.add_hundred.Goals as goal
 
 pub loop-init : goal.loop-init
 loop-init c = (

@@ -14,7 +14,7 @@ use Rattle.sto_core.specs.Rule.{Past, Rule}
 use Rattle.sto_core.specs.Words.{parts_shown}
 use Rattle.sto_core.proofs.Parts.{parts_many, width_is}
 use Rattle.sto_table.specs.Closings.{IsClosedBy}
-use Rattle.sto_table.specs.Counter.{Rests, IsCounter}
+use Rattle.sto_counting.specs.Counter.{Rests, IsCounter}
 
 pub weaker : (k : ℕ) (v w : View) → w ≡ v → Rests k v → Rests 0 w
 weaker k v w is r =

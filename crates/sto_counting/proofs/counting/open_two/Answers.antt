@@ -2,9 +2,9 @@ use Rattle.std.proofs.Common.{◌≡◌, ◌≤◌, ◌^◌, ◌++◌, pos, [], 
 use Rattle.sto_core.specs.History.{Contents}
 use Rattle.sto_core.specs.Opened.{opened_view}
 use Rattle.sto_table.specs.Rests.{IsOf}
-use Rattle.sto_table.specs.Counter.{IsCounter}
-use Rattle.sto_table.proofs.Ended.{last_two, fresh}
-use Rattle.sto_table.proofs.counting.open_two.Goals as goal
+use Rattle.sto_counting.specs.Counter.{IsCounter}
+use Rattle.sto_counting.proofs.Ended.{last_two, fresh}
+use Rattle.sto_counting.proofs.counting.open_two.Goals as goal
 
 pub returns-clause-first : goal.returns-clause-first
 returns-clause-first c =

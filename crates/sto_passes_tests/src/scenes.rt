@@ -5,20 +5,18 @@ ghost use Rattle.sto_core.specs.Opened.{opened_core};
 ghost use Rattle.sto_plain.specs.Passes.{Can, stepped};
 ghost use Rattle.sto_plain_scenes.specs.Scenes.{always, one_put, one_add, three_passes, first_reads, second_reads, third_reads, fourth_reads};
 
-use crate::committing::{
-    Always, both_draw, first_fails, first_gives_up, first_reads, first_tries_again, other_commits,
-    other_draws, other_reads, second_commits,
-};
-use crate::extending::{
-    close_both, commits_further, draws_further, goes_on, other_writes, reads_later, rests_on_read,
-};
-use crate::loading::{first_loads, first_takes, other_adds, other_draws_sum};
 use std::alloc::Global;
 use std::process::Abort;
 use sto_core::Cells;
 use sto_item::Updates;
 use sto_part::{Change, Contents, NoMemory, Parts, Update};
 use sto_plain::Plain;
+use sto_plain_scenes::{
+    Always, both_draw, close_both, commits_further, draws_further, first_fails, first_gives_up,
+    first_loads, first_reads, first_takes, first_tries_again, goes_on, other_adds, other_commits,
+    other_draws, other_draws_sum, other_reads, other_writes, reads_later, rests_on_read,
+    second_commits,
+};
 use sto_version::{FREE0, Version};
 
 // Passes over two parts of one word each.

@@ -23,7 +23,7 @@ use Rattle.sto_core.specs.Views.{width_in, holds, hold_of, own_entry, own_ticket
 use Rattle.sto_core.specs.Versions.{ticket_of, is_free}
 use Rattle.sto_core.specs.Event.{Event, Start, Draw, Decide, Lock, Word, after, settle_entry, found, locked_by, read_by, with_held_read}
 use Rattle.sto_core.specs.Allowed.{HasPart, HasWord, MayDecide, MayPut, IsConfirmed}
-use Rattle.sto_table.specs.Counter.{IsCounter, Rests, one_more}
+use Rattle.sto_counting.specs.Counter.{IsCounter, Rests, one_more}
 
 pub has_part : (v : View) → IsCounter v.opening → HasPart v 0
 has_part v counter = let l : length v.opening ≡ 1 = ap length counter.1 in omega arith

@@ -2,15 +2,15 @@ use Rattle.std.proofs.Common.{◌≡◌, ◌≤◌, ◌<◌, ℕ, List, [], Bool
 use Rattle.sto_core.specs.declared.view.View.{View}
 use Rattle.sto_core.specs.Event.{Draw, after}
 use Rattle.sto_core.specs.History.{Updates}
-use Rattle.sto_table.specs.Counter.{always, one_more, Rests}
+use Rattle.sto_counting.specs.Counter.{always, one_more, Rests}
 use Rattle.sto_core.specs.Event.{Lock, Word, Decide}
 use Rattle.sto_core.specs.Versions.{is_free, ticket_of}
 use Rattle.sto_part.specs.Changes.{wrapped_sum}
 use Rattle.std.proofs.Math.Bool.{not-not}
 use Rattle.std.proofs.lemmas.Int.{to_z-of_z}
-use Rattle.sto_table.proofs.Additions.{counter_after, started_held, started_counter}
-use Rattle.sto_table.proofs.Additions.{may_decide, may_put, held_after}
-use Rattle.sto_table.proofs.counting.add.Goals as goal
+use Rattle.sto_counting.proofs.Additions.{counter_after, started_held, started_counter}
+use Rattle.sto_counting.proofs.Additions.{may_decide, may_put, held_after}
+use Rattle.sto_counting.proofs.counting.add.Goals as goal
 
 pub decide-requires : goal.decide-requires
 decide-requires g c =

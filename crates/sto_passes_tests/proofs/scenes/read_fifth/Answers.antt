@@ -4,7 +4,7 @@ use Rattle.sto_core.specs.Core.{Core}
 use Rattle.sto_plain.specs.Passes.{Can, stepped}
 use Rattle.sto_plain_scenes.specs.Scenes.{always, fourth_reads}
 use Rattle.sto_plain_scenes.proofs.Scenes.{one_read}
-use Rattle.sto_plain_scenes.proofs.tests.read_fifth.Goals as goal
+use Rattle.sto_passes_tests.proofs.scenes.read_fifth.Goals as goal
 
 pub closes-requires : goal.closes-requires
 closes-requires g c =

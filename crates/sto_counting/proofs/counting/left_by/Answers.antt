@@ -1,7 +1,7 @@
 use Rattle.std.proofs.Common.{sym, subst}
-use Rattle.sto_table.specs.Counter.{always, IsCounter}
-use Rattle.sto_table.proofs.Ended.{one_left}
-use Rattle.sto_table.proofs.counting.left_by.Goals as goal
+use Rattle.sto_counting.specs.Counter.{always, IsCounter}
+use Rattle.sto_counting.proofs.Ended.{one_left}
+use Rattle.sto_counting.proofs.counting.left_by.Goals as goal
 
 pub word-requires : goal.word-requires
 word-requires c =

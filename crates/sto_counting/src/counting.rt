@@ -1,17 +1,15 @@
-//! Passes that count on threads of their own, call by call. A test plays it; a call that is left out or changed is
-//! refused by what a later one asks.
+//! Passes that count on threads of their own, call by call. A call that is left out or changed is refused by what a later one
+//! asks.
 ghost use Rattle.std.specs.Prelude.{◌≡◌, ◌≤◌, ◌<◌, ◌+◌, ◌-◌, [], ◌∷◌, ◌++◌, IfOk};
-ghost use Rattle.sto_table.specs.Counter.{always, one_more, Counts, IsCounter, Rests};
+ghost use Rattle.sto_counting.specs.Counter.{always, one_more, Counts, IsCounter, Rests};
 ghost use Rattle.sto_table.specs.Rests.{IsOf};
 
-use crate::closing::close;
-use crate::opening::{Opened, Rests, open};
-use crate::shared::{Rest, Shared};
 use std::alloc::Global;
 use std::thread::{Threads, join};
 use sto_core::Cells;
 use sto_item::Updates;
 use sto_part::{Change, Contents, Naming, NoMemory, Parts, Update, wrapping_sum};
+use sto_table::{Opened, Rest, Rests, Shared, close, open};
 
 /// A type at which all contents are valid.
 #[derive(Drop)]
@@ -183,26 +181,4 @@ pub(crate) fn both_add<R: Threads + Sync>(rt: &R, alloc: Global) -> Result<Left,
     let ((a, first), (b, other)) = add_both(rt, &shared, first, other, &updates, &none);
     let rest = shared.gather(first, other);
     left_by(alloc, shared, rest, a, b)
-}
-
-#[cfg(test)]
-mod tests {
-    use super::both_add;
-
-    // The word is the number of commits, and its version has the last one's ticket.
-    #[test]
-    fn example_of_two_threads(rt: HostRuntime) {
-        let left = both_add(&rt, rt.alloc()).expect(&rt, "memory");
-        assert!(rt; left.first.0 <= 100 && left.other.0 <= 100);
-        let commits = u64::from(left.first.0) + u64::from(left.other.0);
-        assert!(rt; left.word >= 0);
-        assert_eq!(rt; left.word.cast_unsigned(), commits);
-        assert!(rt; left.clock >= commits);
-        let last = if left.first.1 > left.other.1 {
-            left.first.1
-        } else {
-            left.other.1
-        };
-        assert_eq!(rt; left.ticket, last);
-    }
 }

@@ -1,7 +1,7 @@
 use Rattle.std.proofs.Common.{◌≡◌, ◌≤◌, ◌+◌}
 use Rattle.sto_table.specs.Fits.{IsSame}
-use Rattle.sto_table.specs.Counter.{Rests}
-use Rattle.sto_table.proofs.counting.add_hundred.Given as goal
+use Rattle.sto_counting.specs.Counter.{Rests}
+use Rattle.sto_counting.proofs.counting.add_hundred.Given as goal
 
 abbrev pub invariant-loop : goal.invariant-loop
 invariant-loop l =
