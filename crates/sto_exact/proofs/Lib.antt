@@ -1,4 +1,9 @@
+mod Numbers
+mod Forms
 mod Asking
+mod Readable
+mod Runs
+mod Orders
 mod Along
 mod Writers
 mod Exact

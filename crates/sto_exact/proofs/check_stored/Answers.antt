@@ -4,6 +4,7 @@ use Rattle.sto_model.specs.declared.call.Call.{Call}
 use Rattle.sto_lang.specs.Objects.{shapes_of}
 use Rattle.sto_lang.specs.Scripts.{Script}
 use Rattle.sto_lang.specs.Views.{file as view}
+use Rattle.sto_lang.proofs.SoundFiles.{readable_sound}
 use Rattle.sto_script.specs.Asks.{Asks}
 use Rattle.sto_lawful.specs.Orders.{Place, transaction_at}
 use Rattle.sto_store.specs.Stores.{means}
@@ -13,6 +14,9 @@ use Rattle.sto_shapes.proofs.Meant.{stored_means, stored_takes}
 use Rattle.sto_exact.proofs.Exact.{updates_written}
 use Rattle.sto_exact.proofs.check_stored.Goals as goal
 
+pub check_report-requires-clause-sound : goal.check_report-requires-clause-sound
+check_report-requires-clause-sound c = readable_sound c.requires.read.0 (view c.args.stored.now.file.now) c.requires.read.1
+
 pub returns-clause-complete : goal.returns-clause-complete
 returns-clause-complete c =
     let s = c.args.stored.now in
@@ -21,5 +25,5 @@ returns-clause-complete c =
     let takes : (place : Place) (script : Script) → transaction_at file place ≡ Some script → (call : Call) → Asks script.body call → (means (shapes_of file.declarations)).takes call =
     λ place script at call asks. subst (λ (m : Meaning). m.takes call) (stored_means s) (stored_takes s place script at call asks) in
     IfOk-weaker c.check_report.result _ _
-    (λ found h fit lawful. h (updating_by means) (updates_written means file c.requires.sound type_of takes fit) lawful)
+    (λ found h lawful. h (updating_by means) (updates_written means c.requires.read.0 file c.requires.read.1 type_of takes) lawful)
     c.check_report.ensures.complete
