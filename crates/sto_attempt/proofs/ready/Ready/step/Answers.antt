@@ -54,19 +54,19 @@ pub draw-requires : goal.draw-requires
 draw-requires g c =
     let a = c.args.self.now in
     let d : Deal = deal (g.T.TxType.meaning a.course.ty.now) g.T.Naming.valid (g.T.Naming.sizes a.course.ty.now) (g.B.Body.script a.course.body) a.at a.course.base.items a.course.set.items (map told a.course.replies.items) a.updates.items a.seen.items a.loaded.items a.tasks.items a.checks.items a.places.items in
-    stands_at d a.finds a.loads.items (g.C.Cells.view c.args.cells.now) a.stage _ c.in-Drawing.is c.requires.stands
+    record { stands = stands_at d a.finds a.loads.items (g.C.Cells.view c.args.cells.now) a.stage _ c.in-Drawing.is c.requires.stands }
 
 pub check-requires : goal.check-requires
 check-requires g c =
     let a = c.args.self.now in
     let d : Deal = deal (g.T.TxType.meaning a.course.ty.now) g.T.Naming.valid (g.T.Naming.sizes a.course.ty.now) (g.B.Body.script a.course.body) a.at a.course.base.items a.course.set.items (map told a.course.replies.items) a.updates.items a.seen.items a.loaded.items a.tasks.items a.checks.items a.places.items in
-    stands_at d a.finds a.loads.items (g.C.Cells.view c.args.cells.now) a.stage _ c.in-Checking.is c.requires.stands
+    record { stands = stands_at d a.finds a.loads.items (g.C.Cells.view c.args.cells.now) a.stage _ c.in-Checking.is c.requires.stands }
 
 pub commit-requires : goal.commit-requires
 commit-requires g c =
     let a = c.args.self.now in
     let d : Deal = deal (g.T.TxType.meaning a.course.ty.now) g.T.Naming.valid (g.T.Naming.sizes a.course.ty.now) (g.B.Body.script a.course.body) a.at a.course.base.items a.course.set.items (map told a.course.replies.items) a.updates.items a.seen.items a.loaded.items a.tasks.items a.checks.items a.places.items in
-    stands_at d a.finds a.loads.items (g.C.Cells.view c.args.cells.now) a.stage _ c.in-Deciding.is c.requires.stands
+    record { stands = stands_at d a.finds a.loads.items (g.C.Cells.view c.args.cells.now) a.stage _ c.in-Deciding.is c.requires.stands }
 
 pub put-requires-clause-stands : goal.put-requires-clause-stands
 put-requires-clause-stands g c =
@@ -78,19 +78,19 @@ pub release-requires : goal.release-requires
 release-requires g c =
     let a = c.args.self.now in
     let d : Deal = deal (g.T.TxType.meaning a.course.ty.now) g.T.Naming.valid (g.T.Naming.sizes a.course.ty.now) (g.B.Body.script a.course.body) a.at a.course.base.items a.course.set.items (map told a.course.replies.items) a.updates.items a.seen.items a.loaded.items a.tasks.items a.checks.items a.places.items in
-    stands_at d a.finds a.loads.items (g.C.Cells.view c.args.cells.now) a.stage _ c.in-Releasing.is c.requires.stands
+    record { stands = stands_at d a.finds a.loads.items (g.C.Cells.view c.args.cells.now) a.stage _ c.in-Releasing.is c.requires.stands }
 
 pub drop_entry-requires : goal.drop_entry-requires
 drop_entry-requires g c =
     let a = c.args.self.now in
     let d : Deal = deal (g.T.TxType.meaning a.course.ty.now) g.T.Naming.valid (g.T.Naming.sizes a.course.ty.now) (g.B.Body.script a.course.body) a.at a.course.base.items a.course.set.items (map told a.course.replies.items) a.updates.items a.seen.items a.loaded.items a.tasks.items a.checks.items a.places.items in
-    stands_at d a.finds a.loads.items (g.C.Cells.view c.args.cells.now) a.stage _ c.in-Dropping.is c.requires.stands
+    record { stands = stands_at d a.finds a.loads.items (g.C.Cells.view c.args.cells.now) a.stage _ c.in-Dropping.is c.requires.stands }
 
 pub leave-requires : goal.leave-requires
 leave-requires g c =
     let a = c.args.self.now in
     let d : Deal = deal (g.T.TxType.meaning a.course.ty.now) g.T.Naming.valid (g.T.Naming.sizes a.course.ty.now) (g.B.Body.script a.course.body) a.at a.course.base.items a.course.set.items (map told a.course.replies.items) a.updates.items a.seen.items a.loaded.items a.tasks.items a.checks.items a.places.items in
-    stands_at d a.finds a.loads.items (g.C.Cells.view c.args.cells.now) a.stage _ c.in-Leaving.is c.requires.stands
+    record { stands = stands_at d a.finds a.loads.items (g.C.Cells.view c.args.cells.now) a.stage _ c.in-Leaving.is c.requires.stands }
 
 pub returns-in-Locking-clause-said : goal.returns-in-Locking-clause-said
 returns-in-Locking-clause-said g c =
