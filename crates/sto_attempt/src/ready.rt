@@ -1,27 +1,22 @@
 //! The commit of an attempt.
 ghost use Rattle.std.specs.Prelude.{◌≡◌, ◌⊎◌, ◌<◌, ◌≤◌, [], Some, None, length, map};
-ghost use Rattle.std.specs.List.{list_any, list_all};
+ghost use Rattle.std.specs.List.{list_all};
 ghost use Rattle.std.specs.Option.{option_map_or};
-ghost use Rattle.sto_attempt.specs.Sights.{ticket_in};
+ghost use Rattle.sto_course.specs.Sights.{ticket_in};
 ghost use Rattle.sto_model.specs.Told.{told};
-ghost use Rattle.sto_attempt.specs.declared.stage.Stage.{Stage};
-ghost use Rattle.sto_attempt.specs.Answers.{OneEvent, IsCommitEvent, IsPrefix};
-ghost use Rattle.sto_attempt.specs.Remaining.{commit_left};
-ghost use Rattle.sto_attempt.specs.Verdicts.{ComesTo, HasReason, IsUndisturbed};
-ghost use Rattle.sto_attempt.specs.declared.verdict.Verdict.{Verdict};
-ghost use Rattle.sto_attempt.specs.Stages.{deal, Stands, Said, EndsBy, IsAim, IsNextCheck, IsNextPut, HasSpace, SpaceAt, is_so, is_of_part, is_same_part, expected_of};
+ghost use Rattle.sto_course.specs.declared.stage.Stage.{Stage};
+ghost use Rattle.sto_course.specs.Answers.{OneEvent, IsCommitEvent, IsPrefix};
+ghost use Rattle.sto_course.specs.Remaining.{commit_left};
+ghost use Rattle.sto_course.specs.Verdicts.{ComesTo, HasReason, IsUndisturbed};
+ghost use Rattle.sto_course.specs.declared.verdict.Verdict.{Verdict};
+ghost use Rattle.sto_course.specs.Stages.{deal, Stands, Said, EndsBy, IsAim, IsNextCheck, IsNextPut, HasSpace, SpaceAt, is_so, expected_of};
 ghost use Rattle.sto_core.specs.Allowed.{Rises};
-ghost use Rattle.sto_item.specs.Pending.{IsRising, plain};
 
-use crate::course::Course;
-use crate::finds::Finds;
-use crate::loads::Loads;
-use crate::stage::{Found, Loaded, Stage};
-use crate::verdict::{Heard, Verdict};
 use sto_core::Cells;
+use sto_course::{Course, Finds, Found, Heard, Loaded, Loads, Stage, Verdict, is_seen, is_written};
 use sto_item::Updates;
 use sto_model::{Body, Replies};
-use sto_part::{List, Parts, Update};
+use sto_part::{List, Parts};
 use sto_type::TxType;
 
 /// An attempt whose body commits, with all memory that the commit takes.
@@ -465,21 +460,4 @@ impl<T: TxType, B: Body> Ready<'_, T, B> {
         self.stage = Stage::Over;
         Some(verdict)
     }
-}
-
-// Whether the updates name the part.
-pub(crate) fn is_written(updates: &[(u32, Update)], part: u32) -> bool
-    requires { IsRising (map plain updates.now) }
-    ensures { result ≡ list_any (is_of_part part) updates.now }
-{
-    let place = updates.partition_point(|update| update.0 < part);
-    place < updates.len() && updates[place].0 == part
-}
-
-// Whether the part is one of these.
-pub(crate) fn is_seen(parts: &[u32], part: u32) -> bool
-    requires { Rises parts.now }
-    ensures { result ≡ list_any (is_same_part part) parts.now }
-{
-    parts.binary_search(&part).is_ok()
 }

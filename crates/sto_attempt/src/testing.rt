@@ -1,17 +1,16 @@
 //! The test of a part that a commit loads and does not hold.
 ghost use Rattle.std.specs.Prelude.{◌≡◌, ◌⊎◌, None, ◌<◌, ◌≤◌, length, map, slice_index_or};
 ghost use Rattle.sto_model.specs.Told.{told};
-ghost use Rattle.sto_attempt.specs.declared.stage.Stage.{Stage};
-ghost use Rattle.sto_attempt.specs.Answers.{OneEvent, IsCommitEvent};
-ghost use Rattle.sto_attempt.specs.Remaining.{commit_left};
-ghost use Rattle.sto_attempt.specs.Verdicts.{ComesTo, HasReason, IsUndisturbed};
-ghost use Rattle.sto_attempt.specs.declared.verdict.Verdict.{Verdict};
-ghost use Rattle.sto_attempt.specs.Stages.{deal, Stands, Said, EndsBy, HasSpace, SpaceAt};
+ghost use Rattle.sto_course.specs.declared.stage.Stage.{Stage};
+ghost use Rattle.sto_course.specs.Answers.{OneEvent, IsCommitEvent};
+ghost use Rattle.sto_course.specs.Remaining.{commit_left};
+ghost use Rattle.sto_course.specs.Verdicts.{ComesTo, HasReason, IsUndisturbed};
+ghost use Rattle.sto_course.specs.declared.verdict.Verdict.{Verdict};
+ghost use Rattle.sto_course.specs.Stages.{deal, Stands, Said, EndsBy, HasSpace, SpaceAt};
 
 use crate::ready::Ready;
-use crate::stage::{Found, Loaded, Stage};
-use crate::verdict::Verdict;
 use sto_core::Cells;
+use sto_course::{Found, Loaded, Stage, Verdict};
 use sto_model::Body;
 use sto_type::TxType;
 

@@ -9,8 +9,8 @@ use Rattle.sto_lang.specs.Objects.{Declaration}
 use Rattle.sto_lawful.specs.Aborts.{Abort, part_by_home}
 use Rattle.sto_lawful.specs.Aborts as aborts
 use Rattle.sto_transact.specs.declared.record.Record.{Record}
-use Rattle.sto_attempt.specs.declared.verdict.Verdict.{Verdict}
-use Rattle.sto_attempt.specs.declared.verdict.Verdict.TheVariants.{Locked, Changed}
+use Rattle.sto_course.specs.declared.verdict.Verdict.{Verdict}
+use Rattle.sto_course.specs.declared.verdict.Verdict.TheVariants.{Locked, Changed}
 use Rattle.sto_journal.specs.declared.journal.AbortLine.{AbortLine}
 use Rattle.sto_journal.specs.declared.journal.Cause.TheVariants as causes
 use Rattle.sto_journal.specs.Journals.{home_pair, abort}

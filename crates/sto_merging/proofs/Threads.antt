@@ -16,8 +16,8 @@ use Rattle.sto_told.specs.Records as plainly
 use Rattle.sto_records.specs.Merged.{part_named, lines_of_abort, aborts_of_thread, aborts_from}
 use Rattle.sto_records.proofs.Chains.{Every, every}
 use Rattle.sto_transact.specs.declared.record.Record.{Record}
-use Rattle.sto_attempt.specs.declared.verdict.Verdict.{Verdict}
-use Rattle.sto_attempt.specs.declared.verdict.Verdict.TheVariants.{Wrote, Read, Cancelled, Locked, Changed}
+use Rattle.sto_course.specs.declared.verdict.Verdict.{Verdict}
+use Rattle.sto_course.specs.declared.verdict.Verdict.TheVariants.{Wrote, Read, Cancelled, Locked, Changed}
 use Rattle.sto_transact.specs.Plain.{verdict, plain}
 use Rattle.sto_merging.specs.Tickets.{up_to}
 use Rattle.sto_merging.specs.Splits.{was_aborted}

@@ -6,8 +6,8 @@ use Rattle.sto_lawful.specs.Aborts.{Abort}
 use Rattle.sto_lawful.specs.Aborts as aborts
 use Rattle.sto_records.specs.Merged.{part_named}
 use Rattle.sto_transact.specs.declared.record.Record.{Record}
-use Rattle.sto_attempt.specs.declared.verdict.Verdict.{Verdict}
-use Rattle.sto_attempt.specs.declared.verdict.Verdict.TheVariants.{Wrote, Read, Cancelled, Locked, Changed}
+use Rattle.sto_course.specs.declared.verdict.Verdict.{Verdict}
+use Rattle.sto_course.specs.declared.verdict.Verdict.TheVariants.{Wrote, Read, Cancelled, Locked, Changed}
 use Rattle.sto_merging.specs.Tickets.{up_to}
 
 -- the declarations of a file

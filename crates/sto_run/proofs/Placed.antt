@@ -13,8 +13,8 @@ use Rattle.sto_lawful.specs.Orders.{at_position}
 use Rattle.sto_told.specs.Told.{IsTold}
 use Rattle.sto_told.specs.Records as plainly
 use Rattle.sto_records.specs.Finished.{IsRecord}
-use Rattle.sto_attempt.specs.declared.verdict.Verdict.{Verdict}
-use Rattle.sto_attempt.specs.declared.verdict.Verdict.TheVariants.{Wrote, Read, Cancelled, Locked, Changed}
+use Rattle.sto_course.specs.declared.verdict.Verdict.{Verdict}
+use Rattle.sto_course.specs.declared.verdict.Verdict.TheVariants.{Wrote, Read, Cancelled, Locked, Changed}
 use Rattle.sto_transact.specs.declared.record.Record.{Record}
 use Rattle.sto_transact.specs.Plain.{verdict, plain}
 use Rattle.sto_merging.specs.PlainAborts.{IsPartIn, IsInRange}

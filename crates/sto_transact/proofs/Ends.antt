@@ -12,13 +12,13 @@ use Rattle.sto_core.specs.declared.view.Phase.TheVariants as P
 use Rattle.sto_core.specs.declared.view.View.{View}
 use Rattle.sto_core.specs.Allowed.{IsIdle}
 use Rattle.sto_core.specs.Event.{Event, Start}
-use Rattle.sto_attempt.specs.declared.verdict.Verdict.{Verdict}
-use Rattle.sto_attempt.specs.declared.verdict.Verdict.TheVariants.{Wrote, Read, Cancelled, Locked, Changed}
-use Rattle.sto_attempt.specs.declared.verdict.Turn.TheVariants.{Ended}
-use Rattle.sto_attempt.specs.Answers.{OneEvent, IsCommitEvent}
-use Rattle.sto_attempt.specs.Standing.{Ends, IsLeft, IsUnaborted}
-use Rattle.sto_attempt.specs.Stages.{Deal, EndsWith, EndsIn}
-use Rattle.sto_attempt.specs.Verdicts.{IsWrote}
+use Rattle.sto_course.specs.declared.verdict.Verdict.{Verdict}
+use Rattle.sto_course.specs.declared.verdict.Verdict.TheVariants.{Wrote, Read, Cancelled, Locked, Changed}
+use Rattle.sto_course.specs.declared.verdict.Turn.TheVariants.{Ended}
+use Rattle.sto_course.specs.Answers.{OneEvent, IsCommitEvent}
+use Rattle.sto_course.specs.Standing.{Ends, IsLeft, IsUnaborted}
+use Rattle.sto_course.specs.Stages.{Deal, EndsWith, EndsIn}
+use Rattle.sto_course.specs.Verdicts.{IsWrote}
 use Rattle.sto_told.specs.Records.{Place, IsSince, is_abort, wrote_with}
 use Rattle.sto_told.specs.Counted.{times_committed}
 use Rattle.sto_told.specs.Added.{IsKnown}

@@ -10,12 +10,12 @@ use Rattle.sto_core.specs.declared.view.View.{View}
 use Rattle.sto_core.specs.History.{Validity}
 use Rattle.sto_core.specs.Event.{Event, Start, Open, Word, Close, Renew, Recheck}
 use Rattle.sto_core.specs.Tells.{Tells}
-use Rattle.sto_attempt.specs.declared.sight.Sight.{Sight}
-use Rattle.sto_attempt.specs.declared.renewal.Renewal.{Renewal}
-use Rattle.sto_attempt.specs.declared.stand.Stand.{Stand}
-use Rattle.sto_attempt.specs.declared.stand.Stand.TheVariants.{Unstarted, Opening, Reading, Renewing, Rechecking, Reopening, Rereading, Committing, Over}
-use Rattle.sto_attempt.specs.Answers.{OneEvent}
-use Rattle.sto_attempt.specs.Standing.{Goes, HasBegun, Moves, IsLeft, next_event, reading_event}
+use Rattle.sto_course.specs.declared.sight.Sight.{Sight}
+use Rattle.sto_course.specs.declared.renewal.Renewal.{Renewal}
+use Rattle.sto_course.specs.declared.stand.Stand.{Stand}
+use Rattle.sto_course.specs.declared.stand.Stand.TheVariants.{Unstarted, Opening, Reading, Renewing, Rechecking, Reopening, Rereading, Committing, Over}
+use Rattle.sto_course.specs.Answers.{OneEvent}
+use Rattle.sto_course.specs.Standing.{Goes, HasBegun, Moves, IsLeft, next_event, reading_event}
 use Rattle.sto_told.specs.Added.{IsKnown}
 use Rattle.sto_told.specs.Running.{HasNoMore, IsRunning}
 use Rattle.sto_told.proofs.Events.{covers_known}

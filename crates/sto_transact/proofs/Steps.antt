@@ -12,19 +12,19 @@ use Rattle.sto_type.specs.Meaning.{Meaning}
 use Rattle.sto_core.specs.declared.view.View.{View}
 use Rattle.sto_core.specs.History.{Validity}
 use Rattle.sto_attempt.specs.declared.attempt.Attempt.{Attempt}
-use Rattle.sto_attempt.specs.declared.course.Course.{Course}
+use Rattle.sto_course.specs.declared.course.Course.{Course}
 use Rattle.sto_attempt.specs.declared.ready.Ready.{Ready}
-use Rattle.sto_attempt.specs.declared.stand.Stand.{Stand}
-use Rattle.sto_attempt.specs.declared.stand.Stand.TheVariants as Stood
-use Rattle.sto_attempt.specs.declared.verdict.Verdict.{Verdict}
-use Rattle.sto_attempt.specs.declared.verdict.Turn.{Turn}
-use Rattle.sto_attempt.specs.declared.verdict.Turn.TheVariants as Turns
-use Rattle.sto_attempt.specs.Answers.{OneEvent, IsCommitEvent}
-use Rattle.sto_attempt.specs.Course.{IsOnCourse}
-use Rattle.sto_attempt.specs.Standing.{Goes, Turned, Fits, Ends, Moves, IsFirst, IsLeft, IsUnaborted, next_event}
-use Rattle.sto_attempt.specs.Stages.{Said, EndsBy, Stands, SpaceAt}
-use Rattle.sto_attempt.specs.Verdicts.{IsUndisturbed}
-use Rattle.sto_attempt.proofs.Reading.{idle_reading}
+use Rattle.sto_course.specs.declared.stand.Stand.{Stand}
+use Rattle.sto_course.specs.declared.stand.Stand.TheVariants as Stood
+use Rattle.sto_course.specs.declared.verdict.Verdict.{Verdict}
+use Rattle.sto_course.specs.declared.verdict.Turn.{Turn}
+use Rattle.sto_course.specs.declared.verdict.Turn.TheVariants as Turns
+use Rattle.sto_course.specs.Answers.{OneEvent, IsCommitEvent}
+use Rattle.sto_course.specs.Course.{IsOnCourse}
+use Rattle.sto_course.specs.Standing.{Goes, Turned, Fits, Ends, Moves, IsFirst, IsLeft, IsUnaborted, next_event}
+use Rattle.sto_course.specs.Stages.{Said, EndsBy, Stands, SpaceAt}
+use Rattle.sto_course.specs.Verdicts.{IsUndisturbed}
+use Rattle.sto_course.proofs.Reading.{idle_reading}
 use Rattle.sto_transact.specs.Resting.{IsAtRest}
 use Rattle.sto_transact.specs.declared.trial.Ended.{Ended}
 use Rattle.sto_transact.specs.declared.trial.Trial.TheVariants.{Running, Committing}

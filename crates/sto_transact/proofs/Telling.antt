@@ -7,14 +7,14 @@ use Rattle.sto_model.specs.Run.{Script}
 use Rattle.sto_type.specs.Known.{Parts}
 use Rattle.sto_type.specs.Meaning.{Meaning, IsPartOfObject}
 use Rattle.sto_core.specs.declared.view.View.{View}
-use Rattle.sto_attempt.specs.Asked.{IsOfNext, IsAsked}
-use Rattle.sto_attempt.specs.Sights.{HasClaims}
-use Rattle.sto_attempt.specs.Answers as answers
-use Rattle.sto_attempt.specs.Standing.{Ends}
-use Rattle.sto_attempt.specs.declared.verdict.Verdict.{Verdict}
-use Rattle.sto_attempt.specs.declared.verdict.Verdict.TheVariants.{Wrote, Read, Cancelled, Locked, Changed}
+use Rattle.sto_course.specs.Asked.{IsOfNext, IsAsked}
+use Rattle.sto_course.specs.Sights.{HasClaims}
+use Rattle.sto_course.specs.Answers as answers
+use Rattle.sto_course.specs.Standing.{Ends}
+use Rattle.sto_course.specs.declared.verdict.Verdict.{Verdict}
+use Rattle.sto_course.specs.declared.verdict.Verdict.TheVariants.{Wrote, Read, Cancelled, Locked, Changed}
 use Rattle.sto_model.specs.Asked.{AsksOf}
-use Rattle.sto_attempt.specs.Stages.{Deal, EndsWith}
+use Rattle.sto_course.specs.Stages.{Deal, EndsWith}
 use Rattle.sto_told.specs.Told.{HasFound, IsLockedFinding, IsTicketFinding, HasClaimed, IsAskedPart, IsTold, IsFound, HasRead, HasCancelled, WasAborted, WasChanged}
 use Rattle.sto_told.specs.Added.{IsKnown}
 use Rattle.sto_told.specs.Records.{IsSince}

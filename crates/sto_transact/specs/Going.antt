@@ -1,8 +1,8 @@
 -- How the view of a pass stands, within an attempt, to what it was before.
 use Rattle.std.specs.Prelude.{◌≡◌, ◌≤◌, ℕ}
 use Rattle.sto_core.specs.declared.view.View.{View}
-use Rattle.sto_attempt.specs.declared.stand.Stand.{Stand}
-use Rattle.sto_attempt.specs.declared.stand.Stand.TheVariants.{Unstarted}
+use Rattle.sto_course.specs.declared.stand.Stand.{Stand}
+use Rattle.sto_course.specs.declared.stand.Stand.TheVariants.{Unstarted}
 use Rattle.sto_told.specs.Added.{IsKnown}
 use Rattle.sto_told.specs.Running.{HasNoMore, IsRunning}
 

@@ -2,8 +2,8 @@
 use Rattle.std.specs.Prelude.{map}
 use Rattle.sto_model.specs.Told.{told}
 use Rattle.sto_told.specs.Records as plainly
-use Rattle.sto_attempt.specs.declared.verdict.Verdict.{Verdict}
-use Rattle.sto_attempt.specs.declared.verdict.Verdict.TheVariants.{Wrote, Read, Cancelled, Locked, Changed}
+use Rattle.sto_course.specs.declared.verdict.Verdict.{Verdict}
+use Rattle.sto_course.specs.declared.verdict.Verdict.TheVariants.{Wrote, Read, Cancelled, Locked, Changed}
 use Rattle.sto_transact.specs.declared.record.Record.{Record}
 
 abbrev pub verdict : Verdict → plainly.Verdict

@@ -11,16 +11,16 @@ use Rattle.sto_core.specs.declared.view.View.{View}
 use Rattle.sto_core.specs.History.{Validity}
 use Rattle.sto_attempt.specs.declared.attempt.Attempt.{Attempt}
 use Rattle.sto_attempt.specs.declared.ready.Ready.{Ready}
-use Rattle.sto_attempt.specs.declared.verdict.Verdict.{Verdict}
-use Rattle.sto_attempt.specs.declared.verdict.Turn.{Turn}
-use Rattle.sto_attempt.specs.declared.verdict.Turn.TheVariants as turns
-use Rattle.sto_attempt.specs.declared.stand.Stand.TheVariants.{Committing as CommittingStand}
-use Rattle.sto_attempt.specs.Course.{IsOnCourse}
-use Rattle.sto_attempt.specs.Standing.{Goes, Fits, IsFirst}
-use Rattle.sto_attempt.specs.Stages.{Deal, deal, Stands, SpaceAt}
-use Rattle.sto_attempt.specs.Verdicts.{IsUndisturbed}
-use Rattle.sto_attempt.specs.Bounds.{events_left}
-use Rattle.sto_attempt.specs.Remaining.{commit_left}
+use Rattle.sto_course.specs.declared.verdict.Verdict.{Verdict}
+use Rattle.sto_course.specs.declared.verdict.Turn.{Turn}
+use Rattle.sto_course.specs.declared.verdict.Turn.TheVariants as turns
+use Rattle.sto_course.specs.declared.stand.Stand.TheVariants.{Committing as CommittingStand}
+use Rattle.sto_course.specs.Course.{IsOnCourse}
+use Rattle.sto_course.specs.Standing.{Goes, Fits, IsFirst}
+use Rattle.sto_course.specs.Stages.{Deal, deal, Stands, SpaceAt}
+use Rattle.sto_course.specs.Verdicts.{IsUndisturbed}
+use Rattle.sto_course.specs.Bounds.{events_left}
+use Rattle.sto_course.specs.Remaining.{commit_left}
 use Rattle.sto_told.specs.Records.{Place, is_abort}
 use Rattle.sto_told.specs.Added.{Grows, IsKnown}
 use Rattle.sto_told.specs.Running.{IsRunning}

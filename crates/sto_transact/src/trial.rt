@@ -3,8 +3,8 @@ ghost use Rattle.std.specs.Prelude.{◌≡◌, ◌<◌, ◌≤◌, ℕ, length, 
 ghost use Rattle.sto_model.specs.declared.call.Call.{Call};
 ghost use Rattle.sto_model.specs.Run.{Script};
 ghost use Rattle.sto_core.specs.declared.view.View.{View};
-ghost use Rattle.sto_attempt.specs.Answers.{OneEvent};
-ghost use Rattle.sto_attempt.specs.Bounds.{bound, words_of};
+ghost use Rattle.sto_course.specs.Answers.{OneEvent};
+ghost use Rattle.sto_course.specs.Bounds.{bound, words_of};
 ghost use Rattle.sto_transact.specs.Resting.{IsAtRest};
 ghost use Rattle.sto_transact.specs.Trials.{Proceeds, IsAtSeal, IsAtEnd, HasTurned, HasStepped, HasEnded, trial_left, left_after};
 

@@ -6,25 +6,25 @@ use Rattle.std.proofs.lemmas.List.{length-map}
 use Rattle.sto_part.specs.Listed.{Listed}
 use Rattle.sto_item.specs.Watched.{watched}
 use Rattle.sto_model.specs.Told.{told}
-use Rattle.sto_attempt.specs.declared.sight.Sight.{Sight}
-use Rattle.sto_attempt.specs.declared.renewal.Renewal.{Renewal}
-use Rattle.sto_attempt.specs.Sights.{words_in, AreClaimed, AreOnly}
-use Rattle.sto_attempt.specs.Course.{IsOnCourse}
-use Rattle.sto_attempt.specs.Standing.{IsNext, Turned}
-use Rattle.sto_attempt.proofs.OneReply.{cache_none}
-use Rattle.sto_attempt.proofs.Anew.{ahead, all_renewed, course_renewed}
-use Rattle.sto_attempt.proofs.Spanning.{rests}
-use Rattle.sto_attempt.proofs.Reading.{turned}
+use Rattle.sto_course.specs.declared.sight.Sight.{Sight}
+use Rattle.sto_course.specs.declared.renewal.Renewal.{Renewal}
+use Rattle.sto_course.specs.Sights.{words_in, AreClaimed, AreOnly}
+use Rattle.sto_course.specs.Course.{IsOnCourse}
+use Rattle.sto_course.specs.Standing.{IsNext, Turned}
+use Rattle.sto_course.proofs.OneReply.{cache_none}
+use Rattle.sto_course.proofs.Anew.{ahead, all_renewed, course_renewed}
+use Rattle.sto_course.proofs.Spanning.{rests}
+use Rattle.sto_course.proofs.Reading.{turned}
 use Rattle.std.proofs.Common.{◌-◌, IsTrue, ◌↔◌, drop}
-use Rattle.sto_attempt.specs.Answers.{IsPrefix}
-use Rattle.sto_attempt.specs.Bounds.{left_extending}
-use Rattle.sto_attempt.proofs.Onward.{heard_none}
-use Rattle.sto_attempt.proofs.Stepping.{led_alone}
-use Rattle.sto_attempt.proofs.Prefix.{prefix_of}
-use Rattle.sto_attempt.proofs.Reading.{always_err}
-use Rattle.sto_attempt.proofs.Lowering.{advance_fewer, less_next}
-use Rattle.sto_attempt.proofs.Causing.{replies_on, replies_same}
-use Rattle.sto_attempt.proofs.Stepping.{led_begun}
+use Rattle.sto_course.specs.Answers.{IsPrefix}
+use Rattle.sto_course.specs.Bounds.{left_extending}
+use Rattle.sto_course.proofs.Onward.{heard_none}
+use Rattle.sto_course.proofs.Stepping.{led_alone}
+use Rattle.sto_course.proofs.Prefix.{prefix_of}
+use Rattle.sto_course.proofs.Reading.{always_err}
+use Rattle.sto_course.proofs.Lowering.{advance_fewer, less_next}
+use Rattle.sto_course.proofs.Causing.{replies_on, replies_same}
+use Rattle.sto_course.proofs.Stepping.{led_begun}
 use Rattle.sto_attempt.proofs.attempt.Attempt.advance.Goals as goal
 
 pub returns-then-watch-clause-turned : goal.returns-then-watch-clause-turned

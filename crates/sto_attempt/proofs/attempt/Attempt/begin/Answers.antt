@@ -1,15 +1,15 @@
 use Rattle.std.proofs.Common.{◌≡◌, List, ap, sym, subst, map}
 use Rattle.sto_part.specs.Listed.{Listed}
 use Rattle.sto_model.specs.Told.{told}
-use Rattle.sto_attempt.specs.declared.sight.Sight.{Sight}
-use Rattle.sto_attempt.specs.Sights.{AreClaimed, AreOnly}
-use Rattle.sto_attempt.specs.Standing.{Turned}
-use Rattle.sto_attempt.proofs.Reading.{start_rests, start_only, start_below, turned}
-use Rattle.sto_attempt.proofs.Stepping.{led_alone}
-use Rattle.sto_attempt.proofs.Lowering.{began_fewer}
-use Rattle.sto_attempt.proofs.Causing.{replies_on}
+use Rattle.sto_course.specs.declared.sight.Sight.{Sight}
+use Rattle.sto_course.specs.Sights.{AreClaimed, AreOnly}
+use Rattle.sto_course.specs.Standing.{Turned}
+use Rattle.sto_course.proofs.Reading.{start_rests, start_only, start_below, turned}
+use Rattle.sto_course.proofs.Stepping.{led_alone}
+use Rattle.sto_course.proofs.Lowering.{began_fewer}
+use Rattle.sto_course.proofs.Causing.{replies_on}
 use Rattle.std.proofs.Common.{◌≤◌, ◌∙◌, arith, length}
-use Rattle.sto_attempt.proofs.Stepping.{led_begun}
+use Rattle.sto_course.proofs.Stepping.{led_begun}
 use Rattle.sto_core.specs.declared.view.View.{View}
 use Rattle.sto_attempt.proofs.attempt.Attempt.begin.Goals as goal
 

@@ -4,28 +4,28 @@ use Rattle.sto_model.specs.Told.{told}
 use Rattle.sto_core.specs.Versions.{ticket_of, is_free}
 use Rattle.sto_core.proofs.Lists.{locked_is, unlocked_is}
 use Rattle.sto_type.specs.Known.{Parts, known, IsPartOf}
-use Rattle.sto_attempt.specs.declared.sight.Sight.{Sight}
-use Rattle.sto_attempt.specs.declared.renewal.Renewal.{Renewal}
-use Rattle.sto_attempt.specs.Sights.{words_in, AreClaimed, AreOnly}
-use Rattle.sto_attempt.specs.Course.{IsOnCourse}
-use Rattle.sto_attempt.specs.Standing.{IsAsOf, Turned, IsLeft}
-use Rattle.sto_attempt.specs.Answers.{WasChanged}
-use Rattle.sto_attempt.proofs.Prefix.{some_contents}
-use Rattle.sto_attempt.specs.Answers.{IsPrefix}
-use Rattle.sto_attempt.proofs.Reading.{may_close, close_within, close_stops, close_locked, close_changed, close_rests, close_claims, close_only, close_below, course_wider, cache_wider, turned, always_err}
+use Rattle.sto_course.specs.declared.sight.Sight.{Sight}
+use Rattle.sto_course.specs.declared.renewal.Renewal.{Renewal}
+use Rattle.sto_course.specs.Sights.{words_in, AreClaimed, AreOnly}
+use Rattle.sto_course.specs.Course.{IsOnCourse}
+use Rattle.sto_course.specs.Standing.{IsAsOf, Turned, IsLeft}
+use Rattle.sto_course.specs.Answers.{WasChanged}
+use Rattle.sto_course.proofs.Prefix.{some_contents}
+use Rattle.sto_course.specs.Answers.{IsPrefix}
+use Rattle.sto_course.proofs.Reading.{may_close, close_within, close_stops, close_locked, close_changed, close_rests, close_claims, close_only, close_below, course_wider, cache_wider, turned, always_err}
 use Rattle.std.proofs.Common.{pos, true≢false}
-use Rattle.sto_attempt.specs.Standing.{numbered}
-use Rattle.sto_attempt.proofs.Alone.{close_alone}
-use Rattle.sto_attempt.proofs.Stepping.{led_alone}
+use Rattle.sto_course.specs.Standing.{numbered}
+use Rattle.sto_course.proofs.Alone.{close_alone}
+use Rattle.sto_course.proofs.Stepping.{led_alone}
 use Rattle.std.proofs.Common.{◌-◌, ◌+◌, length, IsTrue, ◌↔◌}
 use Rattle.sto_core.specs.Event.{Close}
-use Rattle.sto_attempt.specs.Bounds.{left_opening, events_left}
-use Rattle.sto_attempt.proofs.Reading.{close_left}
-use Rattle.sto_attempt.proofs.Prefix.{prefix_of}
-use Rattle.sto_attempt.proofs.Lowering.{close_over, close_fewer}
-use Rattle.sto_attempt.proofs.Causing.{by_close, unaborted_caused, replies_on, replies_same}
-use Rattle.sto_attempt.proofs.Onward.{heard_none}
-use Rattle.sto_attempt.proofs.Stepping.{led_begun}
+use Rattle.sto_course.specs.Bounds.{left_opening, events_left}
+use Rattle.sto_course.proofs.Reading.{close_left}
+use Rattle.sto_course.proofs.Prefix.{prefix_of}
+use Rattle.sto_course.proofs.Lowering.{close_over, close_fewer}
+use Rattle.sto_course.proofs.Causing.{by_close, unaborted_caused, replies_on, replies_same}
+use Rattle.sto_course.proofs.Onward.{heard_none}
+use Rattle.sto_course.proofs.Stepping.{led_begun}
 use Rattle.sto_attempt.proofs.attempt.Attempt.close.Goals as goal
 
 pub close-found-requires : goal.close-found-requires

@@ -3,15 +3,15 @@ use Rattle.sto_part.specs.Listed.{Listed}
 use Rattle.sto_model.specs.Told.{told}
 use Rattle.sto_core.specs.Versions.{ticket_of, is_free}
 use Rattle.sto_core.proofs.Lists.{locked_is, unlocked_is}
-use Rattle.sto_attempt.specs.declared.stand.Stand.TheVariants.{Reading, Renewing}
-use Rattle.sto_attempt.specs.Standing.{Fits}
-use Rattle.sto_attempt.specs.Answers.{WasChanged}
-use Rattle.sto_attempt.proofs.Reading.{open_within, open_locked, open_goes, open_renews, open_changed}
+use Rattle.sto_course.specs.declared.stand.Stand.TheVariants.{Reading, Renewing}
+use Rattle.sto_course.specs.Standing.{Fits}
+use Rattle.sto_course.specs.Answers.{WasChanged}
+use Rattle.sto_course.proofs.Reading.{open_within, open_locked, open_goes, open_renews, open_changed}
 use Rattle.std.proofs.Common.{pos, true≢false}
-use Rattle.sto_attempt.proofs.Alone.{open_alone}
+use Rattle.sto_course.proofs.Alone.{open_alone}
 use Rattle.std.proofs.Common.{◌-◌, false, ◌<◌}
-use Rattle.sto_attempt.proofs.Lowering.{open_renew}
-use Rattle.sto_attempt.proofs.Causing.{by_open}
+use Rattle.sto_course.proofs.Lowering.{open_renew}
+use Rattle.sto_course.proofs.Causing.{by_open}
 use Rattle.sto_attempt.proofs.attempt.Attempt.open.Goals as goal
 
 pub returns-then-is_locked-clause-turned : goal.returns-then-is_locked-clause-turned

@@ -6,22 +6,22 @@ use Rattle.sto_model.specs.Told.{told}
 use Rattle.sto_type.specs.Known.{Parts, IsPartOf}
 use Rattle.sto_core.specs.Versions.{ticket_of, is_free}
 use Rattle.sto_core.proofs.Lists.{locked_is, unlocked_is}
-use Rattle.sto_attempt.specs.declared.sight.Sight.{Sight}
-use Rattle.sto_attempt.specs.Sights.{words_in}
-use Rattle.sto_attempt.specs.Answers.{WasChanged}
-use Rattle.sto_attempt.specs.Standing.{IsRenewed, Spans, IsLeft}
-use Rattle.sto_attempt.proofs.Reading.{always_err}
-use Rattle.sto_attempt.proofs.Again.{some_none, was_read, some_old, some_anew, recheck_allowed, rechecked_left, rechecked_within, rechecked_locked, rechecked_changed, rechecked_spans, rechecked_renewed}
+use Rattle.sto_course.specs.declared.sight.Sight.{Sight}
+use Rattle.sto_course.specs.Sights.{words_in}
+use Rattle.sto_course.specs.Answers.{WasChanged}
+use Rattle.sto_course.specs.Standing.{IsRenewed, Spans, IsLeft}
+use Rattle.sto_course.proofs.Reading.{always_err}
+use Rattle.sto_course.proofs.Again.{some_none, was_read, some_old, some_anew, recheck_allowed, rechecked_left, rechecked_within, rechecked_locked, rechecked_changed, rechecked_spans, rechecked_renewed}
 use Rattle.std.proofs.Common.{◌-◌, ◌+◌, drop, OnOk}
 use Rattle.sto_core.specs.Event.{Recheck}
-use Rattle.sto_attempt.specs.Bounds.{events_left, left_extending}
-use Rattle.sto_attempt.specs.Answers.{IsPrefix}
-use Rattle.sto_attempt.proofs.Onward.{heard_none}
-use Rattle.sto_attempt.proofs.Stepping.{ok_map}
-use Rattle.sto_attempt.proofs.Bounding.{left_watches}
-use Rattle.sto_attempt.proofs.Lowering.{recheck_over, recheck_fewer}
-use Rattle.sto_attempt.proofs.Causing.{err_both, unaborted_ok, by_sight}
-use Rattle.sto_attempt.proofs.Again.{rechecked_prefix, next_seen}
+use Rattle.sto_course.specs.Bounds.{events_left, left_extending}
+use Rattle.sto_course.specs.Answers.{IsPrefix}
+use Rattle.sto_course.proofs.Onward.{heard_none}
+use Rattle.sto_course.proofs.Stepping.{ok_map}
+use Rattle.sto_course.proofs.Bounding.{left_watches}
+use Rattle.sto_course.proofs.Lowering.{recheck_over, recheck_fewer}
+use Rattle.sto_course.proofs.Causing.{err_both, unaborted_ok, by_sight}
+use Rattle.sto_course.proofs.Again.{rechecked_prefix, next_seen}
 use Rattle.sto_attempt.proofs.attempt.Attempt.recheck.Goals as goal
 
 pub unreachable-requires : goal.unreachable-requires

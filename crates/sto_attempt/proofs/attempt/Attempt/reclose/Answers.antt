@@ -10,23 +10,23 @@ use Rattle.sto_model.specs.Told.{told}
 use Rattle.sto_type.specs.Known.{Parts, IsPartOf}
 use Rattle.sto_core.specs.Versions.{ticket_of, is_free}
 use Rattle.sto_core.proofs.Lists.{locked_is, unlocked_is}
-use Rattle.sto_attempt.specs.declared.sight.Sight.{Sight}
-use Rattle.sto_attempt.specs.Sights.{words_in, AllTrueIn}
-use Rattle.sto_attempt.specs.Answers.{WasChanged}
-use Rattle.sto_attempt.specs.Standing.{IsRenewed, IsNext, Spans, IsLeft}
-use Rattle.sto_attempt.proofs.Reading.{always_err}
-use Rattle.sto_attempt.proofs.Again.{some_old, some_anew, reclose_allowed, reclosed_left, reclosed_within, reclosed_locked, reclosed_changed, reclosed_false, reclosed_spans, reclosed_renewed, next_place, next_short, next_preds}
+use Rattle.sto_course.specs.declared.sight.Sight.{Sight}
+use Rattle.sto_course.specs.Sights.{words_in, AllTrueIn}
+use Rattle.sto_course.specs.Answers.{WasChanged}
+use Rattle.sto_course.specs.Standing.{IsRenewed, IsNext, Spans, IsLeft}
+use Rattle.sto_course.proofs.Reading.{always_err}
+use Rattle.sto_course.proofs.Again.{some_old, some_anew, reclose_allowed, reclosed_left, reclosed_within, reclosed_locked, reclosed_changed, reclosed_false, reclosed_spans, reclosed_renewed, next_place, next_short, next_preds}
 use Rattle.std.proofs.Common.{◌-◌, ◌+◌, drop, OnOk}
 use Rattle.sto_core.specs.Event.{Close}
 use Rattle.sto_item.specs.Observed.{Watched}
-use Rattle.sto_attempt.specs.Bounds.{events_left, left_extending}
-use Rattle.sto_attempt.specs.Answers.{IsPrefix}
-use Rattle.sto_attempt.proofs.Onward.{heard_none}
-use Rattle.sto_attempt.proofs.Stepping.{ok_map}
-use Rattle.sto_attempt.proofs.Bounding.{left_watches}
-use Rattle.sto_attempt.proofs.Lowering.{reclose_over, reclose_fewer}
-use Rattle.sto_attempt.proofs.Causing.{err_both, unaborted_ok, by_close, by_predicate}
-use Rattle.sto_attempt.proofs.Again.{reclosed_prefix, reclosed_read}
+use Rattle.sto_course.specs.Bounds.{events_left, left_extending}
+use Rattle.sto_course.specs.Answers.{IsPrefix}
+use Rattle.sto_course.proofs.Onward.{heard_none}
+use Rattle.sto_course.proofs.Stepping.{ok_map}
+use Rattle.sto_course.proofs.Bounding.{left_watches}
+use Rattle.sto_course.proofs.Lowering.{reclose_over, reclose_fewer}
+use Rattle.sto_course.proofs.Causing.{err_both, unaborted_ok, by_close, by_predicate}
+use Rattle.sto_course.proofs.Again.{reclosed_prefix, reclosed_read}
 use Rattle.sto_attempt.proofs.attempt.Attempt.reclose.Goals as goal
 
 some_same : (x y : Watched) → Some x ≡ Some y → x ≡ y

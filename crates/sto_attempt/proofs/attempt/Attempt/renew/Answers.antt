@@ -3,22 +3,22 @@ use Rattle.sto_part.specs.Listed.{Listed}
 use Rattle.sto_item.specs.Watched.{watched}
 use Rattle.sto_model.specs.Told.{told}
 use Rattle.sto_type.specs.Known.{Parts}
-use Rattle.sto_attempt.specs.declared.sight.Sight.{Sight}
-use Rattle.sto_attempt.specs.Sights.{words_in}
-use Rattle.sto_attempt.specs.Standing.{IsRenewed, Spans}
-use Rattle.sto_attempt.proofs.Prefix.{some_contents}
-use Rattle.sto_attempt.proofs.Spanning.{renew_spans}
+use Rattle.sto_course.specs.declared.sight.Sight.{Sight}
+use Rattle.sto_course.specs.Sights.{words_in}
+use Rattle.sto_course.specs.Standing.{IsRenewed, Spans}
+use Rattle.sto_course.proofs.Prefix.{some_contents}
+use Rattle.sto_course.proofs.Spanning.{renew_spans}
 use Rattle.std.proofs.Common.{◌-◌, ◌+◌, drop, OnOk}
-use Rattle.sto_attempt.specs.Bounds.{events_left, left_extending, left_renewing}
-use Rattle.sto_attempt.specs.Answers.{IsPrefix}
-use Rattle.sto_attempt.specs.Standing.{IsLeft}
-use Rattle.sto_attempt.proofs.Prefix.{prefix}
-use Rattle.sto_attempt.proofs.Reading.{always_err, idle_reading}
-use Rattle.sto_attempt.proofs.Spanning.{left_idle}
-use Rattle.sto_attempt.proofs.Anew.{items_range}
-use Rattle.sto_attempt.proofs.Stepping.{ok_map}
-use Rattle.sto_attempt.proofs.Lowering.{renew_fewer}
-use Rattle.sto_attempt.proofs.Causing.{err_both}
+use Rattle.sto_course.specs.Bounds.{events_left, left_extending, left_renewing}
+use Rattle.sto_course.specs.Answers.{IsPrefix}
+use Rattle.sto_course.specs.Standing.{IsLeft}
+use Rattle.sto_course.proofs.Prefix.{prefix}
+use Rattle.sto_course.proofs.Reading.{always_err, idle_reading}
+use Rattle.sto_course.proofs.Spanning.{left_idle}
+use Rattle.sto_course.proofs.Anew.{items_range}
+use Rattle.sto_course.proofs.Stepping.{ok_map}
+use Rattle.sto_course.proofs.Lowering.{renew_fewer}
+use Rattle.sto_course.proofs.Causing.{err_both}
 use Rattle.std.proofs.Common.{arith}
 use Rattle.sto_attempt.proofs.attempt.Attempt.renew.Goals as goal
 

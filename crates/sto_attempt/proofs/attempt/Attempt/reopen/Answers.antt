@@ -5,15 +5,15 @@ use Rattle.sto_model.specs.Told.{told}
 use Rattle.sto_type.specs.Known.{Parts}
 use Rattle.sto_core.specs.Versions.{ticket_of, is_free}
 use Rattle.sto_core.proofs.Lists.{locked_is, unlocked_is}
-use Rattle.sto_attempt.specs.declared.stand.Stand.TheVariants.{Rereading}
-use Rattle.sto_attempt.specs.Sights.{words_in}
-use Rattle.sto_attempt.specs.Answers.{WasChanged}
-use Rattle.sto_attempt.specs.Standing.{Renews}
-use Rattle.sto_attempt.proofs.Again.{reopen_allowed, reopened_within, reopened_locked, reopened_changed, reopened_goes}
+use Rattle.sto_course.specs.declared.stand.Stand.TheVariants.{Rereading}
+use Rattle.sto_course.specs.Sights.{words_in}
+use Rattle.sto_course.specs.Answers.{WasChanged}
+use Rattle.sto_course.specs.Standing.{Renews}
+use Rattle.sto_course.proofs.Again.{reopen_allowed, reopened_within, reopened_locked, reopened_changed, reopened_goes}
 use Rattle.std.proofs.Common.{◌-◌, ◌+◌, drop}
-use Rattle.sto_attempt.specs.Bounds.{left_extending}
-use Rattle.sto_attempt.proofs.Lowering.{reopen_over, reopen_fewer}
-use Rattle.sto_attempt.proofs.Causing.{by_open}
+use Rattle.sto_course.specs.Bounds.{left_extending}
+use Rattle.sto_course.proofs.Lowering.{reopen_over, reopen_fewer}
+use Rattle.sto_course.proofs.Causing.{by_open}
 use Rattle.sto_attempt.proofs.attempt.Attempt.reopen.Goals as goal
 
 pub open-found-requires : goal.open-found-requires

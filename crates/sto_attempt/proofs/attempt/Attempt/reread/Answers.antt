@@ -6,20 +6,20 @@ use Rattle.sto_type.specs.Known.{Parts}
 use Rattle.sto_core.specs.Event.{Word}
 use Rattle.sto_core.specs.Tells.{Tells}
 use Rattle.sto_core.specs.Allowed.{Allowed}
-use Rattle.sto_attempt.specs.declared.stand.Stand.{Stand}
-use Rattle.sto_attempt.specs.declared.stand.Stand.TheVariants.{Rereading}
-use Rattle.sto_attempt.specs.Sights.{words_in}
-use Rattle.sto_attempt.specs.Standing.{Renews, Goes, IsLeft}
-use Rattle.sto_attempt.proofs.Reading.{always_err}
-use Rattle.sto_attempt.proofs.Again.{reread_allowed, reread_goes}
+use Rattle.sto_course.specs.declared.stand.Stand.{Stand}
+use Rattle.sto_course.specs.declared.stand.Stand.TheVariants.{Rereading}
+use Rattle.sto_course.specs.Sights.{words_in}
+use Rattle.sto_course.specs.Standing.{Renews, Goes, IsLeft}
+use Rattle.sto_course.proofs.Reading.{always_err}
+use Rattle.sto_course.proofs.Again.{reread_allowed, reread_goes}
 use Rattle.std.proofs.Common.{◌-◌, ◌+◌, drop}
-use Rattle.sto_attempt.specs.Bounds.{events_left, left_extending}
-use Rattle.sto_attempt.specs.Answers.{IsPrefix}
-use Rattle.sto_attempt.proofs.Lowering.{reread_fewer}
+use Rattle.sto_course.specs.Bounds.{events_left, left_extending}
+use Rattle.sto_course.specs.Answers.{IsPrefix}
+use Rattle.sto_course.proofs.Lowering.{reread_fewer}
 use Rattle.sto_core.specs.Allowed.{IsIdle}
-use Rattle.sto_attempt.proofs.Prefix.{prefix}
-use Rattle.sto_attempt.proofs.Spanning.{left_idle}
-use Rattle.sto_attempt.specs.Standing.{HasBegun}
+use Rattle.sto_course.proofs.Prefix.{prefix}
+use Rattle.sto_course.proofs.Spanning.{left_idle}
+use Rattle.sto_course.specs.Standing.{HasBegun}
 use Rattle.sto_attempt.proofs.attempt.Attempt.reread.Goals as goal
 
 pub word-value-requires : goal.word-value-requires

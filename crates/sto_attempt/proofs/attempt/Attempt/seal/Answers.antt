@@ -1,5 +1,5 @@
 use Rattle.std.proofs.Common.{ℕ, List, subst}
-use Rattle.sto_attempt.proofs.Claimed.{claims_fit, part_of_claims}
+use Rattle.sto_course.proofs.Claimed.{claims_fit, part_of_claims}
 use Rattle.sto_attempt.proofs.attempt.Attempt.seal.Goals as goal
 
 pub stock-requires-clause-some : goal.stock-requires-clause-some

@@ -1,11 +1,11 @@
 use Rattle.std.proofs.Common.{◌≡◌, ◌≤◌, ◌*◌, List, ap, sym, subst, map, arith, length}
 use Rattle.sto_item.specs.Pending.{Entry as Update}
 use Rattle.sto_model.specs.Told.{told}
-use Rattle.sto_attempt.specs.declared.stage.Stage.TheVariants.{Locking}
-use Rattle.sto_attempt.specs.Bounds.{round, words_of}
-use Rattle.sto_attempt.specs.Remaining.{commit_left}
-use Rattle.sto_attempt.specs.Stages.{deal, IsPlanned}
-use Rattle.sto_attempt.proofs.Sealing.{gathered_planned, gathered_bounded}
+use Rattle.sto_course.specs.declared.stage.Stage.TheVariants.{Locking}
+use Rattle.sto_course.specs.Bounds.{round, words_of}
+use Rattle.sto_course.specs.Remaining.{commit_left}
+use Rattle.sto_course.specs.Stages.{deal, IsPlanned}
+use Rattle.sto_course.proofs.Sealing.{gathered_planned, gathered_bounded}
 use Rattle.sto_attempt.proofs.attempt.Attempt.stock.Goals as goal
 
 pub room_for-requires : goal.room_for-requires

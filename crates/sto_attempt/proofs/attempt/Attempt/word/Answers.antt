@@ -3,19 +3,19 @@ use Rattle.std.proofs.lemmas.Int.{to_z-of_z}
 use Rattle.sto_model.specs.Told.{told}
 use Rattle.sto_core.specs.Event.{Word}
 use Rattle.sto_core.specs.Tells.{Tells}
-use Rattle.sto_attempt.specs.declared.stand.Stand.{Stand}
-use Rattle.sto_attempt.specs.declared.stand.Stand.TheVariants.{Reading}
-use Rattle.sto_attempt.specs.Standing.{Fits, Goes}
-use Rattle.sto_attempt.proofs.Reading.{word_goes}
-use Rattle.sto_attempt.specs.Standing.{IsFirst}
+use Rattle.sto_course.specs.declared.stand.Stand.{Stand}
+use Rattle.sto_course.specs.declared.stand.Stand.TheVariants.{Reading}
+use Rattle.sto_course.specs.Standing.{Fits, Goes}
+use Rattle.sto_course.proofs.Reading.{word_goes}
+use Rattle.sto_course.specs.Standing.{IsFirst}
 use Rattle.std.proofs.Common.{◌<◌, ◌+◌, ◌-◌, length-append}
-use Rattle.sto_attempt.specs.Bounds.{left_opening, events_left}
-use Rattle.sto_attempt.specs.Sights.{words_in}
-use Rattle.sto_attempt.specs.Answers.{IsPrefix}
-use Rattle.sto_attempt.specs.Standing.{IsLeft}
-use Rattle.sto_attempt.proofs.Lowering.{word_fewer}
-use Rattle.sto_attempt.proofs.Reading.{word_stops, always_err}
-use Rattle.sto_attempt.specs.Standing.{HasBegun}
+use Rattle.sto_course.specs.Bounds.{left_opening, events_left}
+use Rattle.sto_course.specs.Sights.{words_in}
+use Rattle.sto_course.specs.Answers.{IsPrefix}
+use Rattle.sto_course.specs.Standing.{IsLeft}
+use Rattle.sto_course.proofs.Lowering.{word_fewer}
+use Rattle.sto_course.proofs.Reading.{word_stops, always_err}
+use Rattle.sto_course.specs.Standing.{HasBegun}
 use Rattle.sto_attempt.proofs.attempt.Attempt.word.Goals as goal
 
 pub returns-clause-turned : goal.returns-clause-turned

@@ -3,17 +3,17 @@ use Rattle.sto_model.specs.Told.{told}
 use Rattle.sto_core.specs.Event.{is_own_or_free}
 use Rattle.sto_core.specs.Versions.{ticket_of, is_free}
 use Rattle.sto_core.proofs.Lists.{locked_is, unlocked_is}
-use Rattle.sto_attempt.specs.declared.verdict.Verdict.TheVariants.{Changed}
-use Rattle.sto_attempt.specs.Stages.{Deal, deal, IsDropping}
-use Rattle.sto_attempt.proofs.Checks.{may_check, check_locked, check_changed, check_goes, expected_is, own_free, own_written}
-use Rattle.sto_attempt.proofs.Aiming.{checks_next, is_in}
+use Rattle.sto_course.specs.declared.verdict.Verdict.TheVariants.{Changed}
+use Rattle.sto_course.specs.Stages.{Deal, deal, IsDropping}
+use Rattle.sto_course.proofs.Checks.{may_check, check_locked, check_changed, check_goes, expected_is, own_free, own_written}
+use Rattle.sto_course.proofs.Aiming.{checks_next, is_in}
 use Rattle.sto_attempt.proofs.ready.Ready.check.Goals.{else-is_locked-via-then-is_locked+else-not-is_written, else-is_locked-via-else-is_locked}
-use Rattle.sto_attempt.proofs.Remaining.{check_lowers, refuse_lowers}
-use Rattle.sto_attempt.proofs.Space.{space_checks}
-use Rattle.sto_attempt.proofs.Checks.{check_reason, check_unheld}
-use Rattle.sto_attempt.proofs.Undisturbed.{checks_on, not_busy}
-use Rattle.sto_attempt.specs.Verdicts.{HasReason}
-use Rattle.sto_attempt.specs.Reasons.{IsByPredicate, IsByTest}
+use Rattle.sto_course.proofs.Remaining.{check_lowers, refuse_lowers}
+use Rattle.sto_course.proofs.Space.{space_checks}
+use Rattle.sto_course.proofs.Checks.{check_reason, check_unheld}
+use Rattle.sto_course.proofs.Undisturbed.{checks_on, not_busy}
+use Rattle.sto_course.specs.Verdicts.{HasReason}
+use Rattle.sto_course.specs.Reasons.{IsByPredicate, IsByTest}
 use Rattle.std.specs.List.{Contains}
 use Rattle.sto_item.specs.declared.item.Item.TheVariants.{Seen}
 use Rattle.sto_attempt.proofs.ready.Ready.check.Goals as goal

@@ -1,12 +1,12 @@
 use Rattle.std.proofs.Common.{[], map}
 use Rattle.sto_model.specs.Told.{told}
-use Rattle.sto_attempt.specs.Stages.{Deal, deal}
-use Rattle.sto_attempt.proofs.Drawn.{may_decide}
-use Rattle.sto_attempt.proofs.Installing.{decide_goes}
-use Rattle.sto_attempt.proofs.Aiming.{puts_next}
-use Rattle.sto_attempt.proofs.Remaining.{decide_lowers}
-use Rattle.sto_attempt.proofs.Space.{space_puts}
-use Rattle.sto_attempt.proofs.Undisturbed.{puts_on}
+use Rattle.sto_course.specs.Stages.{Deal, deal}
+use Rattle.sto_course.proofs.Drawn.{may_decide}
+use Rattle.sto_course.proofs.Installing.{decide_goes}
+use Rattle.sto_course.proofs.Aiming.{puts_next}
+use Rattle.sto_course.proofs.Remaining.{decide_lowers}
+use Rattle.sto_course.proofs.Space.{space_puts}
+use Rattle.sto_course.proofs.Undisturbed.{puts_on}
 use Rattle.sto_attempt.proofs.ready.Ready.commit.Goals as goal
 
 pub decide-requires : goal.decide-requires

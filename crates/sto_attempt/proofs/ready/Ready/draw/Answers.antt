@@ -1,12 +1,12 @@
 use Rattle.std.proofs.Common.{ℕ, List, sym, subst, map}
 use Rattle.sto_model.specs.Told.{told}
 use Rattle.sto_type.specs.Known.{Parts}
-use Rattle.sto_attempt.specs.Stages.{Deal, deal}
-use Rattle.sto_attempt.proofs.Drawn.{the_draw, draw_goes}
-use Rattle.sto_attempt.proofs.Aiming.{checks_next}
-use Rattle.sto_attempt.proofs.Remaining.{draw_lowers}
-use Rattle.sto_attempt.proofs.Space.{space_checks}
-use Rattle.sto_attempt.proofs.Undisturbed.{checks_on}
+use Rattle.sto_course.specs.Stages.{Deal, deal}
+use Rattle.sto_course.proofs.Drawn.{the_draw, draw_goes}
+use Rattle.sto_course.proofs.Aiming.{checks_next}
+use Rattle.sto_course.proofs.Remaining.{draw_lowers}
+use Rattle.sto_course.proofs.Space.{space_checks}
+use Rattle.sto_course.proofs.Undisturbed.{checks_on}
 use Rattle.sto_attempt.proofs.ready.Ready.draw.Goals as goal
 
 pub draw-ticket-requires : goal.draw-ticket-requires

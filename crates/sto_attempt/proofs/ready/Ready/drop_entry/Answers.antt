@@ -1,8 +1,8 @@
 use Rattle.std.proofs.Common.{inl, ℕ, sym, subst, map}
 use Rattle.sto_model.specs.Told.{told}
-use Rattle.sto_attempt.specs.Stages.{Deal, deal, IsLeaving}
-use Rattle.sto_attempt.proofs.Leaving.{drop_goes}
-use Rattle.sto_attempt.proofs.Remaining.{drop_lowers}
+use Rattle.sto_course.specs.Stages.{Deal, deal, IsLeaving}
+use Rattle.sto_course.proofs.Leaving.{drop_goes}
+use Rattle.sto_course.proofs.Remaining.{drop_lowers}
 use Rattle.sto_attempt.proofs.ready.Ready.drop_entry.Goals as goal
 
 pub returns-clause-said : goal.returns-clause-said

@@ -9,17 +9,17 @@ use Rattle.sto_core.specs.Views.{width_in}
 use Rattle.sto_core.specs.Versions.{ticket_of, is_free}
 use Rattle.sto_core.specs.Allowed.{HasPart, MayClose}
 use Rattle.sto_core.proofs.Lists.{locked_is, unlocked_is}
-use Rattle.sto_attempt.specs.declared.verdict.Verdict.TheVariants.{Locked}
-use Rattle.sto_attempt.specs.Stages.{Deal, deal, task, is_so, IsLeaving}
-use Rattle.sto_attempt.proofs.Unheld.{part_wide}
-use Rattle.sto_attempt.proofs.Ending.{odd_version, other_version, same_version, may_end, end_locked, end_newer, end_done, end_fails, space_ended}
-use Rattle.sto_attempt.proofs.Judging.{all_true, one_fails, so_of, leaving_as}
-use Rattle.sto_attempt.proofs.Aiming.{aimed}
-use Rattle.sto_attempt.proofs.Remaining.{fail_lowers, tested_lowers}
-use Rattle.sto_attempt.proofs.Ending.{end_unheld, fails_reason, newer_reason}
-use Rattle.sto_attempt.proofs.Undisturbed.{aimed_on, not_busy}
-use Rattle.sto_attempt.specs.Verdicts.{HasReason}
-use Rattle.sto_attempt.specs.Reasons.{IsByPredicate, IsByTest}
+use Rattle.sto_course.specs.declared.verdict.Verdict.TheVariants.{Locked}
+use Rattle.sto_course.specs.Stages.{Deal, deal, task, is_so, IsLeaving}
+use Rattle.sto_course.proofs.Unheld.{part_wide}
+use Rattle.sto_course.proofs.Ending.{odd_version, other_version, same_version, may_end, end_locked, end_newer, end_done, end_fails, space_ended}
+use Rattle.sto_course.proofs.Judging.{all_true, one_fails, so_of, leaving_as}
+use Rattle.sto_course.proofs.Aiming.{aimed}
+use Rattle.sto_course.proofs.Remaining.{fail_lowers, tested_lowers}
+use Rattle.sto_course.proofs.Ending.{end_unheld, fails_reason, newer_reason}
+use Rattle.sto_course.proofs.Undisturbed.{aimed_on, not_busy}
+use Rattle.sto_course.specs.Verdicts.{HasReason}
+use Rattle.sto_course.specs.Reasons.{IsByPredicate, IsByTest}
 use Rattle.sto_attempt.proofs.ready.Ready.end_test.Goals as goal
 
 pub close-found-requires : goal.close-found-requires

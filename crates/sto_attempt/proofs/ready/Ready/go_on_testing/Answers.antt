@@ -1,6 +1,6 @@
 use Rattle.std.proofs.Common.{◌≡◌, ◌<◌, ◌∙◌, ℕ, ap, arith, length, slice_index_or}
 use Rattle.std.proofs.lemmas.Option.{get_or_from_slice_get}
-use Rattle.sto_attempt.proofs.Checks.{each_get}
+use Rattle.sto_course.proofs.Checks.{each_get}
 use Rattle.sto_attempt.proofs.ready.Ready.go_on_testing.Goals as goal
 
 pub width-width-requires : goal.width-width-requires

@@ -1,10 +1,10 @@
 use Rattle.std.proofs.Common.{inl, ◌+◌, refl, map, arith}
 use Rattle.sto_item.specs.Pending.{plain}
 use Rattle.sto_model.specs.Told.{told}
-use Rattle.sto_attempt.specs.Stages.{Deal, deal}
-use Rattle.sto_attempt.proofs.Leaving.{may_unlock, leave_more, leave_last}
-use Rattle.sto_attempt.proofs.Remaining.{leave_ends, leave_lowers}
-use Rattle.sto_attempt.proofs.Aiming.{leave_by}
+use Rattle.sto_course.specs.Stages.{Deal, deal}
+use Rattle.sto_course.proofs.Leaving.{may_unlock, leave_more, leave_last}
+use Rattle.sto_course.proofs.Remaining.{leave_ends, leave_lowers}
+use Rattle.sto_course.proofs.Aiming.{leave_by}
 use Rattle.sto_attempt.proofs.ready.Ready.leave.Goals as goal
 
 pub unlock-requires : goal.unlock-requires

@@ -8,18 +8,18 @@ use Rattle.sto_core.specs.Event.{Word}
 use Rattle.sto_core.specs.Tells.{Tells}
 use Rattle.sto_core.specs.Views.{width_in}
 use Rattle.sto_core.specs.Allowed.{HasPart, MayRead}
-use Rattle.sto_attempt.specs.declared.stage.Loaded.{Loaded}
-use Rattle.sto_attempt.specs.Stages.{Deal, deal, task, ticket_from, is_so, IsLoadingWord, Stands}
+use Rattle.sto_course.specs.declared.stage.Loaded.{Loaded}
+use Rattle.sto_course.specs.Stages.{Deal, deal, task, ticket_from, is_so, IsLoadingWord, Stands}
 use Rattle.std.specs.List.{list_all}
-use Rattle.sto_attempt.proofs.Loading.{may_load, load_goes, in_widths, task_wide}
-use Rattle.sto_attempt.proofs.Judging.{load_done, load_fails, all_true, one_fails, so_of, leaving_as}
-use Rattle.sto_attempt.proofs.Space.{space_aimed}
-use Rattle.sto_attempt.proofs.Aiming.{aimed}
-use Rattle.sto_attempt.proofs.Remaining.{fail_lowers, load_lowers, loaded_lowers}
-use Rattle.sto_attempt.proofs.Judging.{load_reason}
-use Rattle.sto_attempt.proofs.Undisturbed.{aimed_on, early_ticket}
-use Rattle.sto_attempt.specs.Verdicts.{HasReason}
-use Rattle.sto_attempt.specs.Reasons.{IsByPredicate}
+use Rattle.sto_course.proofs.Loading.{may_load, load_goes, in_widths, task_wide}
+use Rattle.sto_course.proofs.Judging.{load_done, load_fails, all_true, one_fails, so_of, leaving_as}
+use Rattle.sto_course.proofs.Space.{space_aimed}
+use Rattle.sto_course.proofs.Aiming.{aimed}
+use Rattle.sto_course.proofs.Remaining.{fail_lowers, load_lowers, loaded_lowers}
+use Rattle.sto_course.proofs.Judging.{load_reason}
+use Rattle.sto_course.proofs.Undisturbed.{aimed_on, early_ticket}
+use Rattle.sto_course.specs.Verdicts.{HasReason}
+use Rattle.sto_course.specs.Reasons.{IsByPredicate}
 use Rattle.sto_attempt.proofs.ready.Ready.load.Goals as goal
 
 pub width-width-requires : goal.width-width-requires

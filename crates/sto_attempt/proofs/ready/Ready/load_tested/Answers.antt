@@ -7,11 +7,11 @@ use Rattle.sto_core.specs.Event.{Word}
 use Rattle.sto_core.specs.Tells.{Tells}
 use Rattle.sto_core.specs.Views.{width_in}
 use Rattle.sto_core.specs.Allowed.{HasPart, MayRead}
-use Rattle.sto_attempt.specs.declared.stage.Loaded.{Loaded}
-use Rattle.sto_attempt.specs.Stages.{Deal, deal, task, IsTestedWord}
-use Rattle.sto_attempt.proofs.Unheld.{may_read_word, word_goes}
-use Rattle.sto_attempt.proofs.Space.{space_more}
-use Rattle.sto_attempt.proofs.Remaining.{word_lowers}
+use Rattle.sto_course.specs.declared.stage.Loaded.{Loaded}
+use Rattle.sto_course.specs.Stages.{Deal, deal, task, IsTestedWord}
+use Rattle.sto_course.proofs.Unheld.{may_read_word, word_goes}
+use Rattle.sto_course.proofs.Space.{space_more}
+use Rattle.sto_course.proofs.Remaining.{word_lowers}
 use Rattle.sto_attempt.proofs.ready.Ready.load_tested.Goals as goal
 
 pub word-value-requires : goal.word-value-requires

@@ -4,22 +4,22 @@ use Rattle.sto_item.specs.Pending.{plain}
 use Rattle.sto_model.specs.Told.{told}
 use Rattle.sto_core.specs.Versions.{is_free}
 use Rattle.sto_core.proofs.Lists.{locked_is, unlocked_is}
-use Rattle.sto_attempt.specs.declared.stage.Found.{Found}
-use Rattle.sto_attempt.specs.declared.stage.Loaded.{Loaded}
-use Rattle.sto_attempt.specs.declared.stage.Stage.{Stage}
-use Rattle.sto_attempt.specs.declared.verdict.Verdict.TheVariants.{Locked}
-use Rattle.sto_attempt.specs.Stages.{Deal, deal, Stands, Said, SpaceAt}
-use Rattle.sto_attempt.proofs.Locking.{may_lock, lock_ends, lock_leaves, lock_goes, lock_done}
-use Rattle.sto_attempt.proofs.Ending.{space_begun, space_left}
-use Rattle.sto_attempt.proofs.Aiming.{aimed, gives_up}
+use Rattle.sto_course.specs.declared.stage.Found.{Found}
+use Rattle.sto_course.specs.declared.stage.Loaded.{Loaded}
+use Rattle.sto_course.specs.declared.stage.Stage.{Stage}
+use Rattle.sto_course.specs.declared.verdict.Verdict.TheVariants.{Locked}
+use Rattle.sto_course.specs.Stages.{Deal, deal, Stands, Said, SpaceAt}
+use Rattle.sto_course.proofs.Locking.{may_lock, lock_ends, lock_leaves, lock_goes, lock_done}
+use Rattle.sto_course.proofs.Ending.{space_begun, space_left}
+use Rattle.sto_course.proofs.Aiming.{aimed, gives_up}
 use Rattle.sto_attempt.proofs.ready.Ready.lock.Goals.{then-next-len, else-next-len}
-use Rattle.sto_attempt.proofs.Remaining.{give_lowers, lock_lowers, locked_lowers}
-use Rattle.sto_attempt.specs.declared.stage.Stage.TheVariants.{Locking}
-use Rattle.sto_attempt.specs.Remaining.{commit_left}
-use Rattle.sto_attempt.proofs.Locking.{lock_unheld}
-use Rattle.sto_attempt.proofs.Undisturbed.{aimed_on, early_more, given, not_busy}
-use Rattle.sto_attempt.specs.Verdicts.{HasReason, ComesTo}
-use Rattle.sto_attempt.proofs.Aiming.{give_by}
+use Rattle.sto_course.proofs.Remaining.{give_lowers, lock_lowers, locked_lowers}
+use Rattle.sto_course.specs.declared.stage.Stage.TheVariants.{Locking}
+use Rattle.sto_course.specs.Remaining.{commit_left}
+use Rattle.sto_course.proofs.Locking.{lock_unheld}
+use Rattle.sto_course.proofs.Undisturbed.{aimed_on, early_more, given, not_busy}
+use Rattle.sto_course.specs.Verdicts.{HasReason, ComesTo}
+use Rattle.sto_course.proofs.Aiming.{give_by}
 use Rattle.sto_attempt.proofs.ready.Ready.lock.Goals as goal
 
 pub lock-found-requires : goal.lock-found-requires

@@ -1,12 +1,12 @@
 use Rattle.std.proofs.Common.{◌≡◌, ◌+◌, ◌∙◌, ℤ, [], ◌∷◌, ◌++◌, refl, map, arith, rules, FitsSigned, w64, to_z, of_z}
 use Rattle.std.proofs.lemmas.Int.{to_z-of_z}
 use Rattle.sto_model.specs.Told.{told}
-use Rattle.sto_attempt.specs.Stages.{Deal, deal}
-use Rattle.sto_attempt.proofs.Installing.{put_is, may_put, put_goes}
-use Rattle.sto_attempt.proofs.Aiming.{puts_next}
-use Rattle.sto_attempt.proofs.Remaining.{put_lowers}
-use Rattle.sto_attempt.proofs.Space.{space_puts}
-use Rattle.sto_attempt.proofs.Undisturbed.{puts_on}
+use Rattle.sto_course.specs.Stages.{Deal, deal}
+use Rattle.sto_course.proofs.Installing.{put_is, may_put, put_goes}
+use Rattle.sto_course.proofs.Aiming.{puts_next}
+use Rattle.sto_course.proofs.Remaining.{put_lowers}
+use Rattle.sto_course.proofs.Space.{space_puts}
+use Rattle.sto_course.proofs.Undisturbed.{puts_on}
 use Rattle.sto_attempt.proofs.ready.Ready.put.Goals as goal
 
 pub put-requires : goal.put-requires

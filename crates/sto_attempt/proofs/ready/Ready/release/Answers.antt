@@ -2,11 +2,11 @@ use Rattle.std.proofs.Common.{length, inr, ◌+◌, ℕ, List, refl, subst, map,
 use Rattle.sto_item.specs.Pending.{plain}
 use Rattle.sto_model.specs.Told.{told}
 use Rattle.sto_type.specs.Known.{Parts}
-use Rattle.sto_attempt.specs.Stages.{Deal, deal}
-use Rattle.sto_attempt.proofs.Installing.{may_release, release_goes, release_last}
-use Rattle.sto_attempt.proofs.Remaining.{release_ends, release_lowers}
-use Rattle.sto_attempt.specs.Verdicts.{HasReason, IsWrote}
-use Rattle.sto_attempt.proofs.Aiming.{release_by}
+use Rattle.sto_course.specs.Stages.{Deal, deal}
+use Rattle.sto_course.proofs.Installing.{may_release, release_goes, release_last}
+use Rattle.sto_course.proofs.Remaining.{release_ends, release_lowers}
+use Rattle.sto_course.specs.Verdicts.{HasReason, IsWrote}
+use Rattle.sto_course.proofs.Aiming.{release_by}
 use Rattle.sto_attempt.proofs.ready.Ready.release.Goals as goal
 
 pub release-requires : goal.release-requires

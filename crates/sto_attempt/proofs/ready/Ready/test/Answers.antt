@@ -9,14 +9,14 @@ use Rattle.sto_core.specs.Allowed.{HasPart}
 use Rattle.sto_core.specs.declared.view.Phase.TheVariants as P
 use Rattle.sto_core.specs.Versions.{is_free}
 use Rattle.sto_core.proofs.Lists.{locked_is, unlocked_is}
-use Rattle.sto_attempt.specs.declared.stage.Found.{Found}
-use Rattle.sto_attempt.specs.declared.verdict.Verdict.TheVariants.{Locked}
-use Rattle.sto_attempt.specs.Stages.{Deal, deal, task, IsLeaving}
-use Rattle.sto_attempt.proofs.Unheld.{may_test, test_leaves, test_goes}
-use Rattle.sto_attempt.proofs.Remaining.{fail_lowers, test_lowers}
-use Rattle.sto_attempt.proofs.Undisturbed.{early_more, not_busy}
-use Rattle.sto_attempt.proofs.Unheld.{test_unheld}
-use Rattle.sto_attempt.specs.Verdicts.{HasReason}
+use Rattle.sto_course.specs.declared.stage.Found.{Found}
+use Rattle.sto_course.specs.declared.verdict.Verdict.TheVariants.{Locked}
+use Rattle.sto_course.specs.Stages.{Deal, deal, task, IsLeaving}
+use Rattle.sto_course.proofs.Unheld.{may_test, test_leaves, test_goes}
+use Rattle.sto_course.proofs.Remaining.{fail_lowers, test_lowers}
+use Rattle.sto_course.proofs.Undisturbed.{early_more, not_busy}
+use Rattle.sto_course.proofs.Unheld.{test_unheld}
+use Rattle.sto_course.specs.Verdicts.{HasReason}
 use Rattle.sto_attempt.proofs.ready.Ready.test.Goals as goal
 
 pub test-found-requires : goal.test-found-requires

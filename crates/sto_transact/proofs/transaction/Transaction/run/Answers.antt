@@ -4,7 +4,7 @@ use Rattle.std.specs.Prelude.{not}
 use Rattle.std.proofs.lemmas.List.{map-append}
 use Rattle.sto_model.specs.Run.{Script}
 use Rattle.sto_model.specs.Told.{told}
-use Rattle.sto_attempt.proofs.Reading.{always_err}
+use Rattle.sto_course.proofs.Reading.{always_err}
 use Rattle.sto_told.specs.Records.{Place, Record as Told, is_abort}
 use Rattle.sto_told.specs.Tried.{HasTried}
 use Rattle.sto_transact.specs.Plain.{plain, verdict}

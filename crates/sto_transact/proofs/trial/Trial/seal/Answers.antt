@@ -1,7 +1,7 @@
 -- The commit goes on from the attempt that is sealed.
 use Rattle.std.proofs.Common.{◌≡◌, sym, ap, ◌∙◌, subst, arith}
-use Rattle.sto_attempt.specs.declared.stand.Stand.{Stand}
-use Rattle.sto_attempt.specs.Bounds.{events_left}
+use Rattle.sto_course.specs.declared.stand.Stand.{Stand}
+use Rattle.sto_course.specs.Bounds.{events_left}
 use Rattle.sto_transact.specs.declared.trial.Trial.{Trial}
 use Rattle.sto_transact.specs.declared.trial.Trial.TheVariants.{Running}
 use Rattle.sto_transact.specs.Trials.{Proceeds, IsAtSeal, trial_left}

@@ -1,6 +1,6 @@
 -- Each way on is one of `proofs/Steps`, at what the step of the attempt or of the commit ensures.
 use Rattle.std.proofs.Common.{Ok, Option, subst}
-use Rattle.sto_attempt.specs.declared.verdict.Verdict.{Verdict}
+use Rattle.sto_course.specs.declared.verdict.Verdict.{Verdict}
 use Rattle.sto_transact.specs.declared.trial.Trial.{Trial}
 use Rattle.sto_transact.specs.declared.trial.Trial.TheVariants.{Committing}
 use Rattle.sto_transact.specs.Trials.{Proceeds, HasTurned}

@@ -3,7 +3,7 @@ use Rattle.sto_model.specs.Run.{Script as Steps}
 use Rattle.sto_lang.specs.Views.{file as view, script}
 use Rattle.sto_script.specs.Meaning.{meaning_of}
 use Rattle.sto_lawful.specs.Orders.{Place}
-use Rattle.sto_attempt.proofs.Reading.{always_err}
+use Rattle.sto_course.proofs.Reading.{always_err}
 use Rattle.sto_transact.specs.Plain.{plain}
 use Rattle.sto_transact.specs.Ran.{HasRun, HasBroken}
 use Rattle.sto_working.specs.Ran.{HasRunAt, HasBrokenAt}

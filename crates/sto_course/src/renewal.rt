@@ -1,0 +1,34 @@
+//! What an extension of the snapshot keeps while it is under way.
+ghost use Rattle.std.specs.Prelude.{◌≡◌, [], false};
+
+use crate::sight::Sights;
+use std::alloc::Global;
+use sto_item::Watches;
+
+/// The last extension, under way or done: the observed parts, and those of them that were read anew.
+#[derive(Drop)]
+pub struct Renewal {
+    /// The value of the clock as of which they are read.
+    pub bound: u64,
+    /// Whether it was begun during the running call of the body.
+    pub extended: bool,
+    /// The first of the watches as they were read.
+    pub fresh: Sights,
+    /// What was observed, part by part.
+    pub watches: Watches,
+}
+
+impl Renewal {
+    /// Nothing to read anew.
+    pub fn new(alloc: Global) -> Renewal
+        ensures fresh { result.fresh.items ≡ [] }
+        ensures extended { result.extended ≡ false }
+    {
+        Renewal {
+            bound: 0,
+            extended: false,
+            fresh: Sights::new(alloc),
+            watches: Watches::new(alloc),
+        }
+    }
+}
