@@ -71,8 +71,9 @@ fn see_all(alloc: Global, buckets: u32, places: u32) -> Result<Items, NoMemory>
     ensures { IfOk result (λ l. l.items ≡ all_seen places 0 buckets) }
 {
     let mut items = Items::new(alloc);
+    items.reserve(buckets)?;
     for bucket in 0..buckets {
-        items.push(Item::Seen(bucket * (1 + places)))?;
+        items.push_spare(Item::Seen(bucket * (1 + places)));
     }
     Ok(items)
 }

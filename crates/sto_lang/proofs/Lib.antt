@@ -11,12 +11,14 @@ pub mod FittingLemmas
 pub mod InnerLemmas
 pub mod FaultLemmas
 pub mod AsciiLemmas
+pub mod AllowedLemmas
 pub mod Differing
 pub mod SoundStatements
 pub mod SoundCalls
 pub mod Branches
 pub mod SoundForms
 pub mod SoundObjects
+pub mod AskedLemmas
 pub mod SoundNumbers
 pub mod SoundDrafts
 pub mod SoundPlaces

@@ -14,6 +14,11 @@ use Rattle.sto_form.specs.Numbers.{operands_of}
 abbrev pub declared : Draft → List ℕ → Option Declaration
 declared d name = named name d.objects
 
+-- the object that a call asks, where it is declared
+abbrev pub asked_of : Draft → Form → Option Declaration
+asked_of d (CallLine to operation object operands) = declared d object
+asked_of d form = None
+
 -- a declared name was declared before, or another thread has the name of a thread
 abbrev pub is_taken : Draft → Form → Bool
 is_taken d (DeclareLine name what) = is_some (object_place name d.objects)

@@ -1,5 +1,5 @@
 //! Reads a script.
-ghost use Rattle.std.specs.Prelude.{◌≡◌, ◌+◌, ◌^◌, ◌<◌, ◌≤◌, length, IfOk};
+ghost use Rattle.std.specs.Prelude.{◌≡◌, ◌+◌, ◌^◌, ◌<◌, ◌≤◌, length, IfOk, true};
 ghost use Rattle.std.specs.List.{list_all};
 ghost use Rattle.sto_form.specs.Lines.{lines_of};
 ghost use Rattle.sto_lang.specs.Drafts.{opening};
@@ -11,6 +11,8 @@ ghost use Rattle.sto_lang.specs.DraftViews.{draft_of};
 
 use crate::draft::Draft;
 use crate::faults::fault_of;
+use crate::objects::number_of;
+use crate::usage::asked;
 use crate::{FaultKind, File, ReadError, ScriptFault};
 use std::alloc::Global;
 use sto_form::{form_of, next_line, next_word};
@@ -24,11 +26,15 @@ fn is_allowed(byte: u8) -> bool
     byte == b'\t' || byte == b'\n' || byte == b'\r' || (b' ' <= byte && byte <= b'~')
 }
 
-/// Whether a line has only bytes that may stand in a script.
-fn all_allowed(line: &[u8]) -> bool
-    ensures { result ≡ list_all is_allowed line.now }
+/// Whether all bytes may stand in a script. None is skipped after one that may not, so that many are tested at once.
+fn all_allowed(bytes: &[u8]) -> bool
+    ensures { result ≡ list_all is_allowed bytes.now }
 {
-    line.iter().all(|byte| is_allowed(*byte))
+    let mut allowed = true;
+    for byte in bytes {
+        allowed = allowed & is_allowed(*byte);
+    }
+    allowed
 }
 
 fn fault(line: u32, kind: FaultKind) -> ReadError
@@ -38,18 +44,21 @@ fn fault(line: u32, kind: FaultKind) -> ReadError
 }
 
 impl Draft {
-    /// Takes in the line with this number; `later` are the bytes that follow it.
+    /// Takes in the line with this number; `later` are the bytes that follow it. Where all bytes of the script are
+    /// allowed, those of the line are not tested again.
     fn add_line(
         &mut self,
         alloc: Global,
         number: u32,
         later: &[u8],
         line: &[u8],
+        allowed: bool,
     ) -> Result<(), ReadError>
-        requires { length line.now < 2 ^ 32 }
+        requires few { length line.now < 2 ^ 32 }
+        requires allowed { allowed ≡ true → list_all is_allowed line.now ≡ true }
         ensures { Gives (λ _. draft_of self.new) result (with_line (draft_of self.old) number (lines_of later.now) line.now) }
     {
-        if !all_allowed(line) {
+        if !allowed && !all_allowed(line) {
             return Err(fault(number, FaultKind::BadByte));
         }
         let Some((word, rest)) = next_word(line) else {
@@ -58,9 +67,10 @@ impl Draft {
         let Some(form) = form_of(self.version, word, rest) else {
             return Err(fault(number, FaultKind::BadLine));
         };
-        match fault_of(self, later, &form) {
+        let asked = asked(self, &form);
+        match fault_of(self, later, &form, asked) {
             Some(kind) => Err(fault(number, kind)),
-            None => Ok(self.add_form(alloc, &form)?),
+            None => Ok(self.add_form(alloc, number_of(asked), &form)?),
         }
     }
 
@@ -92,15 +102,17 @@ impl Draft {
     }
 }
 
+#[tactic(auto, using(crate::proofs::AllowedLemmas::lines_allowed, crate::proofs::AllowedLemmas::first_allowed))]
 fn read_lines(alloc: Global, bytes: &[u8]) -> Result<File, ReadError>
     requires { length bytes.now ≤ 1048576 }
     ensures { Gives file result (with_lines opening 1 (lines_of bytes.now)) }
 {
+    let allowed = all_allowed(bytes);
     let mut draft = Draft::opening(alloc);
     let mut rest = bytes;
     let mut number = 1;
     while let Some((line, later)) = next_line(rest) {
-        draft.add_line(alloc, number, later, line)?;
+        draft.add_line(alloc, number, later, line, allowed)?;
         rest = later;
         number += 1;
     }

@@ -1,15 +1,11 @@
-use Rattle.std.proofs.Common.{◌≡◌, ◌∙◌, ◌<◌, ◌^◌, ℕ, List, ap, arith, Some, pos, length, get_or}
-use Rattle.std.proofs.lemmas.Bool.Decides.{nat_tests}
-use Rattle.std.proofs.lemmas.Grind.{common_steps}
-use Rattle.std.specs.Str.Parse.{digits_value}
-use Rattle.sto_form.proofs.Numbers.{plain_number}
-use Rattle.sto_form.proofs.word.small_number.Goals.{then-word-ne1, else-word-ne1}
+use Rattle.std.proofs.Common.{◌≡◌, ◌∙◌, ◌<◌, ◌^◌, ℕ, arith, Some, ap, sym}
+use Rattle.std.proofs.lemmas.Int.{to_z-of_z}
+use Rattle.sto_form.proofs.Numbers.{natural_number, negative_fits}
 use Rattle.sto_form.proofs.word.small_number.Goals as goal
 
-pub returns : goal.returns
-returns c =
-    let word : List ℕ = c.args.word.now in
-    let some : 0 < length word = grind (arith, common_steps) in
-    let lead : get_or word 0 0 ≡ 48 → length word ≡ 1 = λ z. elim c.if-word-ne1.branch [ then-word-ne1 w ↦ grind (arith, nat_tests, z) | else-word-ne1 w ↦ grind (arith, nat_tests, z) ] in
-    let small : digits_value 10 word < 2 ^ 32 = grind (arith, c.in_ok-value.ensures.1) in
-    plain_number word c.in_ok-value.ensures.0 some lead small ∙ ap (λ n. Some (pos n)) c.in_ok-value.ensures.1
+pub returns-in-Some : goal.returns-in-Some
+returns-in-Some c =
+    let n : ℕ = c.in-Some.value in
+    let small : n < 2 ^ 32 = grind arith in
+    let fits = (negative_fits n c.from.result small c.from.ensures).0 in
+    simp to_z-of_z (natural_number c.args.word.now n c.in-Some.ensures small ∙ ap Some (sym c.from.ensures))
