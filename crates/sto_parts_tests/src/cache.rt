@@ -1,54 +1,96 @@
 //! What a cache knows, and the short lists.
-use std::test::Fail;
+use std::alloc::Global;
 use sto_item::Item;
-use sto_part::Change;
-use sto_type::{Cache, one_item, one_update};
+use sto_part::{Change, NoMemory};
+use sto_type::{Cache, KnownParts, one_item, one_update};
+
+// A part and its words; none where they are not known.
+type Known = (u32, Option<&'static [i64]>);
+
+const AT_FIRST: &[Known] = &[(3, None)];
+
+const LEARNT: &[Known] = &[(3, Some(&[4])), (1, Some(&[5])), (2, None)];
+
+const FORGOTTEN: &[Known] = &[(1, None)];
 
 #[test]
-fn example_cache(rt: HostRuntime) -> Result<(), Fail> {
-    let mut cache = Cache::new(rt.alloc());
-    assert!(rt; cache.get(3).is_none());
+fn caches_and_short_lists(rt: HostRuntime) {
+    let alloc = rt.alloc();
+    let cases = [
+        example_cache(alloc),
+        parts_beyond(alloc),
+        has_one_item(alloc),
+        has_one_update(alloc),
+    ];
+    assert_eq!(rt; cases, [Ok(true); 4]);
+}
+
+fn example_cache(alloc: Global) -> Result<bool, NoMemory> {
+    let mut cache = Cache::new(alloc);
+    let new = knows(&cache, AT_FIRST);
     cache.learn(3, &[1, 2])?;
     cache.learn(1, &[5])?;
     cache.learn(3, &[4])?;
-    assert_eq!(rt; cache.get(3), Some([4].as_slice()));
-    assert_eq!(rt; cache.get(1), Some([5].as_slice()));
-    assert!(rt; cache.get(2).is_none());
+    let learnt = knows(&cache, LEARNT);
     cache.forget();
-    assert!(rt; cache.get(1).is_none());
-    Ok(())
+    Ok(new && learnt && knows(&cache, FORGOTTEN))
 }
 
-#[test]
-fn parts_beyond(rt: HostRuntime) -> Result<(), Fail> {
-    let mut cache = Cache::new(rt.alloc());
+fn knows(cache: &Cache, parts: &[Known]) -> bool {
+    for (part, words) in parts {
+        if cache.get(*part) != *words {
+            return false;
+        }
+    }
+    true
+}
+
+const ALL: &[Known] = &[(4, Some(&[5]))];
+
+const FROM_FOUR: &[Known] = &[(0, Some(&[5])), (3, Some(&[1, 2])), (4, None)];
+
+const FROM_SIX: &[Known] = &[(1, Some(&[1, 2]))];
+
+const PAST_ALL: &[Known] = &[(0, None), (u32::MAX, None)];
+
+fn parts_beyond(alloc: Global) -> Result<bool, NoMemory> {
+    let mut cache = Cache::new(alloc);
     cache.learn(7, &[1, 2])?;
     cache.learn(4, &[5])?;
-    let all = cache.all();
-    assert_eq!(rt; all.get(4), Some([5].as_slice()));
-    let from_four = all.beyond(4);
-    assert_eq!(rt; from_four.get(0), Some([5].as_slice()));
-    assert_eq!(rt; from_four.get(3), Some([1, 2].as_slice()));
-    assert!(rt; from_four.get(4).is_none());
-    assert_eq!(rt; from_four.first_word(3), Some(1));
-    assert_eq!(rt; from_four.first_word(4), None);
-    let from_six = from_four.beyond(2);
-    assert_eq!(rt; from_six.get(1), Some([1, 2].as_slice()));
-    let past_all = from_six.beyond(u32::MAX);
-    assert!(rt; past_all.get(0).is_none());
-    assert!(rt; past_all.get(u32::MAX).is_none());
-    Ok(())
+    Ok(are_beyond(&cache))
 }
 
-#[test]
-fn lists_of_one(rt: HostRuntime) -> Result<(), Fail> {
-    assert_eq!(rt;
-        one_item(rt.alloc(), Item::Seen(2))?.as_slice(),
-        [Item::Seen(2)].as_slice()
-    );
-    let updates = one_update(rt.alloc(), 4, Change::Add(-1))?;
-    assert_eq!(rt; updates.len(), 1);
-    assert_eq!(rt; updates.get(0).0, 4);
-    assert_eq!(rt; updates.get(0).1.as_slice(), [Change::Add(-1)].as_slice());
-    Ok(())
+fn are_beyond(cache: &Cache) -> bool {
+    let all = cache.all();
+    let from_four = all.beyond(4);
+    let from_six = from_four.beyond(2);
+    let past_all = from_six.beyond(u32::MAX);
+    let first_words = [from_four.first_word(3), from_four.first_word(4)];
+    first_words == [Some(1), None]
+        && are_known(&all, ALL)
+        && are_known(&from_four, FROM_FOUR)
+        && are_known(&from_six, FROM_SIX)
+        && are_known(&past_all, PAST_ALL)
+}
+
+fn are_known(known: &KnownParts<'_>, parts: &[Known]) -> bool {
+    for (part, words) in parts {
+        if known.get(*part) != *words {
+            return false;
+        }
+    }
+    true
+}
+
+const ITEM: &[Item] = &[Item::Seen(2)];
+
+fn has_one_item(alloc: Global) -> Result<bool, NoMemory> {
+    Ok(one_item(alloc, Item::Seen(2))?.as_slice() == ITEM)
+}
+
+const CHANGE: &[Change] = &[Change::Add(-1)];
+
+fn has_one_update(alloc: Global) -> Result<bool, NoMemory> {
+    let updates = one_update(alloc, 4, Change::Add(-1))?;
+    Ok(updates.len() == 1 && updates.get(0).0 == 4 && updates.get(0).1.as_slice() == CHANGE)
 }

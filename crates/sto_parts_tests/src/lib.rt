@@ -12,6 +12,8 @@ mod model;
 #[cfg(test)]
 mod part;
 #[cfg(test)]
+mod said;
+#[cfg(test)]
 mod serial;
 #[cfg(test)]
 mod version;

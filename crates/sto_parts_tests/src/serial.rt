@@ -2,8 +2,10 @@
 ghost use Rattle.std.specs.Prelude.{ℕ, ◌+◌, ◌-◌, ◌<◌, [], pos, length};
 ghost use Rattle.sto_model.specs.TestBodies.{filling_step, IsFillingCall, choosing, IsChoosingCall};
 
-use std::test::Fail;
-use sto_model::{Body, Call, End, Next, Reply, Shape, Shapes, State, serial_run};
+use crate::said::{Said, are_said};
+use std::alloc::Global;
+use sto_model::{Body, Call, End, Next, Outcome, Reply, Shape, Shapes, State, serial_run};
+use sto_part::NoMemory;
 
 // Puts nine keys, one of them again, and asks for the length.
 #[derive(Drop)]
@@ -108,45 +110,35 @@ impl Body for Choosing {
     }
 }
 
-#[test]
-fn example_cancel(rt: HostRuntime) -> Result<(), Fail> {
-    let mut shapes = Shapes::new(rt.alloc());
-    shapes.push(Shape::Single(1))?;
-    let mut state = State::opening(rt.alloc(), &shapes)?;
-    let mut body = Choosing { heard: 0, value: 0 };
-    let outcome = serial_run(rt.alloc(), &mut body, &shapes, &mut state)?;
-    assert_eq!(rt; outcome.end, End::Cancel);
-    let want = [Reply::Value(1), Reply::Done];
-    assert_eq!(rt; outcome.replies.as_slice(), want.as_slice());
-    assert_eq!(rt; state.len(), 1);
-    assert_eq!(rt; state.get(0).as_slice(), [(0, 1)].as_slice());
-    Ok(())
+// How a run on the opening rows of one object is to end.
+struct Run {
+    end: End,
+    replies: &'static [Said],
+    rows: &'static [(i64, i64)],
 }
 
-#[test]
-fn fills_a_tree(rt: HostRuntime) -> Result<(), Fail> {
-    let mut shapes = Shapes::new(rt.alloc());
-    shapes.push(Shape::Tree { leaves: 2 })?;
-    let mut state = State::opening(rt.alloc(), &shapes)?;
-    let mut body = Filling { heard: 4 };
-    let outcome = serial_run(rt.alloc(), &mut body, &shapes, &mut state)?;
-    assert_eq!(rt; outcome.end, End::Commit);
-    let want = [
-        Reply::Done,
-        Reply::Done,
-        Reply::Done,
-        Reply::Done,
-        Reply::Done,
-        Reply::Done,
-        Reply::Done,
-        Reply::Done,
-        Reply::Full,
-        Reply::Done,
-        Reply::Value(8),
-    ];
-    assert_eq!(rt; outcome.replies.as_slice(), want.as_slice());
-    assert_eq!(rt; state.len(), 1);
-    let rows = [
+const CANCELLED: Run = Run {
+    end: End::Cancel,
+    replies: &[Said::Value(1), Said::Done],
+    rows: &[(0, 1)],
+};
+
+const FILLED: Run = Run {
+    end: End::Commit,
+    replies: &[
+        Said::Done,
+        Said::Done,
+        Said::Done,
+        Said::Done,
+        Said::Done,
+        Said::Done,
+        Said::Done,
+        Said::Done,
+        Said::Full,
+        Said::Done,
+        Said::Value(8),
+    ],
+    rows: &[
         (1, 1),
         (2, 2),
         (3, 3),
@@ -155,7 +147,37 @@ fn fills_a_tree(rt: HostRuntime) -> Result<(), Fail> {
         (6, 6),
         (7, 7),
         (8, 5),
-    ];
-    assert_eq!(rt; state.get(0).as_slice(), rows.as_slice());
-    Ok(())
+    ],
+};
+
+#[test]
+fn worked_rows(rt: HostRuntime) {
+    let alloc = rt.alloc();
+    let cases = [example_cancel(alloc), fills_a_tree(alloc)];
+    assert_eq!(rt; cases, [Ok(true); 2]);
+}
+
+fn example_cancel(alloc: Global) -> Result<bool, NoMemory> {
+    let mut body = Choosing { heard: 0, value: 0 };
+    let mut shapes = Shapes::new(alloc);
+    shapes.push(Shape::Single(1))?;
+    let mut state = State::opening(alloc, &shapes)?;
+    let outcome = serial_run(alloc, &mut body, &shapes, &mut state)?;
+    Ok(is_as_wanted(&outcome, &state, &CANCELLED))
+}
+
+fn fills_a_tree(alloc: Global) -> Result<bool, NoMemory> {
+    let mut body = Filling { heard: 4 };
+    let mut shapes = Shapes::new(alloc);
+    shapes.push(Shape::Tree { leaves: 2 })?;
+    let mut state = State::opening(alloc, &shapes)?;
+    let outcome = serial_run(alloc, &mut body, &shapes, &mut state)?;
+    Ok(is_as_wanted(&outcome, &state, &FILLED))
+}
+
+fn is_as_wanted(outcome: &Outcome, state: &State, wanted: &Run) -> bool {
+    outcome.end == wanted.end
+        && are_said(outcome.replies.as_slice(), wanted.replies)
+        && state.len() == 1
+        && state.get(0).as_slice() == wanted.rows
 }

@@ -8,13 +8,26 @@ mod split;
 use calls::Calls;
 use split::Split;
 use std::alloc::Global;
-use std::test::Fail;
 use sto_alone::{Ran, run_alone};
 use sto_box::TBox;
-use sto_item::Item;
+use sto_item::{Item, Updates};
 use sto_model::{Call, End, Reply, State};
-use sto_part::{Change, NoMemory};
+use sto_part::{Change, NoMemory, Update};
 use sto_type::{Both, Many, TxType};
+
+/// Why two transactions were not run.
+#[derive(Clone, Copy, PartialEq, Eq, Debug)]
+pub(crate) enum NotRun {
+    NoMemory,
+    // A call is not taken.
+    NotTaken,
+}
+
+impl From<NoMemory> for NotRun {
+    fn from(_error: NoMemory) -> NotRun {
+        NotRun::NoMemory
+    }
+}
 
 // What two transactions did, one after the other, and the rows at the end.
 #[derive(Drop)]
@@ -30,21 +43,21 @@ fn are_taken<T: TxType>(ty: &T, calls: &[Call]) -> bool
     calls.iter().all(|call| ty.takes(call))
 }
 
-// Runs two transactions from the opening contents; the first commits. None where a call is not taken.
+// Runs two transactions from the opening contents; the first commits.
 pub(crate) fn run_twice<T: TxType>(
     alloc: Global,
     ty: &T,
     first: &[Call],
     second: &[Call],
     end: End,
-) -> Result<Option<Twice>, NoMemory>
+) -> Result<Twice, NotRun>
     requires first { length first.now < 2 ^ 32 }
     requires second { length second.now < 2 ^ 32 }
 {
-    let mut contents = ty.opening(alloc)?;
     if !are_taken(ty, first) || !are_taken(ty, second) || ty.parts() == u32::MAX {
-        return Ok(None);
+        return Err(NotRun::NotTaken);
     }
+    let mut contents = ty.opening(alloc)?;
     let first = run_alone(
         alloc,
         ty,
@@ -58,11 +71,50 @@ pub(crate) fn run_twice<T: TxType>(
         &mut contents,
     )?;
     let rows = ty.rows_at(alloc, &contents, 0)?;
-    Ok(Some(Twice {
+    Ok(Twice {
         first,
         second,
         rows,
-    }))
+    })
+}
+
+pub(crate) fn replies(ran: &Ran) -> &[Reply] {
+    ran.outcome.replies.as_slice()
+}
+
+/// A part and the changes of its words.
+pub(crate) type Entry = (u32, &'static [Change]);
+
+/// Whether these are the updates.
+pub(crate) fn are_updates(updates: &Updates, wanted: &[Entry]) -> bool {
+    if updates.len() as usize != wanted.len() {
+        return false;
+    }
+    for place in 0..updates.len() {
+        if !is_entry(updates.get(place), &wanted[place as usize]) {
+            return false;
+        }
+    }
+    true
+}
+
+fn is_entry(update: &(u32, Update), wanted: &Entry) -> bool {
+    update.0 == wanted.0 && update.1.as_slice() == wanted.1
+}
+
+// The rows of one object.
+type ObjectRows = &'static [(i64, i64)];
+
+fn are_rows(state: &State, wanted: &[ObjectRows]) -> bool {
+    if state.len() as usize != wanted.len() {
+        return false;
+    }
+    for object in 0..state.len() {
+        if state.get(object).as_slice() != wanted[object as usize] {
+            return false;
+        }
+    }
+    true
 }
 
 fn boxes(alloc: Global, values: &[i64]) -> Result<Many<TBox<i64>>, NoMemory>
@@ -87,96 +139,100 @@ pub(crate) fn call(object: u32, code: u8, a: i64, b: i64) -> Call {
     Call { object, code, a, b }
 }
 
-// Row "one get", and a transaction without calls before it.
 #[test]
-fn example_one_get(rt: HostRuntime) -> Result<(), Fail> {
-    let boxes = boxes(rt.alloc(), &[5])?;
-    let twice = run_twice(rt.alloc(), &boxes, &[], &[get(0)], End::Commit)?.expect(&rt, "taken");
-    assert_eq!(rt; twice.first.outcome.replies.len(), 0);
-    assert_eq!(rt;
-        twice.second.outcome.replies.as_slice(),
-        [Reply::Value(5)].as_slice()
-    );
-    assert_eq!(rt; twice.second.items.as_slice(), [Item::Seen(0)].as_slice());
-    assert_eq!(rt; twice.rows.len(), 1);
-    assert_eq!(rt; twice.rows.get(0).as_slice(), [(0, 5)].as_slice());
-    Ok(())
+fn worked_rows(rt: HostRuntime) {
+    let alloc = rt.alloc();
+    let cases = [
+        example_one_get(alloc),
+        no_object(alloc),
+        set_then_get(alloc),
+        own_writes(alloc),
+        offsets_in_a_mixture(alloc),
+        box_of_a_pair(alloc),
+    ];
+    assert_eq!(rt; cases, [Ok(true); 6]);
 }
 
+// Row "one get", and a transaction without calls before it.
+fn example_one_get(alloc: Global) -> Result<bool, NotRun> {
+    let boxes = boxes(alloc, &[5])?;
+    let twice = run_twice(alloc, &boxes, &[], &[get(0)], End::Commit)?;
+    Ok(is_one_get(&twice))
+}
+
+const SEEN_FIRST: &[Item] = &[Item::Seen(0)];
+
+fn is_one_get(twice: &Twice) -> bool {
+    twice.first.outcome.replies.len() == 0
+        && matches!(replies(&twice.second), [Reply::Value(5)])
+        && twice.second.items.as_slice() == SEEN_FIRST
+        && are_rows(&twice.rows, ONE_BOX_OF_FIVE)
+}
+
+const ONE_BOX_OF_FIVE: &[ObjectRows] = &[&[(0, 5)]];
+
 // Row "empty input".
-#[test]
-fn no_object(rt: HostRuntime) -> Result<(), Fail> {
-    let none = boxes(rt.alloc(), &[])?;
-    let twice = run_twice(rt.alloc(), &none, &[], &[], End::Commit)?.expect(&rt, "taken");
-    assert_eq!(rt; twice.rows.len(), 0);
-    assert!(rt; run_twice(rt.alloc(), &none, &[get(0)], &[], End::Commit)?.is_none());
-    Ok(())
+fn no_object(alloc: Global) -> Result<bool, NotRun> {
+    let none = boxes(alloc, &[])?;
+    let twice = run_twice(alloc, &none, &[], &[], End::Commit)?;
+    Ok(twice.rows.len() == 0 && is_refused(alloc, &none, get(0)))
+}
+
+fn is_refused<T: TxType>(alloc: Global, ty: &T, call: Call) -> bool {
+    let ran = run_twice(alloc, ty, &[call], &[], End::Commit);
+    matches!(ran, Err(NotRun::NotTaken))
 }
 
 // Row "set then get".
-#[test]
-fn set_then_get(rt: HostRuntime) -> Result<(), Fail> {
-    let boxes = boxes(rt.alloc(), &[0, 3])?;
-    let twice = run_twice(
-        rt.alloc(),
-        &boxes,
-        &[set(0, 7, 0)],
-        &[get(0), get(1)],
-        End::Commit,
-    )?
-    .expect(&rt, "taken");
-    assert_eq!(rt;
-        twice.first.outcome.replies.as_slice(),
-        [Reply::Done].as_slice()
-    );
-    assert_eq!(rt;
-        twice.second.outcome.replies.as_slice(),
-        [Reply::Value(7), Reply::Value(3)].as_slice()
-    );
-    assert_eq!(rt; twice.second.updates.len(), 0);
-    assert_eq!(rt; twice.rows.len(), 2);
-    assert_eq!(rt; twice.rows.get(0).as_slice(), [(0, 7)].as_slice());
-    assert_eq!(rt; twice.rows.get(1).as_slice(), [(0, 3)].as_slice());
-    Ok(())
+fn set_then_get(alloc: Global) -> Result<bool, NotRun> {
+    let boxes = boxes(alloc, &[0, 3])?;
+    let (first, second) = ([set(0, 7, 0)], [get(0), get(1)]);
+    let twice = run_twice(alloc, &boxes, &first, &second, End::Commit)?;
+    Ok(is_set_then_get(&twice))
+}
+
+const BOXES_OF_SEVEN_AND_THREE: &[ObjectRows] = &[&[(0, 7)], &[(0, 3)]];
+
+fn is_set_then_get(twice: &Twice) -> bool {
+    matches!(replies(&twice.first), [Reply::Done])
+        && matches!(replies(&twice.second), [Reply::Value(7), Reply::Value(3)])
+        && twice.second.updates.len() == 0
+        && are_rows(&twice.rows, BOXES_OF_SEVEN_AND_THREE)
 }
 
 // Row "own writes" on a box: what a transaction has written whole it does not observe. Then a cancel.
-#[test]
-fn own_writes(rt: HostRuntime) -> Result<(), Fail> {
-    let boxes = boxes(rt.alloc(), &[0])?;
-    let twice = run_twice(
-        rt.alloc(),
-        &boxes,
-        &[set(0, 7, 0), get(0)],
-        &[set(0, 9, 0), get(0)],
-        End::Cancel,
-    )?
-    .expect(&rt, "taken");
-    assert_eq!(rt;
-        twice.first.outcome.replies.as_slice(),
-        [Reply::Done, Reply::Value(7)].as_slice()
-    );
-    assert_eq!(rt; twice.first.items.len(), 0);
-    assert_eq!(rt; twice.first.updates.len(), 1);
-    assert_eq!(rt;
-        twice.first.updates.get(0).1.as_slice(),
-        [Change::Put(7)].as_slice()
-    );
-    assert_eq!(rt;
-        twice.second.outcome.replies.as_slice(),
-        [Reply::Done, Reply::Value(9)].as_slice()
-    );
-    assert!(rt; twice.second.outcome.end == End::Cancel);
-    assert_eq!(rt; twice.rows.len(), 1);
-    assert_eq!(rt; twice.rows.get(0).as_slice(), [(0, 7)].as_slice());
-    Ok(())
+fn own_writes(alloc: Global) -> Result<bool, NotRun> {
+    let boxes = boxes(alloc, &[0])?;
+    let (first, second) = ([set(0, 7, 0), get(0)], [set(0, 9, 0), get(0)]);
+    let twice = run_twice(alloc, &boxes, &first, &second, End::Cancel)?;
+    Ok(
+        has_written_seven(&twice.first)
+            && is_cancelled(&twice.second)
+            && are_rows(&twice.rows, ONE_BOX_OF_SEVEN),
+    )
 }
+
+const ONE_BOX_OF_SEVEN: &[ObjectRows] = &[&[(0, 7)]];
+
+const PUT_SEVEN: &[Entry] = &[(0, &[Change::Put(7)])];
+
+fn has_written_seven(ran: &Ran) -> bool {
+    matches!(replies(ran), [Reply::Done, Reply::Value(7)])
+        && ran.items.len() == 0
+        && are_updates(&ran.updates, PUT_SEVEN)
+}
+
+fn is_cancelled(ran: &Ran) -> bool {
+    matches!(replies(ran), [Reply::Done, Reply::Value(9)]) && ran.outcome.end == End::Cancel
+}
+
+const TEN_AND_TWENTY: &[i64] = &[10, 20];
 
 fn mixture(alloc: Global) -> Result<Both<Many<TBox<i64>>, Many<Split>>, NoMemory> {
     let mut splits = Many::new(alloc);
     splits.push(Split::new(1, 2))?;
     splits.push(Split::new(3, 4))?;
-    side_by_side(boxes(alloc, &[10, 20])?, splits)
+    side_by_side(boxes(alloc, TEN_AND_TWENTY)?, splits)
 }
 
 // Two types side by side, where their sums are in range.
@@ -191,58 +247,70 @@ fn side_by_side<A: TxType + Drop, B: TxType + Drop>(
 }
 
 // The second object of two parts stands behind two boxes and another such object: it is object 3, with parts 4 and 5.
-#[test]
-fn offsets_in_a_mixture(rt: HostRuntime) -> Result<(), Fail> {
-    let mixture = mixture(rt.alloc())?;
-    assert_eq!(rt; mixture.objects(), 4);
-    let parts = mixture.parts();
-    assert_eq!(rt; parts, 6);
-    let home = mixture.home(5);
-    assert_eq!(rt; (home.object, home.local), (3, 1));
-    let first = [get(3), set(3, 30, 40), get(1)];
-    let twice = run_twice(rt.alloc(), &mixture, &first, &[get(2), get(3)], End::Commit)?.expect(
-        &rt, "taken",
-    );
-    assert_eq!(rt;
-        twice.first.items.as_slice(),
-        [Item::Seen(4), Item::Seen(5), Item::Seen(1)].as_slice()
-    );
-    assert_eq!(rt; twice.first.updates.len(), 2);
-    assert_eq!(rt; twice.first.updates.get(0).0, 4);
-    assert_eq!(rt; twice.first.updates.get(1).0, 5);
-    assert_eq!(rt; twice.rows.len(), 4);
-    assert_eq!(rt; twice.rows.get(1).as_slice(), [(0, 20)].as_slice());
-    assert_eq!(rt; twice.rows.get(2).as_slice(), [(0, 1), (1, 2)].as_slice());
-    assert_eq!(rt; twice.rows.get(3).as_slice(), [(0, 30), (1, 40)].as_slice());
-    Ok(())
+fn offsets_in_a_mixture(alloc: Global) -> Result<bool, NotRun> {
+    let mixture = mixture(alloc)?;
+    let (first, second) = ([get(3), set(3, 30, 40), get(1)], [get(2), get(3)]);
+    let twice = run_twice(alloc, &mixture, &first, &second, End::Commit)?;
+    Ok(
+        has_offsets(&mixture)
+            && are_offset(&twice.first)
+            && are_rows(&twice.rows, ROWS_OF_THE_MIXTURE),
+    )
 }
 
-// A box of a value of two words.
-#[test]
-fn box_of_a_pair(rt: HostRuntime) -> Result<(), Fail> {
-    let pair: TBox<(i64, bool)> = TBox::new(&(0, false));
-    let call = TBox::<(i64, bool)>::set_call(0, &(7, true));
-    let twice = run_twice(rt.alloc(), &pair, &[call], &[get(0)], End::Commit)?.expect(&rt, "taken");
-    assert_eq!(rt;
-        twice.first.outcome.replies.as_slice(),
-        [Reply::Done].as_slice()
-    );
-    assert_eq!(rt; twice.second.outcome.replies.len(), 1);
-    let reply = twice.second.outcome.replies.get(0);
-    match reply {
-        Reply::Pairs(pairs) => assert_eq!(rt; pairs.as_slice(), [(7, 1)].as_slice()),
-        _ => panic!(rt; "a pair"),
+fn has_offsets<T: TxType>(ty: &T) -> bool {
+    if ty.objects() != 4 || ty.parts() != 6 {
+        return false;
     }
-    assert!(rt; TBox::<(i64, bool)>::read_reply(reply) == Some((7, true)));
-    assert_eq!(rt; twice.rows.len(), 1);
-    assert_eq!(rt; twice.rows.get(0).as_slice(), [(0, 7), (1, 1)].as_slice());
-    Ok(())
+    let home = ty.home(5);
+    (home.object, home.local) == (3, 1)
+}
+
+const SEEN: &[Item] = &[Item::Seen(4), Item::Seen(5), Item::Seen(1)];
+
+const PUT: &[Entry] = &[(4, &[Change::Put(30)]), (5, &[Change::Put(40)])];
+
+const ROWS_OF_THE_MIXTURE: &[ObjectRows] = &[
+    &[(0, 10)],
+    &[(0, 20)],
+    &[(0, 1), (1, 2)],
+    &[(0, 30), (1, 40)],
+];
+
+fn are_offset(ran: &Ran) -> bool {
+    ran.items.as_slice() == SEEN && are_updates(&ran.updates, PUT)
+}
+
+type TPair = TBox<(i64, bool)>;
+
+// A box of a value of two words.
+fn box_of_a_pair(alloc: Global) -> Result<bool, NotRun> {
+    let pair = TPair::new(&(0, false));
+    let first = [TPair::set_call(0, &(7, true))];
+    let twice = run_twice(alloc, &pair, &first, &[get(0)], End::Commit)?;
+    Ok(
+        matches!(replies(&twice.first), [Reply::Done])
+            && is_one_pair(replies(&twice.second))
+            && are_rows(&twice.rows, SEVEN_AND_TRUE),
+    )
+}
+
+const SEVEN_AND_TRUE: &[ObjectRows] = &[&[(0, 7), (1, 1)]];
+
+const SEVEN_AND_ONE: &[(i64, i64)] = &[(7, 1)];
+
+fn is_one_pair(replies: &[Reply]) -> bool {
+    match replies {
+        [reply @ Reply::Pairs(pairs)] => {
+            pairs.as_slice() == SEVEN_AND_ONE && TPair::read_reply(reply) == Some((7, true))
+        }
+        _ => false,
+    }
 }
 
 // Words that are no code of a value are not taken.
 #[test]
-fn words_that_are_no_code(rt: HostRuntime) -> Result<(), Fail> {
-    let pair: TBox<(i64, bool)> = TBox::new(&(0, false));
-    assert!(rt; run_twice(rt.alloc(), &pair, &[set(0, 7, 2)], &[], End::Commit)?.is_none());
-    Ok(())
+fn words_that_are_no_code(rt: HostRuntime) {
+    let pair = TPair::new(&(0, false));
+    assert!(rt; is_refused(rt.alloc(), &pair, set(0, 7, 2)));
 }

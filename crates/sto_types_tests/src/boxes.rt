@@ -1,44 +1,55 @@
 //! Values in calls and replies.
-use std::test::Fail;
+use std::alloc::Global;
 use sto_box::TBox;
 use sto_model::{Call, Pairs, Reply};
+use sto_part::{NoMemory, Word, Words};
+
+type TPair = TBox<(i64, bool)>;
 
 #[test]
-fn example_values_of_one_word(rt: HostRuntime) {
-    let call = TBox::<char>::set_call(2, &'a');
-    assert_eq!(rt;
-        call,
-        Call {
-            object: 2,
-            code: 1,
-            a: 97,
-            b: 0
-        }
-    );
-    assert!(rt; TBox::<char>::read_reply(&Reply::Value(97)) == Some('a'));
-    assert!(rt; TBox::<char>::read_reply(&Reply::Value(0xD800)).is_none());
-    assert!(rt; TBox::<char>::read_reply(&Reply::Done).is_none());
-    assert!(rt; TBox::<bool>::read_reply(&Reply::Value(2)).is_none());
+fn values_in_calls(rt: HostRuntime) {
+    let calls = [
+        TBox::<char>::set_call(2, &'a'),
+        TPair::set_call(0, &(7, true)),
+    ];
+    assert_eq!(rt; calls, [set_call(2, 97, 0), set_call(0, 7, 1)]);
+}
+
+fn set_call(object: u32, a: i64, b: i64) -> Call {
+    Call {
+        object,
+        code: 1,
+        a,
+        b,
+    }
 }
 
 #[test]
-fn values_of_two_words(rt: HostRuntime) -> Result<(), Fail> {
-    let call = TBox::<(i64, bool)>::set_call(0, &(7, true));
-    assert_eq!(rt;
-        call,
-        Call {
-            object: 0,
-            code: 1,
-            a: 7,
-            b: 1
-        }
-    );
-    let mut pairs = Pairs::new(rt.alloc());
+fn values_of_one_word(rt: HostRuntime) {
+    let letters = [read_value::<char>(97), read_value::<char>(0xD800)];
+    assert_eq!(rt; letters, [Some('a'), None]);
+    assert!(rt; TBox::<char>::read_reply(&Reply::Done).is_none());
+    assert!(rt; read_value::<bool>(2).is_none());
+}
+
+fn read_value<W: Words>(value: i64) -> Option<W> {
+    TBox::<W>::read_reply(&Reply::Value(value))
+}
+
+#[test]
+fn values_of_two_words(rt: HostRuntime) {
+    assert_eq!(rt; is_read_as_a_pair(rt.alloc()), Ok(true));
+    let others = [
+        read_value::<(i64, bool)>(7),
+        TPair::read_reply(&Reply::Done),
+    ];
+    assert_eq!(rt; others, [None, None]);
+}
+
+fn is_read_as_a_pair(alloc: Global) -> Result<bool, NoMemory> {
+    let mut pairs = Pairs::new(alloc);
     pairs.push((7, 1))?;
     let reply = Reply::Pairs(pairs);
-    assert!(rt; TBox::<(i64, bool)>::read_reply(&reply) == Some((7, true)));
-    assert!(rt; TBox::<i64>::read_reply(&reply).is_none());
-    assert!(rt; TBox::<(i64, bool)>::read_reply(&Reply::Value(7)).is_none());
-    assert!(rt; TBox::<(i64, bool)>::read_reply(&Reply::Done).is_none());
-    Ok(())
+    let pair = TPair::read_reply(&reply);
+    Ok(pair == Some((7, true)) && TBox::<i64>::read_reply(&reply).is_none())
 }

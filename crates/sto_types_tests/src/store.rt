@@ -1,7 +1,8 @@
 //! What a call of each kind answers where a store opens.
+ghost use Rattle.std.specs.Prelude.{IfOk};
+ghost use Rattle.sto_type.specs.Known.{known, IsPartOf};
+
 use std::alloc::Global;
-use std::process::Abort;
-use std::test::Fail;
 use sto_model::{Call, Reply, Shape, Shapes};
 use sto_objects::Objects;
 use sto_part::NoMemory;
@@ -13,23 +14,65 @@ const GET: u8 = 0;
 
 const LEN: u8 = 8;
 
+const ONE_OF_EACH_KIND: &[Shape] = &[
+    Shape::Single(7),
+    Shape::Counter(5),
+    Shape::Array { len: 3, value: 2 },
+    Shape::Hash {
+        buckets: 2,
+        places: 1,
+    },
+    Shape::Tree { leaves: 2 },
+];
+
 // A box, a counter, an array, a hash table and a tree.
 fn one_of_each_kind(alloc: Global) -> Result<Objects, NoMemory> {
     let mut shapes = Shapes::new(alloc);
-    shapes.extend(&[
-        Shape::Single(7),
-        Shape::Counter(5),
-        Shape::Array { len: 3, value: 2 },
-        Shape::Hash {
-            buckets: 2,
-            places: 1,
-        },
-        Shape::Tree { leaves: 2 },
-    ])?;
+    shapes.extend(ONE_OF_EACH_KIND)?;
     build(alloc, &shapes)
 }
 
-// The value that a call answers on the opening contents; none where it answers no value or is not taken.
+// An object, the code and the number of a call on it, and the value that it answers; none where it answers no value or
+// is not taken.
+type Row = (u32, u8, i64, Option<i64>);
+
+const ROWS: &[Row] = &[
+    (0, GET, 0, Some(7)),
+    (1, GET, 0, Some(5)),
+    (2, GET, 2, Some(2)),
+    (2, GET, 3, None),
+    (3, LEN, 0, Some(0)),
+    (4, LEN, 0, Some(0)),
+    (4, GET, 9, None),
+    (5, GET, 0, None),
+];
+
+#[test]
+fn each_kind_answers(rt: HostRuntime) {
+    assert_eq!(rt; all_answer(rt.alloc()), Ok(true));
+}
+
+fn all_answer(alloc: Global) -> Result<bool, NoMemory> {
+    let store = one_of_each_kind(alloc)?;
+    for row in ROWS {
+        if !answers(alloc, &store, row)? {
+            return Ok(false);
+        }
+    }
+    Ok(true)
+}
+
+fn answers<T: TxType>(alloc: Global, ty: &T, row: &Row) -> Result<bool, NoMemory> {
+    let call = Call {
+        object: row.0,
+        code: row.1,
+        a: row.2,
+        b: 0,
+    };
+    Ok(value_at_opening(alloc, ty, &call)? == row.3)
+}
+
+// The value that a call answers on the opening contents.
 fn value_at_opening<T: TxType>(
     alloc: Global,
     ty: &T,
@@ -38,11 +81,7 @@ fn value_at_opening<T: TxType>(
     if !ty.takes(call) {
         return Ok(None);
     }
-    let opening = ty.opening(alloc)?;
-    let mut cache = Cache::new(alloc);
-    for part in 0..opening.parts() {
-        cache.learn(part, opening.get(part).as_slice())?;
-    }
+    let cache = opened(alloc, ty)?;
     match ty.plan(alloc, call, &cache.all())? {
         Answer::Done {
             reply: Reply::Value(value),
@@ -52,35 +91,14 @@ fn value_at_opening<T: TxType>(
     }
 }
 
-fn check_values<T: TxType>(rt: &impl Abort, alloc: Global, ty: &T) -> Result<(), NoMemory> {
-    for (object, code, a, value) in [
-        (0, GET, 0, Some(7)),
-        (1, GET, 0, Some(5)),
-        (2, GET, 2, Some(2)),
-        (2, GET, 3, None),
-        (3, LEN, 0, Some(0)),
-        (4, LEN, 0, Some(0)),
-        (4, GET, 9, None),
-        (5, GET, 0, None),
-    ] {
-        let call = Call {
-            object,
-            code,
-            a,
-            b: 0,
-        };
-        assert_eq!(rt;
-            value_at_opening(alloc, ty, &call)?,
-            value,
-            "object {object}"
-        );
+// A cache that knows all parts of the opening contents.
+fn opened<T: TxType>(alloc: Global, ty: &T) -> Result<Cache, NoMemory>
+    ensures { IfOk result (λ c. IsPartOf (known c) (T.meaning ty.now).opened) }
+{
+    let opening = ty.opening(alloc)?;
+    let mut cache = Cache::new(alloc);
+    for part in 0..opening.parts() {
+        cache.learn(part, opening.get(part).as_slice())?;
     }
-    Ok(())
-}
-
-#[test]
-fn each_kind_answers(rt: HostRuntime) -> Result<(), Fail> {
-    let store = one_of_each_kind(rt.alloc())?;
-    check_values(&rt, rt.alloc(), &store)?;
-    Ok(())
+    Ok(cache)
 }

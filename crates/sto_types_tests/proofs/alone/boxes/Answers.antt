@@ -1,4 +1,4 @@
-use Rattle.std.proofs.Common.{◌<◌, ◌+◌, ◌^◌, ◌++◌, ◌∷◌, [], arith, refl, length, length-append}
+use Rattle.std.proofs.Common.{◌<◌, ◌^◌, ◌++◌, ◌∷◌, [], arith, refl, length, length-append}
 use Rattle.sto_alone.proofs.Ones.{ones_few}
 use Rattle.sto_types_tests.proofs.alone.boxes.Goals as goal
 

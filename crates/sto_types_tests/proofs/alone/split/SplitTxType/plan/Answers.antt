@@ -1,4 +1,4 @@
-use Rattle.std.proofs.Common.{◌≡◌, rules, arith, Some, pos, slice_index_or, FitsSigned, w64}
+use Rattle.std.proofs.Common.{◌≡◌, rules, arith, pos, slice_index_or, FitsSigned, w64}
 use Rattle.std.proofs.lemmas.Int.{to_z-of_z}
 use Rattle.sto_type.specs.Known.{known}
 use Rattle.sto_type.specs.Plans.{planned}
