@@ -1,36 +1,46 @@
 //! Cases of one kind.
+use crate::call::{Call, Ending, Failing};
 use std::io;
+use std::sync::Wait;
+use std::thread::Threads;
 
 /// Counts the cases of a group, and tells of those that do not hold.
 #[derive(Drop)]
-pub struct Group {
-    name: &'static str,
-    cases: u32,
+pub struct Group<'a, R> {
+    pub rt: &'a HostRuntime,
+    pub threads: &'a R,
+    pub name: &'a str,
+    /// How many there were.
+    pub cases: u32,
 }
 
-impl Group {
-    /// A group without a case.
-    pub fn new(name: &'static str) -> Group {
-        Group { name, cases: 0 }
-    }
-
-    /// Counts a case, which has a number among those of its row.
-    pub fn add(
-        &mut self,
-        rt: &HostRuntime,
-        row: &str,
-        number: usize,
-        holds: bool,
-    ) -> io::Result<()> {
+impl<R: Threads + Wait + Sync> Group<'_, R> {
+    /// Counts a case, and tells of it where it does not hold.
+    pub fn add(&mut self, case: &str, holds: bool) -> io::Result<()> {
         self.cases = self.cases.saturating_add(1);
         if holds {
             return Ok(());
         }
-        println!(rt; "{}: {row}, case {number}, ended otherwise", self.name)
+        println!(self.rt;
+            "{}, case {}, ended otherwise: {case}",
+            self.name, self.cases
+        )
+    }
+
+    /// Counts a call on an input, which must end so.
+    pub fn call(
+        &mut self,
+        call: &Call<'_>,
+        input: &str,
+        failing: Failing,
+        ending: &Ending<'_>,
+    ) -> io::Result<()> {
+        let ended = call.ended(self.threads, self.rt.alloc(), input, failing)?;
+        self.add(call.words, ended.is(ending))
     }
 
     /// Tells how many cases there were.
-    pub fn end(&self, rt: &HostRuntime) -> io::Result<()> {
-        println!(rt; "{}: {} cases", self.name, self.cases)
+    pub fn end(&self) -> io::Result<()> {
+        println!(self.rt; "{}: {} cases", self.name, self.cases)
     }
 }
