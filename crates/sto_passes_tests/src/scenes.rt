@@ -1,9 +1,10 @@
 //! Scenes of several passes, event by event, and what they leave.
-ghost use Rattle.std.specs.Prelude.{◌≡◌, ◌≤◌, [], ◌∷◌, IfOk};
+ghost use Rattle.std.specs.Prelude.{◌≡◌, ◌≤◌, ◌<◌, ◌^◌, [], ◌∷◌, pos, length, false, IfOk};
 ghost use Rattle.sto_core.specs.Event.{Start, Open, Word, Close};
 ghost use Rattle.sto_core.specs.Opened.{opened_core};
 ghost use Rattle.sto_plain.specs.Passes.{Can, stepped};
-ghost use Rattle.sto_plain_scenes.specs.Scenes.{always, one_put, one_add, three_passes, first_reads, second_reads, third_reads, fourth_reads};
+ghost use Rattle.sto_plain_scenes.specs.Scenes.{always, one_put, one_add, three_passes, first_reads, second_reads, third_reads, fourth_reads, first_gave_up, other_committed, first_failed, other_written, went_on, other_added};
+ghost use Rattle.sto_item.specs.Pending.{is_keep};
 
 use std::alloc::Global;
 use std::process::Abort;
@@ -33,6 +34,14 @@ fn open_words(
     contents.set_word(0, 0, first);
     contents.set_word(1, 0, second);
     Plain::open(alloc, &Always, &contents, passes)
+}
+
+// The same, or the test ends for want of memory.
+fn words(rt: &impl Abort, alloc: Global, passes: u32, first: i64, second: i64) -> Plain<Always>
+    requires { (1 ≤ passes) × (passes ≤ 65536) }
+    ensures { result ≡ opened_core [] ((first ∷ []) ∷ (second ∷ []) ∷ []) passes }
+{
+    open_words(alloc, passes, first, second).expect(rt, "memory")
 }
 
 fn starts(rt: &impl Abort, plain: Plain<Always>, pass: u32, clock: u64) -> Plain<Always>
@@ -136,7 +145,7 @@ fn read_fifth(rt: &impl Abort, plain: Plain<Always>)
 // Three passes read both parts, each event of one pass among events of the others.
 #[test]
 fn three_passes_read(rt: HostRuntime) {
-    let plain = open_words(rt.alloc(), 3, 5, 7).expect(&rt, "memory");
+    let plain = words(&rt, rt.alloc(), 3, 5, 7);
     let plain = read_first(&rt, plain);
     let plain = read_second(&rt, plain);
     let plain = read_third(&rt, plain);
@@ -144,120 +153,167 @@ fn three_passes_read(rt: HostRuntime) {
     read_fifth(&rt, plain);
 }
 
-// The one update that puts a value in the one word of a part.
-fn one_update(alloc: Global, part: u32, value: i64) -> Result<Updates, NoMemory>
-    ensures { IfOk result (λ u. u.items ≡ one_put part value) }
+// The one update that changes the one word of a part.
+fn one_update(alloc: Global, part: u32, change: Change) -> Result<Updates, NoMemory>
+    requires { is_keep change ≡ false }
+    ensures { IfOk result (λ u. u.items ≡ (part, change ∷ []) ∷ []) }
 {
     let mut update = Update::keep(alloc, 1)?;
-    update.set_change(0, Change::Put(value));
+    update.set_change(0, change);
     let mut updates = Updates::new(alloc);
     updates.push((part, update))?;
     Ok(updates)
 }
 
+// The update that puts a value.
+fn put(rt: &impl Abort, alloc: Global, part: u32, value: i64) -> Updates
+    ensures { result.items ≡ one_put part value }
+{
+    one_update(alloc, part, Change::Put(value)).expect(rt, "memory")
+}
+
+// The update that adds a value.
+fn addition(rt: &impl Abort, alloc: Global, part: u32, value: i64) -> Updates
+    ensures { result.items ≡ one_add part value }
+{
+    one_update(alloc, part, Change::Add(value)).expect(rt, "memory")
+}
+
+// These parts.
+fn parts(rt: &impl Abort, alloc: Global, numbers: &[u32]) -> Parts
+    requires { length numbers.now < 2 ^ 32 }
+    ensures { result.items ≡ numbers.now }
+{
+    let mut made = Parts::new(alloc);
+    made.extend(numbers).expect(rt, "memory");
+    made
+}
+
 // The later ticket commits while the earlier one is undecided, which is then dropped.
+fn both_end(rt: &impl Abort, alloc: Global) -> (Plain<Always>, u64, u64)
+    ensures words { result.0 ≡ first_gave_up }
+    ensures tickets { (result.1 ≡ 1) × (result.2 ≡ 2) }
+{
+    let first = put(rt, alloc, 0, 1);
+    let second = put(rt, alloc, 1, 9);
+    let plain = words(rt, alloc, 2, 0, 0);
+    let (plain, earlier, later) = both_draw(plain, &first, &second, &Parts::new(alloc));
+    (first_gives_up(second_commits(plain)), earlier, later)
+}
+
 #[test]
 fn later_ticket_commits_first(rt: HostRuntime) {
-    let plain = open_words(rt.alloc(), 2, 0, 0).expect(&rt, "memory");
-    let first = one_update(rt.alloc(), 0, 1).expect(&rt, "memory");
-    let second = one_update(rt.alloc(), 1, 9).expect(&rt, "memory");
-    let (plain, earlier, later) = both_draw(plain, &first, &second, &Parts::new(rt.alloc()));
-    assert_eq!(rt; earlier, 1);
-    assert_eq!(rt; later, 2);
-    let plain = first_gives_up(second_commits(plain));
+    let (plain, earlier, later) = both_end(&rt, rt.alloc());
+    assert!(rt; earlier == 1 && later == 2);
     let contents = plain.contents().expect(&rt, "memory");
-    assert_eq!(rt; contents.word(0, 0), 0);
-    assert_eq!(rt; contents.word(1, 0), 9);
+    assert!(rt; contents.word(0, 0) == 0 && contents.word(1, 0) == 9);
+}
+
+// Two passes have read a word, and one commits the word plus 1.
+fn other_wins(
+    rt: &impl Abort,
+    alloc: Global,
+    updates: &Updates,
+    seen: &Parts,
+) -> (Plain<Always>, u64)
+    requires updates { updates.now.items ≡ one_put 0 (pos 1) }
+    requires seen { seen.now.items ≡ 0 ∷ [] }
+    ensures words { result.0 ≡ other_committed }
+    ensures ticket { result.1 ≡ 1 }
+{
+    let plain = other_reads(first_reads(words(rt, alloc, 2, 0, 0)));
+    let (plain, ticket) = other_draws(plain, updates, seen, &Parts::new(alloc));
+    (other_commits(plain), ticket)
+}
+
+// The other one tries again, by what it reads then.
+fn try_again(rt: &impl Abort, alloc: Global, plain: Plain<Always>, seen: &Parts)
+    requires plain { plain ≡ first_failed }
+    requires seen { seen.now.items ≡ 0 ∷ [] }
+{
+    let updates = put(rt, alloc, 0, 2);
+    let (_, ticket) = first_tries_again(plain, &updates, seen, &Parts::new(alloc));
+    assert_eq!(rt; ticket, 3);
 }
 
 // Two passes add 1 to a word that both have read. The one commits; the check of the other finds its
 // ticket, and a second attempt reads again.
 #[test]
 fn example_of_a_lost_update_that_is_found(rt: HostRuntime) {
-    let plain = open_words(rt.alloc(), 2, 0, 0).expect(&rt, "memory");
-    let updates = one_update(rt.alloc(), 0, 1).expect(&rt, "memory");
-    let mut seen = Parts::new(rt.alloc());
-    seen.push(0).expect(&rt, "memory");
-    let none = Parts::new(rt.alloc());
-    let plain = other_reads(first_reads(plain));
-    let (plain, ticket) = other_draws(plain, &updates, &seen, &none);
-    assert_eq!(rt; ticket, 1);
-    let (plain, ticket, found) = first_fails(other_commits(plain), &updates, &seen, &none);
-    assert_eq!(rt; ticket, 2);
-    assert_eq!(rt; found.ticket(), 1);
-    assert!(rt; found.is_locked());
-    let updates = one_update(rt.alloc(), 0, 2).expect(&rt, "memory");
-    let (_, ticket) = first_tries_again(plain, &updates, &seen, &none);
-    assert_eq!(rt; ticket, 3);
+    let updates = put(&rt, rt.alloc(), 0, 1);
+    let seen = parts(&rt, rt.alloc(), &[0]);
+    let (plain, won) = other_wins(&rt, rt.alloc(), &updates, &seen);
+    let (plain, lost, found) = first_fails(plain, &updates, &seen, &Parts::new(rt.alloc()));
+    assert!(rt; won == 1 && lost == 2 && found.ticket() == 1 && found.is_locked());
+    try_again(&rt, rt.alloc(), plain, &seen);
+}
+
+// A pass has read a part, and another one writes the other part.
+fn written_later(rt: &impl Abort, alloc: Global) -> (Plain<Always>, u64)
+    ensures words { result.0 ≡ other_written }
+    ensures ticket { result.1 ≡ 1 }
+{
+    let updates = put(rt, alloc, 1, 9);
+    let plain = first_reads(words(rt, alloc, 2, 0, 0));
+    other_writes(plain, &updates, &Parts::new(alloc))
 }
 
 // A part is written after another was read. The reader renews its number and reads it.
 #[test]
 fn example_of_a_later_part(rt: HostRuntime) {
-    let plain = open_words(rt.alloc(), 2, 0, 0).expect(&rt, "memory");
-    let updates = one_update(rt.alloc(), 1, 9).expect(&rt, "memory");
-    let (plain, ticket) = other_writes(first_reads(plain), &updates, &Parts::new(rt.alloc()));
-    assert_eq!(rt; ticket, 1);
+    let (plain, ticket) = written_later(&rt, rt.alloc());
     let (_, word) = reads_later(plain);
-    assert_eq!(rt; word, 9);
+    assert!(rt; ticket == 1 && word == 9);
 }
 
 // The same, where the reader writes the later part by what it read before.
 #[test]
 fn example_of_a_recheck(rt: HostRuntime) {
-    let plain = open_words(rt.alloc(), 2, 0, 0).expect(&rt, "memory");
-    let none = Parts::new(rt.alloc());
-    let updates = one_update(rt.alloc(), 1, 9).expect(&rt, "memory");
-    let (plain, _) = other_writes(first_reads(plain), &updates, &none);
-    let mut seen = Parts::new(rt.alloc());
-    seen.push(0).expect(&rt, "memory");
-    let updates = one_update(rt.alloc(), 1, 8).expect(&rt, "memory");
-    let (_, ticket) = rests_on_read(plain, &updates, &seen, &none);
+    let (plain, _) = written_later(&rt, rt.alloc());
+    let updates = put(&rt, rt.alloc(), 1, 8);
+    let seen = parts(&rt, rt.alloc(), &[0]);
+    let (_, ticket) = rests_on_read(plain, &updates, &seen, &Parts::new(rt.alloc()));
     assert_eq!(rt; ticket, 2);
 }
 
 // Words are closed, and opened again with one pass.
+fn opened_again(rt: &impl Abort, alloc: Global) -> Plain<Always>
+    ensures { result ≡ went_on }
+{
+    let (plain, _, _) = both_end(rt, alloc);
+    let closed = close_both(plain);
+    assert_eq!(rt; closed.clock(), 2);
+    goes_on(closed).expect(rt, "memory")
+}
+
+// The one pass goes on from the clock as it was.
 #[test]
 fn example_of_closed_words(rt: HostRuntime) {
-    let plain = open_words(rt.alloc(), 2, 0, 0).expect(&rt, "memory");
-    let first = one_update(rt.alloc(), 0, 1).expect(&rt, "memory");
-    let second = one_update(rt.alloc(), 1, 9).expect(&rt, "memory");
-    let (plain, _, _) = both_draw(plain, &first, &second, &Parts::new(rt.alloc()));
-    let closed = close_both(first_gives_up(second_commits(plain)));
-    assert_eq!(rt; closed.clock(), 2);
-    let updates = one_update(rt.alloc(), 1, 8).expect(&rt, "memory");
-    let plain = goes_on(closed).expect(&rt, "memory");
+    let plain = opened_again(&rt, rt.alloc());
+    let updates = put(&rt, rt.alloc(), 1, 8);
     let (plain, ticket) = draws_further(plain, &updates, &Parts::new(rt.alloc()));
-    assert_eq!(rt; ticket, 3);
     let plain = commits_further(plain);
     let contents = plain.contents().expect(&rt, "memory");
-    assert_eq!(rt; contents.word(1, 0), 8);
+    assert!(rt; ticket == 3 && contents.word(1, 0) == 8);
 }
 
-// The one update that adds to the one word of a part.
-fn one_addition(alloc: Global, part: u32, value: i64) -> Result<Updates, NoMemory>
-    ensures { IfOk result (λ u. u.items ≡ one_add part value) }
+// A part is added to after another pass has read it.
+fn sum_added(rt: &impl Abort, alloc: Global) -> Plain<Always>
+    ensures { result ≡ other_added }
 {
-    let mut update = Update::keep(alloc, 1)?;
-    update.set_change(0, Change::Add(value));
-    let mut updates = Updates::new(alloc);
-    updates.push((part, update))?;
-    Ok(updates)
+    let added = addition(rt, alloc, 0, 5);
+    let loaded = parts(rt, alloc, &[0]);
+    let plain = first_reads(words(rt, alloc, 2, 0, 0));
+    let (plain, _) = other_draws_sum(plain, &added, &Parts::new(alloc), &loaded);
+    other_adds(plain)
 }
 
-// A part is added to after another pass has read it. That pass takes 2 from what it loads under its hold, where a
-// part that it tests is as it was.
+// The reader takes 2 from what it loads under its hold, where a part that it tests is as it was.
 #[test]
 fn example_of_loaded_parts(rt: HostRuntime) {
-    let plain = open_words(rt.alloc(), 2, 0, 0).expect(&rt, "memory");
-    let none = Parts::new(rt.alloc());
-    let mut loaded = Parts::new(rt.alloc());
-    loaded.push(0).expect(&rt, "memory");
-    let added = one_addition(rt.alloc(), 0, 5).expect(&rt, "memory");
-    let (plain, _) = other_draws_sum(first_reads(plain), &added, &none, &loaded);
-    let plain = first_loads(other_adds(plain));
-    loaded.push(1).expect(&rt, "memory");
-    let taken = one_addition(rt.alloc(), 0, -2).expect(&rt, "memory");
-    let (_, ticket) = first_takes(plain, &taken, &none, &loaded);
+    let plain = first_loads(sum_added(&rt, rt.alloc()));
+    let taken = addition(&rt, rt.alloc(), 0, -2);
+    let loaded = parts(&rt, rt.alloc(), &[0, 1]);
+    let (_, ticket) = first_takes(plain, &taken, &Parts::new(rt.alloc()), &loaded);
     assert_eq!(rt; ticket, 2);
 }
