@@ -1,11 +1,11 @@
 // Worked examples, run on the plain state.
-ghost use Rattle.std.specs.Prelude.{◌≡◌, ◌≤◌, length, true, [], ◌∷◌, IfOk};
+ghost use Rattle.std.specs.Prelude.{◌≡◌, ◌≤◌, length, pos, true, [], ◌∷◌, IfOk};
 ghost use Rattle.sto_lang.specs.Written.{statements_of};
 ghost use Rattle.sto_lang.specs.Sizes.{calls_of};
 ghost use Rattle.sto_lang.specs.Taken.{are_taken};
+ghost use Rattle.sto_model.specs.declared.shape.Shape.TheVariants.{Single, Tree};
 
 use std::alloc::Global;
-use std::test::Fail;
 use sto_lang::{Arg, Names, Script, Stmt, Stmts, Text};
 use sto_model::{Body, Call, End, Next, Outcome, Reply, Shape, Shapes, State, serial_run};
 use sto_part::{NoMemory, Test};
@@ -18,7 +18,16 @@ const FIRST: Arg = Arg::Var(0);
 const SECOND: Arg = Arg::Var(1);
 
 // These statements in order.
-fn statements(alloc: Global, items: Vec<Stmt>) -> Result<Stmts, NoMemory>
+fn statements<const N: usize>(alloc: Global, items: [Stmt; N]) -> Result<Stmts, NoMemory>
+    ensures { IfOk result (λ s. s ≡ statements_of items.entry) }
+{
+    match Vec::from_array(alloc, items) {
+        Ok(items) => pushed(alloc, items),
+        Err(_) => Err(NoMemory),
+    }
+}
+
+fn pushed(alloc: Global, items: Vec<Stmt>) -> Result<Stmts, NoMemory>
     ensures { IfOk result (λ s. s ≡ statements_of items.items) }
 {
     let mut made = Stmts::new(alloc);
@@ -26,6 +35,18 @@ fn statements(alloc: Global, items: Vec<Stmt>) -> Result<Stmts, NoMemory>
         made.push(item)?;
     }
     Ok(made)
+}
+
+// A script of these statements, with so many variables.
+fn script_of(alloc: Global, vars: u32, body: Stmts, weight: u32) -> Result<Script, NoMemory>
+    ensures body { IfOk result (λ s. s.body ≡ body) }
+    ensures weight { IfOk result (λ s. s.weight ≡ weight) }
+{
+    Ok(Script {
+        vars: names(alloc, vars)?,
+        body,
+        weight,
+    })
 }
 
 // The names of so many variables.
@@ -61,6 +82,33 @@ fn run(
     serial_run(alloc, &mut body, shapes, state)
 }
 
+// What a run has answered, and the rows that it has left.
+#[derive(Drop)]
+struct Ran {
+    outcome: Outcome,
+    state: State,
+}
+
+// The serial run of a script on the opening rows of one object.
+fn run_on(alloc: Global, script: &Script, shape: Shape) -> Result<Ran, NoMemory>
+    requires calls { calls_of script.now.body ≤ script.now.weight }
+    requires taken { are_taken (shape ∷ []) script.now.body ≡ true }
+{
+    let shapes = one(alloc, shape)?;
+    let mut state = State::opening(alloc, &shapes)?;
+    let outcome = run(alloc, script, &shapes, &mut state)?;
+    Ok(Ran { outcome, state })
+}
+
+fn replies(ran: &Ran) -> &[Reply] {
+    ran.outcome.replies.as_slice()
+}
+
+// Whether these are the rows of the one object.
+fn has_left(ran: &Ran, rows: &[(i64, i64)]) -> bool {
+    ran.state.len() == 1 && ran.state.get(0).as_slice() == rows
+}
+
 // A call of the one object.
 macro_rules! ask {
     ($to:expr, $code:literal, $a:expr, $b:expr) => {
@@ -74,20 +122,37 @@ macro_rules! ask {
     };
 }
 
-// `k = sum k STEP`, `put t k k`, so many times.
-macro_rules! puts {
-    ($alloc:expr, $times:literal, $step:literal) => {
-        Stmt::Repeat {
-            times: $times,
-            body: statements(
-                $alloc,
-                vec![in $alloc;
-                    Stmt::Sum { to: 0, a: FIRST, b: Arg::Num($step) },
-                    ask!(None, 5, FIRST, FIRST),
-                ]?,
-            )?,
-        }
-    };
+#[test]
+fn worked_examples(rt: HostRuntime) {
+    let alloc = rt.alloc();
+    let cases = [
+        example_of_a_body(alloc),
+        fills_a_tree(alloc),
+        cancels_in_a_branch(alloc),
+        sees_its_own_writes(alloc),
+        passes_over_empty_turns(alloc),
+    ];
+    assert_eq!(rt; cases, [Ok(true); 5]);
+}
+
+const READ_AND_SET_THE_SUM: [Stmt; 3] = [
+    ask!(Some(0), 0, ZERO, ZERO),
+    Stmt::Sum {
+        to: 1,
+        a: SECOND,
+        b: FIRST,
+    },
+    ask!(None, 1, SECOND, ZERO),
+];
+
+// `x = get a`, `y = sum y x`, `set a y`, told twice that a is 5: each time y is 0 at first.
+fn example_of_a_body(alloc: Global) -> Result<bool, NoMemory> {
+    let body = statements(alloc, READ_AND_SET_THE_SUM)?;
+    let script = script_of(alloc, 2, body, 4)?;
+    let mut body = ScriptBody::new(alloc, &script)?;
+    let first = asks_and_commits(&mut body);
+    body.reset();
+    Ok(first && asks_for_five(&mut body) && body.next() == Next::Ask(SET_FIVE))
 }
 
 const GET: Call = Call {
@@ -97,233 +162,205 @@ const GET: Call = Call {
     b: 0,
 };
 
-// `x = get a`, `y = sum y x`, `set a y`, told twice that a is 5: each time y is 0 at first.
-#[test]
-fn example_of_a_body(rt: HostRuntime) -> Result<(), Fail> {
-    let alloc = rt.alloc();
-    let body = statements(
-        alloc,
-        vec![in alloc;
-            ask!(Some(0), 0, ZERO, ZERO),
-            Stmt::Sum {
-                to: 1,
-                a: SECOND,
-                b: FIRST
-            },
-            ask!(None, 1, SECOND, ZERO),
-        ]?,
-    )?;
-    let script = Script {
-        vars: names(alloc, 2)?,
-        body,
-        weight: 4,
-    };
-    let mut body = ScriptBody::new(alloc, &script)?;
-    assert_eq!(rt; body.left(), 4);
-    assert_eq!(rt; body.next(), Next::Ask(GET));
-    body.hear(&Reply::Value(5));
-    assert_eq!(rt;
-        body.next(),
-        Next::Ask(Call {
-            object: 0,
-            code: 1,
-            a: 5,
-            b: 0
-        })
-    );
-    assert_eq!(rt; body.left(), 3);
-    body.hear(&Reply::Done);
-    assert_eq!(rt; body.next(), Next::Commit);
-    body.reset();
-    assert_eq!(rt; body.left(), 4);
-    assert_eq!(rt; body.next(), Next::Ask(GET));
-    body.hear(&Reply::Value(5));
-    assert_eq!(rt;
-        body.next(),
-        Next::Ask(Call {
-            object: 0,
-            code: 1,
-            a: 5,
-            b: 0
-        })
-    );
-    Ok(())
+const SET_FIVE: Call = Call {
+    object: 0,
+    code: 1,
+    a: 5,
+    b: 0,
+};
+
+fn asks_and_commits(body: &mut ScriptBody<'_>) -> bool {
+    asks_for_five(body)
+        && body.left() == 3
+        && is_told(body, SET_FIVE, &Reply::Done)
+        && body.next() == Next::Commit
 }
 
-#[test]
-fn fills_a_tree(rt: HostRuntime) -> Result<(), Fail> {
-    let alloc = rt.alloc();
-    let body = statements(
+// Whether a body that has heard nothing asks for the value, which it is told to be 5.
+fn asks_for_five(body: &mut ScriptBody<'_>) -> bool {
+    body.left() == 4 && is_told(body, GET, &Reply::Value(5))
+}
+
+// Whether the body asks this call, which is answered so.
+fn is_told(body: &mut ScriptBody<'_>, wanted: Call, reply: &Reply) -> bool {
+    match body.next() {
+        Next::Ask(call) => {
+            body.hear(reply);
+            call == wanted
+        }
+        _ => false,
+    }
+}
+
+const PUT_THE_NEXT: [Stmt; 2] = [
+    Stmt::Sum {
+        to: 0,
+        a: FIRST,
+        b: Arg::Num(1),
+    },
+    ask!(None, 5, FIRST, FIRST),
+];
+
+// `k = sum 0 0`, nine times `k = sum k 1` and `put t k k`, then `put t 8 5` and `n = len t`.
+fn filling(alloc: Global) -> Result<Stmts, NoMemory>
+    ensures calls { IfOk result (λ s. calls_of s ≤ 23) }
+    ensures taken { IfOk result (λ s. are_taken (Tree 2 ∷ []) s ≡ true) }
+{
+    let body = statements(alloc, PUT_THE_NEXT)?;
+    statements(
         alloc,
-        vec![in alloc;
+        [
             Stmt::Sum {
                 to: 0,
                 a: ZERO,
-                b: ZERO
+                b: ZERO,
             },
-            puts!(alloc, 9, 1),
+            Stmt::Repeat { times: 9, body },
             ask!(None, 5, Arg::Num(8), Arg::Num(5)),
             ask!(Some(1), 8, ZERO, ZERO),
-        ]?,
-    )?;
-    let script = Script {
-        vars: names(alloc, 2)?,
-        body,
-        weight: 23,
-    };
-    let shapes = one(alloc, Shape::Tree { leaves: 2 })?;
-    let mut state = State::opening(alloc, &shapes)?;
-    let outcome = run(alloc, &script, &shapes, &mut state)?;
-    assert_eq!(rt; outcome.end, End::Commit);
-    let want = [
-        Reply::Done,
-        Reply::Done,
-        Reply::Done,
-        Reply::Done,
-        Reply::Done,
-        Reply::Done,
-        Reply::Done,
-        Reply::Done,
-        Reply::Full,
-        Reply::Done,
-        Reply::Value(8),
-    ];
-    assert_eq!(rt; outcome.replies.as_slice(), want.as_slice());
-    let rows = [
-        (1, 1),
-        (2, 2),
-        (3, 3),
-        (4, 4),
-        (5, 5),
-        (6, 6),
-        (7, 7),
-        (8, 5),
-    ];
-    assert_eq!(rt; state.len(), 1);
-    assert_eq!(rt; state.get(0).as_slice(), rows.as_slice());
-    Ok(())
+        ],
+    )
 }
 
+const FILLED: &[(i64, i64)] = &[
+    (1, 1),
+    (2, 2),
+    (3, 3),
+    (4, 4),
+    (5, 5),
+    (6, 6),
+    (7, 7),
+    (8, 5),
+];
+
+fn fills_a_tree(alloc: Global) -> Result<bool, NoMemory> {
+    let script = script_of(alloc, 2, filling(alloc)?, 23)?;
+    let ran = run_on(alloc, &script, Shape::Tree { leaves: 2 })?;
+    Ok(
+        ran.outcome.end == End::Commit
+            && are_of_a_full_tree(replies(&ran))
+            && has_left(&ran, FILLED),
+    )
+}
+
+// Eight keys are put, the ninth has no room, and the value of the eighth is put anew.
+fn are_of_a_full_tree(replies: &[Reply]) -> bool {
+    match replies {
+        [puts @ .., Reply::Full, Reply::Done, Reply::Value(8)] => {
+            puts.len() == 8 && are_done(puts)
+        }
+        _ => false,
+    }
+}
+
+fn are_done(replies: &[Reply]) -> bool {
+    replies.iter().all(|reply| matches!(reply, Reply::Done))
+}
+
+const SET_TO_FIVE: [Stmt; 1] = [ask!(None, 1, Arg::Num(5), ZERO)];
+
+const SET_TO_NINE_AND_CANCEL: [Stmt; 2] = [ask!(None, 1, Arg::Num(9), ZERO), Stmt::Cancel];
+
 // `x = get a`, and where x is below 1 `set a 5`, else `set a 9` and `cancel`.
-#[test]
-fn cancels_in_a_branch(rt: HostRuntime) -> Result<(), Fail> {
-    let alloc = rt.alloc();
-    let body = statements(
-        alloc,
-        vec![in alloc;
-            ask!(Some(0), 0, ZERO, ZERO),
-            Stmt::Choose {
-                a: FIRST,
-                test: Test::Lt,
-                b: Arg::Num(1),
-                yes: statements(alloc, vec![in alloc; ask!(None, 1, Arg::Num(5), ZERO)]?)?,
-                no: statements(
-                    alloc,
-                    vec![in alloc; ask!(None, 1, Arg::Num(9), ZERO), Stmt::Cancel]?
-                )?,
-            },
-        ]?,
-    )?;
-    let script = Script {
-        vars: names(alloc, 1)?,
-        body,
-        weight: 6,
+fn cancelling(alloc: Global) -> Result<Stmts, NoMemory>
+    ensures calls { IfOk result (λ s. calls_of s ≤ 6) }
+    ensures taken { IfOk result (λ s. are_taken (Single (pos 1) ∷ []) s ≡ true) }
+{
+    let yes = statements(alloc, SET_TO_FIVE)?;
+    let no = statements(alloc, SET_TO_NINE_AND_CANCEL)?;
+    let choice = Stmt::Choose {
+        a: FIRST,
+        test: Test::Lt,
+        b: Arg::Num(1),
+        yes,
+        no,
     };
-    let shapes = one(alloc, Shape::Single(1))?;
-    let mut state = State::opening(alloc, &shapes)?;
-    let outcome = run(alloc, &script, &shapes, &mut state)?;
-    assert_eq!(rt; outcome.end, End::Cancel);
-    assert_eq!(rt;
-        outcome.replies.as_slice(),
-        [Reply::Value(1), Reply::Done].as_slice()
-    );
-    assert_eq!(rt; state.len(), 1);
-    assert_eq!(rt; state.get(0).as_slice(), [(0, 1)].as_slice());
-    Ok(())
+    statements(alloc, [ask!(Some(0), 0, ZERO, ZERO), choice])
+}
+
+const ONE: &[(i64, i64)] = &[(0, 1)];
+
+fn cancels_in_a_branch(alloc: Global) -> Result<bool, NoMemory> {
+    let script = script_of(alloc, 1, cancelling(alloc)?, 6)?;
+    let ran = run_on(alloc, &script, Shape::Single(1))?;
+    Ok(
+        ran.outcome.end == End::Cancel
+            && matches!(replies(&ran), [Reply::Value(1), Reply::Done])
+            && has_left(&ran, ONE),
+    )
 }
 
 // `add c 3`, `x = test c ge 5`, `take c 5`, on a counter of 3.
-#[test]
-fn sees_its_own_writes(rt: HostRuntime) -> Result<(), Fail> {
-    let alloc = rt.alloc();
-    let body = statements(
-        alloc,
-        vec![in alloc;
-            ask!(None, 2, Arg::Num(3), ZERO),
-            ask!(Some(0), 3, Arg::Num(5), Arg::Num(5)),
-            ask!(None, 4, Arg::Num(5), ZERO),
-        ]?,
-    )?;
-    let script = Script {
-        vars: names(alloc, 1)?,
-        body,
-        weight: 4,
-    };
-    let shapes = one(alloc, Shape::Counter(3))?;
-    let mut state = State::opening(alloc, &shapes)?;
-    let outcome = run(alloc, &script, &shapes, &mut state)?;
-    let want = [Reply::Done, Reply::Flag(true), Reply::Flag(true)];
-    assert_eq!(rt; outcome.replies.as_slice(), want.as_slice());
-    assert_eq!(rt; state.len(), 1);
-    assert_eq!(rt; state.get(0).as_slice(), [(0, 1)].as_slice());
-    Ok(())
+const ADD_TEST_AND_TAKE: [Stmt; 3] = [
+    ask!(None, 2, Arg::Num(3), ZERO),
+    ask!(Some(0), 3, Arg::Num(5), Arg::Num(5)),
+    ask!(None, 4, Arg::Num(5), ZERO),
+];
+
+fn sees_its_own_writes(alloc: Global) -> Result<bool, NoMemory> {
+    let body = statements(alloc, ADD_TEST_AND_TAKE)?;
+    let script = script_of(alloc, 1, body, 4)?;
+    let ran = run_on(alloc, &script, Shape::Counter(3))?;
+    let said = matches!(
+        replies(&ran),
+        [Reply::Done, Reply::Flag(true), Reply::Flag(true)]
+    );
+    Ok(said && has_left(&ran, ONE))
 }
 
+const SET_TO_ONE: [Stmt; 1] = [ask!(None, 1, Arg::Num(1), ZERO)];
+
 // Turns without statements, a repetition that runs no times, and sums and differences that wrap.
-#[test]
-fn passes_over_empty_turns(rt: HostRuntime) -> Result<(), Fail> {
-    let alloc = rt.alloc();
-    let nothing = Stmts::new(alloc);
-    let empty = statements(
+fn wrapping(alloc: Global) -> Result<Stmts, NoMemory>
+    ensures calls { IfOk result (λ s. calls_of s ≤ 4010) }
+    ensures taken { IfOk result (λ s. are_taken (Single (pos 7) ∷ []) s ≡ true) }
+{
+    let nothing = Stmt::Repeat {
+        times: 4096,
+        body: Stmts::new(alloc),
+    };
+    let empty = statements(alloc, [nothing])?;
+    let never = statements(alloc, SET_TO_ONE)?;
+    statements(
         alloc,
-        vec![in alloc;
-            Stmt::Repeat {
-                times: 4096,
-                body: nothing
-            },
-        ]?,
-    )?;
-    let body = statements(
-        alloc,
-        vec![in alloc;
+        [
             Stmt::Repeat {
                 times: 4000,
-                body: empty
+                body: empty,
             },
             Stmt::Repeat {
                 times: 0,
-                body: statements(alloc, vec![in alloc; ask!(None, 1, Arg::Num(1), ZERO)]?)?,
+                body: never,
             },
             Stmt::Sum {
                 to: 0,
                 a: Arg::Num(i64::MAX),
-                b: Arg::Num(1)
+                b: Arg::Num(1),
             },
             ask!(None, 1, FIRST, ZERO),
             ask!(None, 0, ZERO, ZERO),
             Stmt::Diff {
                 to: 0,
                 a: FIRST,
-                b: Arg::Num(1)
+                b: Arg::Num(1),
             },
             ask!(None, 1, FIRST, ZERO),
             ask!(None, 0, ZERO, ZERO),
-        ]?,
-    )?;
-    let script = Script {
-        vars: names(alloc, 1)?,
-        body,
-        weight: 4010,
-    };
-    let shapes = one(alloc, Shape::Single(7))?;
-    let mut state = State::opening(alloc, &shapes)?;
-    let outcome = run(alloc, &script, &shapes, &mut state)?;
-    let want = [
-        Reply::Done,
-        Reply::Value(i64::MIN),
-        Reply::Done,
-        Reply::Value(i64::MAX),
-    ];
-    assert_eq!(rt; outcome.replies.as_slice(), want.as_slice());
-    Ok(())
+        ],
+    )
+}
+
+fn passes_over_empty_turns(alloc: Global) -> Result<bool, NoMemory> {
+    let script = script_of(alloc, 1, wrapping(alloc)?, 4010)?;
+    let ran = run_on(alloc, &script, Shape::Single(7))?;
+    let said = matches!(
+        replies(&ran),
+        [
+            Reply::Done,
+            Reply::Value(i64::MIN),
+            Reply::Done,
+            Reply::Value(i64::MAX)
+        ]
+    );
+    Ok(said)
 }

@@ -1,49 +1,68 @@
 //! The beginning of the generated file of 1, and the size of the last one.
-use std::test::Fail;
+use std::alloc::Global;
 use sto_gen::generate;
-use sto_lang::{Arg, Stmt};
+use sto_lang::{Arg, File, Stmt};
+use sto_part::NoMemory;
 
-fn arguments(statement: &Stmt) -> Option<(&Arg, &Arg)> {
-    match statement {
-        Stmt::Ask { a, b, .. } => Some((a, b)),
-        _ => None,
-    }
+#[test]
+fn generated_files(rt: HostRuntime) {
+    let alloc = rt.alloc();
+    let cases = [example_file_of_one(alloc), size_of_the_last_file(alloc)];
+    assert_eq!(rt; cases, [Ok(true); 2]);
 }
 
 // The first transaction of the file of 1 looks at account 22, and where 97 are there it moves them to account 16.
-#[test]
-fn example_file_of_one(rt: HostRuntime) -> Result<(), Fail> {
-    let file = generate(rt.alloc(), 1)?;
-    let thread = file.threads.as_slice().first().expect(&rt, "a thread");
-    let script = thread
-        .scripts
-        .as_slice()
-        .first()
-        .expect(&rt, "a transaction");
-    match script.body.as_slice() {
-        [Stmt::Ask { a, .. }, Stmt::Choose { b, yes, .. }] => {
-            assert_eq!(rt; *a, Arg::Num(22));
-            assert_eq!(rt; *b, Arg::Num(97));
-            match yes.as_slice() {
-                [first, second, _] => {
-                    assert!(rt; arguments(first) == Some((&Arg::Num(22), &Arg::Num(-97))));
-                    assert!(rt; arguments(second) == Some((&Arg::Num(16), &Arg::Num(97))));
-                }
-                _ => panic!(rt; "another choice"),
-            }
-        }
-        _ => panic!(rt; "another transaction"),
-    }
-    Ok(())
+fn example_file_of_one(alloc: Global) -> Result<bool, NoMemory> {
+    let file = generate(alloc, 1)?;
+    Ok(match first_of(&file) {
+        Some(body) => moves_where_there_are(body),
+        None => false,
+    })
 }
 
-#[test]
-fn size_of_the_last_file(rt: HostRuntime) -> Result<(), Fail> {
-    let file = generate(rt.alloc(), u64::MAX)?;
-    assert_eq!(rt; file.decls.len(), 4);
-    assert_eq!(rt; file.threads.len(), 16);
-    for thread in file.threads.as_slice() {
-        assert_eq!(rt; thread.scripts.len(), 200);
+// The statements of the first transaction.
+fn first_of(file: &File) -> Option<&[Stmt]> {
+    let thread = file.threads.as_slice().first()?;
+    let script = thread.scripts.as_slice().first()?;
+    Some(script.body.as_slice())
+}
+
+fn moves_where_there_are(body: &[Stmt]) -> bool {
+    match body {
+        [Stmt::Ask { a, .. }, Stmt::Choose { b, yes, .. }] => {
+            *a == Arg::Num(22) && *b == Arg::Num(97) && are_moves(yes.as_slice())
+        }
+        _ => false,
     }
-    Ok(())
+}
+
+fn are_moves(statements: &[Stmt]) -> bool {
+    match statements {
+        [first, second, _] => {
+            asks_with(first, Arg::Num(22), Arg::Num(-97))
+                && asks_with(second, Arg::Num(16), Arg::Num(97))
+        }
+        _ => false,
+    }
+}
+
+fn asks_with(statement: &Stmt, first: Arg, second: Arg) -> bool {
+    match statement {
+        Stmt::Ask { a, b, .. } => (*a, *b) == (first, second),
+        _ => false,
+    }
+}
+
+fn size_of_the_last_file(alloc: Global) -> Result<bool, NoMemory> {
+    let file = generate(alloc, u64::MAX)?;
+    Ok(file.decls.len() == 4 && file.threads.len() == 16 && has_scripts_each(&file, 200))
+}
+
+fn has_scripts_each(file: &File, count: u32) -> bool {
+    for thread in file.threads.as_slice() {
+        if thread.scripts.len() != count {
+            return false;
+        }
+    }
+    true
 }

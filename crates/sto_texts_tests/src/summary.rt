@@ -2,7 +2,6 @@
 ghost use Rattle.std.specs.Prelude.{◌≤◌, length, IfOk};
 
 use std::alloc::Global;
-use std::test::Fail;
 use sto_journal::{Aborts, Journal, Lines};
 use sto_model::{Shape, Shapes, State};
 use sto_part::NoMemory;
@@ -28,15 +27,19 @@ fn rich(alloc: Global) -> Result<State, NoMemory>
     State::opening(alloc, &shapes)
 }
 
+const LARGE_SUM: &str = "bench 7\ntransactions 0\nacct 18446744073709551614\nlog 0\nowner 0\n";
+
 #[test]
-fn large_sum(rt: HostRuntime) -> Result<(), Fail> {
+fn large_sum(rt: HostRuntime) {
+    assert_eq!(rt; is_summed(rt.alloc(), LARGE_SUM), Ok(true));
+}
+
+fn is_summed(alloc: Global, wanted: &str) -> Result<bool, NoMemory> {
     let journal = Journal {
-        lines: Lines::new(rt.alloc()),
-        aborts: Aborts::new(rt.alloc()),
-        state: rich(rt.alloc())?,
+        lines: Lines::new(alloc),
+        aborts: Aborts::new(alloc),
+        state: rich(alloc)?,
     };
-    let text = summary(rt.alloc(), 7, &journal)?;
-    let wanted = "bench 7\ntransactions 0\nacct 18446744073709551614\nlog 0\nowner 0\n";
-    assert_eq!(rt; text.as_str(), wanted);
-    Ok(())
+    let text = summary(alloc, 7, &journal)?;
+    Ok(text.as_str() == wanted)
 }

@@ -49,13 +49,17 @@ const ROWS: &[Row] = &[
 
 #[test]
 fn each_kind_answers(rt: HostRuntime) {
-    assert_eq!(rt; all_answer(rt.alloc()), Ok(true));
+    assert_eq!(rt; is_answered_by_each_kind(rt.alloc()), Ok(true));
 }
 
-fn all_answer(alloc: Global) -> Result<bool, NoMemory> {
+fn is_answered_by_each_kind(alloc: Global) -> Result<bool, NoMemory> {
     let store = one_of_each_kind(alloc)?;
+    all_answer(alloc, &store)
+}
+
+fn all_answer<T: TxType>(alloc: Global, ty: &T) -> Result<bool, NoMemory> {
     for row in ROWS {
-        if !answers(alloc, &store, row)? {
+        if !answers(alloc, ty, row)? {
             return Ok(false);
         }
     }
