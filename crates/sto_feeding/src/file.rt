@@ -18,7 +18,7 @@ use sto_run::journal_of;
 use sto_serving::feed_threads;
 use sto_shapes::{StoredFile, opening_of};
 use sto_type::TxType;
-use sto_working::{Ended, FileWork, Gate};
+use sto_working::{Ended, FileWork, Gate, Turn};
 
 /// Feeds the transactions of a file to so many workers, where a type has its objects, and gives the journal of the run. What a
 /// type is to be for that, each mixture of lawful types with the objects of the file is.
@@ -45,11 +45,13 @@ pub fn feed_over<R: Threads + Wait + Sync, T: TxType + Send + Sync, G: Gate>(
     ensures alone { workers ≡ 1 → IfOk result (λ journal. journal.aborts.items ≡ []) }
 {
     let contents = opening_of(alloc, ty)?;
+    let turn = Turn::new();
     let work = FileWork {
         file,
         ty,
         tries,
         gate,
+        turn: &turn,
     };
     let ended = feed_threads(rt, &work, alloc, ty, &contents, workers)?;
     let Ended { records, words } = ended;

@@ -16,7 +16,7 @@ use sto_lang::File;
 use sto_part::NoMemory;
 use sto_shapes::{StoredFile, opening_of};
 use sto_type::TxType;
-use sto_working::{Ended, FileWork, Gate, run_threads};
+use sto_working::{Ended, FileWork, Gate, Turn, run_threads};
 
 /// Runs a file on so many workers, where a type has its objects, and gives the journal of the run. What a type is to be for
 /// that, each mixture of lawful types with the objects of the file is.
@@ -42,11 +42,13 @@ pub fn run_over<R: Threads + Sync, T: TxType + Send + Sync, G: Gate>(
     ensures alone { workers ≡ 1 → IfOk result (λ journal. journal.aborts.items ≡ []) }
 {
     let contents = opening_of(alloc, ty)?;
+    let turn = Turn::new();
     let work = FileWork {
         file,
         ty,
         tries,
         gate,
+        turn: &turn,
     };
     let ended = run_threads(rt, &work, alloc, ty, &contents, workers)?;
     let Ended { records, words } = ended;

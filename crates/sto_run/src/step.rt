@@ -19,7 +19,7 @@ use sto_shapes::{StoredFile, opening_of};
 use sto_stepping::step_threads;
 use sto_transact::Trial;
 use sto_type::TxType;
-use sto_working::{Ended, FileWork, NoGate};
+use sto_working::{Ended, FileWork, NoGate, Turn};
 
 // The entries of a file's schedule; none where it has no schedule.
 fn turns_of(file: &File) -> &[Turns]
@@ -49,11 +49,13 @@ pub fn step_over<T: TxType>(
     ensures alone { length (view file.now).threads ≤ 1 → IfOk result (λ journal. journal.aborts.items ≡ []) }
 {
     let contents = opening_of(alloc, ty)?;
+    let turn = Turn::new();
     let work = FileWork {
         file,
         ty,
         tries,
         gate: &NoGate,
+        turn: &turn,
     };
     let ended = step_threads::<T, Trial<'_, T, ScriptBody<'_>>, _>(
         &work,

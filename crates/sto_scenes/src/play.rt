@@ -17,7 +17,7 @@ use sto_shapes::{StoredFile, opening_of};
 use sto_stepping::Attempts;
 use sto_transact::Trial;
 use sto_type::TxType;
-use sto_working::{FileWork, NoGate, Work};
+use sto_working::{FileWork, NoGate, Turn, Work};
 
 /// What is done with the first transactions of the threads of a file, on words of two passes.
 #[derive(Clone, Copy)]
@@ -129,11 +129,13 @@ fn push_act<T: TxType>(
         Ok(words) => words,
         Err(NoMemory) => return Err(AllocError),
     };
+    let turn = Turn::new();
     let work = FileWork {
         file,
         ty,
         tries,
         gate: &NoGate,
+        turn: &turn,
     };
     match act {
         Act::Step { before, after } => push_steps::<T, Trial<'_, T, ScriptBody<'_>>, _>(

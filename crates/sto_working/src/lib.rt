@@ -8,6 +8,7 @@ mod halves;
 mod left;
 mod one;
 mod script;
+mod turn;
 mod work;
 mod worker;
 
@@ -18,5 +19,6 @@ pub use halves::{gather, work_halves};
 pub use left::run_left;
 pub use one::Work;
 pub use script::run_script;
+pub use turn::Turn;
 pub use work::{FileWork, work_one};
 pub use worker::{Crew, Worker, work_alone};

@@ -8,6 +8,7 @@ ghost use Rattle.sto_working.specs.Taken.{IsTaken};
 
 use crate::gate::Gate;
 use crate::one::Work;
+use crate::turn::{Held, Turn};
 use crossbeam_utils::Backoff;
 use std::alloc::Global;
 use sto_core::Cells;
@@ -17,12 +18,14 @@ use sto_script::ScriptBody;
 use sto_transact::{Record, Transacted, Transaction, Watch};
 use sto_type::TxType;
 
-// Tells a gate how far a transaction is, and backs off between two tries.
+// Tells a gate how far a transaction is, takes the turn once an attempt was aborted, and backs off between two tries.
 #[derive(Drop)]
 struct AtGate<'g, G> {
     gate: &'g G,
     thread: u32,
     position: u32,
+    turn: &'g Turn,
+    held: Option<Held<'g>>,
     backoff: Backoff,
 }
 
@@ -32,17 +35,21 @@ impl<G: Gate> Watch for AtGate<'_, G> {
     }
 
     fn before_retry(&mut self) {
-        self.backoff.snooze();
+        match self.held {
+            Some(_) => self.backoff.snooze(),
+            None => self.held = self.turn.take(),
+        }
     }
 }
 
-/// A file, the type of its objects, how many attempts of a transaction may be aborted, and who is told.
+/// A file, the type of its objects, how many attempts of a transaction may be aborted, who is told, and whose turn it is once some were.
 #[derive(Drop)]
 pub struct FileWork<'f, T: TxType, G: Gate> {
     pub file: &'f File,
     pub ty: &'f T,
     pub tries: u32,
     pub gate: &'f G,
+    pub turn: &'f Turn,
 }
 
 impl<T: TxType, G: Gate> Work<T> for FileWork<'_, T, G> {
@@ -86,6 +93,8 @@ impl<T: TxType, G: Gate> Work<T> for FileWork<'_, T, G> {
             gate: self.gate,
             thread,
             position,
+            turn: self.turn,
+            held: None,
             backoff: Backoff::new(),
         };
         let Transacted { ended, .. } = transaction.run(alloc, cells, &mut watch, records)?;
@@ -111,6 +120,7 @@ pub fn work_one<T: TxType, C: Cells<T>, G: Gate>(
     position: u32,
     tries: u32,
     gate: &G,
+    turn: &Turn,
     records: &mut Vec<Record>,
 ) -> Result<bool, NoMemory>
     requires taken { IsTaken (view file.now) (T.meaning ty.now) }
@@ -127,6 +137,7 @@ pub fn work_one<T: TxType, C: Cells<T>, G: Gate>(
         ty,
         tries,
         gate,
+        turn,
     };
     work.run_one(alloc, cells, thread, position, records)
 }
