@@ -112,7 +112,7 @@ has_transaction (scripts ∷ threads) zero position l m = at_place scripts posit
 has_transaction (scripts ∷ threads) (suc t) position l m = has_transaction threads t position l m
 
 -- what an order has, the file has
-in_order : (file : File) (order : List Place) → IsOrder file order → Each (IsInside file.threads) order
+pub in_order : (file : File) (order : List Place) → IsOrder file order → Each (IsInside file.threads) order
 in_order file order whole = each order (swap_all (λ t p. p.0 ≡ t → (1 ≤ p.1) × (p.1 < 1 + count_in file.threads t)) order all)
   where
     all : (t : ℕ) → All (λ (p : Place). p.0 ≡ t → (1 ≤ p.1) × (p.1 < 1 + count_in file.threads t)) order

@@ -3,10 +3,31 @@ ghost use Rattle.std.specs.Prelude.{IfOk};
 
 use crate::once::Once;
 use std::alloc::{AllocError, Global};
-use sto_alone::run_alone;
+use sto_alone::{Ran, run_alone};
 use sto_model::{Call, Reply};
 use sto_part::{Contents, NoMemory};
 use sto_type::TxType;
+
+/// What a call was answered, and how much it took.
+#[derive(Drop)]
+pub(crate) struct Answer {
+    pub(crate) reply: Reply,
+    /// How many items it noted.
+    pub(crate) observed: u32,
+    /// How many parts it updated.
+    pub(crate) updated: u32,
+}
+
+impl Answer {
+    fn of(ran: Ran) -> Option<Answer> {
+        let mut replies = ran.outcome.replies;
+        Some(Answer {
+            reply: replies.pop()?,
+            observed: ran.items.len(),
+            updated: ran.updates.len(),
+        })
+    }
+}
 
 /// What the call is answered, which the type is to take; the contents become those after it.
 pub(crate) fn ask<T: TxType>(
@@ -14,7 +35,7 @@ pub(crate) fn ask<T: TxType>(
     ty: &T,
     call: &Call,
     contents: &mut Contents,
-) -> Result<Option<Reply>, AllocError>
+) -> Result<Option<Answer>, AllocError>
     requires { (T.meaning ty.now).valid contents.old.items }
     ensures { (T.meaning ty.now).valid contents.new.items }
 {
@@ -22,28 +43,25 @@ pub(crate) fn ask<T: TxType>(
         return Ok(None);
     }
     match run_alone(alloc, ty, &mut Once::new(call), contents) {
-        Ok(ran) => {
-            let mut replies = ran.outcome.replies;
-            Ok(replies.pop())
-        }
+        Ok(ran) => Ok(Answer::of(ran)),
         Err(NoMemory) => Err(AllocError),
     }
 }
 
 /// What calls are answered from the opening on.
-pub(crate) fn replies_of<T: TxType>(
+pub(crate) fn answers_of<T: TxType>(
     alloc: Global,
     ty: &T,
     calls: &[Call],
-) -> Result<Vec<Reply>, AllocError> {
+) -> Result<Vec<Answer>, AllocError> {
     let mut contents = opening_of(alloc, ty)?;
-    let mut replies = Vec::new(alloc);
+    let mut answers = Vec::new(alloc);
     for call in calls {
-        if let Some(reply) = ask(alloc, ty, call, &mut contents)? {
-            replies.push(reply)?;
+        if let Some(answer) = ask(alloc, ty, call, &mut contents)? {
+            answers.push(answer)?;
         }
     }
-    Ok(replies)
+    Ok(answers)
 }
 
 /// The contents that a type opens with.

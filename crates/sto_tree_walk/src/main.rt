@@ -10,25 +10,26 @@ mod once;
 mod text;
 mod walk;
 
-use asking::replies_of;
+use asking::answers_of;
 use calls::{full_tree, least_and_greatest, one_leaf, split_and_repack};
 use std::io;
 use sto_model::Call;
 use sto_tree::TTree;
-use text::text_of;
+use text::{replies_in, sizes_in};
 use walk::{Tally, walk};
 
 // How many calls a walk asks.
 const CALLS: u32 = 10_000;
 
-// Asks calls of an empty tree, each in a transaction of its own, and prints the replies.
+// Asks calls of an empty tree, each in a transaction of its own, and prints the replies, and what each noted and updated.
 fn play(rt: &HostRuntime, name: &str, leaves: u32, calls: &[Call]) -> io::Result<()>
     requires some { 1 ≤ leaves }
     requires few { leaves ≤ 64 }
 {
-    let replies = replies_of(rt.alloc(), &TTree::new(leaves), calls)?;
-    let text = text_of(rt.alloc(), replies.as_slice())?;
-    println!(rt; "{name}:{text}")
+    let answers = answers_of(rt.alloc(), &TTree::new(leaves), calls)?;
+    let replies = replies_in(rt.alloc(), answers.as_slice())?;
+    let sizes = sizes_in(rt.alloc(), answers.as_slice())?;
+    println!(rt; "{name}:{replies}\n{name}, items noted and parts updated:{sizes}")
 }
 
 // Walks over a tree, and prints what its calls were answered.

@@ -1,14 +1,24 @@
-//! Replies as a report shows them.
+//! Replies as a report shows them, and how much calls took.
+use crate::asking::Answer;
 use std::alloc::{AllocError, Global};
 use std::fmt::Write;
 use sto_model::{Pairs, Reply};
 
 /// Each reply behind a space.
-pub(crate) fn text_of(alloc: Global, replies: &[Reply]) -> Result<String, AllocError> {
+pub(crate) fn replies_in(alloc: Global, answers: &[Answer]) -> Result<String, AllocError> {
     let mut text = String::new(alloc);
-    for reply in replies {
+    for answer in answers {
         text.push_str(" ")?;
-        add_reply(&mut text, reply)?;
+        add_reply(&mut text, &answer.reply)?;
+    }
+    Ok(text)
+}
+
+/// How many items each call noted, and how many parts it updated.
+pub(crate) fn sizes_in(alloc: Global, answers: &[Answer]) -> Result<String, AllocError> {
+    let mut text = String::new(alloc);
+    for answer in answers {
+        write!(text, " {}+{}", answer.observed, answer.updated)?;
     }
     Ok(text)
 }

@@ -1,7 +1,7 @@
 //! A walk over a tree beside an ordered map.
 ghost use Rattle.std.specs.Prelude.{◌≤◌};
 
-use crate::asking::{ask, opening_of};
+use crate::asking::{Answer, ask, opening_of};
 use crate::calls::call;
 use crate::map::answer;
 use rand_core::utils::NextWord;
@@ -50,14 +50,14 @@ pub(crate) fn walk(alloc: Global, leaves: u32, span: u32, count: u32) -> Result<
 }
 
 impl Tally {
-    fn count(&mut self, told: Option<Reply>, expected: &Reply) {
+    fn count(&mut self, told: Option<Answer>, expected: &Reply) {
         match expected {
             Reply::Full => self.full = self.full.saturating_add(1),
             Reply::Absent => self.absent = self.absent.saturating_add(1),
             _ => {}
         }
         let right = match told {
-            Some(reply) => reply == *expected,
+            Some(answer) => answer.reply == *expected,
             None => false,
         };
         if !right {

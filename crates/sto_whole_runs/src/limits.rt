@@ -1,8 +1,9 @@
 //! Scripts of version 2 that are at its limits, and scripts that go past them.
-use crate::run::outcome_of;
+use crate::outcome::outcome_of;
 use std::alloc::{AllocError, Global};
 use std::fmt::Write;
 use std::thread::Threads;
+use sto_cli::NoGate;
 
 /// A limit of version 2.
 #[derive(Clone, Copy)]
@@ -63,11 +64,11 @@ impl Limit {
     /// Whether the script at the limit runs, and the line that goes past it is refused.
     pub fn holds<R: Threads + Sync>(&self, threads: &R, alloc: Global) -> Result<bool, AllocError> {
         let mut text = self.script(alloc)?;
-        let at = outcome_of(threads, alloc, "run", text.as_str())?;
+        let at = outcome_of(threads, alloc, "run", text.as_str(), &NoGate)?;
         text.push_str(self.more)?;
-        let past = outcome_of(threads, alloc, "run", text.as_str())?;
+        let past = outcome_of(threads, alloc, "run", text.as_str(), &NoGate)?;
         let last = text.lines().count();
         let says = format!(in alloc; "sto: line {last}: out of limits\n")?;
-        Ok(at.status == 0 && past.status == 3 && past.written.as_str() == says.as_str())
+        Ok(at.status == 0 && past.status == 3 && past.said == says)
     }
 }

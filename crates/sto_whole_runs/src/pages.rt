@@ -1,20 +1,15 @@
-//! Runs every example and worked case that the pages show, each row of their tables of mistakes and of faults, and scripts at
-//! the limits of version 2.
-#![tactic(auto)]
-
-mod limits;
-mod page;
-mod run;
-
-use limits::LIMITS;
-use page::{Example, Fault, Mistake, Page};
-use run::outcome_of;
+//! The examples and worked cases that the pages show, each row of their tables of mistakes and of faults, and scripts at the
+//! limits of version 2.
+use crate::limits::LIMITS;
+use crate::outcome::outcome_of;
+use crate::page::{Example, Fault, Mistake, Page};
 use std::alloc::AllocError;
 use std::thread::Threads;
 use std::{fs, io};
+use sto_cli::NoGate;
 
-// The pages that show runs. The examples that they name lie beside them.
-const PAGES: [&str; 6] = [
+/// The pages that show runs. The examples that they name lie beside them.
+pub const PAGES: [&str; 6] = [
     "language.md",
     "report.md",
     "statuses.md",
@@ -23,8 +18,8 @@ const PAGES: [&str; 6] = [
     "cases.md",
 ];
 
-// The examples, each a script and the report of its run.
-const EXAMPLES: [&str; 13] = [
+/// The examples, each a script and the report of its run.
+pub const EXAMPLES: [&str; 13] = [
     "one_get",
     "transfer",
     "boxes",
@@ -40,8 +35,8 @@ const EXAMPLES: [&str; 13] = [
     "named",
 ];
 
-// An example with a schedule, and the report of its steps.
-const STEPPED: &str = "schedule";
+/// An example with a schedule, and the report of its steps.
+pub const STEPPED: &str = "schedule";
 
 // Whether a run writes what the page shows, with the status where the page shows it, and else with status 0.
 fn is_as_shown<R: Threads + Sync>(
@@ -55,16 +50,22 @@ fn is_as_shown<R: Threads + Sync>(
     let outcome = match command.split_once(" < ") {
         Some((words, file)) => {
             let script = fs::read_to_string(rt, file)?;
-            outcome_of(threads, rt.alloc(), words, script.as_str())?
+            outcome_of(threads, rt.alloc(), words, script.as_str(), &NoGate)?
         }
-        None => outcome_of(threads, rt.alloc(), command, example.script.as_str())?,
+        None => outcome_of(
+            threads,
+            rt.alloc(),
+            command,
+            example.script.as_str(),
+            &NoGate,
+        )?,
     };
-    let output = example.output.as_str();
+    let shown = outcome.shown(rt.alloc())?;
     if asked.is_none() {
-        return Ok(outcome.status == 0 && outcome.written.as_str() == output);
+        return Ok(outcome.status == 0 && shown == example.output);
     }
-    let whole = format!(in rt.alloc(); "{}{}\n", outcome.written, outcome.status)?;
-    Ok(whole.as_str() == output)
+    let whole = format!(in rt.alloc(); "{shown}{}\n", outcome.status)?;
+    Ok(whole == example.output)
 }
 
 // Whether the wrong script is refused with the line of the row, and the right one runs.
@@ -73,9 +74,9 @@ fn is_as_told<R: Threads + Sync>(
     threads: &R,
     mistake: &Mistake,
 ) -> Result<bool, AllocError> {
-    let wrong = outcome_of(threads, rt.alloc(), "run", mistake.wrong.as_str())?;
-    let right = outcome_of(threads, rt.alloc(), "run", mistake.right.as_str())?;
-    let line = wrong.written.as_str().strip_suffix("\n");
+    let wrong = outcome_of(threads, rt.alloc(), "run", mistake.wrong.as_str(), &NoGate)?;
+    let right = outcome_of(threads, rt.alloc(), "run", mistake.right.as_str(), &NoGate)?;
+    let line = wrong.said.as_str().strip_suffix("\n");
     Ok(wrong.status == 3 && line == Some(mistake.says.as_str()) && right.status == 0)
 }
 
@@ -85,8 +86,8 @@ fn is_refused<R: Threads + Sync>(
     threads: &R,
     fault: &Fault,
 ) -> Result<bool, AllocError> {
-    let outcome = outcome_of(threads, rt.alloc(), "run", fault.wrong.as_str())?;
-    let line = outcome.written.as_str().strip_suffix("\n");
+    let outcome = outcome_of(threads, rt.alloc(), "run", fault.wrong.as_str(), &NoGate)?;
+    let line = outcome.said.as_str().strip_suffix("\n");
     Ok(outcome.status == 3 && line == Some(fault.says.as_str()))
 }
 
@@ -125,23 +126,24 @@ fn run_example<R: Threads + Sync>(
 ) -> io::Result<()> {
     let script = fs::read_to_string(rt, format!(in rt.alloc(); "examples/{name}.sto")?)?;
     let report = fs::read_to_string(rt, format!(in rt.alloc(); "examples/{name}.report")?)?;
-    let outcome = outcome_of(threads, rt.alloc(), command, script.as_str())?;
-    if outcome.status != 0 || outcome.written.as_str() != report.as_str() {
+    let outcome = outcome_of(threads, rt.alloc(), command, script.as_str(), &NoGate)?;
+    if outcome.report() != Some(report.as_str()) {
         println!(rt; "examples/{name}.sto: the report is not as written")?;
     }
     Ok(())
 }
 
-fn main(rt: HostRuntime) -> io::Result<()> {
+/// Goes over all pages, examples and limits.
+pub fn go_over_all<R: Threads + Sync>(rt: &HostRuntime, threads: &R) -> io::Result<()> {
     for name in PAGES {
-        go_over(&rt, &rt, name)?;
+        go_over(rt, threads, name)?;
     }
     for name in EXAMPLES {
-        run_example(&rt, &rt, "run", name)?;
+        run_example(rt, threads, "run", name)?;
     }
-    run_example(&rt, &rt, "step", STEPPED)?;
+    run_example(rt, threads, "step", STEPPED)?;
     for limit in LIMITS {
-        if !limit.holds(&rt, rt.alloc())? {
+        if !limit.holds(threads, rt.alloc())? {
             println!(rt; "the limit on {} is another", limit.name)?;
         }
     }

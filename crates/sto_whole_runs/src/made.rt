@@ -1,11 +1,9 @@
-//! What the program makes of one script.
+//! The reports that the program makes of one script.
+use crate::outcome::outcome_of;
 use crate::report::Report;
 use std::alloc::{AllocError, Global};
-use std::str;
 use std::thread::Threads;
-use sto_calls::call;
 use sto_cli::NoGate;
-use sto_part::NoMemory;
 
 /// The report of a script, in both forms.
 #[derive(PartialEq, Drop)]
@@ -52,13 +50,10 @@ pub fn output_of<R: Threads + Sync>(
     command: &str,
     script: &str,
 ) -> Result<Option<String>, AllocError> {
-    let words: Vec<&str> = command.split_whitespace().collect(alloc)?;
-    let called = match call(threads, alloc, words.as_slice(), script, &NoGate) {
-        Ok(called) => called,
-        Err(NoMemory) => return Err(AllocError),
-    };
-    match str::from_utf8(called.out.as_slice()) {
-        Ok(text) if called.status == 0 => Ok(Some(String::from_str(alloc, text)?)),
-        _ => Ok(None),
+    let outcome = outcome_of(threads, alloc, command, script, &NoGate)?;
+    if outcome.status == 0 {
+        Ok(Some(outcome.written))
+    } else {
+        Ok(None)
     }
 }

@@ -1,11 +1,7 @@
-//! Compares the reports of each script of the pages and examples, and of a generated one: those of the script with those of its
-//! upgrade, and each text with what the JSON of the same report says when it is read back.
-#![tactic(auto)]
-
-mod report;
-mod script;
-
-use script::{Reports, output_of};
+//! The reports of each script of the pages and examples, and of a generated one: those of the script compared with
+//! those of its upgrade, and each text with what the JSON of the same report says when it is read back.
+use crate::made::{Reports, output_of};
+use crate::pages::{EXAMPLES, PAGES, STEPPED};
 use std::alloc::AllocError;
 use std::thread::Threads;
 use std::{fs, io};
@@ -13,7 +9,10 @@ use std::{fs, io};
 // Commands that make the same report each time.
 const COMMANDS: [&str; 3] = ["run --threads 1", "step", "step --tries 1"];
 
-/// How much was compared.
+// A script whose transactions disturb each other.
+const CONTENDED: &str = "contended";
+
+// How much was compared.
 #[derive(Drop)]
 struct Tally {
     scripts: u32,
@@ -71,32 +70,63 @@ fn compare<R: Threads + Sync>(
     Ok(())
 }
 
-fn compare_all<R: Threads + Sync>(
+// Compares the reports of the scripts that a page shows.
+fn compare_shown<R: Threads + Sync>(
+    rt: &HostRuntime,
+    threads: &R,
+    page: &str,
+    tally: &mut Tally,
+) -> io::Result<()> {
+    let text = fs::read_to_string(rt, page)?;
+    for (number, block) in text.as_str().split("```sto\n").enumerate() {
+        if let Some((script, _)) = block.split_once("```\n") {
+            let name = format!(in rt.alloc(); "{page}, script {number}")?;
+            compare(rt, threads, name.as_str(), script, tally)?;
+        }
+    }
+    Ok(())
+}
+
+// Compares the reports of an example.
+fn compare_example<R: Threads + Sync>(
+    rt: &HostRuntime,
+    threads: &R,
+    name: &str,
+    tally: &mut Tally,
+) -> io::Result<()> {
+    let path = format!(in rt.alloc(); "examples/{name}.sto")?;
+    let script = fs::read_to_string(rt, path.as_str())?;
+    compare(rt, threads, path.as_str(), script.as_str(), tally)
+}
+
+fn compare_scripts<R: Threads + Sync>(
     rt: &HostRuntime,
     threads: &R,
     tally: &mut Tally,
 ) -> io::Result<()> {
-    let page = fs::read_to_string(rt, "scripts.md")?;
-    for (number, block) in page.as_str().split("```sto\n").enumerate() {
-        if let Some((script, _)) = block.split_once("```\n") {
-            let name = format!(in rt.alloc(); "script {number}")?;
-            compare(rt, threads, name.as_str(), script, tally)?;
-        }
+    for page in PAGES {
+        compare_shown(rt, threads, page, tally)?;
     }
+    for name in EXAMPLES {
+        compare_example(rt, threads, name, tally)?;
+    }
+    compare_example(rt, threads, STEPPED, tally)?;
+    compare_example(rt, threads, CONTENDED, tally)?;
     match output_of(threads, rt.alloc(), "gen 1", "")? {
         Some(script) => compare(rt, threads, "the generated script", script.as_str(), tally),
         None => println!(rt; "there is no generated script"),
     }
 }
 
-fn main(rt: HostRuntime) -> io::Result<()> {
+/// Compares the reports of all scripts.
+pub fn compare_all<R: Threads + Sync>(rt: &HostRuntime, threads: &R) -> io::Result<()> {
     let mut tally = Tally {
         scripts: 0,
         refused: 0,
         entries: 0,
         aborts: 0,
     };
-    compare_all(&rt, &rt, &mut tally)?;
+    compare_scripts(rt, threads, &mut tally)?;
     println!(rt;
         "{} scripts, with {} transactions and {} aborted attempts in their reports; {} are refused",
         tally.scripts, tally.entries, tally.aborts, tally.refused

@@ -1,0 +1,24 @@
+//! Whole runs of the programs: every example and worked case of the pages, the reports of their scripts in both versions and both
+//! forms, runs on workers under gates, replays of what four workers did, and sums that no schedule changes.
+#![tactic(auto)]
+
+mod gates;
+mod held;
+mod limits;
+mod made;
+mod outcome;
+mod page;
+mod pages;
+mod replays;
+mod report;
+mod reports;
+mod sums;
+
+use std::io;
+
+fn main(rt: HostRuntime) -> io::Result<()> {
+    pages::go_over_all(&rt, &rt)?;
+    reports::compare_all(&rt, &rt)?;
+    held::hold_all(&rt, &rt)?;
+    sums::sum_all(&rt, &rt)
+}
