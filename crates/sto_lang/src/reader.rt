@@ -83,6 +83,7 @@ impl Draft {
             objects,
             threads,
             begun,
+            room: _,
             schedule,
             transactions: _,
             weight: _,
