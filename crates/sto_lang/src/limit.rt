@@ -6,11 +6,11 @@ ghost use Rattle.sto_lang.specs.Drafts.{variables_in, with_variable, with_assign
 ghost use Rattle.sto_lang.specs.Shapes.{is_in_ranges, shape_of};
 ghost use Rattle.sto_lang.specs.Limits.{is_full, is_deep, is_heavy, is_in_range, has_range, has_thread, is_turn, is_beyond, most_threads};
 ghost use Rattle.sto_lang.specs.DraftViews.{draft_of};
+ghost use Rattle.sto_lang.specs.Weighed.{begun_weight, ended_weight};
 
 use crate::draft::Draft;
 use crate::name_table::NameTable;
 use crate::range::{in_range, is_in_ranges, natural, shape};
-use crate::turns::own_weight;
 use sto_form::{Declared, Entries, Entry, Form, Name, ThreadWord};
 
 #[tactic(auto, using(crate::proofs::LimitLemmas::widest, crate::proofs::LimitLemmas::small_parts, crate::proofs::LimitLemmas::small_words))]
@@ -33,15 +33,13 @@ fn is_deep(draft: &Draft) -> bool
     }
 }
 
-/// Whether a transaction, or with it the file, weighs too much.
-fn is_heavy(draft: &Draft) -> bool
+/// Whether a transaction of this weight, or with it the file, weighs too much.
+fn is_heavy(draft: &Draft, own: u64) -> bool
+    requires { own ≡ begun_weight (draft_of draft.now) (draft_of draft.now).inside }
     ensures { result ≡ is_heavy (draft_of draft.now) (draft_of draft.now).inside }
 {
     match &draft.begun {
-        Some(begun) => {
-            let own = own_weight(&draft.objects, begun);
-            4096 < own || 131_072 < u64::from(draft.weight) + own
-        }
+        Some(_) => 4096 < own || 131_072 < u64::from(draft.weight) + own,
         None => false,
     }
 }
@@ -116,8 +114,10 @@ fn has_many_variables(draft: &Draft, to: Option<Name<'_>>) -> bool
     }
 }
 
-/// Whether a number is outside the range of its place, or the line brings the file past a limit.
-pub(crate) fn is_beyond(draft: &Draft, form: &Form<'_>) -> bool
+/// Whether a number is outside the range of its place, or the line brings the file past a limit; `own` is the weight
+/// of the transaction that it ends.
+pub(crate) fn is_beyond(draft: &Draft, form: &Form<'_>, own: u64) -> bool
+    requires { own ≡ ended_weight (draft_of draft.now) (form_of form.now) }
     ensures { result ≡ is_beyond (draft_of draft.now) (form_of form.now) }
 {
     match form {
@@ -127,7 +127,7 @@ pub(crate) fn is_beyond(draft: &Draft, form: &Form<'_>) -> bool
         Form::Begin => 10_000 < u64::from(draft.transactions) + 1,
         Form::If { .. } => is_deep(draft),
         Form::Repeat { times } => !in_range(0, 4096, *times) || is_deep(draft),
-        Form::Commit => is_heavy(draft),
+        Form::Commit => is_heavy(draft, own),
         Form::Schedule { entries } => !are_turns(draft.threads.len(), *entries),
         Form::Call { to, .. } => has_many_variables(draft, *to),
         Form::Sum { to, .. } | Form::Diff { to, .. } => has_many_variables(draft, Some(*to)),

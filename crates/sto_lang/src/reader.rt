@@ -12,6 +12,7 @@ ghost use Rattle.sto_lang.specs.DraftViews.{draft_of};
 use crate::draft::Draft;
 use crate::faults::fault_of;
 use crate::objects::number_of;
+use crate::turns::ended_weight;
 use crate::usage::asked;
 use crate::{FaultKind, File, ReadError, ScriptFault};
 use std::alloc::Global;
@@ -68,9 +69,10 @@ impl Draft {
             return Err(fault(number, FaultKind::BadLine));
         };
         let asked = asked(self, &form);
-        match fault_of(self, later, &form, asked) {
+        let own = ended_weight(self, &form);
+        match fault_of(self, later, &form, asked, own) {
             Some(kind) => Err(fault(number, kind)),
-            None => Ok(self.add_form(alloc, number_of(asked), &form)?),
+            None => Ok(self.add_form(alloc, number_of(asked), own, &form)?),
         }
     }
 
@@ -83,6 +85,7 @@ impl Draft {
             objects,
             threads,
             begun,
+            room: _,
             schedule,
             transactions: _,
             weight: _,

@@ -1,27 +1,50 @@
 //! The schedule, and what a transaction weighs.
 ghost use Rattle.std.specs.Prelude.{◌≡◌, ◌+◌, ◌^◌, ◌<◌, length, map, IfOk, true, min};
 ghost use Rattle.std.specs.List.{list_all};
-ghost use Rattle.sto_form.specs.Views.{entries as entries_of};
+ghost use Rattle.sto_form.specs.Views.{entries as entries_of, form as form_of};
 ghost use Rattle.sto_lang.specs.Limits.{is_in_range};
 ghost use Rattle.sto_lang.specs.Drafts.{turns_of, script_of};
 ghost use Rattle.sto_lang.specs.BegunViews.{begun_of};
+ghost use Rattle.sto_lang.specs.DraftViews.{draft_of};
+ghost use Rattle.sto_lang.specs.Weighed.{begun_weight, ended_weight};
 ghost use Rattle.sto_lang.specs.Views.{names_of};
 
 use crate::begun::Begun;
+use crate::draft::Draft;
 use crate::objects::Objects;
 use crate::range::natural;
 use crate::thread::thread_number;
 use crate::weight::weight;
 use crate::{Schedule, Thread, Turns};
 use std::alloc::Global;
-use sto_form::Entries;
+use sto_form::{Entries, Form};
 use sto_part::{List, NoMemory};
 
 /// What a transaction weighs, or the least weight that no transaction may have.
-pub(crate) fn own_weight(objects: &Objects, begun: &Begun) -> u64
+fn own_weight(objects: &Objects, begun: &Begun) -> u64
     ensures { result ≡ min (script_of objects.now (begun_of begun.now)).weight 4097 }
 {
     (1 + weight(objects.in_order(), &begun.statements)).min(4097)
+}
+
+/// What the transaction weighs that the lines stand in.
+fn begun_weight(draft: &Draft) -> u64
+    ensures { result ≡ begun_weight (draft_of draft.now) (draft_of draft.now).inside }
+{
+    match &draft.begun {
+        Some(begun) => own_weight(&draft.objects, begun),
+        None => 0,
+    }
+}
+
+/// What the transaction weighs that a `commit` ends: it is weighed once for all that is asked of its weight.
+pub(crate) fn ended_weight(draft: &Draft, form: &Form<'_>) -> u64
+    ensures { result ≡ ended_weight (draft_of draft.now) (form_of form.now) }
+{
+    match form {
+        Form::Commit => begun_weight(draft),
+        _ => 0,
+    }
 }
 
 /// The entries of a schedule.
