@@ -11,6 +11,7 @@ use crate::one::Work;
 use crate::turn::{Held, Turn};
 use crossbeam_utils::Backoff;
 use std::alloc::Global;
+use std::mem;
 use sto_core::Cells;
 use sto_lang::File;
 use sto_part::NoMemory;
@@ -98,6 +99,8 @@ impl<T: TxType, G: Gate> Work<T> for FileWork<'_, T, G> {
             backoff: Backoff::new(),
         };
         let Transacted { ended, .. } = transaction.run(alloc, cells, &mut watch, records)?;
+        // The gate may hold the worker, so the turn is given back first.
+        mem::drop(watch);
         if ended {
             self.gate.after(thread, position);
         }
