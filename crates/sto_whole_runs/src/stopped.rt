@@ -5,8 +5,8 @@ use std::io;
 use std::thread::Threads;
 use sto_cli::NoGate;
 
-// Before each event of an attempt, of which there are ten where nothing disturbs it, and after the last.
-const STOPS: u32 = 11;
+// How many events an attempt of either thread has where nothing disturbs it.
+const EVENTS: u32 = 10;
 
 // Steps the script, of which thread 0 stops after so many events until thread 1 has made all it has.
 fn stop_after<R: Threads + Sync>(rt: &HostRuntime, threads: &R, events: u32) -> io::Result<()> {
@@ -18,12 +18,12 @@ fn stop_after<R: Threads + Sync>(rt: &HostRuntime, threads: &R, events: u32) -> 
         script.as_str(),
         &NoGate,
     )?;
-    println!(rt; "stopped after {events} events:\n{}", outcome.written)
+    println!(rt; "stopped after event {events}:\n{}", outcome.written)
 }
 
-/// Stops it before each of its events, and after its last one.
+/// Stops it after each of its events.
 pub fn stop_at_each<R: Threads + Sync>(rt: &HostRuntime, threads: &R) -> io::Result<()> {
-    for events in 0..STOPS {
+    for events in 1..EVENTS + 1 {
         stop_after(rt, threads, events)?;
     }
     Ok(())
