@@ -1,6 +1,7 @@
 //! The reports that the program makes of one script.
 use crate::outcome::outcome_of;
-use crate::report::Report;
+use crate::report::text_of;
+use serde_json::Value;
 use std::alloc::{AllocError, Global};
 use std::thread::Threads;
 use sto_cli::NoGate;
@@ -30,12 +31,12 @@ impl Reports {
     }
 
     /// The report as the JSON has it. None where that is not what the text says.
-    pub fn read_back(&self, alloc: Global) -> Result<Option<Report>, AllocError> {
-        let Ok(report) = serde_json::from_str::<Report>(alloc, self.json.as_str()) else {
+    pub fn read_back(&self, alloc: Global) -> Result<Option<Value>, AllocError> {
+        let Ok(report) = serde_json::from_str::<Value>(alloc, self.json.as_str()) else {
             return Ok(None);
         };
-        let text = format!(in alloc; "{report}")?;
-        Ok(if text == self.text {
+        let told = text_of(alloc, &report)?;
+        Ok(if told == self.text {
             Some(report)
         } else {
             None

@@ -1,111 +1,122 @@
-//! A report as it is read back from JSON, and the text that says the same.
-use serde::Deserialize;
-use std::fmt;
+//! A report as its JSON has it, and the text that says the same.
+//!
+//! What stands in the JSON in another place or kind than it should is a `?` of the text, and so is a member too many or too few.
+use serde_json::Value;
+use std::alloc::{AllocError, Global};
+use std::fmt::Write;
 
-/// A whole report.
-#[derive(Drop, Deserialize)]
-#[serde(deny_unknown_fields)]
-pub struct Report {
-    pub aborts: Vec<Abort>,
-    pub journal: Vec<Entry>,
-    pub state: Vec<Object>,
-}
-
-/// A transaction that ended.
-#[derive(Drop, Deserialize)]
-#[serde(deny_unknown_fields)]
-pub struct Entry {
-    end: End,
-    k: u32,
-    position: u32,
-    replies: Vec<String>,
-    thread: String,
-}
-
-#[derive(Drop, Deserialize)]
-#[serde(rename_all = "lowercase")]
-enum End {
-    Commit,
-    Read,
-    Cancel,
-}
-
-/// An attempt that was aborted.
-#[derive(Drop, Deserialize)]
-#[serde(deny_unknown_fields)]
-pub struct Abort {
-    at: u32,
-    by: Option<u32>,
-    cause: Cause,
-    object: String,
-    part: u32,
-    position: u32,
-    saw: Vec<String>,
-    thread: String,
-}
-
-#[derive(Drop, Deserialize)]
-#[serde(rename_all = "lowercase")]
-enum Cause {
-    Locked,
-    Changed,
-}
-
-/// What an object holds at the end.
-#[derive(Drop, Deserialize)]
-#[serde(deny_unknown_fields)]
-pub struct Object {
-    name: String,
-    text: String,
-}
-
-impl fmt::Display for Report {
-    fn fmt<W: fmt::Write>(&self, f: &mut fmt::Formatter<W>) -> fmt::Result {
-        for entry in self.journal.iter() {
-            writeln!(f, "{entry}")?;
-        }
-        for abort in self.aborts.iter() {
-            writeln!(f, "{abort}")?;
-        }
-        writeln!(f, "state")?;
-        for object in self.state.iter() {
-            writeln!(f, "{} = {}", object.name, object.text)?;
-        }
-        Ok(())
+/// What stands in a list of the report: the journal, the aborted attempts, the objects, or the replies of a line.
+pub fn members<'v>(value: &'v Value, name: &str) -> &'v [Value] {
+    match value.get(name) {
+        Some(Value::Array(items)) => items.as_slice(),
+        _ => &[],
     }
 }
 
-impl fmt::Display for Entry {
-    fn fmt<W: fmt::Write>(&self, f: &mut fmt::Formatter<W>) -> fmt::Result {
-        let end = match self.end {
-            End::Commit => "commit",
-            End::Read => "read",
-            End::Cancel => "cancel",
-        };
-        write!(f, "{} {}.{} {end}", self.k, self.thread, self.position)?;
-        for reply in self.replies.iter() {
-            write!(f, " {reply}")?;
-        }
-        Ok(())
+/// The text of a report.
+pub fn text_of(alloc: Global, report: &Value) -> Result<String, AllocError> {
+    let mut text = String::new(alloc);
+    count_members(&mut text, report, 3)?;
+    for entry in members(report, "journal") {
+        push_entry(&mut text, entry)?;
+    }
+    for abort in members(report, "aborts") {
+        push_abort(&mut text, abort)?;
+    }
+    text.push_str("state\n")?;
+    for object in members(report, "state") {
+        push_object(&mut text, object)?;
+    }
+    Ok(text)
+}
+
+fn count_members(text: &mut String, value: &Value, count: usize) -> Result<(), AllocError> {
+    match value.as_object() {
+        Some(object) if object.len() == count => Ok(()),
+        _ => text.push_str("?"),
     }
 }
 
-impl fmt::Display for Abort {
-    fn fmt<W: fmt::Write>(&self, f: &mut fmt::Formatter<W>) -> fmt::Result {
-        write!(
-            f,
-            "abort {}.{} at {} saw",
-            self.thread, self.position, self.at
-        )?;
-        for reply in self.saw.iter() {
-            write!(f, " {reply}")?;
-        }
-        match (&self.cause, self.by) {
-            (Cause::Locked, None) => write!(f, " locked {} {}", self.object, self.part),
-            (Cause::Changed, Some(by)) => {
-                write!(f, " changed {} {} by {by}", self.object, self.part)
-            }
-            _ => write!(f, " for no reason"),
+fn push_word(text: &mut String, value: Option<&Value>) -> Result<(), AllocError> {
+    match value {
+        Some(Value::String(word)) => text.push_str(word.as_str()),
+        _ => text.push_str("?"),
+    }
+}
+
+fn push_number(text: &mut String, value: Option<&Value>) -> Result<(), AllocError> {
+    match value.and_then(|number| number.as_u64()) {
+        Some(number) => write!(text, "{number}"),
+        None => text.push_str("?"),
+    }
+}
+
+// The thread and the position of a transaction.
+fn push_place(text: &mut String, value: &Value) -> Result<(), AllocError> {
+    push_word(text, value.get("thread"))?;
+    text.push_str(".")?;
+    push_number(text, value.get("position"))
+}
+
+fn push_replies(text: &mut String, replies: &[Value]) -> Result<(), AllocError> {
+    for reply in replies {
+        text.push_str(" ")?;
+        push_word(text, Some(reply))?;
+    }
+    Ok(())
+}
+
+// A transaction that ended.
+fn push_entry(text: &mut String, entry: &Value) -> Result<(), AllocError> {
+    count_members(text, entry, 5)?;
+    push_number(text, entry.get("k"))?;
+    text.push_str(" ")?;
+    push_place(text, entry)?;
+    text.push_str(" ")?;
+    push_word(text, entry.get("end"))?;
+    push_replies(text, members(entry, "replies"))?;
+    text.push_str("\n")
+}
+
+// An attempt that was aborted.
+fn push_abort(text: &mut String, abort: &Value) -> Result<(), AllocError> {
+    count_members(text, abort, 8)?;
+    text.push_str("abort ")?;
+    push_place(text, abort)?;
+    text.push_str(" at ")?;
+    push_number(text, abort.get("at"))?;
+    text.push_str(" saw")?;
+    push_replies(text, members(abort, "saw"))?;
+    push_cause(text, abort)?;
+    text.push_str("\n")
+}
+
+// A part that was locked, or one that a transaction of this number had changed.
+fn push_cause(text: &mut String, abort: &Value) -> Result<(), AllocError> {
+    text.push_str(" ")?;
+    push_word(text, abort.get("cause"))?;
+    text.push_str(" ")?;
+    push_word(text, abort.get("object"))?;
+    text.push_str(" ")?;
+    push_number(text, abort.get("part"))?;
+    push_changer(text, abort.get("by"))
+}
+
+fn push_changer(text: &mut String, by: Option<&Value>) -> Result<(), AllocError> {
+    match by {
+        Some(Value::Null) => Ok(()),
+        other => {
+            text.push_str(" by ")?;
+            push_number(text, other)
         }
     }
+}
+
+// What an object holds at the end.
+fn push_object(text: &mut String, object: &Value) -> Result<(), AllocError> {
+    count_members(text, object, 2)?;
+    push_word(text, object.get("name"))?;
+    text.push_str(" = ")?;
+    push_word(text, object.get("text"))?;
+    text.push_str("\n")
 }

@@ -2,6 +2,7 @@
 //! those of its upgrade, and each text with what the JSON of the same report says when it is read back.
 use crate::made::{Reports, output_of};
 use crate::pages::{EXAMPLES, PAGES, STEPPED};
+use crate::report::members;
 use std::alloc::AllocError;
 use std::thread::Threads;
 use std::{fs, io};
@@ -37,8 +38,12 @@ fn fault_of<R: Threads + Sync>(
     let Some(report) = reports.read_back(rt.alloc())? else {
         return Ok(Some("the JSON is not what the text says"));
     };
-    tally.entries = tally.entries.saturating_add(report.journal.len());
-    tally.aborts = tally.aborts.saturating_add(report.aborts.len());
+    tally.entries = tally
+        .entries
+        .saturating_add(members(&report, "journal").len());
+    tally.aborts = tally
+        .aborts
+        .saturating_add(members(&report, "aborts").len());
     if of_upgrade.as_ref() != Some(&reports) {
         return Ok(Some("the upgrade has another report"));
     }
