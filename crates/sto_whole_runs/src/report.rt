@@ -80,7 +80,8 @@ fn push_entry(text: &mut String, entry: &Value) -> Result<(), AllocError> {
 
 // An attempt that was aborted.
 fn push_abort(text: &mut String, abort: &Value) -> Result<(), AllocError> {
-    count_members(text, abort, 8)?;
+    let by = abort.get("by");
+    count_members(text, abort, 7 + usize::from(by.is_some()))?;
     text.push_str("abort ")?;
     push_place(text, abort)?;
     text.push_str(" at ")?;
@@ -88,28 +89,27 @@ fn push_abort(text: &mut String, abort: &Value) -> Result<(), AllocError> {
     text.push_str(" saw")?;
     push_replies(text, members(abort, "saw"))?;
     push_cause(text, abort)?;
+    push_changer(text, by)?;
     text.push_str("\n")
 }
 
-// A part that was locked, or one that a transaction of this number had changed.
+// The part that was locked or had changed.
 fn push_cause(text: &mut String, abort: &Value) -> Result<(), AllocError> {
     text.push_str(" ")?;
     push_word(text, abort.get("cause"))?;
     text.push_str(" ")?;
     push_word(text, abort.get("object"))?;
     text.push_str(" ")?;
-    push_number(text, abort.get("part"))?;
-    push_changer(text, abort.get("by"))
+    push_number(text, abort.get("part"))
 }
 
+// The number of the transaction that had changed it; a part that was locked has none.
 fn push_changer(text: &mut String, by: Option<&Value>) -> Result<(), AllocError> {
-    match by {
-        Some(Value::Null) => Ok(()),
-        other => {
-            text.push_str(" by ")?;
-            push_number(text, other)
-        }
+    if by.is_none() {
+        return Ok(());
     }
+    text.push_str(" by ")?;
+    push_number(text, by)
 }
 
 // What an object holds at the end.
