@@ -1,6 +1,5 @@
 //! One attempt of a transaction.
-ghost use Rattle.std.specs.Prelude.{◌≡◌, ◌<◌, ◌≤◌, ◌+◌, ◌-◌, ◌^◌, length, drop, slice_index_or, [], ℕ, ℤ, List, map, pos, true, false, OnOk, OnErr, IfOk, IsTrue, ◌↔◌};
-ghost use Rattle.sto_model.specs.Told.{told};
+ghost use Rattle.std.specs.Prelude.{◌≡◌, ◌<◌, ◌≤◌, ◌+◌, ◌-◌, ◌^◌, length, drop, slice_index_or, [], ℕ, ℤ, List, map, true, false, Ok, OnOk, OnErr, IfOk, IsTrue, ◌↔◌};
 ghost use Rattle.sto_model.specs.declared.call.Call.{Call};
 ghost use Rattle.sto_core.specs.Event.{Start, Open, Word, Close, Renew, Recheck};
 ghost use Rattle.sto_core.specs.declared.view.View.{View};
@@ -9,13 +8,12 @@ ghost use Rattle.sto_item.specs.Observed.{Watched, IsObserved};
 ghost use Rattle.sto_item.specs.Watched.{watched};
 ghost use Rattle.sto_type.specs.Known.{IsPartOf};
 ghost use Rattle.sto_course.specs.Sights.{words_in, IsTrueIn, AllTrueIn};
-ghost use Rattle.sto_core.specs.Allowed.{IsIdle};
 ghost use Rattle.sto_course.specs.Course.{IsOnCourse};
-ghost use Rattle.sto_course.specs.Answers.{OneEvent, IsPrefix};
+ghost use Rattle.sto_course.specs.Answers.{OneEvent};
 ghost use Rattle.sto_course.specs.Bounds.{bound, words_of, left_extending, left_renewing, events_left};
-ghost use Rattle.sto_course.specs.Growing.{HasHeard};
 ghost use Rattle.sto_course.specs.Reasons.{IsCaused};
-ghost use Rattle.sto_course.specs.Standing.{Goes, HasBegun, IsFirst, IsUnaborted, KeepsRenewal, Moves, next_event, IsAsOf, Fits, Renews, Spans, IsRenewed, Turned, IsLeft};
+ghost use Rattle.sto_course.specs.Standing.{HasBegun, IsFirst, IsUnaborted, IsRenewed};
+ghost use Rattle.sto_attempt.specs.Attempts.{IsCourseOf, IsOwnCourse, IsUnderWay, Steps, FitsAt, SpansAt, HasTurned, HasGrown, left_of, HasFewer, event_of, IsPrefixOf, HasStopped, heard};
 
 use std::alloc::Global;
 use std::mem;
@@ -98,35 +96,11 @@ impl<'t, T: TxType, B: Body> Attempt<'t, T, B> {
     /// The first step asks for an idle pass with a draw left; each later one for a last turn `More` and the pass of the earlier
     /// steps, with its view as they left it. After `NoMemory` the attempt has ended: the pass holds nothing and may start again.
     pub fn step<C: Cells<T>>(&mut self, alloc: Global, cells: &mut C) -> Result<Turn, NoMemory>
-        requires goes { Goes (T.meaning self.old.course.ty.now) T.valid (T.sizes self.old.course.ty.now) (B.script self.old.course.body) self.old.at self.old.stand self.old.words.items self.old.renewal self.old.course.base.items self.old.course.set.items self.old.course.set.updates (map told self.old.course.replies.items) (C.view cells.old) }
-        requires course { IsOnCourse (T.meaning self.old.course.ty.now) (B.then self.old.course.body) (B.script self.old.course.body) (B.left self.old.course.body) (B.may_ask self.old.course.body) self.old.course.base.items self.old.course.set self.old.course.cache self.old.course.replies.items }
-        ensures course { OnOk result (IsOnCourse (T.meaning self.old.course.ty.now) (B.then self.new.course.body) (B.script self.old.course.body) (B.left self.new.course.body) (B.may_ask self.new.course.body) self.new.course.base.items self.new.course.set self.new.course.cache self.new.course.replies.items) }
-        ensures turned { IfOk result (λ turn. Turned (T.meaning self.old.course.ty.now) T.valid (T.sizes self.old.course.ty.now) (B.script self.old.course.body) self.new.at self.new.stand self.new.words.items self.new.renewal self.new.course.base.items self.new.course.set.items self.new.course.set.updates (map told self.new.course.replies.items) (C.view cells.new) turn) }
-
-        // With one pass no attempt is aborted, and none extends.
-        ensures alone { C.passes cells.old ≡ 1 → IsFirst self.old.stand → IfOk result (λ turn. IsFirst self.new.stand × IsUnaborted turn) }
-
-        // Exactly one event, the one that the attempt stands before.
-        ensures event { OneEvent (λ e. e ≡ next_event (T.meaning self.old.course.ty.now).widths self.old.stand self.old.words.items) T.valid (C.passes cells.old) (C.view cells.old) (C.view cells.new) }
-
+        requires { IsUnderWay T.TxType B.Body self.old.stand self.old (C.view cells.old) }
+        ensures steps { Steps T.TxType B.Body (C.passes cells.old) self.old.stand (event_of T.TxType B.Body self.old)
+            self.old self.new (C.view cells.old) (C.view cells.new) result }
         // The replies are the first ones of the body's serial run on contents that have the claims.
-        ensures prefix { IsPrefix (T.meaning self.old.course.ty.now) (B.script self.old.course.body) (C.view cells.new) self.new.at (map told self.new.course.replies.items) }
-
-        // The items and updates are those of the calls that were answered, and no others.
-        ensures grown { OnOk result (HasHeard (T.meaning self.old.course.ty.now) (B.script self.old.course.body) (words_in self.new.course.base.items) (map told self.old.course.replies.items) self.old.course.set (map told self.new.course.replies.items) self.new.course.set) }
-
-        // A change that ends the attempt has a reason.
-        ensures reason { IfOk result (λ turn. IsCaused (next_event (T.meaning self.old.course.ty.now).widths self.old.stand self.old.words.items) self.new.course.set.items (C.view cells.new) self.old.renewal turn) }
-        ensures renewed { OnOk result (KeepsRenewal self.old.stand (C.view cells.new) self.old.renewal (map told self.old.course.replies.items) self.new.renewal (map told self.new.course.replies.items)) }
-
-        // The first step takes the number of the view, and no later one lowers it.
-        ensures moves { OnOk result (Moves self.old.stand self.old.at self.new.stand self.new.at (C.view cells.new)) }
-
-        // There are fewer events left.
-        ensures left { OnOk result (events_left (B.left self.new.course.body) (T.meaning self.old.course.ty.now).widths self.new.stand self.new.words.items self.new.renewal self.new.course.base.items < events_left (B.left self.old.course.body) (T.meaning self.old.course.ty.now).widths self.old.stand self.old.words.items self.old.renewal self.old.course.base.items) }
-        ensures err { OnErr result (IsLeft (C.view cells.new)) }
-        ensures script { B.script self.new.course.body ≡ B.script self.old.course.body }
-        ensures ty { self.new.course.ty ≡ self.old.course.ty }
+        ensures prefix { IsPrefixOf T.TxType B.Body self.old self.new (C.view cells.new) }
         ensures same { C.same cells.old cells.new }
     {
         match self.stand {
@@ -155,21 +129,16 @@ impl<'t, T: TxType, B: Body> Attempt<'t, T, B> {
 
     // Loads the clock.
     fn begin<C: Cells<T>>(&mut self, alloc: Global, cells: &mut C) -> Result<Turn, NoMemory>
-        requires idle { IsIdle (C.view cells.old).phase }
-        requires sizes { (C.view cells.old).sizes ≡ T.sizes self.old.course.ty.now }
-        requires draws { 0 < (C.view cells.old).draws }
-        requires fresh { self.old.renewal.extended ≡ false }
-        requires none { self.old.course.base.items ≡ [] }
-        requires course { IsOnCourse (T.meaning self.old.course.ty.now) (B.then self.old.course.body) (B.script self.old.course.body) (B.left self.old.course.body) (B.may_ask self.old.course.body) self.old.course.base.items self.old.course.set self.old.course.cache self.old.course.replies.items }
-        ensures course { OnOk result (IsOnCourse (T.meaning self.old.course.ty.now) (B.then self.new.course.body) (B.script self.old.course.body) (B.left self.new.course.body) (B.may_ask self.new.course.body) self.new.course.base.items self.new.course.set self.new.course.cache self.new.course.replies.items) }
-        ensures turned { IfOk result (λ turn. Turned (T.meaning self.old.course.ty.now) T.valid (T.sizes self.old.course.ty.now) (B.script self.old.course.body) self.new.at self.new.stand self.new.words.items self.new.renewal self.new.course.base.items self.new.course.set.items self.new.course.set.updates (map told self.new.course.replies.items) (C.view cells.new) turn) }
-        ensures grown { OnOk result (HasHeard (T.meaning self.old.course.ty.now) (B.script self.old.course.body) (words_in self.new.course.base.items) (map told self.old.course.replies.items) self.old.course.set (map told self.new.course.replies.items) self.new.course.set) }
+        requires { IsUnderWay T.TxType B.Body Stand.Unstarted self.old (C.view cells.old) }
+        ensures course { OnOk result (IsCourseOf T.TxType B.Body self.old self.new) }
+        ensures turned { IfOk result (HasTurned T.TxType B.Body self.old self.new (C.view cells.new)) }
+        ensures grown { OnOk result (HasGrown T.TxType B.Body self.old self.new) }
         ensures renewal { self.new.renewal ≡ self.old.renewal }
         ensures moves { OnOk result (HasBegun self.new.stand × (self.new.at ≡ (C.view cells.new).at)) }
-        ensures left { OnOk result (events_left (B.left self.new.course.body) (T.meaning self.old.course.ty.now).widths self.new.stand self.new.words.items self.new.renewal self.new.course.base.items < events_left (B.left self.old.course.body) (T.meaning self.old.course.ty.now).widths Stand.Unstarted self.old.words.items self.old.renewal self.old.course.base.items) }
+        ensures left { OnOk result (HasFewer T.TxType B.Body Stand.Unstarted self.old self.new) }
         ensures alone { IfOk result (λ turn. IsFirst self.new.stand × IsUnaborted turn) }
         ensures event { OneEvent (λ e. e ≡ Start) T.valid (C.passes cells.old) (C.view cells.old) (C.view cells.new) }
-        ensures err { OnErr result (IsLeft (C.view cells.new) × IsPrefix (T.meaning self.old.course.ty.now) (B.script self.old.course.body) (C.view cells.new) self.new.at (map told self.new.course.replies.items)) }
+        ensures err { OnErr result (HasStopped T.TxType B.Body self.old self.new (C.view cells.new)) }
         ensures script { B.script self.new.course.body ≡ B.script self.old.course.body }
         ensures ty { self.new.course.ty ≡ self.old.course.ty }
         ensures same { C.same cells.old cells.new }
@@ -184,17 +153,9 @@ impl<'t, T: TxType, B: Body> Attempt<'t, T, B> {
 
     // Begins the read of a needed part.
     fn open<C: Cells<T>>(&mut self, alloc: Global, cells: &mut C, part: u32) -> Turn
-        requires fits { Fits (T.meaning self.old.course.ty.now) T.valid (T.sizes self.old.course.ty.now) (B.script self.old.course.body) self.old.at (Stand.Opening part) self.old.words.items self.old.course.base.items self.old.course.set.updates (map told self.old.course.replies.items) (C.view cells.old) }
-        requires as_of { IsAsOf self.old.at self.old.renewal }
-        requires course { IsOnCourse (T.meaning self.old.course.ty.now) (B.then self.old.course.body) (B.script self.old.course.body) (B.left self.old.course.body) (B.may_ask self.old.course.body) self.old.course.base.items self.old.course.set self.old.course.cache self.old.course.replies.items }
-        ensures turned { Turned (T.meaning self.old.course.ty.now) T.valid (T.sizes self.old.course.ty.now) (B.script self.old.course.body) self.new.at self.new.stand self.new.words.items self.new.renewal self.new.course.base.items self.new.course.set.items self.new.course.set.updates (map told self.new.course.replies.items) (C.view cells.new) result }
-        ensures reason { IsCaused (Open part) self.new.course.set.items (C.view cells.new) self.old.renewal result }
-        ensures renewal { self.new.renewal ≡ self.old.renewal }
-        ensures moves { HasBegun self.new.stand × (self.new.at ≡ self.old.at) }
-        ensures left { events_left (B.left self.new.course.body) (T.meaning self.old.course.ty.now).widths self.new.stand self.new.words.items self.new.renewal self.new.course.base.items < events_left (B.left self.old.course.body) (T.meaning self.old.course.ty.now).widths (Stand.Opening part) self.old.words.items self.old.renewal self.old.course.base.items }
-        ensures alone { C.passes cells.old ≡ 1 → IsFirst self.new.stand × IsUnaborted result }
-        ensures event { OneEvent (λ e. e ≡ Open part) T.valid (C.passes cells.old) (C.view cells.old) (C.view cells.new) }
-        ensures course { self.new.course ≡ self.old.course }
+        requires { IsUnderWay T.TxType B.Body (Stand.Opening part) self.old (C.view cells.old) }
+        ensures steps { Steps T.TxType B.Body (C.passes cells.old) (Stand.Opening part) (Open part)
+            self.old self.new (C.view cells.old) (C.view cells.new) (Ok result) }
         ensures same { C.same cells.old cells.new }
     {
         let found = cells.open(part);
@@ -222,20 +183,18 @@ impl<'t, T: TxType, B: Body> Attempt<'t, T, B> {
 
     // Reads the next word of the part.
     fn word<C: Cells<T>>(&mut self, cells: &mut C, part: u32, ticket: u64) -> Result<Turn, NoMemory>
-        requires fits { Fits (T.meaning self.old.course.ty.now) T.valid (T.sizes self.old.course.ty.now) (B.script self.old.course.body) self.old.at (Stand.Reading part ticket) self.old.words.items self.old.course.base.items self.old.course.set.updates (map told self.old.course.replies.items) (C.view cells.old) }
-        requires as_of { IsAsOf self.old.at self.old.renewal }
+        requires before { IsUnderWay T.TxType B.Body (Stand.Reading part ticket) self.old (C.view cells.old) }
         requires stand { self.old.stand ≡ Stand.Reading part ticket }
         requires more { length self.old.words.items < slice_index_or (T.meaning self.old.course.ty.now).widths part 0 }
-        requires course { IsOnCourse (T.meaning self.old.course.ty.now) (B.then self.old.course.body) (B.script self.old.course.body) (B.left self.old.course.body) (B.may_ask self.old.course.body) self.old.course.base.items self.old.course.set self.old.course.cache self.old.course.replies.items }
         requires few { length self.old.words.items + 1 < 2 ^ 32 }
-        ensures turned { IfOk result (λ turn. Turned (T.meaning self.old.course.ty.now) T.valid (T.sizes self.old.course.ty.now) (B.script self.old.course.body) self.new.at self.new.stand self.new.words.items self.new.renewal self.new.course.base.items self.new.course.set.items self.new.course.set.updates (map told self.new.course.replies.items) (C.view cells.new) turn) }
+        ensures turned { IfOk result (HasTurned T.TxType B.Body self.old self.new (C.view cells.new)) }
         ensures renewal { self.new.renewal ≡ self.old.renewal }
         ensures moves { OnOk result (HasBegun self.new.stand × (self.new.at ≡ self.old.at)) }
-        ensures left { OnOk result (events_left (B.left self.new.course.body) (T.meaning self.old.course.ty.now).widths self.new.stand self.new.words.items self.new.renewal self.new.course.base.items < events_left (B.left self.old.course.body) (T.meaning self.old.course.ty.now).widths (Stand.Reading part ticket) self.old.words.items self.old.renewal self.old.course.base.items) }
+        ensures left { OnOk result (HasFewer T.TxType B.Body (Stand.Reading part ticket) self.old self.new) }
         ensures alone { IfOk result (λ turn. IsFirst self.new.stand × IsUnaborted turn) }
         ensures event { OneEvent (λ e. e ≡ Word part (length self.old.words.items)) T.valid (C.passes cells.old) (C.view cells.old) (C.view cells.new) }
         ensures course { self.new.course ≡ self.old.course }
-        ensures err { OnErr result (IsLeft (C.view cells.new) × IsPrefix (T.meaning self.old.course.ty.now) (B.script self.old.course.body) (C.view cells.new) self.new.at (map told self.new.course.replies.items)) }
+        ensures err { OnErr result (HasStopped T.TxType B.Body self.old self.new (C.view cells.new)) }
         ensures same { C.same cells.old cells.new }
     {
         let value = cells.word(part, self.words.len());
@@ -251,20 +210,18 @@ impl<'t, T: TxType, B: Body> Attempt<'t, T, B> {
         part: u32,
         ticket: u64,
     ) -> Result<Turn, NoMemory>
-        requires fits { Fits (T.meaning self.old.course.ty.now) T.valid (T.sizes self.old.course.ty.now) (B.script self.old.course.body) self.old.at (Stand.Reading part ticket) self.old.words.items self.old.course.base.items self.old.course.set.updates (map told self.old.course.replies.items) (C.view cells.old) }
-        requires as_of { IsAsOf self.old.at self.old.renewal }
+        requires before { IsUnderWay T.TxType B.Body (Stand.Reading part ticket) self.old (C.view cells.old) }
         requires all { length self.old.words.items ≡ slice_index_or (T.meaning self.old.course.ty.now).widths part 0 }
-        requires course { IsOnCourse (T.meaning self.old.course.ty.now) (B.then self.old.course.body) (B.script self.old.course.body) (B.left self.old.course.body) (B.may_ask self.old.course.body) self.old.course.base.items self.old.course.set self.old.course.cache self.old.course.replies.items }
-        ensures course { OnOk result (IsOnCourse (T.meaning self.old.course.ty.now) (B.then self.new.course.body) (B.script self.old.course.body) (B.left self.new.course.body) (B.may_ask self.new.course.body) self.new.course.base.items self.new.course.set self.new.course.cache self.new.course.replies.items) }
-        ensures turned { IfOk result (λ turn. Turned (T.meaning self.old.course.ty.now) T.valid (T.sizes self.old.course.ty.now) (B.script self.old.course.body) self.new.at self.new.stand self.new.words.items self.new.renewal self.new.course.base.items self.new.course.set.items self.new.course.set.updates (map told self.new.course.replies.items) (C.view cells.new) turn) }
+        ensures course { OnOk result (IsCourseOf T.TxType B.Body self.old self.new) }
+        ensures turned { IfOk result (HasTurned T.TxType B.Body self.old self.new (C.view cells.new)) }
         ensures reason { IfOk result (λ turn. IsCaused (Close part) self.new.course.set.items (C.view cells.new) self.old.renewal turn) }
-        ensures grown { OnOk result (HasHeard (T.meaning self.old.course.ty.now) (B.script self.old.course.body) (words_in self.new.course.base.items) (map told self.old.course.replies.items) self.old.course.set (map told self.new.course.replies.items) self.new.course.set) }
-        ensures renewed { OnOk result ((self.new.renewal.bound ≡ self.old.renewal.bound) × (self.new.renewal.extended ≡ true → (self.old.renewal.extended ≡ true) × ((map told self.new.course.replies.items) ≡ (map told self.old.course.replies.items)))) }
+        ensures grown { OnOk result (HasGrown T.TxType B.Body self.old self.new) }
+        ensures renewed { OnOk result ((self.new.renewal.bound ≡ self.old.renewal.bound) × (self.new.renewal.extended ≡ true → (self.old.renewal.extended ≡ true) × (heard self.new ≡ heard self.old))) }
         ensures moves { OnOk result (HasBegun self.new.stand × (self.new.at ≡ self.old.at)) }
-        ensures left { OnOk result (events_left (B.left self.new.course.body) (T.meaning self.old.course.ty.now).widths self.new.stand self.new.words.items self.new.renewal self.new.course.base.items < events_left (B.left self.old.course.body) (T.meaning self.old.course.ty.now).widths (Stand.Reading part ticket) self.old.words.items self.old.renewal self.old.course.base.items) }
+        ensures left { OnOk result (HasFewer T.TxType B.Body (Stand.Reading part ticket) self.old self.new) }
         ensures alone { C.passes cells.old ≡ 1 → IfOk result (λ turn. IsFirst self.new.stand × IsUnaborted turn) }
         ensures event { OneEvent (λ e. e ≡ Close part) T.valid (C.passes cells.old) (C.view cells.old) (C.view cells.new) }
-        ensures err { OnErr result (IsLeft (C.view cells.new) × IsPrefix (T.meaning self.old.course.ty.now) (B.script self.old.course.body) (C.view cells.new) self.new.at (map told self.new.course.replies.items)) }
+        ensures err { OnErr result (HasStopped T.TxType B.Body self.old self.new (C.view cells.new)) }
         ensures script { B.script self.new.course.body ≡ B.script self.old.course.body }
         ensures ty { self.new.course.ty ≡ self.old.course.ty }
         ensures same { C.same cells.old cells.new }
@@ -303,21 +260,21 @@ impl<'t, T: TxType, B: Body> Attempt<'t, T, B> {
 
     // To the next part that is read anew; where there is none, the needed call is planned on these parts.
     fn advance(&mut self, alloc: Global) -> Result<Turn, NoMemory>
-        requires course { IsOnCourse (T.meaning self.old.course.ty.now) (B.then self.old.course.body) (B.script self.old.course.body) (B.left self.old.course.body) (B.may_ask self.old.course.body) self.old.course.base.items self.old.course.set self.old.course.cache self.old.course.replies.items }
+        requires course { IsOwnCourse T.TxType B.Body self.old }
         requires observed { IsObserved self.old.course.set.items (map watched self.old.renewal.watches.items) }
         requires extended { self.old.renewal.extended ≡ true }
         requires renewed { (left : List Watched) × IsRenewed (length (T.meaning self.old.course.ty.now).widths) (words_in self.old.course.base.items) self.old.renewal.fresh.items (map watched self.old.renewal.watches.items) left }
         requires bound { self.old.at ≤ self.old.renewal.bound }
         requires some { (d : List (List ℤ)) × (T.meaning self.old.course.ty.now).valid d × IsPartOf (words_in self.old.course.base.items) d }
         requires some_new { (d : List (List ℤ)) × (T.meaning self.old.course.ty.now).valid d × IsPartOf (words_in self.old.renewal.fresh.items) d }
-        ensures course { OnOk result (IsOnCourse (T.meaning self.old.course.ty.now) (B.then self.new.course.body) (B.script self.old.course.body) (B.left self.new.course.body) (B.may_ask self.new.course.body) self.new.course.base.items self.new.course.set self.new.course.cache self.new.course.replies.items) }
-        ensures turned { (v : View) → Spans (T.meaning self.old.course.ty.now) T.valid (T.sizes self.old.course.ty.now) self.old.at self.old.renewal.bound self.old.course.base.items self.old.renewal.fresh.items v → v.phase ≡ Phase.Reading → IfOk result (λ turn. Turned (T.meaning self.old.course.ty.now) T.valid (T.sizes self.old.course.ty.now) (B.script self.old.course.body) self.new.at self.new.stand self.new.words.items self.new.renewal self.new.course.base.items self.new.course.set.items self.new.course.set.updates (map told self.new.course.replies.items) v turn) }
+        ensures course { OnOk result (IsCourseOf T.TxType B.Body self.old self.new) }
+        ensures turned { (v : View) → SpansAt T.TxType B.Body self.old v → v.phase ≡ Phase.Reading → IfOk result (HasTurned T.TxType B.Body self.old self.new v) }
         ensures unaborted { IfOk result IsUnaborted }
-        ensures grown { OnOk result (HasHeard (T.meaning self.old.course.ty.now) (B.script self.old.course.body) (words_in self.new.course.base.items) (map told self.old.course.replies.items) self.old.course.set (map told self.new.course.replies.items) self.new.course.set) }
-        ensures renewed { OnOk result ((self.new.renewal.bound ≡ self.old.renewal.bound) × (self.new.renewal.extended ≡ true → (map told self.new.course.replies.items) ≡ (map told self.old.course.replies.items))) }
+        ensures grown { OnOk result (HasGrown T.TxType B.Body self.old self.new) }
+        ensures renewed { OnOk result ((self.new.renewal.bound ≡ self.old.renewal.bound) × (self.new.renewal.extended ≡ true → heard self.new ≡ heard self.old)) }
         ensures moves { OnOk result (HasBegun self.new.stand × (self.old.at ≤ self.new.at)) }
-        ensures left { OnOk result (events_left (B.left self.new.course.body) (T.meaning self.old.course.ty.now).widths self.new.stand self.new.words.items self.new.renewal self.new.course.base.items < 1 + left_extending (B.left self.old.course.body - 1) (T.meaning self.old.course.ty.now).widths (drop (length self.old.renewal.fresh.items) (map watched self.old.renewal.watches.items))) }
-        ensures stopped { (v : View) → Spans (T.meaning self.old.course.ty.now) T.valid (T.sizes self.old.course.ty.now) self.old.at self.old.renewal.bound self.old.course.base.items self.old.renewal.fresh.items v → OnErr result (IsPrefix (T.meaning self.old.course.ty.now) (B.script self.old.course.body) v self.new.at (map told self.new.course.replies.items)) }
+        ensures left { OnOk result (left_of T.TxType B.Body self.old self.new.stand self.new < 1 + left_extending (B.left self.old.course.body - 1) (T.meaning self.old.course.ty.now).widths (drop (length self.old.renewal.fresh.items) (map watched self.old.renewal.watches.items))) }
+        ensures stopped { (v : View) → SpansAt T.TxType B.Body self.old v → OnErr result (IsPrefixOf T.TxType B.Body self.old self.new v) }
         ensures script { B.script self.new.course.body ≡ B.script self.old.course.body }
         ensures ty { self.new.course.ty ≡ self.old.course.ty }
     {
@@ -345,17 +302,17 @@ impl<'t, T: TxType, B: Body> Attempt<'t, T, B> {
 
     // Loads the clock again, and begins to read anew what was observed.
     fn renew<C: Cells<T>>(&mut self, alloc: Global, cells: &mut C) -> Result<Turn, NoMemory>
-        requires fits { (p : ℕ) × (t : ℕ) × Fits (T.meaning self.old.course.ty.now) T.valid (T.sizes self.old.course.ty.now) (B.script self.old.course.body) self.old.at (Stand.Renewing p t) self.old.words.items self.old.course.base.items self.old.course.set.updates (map told self.old.course.replies.items) (C.view cells.old) }
-        requires course { IsOnCourse (T.meaning self.old.course.ty.now) (B.then self.old.course.body) (B.script self.old.course.body) (B.left self.old.course.body) (B.may_ask self.old.course.body) self.old.course.base.items self.old.course.set self.old.course.cache self.old.course.replies.items }
-        ensures course { OnOk result (IsOnCourse (T.meaning self.old.course.ty.now) (B.then self.new.course.body) (B.script self.old.course.body) (B.left self.new.course.body) (B.may_ask self.new.course.body) self.new.course.base.items self.new.course.set self.new.course.cache self.new.course.replies.items) }
-        ensures turned { IfOk result (λ turn. Turned (T.meaning self.old.course.ty.now) T.valid (T.sizes self.old.course.ty.now) (B.script self.old.course.body) self.new.at self.new.stand self.new.words.items self.new.renewal self.new.course.base.items self.new.course.set.items self.new.course.set.updates (map told self.new.course.replies.items) (C.view cells.new) turn) }
+        requires fits { (p : ℕ) × (t : ℕ) × FitsAt T.TxType B.Body (Stand.Renewing p t) self.old (C.view cells.old) }
+        requires course { IsOwnCourse T.TxType B.Body self.old }
+        ensures course { OnOk result (IsCourseOf T.TxType B.Body self.old self.new) }
+        ensures turned { IfOk result (HasTurned T.TxType B.Body self.old self.new (C.view cells.new)) }
         ensures unaborted { IfOk result IsUnaborted }
-        ensures grown { OnOk result (HasHeard (T.meaning self.old.course.ty.now) (B.script self.old.course.body) (words_in self.new.course.base.items) (map told self.old.course.replies.items) self.old.course.set (map told self.new.course.replies.items) self.new.course.set) }
-        ensures renewed { OnOk result ((self.new.renewal.bound ≡ (C.view cells.new).at) × (self.new.renewal.extended ≡ true → (map told self.new.course.replies.items) ≡ (map told self.old.course.replies.items))) }
+        ensures grown { OnOk result (HasGrown T.TxType B.Body self.old self.new) }
+        ensures renewed { OnOk result ((self.new.renewal.bound ≡ (C.view cells.new).at) × (self.new.renewal.extended ≡ true → heard self.new ≡ heard self.old)) }
         ensures moves { OnOk result (HasBegun self.new.stand × (self.old.at ≤ self.new.at)) }
-        ensures left { OnOk result (events_left (B.left self.new.course.body) (T.meaning self.old.course.ty.now).widths self.new.stand self.new.words.items self.new.renewal self.new.course.base.items < left_renewing (B.left self.old.course.body - 1) (T.meaning self.old.course.ty.now).widths) }
+        ensures left { OnOk result (left_of T.TxType B.Body self.old self.new.stand self.new < left_renewing (B.left self.old.course.body - 1) (T.meaning self.old.course.ty.now).widths) }
         ensures event { OneEvent (λ e. e ≡ Renew) T.valid (C.passes cells.old) (C.view cells.old) (C.view cells.new) }
-        ensures err { OnErr result (IsLeft (C.view cells.new) × IsPrefix (T.meaning self.old.course.ty.now) (B.script self.old.course.body) (C.view cells.new) self.new.at (map told self.new.course.replies.items)) }
+        ensures err { OnErr result (HasStopped T.TxType B.Body self.old self.new (C.view cells.new)) }
         ensures script { B.script self.new.course.body ≡ B.script self.old.course.body }
         ensures ty { self.new.course.ty ≡ self.old.course.ty }
         ensures same { C.same cells.old cells.new }
@@ -378,17 +335,16 @@ impl<'t, T: TxType, B: Body> Attempt<'t, T, B> {
         cells: &mut C,
         part: u32,
     ) -> Result<Turn, NoMemory>
-        requires goes { Renews (T.meaning self.old.course.ty.now) T.valid (T.sizes self.old.course.ty.now) self.old.at (Stand.Rechecking part) self.old.words.items self.old.renewal self.old.course.base.items self.old.course.set.items (C.view cells.old) }
-        requires course { IsOnCourse (T.meaning self.old.course.ty.now) (B.then self.old.course.body) (B.script self.old.course.body) (B.left self.old.course.body) (B.may_ask self.old.course.body) self.old.course.base.items self.old.course.set self.old.course.cache self.old.course.replies.items }
-        ensures course { OnOk result (IsOnCourse (T.meaning self.old.course.ty.now) (B.then self.new.course.body) (B.script self.old.course.body) (B.left self.new.course.body) (B.may_ask self.new.course.body) self.new.course.base.items self.new.course.set self.new.course.cache self.new.course.replies.items) }
-        ensures turned { IfOk result (λ turn. Turned (T.meaning self.old.course.ty.now) T.valid (T.sizes self.old.course.ty.now) (B.script self.old.course.body) self.new.at self.new.stand self.new.words.items self.new.renewal self.new.course.base.items self.new.course.set.items self.new.course.set.updates (map told self.new.course.replies.items) (C.view cells.new) turn) }
+        requires { IsUnderWay T.TxType B.Body (Stand.Rechecking part) self.old (C.view cells.old) }
+        ensures course { OnOk result (IsCourseOf T.TxType B.Body self.old self.new) }
+        ensures turned { IfOk result (HasTurned T.TxType B.Body self.old self.new (C.view cells.new)) }
         ensures reason { IfOk result (λ turn. IsCaused (Recheck part) self.new.course.set.items (C.view cells.new) self.old.renewal turn) }
-        ensures grown { OnOk result (HasHeard (T.meaning self.old.course.ty.now) (B.script self.old.course.body) (words_in self.new.course.base.items) (map told self.old.course.replies.items) self.old.course.set (map told self.new.course.replies.items) self.new.course.set) }
-        ensures renewed { OnOk result ((self.new.renewal.bound ≡ self.old.renewal.bound) × (self.new.renewal.extended ≡ true → (self.old.renewal.extended ≡ true) × ((map told self.new.course.replies.items) ≡ (map told self.old.course.replies.items)))) }
+        ensures grown { OnOk result (HasGrown T.TxType B.Body self.old self.new) }
+        ensures renewed { OnOk result ((self.new.renewal.bound ≡ self.old.renewal.bound) × (self.new.renewal.extended ≡ true → (self.old.renewal.extended ≡ true) × (heard self.new ≡ heard self.old))) }
         ensures moves { OnOk result (HasBegun self.new.stand × (self.old.at ≤ self.new.at)) }
-        ensures left { OnOk result (events_left (B.left self.new.course.body) (T.meaning self.old.course.ty.now).widths self.new.stand self.new.words.items self.new.renewal self.new.course.base.items < events_left (B.left self.old.course.body) (T.meaning self.old.course.ty.now).widths (Stand.Rechecking part) self.old.words.items self.old.renewal self.old.course.base.items) }
+        ensures left { OnOk result (HasFewer T.TxType B.Body (Stand.Rechecking part) self.old self.new) }
         ensures event { OneEvent (λ e. e ≡ Recheck part) T.valid (C.passes cells.old) (C.view cells.old) (C.view cells.new) }
-        ensures err { OnErr result (IsLeft (C.view cells.new) × IsPrefix (T.meaning self.old.course.ty.now) (B.script self.old.course.body) (C.view cells.new) self.new.at (map told self.new.course.replies.items)) }
+        ensures err { OnErr result (HasStopped T.TxType B.Body self.old self.new (C.view cells.new)) }
         ensures script { B.script self.new.course.body ≡ B.script self.old.course.body }
         ensures ty { self.new.course.ty ≡ self.old.course.ty }
         ensures same { C.same cells.old cells.new }
@@ -426,15 +382,9 @@ impl<'t, T: TxType, B: Body> Attempt<'t, T, B> {
 
     // Begins the new read of a part that has predicates only.
     fn reopen<C: Cells<T>>(&mut self, alloc: Global, cells: &mut C, part: u32) -> Turn
-        requires goes { Renews (T.meaning self.old.course.ty.now) T.valid (T.sizes self.old.course.ty.now) self.old.at (Stand.Reopening part) self.old.words.items self.old.renewal self.old.course.base.items self.old.course.set.items (C.view cells.old) }
-        requires course { IsOnCourse (T.meaning self.old.course.ty.now) (B.then self.old.course.body) (B.script self.old.course.body) (B.left self.old.course.body) (B.may_ask self.old.course.body) self.old.course.base.items self.old.course.set self.old.course.cache self.old.course.replies.items }
-        ensures turned { Turned (T.meaning self.old.course.ty.now) T.valid (T.sizes self.old.course.ty.now) (B.script self.old.course.body) self.new.at self.new.stand self.new.words.items self.new.renewal self.new.course.base.items self.new.course.set.items self.new.course.set.updates (map told self.new.course.replies.items) (C.view cells.new) result }
-        ensures reason { IsCaused (Open part) self.new.course.set.items (C.view cells.new) self.old.renewal result }
-        ensures renewal { self.new.renewal ≡ self.old.renewal }
-        ensures moves { HasBegun self.new.stand × (self.new.at ≡ self.old.at) }
-        ensures left { events_left (B.left self.new.course.body) (T.meaning self.old.course.ty.now).widths self.new.stand self.new.words.items self.new.renewal self.new.course.base.items < events_left (B.left self.old.course.body) (T.meaning self.old.course.ty.now).widths (Stand.Reopening part) self.old.words.items self.old.renewal self.old.course.base.items }
-        ensures event { OneEvent (λ e. e ≡ Open part) T.valid (C.passes cells.old) (C.view cells.old) (C.view cells.new) }
-        ensures course { self.new.course ≡ self.old.course }
+        requires { IsUnderWay T.TxType B.Body (Stand.Reopening part) self.old (C.view cells.old) }
+        ensures steps { Steps T.TxType B.Body (C.passes cells.old) (Stand.Reopening part) (Open part)
+            self.old self.new (C.view cells.old) (C.view cells.new) (Ok result) }
         ensures same { C.same cells.old cells.new }
     {
         let found = cells.open(part);
@@ -463,19 +413,18 @@ impl<'t, T: TxType, B: Body> Attempt<'t, T, B> {
         part: u32,
         ticket: u64,
     ) -> Result<Turn, NoMemory>
-        requires goes { Renews (T.meaning self.old.course.ty.now) T.valid (T.sizes self.old.course.ty.now) self.old.at (Stand.Rereading part ticket) self.old.words.items self.old.renewal self.old.course.base.items self.old.course.set.items (C.view cells.old) }
-        requires course { IsOnCourse (T.meaning self.old.course.ty.now) (B.then self.old.course.body) (B.script self.old.course.body) (B.left self.old.course.body) (B.may_ask self.old.course.body) self.old.course.base.items self.old.course.set self.old.course.cache self.old.course.replies.items }
+        requires before { IsUnderWay T.TxType B.Body (Stand.Rereading part ticket) self.old (C.view cells.old) }
         requires stand { self.old.stand ≡ Stand.Rereading part ticket }
         requires more { length self.old.words.items < slice_index_or (T.meaning self.old.course.ty.now).widths part 0 }
         requires few { length self.old.words.items + 1 < 2 ^ 32 }
-        ensures turned { IfOk result (λ turn. Turned (T.meaning self.old.course.ty.now) T.valid (T.sizes self.old.course.ty.now) (B.script self.old.course.body) self.new.at self.new.stand self.new.words.items self.new.renewal self.new.course.base.items self.new.course.set.items self.new.course.set.updates (map told self.new.course.replies.items) (C.view cells.new) turn) }
+        ensures turned { IfOk result (HasTurned T.TxType B.Body self.old self.new (C.view cells.new)) }
         ensures unaborted { IfOk result IsUnaborted }
         ensures renewal { self.new.renewal ≡ self.old.renewal }
         ensures moves { OnOk result (HasBegun self.new.stand × (self.old.at ≤ self.new.at)) }
-        ensures left { OnOk result (events_left (B.left self.new.course.body) (T.meaning self.old.course.ty.now).widths self.new.stand self.new.words.items self.new.renewal self.new.course.base.items < events_left (B.left self.old.course.body) (T.meaning self.old.course.ty.now).widths (Stand.Rereading part ticket) self.old.words.items self.old.renewal self.old.course.base.items) }
+        ensures left { OnOk result (HasFewer T.TxType B.Body (Stand.Rereading part ticket) self.old self.new) }
         ensures event { OneEvent (λ e. e ≡ Word part (length self.old.words.items)) T.valid (C.passes cells.old) (C.view cells.old) (C.view cells.new) }
         ensures course { self.new.course ≡ self.old.course }
-        ensures err { OnErr result (IsLeft (C.view cells.new) × IsPrefix (T.meaning self.old.course.ty.now) (B.script self.old.course.body) (C.view cells.new) self.new.at (map told self.new.course.replies.items)) }
+        ensures err { OnErr result (HasStopped T.TxType B.Body self.old self.new (C.view cells.new)) }
         ensures same { C.same cells.old cells.new }
     {
         let value = cells.word(part, self.words.len());
@@ -491,18 +440,17 @@ impl<'t, T: TxType, B: Body> Attempt<'t, T, B> {
         part: u32,
         ticket: u64,
     ) -> Result<Turn, NoMemory>
-        requires goes { Renews (T.meaning self.old.course.ty.now) T.valid (T.sizes self.old.course.ty.now) self.old.at (Stand.Rereading part ticket) self.old.words.items self.old.renewal self.old.course.base.items self.old.course.set.items (C.view cells.old) }
+        requires before { IsUnderWay T.TxType B.Body (Stand.Rereading part ticket) self.old (C.view cells.old) }
         requires all { length self.old.words.items ≡ slice_index_or (T.meaning self.old.course.ty.now).widths part 0 }
-        requires course { IsOnCourse (T.meaning self.old.course.ty.now) (B.then self.old.course.body) (B.script self.old.course.body) (B.left self.old.course.body) (B.may_ask self.old.course.body) self.old.course.base.items self.old.course.set self.old.course.cache self.old.course.replies.items }
-        ensures course { OnOk result (IsOnCourse (T.meaning self.old.course.ty.now) (B.then self.new.course.body) (B.script self.old.course.body) (B.left self.new.course.body) (B.may_ask self.new.course.body) self.new.course.base.items self.new.course.set self.new.course.cache self.new.course.replies.items) }
-        ensures turned { IfOk result (λ turn. Turned (T.meaning self.old.course.ty.now) T.valid (T.sizes self.old.course.ty.now) (B.script self.old.course.body) self.new.at self.new.stand self.new.words.items self.new.renewal self.new.course.base.items self.new.course.set.items self.new.course.set.updates (map told self.new.course.replies.items) (C.view cells.new) turn) }
+        ensures course { OnOk result (IsCourseOf T.TxType B.Body self.old self.new) }
+        ensures turned { IfOk result (HasTurned T.TxType B.Body self.old self.new (C.view cells.new)) }
         ensures reason { IfOk result (λ turn. IsCaused (Close part) self.new.course.set.items (C.view cells.new) self.old.renewal turn) }
-        ensures grown { OnOk result (HasHeard (T.meaning self.old.course.ty.now) (B.script self.old.course.body) (words_in self.new.course.base.items) (map told self.old.course.replies.items) self.old.course.set (map told self.new.course.replies.items) self.new.course.set) }
-        ensures renewed { OnOk result ((self.new.renewal.bound ≡ self.old.renewal.bound) × (self.new.renewal.extended ≡ true → (self.old.renewal.extended ≡ true) × ((map told self.new.course.replies.items) ≡ (map told self.old.course.replies.items)))) }
+        ensures grown { OnOk result (HasGrown T.TxType B.Body self.old self.new) }
+        ensures renewed { OnOk result ((self.new.renewal.bound ≡ self.old.renewal.bound) × (self.new.renewal.extended ≡ true → (self.old.renewal.extended ≡ true) × (heard self.new ≡ heard self.old))) }
         ensures moves { OnOk result (HasBegun self.new.stand × (self.old.at ≤ self.new.at)) }
-        ensures left { OnOk result (events_left (B.left self.new.course.body) (T.meaning self.old.course.ty.now).widths self.new.stand self.new.words.items self.new.renewal self.new.course.base.items < events_left (B.left self.old.course.body) (T.meaning self.old.course.ty.now).widths (Stand.Rereading part ticket) self.old.words.items self.old.renewal self.old.course.base.items) }
+        ensures left { OnOk result (HasFewer T.TxType B.Body (Stand.Rereading part ticket) self.old self.new) }
         ensures event { OneEvent (λ e. e ≡ Close part) T.valid (C.passes cells.old) (C.view cells.old) (C.view cells.new) }
-        ensures err { OnErr result (IsLeft (C.view cells.new) × IsPrefix (T.meaning self.old.course.ty.now) (B.script self.old.course.body) (C.view cells.new) self.new.at (map told self.new.course.replies.items)) }
+        ensures err { OnErr result (HasStopped T.TxType B.Body self.old self.new (C.view cells.new)) }
         ensures script { B.script self.new.course.body ≡ B.script self.old.course.body }
         ensures ty { self.new.course.ty ≡ self.old.course.ty }
         ensures same { C.same cells.old cells.new }

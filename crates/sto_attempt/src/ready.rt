@@ -1,16 +1,11 @@
 //! The commit of an attempt.
-ghost use Rattle.std.specs.Prelude.{◌≡◌, ◌⊎◌, ◌<◌, ◌≤◌, [], Some, None, length, map};
+ghost use Rattle.std.specs.Prelude.{◌≡◌, ◌<◌, ◌≤◌, Some, None, length};
 ghost use Rattle.std.specs.List.{list_all};
-ghost use Rattle.std.specs.Option.{option_map_or};
-ghost use Rattle.sto_course.specs.Sights.{ticket_in};
-ghost use Rattle.sto_model.specs.Told.{told};
 ghost use Rattle.sto_course.specs.declared.stage.Stage.{Stage};
-ghost use Rattle.sto_course.specs.Answers.{OneEvent, IsCommitEvent, IsPrefix};
-ghost use Rattle.sto_course.specs.Remaining.{commit_left};
-ghost use Rattle.sto_course.specs.Verdicts.{ComesTo, HasReason, IsUndisturbed};
 ghost use Rattle.sto_course.specs.declared.verdict.Verdict.{Verdict};
-ghost use Rattle.sto_course.specs.Stages.{deal, Stands, Said, EndsBy, IsAim, IsNextCheck, IsNextPut, HasSpace, SpaceAt, is_so, expected_of};
+ghost use Rattle.sto_course.specs.Stages.{IsAim, IsNextCheck, IsNextPut, is_so, expected_of};
 ghost use Rattle.sto_core.specs.Allowed.{Rises};
+ghost use Rattle.sto_attempt.specs.Commits.{IsBefore, Advances, HasPrefix};
 
 use sto_core::Cells;
 use sto_course::{Course, Finds, Found, Heard, Loaded, Loads, Stage, Verdict, is_seen, is_written};
@@ -65,26 +60,11 @@ impl<T: TxType, B: Body> Ready<'_, T, B> {
     ///
     /// It takes no memory. The pass is that of the earlier steps, with its view as they left it, and no verdict was given yet.
     pub fn step<C: Cells<T>>(&mut self, cells: &mut C) -> Option<Verdict>
-        requires stands { Stands (deal (T.meaning self.old.course.ty.now) T.valid (T.sizes self.old.course.ty.now) (B.script self.old.course.body) self.old.at self.old.course.base.items self.old.course.set.items (map told self.old.course.replies.items) self.old.updates.items self.old.seen.items self.old.loaded.items self.old.tasks.items self.old.checks.items self.old.places.items) self.old.finds self.old.loads.items self.old.stage (C.view cells.old) }
-        requires space { SpaceAt (T.meaning self.old.course.ty.now).widths self.old.tasks.items self.old.loads self.old.stage }
-        requires copy { self.old.course.set.updates ≡ self.old.updates.items }
-
-        // What the step leaves for the next one, or what the verdict tells.
-        ensures said { Said (deal (T.meaning self.old.course.ty.now) T.valid (T.sizes self.old.course.ty.now) (B.script self.old.course.body) self.old.at self.old.course.base.items self.old.course.set.items (map told self.old.course.replies.items) self.old.updates.items self.old.seen.items self.old.loaded.items self.old.tasks.items self.old.checks.items self.old.places.items) self.new.finds self.new.loads.items self.new.stage (C.view cells.new) result }
-        ensures space { SpaceAt (T.meaning self.old.course.ty.now).widths self.old.tasks.items self.new.loads self.new.stage }
-        ensures kept { self.new ≡ record self.old { finds = self.new.finds; loads = self.new.loads; stage = self.new.stage } }
-
+        requires { IsBefore T.TxType B.Body self.old.stage self.old (C.view cells.old) }
+        ensures advances { Advances T.TxType B.Body (C.passes cells.old) self.old.stage
+            self.old self.new (C.view cells.old) (C.view cells.new) result }
         // The replies are still the first ones of the body's serial run on contents that have the claims.
-        ensures prefix { IsPrefix (T.meaning self.old.course.ty.now) (B.script self.old.course.body) (C.view cells.new) self.old.at (map told self.old.course.replies.items) }
-
-        // Exactly one event, and fewer are left.
-        ensures event { OneEvent (IsCommitEvent self.old.updates.items) T.valid (C.passes cells.old) (C.view cells.old) (C.view cells.new) }
-        ensures left { commit_left (deal (T.meaning self.old.course.ty.now) T.valid (T.sizes self.old.course.ty.now) (B.script self.old.course.body) self.old.at self.old.course.base.items self.old.course.set.items (map told self.old.course.replies.items) self.old.updates.items self.old.seen.items self.old.loaded.items self.old.tasks.items self.old.checks.items self.old.places.items) self.new.stage < commit_left (deal (T.meaning self.old.course.ty.now) T.valid (T.sizes self.old.course.ty.now) (B.script self.old.course.body) self.old.at self.old.course.base.items self.old.course.set.items (map told self.old.course.replies.items) self.old.updates.items self.old.seen.items self.old.loaded.items self.old.tasks.items self.old.checks.items self.old.places.items) self.old.stage }
-
-        // A verdict that the commit comes to has its reason; where the words have one pass, it is no abort.
-        ensures reason { (x : Verdict) → ComesTo result self.new.stage x → ComesTo None self.old.stage x ⊎ HasReason self.old.course.set.items (C.view cells.new) x }
-        ensures alone { C.passes cells.old ≡ 1 → IsUndisturbed self.old.at self.old.finds.items None self.old.stage → IsUndisturbed self.old.at self.new.finds.items result self.new.stage }
-        ensures by { EndsBy (C.view cells.old).phase result }
+        ensures prefix { HasPrefix T.TxType B.Body self.old (C.view cells.new) }
         ensures same { C.same cells.old cells.new }
     {
         match self.stage {
@@ -113,16 +93,9 @@ impl<T: TxType, B: Body> Ready<'_, T, B> {
 
     // Locks a written part.
     pub(crate) fn lock<C: Cells<T>>(&mut self, cells: &mut C, place: u32) -> Option<Verdict>
-        requires stands { Stands (deal (T.meaning self.old.course.ty.now) T.valid (T.sizes self.old.course.ty.now) (B.script self.old.course.body) self.old.at self.old.course.base.items self.old.course.set.items (map told self.old.course.replies.items) self.old.updates.items self.old.seen.items self.old.loaded.items self.old.tasks.items self.old.checks.items self.old.places.items) self.old.finds self.old.loads.items (Stage.Locking place) (C.view cells.old) }
-        requires space { HasSpace (T.meaning self.old.course.ty.now).widths self.old.tasks.items 0 0 self.old.loads }
-        ensures said { Said (deal (T.meaning self.old.course.ty.now) T.valid (T.sizes self.old.course.ty.now) (B.script self.old.course.body) self.old.at self.old.course.base.items self.old.course.set.items (map told self.old.course.replies.items) self.old.updates.items self.old.seen.items self.old.loaded.items self.old.tasks.items self.old.checks.items self.old.places.items) self.new.finds self.new.loads.items self.new.stage (C.view cells.new) result }
-        ensures space { SpaceAt (T.meaning self.old.course.ty.now).widths self.old.tasks.items self.new.loads self.new.stage }
-        ensures left { commit_left (deal (T.meaning self.old.course.ty.now) T.valid (T.sizes self.old.course.ty.now) (B.script self.old.course.body) self.old.at self.old.course.base.items self.old.course.set.items (map told self.old.course.replies.items) self.old.updates.items self.old.seen.items self.old.loaded.items self.old.tasks.items self.old.checks.items self.old.places.items) self.new.stage < commit_left (deal (T.meaning self.old.course.ty.now) T.valid (T.sizes self.old.course.ty.now) (B.script self.old.course.body) self.old.at self.old.course.base.items self.old.course.set.items (map told self.old.course.replies.items) self.old.updates.items self.old.seen.items self.old.loaded.items self.old.tasks.items self.old.checks.items self.old.places.items) (Stage.Locking place) }
-        ensures reason { (x : Verdict) → ComesTo result self.new.stage x → ComesTo None (Stage.Locking place) x ⊎ HasReason self.old.course.set.items (C.view cells.new) x }
-        ensures alone { C.passes cells.old ≡ 1 → IsUndisturbed self.old.at self.old.finds.items None (Stage.Locking place) → IsUndisturbed self.old.at self.new.finds.items result self.new.stage }
-        ensures by { EndsBy (C.view cells.old).phase result }
-        ensures event { OneEvent (IsCommitEvent self.old.updates.items) T.valid (C.passes cells.old) (C.view cells.old) (C.view cells.new) }
-        ensures kept { self.new ≡ record self.old { finds = self.new.finds; stage = self.new.stage } }
+        requires { IsBefore T.TxType B.Body (Stage.Locking place) self.old (C.view cells.old) }
+        ensures advances { Advances T.TxType B.Body (C.passes cells.old) (Stage.Locking place)
+            self.old self.new (C.view cells.old) (C.view cells.new) result }
         ensures same { C.same cells.old cells.new }
     {
         let part = self.updates.get(place).0;
@@ -164,16 +137,9 @@ impl<T: TxType, B: Body> Ready<'_, T, B> {
         place: u32,
         word: u32,
     ) -> Option<Verdict>
-        requires stands { Stands (deal (T.meaning self.old.course.ty.now) T.valid (T.sizes self.old.course.ty.now) (B.script self.old.course.body) self.old.at self.old.course.base.items self.old.course.set.items (map told self.old.course.replies.items) self.old.updates.items self.old.seen.items self.old.loaded.items self.old.tasks.items self.old.checks.items self.old.places.items) self.old.finds self.old.loads.items (Stage.Loading place word) (C.view cells.old) }
-        requires space { HasSpace (T.meaning self.old.course.ty.now).widths self.old.tasks.items place word self.old.loads }
-        ensures said { Said (deal (T.meaning self.old.course.ty.now) T.valid (T.sizes self.old.course.ty.now) (B.script self.old.course.body) self.old.at self.old.course.base.items self.old.course.set.items (map told self.old.course.replies.items) self.old.updates.items self.old.seen.items self.old.loaded.items self.old.tasks.items self.old.checks.items self.old.places.items) self.new.finds self.new.loads.items self.new.stage (C.view cells.new) result }
-        ensures space { SpaceAt (T.meaning self.old.course.ty.now).widths self.old.tasks.items self.new.loads self.new.stage }
-        ensures left { commit_left (deal (T.meaning self.old.course.ty.now) T.valid (T.sizes self.old.course.ty.now) (B.script self.old.course.body) self.old.at self.old.course.base.items self.old.course.set.items (map told self.old.course.replies.items) self.old.updates.items self.old.seen.items self.old.loaded.items self.old.tasks.items self.old.checks.items self.old.places.items) self.new.stage < commit_left (deal (T.meaning self.old.course.ty.now) T.valid (T.sizes self.old.course.ty.now) (B.script self.old.course.body) self.old.at self.old.course.base.items self.old.course.set.items (map told self.old.course.replies.items) self.old.updates.items self.old.seen.items self.old.loaded.items self.old.tasks.items self.old.checks.items self.old.places.items) (Stage.Loading place word) }
-        ensures reason { (x : Verdict) → ComesTo result self.new.stage x → ComesTo None (Stage.Loading place word) x ⊎ HasReason self.old.course.set.items (C.view cells.new) x }
-        ensures alone { C.passes cells.old ≡ 1 → IsUndisturbed self.old.at self.old.finds.items None (Stage.Loading place word) → IsUndisturbed self.old.at self.new.finds.items result self.new.stage }
-        ensures by { EndsBy (C.view cells.old).phase result }
-        ensures event { OneEvent (IsCommitEvent self.old.updates.items) T.valid (C.passes cells.old) (C.view cells.old) (C.view cells.new) }
-        ensures kept { self.new ≡ record self.old { loads = self.new.loads; stage = self.new.stage } }
+        requires { IsBefore T.TxType B.Body (Stage.Loading place word) self.old (C.view cells.old) }
+        ensures advances { Advances T.TxType B.Body (C.passes cells.old) (Stage.Loading place word)
+            self.old self.new (C.view cells.old) (C.view cells.new) result }
         ensures same { C.same cells.old cells.new }
     {
         let part = *self.tasks.get(place);
@@ -207,15 +173,9 @@ impl<T: TxType, B: Body> Ready<'_, T, B> {
 
     // Draws the ticket.
     pub(crate) fn draw<C: Cells<T>>(&mut self, cells: &mut C) -> Option<Verdict>
-        requires stands { Stands (deal (T.meaning self.old.course.ty.now) T.valid (T.sizes self.old.course.ty.now) (B.script self.old.course.body) self.old.at self.old.course.base.items self.old.course.set.items (map told self.old.course.replies.items) self.old.updates.items self.old.seen.items self.old.loaded.items self.old.tasks.items self.old.checks.items self.old.places.items) self.old.finds self.old.loads.items Stage.Drawing (C.view cells.old) }
-        ensures said { Said (deal (T.meaning self.old.course.ty.now) T.valid (T.sizes self.old.course.ty.now) (B.script self.old.course.body) self.old.at self.old.course.base.items self.old.course.set.items (map told self.old.course.replies.items) self.old.updates.items self.old.seen.items self.old.loaded.items self.old.tasks.items self.old.checks.items self.old.places.items) self.new.finds self.new.loads.items self.new.stage (C.view cells.new) result }
-        ensures space { SpaceAt (T.meaning self.old.course.ty.now).widths self.old.tasks.items self.new.loads self.new.stage }
-        ensures left { commit_left (deal (T.meaning self.old.course.ty.now) T.valid (T.sizes self.old.course.ty.now) (B.script self.old.course.body) self.old.at self.old.course.base.items self.old.course.set.items (map told self.old.course.replies.items) self.old.updates.items self.old.seen.items self.old.loaded.items self.old.tasks.items self.old.checks.items self.old.places.items) self.new.stage < commit_left (deal (T.meaning self.old.course.ty.now) T.valid (T.sizes self.old.course.ty.now) (B.script self.old.course.body) self.old.at self.old.course.base.items self.old.course.set.items (map told self.old.course.replies.items) self.old.updates.items self.old.seen.items self.old.loaded.items self.old.tasks.items self.old.checks.items self.old.places.items) Stage.Drawing }
-        ensures reason { (x : Verdict) → ComesTo result self.new.stage x → ComesTo None Stage.Drawing x ⊎ HasReason self.old.course.set.items (C.view cells.new) x }
-        ensures alone { C.passes cells.old ≡ 1 → IsUndisturbed self.old.at self.old.finds.items None Stage.Drawing → IsUndisturbed self.old.at self.new.finds.items result self.new.stage }
-        ensures by { EndsBy (C.view cells.old).phase result }
-        ensures event { OneEvent (IsCommitEvent self.old.updates.items) T.valid (C.passes cells.old) (C.view cells.old) (C.view cells.new) }
-        ensures kept { self.new ≡ record self.old { stage = self.new.stage } }
+        requires { IsBefore T.TxType B.Body Stage.Drawing self.old (C.view cells.old) }
+        ensures advances { Advances T.TxType B.Body (C.passes cells.old) Stage.Drawing
+            self.old self.new (C.view cells.old) (C.view cells.new) result }
         ensures same { C.same cells.old cells.new }
     {
         let ticket = cells.draw(&self.updates, &self.seen, &self.loaded);
@@ -242,15 +202,9 @@ impl<T: TxType, B: Body> Ready<'_, T, B> {
         place: u32,
         ticket: u64,
     ) -> Option<Verdict>
-        requires stands { Stands (deal (T.meaning self.old.course.ty.now) T.valid (T.sizes self.old.course.ty.now) (B.script self.old.course.body) self.old.at self.old.course.base.items self.old.course.set.items (map told self.old.course.replies.items) self.old.updates.items self.old.seen.items self.old.loaded.items self.old.tasks.items self.old.checks.items self.old.places.items) self.old.finds self.old.loads.items (Stage.Checking place ticket) (C.view cells.old) }
-        ensures said { Said (deal (T.meaning self.old.course.ty.now) T.valid (T.sizes self.old.course.ty.now) (B.script self.old.course.body) self.old.at self.old.course.base.items self.old.course.set.items (map told self.old.course.replies.items) self.old.updates.items self.old.seen.items self.old.loaded.items self.old.tasks.items self.old.checks.items self.old.places.items) self.new.finds self.new.loads.items self.new.stage (C.view cells.new) result }
-        ensures space { SpaceAt (T.meaning self.old.course.ty.now).widths self.old.tasks.items self.new.loads self.new.stage }
-        ensures left { commit_left (deal (T.meaning self.old.course.ty.now) T.valid (T.sizes self.old.course.ty.now) (B.script self.old.course.body) self.old.at self.old.course.base.items self.old.course.set.items (map told self.old.course.replies.items) self.old.updates.items self.old.seen.items self.old.loaded.items self.old.tasks.items self.old.checks.items self.old.places.items) self.new.stage < commit_left (deal (T.meaning self.old.course.ty.now) T.valid (T.sizes self.old.course.ty.now) (B.script self.old.course.body) self.old.at self.old.course.base.items self.old.course.set.items (map told self.old.course.replies.items) self.old.updates.items self.old.seen.items self.old.loaded.items self.old.tasks.items self.old.checks.items self.old.places.items) (Stage.Checking place ticket) }
-        ensures reason { (x : Verdict) → ComesTo result self.new.stage x → ComesTo None (Stage.Checking place ticket) x ⊎ HasReason self.old.course.set.items (C.view cells.new) x }
-        ensures alone { C.passes cells.old ≡ 1 → IsUndisturbed self.old.at self.old.finds.items None (Stage.Checking place ticket) → IsUndisturbed self.old.at self.new.finds.items result self.new.stage }
-        ensures by { EndsBy (C.view cells.old).phase result }
-        ensures event { OneEvent (IsCommitEvent self.old.updates.items) T.valid (C.passes cells.old) (C.view cells.old) (C.view cells.new) }
-        ensures kept { self.new ≡ record self.old { stage = self.new.stage } }
+        requires { IsBefore T.TxType B.Body (Stage.Checking place ticket) self.old (C.view cells.old) }
+        ensures advances { Advances T.TxType B.Body (C.passes cells.old) (Stage.Checking place ticket)
+            self.old self.new (C.view cells.old) (C.view cells.new) result }
         ensures same { C.same cells.old cells.new }
     {
         let part = *self.checks.get(place);
@@ -300,15 +254,9 @@ impl<T: TxType, B: Body> Ready<'_, T, B> {
         ticket: u64,
         verdict: Verdict,
     ) -> Option<Verdict>
-        requires stands { Stands (deal (T.meaning self.old.course.ty.now) T.valid (T.sizes self.old.course.ty.now) (B.script self.old.course.body) self.old.at self.old.course.base.items self.old.course.set.items (map told self.old.course.replies.items) self.old.updates.items self.old.seen.items self.old.loaded.items self.old.tasks.items self.old.checks.items self.old.places.items) self.old.finds self.old.loads.items (Stage.Dropping ticket verdict) (C.view cells.old) }
-        ensures said { Said (deal (T.meaning self.old.course.ty.now) T.valid (T.sizes self.old.course.ty.now) (B.script self.old.course.body) self.old.at self.old.course.base.items self.old.course.set.items (map told self.old.course.replies.items) self.old.updates.items self.old.seen.items self.old.loaded.items self.old.tasks.items self.old.checks.items self.old.places.items) self.new.finds self.new.loads.items self.new.stage (C.view cells.new) result }
-        ensures space { SpaceAt (T.meaning self.old.course.ty.now).widths self.old.tasks.items self.new.loads self.new.stage }
-        ensures left { commit_left (deal (T.meaning self.old.course.ty.now) T.valid (T.sizes self.old.course.ty.now) (B.script self.old.course.body) self.old.at self.old.course.base.items self.old.course.set.items (map told self.old.course.replies.items) self.old.updates.items self.old.seen.items self.old.loaded.items self.old.tasks.items self.old.checks.items self.old.places.items) self.new.stage < commit_left (deal (T.meaning self.old.course.ty.now) T.valid (T.sizes self.old.course.ty.now) (B.script self.old.course.body) self.old.at self.old.course.base.items self.old.course.set.items (map told self.old.course.replies.items) self.old.updates.items self.old.seen.items self.old.loaded.items self.old.tasks.items self.old.checks.items self.old.places.items) (Stage.Dropping ticket verdict) }
-        ensures reason { (x : Verdict) → ComesTo result self.new.stage x → ComesTo None (Stage.Dropping ticket verdict) x ⊎ HasReason self.old.course.set.items (C.view cells.new) x }
-        ensures alone { C.passes cells.old ≡ 1 → IsUndisturbed self.old.at self.old.finds.items None (Stage.Dropping ticket verdict) → IsUndisturbed self.old.at self.new.finds.items result self.new.stage }
-        ensures by { EndsBy (C.view cells.old).phase result }
-        ensures event { OneEvent (IsCommitEvent self.old.updates.items) T.valid (C.passes cells.old) (C.view cells.old) (C.view cells.new) }
-        ensures kept { self.new ≡ record self.old { stage = self.new.stage } }
+        requires { IsBefore T.TxType B.Body (Stage.Dropping ticket verdict) self.old (C.view cells.old) }
+        ensures advances { Advances T.TxType B.Body (C.passes cells.old) (Stage.Dropping ticket verdict)
+            self.old self.new (C.view cells.old) (C.view cells.new) result }
         ensures same { C.same cells.old cells.new }
     {
         cells.decide(false);
@@ -322,15 +270,9 @@ impl<T: TxType, B: Body> Ready<'_, T, B> {
 
     // Commits the entry.
     pub(crate) fn commit<C: Cells<T>>(&mut self, cells: &mut C, ticket: u64) -> Option<Verdict>
-        requires stands { Stands (deal (T.meaning self.old.course.ty.now) T.valid (T.sizes self.old.course.ty.now) (B.script self.old.course.body) self.old.at self.old.course.base.items self.old.course.set.items (map told self.old.course.replies.items) self.old.updates.items self.old.seen.items self.old.loaded.items self.old.tasks.items self.old.checks.items self.old.places.items) self.old.finds self.old.loads.items (Stage.Deciding ticket) (C.view cells.old) }
-        ensures said { Said (deal (T.meaning self.old.course.ty.now) T.valid (T.sizes self.old.course.ty.now) (B.script self.old.course.body) self.old.at self.old.course.base.items self.old.course.set.items (map told self.old.course.replies.items) self.old.updates.items self.old.seen.items self.old.loaded.items self.old.tasks.items self.old.checks.items self.old.places.items) self.new.finds self.new.loads.items self.new.stage (C.view cells.new) result }
-        ensures space { SpaceAt (T.meaning self.old.course.ty.now).widths self.old.tasks.items self.new.loads self.new.stage }
-        ensures left { commit_left (deal (T.meaning self.old.course.ty.now) T.valid (T.sizes self.old.course.ty.now) (B.script self.old.course.body) self.old.at self.old.course.base.items self.old.course.set.items (map told self.old.course.replies.items) self.old.updates.items self.old.seen.items self.old.loaded.items self.old.tasks.items self.old.checks.items self.old.places.items) self.new.stage < commit_left (deal (T.meaning self.old.course.ty.now) T.valid (T.sizes self.old.course.ty.now) (B.script self.old.course.body) self.old.at self.old.course.base.items self.old.course.set.items (map told self.old.course.replies.items) self.old.updates.items self.old.seen.items self.old.loaded.items self.old.tasks.items self.old.checks.items self.old.places.items) (Stage.Deciding ticket) }
-        ensures reason { (x : Verdict) → ComesTo result self.new.stage x → ComesTo None (Stage.Deciding ticket) x ⊎ HasReason self.old.course.set.items (C.view cells.new) x }
-        ensures alone { C.passes cells.old ≡ 1 → IsUndisturbed self.old.at self.old.finds.items None (Stage.Deciding ticket) → IsUndisturbed self.old.at self.new.finds.items result self.new.stage }
-        ensures by { EndsBy (C.view cells.old).phase result }
-        ensures event { OneEvent (IsCommitEvent self.old.updates.items) T.valid (C.passes cells.old) (C.view cells.old) (C.view cells.new) }
-        ensures kept { self.new ≡ record self.old { stage = self.new.stage } }
+        requires { IsBefore T.TxType B.Body (Stage.Deciding ticket) self.old (C.view cells.old) }
+        ensures advances { Advances T.TxType B.Body (C.passes cells.old) (Stage.Deciding ticket)
+            self.old self.new (C.view cells.old) (C.view cells.new) result }
         ensures same { C.same cells.old cells.new }
     {
         cells.decide(true);
@@ -357,16 +299,9 @@ impl<T: TxType, B: Body> Ready<'_, T, B> {
         place: u32,
         ticket: u64,
     ) -> Option<Verdict>
-        requires stands { Stands (deal (T.meaning self.old.course.ty.now) T.valid (T.sizes self.old.course.ty.now) (B.script self.old.course.body) self.old.at self.old.course.base.items self.old.course.set.items (map told self.old.course.replies.items) self.old.updates.items self.old.seen.items self.old.loaded.items self.old.tasks.items self.old.checks.items self.old.places.items) self.old.finds self.old.loads.items (Stage.Putting place ticket) (C.view cells.old) }
-        requires copy { self.old.course.set.updates ≡ self.old.updates.items }
-        ensures said { Said (deal (T.meaning self.old.course.ty.now) T.valid (T.sizes self.old.course.ty.now) (B.script self.old.course.body) self.old.at self.old.course.base.items self.old.course.set.items (map told self.old.course.replies.items) self.old.updates.items self.old.seen.items self.old.loaded.items self.old.tasks.items self.old.checks.items self.old.places.items) self.new.finds self.new.loads.items self.new.stage (C.view cells.new) result }
-        ensures space { SpaceAt (T.meaning self.old.course.ty.now).widths self.old.tasks.items self.new.loads self.new.stage }
-        ensures left { commit_left (deal (T.meaning self.old.course.ty.now) T.valid (T.sizes self.old.course.ty.now) (B.script self.old.course.body) self.old.at self.old.course.base.items self.old.course.set.items (map told self.old.course.replies.items) self.old.updates.items self.old.seen.items self.old.loaded.items self.old.tasks.items self.old.checks.items self.old.places.items) self.new.stage < commit_left (deal (T.meaning self.old.course.ty.now) T.valid (T.sizes self.old.course.ty.now) (B.script self.old.course.body) self.old.at self.old.course.base.items self.old.course.set.items (map told self.old.course.replies.items) self.old.updates.items self.old.seen.items self.old.loaded.items self.old.tasks.items self.old.checks.items self.old.places.items) (Stage.Putting place ticket) }
-        ensures reason { (x : Verdict) → ComesTo result self.new.stage x → ComesTo None (Stage.Putting place ticket) x ⊎ HasReason self.old.course.set.items (C.view cells.new) x }
-        ensures alone { C.passes cells.old ≡ 1 → IsUndisturbed self.old.at self.old.finds.items None (Stage.Putting place ticket) → IsUndisturbed self.old.at self.new.finds.items result self.new.stage }
-        ensures by { EndsBy (C.view cells.old).phase result }
-        ensures event { OneEvent (IsCommitEvent self.old.updates.items) T.valid (C.passes cells.old) (C.view cells.old) (C.view cells.new) }
-        ensures kept { self.new ≡ record self.old { stage = self.new.stage } }
+        requires { IsBefore T.TxType B.Body (Stage.Putting place ticket) self.old (C.view cells.old) }
+        ensures advances { Advances T.TxType B.Body (C.passes cells.old) (Stage.Putting place ticket)
+            self.old self.new (C.view cells.old) (C.view cells.new) result }
         ensures same { C.same cells.old cells.new }
     {
         let (part, word) = *self.places.get(place);
@@ -384,15 +319,9 @@ impl<T: TxType, B: Body> Ready<'_, T, B> {
         place: u32,
         ticket: u64,
     ) -> Option<Verdict>
-        requires stands { Stands (deal (T.meaning self.old.course.ty.now) T.valid (T.sizes self.old.course.ty.now) (B.script self.old.course.body) self.old.at self.old.course.base.items self.old.course.set.items (map told self.old.course.replies.items) self.old.updates.items self.old.seen.items self.old.loaded.items self.old.tasks.items self.old.checks.items self.old.places.items) self.old.finds self.old.loads.items (Stage.Releasing place ticket) (C.view cells.old) }
-        ensures said { Said (deal (T.meaning self.old.course.ty.now) T.valid (T.sizes self.old.course.ty.now) (B.script self.old.course.body) self.old.at self.old.course.base.items self.old.course.set.items (map told self.old.course.replies.items) self.old.updates.items self.old.seen.items self.old.loaded.items self.old.tasks.items self.old.checks.items self.old.places.items) self.new.finds self.new.loads.items self.new.stage (C.view cells.new) result }
-        ensures space { SpaceAt (T.meaning self.old.course.ty.now).widths self.old.tasks.items self.new.loads self.new.stage }
-        ensures left { commit_left (deal (T.meaning self.old.course.ty.now) T.valid (T.sizes self.old.course.ty.now) (B.script self.old.course.body) self.old.at self.old.course.base.items self.old.course.set.items (map told self.old.course.replies.items) self.old.updates.items self.old.seen.items self.old.loaded.items self.old.tasks.items self.old.checks.items self.old.places.items) self.new.stage < commit_left (deal (T.meaning self.old.course.ty.now) T.valid (T.sizes self.old.course.ty.now) (B.script self.old.course.body) self.old.at self.old.course.base.items self.old.course.set.items (map told self.old.course.replies.items) self.old.updates.items self.old.seen.items self.old.loaded.items self.old.tasks.items self.old.checks.items self.old.places.items) (Stage.Releasing place ticket) }
-        ensures reason { (x : Verdict) → ComesTo result self.new.stage x → ComesTo None (Stage.Releasing place ticket) x ⊎ HasReason self.old.course.set.items (C.view cells.new) x }
-        ensures alone { C.passes cells.old ≡ 1 → IsUndisturbed self.old.at self.old.finds.items None (Stage.Releasing place ticket) → IsUndisturbed self.old.at self.new.finds.items result self.new.stage }
-        ensures by { EndsBy (C.view cells.old).phase result }
-        ensures event { OneEvent (IsCommitEvent self.old.updates.items) T.valid (C.passes cells.old) (C.view cells.old) (C.view cells.new) }
-        ensures kept { self.new ≡ record self.old { stage = self.new.stage } }
+        requires { IsBefore T.TxType B.Body (Stage.Releasing place ticket) self.old (C.view cells.old) }
+        ensures advances { Advances T.TxType B.Body (C.passes cells.old) (Stage.Releasing place ticket)
+            self.old self.new (C.view cells.old) (C.view cells.new) result }
         ensures same { C.same cells.old cells.new }
     {
         let part = self.updates.get(place).0;
@@ -435,15 +364,9 @@ impl<T: TxType, B: Body> Ready<'_, T, B> {
         end: u32,
         verdict: Verdict,
     ) -> Option<Verdict>
-        requires stands { Stands (deal (T.meaning self.old.course.ty.now) T.valid (T.sizes self.old.course.ty.now) (B.script self.old.course.body) self.old.at self.old.course.base.items self.old.course.set.items (map told self.old.course.replies.items) self.old.updates.items self.old.seen.items self.old.loaded.items self.old.tasks.items self.old.checks.items self.old.places.items) self.old.finds self.old.loads.items (Stage.Leaving place end verdict) (C.view cells.old) }
-        ensures said { Said (deal (T.meaning self.old.course.ty.now) T.valid (T.sizes self.old.course.ty.now) (B.script self.old.course.body) self.old.at self.old.course.base.items self.old.course.set.items (map told self.old.course.replies.items) self.old.updates.items self.old.seen.items self.old.loaded.items self.old.tasks.items self.old.checks.items self.old.places.items) self.new.finds self.new.loads.items self.new.stage (C.view cells.new) result }
-        ensures space { SpaceAt (T.meaning self.old.course.ty.now).widths self.old.tasks.items self.new.loads self.new.stage }
-        ensures left { commit_left (deal (T.meaning self.old.course.ty.now) T.valid (T.sizes self.old.course.ty.now) (B.script self.old.course.body) self.old.at self.old.course.base.items self.old.course.set.items (map told self.old.course.replies.items) self.old.updates.items self.old.seen.items self.old.loaded.items self.old.tasks.items self.old.checks.items self.old.places.items) self.new.stage < commit_left (deal (T.meaning self.old.course.ty.now) T.valid (T.sizes self.old.course.ty.now) (B.script self.old.course.body) self.old.at self.old.course.base.items self.old.course.set.items (map told self.old.course.replies.items) self.old.updates.items self.old.seen.items self.old.loaded.items self.old.tasks.items self.old.checks.items self.old.places.items) (Stage.Leaving place end verdict) }
-        ensures reason { (x : Verdict) → ComesTo result self.new.stage x → ComesTo None (Stage.Leaving place end verdict) x ⊎ HasReason self.old.course.set.items (C.view cells.new) x }
-        ensures alone { C.passes cells.old ≡ 1 → IsUndisturbed self.old.at self.old.finds.items None (Stage.Leaving place end verdict) → IsUndisturbed self.old.at self.new.finds.items result self.new.stage }
-        ensures by { EndsBy (C.view cells.old).phase result }
-        ensures event { OneEvent (IsCommitEvent self.old.updates.items) T.valid (C.passes cells.old) (C.view cells.old) (C.view cells.new) }
-        ensures kept { self.new ≡ record self.old { stage = self.new.stage } }
+        requires { IsBefore T.TxType B.Body (Stage.Leaving place end verdict) self.old (C.view cells.old) }
+        ensures advances { Advances T.TxType B.Body (C.passes cells.old) (Stage.Leaving place end verdict)
+            self.old self.new (C.view cells.old) (C.view cells.new) result }
         ensures same { C.same cells.old cells.new }
     {
         let part = self.updates.get(place).0;

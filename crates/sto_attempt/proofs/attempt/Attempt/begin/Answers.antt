@@ -23,12 +23,12 @@ returns-clause-turned g c =
     let es = c.go_on.new.self.set.updates in
     let rs = map told c.go_on.new.self.replies.items in
     let w = g.C.Cells.view c.start-at.new.self in
-    let rest = start_rests m g.T.Naming.valid sizes (λ d h. (g.met.T.TxType.valid_is c.args.self.now.course.ty.now d).1 h) (g.C.Cells.passes c.args.cells.now) (g.C.Cells.view c.args.cells.now) w at c.requires.sizes c.requires.draws c.start-at.ensures.tells in
-    let claimed : AreClaimed w at base = subst (λ (b : List Sight). AreClaimed w at b) (sym c.requires.none) tt in
-    let only : AreOnly w at base = subst (λ (b : List Sight). AreOnly w at b) (sym c.requires.none) (start_only g.T.Naming.valid (g.C.Cells.passes c.args.cells.now) (g.C.Cells.view c.args.cells.now) w at c.start-at.ensures.tells) in
+    let rest = start_rests m g.T.Naming.valid sizes (λ d h. (g.met.T.TxType.valid_is c.args.self.now.course.ty.now d).1 h) (g.C.Cells.passes c.args.cells.now) (g.C.Cells.view c.args.cells.now) w at c.requires.goes.1 c.requires.goes.2 c.start-at.ensures.tells in
+    let claimed : AreClaimed w at base = subst (λ (b : List Sight). AreClaimed w at b) (sym c.requires.goes.3) tt in
+    let only : AreOnly w at base = subst (λ (b : List Sight). AreOnly w at b) (sym c.requires.goes.3) (start_only g.T.Naming.valid (g.C.Cells.passes c.args.cells.now) (g.C.Cells.view c.args.cells.now) w at c.start-at.ensures.tells) in
     let same : c.go_on.new.self.base.items ≡ base = ap (λ (l : Listed Sight). l.items) c.in_ok-reached.ensures.base in
     subst (λ (b : List Sight). Turned m g.T.Naming.valid sizes f at c.lead-stand.result.0 c.args.self.now.words.items c.args.self.now.renewal b c.go_on.new.self.set.items es rs w c.lead-stand.result.1) (sym same)
-    (turned m g.T.Naming.valid sizes f at c.args.self.now.words.items base c.go_on.new.self.set.items es rs w rest claimed only (start_below g.T.Naming.valid (g.C.Cells.passes c.args.cells.now) (g.C.Cells.view c.args.cells.now) w at c.start-at.ensures.tells) c.args.self.now.renewal (λ e. let no_renew = sym c.requires.fresh ∙ e in cc) c.in_ok-reached.ensures.course.course c.in_ok-reached.reached c.lead-stand.result.0 c.lead-stand.result.1
+    (turned m g.T.Naming.valid sizes f at c.args.self.now.words.items base c.go_on.new.self.set.items es rs w rest claimed only (start_below g.T.Naming.valid (g.C.Cells.passes c.args.cells.now) (g.C.Cells.view c.args.cells.now) w at c.start-at.ensures.tells) c.args.self.now.renewal (λ e. let no_renew = sym c.requires.goes.4 ∙ e in cc) c.in_ok-reached.ensures.course.course c.in_ok-reached.reached c.lead-stand.result.0 c.lead-stand.result.1
     c.in_ok-reached.ensures.reached c.lead-stand.ensures)
 
 pub returns-clause-alone : goal.returns-clause-alone

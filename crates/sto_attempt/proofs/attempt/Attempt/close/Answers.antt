@@ -37,7 +37,7 @@ close-found-requires g c =
     let f = g.B.Body.script a.course.body in
     let rs = map told a.course.replies.items in
     let v = g.C.Cells.view c.args.cells.now in
-    may_close m g.T.Naming.valid sizes f a.at c.args.part c.args.ticket a.words.items a.course.base.items a.course.set.items a.course.set.updates rs v c.requires.fits law c.requires.all
+    may_close m g.T.Naming.valid sizes f a.at c.args.part c.args.ticket a.words.items a.course.base.items a.course.set.items a.course.set.updates rs v c.requires.before.goes.0 law c.requires.all
 
 pub returns-then-is_locked-clause-turned : goal.returns-then-is_locked-clause-turned
 returns-then-is_locked-clause-turned g c =
@@ -52,8 +52,8 @@ returns-then-is_locked-clause-turned g c =
     let passes = g.C.Cells.passes c.args.cells.now in
     let n = c.close-found.result.0 in
     let locked : is_free n ≡ false = unlocked_is (is_free n) (sym c.is_locked.ensures ∙ c.if-is_locked.true) in
-    let h = close_locked m g.T.Naming.valid sizes f a.at c.args.part c.args.ticket a.words.items a.course.base.items a.course.set.items a.course.set.updates rs v c.requires.fits w passes n c.close-found.ensures.tells c.requires.course.course locked in
-    (refl, h.0, close_within m g.T.Naming.valid sizes f a.at c.args.part c.args.ticket a.words.items a.course.base.items a.course.set.items a.course.set.updates rs v c.requires.fits w passes n c.close-found.ensures.tells c.requires.course.course, (refl, h.1))
+    let h = close_locked m g.T.Naming.valid sizes f a.at c.args.part c.args.ticket a.words.items a.course.base.items a.course.set.items a.course.set.updates rs v c.requires.before.goes.0 w passes n c.close-found.ensures.tells c.requires.before.course.course locked in
+    (refl, h.0, close_within m g.T.Naming.valid sizes f a.at c.args.part c.args.ticket a.words.items a.course.base.items a.course.set.items a.course.set.updates rs v c.requires.before.goes.0 w passes n c.close-found.ensures.tells c.requires.before.course.course, (refl, h.1))
 
 pub returns-then-newer-ticket-clause-turned : goal.returns-then-newer-ticket-clause-turned
 returns-then-newer-ticket-clause-turned g c =
@@ -69,8 +69,8 @@ returns-then-newer-ticket-clause-turned g c =
     let n = c.close-found.result.0 in
     let free : is_free n ≡ true = locked_is (is_free n) (sym c.is_locked.ensures ∙ c.if-is_locked.false) in
     let ne : ticket_of n ≡ c.args.ticket → ⊥ = λ h. c.if-newer-ticket.true (c.ticket-newer.ensures.ticket ∙ h) in
-    let h = close_changed m g.T.Naming.valid sizes f a.at c.args.part c.args.ticket a.words.items a.course.base.items a.course.set.items a.course.set.updates rs v c.requires.fits w passes n c.close-found.ensures.tells c.requires.course.course free ne in
-    (refl, h.0, close_within m g.T.Naming.valid sizes f a.at c.args.part c.args.ticket a.words.items a.course.base.items a.course.set.items a.course.set.updates rs v c.requires.fits w passes n c.close-found.ensures.tells c.requires.course.course, (refl, subst (λ (s : ℕ). WasChanged m f w a.at c.args.part s rs) (sym c.ticket-newer.ensures.ticket) h.1))
+    let h = close_changed m g.T.Naming.valid sizes f a.at c.args.part c.args.ticket a.words.items a.course.base.items a.course.set.items a.course.set.updates rs v c.requires.before.goes.0 w passes n c.close-found.ensures.tells c.requires.before.course.course free ne in
+    (refl, h.0, close_within m g.T.Naming.valid sizes f a.at c.args.part c.args.ticket a.words.items a.course.base.items a.course.set.items a.course.set.updates rs v c.requires.before.goes.0 w passes n c.close-found.ensures.tells c.requires.before.course.course, (refl, subst (λ (s : ℕ). WasChanged m f w a.at c.args.part s rs) (sym c.ticket-newer.ensures.ticket) h.1))
 
 pub returns-in_err-words-clause-err : goal.returns-in_err-words-clause-err
 returns-in_err-words-clause-err g c =
@@ -84,7 +84,7 @@ returns-in_err-words-clause-err g c =
     let w = g.C.Cells.view c.close-found.new.self in
     let passes = g.C.Cells.passes c.args.cells.now in
     let n = c.close-found.result.0 in
-    always_err c.from_residual.result (IsLeft w × IsPrefix m f w a.at rs) (close_stops m g.T.Naming.valid sizes f a.at c.args.part c.args.ticket a.words.items a.course.base.items a.course.set.items a.course.set.updates rs v c.requires.fits w passes n c.close-found.ensures.tells c.requires.course.course)
+    always_err c.from_residual.result (IsLeft w × IsPrefix m f w a.at rs) (close_stops m g.T.Naming.valid sizes f a.at c.args.part c.args.ticket a.words.items a.course.base.items a.course.set.items a.course.set.updates rs v c.requires.before.goes.0 w passes n c.close-found.ensures.tells c.requires.before.course.course)
 
 pub returns-then-len-eq4294967295-clause-err : goal.returns-then-len-eq4294967295-clause-err
 returns-then-len-eq4294967295-clause-err g c =
@@ -98,7 +98,7 @@ returns-then-len-eq4294967295-clause-err g c =
     let w = g.C.Cells.view c.close-found.new.self in
     let passes = g.C.Cells.passes c.args.cells.now in
     let n = c.close-found.result.0 in
-    close_stops m g.T.Naming.valid sizes f a.at c.args.part c.args.ticket a.words.items a.course.base.items a.course.set.items a.course.set.updates rs v c.requires.fits w passes n c.close-found.ensures.tells c.requires.course.course
+    close_stops m g.T.Naming.valid sizes f a.at c.args.part c.args.ticket a.words.items a.course.base.items a.course.set.items a.course.set.updates rs v c.requires.before.goes.0 w passes n c.close-found.ensures.tells c.requires.before.course.course
 
 pub returns-in_err-push-clause-err : goal.returns-in_err-push-clause-err
 returns-in_err-push-clause-err g c =
@@ -112,7 +112,7 @@ returns-in_err-push-clause-err g c =
     let w = g.C.Cells.view c.close-found.new.self in
     let passes = g.C.Cells.passes c.args.cells.now in
     let n = c.close-found.result.0 in
-    always_err c.from_residual-in_err-push.result (IsLeft w × IsPrefix m f w a.at rs) (close_stops m g.T.Naming.valid sizes f a.at c.args.part c.args.ticket a.words.items a.course.base.items a.course.set.items a.course.set.updates rs v c.requires.fits w passes n c.close-found.ensures.tells c.requires.course.course)
+    always_err c.from_residual-in_err-push.result (IsLeft w × IsPrefix m f w a.at rs) (close_stops m g.T.Naming.valid sizes f a.at c.args.part c.args.ticket a.words.items a.course.base.items a.course.set.items a.course.set.updates rs v c.requires.before.goes.0 w passes n c.close-found.ensures.tells c.requires.before.course.course)
 
 pub go_on-requires-clause-some : goal.go_on-requires-clause-some
 go_on-requires-clause-some g c =
@@ -129,8 +129,8 @@ go_on-requires-clause-some g c =
     let free : is_free n ≡ true = locked_is (is_free n) (sym c.is_locked.ensures ∙ c.if-is_locked.false) in
     let same : ticket_of n ≡ c.args.ticket = sym c.ticket-newer.ensures.ticket ∙ c.if-newer-ticket.false in
     let x : Sight = record { part = c.args.part; ticket = c.args.ticket; words = c.in_ok-words.words } in
-    let rest = close_rests m g.T.Naming.valid sizes f a.at c.args.part c.args.ticket a.words.items a.course.base.items a.course.set.items a.course.set.updates rs v c.requires.fits w passes n c.close-found.ensures.tells c.requires.course.course law free same c.requires.all x refl refl c.in_ok-words.ensures in
-    let claims = close_claims m g.T.Naming.valid sizes f a.at c.args.part c.args.ticket a.words.items a.course.base.items a.course.set.items a.course.set.updates rs v c.requires.fits w passes n c.close-found.ensures.tells c.requires.course.course law free same c.requires.all x refl refl c.in_ok-words.ensures in
+    let rest = close_rests m g.T.Naming.valid sizes f a.at c.args.part c.args.ticket a.words.items a.course.base.items a.course.set.items a.course.set.updates rs v c.requires.before.goes.0 w passes n c.close-found.ensures.tells c.requires.before.course.course law free same c.requires.all x refl refl c.in_ok-words.ensures in
+    let claims = close_claims m g.T.Naming.valid sizes f a.at c.args.part c.args.ticket a.words.items a.course.base.items a.course.set.items a.course.set.updates rs v c.requires.before.goes.0 w passes n c.close-found.ensures.tells c.requires.before.course.course law free same c.requires.all x refl refl c.in_ok-words.ensures in
     let is : (d : Parts) → g.T.Naming.valid w.sizes d → m.valid d = λ d h. (g.met.T.TxType.valid_is a.course.ty.now d).1 (subst (λ (l : List ℕ). g.T.Naming.valid l d) rest.own.same_sizes h) in
     let some = some_contents m g.T.Naming.valid w a.at (a.course.base.items ++ x ∷ []) is c.close-found.ensures.tells.fit claims in
     subst (λ (b : List Sight). (d : Parts) × m.valid d × IsPartOf (words_in b) d) (sym c.in_ok-push.ensures.ok) some
@@ -145,7 +145,7 @@ go_on-requires-clause-course g c =
     let rs = map told a.course.replies.items in
     let v = g.C.Cells.view c.args.cells.now in
     let x : Sight = record { part = c.args.part; ticket = c.args.ticket; words = c.in_ok-words.words } in
-    let was = c.requires.course in
+    let was = c.requires.before.course in
     let h : IsOnCourse m (g.B.Body.then a.course.body) f (g.B.Body.left a.course.body) (g.B.Body.may_ask a.course.body) (a.course.base.items ++ x ∷ []) a.course.set a.course.cache a.course.replies.items = record {
       then = was.then;
       taken = was.taken;
@@ -173,9 +173,9 @@ returns-in_err-reached-clause-err g c =
     let same : ticket_of n ≡ c.args.ticket = sym c.ticket-newer.ensures.ticket ∙ c.if-newer-ticket.false in
     let x : Sight = record { part = c.args.part; ticket = c.args.ticket; words = c.in_ok-words.words } in
     let made : c.push.new.self.items ≡ base ++ x ∷ [] = c.in_ok-push.ensures.ok in
-    let claims : AreClaimed w a.at c.push.new.self.items = subst (λ (b : List Sight). AreClaimed w a.at b) (sym made) (close_claims m g.T.Naming.valid sizes f a.at c.args.part c.args.ticket a.words.items a.course.base.items a.course.set.items a.course.set.updates rs v c.requires.fits w passes n c.close-found.ensures.tells c.requires.course.course law free same c.requires.all x refl refl c.in_ok-words.ensures) in
+    let claims : AreClaimed w a.at c.push.new.self.items = subst (λ (b : List Sight). AreClaimed w a.at b) (sym made) (close_claims m g.T.Naming.valid sizes f a.at c.args.part c.args.ticket a.words.items a.course.base.items a.course.set.items a.course.set.updates rs v c.requires.before.goes.0 w passes n c.close-found.ensures.tells c.requires.before.course.course law free same c.requires.all x refl refl c.in_ok-words.ensures) in
     let now = map told c.go_on.new.self.replies.items in
-    let left = close_left m g.T.Naming.valid sizes f a.at c.args.part c.args.ticket a.words.items a.course.base.items a.course.set.items a.course.set.updates rs v c.requires.fits w passes n c.close-found.ensures.tells c.requires.course.course in
+    let left = close_left m g.T.Naming.valid sizes f a.at c.args.part c.args.ticket a.words.items a.course.base.items a.course.set.items a.course.set.updates rs v c.requires.before.goes.0 w passes n c.close-found.ensures.tells c.requires.before.course.course in
     always_err c.from_residual-in_err-reached.result (IsLeft w × IsPrefix m f w a.at now) (left, prefix_of m f w a.at c.push.new.self.items now c.go_on.ensures.runs claims)
 
 pub returns-clause-turned : goal.returns-clause-turned
@@ -193,16 +193,16 @@ returns-clause-turned g c =
     let free : is_free n ≡ true = locked_is (is_free n) (sym c.is_locked.ensures ∙ c.if-is_locked.false) in
     let same : ticket_of n ≡ c.args.ticket = sym c.ticket-newer.ensures.ticket ∙ c.if-newer-ticket.false in
     let x : Sight = record { part = c.args.part; ticket = c.args.ticket; words = c.in_ok-words.words } in
-    let rest = close_rests m g.T.Naming.valid sizes f a.at c.args.part c.args.ticket a.words.items a.course.base.items a.course.set.items a.course.set.updates rs v c.requires.fits w passes n c.close-found.ensures.tells c.requires.course.course law free same c.requires.all x refl refl c.in_ok-words.ensures in
-    let claims = close_claims m g.T.Naming.valid sizes f a.at c.args.part c.args.ticket a.words.items a.course.base.items a.course.set.items a.course.set.updates rs v c.requires.fits w passes n c.close-found.ensures.tells c.requires.course.course law free same c.requires.all x refl refl c.in_ok-words.ensures in
-    let only_one = close_only m g.T.Naming.valid sizes f a.at c.args.part c.args.ticket a.words.items a.course.base.items a.course.set.items a.course.set.updates rs v c.requires.fits w passes n c.close-found.ensures.tells c.requires.course.course law free same c.requires.all x refl refl c.in_ok-words.ensures in
-    let below = close_below m g.T.Naming.valid sizes f a.at c.args.part c.args.ticket a.words.items a.course.base.items a.course.set.items a.course.set.updates rs v c.requires.fits w passes n c.close-found.ensures.tells c.requires.course.course law free same c.requires.all x refl refl c.in_ok-words.ensures in
+    let rest = close_rests m g.T.Naming.valid sizes f a.at c.args.part c.args.ticket a.words.items a.course.base.items a.course.set.items a.course.set.updates rs v c.requires.before.goes.0 w passes n c.close-found.ensures.tells c.requires.before.course.course law free same c.requires.all x refl refl c.in_ok-words.ensures in
+    let claims = close_claims m g.T.Naming.valid sizes f a.at c.args.part c.args.ticket a.words.items a.course.base.items a.course.set.items a.course.set.updates rs v c.requires.before.goes.0 w passes n c.close-found.ensures.tells c.requires.before.course.course law free same c.requires.all x refl refl c.in_ok-words.ensures in
+    let only_one = close_only m g.T.Naming.valid sizes f a.at c.args.part c.args.ticket a.words.items a.course.base.items a.course.set.items a.course.set.updates rs v c.requires.before.goes.0 w passes n c.close-found.ensures.tells c.requires.before.course.course law free same c.requires.all x refl refl c.in_ok-words.ensures in
+    let below = close_below m g.T.Naming.valid sizes f a.at c.args.part c.args.ticket a.words.items a.course.base.items a.course.set.items a.course.set.updates rs v c.requires.before.goes.0 w passes n c.close-found.ensures.tells c.requires.before.course.course law free same c.requires.all x refl refl c.in_ok-words.ensures in
     let made : c.push.new.self.items ≡ a.course.base.items ++ x ∷ [] = c.in_ok-push.ensures.ok in
     let claimed : AreClaimed w a.at c.push.new.self.items = subst (λ (b : List Sight). AreClaimed w a.at b) (sym made) claims in
     let only : AreOnly w a.at c.push.new.self.items = subst (λ (b : List Sight). AreOnly w a.at b) (sym made) only_one in
     let kept : c.go_on.new.self.base.items ≡ c.push.new.self.items = ap (λ (l : Listed Sight). l.items) c.in_ok-reached.ensures.base in
     let now : Renewal = record { bound = a.renewal.bound; extended = c.still-self.result; fresh = a.renewal.fresh; watches = a.renewal.watches } in
-    let as_of : IsAsOf a.at now = λ e. c.requires.as_of (c.still-self.ensures.0 e).0 in
+    let as_of : IsAsOf a.at now = λ e. c.requires.before.goes.1 (c.still-self.ensures.0 e).0 in
     subst (λ (b : List Sight). Turned m g.T.Naming.valid sizes f a.at c.lead-stand.result.0 a.words.items now b c.go_on.new.self.set.items c.go_on.new.self.set.updates (map told c.go_on.new.self.replies.items) w c.lead-stand.result.1) (sym kept)
     (turned m g.T.Naming.valid sizes f a.at a.words.items c.push.new.self.items c.go_on.new.self.set.items c.go_on.new.self.set.updates (map told c.go_on.new.self.replies.items) w rest claimed only below now as_of c.in_ok-reached.ensures.course.course
     c.in_ok-reached.reached c.lead-stand.result.0 c.lead-stand.result.1 c.in_ok-reached.ensures.reached c.lead-stand.ensures)
@@ -212,7 +212,7 @@ returns-then-is_locked-clause-alone g c one =
     let a = c.args.self.now in
     let v = g.C.Cells.view c.args.cells.now in
     let n = c.close-found.result.0 in
-    let h = close_alone g.T.Naming.valid (g.C.Cells.passes c.args.cells.now) v (g.C.Cells.view c.close-found.new.self) c.args.part n (pos 0) (record { part = c.args.part; ticket = c.args.ticket; reads = numbered 0 a.words.items }) c.requires.fits.unheld c.requires.fits.stands.0 c.close-found.ensures.tells one in
+    let h = close_alone g.T.Naming.valid (g.C.Cells.passes c.args.cells.now) v (g.C.Cells.view c.close-found.new.self) c.args.part n (pos 0) (record { part = c.args.part; ticket = c.args.ticket; reads = numbered 0 a.words.items }) c.requires.before.goes.0.unheld c.requires.before.goes.0.stands.0 c.close-found.ensures.tells one in
     absurd (true≢false (sym h.0 ∙ unlocked_is (is_free n) (sym c.is_locked.ensures ∙ c.if-is_locked.true)))
 
 pub returns-then-newer-ticket-clause-alone : goal.returns-then-newer-ticket-clause-alone
@@ -220,7 +220,7 @@ returns-then-newer-ticket-clause-alone g c one =
     let a = c.args.self.now in
     let v = g.C.Cells.view c.args.cells.now in
     let n = c.close-found.result.0 in
-    let h = close_alone g.T.Naming.valid (g.C.Cells.passes c.args.cells.now) v (g.C.Cells.view c.close-found.new.self) c.args.part n (pos 0) (record { part = c.args.part; ticket = c.args.ticket; reads = numbered 0 a.words.items }) c.requires.fits.unheld c.requires.fits.stands.0 c.close-found.ensures.tells one in
+    let h = close_alone g.T.Naming.valid (g.C.Cells.passes c.args.cells.now) v (g.C.Cells.view c.close-found.new.self) c.args.part n (pos 0) (record { part = c.args.part; ticket = c.args.ticket; reads = numbered 0 a.words.items }) c.requires.before.goes.0.unheld c.requires.before.goes.0.stands.0 c.close-found.ensures.tells one in
     absurd (c.if-newer-ticket.true (c.ticket-newer.ensures.ticket ∙ h.1))
 
 pub returns-clause-alone : goal.returns-clause-alone
@@ -260,7 +260,7 @@ returns-then-is_locked-clause-left g c =
     let base = a.course.base.items in
     let v = g.C.Cells.view c.args.cells.now in
     let passes = g.C.Cells.passes c.args.cells.now in
-    close_over m law f rs c.args.part base c.requires.fits.awaits (length a.words.items) c.requires.all (g.B.Body.left a.course.body - 1) a.renewal.extended
+    close_over m law f rs c.args.part base c.requires.before.goes.0.awaits (length a.words.items) c.requires.all (g.B.Body.left a.course.body - 1) a.renewal.extended
 
 pub returns-then-newer-ticket-clause-left : goal.returns-then-newer-ticket-clause-left
 returns-then-newer-ticket-clause-left g c =
@@ -274,7 +274,7 @@ returns-then-newer-ticket-clause-left g c =
     let base = a.course.base.items in
     let v = g.C.Cells.view c.args.cells.now in
     let passes = g.C.Cells.passes c.args.cells.now in
-    close_over m law f rs c.args.part base c.requires.fits.awaits (length a.words.items) c.requires.all (g.B.Body.left a.course.body - 1) a.renewal.extended
+    close_over m law f rs c.args.part base c.requires.before.goes.0.awaits (length a.words.items) c.requires.all (g.B.Body.left a.course.body - 1) a.renewal.extended
 
 pub returns-clause-left : goal.returns-clause-left
 returns-clause-left g c =
@@ -307,7 +307,7 @@ returns-clause-left g c =
     ((λ e. let h = c.still-self.ensures.0 e in (h.0, omega (arith, h.1, heard_is, now_is))), (λ h. c.still-self.ensures.1 (h.0, omega (arith, h.1, heard_is, now_is)))) in
     let kept : c.go_on.new.self.base.items ≡ base ++ x ∷ [] = ap (λ (l : Listed Sight). l.items) c.in_ok-reached.ensures.base ∙ made in
     subst (λ (b : List Sight). events_left calls m.widths c.lead-stand.result.0 a.words.items renewal b < left_opening (before - 1) m.widths a.renewal.extended (words_in base) - (1 + length a.words.items)) (sym kept)
-    (close_fewer m law f rs c.args.part base c.requires.fits.awaits (length a.words.items) c.requires.all a.at c.go_on.new.self.set.updates c.in_ok-reached.reached c.lead-stand.result.0 c.lead-stand.result.1 c.lead-stand.ensures
+    (close_fewer m law f rs c.args.part base c.requires.before.goes.0.awaits (length a.words.items) c.requires.all a.at c.go_on.new.self.set.updates c.in_ok-reached.reached c.lead-stand.result.0 c.lead-stand.result.1 c.lead-stand.ensures
     before calls heard now a.renewal.extended c.still-self.result a.words.items renewal x refl refl c.in_ok-reached.ensures.left on c.in_ok-reached.ensures.asks iff)
 
 pub returns-then-is_locked-clause-grown : goal.returns-then-is_locked-clause-grown

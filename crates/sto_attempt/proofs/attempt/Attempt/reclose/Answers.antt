@@ -44,8 +44,8 @@ close-found-requires g c =
     let v = g.C.Cells.view c.args.cells.now in
     let fresh = a.renewal.fresh.items in
     let ws = map watched a.renewal.watches.items in
-    let goes = c.requires.goes in
-    reclose_allowed m law g.T.Naming.valid sizes is f a.at a.renewal.bound c.args.part false a.course.base.items fresh a.course.set.items ws a.course.set.updates rs v goes.spans goes.observed goes.stands.3 c.requires.course.course c.args.ticket a.words.items goes.stands.0 goes.stands.1 c.requires.all
+    let goes = c.requires.before.goes in
+    reclose_allowed m law g.T.Naming.valid sizes is f a.at a.renewal.bound c.args.part false a.course.base.items fresh a.course.set.items ws a.course.set.updates rs v goes.spans goes.observed goes.stands.3 c.requires.before.course.course c.args.ticket a.words.items goes.stands.0 goes.stands.1 c.requires.all
 
 pub returns-then-is_locked-clause-turned : goal.returns-then-is_locked-clause-turned
 returns-then-is_locked-clause-turned g c =
@@ -59,12 +59,12 @@ returns-then-is_locked-clause-turned g c =
     let v = g.C.Cells.view c.args.cells.now in
     let fresh = a.renewal.fresh.items in
     let ws = map watched a.renewal.watches.items in
-    let goes = c.requires.goes in
+    let goes = c.requires.before.goes in
     let w = g.C.Cells.view c.close-found.new.self in
     let passes = g.C.Cells.passes c.args.cells.now in
     let n = c.close-found.result.0 in
     let locked : is_free n ≡ false = unlocked_is (is_free n) (sym c.is_locked.ensures ∙ c.if-is_locked.true) in
-    (refl, reclosed_left m law g.T.Naming.valid sizes is f a.at a.renewal.bound c.args.part false a.course.base.items fresh a.course.set.items ws a.course.set.updates rs v goes.spans goes.observed goes.stands.3 c.requires.course.course c.args.ticket a.words.items goes.stands.0 goes.stands.1 c.requires.all w passes n c.close-found.ensures.tells, reclosed_within m law g.T.Naming.valid sizes is f a.at a.renewal.bound c.args.part false a.course.base.items fresh a.course.set.items ws a.course.set.updates rs v goes.spans goes.observed goes.stands.3 c.requires.course.course c.args.ticket a.words.items goes.stands.0 goes.stands.1 c.requires.all w passes n c.close-found.ensures.tells, (refl, reclosed_locked m law g.T.Naming.valid sizes is f a.at a.renewal.bound c.args.part false a.course.base.items fresh a.course.set.items ws a.course.set.updates rs v goes.spans goes.observed goes.stands.3 c.requires.course.course c.args.ticket a.words.items goes.stands.0 goes.stands.1 c.requires.all w passes n c.close-found.ensures.tells locked))
+    (refl, reclosed_left m law g.T.Naming.valid sizes is f a.at a.renewal.bound c.args.part false a.course.base.items fresh a.course.set.items ws a.course.set.updates rs v goes.spans goes.observed goes.stands.3 c.requires.before.course.course c.args.ticket a.words.items goes.stands.0 goes.stands.1 c.requires.all w passes n c.close-found.ensures.tells, reclosed_within m law g.T.Naming.valid sizes is f a.at a.renewal.bound c.args.part false a.course.base.items fresh a.course.set.items ws a.course.set.updates rs v goes.spans goes.observed goes.stands.3 c.requires.before.course.course c.args.ticket a.words.items goes.stands.0 goes.stands.1 c.requires.all w passes n c.close-found.ensures.tells, (refl, reclosed_locked m law g.T.Naming.valid sizes is f a.at a.renewal.bound c.args.part false a.course.base.items fresh a.course.set.items ws a.course.set.updates rs v goes.spans goes.observed goes.stands.3 c.requires.before.course.course c.args.ticket a.words.items goes.stands.0 goes.stands.1 c.requires.all w passes n c.close-found.ensures.tells locked))
 
 pub returns-then-newer-ticket-clause-turned : goal.returns-then-newer-ticket-clause-turned
 returns-then-newer-ticket-clause-turned g c =
@@ -78,14 +78,14 @@ returns-then-newer-ticket-clause-turned g c =
     let v = g.C.Cells.view c.args.cells.now in
     let fresh = a.renewal.fresh.items in
     let ws = map watched a.renewal.watches.items in
-    let goes = c.requires.goes in
+    let goes = c.requires.before.goes in
     let w = g.C.Cells.view c.close-found.new.self in
     let passes = g.C.Cells.passes c.args.cells.now in
     let n = c.close-found.result.0 in
     let free : is_free n ≡ true = locked_is (is_free n) (sym c.is_locked.ensures ∙ c.if-is_locked.false) in
     let ne : ticket_of n ≡ c.args.ticket → ⊥ = λ h. c.if-newer-ticket.true (c.ticket-newer.ensures.ticket ∙ h) in
-    let h = reclosed_changed m law g.T.Naming.valid sizes is f a.at a.renewal.bound c.args.part false a.course.base.items fresh a.course.set.items ws a.course.set.updates rs v goes.spans goes.observed goes.stands.3 c.requires.course.course c.args.ticket a.words.items goes.stands.0 goes.stands.1 c.requires.all w passes n c.close-found.ensures.tells free ne in
-    (refl, reclosed_left m law g.T.Naming.valid sizes is f a.at a.renewal.bound c.args.part false a.course.base.items fresh a.course.set.items ws a.course.set.updates rs v goes.spans goes.observed goes.stands.3 c.requires.course.course c.args.ticket a.words.items goes.stands.0 goes.stands.1 c.requires.all w passes n c.close-found.ensures.tells, reclosed_within m law g.T.Naming.valid sizes is f a.at a.renewal.bound c.args.part false a.course.base.items fresh a.course.set.items ws a.course.set.updates rs v goes.spans goes.observed goes.stands.3 c.requires.course.course c.args.ticket a.words.items goes.stands.0 goes.stands.1 c.requires.all w passes n c.close-found.ensures.tells, (refl, subst (λ (k : ℕ). WasChanged m f w a.at c.args.part k rs) (sym c.ticket-newer.ensures.ticket) h))
+    let h = reclosed_changed m law g.T.Naming.valid sizes is f a.at a.renewal.bound c.args.part false a.course.base.items fresh a.course.set.items ws a.course.set.updates rs v goes.spans goes.observed goes.stands.3 c.requires.before.course.course c.args.ticket a.words.items goes.stands.0 goes.stands.1 c.requires.all w passes n c.close-found.ensures.tells free ne in
+    (refl, reclosed_left m law g.T.Naming.valid sizes is f a.at a.renewal.bound c.args.part false a.course.base.items fresh a.course.set.items ws a.course.set.updates rs v goes.spans goes.observed goes.stands.3 c.requires.before.course.course c.args.ticket a.words.items goes.stands.0 goes.stands.1 c.requires.all w passes n c.close-found.ensures.tells, reclosed_within m law g.T.Naming.valid sizes is f a.at a.renewal.bound c.args.part false a.course.base.items fresh a.course.set.items ws a.course.set.updates rs v goes.spans goes.observed goes.stands.3 c.requires.before.course.course c.args.ticket a.words.items goes.stands.0 goes.stands.1 c.requires.all w passes n c.close-found.ensures.tells, (refl, subst (λ (k : ℕ). WasChanged m f w a.at c.args.part k rs) (sym c.ticket-newer.ensures.ticket) h))
 
 pub get-watch-requires : goal.get-watch-requires
 get-watch-requires g c =
@@ -99,7 +99,7 @@ get-watch-requires g c =
     let v = g.C.Cells.view c.args.cells.now in
     let fresh = a.renewal.fresh.items in
     let ws = map watched a.renewal.watches.items in
-    let goes = c.requires.goes in
+    let goes = c.requires.before.goes in
     let short = next_short (length m.widths) (words_in a.course.base.items) fresh ws false c.args.part goes.stands.3 in
     omega (arith, short, length-map a.renewal.watches.items watched, c.len-place.ensures)
 
@@ -115,7 +115,7 @@ returns-then-not-are_true-clause-turned g c =
     let v = g.C.Cells.view c.args.cells.now in
     let fresh = a.renewal.fresh.items in
     let ws = map watched a.renewal.watches.items in
-    let goes = c.requires.goes in
+    let goes = c.requires.before.goes in
     let w = g.C.Cells.view c.close-found.new.self in
     let passes = g.C.Cells.passes c.args.cells.now in
     let n = c.close-found.result.0 in
@@ -130,7 +130,7 @@ returns-then-not-are_true-clause-turned g c =
     let same_preds : next.next.preds ≡ preds = ap (λ (x : Watched). x.preds) is_next in
     let are : preds ≡ preds_on c.args.part a.course.set.items = sym same_preds ∙ next_preds (length m.widths) old fresh ws c.args.part a.course.set.items goes.observed next in
     let fails : AllTrueIn a.words.items preds → ⊥ = λ h. true≢false (sym (c.are_true.ensures.1 (subst (λ (l : List ℤ). AllTrueIn l c.as_slice.result.now) (sym c.as_slice-2.ensures.items) (subst (λ (l : List Pred). AllTrueIn a.words.items l) (sym c.as_slice.ensures.items) h))) ∙ c.if-not-are_true.true) in
-    (refl, reclosed_left m law g.T.Naming.valid sizes is f a.at a.renewal.bound c.args.part false a.course.base.items fresh a.course.set.items ws a.course.set.updates rs v goes.spans goes.observed goes.stands.3 c.requires.course.course c.args.ticket a.words.items goes.stands.0 goes.stands.1 c.requires.all w passes n c.close-found.ensures.tells, reclosed_within m law g.T.Naming.valid sizes is f a.at a.renewal.bound c.args.part false a.course.base.items fresh a.course.set.items ws a.course.set.updates rs v goes.spans goes.observed goes.stands.3 c.requires.course.course c.args.ticket a.words.items goes.stands.0 goes.stands.1 c.requires.all w passes n c.close-found.ensures.tells, (refl, reclosed_false m law g.T.Naming.valid sizes is f a.at a.renewal.bound c.args.part false a.course.base.items fresh a.course.set.items ws a.course.set.updates rs v goes.spans goes.observed goes.stands.3 c.requires.course.course c.args.ticket a.words.items goes.stands.0 goes.stands.1 c.requires.all w passes n c.close-found.ensures.tells free same preds are fails))
+    (refl, reclosed_left m law g.T.Naming.valid sizes is f a.at a.renewal.bound c.args.part false a.course.base.items fresh a.course.set.items ws a.course.set.updates rs v goes.spans goes.observed goes.stands.3 c.requires.before.course.course c.args.ticket a.words.items goes.stands.0 goes.stands.1 c.requires.all w passes n c.close-found.ensures.tells, reclosed_within m law g.T.Naming.valid sizes is f a.at a.renewal.bound c.args.part false a.course.base.items fresh a.course.set.items ws a.course.set.updates rs v goes.spans goes.observed goes.stands.3 c.requires.before.course.course c.args.ticket a.words.items goes.stands.0 goes.stands.1 c.requires.all w passes n c.close-found.ensures.tells, (refl, reclosed_false m law g.T.Naming.valid sizes is f a.at a.renewal.bound c.args.part false a.course.base.items fresh a.course.set.items ws a.course.set.updates rs v goes.spans goes.observed goes.stands.3 c.requires.before.course.course c.args.ticket a.words.items goes.stands.0 goes.stands.1 c.requires.all w passes n c.close-found.ensures.tells free same preds are fails))
 
 pub advance-requires-clause-renewed : goal.advance-requires-clause-renewed
 advance-requires-clause-renewed g c =
@@ -144,7 +144,7 @@ advance-requires-clause-renewed g c =
     let v = g.C.Cells.view c.args.cells.now in
     let fresh = a.renewal.fresh.items in
     let ws = map watched a.renewal.watches.items in
-    let goes = c.requires.goes in
+    let goes = c.requires.before.goes in
     let w = g.C.Cells.view c.close-found.new.self in
     let passes = g.C.Cells.passes c.args.cells.now in
     let n = c.close-found.result.0 in
@@ -160,7 +160,7 @@ advance-requires-clause-renewed g c =
     let y : Sight = record { part = c.args.part; ticket = c.args.ticket; words = c.in_ok-words.words } in
     let made : c.push.new.self.items ≡ fresh ++ y ∷ [] = c.in_ok-push.ensures.ok in
     let hold : AllTrueIn a.words.items next.next.preds = subst (λ (l : List Pred). AllTrueIn a.words.items l) (c.as_slice.ensures.items ∙ sym same_preds) (subst (λ (l : List ℤ). AllTrueIn l c.as_slice.result.now) c.as_slice-2.ensures.items (c.are_true.ensures.0 c.if-not-are_true.false)) in
-    let h = reclosed_renewed m law g.T.Naming.valid sizes is f a.at a.renewal.bound c.args.part false a.course.base.items fresh a.course.set.items ws a.course.set.updates rs v goes.spans goes.observed goes.stands.3 c.requires.course.course c.args.ticket a.words.items goes.stands.0 goes.stands.1 c.requires.all w passes n c.close-found.ensures.tells free same y refl refl c.in_ok-words.ensures refl hold in
+    let h = reclosed_renewed m law g.T.Naming.valid sizes is f a.at a.renewal.bound c.args.part false a.course.base.items fresh a.course.set.items ws a.course.set.updates rs v goes.spans goes.observed goes.stands.3 c.requires.before.course.course c.args.ticket a.words.items goes.stands.0 goes.stands.1 c.requires.all w passes n c.close-found.ensures.tells free same y refl refl c.in_ok-words.ensures refl hold in
     (next.more, subst (λ (l : List Sight). IsRenewed (length m.widths) old l ws next.more) (sym made) h)
 
 pub advance-requires-clause-some : goal.advance-requires-clause-some
@@ -175,8 +175,8 @@ advance-requires-clause-some g c =
     let v = g.C.Cells.view c.args.cells.now in
     let fresh = a.renewal.fresh.items in
     let ws = map watched a.renewal.watches.items in
-    let goes = c.requires.goes in
-    some_old m law g.T.Naming.valid sizes is f a.at a.renewal.bound c.args.part false a.course.base.items fresh a.course.set.items ws a.course.set.updates rs v goes.spans goes.observed goes.stands.3 c.requires.course.course
+    let goes = c.requires.before.goes in
+    some_old m law g.T.Naming.valid sizes is f a.at a.renewal.bound c.args.part false a.course.base.items fresh a.course.set.items ws a.course.set.updates rs v goes.spans goes.observed goes.stands.3 c.requires.before.course.course
 
 pub advance-requires-clause-some_new : goal.advance-requires-clause-some_new
 advance-requires-clause-some_new g c =
@@ -190,7 +190,7 @@ advance-requires-clause-some_new g c =
     let v = g.C.Cells.view c.args.cells.now in
     let fresh = a.renewal.fresh.items in
     let ws = map watched a.renewal.watches.items in
-    let goes = c.requires.goes in
+    let goes = c.requires.before.goes in
     let w = g.C.Cells.view c.close-found.new.self in
     let passes = g.C.Cells.passes c.args.cells.now in
     let n = c.close-found.result.0 in
@@ -198,8 +198,8 @@ advance-requires-clause-some_new g c =
     let same : ticket_of n ≡ c.args.ticket = sym c.ticket-newer.ensures.ticket ∙ c.if-newer-ticket.false in
     let y : Sight = record { part = c.args.part; ticket = c.args.ticket; words = c.in_ok-words.words } in
     let made : c.push.new.self.items ≡ fresh ++ y ∷ [] = c.in_ok-push.ensures.ok in
-    let h = reclosed_spans m law g.T.Naming.valid sizes is f a.at a.renewal.bound c.args.part false a.course.base.items fresh a.course.set.items ws a.course.set.updates rs v goes.spans goes.observed goes.stands.3 c.requires.course.course c.args.ticket a.words.items goes.stands.0 goes.stands.1 c.requires.all w passes n c.close-found.ensures.tells free same y refl refl c.in_ok-words.ensures in
-    let d = some_anew m law g.T.Naming.valid sizes is f a.at a.renewal.bound c.args.part false a.course.base.items fresh a.course.set.items ws a.course.set.updates rs v goes.spans goes.observed goes.stands.3 c.requires.course.course w (fresh ++ y ∷ []) h.0 in
+    let h = reclosed_spans m law g.T.Naming.valid sizes is f a.at a.renewal.bound c.args.part false a.course.base.items fresh a.course.set.items ws a.course.set.updates rs v goes.spans goes.observed goes.stands.3 c.requires.before.course.course c.args.ticket a.words.items goes.stands.0 goes.stands.1 c.requires.all w passes n c.close-found.ensures.tells free same y refl refl c.in_ok-words.ensures in
+    let d = some_anew m law g.T.Naming.valid sizes is f a.at a.renewal.bound c.args.part false a.course.base.items fresh a.course.set.items ws a.course.set.updates rs v goes.spans goes.observed goes.stands.3 c.requires.before.course.course w (fresh ++ y ∷ []) h.0 in
     subst (λ (l : List Sight). (d : Parts) × m.valid d × IsPartOf (words_in l) d) (sym made) d
 
 pub returns-clause-turned : goal.returns-clause-turned
@@ -214,7 +214,7 @@ returns-clause-turned g c =
     let v = g.C.Cells.view c.args.cells.now in
     let fresh = a.renewal.fresh.items in
     let ws = map watched a.renewal.watches.items in
-    let goes = c.requires.goes in
+    let goes = c.requires.before.goes in
     let w = g.C.Cells.view c.close-found.new.self in
     let passes = g.C.Cells.passes c.args.cells.now in
     let n = c.close-found.result.0 in
@@ -222,7 +222,7 @@ returns-clause-turned g c =
     let same : ticket_of n ≡ c.args.ticket = sym c.ticket-newer.ensures.ticket ∙ c.if-newer-ticket.false in
     let y : Sight = record { part = c.args.part; ticket = c.args.ticket; words = c.in_ok-words.words } in
     let made : c.push.new.self.items ≡ fresh ++ y ∷ [] = c.in_ok-push.ensures.ok in
-    let h = reclosed_spans m law g.T.Naming.valid sizes is f a.at a.renewal.bound c.args.part false a.course.base.items fresh a.course.set.items ws a.course.set.updates rs v goes.spans goes.observed goes.stands.3 c.requires.course.course c.args.ticket a.words.items goes.stands.0 goes.stands.1 c.requires.all w passes n c.close-found.ensures.tells free same y refl refl c.in_ok-words.ensures in
+    let h = reclosed_spans m law g.T.Naming.valid sizes is f a.at a.renewal.bound c.args.part false a.course.base.items fresh a.course.set.items ws a.course.set.updates rs v goes.spans goes.observed goes.stands.3 c.requires.before.course.course c.args.ticket a.words.items goes.stands.0 goes.stands.1 c.requires.all w passes n c.close-found.ensures.tells free same y refl refl c.in_ok-words.ensures in
     c.advance.ensures.turned w (subst (λ (l : List Sight). Spans m g.T.Naming.valid sizes a.at a.renewal.bound a.course.base.items l w) (sym made) h.0) h.1
 
 pub returns-then-is_locked-clause-grown : goal.returns-then-is_locked-clause-grown
@@ -252,7 +252,7 @@ returns-clause-renewed g c =
     let rs = map told a.course.replies.items in
     let now = map told b.course.replies.items in
     ok_map c.advance.result ((b.renewal.bound ≡ a.renewal.bound) × (b.renewal.extended ≡ true → now ≡ rs)) ((b.renewal.bound ≡ a.renewal.bound) × (b.renewal.extended ≡ true → (a.renewal.extended ≡ true) × (now ≡ rs)))
-    (λ h. (h.0, λ e. (c.requires.goes.extended, h.1 e))) c.advance.ensures.renewed
+    (λ h. (h.0, λ e. (c.requires.before.goes.extended, h.1 e))) c.advance.ensures.renewed
 
 pub returns-then-newer-ticket-clause-reason : goal.returns-then-newer-ticket-clause-reason
 returns-then-newer-ticket-clause-reason g c =
@@ -271,7 +271,7 @@ returns-then-not-are_true-clause-reason g c =
     let v = g.C.Cells.view c.args.cells.now in
     let fresh = a.renewal.fresh.items in
     let ws = map watched a.renewal.watches.items in
-    let goes = c.requires.goes in
+    let goes = c.requires.before.goes in
     let w = g.C.Cells.view c.close-found.new.self in
     let passes = g.C.Cells.passes c.args.cells.now in
     let n = c.close-found.result.0 in
@@ -287,7 +287,7 @@ returns-then-not-are_true-clause-reason g c =
     let are : preds ≡ preds_on c.args.part a.course.set.items = sym same_preds ∙ next_preds (length m.widths) old fresh ws c.args.part a.course.set.items goes.observed next in
     let fails : AllTrueIn a.words.items preds → ⊥ = λ h. true≢false (sym (c.are_true.ensures.1 (subst (λ (l : List ℤ). AllTrueIn l c.as_slice.result.now) (sym c.as_slice-2.ensures.items) (subst (λ (l : List Pred). AllTrueIn a.words.items l) (sym c.as_slice.ensures.items) h))) ∙ c.if-not-are_true.true) in
     by_predicate (Close c.args.part) a.course.set.items w c.args.part c.args.ticket a.renewal.extended a.renewal.bound a.words.items (λ h. fails (subst (λ (l : List Pred). AllTrueIn a.words.items l) (sym are) h))
-    (reclosed_read m law g.T.Naming.valid sizes is f a.at a.renewal.bound c.args.part false a.course.base.items fresh a.course.set.items ws a.course.set.updates rs v goes.spans goes.observed goes.stands.3 c.requires.course.course c.args.ticket a.words.items goes.stands.0 goes.stands.1 c.requires.all w passes n c.close-found.ensures.tells free same)
+    (reclosed_read m law g.T.Naming.valid sizes is f a.at a.renewal.bound c.args.part false a.course.base.items fresh a.course.set.items ws a.course.set.updates rs v goes.spans goes.observed goes.stands.3 c.requires.before.course.course c.args.ticket a.words.items goes.stands.0 goes.stands.1 c.requires.all w passes n c.close-found.ensures.tells free same)
 
 pub returns-then-is_locked-clause-left : goal.returns-then-is_locked-clause-left
 returns-then-is_locked-clause-left g c =
@@ -301,7 +301,7 @@ returns-then-is_locked-clause-left g c =
     let v = g.C.Cells.view c.args.cells.now in
     let fresh = a.renewal.fresh.items in
     let ws = map watched a.renewal.watches.items in
-    let goes = c.requires.goes in
+    let goes = c.requires.before.goes in
     let passes = g.C.Cells.passes c.args.cells.now in
     reclose_over m.widths (words_in a.course.base.items) fresh ws c.args.part goes.stands.3 (g.B.Body.left a.course.body - 1) (length a.words.items) c.requires.all
 
@@ -317,7 +317,7 @@ returns-then-newer-ticket-clause-left g c =
     let v = g.C.Cells.view c.args.cells.now in
     let fresh = a.renewal.fresh.items in
     let ws = map watched a.renewal.watches.items in
-    let goes = c.requires.goes in
+    let goes = c.requires.before.goes in
     let passes = g.C.Cells.passes c.args.cells.now in
     reclose_over m.widths (words_in a.course.base.items) fresh ws c.args.part goes.stands.3 (g.B.Body.left a.course.body - 1) (length a.words.items) c.requires.all
 
@@ -333,7 +333,7 @@ returns-then-not-are_true-clause-left g c =
     let v = g.C.Cells.view c.args.cells.now in
     let fresh = a.renewal.fresh.items in
     let ws = map watched a.renewal.watches.items in
-    let goes = c.requires.goes in
+    let goes = c.requires.before.goes in
     let passes = g.C.Cells.passes c.args.cells.now in
     reclose_over m.widths (words_in a.course.base.items) fresh ws c.args.part goes.stands.3 (g.B.Body.left a.course.body - 1) (length a.words.items) c.requires.all
 
@@ -349,11 +349,11 @@ returns-in_err-words-clause-err g c =
     let v = g.C.Cells.view c.args.cells.now in
     let fresh = a.renewal.fresh.items in
     let ws = map watched a.renewal.watches.items in
-    let goes = c.requires.goes in
+    let goes = c.requires.before.goes in
     let passes = g.C.Cells.passes c.args.cells.now in
     let w = g.C.Cells.view c.close-found.new.self in
     let n = c.close-found.result.0 in
-    always_err c.from_residual.result (IsLeft w × IsPrefix m f w a.at rs) (reclosed_left m law g.T.Naming.valid sizes is f a.at a.renewal.bound c.args.part false a.course.base.items fresh a.course.set.items ws a.course.set.updates rs v goes.spans goes.observed goes.stands.3 c.requires.course.course c.args.ticket a.words.items goes.stands.0 goes.stands.1 c.requires.all w passes n c.close-found.ensures.tells, reclosed_prefix m law g.T.Naming.valid sizes is f a.at a.renewal.bound c.args.part false a.course.base.items fresh a.course.set.items ws a.course.set.updates rs v goes.spans goes.observed goes.stands.3 c.requires.course.course c.args.ticket a.words.items goes.stands.0 goes.stands.1 c.requires.all w passes n c.close-found.ensures.tells)
+    always_err c.from_residual.result (IsLeft w × IsPrefix m f w a.at rs) (reclosed_left m law g.T.Naming.valid sizes is f a.at a.renewal.bound c.args.part false a.course.base.items fresh a.course.set.items ws a.course.set.updates rs v goes.spans goes.observed goes.stands.3 c.requires.before.course.course c.args.ticket a.words.items goes.stands.0 goes.stands.1 c.requires.all w passes n c.close-found.ensures.tells, reclosed_prefix m law g.T.Naming.valid sizes is f a.at a.renewal.bound c.args.part false a.course.base.items fresh a.course.set.items ws a.course.set.updates rs v goes.spans goes.observed goes.stands.3 c.requires.before.course.course c.args.ticket a.words.items goes.stands.0 goes.stands.1 c.requires.all w passes n c.close-found.ensures.tells)
 
 pub returns-then-place-clause-err : goal.returns-then-place-clause-err
 returns-then-place-clause-err g c =
@@ -367,11 +367,11 @@ returns-then-place-clause-err g c =
     let v = g.C.Cells.view c.args.cells.now in
     let fresh = a.renewal.fresh.items in
     let ws = map watched a.renewal.watches.items in
-    let goes = c.requires.goes in
+    let goes = c.requires.before.goes in
     let passes = g.C.Cells.passes c.args.cells.now in
     let w = g.C.Cells.view c.close-found.new.self in
     let n = c.close-found.result.0 in
-    (reclosed_left m law g.T.Naming.valid sizes is f a.at a.renewal.bound c.args.part false a.course.base.items fresh a.course.set.items ws a.course.set.updates rs v goes.spans goes.observed goes.stands.3 c.requires.course.course c.args.ticket a.words.items goes.stands.0 goes.stands.1 c.requires.all w passes n c.close-found.ensures.tells, reclosed_prefix m law g.T.Naming.valid sizes is f a.at a.renewal.bound c.args.part false a.course.base.items fresh a.course.set.items ws a.course.set.updates rs v goes.spans goes.observed goes.stands.3 c.requires.course.course c.args.ticket a.words.items goes.stands.0 goes.stands.1 c.requires.all w passes n c.close-found.ensures.tells)
+    (reclosed_left m law g.T.Naming.valid sizes is f a.at a.renewal.bound c.args.part false a.course.base.items fresh a.course.set.items ws a.course.set.updates rs v goes.spans goes.observed goes.stands.3 c.requires.before.course.course c.args.ticket a.words.items goes.stands.0 goes.stands.1 c.requires.all w passes n c.close-found.ensures.tells, reclosed_prefix m law g.T.Naming.valid sizes is f a.at a.renewal.bound c.args.part false a.course.base.items fresh a.course.set.items ws a.course.set.updates rs v goes.spans goes.observed goes.stands.3 c.requires.before.course.course c.args.ticket a.words.items goes.stands.0 goes.stands.1 c.requires.all w passes n c.close-found.ensures.tells)
 
 pub returns-in_err-push-clause-err : goal.returns-in_err-push-clause-err
 returns-in_err-push-clause-err g c =
@@ -385,11 +385,11 @@ returns-in_err-push-clause-err g c =
     let v = g.C.Cells.view c.args.cells.now in
     let fresh = a.renewal.fresh.items in
     let ws = map watched a.renewal.watches.items in
-    let goes = c.requires.goes in
+    let goes = c.requires.before.goes in
     let passes = g.C.Cells.passes c.args.cells.now in
     let w = g.C.Cells.view c.close-found.new.self in
     let n = c.close-found.result.0 in
-    always_err c.from_residual-in_err-push.result (IsLeft w × IsPrefix m f w a.at rs) (reclosed_left m law g.T.Naming.valid sizes is f a.at a.renewal.bound c.args.part false a.course.base.items fresh a.course.set.items ws a.course.set.updates rs v goes.spans goes.observed goes.stands.3 c.requires.course.course c.args.ticket a.words.items goes.stands.0 goes.stands.1 c.requires.all w passes n c.close-found.ensures.tells, reclosed_prefix m law g.T.Naming.valid sizes is f a.at a.renewal.bound c.args.part false a.course.base.items fresh a.course.set.items ws a.course.set.updates rs v goes.spans goes.observed goes.stands.3 c.requires.course.course c.args.ticket a.words.items goes.stands.0 goes.stands.1 c.requires.all w passes n c.close-found.ensures.tells)
+    always_err c.from_residual-in_err-push.result (IsLeft w × IsPrefix m f w a.at rs) (reclosed_left m law g.T.Naming.valid sizes is f a.at a.renewal.bound c.args.part false a.course.base.items fresh a.course.set.items ws a.course.set.updates rs v goes.spans goes.observed goes.stands.3 c.requires.before.course.course c.args.ticket a.words.items goes.stands.0 goes.stands.1 c.requires.all w passes n c.close-found.ensures.tells, reclosed_prefix m law g.T.Naming.valid sizes is f a.at a.renewal.bound c.args.part false a.course.base.items fresh a.course.set.items ws a.course.set.updates rs v goes.spans goes.observed goes.stands.3 c.requires.before.course.course c.args.ticket a.words.items goes.stands.0 goes.stands.1 c.requires.all w passes n c.close-found.ensures.tells)
 
 pub returns-clause-err : goal.returns-clause-err
 returns-clause-err g c =
@@ -403,7 +403,7 @@ returns-clause-err g c =
     let v = g.C.Cells.view c.args.cells.now in
     let fresh = a.renewal.fresh.items in
     let ws = map watched a.renewal.watches.items in
-    let goes = c.requires.goes in
+    let goes = c.requires.before.goes in
     let w = g.C.Cells.view c.close-found.new.self in
     let passes = g.C.Cells.passes c.args.cells.now in
     let n = c.close-found.result.0 in
@@ -419,10 +419,10 @@ returns-clause-err g c =
     let y : Sight = record { part = c.args.part; ticket = c.args.ticket; words = c.in_ok-words.words } in
     let made : c.push.new.self.items ≡ fresh ++ y ∷ [] = c.in_ok-push.ensures.ok in
     let hold : AllTrueIn a.words.items next.next.preds = subst (λ (l : List Pred). AllTrueIn a.words.items l) (c.as_slice.ensures.items ∙ sym same_preds) (subst (λ (l : List ℤ). AllTrueIn l c.as_slice.result.now) c.as_slice-2.ensures.items (c.are_true.ensures.0 c.if-not-are_true.false)) in
-    let h = reclosed_renewed m law g.T.Naming.valid sizes is f a.at a.renewal.bound c.args.part false a.course.base.items fresh a.course.set.items ws a.course.set.updates rs v goes.spans goes.observed goes.stands.3 c.requires.course.course c.args.ticket a.words.items goes.stands.0 goes.stands.1 c.requires.all w passes n c.close-found.ensures.tells free same y refl refl c.in_ok-words.ensures refl hold in
-    let spans = reclosed_spans m law g.T.Naming.valid sizes is f a.at a.renewal.bound c.args.part false a.course.base.items fresh a.course.set.items ws a.course.set.updates rs v goes.spans goes.observed goes.stands.3 c.requires.course.course c.args.ticket a.words.items goes.stands.0 goes.stands.1 c.requires.all w passes n c.close-found.ensures.tells free same y refl refl c.in_ok-words.ensures in
+    let h = reclosed_renewed m law g.T.Naming.valid sizes is f a.at a.renewal.bound c.args.part false a.course.base.items fresh a.course.set.items ws a.course.set.updates rs v goes.spans goes.observed goes.stands.3 c.requires.before.course.course c.args.ticket a.words.items goes.stands.0 goes.stands.1 c.requires.all w passes n c.close-found.ensures.tells free same y refl refl c.in_ok-words.ensures refl hold in
+    let spans = reclosed_spans m law g.T.Naming.valid sizes is f a.at a.renewal.bound c.args.part false a.course.base.items fresh a.course.set.items ws a.course.set.updates rs v goes.spans goes.observed goes.stands.3 c.requires.before.course.course c.args.ticket a.words.items goes.stands.0 goes.stands.1 c.requires.all w passes n c.close-found.ensures.tells free same y refl refl c.in_ok-words.ensures in
     let now = map told c.advance.new.self.course.replies.items in
-    let left : IsLeft w = reclosed_left m law g.T.Naming.valid sizes is f a.at a.renewal.bound c.args.part false a.course.base.items fresh a.course.set.items ws a.course.set.updates rs v goes.spans goes.observed goes.stands.3 c.requires.course.course c.args.ticket a.words.items goes.stands.0 goes.stands.1 c.requires.all w passes n c.close-found.ensures.tells in
+    let left : IsLeft w = reclosed_left m law g.T.Naming.valid sizes is f a.at a.renewal.bound c.args.part false a.course.base.items fresh a.course.set.items ws a.course.set.updates rs v goes.spans goes.observed goes.stands.3 c.requires.before.course.course c.args.ticket a.words.items goes.stands.0 goes.stands.1 c.requires.all w passes n c.close-found.ensures.tells in
     err_both c.advance.result (IsLeft w) (IsPrefix m f w c.advance.new.self.at now) (always_err c.advance.result (IsLeft w) left)
     (c.advance.ensures.stopped w (subst (λ (l : List Sight). Spans m g.T.Naming.valid sizes a.at a.renewal.bound a.course.base.items l w) (sym made) spans.0))
 
@@ -438,7 +438,7 @@ returns-clause-left g c =
     let v = g.C.Cells.view c.args.cells.now in
     let fresh = a.renewal.fresh.items in
     let ws = map watched a.renewal.watches.items in
-    let goes = c.requires.goes in
+    let goes = c.requires.before.goes in
     let w = g.C.Cells.view c.close-found.new.self in
     let passes = g.C.Cells.passes c.args.cells.now in
     let n = c.close-found.result.0 in
@@ -454,7 +454,7 @@ returns-clause-left g c =
     let y : Sight = record { part = c.args.part; ticket = c.args.ticket; words = c.in_ok-words.words } in
     let made : c.push.new.self.items ≡ fresh ++ y ∷ [] = c.in_ok-push.ensures.ok in
     let hold : AllTrueIn a.words.items next.next.preds = subst (λ (l : List Pred). AllTrueIn a.words.items l) (c.as_slice.ensures.items ∙ sym same_preds) (subst (λ (l : List ℤ). AllTrueIn l c.as_slice.result.now) c.as_slice-2.ensures.items (c.are_true.ensures.0 c.if-not-are_true.false)) in
-    let h = reclosed_renewed m law g.T.Naming.valid sizes is f a.at a.renewal.bound c.args.part false a.course.base.items fresh a.course.set.items ws a.course.set.updates rs v goes.spans goes.observed goes.stands.3 c.requires.course.course c.args.ticket a.words.items goes.stands.0 goes.stands.1 c.requires.all w passes n c.close-found.ensures.tells free same y refl refl c.in_ok-words.ensures refl hold in
+    let h = reclosed_renewed m law g.T.Naming.valid sizes is f a.at a.renewal.bound c.args.part false a.course.base.items fresh a.course.set.items ws a.course.set.updates rs v goes.spans goes.observed goes.stands.3 c.requires.before.course.course c.args.ticket a.words.items goes.stands.0 goes.stands.1 c.requires.all w passes n c.close-found.ensures.tells free same y refl refl c.in_ok-words.ensures refl hold in
     let b = c.advance.new.self in
     let gone : drop (length c.push.new.self.items) ws ≡ next.more = ap (λ (l : List Sight). drop (length l) ws) made ∙ left_watches (length m.widths) old (fresh ++ y ∷ []) ws next.more h in
     let before = g.B.Body.left a.course.body in
@@ -465,4 +465,4 @@ returns-clause-left g c =
     (reclose_fewer m.widths old fresh ws c.args.part next (before - 1) (length a.words.items) now c.requires.all) fewer
 
 pub advance-requires-clause-bound : goal.advance-requires-clause-bound
-advance-requires-clause-bound g c = omega (arith, c.requires.goes.spans.above)
+advance-requires-clause-bound g c = omega (arith, c.requires.before.goes.spans.above)

@@ -1,4 +1,4 @@
-use Rattle.std.proofs.Common.{◌≡◌, ◌≤◌, ◌<◌, true, false, List, ℤ, ℕ, [], ap, sym, ◌∙◌, subst, map, length, arith, refl}
+use Rattle.std.proofs.Common.{rules, ◌≡◌, ◌≤◌, ◌<◌, true, false, List, ℤ, ℕ, [], ap, sym, ◌∙◌, subst, map, length, arith, refl}
 use Rattle.sto_part.specs.Listed.{Listed}
 use Rattle.sto_item.specs.Watched.{watched}
 use Rattle.sto_model.specs.Told.{told}
@@ -14,6 +14,7 @@ use Rattle.std.proofs.Common.{◌-◌, ◌+◌, drop}
 use Rattle.sto_course.specs.Bounds.{left_extending}
 use Rattle.sto_course.proofs.Lowering.{reopen_over, reopen_fewer}
 use Rattle.sto_course.proofs.Causing.{by_open}
+use Rattle.sto_course.proofs.Onward.{heard_none}
 use Rattle.sto_attempt.proofs.attempt.Attempt.reopen.Goals as goal
 
 pub open-found-requires : goal.open-found-requires
@@ -31,8 +32,8 @@ open-found-requires g c =
     let goes = c.requires.goes in
     reopen_allowed m law g.T.Naming.valid sizes is f a.at a.renewal.bound c.args.part false a.course.base.items fresh a.course.set.items ws a.course.set.updates rs v goes.spans goes.observed goes.stands.1 c.requires.course.course goes.stands.0
 
-pub returns-then-is_locked-clause-turned : goal.returns-then-is_locked-clause-turned
-returns-then-is_locked-clause-turned g c =
+pub returns-then-is_locked-clause-steps : goal.returns-then-is_locked-clause-steps
+returns-then-is_locked-clause-steps g c =
     let a = c.args.self.now in
     let m = g.T.TxType.meaning a.course.ty.now in
     let law = g.met.T.TxType.lawful a.course.ty.now in
@@ -49,10 +50,23 @@ returns-then-is_locked-clause-turned g c =
     let n = c.open-found.result.0 in
     let locked : is_free n ≡ false = unlocked_is (is_free n) (sym c.is_locked.ensures ∙ c.if-is_locked.true) in
     let h = reopened_locked m law g.T.Naming.valid sizes is f a.at a.renewal.bound c.args.part false a.course.base.items fresh a.course.set.items ws a.course.set.updates rs v goes.spans goes.observed goes.stands.1 c.requires.course.course goes.stands.0 w passes n c.open-found.ensures.tells locked in
-    (refl, h.0, reopened_within m law g.T.Naming.valid sizes is f a.at a.renewal.bound c.args.part false a.course.base.items fresh a.course.set.items ws a.course.set.updates rs v goes.spans goes.observed goes.stands.1 c.requires.course.course goes.stands.0 w passes n c.open-found.ensures.tells, (refl, h.1))
+    record {
+      event = search rules;
+      course = c.requires.course;
+      turned = (refl, h.0, reopened_within m law g.T.Naming.valid sizes is f a.at a.renewal.bound c.args.part false a.course.base.items fresh a.course.set.items ws a.course.set.updates rs v goes.spans goes.observed goes.stands.1 c.requires.course.course goes.stands.0 w passes n c.open-found.ensures.tells, (refl, h.1));
+      grown = heard_none _ _ _ _ _;
+      alone = λ one first. absurd first;
+      reason = search rules;
+      renewed = (refl, λ e. (e, refl));
+      moves = (tt, omega arith);
+      left = reopen_over m.widths (words_in a.course.base.items) fresh ws c.args.part goes.stands.1 (g.B.Body.left a.course.body - 1);
+      err = tt;
+      script = refl;
+      ty = refl;
+    }
 
-pub returns-then-ticket-self-clause-turned : goal.returns-then-ticket-self-clause-turned
-returns-then-ticket-self-clause-turned g c =
+pub returns-then-ticket-self-clause-steps : goal.returns-then-ticket-self-clause-steps
+returns-then-ticket-self-clause-steps g c =
     let a = c.args.self.now in
     let m = g.T.TxType.meaning a.course.ty.now in
     let law = g.met.T.TxType.lawful a.course.ty.now in
@@ -70,10 +84,23 @@ returns-then-ticket-self-clause-turned g c =
     let free : is_free n ≡ true = locked_is (is_free n) (sym c.is_locked.ensures ∙ c.if-is_locked.false) in
     let later : a.renewal.bound < ticket_of n = omega (arith, c.if-ticket-self.true, c.ticket-ticket.ensures.ticket) in
     let h = reopened_changed m law g.T.Naming.valid sizes is f a.at a.renewal.bound c.args.part false a.course.base.items fresh a.course.set.items ws a.course.set.updates rs v goes.spans goes.observed goes.stands.1 c.requires.course.course goes.stands.0 w passes n c.open-found.ensures.tells free later in
-    (refl, h.0, reopened_within m law g.T.Naming.valid sizes is f a.at a.renewal.bound c.args.part false a.course.base.items fresh a.course.set.items ws a.course.set.updates rs v goes.spans goes.observed goes.stands.1 c.requires.course.course goes.stands.0 w passes n c.open-found.ensures.tells, (refl, subst (λ (k : ℕ). WasChanged m f w a.at c.args.part k rs) (sym c.ticket-ticket.ensures.ticket) h.1))
+    record {
+      event = search rules;
+      course = c.requires.course;
+      turned = (refl, h.0, reopened_within m law g.T.Naming.valid sizes is f a.at a.renewal.bound c.args.part false a.course.base.items fresh a.course.set.items ws a.course.set.updates rs v goes.spans goes.observed goes.stands.1 c.requires.course.course goes.stands.0 w passes n c.open-found.ensures.tells, (refl, subst (λ (k : ℕ). WasChanged m f w a.at c.args.part k rs) (sym c.ticket-ticket.ensures.ticket) h.1));
+      grown = heard_none _ _ _ _ _;
+      alone = λ one first. absurd first;
+      reason = by_open a.course.set.items (g.C.Cells.view c.open-found.new.self) c.args.part c.ticket-ticket.result a.renewal.extended a.renewal.bound c.requires.goes.extended c.if-ticket-self.true;
+      renewed = (refl, λ e. (e, refl));
+      moves = (tt, omega arith);
+      left = reopen_over m.widths (words_in a.course.base.items) fresh ws c.args.part goes.stands.1 (g.B.Body.left a.course.body - 1);
+      err = tt;
+      script = refl;
+      ty = refl;
+    }
 
-pub returns-clause-turned : goal.returns-clause-turned
-returns-clause-turned g c =
+pub returns-clause-steps : goal.returns-clause-steps
+returns-clause-steps g c =
     let a = c.args.self.now in
     let m = g.T.TxType.meaning a.course.ty.now in
     let law = g.met.T.TxType.lawful a.course.ty.now in
@@ -93,60 +120,19 @@ returns-clause-turned g c =
     let h = reopened_goes m law g.T.Naming.valid sizes is f a.at a.renewal.bound c.args.part false a.course.base.items fresh a.course.set.items ws a.course.set.updates rs v goes.spans goes.observed goes.stands.1 c.requires.course.course goes.stands.0 w passes n c.open-found.ensures.tells free early in
     let none : c.new.result.items ≡ [] = ap (λ (l : Listed ℤ). l.items) c.new.ensures in
     let made : Renews m g.T.Naming.valid sizes a.at (Rereading c.args.part (ticket_of n)) [] a.renewal a.course.base.items a.course.set.items w = record { spans = h.0; observed = goes.observed; extended = goes.extended; stands = (h.1, early, omega arith, goes.stands.1) } in
-    subst (λ (ks : List ℤ). Renews m g.T.Naming.valid sizes a.at (Rereading c.args.part c.ticket-ticket.result) ks a.renewal a.course.base.items a.course.set.items w) (sym none)
-    (subst (λ (k : ℕ). Renews m g.T.Naming.valid sizes a.at (Rereading c.args.part k) [] a.renewal a.course.base.items a.course.set.items w) (sym c.ticket-ticket.ensures.ticket) made)
-
-pub returns-then-ticket-self-clause-reason : goal.returns-then-ticket-self-clause-reason
-returns-then-ticket-self-clause-reason g c =
-    let a = c.args.self.now in
-    by_open a.course.set.items (g.C.Cells.view c.open-found.new.self) c.args.part c.ticket-ticket.result a.renewal.extended a.renewal.bound c.requires.goes.extended c.if-ticket-self.true
-
-pub returns-then-is_locked-clause-left : goal.returns-then-is_locked-clause-left
-returns-then-is_locked-clause-left g c =
-    let a = c.args.self.now in
-    let m = g.T.TxType.meaning a.course.ty.now in
-    let law = g.met.T.TxType.lawful a.course.ty.now in
-    let sizes = g.T.Naming.sizes a.course.ty.now in
-    let is : (d : Parts) → g.T.Naming.valid sizes d → m.valid d = λ d h. (g.met.T.TxType.valid_is a.course.ty.now d).1 h in
-    let f = g.B.Body.script a.course.body in
-    let rs = map told a.course.replies.items in
-    let v = g.C.Cells.view c.args.cells.now in
-    let fresh = a.renewal.fresh.items in
-    let ws = map watched a.renewal.watches.items in
-    let goes = c.requires.goes in
-    let passes = g.C.Cells.passes c.args.cells.now in
-    reopen_over m.widths (words_in a.course.base.items) fresh ws c.args.part goes.stands.1 (g.B.Body.left a.course.body - 1)
-
-pub returns-then-ticket-self-clause-left : goal.returns-then-ticket-self-clause-left
-returns-then-ticket-self-clause-left g c =
-    let a = c.args.self.now in
-    let m = g.T.TxType.meaning a.course.ty.now in
-    let law = g.met.T.TxType.lawful a.course.ty.now in
-    let sizes = g.T.Naming.sizes a.course.ty.now in
-    let is : (d : Parts) → g.T.Naming.valid sizes d → m.valid d = λ d h. (g.met.T.TxType.valid_is a.course.ty.now d).1 h in
-    let f = g.B.Body.script a.course.body in
-    let rs = map told a.course.replies.items in
-    let v = g.C.Cells.view c.args.cells.now in
-    let fresh = a.renewal.fresh.items in
-    let ws = map watched a.renewal.watches.items in
-    let goes = c.requires.goes in
-    let passes = g.C.Cells.passes c.args.cells.now in
-    reopen_over m.widths (words_in a.course.base.items) fresh ws c.args.part goes.stands.1 (g.B.Body.left a.course.body - 1)
-
-pub returns-clause-left : goal.returns-clause-left
-returns-clause-left g c =
-    let a = c.args.self.now in
-    let m = g.T.TxType.meaning a.course.ty.now in
-    let law = g.met.T.TxType.lawful a.course.ty.now in
-    let sizes = g.T.Naming.sizes a.course.ty.now in
-    let is : (d : Parts) → g.T.Naming.valid sizes d → m.valid d = λ d h. (g.met.T.TxType.valid_is a.course.ty.now d).1 h in
-    let f = g.B.Body.script a.course.body in
-    let rs = map told a.course.replies.items in
-    let v = g.C.Cells.view c.args.cells.now in
-    let fresh = a.renewal.fresh.items in
-    let ws = map watched a.renewal.watches.items in
-    let goes = c.requires.goes in
-    let passes = g.C.Cells.passes c.args.cells.now in
-    let none : c.new.result.items ≡ [] = ap (λ (l : Listed ℤ). l.items) c.new.ensures in
     let most = left_extending (g.B.Body.left a.course.body - 1) m.widths (drop (length fresh) ws) in
-    subst (λ (l : List ℤ). most - (1 + length l) < most) (sym none) (reopen_fewer m.widths (words_in a.course.base.items) fresh ws c.args.part goes.stands.1 (g.B.Body.left a.course.body - 1))
+    record {
+      event = search rules;
+      course = c.requires.course;
+      turned = subst (λ (ks : List ℤ). Renews m g.T.Naming.valid sizes a.at (Rereading c.args.part c.ticket-ticket.result) ks a.renewal a.course.base.items a.course.set.items w) (sym none)
+          (subst (λ (k : ℕ). Renews m g.T.Naming.valid sizes a.at (Rereading c.args.part k) [] a.renewal a.course.base.items a.course.set.items w) (sym c.ticket-ticket.ensures.ticket) made);
+      grown = heard_none _ _ _ _ _;
+      alone = λ one first. absurd first;
+      reason = search rules;
+      renewed = (refl, λ e. (e, refl));
+      moves = (tt, omega arith);
+      left = subst (λ (l : List ℤ). most - (1 + length l) < most) (sym none) (reopen_fewer m.widths (words_in a.course.base.items) fresh ws c.args.part goes.stands.1 (g.B.Body.left a.course.body - 1));
+      err = tt;
+      script = refl;
+      ty = refl;
+    }

@@ -34,8 +34,8 @@ word-value-requires g c =
     let v = g.C.Cells.view c.args.cells.now in
     let fresh = a.renewal.fresh.items in
     let ws = map watched a.renewal.watches.items in
-    let goes = c.requires.goes in
-    subst (λ (i : ℕ). Allowed g.T.Naming.valid (Word c.args.part i) v) (sym c.len.ensures) (reread_allowed m law g.T.Naming.valid sizes is f a.at a.renewal.bound c.args.part false a.course.base.items fresh a.course.set.items ws a.course.set.updates rs v goes.spans goes.observed goes.stands.3 c.requires.course.course c.args.ticket a.words.items goes.stands.0 goes.stands.1 c.requires.more)
+    let goes = c.requires.before.goes in
+    subst (λ (i : ℕ). Allowed g.T.Naming.valid (Word c.args.part i) v) (sym c.len.ensures) (reread_allowed m law g.T.Naming.valid sizes is f a.at a.renewal.bound c.args.part false a.course.base.items fresh a.course.set.items ws a.course.set.updates rs v goes.spans goes.observed goes.stands.3 c.requires.before.course.course c.args.ticket a.words.items goes.stands.0 goes.stands.1 c.requires.more)
 
 pub returns-clause-turned : goal.returns-clause-turned
 returns-clause-turned g c =
@@ -49,14 +49,14 @@ returns-clause-turned g c =
     let v = g.C.Cells.view c.args.cells.now in
     let fresh = a.renewal.fresh.items in
     let ws = map watched a.renewal.watches.items in
-    let goes = c.requires.goes in
+    let goes = c.requires.before.goes in
     let w = g.C.Cells.view c.word-value.new.self in
     let passes = g.C.Cells.passes c.args.cells.now in
     let x = c.word-value.result in
     let fit : FitsSigned w64 x = search rules in
     let pushed : c.push.new.self.items ≡ a.words.items ++ x ∷ [] = simp to_z-of_z at c.in_ok-push.ensures.ok in
     let tells : Tells g.T.Naming.valid passes (Word c.args.part (length a.words.items)) v 0 x w = subst (λ (i : ℕ). Tells g.T.Naming.valid passes (Word c.args.part i) v 0 x w) c.len.ensures c.word-value.ensures.tells in
-    let h = reread_goes m law g.T.Naming.valid sizes is f a.at a.renewal.bound c.args.part false a.course.base.items fresh a.course.set.items ws a.course.set.updates rs v goes.spans goes.observed goes.stands.3 c.requires.course.course c.args.ticket a.words.items goes.stands.0 goes.stands.1 w passes 0 x tells in
+    let h = reread_goes m law g.T.Naming.valid sizes is f a.at a.renewal.bound c.args.part false a.course.base.items fresh a.course.set.items ws a.course.set.updates rs v goes.spans goes.observed goes.stands.3 c.requires.before.course.course c.args.ticket a.words.items goes.stands.0 goes.stands.1 w passes 0 x tells in
     let made : Renews m g.T.Naming.valid sizes a.at (Rereading c.args.part c.args.ticket) (a.words.items ++ x ∷ []) a.renewal a.course.base.items a.course.set.items w =
     record { spans = h.0; observed = goes.observed; extended = goes.extended; stands = (h.1, goes.stands.1, omega (arith, c.requires.more, length-append a.words.items (x ∷ [])), goes.stands.3) } in
     subst (λ (s : Stand). Goes m g.T.Naming.valid sizes f a.at s c.push.new.self.items a.renewal a.course.base.items a.course.set.items a.course.set.updates rs w) (sym c.requires.stand)
@@ -74,7 +74,7 @@ returns-clause-left g c =
     let v = g.C.Cells.view c.args.cells.now in
     let fresh = a.renewal.fresh.items in
     let ws = map watched a.renewal.watches.items in
-    let goes = c.requires.goes in
+    let goes = c.requires.before.goes in
     let passes = g.C.Cells.passes c.args.cells.now in
     let x = c.word-value.result in
     let fit : FitsSigned w64 x = search rules in
@@ -98,14 +98,14 @@ returns-in_err-push-clause-err g c =
     let v = g.C.Cells.view c.args.cells.now in
     let fresh = a.renewal.fresh.items in
     let ws = map watched a.renewal.watches.items in
-    let goes = c.requires.goes in
+    let goes = c.requires.before.goes in
     let passes = g.C.Cells.passes c.args.cells.now in
     let w = g.C.Cells.view c.word-value.new.self in
     let x = c.word-value.result in
     let tells : Tells g.T.Naming.valid passes (Word c.args.part (length a.words.items)) v 0 x w = subst (λ (i : ℕ). Tells g.T.Naming.valid passes (Word c.args.part i) v 0 x w) c.len.ensures c.word-value.ensures.tells in
-    let h = reread_goes m law g.T.Naming.valid sizes is f a.at a.renewal.bound c.args.part false a.course.base.items fresh a.course.set.items ws a.course.set.updates rs v goes.spans goes.observed goes.stands.3 c.requires.course.course c.args.ticket a.words.items goes.stands.0 goes.stands.1 w passes 0 x tells in
+    let h = reread_goes m law g.T.Naming.valid sizes is f a.at a.renewal.bound c.args.part false a.course.base.items fresh a.course.set.items ws a.course.set.updates rs v goes.spans goes.observed goes.stands.3 c.requires.before.course.course c.args.ticket a.words.items goes.stands.0 goes.stands.1 w passes 0 x tells in
     always_err c.from_residual.result (IsLeft w × IsPrefix m f w a.at rs)
-    (left_idle m g.T.Naming.valid sizes a.at a.renewal.bound a.course.base.items fresh f rs w h.0 (subst IsIdle (sym h.1) tt), prefix m f w a.at a.course.base.items a.course.set.items a.course.set.updates rs c.requires.course.course h.0.claimed)
+    (left_idle m g.T.Naming.valid sizes a.at a.renewal.bound a.course.base.items fresh f rs w h.0 (subst IsIdle (sym h.1) tt), prefix m f w a.at a.course.base.items a.course.set.items a.course.set.updates rs c.requires.before.course.course h.0.claimed)
 
 pub returns-clause-moves : goal.returns-clause-moves
 returns-clause-moves g c = (subst HasBegun (sym c.requires.stand) tt, omega arith)

@@ -33,9 +33,9 @@ returns-clause-turned g c =
     let pushed : c.push.new.self.items ≡ a.words.items ++ x ∷ [] = simp to_z-of_z at c.in_ok-push.ensures.ok in
     let tells : Tells g.T.Naming.valid passes (Word c.args.part (length a.words.items)) v 0 x w = subst (λ (i : ℕ). Tells g.T.Naming.valid passes (Word c.args.part i) v 0 x w) c.len.ensures c.word-value.ensures.tells in
     let h =
-    word_goes m g.T.Naming.valid sizes f a.at c.args.part c.args.ticket a.words.items a.course.base.items a.course.set.items a.course.set.updates rs v c.requires.fits w passes 0 x tells c.requires.more in
+    word_goes m g.T.Naming.valid sizes f a.at c.args.part c.args.ticket a.words.items a.course.base.items a.course.set.items a.course.set.updates rs v c.requires.before.goes.0 w passes 0 x tells c.requires.more in
     subst (λ (s : Stand). Goes m g.T.Naming.valid sizes f a.at s c.push.new.self.items a.renewal a.course.base.items a.course.set.items a.course.set.updates rs w) (sym c.requires.stand)
-    (subst (λ (ws : List ℤ). Fits m g.T.Naming.valid sizes f a.at (Reading c.args.part c.args.ticket) ws a.course.base.items a.course.set.updates rs w) (sym pushed) h, c.requires.as_of)
+    (subst (λ (ws : List ℤ). Fits m g.T.Naming.valid sizes f a.at (Reading c.args.part c.args.ticket) ws a.course.base.items a.course.set.updates rs w) (sym pushed) h, c.requires.before.goes.1)
 
 pub returns-clause-alone : goal.returns-clause-alone
 returns-clause-alone g c = (subst IsFirst (sym c.requires.stand) tt, tt)
@@ -60,7 +60,7 @@ returns-clause-left g c =
     let most = left_opening (calls - 1) m.widths a.renewal.extended (words_in base) in
     subst (λ (s : Stand). events_left calls m.widths s c.push.new.self.items a.renewal base < most - (1 + length a.words.items)) (sym c.requires.stand)
     (subst (λ (k : ℕ). most - (1 + k) < most - (1 + length a.words.items)) (sym longer)
-    (word_fewer m law f rs c.args.part base c.requires.fits.awaits (calls - 1) a.renewal.extended (length a.words.items) c.requires.more))
+    (word_fewer m law f rs c.args.part base c.requires.before.goes.0.awaits (calls - 1) a.renewal.extended (length a.words.items) c.requires.more))
 
 pub returns-in_err-push-clause-err : goal.returns-in_err-push-clause-err
 returns-in_err-push-clause-err g c =
@@ -78,7 +78,7 @@ returns-in_err-push-clause-err g c =
     let x = c.word-value.result in
     let tells : Tells valid passes (Word c.args.part (length a.words.items)) v 0 x w = subst (λ (i : ℕ). Tells valid passes (Word c.args.part i) v 0 x w) c.len.ensures c.word-value.ensures.tells in
     always_err c.from_residual.result (IsLeft w × IsPrefix m f w a.at rs)
-    (word_stops m valid sizes f a.at c.args.part c.args.ticket a.words.items base a.course.set.items a.course.set.updates rs v c.requires.fits w passes 0 x tells c.requires.more c.requires.course.course)
+    (word_stops m valid sizes f a.at c.args.part c.args.ticket a.words.items base a.course.set.items a.course.set.updates rs v c.requires.before.goes.0 w passes 0 x tells c.requires.more c.requires.before.course.course)
 
 pub returns-clause-moves : goal.returns-clause-moves
 returns-clause-moves g c = (subst HasBegun (sym c.requires.stand) tt, refl)

@@ -1,12 +1,13 @@
-use Rattle.std.proofs.Common.{inr, ◌⊎◌, ◌≡◌, ◌≢◌, ◌+◌, ◌∙◌, ℕ, true, false, sym, subst, map, arith}
-use Rattle.sto_model.specs.Told.{told}
+use Rattle.std.proofs.Common.{inr, ◌⊎◌, ◌≡◌, ◌≢◌, ◌+◌, ◌∙◌, ℕ, true, false, sym, subst, arith, rules, refl}
 use Rattle.sto_core.specs.Event.{is_own_or_free}
 use Rattle.sto_core.specs.Versions.{ticket_of, is_free}
 use Rattle.sto_core.proofs.Lists.{locked_is, unlocked_is}
 use Rattle.sto_course.specs.declared.verdict.Verdict.TheVariants.{Changed}
-use Rattle.sto_course.specs.Stages.{Deal, deal, IsDropping}
+use Rattle.sto_course.specs.Stages.{IsDropping}
 use Rattle.sto_course.proofs.Checks.{may_check, check_locked, check_changed, check_goes, expected_is, own_free, own_written}
 use Rattle.sto_course.proofs.Aiming.{checks_next, is_in}
+use Rattle.sto_attempt.specs.Traits.{of_type}
+use Rattle.sto_attempt.specs.Commits.{deal_of}
 use Rattle.sto_attempt.proofs.ready.Ready.check.Goals.{else-is_locked-via-then-is_locked+else-not-is_written, else-is_locked-via-else-is_locked}
 use Rattle.sto_course.proofs.Remaining.{check_lowers, refuse_lowers}
 use Rattle.sto_course.proofs.Space.{space_checks}
@@ -21,183 +22,121 @@ use Rattle.sto_attempt.proofs.ready.Ready.check.Goals as goal
 pub check-found-requires : goal.check-found-requires
 check-found-requires g c =
     let a = c.args.self.now in
-    let m = g.T.TxType.meaning a.course.ty.now in
     let law = g.met.T.TxType.lawful a.course.ty.now in
-    let valid = g.T.Naming.valid in
-    let d : Deal = deal m valid (g.T.Naming.sizes a.course.ty.now) (g.B.Body.script a.course.body) a.at a.course.base.items a.course.set.items (map told a.course.replies.items) a.updates.items a.seen.items a.loaded.items a.tasks.items a.checks.items a.places.items in
+    let d = deal_of (of_type g.T.Naming g.T.TxType) g.B.Body a in
     let v = g.C.Cells.view c.args.cells.now in
     let h = c.requires.stands.1 in
     let p = c.get-part.result.now in
     may_check d law c.args.place c.args.ticket a.finds a.loads.items v h p c.get-part.ensures
 
-pub returns-then-not-is_written-clause-said : goal.returns-then-not-is_written-clause-said
-returns-then-not-is_written-clause-said g c =
-    let a = c.args.self.now in
-    let m = g.T.TxType.meaning a.course.ty.now in
-    let law = g.met.T.TxType.lawful a.course.ty.now in
-    let valid = g.T.Naming.valid in
-    let d : Deal = deal m valid (g.T.Naming.sizes a.course.ty.now) (g.B.Body.script a.course.body) a.at a.course.base.items a.course.set.items (map told a.course.replies.items) a.updates.items a.seen.items a.loaded.items a.tasks.items a.checks.items a.places.items in
-    let v = g.C.Cells.view c.args.cells.now in
-    let h = c.requires.stands.1 in
-    let p = c.get-part.result.now in
-    let w = g.C.Cells.view c.check-found.new.self in
-    let n = c.check-found.result.0 in
-    let busy : is_free n ≡ false = unlocked_is (is_free n) (sym c.is_locked.ensures ∙ c.if-is_locked.true) in
-    let other = is_in c.as_slice.result.now a.updates.items p c.is_written.result false c.as_slice.ensures.items c.is_written.ensures c.if-not-is_written.true in
-    check_locked d law c.args.place c.args.ticket a.finds a.loads.items v h p c.get-part.ensures w _ n _ c.check-found.ensures.tells busy other
-
 pub expected-requires : goal.expected-requires
-expected-requires g c = c.requires.stands.1.planned.seen_rise
+expected-requires g c =
+    c.requires.stands.1.planned.seen_rise
 
-pub returns-then-newer-expected-clause-said : goal.returns-then-newer-expected-clause-said
-returns-then-newer-expected-clause-said g c =
+pub returns-then-not-is_written-clause-advances : goal.returns-then-not-is_written-clause-advances
+returns-then-not-is_written-clause-advances g c =
     let a = c.args.self.now in
-    let m = g.T.TxType.meaning a.course.ty.now in
     let law = g.met.T.TxType.lawful a.course.ty.now in
-    let valid = g.T.Naming.valid in
-    let d : Deal = deal m valid (g.T.Naming.sizes a.course.ty.now) (g.B.Body.script a.course.body) a.at a.course.base.items a.course.set.items (map told a.course.replies.items) a.updates.items a.seen.items a.loaded.items a.tasks.items a.checks.items a.places.items in
+    let d = deal_of (of_type g.T.Naming g.T.TxType) g.B.Body a in
     let v = g.C.Cells.view c.args.cells.now in
-    let h = c.requires.stands.1 in
     let p = c.get-part.result.now in
     let w = g.C.Cells.view c.check-found.new.self in
     let n = c.check-found.result.0 in
-    let own : is_own_or_free v p n ≡ true = elim c.else-is_locked.branch [
-      | else-is_locked-via-then-is_locked+else-not-is_written x ↦ own_written d c.args.place c.args.ticket a.finds a.loads.items v h p n (is_in x.as_slice.result.now a.updates.items p x.is_written.result true x.as_slice.ensures.items x.is_written.ensures x.if-not-is_written.false)
-      | else-is_locked-via-else-is_locked x ↦ own_free d c.args.place c.args.ticket a.finds a.loads.items v h p n (locked_is (is_free n) (sym c.is_locked.ensures ∙ x.if-is_locked.false))
-    ] in
-    let is = expected_is d law c.args.place c.args.ticket a.finds a.loads.items v h p c.get-part.ensures c.expected.result c.expected.ensures in
+    let busy : is_free n ≡ false = unlocked_is (is_free n) (sym c.is_locked.ensures ∙ c.if-is_locked.true) in
+    let other = is_in c.as_slice.result.now a.updates.items p c.is_written.result false c.as_slice.ensures.items c.is_written.ensures c.if-not-is_written.true in
+    let k = c.args.place in
+    record {
+      event = search rules;
+      said =
+          let h = c.requires.stands.1 in
+          check_locked d law c.args.place c.args.ticket a.finds a.loads.items v h p c.get-part.ensures w _ n _ c.check-found.ensures.tells busy other;
+      space = search rules;
+      left =
+          let h = c.requires.stands in
+          refuse_lowers d k h.0;
+      reason = λ y e. inr (subst (λ z. HasReason a.course.set.items w z) e tt);
+      alone =
+          let h = c.requires.stands.1 in
+          λ one quiet. absurd (not_busy v p n (c.check-found.ensures.tells.learns.alone one) (check_unheld d law c.args.place c.args.ticket a.finds a.loads.items v h p c.get-part.ensures other) busy);
+      by = search rules;
+      kept = refl;
+    }
+
+pub returns-then-newer-expected-clause-advances : goal.returns-then-newer-expected-clause-advances
+returns-then-newer-expected-clause-advances g c =
+    let a = c.args.self.now in
+    let law = g.met.T.TxType.lawful a.course.ty.now in
+    let d = deal_of (of_type g.T.Naming g.T.TxType) g.B.Body a in
+    let v = g.C.Cells.view c.args.cells.now in
+    let p = c.get-part.result.now in
+    let w = g.C.Cells.view c.check-found.new.self in
+    let n = c.check-found.result.0 in
     let ne : ticket_of n ≢ c.expected.result = λ e. c.if-newer-expected.true (c.ticket-newer.ensures.ticket ∙ e) in
-    let it = check_changed d law c.args.place c.args.ticket a.finds a.loads.items v h p c.get-part.ensures w _ n _ c.check-found.ensures.tells own c.expected.result is ne in
-    subst (λ (t : ℕ). IsDropping d c.args.ticket (Changed a.at p t) w) (sym c.ticket-newer.ensures.ticket) it
+    let k = c.args.place in
+    record {
+      event = search rules;
+      said =
+          let h = c.requires.stands.1 in
+          let own : is_own_or_free v p n ≡ true = elim c.else-is_locked.branch [
+            | else-is_locked-via-then-is_locked+else-not-is_written x ↦ own_written d c.args.place c.args.ticket a.finds a.loads.items v h p n (is_in x.as_slice.result.now a.updates.items p x.is_written.result true x.as_slice.ensures.items x.is_written.ensures x.if-not-is_written.false)
+            | else-is_locked-via-else-is_locked x ↦ own_free d c.args.place c.args.ticket a.finds a.loads.items v h p n (locked_is (is_free n) (sym c.is_locked.ensures ∙ x.if-is_locked.false))
+          ] in
+          let is = expected_is d law c.args.place c.args.ticket a.finds a.loads.items v h p c.get-part.ensures c.expected.result c.expected.ensures in
+          let it = check_changed d law c.args.place c.args.ticket a.finds a.loads.items v h p c.get-part.ensures w _ n _ c.check-found.ensures.tells own c.expected.result is ne in
+          subst (λ (t : ℕ). IsDropping d c.args.ticket (Changed a.at p t) w) (sym c.ticket-newer.ensures.ticket) it;
+      space = search rules;
+      left =
+          let h = c.requires.stands in
+          refuse_lowers d k h.0;
+      reason =
+          let h = c.requires.stands.1 in
+          let own : is_own_or_free v p n ≡ true = elim c.else-is_locked.branch [
+            | else-is_locked-via-then-is_locked+else-not-is_written x ↦ own_written d c.args.place c.args.ticket a.finds a.loads.items v h p n (is_in x.as_slice.result.now a.updates.items p x.is_written.result true x.as_slice.ensures.items x.is_written.ensures x.if-not-is_written.false)
+            | else-is_locked-via-else-is_locked x ↦ own_free d c.args.place c.args.ticket a.finds a.loads.items v h p n (locked_is (is_free n) (sym c.is_locked.ensures ∙ x.if-is_locked.false))
+          ] in
+          let is = expected_is d law c.args.place c.args.ticket a.finds a.loads.items v h p c.get-part.ensures c.expected.result c.expected.ensures in
+          λ y e. inr (subst (λ z. HasReason a.course.set.items w z) e (subst (λ (t : ℕ). Contains a.course.set.items (Seen p) ⊎ (IsByPredicate a.course.set.items w p t ⊎ IsByTest w p t)) (sym c.ticket-newer.ensures.ticket) (check_reason d law c.args.place c.args.ticket a.finds a.loads.items v h p c.get-part.ensures w _ n _ c.check-found.ensures.tells own c.expected.result is ne)));
+      alone =
+          let h = c.requires.stands.1 in
+          let own : is_own_or_free v p n ≡ true = elim c.else-is_locked.branch [
+            | else-is_locked-via-then-is_locked+else-not-is_written x ↦ own_written d c.args.place c.args.ticket a.finds a.loads.items v h p n (is_in x.as_slice.result.now a.updates.items p x.is_written.result true x.as_slice.ensures.items x.is_written.ensures x.if-not-is_written.false)
+            | else-is_locked-via-else-is_locked x ↦ own_free d c.args.place c.args.ticket a.finds a.loads.items v h p n (locked_is (is_free n) (sym c.is_locked.ensures ∙ x.if-is_locked.false))
+          ] in
+          let is = expected_is d law c.args.place c.args.ticket a.finds a.loads.items v h p c.get-part.ensures c.expected.result c.expected.ensures in
+          let it = check_changed d law c.args.place c.args.ticket a.finds a.loads.items v h p c.get-part.ensures w _ n _ c.check-found.ensures.tells own c.expected.result is ne in
+          λ one quiet. absurd (omega (arith, it.ends.1.later, (c.check-found.ensures.tells.learns.alone one).1, h.sealed.number));
+      by = search rules;
+      kept = refl;
+    }
 
-pub returns-clause-said : goal.returns-clause-said
-returns-clause-said g c =
+pub returns-clause-advances : goal.returns-clause-advances
+returns-clause-advances g c =
     let a = c.args.self.now in
-    let m = g.T.TxType.meaning a.course.ty.now in
     let law = g.met.T.TxType.lawful a.course.ty.now in
-    let valid = g.T.Naming.valid in
-    let d : Deal = deal m valid (g.T.Naming.sizes a.course.ty.now) (g.B.Body.script a.course.body) a.at a.course.base.items a.course.set.items (map told a.course.replies.items) a.updates.items a.seen.items a.loaded.items a.tasks.items a.checks.items a.places.items in
+    let d = deal_of (of_type g.T.Naming g.T.TxType) g.B.Body a in
     let v = g.C.Cells.view c.args.cells.now in
-    let h = c.requires.stands.1 in
     let p = c.get-part.result.now in
     let w = g.C.Cells.view c.check-found.new.self in
     let n = c.check-found.result.0 in
-    let own : is_own_or_free v p n ≡ true = elim c.else-is_locked.branch [
-      | else-is_locked-via-then-is_locked+else-not-is_written x ↦ own_written d c.args.place c.args.ticket a.finds a.loads.items v h p n (is_in x.as_slice.result.now a.updates.items p x.is_written.result true x.as_slice.ensures.items x.is_written.ensures x.if-not-is_written.false)
-      | else-is_locked-via-else-is_locked x ↦ own_free d c.args.place c.args.ticket a.finds a.loads.items v h p n (locked_is (is_free n) (sym c.is_locked.ensures ∙ x.if-is_locked.false))
-    ] in
-    let is = expected_is d law c.args.place c.args.ticket a.finds a.loads.items v h p c.get-part.ensures c.expected.result c.expected.ensures in
     let same : ticket_of n ≡ c.expected.result = sym c.ticket-newer.ensures.ticket ∙ c.if-newer-expected.false in
-    let it = check_goes d law c.args.place c.args.ticket a.finds a.loads.items v h p c.get-part.ensures w _ n _ c.check-found.ensures.tells own c.expected.result is same (c.args.place + 1) (omega arith) in
-    checks_next d (c.args.place + 1) c.args.ticket a.finds a.loads.items w it c.next_check-self.result c.next_check-self.ensures
-
-pub returns-then-not-is_written-clause-left : goal.returns-then-not-is_written-clause-left
-returns-then-not-is_written-clause-left g c =
-    let a = c.args.self.now in
-    let d : Deal = deal (g.T.TxType.meaning a.course.ty.now) g.T.Naming.valid (g.T.Naming.sizes a.course.ty.now) (g.B.Body.script a.course.body) a.at a.course.base.items a.course.set.items (map told a.course.replies.items) a.updates.items a.seen.items a.loaded.items a.tasks.items a.checks.items a.places.items in
-    let h = c.requires.stands in
     let k = c.args.place in
-    refuse_lowers d k h.0
-
-pub returns-then-newer-expected-clause-left : goal.returns-then-newer-expected-clause-left
-returns-then-newer-expected-clause-left g c =
-    let a = c.args.self.now in
-    let d : Deal = deal (g.T.TxType.meaning a.course.ty.now) g.T.Naming.valid (g.T.Naming.sizes a.course.ty.now) (g.B.Body.script a.course.body) a.at a.course.base.items a.course.set.items (map told a.course.replies.items) a.updates.items a.seen.items a.loaded.items a.tasks.items a.checks.items a.places.items in
-    let h = c.requires.stands in
-    let k = c.args.place in
-    refuse_lowers d k h.0
-
-pub returns-clause-space : goal.returns-clause-space
-returns-clause-space g c = space_checks (g.T.TxType.meaning c.args.self.now.course.ty.now).widths c.args.self.now.tasks.items c.args.self.now.loads c.args.self.now.checks.items (c.args.place + 1) c.args.ticket c.next_check-self.result c.next_check-self.ensures
-
-pub returns-clause-left : goal.returns-clause-left
-returns-clause-left g c =
-    let a = c.args.self.now in
-    let d : Deal = deal (g.T.TxType.meaning a.course.ty.now) g.T.Naming.valid (g.T.Naming.sizes a.course.ty.now) (g.B.Body.script a.course.body) a.at a.course.base.items a.course.set.items (map told a.course.replies.items) a.updates.items a.seen.items a.loaded.items a.tasks.items a.checks.items a.places.items in
-    let h = c.requires.stands in
-    let k = c.args.place in
-    check_lowers d k c.args.ticket h.0 (k + 1) (omega arith) c.next_check-self.result c.next_check-self.ensures
-
-pub returns-then-not-is_written-clause-reason : goal.returns-then-not-is_written-clause-reason
-returns-then-not-is_written-clause-reason g c =
-    let a = c.args.self.now in
-    let m = g.T.TxType.meaning a.course.ty.now in
-    let law = g.met.T.TxType.lawful a.course.ty.now in
-    let valid = g.T.Naming.valid in
-    let d : Deal = deal m valid (g.T.Naming.sizes a.course.ty.now) (g.B.Body.script a.course.body) a.at a.course.base.items a.course.set.items (map told a.course.replies.items) a.updates.items a.seen.items a.loaded.items a.tasks.items a.checks.items a.places.items in
-    let v = g.C.Cells.view c.args.cells.now in
-    let h = c.requires.stands.1 in
-    let p = c.get-part.result.now in
-    let w = g.C.Cells.view c.check-found.new.self in
-    let n = c.check-found.result.0 in
-    let busy : is_free n ≡ false = unlocked_is (is_free n) (sym c.is_locked.ensures ∙ c.if-is_locked.true) in
-    let other = is_in c.as_slice.result.now a.updates.items p c.is_written.result false c.as_slice.ensures.items c.is_written.ensures c.if-not-is_written.true in
-    λ y e. inr (subst (λ z. HasReason a.course.set.items w z) e tt)
-
-pub returns-then-not-is_written-clause-alone : goal.returns-then-not-is_written-clause-alone
-returns-then-not-is_written-clause-alone g c =
-    let a = c.args.self.now in
-    let m = g.T.TxType.meaning a.course.ty.now in
-    let law = g.met.T.TxType.lawful a.course.ty.now in
-    let valid = g.T.Naming.valid in
-    let d : Deal = deal m valid (g.T.Naming.sizes a.course.ty.now) (g.B.Body.script a.course.body) a.at a.course.base.items a.course.set.items (map told a.course.replies.items) a.updates.items a.seen.items a.loaded.items a.tasks.items a.checks.items a.places.items in
-    let v = g.C.Cells.view c.args.cells.now in
-    let h = c.requires.stands.1 in
-    let p = c.get-part.result.now in
-    let w = g.C.Cells.view c.check-found.new.self in
-    let n = c.check-found.result.0 in
-    let busy : is_free n ≡ false = unlocked_is (is_free n) (sym c.is_locked.ensures ∙ c.if-is_locked.true) in
-    let other = is_in c.as_slice.result.now a.updates.items p c.is_written.result false c.as_slice.ensures.items c.is_written.ensures c.if-not-is_written.true in
-    λ one quiet. absurd (not_busy v p n (c.check-found.ensures.tells.learns.alone one) (check_unheld d law c.args.place c.args.ticket a.finds a.loads.items v h p c.get-part.ensures other) busy)
-
-pub returns-then-newer-expected-clause-reason : goal.returns-then-newer-expected-clause-reason
-returns-then-newer-expected-clause-reason g c =
-    let a = c.args.self.now in
-    let m = g.T.TxType.meaning a.course.ty.now in
-    let law = g.met.T.TxType.lawful a.course.ty.now in
-    let valid = g.T.Naming.valid in
-    let d : Deal = deal m valid (g.T.Naming.sizes a.course.ty.now) (g.B.Body.script a.course.body) a.at a.course.base.items a.course.set.items (map told a.course.replies.items) a.updates.items a.seen.items a.loaded.items a.tasks.items a.checks.items a.places.items in
-    let v = g.C.Cells.view c.args.cells.now in
-    let h = c.requires.stands.1 in
-    let p = c.get-part.result.now in
-    let w = g.C.Cells.view c.check-found.new.self in
-    let n = c.check-found.result.0 in
-    let own : is_own_or_free v p n ≡ true = elim c.else-is_locked.branch [
-      | else-is_locked-via-then-is_locked+else-not-is_written x ↦ own_written d c.args.place c.args.ticket a.finds a.loads.items v h p n (is_in x.as_slice.result.now a.updates.items p x.is_written.result true x.as_slice.ensures.items x.is_written.ensures x.if-not-is_written.false)
-      | else-is_locked-via-else-is_locked x ↦ own_free d c.args.place c.args.ticket a.finds a.loads.items v h p n (locked_is (is_free n) (sym c.is_locked.ensures ∙ x.if-is_locked.false))
-    ] in
-    let is = expected_is d law c.args.place c.args.ticket a.finds a.loads.items v h p c.get-part.ensures c.expected.result c.expected.ensures in
-    let ne : ticket_of n ≢ c.expected.result = λ e. c.if-newer-expected.true (c.ticket-newer.ensures.ticket ∙ e) in
-    let it = check_changed d law c.args.place c.args.ticket a.finds a.loads.items v h p c.get-part.ensures w _ n _ c.check-found.ensures.tells own c.expected.result is ne in
-    λ y e. inr (subst (λ z. HasReason a.course.set.items w z) e (subst (λ (t : ℕ). Contains a.course.set.items (Seen p) ⊎ (IsByPredicate a.course.set.items w p t ⊎ IsByTest w p t)) (sym c.ticket-newer.ensures.ticket) (check_reason d law c.args.place c.args.ticket a.finds a.loads.items v h p c.get-part.ensures w _ n _ c.check-found.ensures.tells own c.expected.result is ne)))
-
-pub returns-then-newer-expected-clause-alone : goal.returns-then-newer-expected-clause-alone
-returns-then-newer-expected-clause-alone g c =
-    let a = c.args.self.now in
-    let m = g.T.TxType.meaning a.course.ty.now in
-    let law = g.met.T.TxType.lawful a.course.ty.now in
-    let valid = g.T.Naming.valid in
-    let d : Deal = deal m valid (g.T.Naming.sizes a.course.ty.now) (g.B.Body.script a.course.body) a.at a.course.base.items a.course.set.items (map told a.course.replies.items) a.updates.items a.seen.items a.loaded.items a.tasks.items a.checks.items a.places.items in
-    let v = g.C.Cells.view c.args.cells.now in
-    let h = c.requires.stands.1 in
-    let p = c.get-part.result.now in
-    let w = g.C.Cells.view c.check-found.new.self in
-    let n = c.check-found.result.0 in
-    let own : is_own_or_free v p n ≡ true = elim c.else-is_locked.branch [
-      | else-is_locked-via-then-is_locked+else-not-is_written x ↦ own_written d c.args.place c.args.ticket a.finds a.loads.items v h p n (is_in x.as_slice.result.now a.updates.items p x.is_written.result true x.as_slice.ensures.items x.is_written.ensures x.if-not-is_written.false)
-      | else-is_locked-via-else-is_locked x ↦ own_free d c.args.place c.args.ticket a.finds a.loads.items v h p n (locked_is (is_free n) (sym c.is_locked.ensures ∙ x.if-is_locked.false))
-    ] in
-    let is = expected_is d law c.args.place c.args.ticket a.finds a.loads.items v h p c.get-part.ensures c.expected.result c.expected.ensures in
-    let ne : ticket_of n ≢ c.expected.result = λ e. c.if-newer-expected.true (c.ticket-newer.ensures.ticket ∙ e) in
-    let it = check_changed d law c.args.place c.args.ticket a.finds a.loads.items v h p c.get-part.ensures w _ n _ c.check-found.ensures.tells own c.expected.result is ne in
-    λ one quiet. absurd (omega (arith, it.ends.1.later, (c.check-found.ensures.tells.learns.alone one).1, h.sealed.number))
-
-pub returns-clause-reason : goal.returns-clause-reason
-returns-clause-reason g c =
-    let a = c.args.self.now in
-    λ y e. absurd (checks_on a.checks.items (c.args.place + 1) c.args.ticket c.next_check-self.result c.next_check-self.ensures y e)
-
-pub returns-clause-alone : goal.returns-clause-alone
-returns-clause-alone g c =
-    let a = c.args.self.now in
-    λ one quiet. record { early = quiet.early; unaborted = λ y e. absurd (checks_on a.checks.items (c.args.place + 1) c.args.ticket c.next_check-self.result c.next_check-self.ensures y e) }
+    record {
+      event = search rules;
+      said =
+          let h = c.requires.stands.1 in
+          let own : is_own_or_free v p n ≡ true = elim c.else-is_locked.branch [
+            | else-is_locked-via-then-is_locked+else-not-is_written x ↦ own_written d c.args.place c.args.ticket a.finds a.loads.items v h p n (is_in x.as_slice.result.now a.updates.items p x.is_written.result true x.as_slice.ensures.items x.is_written.ensures x.if-not-is_written.false)
+            | else-is_locked-via-else-is_locked x ↦ own_free d c.args.place c.args.ticket a.finds a.loads.items v h p n (locked_is (is_free n) (sym c.is_locked.ensures ∙ x.if-is_locked.false))
+          ] in
+          let is = expected_is d law c.args.place c.args.ticket a.finds a.loads.items v h p c.get-part.ensures c.expected.result c.expected.ensures in
+          let it = check_goes d law c.args.place c.args.ticket a.finds a.loads.items v h p c.get-part.ensures w _ n _ c.check-found.ensures.tells own c.expected.result is same (c.args.place + 1) (omega arith) in
+          checks_next d (c.args.place + 1) c.args.ticket a.finds a.loads.items w it c.next_check-self.result c.next_check-self.ensures;
+      space = space_checks (g.T.TxType.meaning c.args.self.now.course.ty.now).widths c.args.self.now.tasks.items c.args.self.now.loads c.args.self.now.checks.items (c.args.place + 1) c.args.ticket c.next_check-self.result c.next_check-self.ensures;
+      left =
+          let h = c.requires.stands in
+          check_lowers d k c.args.ticket h.0 (k + 1) (omega arith) c.next_check-self.result c.next_check-self.ensures;
+      reason = λ y e. absurd (checks_on a.checks.items (c.args.place + 1) c.args.ticket c.next_check-self.result c.next_check-self.ensures y e);
+      alone = λ one quiet. record { early = quiet.early; unaborted = λ y e. absurd (checks_on a.checks.items (c.args.place + 1) c.args.ticket c.next_check-self.result c.next_check-self.ensures y e) };
+      by = search rules;
+      kept = refl;
+    }

@@ -1,46 +1,41 @@
-use Rattle.std.proofs.Common.{◌≡◌, ◌<◌, ◌+◌, ◌∙◌, ℕ, ℤ, List, [], ◌∷◌, ◌++◌, ap, sym, subst, map, arith, slice_index_or, rules, Fits, FitsSigned, w64, w32}
+use Rattle.std.proofs.Common.{◌≡◌, ◌<◌, ◌+◌, ◌∙◌, ℕ, ℤ, List, [], ◌∷◌, ◌++◌, ap, sym, subst, arith, slice_index_or, rules, Fits, FitsSigned, w64, w32, refl}
 use Rattle.std.proofs.lemmas.Option.{get_or_from_slice_get}
 use Rattle.std.proofs.lemmas.Int.{to_z-of_z}
 use Rattle.sto_part.specs.Listed.{Listed}
-use Rattle.sto_model.specs.Told.{told}
 use Rattle.sto_core.specs.Event.{Word}
 use Rattle.sto_core.specs.Tells.{Tells}
 use Rattle.sto_core.specs.Views.{width_in}
 use Rattle.sto_core.specs.Allowed.{HasPart, MayRead}
 use Rattle.sto_course.specs.declared.stage.Loaded.{Loaded}
-use Rattle.sto_course.specs.Stages.{Deal, deal, task, IsTestedWord}
+use Rattle.sto_course.specs.Stages.{task, IsTestedWord}
 use Rattle.sto_course.proofs.Unheld.{may_read_word, word_goes}
 use Rattle.sto_course.proofs.Space.{space_more}
 use Rattle.sto_course.proofs.Remaining.{word_lowers}
+use Rattle.sto_attempt.specs.Traits.{of_type}
+use Rattle.sto_attempt.specs.Commits.{deal_of}
 use Rattle.sto_attempt.proofs.ready.Ready.load_tested.Goals as goal
 
 pub word-value-requires : goal.word-value-requires
 word-value-requires g c =
     let a = c.args.self.now in
-    let d : Deal = deal (g.T.TxType.meaning a.course.ty.now) g.T.Naming.valid (g.T.Naming.sizes a.course.ty.now) (g.B.Body.script a.course.body) a.at a.course.base.items a.course.set.items (map told a.course.replies.items) a.updates.items a.seen.items a.loaded.items a.tasks.items a.checks.items a.places.items in
+    let d = deal_of (of_type g.T.Naming g.T.TxType) g.B.Body a in
     let law = g.met.T.TxType.lawful a.course.ty.now in
     let v = g.C.Cells.view c.args.cells.now in
     let n = c.args.place in
     let i = c.args.word in
     let p = c.get-part.result.now in
     let at : slice_index_or a.tasks.items n 0 ≡ p = get_or_from_slice_get a.tasks.items n p 0 c.get-part.ensures in
-    subst (λ (q : ℕ). MayRead v q v.phase × (HasPart v q × (i < width_in v q))) at (may_read_word d law n i c.args.ticket a.finds a.loads.items v c.requires.stands (omega (arith, c.requires.more, c.requires.width)))
+    subst (λ (q : ℕ). MayRead v q v.phase × (HasPart v q × (i < width_in v q))) at (may_read_word d law n i c.args.ticket a.finds a.loads.items v c.requires.before.stands (omega (arith, c.requires.more, c.requires.width)))
 
 pub overflow_add-self : goal.overflow_add-self
 overflow_add-self g c =
     let fit : Fits w32 c.args.width = search rules in
     omega (arith, c.requires.more, fit)
 
-pub returns-clause-space : goal.returns-clause-space
-returns-clause-space g c =
+pub returns-clause-advances : goal.returns-clause-advances
+returns-clause-advances g c =
     let a = c.args.self.now in
-    let h = c.requires.stands in
-    space_more (g.T.TxType.meaning a.course.ty.now).widths a.tasks.items c.args.place c.args.word a.loads c.requires.space h.below (omega (arith, c.requires.more, c.requires.width)) _ c.push_spare.new.self c.push_spare.ensures (c.args.word + 1) (omega arith)
-
-pub returns-clause-said : goal.returns-clause-said
-returns-clause-said g c =
-    let a = c.args.self.now in
-    let d : Deal = deal (g.T.TxType.meaning a.course.ty.now) g.T.Naming.valid (g.T.Naming.sizes a.course.ty.now) (g.B.Body.script a.course.body) a.at a.course.base.items a.course.set.items (map told a.course.replies.items) a.updates.items a.seen.items a.loaded.items a.tasks.items a.checks.items a.places.items in
+    let d = deal_of (of_type g.T.Naming g.T.TxType) g.B.Body a in
     let law = g.met.T.TxType.lawful a.course.ty.now in
     let v = g.C.Cells.view c.args.cells.now in
     let n = c.args.place in
@@ -55,23 +50,16 @@ returns-clause-said g c =
     let fit : FitsSigned w64 x = search rules in
     let pushed : loads.items ≡ a.loads.items ++ record { part = p; word = i; value = x } ∷ [] = ap (λ (l : Listed Loaded). l.items) c.push_spare.ensures ∙ ap (λ (y : ℤ). a.loads.items ++ record { part = p; word = i; value = y } ∷ []) (to_z-of_z w64 x fit) in
     let items : loads.items ≡ a.loads.items ++ record { part = task d n; word = i; value = x } ∷ [] = pushed ∙ ap (λ (q : ℕ). a.loads.items ++ record { part = q; word = i; value = x } ∷ []) (sym at) in
-    let it = word_goes d law n i c.args.ticket a.finds a.loads.items v c.requires.stands (omega (arith, c.requires.more, c.requires.width)) w _ _ x tells (i + 1) (omega arith) in
-    subst (λ (l : List Loaded). IsTestedWord d n (i + 1) c.args.ticket a.finds l w) (sym items) it
-
-pub returns-clause-left : goal.returns-clause-left
-returns-clause-left g c =
-    let a = c.args.self.now in
-    let d : Deal = deal (g.T.TxType.meaning a.course.ty.now) g.T.Naming.valid (g.T.Naming.sizes a.course.ty.now) (g.B.Body.script a.course.body) a.at a.course.base.items a.course.set.items (map told a.course.replies.items) a.updates.items a.seen.items a.loaded.items a.tasks.items a.checks.items a.places.items in
-    let h = c.requires.stands in
+    let it = word_goes d law n i c.args.ticket a.finds a.loads.items v c.requires.before.stands (omega (arith, c.requires.more, c.requires.width)) w _ _ x tells (i + 1) (omega arith) in
+    let h = c.requires.before.stands in
     let k = c.args.place in
-    word_lowers d k c.args.word h.below c.args.ticket (omega (arith, c.requires.more, c.requires.width)) (c.args.word + 1) (omega arith)
-
-pub returns-clause-reason : goal.returns-clause-reason
-returns-clause-reason g c =
-    let a = c.args.self.now in
-    λ y e. absurd e
-
-pub returns-clause-alone : goal.returns-clause-alone
-returns-clause-alone g c =
-    let a = c.args.self.now in
-    λ one quiet. record { early = quiet.early; unaborted = λ y e. absurd e }
+    record {
+      event = search rules;
+      said = subst (λ (l : List Loaded). IsTestedWord d n (i + 1) c.args.ticket a.finds l w) (sym items) it;
+      space = space_more (g.T.TxType.meaning a.course.ty.now).widths a.tasks.items c.args.place c.args.word a.loads c.requires.before.space h.below (omega (arith, c.requires.more, c.requires.width)) _ c.push_spare.new.self c.push_spare.ensures (c.args.word + 1) (omega arith);
+      left = word_lowers d k c.args.word h.below c.args.ticket (omega (arith, c.requires.more, c.requires.width)) (c.args.word + 1) (omega arith);
+      reason = λ y e. absurd e;
+      alone = λ one quiet. record { early = quiet.early; unaborted = λ y e. absurd e };
+      by = search rules;
+      kept = refl;
+    }

@@ -1,17 +1,19 @@
-use Rattle.std.proofs.Common.{inr, None, ◌≡◌, ◌<◌, ◌+◌, ◌∙◌, true, false, ap, sym, subst, map, arith}
+use Rattle.std.proofs.Common.{inr, None, ◌≡◌, ◌<◌, ◌+◌, ◌∙◌, true, false, ap, sym, subst, arith, rules, refl}
 use Rattle.sto_part.specs.Listed.{Listed}
 use Rattle.sto_item.specs.Pending.{plain}
-use Rattle.sto_model.specs.Told.{told}
 use Rattle.sto_core.specs.Versions.{is_free}
 use Rattle.sto_core.proofs.Lists.{locked_is, unlocked_is}
 use Rattle.sto_course.specs.declared.stage.Found.{Found}
 use Rattle.sto_course.specs.declared.stage.Loaded.{Loaded}
 use Rattle.sto_course.specs.declared.stage.Stage.{Stage}
 use Rattle.sto_course.specs.declared.verdict.Verdict.TheVariants.{Locked}
-use Rattle.sto_course.specs.Stages.{Deal, deal, Stands, Said, SpaceAt}
+use Rattle.sto_course.specs.Stages.{Stands, Said, SpaceAt}
 use Rattle.sto_course.proofs.Locking.{may_lock, lock_ends, lock_leaves, lock_goes, lock_done}
 use Rattle.sto_course.proofs.Ending.{space_begun, space_left}
 use Rattle.sto_course.proofs.Aiming.{aimed, gives_up}
+use Rattle.sto_attempt.specs.Traits.{of_type}
+use Rattle.sto_attempt.specs.Commits.{deal_of}
+use Rattle.sto_attempt.proofs.Kept.{kept_stage}
 use Rattle.sto_attempt.proofs.ready.Ready.lock.Goals.{then-next-len, else-next-len}
 use Rattle.sto_course.proofs.Remaining.{give_lowers, lock_lowers, locked_lowers}
 use Rattle.sto_course.specs.declared.stage.Stage.TheVariants.{Locking}
@@ -25,13 +27,13 @@ use Rattle.sto_attempt.proofs.ready.Ready.lock.Goals as goal
 pub lock-found-requires : goal.lock-found-requires
 lock-found-requires g c =
     let a = c.args.self.now in
-    let d : Deal = deal (g.T.TxType.meaning a.course.ty.now) g.T.Naming.valid (g.T.Naming.sizes a.course.ty.now) (g.B.Body.script a.course.body) a.at a.course.base.items a.course.set.items (map told a.course.replies.items) a.updates.items a.seen.items a.loaded.items a.tasks.items a.checks.items a.places.items in
+    let d = deal_of (of_type g.T.Naming g.T.TxType) g.B.Body a in
     may_lock d (g.met.T.TxType.lawful a.course.ty.now) c.args.place a.finds a.loads.items (g.C.Cells.view c.args.cells.now) c.requires.stands (plain c.get.result.now) c.get.ensures
 
-pub returns-then-is_locked-clause-said : goal.returns-then-is_locked-clause-said
-returns-then-is_locked-clause-said g c =
+pub returns-then-is_locked-clause-advances : goal.returns-then-is_locked-clause-advances
+returns-then-is_locked-clause-advances g c =
     let a = c.args.self.now in
-    let d : Deal = deal (g.T.TxType.meaning a.course.ty.now) g.T.Naming.valid (g.T.Naming.sizes a.course.ty.now) (g.B.Body.script a.course.body) a.at a.course.base.items a.course.set.items (map told a.course.replies.items) a.updates.items a.seen.items a.loaded.items a.tasks.items a.checks.items a.places.items in
+    let d = deal_of (of_type g.T.Naming g.T.TxType) g.B.Body a in
     let law = g.met.T.TxType.lawful a.course.ty.now in
     let v = g.C.Cells.view c.args.cells.now in
     let w = g.C.Cells.view c.lock-found.new.self in
@@ -44,13 +46,24 @@ returns-then-is_locked-clause-said g c =
     gives_up d c.args.place (Locked a.at u.0) w a.finds a.loads.items c.give_up.new.self.stage c.give_up.result c.give_up.ensures.over c.give_up.ensures.more
     (lock_ends d law c.args.place a.finds a.loads.items v c.requires.stands u c.get.ensures w _ n _ c.lock-found.ensures.tells busy)
     (lock_leaves d law c.args.place a.finds a.loads.items v c.requires.stands u c.get.ensures w _ n _ c.lock-found.ensures.tells busy) in
-    subst (λ (l : Listed Found). Said d l c.give_up.new.self.loads.items c.give_up.new.self.stage w c.give_up.result) (sym finds)
-    (subst (λ (l : Listed Loaded). Said d a.finds l.items c.give_up.new.self.stage w c.give_up.result) (sym loads) it)
+    let h = c.requires.stands in
+    let k = c.args.place in
+    record {
+      event = search rules;
+      said = subst (λ (l : Listed Found). Said d l c.give_up.new.self.loads.items c.give_up.new.self.stage w c.give_up.result) (sym finds)
+          (subst (λ (l : Listed Loaded). Said d a.finds l.items c.give_up.new.self.stage w c.give_up.result) (sym loads) it);
+      space = space_left (g.T.TxType.meaning a.course.ty.now).widths a.tasks.items c.give_up.new.self.loads c.args.place (Locked a.at c.get.result.now.0) c.give_up.new.self.stage c.give_up.result c.give_up.ensures.over c.give_up.ensures.more;
+      left = give_lowers d k h.below (Locked a.at c.get.result.now.0) c.give_up.new.self.stage c.give_up.result c.give_up.ensures.over c.give_up.ensures.more;
+      reason = λ y e. inr (subst (λ z. HasReason a.course.set.items w z) (given c.args.place (Locked a.at u.0) c.give_up.new.self.stage c.give_up.result c.give_up.ensures.over c.give_up.ensures.more y e) tt);
+      alone = λ one quiet. absurd (not_busy v u.0 n (c.lock-found.ensures.tells.learns.alone one) (lock_unheld d law c.args.place a.finds a.loads.items v c.requires.stands u c.get.ensures) busy);
+      by = give_by c.args.place a.at c.get.result.now.0 v c.give_up.new.self.stage c.give_up.result c.give_up.ensures.over c.give_up.ensures.more c.requires.stands.phase;
+      kept = kept_stage a c.give_up.new.self c.give_up.ensures.kept;
+    }
 
-pub returns-clause-said : goal.returns-clause-said
-returns-clause-said g c =
+pub returns-clause-advances : goal.returns-clause-advances
+returns-clause-advances g c =
     let a = c.args.self.now in
-    let d : Deal = deal (g.T.TxType.meaning a.course.ty.now) g.T.Naming.valid (g.T.Naming.sizes a.course.ty.now) (g.B.Body.script a.course.body) a.at a.course.base.items a.course.set.items (map told a.course.replies.items) a.updates.items a.seen.items a.loaded.items a.tasks.items a.checks.items a.places.items in
+    let d = deal_of (of_type g.T.Naming g.T.TxType) g.B.Body a in
     let law = g.met.T.TxType.lawful a.course.ty.now in
     let v = g.C.Cells.view c.args.cells.now in
     let w = g.C.Cells.view c.lock-found.new.self in
@@ -58,118 +71,38 @@ returns-clause-said g c =
     let n = c.lock-found.result.0 in
     let free : is_free n ≡ true = locked_is (is_free n) (sym c.is_locked.ensures ∙ c.if-is_locked.false) in
     let finds = c.push_spare.new.self in
-    elim c.if-next-len.branch [
-      | then-next-len x ↦
-          let it = lock_goes d law c.args.place a.finds a.loads.items v c.requires.stands u c.get.ensures w _ n _ c.lock-found.ensures.tells free c.ticket-ticket.result c.ticket-ticket.ensures.ticket finds c.push_spare.ensures (c.args.place + 1) (omega arith) (omega (arith, x.if-next-len.true, c.len.ensures)) in
-          subst (λ (s : Stage). Stands d finds a.loads.items s w) (sym x.self-is) it
-      | else-next-len x ↦
-          let it = lock_done d law c.args.place a.finds a.loads.items v c.requires.stands u c.get.ensures w _ n _ c.lock-found.ensures.tells free c.ticket-ticket.result c.ticket-ticket.ensures.ticket finds c.push_spare.ensures (omega (arith, x.if-next-len.false, c.len.ensures)) in
-          subst (λ (s : Stage). Stands d finds a.loads.items s w) (sym x.self-is) (aimed d 0 finds a.loads.items w it x.aim-self.result x.aim-self.ensures)
-    ]
-
-pub returns-then-is_locked-clause-space : goal.returns-then-is_locked-clause-space
-returns-then-is_locked-clause-space g c =
-    let a = c.args.self.now in
-    space_left (g.T.TxType.meaning a.course.ty.now).widths a.tasks.items c.give_up.new.self.loads c.args.place (Locked a.at c.get.result.now.0) c.give_up.new.self.stage c.give_up.result c.give_up.ensures.over c.give_up.ensures.more
-
-pub returns-clause-space : goal.returns-clause-space
-returns-clause-space g c =
-    let a = c.args.self.now in
     let widths = (g.T.TxType.meaning a.course.ty.now).widths in
-    elim c.if-next-len.branch [
-      | then-next-len x ↦ subst (λ (s : Stage). SpaceAt widths a.tasks.items a.loads s) (sym x.self-is) c.requires.space
-      | else-next-len x ↦ subst (λ (s : Stage). SpaceAt widths a.tasks.items a.loads s) (sym x.self-is) (space_begun widths a.tasks.items a.loads c.requires.space a.updates.items x.aim-self.result x.aim-self.ensures)
-    ]
-
-pub returns-then-is_locked-clause-left : goal.returns-then-is_locked-clause-left
-returns-then-is_locked-clause-left g c =
-    let a = c.args.self.now in
-    let d : Deal = deal (g.T.TxType.meaning a.course.ty.now) g.T.Naming.valid (g.T.Naming.sizes a.course.ty.now) (g.B.Body.script a.course.body) a.at a.course.base.items a.course.set.items (map told a.course.replies.items) a.updates.items a.seen.items a.loaded.items a.tasks.items a.checks.items a.places.items in
     let h = c.requires.stands in
     let k = c.args.place in
-    give_lowers d k h.below (Locked a.at c.get.result.now.0) c.give_up.new.self.stage c.give_up.result c.give_up.ensures.over c.give_up.ensures.more
-
-pub returns-clause-left : goal.returns-clause-left
-returns-clause-left g c =
-    let a = c.args.self.now in
-    let d : Deal = deal (g.T.TxType.meaning a.course.ty.now) g.T.Naming.valid (g.T.Naming.sizes a.course.ty.now) (g.B.Body.script a.course.body) a.at a.course.base.items a.course.set.items (map told a.course.replies.items) a.updates.items a.seen.items a.loaded.items a.tasks.items a.checks.items a.places.items in
-    let h = c.requires.stands in
-    let k = c.args.place in
-    elim c.if-next-len.branch [
-      | then-next-len x ↦ subst (λ (s : Stage). commit_left d s < commit_left d (Locking k)) (sym x.self-is) (lock_lowers d k h.below (k + 1) (omega arith))
-      | else-next-len x ↦ subst (λ (s : Stage). commit_left d s < commit_left d (Locking k)) (sym x.self-is) (locked_lowers d k h.below x.aim-self.result x.aim-self.ensures)
-    ]
-
-pub returns-then-is_locked-clause-reason : goal.returns-then-is_locked-clause-reason
-returns-then-is_locked-clause-reason g c =
-    let a = c.args.self.now in
-    let d : Deal = deal (g.T.TxType.meaning a.course.ty.now) g.T.Naming.valid (g.T.Naming.sizes a.course.ty.now) (g.B.Body.script a.course.body) a.at a.course.base.items a.course.set.items (map told a.course.replies.items) a.updates.items a.seen.items a.loaded.items a.tasks.items a.checks.items a.places.items in
-    let law = g.met.T.TxType.lawful a.course.ty.now in
-    let v = g.C.Cells.view c.args.cells.now in
-    let w = g.C.Cells.view c.lock-found.new.self in
-    let u = plain c.get.result.now in
-    let n = c.lock-found.result.0 in
-    let busy : is_free n ≡ false = unlocked_is (is_free n) (sym c.is_locked.ensures ∙ c.if-is_locked.true) in
-    let finds : c.give_up.new.self.finds ≡ a.finds = ap (λ s. s.finds) c.give_up.ensures.kept in
-    let loads : c.give_up.new.self.loads ≡ a.loads = ap (λ s. s.loads) c.give_up.ensures.kept in
-    let it : Said d a.finds a.loads.items c.give_up.new.self.stage w c.give_up.result =
-    gives_up d c.args.place (Locked a.at u.0) w a.finds a.loads.items c.give_up.new.self.stage c.give_up.result c.give_up.ensures.over c.give_up.ensures.more
-    (lock_ends d law c.args.place a.finds a.loads.items v c.requires.stands u c.get.ensures w _ n _ c.lock-found.ensures.tells busy)
-    (lock_leaves d law c.args.place a.finds a.loads.items v c.requires.stands u c.get.ensures w _ n _ c.lock-found.ensures.tells busy) in
-    λ y e. inr (subst (λ z. HasReason a.course.set.items w z) (given c.args.place (Locked a.at u.0) c.give_up.new.self.stage c.give_up.result c.give_up.ensures.over c.give_up.ensures.more y e) tt)
-
-pub returns-then-is_locked-clause-alone : goal.returns-then-is_locked-clause-alone
-returns-then-is_locked-clause-alone g c =
-    let a = c.args.self.now in
-    let d : Deal = deal (g.T.TxType.meaning a.course.ty.now) g.T.Naming.valid (g.T.Naming.sizes a.course.ty.now) (g.B.Body.script a.course.body) a.at a.course.base.items a.course.set.items (map told a.course.replies.items) a.updates.items a.seen.items a.loaded.items a.tasks.items a.checks.items a.places.items in
-    let law = g.met.T.TxType.lawful a.course.ty.now in
-    let v = g.C.Cells.view c.args.cells.now in
-    let w = g.C.Cells.view c.lock-found.new.self in
-    let u = plain c.get.result.now in
-    let n = c.lock-found.result.0 in
-    let busy : is_free n ≡ false = unlocked_is (is_free n) (sym c.is_locked.ensures ∙ c.if-is_locked.true) in
-    let finds : c.give_up.new.self.finds ≡ a.finds = ap (λ s. s.finds) c.give_up.ensures.kept in
-    let loads : c.give_up.new.self.loads ≡ a.loads = ap (λ s. s.loads) c.give_up.ensures.kept in
-    let it : Said d a.finds a.loads.items c.give_up.new.self.stage w c.give_up.result =
-    gives_up d c.args.place (Locked a.at u.0) w a.finds a.loads.items c.give_up.new.self.stage c.give_up.result c.give_up.ensures.over c.give_up.ensures.more
-    (lock_ends d law c.args.place a.finds a.loads.items v c.requires.stands u c.get.ensures w _ n _ c.lock-found.ensures.tells busy)
-    (lock_leaves d law c.args.place a.finds a.loads.items v c.requires.stands u c.get.ensures w _ n _ c.lock-found.ensures.tells busy) in
-    λ one quiet. absurd (not_busy v u.0 n (c.lock-found.ensures.tells.learns.alone one) (lock_unheld d law c.args.place a.finds a.loads.items v c.requires.stands u c.get.ensures) busy)
-
-pub returns-clause-reason : goal.returns-clause-reason
-returns-clause-reason g c =
-    let a = c.args.self.now in
-    let d : Deal = deal (g.T.TxType.meaning a.course.ty.now) g.T.Naming.valid (g.T.Naming.sizes a.course.ty.now) (g.B.Body.script a.course.body) a.at a.course.base.items a.course.set.items (map told a.course.replies.items) a.updates.items a.seen.items a.loaded.items a.tasks.items a.checks.items a.places.items in
-    let law = g.met.T.TxType.lawful a.course.ty.now in
-    let v = g.C.Cells.view c.args.cells.now in
-    let w = g.C.Cells.view c.lock-found.new.self in
-    let u = plain c.get.result.now in
-    let n = c.lock-found.result.0 in
-    elim c.if-next-len.branch [
-      | then-next-len x ↦ λ y e. absurd (subst (λ (s : Stage). ComesTo None s y) x.self-is e)
-      | else-next-len x ↦ λ y e. absurd (aimed_on a.updates.items a.tasks.items 0 x.aim-self.result x.aim-self.ensures y (subst (λ (s : Stage). ComesTo None s y) x.self-is e))
-    ]
-
-pub returns-clause-alone : goal.returns-clause-alone
-returns-clause-alone g c =
-    let a = c.args.self.now in
-    let d : Deal = deal (g.T.TxType.meaning a.course.ty.now) g.T.Naming.valid (g.T.Naming.sizes a.course.ty.now) (g.B.Body.script a.course.body) a.at a.course.base.items a.course.set.items (map told a.course.replies.items) a.updates.items a.seen.items a.loaded.items a.tasks.items a.checks.items a.places.items in
-    let law = g.met.T.TxType.lawful a.course.ty.now in
-    let v = g.C.Cells.view c.args.cells.now in
-    let w = g.C.Cells.view c.lock-found.new.self in
-    let u = plain c.get.result.now in
-    let n = c.lock-found.result.0 in
-    λ one quiet. record {
-      early = early_more a.at a.finds c.push_spare.new.self (record { part = u.0; ticket = c.ticket-ticket.result }) (ap (λ (l : Listed Found). l.items) c.push_spare.ensures) quiet.early (omega (arith, (c.lock-found.ensures.tells.learns.alone one).1, c.ticket-ticket.ensures.ticket, c.requires.stands.going.sealed.number));
-      unaborted = elim c.if-next-len.branch [
+    record {
+      event = search rules;
+      said = elim c.if-next-len.branch [
+        | then-next-len x ↦
+            let it = lock_goes d law c.args.place a.finds a.loads.items v c.requires.stands u c.get.ensures w _ n _ c.lock-found.ensures.tells free c.ticket-ticket.result c.ticket-ticket.ensures.ticket finds c.push_spare.ensures (c.args.place + 1) (omega arith) (omega (arith, x.if-next-len.true, c.len.ensures)) in
+            subst (λ (s : Stage). Stands d finds a.loads.items s w) (sym x.self-is) it
+        | else-next-len x ↦
+            let it = lock_done d law c.args.place a.finds a.loads.items v c.requires.stands u c.get.ensures w _ n _ c.lock-found.ensures.tells free c.ticket-ticket.result c.ticket-ticket.ensures.ticket finds c.push_spare.ensures (omega (arith, x.if-next-len.false, c.len.ensures)) in
+            subst (λ (s : Stage). Stands d finds a.loads.items s w) (sym x.self-is) (aimed d 0 finds a.loads.items w it x.aim-self.result x.aim-self.ensures)
+      ];
+      space = elim c.if-next-len.branch [
+        | then-next-len x ↦ subst (λ (s : Stage). SpaceAt widths a.tasks.items a.loads s) (sym x.self-is) c.requires.space
+        | else-next-len x ↦ subst (λ (s : Stage). SpaceAt widths a.tasks.items a.loads s) (sym x.self-is) (space_begun widths a.tasks.items a.loads c.requires.space a.updates.items x.aim-self.result x.aim-self.ensures)
+      ];
+      left = elim c.if-next-len.branch [
+        | then-next-len x ↦ subst (λ (s : Stage). commit_left d s < commit_left d (Locking k)) (sym x.self-is) (lock_lowers d k h.below (k + 1) (omega arith))
+        | else-next-len x ↦ subst (λ (s : Stage). commit_left d s < commit_left d (Locking k)) (sym x.self-is) (locked_lowers d k h.below x.aim-self.result x.aim-self.ensures)
+      ];
+      reason = elim c.if-next-len.branch [
         | then-next-len x ↦ λ y e. absurd (subst (λ (s : Stage). ComesTo None s y) x.self-is e)
         | else-next-len x ↦ λ y e. absurd (aimed_on a.updates.items a.tasks.items 0 x.aim-self.result x.aim-self.ensures y (subst (λ (s : Stage). ComesTo None s y) x.self-is e))
       ];
+      alone = λ one quiet. record {
+        early = early_more a.at a.finds c.push_spare.new.self (record { part = u.0; ticket = c.ticket-ticket.result }) (ap (λ (l : Listed Found). l.items) c.push_spare.ensures) quiet.early (omega (arith, (c.lock-found.ensures.tells.learns.alone one).1, c.ticket-ticket.ensures.ticket, c.requires.stands.going.sealed.number));
+        unaborted = elim c.if-next-len.branch [
+          | then-next-len x ↦ λ y e. absurd (subst (λ (s : Stage). ComesTo None s y) x.self-is e)
+          | else-next-len x ↦ λ y e. absurd (aimed_on a.updates.items a.tasks.items 0 x.aim-self.result x.aim-self.ensures y (subst (λ (s : Stage). ComesTo None s y) x.self-is e))
+        ];
+      };
+      by = search rules;
+      kept = refl;
     }
-
-pub returns-then-is_locked-clause-by : goal.returns-then-is_locked-clause-by
-returns-then-is_locked-clause-by g c =
-    let a = c.args.self.now in
-    let d : Deal = deal (g.T.TxType.meaning a.course.ty.now) g.T.Naming.valid (g.T.Naming.sizes a.course.ty.now) (g.B.Body.script a.course.body) a.at a.course.base.items a.course.set.items (map told a.course.replies.items) a.updates.items a.seen.items a.loaded.items a.tasks.items a.checks.items a.places.items in
-    let v = g.C.Cells.view c.args.cells.now in
-    give_by c.args.place a.at c.get.result.now.0 v c.give_up.new.self.stage c.give_up.result c.give_up.ensures.over c.give_up.ensures.more c.requires.stands.phase

@@ -1,21 +1,19 @@
-use Rattle.std.proofs.Common.{◌≡◌, ◌+◌, ◌∙◌, ℤ, [], ◌∷◌, ◌++◌, refl, map, arith, rules, FitsSigned, w64, to_z, of_z}
+use Rattle.std.proofs.Common.{◌≡◌, ◌+◌, ◌∙◌, ℤ, [], ◌∷◌, ◌++◌, refl, arith, rules, FitsSigned, w64, to_z, of_z}
 use Rattle.std.proofs.lemmas.Int.{to_z-of_z}
-use Rattle.sto_model.specs.Told.{told}
-use Rattle.sto_course.specs.Stages.{Deal, deal}
 use Rattle.sto_course.proofs.Installing.{put_is, may_put, put_goes}
 use Rattle.sto_course.proofs.Aiming.{puts_next}
 use Rattle.sto_course.proofs.Remaining.{put_lowers}
 use Rattle.sto_course.proofs.Space.{space_puts}
 use Rattle.sto_course.proofs.Undisturbed.{puts_on}
+use Rattle.sto_attempt.specs.Traits.{of_type}
+use Rattle.sto_attempt.specs.Commits.{deal_of}
 use Rattle.sto_attempt.proofs.ready.Ready.put.Goals as goal
 
 pub put-requires : goal.put-requires
 put-requires g c =
     let a = c.args.self.now in
-    let m = g.T.TxType.meaning a.course.ty.now in
     let law = g.met.T.TxType.lawful a.course.ty.now in
-    let valid = g.T.Naming.valid in
-    let d : Deal = deal m valid (g.T.Naming.sizes a.course.ty.now) (g.B.Body.script a.course.body) a.at a.course.base.items a.course.set.items (map told a.course.replies.items) a.updates.items a.seen.items a.loaded.items a.tasks.items a.checks.items a.places.items in
+    let d = deal_of (of_type g.T.Naming g.T.TxType) g.B.Body a in
     let v = g.C.Cells.view c.args.cells.now in
     let puts = c.requires.stands.1.0 in
     let h = c.requires.stands.1.1 in
@@ -30,18 +28,16 @@ put-requires g c =
     may_put d law c.args.place 0 c.args.ticket puts a.loads.items v h refl y c.get.ensures value is
 
 pub overflow_add-place : goal.overflow_add-place
-overflow_add-place g c = omega (arith, c.requires.stands.0, c.requires.stands.1.1.planned.few_places)
+overflow_add-place g c =
+    omega (arith, c.requires.stands.0, c.requires.stands.1.1.planned.few_places)
 
-pub returns-clause-said : goal.returns-clause-said
-returns-clause-said g c =
+pub returns-clause-advances : goal.returns-clause-advances
+returns-clause-advances g c =
     let a = c.args.self.now in
-    let m = g.T.TxType.meaning a.course.ty.now in
     let law = g.met.T.TxType.lawful a.course.ty.now in
-    let valid = g.T.Naming.valid in
-    let d : Deal = deal m valid (g.T.Naming.sizes a.course.ty.now) (g.B.Body.script a.course.body) a.at a.course.base.items a.course.set.items (map told a.course.replies.items) a.updates.items a.seen.items a.loaded.items a.tasks.items a.checks.items a.places.items in
+    let d = deal_of (of_type g.T.Naming g.T.TxType) g.B.Body a in
     let v = g.C.Cells.view c.args.cells.now in
     let puts = c.requires.stands.1.0 in
-    let h = c.requires.stands.1.1 in
     let y = c.get.result.now in
     let fit : FitsSigned w64 c.install-value.result = search rules in
     let value : ℤ = to_z w64 (of_z w64 c.install-value.result) in
@@ -49,28 +45,21 @@ returns-clause-said g c =
     let old_fit : FitsSigned w64 c.value.result = search rules in
     let old : ℤ = to_z w64 (of_z w64 c.value.result) in
     let old_same : to_z w64 (of_z w64 c.value.result) ≡ c.value.result = to_z-of_z w64 c.value.result old_fit in
-    let is = put_is d law c.args.place 0 c.args.ticket puts a.loads.items v h y c.get.ensures a.course.set.updates c.requires.copy c.pending-change.result c.pending-change.ensures.change old (old_same ∙ c.value.ensures) value (same ∙ c.install-value.ensures) in
     let w = g.C.Cells.view c.put.new.self in
-    let it = put_goes d law c.args.place 0 c.args.ticket puts a.loads.items v h refl y c.get.ensures value is w _ _ _ c.put.ensures.tells (c.args.place + 1) (omega arith) in
-    puts_next d (c.args.place + 1) c.args.ticket (puts ++ (y.0, y.1) ∷ []) a.finds a.loads.items w it it.sealed.some c.next_put-self.result c.next_put-self.ensures
-
-pub returns-clause-space : goal.returns-clause-space
-returns-clause-space g c = space_puts (g.T.TxType.meaning c.args.self.now.course.ty.now).widths c.args.self.now.tasks.items c.args.self.now.loads c.args.self.now.places.items (c.args.place + 1) c.args.ticket c.next_put-self.result c.next_put-self.ensures
-
-pub returns-clause-left : goal.returns-clause-left
-returns-clause-left g c =
-    let a = c.args.self.now in
-    let d : Deal = deal (g.T.TxType.meaning a.course.ty.now) g.T.Naming.valid (g.T.Naming.sizes a.course.ty.now) (g.B.Body.script a.course.body) a.at a.course.base.items a.course.set.items (map told a.course.replies.items) a.updates.items a.seen.items a.loaded.items a.tasks.items a.checks.items a.places.items in
-    let h = c.requires.stands in
     let k = c.args.place in
-    put_lowers d k c.args.ticket h.0 (k + 1) (omega arith) c.next_put-self.result c.next_put-self.ensures
-
-pub returns-clause-reason : goal.returns-clause-reason
-returns-clause-reason g c =
-    let a = c.args.self.now in
-    λ y e. absurd (puts_on a.places.items (c.args.place + 1) c.args.ticket c.next_put-self.result c.next_put-self.ensures y e)
-
-pub returns-clause-alone : goal.returns-clause-alone
-returns-clause-alone g c =
-    let a = c.args.self.now in
-    λ one quiet. record { early = quiet.early; unaborted = λ y e. absurd (puts_on a.places.items (c.args.place + 1) c.args.ticket c.next_put-self.result c.next_put-self.ensures y e) }
+    record {
+      event = search rules;
+      said =
+          let h = c.requires.stands.1.1 in
+          let is = put_is d law c.args.place 0 c.args.ticket puts a.loads.items v h y c.get.ensures a.course.set.updates c.requires.copy c.pending-change.result c.pending-change.ensures.change old (old_same ∙ c.value.ensures) value (same ∙ c.install-value.ensures) in
+          let it = put_goes d law c.args.place 0 c.args.ticket puts a.loads.items v h refl y c.get.ensures value is w _ _ _ c.put.ensures.tells (c.args.place + 1) (omega arith) in
+          puts_next d (c.args.place + 1) c.args.ticket (puts ++ (y.0, y.1) ∷ []) a.finds a.loads.items w it it.sealed.some c.next_put-self.result c.next_put-self.ensures;
+      space = space_puts (g.T.TxType.meaning c.args.self.now.course.ty.now).widths c.args.self.now.tasks.items c.args.self.now.loads c.args.self.now.places.items (c.args.place + 1) c.args.ticket c.next_put-self.result c.next_put-self.ensures;
+      left =
+          let h = c.requires.stands in
+          put_lowers d k c.args.ticket h.0 (k + 1) (omega arith) c.next_put-self.result c.next_put-self.ensures;
+      reason = λ y e. absurd (puts_on a.places.items (c.args.place + 1) c.args.ticket c.next_put-self.result c.next_put-self.ensures y e);
+      alone = λ one quiet. record { early = quiet.early; unaborted = λ y e. absurd (puts_on a.places.items (c.args.place + 1) c.args.ticket c.next_put-self.result c.next_put-self.ensures y e) };
+      by = search rules;
+      kept = refl;
+    }

@@ -1,7 +1,6 @@
-use Rattle.std.proofs.Common.{inr, ◌≡◌, ◌-◌, ◌∙◌, ℕ, ◌++◌, ◌∷◌, [], true, false, ap, sym, subst, map, arith, slice_index_or}
+use Rattle.std.proofs.Common.{inr, ◌≡◌, ◌-◌, ◌∙◌, ℕ, ◌++◌, ◌∷◌, [], true, false, ap, sym, subst, arith, slice_index_or, rules, refl}
 use Rattle.std.proofs.lemmas.Option.{get_or_from_slice_get}
 use Rattle.sto_part.specs.Listed.{Listed}
-use Rattle.sto_model.specs.Told.{told}
 use Rattle.sto_core.specs.Event.{Test}
 use Rattle.sto_core.specs.Tells.{Tells}
 use Rattle.sto_core.specs.Views.{holds}
@@ -11,18 +10,20 @@ use Rattle.sto_core.specs.Versions.{is_free}
 use Rattle.sto_core.proofs.Lists.{locked_is, unlocked_is}
 use Rattle.sto_course.specs.declared.stage.Found.{Found}
 use Rattle.sto_course.specs.declared.verdict.Verdict.TheVariants.{Locked}
-use Rattle.sto_course.specs.Stages.{Deal, deal, task, IsLeaving}
+use Rattle.sto_course.specs.Stages.{task, IsLeaving}
 use Rattle.sto_course.proofs.Unheld.{may_test, test_leaves, test_goes}
 use Rattle.sto_course.proofs.Remaining.{fail_lowers, test_lowers}
 use Rattle.sto_course.proofs.Undisturbed.{early_more, not_busy}
 use Rattle.sto_course.proofs.Unheld.{test_unheld}
 use Rattle.sto_course.specs.Verdicts.{HasReason}
+use Rattle.sto_attempt.specs.Traits.{of_type}
+use Rattle.sto_attempt.specs.Commits.{deal_of}
 use Rattle.sto_attempt.proofs.ready.Ready.test.Goals as goal
 
 pub test-found-requires : goal.test-found-requires
 test-found-requires g c =
     let a = c.args.self.now in
-    let d : Deal = deal (g.T.TxType.meaning a.course.ty.now) g.T.Naming.valid (g.T.Naming.sizes a.course.ty.now) (g.B.Body.script a.course.body) a.at a.course.base.items a.course.set.items (map told a.course.replies.items) a.updates.items a.seen.items a.loaded.items a.tasks.items a.checks.items a.places.items in
+    let d = deal_of (of_type g.T.Naming g.T.TxType) g.B.Body a in
     let law = g.met.T.TxType.lawful a.course.ty.now in
     let v = g.C.Cells.view c.args.cells.now in
     let n = c.args.place in
@@ -30,10 +31,10 @@ test-found-requires g c =
     let at : slice_index_or a.tasks.items n 0 ≡ p = get_or_from_slice_get a.tasks.items n p 0 c.get-part.ensures in
     subst (λ (q : ℕ). (v.phase ≡ P.Locking) × HasPart v q × (holds q v.held ≡ false)) at (may_test d law n a.finds a.loads.items v c.requires.stands)
 
-pub returns-then-is_locked-clause-said : goal.returns-then-is_locked-clause-said
-returns-then-is_locked-clause-said g c =
+pub returns-then-is_locked-clause-advances : goal.returns-then-is_locked-clause-advances
+returns-then-is_locked-clause-advances g c =
     let a = c.args.self.now in
-    let d : Deal = deal (g.T.TxType.meaning a.course.ty.now) g.T.Naming.valid (g.T.Naming.sizes a.course.ty.now) (g.B.Body.script a.course.body) a.at a.course.base.items a.course.set.items (map told a.course.replies.items) a.updates.items a.seen.items a.loaded.items a.tasks.items a.checks.items a.places.items in
+    let d = deal_of (of_type g.T.Naming g.T.TxType) g.B.Body a in
     let law = g.met.T.TxType.lawful a.course.ty.now in
     let v = g.C.Cells.view c.args.cells.now in
     let w = g.C.Cells.view c.test-found.new.self in
@@ -45,12 +46,21 @@ returns-then-is_locked-clause-said g c =
     let tells : Tells g.T.Naming.valid passes (Test (task d n)) v m _ w = subst (λ (q : ℕ). Tells g.T.Naming.valid passes (Test q) v m _ w) (sym at) c.test-found.ensures.tells in
     let busy : is_free m ≡ false = unlocked_is (is_free m) (sym c.is_locked.ensures ∙ c.if-is_locked.true) in
     let it = test_leaves d law n a.finds a.loads.items v c.requires.stands w _ m _ tells busy in
-    subst (λ (q : ℕ). IsLeaving d 0 c.len.result (Locked a.at q) w) at (subst (λ (k : ℕ). IsLeaving d 0 k (Locked a.at (task d n)) w) (sym c.len.ensures) it)
+    record {
+      event = search rules;
+      said = subst (λ (q : ℕ). IsLeaving d 0 c.len.result (Locked a.at q) w) at (subst (λ (k : ℕ). IsLeaving d 0 k (Locked a.at (task d n)) w) (sym c.len.ensures) it);
+      space = search rules;
+      left = fail_lowers d c.len.result c.len.ensures _;
+      reason = λ y e. inr (subst (λ z. HasReason a.course.set.items w z) e tt);
+      alone = λ one quiet. absurd (not_busy v (task d n) m (tells.learns.alone one) (test_unheld d law n a.finds a.loads.items v c.requires.stands) busy);
+      by = search rules;
+      kept = refl;
+    }
 
-pub returns-clause-said : goal.returns-clause-said
-returns-clause-said g c =
+pub returns-clause-advances : goal.returns-clause-advances
+returns-clause-advances g c =
     let a = c.args.self.now in
-    let d : Deal = deal (g.T.TxType.meaning a.course.ty.now) g.T.Naming.valid (g.T.Naming.sizes a.course.ty.now) (g.B.Body.script a.course.body) a.at a.course.base.items a.course.set.items (map told a.course.replies.items) a.updates.items a.seen.items a.loaded.items a.tasks.items a.checks.items a.places.items in
+    let d = deal_of (of_type g.T.Naming g.T.TxType) g.B.Body a in
     let law = g.met.T.TxType.lawful a.course.ty.now in
     let v = g.C.Cells.view c.args.cells.now in
     let w = g.C.Cells.view c.test-found.new.self in
@@ -63,90 +73,15 @@ returns-clause-said g c =
     let free : is_free m ≡ true = locked_is (is_free m) (sym c.is_locked.ensures ∙ c.if-is_locked.false) in
     let pushed : c.push_spare.new.self ≡ record { items = a.finds.items ++ record { part = task d n; ticket = c.ticket-ticket.result } ∷ []; spare = a.finds.spare - 1 } =
     c.push_spare.ensures ∙ ap (λ (q : ℕ). record { items = a.finds.items ++ record { part = q; ticket = c.ticket-ticket.result } ∷ []; spare = a.finds.spare - 1 }) (sym at) in
-    test_goes d law n a.finds a.loads.items v c.requires.stands w _ m _ tells free c.ticket-ticket.result c.ticket-ticket.ensures.ticket c.push_spare.new.self pushed
-
-pub returns-then-is_locked-clause-left : goal.returns-then-is_locked-clause-left
-returns-then-is_locked-clause-left g c =
-    let a = c.args.self.now in
-    let d : Deal = deal (g.T.TxType.meaning a.course.ty.now) g.T.Naming.valid (g.T.Naming.sizes a.course.ty.now) (g.B.Body.script a.course.body) a.at a.course.base.items a.course.set.items (map told a.course.replies.items) a.updates.items a.seen.items a.loaded.items a.tasks.items a.checks.items a.places.items in
     let h = c.requires.stands in
     let k = c.args.place in
-    fail_lowers d c.len.result c.len.ensures _
-
-pub returns-clause-left : goal.returns-clause-left
-returns-clause-left g c =
-    let a = c.args.self.now in
-    let d : Deal = deal (g.T.TxType.meaning a.course.ty.now) g.T.Naming.valid (g.T.Naming.sizes a.course.ty.now) (g.B.Body.script a.course.body) a.at a.course.base.items a.course.set.items (map told a.course.replies.items) a.updates.items a.seen.items a.loaded.items a.tasks.items a.checks.items a.places.items in
-    let h = c.requires.stands in
-    let k = c.args.place in
-    test_lowers d k 0 h.below c.ticket-ticket.result
-
-pub returns-then-is_locked-clause-reason : goal.returns-then-is_locked-clause-reason
-returns-then-is_locked-clause-reason g c =
-    let a = c.args.self.now in
-    let d : Deal = deal (g.T.TxType.meaning a.course.ty.now) g.T.Naming.valid (g.T.Naming.sizes a.course.ty.now) (g.B.Body.script a.course.body) a.at a.course.base.items a.course.set.items (map told a.course.replies.items) a.updates.items a.seen.items a.loaded.items a.tasks.items a.checks.items a.places.items in
-    let law = g.met.T.TxType.lawful a.course.ty.now in
-    let v = g.C.Cells.view c.args.cells.now in
-    let w = g.C.Cells.view c.test-found.new.self in
-    let passes = g.C.Cells.passes c.args.cells.now in
-    let n = c.args.place in
-    let m = c.test-found.result.0 in
-    let p = c.get-part.result.now in
-    let at : slice_index_or a.tasks.items n 0 ≡ p = get_or_from_slice_get a.tasks.items n p 0 c.get-part.ensures in
-    let tells : Tells g.T.Naming.valid passes (Test (task d n)) v m _ w = subst (λ (q : ℕ). Tells g.T.Naming.valid passes (Test q) v m _ w) (sym at) c.test-found.ensures.tells in
-    let busy : is_free m ≡ false = unlocked_is (is_free m) (sym c.is_locked.ensures ∙ c.if-is_locked.true) in
-    let it = test_leaves d law n a.finds a.loads.items v c.requires.stands w _ m _ tells busy in
-    λ y e. inr (subst (λ z. HasReason a.course.set.items w z) e tt)
-
-pub returns-then-is_locked-clause-alone : goal.returns-then-is_locked-clause-alone
-returns-then-is_locked-clause-alone g c =
-    let a = c.args.self.now in
-    let d : Deal = deal (g.T.TxType.meaning a.course.ty.now) g.T.Naming.valid (g.T.Naming.sizes a.course.ty.now) (g.B.Body.script a.course.body) a.at a.course.base.items a.course.set.items (map told a.course.replies.items) a.updates.items a.seen.items a.loaded.items a.tasks.items a.checks.items a.places.items in
-    let law = g.met.T.TxType.lawful a.course.ty.now in
-    let v = g.C.Cells.view c.args.cells.now in
-    let w = g.C.Cells.view c.test-found.new.self in
-    let passes = g.C.Cells.passes c.args.cells.now in
-    let n = c.args.place in
-    let m = c.test-found.result.0 in
-    let p = c.get-part.result.now in
-    let at : slice_index_or a.tasks.items n 0 ≡ p = get_or_from_slice_get a.tasks.items n p 0 c.get-part.ensures in
-    let tells : Tells g.T.Naming.valid passes (Test (task d n)) v m _ w = subst (λ (q : ℕ). Tells g.T.Naming.valid passes (Test q) v m _ w) (sym at) c.test-found.ensures.tells in
-    let busy : is_free m ≡ false = unlocked_is (is_free m) (sym c.is_locked.ensures ∙ c.if-is_locked.true) in
-    let it = test_leaves d law n a.finds a.loads.items v c.requires.stands w _ m _ tells busy in
-    λ one quiet. absurd (not_busy v (task d n) m (tells.learns.alone one) (test_unheld d law n a.finds a.loads.items v c.requires.stands) busy)
-
-pub returns-clause-reason : goal.returns-clause-reason
-returns-clause-reason g c =
-    let a = c.args.self.now in
-    let d : Deal = deal (g.T.TxType.meaning a.course.ty.now) g.T.Naming.valid (g.T.Naming.sizes a.course.ty.now) (g.B.Body.script a.course.body) a.at a.course.base.items a.course.set.items (map told a.course.replies.items) a.updates.items a.seen.items a.loaded.items a.tasks.items a.checks.items a.places.items in
-    let law = g.met.T.TxType.lawful a.course.ty.now in
-    let v = g.C.Cells.view c.args.cells.now in
-    let w = g.C.Cells.view c.test-found.new.self in
-    let passes = g.C.Cells.passes c.args.cells.now in
-    let n = c.args.place in
-    let m = c.test-found.result.0 in
-    let p = c.get-part.result.now in
-    let at : slice_index_or a.tasks.items n 0 ≡ p = get_or_from_slice_get a.tasks.items n p 0 c.get-part.ensures in
-    let tells : Tells g.T.Naming.valid passes (Test (task d n)) v m _ w = subst (λ (q : ℕ). Tells g.T.Naming.valid passes (Test q) v m _ w) (sym at) c.test-found.ensures.tells in
-    let free : is_free m ≡ true = locked_is (is_free m) (sym c.is_locked.ensures ∙ c.if-is_locked.false) in
-    let pushed : c.push_spare.new.self ≡ record { items = a.finds.items ++ record { part = task d n; ticket = c.ticket-ticket.result } ∷ []; spare = a.finds.spare - 1 } =
-    c.push_spare.ensures ∙ ap (λ (q : ℕ). record { items = a.finds.items ++ record { part = q; ticket = c.ticket-ticket.result } ∷ []; spare = a.finds.spare - 1 }) (sym at) in
-    λ y e. absurd e
-
-pub returns-clause-alone : goal.returns-clause-alone
-returns-clause-alone g c =
-    let a = c.args.self.now in
-    let d : Deal = deal (g.T.TxType.meaning a.course.ty.now) g.T.Naming.valid (g.T.Naming.sizes a.course.ty.now) (g.B.Body.script a.course.body) a.at a.course.base.items a.course.set.items (map told a.course.replies.items) a.updates.items a.seen.items a.loaded.items a.tasks.items a.checks.items a.places.items in
-    let law = g.met.T.TxType.lawful a.course.ty.now in
-    let v = g.C.Cells.view c.args.cells.now in
-    let w = g.C.Cells.view c.test-found.new.self in
-    let passes = g.C.Cells.passes c.args.cells.now in
-    let n = c.args.place in
-    let m = c.test-found.result.0 in
-    let p = c.get-part.result.now in
-    let at : slice_index_or a.tasks.items n 0 ≡ p = get_or_from_slice_get a.tasks.items n p 0 c.get-part.ensures in
-    let tells : Tells g.T.Naming.valid passes (Test (task d n)) v m _ w = subst (λ (q : ℕ). Tells g.T.Naming.valid passes (Test q) v m _ w) (sym at) c.test-found.ensures.tells in
-    let free : is_free m ≡ true = locked_is (is_free m) (sym c.is_locked.ensures ∙ c.if-is_locked.false) in
-    let pushed : c.push_spare.new.self ≡ record { items = a.finds.items ++ record { part = task d n; ticket = c.ticket-ticket.result } ∷ []; spare = a.finds.spare - 1 } =
-    c.push_spare.ensures ∙ ap (λ (q : ℕ). record { items = a.finds.items ++ record { part = q; ticket = c.ticket-ticket.result } ∷ []; spare = a.finds.spare - 1 }) (sym at) in
-    λ one quiet. record { early = early_more a.at a.finds c.push_spare.new.self (record { part = task d n; ticket = c.ticket-ticket.result }) (ap (λ (l : Listed Found). l.items) pushed) quiet.early (omega (arith, (tells.learns.alone one).1, c.ticket-ticket.ensures.ticket, c.requires.stands.loading.going.sealed.number)); unaborted = λ y e. absurd e }
+    record {
+      event = search rules;
+      said = test_goes d law n a.finds a.loads.items v c.requires.stands w _ m _ tells free c.ticket-ticket.result c.ticket-ticket.ensures.ticket c.push_spare.new.self pushed;
+      space = search rules;
+      left = test_lowers d k 0 h.below c.ticket-ticket.result;
+      reason = λ y e. absurd e;
+      alone = λ one quiet. record { early = early_more a.at a.finds c.push_spare.new.self (record { part = task d n; ticket = c.ticket-ticket.result }) (ap (λ (l : Listed Found). l.items) pushed) quiet.early (omega (arith, (tells.learns.alone one).1, c.ticket-ticket.ensures.ticket, c.requires.stands.loading.going.sealed.number)); unaborted = λ y e. absurd e };
+      by = search rules;
+      kept = refl;
+    }

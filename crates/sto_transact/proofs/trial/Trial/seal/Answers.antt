@@ -12,8 +12,9 @@ pub returns-in-Ok-clause-proceeds : goal.returns-in-Ok-clause-proceeds
 returns-in-Ok-clause-proceeds g c passes ty f begun v h =
     let under = subst (λ (t : Trial g.row.T.Denot g.row.B.Denot). IsAtSeal g.T.TxType.meaning g.T.Naming.valid g.T.Naming.sizes g.B.Body.script g.B.Body.then g.B.Body.left g.B.Body.may_ask ty f t begun v) (sym c.replace.ensures.value ∙ c.in-Running.is) h in
     let s = c.in-Ok.ensures in
+    let before = s.before v under.1.fits in
     subst (λ (t : Trial g.row.T.Denot g.row.B.Denot). Proceeds g.T.TxType.meaning g.T.Naming.valid g.T.Naming.sizes g.B.Body.script g.B.Body.then g.B.Body.left g.B.Body.may_ask passes ty f t begun v) (sym c.replace-in-Ok.ensures.after)
-    (under.0, seals g.T.TxType.meaning g.T.Naming.valid g.T.Naming.sizes g.B.Body.script g.B.Body.then g.B.Body.left g.B.Body.may_ask passes ty f c.in-Running.attempt c.in-Ok.ready begun v under.1 s.course s.at (s.stands v under.1.fits) s.space s.copy s.undisturbed)
+    (under.0, seals g.T.TxType.meaning g.T.Naming.valid g.T.Naming.sizes g.B.Body.script g.B.Body.then g.B.Body.left g.B.Body.may_ask passes ty f c.in-Running.attempt c.in-Ok.ready begun v under.1 s.course s.at before.stands before.space before.copy s.undisturbed)
 
 pub returns-in-Ok-clause-left : goal.returns-in-Ok-clause-left
 returns-in-Ok-clause-left g c =

@@ -1,0 +1,21 @@
+-- What is said of a commit by its stage is said by any name of that stage.
+use Rattle.std.proofs.Common.{◌≡◌, ℕ, Option, sym, subst}
+use Rattle.sto_core.specs.declared.view.View.{View}
+use Rattle.sto_course.specs.declared.stage.Stage.{Stage}
+use Rattle.sto_course.specs.declared.verdict.Verdict.{Verdict}
+use Rattle.sto_course.proofs.Replied.{step_prefix}
+use Rattle.sto_attempt.specs.declared.ready.Ready.{Ready}
+use Rattle.sto_attempt.specs.Traits.{OfType, OfBody}
+use Rattle.sto_attempt.specs.Commits.{deal_of, HasPrefix, IsBefore, Advances}
+
+module _ {T B : Type 0} (t : OfType T) (b : OfBody B) where
+  pub before_at : (r : Ready T B) (v : View) (old s : Stage) → old ≡ s → IsBefore t b old r v → IsBefore t b s r v
+  before_at r v old s e h = subst (λ (x : Stage). IsBefore t b x r v) e h
+
+  pub advances_at : (passes : ℕ) (r q : Ready T B) (v w : View) (result : Option Verdict) (old s : Stage) → old ≡ s
+      → Advances t b passes s r q v w result → Advances t b passes old r q v w result
+  advances_at passes r q v w result old s e h = subst (λ (x : Stage). Advances t b passes x r q v w result) (sym e) h
+
+  pub prefix_after : (passes : ℕ) (r q : Ready T B) (v w : View) (result : Option Verdict) (s : Stage) → IsBefore t b r.stage r v
+      → Advances t b passes s r q v w result → HasPrefix t b r w
+  prefix_after passes r q v w result s h e = step_prefix (deal_of t b r) r.finds r.loads.items r.stage v h.stands passes w e.event
