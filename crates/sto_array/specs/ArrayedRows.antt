@@ -1,14 +1,14 @@
 -- The rows of an array, by its parts.
-use Rattle.std.specs.Prelude.{◌≡◌, ◌<◌, ◌≤◌, ◌+◌, ◌⊎◌, ℕ, zero, suc, ℤ, pos, negsuc, ◌<ℤ◌, nat_lt, int_lt, Bool, true, false, if◌then◌else◌, Option, Some, None, List, [], ◌∷◌, ◌++◌, map, length, take, replicate, slice_index_or, slice_set, slice_get, is_some, refl}
+use Rattle.std.specs.Prelude.{◌≡◌, ◌<◌, ◌≤◌, ◌+◌, ◌⊎◌, ℕ, zero, suc, ℤ, pos, negsuc, ◌<ℤ◌, nat_lt, int_lt, Bool, true, false, if◌then◌else◌, Some, None, List, [], ◌∷◌, ◌++◌, map, length, take, replicate, slice_index_or, slice_set, slice_get, refl}
 use Rattle.std.specs.Int.{w64}
 use Rattle.std.specs.Int.RustNames.{FitsSigned}
 use Rattle.std.specs.Ordering.{int_eq}
-use Rattle.std.proofs.Common.{ap, sym, ◌∙◌, arith, subst}
+use Rattle.std.proofs.Common.{ap, sym, ◌∙◌, arith}
 use Rattle.std.proofs.lemmas.Int.{ints}
 use Rattle.std.proofs.lemmas.Bool.Decides.{nat_tests}
 use Rattle.sto_part.specs.Parts.{part_of}
 use Rattle.sto_item.specs.Agreement.{word_of}
-use Rattle.sto_model.specs.Rows.{Row, RisesFrom, IsRising, value_at, has_key, with_row, rows_below}
+use Rattle.sto_model.specs.Rows.{Row, RisesFrom, IsRising, value_at, with_row, rows_below}
 use Rattle.sto_type.specs.Known.{Parts, WordsFit, ContentsFit}
 use Rattle.sto_array.specs.Arrayed.{array_rows, place_of, homes_from}
 
@@ -63,10 +63,6 @@ with_place j zero (ws ∷ c) k v e l =
 with_place j (suc i) (ws ∷ c) k v e l =
     with_past (pos j, slice_index_or ws 0 (pos 0)) (array_rows (suc j) c) k v (below j i k e)
     ∙ ap (λ rows. (pos j, slice_index_or ws 0 (pos 0)) ∷ rows) (with_place (suc j) i c k v (moved j i k e) (omega (arith, l)))
-
--- a key past the last index, and one below the first
-past_last : (j i : ℕ) (k : ℤ) → k ≡ pos (j + suc i) → int_eq (pos j) k ≡ false
-past_last j i k e = other_number j i k e
 
 pub nothing_past : (j i : ℕ) (c : Parts) → length c ≤ i → value_at (array_rows j c) (pos (j + i)) ≡ None
 nothing_past j i [] l = refl

@@ -5,7 +5,8 @@ use Rattle.sto_core.specs.declared.view.View.{View}
 use Rattle.sto_course.specs.declared.stand.Stand.{Stand}
 use Rattle.sto_course.specs.declared.verdict.Turn.{Turn}
 use Rattle.sto_course.specs.Standing.{next_event}
-use Rattle.sto_attempt.specs.Traits.{OfType, OfBody}
+use Rattle.sto_type.specs.Traits.{OfType}
+use Rattle.sto_model.specs.Bodies.{OfBody}
 use Rattle.sto_attempt.specs.declared.attempt.Attempt.{Attempt}
 use Rattle.sto_attempt.specs.Attempts.{IsUnderWay, Steps}
 

@@ -5,7 +5,8 @@ use Rattle.sto_course.specs.declared.stage.Stage.{Stage}
 use Rattle.sto_course.specs.declared.verdict.Verdict.{Verdict}
 use Rattle.sto_course.proofs.Replied.{step_prefix}
 use Rattle.sto_attempt.specs.declared.ready.Ready.{Ready}
-use Rattle.sto_attempt.specs.Traits.{OfType, OfBody}
+use Rattle.sto_type.specs.Traits.{OfType}
+use Rattle.sto_model.specs.Bodies.{OfBody}
 use Rattle.sto_attempt.specs.Commits.{deal_of, HasPrefix, IsBefore, Advances}
 
 module _ {T B : Type 0} (t : OfType T) (b : OfBody B) where

@@ -15,7 +15,8 @@ use Rattle.sto_course.specs.Reasons.{IsCaused}
 use Rattle.sto_course.specs.Sights.{words_in}
 use Rattle.sto_course.specs.Stages.{Deal, deal}
 use Rattle.sto_course.specs.Standing.{Goes, Fits, Renews, Spans, Turned, IsLeft, IsFirst, IsUnaborted, KeepsRenewal, Moves, next_event}
-use Rattle.sto_attempt.specs.Traits.{OfType, OfBody}
+use Rattle.sto_type.specs.Traits.{OfType}
+use Rattle.sto_model.specs.Bodies.{OfBody}
 use Rattle.sto_attempt.specs.declared.attempt.Attempt.{Attempt}
 
 -- the replies that the body has heard

@@ -4,7 +4,8 @@ use Rattle.sto_model.specs.Told.{told}
 use Rattle.sto_core.specs.declared.view.View.{View}
 use Rattle.sto_course.specs.declared.stage.Stage.{Stage}
 use Rattle.sto_course.specs.declared.verdict.Verdict.{Verdict}
-use Rattle.sto_attempt.specs.Traits.{OfType, OfBody}
+use Rattle.sto_type.specs.Traits.{OfType}
+use Rattle.sto_model.specs.Bodies.{OfBody}
 use Rattle.sto_attempt.specs.declared.ready.Ready.{Ready}
 use Rattle.sto_course.specs.Answers.{OneEvent, IsCommitEvent, IsPrefix}
 use Rattle.sto_course.specs.Remaining.{commit_left}

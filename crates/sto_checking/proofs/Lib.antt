@@ -1,8 +1,6 @@
 pub mod Truth
 pub mod Cuts
-pub mod Digits
 pub mod Lines
-pub mod Named
 pub mod Reading
 pub mod Walked
 pub mod Uncommitted

@@ -1,5 +1,5 @@
 -- Aborted attempts in their order, with one more.
-use Rattle.std.proofs.Common.{◌≡◌, ◌⊎◌, ℕ, zero, suc, ◌+◌, ◌<◌, ◌≤◌, List, [], ◌∷◌, ◌++◌, refl, sym, ap, ◌∙◌, subst, Bool, true, false, cond, ◌==◌, ◌&&◌, Option, None, Some, arith, inl, inr, count_by, IfSome}
+use Rattle.std.proofs.Common.{◌≡◌, ◌⊎◌, ℕ, ◌+◌, ◌<◌, ◌≤◌, List, [], ◌∷◌, ◌++◌, refl, sym, ap, ◌∙◌, subst, Bool, true, false, cond, ◌==◌, ◌&&◌, Option, None, Some, arith, inl, inr, IfSome}
 use Rattle.std.proofs.lemmas.Bool.Decides.{nat_tests}
 use Rattle.std.proofs.lemmas.List.Sums.{sum_by-cons}
 use Rattle.sto_lawful.specs.Orders.{Place}
@@ -44,10 +44,6 @@ up_through p q r (inr h) (inr k) = inr (h.0 ∙ k.0, (let l = h.1 in let m = k.1
 abbrev AllUpTo : List Abort → Place → Type 0
 AllUpTo [] p = Unit {0}
 AllUpTo (x ∷ xs) p = IsUpTo x.place p × AllUpTo xs p
-
-all_through : (xs : List Abort) (p q : Place) → AllUpTo xs p → IsUpTo p q → AllUpTo xs q
-all_through [] p q h k = tt
-all_through (x ∷ xs) p q h k = (up_through x.place p q h.0 k, all_through xs p q h.1 k)
 
 self_up : (p : Place) → IsUpTo p p
 self_up p = inr (refl, omega arith)
@@ -107,9 +103,6 @@ first_own xs l a h k =
     let none = none_at (xs ++ l ∷ []) l.place a.place (sorted_up xs l h) k in
     let one = one_more_own (xs ++ l ∷ []) a in
     omega (arith, none, one)
-
-pub count_one : (a : Abort) → count_at a.place (a ∷ []) ≡ 1
-count_one a = count_own a
 
 module _ (before : List Abort) (a : Abort) (last : LastAbort) (at : Transaction) (seen tries : ℕ) (h : IsLast before last) (p : a.place ≡ place_of at) (s : a.seen ≡ seen) where
   whole : before ++ a ∷ [] ≡ (h.before ++ h.abort ∷ []) ++ a ∷ []

@@ -27,9 +27,6 @@ added =
     by_seat 1 (Start ∷ Lock 0 ∷ Word 0 0 ∷ Draw ((0, AddValue (pos 1) ∷ []) ∷ []) [] (0 ∷ []) ∷ Decide true ∷ Put 0 0 (pos 3) ∷ Release 0 ∷ [])
     (by_seat 0 (Start ∷ Open 0 ∷ Word 0 0 ∷ Close 0 ∷ []) opened)
 
-added_parts : added.parts ≡ record { ticket = 1; locked = false; words = pos 3 ∷ [] } ∷ []
-added_parts = refl
-
 -- seat 0 locks and loads the part: it finds 3
 abbrev pub loaded : Core
 loaded = by_seat 0 (Lock 0 ∷ Word 0 0 ∷ []) added
@@ -41,9 +38,6 @@ one_read (suc i) lt = absurd (omega arith)
 -- it draws ticket 2 for an addition of -2, which rests on the part as loaded
 abbrev pub drew : Core
 drew = by_seat 0 (Draw ((0, AddValue (negsuc 1) ∷ []) ∷ []) [] (0 ∷ []) ∷ []) loaded
-
-drew_looked : (own_entry (view_at drew 0)).looked ≡ record { part = 0; ticket = 1; words = pos 3 ∷ [] } ∷ []
-drew_looked = refl
 
 confirmed : Each (IsConfirmed (view_at drew 0)) (own_entry (view_at drew 0)).looked
 confirmed zero looked is =
@@ -68,9 +62,6 @@ stale may = let e : pos 0 ≡ pos 1 = may.2.1 in cc
 abbrev done : Core
 done = by_seat 0 (Put 0 0 (pos 1) ∷ Release 0 ∷ []) decided
 
-done_parts : done.parts ≡ record { ticket = 2; locked = false; words = pos 1 ∷ [] } ∷ []
-done_parts = refl
-
 -- part 0 is tested and not held, and part 1 is written
 abbrev two : Core
 two = opened_core [] ((pos 5 ∷ []) ∷ (pos 0 ∷ []) ∷ []) 1
@@ -78,9 +69,6 @@ two = opened_core [] ((pos 5 ∷ []) ∷ (pos 0 ∷ []) ∷ []) 1
 abbrev tested : Core
 tested =
     by_seat 0 (Start ∷ Open 0 ∷ Word 0 0 ∷ Close 0 ∷ Lock 1 ∷ Test 0 ∷ Word 0 0 ∷ Close 0 ∷ []) two
-
-tested_claims : (view_at tested 0).claims ≡ record { start = 1; number = 0; part = 0; ticket = 0; words = pos 5 ∷ [] } ∷ record { start = 1; number = 0; part = 0; ticket = 0; words = pos 5 ∷ [] } ∷ []
-tested_claims = refl
 
 abbrev drawn : Core
 drawn = by_seat 0 (Draw ((1, PutValue (pos 1) ∷ []) ∷ []) [] (0 ∷ []) ∷ []) tested
@@ -95,6 +83,3 @@ unchecked may = by (may.1 0 (record { part = 0; ticket = 0; words = pos 5 ∷ []
 
 abbrev checked : Core
 checked = by_seat 0 (Check 0 ∷ []) drawn
-
-checked_is : (view_at checked 0).checked ≡ (0, 0) ∷ []
-checked_is = refl

@@ -1,5 +1,5 @@
 -- Why a change ends an attempt, and what its replies are where want of memory ends it.
-use Rattle.std.proofs.Common.{◌≡◌, ◌≤◌, ◌<◌, ℕ, zero, suc, ℤ, pos, Bool, true, List, [], ◌∷◌, ◌++◌, length, length-append, Result, Ok, Err, IfOk, OnErr, OnOk, refl, ap, sym, ◌∙◌, arith, inl, inr, slice_index_or, append-nil, map, nat_eq, eqb-true, true≢false, ◌⊎◌}
+use Rattle.std.proofs.Common.{◌≡◌, ◌≤◌, ◌<◌, ℕ, zero, suc, ℤ, pos, Bool, true, List, [], ◌∷◌, ◌++◌, length, length-append, Result, Ok, Err, IfOk, OnErr, refl, ap, sym, ◌∙◌, arith, inl, inr, slice_index_or, append-nil, map, nat_eq, eqb-true, true≢false, ◌⊎◌}
 use Rattle.std.specs.List.{Contains}
 use Rattle.std.proofs.lemmas.Bool.{cases_Bool}
 use Rattle.std.proofs.lemmas.List.{length-map}
@@ -110,10 +110,6 @@ by_predicate event items v p t renewed bound ws fails read =
 pub err_both : {T E : Type 0} (r : Result T E) (P Q : Type 0) → OnErr r P → OnErr r Q → OnErr r (P × Q)
 err_both (Ok x) P Q a b = tt
 err_both (Err e) P Q a b = (a, b)
-
-pub ok_both : {T E : Type 0} (r : Result T E) (P Q : Type 0) → OnOk r P → OnOk r Q → OnOk r (P × Q)
-ok_both (Ok x) P Q a b = (a, b)
-ok_both (Err e) P Q a b = tt
 
 -- as many replies are the same ones
 no_more : (xs : List Told) → length xs ≡ 0 → xs ≡ []

@@ -1,6 +1,6 @@
 -- Facts of each of a list.
 use Rattle.std.proofs.Common.{◌≡◌, ℕ, zero, suc, ◌<◌, List, [], ◌∷◌, ◌++◌, length, subst, arith, slice_index_or}
-use Rattle.std.specs.List.{Contains, flat_map}
+use Rattle.std.specs.List.{Contains}
 use Rattle.sto_course.specs.Asked.{AllOf}
 
 module _ {A : Type 0} (P : A → Type 0) where
@@ -19,7 +19,3 @@ module _ {A : Type 0} (P : A → Type 0) where
 
   pub all_contained : (xs : List A) (x : A) → Contains xs x → AllOf P xs → P x
   all_contained xs x c a = all_at xs x c.0 c.1 c.2 a
-
-pub all_flat : {A B : Type 0} (P : B → Type 0) (f : A → List B) (xs : List A) → AllOf (λ (x : A). AllOf P (f x)) xs → AllOf P (flat_map f xs)
-all_flat P f [] a = tt
-all_flat P f (x ∷ xs) a = all_append P (f x) (flat_map f xs) a.0 (all_flat P f xs a.1)

@@ -23,7 +23,6 @@ pub mod Lowering
 pub mod Causing
 pub mod Alone
 pub mod Ticketing
-pub mod Checking
 pub mod Anew
 pub mod Spanning
 pub mod Again
@@ -53,4 +52,3 @@ pub mod Sealing
 pub mod Undisturbed
 pub mod Bounded
 pub mod Replied
-pub mod Staged

@@ -1,5 +1,5 @@
 -- An attempt's course over one more reply.
-use Rattle.std.proofs.Common.{◌≡◌, ℕ, not, ◌||◌, None, List, [], ◌∷◌, ◌++◌, refl, ap, sym, ◌∙◌, subst}
+use Rattle.std.proofs.Common.{◌≡◌, ℕ, not, ◌||◌, None, List, [], ◌∷◌, ◌++◌, ap, sym, ◌∙◌, subst}
 use Rattle.sto_item.specs.declared.item.Item.{Item}
 use Rattle.sto_item.specs.Pending.{Entry, AreUpdates, applied_updates, with_updates}
 use Rattle.sto_item.specs.Observed.{part_of_item}
@@ -16,7 +16,7 @@ use Rattle.sto_model.specs.Serial.{is_written, has_written}
 use Rattle.sto_type.specs.Known.{Parts, Known, IsPartOf, known}
 use Rattle.sto_type.specs.Meaning.{Meaning, IsLawful, IsReady, IsPartOfObject, EachOwned, is_empty}
 use Rattle.sto_type.specs.Runs.{IsRunOn, IsCarried}
-use Rattle.sto_type.proofs.Carrying.{IsCarried-none, IsCarried-more}
+use Rattle.sto_type.proofs.Carrying.{IsCarried-more}
 use Rattle.sto_type.proofs.Learning.{IsPartOf-none}
 use Rattle.sto_course.specs.Asked.{AllOf, IsOfNext, IsAsked}
 use Rattle.sto_course.specs.Course.{IsRead, IsInside, IsCourse, IsCache}
@@ -26,10 +26,6 @@ use Rattle.sto_course.proofs.Asking.{asked_next, asked_more}
 use Rattle.sto_course.proofs.Items.{agrees_added, agrees_before, all_added}
 use Rattle.sto_course.proofs.Written.{written_more, empty_with, with_parts}
 use Rattle.sto_course.proofs.Moving.{read_below, inside_below, owned_below}
-
--- before the first call
-pub course_none : (m : Meaning) (f : Script) (base : Known) → IsCourse m f base [] [] []
-course_none m f base = record { carried = IsCarried-none m f base; read = tt; inside = tt; asked_items = tt; asked_updates = tt; written = refl }
 
 pub cache_none : (m : Meaning) (base : Known) (es : List Entry) → IsCache m base es (known [])
 cache_none m base es = record { above = λ d v p. IsPartOf-none (applied_updates es d); from = λ p h. cc }

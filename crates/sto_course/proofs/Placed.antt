@@ -2,7 +2,6 @@
 use Rattle.std.specs.Prelude.{if◌then◌else◌, nat_lt}
 use Rattle.std.specs.BTreeMap.{BTreeMap, get, is_at}
 use Rattle.std.specs.List.{Contains, slice_get}
-use Rattle.std.specs.Map.{lookup}
 use Rattle.std.specs.Option.{option_or}
 use Rattle.std.specs.Ordering.{nat_cmp}
 use Rattle.std.proofs.Common.{◌≡◌, ◌<◌, ◌+◌, ℕ, suc, Bool, false, nat_eq, Option, Some, None, List, [], ◌∷◌, ◌++◌, length, refl, ap, sym, ◌∙◌, subst, arith, inl, inr, eqb-true}
@@ -132,6 +131,3 @@ placed_new m n part place none h q = elim (cases_Bool (nat_eq part q)) [
     kept : (o : Option ℕ) → o ≡ option_or o None
     kept None = refl
     kept (Some k) = refl
-
-pub same_places : (m n : BTreeMap ℕ ℕ) → n.entries ≡ m.entries → (q : ℕ) → get nat_cmp n q ≡ get nat_cmp m q
-same_places m n same q = ap (lookup (is_at (nat_cmp q))) same

@@ -161,9 +161,6 @@ widths_of (y ∷ ys) d h u a =
       | inr there ↦ widths_of ys d h.2 u there
     ]
 
-inside_of : (widths : List ℕ) (x : Item) (q : Pred) → x ≡ Holds q → IsInside widths x → q.word < slice_index_or widths q.part 0
-inside_of widths x q e h = subst (IsInside widths) e h
-
 module _ (items : List Item) (xs : List (ℕ × Listed Change)) where
   abbrev pub tasks : List ℕ
   tasks = gathered adding_part (loaded items) xs

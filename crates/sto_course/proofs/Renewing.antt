@@ -8,7 +8,7 @@ use Rattle.sto_core.specs.Lists.{Among}
 use Rattle.sto_core.specs.Versions.{ticket_of, is_free}
 use Rattle.sto_core.specs.Views.{holds, any_claim, is_claimed, is_recent}
 use Rattle.sto_core.specs.History.{Validity}
-use Rattle.sto_core.specs.Event.{Renew, Recheck, found, is_own_or_free, is_claimed_still, words_claimed, rechecked_by}
+use Rattle.sto_core.specs.Event.{Recheck, found, is_own_or_free, is_claimed_still, words_claimed, rechecked_by}
 use Rattle.sto_core.specs.Allowed.{WasClaimed}
 use Rattle.sto_core.specs.Tells.{Tells, ClaimsFit}
 use Rattle.sto_core.proofs.Lists.{among_snoc, both_true}
@@ -16,24 +16,13 @@ use Rattle.sto_model.specs.Told.{Told}
 use Rattle.sto_model.specs.Run.{Script}
 use Rattle.sto_type.specs.Meaning.{Meaning}
 use Rattle.sto_course.specs.declared.sight.Sight.{Sight}
-use Rattle.sto_course.specs.Sights.{claim_of, IsClaimed, AreClaimed}
+use Rattle.sto_course.specs.Sights.{claim_of, IsClaimed}
 use Rattle.sto_course.specs.Asked.{IsAsked}
 use Rattle.sto_course.specs.Answers.{IsPrefix, HasFound, WasLocked, WasChanged}
 use Rattle.sto_course.specs.Standing.{IsLeft}
-use Rattle.sto_course.proofs.Claimed.{claimed_still}
 use Rattle.sto_course.proofs.Prefix.{prefix_on}
 use Rattle.sto_course.proofs.Drawing.{any_at}
 use Rattle.sto_course.proofs.Reading.{AtRest, own_still, idle_reading, among_front}
-
--- a renew leaves what was claimed as of the number before, which is not above the new one
-pub renew_rests : (m : Meaning) (valid : Validity) (sizes : List ℕ) (at passes : ℕ) (v w : View) (n : ℕ) (x : ℤ) (base : List Sight) → AtRest m valid sizes at v → AreClaimed v at base → Tells valid passes Renew v n x w
-    → AtRest m valid sizes n w × AreClaimed w at base × (at ≤ n)
-renew_rests m valid sizes at passes v w n x base rest claimed t =
-    let u : View = record v { at = n } in
-    let fit : ClaimsFit valid u = subst (ClaimsFit valid) t.after t.fit in
-    let here : AtRest m valid sizes n u = record { own = own_still m sizes v u refl refl rest.own; unheld = rest.unheld; decided = rest.decided; draws = rest.draws; number = refl; fit = fit; phase = rest.phase } in
-    let still : AreClaimed u at base = claimed_still v u at base refl (λ c h. h) claimed in
-    (subst (λ (y : View). AtRest m valid sizes n y) (sym t.after) here, subst (λ (y : View). AreClaimed y at base) (sym t.after) still, omega (arith, t.learns.at, rest.number))
 
 -- The recheck of a part that was seen as of the number `at`, while the view has the number `now`
 module _ (m : Meaning) (valid : Validity) (sizes : List ℕ) (f : Script) (at now : ℕ) (rs : List Told) (v : View) (rest : AtRest m valid sizes now v) (s : Sight) (claim : IsClaimed v at s) where

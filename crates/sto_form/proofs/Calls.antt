@@ -23,12 +23,6 @@ call_with to object words operation operands e named formed =
     let so : Option Form = Some (CallLine to operation object operands) in
     call_is to object words operation operands e ∙ (λ i. if (named i) && (formed i) then so else None)
 
--- no name
-pub call_unnamed : (to : Option (List ℕ)) (object : List ℕ) (words : List (List ℕ)) (operation : Operation) (operands : List Operand) → few (all_of operand_of words) ≡ Some operands → is_name object ≡ false → call to object words operation ≡ None
-call_unnamed to object words operation operands e named =
-    let so : Option Form = Some (CallLine to operation object operands) in
-    call_is to object words operation operands e ∙ (λ i. if (named i) && not (is_empty (kinds_with operation operands)) then so else None)
-
 -- as many arguments as no form has
 pub call_without : (to : Option (List ℕ)) (object : List ℕ) (words : List (List ℕ)) (operation : Operation) (operands : List Operand) → few (all_of operand_of words) ≡ Some operands → is_name object ≡ true → not (is_empty (kinds_with operation operands)) ≡ false → call to object words operation ≡ None
 call_without to object words operation operands e named formed =

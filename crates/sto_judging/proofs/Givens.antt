@@ -11,7 +11,7 @@ use Rattle.sto_lang.specs.Objects.{Declaration}
 use Rattle.sto_lang.specs.Scripts.{Script, File}
 use Rattle.sto_lang.specs.Sound.{IsSound}
 use Rattle.sto_lang.specs.Views.{declaration}
-use Rattle.sto_lawful.specs.Orders.{Place, transaction_at, count_in, positions_of, numbers_from, IsOrder}
+use Rattle.sto_lawful.specs.Orders.{Place, transaction_at, count_in, numbers_from, IsOrder}
 use Rattle.sto_lawful.specs.Orders as orders
 use Rattle.sto_lawful.specs.Replay.{Entry, entries_of}
 use Rattle.sto_lawful.specs.Aborts.{LocalPart, Cause, Locked, Changed, Abort, part_in}
@@ -19,13 +19,11 @@ use Rattle.sto_lawful.specs.Named.{is_space}
 use Rattle.sto_lawful.specs.NamedAborts.{aborts_in, aborts_named}
 use Rattle.sto_lawful.specs.LawfulAborts.{IsBefore, IsAfterOwn, declared_as}
 use Rattle.sto_journal.specs.Journals.{entry, places}
-use Rattle.sto_checking.specs.declared.told.ToldCause.{ToldCause}
 use Rattle.sto_checking.specs.declared.told.ToldAbort.{ToldAbort}
 use Rattle.sto_checking.specs.Lines.{HasContent}
 use Rattle.sto_checking.specs.Written.{written_of}
-use Rattle.sto_checking.specs.Past.{IsPast}
 use Rattle.sto_checking.specs.Reading.{place_of, IsSmall, IsCauseRead, IsAbortRead, IsTold}
-use Rattle.sto_checking.specs.Right.{WroteAt, IsWrittenBy, IsCauseOf, IsRightAlone, IsAbortLine}
+use Rattle.sto_checking.specs.Right.{WroteAt, IsCauseOf, IsRightAlone, IsAbortLine}
 use Rattle.sto_checking.proofs.Kept.{is_inside}
 use Rattle.sto_checking.proofs.Bounds.{right_small}
 use Rattle.sto_checking.proofs.Complete.{order_count}
@@ -33,9 +31,9 @@ use Rattle.sto_checking.proofs.Declared.{named_found, not_found}
 use Rattle.sto_judging.specs.declared.window.Window.{Window}
 use Rattle.sto_judging.specs.declared.replayed.Replayed.{Replayed}
 use Rattle.sto_judging.specs.declared.abort.GivenAbort.{GivenAbort}
-use Rattle.sto_judging.specs.Windows.{at_position, window_at, IsWindow, AreOfThread, AreWindows}
+use Rattle.sto_judging.specs.Windows.{at_position, window_at, IsWindow}
 use Rattle.sto_judging.specs.Replayed.{windows_of, IsReplayed}
-use Rattle.sto_judging.specs.Given.{cause_by, cause_in, IsLater, MayBe, IsWriterOr, IsPlaced, IsGiven, TellsAbort}
+use Rattle.sto_judging.specs.Given.{MayBe, IsWriterOr, IsPlaced, IsGiven, TellsAbort}
 use Rattle.sto_judging.proofs.Lists.{some_at}
 use Rattle.sto_judging.proofs.Named.{abort_once}
 use Rattle.sto_judging.proofs.Judged.{part_by, cause_is}
@@ -62,9 +60,6 @@ has_transaction (scripts ∷ threads) (suc t) position l m = has_transaction thr
 numbers_long : (first count : ℕ) → length (numbers_from first count) ≡ count
 numbers_long first zero = refl
 numbers_long first (suc count) = ap suc (numbers_long (suc first) count)
-
-same_window : (a b : Window) → Some a ≡ Some b → a ≡ b
-same_window a b e = cc
 
 same_object : (a b : Declaration) → Some a ≡ Some b → a ≡ b
 same_object a b e = cc

@@ -1,5 +1,5 @@
 -- The lines of a lawful report are all right.
-use Rattle.std.proofs.Common.{◌≡◌, ◌⊎◌, ℕ, zero, suc, ◌+◌, ◌-◌, ◌<◌, ◌≤◌, ◌^◌, List, [], ◌∷◌, ◌++◌, length, map, take, drop, refl, sym, ap, ◌∙◌, subst, Bool, true, false, cond, ◌==◌, ◌||◌, ◌&&◌, nat_lt, Option, None, Some, slice_get, option_and_then, codes, arith, inl, inr, append_assoc, append-nil}
+use Rattle.std.proofs.Common.{◌≡◌, ◌⊎◌, ℕ, zero, suc, ◌+◌, ◌-◌, ◌<◌, ◌≤◌, ◌^◌, List, [], ◌∷◌, ◌++◌, length, map, take, drop, refl, sym, ap, ◌∙◌, subst, Bool, true, false, cond, ◌==◌, ◌||◌, ◌&&◌, Option, None, Some, slice_get, option_and_then, codes, arith, inl, inr, append_assoc, append-nil}
 use Rattle.std.specs.List.{list_any, flat_map, All, slice_split}
 use Rattle.std.specs.Str.{bytes_eq}
 use Rattle.std.specs.Str.Parse.{digits_value}
@@ -13,14 +13,13 @@ use Rattle.sto_form.specs.Words.{is_name}
 use Rattle.sto_lang.specs.Objects.{Declaration, HaveNames}
 use Rattle.sto_lang.specs.Scripts.{Script, File}
 use Rattle.sto_lang.specs.Sound.{IsSound}
-use Rattle.sto_lang.specs.Drafts.{transaction_count}
 use Rattle.sto_lawful.specs.Orders.{Place, at_position, transaction_at, count_in, positions_of, numbers_from, IsOrder}
 use Rattle.sto_lawful.specs.Replay.{Entry, run_at, is_writer, counted, entry_at, entries_from, entries_of, opening_state, final_state, state_from}
-use Rattle.sto_lawful.specs.Aborts.{LocalPart, Cause, Locked, Changed, Abort, part_in}
+use Rattle.sto_lawful.specs.Aborts.{Cause, Locked, Changed, Abort, part_in}
 use Rattle.sto_lawful.specs.Report.{line_text, abort_text, object_text, report_of}
 use Rattle.sto_lawful.specs.Named.{is_line_feed, is_space, is_dot, place_of_pieces, order_named, AreNames, IsNamable}
 use Rattle.sto_lawful.specs.NamedAborts.{aborts_named, aborts_in, abort_by, heard_in, Heard, aborts_among}
-use Rattle.sto_lawful.specs.LawfulAborts.{MayPrecede, IsSorted, count_at, declared_as, IsLawfulAbort, IsCause, AreLawful}
+use Rattle.sto_lawful.specs.LawfulAborts.{IsSorted, count_at, declared_as, IsLawfulAbort, IsCause}
 use Rattle.sto_lawful.specs.Lawful.{IsLawful}
 use Rattle.sto_lawful.specs.Updated.{Updating}
 use Rattle.sto_lawful.specs.Short.{IsShortEntry, AreShortEntries}
@@ -30,10 +29,10 @@ use Rattle.sto_lawful.proofs.Splits.{split_at}
 use Rattle.sto_serial.specs.Runs.{writers_from}
 use Rattle.sto_serial.proofs.Sound.{sound_runnable}
 use Rattle.sto_checking.specs.Lines.{lines_of, is_state_line, until_state, beyond_state}
-use Rattle.sto_checking.specs.Shown.{IsInside, AreInside}
-use Rattle.sto_checking.specs.Right.{total, order_in, behind, entry_after, IsNext, IsJournalLine, IsWrittenBy, IsCauseOf, IsRightAlone, IsRightAbort, IsAbortLine, IsObjectLine, IsRightAfter}
+use Rattle.sto_checking.specs.Shown.{IsInside}
+use Rattle.sto_checking.specs.Right.{total, order_in, behind, entry_after, IsJournalLine, IsCauseOf, IsAbortLine, IsObjectLine, IsRightAfter}
 use Rattle.sto_checking.specs.Right as right_lines
-use Rattle.sto_checking.specs.Answer.{IsRightAt, AreRight, IsWhole, IsAnswer}
+use Rattle.sto_checking.specs.Answer.{AreRight, IsWhole, IsAnswer}
 use Rattle.sto_checking.specs.Exact.{UpdatesWritten}
 use Rattle.sto_checking.specs.declared.found.Found.TheVariants.{Lawful}
 use Rattle.sto_checking.proofs.Kept.{is_inside}
@@ -41,7 +40,7 @@ use Rattle.sto_checking.proofs.Stages.{take_whole, journal_right, abort_right, o
 use Rattle.sto_checking.proofs.Complete.{order_count}
 use Rattle.sto_checking.proofs.Order.{count_cons}
 use Rattle.sto_judging.proofs.Sound.{joined}
-use Rattle.sto_judging.proofs.Splitting.{InFirst, InSecond, cut_append, InMap, cut_map, CutAt, cut_at_place, same_first, same_rest}
+use Rattle.sto_judging.proofs.Splitting.{InFirst, InSecond, cut_append, cut_map, cut_at_place, same_first, same_rest}
 use Rattle.sto_judging.proofs.Texts.{IsOneLine, AreLines, lines_append, lines_are, joined_map, joined_append, journal_line, object_line_is, abort_line, state_line_is, abort_no_state}
 
 -- Orders.
@@ -195,10 +194,6 @@ entries_words f w st (p ∷ order) h =
 entries_long : (f : File) (w : ℕ) (st : State) (order : List Place) → length (entries_from f w st order) ≡ length order
 entries_long f w st [] = refl
 entries_long f w st (p ∷ order) = ap suc (entries_long f (entry_at f w st p).writers (run_at f st p).after order)
-
-entries_places : (f : File) (w : ℕ) (st : State) (order : List Place) → map (λ (e : Entry). e.place) (entries_from f w st order) ≡ order
-entries_places f w st [] = refl
-entries_places f w st (p ∷ order) = ap (λ (o : List Place). p ∷ o) (entries_places f (entry_at f w st p).writers (run_at f st p).after order)
 
 -- Aborted attempts.
 

@@ -2,7 +2,7 @@
 use Rattle.std.proofs.Common.{◌≡◌, ◌⊎◌, ℕ, zero, suc, ◌+◌, ◌-◌, ◌<◌, ◌≤◌, max, List, [], ◌∷◌, ◌++◌, length, map, refl, sym, ap, ◌∙◌, subst, Bool, true, false, cond, ◌==◌, Option, Some, None, slice_get, replicate, arith, inl, inr}
 use Rattle.std.specs.List.{All}
 use Rattle.std.proofs.lemmas.Bool.Decides.{nat_tests}
-use Rattle.std.proofs.lemmas.List.{length-map, map-append}
+use Rattle.std.proofs.lemmas.List.{map-append}
 use Rattle.std.proofs.lemmas.List.Elements.{All-nil, All-cons, All-head, All-tail, All-push, All-weaker}
 use Rattle.std.proofs.lemmas.Option.{slice_get_within}
 use Rattle.sto_lawful.specs.Orders.{Place, positions_of, numbers_from}
@@ -226,14 +226,6 @@ windows_more threads es rows e row h numbers at next = record {
         some_same : (a b : List Window) → Some a ≡ Some b → a ≡ b
         some_same a b e = cc
     by t ws (inr k) = row_stays es e t ws (λ q. k.0 (sym q)) (h.each t ws k.1)
-
--- at the beginning
-pub no_windows : (threads : ℕ) → AreWindows threads [] (replicate threads [])
-no_windows threads = record { count = longs threads; each = λ t row k. record { count = ap length (only threads t row k); each = λ i w q. absurd (let none = only threads t row k in nothing i w (ap (λ (r : List Window). slice_get r i) (sym none) ∙ q)) } }
-  where
-    longs : (n : ℕ) → (let none : List Window = [] in length (replicate n none) ≡ n)
-    longs zero = refl
-    longs (suc n) = ap suc (longs n)
 
     only : (n t : ℕ) (row : List Window) → slice_get (replicate n []) t ≡ Some row → row ≡ []
     only zero zero row e = absurd cc

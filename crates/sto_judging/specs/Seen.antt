@@ -51,10 +51,6 @@ pub record IsFirstOf (file : File) (state : State) (aborts : List GivenAbort) (p
   pub up_to : (place : ℕ) → IsBeforeOr place wrong → IsBeforeOr place earlier
   pub heard : (place : ℕ) → Stands places place → IsBeforeOr place wrong → IsHeardIn file state aborts place
 
--- what the abort line at a place heard is right in the state that it saw, and what it heard is not
-abbrev pub IsHeardAt : File → List Place → List GivenAbort → ℕ → Type 0
-IsHeardAt file order aborts place = (given : GivenAbort) → slice_get aborts place ≡ Some given → IsHeard file (shown file order given.told.seen) given
-
 pub record IsUnheardAt (file : File) (order : List Place) (aborts : List GivenAbort) (place : ℕ) : Type 0 where
   pub given : GivenAbort
   pub stands : slice_get aborts place ≡ Some given

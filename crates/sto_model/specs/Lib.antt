@@ -9,3 +9,4 @@ pub mod TestBodies
 pub mod Ranges
 pub mod Sizes
 pub mod Asked
+pub mod Bodies

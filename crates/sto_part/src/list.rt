@@ -172,6 +172,13 @@ impl<T: Drop> List<T> {
     {
         self.vec[place as usize] = item;
     }
+
+    /// Takes all items away. Their room stays.
+    pub fn clear(&mut self)
+        ensures { self.new ≡ record { items = []; spare = self.old.spare + length self.old.items } }
+    {
+        self.vec.clear();
+    }
 }
 
 impl<T: Copy> List<T> {

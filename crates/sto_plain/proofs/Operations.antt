@@ -17,7 +17,8 @@ use Rattle.sto_core.specs.Rule.{world_of, Settled}
 use Rattle.sto_core.proofs.Parts.{ticket_is, free_is, at_place}
 use Rattle.sto_core.proofs.Places.{part_in_range, word_in_range}
 use Rattle.sto_core.specs.Words.{part_shown, parts_shown, core_shown}
-use Rattle.sto_plain.specs.Passes.{no_view, view_at, view_of, noted}
+use Rattle.sto_core.specs.Gathered.{spent_view}
+use Rattle.sto_plain.specs.Passes.{view_at, view_of, noted}
 use Rattle.sto_plain.specs.Kept.{IsSeated, Kept}
 use Rattle.sto_plain.proofs.Calls.{Made, call}
 use Rattle.sto_plain.proofs.Shown.{length_shown, part_is, version_is, set_version, set_words}
@@ -41,26 +42,26 @@ module _
   inside_book = subst (λ (c : Core). pass < length c.views) (sym same) inside
 
   seat : IsSeated pass (get_or tickets pass 0) (view_at book pass)
-  seat = kept.seated pass (view_at book pass) (at_place no_view book pass inside_book)
+  seat = kept.seated pass (view_at book pass) (at_place spent_view book pass inside_book)
 
   -- where a part, a word or a status word is in range
   pub version_there : (p : ℕ) → HasPart (view_of now pass) p → p < length versions
   version_there p has =
       let has' = subst (λ (c : Core). HasPart (view_of c pass) p) (sym same) has in
       subst (λ (n : ℕ). p < n) (length_shown versions contents long)
-      (part_in_range kept.rule.1 pass (view_at book pass) (at_place no_view book pass inside_book) seat.live p has')
+      (part_in_range kept.rule.1 pass (view_at book pass) (at_place spent_view book pass inside_book) seat.live p has')
 
   pub word_there : (p i : ℕ) → HasWord (view_of now pass) p i → i < length (part_of contents p)
   word_there p i has =
       let has' = subst (λ (c : Core). HasWord (view_of c pass) p i) (sym same) has in
       let there = slice_get-get_or versions p (record { 0 = 0 }) (version_there p has.0) in
       subst (λ (q : Part). i < length q.words) (part_is versions contents p _ long there)
-      (word_in_range kept.rule.1 pass (view_at book pass) (at_place no_view book pass inside_book) seat.live p i has')
+      (word_in_range kept.rule.1 pass (view_at book pass) (at_place spent_view book pass inside_book) seat.live p i has')
 
   pub status_there : pass < length statuses
   status_there =
       subst (λ (n : ℕ). n < length statuses) seat.number
-      ((kept.rule.1.each pass (view_at book pass) (at_place no_view book pass inside_book)).serves
+      ((kept.rule.1.each pass (view_at book pass) (at_place spent_view book pass inside_book)).serves
       seat.live).number
 
   pub ticket_there : pass < length tickets
@@ -75,7 +76,7 @@ module _
   pub own_small : (t : ℕ) → slice_get tickets pass ≡ Some t → HasTicket (view_of now pass).phase
       → t ≤ 2 ^ 56
   own_small t is has =
-      let fits = kept.rule.1.each pass (view_at book pass) (at_place no_view book pass inside_book) in
+      let fits = kept.rule.1.each pass (view_at book pass) (at_place spent_view book pass inside_book) in
       let within =
       own_within kept.opening (world_of kept.rule.0 before) (Settled book) (view_at book pass).phase
       (view_at book pass) (subst (λ (c : Core). HasTicket (view_of c pass).phase) (sym same) has)

@@ -14,7 +14,8 @@ use Rattle.sto_core.specs.Words.{core_shown}
 use Rattle.sto_core.proofs.ClosedWords.{reopens}
 use Rattle.sto_core.proofs.Parts.{at_place}
 use Rattle.sto_core.proofs.Sums.{total-at}
-use Rattle.sto_plain.specs.Passes.{no_view, view_at}
+use Rattle.sto_core.specs.Gathered.{spent_view}
+use Rattle.sto_plain.specs.Passes.{view_at}
 use Rattle.sto_plain.specs.Kept.{IsSeated, Kept}
 
 -- what is kept of passes that are all idle are closed words
@@ -24,7 +25,7 @@ pub closes : (valid : Validity) (tickets : List ℕ) (clock : ℕ) (statuses : L
     → length versions ≡ length contents → Each (λ (v : View). IsIdle v.phase) book
     → AreClosed valid (closed_words clock versions contents book)
 closes valid tickets clock statuses versions contents book kept many idle =
-    let first = at_place no_view book 0 kept.some_pass in
+    let first = at_place spent_view book 0 kept.some_pass in
     let live = (kept.seated 0 (view_at book 0) first).live in
     let sum = kept.rule.1.gathered in
     let part = total-at (λ (v : View). v.gathered) book 0 (view_at book 0) first in

@@ -13,7 +13,8 @@ use Rattle.sto_core.specs.Tells.{Tells}
 use Rattle.sto_core.proofs.Parts.{at_place}
 use Rattle.sto_core.proofs.Lasting.{lasts}
 use Rattle.sto_core.proofs.Whole.{event_tells}
-use Rattle.sto_plain.specs.Passes.{no_view, view_of, stepped}
+use Rattle.sto_core.specs.Gathered.{spent_view}
+use Rattle.sto_plain.specs.Passes.{view_of, stepped}
 use Rattle.sto_core.specs.Remembered.{Remembers, remembered}
 use Rattle.sto_plain.specs.Kept.{all_remembered, IsSeated, Kept}
 use Rattle.sto_core.proofs.Remembering.{remembers_after}
@@ -85,7 +86,7 @@ module _ (valid : Validity) (e : Event) (tickets : List ℕ) (c : Core) (pass : 
     w = after e v n (value_found e c)
 
     at : get_elem? c.views pass ≡ some v
-    at = at_place no_view c.views pass inside
+    at = at_place spent_view c.views pass inside
 
     seat : IsSeated pass (get_or tickets pass 0) v
     seat = kept.seated pass v at
@@ -127,4 +128,4 @@ module _ (valid : Validity) (e : Event) (tickets : List ℕ) (c : Core) (pass : 
     pub step_tells : Tells valid (length c.statuses) e v n (value_found e c) (view_of (stepped e c pass) pass)
     step_tells =
         subst (Tells valid (length c.statuses) e v n (value_found e c))
-        (sym (get_or-set_same c.views pass w no_view inside)) step.1
+        (sym (get_or-set_same c.views pass w spent_view inside)) step.1

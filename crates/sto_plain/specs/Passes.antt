@@ -2,35 +2,16 @@
 use Rattle.std.specs.Prelude.{◌≡◌, ◌≢◌, ◌<◌, refl, ℕ, ℤ, List, [], length, slice_set, slice_index_or}
 use Rattle.std.proofs.Common.{◌∙◌}
 use Rattle.sto_core.specs.declared.view.View.{View}
-use Rattle.sto_core.specs.declared.view.Phase.TheVariants.{Idle}
+use Rattle.sto_core.specs.Gathered.{spent_view}
 use Rattle.sto_core.specs.Core.{Core, core_after, number_found, value_found}
 use Rattle.sto_core.specs.Event.{Event, after}
 use Rattle.sto_core.specs.History.{Validity}
 use Rattle.sto_core.specs.Allowed.{Allowed}
 use Rattle.sto_core.specs.Tells.{Tells}
 
--- the view of no pass
-abbrev pub no_view : View
-no_view = record {
-  number = 0;
-  phase = Idle;
-  at = 0;
-  starts = 0;
-  draws = 0;
-  held = [];
-  checked = [];
-  entries = [];
-  claims = [];
-  wrote = [];
-  findings = [];
-  sizes = [];
-  opening = [];
-  gathered = 0;
-}
-
--- the view of the pass at a place
+-- the view of the pass at a place, of none an empty one
 abbrev pub view_at : List View → ℕ → View
-view_at views pass = slice_index_or views pass no_view
+view_at views pass = slice_index_or views pass spent_view
 
 abbrev pub view_of : Core → ℕ → View
 view_of c pass = view_at c.views pass

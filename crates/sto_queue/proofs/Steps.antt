@@ -1,5 +1,5 @@
 -- Each kind of step keeps the rule.
-use Rattle.std.specs.Prelude.{slice_get, Option, Some, None, ◌⊎◌}
+use Rattle.std.specs.Prelude.{slice_get, Option, Some, ◌⊎◌}
 use Rattle.std.proofs.Common.{◌≡◌, ◌<◌, ◌≤◌, ◌+◌, ◌-◌, ℕ, zero, suc, List, [], ◌∷◌, ◌++◌, length, take, drop, set, refl, sym, ap, ◌∙◌, subst, arith, inl, inr}
 use Rattle.std.proofs.lemmas.Option.{slice_get_within}
 use mathlib.Core.Option.{some, some-injective, some-ne-none}
@@ -9,7 +9,7 @@ use Rattle.sto_queue.specs.declared.job.Job.{Job}
 use Rattle.sto_queue.specs.declared.known.Side.{Side}
 use Rattle.sto_queue.specs.declared.known.Side.TheVariants.{Unopened, Feeder, Worker, Joined, Spent}
 use Rattle.sto_queue.specs.declared.known.Known.{Known}
-use Rattle.sto_queue.specs.Queues.{unopened, feeding, working, joined, spent, AreBetween, IsUnopened, IsOpened, IsJoined, Keeps, HasSent, HasTaken, AreFew, AreNext}
+use Rattle.sto_queue.specs.Queues.{unopened, feeding, working, joined, spent, AreBetween, IsUnopened, Keeps, HasSent, HasTaken, AreFew, AreNext}
 
 -- which of one item, or of two
 one : {X : Type 0} (a v : X) (i : ℕ) → get_elem? (a ∷ []) i ≡ some v → (i ≡ 0) × (a ≡ v)
@@ -189,10 +189,6 @@ joins id other jobs sent more taken items views k here apart there =
           }))
     ]
 
--- the same of what a pass knows
-pub opens_as : (id : ℕ) (v : Known) (jobs : List Job) → v ≡ unopened → Forks Keeps id v (feeding jobs 0) (working jobs 0)
-opens_as id v jobs is = subst (λ (u : Known). Forks Keeps id u (feeding jobs 0) (working jobs 0)) (sym is) (opens id jobs)
-
 pub sends_as : (n id : ℕ) (v : Known) (x : Job) → v ≡ feeding v.jobs v.sent → slice_get v.jobs v.sent ≡ Some x → Pushes Keeps n id v x (HasSent v x)
 sends_as n id v x is at = subst (λ (u : Known). Pushes Keeps n id u x (HasSent u x)) (sym is) (sends n id v.jobs v.sent x at)
 
@@ -204,8 +200,3 @@ takes_as id v is = subst (λ (u : Known). Pops Keeps id u (HasTaken u)) (sym is)
 
 pub is_next_as : (id : ℕ) (v : Known) → v ≡ working v.jobs v.taken → Learns Keeps id v (AreNext v)
 is_next_as id v is = subst (λ (u : Known). Learns Keeps id u (AreNext u)) (sym is) (is_next id v.jobs v.taken)
-
-pub joins_as : (id other : ℕ) (v w : Known) → v ≡ feeding v.jobs v.sent → w ≡ working w.jobs w.taken → Merges Keeps id v other w (joined v.jobs v.sent w.taken) spent
-joins_as id other v w is too =
-    subst (λ (z : Known × Known). Merges Keeps id z.0 other z.1 (joined z.0.jobs z.0.sent z.1.taken) spent) (λ i. (sym is i, sym too i))
-    (joins id other v.jobs v.sent w.jobs w.taken)

@@ -1,30 +1,23 @@
 -- What was told of a record stays true of later views, and records are added transaction by transaction.
 use Rattle.std.specs.Prelude.{◌⊎◌, ◌&&◌, if◌then◌else◌, filter}
-use Rattle.std.specs.List.{All}
-use Rattle.std.proofs.Common.{◌≡◌, ℕ, ◌+◌, ◌<◌, ◌≤◌, List, [], ◌∷◌, ◌++◌, map, refl, sym, ap, ◌∙◌, subst, arith, Bool, true, false, ◌==◌, Some, inl, inr, eqb-true, eq-eqb, ne_eqb, zero, suc, cond, append-nil}
+use Rattle.std.proofs.Common.{◌≡◌, ℕ, ◌+◌, ◌<◌, ◌≤◌, List, [], ◌∷◌, ◌++◌, map, refl, sym, ap, ◌∙◌, subst, arith, Bool, true, false, ◌==◌, Some, inl, inr, eqb-true, eq-eqb, zero, suc, cond}
 use Rattle.std.proofs.lemmas.Bool.{cases_eq}
 use Rattle.std.proofs.lemmas.List.{map-append}
-use Rattle.std.proofs.lemmas.List.Elements.{filter-append, All-append, All-weaker, All-head, All-tail}
+use Rattle.std.proofs.lemmas.List.Elements.{filter-append, All-append, All-weaker}
 use Rattle.sto_model.specs.Told.{Told}
-use Rattle.sto_model.specs.Run.{Script as Steps}
 use Rattle.sto_lang.specs.Scripts.{Script, File}
 use Rattle.sto_script.specs.Meaning.{meaning_of}
-use Rattle.sto_type.specs.Known.{Parts}
 use Rattle.sto_type.specs.Meaning.{Meaning}
-use Rattle.sto_core.specs.declared.view.Entry.{Entry}
-use Rattle.sto_core.specs.declared.view.Claim.{Claim}
 use Rattle.sto_core.specs.declared.view.View.{View}
-use Rattle.sto_core.specs.Lists.{Each, Among}
 use Rattle.sto_lawful.specs.Orders.{Place, transaction_at, positions_of, numbers_from}
-use Rattle.sto_told.specs.Records.{Verdict, Wrote, Read, Cancelled, Locked, Changed, Record, is_abort, is_finished, known_after, IsSince, times_written}
-use Rattle.sto_told.specs.Told.{HasClaimed, HasWritten, HasRead, HasCancelled, WasAborted, HasWrote, WasChanged, IsTold}
+use Rattle.sto_told.specs.Records.{Record, is_abort, is_finished, known_after, times_written}
 use Rattle.sto_records.specs.Finished.{IsRecord}
-use Rattle.sto_told.specs.Counted.{times_committed, Follows, InThreads, aborted_times, finished_places}
-use Rattle.sto_told.specs.Added.{Grows, IsOwnTicket, IsSeenTicket, IsKnown, IsAdded, HasAdded}
+use Rattle.sto_told.specs.Counted.{Follows, InThreads, aborted_times, finished_places}
+use Rattle.sto_told.specs.Added.{IsAdded, HasAdded}
 pub use Rattle.sto_records.specs.Working.{AreSoFar}
 use Rattle.sto_told.proofs.Later.{told_later, told_known}
 use Rattle.sto_records.proofs.Chains.{Every, every}
-use Rattle.sto_records.proofs.Pairs.{all_of, every_weaker, every_both, every_append}
+use Rattle.sto_records.proofs.Pairs.{all_of, every_weaker, every_both}
 
 pub times_append : (t : ℕ) (xs ys : List Record) → times_written t (xs ++ ys) ≡ times_written t xs + times_written t ys
 times_append t [] ys = omega arith
@@ -107,19 +100,6 @@ more_so_far m file tries v w rs new place s at comes h added few = record {
 abbrev pub IsNew : Place → List Record → Type 0
 IsNew place rs = Every (λ (r : Record). r.place.0 ≡ place.0 → r.place.1 < place.1) rs
 
--- A transaction that is run for the first time adds its records.
-pub added_so_far : (m : Meaning) (file : File) (tries : ℕ) (v w : View) (rs new : List Record) (place : Place) (s : Script)
-    → transaction_at file place ≡ Some s → IsNew place rs → AreSoFar m file tries v rs → HasAdded m tries v w (meaning_of s) place new → AreSoFar m file tries w (rs ++ new)
-added_so_far m file tries v w rs new place s at fresh h added =
-    more_so_far m file tries v w rs new place s at
-    (every_weaker (λ (r : Record). r.place.0 ≡ place.0 → r.place.1 < place.1) (λ (r : Record). r.place.0 ≡ place.0 → (r.place.1 ≤ place.1) × (r.place.1 ≡ place.1 → is_abort r.verdict ≡ true))
-    (λ r low e. let l = low e in (omega (arith, l), λ same. absurd (omega (arith, l, same)))) rs fresh)
-    h added
-    (let none : aborted_times place rs ≡ 0 =
-    none_aborted place rs (every_weaker (λ (r : Record). r.place.0 ≡ place.0 → r.place.1 < place.1) (λ (r : Record). r.place.0 ≡ place.0 → r.place.1 ≡ place.1 → ⊥)
-    (λ r low e g. let l = low e in omega (arith, l, g)) rs fresh) in
-    let k = added.few in omega (arith, none, k))
-
 -- the transactions that ended, with the last record of a run
 
 pub finished_append : (xs ys : List Record) → finished_places (xs ++ ys) ≡ finished_places xs ++ finished_places ys
@@ -151,12 +131,3 @@ ended_more rs new place thread count is next own h =
     ∙ ap (λ (l : List ℕ). l ++ place.1 ∷ []) h
     ∙ ap (λ (n : ℕ). numbers_from 1 count ++ n ∷ []) (let e : suc count ≡ 1 + count = omega arith in next ∙ e)
     ∙ sym (numbers_more 1 count)
-
-pub ended_else : (rs new : List Record) (place : Place) (thread : ℕ) → finished_places new ≡ place ∷ [] → (place.0 ≡ thread → ⊥)
-    → positions_of thread (finished_places (rs ++ new)) ≡ positions_of thread (finished_places rs)
-ended_else rs new place thread is other =
-    ap (positions_of thread) (finished_append rs new)
-    ∙ positions_append thread (finished_places rs) (finished_places new)
-    ∙ ap (λ (l : List Place). positions_of thread (finished_places rs) ++ positions_of thread l) is
-    ∙ ap (λ (b : Bool). positions_of thread (finished_places rs) ++ cond b (place.1 ∷ []) []) (ne_eqb place.0 thread other)
-    ∙ append-nil (positions_of thread (finished_places rs))

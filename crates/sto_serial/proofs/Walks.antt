@@ -1,19 +1,11 @@
 -- What a walk along replies sees.
-use Rattle.std.proofs.Common.{◌≡◌, List, [], ◌∷◌, Bool, ◌||◌, refl, ap, ◌∙◌, subst}
+use Rattle.std.proofs.Common.{◌≡◌, List, [], ◌∷◌, ◌||◌, ◌∙◌, subst}
 use Rattle.sto_model.specs.Told.{Told}
 use Rattle.sto_model.specs.Machine.{Machine}
 use Rattle.sto_model.specs.Run.{Script, State, IsAsk, IsRun, IsReplyTo, stepped}
-use Rattle.sto_model.specs.Serial.{is_written, has_written}
 use Rattle.sto_model.specs.declared.body.Next.{Next}
 use Rattle.sto_model.specs.declared.body.Next.TheVariants.{Ask, Commit, Cancel}
 use Rattle.sto_serial.specs.Heard.{AreHeard}
-
--- scripts that do the same write the same
-pub has_written-same : (f g : Script) → ((rs : List Told) → f rs ≡ g rs) → (rs : List Told) → has_written f rs ≡ has_written g rs
-has_written-same f g e [] = refl
-has_written-same f g e (r ∷ rs) =
-    ap (λ (n : Next). is_written n r || has_written (λ xs. f (r ∷ xs)) rs) (e [])
-    ∙ ap (λ (b : Bool). is_written (g []) r || b) (has_written-same (λ xs. f (r ∷ xs)) (λ xs. g (r ∷ xs)) (λ xs. e (r ∷ xs)) rs)
 
 pub heard-same : (f g : Script) → ((rs : List Told) → f rs ≡ g rs) → (rs : List Told) → AreHeard f rs → AreHeard g rs
 heard-same f g e [] h = tt

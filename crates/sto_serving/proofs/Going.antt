@@ -1,15 +1,15 @@
 -- The jobs of a queue.
-use Rattle.std.specs.Prelude.{filter, ◌%◌, nat_eq, if◌then◌else◌}
+use Rattle.std.specs.Prelude.{◌%◌, if◌then◌else◌}
 use Rattle.std.specs.List.{All}
-use Rattle.std.proofs.Common.{◌≡◌, ℕ, zero, suc, ◌+◌, ◌<◌, ◌≤◌, List, [], ◌∷◌, ◌++◌, map, take, length, get_or, refl, sym, ap, ◌∙◌, subst, arith, append-nil, Bool, true, false, cond, inl, inr, ◌==◌, eq-eqb, ne_eqb}
+use Rattle.std.proofs.Common.{◌≡◌, ℕ, zero, suc, ◌+◌, ◌<◌, ◌≤◌, List, [], ◌∷◌, ◌++◌, map, take, length, get_or, refl, sym, ap, ◌∙◌, arith, append-nil, Bool, true, false, cond, inl, inr, ◌==◌, eq-eqb, ne_eqb}
 use Rattle.std.proofs.lemmas.Bool.{cases_eq}
-use Rattle.std.proofs.lemmas.List.{map-append, length-map, length-append, take-map, take_more}
+use Rattle.std.proofs.lemmas.List.{map-append, take_more}
 use Rattle.std.proofs.lemmas.List.Elements.{All-cons, filter-append}
 use Rattle.sto_queue.specs.declared.job.Job.{Job}
-use Rattle.sto_queue.specs.declared.job.Job.TheVariants.{Run, Last}
+use Rattle.sto_queue.specs.declared.job.Job.TheVariants.{Last}
 use Rattle.sto_queue.specs.Queues.{IsRun, EndsWithLast}
 use Rattle.sto_lang.specs.Scripts.{Script, File}
-use Rattle.sto_lawful.specs.Orders.{Place, positions_of, numbers_from, count_in, IsOrder}
+use Rattle.sto_lawful.specs.Orders.{Place, positions_of, count_in, IsOrder}
 use Rattle.sto_working.specs.Counts.{scripts_from}
 use Rattle.sto_serving.specs.declared.order.Place as code
 use Rattle.sto_serving.specs.Orders.{place_of}
@@ -87,17 +87,6 @@ goes_not queues number ps i p l is other =
     place_more queues number ps i p l is
     ∙ ap (λ (b : Bool). going_to queues number (map place_of (take i ps)) ++ cond b (place_of p ∷ []) []) (ne_eqb (p.thread % queues) number other)
     ∙ append-nil (going_to queues number (map place_of (take i ps)))
-
--- a job of the queue was added, or the place is of another queue
-pub job_added : (queues number : ℕ) (ps : List code.Place) (i : ℕ) (p : code.Place) (old new : List Job) → i < length ps → p ≡ get_or ps i p → p.thread % queues ≡ number
-    → old ≡ map run_of (going_to queues number (map place_of (take i ps))) → new ≡ old ++ Run p.thread p.position ∷ [] → new ≡ map run_of (going_to queues number (map place_of (take (i + 1) ps)))
-job_added queues number ps i p old new l is own h more =
-    more ∙ ap (λ (jobs : List Job). jobs ++ Run p.thread p.position ∷ []) h
-    ∙ sym (ap (map run_of) (goes_more queues number ps i p l is own) ∙ map-append run_of (going_to queues number (map place_of (take i ps))) (place_of p ∷ []))
-
-pub job_skipped : (queues number : ℕ) (ps : List code.Place) (i : ℕ) (p : code.Place) (old : List Job) → i < length ps → p ≡ get_or ps i p → (p.thread % queues ≡ number → ⊥)
-    → old ≡ map run_of (going_to queues number (map place_of (take i ps))) → old ≡ map run_of (going_to queues number (map place_of (take (i + 1) ps)))
-job_skipped queues number ps i p old l is other h = h ∙ ap (map run_of) (sym (goes_not queues number ps i p l is other))
 
 -- A list of places has no more than the file, where none of its threads has more.
 abbrev shifted : List Place → List Place

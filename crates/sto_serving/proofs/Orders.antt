@@ -1,10 +1,10 @@
 -- The order of a feeder, round by round.
 use Rattle.std.specs.Prelude.{if◌then◌else◌, nat_le, min}
 use Rattle.std.specs.List.{All, AllPairs}
-use Rattle.std.proofs.Common.{◌≡◌, ℕ, zero, suc, ◌+◌, ◌<◌, ◌≤◌, List, [], ◌∷◌, ◌++◌, map, length, get_or, refl, sym, ap, ◌∙◌, subst, arith, append-nil, Bool, true, false, inl, inr}
+use Rattle.std.proofs.Common.{◌≡◌, ℕ, zero, suc, ◌+◌, ◌<◌, ◌≤◌, List, [], ◌∷◌, ◌++◌, map, refl, sym, ap, ◌∙◌, subst, arith, append-nil, Bool, true, false, inl, inr}
 use Rattle.std.proofs.lemmas.Bool.{cases_eq, cases_order}
 use Rattle.std.proofs.lemmas.Bool.Decides.{nat_tests}
-use Rattle.std.proofs.lemmas.List.{map-append, length-map}
+use Rattle.std.proofs.lemmas.List.{map-append}
 use Rattle.std.proofs.lemmas.List.Elements.{All-append, All-weaker, All-map}
 use Rattle.std.proofs.lemmas.List.Quantifiers.{all_pairs_push}
 use Rattle.sto_lawful.specs.Orders.{Place, positions_of, numbers_from}
@@ -113,10 +113,6 @@ round_passes ps qs position thread count h past = record {
 at_most : (position thread : ℕ) (p : Place) → Precedes p (thread, position) → p.1 ≤ position
 at_most position thread p (inl l) = omega (arith, l)
 at_most position thread p (inr k) = let e = k.0 in omega (arith, e)
-
-pub round_later : (ps qs : List code.Place) (position thread : ℕ) (count : ℕ → ℕ) → HasCome ps qs position thread count → All (λ (p : code.Place). p.position ≤ position) qs
-round_later ps qs position thread count h =
-    All-weaker (λ (q : code.Place). Precedes (place_of q) (thread, position)) (λ (p : code.Place). p.position ≤ position) (λ p k. at_most position thread (place_of p) k) qs h.before
 
 pub round_each : (ps qs : List code.Place) (position thread : ℕ) (count : ℕ → ℕ) → HasCome ps qs position thread count → 1 ≤ position → ((u : ℕ) → thread ≤ u → count u ≡ 0)
     → (u : ℕ) → positions_of u (map place_of qs) ≡ positions_of u (map place_of ps) ++ one_at position (count u)

@@ -80,12 +80,3 @@ homes_are shapes m h p l =
       inside = found.inside;
       number = found.number ∙ ap (λ (x : ℕ). sum_by part_count (take x shapes) + (slice_index_or m.homes p (0, 0)).1) (sym same);
     }
-
--- There are as many homes as there are parts.
-pub count_homes : (first : ℕ) (shapes : List Shape) → length (homes_from first (map part_count shapes)) ≡ sum_by part_count shapes
-count_homes first [] = refl
-count_homes first (s ∷ shapes) =
-    let both = length-append (homes_within first 0 (part_count s)) (homes_from (suc first) (map part_count shapes)) in
-    let own = length_within first 0 (part_count s) in
-    let rest = count_homes (suc first) shapes in
-    omega (arith, both, own, rest, sum_by-cons part_count s shapes)

@@ -1,6 +1,6 @@
 -- What a sound file and its store give a run.
 use Rattle.std.specs.Prelude.{map}
-use Rattle.std.proofs.Common.{◌≤◌, List, length, ap, arith}
+use Rattle.std.proofs.Common.{◌≤◌, List}
 use Rattle.sto_model.specs.declared.shape.Shape.{Shape}
 use Rattle.sto_lang.specs.Objects.{shapes_of}
 use Rattle.sto_lang.specs.Scripts.{File}
@@ -13,8 +13,7 @@ use Rattle.sto_records.specs.Meanings.{IsTypeOf}
 use Rattle.sto_records.proofs.Usable.{sound_script}
 use Rattle.sto_shapes.specs.Runnable.{AreRunnable}
 use Rattle.sto_shapes.proofs.Ordered.{is_in_order}
-use Rattle.sto_shapes.proofs.Fitting.{few_parts}
-use Rattle.sto_shapes.proofs.Homes.{homes_are, count_homes}
+use Rattle.sto_shapes.proofs.Homes.{homes_are}
 
 pub sound_in_order : (file : File) → AreInOrder (shapes_of file.declarations)
 sound_in_order file = is_in_order (map (λ d. d.shape) file.declarations)
@@ -32,10 +31,3 @@ is_type_of shapes order law = record {
   machines = machines_are shapes order;
   homes = homes_are shapes (means shapes) (has_parts shapes order);
 }
-
--- there are at most as many homes as a file may have parts
-pub few_homes : (file : File) → IsSound file → length (means (shapes_of file.declarations)).homes ≤ 65536
-few_homes file sound =
-    let shapes : List Shape = shapes_of file.declarations in
-    let homes = ap length (has_parts (shapes_of file.declarations) (sound_in_order file)).homes in
-    omega (arith, homes, count_homes 0 (shapes_of file.declarations), few_parts file sound)

@@ -3,7 +3,6 @@ use Rattle.std.specs.Prelude.{◌≢◌, ◌⊎◌, slice_get, Some, None, Optio
 use Rattle.std.proofs.Common.{◌≡◌, ℕ, suc, ◌+◌, ◌-◌, ◌*◌, ◌<◌, ◌≤◌, List, [], ◌∷◌, ◌++◌, map, length, set, refl, sym, ap, ◌∙◌, subst, arith, Bool, true, false, true≢false, inl, inr}
 use Rattle.std.proofs.lemmas.Bool.{cases_eq}
 use Rattle.std.proofs.lemmas.List.{get_or-set_same, get_or-set_other, length-set}
-use Rattle.std.proofs.lemmas.List.Sums.{sum_by-set}
 use Rattle.std.proofs.lemmas.Option.{slice_get_within, get_or_from_slice_get, slice_get-get_or}
 use Rattle.sto_lang.specs.Scripts.{File}
 use Rattle.sto_type.specs.Meaning.{Meaning}
@@ -16,9 +15,9 @@ use Rattle.sto_transact.specs.Plain.{plain}
 use Rattle.sto_transact.specs.Resting.{IsAtRest}
 use Rattle.sto_stepping.specs.Counts.{attempts_left, events_left}
 use Rattle.sto_stepping.specs.Stepped.{HasMadeOne}
-use Rattle.sto_stepping.specs.Seated.{IsBetween, IsWithin, IsAt, IsIn, IsSeated, IsOverAt, AreOver, HasKept, AreSeated, events_of, events_of_all}
+use Rattle.sto_stepping.specs.Seated.{IsBetween, IsWithin, IsAt, IsIn, IsSeated, IsOverAt, AreOver, HasKept, AreSeated, events_of}
 use Rattle.sto_stepping.specs.declared.seat.Seat.{Seat}
-use Rattle.sto_stepping.proofs.Counting.{fewer_tries, fewer_transactions, some_left, times_fewer, one_fewer}
+use Rattle.sto_stepping.proofs.Counting.{fewer_tries, fewer_transactions, some_left, times_fewer}
 use Rattle.sto_stepping.proofs.Adding.{kept_aborted, kept_ended}
 
 -- a thread that is not over has a transaction and a try left
@@ -54,11 +53,6 @@ in_some {M} within o trial v is h = subst (λ (x : Option M). IsIn within x v) i
 pub all_events : {M : Type 0} (left : M → ℕ) (most : ℕ) (s : Seat M) (o : Option M) (trial : M) → o ≡ Some trial → events_left left most (attempts_left s.tries s.left (s.count - s.ended)) o ≤ events_of left most s
     → events_left left most (attempts_left s.tries s.left (s.count - s.ended)) (Some trial) ≤ events_of left most s
 all_events {M} left most s o trial is h = subst (λ (x : Option M). events_left left most (attempts_left s.tries s.left (s.count - s.ended)) x ≤ events_of left most s) is h
-
--- an attempt goes on
-pub still_within : {M : Type 0} (m : Meaning) (sizes : List ℕ) (file : File) (tries passes thread ended left : ℕ) (rs : List Record) (fits : M → View → View → Type 0) (trial later : M) (v w : View)
-    → (h : IsWithin m sizes file tries passes thread ended left rs fits trial v) → fits later h.begun w → IsWithin m sizes file tries passes thread ended left rs fits later w
-still_within m sizes file tries passes thread ended left rs fits trial later v w h f = record { begun = h.begun; between = h.between; next = h.next; again = h.again; fits_now = f }
 
 -- an attempt has ended
 pub seat_kept : {M : Type 0} (m : Meaning) (sizes : List ℕ) (file : File) (tries passes : ℕ) (fits : Place → M → View → View → Type 0) (thread : ℕ) (v w : View) (s later : Seat M) (r : Record)
@@ -124,14 +118,6 @@ kept_events {M} left most s later r trial going kept idle some =
     let f = times_fewer (attempts_left later.tries later.left (later.count - later.ended)) (attempts_left s.tries s.left (s.count - s.ended)) (suc most) (kept_fewer s later r going kept) in
     omega (arith, e, f, some)
 
--- the events of an attempt that has just begun are among those that were left
-pub begun_events : {M : Type 0} (left : M → ℕ) (most : ℕ) (s : Seat M) (trial : M) → (s.ended < s.count) × (1 ≤ s.left) → s.trial ≡ None → left trial ≤ most
-    → events_left left most (attempts_left s.tries s.left (s.count - s.ended)) (Some trial) ≤ events_of left most s
-begun_events {M} left most s trial going idle within =
-    let e : events_of left most s ≡ attempts_left s.tries s.left (s.count - s.ended) * suc most =
-    ap (λ (o : Option M). events_left left most (attempts_left s.tries s.left (s.count - s.ended)) o) idle in
-    let f = one_fewer (attempts_left s.tries s.left (s.count - s.ended)) most (left trial) (some_left s.tries s.left s.count s.ended going.0 going.1) within in omega (arith, e, f)
-
 -- a list with one item set
 set_same : {X : Type 0} (xs : List X) (i : ℕ) (y x : X) → slice_get (set xs i y) i ≡ Some x → y ≡ x
 set_same xs i y x at =
@@ -163,12 +149,6 @@ seated_after {M} m sizes file tries fits c d seats thread later h same mine = re
         (h.each u s (set_other seats thread u later s other at)))
   ];
 }
-
-pub fewer_of_all : {M : Type 0} (left : M → ℕ) (most : ℕ) (seats : List (Seat M)) (thread : ℕ) (s later : Seat M) → slice_get seats thread ≡ Some s
-    → events_of left most later < events_of left most s → events_of_all left most (set seats thread later) < events_of_all left most seats
-fewer_of_all left most seats thread s later at less =
-    let sum = sum_by-set (events_of left most) seats thread later s (slice_get_within seats thread s at) in
-    let is = ap (events_of left most) (get_or_from_slice_get seats thread s s at) in omega (arith, sum, is, less)
 
 -- The same, where the pass steps apart from the seats.
 pub turned : {M : Type 0} (m : Meaning) (sizes : List ℕ) (file : File) (tries : ℕ) (fits : ℕ → Place → M → View → View → Type 0) (c d a b : Core) (i j : ℕ) (seats : List (Seat M)) (thread : ℕ) (later : Seat M)

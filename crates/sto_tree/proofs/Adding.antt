@@ -1,8 +1,8 @@
 -- Changes and updates that are added one after the other.
-use Rattle.std.proofs.Common.{◌≡◌, ◌<◌, ◌≤◌, ◌+◌, ◌-◌, ◌*◌, ℕ, zero, suc, ℤ, pos, true, false, nat_lt, Some, List, [], ◌∷◌, ◌++◌, length, take, drop, slice_get, get_or, refl, sym, ◌∙◌, ap, subst, arith, append_assoc, length-append}
+use Rattle.std.proofs.Common.{◌≡◌, ◌<◌, ◌≤◌, ◌+◌, ◌-◌, ◌*◌, ℕ, zero, suc, ℤ, pos, true, false, nat_lt, Some, List, [], ◌∷◌, ◌++◌, length, take, drop, slice_get, refl, sym, ◌∙◌, ap, subst, arith, append_assoc}
 use Rattle.std.specs.Prelude.{if◌then◌else◌}
 use Rattle.std.proofs.lemmas.Bool.Decides.{nat_tests}
-use Rattle.std.proofs.lemmas.List.{take_more, take_all, take-append-drop, length-take, length-take-le, length-drop, get_or-take, get_or-drop}
+use Rattle.std.proofs.lemmas.List.{take_more, take_all, take-append-drop, length-take, length-drop, get_or-take, get_or-drop}
 use Rattle.std.proofs.lemmas.Option.{slice_get-get_or}
 use Rattle.sto_part.specs.declared.change.Change.{Change}
 use Rattle.sto_part.specs.declared.change.Change.TheVariants.{Keep, Put}
@@ -10,7 +10,7 @@ use Rattle.sto_item.specs.Pending.{Entry, IsRisingFrom, EachChanges, AreUpdates}
 use Rattle.sto_model.specs.Rows.{Row}
 use Rattle.sto_tree_law.specs.Layout.{listed, key_part, value_part}
 use Rattle.sto_tree_law.specs.Said.{key_changes, value_is}
-use Rattle.sto_tree_law.specs.Split.{in_threes, upper_values}
+use Rattle.sto_tree_law.specs.Split.{in_threes}
 use Rattle.sto_tree_law.specs.Repack.{rows_of_leaf, filled, row_values, packed_leaves}
 use Rattle.sto_tree_law.specs.RowLists.{row_at}
 
@@ -100,11 +100,6 @@ value_ordered old l p rs h u =
 -- a value is put, or there is none
 pub values_done : (l p : ℕ) (rs : List Row) → length rs ≤ p → row_values l 0 (take (p + 1) rs) ≡ row_values l 0 (take p rs)
 values_done l p rs h = ap (row_values l 0) (take_all (p + 1) rs (omega (arith, h)) ∙ sym (take_all p rs h))
-
--- the values of the upper rows of a split
-pub upper_is : (leaves : ℕ) (dir : List ℤ) (l : ℕ) (ks : List ℤ) (m i : ℕ) (rs : List Row) → upper_values leaves dir l ks m i rs ≡ row_values m i rs
-upper_is leaves dir l ks m i [] = refl
-upper_is leaves dir l ks m i (r ∷ rs) = ap (λ es. value_is m i r.1 ∷ es) (upper_is leaves dir l ks m (suc i) rs)
 
 -- the updates of a leaf
 abbrev pub leaf_keys : List Row → ℕ → Entry

@@ -50,12 +50,6 @@ place_below ks key i e = (first_some (holds_key ks key) 8 i e).0
 pub needs_directory : (leaves : ℕ) (k : Known) (key : ℤ) → k 1 ≡ None → NeedsFirst leaves k key 1
 needs_directory leaves k key e f = ap (λ o. when_known o (Some 1) (λ dir. need_of (in_leaf (leaf_of leaves dir key) (f dir)) k)) e
 
-pub needs_keys : (leaves : ℕ) (k : Known) (key : ℤ) (dir : List ℤ) (l : ℕ) → k 1 ≡ Some dir → leaf_of leaves dir key ≡ Some l → k (key_part l) ≡ None → NeedsFirst leaves k key (key_part l)
-needs_keys leaves k key dir l known_dir there e f =
-    ap (λ o. when_known o (Some 1) (λ d. need_of (in_leaf (leaf_of leaves d key) (f d)) k)) known_dir
-    ∙ ap (λ o. need_of (in_leaf o (f dir)) k) there
-    ∙ ap (λ o. when_known o (Some (key_part l)) (λ ks. need_of (f dir l ks) k)) e
-
 -- once the leaf is told
 module _ (leaves : ℕ) (k : Known) (key : ℤ) (dir : List ℤ) (l : ℕ) (ks : List ℤ) (at : IsAtLeaf leaves k key dir l ks) where
   pub leaf_in : l < leaves

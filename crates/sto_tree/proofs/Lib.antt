@@ -1,5 +1,4 @@
 pub mod Adding
-pub mod Codes
 pub mod Parts
 pub mod Whole
 pub mod RangeSlots

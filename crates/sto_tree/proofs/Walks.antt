@@ -1,13 +1,13 @@
 -- The steps of walks over parts and leaves, on what is known.
-use Rattle.std.proofs.Common.{◌≡◌, ◌<◌, ◌++◌, ℕ, zero, suc, ℤ, pos, Bool, Option, Some, None, List, [], ◌∷◌, map, length, get_or, slice_get, nat_eq, refl, sym, ◌∙◌, ap, subst, arith, inl, inr}
+use Rattle.std.proofs.Common.{◌≡◌, ◌<◌, ◌++◌, ℕ, ℤ, pos, Bool, Option, Some, None, List, [], ◌∷◌, nat_eq, refl, sym, ◌∙◌, ap, subst, inl, inr}
 use Rattle.std.specs.Prelude.{if◌then◌else◌}
 use Rattle.sto_item.specs.declared.item.Item.{Item}
-use Rattle.sto_model.specs.Rows.{Row, least_from}
-use Rattle.sto_type.specs.Known.{Parts, Known, IsPartOf}
+use Rattle.sto_model.specs.Rows.{least_from}
+use Rattle.sto_type.specs.Known.{Parts, Known}
 use Rattle.sto_tree_law.specs.Slots.{gathered}
 use Rattle.sto_tree_law.specs.Tests.{by_option, slot_some}
 use Rattle.sto_type.specs.Reading.{Reading, need_of, items_of, read_all, read_each, when_known}
-use Rattle.sto_tree_law.specs.Layout.{key_part, keys, low, greatest}
+use Rattle.sto_tree_law.specs.Layout.{key_part, low, greatest}
 use Rattle.sto_tree_law.specs.Members.{IsIn, AllRows, all_gathered}
 use Rattle.sto_tree_law.specs.Threes.{words_on}
 use Rattle.sto_part.specs.Parts.{part_of}
@@ -19,22 +19,6 @@ use Rattle.sto_tree.specs.Walked.{first_unknown, leaf_need, leaf_observed, neede
 -- rows that stand for leaves
 pub leaf_rows_numbered : (leaves : ℕ) (dir : List ℤ) (a b : ℤ) → AllRows (IsNumbered leaves) (gathered (leaf_slots dir a b) leaves)
 leaf_rows_numbered leaves dir a b = all_gathered (IsNumbered leaves) (leaf_slots dir a b) leaves (λ l r h e. (l, sym (slot_some (meets dir a b l) (low dir l) (pos l) r e).2, h))
-
-pub row_numbered : (P : Row → Type 0) (rows : List Row) (i : ℕ) (r : Row) → AllRows P rows → slice_get rows i ≡ Some r → P r
-row_numbered P [] zero r all e = cc
-row_numbered P [] (suc i) r all e = cc
-row_numbered P (s ∷ rows) zero r all e = let same : s ≡ r = some_same s r e in subst P same all.0
-  where
-    some_same : (a b : Row) → Some a ≡ Some b → a ≡ b
-    some_same a b e = cc
-row_numbered P (s ∷ rows) (suc i) r all e = row_numbered P rows i r all.1 e
-
--- each below, and one more
-pub below_push : (n : ℕ) (xs : List ℕ) (x : ℕ) → ((i : ℕ) → i < length xs → get_or xs i 0 < n) → x < n → (i : ℕ) → i < length (xs ++ x ∷ []) → get_or (xs ++ x ∷ []) i 0 < n
-below_push n [] x all h zero l = h
-below_push n [] x all h (suc i) l = absurd (omega (arith, l))
-below_push n (y ∷ xs) x all h zero l = all 0 (omega arith)
-below_push n (y ∷ xs) x all h (suc i) l = below_push n xs x (λ j b. all (suc j) (omega (arith, b))) h i (omega (arith, l))
 
 -- what is known of a part, as functions of it
 pub known_same : {A : Type 0} (o : Option (List ℤ)) (a : A) (f g : List ℤ → A) → ((ws : List ℤ) → f ws ≡ g ws) → when_known o a f ≡ when_known o a g

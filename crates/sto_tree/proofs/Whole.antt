@@ -8,7 +8,6 @@ use Rattle.sto_model.specs.Rows.{Row}
 use Rattle.sto_tree_law.specs.Tests.{true_equal}
 use Rattle.sto_tree_law.specs.Layout.{listed, parts_of, width_of, word, slot_of}
 use Rattle.sto_tree_law.specs.Sized.{HasTreeWidths, length-listed, tree_length, tree_width}
-use Rattle.sto_tree_law.specs.Opened.{zeros_widths}
 
 -- one part more
 pub zeros_more : (f : ℕ → ℕ) (i n : ℕ) → zeros (listed f i (suc n)) ≡ zeros (listed f i n) ++ replicate (f (i + n)) (pos 0) ∷ []
@@ -17,13 +16,6 @@ zeros_more f i (suc n) = let e : suc i + n ≡ i + suc n = omega arith in ap (λ
 
 pub length-zeros : (f : ℕ → ℕ) (i n : ℕ) → length (zeros (listed f i n)) ≡ n
 length-zeros f i n = length-map (listed f i n) (λ w. replicate w (pos 0)) ∙ length-listed f i n
-
--- the directory is wide enough, and stays so
-pub cleared_widths : (leaves : ℕ) → HasTreeWidths leaves (zeros (listed (width_of leaves) 0 (parts_of leaves)))
-cleared_widths leaves = zeros_widths (listed (width_of leaves) 0 (parts_of leaves))
-
-pub directory_there : (leaves : ℕ) (c : Parts) (w : ℕ) → HasTreeWidths leaves c → 1 ≤ leaves → w < 3 → w < length (part_of c 1)
-directory_there leaves c w h some b = let e : length (part_of c 1) ≡ 3 * leaves = tree_width leaves c 1 h (omega arith) in omega (arith, e, some, b)
 
 -- a part among other parts
 module _ (leaves first : ℕ) (c : Parts) (h : HasTreeWidths leaves (take (parts_of leaves) (drop first c))) where

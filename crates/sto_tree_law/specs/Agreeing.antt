@@ -6,13 +6,12 @@ use Rattle.sto_part.specs.declared.pred.Test.TheVariants.{Eq, Lt, Le, Ge}
 use Rattle.sto_item.specs.declared.item.Item.{Item}
 use Rattle.sto_item.specs.Agreement.{Agrees, AreTrueOf}
 use Rattle.sto_type.specs.Known.{Parts, ContentsFit}
-use Rattle.sto_type.specs.Reading.{Reading, Read, items_at, updates_at, IsRead}
+use Rattle.sto_type.specs.Reading.{Reading, items_at, updates_at, IsRead}
 use Rattle.sto_tree_law.specs.Layout.{word, is_live, low, high, is_present, key, directory, keys, covers, leaf_of, holds_key, key_part, parts_of}
 use Rattle.sto_tree_law.specs.Said.{compared, cover, here, in_leaf, at_leaf}
 use Rattle.sto_tree_law.specs.Valid.{IsShaped}
 use Rattle.sto_tree_law.specs.Tests.{both_true, and_true, equal_true, true_equal, unshifted, fits_at}
 use Rattle.sto_tree_law.specs.Lookup.{leaf_has}
-use Rattle.sto_type.specs.Observing.{EachRead}
 
 -- a comparison that is agreed with
 eq_tells : (e : Parts) (p w : ℕ) (x : ℤ) → ContentsFit e → AreTrueOf e (compared p w Eq x ∷ []) → word (part_of e p) w ≡ x
@@ -79,11 +78,6 @@ agrees_here e d l i k is f h r =
     let a : (is_present (keys e l) i ≡ true) × (int_eq (key (keys e l) i) k ≡ true) = both_true (is_present (keys e l) i) (int_eq (key (keys e l) i) k) h in
     agrees_eq e d (key_part l) (2 * i) (pos 1) (compared (key_part l) (2 * i + 1) Eq k ∷ is) f (equal_true (word (keys e l) (2 * i)) (pos 1) a.0)
     (agrees_eq e d (key_part l) (2 * i + 1) k is f (equal_true (key (keys e l) i) k a.1) r)
-
--- what was read is also read after a further part
-pub EachRead-later : (p : ℕ) (f : List ℤ → Reading) (c : Parts) (is : List Item) → EachRead (f (part_of c p)) c is → EachRead (Read p f) c is
-EachRead-later p f c [] h = tt
-EachRead-later p f c (i ∷ is) h = (inr h.0, EachRead-later p f c is h.1)
 
 -- in the leaf of k: what was read of its key part and what follows
 module _ (leaves : ℕ) (c : Parts) (v : IsShaped leaves c) (k : ℤ) (f : List ℤ → ℕ → List ℤ → Reading) (l : ℕ) (there : leaf_of leaves (directory c) k ≡ Some l) where

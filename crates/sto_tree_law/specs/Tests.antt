@@ -34,9 +34,6 @@ true_le x y e = grind (arith, ints)
 pub le_false : (x y : ℤ) → int_le x y ≡ false → y <ℤ x
 le_false x y e = grind (arith, ints)
 
-pub false_le : (x y : ℤ) → y <ℤ x → int_le x y ≡ false
-false_le x y e = grind (arith, ints)
-
 -- a number that fits, with no shift
 pub unshifted : (x : ℤ) → FitsSigned w64 x → wrapped_sum x (pos 0) ≡ x
 unshifted x f = let e : x +ℤ pos 0 ≡ x = omega (arith, ints) in ap (int_wrap w64) e ∙ int_wrap_fits w64 x f

@@ -25,7 +25,7 @@ use Rattle.sto_course.specs.Answers.{IsPrefix}
 use Rattle.sto_course.specs.Bounds.{events_left}
 use Rattle.sto_course.specs.Standing.{IsUnaborted}
 use Rattle.sto_course.proofs.Stepping.{if_ok, err_map, unaborted_caused, keeps_fresh, keeps_same}
-use Rattle.sto_attempt.specs.Traits.{of_type}
+use Rattle.sto_type.specs.Traits.{of_type}
 use Rattle.sto_attempt.proofs.Attempts.{under_way_at, steps_at}
 use Rattle.sto_attempt.proofs.attempt.Attempt.step.Goals as goal
 

@@ -6,7 +6,7 @@ use Rattle.sto_course.specs.declared.verdict.Verdict.TheVariants.{Changed}
 use Rattle.sto_course.specs.Stages.{IsDropping}
 use Rattle.sto_course.proofs.Checks.{may_check, check_locked, check_changed, check_goes, expected_is, own_free, own_written}
 use Rattle.sto_course.proofs.Aiming.{checks_next, is_in}
-use Rattle.sto_attempt.specs.Traits.{of_type}
+use Rattle.sto_type.specs.Traits.{of_type}
 use Rattle.sto_attempt.specs.Commits.{deal_of}
 use Rattle.sto_attempt.proofs.ready.Ready.check.Goals.{else-is_locked-via-then-is_locked+else-not-is_written, else-is_locked-via-else-is_locked}
 use Rattle.sto_course.proofs.Remaining.{check_lowers, refuse_lowers}

@@ -5,7 +5,7 @@ use Rattle.sto_course.proofs.Aiming.{checks_next}
 use Rattle.sto_course.proofs.Remaining.{draw_lowers}
 use Rattle.sto_course.proofs.Space.{space_checks}
 use Rattle.sto_course.proofs.Undisturbed.{checks_on}
-use Rattle.sto_attempt.specs.Traits.{of_type}
+use Rattle.sto_type.specs.Traits.{of_type}
 use Rattle.sto_attempt.specs.Commits.{deal_of}
 use Rattle.sto_attempt.proofs.ready.Ready.draw.Goals as goal
 

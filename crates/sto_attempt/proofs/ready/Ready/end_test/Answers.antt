@@ -19,7 +19,7 @@ use Rattle.sto_course.proofs.Ending.{end_unheld, fails_reason, newer_reason}
 use Rattle.sto_course.proofs.Undisturbed.{aimed_on, not_busy}
 use Rattle.sto_course.specs.Verdicts.{HasReason}
 use Rattle.sto_course.specs.Reasons.{IsByPredicate, IsByTest}
-use Rattle.sto_attempt.specs.Traits.{of_type}
+use Rattle.sto_type.specs.Traits.{of_type}
 use Rattle.sto_attempt.specs.Commits.{deal_of}
 use Rattle.sto_attempt.proofs.ready.Ready.end_test.Goals as goal
 

@@ -3,7 +3,7 @@ use Rattle.sto_item.specs.Pending.{plain}
 use Rattle.sto_course.proofs.Leaving.{may_unlock, leave_more, leave_last}
 use Rattle.sto_course.proofs.Remaining.{leave_ends, leave_lowers}
 use Rattle.sto_course.proofs.Aiming.{leave_by}
-use Rattle.sto_attempt.specs.Traits.{of_type}
+use Rattle.sto_type.specs.Traits.{of_type}
 use Rattle.sto_attempt.specs.Commits.{deal_of}
 use Rattle.sto_attempt.proofs.ready.Ready.leave.Goals as goal
 

@@ -19,7 +19,7 @@ use Rattle.sto_course.proofs.Judging.{load_reason}
 use Rattle.sto_course.proofs.Undisturbed.{aimed_on, early_ticket}
 use Rattle.sto_course.specs.Verdicts.{HasReason}
 use Rattle.sto_course.specs.Reasons.{IsByPredicate}
-use Rattle.sto_attempt.specs.Traits.{of_type}
+use Rattle.sto_type.specs.Traits.{of_type}
 use Rattle.sto_attempt.specs.Commits.{deal_of}
 use Rattle.sto_attempt.proofs.ready.Ready.load.Goals as goal
 

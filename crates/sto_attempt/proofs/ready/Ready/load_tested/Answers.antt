@@ -11,7 +11,7 @@ use Rattle.sto_course.specs.Stages.{task, IsTestedWord}
 use Rattle.sto_course.proofs.Unheld.{may_read_word, word_goes}
 use Rattle.sto_course.proofs.Space.{space_more}
 use Rattle.sto_course.proofs.Remaining.{word_lowers}
-use Rattle.sto_attempt.specs.Traits.{of_type}
+use Rattle.sto_type.specs.Traits.{of_type}
 use Rattle.sto_attempt.specs.Commits.{deal_of}
 use Rattle.sto_attempt.proofs.ready.Ready.load_tested.Goals as goal
 

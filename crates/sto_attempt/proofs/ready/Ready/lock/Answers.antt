@@ -11,7 +11,7 @@ use Rattle.sto_course.specs.Stages.{Stands, Said, SpaceAt}
 use Rattle.sto_course.proofs.Locking.{may_lock, lock_ends, lock_leaves, lock_goes, lock_done}
 use Rattle.sto_course.proofs.Ending.{space_begun, space_left}
 use Rattle.sto_course.proofs.Aiming.{aimed, gives_up}
-use Rattle.sto_attempt.specs.Traits.{of_type}
+use Rattle.sto_type.specs.Traits.{of_type}
 use Rattle.sto_attempt.specs.Commits.{deal_of}
 use Rattle.sto_attempt.proofs.Kept.{kept_stage}
 use Rattle.sto_attempt.proofs.ready.Ready.lock.Goals.{then-next-len, else-next-len}

@@ -5,7 +5,7 @@ use Rattle.sto_course.proofs.Aiming.{puts_next}
 use Rattle.sto_course.proofs.Remaining.{put_lowers}
 use Rattle.sto_course.proofs.Space.{space_puts}
 use Rattle.sto_course.proofs.Undisturbed.{puts_on}
-use Rattle.sto_attempt.specs.Traits.{of_type}
+use Rattle.sto_type.specs.Traits.{of_type}
 use Rattle.sto_attempt.specs.Commits.{deal_of}
 use Rattle.sto_attempt.proofs.ready.Ready.put.Goals as goal
 

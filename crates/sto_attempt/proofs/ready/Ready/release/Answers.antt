@@ -5,7 +5,7 @@ use Rattle.sto_course.proofs.Installing.{may_release, release_goes, release_last
 use Rattle.sto_course.proofs.Remaining.{release_ends, release_lowers}
 use Rattle.sto_course.specs.Verdicts.{HasReason, IsWrote}
 use Rattle.sto_course.proofs.Aiming.{release_by}
-use Rattle.sto_attempt.specs.Traits.{of_type}
+use Rattle.sto_type.specs.Traits.{of_type}
 use Rattle.sto_attempt.specs.Commits.{deal_of}
 use Rattle.sto_attempt.proofs.ready.Ready.release.Goals as goal
 

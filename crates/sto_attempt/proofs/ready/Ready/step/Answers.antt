@@ -1,4 +1,4 @@
-use Rattle.sto_attempt.specs.Traits.{of_type}
+use Rattle.sto_type.specs.Traits.{of_type}
 use Rattle.sto_attempt.proofs.Commits.{before_at, advances_at, prefix_after}
 use Rattle.sto_attempt.proofs.ready.Ready.step.Goals as goal
 

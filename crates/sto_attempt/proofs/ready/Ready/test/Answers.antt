@@ -16,7 +16,7 @@ use Rattle.sto_course.proofs.Remaining.{fail_lowers, test_lowers}
 use Rattle.sto_course.proofs.Undisturbed.{early_more, not_busy}
 use Rattle.sto_course.proofs.Unheld.{test_unheld}
 use Rattle.sto_course.specs.Verdicts.{HasReason}
-use Rattle.sto_attempt.specs.Traits.{of_type}
+use Rattle.sto_type.specs.Traits.{of_type}
 use Rattle.sto_attempt.specs.Commits.{deal_of}
 use Rattle.sto_attempt.proofs.ready.Ready.test.Goals as goal
 
