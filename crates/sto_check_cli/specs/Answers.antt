@@ -2,8 +2,8 @@
 use Rattle.std.specs.Prelude.{◌≡◌, ℕ, List, Ok, Err}
 use Rattle.sto_lang.specs.Scripts.{File}
 use Rattle.sto_lang.specs.Files.{file_of}
-use Rattle.sto_lawful.specs.Updated.{Updating}
-use Rattle.sto_lawful.specs.Lawful.{IsLawful}
+use Rattle.sto_judging.specs.Updated.{Updating}
+use Rattle.sto_judging.specs.Lawful.{IsLawful}
 use Rattle.sto_checking.specs.declared.found.Found.{Found}
 use Rattle.sto_checking.specs.declared.found.Found.TheVariants.{Lawful}
 use Rattle.sto_checking.specs.Answer.{IsFound}

@@ -3,3 +3,8 @@ pub mod Answers
 pub mod Ends
 pub mod Statuses
 pub mod Words
+pub use Rattle.sto_lang.specs.Files
+pub use Rattle.sto_lang.specs.Views
+pub use Rattle.sto_words.specs.Asked
+pub use Rattle.sto_io.specs.Told
+pub use Rattle.sto_ending.specs.Said

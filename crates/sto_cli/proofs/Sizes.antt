@@ -1,7 +1,7 @@
 -- A file has at most so many bytes that reading it came to the end.
 use Rattle.std.proofs.Common.{◌≡◌, ℕ, ◌<◌, List, length, refl, Bool, true, false, cond, nat_lt, Result, Ok, arith}
 use Rattle.std.proofs.lemmas.Bool.Decides.{nat_tests}
-use Rattle.sto_form.specs.Lines.{lines_of}
+use Rattle.sto_lang.specs.Lines.{lines_of}
 use Rattle.sto_lang.specs.declared.fault.FaultKind.TheVariants.{TooLarge}
 use Rattle.sto_lang.specs.declared.fault.ScriptFault.{ScriptFault}
 use Rattle.sto_lang.specs.Scripts.{File}

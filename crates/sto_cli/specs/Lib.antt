@@ -3,3 +3,12 @@ pub mod Answers
 pub mod Ends
 pub mod Statuses
 pub mod Words
+pub use Rattle.sto_store.specs.Stores
+pub use Rattle.sto_lang.specs.Files
+pub use Rattle.sto_lang.specs.Sound
+pub use Rattle.sto_lang.specs.Views
+pub use Rattle.sto_lawful.specs.Lawful
+pub use Rattle.sto_records.specs.Meanings
+pub use Rattle.sto_words.specs.Commands
+pub use Rattle.sto_io.specs.Told
+pub use Rattle.sto_ending.specs.Said

@@ -8,8 +8,8 @@ use Rattle.sto_gen.specs.Generated.{file_of as generated}
 use Rattle.sto_lawful.specs.declared.form.Form.{Form}
 use Rattle.sto_lawful.specs.declared.form.Form.TheVariants.{Text, Json}
 use Rattle.sto_lawful.specs.Lawful.{IsLawfulIn}
-use Rattle.sto_records.specs.Meanings.{updating_by}
-use Rattle.sto_store.specs.Stores.{means}
+use Rattle.sto_run.specs.Meanings.{updating_by}
+use Rattle.sto_run.specs.Stores.{means}
 use Rattle.sto_journal.specs.declared.journal.Journal.{Journal}
 use Rattle.sto_summary.specs.Summary.{summary_of}
 use Rattle.sto_run.specs.Lawful.{IsLawfulJournal}

@@ -18,3 +18,4 @@ pub mod Words
 pub mod Closed
 pub mod Tells
 pub mod Calls
+pub use Rattle.sto_part.specs.Parts

@@ -2,7 +2,7 @@
 use Rattle.std.proofs.Common.{◌≡◌, ◌⊎◌, ℕ, zero, suc, List, [], ◌∷◌, map, refl, sym, ap, ◌∙◌, subst, Bool, true, false, cond, not, arith, inl, inr}
 use Rattle.std.specs.List.{Contains}
 use Rattle.std.proofs.lemmas.List.Elements.{Contains-append_cases}
-use Rattle.sto_item.specs.Pending.{Entry}
+use Rattle.sto_type.specs.Pending.{Entry}
 use Rattle.sto_model.specs.Told.{Told, is_write}
 use Rattle.sto_model.specs.Machine.{reply_to, state_after}
 use Rattle.sto_model.specs.Run.{Script as Steps, State, MayAsk}
@@ -14,8 +14,8 @@ use Rattle.sto_model.specs.declared.run.End.TheVariants as E
 use Rattle.sto_model.specs.declared.shape.Shape.{Shape}
 use Rattle.sto_type.specs.Meaning.{Meaning, IsLawful, IsUpdated, IsPartOfObject, EachOwned, is_empty}
 use Rattle.sto_type.specs.Runs.{AreTaken}
-use Rattle.sto_lawful.specs.Updated.{Updates, with_next, updates_along}
-use Rattle.sto_records.specs.Meanings.{updating_by}
+use Rattle.sto_judging.specs.Updated.{Updates, with_next, updates_along}
+use Rattle.sto_shapes.specs.Meanings.{updating_by}
 use Rattle.sto_checking.specs.Written.{onto_objects, objects_along}
 
 -- Elements.

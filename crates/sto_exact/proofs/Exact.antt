@@ -15,12 +15,12 @@ use Rattle.sto_lang.specs.Sound.{IsNumbered, HasRanges, IsSound}
 use Rattle.sto_lang.proofs.SoundFiles.{readable_sound}
 use Rattle.sto_lang.proofs.SoundLines.{all_get}
 use Rattle.sto_script.specs.Asks.{Asks}
-use Rattle.sto_lawful.specs.Orders.{Place, IsOrder, at_position, transaction_at}
-use Rattle.sto_lawful.specs.Replay.{opening_state}
-use Rattle.sto_lawful.specs.LawfulAborts.{declared_as, part_number}
-use Rattle.sto_lawful.specs.Updated.{updated}
+use Rattle.sto_judging.specs.Orders.{Place, IsOrder, at_position, transaction_at}
+use Rattle.sto_judging.specs.Replay.{opening_state}
+use Rattle.sto_judging.specs.LawfulAborts.{declared_as, part_number}
+use Rattle.sto_judging.specs.Updated.{updated}
 use Rattle.sto_type.specs.Meaning.{Meaning, IsPartOfObject}
-use Rattle.sto_records.specs.Meanings.{updating_by, IsHomeAt, IsTypeOf}
+use Rattle.sto_shapes.specs.Meanings.{updating_by, IsHomeAt, IsTypeOf}
 use Rattle.sto_checking.specs.Written.{written_of}
 use Rattle.sto_checking.specs.Right.{WroteAt}
 use Rattle.sto_checking.specs.Exact.{UpdatesWritten}

@@ -4,7 +4,7 @@ use Rattle.std.specs.List.{All}
 use Rattle.std.proofs.lemmas.List.Elements.{All-nil, All-cons}
 use Rattle.sto_lang.specs.Scripts.{File}
 use Rattle.sto_lang.specs.Sound.{IsSound}
-use Rattle.sto_lawful.specs.Orders.{Place, IsOrder}
+use Rattle.sto_judging.specs.Orders.{Place, IsOrder}
 use Rattle.sto_checking.specs.Shown.{IsInside, AreInside}
 use Rattle.sto_checking.proofs.Complete.{order_count}
 use Rattle.sto_judging.proofs.Lawful.{Each, in_order}

@@ -13,13 +13,13 @@ use Rattle.sto_lang.specs.Objects.{shapes_of}
 use Rattle.sto_lang.specs.Scripts.{Script, File}
 use Rattle.sto_script.specs.Asks.{Asks}
 use Rattle.sto_script.specs.Meaning.{meaning_of}
-use Rattle.sto_lawful.specs.Orders.{Place, transaction_at}
-use Rattle.sto_lawful.specs.Replay.{machines_for, script_run, run_at, is_writer}
-use Rattle.sto_lawful.specs.Updated.{Updates, updates_along, updates_in, updates_at, at_writer, updated_from}
+use Rattle.sto_judging.specs.Orders.{Place, transaction_at}
+use Rattle.sto_judging.specs.Replay.{machines_for, script_run, run_at, is_writer}
+use Rattle.sto_judging.specs.Updated.{Updates, updates_along, updates_in, updates_at, at_writer, updated_from}
 use Rattle.sto_type.specs.Known.{Parts}
 use Rattle.sto_type.specs.Meaning.{Meaning, IsLawful, IsPartOfObject}
 use Rattle.sto_type.specs.Runs.{AreTaken}
-use Rattle.sto_records.specs.Meanings.{updating_by}
+use Rattle.sto_shapes.specs.Meanings.{updating_by}
 use Rattle.sto_checking.specs.Written.{objects_along, objects_in, written_from}
 use Rattle.sto_checking.specs.Right.{WroteAt}
 use Rattle.sto_checking.proofs.Unwritten.{unwritten}

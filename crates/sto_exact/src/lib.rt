@@ -5,9 +5,9 @@ ghost use Rattle.std.specs.Prelude.{◌≡◌, ◌+◌, ◌<◌, ◌≤◌, ◌^
 ghost use Rattle.sto_lang.specs.Objects.{shapes_of};
 ghost use Rattle.sto_lang.specs.Files.{file_of};
 ghost use Rattle.sto_lang.specs.Views.{file as view};
-ghost use Rattle.sto_lawful.specs.Lawful.{IsLawful};
+ghost use Rattle.sto_judging.specs.Lawful.{IsLawful};
 ghost use Rattle.sto_store.specs.Stores.{means};
-ghost use Rattle.sto_records.specs.Meanings.{updating_by, IsTypeOf};
+ghost use Rattle.sto_shapes.specs.Meanings.{updating_by, IsTypeOf};
 ghost use Rattle.sto_checking.specs.Answer.{IsFound};
 ghost use Rattle.sto_checking.specs.declared.found.Found.TheVariants.{Lawful};
 

@@ -1,1 +1,8 @@
 pub mod Commands
+pub use Rattle.sto_words.specs.Asked
+pub use Rattle.sto_io.specs.Told
+pub use Rattle.sto_ending.specs.Said
+pub use Rattle.sto_cli.specs.Answers
+pub use Rattle.sto_cli.specs.Ends
+pub use Rattle.sto_cli.specs.Outputs
+pub use Rattle.sto_cli.specs.Statuses

@@ -1,7 +1,7 @@
 //! The top call.
 ghost use Rattle.std.specs.Prelude.{◌≡◌, ◌≢◌, ◌⊎◌, None};
-ghost use Rattle.sto_io.specs.Told.{Rose};
-ghost use Rattle.sto_ending.specs.Said.{Says};
+ghost use Rattle.sto_cli.specs.Told.{Rose};
+ghost use Rattle.sto_cli.specs.Said.{Says};
 ghost use Rattle.sto_lang.specs.declared.fault.ScriptFault.{ScriptFault};
 ghost use Rattle.sto_cli.specs.Ends.{Ends};
 ghost use Rattle.sto_cli.specs.Statuses.{line_of, EndsWith, IsDone, IsFaulty, IsStopped, IsFaultless, IsToldFault};

@@ -1,2 +1,5 @@
 pub mod Draws
 pub mod Generated
+pub use Rattle.sto_lang.specs.Sound
+pub use Rattle.sto_lang.specs.Statements
+pub use Rattle.sto_lang.specs.Views

@@ -6,3 +6,11 @@ pub mod HashedRows
 pub mod HashedParts
 pub mod HashedUpdates
 pub mod HashedLaw
+pub use Rattle.sto_part.specs.Parts
+pub use Rattle.sto_model.specs.Objects
+pub use Rattle.sto_model.specs.Operations
+pub use Rattle.sto_model.specs.Told
+pub use Rattle.sto_type.specs.Known
+pub use Rattle.sto_type.specs.Plans
+pub use Rattle.sto_block.specs.Blocks
+pub use Rattle.sto_block.specs.Replaced

@@ -5,7 +5,7 @@ use Rattle.std.proofs.Common.{◌≡◌, ℕ, zero, suc, ℤ, pos, ◌<◌, ◌�
 use Rattle.sto_part.specs.declared.change.Change.TheVariants.{Put as PutValue}
 use Rattle.sto_part.specs.Codes.{IsSignedCode}
 use Rattle.sto_part.specs.Parts.{part_of}
-use Rattle.sto_item.specs.Pending.{applied_updates}
+use Rattle.sto_type.specs.Pending.{applied_updates}
 use Rattle.sto_type.specs.Known.{Parts}
 use Rattle.sto_box.specs.Boxed.{IsBox}
 use Rattle.sto_box.specs.BoxedLaw.{one_part, one_word}

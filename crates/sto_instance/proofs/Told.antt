@@ -5,7 +5,7 @@ use Rattle.std.proofs.Common.{◌≡◌, ℕ, ℤ, pos, ◌<◌, ◌≤◌, List
 use Rattle.sto_part.specs.Codes.{IsSignedCode}
 use Rattle.sto_part.specs.Parts.{part_of}
 use Rattle.sto_part.specs.declared.change.Change.TheVariants.{Put as PutValue}
-use Rattle.sto_item.specs.Pending.{Entry as Update}
+use Rattle.sto_type.specs.Pending.{Entry as Update}
 use Rattle.sto_model.specs.Told.{Told, Value, Done}
 use Rattle.sto_model.specs.Run.{IsRun}
 use Rattle.sto_script.specs.Meaning.{meaning_of}

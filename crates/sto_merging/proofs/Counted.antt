@@ -6,7 +6,7 @@ use Rattle.std.proofs.Common.{◌≡◌, ℕ, zero, suc, ◌+◌, ◌<◌, ◌�
 use Rattle.std.proofs.lemmas.Bool.Decides.{nat_tests}
 use Rattle.std.proofs.lemmas.List.Sums.{sum_by-cons}
 use Rattle.std.proofs.lemmas.List.Sorted.{sum_by-IsPermutation}
-use Rattle.sto_told.specs.Records.{wrote_within, writers_up_to}
+use Rattle.sto_transact.specs.Records.{wrote_within, writers_up_to}
 use Rattle.sto_transact.specs.declared.record.Record.{Record}
 use Rattle.sto_course.specs.declared.verdict.Verdict.{Verdict}
 use Rattle.sto_course.specs.declared.verdict.Verdict.TheVariants.{Wrote, Read, Cancelled, Locked, Changed}

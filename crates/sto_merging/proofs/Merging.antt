@@ -6,8 +6,8 @@ use Rattle.std.proofs.lemmas.List.{length-map}
 use Rattle.std.proofs.lemmas.List.Sorted.{length_permutation}
 use Rattle.sto_model.specs.Told.{told}
 use Rattle.sto_lawful.specs.Replay.{Entry}
-use Rattle.sto_told.specs.Records.{is_finished, stands_at, writers_up_to}
-use Rattle.sto_told.specs.Records as plainly
+use Rattle.sto_transact.specs.Records.{is_finished, stands_at, writers_up_to}
+use Rattle.sto_transact.specs.Records as plainly
 use Rattle.sto_records.specs.Merged.{ending_of, line_of, AreInOrder, AreMerged}
 use Rattle.sto_transact.specs.declared.record.Record.{Record}
 use Rattle.sto_transact.specs.Plain.{verdict, plain}

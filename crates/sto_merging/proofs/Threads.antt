@@ -11,8 +11,8 @@ use Rattle.sto_model.specs.Told.{told}
 use Rattle.sto_lang.specs.Objects.{Declaration}
 use Rattle.sto_lawful.specs.Aborts.{Abort}
 use Rattle.sto_lawful.specs.Aborts as aborts
-use Rattle.sto_told.specs.Records.{is_abort, writers_up_to}
-use Rattle.sto_told.specs.Records as plainly
+use Rattle.sto_transact.specs.Records.{is_abort, writers_up_to}
+use Rattle.sto_transact.specs.Records as plainly
 use Rattle.sto_records.specs.Merged.{part_named, lines_of_abort, aborts_of_thread, aborts_from}
 use Rattle.sto_records.proofs.Chains.{Every, every}
 use Rattle.sto_transact.specs.declared.record.Record.{Record}

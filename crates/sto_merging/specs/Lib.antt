@@ -3,3 +3,8 @@ pub mod Splits
 pub mod PlainLines
 pub mod PlainAborts
 pub mod Sorting
+pub use Rattle.sto_told.specs.Records
+pub use Rattle.sto_transact.specs.Plain
+pub use Rattle.sto_lang.specs.Objects
+pub use Rattle.sto_journal.specs.Journals
+pub use Rattle.sto_records.specs.Merged

@@ -2,8 +2,8 @@
 use Rattle.std.specs.Prelude.{◌≡◌, ℕ, List, map}
 use Rattle.sto_model.specs.Told.{told}
 use Rattle.sto_lawful.specs.Replay.{Entry}
-use Rattle.sto_told.specs.Records.{stands_at}
-use Rattle.sto_told.specs.Records as plainly
+use Rattle.sto_transact.specs.Records.{stands_at}
+use Rattle.sto_transact.specs.Records as plainly
 use Rattle.sto_records.specs.Merged.{ending_of, line_of, AreMerged}
 use Rattle.sto_transact.specs.declared.record.Record.{Record}
 use Rattle.sto_transact.specs.Plain.{verdict, plain}

@@ -2,7 +2,7 @@
 use Rattle.std.specs.Prelude.{◌≡◌, ◌≤◌, ℕ, List, length, map, filter}
 use Rattle.std.specs.Ordering.{nat_cmp}
 use Rattle.std.specs.List.Sorted.{IsPermutation, IsNonDecreasing, IsNonDecreasingBy, IsStableByKey}
-use Rattle.sto_told.specs.Records.{writers_up_to}
+use Rattle.sto_transact.specs.Records.{writers_up_to}
 use Rattle.sto_records.specs.Merged.{AreMerged}
 use Rattle.sto_transact.specs.declared.record.Record.{Record}
 use Rattle.sto_merging.specs.declared.journal.Sorted.{Sorted}

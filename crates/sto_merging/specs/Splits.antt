@@ -1,6 +1,6 @@
 -- Records that are aborted, and records that are not.
 use Rattle.std.specs.Prelude.{Bool, not}
-use Rattle.sto_told.specs.Records.{is_abort}
+use Rattle.sto_transact.specs.Records.{is_abort}
 use Rattle.sto_transact.specs.declared.record.Record.{Record}
 use Rattle.sto_transact.specs.Plain.{verdict}
 

@@ -1,7 +1,7 @@
 //! Journal lines.
 ghost use Rattle.std.specs.Prelude.{◌≡◌, ◌<◌, ◌^◌, length, false};
 ghost use Rattle.std.specs.List.Sorted.{IsNonDecreasing};
-ghost use Rattle.sto_told.specs.Records.{is_abort};
+ghost use Rattle.sto_transact.specs.Records.{is_abort};
 ghost use Rattle.sto_records.specs.Merged.{ending_of};
 ghost use Rattle.sto_transact.specs.Plain.{verdict};
 ghost use Rattle.sto_journal.specs.Journals.{entry};

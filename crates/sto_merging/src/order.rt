@@ -2,7 +2,7 @@
 ghost use Rattle.std.specs.Prelude.{◌≡◌, ◌+◌, ◌*◌, map, OnOk, if◌then◌else◌};
 ghost use Rattle.std.specs.Ordering.{is_lt, nat_cmp};
 ghost use Rattle.std.specs.List.Sorted.{IsPermutation, IsNonDecreasingBy, IsStableByKey};
-ghost use Rattle.sto_told.specs.Records.{stands_at};
+ghost use Rattle.sto_transact.specs.Records.{stands_at};
 ghost use Rattle.sto_records.specs.Merged.{key_of, is_before, AreInOrder};
 ghost use Rattle.sto_transact.specs.Plain.{verdict, plain};
 

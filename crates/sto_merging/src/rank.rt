@@ -1,7 +1,7 @@
 //! Numbers of the history counted into writers.
 ghost use Rattle.std.specs.Prelude.{◌≡◌, ◌≤◌, ℕ, IfOk, map, length};
 ghost use Rattle.std.specs.List.Sorted.{IsNonDecreasing};
-ghost use Rattle.sto_told.specs.Records.{writers_up_to};
+ghost use Rattle.sto_transact.specs.Records.{writers_up_to};
 ghost use Rattle.sto_transact.specs.Plain.{plain};
 ghost use Rattle.sto_merging.specs.Tickets.{tickets_of, up_to};
 

@@ -10,3 +10,4 @@ pub mod Ranges
 pub mod Sizes
 pub mod Asked
 pub mod Bodies
+pub use Rattle.sto_part.specs.Listed

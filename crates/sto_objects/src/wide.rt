@@ -3,7 +3,7 @@ ghost use Rattle.sto_type.specs.JoinedLaw.{joined_lawful, all_lawful};
 ghost use Rattle.sto_type.specs.Sizes.{IsValidBoth-is, IsValidMany-is};
 ghost use Rattle.sto_array.specs.ArrayedLaw.{array_lawful};
 ghost use Rattle.sto_hash.specs.HashedLaw.{hash_lawful};
-ghost use Rattle.sto_tree_law.specs.Lawful.{tree_is_lawful};
+ghost use Rattle.sto_tree.specs.Lawful.{tree_is_lawful};
 ghost use Rattle.sto_vector.specs.VectoredLaw.{vector_lawful};
 
 use crate::kinds::{Arrays, Hashes, Sized, Trees, Vectors};

@@ -1,1 +1,2 @@
 pub mod Scenes
+pub use Rattle.sto_core.specs.Closed

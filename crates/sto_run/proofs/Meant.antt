@@ -2,7 +2,7 @@
 use Rattle.std.specs.List.{All}
 use Rattle.std.proofs.Common.{◌≡◌, ℕ, zero, suc, List, [], ◌∷◌, ◌++◌, map, refl, sym, ap, ◌∙◌, Bool, true, false, cond, Option, None, Some}
 use Rattle.std.proofs.lemmas.List.Elements.{All-weaker}
-use Rattle.sto_item.specs.Pending.{Entry, applied_updates}
+use Rattle.sto_course.specs.Pending.{Entry, applied_updates}
 use Rattle.sto_model.specs.Told.{Told}
 use Rattle.sto_model.specs.Run.{Script as Steps, State}
 use Rattle.sto_model.specs.declared.body.Next.{Next}

@@ -4,7 +4,7 @@ ghost use Rattle.sto_lang.specs.Objects.{shapes_of};
 ghost use Rattle.sto_lang.specs.Sound.{IsSound, IsFromTo};
 ghost use Rattle.sto_lang.specs.Views.{file as view};
 ghost use Rattle.sto_records.specs.Meanings.{updating_by, IsTypeOf};
-ghost use Rattle.sto_store.specs.Stores.{means};
+ghost use Rattle.sto_shapes.specs.Stores.{means};
 ghost use Rattle.sto_working.specs.Taken.{IsTaken};
 ghost use Rattle.sto_run.specs.Lawful.{IsLawfulJournal};
 

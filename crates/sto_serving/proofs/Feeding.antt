@@ -12,7 +12,7 @@ use Rattle.sto_queue.specs.declared.pass.JobQueue.{JobQueue}
 use Rattle.sto_queue.specs.declared.pass.JobPass.{JobPass}
 use Rattle.sto_queue.specs.Queues.{feeding}
 use Rattle.sto_queue.specs.Passes.{IsPass, known}
-use Rattle.sto_lawful.specs.Orders.{Place}
+use Rattle.sto_working.specs.Orders.{Place}
 use Rattle.sto_serving.specs.declared.order.Place as code
 use Rattle.sto_serving.specs.Orders.{place_of}
 use Rattle.sto_serving.specs.Jobs.{run_of, goes_to, going_to, jobs_for}

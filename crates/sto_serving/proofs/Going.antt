@@ -8,8 +8,8 @@ use Rattle.std.proofs.lemmas.List.Elements.{All-cons, filter-append}
 use Rattle.sto_queue.specs.declared.job.Job.{Job}
 use Rattle.sto_queue.specs.declared.job.Job.TheVariants.{Last}
 use Rattle.sto_queue.specs.Queues.{IsRun, EndsWithLast}
-use Rattle.sto_lang.specs.Scripts.{Script, File}
-use Rattle.sto_lawful.specs.Orders.{Place, positions_of, count_in, IsOrder}
+use Rattle.sto_working.specs.Scripts.{Script, File}
+use Rattle.sto_working.specs.Orders.{Place, positions_of, count_in, IsOrder}
 use Rattle.sto_working.specs.Counts.{scripts_from}
 use Rattle.sto_serving.specs.declared.order.Place as code
 use Rattle.sto_serving.specs.Orders.{place_of}

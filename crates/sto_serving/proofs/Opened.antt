@@ -10,9 +10,9 @@ use Rattle.sto_queue.specs.declared.pass.JobQueue.{JobQueue}
 use Rattle.sto_queue.specs.declared.pass.JobPass.{JobPass}
 use Rattle.sto_queue.specs.Queues.{working}
 use Rattle.sto_queue.specs.Passes.{IsPass, known}
-use Rattle.sto_lang.specs.Scripts.{File}
-use Rattle.sto_type.specs.Meaning.{Meaning}
-use Rattle.sto_lawful.specs.Orders.{Place, IsOrder, numbers_from}
+use Rattle.sto_working.specs.Scripts.{File}
+use Rattle.sto_working.specs.Meaning.{Meaning}
+use Rattle.sto_working.specs.Orders.{Place, IsOrder, numbers_from}
 use Rattle.sto_records.proofs.Working.{numbers_more}
 use Rattle.sto_table.specs.declared.stance.Stance.{Stance}
 use Rattle.sto_table.specs.declared.shared.Shared.{Shared}

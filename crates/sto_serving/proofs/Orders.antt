@@ -7,7 +7,7 @@ use Rattle.std.proofs.lemmas.Bool.Decides.{nat_tests}
 use Rattle.std.proofs.lemmas.List.{map-append}
 use Rattle.std.proofs.lemmas.List.Elements.{All-append, All-weaker, All-map}
 use Rattle.std.proofs.lemmas.List.Quantifiers.{all_pairs_push}
-use Rattle.sto_lawful.specs.Orders.{Place, positions_of, numbers_from}
+use Rattle.sto_working.specs.Orders.{Place, positions_of, numbers_from}
 use Rattle.sto_records.proofs.Working.{positions_append, numbers_more}
 use Rattle.sto_working.proofs.Threads.{one_of_own, one_of_other}
 use Rattle.sto_serving.specs.declared.order.Place as code

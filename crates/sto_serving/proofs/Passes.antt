@@ -8,7 +8,7 @@ use Rattle.sto_queue.specs.declared.pass.JobQueue.{JobQueue}
 use Rattle.sto_queue.specs.declared.pass.JobPass.{JobPass}
 use Rattle.sto_queue.specs.Queues.{working}
 use Rattle.sto_queue.specs.Passes.{IsPass, known}
-use Rattle.sto_lawful.specs.Orders.{numbers_from}
+use Rattle.sto_working.specs.Orders.{numbers_from}
 use Rattle.sto_serving.specs.Passes.{IsAt, AreAt, HaveTaken, all_taken}
 
 -- a queue more

@@ -11,14 +11,14 @@ use Rattle.sto_queue.specs.declared.job.Job.TheVariants.{Run, Last}
 use Rattle.sto_queue.specs.declared.pass.JobQueue.{JobQueue}
 use Rattle.sto_queue.specs.declared.pass.JobPass.{JobPass}
 use Rattle.sto_queue.specs.Queues.{IsRun, EndsWithLast}
-use Rattle.sto_lang.specs.Scripts.{Script, File}
-use Rattle.sto_type.specs.Meaning.{Meaning}
+use Rattle.sto_working.specs.Scripts.{Script, File}
+use Rattle.sto_working.specs.Meaning.{Meaning}
 use Rattle.sto_core.specs.declared.view.View.{View}
 use Rattle.sto_core.specs.Lists.{weight}
 use Rattle.sto_claims.specs.Taken.{times}
-use Rattle.sto_lawful.specs.Orders.{Place, at_position, transaction_at, positions_of, numbers_from, count_in}
-use Rattle.sto_told.specs.Records.{Record}
-use Rattle.sto_told.specs.Counted.{aborted_times, finished_places}
+use Rattle.sto_working.specs.Orders.{Place, at_position, transaction_at, positions_of, numbers_from, count_in}
+use Rattle.sto_working.specs.Records.{Record}
+use Rattle.sto_working.specs.Counted.{aborted_times, finished_places}
 use Rattle.sto_records.proofs.Working.{positions_append, finished_append}
 use Rattle.sto_working.specs.Counts.{scripts_from}
 use Rattle.sto_working.specs.Ran.{IsTransaction, HasRunAt}

@@ -3,8 +3,8 @@ use Rattle.std.specs.Prelude.{◌≡◌, ◌≤◌, ℕ, ◌%◌, List, [], ◌�
 use Rattle.sto_queue.specs.declared.job.Job.{Job}
 use Rattle.sto_queue.specs.declared.job.Job.TheVariants.{Run, Last}
 use Rattle.sto_queue.specs.Queues.{EndsWithLast}
-use Rattle.sto_lang.specs.Scripts.{File}
-use Rattle.sto_lawful.specs.Orders.{Place, positions_of, numbers_from, count_in}
+use Rattle.sto_working.specs.Scripts.{File}
+use Rattle.sto_working.specs.Orders.{Place, positions_of, numbers_from, count_in}
 
 -- the job to run a transaction
 abbrev pub run_of : Place → Job

@@ -1,8 +1,8 @@
 -- The order in which a feeder sends the transactions of a file.
 use Rattle.std.specs.Prelude.{◌≡◌, ◌⊎◌, ◌<◌, List}
 use Rattle.std.specs.List.{AllPairs}
-use Rattle.sto_lang.specs.Scripts.{File}
-use Rattle.sto_lawful.specs.Orders.{Place, IsOrder}
+use Rattle.sto_working.specs.Scripts.{File}
+use Rattle.sto_working.specs.Orders.{Place, IsOrder}
 use Rattle.sto_serving.specs.declared.order.Place as code
 
 -- the transaction that a place of the code names

@@ -2,11 +2,11 @@
 use Rattle.std.specs.Prelude.{◌≡◌, ◌⊎◌, ◌≤◌, ◌<◌, ℕ, ◌%◌, suc, List, [], ◌∷◌, ◌++◌, length, take, Bool, true, false, Some, slice_get}
 use Rattle.std.specs.List.{All}
 use Rattle.atomic_table.specs.declared.shared.Seat.{Seat}
-use Rattle.sto_lang.specs.Scripts.{File}
-use Rattle.sto_type.specs.Meaning.{Meaning}
+use Rattle.sto_working.specs.Scripts.{File}
+use Rattle.sto_working.specs.Meaning.{Meaning}
 use Rattle.sto_core.specs.declared.view.View.{View}
 use Rattle.sto_claims.specs.Taken.{times}
-use Rattle.sto_lawful.specs.Orders.{Place}
+use Rattle.sto_working.specs.Orders.{Place}
 use Rattle.sto_queue.specs.declared.job.Job.{Job}
 use Rattle.sto_queue.specs.declared.pass.JobQueue.{JobQueue}
 use Rattle.sto_queue.specs.declared.pass.JobPass.{JobPass}
@@ -15,8 +15,8 @@ use Rattle.sto_queue.specs.Passes.{known}
 use Rattle.sto_table.specs.declared.stance.Stance.{Stance}
 use Rattle.sto_table.specs.declared.shared.Shared.{Shared}
 use Rattle.sto_table.specs.Rests.{IsOf}
-use Rattle.sto_told.specs.Records.{Record}
-use Rattle.sto_told.specs.Counted.{aborted_times, finished_places}
+use Rattle.sto_working.specs.Records.{Record}
+use Rattle.sto_working.specs.Counted.{aborted_times, finished_places}
 use Rattle.sto_transact.specs.Resting.{IsAtRest}
 use Rattle.sto_working.specs.Running.{ended_of, HasNone}
 use Rattle.sto_working.specs.Worked.{HasWorked, AddsTo, AbortsNone}

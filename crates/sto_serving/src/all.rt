@@ -4,7 +4,7 @@ ghost use Rattle.std.specs.List.{All};
 ghost use Rattle.std.specs.Thread.{IsSync};
 ghost use Rattle.std.specs.Vec.{vec_len};
 ghost use Rattle.sto_claims.specs.Taken.{times};
-ghost use Rattle.sto_lawful.specs.Orders.{IsOrder, numbers_from};
+ghost use Rattle.sto_working.specs.Orders.{IsOrder, numbers_from};
 ghost use Rattle.sto_queue.specs.declared.job.Job.{Job};
 ghost use Rattle.sto_queue.specs.Passes.{known};
 ghost use Rattle.sto_queue.specs.Queues.{feeding};

@@ -1,7 +1,7 @@
 //! A whole file.
 ghost use Rattle.std.specs.Prelude.{◌≡◌, ◌≤◌, ◌+◌, ◌*◌, ◌^◌, [], map, length, IfOk};
 ghost use Rattle.std.specs.List.{All};
-ghost use Rattle.sto_plain.specs.Passes.{view_of};
+ghost use Rattle.sto_working.specs.Passes.{view_of};
 ghost use Rattle.sto_records.specs.Finished.{AreFinished};
 ghost use Rattle.sto_transact.specs.Plain.{plain};
 ghost use Rattle.sto_transact.specs.Resting.{IsAtRest};

@@ -1,7 +1,7 @@
 //! The order in which a feeder sends the transactions of a file.
 ghost use Rattle.std.specs.Prelude.{◌≡◌, ◌≤◌, ◌<◌, ◌++◌, ℕ, [], ◌∷◌, if◌then◌else◌, nat_le, map, IfOk, OnOk};
 ghost use Rattle.std.specs.List.{All, AllPairs};
-ghost use Rattle.sto_lawful.specs.Orders.{count_in, positions_of};
+ghost use Rattle.sto_working.specs.Orders.{count_in, positions_of};
 ghost use Rattle.sto_serving.specs.Orders.{place_of, Precedes, AreInTurn};
 
 use std::alloc::Global;

@@ -2,7 +2,7 @@
 ghost use Rattle.std.specs.Prelude.{◌≡◌, ◌≤◌, ◌+◌, ◌*◌, [], ◌∷◌, length, true, suc, Some, slice_get, map, IfOk, OnOk};
 ghost use Rattle.sto_queue.specs.Passes.{IsPass, known};
 ghost use Rattle.sto_queue.specs.Queues.{working};
-ghost use Rattle.sto_told.specs.Counted.{aborted_times};
+ghost use Rattle.sto_working.specs.Counted.{aborted_times};
 ghost use Rattle.sto_transact.specs.Plain.{plain};
 ghost use Rattle.sto_transact.specs.Resting.{IsAtRest};
 ghost use Rattle.sto_working.specs.Accounts.{AddsUp, HasGathered};

@@ -1,8 +1,8 @@
 //! Queues with the workers that take from them.
 ghost use Rattle.std.specs.Prelude.{◌≡◌, ◌++◌, [], ◌∷◌, length, map, IfOk, OnOk};
 ghost use Rattle.std.specs.List.{All};
-ghost use Rattle.sto_lang.specs.Scripts.{File};
-ghost use Rattle.sto_lawful.specs.Orders.{IsOrder, numbers_from};
+ghost use Rattle.sto_working.specs.Scripts.{File};
+ghost use Rattle.sto_working.specs.Orders.{IsOrder, numbers_from};
 ghost use Rattle.sto_queue.specs.Passes.{known};
 ghost use Rattle.sto_queue.specs.Queues.{feeding};
 ghost use Rattle.sto_working.specs.Accounts.{HasGathered};

@@ -1,1 +1,10 @@
 pub mod Runnable
+pub use Rattle.sto_store.specs.Stores
+pub use Rattle.sto_lang.specs.Objects
+pub use Rattle.sto_lang.specs.Scripts
+pub use Rattle.sto_lang.specs.Sound
+pub use Rattle.sto_lang.specs.Views
+pub use Rattle.sto_script.specs.Bodies
+pub use Rattle.sto_script.specs.Meaning
+pub use Rattle.sto_lawful.specs.Orders
+pub use Rattle.sto_records.specs.Meanings

@@ -8,7 +8,7 @@ use Rattle.sto_lang.specs.Scripts.{File}
 use Rattle.sto_script.specs.Meaning.{meaning_of}
 use Rattle.sto_type.specs.Meaning.{Meaning}
 use Rattle.sto_core.specs.declared.view.View.{View}
-use Rattle.sto_lawful.specs.Orders.{Place, count_in}
+use Rattle.sto_working.specs.Orders.{Place, count_in}
 use Rattle.sto_told.specs.Records.{Record, is_abort}
 use Rattle.sto_told.specs.Counted.{aborted_times, finished_places}
 use Rattle.sto_told.specs.Added.{IsAdded, HasAdded}

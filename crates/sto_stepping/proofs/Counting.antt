@@ -1,6 +1,6 @@
 -- Attempts and events that are left become fewer.
 use Rattle.std.proofs.Common.{◌≡◌, ℕ, zero, suc, ◌+◌, ◌-◌, ◌*◌, ◌<◌, ◌≤◌, ap, ◌∙◌, arith}
-use Rattle.sto_course.specs.Bounds.{bound, round}
+use Rattle.sto_transact.specs.Bounds.{bound, round}
 use Rattle.sto_stepping.specs.Counts.{attempts_left}
 
 -- a try of the next transaction was used up

@@ -16,7 +16,7 @@ use Rattle.sto_core.specs.Gathered.{gathered_into}
 use Rattle.sto_core.specs.Reopened.{reopened_view}
 use Rattle.sto_core.proofs.Lists.{each_append, each_nothing}
 use Rattle.sto_claims.specs.Taken.{times}
-use Rattle.sto_lawful.specs.Orders.{numbers_from}
+use Rattle.sto_working.specs.Orders.{numbers_from}
 use Rattle.sto_told.specs.Records.{Record, times_written}
 use Rattle.sto_told.specs.Counted.{times_committed}
 use Rattle.sto_told.specs.Added.{Grows}

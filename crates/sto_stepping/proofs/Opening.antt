@@ -11,7 +11,7 @@ use Rattle.sto_core.specs.Core.{Core}
 use Rattle.sto_core.specs.History.{Contents}
 use Rattle.sto_core.specs.Opened.{opened_core, opened_view, opened_views, opening_draws}
 use Rattle.sto_plain.specs.Passes.{view_at}
-use Rattle.sto_lawful.specs.Orders.{Place, count_in}
+use Rattle.sto_working.specs.Orders.{Place, count_in}
 use Rattle.sto_told.specs.Records.{Record}
 use Rattle.sto_transact.specs.Plain.{plain}
 use Rattle.sto_working.specs.Counts.{scripts_from}

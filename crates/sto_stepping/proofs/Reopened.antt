@@ -16,7 +16,7 @@ use Rattle.sto_core.specs.History.{Validity}
 use Rattle.sto_core.specs.Lists.{Each}
 use Rattle.sto_core.specs.Rule.{total}
 use Rattle.sto_plain.specs.Passes.{view_at, view_of}
-use Rattle.sto_lawful.specs.Orders.{Place}
+use Rattle.sto_working.specs.Orders.{Place}
 use Rattle.sto_told.specs.Records.{Record, times_written}
 use Rattle.sto_told.specs.Counted.{times_committed}
 use Rattle.sto_transact.specs.Plain.{plain}

@@ -8,7 +8,7 @@ use Rattle.sto_lang.specs.declared.file.Turns.{Turns}
 use Rattle.sto_core.specs.Core.{Core}
 use Rattle.sto_core.specs.History.{Validity}
 use Rattle.sto_plain.specs.Passes.{view_of, IsSame}
-use Rattle.sto_lawful.specs.Orders.{numbers_from}
+use Rattle.sto_working.specs.Orders.{numbers_from}
 use Rattle.sto_records.proofs.Working.{numbers_more}
 use Rattle.sto_stepping.specs.Seated.{IsOver, IsOverAt}
 use Rattle.sto_stepping.specs.Turning.{AnEvent, MakesOne, HasTurn, HaveTurns, entry_turns, round_turns}

@@ -4,7 +4,7 @@ use Rattle.std.proofs.Common.{◌≡◌, ℕ, zero, suc, ◌≤◌, List, [], �
 use Rattle.std.proofs.lemmas.List.Sums.{sum_by-cons}
 use Rattle.sto_lang.specs.Drafts.{weight_total}
 use Rattle.sto_lang.specs.Scripts.{Script, File}
-use Rattle.sto_lawful.specs.Orders.{Place, at_position, transaction_at}
+use Rattle.sto_working.specs.Orders.{Place, at_position, transaction_at}
 
 within_scripts : (scripts : List Script) (n : ℕ) (s : Script) → slice_get scripts n ≡ Some s → s.weight ≤ sum_by (λ (x : Script). x.weight) scripts
 within_scripts [] n s e = absurd cc

@@ -3,3 +3,15 @@ pub mod Counts
 pub mod Seated
 pub mod Proceeding
 pub mod Turning
+pub use Rattle.sto_core.specs.Opened
+pub use Rattle.sto_plain.specs.Passes
+pub use Rattle.sto_course.specs.Answers
+pub use Rattle.sto_course.specs.Bounds
+pub use Rattle.sto_transact.specs.Plain
+pub use Rattle.sto_transact.specs.Resting
+pub use Rattle.sto_lang.specs.Drafts
+pub use Rattle.sto_lang.specs.Views
+pub use Rattle.sto_lawful.specs.Orders
+pub use Rattle.sto_records.specs.Finished
+pub use Rattle.sto_working.specs.Ran
+pub use Rattle.sto_working.specs.Worked

@@ -7,7 +7,7 @@ use Rattle.sto_script.specs.declared.body.ScriptBody.{ScriptBody}
 use Rattle.sto_type.specs.Meaning.{Meaning}
 use Rattle.sto_core.specs.declared.view.View.{View}
 use Rattle.sto_core.specs.History.{Validity}
-use Rattle.sto_lawful.specs.Orders.{Place, transaction_at}
+use Rattle.sto_working.specs.Orders.{Place, transaction_at}
 use Rattle.sto_transact.specs.declared.trial.Trial.{Trial}
 use Rattle.sto_transact.specs.Trials.{Proceeds, trial_left}
 

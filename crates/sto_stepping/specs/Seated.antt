@@ -5,7 +5,7 @@ use Rattle.sto_type.specs.Meaning.{Meaning}
 use Rattle.sto_core.specs.declared.view.View.{View}
 use Rattle.sto_core.specs.Core.{Core}
 use Rattle.sto_plain.specs.Passes.{view_of}
-use Rattle.sto_lawful.specs.Orders.{Place, count_in}
+use Rattle.sto_working.specs.Orders.{Place, count_in}
 use Rattle.sto_told.specs.Records.{Record, is_abort, times_written}
 use Rattle.sto_told.specs.Counted.{times_committed, aborted_times}
 use Rattle.sto_transact.specs.Plain.{plain}

@@ -5,7 +5,7 @@ use Rattle.sto_lang.specs.Scripts.{Script, File}
 use Rattle.sto_script.specs.Meaning.{meaning_of}
 use Rattle.sto_type.specs.Meaning.{Meaning}
 use Rattle.sto_core.specs.declared.view.View.{View}
-use Rattle.sto_lawful.specs.Orders.{Place, transaction_at}
+use Rattle.sto_working.specs.Orders.{Place, transaction_at}
 use Rattle.sto_told.specs.Records.{Record, is_abort}
 use Rattle.sto_told.specs.Tried.{HasTried}
 use Rattle.sto_transact.specs.Plain.{verdict}

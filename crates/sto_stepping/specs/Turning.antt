@@ -7,9 +7,9 @@ use Rattle.sto_core.specs.declared.view.View.{View}
 use Rattle.sto_core.specs.Core.{Core}
 use Rattle.sto_core.specs.History.{Validity}
 use Rattle.sto_plain.specs.Passes.{view_of, IsSame}
-use Rattle.sto_lawful.specs.Orders.{numbers_from}
+use Rattle.sto_working.specs.Orders.{numbers_from}
 use Rattle.sto_told.specs.Records.{Record}
-use Rattle.sto_course.specs.Answers.{OneEvent}
+use Rattle.sto_transact.specs.Answers.{OneEvent}
 use Rattle.sto_working.specs.Worked.{AbortsNone}
 use Rattle.sto_stepping.specs.Seated.{AreNew, AreOver, IsOverAt, records_of}
 use Rattle.sto_stepping.specs.declared.seat.Seat.{Seat}

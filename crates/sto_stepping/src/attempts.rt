@@ -1,8 +1,8 @@
 //! Attempts of transactions that are made event by event.
 ghost use Rattle.std.specs.Prelude.{◌≡◌, ◌≤◌, ℕ, IfOk};
 ghost use Rattle.sto_core.specs.declared.view.View.{View};
-ghost use Rattle.sto_course.specs.Answers.{OneEvent};
-ghost use Rattle.sto_lawful.specs.Orders.{Place};
+ghost use Rattle.sto_transact.specs.Answers.{OneEvent};
+ghost use Rattle.sto_working.specs.Orders.{Place};
 ghost use Rattle.sto_transact.specs.Resting.{IsAtRest};
 ghost use Rattle.sto_working.specs.Ran.{IsTransaction};
 ghost use Rattle.sto_stepping.specs.Stepped.{HasMadeOne, HasStepped};

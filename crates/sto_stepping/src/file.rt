@@ -2,7 +2,7 @@
 ghost use Rattle.std.specs.Prelude.{◌≡◌, ◌≤◌, ◌<◌, ◌+◌, ◌*◌, ◌^◌, [], map, max, length, IfOk};
 ghost use Rattle.std.specs.List.{All, flat_map};
 ghost use Rattle.sto_core.specs.Opened.{opened_core};
-ghost use Rattle.sto_lawful.specs.Orders.{count_in};
+ghost use Rattle.sto_working.specs.Orders.{count_in};
 ghost use Rattle.sto_transact.specs.Plain.{plain};
 ghost use Rattle.sto_transact.specs.Resting.{IsAtRest};
 ghost use Rattle.sto_records.specs.Finished.{AreFinished};

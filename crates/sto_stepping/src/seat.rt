@@ -27,7 +27,7 @@ pub(crate) struct Seat<M> {
 }
 
 impl<M: Drop> Seat<M> {
-    ghost use Rattle.sto_lawful.specs.Orders.{count_in};
+    ghost use Rattle.sto_working.specs.Orders.{count_in};
     ghost use Rattle.sto_transact.specs.Plain.{plain};
     ghost use Rattle.sto_stepping.specs.Counts.{attempts_left, events_left};
     ghost use Rattle.sto_stepping.specs.Seated.{IsNew, IsSeated, IsWithin, IsIn, IsOver, HasKept, events_of};

@@ -1,7 +1,7 @@
 //! All script threads, each at its seat, with the words that their passes share.
 ghost use Rattle.std.specs.Prelude.{◌≡◌, ◌<◌, ℕ, length, true, false, IfOk};
 ghost use Rattle.std.specs.List.{All, flat_map};
-ghost use Rattle.sto_lawful.specs.Orders.{numbers_from};
+ghost use Rattle.sto_working.specs.Orders.{numbers_from};
 
 use crate::attempts::Attempts;
 use crate::seat::Seat;

@@ -2,7 +2,7 @@
 ghost use Rattle.std.specs.Prelude.{length};
 ghost use Rattle.sto_lang.specs.Drafts.{weight_total};
 ghost use Rattle.sto_lang.specs.Views.{file as view};
-ghost use Rattle.sto_course.specs.Bounds.{bound, words_of};
+ghost use Rattle.sto_transact.specs.Bounds.{bound, words_of};
 ghost use Rattle.sto_stepping.specs.Proceeding.{ProceedsAt, script_left};
 
 use crate::attempts::{Attempts, Stepped};

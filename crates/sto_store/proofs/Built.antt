@@ -9,7 +9,7 @@ use Rattle.sto_model.specs.declared.shape.Shape.TheVariants.{Single, Counter, Ar
 use Rattle.sto_model.specs.Sizes.{part_count}
 use Rattle.sto_array.specs.ArrayedRows.{length-replicate}
 use Rattle.sto_hash.specs.HashedParts.{length-widths}
-use Rattle.sto_tree_law.specs.Layout.{listed, width_of}
+use Rattle.sto_tree.specs.Layout.{listed, width_of}
 use Rattle.sto_type.specs.Meaning.{Meaning, IsLawful}
 use Rattle.sto_type.specs.Joined.{joined, all_joined}
 use Rattle.sto_type.specs.JoinedLaw.{joined_lawful}

@@ -9,8 +9,8 @@ use Rattle.sto_box.specs.Boxed.{box_meaning}
 use Rattle.sto_counter.specs.Counted.{counter_meaning}
 use Rattle.sto_array.specs.Arrayed.{array_meaning}
 use Rattle.sto_hash.specs.Hashed.{hash_meaning}
-use Rattle.sto_tree_law.specs.Layout.{parts_of}
-use Rattle.sto_tree_law.specs.Meaning.{tree_meaning}
+use Rattle.sto_tree.specs.Layout.{parts_of}
+use Rattle.sto_tree.specs.Meaning.{tree_meaning}
 use Rattle.sto_vector.specs.Vectored.{vector_meaning}
 
 -- the number of a shape's kind

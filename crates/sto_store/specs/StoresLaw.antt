@@ -21,8 +21,8 @@ use Rattle.sto_box.specs.Boxed.{BoxTakes}
 use Rattle.sto_counter.specs.Counted.{CounterTakes}
 use Rattle.sto_array.specs.Arrayed.{ArrayTakes, homes_from as array_homes}
 use Rattle.sto_hash.specs.Hashed.{HashTakes, homes_from as hash_homes}
-use Rattle.sto_tree_law.specs.Layout.{listed}
-use Rattle.sto_tree_law.specs.Meaning.{TreeTakes}
+use Rattle.sto_tree.specs.Layout.{listed}
+use Rattle.sto_tree.specs.Meaning.{TreeTakes}
 use Rattle.sto_vector.specs.Vectored.{VectorTakes}
 use Rattle.sto_store.specs.Homes.{homes_within, homes_from, HasParts}
 use Rattle.sto_store.specs.Stores.{of_kind, mean_of, means_of, sized_means, wide_means, means, AreInOrder, AreSized, AreWide, AreKinds}

@@ -1,1 +1,2 @@
 pub mod Summary
+pub use Rattle.sto_lawful.specs.Report

@@ -6,3 +6,11 @@ pub mod Fits
 pub mod Rests
 pub mod Openings
 pub mod Closings
+pub use Rattle.sto_part.specs.Parts
+pub use Rattle.sto_core.specs.Allowed
+pub use Rattle.sto_core.specs.Event
+pub use Rattle.sto_core.specs.Gathered
+pub use Rattle.sto_core.specs.Opened
+pub use Rattle.sto_core.specs.Places
+pub use Rattle.sto_core.specs.Remembered
+pub use Rattle.sto_core.specs.Views

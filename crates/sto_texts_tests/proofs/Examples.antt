@@ -8,7 +8,7 @@ use Rattle.sto_lang.specs.declared.file.Decl.{Decl}
 use Rattle.sto_lang.specs.declared.file.Thread.{Thread}
 use Rattle.sto_lang.specs.Objects.{Declaration, HaveNames}
 use Rattle.sto_lang.specs.Views.{declaration, names_of}
-use Rattle.sto_lawful.specs.Named.{AreNames}
+use Rattle.sto_journal.specs.Named.{AreNames}
 use Rattle.sto_journal.specs.declared.journal.Line.{Line}
 use Rattle.sto_journal.specs.declared.journal.AbortLine.{AbortLine}
 use Rattle.sto_journal.specs.Journals.{HaveThreads, AreAbortsOf, HaveRows}

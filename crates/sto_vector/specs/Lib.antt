@@ -2,3 +2,10 @@ pub mod Vectored
 pub mod VectoredRows
 pub mod VectoredLaw
 pub mod VectoredPlans
+pub use Rattle.sto_model.specs.Objects
+pub use Rattle.sto_model.specs.Operations
+pub use Rattle.sto_model.specs.Told
+pub use Rattle.sto_type.specs.Known
+pub use Rattle.sto_type.specs.Plans
+pub use Rattle.sto_counter.specs.Counted
+pub use Rattle.sto_array.specs.Arrayed

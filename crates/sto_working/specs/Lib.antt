@@ -5,3 +5,15 @@ pub mod Worked
 pub mod Accounts
 pub mod Crews
 pub mod Taken
+pub use Rattle.sto_core.specs.Gathered
+pub use Rattle.sto_plain.specs.Passes
+pub use Rattle.sto_table.specs.Rests
+pub use Rattle.sto_type.specs.Meaning
+pub use Rattle.sto_told.specs.Counted
+pub use Rattle.sto_told.specs.Records
+pub use Rattle.sto_transact.specs.Plain
+pub use Rattle.sto_transact.specs.Resting
+pub use Rattle.sto_lang.specs.Scripts
+pub use Rattle.sto_lang.specs.Views
+pub use Rattle.sto_lawful.specs.Orders
+pub use Rattle.sto_records.specs.Finished

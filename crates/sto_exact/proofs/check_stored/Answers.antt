@@ -6,10 +6,10 @@ use Rattle.sto_lang.specs.Scripts.{Script}
 use Rattle.sto_lang.specs.Views.{file as view}
 use Rattle.sto_lang.proofs.SoundFiles.{readable_sound}
 use Rattle.sto_script.specs.Asks.{Asks}
-use Rattle.sto_lawful.specs.Orders.{Place, transaction_at}
+use Rattle.sto_judging.specs.Orders.{Place, transaction_at}
 use Rattle.sto_store.specs.Stores.{means}
 use Rattle.sto_type.specs.Meaning.{Meaning}
-use Rattle.sto_records.specs.Meanings.{updating_by, IsTypeOf}
+use Rattle.sto_shapes.specs.Meanings.{updating_by, IsTypeOf}
 use Rattle.sto_shapes.proofs.Meant.{stored_means, stored_takes}
 use Rattle.sto_exact.proofs.Exact.{updates_written}
 use Rattle.sto_exact.proofs.check_stored.Goals as goal

@@ -3,8 +3,8 @@ use Rattle.std.proofs.lemmas.Result.{IfOk-weaker}
 use Rattle.sto_words.specs.declared.command.Command.TheVariants as commands
 use Rattle.sto_lang.specs.Scripts.{File}
 use Rattle.sto_lang.specs.Views.{file as view}
-use Rattle.sto_records.specs.Meanings.{updating_by}
-use Rattle.sto_store.specs.Stores.{means}
+use Rattle.sto_run.specs.Meanings.{updating_by}
+use Rattle.sto_run.specs.Stores.{means}
 use Rattle.sto_summary.specs.Summary.{summary_of}
 use Rattle.sto_summary.proofs.Rows.{have_four}
 use Rattle.sto_run.specs.Lawful.{IsLawfulJournal}

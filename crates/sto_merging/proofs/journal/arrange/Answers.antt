@@ -3,7 +3,7 @@ use Rattle.std.specs.Prelude.{filter}
 use Rattle.std.specs.List.Sorted.{IsPermutation, IsStableByKey}
 use Rattle.std.specs.Ordering.{nat_cmp}
 use Rattle.std.proofs.lemmas.List.Sorted.{length_permutation}
-use Rattle.sto_told.specs.Records.{writers_up_to}
+use Rattle.sto_transact.specs.Records.{writers_up_to}
 use Rattle.sto_transact.specs.declared.record.Record.{Record}
 use Rattle.sto_transact.specs.Plain.{plain}
 use Rattle.sto_merging.specs.Splits.{has_ended, was_aborted}

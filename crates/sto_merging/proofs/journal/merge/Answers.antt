@@ -3,7 +3,7 @@ use Rattle.std.specs.Prelude.{filter}
 use Rattle.std.specs.List.{All}
 use Rattle.std.proofs.lemmas.List.Elements.{All-filter}
 use Rattle.std.proofs.lemmas.List.Sorted.{All-permutation}
-use Rattle.sto_told.specs.Records.{writers_up_to}
+use Rattle.sto_transact.specs.Records.{writers_up_to}
 use Rattle.sto_records.proofs.Chains.{every}
 use Rattle.sto_journal.specs.Journals.{home_pair}
 use Rattle.sto_transact.specs.declared.record.Record.{Record}

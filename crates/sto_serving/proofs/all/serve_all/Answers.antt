@@ -1,7 +1,7 @@
 use Rattle.std.proofs.Common.{rules, ◌≡◌, ◌≤◌, ◌*◌, ℕ, List, length, map, sym, ap, ◌∙◌, subst, arith}
 use Rattle.std.proofs.lemmas.List.{length-map}
 use Rattle.sto_claims.specs.Taken.{times}
-use Rattle.sto_lawful.specs.Orders.{Place, numbers_from}
+use Rattle.sto_working.specs.Orders.{Place, numbers_from}
 use Rattle.sto_queue.specs.declared.job.Job.{Job}
 use Rattle.sto_queue.specs.declared.pass.JobQueue.{JobQueue}
 use Rattle.sto_queue.specs.Queues.{feeding}

@@ -1,5 +1,5 @@
 use Rattle.std.proofs.Common.{◌≡◌, ◌≤◌, ◌<◌, ◌+◌, ◌++◌, ℕ, List, [], ◌∷◌, map, sym, ap, ◌∙◌, subst, arith, inl, inr}
-use Rattle.sto_lawful.specs.Orders.{count_in}
+use Rattle.sto_working.specs.Orders.{count_in}
 use Rattle.sto_working.proofs.Claiming.{count_case}
 use Rattle.sto_serving.specs.declared.order.Place as code
 use Rattle.sto_serving.proofs.Orders.{HasCome, round_adds, round_passes, round_each}

@@ -1,4 +1,4 @@
-use Rattle.sto_lawful.specs.Orders.{count_in}
+use Rattle.sto_working.specs.Orders.{count_in}
 use Rattle.sto_serving.proofs.Orders.{HasCome}
 use Rattle.sto_serving.proofs.order.add_round.Given as goal
 

@@ -1,6 +1,6 @@
 use Rattle.std.proofs.Common.{◌≡◌, ◌≤◌, ◌<◌, ◌+◌, ◌++◌, ℕ, List, ap, ◌∙◌, arith}
 use Rattle.std.proofs.lemmas.List.Elements.{All-weaker}
-use Rattle.sto_lawful.specs.Orders.{count_in}
+use Rattle.sto_working.specs.Orders.{count_in}
 use Rattle.sto_serving.specs.declared.order.Place as code
 use Rattle.sto_serving.proofs.Orders.{one_at, next_position}
 use Rattle.sto_serving.proofs.order.in_turn.Goals as goal

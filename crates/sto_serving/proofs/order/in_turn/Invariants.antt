@@ -1,7 +1,7 @@
 use Rattle.std.specs.Prelude.{min}
 use Rattle.std.specs.List.{All, AllPairs}
 use Rattle.std.proofs.Common.{◌≡◌, ℕ, ◌+◌, ◌<◌, map}
-use Rattle.sto_lawful.specs.Orders.{positions_of, numbers_from, count_in}
+use Rattle.sto_working.specs.Orders.{positions_of, numbers_from, count_in}
 use Rattle.sto_serving.specs.declared.order.Place as code
 use Rattle.sto_serving.specs.Orders.{place_of, Precedes}
 use Rattle.sto_serving.proofs.order.in_turn.Given as goal

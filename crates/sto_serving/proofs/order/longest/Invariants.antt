@@ -1,5 +1,5 @@
 use Rattle.std.proofs.Common.{ℕ, ◌<◌, ◌≤◌}
-use Rattle.sto_lawful.specs.Orders.{count_in}
+use Rattle.sto_working.specs.Orders.{count_in}
 use Rattle.sto_serving.proofs.order.longest.Given as goal
 
 abbrev pub invariant-loop-thread : goal.invariant-loop-thread

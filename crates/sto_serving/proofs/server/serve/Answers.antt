@@ -1,7 +1,7 @@
 use Rattle.std.proofs.Common.{◌≡◌, ◌≤◌, ◌<◌, ◌+◌, ◌-◌, ◌*◌, ℕ, suc, List, [], ◌∷◌, ◌++◌, length, map, true, refl, sym, ap, ◌∙◌, subst, arith}
 use Rattle.std.proofs.lemmas.Option.{slice_get_within}
 use Rattle.atomic_table.specs.declared.shared.Seat.{Seat}
-use Rattle.sto_lawful.specs.Orders.{Place}
+use Rattle.sto_working.specs.Orders.{Place}
 use Rattle.sto_queue.specs.declared.job.Job.TheVariants.{Run, Last}
 use Rattle.sto_queue.specs.declared.pass.JobPass.{JobPass}
 use Rattle.sto_queue.specs.Queues.{working}
@@ -9,7 +9,7 @@ use Rattle.sto_queue.specs.Passes.{known}
 use Rattle.sto_core.specs.declared.view.View.{View}
 use Rattle.sto_table.specs.declared.stance.Stance.{Stance}
 use Rattle.sto_table.specs.Rests.{IsOf}
-use Rattle.sto_told.specs.Records.{Record}
+use Rattle.sto_working.specs.Records.{Record}
 use Rattle.sto_transact.specs.Plain.{plain}
 use Rattle.sto_transact.specs.Resting.{IsAtRest}
 use Rattle.sto_working.specs.Accounts.{AddsUp, HasGathered}

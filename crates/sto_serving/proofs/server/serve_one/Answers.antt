@@ -1,6 +1,6 @@
 use Rattle.std.proofs.Common.{◌≡◌, ◌≤◌, ◌+◌, map, Bool, false, refl, sym, subst, arith}
 use Rattle.std.proofs.lemmas.Result.{IfOk-weaker}
-use Rattle.sto_lawful.specs.Orders.{Place}
+use Rattle.sto_working.specs.Orders.{Place}
 use Rattle.sto_transact.specs.Plain.{plain}
 use Rattle.sto_working.proofs.Accounts.{adds_up_none, run_adds_up}
 use Rattle.sto_serving.specs.Served.{IsJobRun}

@@ -2,7 +2,7 @@ use Rattle.std.specs.List.{All}
 use Rattle.std.proofs.Common.{rules, ◌≡◌, ◌+◌, ℕ, List, [], ◌∷◌, ◌++◌, map, length, refl, sym, ap, ◌∙◌, subst, arith, append-nil}
 use Rattle.std.proofs.lemmas.List.{map-append, length_push}
 use Rattle.sto_core.specs.declared.view.View.{View}
-use Rattle.sto_lawful.specs.Orders.{Place, numbers_from}
+use Rattle.sto_working.specs.Orders.{Place, numbers_from}
 use Rattle.sto_queue.specs.declared.job.Job.{Job}
 use Rattle.sto_queue.specs.declared.pass.JobQueue.{JobQueue}
 use Rattle.sto_queue.specs.declared.pass.JobPass.{JobPass}

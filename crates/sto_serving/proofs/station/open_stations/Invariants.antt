@@ -1,10 +1,10 @@
 use Rattle.std.specs.List.{All}
 use Rattle.std.proofs.Common.{◌≡◌, ℕ, ◌+◌, ◌++◌, List, map, length}
 use Rattle.sto_core.specs.declared.view.View.{View}
-use Rattle.sto_lawful.specs.Orders.{numbers_from}
+use Rattle.sto_working.specs.Orders.{numbers_from}
 use Rattle.sto_queue.specs.Passes.{known}
 use Rattle.sto_queue.specs.Queues.{feeding}
-use Rattle.sto_told.specs.Records.{Record}
+use Rattle.sto_working.specs.Records.{Record}
 use Rattle.sto_working.specs.Accounts.{HasGathered}
 use Rattle.sto_working.specs.Crews.{IsReady}
 use Rattle.sto_serving.specs.Orders.{place_of}

@@ -9,7 +9,7 @@ use Rattle.sto_box.specs.BoxedLaw.{box_lawful, box_opened}
 use Rattle.sto_counter.specs.CountedLaw.{counter_lawful}
 use Rattle.sto_array.specs.ArrayedLaw.{array_lawful}
 use Rattle.sto_hash.specs.HashedLaw.{hash_lawful}
-use Rattle.sto_tree_law.specs.Lawful.{tree_is_lawful}
+use Rattle.sto_tree.specs.Lawful.{tree_is_lawful}
 use Rattle.sto_vector.specs.VectoredLaw.{vector_lawful}
 use Rattle.sto_store.specs.Stores.{of_kind, mean_of, means, AreKinds, AreWide}
 use Rattle.sto_store.specs.StoresLaw.{means_is, takes_all}

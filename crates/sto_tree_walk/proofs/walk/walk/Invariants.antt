@@ -1,4 +1,4 @@
-use Rattle.sto_tree_law.specs.Valid.{IsTree}
+use Rattle.sto_tree.specs.Valid.{IsTree}
 use Rattle.sto_tree_walk.proofs.walk.walk.Given as goal
 
 abbrev pub invariant-loop : goal.invariant-loop

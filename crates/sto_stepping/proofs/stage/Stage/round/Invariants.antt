@@ -1,5 +1,5 @@
 use Rattle.std.proofs.Common.{◌≡◌, ◌<◌, length, true, false}
-use Rattle.sto_lawful.specs.Orders.{numbers_from}
+use Rattle.sto_working.specs.Orders.{numbers_from}
 use Rattle.sto_stepping.specs.Seated.{AreSeated, AreOver, events_of_all}
 use Rattle.sto_stepping.specs.Turning.{HaveTurns}
 use Rattle.sto_stepping.proofs.stage.Stage.round.Given as goal

@@ -3,8 +3,8 @@ use Rattle.sto_model.specs.Run.{Script as Steps}
 use Rattle.sto_lang.specs.Drafts.{weight_total}
 use Rattle.sto_lang.specs.Views.{file as view, script}
 use Rattle.sto_script.specs.Bodies.{then_of, script_of, left_of, left_at_reset_of, MayAskOf}
-use Rattle.sto_lawful.specs.Orders.{Place}
-use Rattle.sto_course.specs.Bounds.{bound, words_of}
+use Rattle.sto_working.specs.Orders.{Place}
+use Rattle.sto_transact.specs.Bounds.{bound, words_of}
 use Rattle.sto_transact.specs.Trials.{Proceeds}
 use Rattle.sto_working.proofs.Places.{at_place, position_above}
 use Rattle.sto_stepping.specs.Proceeding.{script_left}
