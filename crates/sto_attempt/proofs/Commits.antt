@@ -1,22 +1,22 @@
 -- What is said of a commit by its stage is said by any name of that stage.
 use Rattle.std.proofs.Common.{◌≡◌, ℕ, Option, sym, subst}
 use Rattle.sto_core.specs.declared.view.View.{View}
-use Rattle.sto_course.specs.declared.stage.Stage.{Stage}
-use Rattle.sto_course.specs.declared.verdict.Verdict.{Verdict}
-use Rattle.sto_course.proofs.Replied.{step_prefix}
+use Rattle.sto_attempt_log.specs.declared.commit_phase.CommitPhase.{CommitPhase}
+use Rattle.sto_attempt_log.specs.declared.verdict.Verdict.{Verdict}
+use Rattle.sto_attempt_log.proofs.Replied.{step_prefix}
 use Rattle.sto_attempt.specs.declared.ready.Ready.{Ready}
 use Rattle.sto_type.specs.Traits.{OfType}
 use Rattle.sto_model.specs.Bodies.{OfBody}
 use Rattle.sto_attempt.specs.Commits.{deal_of, HasPrefix, IsBefore, Advances}
 
 module _ {T B : Type 0} (t : OfType T) (b : OfBody B) where
-  pub before_at : (r : Ready T B) (v : View) (old s : Stage) → old ≡ s → IsBefore t b old r v → IsBefore t b s r v
-  before_at r v old s e h = subst (λ (x : Stage). IsBefore t b x r v) e h
+  pub before_at : (r : Ready T B) (v : View) (old s : CommitPhase) → old ≡ s → IsBefore t b old r v → IsBefore t b s r v
+  before_at r v old s e h = subst (λ (x : CommitPhase). IsBefore t b x r v) e h
 
-  pub advances_at : (passes : ℕ) (r q : Ready T B) (v w : View) (result : Option Verdict) (old s : Stage) → old ≡ s
+  pub advances_at : (passes : ℕ) (r q : Ready T B) (v w : View) (result : Option Verdict) (old s : CommitPhase) → old ≡ s
       → Advances t b passes s r q v w result → Advances t b passes old r q v w result
-  advances_at passes r q v w result old s e h = subst (λ (x : Stage). Advances t b passes x r q v w result) (sym e) h
+  advances_at passes r q v w result old s e h = subst (λ (x : CommitPhase). Advances t b passes x r q v w result) (sym e) h
 
-  pub prefix_after : (passes : ℕ) (r q : Ready T B) (v w : View) (result : Option Verdict) (s : Stage) → IsBefore t b r.stage r v
+  pub prefix_after : (passes : ℕ) (r q : Ready T B) (v w : View) (result : Option Verdict) (s : CommitPhase) → IsBefore t b r.commit_phase r v
       → Advances t b passes s r q v w result → HasPrefix t b r w
-  prefix_after passes r q v w result s h e = step_prefix (deal_of t b r) r.finds r.loads.items r.stage v h.stands passes w e.event
+  prefix_after passes r q v w result s h e = step_prefix (deal_of t b r) r.found_tickets r.loaded_words.items r.commit_phase v h.stands passes w e.event

@@ -8,4 +8,4 @@ mod testing;
 
 pub use attempt::Attempt;
 pub use ready::Ready;
-pub use sto_course::{Heard, Sight, Sights, Turn, Verdict};
+pub use sto_attempt_log::{Heard, ReadEntry, ReadSet, Turn, Verdict};

@@ -1,14 +1,17 @@
 //! The commit of an attempt.
 ghost use Rattle.std.specs.Prelude.{◌≡◌, ◌<◌, ◌≤◌, Some, None, length};
 ghost use Rattle.std.specs.List.{list_all};
-ghost use Rattle.sto_course.specs.declared.stage.Stage.{Stage};
-ghost use Rattle.sto_course.specs.declared.verdict.Verdict.{Verdict};
-ghost use Rattle.sto_course.specs.Stages.{IsAim, IsNextCheck, IsNextPut, is_so, expected_of};
+ghost use Rattle.sto_attempt_log.specs.declared.commit_phase.CommitPhase.{CommitPhase};
+ghost use Rattle.sto_attempt_log.specs.declared.verdict.Verdict.{Verdict};
+ghost use Rattle.sto_attempt_log.specs.Stages.{IsAim, IsNextCheck, IsNextPut, is_so, expected_of};
 ghost use Rattle.sto_core.specs.Allowed.{Rises};
 ghost use Rattle.sto_attempt.specs.Commits.{IsBefore, Advances, HasPrefix};
 
+use sto_attempt_log::{
+    CommitPhase, FoundTicket, FoundTickets, Heard, LoadedWord, LoadedWords, Log, Verdict, is_seen,
+    is_written,
+};
 use sto_core::Cells;
-use sto_course::{Course, Finds, Found, Heard, Loaded, Loads, Stage, Verdict, is_seen, is_written};
 use sto_item::Updates;
 use sto_model::{Body, Replies};
 use sto_part::{List, Parts};
@@ -17,7 +20,7 @@ use sto_type::TxType;
 /// An attempt whose body commits, with all memory that the commit takes.
 #[derive(Drop)]
 pub struct Ready<'t, T: TxType, B: Body> {
-    pub(crate) course: Course<'t, T, B>,
+    pub(crate) log: Log<'t, T, B>,
     /// The value of the clock as of which it has read.
     pub(crate) at: u64,
     pub(crate) updates: Updates,
@@ -32,27 +35,27 @@ pub struct Ready<'t, T: TxType, B: Body> {
     /// The words that are put: part and place.
     pub(crate) places: List<(u32, u32)>,
     /// What locks and tests have found.
-    pub(crate) finds: Finds,
+    pub(crate) found_tickets: FoundTickets,
     /// What the commit has read.
-    pub(crate) loads: Loads,
-    pub(crate) stage: Stage,
+    pub(crate) loaded_words: LoadedWords,
+    pub(crate) commit_phase: CommitPhase,
 }
 
 impl<T: TxType, B: Body> Ready<'_, T, B> {
     /// The replies of the body.
     pub fn replies(&self) -> &Replies
-        ensures { result.now ≡ self.now.course.replies }
+        ensures { result.now ≡ self.now.log.replies }
     {
-        &self.course.replies
+        &self.log.replies
     }
 
     /// The body and what it heard.
     pub fn end(self) -> Heard<B>
-        ensures body { result.body ≡ self.entry.course.body }
-        ensures replies { result.replies ≡ self.entry.course.replies }
+        ensures body { result.body ≡ self.entry.log.body }
+        ensures replies { result.replies ≡ self.entry.log.replies }
     {
-        let Ready { course, .. } = self;
-        let Course { body, replies, .. } = course;
+        let Ready { log, .. } = self;
+        let Log { body, replies, .. } = log;
         Heard { body, replies }
     }
 
@@ -60,41 +63,41 @@ impl<T: TxType, B: Body> Ready<'_, T, B> {
     ///
     /// It takes no memory. The pass is that of the earlier steps, with its view as they left it, and no verdict was given yet.
     pub fn step<C: Cells<T>>(&mut self, cells: &mut C) -> Option<Verdict>
-        requires { IsBefore T.TxType B.Body self.old.stage self.old (C.view cells.old) }
-        ensures advances { Advances T.TxType B.Body (C.passes cells.old) self.old.stage
+        requires { IsBefore T.TxType B.Body self.old.commit_phase self.old (C.view cells.old) }
+        ensures advances { Advances T.TxType B.Body (C.passes cells.old) self.old.commit_phase
             self.old self.new (C.view cells.old) (C.view cells.new) result }
         // The replies are still the first ones of the body's serial run on contents that have the claims.
         ensures prefix { HasPrefix T.TxType B.Body self.old (C.view cells.new) }
         ensures same { C.same cells.old cells.new }
     {
-        match self.stage {
-            Stage::Locking { place } => self.lock(cells, place),
-            Stage::Loading { place, word } => self.load(cells, place, word),
-            Stage::Testing { place } => self.test(cells, place),
-            Stage::Tested {
+        match self.commit_phase {
+            CommitPhase::Locking { place } => self.lock(cells, place),
+            CommitPhase::Loading { place, word } => self.load(cells, place, word),
+            CommitPhase::Testing { place } => self.test(cells, place),
+            CommitPhase::Tested {
                 place,
                 word,
                 ticket,
             } => self.go_on_testing(cells, place, word, ticket),
-            Stage::Drawing => self.draw(cells),
-            Stage::Checking { place, ticket } => self.check(cells, place, ticket),
-            Stage::Deciding { ticket } => self.commit(cells, ticket),
-            Stage::Putting { place, ticket } => self.put(cells, place, ticket),
-            Stage::Releasing { place, ticket } => self.release(cells, place, ticket),
-            Stage::Dropping { ticket, verdict } => self.drop_entry(cells, ticket, verdict),
-            Stage::Leaving {
+            CommitPhase::Drawing => self.draw(cells),
+            CommitPhase::Checking { place, ticket } => self.check(cells, place, ticket),
+            CommitPhase::Deciding { ticket } => self.commit(cells, ticket),
+            CommitPhase::Putting { place, ticket } => self.put(cells, place, ticket),
+            CommitPhase::Releasing { place, ticket } => self.release(cells, place, ticket),
+            CommitPhase::Dropping { ticket, verdict } => self.drop_entry(cells, ticket, verdict),
+            CommitPhase::Leaving {
                 place,
                 end,
                 verdict,
             } => self.leave(cells, place, end, verdict),
-            Stage::Over => unreachable!(),
+            CommitPhase::Over => unreachable!(),
         }
     }
 
     // Locks a written part.
     pub(crate) fn lock<C: Cells<T>>(&mut self, cells: &mut C, place: u32) -> Option<Verdict>
-        requires { IsBefore T.TxType B.Body (Stage.Locking place) self.old (C.view cells.old) }
-        ensures advances { Advances T.TxType B.Body (C.passes cells.old) (Stage.Locking place)
+        requires { IsBefore T.TxType B.Body (CommitPhase.Locking place) self.old (C.view cells.old) }
+        ensures advances { Advances T.TxType B.Body (C.passes cells.old) (CommitPhase.Locking place)
             self.old self.new (C.view cells.old) (C.view cells.new) result }
         ensures same { C.same cells.old cells.new }
     {
@@ -105,10 +108,10 @@ impl<T: TxType, B: Body> Ready<'_, T, B> {
             return self.give_up(place, verdict);
         }
         let ticket = found.ticket();
-        self.finds.push_spare(Found { part, ticket });
+        self.found_tickets.push_spare(FoundTicket { part, ticket });
         let next = place + 1;
-        self.stage = if next < self.updates.len() {
-            Stage::Locking { place: next }
+        self.commit_phase = if next < self.updates.len() {
+            CommitPhase::Locking { place: next }
         } else {
             self.aim(0)
         };
@@ -116,54 +119,55 @@ impl<T: TxType, B: Body> Ready<'_, T, B> {
     }
 
     // Where the loading of the part at a place begins; or the draw, where all are loaded.
-    pub(crate) fn aim(&self, place: u32) -> Stage
+    pub(crate) fn aim(&self, place: u32) -> CommitPhase
         requires { place ≤ length self.now.tasks.items }
         ensures { IsAim self.now.updates.items self.now.tasks.items place result }
     {
         if place == self.tasks.len() {
-            return Stage::Drawing;
+            return CommitPhase::Drawing;
         }
         if is_written(self.updates.as_slice(), *self.tasks.get(place)) {
-            Stage::Loading { place, word: 0 }
+            CommitPhase::Loading { place, word: 0 }
         } else {
-            Stage::Testing { place }
+            CommitPhase::Testing { place }
         }
     }
 
-    // Loads a word of a held part.
+    // LoadedWords a word of a held part.
     pub(crate) fn load<C: Cells<T>>(
         &mut self,
         cells: &mut C,
         place: u32,
         word: u32,
     ) -> Option<Verdict>
-        requires { IsBefore T.TxType B.Body (Stage.Loading place word) self.old (C.view cells.old) }
-        ensures advances { Advances T.TxType B.Body (C.passes cells.old) (Stage.Loading place word)
+        requires { IsBefore T.TxType B.Body (CommitPhase.Loading place word) self.old (C.view cells.old) }
+        ensures advances { Advances T.TxType B.Body (C.passes cells.old) (CommitPhase.Loading place word)
             self.old self.new (C.view cells.old) (C.view cells.new) result }
         ensures same { C.same cells.old cells.new }
     {
         let part = *self.tasks.get(place);
-        let width = self.course.ty.width(part);
+        let width = self.log.ty.width(part);
         let value = cells.word(part, word);
-        self.loads.push_spare(Loaded { part, word, value });
+        self.loaded_words
+            .push_spare(LoadedWord { part, word, value });
         if word + 1 < width {
-            self.stage = Stage::Loading {
+            self.commit_phase = CommitPhase::Loading {
                 place,
                 word: word + 1,
             };
             return None;
         }
         if self.all_so(part) {
-            self.stage = self.aim(place + 1);
+            self.commit_phase = self.aim(place + 1);
             return None;
         }
-        let ticket = self.finds.ticket(part);
+        let ticket = self.found_tickets.ticket(part);
         let verdict = Verdict::Changed {
             at: self.at,
             part,
             ticket,
         };
-        self.stage = Stage::Leaving {
+        self.commit_phase = CommitPhase::Leaving {
             place: 0,
             end: self.updates.len(),
             verdict,
@@ -173,25 +177,25 @@ impl<T: TxType, B: Body> Ready<'_, T, B> {
 
     // Draws the ticket.
     pub(crate) fn draw<C: Cells<T>>(&mut self, cells: &mut C) -> Option<Verdict>
-        requires { IsBefore T.TxType B.Body Stage.Drawing self.old (C.view cells.old) }
-        ensures advances { Advances T.TxType B.Body (C.passes cells.old) Stage.Drawing
+        requires { IsBefore T.TxType B.Body CommitPhase.Drawing self.old (C.view cells.old) }
+        ensures advances { Advances T.TxType B.Body (C.passes cells.old) CommitPhase.Drawing
             self.old self.new (C.view cells.old) (C.view cells.new) result }
         ensures same { C.same cells.old cells.new }
     {
         let ticket = cells.draw(&self.updates, &self.seen, &self.loaded);
-        self.stage = self.next_check(0, ticket);
+        self.commit_phase = self.next_check(0, ticket);
         None
     }
 
     // The check of the part at a place; or the decision, where all are checked.
-    fn next_check(&self, place: u32, ticket: u64) -> Stage
+    fn next_check(&self, place: u32, ticket: u64) -> CommitPhase
         requires { place ≤ length self.now.checks.items }
         ensures { IsNextCheck self.now.checks.items place ticket result }
     {
         if place == self.checks.len() {
-            Stage::Deciding { ticket }
+            CommitPhase::Deciding { ticket }
         } else {
-            Stage::Checking { place, ticket }
+            CommitPhase::Checking { place, ticket }
         }
     }
 
@@ -202,8 +206,8 @@ impl<T: TxType, B: Body> Ready<'_, T, B> {
         place: u32,
         ticket: u64,
     ) -> Option<Verdict>
-        requires { IsBefore T.TxType B.Body (Stage.Checking place ticket) self.old (C.view cells.old) }
-        ensures advances { Advances T.TxType B.Body (C.passes cells.old) (Stage.Checking place ticket)
+        requires { IsBefore T.TxType B.Body (CommitPhase.Checking place ticket) self.old (C.view cells.old) }
+        ensures advances { Advances T.TxType B.Body (C.passes cells.old) (CommitPhase.Checking place ticket)
             self.old self.new (C.view cells.old) (C.view cells.new) result }
         ensures same { C.same cells.old cells.new }
     {
@@ -211,7 +215,7 @@ impl<T: TxType, B: Body> Ready<'_, T, B> {
         let found = cells.check(part);
         if found.is_locked() && !is_written(self.updates.as_slice(), part) {
             let verdict = Verdict::Locked { at: self.at, part };
-            self.stage = Stage::Dropping { ticket, verdict };
+            self.commit_phase = CommitPhase::Dropping { ticket, verdict };
             return None;
         }
         let newer = found.ticket();
@@ -221,29 +225,29 @@ impl<T: TxType, B: Body> Ready<'_, T, B> {
                 part,
                 ticket: newer,
             };
-            self.stage = Stage::Dropping { ticket, verdict };
+            self.commit_phase = CommitPhase::Dropping { ticket, verdict };
             return None;
         }
-        self.stage = self.next_check(place + 1, ticket);
+        self.commit_phase = self.next_check(place + 1, ticket);
         None
     }
 
     // Whether the predicates on a part are true of the words that were loaded.
     pub(crate) fn all_so(&self, part: u32) -> bool
-        ensures { result ≡ list_all (is_so part self.now.loads.items) self.now.course.set.items }
+        ensures { result ≡ list_all (is_so part self.now.loaded_words.items) self.now.log.set.items }
     {
-        self.course.set.all_so(&self.loads, part)
+        self.log.set.all_so(&self.loaded_words, part)
     }
 
     // The ticket that the check of a part is to find.
     fn expected(&self, part: u32) -> u64
         requires { Rises self.now.seen.items }
-        ensures { result ≡ expected_of self.now.course.base.items self.now.finds.items self.now.seen.items part }
+        ensures { result ≡ expected_of self.now.log.base.items self.now.found_tickets.items self.now.seen.items part }
     {
         if is_seen(self.seen.as_slice(), part) {
-            self.course.base.ticket(part)
+            self.log.base.ticket(part)
         } else {
-            self.finds.ticket(part)
+            self.found_tickets.ticket(part)
         }
     }
 
@@ -254,13 +258,13 @@ impl<T: TxType, B: Body> Ready<'_, T, B> {
         ticket: u64,
         verdict: Verdict,
     ) -> Option<Verdict>
-        requires { IsBefore T.TxType B.Body (Stage.Dropping ticket verdict) self.old (C.view cells.old) }
-        ensures advances { Advances T.TxType B.Body (C.passes cells.old) (Stage.Dropping ticket verdict)
+        requires { IsBefore T.TxType B.Body (CommitPhase.Dropping ticket verdict) self.old (C.view cells.old) }
+        ensures advances { Advances T.TxType B.Body (C.passes cells.old) (CommitPhase.Dropping ticket verdict)
             self.old self.new (C.view cells.old) (C.view cells.new) result }
         ensures same { C.same cells.old cells.new }
     {
         cells.decide(false);
-        self.stage = Stage::Leaving {
+        self.commit_phase = CommitPhase::Leaving {
             place: 0,
             end: self.updates.len(),
             verdict,
@@ -270,25 +274,25 @@ impl<T: TxType, B: Body> Ready<'_, T, B> {
 
     // Commits the entry.
     pub(crate) fn commit<C: Cells<T>>(&mut self, cells: &mut C, ticket: u64) -> Option<Verdict>
-        requires { IsBefore T.TxType B.Body (Stage.Deciding ticket) self.old (C.view cells.old) }
-        ensures advances { Advances T.TxType B.Body (C.passes cells.old) (Stage.Deciding ticket)
+        requires { IsBefore T.TxType B.Body (CommitPhase.Deciding ticket) self.old (C.view cells.old) }
+        ensures advances { Advances T.TxType B.Body (C.passes cells.old) (CommitPhase.Deciding ticket)
             self.old self.new (C.view cells.old) (C.view cells.new) result }
         ensures same { C.same cells.old cells.new }
     {
         cells.decide(true);
-        self.stage = self.next_put(0, ticket);
+        self.commit_phase = self.next_put(0, ticket);
         None
     }
 
     // The put of the word at a place; or the first release, where all were put.
-    fn next_put(&self, place: u32, ticket: u64) -> Stage
+    fn next_put(&self, place: u32, ticket: u64) -> CommitPhase
         requires { place ≤ length self.now.places.items }
         ensures { IsNextPut self.now.places.items place ticket result }
     {
         if place == self.places.len() {
-            Stage::Releasing { place: 0, ticket }
+            CommitPhase::Releasing { place: 0, ticket }
         } else {
-            Stage::Putting { place, ticket }
+            CommitPhase::Putting { place, ticket }
         }
     }
 
@@ -299,16 +303,19 @@ impl<T: TxType, B: Body> Ready<'_, T, B> {
         place: u32,
         ticket: u64,
     ) -> Option<Verdict>
-        requires { IsBefore T.TxType B.Body (Stage.Putting place ticket) self.old (C.view cells.old) }
-        ensures advances { Advances T.TxType B.Body (C.passes cells.old) (Stage.Putting place ticket)
+        requires { IsBefore T.TxType B.Body (CommitPhase.Putting place ticket) self.old (C.view cells.old) }
+        ensures advances { Advances T.TxType B.Body (C.passes cells.old) (CommitPhase.Putting place ticket)
             self.old self.new (C.view cells.old) (C.view cells.new) result }
         ensures same { C.same cells.old cells.new }
     {
         let (part, word) = *self.places.get(place);
-        let change = self.course.set.pending(part, word);
-        let value = self.course.ty.install(change, self.loads.value(part, word));
+        let change = self.log.set.pending(part, word);
+        let value = self
+            .log
+            .ty
+            .install(change, self.loaded_words.value(part, word));
         cells.put(part, word, value);
-        self.stage = self.next_put(place + 1, ticket);
+        self.commit_phase = self.next_put(place + 1, ticket);
         None
     }
 
@@ -319,8 +326,8 @@ impl<T: TxType, B: Body> Ready<'_, T, B> {
         place: u32,
         ticket: u64,
     ) -> Option<Verdict>
-        requires { IsBefore T.TxType B.Body (Stage.Releasing place ticket) self.old (C.view cells.old) }
-        ensures advances { Advances T.TxType B.Body (C.passes cells.old) (Stage.Releasing place ticket)
+        requires { IsBefore T.TxType B.Body (CommitPhase.Releasing place ticket) self.old (C.view cells.old) }
+        ensures advances { Advances T.TxType B.Body (C.passes cells.old) (CommitPhase.Releasing place ticket)
             self.old self.new (C.view cells.old) (C.view cells.new) result }
         ensures same { C.same cells.old cells.new }
     {
@@ -328,27 +335,27 @@ impl<T: TxType, B: Body> Ready<'_, T, B> {
         cells.release(part);
         let next = place + 1;
         if next < self.updates.len() {
-            self.stage = Stage::Releasing {
+            self.commit_phase = CommitPhase::Releasing {
                 place: next,
                 ticket,
             };
             return None;
         }
-        self.stage = Stage::Over;
+        self.commit_phase = CommitPhase::Over;
         Some(Verdict::Wrote { ticket })
     }
 
     // Gives up before the draw, with so many parts locked.
     fn give_up(&mut self, held: u32, verdict: Verdict) -> Option<Verdict>
-        ensures over { held ≡ 0 → (result ≡ Some verdict) × (self.new.stage ≡ Stage.Over) }
-        ensures more { 0 < held → (result ≡ None) × (self.new.stage ≡ Stage.Leaving 0 held verdict) }
-        ensures kept { self.new ≡ record self.old { stage = self.new.stage } }
+        ensures over { held ≡ 0 → (result ≡ Some verdict) × (self.new.commit_phase ≡ CommitPhase.Over) }
+        ensures more { 0 < held → (result ≡ None) × (self.new.commit_phase ≡ CommitPhase.Leaving 0 held verdict) }
+        ensures kept { self.new ≡ record self.old { commit_phase = self.new.commit_phase } }
     {
         if held == 0 {
-            self.stage = Stage::Over;
+            self.commit_phase = CommitPhase::Over;
             return Some(verdict);
         }
-        self.stage = Stage::Leaving {
+        self.commit_phase = CommitPhase::Leaving {
             place: 0,
             end: held,
             verdict,
@@ -364,8 +371,8 @@ impl<T: TxType, B: Body> Ready<'_, T, B> {
         end: u32,
         verdict: Verdict,
     ) -> Option<Verdict>
-        requires { IsBefore T.TxType B.Body (Stage.Leaving place end verdict) self.old (C.view cells.old) }
-        ensures advances { Advances T.TxType B.Body (C.passes cells.old) (Stage.Leaving place end verdict)
+        requires { IsBefore T.TxType B.Body (CommitPhase.Leaving place end verdict) self.old (C.view cells.old) }
+        ensures advances { Advances T.TxType B.Body (C.passes cells.old) (CommitPhase.Leaving place end verdict)
             self.old self.new (C.view cells.old) (C.view cells.new) result }
         ensures same { C.same cells.old cells.new }
     {
@@ -373,14 +380,14 @@ impl<T: TxType, B: Body> Ready<'_, T, B> {
         cells.unlock(part);
         let next = place + 1;
         if next < end {
-            self.stage = Stage::Leaving {
+            self.commit_phase = CommitPhase::Leaving {
                 place: next,
                 end,
                 verdict,
             };
             return None;
         }
-        self.stage = Stage::Over;
+        self.commit_phase = CommitPhase::Over;
         Some(verdict)
     }
 }

@@ -1,20 +1,20 @@
 //! The test of a part that a commit loads and does not hold.
 ghost use Rattle.std.specs.Prelude.{◌≡◌, None, ◌<◌, ◌≤◌, slice_index_or};
-ghost use Rattle.sto_course.specs.declared.stage.Stage.{Stage};
-ghost use Rattle.sto_course.specs.declared.verdict.Verdict.{Verdict};
+ghost use Rattle.sto_attempt_log.specs.declared.commit_phase.CommitPhase.{CommitPhase};
+ghost use Rattle.sto_attempt_log.specs.declared.verdict.Verdict.{Verdict};
 ghost use Rattle.sto_attempt.specs.Commits.{IsBefore, Advances};
 
 use crate::ready::Ready;
+use sto_attempt_log::{CommitPhase, FoundTicket, LoadedWord, Verdict};
 use sto_core::Cells;
-use sto_course::{Found, Loaded, Stage, Verdict};
 use sto_model::Body;
 use sto_type::TxType;
 
 impl<T: TxType, B: Body> Ready<'_, T, B> {
     // Begins the test of a part.
     pub(crate) fn test<C: Cells<T>>(&mut self, cells: &mut C, place: u32) -> Option<Verdict>
-        requires { IsBefore T.TxType B.Body (Stage.Testing place) self.old (C.view cells.old) }
-        ensures advances { Advances T.TxType B.Body (C.passes cells.old) (Stage.Testing place)
+        requires { IsBefore T.TxType B.Body (CommitPhase.Testing place) self.old (C.view cells.old) }
+        ensures advances { Advances T.TxType B.Body (C.passes cells.old) (CommitPhase.Testing place)
             self.old self.new (C.view cells.old) (C.view cells.new) result }
         ensures same { C.same cells.old cells.new }
     {
@@ -22,7 +22,7 @@ impl<T: TxType, B: Body> Ready<'_, T, B> {
         let found = cells.test(part);
         if found.is_locked() {
             let verdict = Verdict::Locked { at: self.at, part };
-            self.stage = Stage::Leaving {
+            self.commit_phase = CommitPhase::Leaving {
                 place: 0,
                 end: self.updates.len(),
                 verdict,
@@ -30,8 +30,8 @@ impl<T: TxType, B: Body> Ready<'_, T, B> {
             return None;
         }
         let ticket = found.ticket();
-        self.finds.push_spare(Found { part, ticket });
-        self.stage = Stage::Tested {
+        self.found_tickets.push_spare(FoundTicket { part, ticket });
+        self.commit_phase = CommitPhase::Tested {
             place,
             word: 0,
             ticket,
@@ -47,12 +47,12 @@ impl<T: TxType, B: Body> Ready<'_, T, B> {
         word: u32,
         ticket: u64,
     ) -> Option<Verdict>
-        requires { IsBefore T.TxType B.Body (Stage.Tested place word ticket) self.old (C.view cells.old) }
-        ensures advances { Advances T.TxType B.Body (C.passes cells.old) (Stage.Tested place word ticket)
+        requires { IsBefore T.TxType B.Body (CommitPhase.Tested place word ticket) self.old (C.view cells.old) }
+        ensures advances { Advances T.TxType B.Body (C.passes cells.old) (CommitPhase.Tested place word ticket)
             self.old self.new (C.view cells.old) (C.view cells.new) result }
         ensures same { C.same cells.old cells.new }
     {
-        let width = self.course.ty.width(*self.tasks.get(place));
+        let width = self.log.ty.width(*self.tasks.get(place));
         if word < width {
             self.load_tested(cells, place, word, ticket, width)
         } else {
@@ -60,7 +60,7 @@ impl<T: TxType, B: Body> Ready<'_, T, B> {
         }
     }
 
-    // Loads a word of the part.
+    // LoadedWords a word of the part.
     pub(crate) fn load_tested<C: Cells<T>>(
         &mut self,
         cells: &mut C,
@@ -69,17 +69,18 @@ impl<T: TxType, B: Body> Ready<'_, T, B> {
         ticket: u64,
         width: u32,
     ) -> Option<Verdict>
-        requires before { IsBefore T.TxType B.Body (Stage.Tested place word ticket) self.old (C.view cells.old) }
-        requires width { slice_index_or (T.meaning self.old.course.ty.now).widths (slice_index_or self.old.tasks.items place 0) 0 ≡ width }
+        requires before { IsBefore T.TxType B.Body (CommitPhase.Tested place word ticket) self.old (C.view cells.old) }
+        requires width { slice_index_or (T.meaning self.old.log.ty.now).widths (slice_index_or self.old.tasks.items place 0) 0 ≡ width }
         requires more { word < width }
-        ensures advances { Advances T.TxType B.Body (C.passes cells.old) (Stage.Tested place word ticket)
+        ensures advances { Advances T.TxType B.Body (C.passes cells.old) (CommitPhase.Tested place word ticket)
             self.old self.new (C.view cells.old) (C.view cells.new) result }
         ensures same { C.same cells.old cells.new }
     {
         let part = *self.tasks.get(place);
         let value = cells.word(part, word);
-        self.loads.push_spare(Loaded { part, word, value });
-        self.stage = Stage::Tested {
+        self.loaded_words
+            .push_spare(LoadedWord { part, word, value });
+        self.commit_phase = CommitPhase::Tested {
             place,
             word: word + 1,
             ticket,
@@ -95,9 +96,9 @@ impl<T: TxType, B: Body> Ready<'_, T, B> {
         word: u32,
         ticket: u64,
     ) -> Option<Verdict>
-        requires before { IsBefore T.TxType B.Body (Stage.Tested place word ticket) self.old (C.view cells.old) }
-        requires all { slice_index_or (T.meaning self.old.course.ty.now).widths (slice_index_or self.old.tasks.items place 0) 0 ≤ word }
-        ensures advances { Advances T.TxType B.Body (C.passes cells.old) (Stage.Tested place word ticket)
+        requires before { IsBefore T.TxType B.Body (CommitPhase.Tested place word ticket) self.old (C.view cells.old) }
+        requires all { slice_index_or (T.meaning self.old.log.ty.now).widths (slice_index_or self.old.tasks.items place 0) 0 ≤ word }
+        ensures advances { Advances T.TxType B.Body (C.passes cells.old) (CommitPhase.Tested place word ticket)
             self.old self.new (C.view cells.old) (C.view cells.new) result }
         ensures same { C.same cells.old cells.new }
     {
@@ -105,7 +106,7 @@ impl<T: TxType, B: Body> Ready<'_, T, B> {
         let found = cells.close(part);
         if found.is_locked() {
             let verdict = Verdict::Locked { at: self.at, part };
-            self.stage = Stage::Leaving {
+            self.commit_phase = CommitPhase::Leaving {
                 place: 0,
                 end: self.updates.len(),
                 verdict,
@@ -119,7 +120,7 @@ impl<T: TxType, B: Body> Ready<'_, T, B> {
                 part,
                 ticket: newer,
             };
-            self.stage = Stage::Leaving {
+            self.commit_phase = CommitPhase::Leaving {
                 place: 0,
                 end: self.updates.len(),
                 verdict,
@@ -127,7 +128,7 @@ impl<T: TxType, B: Body> Ready<'_, T, B> {
             return None;
         }
         if self.all_so(part) {
-            self.stage = self.aim(place + 1);
+            self.commit_phase = self.aim(place + 1);
             return None;
         }
         let verdict = Verdict::Changed {
@@ -135,7 +136,7 @@ impl<T: TxType, B: Body> Ready<'_, T, B> {
             part,
             ticket,
         };
-        self.stage = Stage::Leaving {
+        self.commit_phase = CommitPhase::Leaving {
             place: 0,
             end: self.updates.len(),
             verdict,

@@ -3,10 +3,10 @@ use Rattle.std.proofs.Common.{◌≡◌, ℕ, List, [], ◌++◌, ◌⊎◌, inl
 use Rattle.std.specs.Result.{is_ok}
 use Rattle.std.specs.Option.{is_some}
 use Rattle.sto_io.specs.Told.{Rose}
-use Rattle.sto_words.specs.declared.asked.Checking.{Checking}
-use Rattle.sto_checking.specs.declared.found.Found.{Found}
-use Rattle.sto_checking.specs.declared.found.Found.TheVariants.{Lawful, Not}
-use Rattle.sto_checking.specs.Answer.{IsFound}
+use Rattle.sto_args.specs.declared.asked.Checking.{Checking}
+use Rattle.sto_report_lines.specs.declared.found.Found.{Found}
+use Rattle.sto_report_lines.specs.declared.found.Found.TheVariants.{Lawful, Not}
+use Rattle.sto_report_lines.specs.Answer.{IsFound}
 use Rattle.sto_check_cli.specs.Inputs.{Input, InputFault, input_of}
 use Rattle.sto_check_cli.specs.Inputs as inputs
 use Rattle.sto_check_cli.specs.Ends.{Checked, Unchecked, IsWriteRefusal, Ends, RoseBy, RoseFor}

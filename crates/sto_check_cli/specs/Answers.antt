@@ -2,12 +2,12 @@
 use Rattle.std.specs.Prelude.{◌≡◌, ℕ, List, Ok, Err}
 use Rattle.sto_lang.specs.Scripts.{File}
 use Rattle.sto_lang.specs.Files.{file_of}
-use Rattle.sto_judging.specs.Updated.{Updating}
-use Rattle.sto_judging.specs.Lawful.{IsLawful}
-use Rattle.sto_checking.specs.declared.found.Found.{Found}
-use Rattle.sto_checking.specs.declared.found.Found.TheVariants.{Lawful}
-use Rattle.sto_checking.specs.Answer.{IsFound}
-use Rattle.sto_checking.specs.Exact.{IsRightReport, UpdatesWritten}
+use Rattle.sto_report_checker.specs.Updated.{Updating}
+use Rattle.sto_report_checker.specs.Lawful.{IsLawful}
+use Rattle.sto_report_lines.specs.declared.found.Found.{Found}
+use Rattle.sto_report_lines.specs.declared.found.Found.TheVariants.{Lawful}
+use Rattle.sto_report_lines.specs.Answer.{IsFound}
+use Rattle.sto_report_lines.specs.Exact.{IsRightReport, UpdatesWritten}
 use Rattle.sto_check_cli.specs.Inputs.{Input, input_of}
 use Rattle.sto_check_cli.specs.Inputs as inputs
 use Rattle.sto_check_cli.specs.declared.refusal.Refusal.{Refusal}

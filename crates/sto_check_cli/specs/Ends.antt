@@ -1,10 +1,10 @@
 -- How a call of the program ends, by what its source had left and its sink holds, before and after.
 use Rattle.std.specs.Prelude.{◌≡◌, ℕ, List, ◌++◌, Option, None, Some, take, codes, decimal, Result, Ok, Err}
 use Rattle.sto_io.specs.Told.{Takes, Gains, AtEnd, Rose}
-use Rattle.sto_ending.specs.Read.{IfTold}
-use Rattle.sto_words.specs.declared.asked.Checking.{Checking}
-use Rattle.sto_checking.specs.declared.found.Found.{Found}
-use Rattle.sto_checking.specs.declared.found.Found.TheVariants.{Lawful, Not}
+use Rattle.sto_cli_common.specs.Read.{IfTold}
+use Rattle.sto_args.specs.declared.asked.Checking.{Checking}
+use Rattle.sto_report_lines.specs.declared.found.Found.{Found}
+use Rattle.sto_report_lines.specs.declared.found.Found.TheVariants.{Lawful, Not}
 use Rattle.sto_check_cli.specs.Inputs.{InputFault, input_of}
 use Rattle.sto_check_cli.specs.Inputs as inputs
 use Rattle.sto_check_cli.specs.Answers.{IsFoundIn}

@@ -6,7 +6,7 @@ use Rattle.sto_lang.specs.Scripts.{File}
 use Rattle.sto_lang.specs.Files.{file_of}
 use Rattle.sto_lang.specs.declared.fault.ScriptFault.{ScriptFault}
 use Rattle.sto_lang.specs.declared.fault.FaultKind.TheVariants.{TooLarge}
-use Rattle.sto_checking.specs.Lines.{lines_of}
+use Rattle.sto_report_lines.specs.Lines.{lines_of}
 
 -- a line of exactly these six bytes; the last line of what is read may lack its line feed
 abbrev pub is_report_line : List ℕ → Bool

@@ -5,6 +5,6 @@ pub mod Statuses
 pub mod Words
 pub use Rattle.sto_lang.specs.Files
 pub use Rattle.sto_lang.specs.Views
-pub use Rattle.sto_words.specs.Asked
+pub use Rattle.sto_args.specs.Asked
 pub use Rattle.sto_io.specs.Told
-pub use Rattle.sto_ending.specs.Said
+pub use Rattle.sto_cli_common.specs.Said

@@ -1,10 +1,10 @@
 -- The status of a call of the program, and the line that it writes beside.
 use Rattle.std.specs.Prelude.{◌≡◌, ℕ, List, [], ◌⊎◌, Option, None, Some, Result, Ok, Err, codes}
-use Rattle.sto_ending.specs.Said.{fault_line}
-use Rattle.sto_words.specs.declared.asked.Checking.{Checking}
-use Rattle.sto_checking.specs.declared.found.Found.{Found}
-use Rattle.sto_checking.specs.declared.found.Found.TheVariants.{Lawful, Not}
-use Rattle.sto_checking.specs.Answer.{IsFound}
+use Rattle.sto_cli_common.specs.Said.{fault_line}
+use Rattle.sto_args.specs.declared.asked.Checking.{Checking}
+use Rattle.sto_report_lines.specs.declared.found.Found.{Found}
+use Rattle.sto_report_lines.specs.declared.found.Found.TheVariants.{Lawful, Not}
+use Rattle.sto_report_lines.specs.Answer.{IsFound}
 use Rattle.sto_check_cli.specs.Inputs.{Input, InputFault, input_of}
 use Rattle.sto_check_cli.specs.Ends.{Done, Stopped, Faulty}
 use Rattle.sto_check_cli.specs.declared.refusal.Refusal.{Refusal}

@@ -1,6 +1,6 @@
 -- How a call ends whose words cannot be read.
-use Rattle.sto_ending.specs.declared.words.WordsFault.{WordsFault}
-use Rattle.sto_ending.specs.declared.words.WordsFault.TheVariants as faults
+use Rattle.sto_cli_common.specs.declared.words.WordsFault.{WordsFault}
+use Rattle.sto_cli_common.specs.declared.words.WordsFault.TheVariants as faults
 use Rattle.sto_check_cli.specs.declared.refusal.Refusal.{Refusal}
 use Rattle.sto_check_cli.specs.declared.refusal.Refusal.TheVariants.{Usage, NoMemory}
 

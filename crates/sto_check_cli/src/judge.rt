@@ -8,8 +8,8 @@ ghost use Rattle.sto_check_cli.specs.Answers.{IsFileFault, IsInputFault, IsFound
 use crate::divide::divide;
 use crate::refusal::Refusal;
 use std::alloc::Global;
-use sto_judging::{Found, check_report};
 use sto_lang::{FaultKind, File, ReadError, ScriptFault};
+use sto_report_checker::{Found, check_report};
 
 // How many bytes may be read.
 const MOST: usize = 16_777_216;

@@ -8,7 +8,7 @@ mod say;
 mod top;
 mod work;
 
-pub use sto_ending::{WordsFault, words_of};
+pub use sto_cli_common::{WordsFault, words_of};
 pub use sto_io::{
     Failed, MemSink, MemSource, QuietSink, QuietSource, Sink, Source, StdSink, StdSource,
 };

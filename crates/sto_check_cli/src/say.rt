@@ -1,14 +1,14 @@
 //! What is written, and what is said beside it.
 ghost use Rattle.std.specs.Prelude.{◌≡◌, IfOk, string_bytes};
-ghost use Rattle.sto_ending.specs.Said.{Says};
+ghost use Rattle.sto_cli_common.specs.Said.{Says};
 ghost use Rattle.sto_check_cli.specs.Ends.{text_of};
 ghost use Rattle.sto_check_cli.specs.Statuses.{line_of, EndsSo, IsFixed};
 
 use crate::refusal::Refusal;
 use std::alloc::{AllocError, Global};
-use sto_ending::{fault_line, write_line};
+use sto_cli_common::{fault_line, write_line};
 use sto_io::Sink;
-use sto_judging::Found;
+use sto_report_checker::Found;
 
 /// The line of what was found.
 pub(crate) fn text_of(alloc: Global, found: Found) -> Result<String, AllocError>

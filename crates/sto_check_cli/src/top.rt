@@ -1,9 +1,9 @@
 //! The top call.
 ghost use Rattle.std.specs.Prelude.{◌≡◌, ◌≢◌, ◌⊎◌, None, Ok, Err};
 ghost use Rattle.sto_io.specs.Told.{Rose};
-ghost use Rattle.sto_ending.specs.Said.{Says};
-ghost use Rattle.sto_words.specs.Asked.{checking_in};
-ghost use Rattle.sto_checking.specs.declared.found.Found.TheVariants as found;
+ghost use Rattle.sto_cli_common.specs.Said.{Says};
+ghost use Rattle.sto_args.specs.Asked.{checking_in};
+ghost use Rattle.sto_report_lines.specs.declared.found.Found.TheVariants as found;
 ghost use Rattle.sto_check_cli.specs.Inputs.{InputFault};
 ghost use Rattle.sto_check_cli.specs.Ends.{Ends};
 ghost use Rattle.sto_check_cli.specs.Words.{refusal_of};
@@ -13,9 +13,9 @@ use crate::refusal::Refusal;
 use crate::say::say;
 use crate::work::perform;
 use std::alloc::Global;
-use sto_ending::WordsFault;
+use sto_cli_common::WordsFault;
 use sto_io::{Sink, Source};
-use sto_judging::Found;
+use sto_report_checker::Found;
 
 fn status(outcome: Result<Found, Refusal>) -> u8
     ensures { result ≡ status_of outcome }

@@ -1,7 +1,7 @@
 //! The order of work: the words, the source, the script, the report, the text, the writing.
 ghost use Rattle.std.specs.Prelude.{◌<◌, ◌≤◌, length, IfOk, IfErr};
 ghost use Rattle.sto_io.specs.Told.{Takes, AtEnd};
-ghost use Rattle.sto_words.specs.Asked.{checking_in, HasTries};
+ghost use Rattle.sto_args.specs.Asked.{checking_in, HasTries};
 ghost use Rattle.sto_check_cli.specs.declared.refusal.Refusal.TheVariants.{ReadFault, WriteFault};
 ghost use Rattle.sto_check_cli.specs.Ends.{Checked, IsReadRefusal, Unchecked, Ends, RoseFor, IsWriteRefusal, Written};
 
@@ -9,10 +9,10 @@ use crate::judge::found_in;
 use crate::refusal::Refusal;
 use crate::say::text_of;
 use std::alloc::Global;
+use sto_args::{Checking, find_checking};
 use sto_io::{ReadAllError, Sink, Source, read_all, write_all};
-use sto_judging::Found;
 use sto_part::Bytes;
-use sto_words::{Checking, find_checking};
+use sto_report_checker::Found;
 
 /// Reads the source to its end or past the limit.
 fn bytes_left<S: Source>(alloc: Global, source: &mut S) -> Result<Bytes, Refusal>

@@ -1,6 +1,6 @@
 -- What a call that is refused leaves.
 use Rattle.std.proofs.Common.{◌≡◌, ℕ, List, Option, None, Some, Result, Ok, Err, ap}
-use Rattle.sto_words.specs.declared.command.Command.{Command}
+use Rattle.sto_args.specs.declared.command.Command.{Command}
 use Rattle.sto_cli.specs.declared.refusal.Refusal.{Refusal}
 use Rattle.sto_cli.specs.declared.refusal.Refusal.TheVariants.{Usage, Script, ReadFault, WriteFault, NoMemory}
 use Rattle.sto_cli.specs.Ends.{Ends}

@@ -8,17 +8,17 @@ use Rattle.sto_lang.specs.declared.file.File as whole
 use Rattle.sto_lang.specs.declared.file.Thread.{Thread}
 use Rattle.sto_lang.specs.Views.{script, declaration}
 use Rattle.sto_lang.specs.Views as views
-use Rattle.sto_lawful.specs.Orders.{Place, IsOrder}
-use Rattle.sto_lawful.specs.Aborts.{Abort}
-use Rattle.sto_lawful.specs.Replay.{Entry, entries_of}
-use Rattle.sto_lawful.specs.Report.{text_of, report_of}
-use Rattle.sto_lawful.specs.Named.{order_named}
-use Rattle.sto_lawful.specs.NamedAborts.{aborts_named}
-use Rattle.sto_lawful.specs.Json.{json_text, json_of}
-use Rattle.sto_lawful.specs.NamedJson.{json_order_named, json_aborts_named}
-use Rattle.sto_lawful.specs.Updated.{Updating}
-use Rattle.sto_lawful.specs.LawfulAborts.{AreLawful}
-use Rattle.sto_lawful.specs.Lawful.{IsLawful, IsLawfulJson}
+use Rattle.sto_report_spec.specs.Orders.{Place, IsOrder}
+use Rattle.sto_report_spec.specs.Aborts.{Abort}
+use Rattle.sto_report_spec.specs.Replay.{Entry, entries_of}
+use Rattle.sto_report_spec.specs.Report.{text_of, report_of}
+use Rattle.sto_report_spec.specs.Named.{order_named}
+use Rattle.sto_report_spec.specs.NamedAborts.{aborts_named}
+use Rattle.sto_report_spec.specs.Json.{json_text, json_of}
+use Rattle.sto_report_spec.specs.NamedJson.{json_order_named, json_aborts_named}
+use Rattle.sto_report_spec.specs.Updated.{Updating}
+use Rattle.sto_report_spec.specs.LawfulAborts.{AreLawful}
+use Rattle.sto_report_spec.specs.Lawful.{IsLawful, IsLawfulJson}
 use Rattle.sto_journal.specs.declared.journal.Journal.{Journal}
 use Rattle.sto_journal.specs.Journals.{entry, places, abort, HaveThreads, AreAbortsOf}
 use Rattle.sto_run.specs.Lawful.{IsLawfulJournal}

@@ -1,10 +1,10 @@
 -- How a call of the program ends, by what its source had left and its sink holds, before and after.
 use Rattle.std.specs.Prelude.{◌≡◌, ℕ, List, Option, None, Some, take, Result, Ok, Err}
 use Rattle.sto_io.specs.Told.{Takes, Gains, AtEnd, Rose}
-use Rattle.sto_ending.specs.Read.{IfTold}
+use Rattle.sto_cli_common.specs.Read.{IfTold}
 use Rattle.sto_lang.specs.declared.fault.ScriptFault.{ScriptFault}
-use Rattle.sto_words.specs.declared.command.Command.{Command}
-use Rattle.sto_words.specs.declared.command.Command.TheVariants.{Run, Step, Upgrade, Gen, Bench}
+use Rattle.sto_args.specs.declared.command.Command.{Command}
+use Rattle.sto_args.specs.declared.command.Command.TheVariants.{Run, Step, Upgrade, Gen, Bench}
 use Rattle.sto_cli.specs.declared.refusal.Refusal.{Refusal}
 use Rattle.sto_cli.specs.declared.refusal.Refusal.TheVariants.{Usage, Script, ReadFault, WriteFault, NoMemory}
 use Rattle.sto_cli.specs.Outputs.{IsOutput, IsReader, HasFault}

@@ -7,8 +7,8 @@ pub use Rattle.sto_store.specs.Stores
 pub use Rattle.sto_lang.specs.Files
 pub use Rattle.sto_lang.specs.Sound
 pub use Rattle.sto_lang.specs.Views
-pub use Rattle.sto_lawful.specs.Lawful
-pub use Rattle.sto_records.specs.Meanings
-pub use Rattle.sto_words.specs.Commands
+pub use Rattle.sto_report_spec.specs.Lawful
+pub use Rattle.sto_serializability.specs.Meanings
+pub use Rattle.sto_args.specs.Commands
 pub use Rattle.sto_io.specs.Told
-pub use Rattle.sto_ending.specs.Said
+pub use Rattle.sto_cli_common.specs.Said

@@ -5,19 +5,19 @@ use Rattle.sto_lang.specs.Scripts.{File}
 use Rattle.sto_lang.specs.declared.fault.ScriptFault.{ScriptFault}
 use Rattle.sto_write.specs.Texts.{text_of, upgraded}
 use Rattle.sto_gen.specs.Generated.{file_of as generated}
-use Rattle.sto_lawful.specs.declared.form.Form.{Form}
-use Rattle.sto_lawful.specs.declared.form.Form.TheVariants.{Text, Json}
-use Rattle.sto_lawful.specs.Lawful.{IsLawfulIn}
+use Rattle.sto_report_spec.specs.declared.form.ReportForm.{ReportForm}
+use Rattle.sto_report_spec.specs.declared.form.ReportForm.TheVariants.{Text, Json}
+use Rattle.sto_report_spec.specs.Lawful.{IsLawfulIn}
 use Rattle.sto_run.specs.Meanings.{updating_by}
 use Rattle.sto_run.specs.Stores.{means}
 use Rattle.sto_journal.specs.declared.journal.Journal.{Journal}
 use Rattle.sto_summary.specs.Summary.{summary_of}
 use Rattle.sto_run.specs.Lawful.{IsLawfulJournal}
-use Rattle.sto_words.specs.declared.command.Command.{Command}
-use Rattle.sto_words.specs.declared.command.Command.TheVariants.{Run, Step, Upgrade, Gen, Bench}
+use Rattle.sto_args.specs.declared.command.Command.{Command}
+use Rattle.sto_args.specs.declared.command.Command.TheVariants.{Run, Step, Upgrade, Gen, Bench}
 
 -- the form of the report that is asked for
-abbrev pub form_for : Bool → Form
+abbrev pub form_for : Bool → ReportForm
 form_for json = if json then Json else Text
 
 -- a lawful report of the file that the bytes are, for so many tries and in the form that is asked for, with what the types of

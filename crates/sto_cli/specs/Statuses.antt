@@ -1,8 +1,8 @@
 -- The status of a call of the program, and the line that it writes beside.
 use Rattle.std.specs.Prelude.{◌≡◌, ℕ, List, [], ◌⊎◌, Option, None, Some, Result, Ok, Err, codes}
-use Rattle.sto_ending.specs.Said.{fault_line}
-use Rattle.sto_words.specs.declared.command.Command.{Command}
-use Rattle.sto_words.specs.declared.command.Command.TheVariants.{Run, Step, Upgrade, Gen, Bench}
+use Rattle.sto_cli_common.specs.Said.{fault_line}
+use Rattle.sto_args.specs.declared.command.Command.{Command}
+use Rattle.sto_args.specs.declared.command.Command.TheVariants.{Run, Step, Upgrade, Gen, Bench}
 use Rattle.sto_cli.specs.declared.refusal.Refusal.{Refusal}
 use Rattle.sto_cli.specs.declared.refusal.Refusal.TheVariants.{Usage, Script, ReadFault, WriteFault, NoMemory}
 use Rattle.sto_cli.specs.Ends.{Done, Stopped, Faulty}

@@ -1,11 +1,11 @@
 //! The texts of the commands.
 ghost use Rattle.std.specs.Prelude.{◌≡◌, ℕ, [], Option, Ok, IfOk, IfErr};
-ghost use Rattle.sto_words.specs.declared.command.Command.TheVariants as commands;
-ghost use Rattle.sto_words.specs.Commands.{HasThreads};
+ghost use Rattle.sto_args.specs.declared.command.Command.TheVariants as commands;
+ghost use Rattle.sto_args.specs.Commands.{HasThreads};
 ghost use Rattle.sto_lang.specs.Files.{file_of};
 ghost use Rattle.sto_lang.specs.Sound.{IsSound, IsFromTo};
 ghost use Rattle.sto_lang.specs.Views.{file as view};
-ghost use Rattle.sto_lawful.specs.Lawful.{IsLawfulIn};
+ghost use Rattle.sto_report_spec.specs.Lawful.{IsLawfulIn};
 ghost use Rattle.sto_run.specs.Meanings.{updating_by};
 ghost use Rattle.sto_run.specs.Stores.{means};
 ghost use Rattle.sto_run.specs.Lawful.{IsLawfulJournal};

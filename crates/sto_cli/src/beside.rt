@@ -1,11 +1,11 @@
 //! What is said beside the output.
 ghost use Rattle.std.specs.Prelude.{◌≡◌};
-ghost use Rattle.sto_ending.specs.Said.{Says};
+ghost use Rattle.sto_cli_common.specs.Said.{Says};
 ghost use Rattle.sto_cli.specs.Statuses.{line_of, EndsSo, IsFixed};
 
 use crate::refusal::Refusal;
 use std::alloc::Global;
-use sto_ending::{fault_line, write_line};
+use sto_cli_common::{fault_line, write_line};
 use sto_io::Sink;
 
 // The line of an ending that is no fault of a script.

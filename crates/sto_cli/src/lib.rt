@@ -13,7 +13,7 @@ mod work;
 pub use answer::{file_in, report, workers_for};
 pub use beside::say;
 pub use refusal::Refusal;
-pub use sto_ending::{WordsFault, words_of};
+pub use sto_cli_common::{WordsFault, words_of};
 pub use sto_io::{
     Failed, MemSink, MemSource, QuietSink, QuietSource, Sink, Source, StdSink, StdSource,
 };

@@ -1,8 +1,8 @@
 //! The top call.
 ghost use Rattle.std.specs.Prelude.{◌≡◌, ◌≢◌, ◌⊎◌, None, Err};
 ghost use Rattle.sto_io.specs.Told.{Rose};
-ghost use Rattle.sto_ending.specs.Said.{Says};
-ghost use Rattle.sto_words.specs.Commands.{command_in};
+ghost use Rattle.sto_cli_common.specs.Said.{Says};
+ghost use Rattle.sto_args.specs.Commands.{command_in};
 ghost use Rattle.sto_cli.specs.Ends.{Ends};
 ghost use Rattle.sto_cli.specs.Words.{refusal_of};
 ghost use Rattle.sto_lang.specs.declared.fault.ScriptFault.{ScriptFault};
@@ -13,7 +13,7 @@ use crate::refusal::Refusal;
 use crate::work::perform;
 use std::alloc::Global;
 use std::thread::Threads;
-use sto_ending::WordsFault;
+use sto_cli_common::WordsFault;
 use sto_io::{Sink, Source};
 use sto_run::Gate;
 

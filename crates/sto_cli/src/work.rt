@@ -2,8 +2,8 @@
 ghost use Rattle.std.specs.Prelude.{◌<◌, ◌≤◌, length, IfOk, IfErr};
 ghost use Rattle.sto_io.specs.Told.{Takes, AtEnd};
 ghost use Rattle.sto_lang.specs.Sound.{IsFromTo};
-ghost use Rattle.sto_words.specs.Commands.{HasThreads, HasRange, command_in};
-ghost use Rattle.sto_words.specs.declared.command.Command.TheVariants as commands;
+ghost use Rattle.sto_args.specs.Commands.{HasThreads, HasRange, command_in};
+ghost use Rattle.sto_args.specs.declared.command.Command.TheVariants as commands;
 ghost use Rattle.sto_cli.specs.declared.refusal.Refusal.TheVariants.{ReadFault, WriteFault};
 ghost use Rattle.sto_cli.specs.Ends.{Made, IsReadRefusal, Unmade, IsWritten, Ends, RoseFor, RoseForText};
 
@@ -11,11 +11,11 @@ use crate::answer::{bench_text, gen_text, run_text, step_text, upgrade_text};
 use crate::refusal::Refusal;
 use std::alloc::Global;
 use std::thread::Threads;
+use sto_args::{Command, find_command};
 use sto_io::{ReadAllError, Sink, Source, read_all, write_all};
 use sto_lang::Text;
 use sto_part::Bytes;
 use sto_run::Gate;
-use sto_words::{Command, find_command};
 
 /// Reads the source to its end, or until there is one byte more than a script may have. Where the source fails, what it gave is
 /// let go.

@@ -1,10 +1,10 @@
 -- What the words of the feed ask, as a command of `sto`.
 use Rattle.std.specs.Prelude.{List, Option, String, false}
 use Rattle.std.specs.Option.{option_map}
-use Rattle.sto_words.specs.Asked.{feeding_in}
-use Rattle.sto_words.specs.declared.asked.Feeding.{Feeding}
-use Rattle.sto_words.specs.declared.command.Command.{Command}
-use Rattle.sto_words.specs.declared.command.Command.TheVariants.{Run}
+use Rattle.sto_args.specs.Asked.{feeding_in}
+use Rattle.sto_args.specs.declared.asked.Feeding.{Feeding}
+use Rattle.sto_args.specs.declared.command.Command.{Command}
+use Rattle.sto_args.specs.declared.command.Command.TheVariants.{Run}
 
 -- a run on these threads, with these tries, and with a report in the form of text
 abbrev pub command_for : Feeding → Command

@@ -1,7 +1,7 @@
 pub mod Commands
-pub use Rattle.sto_words.specs.Asked
+pub use Rattle.sto_args.specs.Asked
 pub use Rattle.sto_io.specs.Told
-pub use Rattle.sto_ending.specs.Said
+pub use Rattle.sto_cli_common.specs.Said
 pub use Rattle.sto_cli.specs.Answers
 pub use Rattle.sto_cli.specs.Ends
 pub use Rattle.sto_cli.specs.Outputs

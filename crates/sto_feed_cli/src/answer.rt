@@ -1,6 +1,6 @@
 //! The text of a feed.
 ghost use Rattle.std.specs.Prelude.{IfOk, IfErr};
-ghost use Rattle.sto_words.specs.Asked.{HasNumbers};
+ghost use Rattle.sto_args.specs.Asked.{HasNumbers};
 ghost use Rattle.sto_cli.specs.Outputs.{IsOutput};
 ghost use Rattle.sto_cli.specs.Answers.{IsAnswerFault};
 ghost use Rattle.sto_feed_cli.specs.Commands.{command_for};
@@ -8,10 +8,10 @@ ghost use Rattle.sto_feed_cli.specs.Commands.{command_for};
 use std::alloc::Global;
 use std::sync::Wait;
 use std::thread::Threads;
+use sto_args::Feeding;
 use sto_cli::{Refusal, file_in, report, workers_for};
 use sto_feeding::{Gate, feed_file};
 use sto_lang::Text;
-use sto_words::Feeding;
 
 /// What is printed for these bytes: the report of a run in which a feeder sends the transactions to the workers.
 pub(crate) fn feed_text<R: Threads + Wait + Sync, G: Gate>(

@@ -1,6 +1,6 @@
 //! The order of work: the words, the source, the script, the run, the text, the writing.
 ghost use Rattle.std.specs.Prelude.{IfOk, IfErr};
-ghost use Rattle.sto_words.specs.Asked.{HasNumbers};
+ghost use Rattle.sto_args.specs.Asked.{HasNumbers};
 ghost use Rattle.sto_cli.specs.declared.refusal.Refusal.TheVariants.{ReadFault, WriteFault};
 ghost use Rattle.sto_cli.specs.Ends.{Made, Unmade, Ends, RoseFor, RoseForText};
 ghost use Rattle.sto_feed_cli.specs.Commands.{command_for, feed_command};
@@ -9,10 +9,10 @@ use crate::answer::feed_text;
 use std::alloc::Global;
 use std::sync::Wait;
 use std::thread::Threads;
+use sto_args::{Feeding, find_feeding};
 use sto_cli::{Refusal, Sink, Source, bytes_left, write_text};
 use sto_feeding::Gate;
 use sto_lang::Text;
-use sto_words::{Feeding, find_feeding};
 
 /// Reads the source, and feeds its transactions to the workers.
 fn feed_source<R: Threads + Wait + Sync, S: Source, G: Gate>(

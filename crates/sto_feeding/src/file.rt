@@ -5,7 +5,7 @@ ghost use Rattle.sto_lang.specs.Sound.{IsSound, IsFromTo};
 ghost use Rattle.sto_lang.specs.Views.{file as view};
 ghost use Rattle.sto_run.specs.Meanings.{updating_by, IsTypeOf};
 ghost use Rattle.sto_run.specs.Stores.{means};
-ghost use Rattle.sto_working.specs.Taken.{IsTaken};
+ghost use Rattle.sto_run_threads.specs.Taken.{IsTaken};
 ghost use Rattle.sto_run.specs.Lawful.{IsLawfulJournal};
 
 use std::alloc::Global;
@@ -15,10 +15,10 @@ use sto_journal::Journal;
 use sto_lang::File;
 use sto_part::NoMemory;
 use sto_run::journal_of;
-use sto_serving::feed_threads;
+use sto_run_queues::feed_threads;
+use sto_run_threads::{FileWork, FinishedRun, Gate, RetryTurn};
 use sto_shapes::{StoredFile, opening_of};
 use sto_type::TxType;
-use sto_working::{Ended, FileWork, Gate, Turn};
 
 /// Feeds the transactions of a file to so many workers, where a type has its objects, and gives the journal of the run. What a
 /// type is to be for that, each mixture of lawful types with the objects of the file is.
@@ -45,7 +45,7 @@ pub fn feed_over<R: Threads + Wait + Sync, T: TxType + Send + Sync, G: Gate>(
     ensures alone { workers ≡ 1 → IfOk result (λ journal. journal.aborts.items ≡ []) }
 {
     let contents = opening_of(alloc, ty)?;
-    let turn = Turn::new();
+    let turn = RetryTurn::new();
     let work = FileWork {
         file,
         ty,
@@ -54,7 +54,7 @@ pub fn feed_over<R: Threads + Wait + Sync, T: TxType + Send + Sync, G: Gate>(
         turn: &turn,
     };
     let ended = feed_threads(rt, &work, alloc, ty, &contents, workers)?;
-    let Ended { records, words } = ended;
+    let FinishedRun { records, words } = ended;
     journal_of(alloc, file, ty, &words, records)
 }
 

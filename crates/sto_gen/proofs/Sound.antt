@@ -2,7 +2,7 @@
 use Rattle.std.proofs.Common.{◌≡◌, ◌≤◌, ◌+◌, ◌*◌, ◌==◌, ◌%◌, ◌/◌, refl, arith, ℕ, zero, suc, Bool, true, false, List, [], ◌∷◌, ◌++◌, length, codes, None, pos, subst, sym, ap, inl}
 use Rattle.std.specs.Prelude.{All, if◌then◌else◌, fold, sum_by}
 use Rattle.std.proofs.lemmas.List.Elements.{All-nil, All-cons, All-push}
-use Rattle.sto_form.specs.Words.{is_name}
+use Rattle.sto_syntax.specs.Words.{is_name}
 use Rattle.sto_part.specs.declared.pred.Test.TheVariants.{Ge}
 use Rattle.sto_model.specs.declared.shape.Shape.{Shape}
 use Rattle.sto_model.specs.declared.shape.Shape.TheVariants as shapes

@@ -5,12 +5,12 @@ use Rattle.std.specs.List.{All}
 use Rattle.std.proofs.lemmas.List.Elements.{All-head, All-tail}
 use Rattle.sto_model.specs.Told.{told}
 use Rattle.sto_model.specs.Rows.{Row}
-use Rattle.sto_form.specs.Words.{is_name}
+use Rattle.sto_syntax.specs.Words.{is_name}
 use Rattle.sto_lang.specs.declared.file.Thread.{Thread}
 use Rattle.sto_lang.specs.Objects.{Declaration, HaveNames, with_number}
 use Rattle.sto_lang.specs.Views.{names_of}
-use Rattle.sto_lawful.specs.Aborts.{name_of}
-use Rattle.sto_lawful.specs.Short.{IsShortRow, AreShortRows, IsShortCause, AreShortReplies, IsShortEntry, AreShortEntries, IsShortAbort, AreShortAborts}
+use Rattle.sto_report_spec.specs.Aborts.{name_of}
+use Rattle.sto_report_spec.specs.Short.{IsShortRow, AreShortRows, IsShortCause, AreShortReplies, IsShortEntry, AreShortEntries, IsShortAbort, AreShortAborts}
 use Rattle.sto_journal.specs.declared.journal.Line.{Line}
 use Rattle.sto_journal.specs.declared.journal.AbortLine.{AbortLine}
 use Rattle.sto_journal.specs.Journals.{entry, abort, cause, IsAbortOf}

@@ -8,7 +8,7 @@ use Rattle.serde_json.specs.declared.value.Value as value
 use Rattle.serde_json.specs.declared.value.Value.{the_lemmas}
 use Rattle.sto_model.specs.declared.reply.Reply.{Reply}
 use Rattle.sto_model.specs.Told.{told}
-use Rattle.sto_lawful.specs.Json.{reply_data}
+use Rattle.sto_report_spec.specs.Json.{reply_data}
 use Rattle.sto_journal.specs.Journals.{told_data}
 
 pub view-String : (s : String Global) → view (value.String s) ≡ string (string_bytes s)

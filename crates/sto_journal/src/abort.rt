@@ -4,9 +4,9 @@ ghost use Rattle.std.specs.List.{All, flat_map};
 ghost use Rattle.sto_model.specs.Told.{told};
 ghost use Rattle.sto_lang.specs.Objects.{HaveNames, with_number};
 ghost use Rattle.sto_lang.specs.Views.{declaration, names_of};
-ghost use Rattle.sto_lawful.specs.Aborts.{part_by_home};
-ghost use Rattle.sto_lawful.specs.Report.{abort_text, cause_text, part_text};
-ghost use Rattle.sto_lawful.specs.Short.{IsShortAbort, IsShortCause};
+ghost use Rattle.sto_report_spec.specs.Aborts.{part_by_home};
+ghost use Rattle.sto_report_spec.specs.Report.{abort_text, cause_text, part_text};
+ghost use Rattle.sto_report_spec.specs.Short.{IsShortAbort, IsShortCause};
 ghost use Rattle.sto_journal.specs.Journals.{abort, cause, home_in, home_pair, IsAbortOf, AreAbortsOf};
 
 use crate::names::{object_name, thread_name};

@@ -3,8 +3,8 @@ ghost use Rattle.std.specs.Prelude.{◌≡◌, ◌++◌, ◌<◌, length, OnOk, 
 ghost use Rattle.std.specs.List.{All, flat_map};
 ghost use Rattle.sto_model.specs.Told.{told};
 ghost use Rattle.sto_lang.specs.Views.{names_of};
-ghost use Rattle.sto_lawful.specs.Report.{line_text};
-ghost use Rattle.sto_lawful.specs.Short.{IsShortEntry};
+ghost use Rattle.sto_report_spec.specs.Report.{line_text};
+ghost use Rattle.sto_report_spec.specs.Short.{IsShortEntry};
 ghost use Rattle.sto_journal.specs.Journals.{entry, HaveThreads};
 
 use crate::Line;

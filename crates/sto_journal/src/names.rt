@@ -2,8 +2,8 @@
 ghost use Rattle.std.specs.Prelude.{◌≡◌, ◌<◌, length, map, find, ◌==◌, option_copied};
 ghost use Rattle.sto_lang.specs.Objects.{with_number};
 ghost use Rattle.sto_lang.specs.Views.{declaration, names_of};
-ghost use Rattle.sto_lawful.specs.Aborts.{name_of};
-ghost use Rattle.sto_lawful.specs.Report.{name_at};
+ghost use Rattle.sto_report_spec.specs.Aborts.{name_of};
+ghost use Rattle.sto_report_spec.specs.Report.{name_at};
 
 use sto_lang::{Decl, Thread};
 

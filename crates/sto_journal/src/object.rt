@@ -6,11 +6,11 @@ ghost use Rattle.serde_json.specs.View.{view, items_of};
 ghost use Rattle.sto_model.specs.Told.{told};
 ghost use Rattle.sto_lang.specs.Objects.{HaveNames, with_number};
 ghost use Rattle.sto_lang.specs.Views.{declaration, names_of};
-ghost use Rattle.sto_lawful.specs.Report.{reply_text};
-ghost use Rattle.sto_lawful.specs.Json.{listed, numeral, reply_data, entry_data, abort_data, object_data, report_data, json_text};
-ghost use Rattle.sto_lawful.specs.Named.{AreNames};
-ghost use Rattle.sto_lawful.specs.NamedJson.{json_order_named, json_aborts_named};
-ghost use Rattle.sto_lawful.specs.Short.{IsShortEntry, IsShortAbort};
+ghost use Rattle.sto_report_spec.specs.Report.{reply_text};
+ghost use Rattle.sto_report_spec.specs.Json.{listed, numeral, reply_data, entry_data, abort_data, object_data, report_data, json_text};
+ghost use Rattle.sto_report_spec.specs.Named.{AreNames};
+ghost use Rattle.sto_report_spec.specs.NamedJson.{json_order_named, json_aborts_named};
+ghost use Rattle.sto_report_spec.specs.Short.{IsShortEntry, IsShortAbort};
 ghost use Rattle.sto_journal.specs.Journals.{IsShortlyTold, told_data, entry, abort, places, HaveRows, HaveThreads, IsAbortOf, AreAbortsOf};
 
 use crate::names::{object_name, thread_name};

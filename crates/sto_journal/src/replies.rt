@@ -2,7 +2,7 @@
 ghost use Rattle.std.specs.Prelude.{◌≡◌, ◌∷◌, ◌++◌, codes, OnOk, string_bytes, map};
 ghost use Rattle.std.specs.List.{All, flat_map};
 ghost use Rattle.sto_model.specs.Told.{told};
-ghost use Rattle.sto_lawful.specs.Report.{reply_text, spaced_reply};
+ghost use Rattle.sto_report_spec.specs.Report.{reply_text, spaced_reply};
 ghost use Rattle.sto_journal.specs.Journals.{IsShortlyTold};
 
 use crate::rows::{push_number, push_pairs};

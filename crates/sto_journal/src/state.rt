@@ -2,7 +2,7 @@
 ghost use Rattle.std.specs.Prelude.{◌≡◌, ◌++◌, ◌<◌, length, OnOk, string_bytes, map};
 ghost use Rattle.std.specs.List.{flat_map};
 ghost use Rattle.sto_lang.specs.Views.{declaration};
-ghost use Rattle.sto_lawful.specs.Report.{object_text};
+ghost use Rattle.sto_report_spec.specs.Report.{object_text};
 ghost use Rattle.sto_journal.specs.Journals.{HaveRows};
 
 use crate::rows::push_rows;

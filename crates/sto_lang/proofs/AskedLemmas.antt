@@ -5,8 +5,8 @@ use Rattle.std.specs.Str.{bytes_eq}
 use Rattle.std.proofs.lemmas.List.Quantifiers.{position-Some}
 use Rattle.std.proofs.lemmas.Option.{slice_get-get_or}
 use Rattle.sto_model.specs.declared.shape.Shape.TheVariants.{Single}
-use Rattle.sto_form.specs.Forms.{Form, VersionLine, DeclareLine, ThreadLine, BeginLine, CallLine, SumLine, DiffLine, IfLine, ElseLine, RepeatLine, EndLine, CancelLine, CommitLine, ScheduleLine}
-use Rattle.sto_lang.specs.declared.objects.Known.{Known}
+use Rattle.sto_syntax.specs.Forms.{Form, VersionLine, DeclareLine, ThreadLine, BeginLine, CallLine, SumLine, DiffLine, IfLine, ElseLine, RepeatLine, EndLine, CancelLine, CommitLine, ScheduleLine}
+use Rattle.sto_lang.specs.declared.objects.KnownObject.{KnownObject}
 use Rattle.sto_lang.specs.Objects.{Object, Declaration, declarations_of, object_place, named}
 use Rattle.sto_lang.specs.ObjectViews.{known}
 use Rattle.sto_lang.specs.Drafts.{Draft}
@@ -27,11 +27,11 @@ by_place objects name (Some i) e =
 pub unknown_call : (d : Draft) (object : List ℕ) → is_none (option_map known (declared d object)) ≡ is_none (object_place object d.objects)
 unknown_call d object = by_place d.objects object (object_place object d.objects) refl
 
-number_known : (o : Option Declaration) → option_map_or (λ (k : Known). k.number) (option_map known o) 0 ≡ option_map_or (λ (d : Declaration). d.number) o 0
+number_known : (o : Option Declaration) → option_map_or (λ (k : KnownObject). k.number) (option_map known o) 0 ≡ option_map_or (λ (d : Declaration). d.number) o 0
 number_known None = refl
 number_known (Some d) = refl
 
-pub number_asked : (d : Draft) (form : Form) → option_map_or (λ (k : Known). k.number) (option_map known (asked_of d form)) 0 ≡ asked_number d.objects form
+pub number_asked : (d : Draft) (form : Form) → option_map_or (λ (k : KnownObject). k.number) (option_map known (asked_of d form)) 0 ≡ asked_number d.objects form
 number_asked d (CallLine to operation object operands) = number_known (declared d object)
 number_asked d (VersionLine version) = refl
 number_asked d (DeclareLine name what) = refl

@@ -1,7 +1,7 @@
 -- What is true of the form of a line, found branch by branch.
 use Rattle.std.proofs.Common.{◌≡◌, refl, Bool, true, false, not, Option, None, Some, cond, option_and_then}
 use Rattle.std.specs.Option.{option_map}
-use Rattle.sto_form.specs.Forms.{Form}
+use Rattle.sto_syntax.specs.Forms.{Form}
 
 -- no form, or one of which this is true
 abbrev pub Where : (Form → Type 0) → Option Form → Type 0

@@ -9,7 +9,7 @@ use Rattle.std.proofs.lemmas.Slice.Eq.{bytes_eq-Decides}
 use Rattle.std.proofs.lemmas.Fmt.{decimal_is_IsNumeral}
 use Rattle.std.proofs.lemmas.List.Sums.{fails_before_first}
 use Rattle.std.proofs.lemmas.List.Folds.{list_any_none, list_any-append}
-use Rattle.sto_form.specs.Words.{is_name}
+use Rattle.sto_syntax.specs.Words.{is_name}
 use Rattle.sto_lang.specs.Drafts.{numbered_name}
 use Rattle.sto_lang.specs.Sound.{AllDiffer, numbered_from}
 

@@ -2,16 +2,16 @@
 use Rattle.std.proofs.Common.{◌≡◌, ◌+◌, ◌*◌, ◌≤◌, ◌<◌, ◌^◌, ℕ, ℤ, pos, negsuc, List, [], ◌∷◌, ◌++◌, length, refl, ◌∙◌, arith, Bool, true, false, ◌&&◌, ◌||◌, nat_lt, cond, ◌==◌, Option, None, Some, zero-add}
 use Rattle.std.proofs.lemmas.Bool.Decides.{nat_tests}
 use Rattle.std.proofs.lemmas.List.{length_push}
-use Rattle.sto_form.specs.declared.declared.Declared.{Declared}
-use Rattle.sto_form.specs.declared.declared.Declared.TheVariants as declares
-use Rattle.sto_lang.specs.declared.begun.Block as blocks
+use Rattle.sto_syntax.specs.declared.declared.Declared.{Declared}
+use Rattle.sto_syntax.specs.declared.declared.Declared.TheVariants as declares
+use Rattle.sto_lang.specs.declared.begun.OpenBlock as blocks
 use Rattle.sto_lang.specs.Shapes.{natural, in_range, is_in_ranges, most_length}
 use Rattle.sto_lang.specs.Drafts.{is_variable, with_variable}
 use Rattle.sto_lang.specs.Limits.{most_threads}
 use Rattle.sto_lang.specs.BegunViews.{innermost_first}
 use Rattle.sto_lang.proofs.PlaceLemmas as places
 
-pub upon_count : (all : List blocks.Block) → length (innermost_first all) ≡ length all
+pub upon_count : (all : List blocks.OpenBlock) → length (innermost_first all) ≡ length all
 upon_count all = places.upon_count [] all ∙ zero-add (length all)
 
 pub at_most : (low high : ℕ) (value : Option ℤ) → in_range low high value ≡ true → natural value ≤ high

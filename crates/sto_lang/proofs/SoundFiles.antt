@@ -5,9 +5,9 @@ use Rattle.std.specs.List.{list_all}
 use Rattle.std.proofs.lemmas.List.{length-map}
 use Rattle.std.proofs.lemmas.List.Elements.{All-nil, All-cons, All-head, All-tail, All-weaker}
 use Rattle.sto_model.specs.declared.shape.Shape.{Shape}
-use Rattle.sto_form.specs.Words.{is_name}
-use Rattle.sto_form.specs.Lines.{lines_of, words_of}
-use Rattle.sto_form.specs.Forms.{Form, form_of}
+use Rattle.sto_syntax.specs.Words.{is_name}
+use Rattle.sto_syntax.specs.Lines.{lines_of, words_of}
+use Rattle.sto_syntax.specs.Forms.{Form, form_of}
 use Rattle.sto_lang.specs.declared.fault.ScriptFault.{ScriptFault}
 use Rattle.sto_lang.specs.declared.fault.FaultKind.{FaultKind}
 use Rattle.sto_lang.specs.declared.fault.FaultKind.TheVariants.{TooLarge, BadByte}

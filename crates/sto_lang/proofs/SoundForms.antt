@@ -2,13 +2,13 @@
 use Rattle.std.proofs.Common.{◌≡◌, ℕ, List, [], ◌∷◌, refl, Bool, true, false, not, ◌&&◌, ◌==◌, Option, None, Some, cond}
 use Rattle.std.specs.Str.{bytes_eq}
 use Rattle.std.specs.Prelude.{codes}
-use Rattle.sto_form.specs.Words.{is_name}
-use Rattle.sto_form.specs.declared.declared.Declared.{Declared}
-use Rattle.sto_form.specs.declared.declared.Declared.TheVariants as declares
-use Rattle.sto_form.specs.declared.operation.Operation.{Operation}
-use Rattle.sto_form.specs.declared.operation.Operation.TheVariants.{Compare}
-use Rattle.sto_form.specs.Operations.{operation_of, test_of, kinds_with}
-use Rattle.sto_form.specs.Forms.{Operand, Form, DeclareLine, ThreadLine, BeginLine, CallLine, SumLine, DiffLine, IfLine, ElseLine, EndLine, CancelLine, CommitLine, ScheduleLine, all_of, operand_of, entry_of, declaration, box_line, counter_line, array_line, hash_line, tree_line, vector_line, alone, asked, call, test_line, call_line, sum_line, diff_line, if_line, repeat_line, schedule_line, assignment, acting, statement, form_of, is_empty, version_line, named_line, thread_line}
+use Rattle.sto_syntax.specs.Words.{is_name}
+use Rattle.sto_syntax.specs.declared.declared.Declared.{Declared}
+use Rattle.sto_syntax.specs.declared.declared.Declared.TheVariants as declares
+use Rattle.sto_syntax.specs.declared.operation.OperationWord.{OperationWord}
+use Rattle.sto_syntax.specs.declared.operation.OperationWord.TheVariants.{Compare}
+use Rattle.sto_syntax.specs.Operations.{operation_of, test_of, kinds_with}
+use Rattle.sto_syntax.specs.Forms.{Operand, Form, DeclareLine, ThreadLine, BeginLine, CallLine, SumLine, DiffLine, IfLine, ElseLine, EndLine, CancelLine, CommitLine, ScheduleLine, all_of, operand_of, entry_of, declaration, box_line, counter_line, array_line, hash_line, tree_line, vector_line, alone, asked, call, test_line, call_line, sum_line, diff_line, if_line, repeat_line, schedule_line, assignment, acting, statement, form_of, is_empty, version_line, named_line, thread_line}
 use Rattle.sto_lang.proofs.Branches.{Where, either, where_true, where_false, after, made}
 
 -- no name, or one that is a name
@@ -67,10 +67,10 @@ alone_well : (v : ℕ) (form : Form) (words : List (List ℕ)) → NamesWell v f
 alone_well v form [] h = h
 alone_well v form (word ∷ words) h = tt
 
-asked_well : (v : ℕ) (to : Option (List ℕ)) (object : List ℕ) (operation : Operation) (operands : List Operand) → IsNamed to → Well v (asked to object operation operands)
+asked_well : (v : ℕ) (to : Option (List ℕ)) (object : List ℕ) (operation : OperationWord) (operands : List Operand) → IsNamed to → Well v (asked to object operation operands)
 asked_well v to object operation operands h = where_true (NamesWell v) (is_name object && not (is_empty (kinds_with operation operands))) _ (λ t. h)
 
-call_well : (v : ℕ) (to : Option (List ℕ)) (object : List ℕ) (words : List (List ℕ)) (operation : Operation) → IsNamed to → Well v (call to object words operation)
+call_well : (v : ℕ) (to : Option (List ℕ)) (object : List ℕ) (words : List (List ℕ)) (operation : OperationWord) → IsNamed to → Well v (call to object words operation)
 call_well v to object words operation h = after (NamesWell v) (all_of operand_of words) (asked to object operation) (λ operands. asked_well v to object operation operands h)
 
 test_well : (v : ℕ) (to : Option (List ℕ)) (object : List ℕ) (words : List (List ℕ)) → IsNamed to → Well v (test_line to object words)

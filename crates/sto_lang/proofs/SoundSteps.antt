@@ -10,11 +10,11 @@ use Rattle.std.proofs.lemmas.List.Sums.{AllPass-from_list_all, sum_by-cons, sum_
 use Rattle.std.proofs.lemmas.Bool.Decides.{nat_tests}
 use Rattle.sto_model.specs.declared.shape.Shape.{Shape}
 use Rattle.sto_model.specs.declared.shape.Shape.TheVariants as shapes
-use Rattle.sto_form.specs.declared.declared.Declared.{Declared}
-use Rattle.sto_form.specs.declared.declared.Declared.TheVariants as declares
-use Rattle.sto_form.specs.Words.{is_name}
-use Rattle.sto_form.specs.Numbers.{operands_of, has_bad_number}
-use Rattle.sto_form.specs.Forms.{ThreadWord, Numbered, Named, Entry, Form, VersionLine, DeclareLine, ThreadLine, BeginLine, CallLine, SumLine, DiffLine, IfLine, ElseLine, RepeatLine, EndLine, CancelLine, CommitLine, ScheduleLine, is_empty}
+use Rattle.sto_syntax.specs.declared.declared.Declared.{Declared}
+use Rattle.sto_syntax.specs.declared.declared.Declared.TheVariants as declares
+use Rattle.sto_syntax.specs.Words.{is_name}
+use Rattle.sto_syntax.specs.Numbers.{operands_of, has_bad_number}
+use Rattle.sto_syntax.specs.Forms.{ThreadWord, Numbered, Named, ScheduleEntry, Form, VersionLine, DeclareLine, ThreadLine, BeginLine, CallLine, SumLine, DiffLine, IfLine, ElseLine, RepeatLine, EndLine, CancelLine, CommitLine, ScheduleLine, is_empty}
 use Rattle.sto_lang.specs.declared.file.Turns.{Turns}
 use Rattle.sto_lang.specs.declared.fault.FaultKind.TheVariants.{BadNumber, WrongPlace, TakenName, UnknownName, WrongKind, OutOfLimits}
 use Rattle.sto_lang.specs.Scripts.{Script}
@@ -291,13 +291,13 @@ thread_is : (names : List (List ℕ)) (threads : ℕ) (word : ThreadWord) → le
 thread_is names threads (Numbered value) e h k = grind (arith, nat_tests)
 thread_is names threads (Named name) e h k = omega (arith, place_within names name k, e)
 
-turn_is : (names : List (List ℕ)) (threads : ℕ) → length names ≡ threads → (entry : Entry) → (is_known_thread names entry.thread ≡ true) × (is_turn threads entry ≡ true) → IsTurnOf threads (turns_of names entry)
+turn_is : (names : List (List ℕ)) (threads : ℕ) → length names ≡ threads → (entry : ScheduleEntry) → (is_known_thread names entry.thread ≡ true) × (is_turn threads entry ≡ true) → IsTurnOf threads (turns_of names entry)
 turn_is names threads e entry h =
     let parts = both (is_in_range entry) (has_thread threads entry.thread) h.1 in
     let ranges = both (has_range entry.thread) (in_range 1 1000000 entry.steps) parts.0 in
     record { has_thread = thread_is names threads entry.thread e parts.1 h.0; has_steps = natural_in_range 1 1000000 entry.steps ranges.1 }
 
-schedule_sound : (d : Draft) (later : List (List ℕ)) (entries : List Entry) → IsSoundDraft d → HasNoFault d later (ScheduleLine entries) → IsSoundDraft (with_form d (ScheduleLine entries))
+schedule_sound : (d : Draft) (later : List (List ℕ)) (entries : List ScheduleEntry) → IsSoundDraft d → HasNoFault d later (ScheduleLine entries) → IsSoundDraft (with_form d (ScheduleLine entries))
 schedule_sound d later entries s n =
     let threads = length d.threads in
     let known = denied (list_all (λ entry. is_known_thread d.names entry.thread) entries) (neither (not (list_all (λ entry. is_known_thread d.names entry.thread) entries)) (not (list_all (is_known (variables_in d.inside)) [])) n.known).0 in

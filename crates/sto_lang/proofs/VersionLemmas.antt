@@ -9,13 +9,13 @@ use Rattle.std.specs.Str.Parse.{signed_digits_value}
 use Rattle.std.proofs.lemmas.Bool.Decides.{nat_tests}
 use Rattle.std.specs.Str.{bytes_eq}
 use Rattle.std.proofs.lemmas.Slice.Eq.{bytes_eq-Decides}
-use Rattle.sto_form.specs.declared.declared.Declared.{Declared}
-use Rattle.sto_form.specs.declared.operation.Operation.{Operation}
-use Rattle.sto_form.specs.declared.operation.Operation.TheVariants.{Compare}
-use Rattle.sto_form.specs.Operations.{operation_of, test_of, kinds_with}
-use Rattle.sto_form.specs.Words.{is_name, is_i64, number_of}
-use Rattle.sto_form.specs.Lines.{lines_of, words_of}
-use Rattle.sto_form.specs.Forms.{Operand, ThreadWord, Numbered, Named, Entry, Form, VersionLine, DeclareLine, ThreadLine, BeginLine, CallLine, SumLine, DiffLine, IfLine, ElseLine, EndLine, CancelLine, CommitLine, ScheduleLine, all_of, operand_of, entry_of, declaration, box_line, counter_line, array_line, hash_line, tree_line, vector_line, alone, asked, call, test_line, call_line, sum_line, diff_line, if_line, repeat_line, version_line, named_line, thread_line, schedule_line, assignment, acting, statement, form_of, is_empty}
+use Rattle.sto_syntax.specs.declared.declared.Declared.{Declared}
+use Rattle.sto_syntax.specs.declared.operation.OperationWord.{OperationWord}
+use Rattle.sto_syntax.specs.declared.operation.OperationWord.TheVariants.{Compare}
+use Rattle.sto_syntax.specs.Operations.{operation_of, test_of, kinds_with}
+use Rattle.sto_syntax.specs.Words.{is_name, is_i64, number_of}
+use Rattle.sto_syntax.specs.Lines.{lines_of, words_of}
+use Rattle.sto_syntax.specs.Forms.{Operand, ThreadWord, Numbered, Named, ScheduleEntry, Form, VersionLine, DeclareLine, ThreadLine, BeginLine, CallLine, SumLine, DiffLine, IfLine, ElseLine, EndLine, CancelLine, CommitLine, ScheduleLine, all_of, operand_of, entry_of, declaration, box_line, counter_line, array_line, hash_line, tree_line, vector_line, alone, asked, call, test_line, call_line, sum_line, diff_line, if_line, repeat_line, version_line, named_line, thread_line, schedule_line, assignment, acting, statement, form_of, is_empty}
 use Rattle.sto_lang.specs.declared.fault.FaultKind.{FaultKind}
 use Rattle.sto_lang.specs.declared.fault.FaultKind.TheVariants.{TooLarge, BadByte}
 use Rattle.sto_lang.specs.declared.file.File as code
@@ -81,10 +81,10 @@ alone_said : (w : List ℕ) (ws : List (List ℕ)) (form : Form) (words : List (
 alone_said w ws form [] h = h
 alone_said w ws form (word ∷ words) h = tt
 
-asked_said : (w : List ℕ) (ws : List (List ℕ)) (to : Option (List ℕ)) (object : List ℕ) (operation : Operation) (operands : List Operand) → Where (Says w ws) (asked to object operation operands)
+asked_said : (w : List ℕ) (ws : List (List ℕ)) (to : Option (List ℕ)) (object : List ℕ) (operation : OperationWord) (operands : List Operand) → Where (Says w ws) (asked to object operation operands)
 asked_said w ws to object operation operands = where_true (Says w ws) (is_name object && not (is_empty (kinds_with operation operands))) (Some (CallLine to operation object operands)) (λ h. tt)
 
-call_said : (w : List ℕ) (ws : List (List ℕ)) (to : Option (List ℕ)) (object : List ℕ) (words : List (List ℕ)) (operation : Operation) → Where (Says w ws) (call to object words operation)
+call_said : (w : List ℕ) (ws : List (List ℕ)) (to : Option (List ℕ)) (object : List ℕ) (words : List (List ℕ)) (operation : OperationWord) → Where (Says w ws) (call to object words operation)
 call_said w ws to object words operation = after (Says w ws) (all_of operand_of words) (asked to object operation) (asked_said w ws to object operation)
 
 test_said : (w : List ℕ) (ws : List (List ℕ)) (to : Option (List ℕ)) (object : List ℕ) (words : List (List ℕ)) → Where (Says w ws) (test_line to object words)
@@ -136,7 +136,7 @@ one_more (Some y) (Some more) (z ∷ ys) e = refl
 pub some_value : {X Y : Type 0} (f : X → Option Y) (x : X) (xs : List X) (ys : List Y) → all_of f (x ∷ xs) ≡ Some ys → is_empty ys ≡ false
 some_value f x xs ys e = one_more (f x) (all_of f xs) ys e
 
-made_some : (w : List ℕ) (ws : List (List ℕ)) (found : Option (List Entry)) → ((entries : List Entry) → found ≡ Some entries → is_empty entries ≡ false) → Where (Says w ws) (option_map ScheduleLine found)
+made_some : (w : List ℕ) (ws : List (List ℕ)) (found : Option (List ScheduleEntry)) → ((entries : List ScheduleEntry) → found ≡ Some entries → is_empty entries ≡ false) → Where (Says w ws) (option_map ScheduleLine found)
 made_some w ws None h = tt
 made_some w ws (Some entries) h = h entries refl
 
@@ -290,11 +290,11 @@ no_turn : (thread : ThreadWord) → is_known_thread [] thread ≡ true → has_t
 no_turn (Numbered value) k h = grind (arith, nat_tests)
 no_turn (Named name) k h = cc
 
-no_entry : (later : List (List ℕ)) (entries : List Entry) → is_empty entries ≡ false → fault_of opening later (ScheduleLine entries) ≡ None → ⊥
+no_entry : (later : List (List ℕ)) (entries : List ScheduleEntry) → is_empty entries ≡ false → fault_of opening later (ScheduleLine entries) ≡ None → ⊥
 no_entry later [] s e = cc
 no_entry later (entry ∷ entries) s e =
     let n = no_fault opening later (ScheduleLine (entry ∷ entries)) e in
-    let known = denied (list_all (λ (x : Entry). is_known_thread [] x.thread) (entry ∷ entries)) (neither (asks_unknown opening (ScheduleLine (entry ∷ entries))) _ n.known).0 in
+    let known = denied (list_all (λ (x : ScheduleEntry). is_known_thread [] x.thread) (entry ∷ entries)) (neither (asks_unknown opening (ScheduleLine (entry ∷ entries))) _ n.known).0 in
     let turns = denied (list_all (is_turn 0) (entry ∷ entries)) n.within in
     let turn = (both (is_turn 0 entry) (list_all (is_turn 0) entries) turns).0 in
     no_turn entry.thread (both (is_known_thread [] entry.thread) _ known).0 (both (is_in_range entry) (has_thread 0 entry.thread) turn).1

@@ -8,7 +8,7 @@ use Rattle.sto_lang.specs.declared.fault.FaultKind.TheVariants.{BadLine, WrongPl
 use Rattle.sto_lang.specs.Statements.{Nothing, Ask, Sum}
 use Rattle.sto_lang.specs.Drafts.{opening}
 use Rattle.sto_lang.specs.Files.{fault, with_lines}
-use Rattle.sto_form.specs.Lines.{lines_of}
+use Rattle.sto_syntax.specs.Lines.{lines_of}
 
 unnamed_thread : with_lines opening 1 (lines_of (codes "sto 2\nthread\n")) ≡ fault 2 BadLine
 unfolding digits int_wrap

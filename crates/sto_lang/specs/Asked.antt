@@ -1,6 +1,6 @@
 -- The number of the object that a line asks.
 use Rattle.std.specs.Prelude.{ℕ, List}
-use Rattle.sto_form.specs.Forms.{Form, CallLine}
+use Rattle.sto_syntax.specs.Forms.{Form, CallLine}
 use Rattle.sto_lang.specs.Objects.{Object}
 use Rattle.sto_lang.specs.Drafts.{object_of}
 

@@ -2,13 +2,13 @@
 use Rattle.std.specs.Prelude.{ℕ, List, Bool, true, false, not, ◌||◌, Option, None, Some, is_some, is_none}
 use Rattle.std.specs.Option.{option_map_or}
 use Rattle.std.specs.List.{list_all, list_any}
-use Rattle.sto_form.specs.Kinds.{Kind, same_kind}
+use Rattle.sto_syntax.specs.Kinds.{Kind, same_kind}
 use Rattle.sto_lang.specs.Shapes.{kind_of}
-use Rattle.sto_form.specs.Operations.{kinds_with}
-use Rattle.sto_form.specs.Forms.{Operand, Number, Variable, ThreadWord, Numbered, Named, Form, DeclareLine, ThreadLine, CallLine, ScheduleLine}
+use Rattle.sto_syntax.specs.Operations.{kinds_with}
+use Rattle.sto_syntax.specs.Forms.{Operand, Number, Variable, ThreadWord, Numbered, Named, Form, DeclareLine, ThreadLine, CallLine, ScheduleLine}
 use Rattle.sto_lang.specs.Objects.{Declaration, named, object_place}
 use Rattle.sto_lang.specs.Drafts.{Draft, variables_in, is_variable}
-use Rattle.sto_form.specs.Numbers.{operands_of}
+use Rattle.sto_syntax.specs.Numbers.{operands_of}
 
 -- the object with a name
 abbrev pub declared : Draft → List ℕ → Option Declaration

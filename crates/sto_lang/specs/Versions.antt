@@ -1,8 +1,8 @@
 -- The version of a script, by its first line with words.
 use Rattle.std.specs.Prelude.{ℕ, List, [], ◌∷◌, ◌&&◌, Bool, false, if◌then◌else◌, codes}
 use Rattle.std.specs.Str.{bytes_eq}
-use Rattle.sto_form.specs.Lines.{lines_of, words_of}
-use Rattle.sto_form.specs.Forms.{is_empty}
+use Rattle.sto_syntax.specs.Lines.{lines_of, words_of}
+use Rattle.sto_syntax.specs.Forms.{is_empty}
 
 -- the words of the first line that has any
 abbrev pub first_words : List (List ℕ) → List (List ℕ)

@@ -1,6 +1,6 @@
 -- What a transaction weighs as it ends.
 use Rattle.std.specs.Prelude.{ℕ, Option, None, Some, min}
-use Rattle.sto_form.specs.Forms.{Form, CommitLine}
+use Rattle.sto_syntax.specs.Forms.{Form, CommitLine}
 use Rattle.sto_lang.specs.Drafts.{Draft, Begun, script_of}
 
 -- a weight that no transaction may have counts as the least such

@@ -1,7 +1,7 @@
 //! The limits, each tested at the line that goes past it.
 ghost use Rattle.std.specs.Prelude.{◌≡◌, ◌+◌, not, length, nat_lt, ◌||◌, true};
 ghost use Rattle.std.specs.List.{list_all};
-ghost use Rattle.sto_form.specs.Views.{entries as entries_of, entry as entry_of, thread_word, name_option, form as form_of};
+ghost use Rattle.sto_syntax.specs.Views.{entries as entries_of, entry as entry_of, thread_word, name_option, form as form_of};
 ghost use Rattle.sto_lang.specs.Drafts.{variables_in, with_variable, with_assigned};
 ghost use Rattle.sto_lang.specs.Shapes.{is_in_ranges, shape_of};
 ghost use Rattle.sto_lang.specs.Limits.{is_full, is_deep, is_heavy, is_in_range, has_range, has_thread, is_turn, is_beyond, most_threads};
@@ -11,7 +11,7 @@ ghost use Rattle.sto_lang.specs.Weighed.{begun_weight, ended_weight};
 use crate::draft::Draft;
 use crate::name_table::NameTable;
 use crate::range::{in_range, is_in_ranges, natural, shape};
-use sto_form::{Declared, Entries, Entry, Form, Name, ThreadWord};
+use sto_syntax::{Declared, Entries, Form, Name, ScheduleEntry, ThreadWord};
 
 #[tactic(auto, using(crate::proofs::LimitLemmas::widest, crate::proofs::LimitLemmas::small_parts, crate::proofs::LimitLemmas::small_words))]
 /// Whether a declaration has a number outside its range, or goes past a limit.
@@ -45,7 +45,7 @@ fn is_heavy(draft: &Draft, own: u64) -> bool
 }
 
 /// Whether an entry has the number of a thread of the file and 1 to 1,000,000 steps.
-fn is_turn(threads: u32, entry: Entry<'_>) -> bool
+fn is_turn(threads: u32, entry: ScheduleEntry<'_>) -> bool
     ensures { result ≡ is_turn threads (entry_of entry.entry) }
 {
     has_range(entry.thread)

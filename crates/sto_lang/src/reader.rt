@@ -1,7 +1,7 @@
 //! Reads a script.
 ghost use Rattle.std.specs.Prelude.{◌≡◌, ◌+◌, ◌^◌, ◌<◌, ◌≤◌, length, IfOk, true};
 ghost use Rattle.std.specs.List.{list_all};
-ghost use Rattle.sto_form.specs.Lines.{lines_of};
+ghost use Rattle.sto_syntax.specs.Lines.{lines_of};
 ghost use Rattle.sto_lang.specs.Drafts.{opening};
 ghost use Rattle.sto_lang.specs.Files.{is_allowed, with_line, with_lines, whole, file_of};
 ghost use Rattle.sto_lang.specs.Reads.{Gives};
@@ -16,7 +16,7 @@ use crate::turns::ended_weight;
 use crate::usage::asked;
 use crate::{FaultKind, File, ReadError, ScriptFault};
 use std::alloc::Global;
-use sto_form::{form_of, next_line, next_word};
+use sto_syntax::{form_of, next_line, next_word};
 
 /// The greatest number of bytes of a script.
 const MOST_BYTES: usize = 1_048_576;

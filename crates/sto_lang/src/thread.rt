@@ -1,7 +1,7 @@
 //! The names of threads.
 ghost use Rattle.std.specs.Prelude.{◌≡◌, ◌^◌, ◌<◌, length, position, is_some, IfOk, true};
 ghost use Rattle.std.specs.Str.{bytes_eq};
-ghost use Rattle.sto_form.specs.Views.{name_option, thread_word};
+ghost use Rattle.sto_syntax.specs.Views.{name_option, thread_word};
 ghost use Rattle.sto_lang.specs.Drafts.{numbered_name, name_or, thread_number};
 ghost use Rattle.sto_lang.specs.Uses.{is_known_thread};
 ghost use Rattle.sto_lang.specs.Limits.{has_range};
@@ -11,8 +11,8 @@ use crate::range::natural;
 use crate::{Text, Thread};
 use itoa::Buffer;
 use std::alloc::Global;
-use sto_form::{Name, ThreadWord};
 use sto_part::NoMemory;
+use sto_syntax::{Name, ThreadWord};
 
 /// The name that the thread with a number has in version 1: `t0`, `t1` and so on.
 pub fn numbered_name(alloc: Global, number: u32) -> Result<Text, NoMemory>

@@ -1,7 +1,7 @@
 //! The schedule, and what a transaction weighs.
 ghost use Rattle.std.specs.Prelude.{◌≡◌, ◌+◌, ◌^◌, ◌<◌, length, map, IfOk, true, min};
 ghost use Rattle.std.specs.List.{list_all};
-ghost use Rattle.sto_form.specs.Views.{entries as entries_of, form as form_of};
+ghost use Rattle.sto_syntax.specs.Views.{entries as entries_of, form as form_of};
 ghost use Rattle.sto_lang.specs.Limits.{is_in_range};
 ghost use Rattle.sto_lang.specs.Drafts.{turns_of, script_of};
 ghost use Rattle.sto_lang.specs.BegunViews.{begun_of};
@@ -11,17 +11,17 @@ ghost use Rattle.sto_lang.specs.Views.{names_of};
 
 use crate::begun::Begun;
 use crate::draft::Draft;
-use crate::objects::Objects;
+use crate::objects::DeclaredObjects;
 use crate::range::natural;
 use crate::thread::thread_number;
 use crate::weight::weight;
 use crate::{Schedule, Thread, Turns};
 use std::alloc::Global;
-use sto_form::{Entries, Form};
 use sto_part::{List, NoMemory};
+use sto_syntax::{Entries, Form};
 
 /// What a transaction weighs, or the least weight that no transaction may have.
-fn own_weight(objects: &Objects, begun: &Begun) -> u64
+fn own_weight(objects: &DeclaredObjects, begun: &Begun) -> u64
     ensures { result ≡ min (script_of objects.now (begun_of begun.now)).weight 4097 }
 {
     (1 + weight(objects.in_order(), &begun.statements)).min(4097)

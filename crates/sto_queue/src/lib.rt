@@ -15,4 +15,4 @@ pub use job::{Job, Jobs};
 pub use known::{Known, Side};
 pub use pass::{JobPass, JobQueue};
 pub use queue::{OpenedQueue, open_queue};
-pub use rule::{Ends, Law, Listed, Opening, Sending, Taking};
+pub use rule::{Ends, Listed, Opening, QueueLaw, Sending, Taking};

@@ -3,7 +3,7 @@ ghost use Rattle.std.specs.Prelude.{◌≡◌, []};
 
 use crate::job::Job;
 use crate::known::Known;
-use crate::rule::Law;
+use crate::rule::QueueLaw;
 use crossbeam_queue::{Pass, RuledArrayQueue};
 use std::alloc::Global;
 use std::thread::Parker;
@@ -11,7 +11,7 @@ use std::thread::Parker;
 /// A queue of jobs, which a feeder and a worker share.
 #[derive(Drop)]
 pub struct JobQueue {
-    pub ring: RuledArrayQueue<Job, Known, Law, Global>,
+    pub ring: RuledArrayQueue<Job, Known, QueueLaw, Global>,
     // On which the worker sleeps until the next send.
     pub(crate) bell: Parker,
 }

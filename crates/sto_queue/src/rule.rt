@@ -8,9 +8,9 @@ use crossbeam_queue::protocol::{Join, Lesson, Outcome, Protocol, Split};
 use std::marker::{Brand, PhantomData};
 
 /// The rule: between two steps the queue holds the jobs from the taken to the sent.
-pub struct Law;
+pub struct QueueLaw;
 
-impl Protocol<Job, Known> for Law {
+impl Protocol<Job, Known> for QueueLaw {
     ghost use Rattle.sto_queue.specs.Queues.{Keeps, unopened};
 
     ghost holds = { Keeps };

@@ -4,18 +4,18 @@ use Rattle.std.proofs.Common.{◌≡◌, ℕ, ◌≤◌, List, [], ◌∷◌, ma
 use Rattle.std.proofs.lemmas.Bool.Decides.{nat_tests}
 use Rattle.std.proofs.lemmas.List.Sums.{sum_by-cons}
 use Rattle.sto_lang.specs.Scripts.{File}
-use Rattle.sto_lawful.specs.Orders.{Place}
-use Rattle.sto_lawful.specs.Aborts.{Abort}
-use Rattle.sto_lawful.specs.LawfulAborts.{count_at}
-use Rattle.sto_lawful.specs.Updated.{Updating}
+use Rattle.sto_report_spec.specs.Orders.{Place}
+use Rattle.sto_report_spec.specs.Aborts.{Abort}
+use Rattle.sto_report_spec.specs.LawfulAborts.{count_at}
+use Rattle.sto_report_spec.specs.Updated.{Updating}
 use Rattle.sto_journal.specs.declared.journal.AbortLine.{AbortLine}
 use Rattle.sto_journal.specs.declared.journal.Journal.{Journal}
 use Rattle.sto_journal.specs.Journals.{abort}
 use Rattle.sto_type.specs.Meaning.{Meaning}
 use Rattle.sto_core.specs.declared.view.View.{View}
-use Rattle.sto_told.specs.Records.{Record}
-use Rattle.sto_told.specs.Counted.{aborted_times}
-use Rattle.sto_records.specs.Finished.{AreFinished}
+use Rattle.sto_attempt_facts.specs.Records.{Record}
+use Rattle.sto_attempt_facts.specs.Counted.{aborted_times}
+use Rattle.sto_serializability.specs.Finished.{AreFinished}
 use Rattle.sto_run.specs.Lawful.{IsLawfulJournal}
 
 abbrev hit : Place → Abort → ℕ

@@ -13,8 +13,8 @@ use Rattle.sto_core.proofs.Lists.{each_one}
 use Rattle.sto_core.specs.Rule.{Serves, Fits, Settled, total, world_of}
 use Rattle.sto_plain.specs.Kept.{AreUpToDate}
 use Rattle.sto_plain.specs.Passes.{view_at, view_of}
-use Rattle.sto_transact.specs.Resting.{IsAtRest}
-use Rattle.sto_records.proofs.Journal.{IsClosed}
+use Rattle.sto_transaction.specs.Resting.{IsAtRest}
+use Rattle.sto_serializability.proofs.Journal.{IsClosed}
 
 pub only_view : (views : List View) → length views ≡ 1 → views ≡ view_at views 0 ∷ []
 only_view [] e = absurd (omega (arith, e))

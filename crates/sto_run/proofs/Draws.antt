@@ -6,7 +6,7 @@ use Rattle.std.proofs.lemmas.Nat.{mul-le}
 use Rattle.sto_lang.specs.Scripts.{Script, File}
 use Rattle.sto_lang.specs.Sound.{IsSound}
 use Rattle.sto_lang.proofs.LimitLemmas.{threads_most}
-use Rattle.sto_working.specs.Counts.{scripts_from}
+use Rattle.sto_run_threads.specs.Counts.{scripts_from}
 
 counted : (threads : List (List Script)) → scripts_from threads 0 ≡ sum_by length threads
 counted [] = refl

@@ -8,13 +8,13 @@ use Rattle.std.proofs.lemmas.List.Elements.{All-head, All-tail, All-weaker}
 use Rattle.std.proofs.lemmas.List.Sums.{sum_by-cons}
 use Rattle.std.proofs.lemmas.Option.{slice_get_within}
 use Rattle.sto_lang.specs.Scripts.{Script, File}
-use Rattle.sto_lawful.specs.Orders.{Place, at_position, transaction_at, count_in, positions_of, numbers_from, IsOrder}
-use Rattle.sto_told.specs.Records.{Record, is_abort, is_finished}
-use Rattle.sto_told.specs.Counted.{aborted_times, finished_places}
+use Rattle.sto_report_spec.specs.Orders.{Place, at_position, transaction_at, count_in, positions_of, numbers_from, IsOrder}
+use Rattle.sto_attempt_facts.specs.Records.{Record, is_abort, is_finished}
+use Rattle.sto_attempt_facts.specs.Counted.{aborted_times, finished_places}
 use Rattle.sto_type.specs.Meaning.{Meaning}
 use Rattle.sto_core.specs.declared.view.View.{View}
-use Rattle.sto_records.specs.Finished.{IsRecord}
-use Rattle.sto_records.proofs.Pairs.{hit, occurrences}
+use Rattle.sto_serializability.specs.Finished.{IsRecord}
+use Rattle.sto_serializability.proofs.Pairs.{hit, occurrences}
 
 -- the places of a thread, and those of all threads from a number on
 abbrev places_in : ℕ → ℕ → ℕ → List Place

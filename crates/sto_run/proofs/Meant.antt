@@ -2,7 +2,7 @@
 use Rattle.std.specs.List.{All}
 use Rattle.std.proofs.Common.{◌≡◌, ℕ, zero, suc, List, [], ◌∷◌, ◌++◌, map, refl, sym, ap, ◌∙◌, Bool, true, false, cond, Option, None, Some}
 use Rattle.std.proofs.lemmas.List.Elements.{All-weaker}
-use Rattle.sto_course.specs.Pending.{Entry, applied_updates}
+use Rattle.sto_attempt_log.specs.Pending.{Entry, applied_updates}
 use Rattle.sto_model.specs.Told.{Told}
 use Rattle.sto_model.specs.Run.{Script as Steps, State}
 use Rattle.sto_model.specs.declared.body.Next.{Next}
@@ -12,14 +12,14 @@ use Rattle.sto_lang.specs.Objects.{Declaration, shapes_of}
 use Rattle.sto_lang.specs.Scripts.{Script, File}
 use Rattle.sto_script.specs.Meaning.{meaning_of}
 use Rattle.sto_type.specs.Meaning.{Meaning}
-use Rattle.sto_lawful.specs.Orders.{Place, transaction_at}
-use Rattle.sto_lawful.specs.Replay.{run_at, is_writer, opening_state}
-use Rattle.sto_lawful.specs.Aborts.{Cause, Locked, Changed, Abort}
-use Rattle.sto_lawful.specs.LawfulAborts.{IsCause, IsLawfulAbort, AreLawful}
-use Rattle.sto_lawful.specs.Updated.{Contents, Updating, Updates, with_next, updates_along, updates_in, updates_at, at_writer, updated_from, updated}
+use Rattle.sto_report_spec.specs.Orders.{Place, transaction_at}
+use Rattle.sto_report_spec.specs.Replay.{run_at, is_writer, opening_state}
+use Rattle.sto_report_spec.specs.Aborts.{Cause, Locked, Changed, Abort}
+use Rattle.sto_report_spec.specs.LawfulAborts.{IsCause, IsLawfulAbort, AreLawful}
+use Rattle.sto_report_spec.specs.Updated.{Contents, Updating, Updates, with_next, updates_along, updates_in, updates_at, at_writer, updated_from, updated}
 use Rattle.sto_journal.specs.declared.journal.Journal.{Journal}
 use Rattle.sto_journal.specs.Journals.{places, abort}
-use Rattle.sto_records.specs.Meanings.{updating_by}
+use Rattle.sto_serializability.specs.Meanings.{updating_by}
 use Rattle.sto_run.specs.Lawful.{IsLawfulJournal}
 
 -- both say the same of these shapes

@@ -10,23 +10,23 @@ use Rattle.sto_core.specs.declared.view.View.{View}
 use Rattle.sto_core.specs.History.{Contents, Validity, contents_as_of}
 use Rattle.sto_core.specs.Core.{Core}
 use Rattle.sto_core.specs.Rule.{Past}
-use Rattle.sto_lawful.specs.Orders.{Place, IsOrder}
-use Rattle.sto_lawful.specs.Replay.{Entry, entries_of, final_state}
-use Rattle.sto_lawful.specs.Aborts.{Abort}
-use Rattle.sto_lawful.specs.LawfulAborts.{AreLawful}
+use Rattle.sto_report_spec.specs.Orders.{Place, IsOrder}
+use Rattle.sto_report_spec.specs.Replay.{Entry, entries_of, final_state}
+use Rattle.sto_report_spec.specs.Aborts.{Abort}
+use Rattle.sto_report_spec.specs.LawfulAborts.{AreLawful}
 use Rattle.sto_journal.specs.declared.journal.Journal.{Journal}
 use Rattle.sto_journal.specs.Journals.{entry, places, abort}
-use Rattle.sto_told.specs.Records.{Record}
-use Rattle.sto_records.specs.Finished.{AreFinished}
-use Rattle.sto_records.specs.Merged.{line_of, aborts_from}
-use Rattle.sto_records.specs.Meanings.{updating_by, IsTypeOf}
-use Rattle.sto_records.proofs.AbortLines.{aborts_lawful}
-use Rattle.sto_records.proofs.Journal as journal
-use Rattle.sto_records.proofs.Standing as standing
-use Rattle.sto_records.proofs.Journal.{IsClosed}
-use Rattle.sto_records.proofs.Replaying.{places_of}
-use Rattle.sto_records.proofs.Usable.{sound_usable}
-use Rattle.sto_merging.specs.PlainLines.{AreLines}
+use Rattle.sto_attempt_facts.specs.Records.{Record}
+use Rattle.sto_serializability.specs.Finished.{AreFinished}
+use Rattle.sto_serializability.specs.Merged.{line_of, aborts_from}
+use Rattle.sto_serializability.specs.Meanings.{updating_by, IsTypeOf}
+use Rattle.sto_serializability.proofs.AbortLines.{aborts_lawful}
+use Rattle.sto_serializability.proofs.Journal as journal
+use Rattle.sto_serializability.proofs.Standing as standing
+use Rattle.sto_serializability.proofs.Journal.{IsClosed}
+use Rattle.sto_serializability.proofs.Replaying.{places_of}
+use Rattle.sto_serializability.proofs.Usable.{sound_usable}
+use Rattle.sto_journal_merge.specs.PlainLines.{AreLines}
 use Rattle.sto_run.specs.Lawful.{IsLawfulJournal}
 
 places_told : (rs ordered : List Record) → map (λ (e : Entry). e.place) (map (line_of rs) ordered) ≡ places_of ordered

@@ -16,7 +16,7 @@ use Rattle.sto_model.specs.declared.body.Next.TheVariants.{Ask, Commit, Cancel}
 use Rattle.sto_model.specs.declared.run.End.{End}
 use Rattle.sto_model.specs.declared.run.End.TheVariants as ends
 use Rattle.sto_model.proofs.Answering.{length-changed}
-use Rattle.sto_form.specs.Words.{is_name}
+use Rattle.sto_syntax.specs.Words.{is_name}
 use Rattle.sto_lang.specs.Objects.{Declaration, HaveNames, shapes_of, with_number}
 use Rattle.sto_lang.specs.Scripts.{Script, File}
 use Rattle.sto_lang.specs.Sound.{IsNumbered, IsSound}
@@ -24,12 +24,12 @@ use Rattle.sto_lang.specs.declared.file.Decl.{Decl}
 use Rattle.sto_lang.specs.Views.{declaration}
 use Rattle.sto_lang.proofs.SoundObjects.{order_count}
 use Rattle.sto_script.specs.Meaning.{meaning_of}
-use Rattle.sto_lawful.specs.Orders.{Place, at_position, transaction_at, count_in, positions_of, numbers_from, IsOrder}
-use Rattle.sto_lawful.specs.Replay.{opening_state, run_at, script_run, machines_for, state_from, final_state}
-use Rattle.sto_lawful.specs.Aborts.{name_of, part_in}
-use Rattle.sto_lawful.specs.Named.{AreNames}
-use Rattle.sto_lawful.specs.LawfulAborts.{declared_as, IsLawfulAbort}
-use Rattle.sto_lawful.specs.Updated.{Updating}
+use Rattle.sto_report_spec.specs.Orders.{Place, at_position, transaction_at, count_in, positions_of, numbers_from, IsOrder}
+use Rattle.sto_report_spec.specs.Replay.{opening_state, run_at, script_run, machines_for, state_from, final_state}
+use Rattle.sto_report_spec.specs.Aborts.{name_of, part_in}
+use Rattle.sto_report_spec.specs.Named.{AreNames}
+use Rattle.sto_report_spec.specs.LawfulAborts.{declared_as, IsLawfulAbort}
+use Rattle.sto_report_spec.specs.Updated.{Updating}
 use Rattle.sto_journal.specs.declared.journal.Line.{Line}
 use Rattle.sto_journal.specs.declared.journal.AbortLine.{AbortLine}
 use Rattle.sto_journal.specs.declared.journal.Cause as causes

@@ -1,10 +1,10 @@
 -- Journals whose reports are lawful.
 use Rattle.std.specs.Prelude.{◌≡◌, ℕ, map}
 use Rattle.sto_lang.specs.Scripts.{File}
-use Rattle.sto_lawful.specs.Orders.{IsOrder}
-use Rattle.sto_lawful.specs.Replay.{entries_of, final_state}
-use Rattle.sto_lawful.specs.Updated.{Updating}
-use Rattle.sto_lawful.specs.LawfulAborts.{AreLawful}
+use Rattle.sto_report_spec.specs.Orders.{IsOrder}
+use Rattle.sto_report_spec.specs.Replay.{entries_of, final_state}
+use Rattle.sto_report_spec.specs.Updated.{Updating}
+use Rattle.sto_report_spec.specs.LawfulAborts.{AreLawful}
 use Rattle.sto_journal.specs.declared.journal.Journal.{Journal}
 use Rattle.sto_journal.specs.Journals.{entry, places, abort}
 

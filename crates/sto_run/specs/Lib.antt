@@ -1,11 +1,11 @@
 pub mod Lawful
 pub use Rattle.sto_plain.specs.Passes
 pub use Rattle.sto_store.specs.Stores
-pub use Rattle.sto_transact.specs.Plain
-pub use Rattle.sto_transact.specs.Resting
+pub use Rattle.sto_transaction.specs.Plain
+pub use Rattle.sto_transaction.specs.Resting
 pub use Rattle.sto_lang.specs.Objects
 pub use Rattle.sto_lang.specs.Sound
 pub use Rattle.sto_lang.specs.Views
-pub use Rattle.sto_records.specs.Finished
-pub use Rattle.sto_records.specs.Meanings
-pub use Rattle.sto_working.specs.Taken
+pub use Rattle.sto_serializability.specs.Finished
+pub use Rattle.sto_serializability.specs.Meanings
+pub use Rattle.sto_run_threads.specs.Taken

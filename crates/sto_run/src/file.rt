@@ -3,9 +3,9 @@ ghost use Rattle.std.specs.Prelude.{◌≡◌, [], IfOk};
 ghost use Rattle.sto_lang.specs.Objects.{shapes_of};
 ghost use Rattle.sto_lang.specs.Sound.{IsSound, IsFromTo};
 ghost use Rattle.sto_lang.specs.Views.{file as view};
-ghost use Rattle.sto_records.specs.Meanings.{updating_by, IsTypeOf};
+ghost use Rattle.sto_serializability.specs.Meanings.{updating_by, IsTypeOf};
 ghost use Rattle.sto_shapes.specs.Stores.{means};
-ghost use Rattle.sto_working.specs.Taken.{IsTaken};
+ghost use Rattle.sto_run_threads.specs.Taken.{IsTaken};
 ghost use Rattle.sto_run.specs.Lawful.{IsLawfulJournal};
 
 use crate::journal::journal_of;
@@ -14,9 +14,9 @@ use std::thread::Threads;
 use sto_journal::Journal;
 use sto_lang::File;
 use sto_part::NoMemory;
+use sto_run_threads::{FileWork, FinishedRun, Gate, RetryTurn, run_threads};
 use sto_shapes::{StoredFile, opening_of};
 use sto_type::TxType;
-use sto_working::{Ended, FileWork, Gate, Turn, run_threads};
 
 /// Runs a file on so many workers, where a type has its objects, and gives the journal of the run. What a type is to be for
 /// that, each mixture of lawful types with the objects of the file is.
@@ -42,7 +42,7 @@ pub fn run_over<R: Threads + Sync, T: TxType + Send + Sync, G: Gate>(
     ensures alone { workers ≡ 1 → IfOk result (λ journal. journal.aborts.items ≡ []) }
 {
     let contents = opening_of(alloc, ty)?;
-    let turn = Turn::new();
+    let turn = RetryTurn::new();
     let work = FileWork {
         file,
         ty,
@@ -51,7 +51,7 @@ pub fn run_over<R: Threads + Sync, T: TxType + Send + Sync, G: Gate>(
         turn: &turn,
     };
     let ended = run_threads(rt, &work, alloc, ty, &contents, workers)?;
-    let Ended { records, words } = ended;
+    let FinishedRun { records, words } = ended;
     journal_of(alloc, file, ty, &words, records)
 }
 

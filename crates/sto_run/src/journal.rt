@@ -4,20 +4,20 @@ ghost use Rattle.sto_lang.specs.Objects.{shapes_of};
 ghost use Rattle.sto_lang.specs.Sound.{IsSound};
 ghost use Rattle.sto_lang.specs.Views.{file as view};
 ghost use Rattle.sto_plain.specs.Passes.{view_of};
-ghost use Rattle.sto_records.specs.Finished.{AreFinished};
-ghost use Rattle.sto_records.specs.Meanings.{updating_by, IsTypeOf};
-ghost use Rattle.sto_transact.specs.Plain.{plain};
-ghost use Rattle.sto_transact.specs.Resting.{IsAtRest};
+ghost use Rattle.sto_serializability.specs.Finished.{AreFinished};
+ghost use Rattle.sto_serializability.specs.Meanings.{updating_by, IsTypeOf};
+ghost use Rattle.sto_transaction.specs.Plain.{plain};
+ghost use Rattle.sto_transaction.specs.Resting.{IsAtRest};
 ghost use Rattle.sto_run.specs.Lawful.{IsLawfulJournal};
 
 use std::alloc::Global;
 use sto_journal::Journal;
+use sto_journal_merge::merge;
 use sto_lang::File;
-use sto_merging::merge;
 use sto_part::NoMemory;
 use sto_plain::Plain;
 use sto_shapes::{homes_of, rows_of};
-use sto_transact::Record;
+use sto_transaction::Record;
 use sto_type::TxType;
 
 /// The journal of the records of one finished run of a file, whose words have one pass left, which knows all that the

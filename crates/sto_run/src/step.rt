@@ -4,9 +4,9 @@ ghost use Rattle.std.specs.List.{All};
 ghost use Rattle.sto_lang.specs.Objects.{shapes_of};
 ghost use Rattle.sto_lang.specs.Sound.{IsSound, IsSchedule, IsFromTo};
 ghost use Rattle.sto_lang.specs.Views.{file as view};
-ghost use Rattle.sto_records.specs.Meanings.{updating_by, IsTypeOf};
+ghost use Rattle.sto_serializability.specs.Meanings.{updating_by, IsTypeOf};
 ghost use Rattle.sto_shapes.specs.Stores.{means};
-ghost use Rattle.sto_working.specs.Taken.{IsTaken};
+ghost use Rattle.sto_run_threads.specs.Taken.{IsTaken};
 ghost use Rattle.sto_run.specs.Lawful.{IsLawfulJournal};
 
 use crate::journal::journal_of;
@@ -14,12 +14,12 @@ use std::alloc::Global;
 use sto_journal::Journal;
 use sto_lang::{File, Turns};
 use sto_part::NoMemory;
+use sto_run_steps::step_threads;
+use sto_run_threads::{FileWork, FinishedRun, NoGate, RetryTurn};
 use sto_script::ScriptBody;
 use sto_shapes::{StoredFile, opening_of};
-use sto_stepping::step_threads;
-use sto_transact::Trial;
+use sto_transaction::Machine;
 use sto_type::TxType;
-use sto_working::{Ended, FileWork, NoGate, Turn};
 
 // The entries of a file's schedule; none where it has no schedule.
 fn turns_of(file: &File) -> &[Turns]
@@ -49,7 +49,7 @@ pub fn step_over<T: TxType>(
     ensures alone { length (view file.now).threads ≤ 1 → IfOk result (λ journal. journal.aborts.items ≡ []) }
 {
     let contents = opening_of(alloc, ty)?;
-    let turn = Turn::new();
+    let turn = RetryTurn::new();
     let work = FileWork {
         file,
         ty,
@@ -57,14 +57,14 @@ pub fn step_over<T: TxType>(
         gate: &NoGate,
         turn: &turn,
     };
-    let ended = step_threads::<T, Trial<'_, T, ScriptBody<'_>>, _>(
+    let ended = step_threads::<T, Machine<'_, T, ScriptBody<'_>>, _>(
         &work,
         alloc,
         ty,
         &contents,
         turns_of(file),
     )?;
-    let Ended { records, words } = ended;
+    let FinishedRun { records, words } = ended;
     journal_of(alloc, file, ty, &words, records)
 }
 

@@ -7,7 +7,7 @@ use Rattle.sto_model.specs.declared.shape.Shape.{Shape}
 use Rattle.sto_model.specs.Sizes.{part_count}
 use Rattle.sto_type.specs.Meaning.{Meaning}
 use Rattle.sto_store.specs.Homes.{homes_within, homes_from, HasParts}
-use Rattle.sto_records.specs.Meanings.{IsHomeAt}
+use Rattle.sto_serializability.specs.Meanings.{IsHomeAt}
 
 -- there are as many homes as parts
 length_within : (object first count : ℕ) → length (homes_within object first count) ≡ count

@@ -6,7 +6,7 @@ use Rattle.sto_model.specs.declared.shape.Shape.TheVariants.{Single, Counter, Ar
 use Rattle.sto_lang.specs.Objects.{shapes_of}
 use Rattle.sto_lang.specs.Scripts.{Script}
 use Rattle.sto_lang.specs.Views.{file as view}
-use Rattle.sto_lawful.specs.Orders.{Place, transaction_at}
+use Rattle.sto_report_spec.specs.Orders.{Place, transaction_at}
 use Rattle.sto_script.specs.Asks.{Asks}
 use Rattle.sto_type.specs.Meaning.{Meaning}
 use Rattle.sto_type.specs.Joined.{joined, all_joined}

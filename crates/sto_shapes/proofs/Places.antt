@@ -8,8 +8,8 @@ use Rattle.sto_lang.specs.declared.file.Thread.{Thread}
 use Rattle.sto_lang.specs.declared.file.File as whole
 use Rattle.sto_lang.specs.Scripts.{Script}
 use Rattle.sto_lang.specs.Views.{script, threads_of, file}
-use Rattle.sto_lawful.specs.Orders.{Place, at_position, transaction_at}
-use Rattle.sto_records.proofs.Usable.{Found, found_script}
+use Rattle.sto_report_spec.specs.Orders.{Place, at_position, transaction_at}
+use Rattle.sto_serializability.proofs.Usable.{Found, found_script}
 
 thread_where : (threads : List Thread) (t : ℕ) (thread : Thread) → slice_get threads t ≡ Some thread → slice_get (threads_of threads) t ≡ Some (map script thread.scripts.items)
 thread_where threads t thread e =

@@ -9,8 +9,8 @@ use Rattle.sto_lang.proofs.SoundFiles.{calls_within}
 use Rattle.sto_type.specs.Meaning.{IsLawful}
 use Rattle.sto_store.specs.Stores.{means, AreInOrder}
 use Rattle.sto_store.specs.StoresLaw.{machines_are, has_parts}
-use Rattle.sto_records.specs.Meanings.{IsTypeOf}
-use Rattle.sto_records.proofs.Usable.{sound_script}
+use Rattle.sto_serializability.specs.Meanings.{IsTypeOf}
+use Rattle.sto_serializability.proofs.Usable.{sound_script}
 use Rattle.sto_shapes.specs.Runnable.{AreRunnable}
 use Rattle.sto_shapes.proofs.Ordered.{is_in_order}
 use Rattle.sto_shapes.proofs.Homes.{homes_are}

@@ -6,5 +6,5 @@ pub use Rattle.sto_lang.specs.Sound
 pub use Rattle.sto_lang.specs.Views
 pub use Rattle.sto_script.specs.Bodies
 pub use Rattle.sto_script.specs.Meaning
-pub use Rattle.sto_lawful.specs.Orders
-pub use Rattle.sto_records.specs.Meanings
+pub use Rattle.sto_report_spec.specs.Orders
+pub use Rattle.sto_serializability.specs.Meanings

@@ -5,7 +5,7 @@ use Rattle.sto_lang.specs.Objects.{shapes_of}
 use Rattle.sto_lang.specs.Scripts.{Script, File}
 use Rattle.sto_lang.specs.Sizes.{calls_of}
 use Rattle.sto_lang.specs.Taken.{are_taken}
-use Rattle.sto_lawful.specs.Orders.{Place, transaction_at}
+use Rattle.sto_report_spec.specs.Orders.{Place, transaction_at}
 
 -- the transaction asks at most as many calls as it weighs, and only such as the shapes of their objects take
 pub record CanBeRun (shapes : List Shape) (script : Script) : Type 0 where

@@ -8,7 +8,7 @@ use Rattle.sto_model.specs.Run.{State}
 use Rattle.sto_lang.specs.declared.file.Decl.{Decl}
 use Rattle.sto_lang.specs.Objects.{Declaration}
 use Rattle.sto_lang.specs.Views.{declaration}
-use Rattle.sto_lawful.specs.Report.{rows_of}
+use Rattle.sto_report_spec.specs.Report.{rows_of}
 use Rattle.sto_gen.specs.Generated.{objects}
 use Rattle.sto_journal.specs.Journals.{HaveRows}
 

@@ -4,8 +4,8 @@ use Rattle.std.specs.Fmt.{signed_decimal}
 use Rattle.std.specs.Str.{IsAscii}
 use Rattle.std.proofs.lemmas.Str.{IsAscii-append}
 use Rattle.sto_model.specs.Run.{State}
-use Rattle.sto_lawful.proofs.Printable.{IsPrintable, printable_append, printable_decimal, printable_signed}
-use Rattle.sto_lawful.proofs.Naming.{line_ascii}
+use Rattle.sto_report_spec.proofs.Printable.{IsPrintable, printable_append, printable_decimal, printable_signed}
+use Rattle.sto_report_spec.proofs.Naming.{line_ascii}
 use Rattle.sto_summary.specs.Summary.{rows_named, total_of, line_of, summary_of}
 
 pub joined : (old a b c d e s1 s2 s3 s4 s5 : List ℕ) → s1 ≡ old ++ a → s2 ≡ s1 ++ b → s3 ≡ s2 ++ c → s4 ≡ s3 ++ d → s5 ≡ s4 ++ e

@@ -1,2 +1,2 @@
 pub mod Summary
-pub use Rattle.sto_lawful.specs.Report
+pub use Rattle.sto_report_spec.specs.Report

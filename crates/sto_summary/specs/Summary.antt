@@ -4,8 +4,8 @@ use Rattle.std.specs.Fmt.{signed_decimal}
 use Rattle.sto_model.specs.Rows.{Row}
 use Rattle.sto_model.specs.Run.{State}
 use Rattle.sto_lang.specs.Objects.{Declaration}
-use Rattle.sto_lawful.specs.Report.{rows_of}
-use Rattle.sto_lawful.specs.LawfulAborts.{declared_as}
+use Rattle.sto_report_spec.specs.Report.{rows_of}
+use Rattle.sto_report_spec.specs.LawfulAborts.{declared_as}
 use Rattle.sto_gen.specs.Generated.{objects}
 
 -- the number of an object, where it is declared

@@ -1,7 +1,7 @@
 //! The text of a summary.
 ghost use Rattle.std.specs.Prelude.{◌≡◌, ◌++◌, ◌<◌, ◌≤◌, ◌^◌, length, codes, decimal, IfOk, OnOk, string_bytes};
 ghost use Rattle.std.specs.Fmt.{signed_decimal};
-ghost use Rattle.sto_lawful.specs.Report.{rows_of};
+ghost use Rattle.sto_report_spec.specs.Report.{rows_of};
 ghost use Rattle.sto_summary.specs.Summary.{rows_named, total_of, line_of, summary_of};
 
 use std::alloc::{AllocError, Global};

@@ -2,9 +2,9 @@
 use Rattle.std.proofs.Common.{◌≡◌, ◌<◌, ◌≤◌, ◌+◌, ◌-◌, ◌%◌, ℕ, zero, suc, ℤ, Some, List, length, sym, ◌∙◌, ap, arith, slice_get}
 use Rattle.sto_part.specs.Parts.{part_of}
 use Rattle.sto_type.specs.Known.{Parts, Known, IsPartOf}
-use Rattle.sto_tree_law.specs.Layout.{listed, parts_of, width_of}
-use Rattle.sto_tree_law.specs.Valid.{IsTree}
-use Rattle.sto_tree_law.specs.Sized.{width_beyond, width_other, tree_length, tree_width}
+use Rattle.sto_tree_spec.specs.Layout.{listed, parts_of, width_of}
+use Rattle.sto_tree_spec.specs.Valid.{IsTree}
+use Rattle.sto_tree_spec.specs.Sized.{width_beyond, width_other, tree_length, tree_width}
 
 pub listed_get : {A : Type 0} (f : ℕ → A) (i n p : ℕ) → p < n → slice_get (listed f i n) p ≡ Some (f (i + p))
 listed_get f i zero p h = absurd (omega (arith, h))

@@ -1,8 +1,8 @@
 //! The contents of a tree: those of an empty one, and the rows of any.
 ghost use Rattle.std.specs.Prelude.{◌≡◌, ◌<◌, ◌≤◌, ◌*◌, ◌^◌, IfOk, take, drop};
 ghost use Rattle.sto_part.specs.Parts.{part_of, zeros};
-ghost use Rattle.sto_tree_law.specs.Layout.{listed, parts_of, width_of, opening as the_opening, tree_rows, tree_slot, word as word_of};
-ghost use Rattle.sto_tree_law.specs.Valid.{IsTree};
+ghost use Rattle.sto_tree_spec.specs.Layout.{listed, parts_of, width_of, opening as the_opening, tree_rows, tree_slot, word as word_of};
+ghost use Rattle.sto_tree_spec.specs.Valid.{IsTree};
 
 use crate::said::{key_part, value_part};
 use std::alloc::Global;

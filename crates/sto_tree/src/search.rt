@@ -1,6 +1,6 @@
 //! Leaves and places found by their keys.
 ghost use Rattle.std.specs.Prelude.{◌≡◌, ◌*◌, ◌+◌, ◌^◌, ◌<◌, ◌≤◌, length};
-ghost use Rattle.sto_tree_law.specs.Layout.{is_live as is_live_at, low as low_at, high as high_at, covers as covers_all, leaf_of as the_leaf, holds_key as holds, place_of as the_place, is_present as is_present_at, free_place as the_free_place};
+ghost use Rattle.sto_tree_spec.specs.Layout.{is_live as is_live_at, low as low_at, high as high_at, covers as covers_all, leaf_of as the_leaf, holds_key as holds, place_of as the_place, is_present as is_present_at, free_place as the_free_place};
 
 /// Whether a leaf is live.
 pub(crate) fn is_live(directory: &[i64], leaf: u32) -> bool
@@ -35,7 +35,7 @@ pub(crate) fn covers(directory: &[i64], leaf: u32, from: i64, to: i64) -> bool
 }
 
 /// The leaf whose range has the key.
-#[tactic(auto, using(sto_tree_law::specs::Searches::first_further, sto_tree_law::specs::Searches::first_stop))]
+#[tactic(auto, using(sto_tree_spec::specs::Searches::first_further, sto_tree_spec::specs::Searches::first_stop))]
 pub(crate) fn leaf_of(directory: &[i64], leaves: u32, key: i64) -> Option<u32>
     requires { length directory.now ≡ 3 * leaves }
     ensures { result ≡ the_leaf leaves directory.now key }
@@ -66,7 +66,7 @@ pub(crate) fn holds_key(keys: &[i64], place: u32, key: i64) -> bool
 }
 
 /// The place of a key.
-#[tactic(auto, using(sto_tree_law::specs::Searches::first_further, sto_tree_law::specs::Searches::first_stop))]
+#[tactic(auto, using(sto_tree_spec::specs::Searches::first_further, sto_tree_spec::specs::Searches::first_stop))]
 pub(crate) fn place_of(keys: &[i64], key: i64) -> Option<u32>
     requires { length keys.now ≡ 16 }
     ensures { result ≡ the_place keys.now key }
@@ -80,7 +80,7 @@ pub(crate) fn place_of(keys: &[i64], key: i64) -> Option<u32>
 }
 
 /// The lowest place that is not present.
-#[tactic(auto, using(sto_tree_law::specs::Searches::first_further, sto_tree_law::specs::Searches::first_stop))]
+#[tactic(auto, using(sto_tree_spec::specs::Searches::first_further, sto_tree_spec::specs::Searches::first_stop))]
 pub(crate) fn free_place(keys: &[i64]) -> Option<u32>
     requires { length keys.now ≡ 16 }
     ensures { result ≡ the_free_place keys.now }

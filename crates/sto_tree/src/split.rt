@@ -9,15 +9,15 @@ ghost use Rattle.sto_item.specs.Agreement.{HasWidths};
 ghost use Rattle.sto_item.specs.Pending.{AreUpdates, with_updates};
 ghost use Rattle.sto_type.specs.Known.{known, IsPartOf};
 ghost use Rattle.sto_type.specs.Plans.{planned, IsPlan};
-ghost use Rattle.sto_tree_law.specs.Layout.{parts_of, place_slot, high as the_high, key_part as the_key_part, value_part as the_value_part};
-ghost use Rattle.sto_tree_law.specs.Slots.{gathered};
-ghost use Rattle.sto_tree_law.specs.Search.{first_below};
-ghost use Rattle.sto_tree_law.specs.Valid.{IsTree};
-ghost use Rattle.sto_tree_law.specs.Said.{compared, key_changes, new_row as the_new_row};
-ghost use Rattle.sto_tree_law.specs.Put.{free_leaf as the_free_leaf};
-ghost use Rattle.sto_tree_law.specs.Repack.{rows_of_leaf};
-ghost use Rattle.sto_tree_law.specs.Split.{in_threes, middle as the_middle, moves as moves_at, moved_values, split_ranges, split_place as the_split_place, move_updates as the_move_updates};
-ghost use Rattle.sto_tree_law.specs.Meaning.{tree_meaning, TreeTakes};
+ghost use Rattle.sto_tree_spec.specs.Layout.{parts_of, place_slot, high as the_high, key_part as the_key_part, value_part as the_value_part};
+ghost use Rattle.sto_tree_spec.specs.Slots.{gathered};
+ghost use Rattle.sto_tree_spec.specs.Search.{first_below};
+ghost use Rattle.sto_tree_spec.specs.Valid.{IsTree};
+ghost use Rattle.sto_tree_spec.specs.Said.{compared, key_changes, new_row as the_new_row};
+ghost use Rattle.sto_tree_spec.specs.Put.{free_leaf as the_free_leaf};
+ghost use Rattle.sto_tree_spec.specs.Repack.{rows_of_leaf};
+ghost use Rattle.sto_tree_spec.specs.Split.{in_threes, middle as the_middle, moves as moves_at, moved_values, split_ranges, split_place as the_split_place, move_updates as the_move_updates};
+ghost use Rattle.sto_tree_spec.specs.Meaning.{tree_meaning, TreeTakes};
 ghost use Rattle.sto_tree.specs.Found.{IsAtLeaf, IsCrowded};
 ghost use Rattle.sto_tree.specs.Walked.{moved_value};
 
@@ -294,7 +294,7 @@ fn place_after(found: Leaf<'_>, free: u32, middle: i64, key: i64) -> (u32, u32)
 }
 
 // The lowest place that moves.
-#[tactic(auto, using(sto_tree_law::specs::Searches::first_further, sto_tree_law::specs::Searches::first_stop))]
+#[tactic(auto, using(sto_tree_spec::specs::Searches::first_further, sto_tree_spec::specs::Searches::first_stop))]
 fn first_moved(keys: &[i64], middle: i64) -> Option<u32>
     requires keys { length keys.now ≡ 16 }
     requires middle { middle ≡ the_middle keys.now }

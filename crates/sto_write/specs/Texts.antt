@@ -7,14 +7,14 @@ use Rattle.sto_model.specs.declared.shape.Shape.{Shape}
 use Rattle.sto_model.specs.declared.shape.Shape.TheVariants as shapes
 use Rattle.sto_part.specs.declared.pred.Test.{Test}
 use Rattle.sto_part.specs.declared.pred.Test.TheVariants.{Eq, Ne, Lt, Le, Gt, Ge}
-use Rattle.sto_form.specs.Kinds.{Kind, Box, Counter}
+use Rattle.sto_syntax.specs.Kinds.{Kind, Box, Counter}
 use Rattle.sto_lang.specs.Shapes.{kind_of}
-use Rattle.sto_form.specs.declared.declared.Declared.{Declared}
-use Rattle.sto_form.specs.declared.declared.Declared.TheVariants as declares
-use Rattle.sto_form.specs.declared.operation.Operation.{Operation}
-use Rattle.sto_form.specs.declared.operation.Operation.TheVariants.{Get, Set, Add, Compare, Take, Put, Remove, Has, Len, Next, Count, Scan, Push, Pop}
-use Rattle.sto_form.specs.Operations.{operation_word, test_word}
-use Rattle.sto_form.specs.Forms.{Operand, Number, Variable, ThreadWord, Numbered, Named, Entry, Form, VersionLine, DeclareLine, ThreadLine, BeginLine, CallLine, SumLine, DiffLine, IfLine, ElseLine, RepeatLine, EndLine, CancelLine, CommitLine, ScheduleLine}
+use Rattle.sto_syntax.specs.declared.declared.Declared.{Declared}
+use Rattle.sto_syntax.specs.declared.declared.Declared.TheVariants as declares
+use Rattle.sto_syntax.specs.declared.operation.OperationWord.{OperationWord}
+use Rattle.sto_syntax.specs.declared.operation.OperationWord.TheVariants.{Get, Set, Add, Compare, Take, Put, Remove, Has, Len, Next, Count, Scan, Push, Pop}
+use Rattle.sto_syntax.specs.Operations.{operation_word, test_word}
+use Rattle.sto_syntax.specs.Forms.{Operand, Number, Variable, ThreadWord, Numbered, Named, ScheduleEntry, Form, VersionLine, DeclareLine, ThreadLine, BeginLine, CallLine, SumLine, DiffLine, IfLine, ElseLine, RepeatLine, EndLine, CancelLine, CommitLine, ScheduleLine}
 use Rattle.sto_lang.specs.declared.arg.Arg.{Arg}
 use Rattle.sto_lang.specs.declared.arg.Arg.TheVariants.{Num, Var}
 use Rattle.sto_lang.specs.declared.file.Turns.{Turns}
@@ -37,7 +37,7 @@ abbrev pub thread_text : ThreadWord → List ℕ
 thread_text (Numbered value) = number_word value
 thread_text (Named name) = name
 
-abbrev pub entry_word : Entry → List ℕ
+abbrev pub entry_word : ScheduleEntry → List ℕ
 entry_word entry = thread_text entry.thread ++ 58 ∷ number_word entry.steps
 
 abbrev pub declare_words : List ℕ → Declared → List (List ℕ)
@@ -49,7 +49,7 @@ declare_words name (declares.Tree leaves) = codes "tree" ∷ name ∷ number_wor
 declare_words name (declares.Vector capacity) = codes "vector" ∷ name ∷ number_word capacity ∷ []
 
 -- after the object of a call: the comparison of a `test`, then the arguments
-abbrev pub call_words : Operation → List Operand → List (List ℕ)
+abbrev pub call_words : OperationWord → List Operand → List (List ℕ)
 call_words (Compare test) operands = test_word test ∷ map operand_word operands
 call_words operation operands = map operand_word operands
 
@@ -107,7 +107,7 @@ test_with (Num (pos n)) = if n == 0 then Eq else if n == 1 then Ne else if n == 
 test_with other = Eq
 
 -- the operation of a code
-abbrev pub operation_with : ℕ → Arg → Operation
+abbrev pub operation_with : ℕ → Arg → OperationWord
 operation_with code a =
     if code == 0 then Get else if code == 1 then Set else if code == 2 then Add else if code == 3 then Compare (test_with a)
     else if code == 4 then Take else if code == 5 then Put else if code == 6 then Remove else if code == 7 then Has
@@ -115,7 +115,7 @@ operation_with code a =
     else if code == 12 then Push else Pop
 
 -- the arguments that an operation has on an object of a kind
-abbrev pub arguments_of : Operation → Kind → Arg → Arg → List Arg
+abbrev pub arguments_of : OperationWord → Kind → Arg → Arg → List Arg
 arguments_of Get Box a b = []
 arguments_of Get Counter a b = []
 arguments_of Get kind a b = a ∷ []
@@ -132,7 +132,7 @@ arguments_of Scan kind a b = a ∷ b ∷ []
 arguments_of operation kind a b = a ∷ []
 
 -- a call of an object
-abbrev pub call_on : List (List ℕ) → Option (List ℕ) → Operation → Arg → Arg → Declaration → Form
+abbrev pub call_on : List (List ℕ) → Option (List ℕ) → OperationWord → Arg → Arg → Declaration → Form
 call_on variables to operation a b d = CallLine to operation d.name (map (operand variables) (arguments_of operation (kind_of d.shape) a b))
 
 -- the lines of a second branch: none where it has no statement, else `else` and they
@@ -176,7 +176,7 @@ threads_lines version ds (name ∷ names) (thread ∷ threads) = thread_lines ve
 abbrev pub word_for : ℕ → List (List ℕ) → ℕ → ThreadWord
 word_for version names number = if version == 2 then Named (variable_name names number) else Numbered (whole_number number)
 
-abbrev pub entry_for : ℕ → List (List ℕ) → Turns → Entry
+abbrev pub entry_for : ℕ → List (List ℕ) → Turns → ScheduleEntry
 entry_for version names turns = record { thread = word_for version names turns.thread; steps = whole_number turns.steps }
 
 abbrev pub schedule_lines : ℕ → List (List ℕ) → Option (List Turns) → List Form

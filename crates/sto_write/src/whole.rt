@@ -5,7 +5,7 @@ ghost use Rattle.std.specs.Option.{option_map};
 ghost use Rattle.std.specs.Fmt.{signed_decimal};
 ghost use Rattle.sto_lang.specs.Ascii.{is_ascii};
 ghost use Rattle.sto_lang.specs.Views.{declaration, script as script_of, names_of, file as file_of};
-ghost use Rattle.sto_form.specs.Forms.{ThreadLine};
+ghost use Rattle.sto_syntax.specs.Forms.{ThreadLine};
 ghost use Rattle.sto_write.specs.Laws.{ReadsAs};
 ghost use Rattle.sto_write.specs.Texts.{declare_line, script_lines, version_lines, name_on_line, thread_lines, schedule_lines, word_for, thread_text, entry_for, entry_word, line_text, text_of};
 

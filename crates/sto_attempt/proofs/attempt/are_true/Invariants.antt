@@ -1,5 +1,5 @@
 use Rattle.std.proofs.Common.{drop, ◌↔◌}
-use Rattle.sto_course.specs.Sights.{AllTrueIn}
+use Rattle.sto_attempt_log.specs.ReadSet.{AllTrueIn}
 use Rattle.sto_attempt.proofs.attempt.are_true.Given as goal
 
 -- those that were passed over are true

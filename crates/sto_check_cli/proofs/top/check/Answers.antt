@@ -1,5 +1,5 @@
 use Rattle.std.proofs.Common.{◌≡◌, ◌∙◌, ◌⊎◌, ℕ, sym, subst, Ok}
-use Rattle.sto_words.specs.Asked.{checking_in}
+use Rattle.sto_args.specs.Asked.{checking_in}
 use Rattle.sto_check_cli.specs.Statuses.{status_of}
 use Rattle.sto_check_cli.proofs.Endings.{unchanged, exact}
 use Rattle.sto_check_cli.proofs.top.check.Goals as goal

@@ -1,6 +1,6 @@
 use Rattle.std.proofs.Common.{◌≡◌, ◌∙◌, ap, []}
 use Rattle.std.proofs.lemmas.Result.{IfOk-weaker}
-use Rattle.sto_words.specs.declared.command.Command.TheVariants as commands
+use Rattle.sto_args.specs.declared.command.Command.TheVariants as commands
 use Rattle.sto_lang.specs.Views.{file as view}
 use Rattle.sto_write.specs.Texts.{text_of}
 use Rattle.sto_cli.specs.Outputs.{IsOutput}

@@ -1,7 +1,7 @@
 use Rattle.std.proofs.Common.{ℕ, Bool, refl, subst, sym}
 use Rattle.sto_lang.specs.Views.{file as view}
 use Rattle.sto_lang.specs.Scripts.{File}
-use Rattle.sto_lawful.specs.Lawful.{IsLawfulIn}
+use Rattle.sto_report_spec.specs.Lawful.{IsLawfulIn}
 use Rattle.sto_run.specs.Meanings.{updating_by}
 use Rattle.sto_run.specs.Stores.{means}
 use Rattle.sto_run.proofs.Printed.{names_of_sound, lawful_rows}

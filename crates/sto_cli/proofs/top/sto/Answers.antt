@@ -1,5 +1,5 @@
 use Rattle.std.proofs.Common.{◌∙◌}
-use Rattle.sto_words.specs.Commands.{command_in}
+use Rattle.sto_args.specs.Commands.{command_in}
 use Rattle.sto_cli.proofs.Endings.{unchanged}
 use Rattle.sto_cli.proofs.top.sto.Goals as goal
 

@@ -1,6 +1,6 @@
 use Rattle.std.proofs.Common.{ℕ, List, subst}
 use Rattle.std.proofs.lemmas.Result.{IfOk-weaker}
-use Rattle.sto_words.specs.declared.command.Command.TheVariants as commands
+use Rattle.sto_args.specs.declared.command.Command.TheVariants as commands
 use Rattle.sto_cli.specs.Outputs.{IsOutput}
 use Rattle.sto_cli.specs.Ends.{Made}
 use Rattle.sto_cli.proofs.Sizes.{small_file}

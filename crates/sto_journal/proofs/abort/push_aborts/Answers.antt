@@ -1,7 +1,7 @@
 use Rattle.std.proofs.Common.{map, string_bytes, length}
 use Rattle.sto_lang.specs.Views.{declaration, names_of}
-use Rattle.sto_lawful.specs.Report.{abort_text}
-use Rattle.sto_lawful.specs.Short.{IsShortAbort}
+use Rattle.sto_report_spec.specs.Report.{abort_text}
+use Rattle.sto_report_spec.specs.Short.{IsShortAbort}
 use Rattle.sto_journal.specs.declared.journal.AbortLine.{AbortLine}
 use Rattle.sto_journal.specs.Journals.{abort}
 use Rattle.sto_journal.proofs.Steps.{held_more, told_more}

@@ -1,8 +1,8 @@
 use Rattle.std.proofs.Common.{◌≡◌, ◌++◌, take, map, string_bytes}
 use Rattle.std.specs.List.{flat_map, AllWithin}
 use Rattle.sto_lang.specs.Views.{declaration, names_of}
-use Rattle.sto_lawful.specs.Report.{abort_text}
-use Rattle.sto_lawful.specs.Short.{IsShortAbort}
+use Rattle.sto_report_spec.specs.Report.{abort_text}
+use Rattle.sto_report_spec.specs.Short.{IsShortAbort}
 use Rattle.sto_journal.specs.Journals.{abort}
 use Rattle.sto_journal.proofs.abort.push_aborts.Given as goal
 

@@ -1,8 +1,8 @@
 use Rattle.std.proofs.Common.{◌≡◌, ◌++◌, take, map, string_bytes}
 use Rattle.std.specs.List.{flat_map, AllWithin}
 use Rattle.sto_lang.specs.Views.{names_of}
-use Rattle.sto_lawful.specs.Report.{line_text}
-use Rattle.sto_lawful.specs.Short.{IsShortEntry}
+use Rattle.sto_report_spec.specs.Report.{line_text}
+use Rattle.sto_report_spec.specs.Short.{IsShortEntry}
 use Rattle.sto_journal.specs.Journals.{entry}
 use Rattle.sto_journal.proofs.line.push_lines.Given as goal
 

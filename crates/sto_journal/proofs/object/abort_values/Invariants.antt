@@ -2,8 +2,8 @@ use Rattle.std.proofs.Common.{◌≡◌, take, map}
 use Rattle.std.specs.List.{AllWithin}
 use Rattle.serde_json.specs.View.{view}
 use Rattle.sto_lang.specs.Views.{declaration, names_of}
-use Rattle.sto_lawful.specs.Json.{abort_data}
-use Rattle.sto_lawful.specs.Short.{IsShortAbort}
+use Rattle.sto_report_spec.specs.Json.{abort_data}
+use Rattle.sto_report_spec.specs.Short.{IsShortAbort}
 use Rattle.sto_journal.specs.Journals.{abort}
 use Rattle.sto_journal.proofs.object.abort_values.Given as goal
 

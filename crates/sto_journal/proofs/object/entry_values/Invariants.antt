@@ -2,8 +2,8 @@ use Rattle.std.proofs.Common.{◌≡◌, take, map}
 use Rattle.std.specs.List.{AllWithin}
 use Rattle.serde_json.specs.View.{view}
 use Rattle.sto_lang.specs.Views.{names_of}
-use Rattle.sto_lawful.specs.Json.{entry_data}
-use Rattle.sto_lawful.specs.Short.{IsShortEntry}
+use Rattle.sto_report_spec.specs.Json.{entry_data}
+use Rattle.sto_report_spec.specs.Short.{IsShortEntry}
 use Rattle.sto_journal.specs.Journals.{entry}
 use Rattle.sto_journal.proofs.object.entry_values.Given as goal
 

@@ -1,7 +1,7 @@
 use Rattle.std.proofs.Common.{ℕ, List, ◌++◌, ap, ◌∙◌, map, codes}
 use Rattle.serde_json.specs.Written.{has_float, compact_text}
 use Rattle.sto_lang.specs.Views.{declaration, names_of}
-use Rattle.sto_lawful.proofs.NamingJson.{whole_no_float}
+use Rattle.sto_report_spec.proofs.NamingJson.{whole_no_float}
 use Rattle.sto_journal.specs.Journals.{entry, abort}
 use Rattle.sto_journal.proofs.object.json_line.Goals as goal
 

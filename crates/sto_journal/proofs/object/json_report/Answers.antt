@@ -1,8 +1,8 @@
 use Rattle.std.proofs.Common.{rules, map}
 use Rattle.sto_lang.specs.Views.{declaration, names_of}
-use Rattle.sto_lawful.specs.Short.{AreShortEntries, AreShortAborts}
-use Rattle.sto_lawful.proofs.NamingJson.{json_names_order, json_names_aborts}
-use Rattle.sto_lawful.proofs.PlainJson.{json_ascii}
+use Rattle.sto_report_spec.specs.Short.{AreShortEntries, AreShortAborts}
+use Rattle.sto_report_spec.proofs.NamingJson.{json_names_order, json_names_aborts}
+use Rattle.sto_report_spec.proofs.PlainJson.{json_ascii}
 use Rattle.sto_journal.specs.Journals.{entry, abort}
 use Rattle.sto_journal.proofs.Shorts.{entries_short, aborts_short}
 use Rattle.sto_journal.proofs.object.json_report.Goals as goal

@@ -1,7 +1,7 @@
 use Rattle.std.proofs.Common.{◌++◌, ℕ, List, ap, sym, ◌∙◌}
 use Rattle.serde_json.specs.Data.{string}
 use Rattle.sto_model.specs.Told.{told}
-use Rattle.sto_lawful.specs.Report.{reply_text}
+use Rattle.sto_report_spec.specs.Report.{reply_text}
 use Rattle.sto_journal.proofs.Values.{told_is, view-String}
 use Rattle.sto_journal.proofs.object.reply_value.Goals as goal
 

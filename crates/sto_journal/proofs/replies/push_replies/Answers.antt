@@ -1,6 +1,6 @@
 use Rattle.std.proofs.Common.{◌++◌, ℕ, List, ap, ◌∙◌, codes, string_bytes, append_assoc}
 use Rattle.sto_model.specs.Told.{told}
-use Rattle.sto_lawful.specs.Report.{reply_text, spaced_reply}
+use Rattle.sto_report_spec.specs.Report.{reply_text, spaced_reply}
 use Rattle.sto_journal.specs.Journals.{IsShortlyTold}
 use Rattle.sto_journal.proofs.Steps.{held_more, told_more}
 use Rattle.sto_journal.proofs.replies.push_replies.Goals as goal

@@ -1,9 +1,9 @@
 use Rattle.std.proofs.Common.{◌≡◌, ◌∙◌, ap, sym, Bool, true, not, ◌||◌, Option, None, Some, is_some, is_none, List, ℕ, refl}
 use Rattle.std.specs.Option.{option_map}
 use Rattle.std.specs.List.{list_all}
-use Rattle.sto_form.specs.declared.form.Form as lines
-use Rattle.sto_form.specs.Views.{form, operand_list}
-use Rattle.sto_lang.specs.declared.objects.Known.{Known}
+use Rattle.sto_syntax.specs.declared.form.Form as lines
+use Rattle.sto_syntax.specs.Views.{form, operand_list}
+use Rattle.sto_lang.specs.declared.objects.KnownObject.{KnownObject}
 use Rattle.sto_lang.specs.Objects.{object_place}
 use Rattle.sto_lang.specs.ObjectViews.{known}
 use Rattle.sto_lang.specs.Drafts.{Draft, variables_in}
@@ -12,7 +12,7 @@ use Rattle.sto_lang.specs.Uses.{asked_of, is_known, is_unknown}
 use Rattle.sto_lang.proofs.AskedLemmas.{unknown_call}
 use Rattle.sto_lang.proofs.usage.is_unknown.Goals as goal
 
-none_of : (o : Option Known) → is_some o ≡ not true → is_none o ≡ true
+none_of : (o : Option KnownObject) → is_some o ≡ not true → is_none o ≡ true
 none_of None e = refl
 none_of (Some k) e = absurd (cc)
 

@@ -4,8 +4,8 @@ use Rattle.sto_lang.specs.Scripts.{File}
 use Rattle.sto_lang.specs.Views.{file as view}
 use Rattle.sto_type.specs.Meaning.{Meaning}
 use Rattle.sto_plain.specs.Passes.{view_of}
-use Rattle.sto_records.specs.Meanings.{updating_by}
-use Rattle.sto_transact.specs.Plain.{plain}
+use Rattle.sto_serializability.specs.Meanings.{updating_by}
+use Rattle.sto_transaction.specs.Plain.{plain}
 use Rattle.sto_run.proofs.Alone.{no_aborts, never_aborted}
 use Rattle.sto_run.proofs.Draws.{enough_draws}
 use Rattle.sto_run.proofs.file.run_over.Goals as goal

@@ -3,13 +3,13 @@ use Rattle.std.proofs.lemmas.List.{length-map}
 use Rattle.sto_lang.specs.Scripts.{File}
 use Rattle.sto_lang.specs.Views.{file as view}
 use Rattle.sto_model.specs.declared.state.State.{State}
-use Rattle.sto_told.specs.Records as plainly
+use Rattle.sto_attempt_facts.specs.Records as plainly
 use Rattle.sto_type.specs.Meaning.{Meaning}
 use Rattle.sto_type.specs.declared.answer.Home.{Home}
 use Rattle.sto_plain.specs.Passes.{view_of}
 use Rattle.sto_journal.specs.Journals.{home_pair}
-use Rattle.sto_records.specs.Merged.{aborts_from}
-use Rattle.sto_transact.specs.Plain.{plain}
+use Rattle.sto_serializability.specs.Merged.{aborts_from}
+use Rattle.sto_transaction.specs.Plain.{plain}
 use Rattle.sto_run.proofs.Few.{few_records, have_scripts}
 use Rattle.sto_run.proofs.Closing.{none_held, closed_words}
 use Rattle.sto_run.proofs.Placed.{in_threads, in_parts}

@@ -1,7 +1,7 @@
 use Rattle.std.proofs.Common.{◌≡◌, ◌+◌, ℕ, [], ◌∷◌, ◌++◌, length, refl, ap, sym, ◌∙◌, arith, length-append}
 use Rattle.sto_part.specs.declared.change.Change.{Change}
-use Rattle.sto_tree_law.specs.Said.{in_pairs, at_place}
-use Rattle.sto_tree_law.specs.Sized.{in_pairs_more}
+use Rattle.sto_tree_spec.specs.Said.{in_pairs, at_place}
+use Rattle.sto_tree_spec.specs.Sized.{in_pairs_more}
 use Rattle.sto_tree.proofs.changes.place_changes.Goals as goal
 
 pub loop-other-preserved : goal.loop-other-preserved

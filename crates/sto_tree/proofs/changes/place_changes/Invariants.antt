@@ -1,5 +1,5 @@
 use Rattle.std.proofs.Common.{◌≡◌, ◌*◌, length}
-use Rattle.sto_tree_law.specs.Said.{in_pairs, at_place}
+use Rattle.sto_tree_spec.specs.Said.{in_pairs, at_place}
 use Rattle.sto_tree.proofs.changes.place_changes.Given as goal
 
 abbrev pub invariant-loop-other : goal.invariant-loop-other

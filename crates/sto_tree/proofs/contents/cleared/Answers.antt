@@ -1,6 +1,6 @@
 use Rattle.std.proofs.Common.{◌≡◌, ◌+◌, ◌++◌, ◌∷◌, [], ℕ, suc, ℤ, List, pos, replicate, length, ap, ◌∙◌, sym, arith}
 use Rattle.sto_part.specs.Parts.{zeros}
-use Rattle.sto_tree_law.specs.Layout.{listed, width_of}
+use Rattle.sto_tree_spec.specs.Layout.{listed, width_of}
 use Rattle.sto_tree.proofs.Whole.{zeros_more, length-zeros}
 use Rattle.sto_tree.proofs.contents.cleared.Goals as goal
 

@@ -1,6 +1,6 @@
 use Rattle.std.proofs.Common.{◌≡◌}
 use Rattle.sto_part.specs.Parts.{zeros}
-use Rattle.sto_tree_law.specs.Layout.{listed, width_of}
+use Rattle.sto_tree_spec.specs.Layout.{listed, width_of}
 use Rattle.sto_tree.proofs.contents.cleared.Given as goal
 
 abbrev pub invariant-loop-part : goal.invariant-loop-part

@@ -4,8 +4,8 @@ use Rattle.std.proofs.lemmas.Int.{to_z-of_z}
 use Rattle.sto_part.specs.Parts.{part_of}
 use Rattle.sto_type.specs.Known.{Parts}
 use Rattle.sto_tree.proofs.Whole.{slot_there}
-use Rattle.sto_tree_law.specs.Layout.{parts_of, width_of, word, directory, keys, key, value}
-use Rattle.sto_tree_law.specs.Sized.{key_width}
+use Rattle.sto_tree_spec.specs.Layout.{parts_of, width_of, word, directory, keys, key, value}
+use Rattle.sto_tree_spec.specs.Sized.{key_width}
 use Rattle.sto_tree.proofs.contents.row_at.Goals as goal
 
 pub word_at-key-requires-clause-word : goal.word_at-key-requires-clause-word

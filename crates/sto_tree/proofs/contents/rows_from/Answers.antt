@@ -2,8 +2,8 @@ use Rattle.std.proofs.Common.{◌≡◌, ◌+◌, ℕ, suc, Some, None, take, dr
 use Rattle.std.specs.Int.RustNames.{FitsSigned}
 use Rattle.std.proofs.lemmas.Int.{to_z-of_z}
 use Rattle.sto_model.specs.Rows.{with_row}
-use Rattle.sto_tree_law.specs.Slots.{Slots, gathered, with_slot}
-use Rattle.sto_tree_law.specs.Layout.{parts_of, tree_slot}
+use Rattle.sto_tree_spec.specs.Slots.{Slots, gathered, with_slot}
+use Rattle.sto_tree_spec.specs.Layout.{parts_of, tree_slot}
 use Rattle.sto_tree.proofs.contents.rows_from.Goals.{in-Some+in_ok-put, in_default}
 use Rattle.sto_tree.proofs.contents.rows_from.Goals as goal
 

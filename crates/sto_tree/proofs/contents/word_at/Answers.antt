@@ -2,7 +2,7 @@ use Rattle.std.proofs.Common.{◌+◌, ◌<◌, ◌≤◌, ◌^◌, length, ap, 
 use Rattle.std.specs.Int.RustNames.{FitsSigned}
 use Rattle.std.proofs.lemmas.Int.{to_z-of_z}
 use Rattle.sto_part.specs.Parts.{part_of}
-use Rattle.sto_tree_law.specs.Layout.{parts_of, word}
+use Rattle.sto_tree_spec.specs.Layout.{parts_of, word}
 use Rattle.sto_tree.proofs.Whole.{all_there, part_there, word_there, word_is}
 use Rattle.sto_tree.proofs.contents.word_at.Goals as goal
 

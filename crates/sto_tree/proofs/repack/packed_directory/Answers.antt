@@ -2,9 +2,9 @@ use Rattle.std.proofs.Common.{◌≡◌, ◌+◌, ℕ, ℤ, pos, [], ◌∷◌, 
 use Rattle.std.specs.Prelude.{if◌then◌else◌}
 use Rattle.sto_part.specs.declared.change.Change.{Change}
 use Rattle.sto_part.specs.declared.change.Change.TheVariants.{Put, Keep}
-use Rattle.sto_tree_law.specs.Split.{in_threes}
+use Rattle.sto_tree_spec.specs.Split.{in_threes}
 use Rattle.sto_tree.proofs.Adding.{in_threes_more}
-use Rattle.sto_tree_law.specs.Repack.{packed_ranges}
+use Rattle.sto_tree_spec.specs.Repack.{packed_ranges}
 use Rattle.sto_tree.proofs.repack.packed_directory.Goals as goal
 
 pub loop-leaf-preserved : goal.loop-leaf-preserved

@@ -1,7 +1,7 @@
 use Rattle.std.proofs.Common.{◌≡◌, ap, sym, ◌∙◌, subst, arith, ℕ, None, not}
-use Rattle.sto_tree_law.specs.Search.{first_below}
-use Rattle.sto_tree_law.specs.Searches.{first_stop}
-use Rattle.sto_tree_law.specs.Layout.{is_present}
+use Rattle.sto_tree_spec.specs.Search.{first_below}
+use Rattle.sto_tree_spec.specs.Searches.{first_stop}
+use Rattle.sto_tree_spec.specs.Layout.{is_present}
 use Rattle.sto_tree.proofs.search.free_place.Goals as goal
 
 pub returns-then-not-is_present : goal.returns-then-not-is_present

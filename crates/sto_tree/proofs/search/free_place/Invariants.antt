@@ -1,6 +1,6 @@
 use Rattle.std.proofs.Common.{◌≡◌, None, not}
-use Rattle.sto_tree_law.specs.Search.{first_below}
-use Rattle.sto_tree_law.specs.Layout.{is_present}
+use Rattle.sto_tree_spec.specs.Search.{first_below}
+use Rattle.sto_tree_spec.specs.Layout.{is_present}
 use Rattle.sto_tree.proofs.search.free_place.Given as goal
 
 abbrev pub invariant-loop-place : goal.invariant-loop-place

@@ -1,9 +1,9 @@
 use Rattle.std.proofs.Common.{◌≡◌, sym, ◌∙◌, subst, arith, ℕ, None, w64}
 use Rattle.std.specs.Int.RustNames.{FitsSigned}
 use Rattle.std.proofs.lemmas.Int.{to_z-of_z}
-use Rattle.sto_tree_law.specs.Search.{first_below}
-use Rattle.sto_tree_law.specs.Searches.{first_stop}
-use Rattle.sto_tree_law.specs.Layout.{holds_key}
+use Rattle.sto_tree_spec.specs.Search.{first_below}
+use Rattle.sto_tree_spec.specs.Searches.{first_stop}
+use Rattle.sto_tree_spec.specs.Layout.{holds_key}
 use Rattle.sto_tree.proofs.search.place_of.Goals as goal
 
 pub returns-then-holds_key : goal.returns-then-holds_key

@@ -1,6 +1,6 @@
 use Rattle.std.proofs.Common.{◌≡◌, None}
-use Rattle.sto_tree_law.specs.Search.{first_below}
-use Rattle.sto_tree_law.specs.Layout.{holds_key}
+use Rattle.sto_tree_spec.specs.Search.{first_below}
+use Rattle.sto_tree_spec.specs.Layout.{holds_key}
 use Rattle.sto_tree.proofs.search.place_of.Given as goal
 
 abbrev pub invariant-loop-place : goal.invariant-loop-place

@@ -1,5 +1,5 @@
 use Rattle.std.proofs.Common.{ℕ, List, ◌++◌, map, flat_map, ap, sym, ◌∙◌, append_assoc}
-use Rattle.sto_form.specs.Forms.{ThreadLine}
+use Rattle.sto_syntax.specs.Forms.{ThreadLine}
 use Rattle.sto_lang.specs.declared.file.Script as code
 use Rattle.sto_lang.specs.Objects.{Declaration}
 use Rattle.sto_lang.specs.Views.{declaration, script}

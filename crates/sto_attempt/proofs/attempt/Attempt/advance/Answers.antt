@@ -6,34 +6,34 @@ use Rattle.std.proofs.lemmas.List.{length-map}
 use Rattle.sto_part.specs.Listed.{Listed}
 use Rattle.sto_item.specs.Watched.{watched}
 use Rattle.sto_model.specs.Told.{told}
-use Rattle.sto_course.specs.declared.sight.Sight.{Sight}
-use Rattle.sto_course.specs.declared.renewal.Renewal.{Renewal}
-use Rattle.sto_course.specs.Sights.{words_in, AreClaimed, AreOnly}
-use Rattle.sto_course.specs.Course.{IsOnCourse}
-use Rattle.sto_course.specs.Standing.{IsNext, Turned}
-use Rattle.sto_course.proofs.OneReply.{cache_none}
-use Rattle.sto_course.proofs.Anew.{ahead, all_renewed, course_renewed}
-use Rattle.sto_course.proofs.Spanning.{rests}
-use Rattle.sto_course.proofs.Reading.{turned}
+use Rattle.sto_attempt_log.specs.declared.read_entry.ReadEntry.{ReadEntry}
+use Rattle.sto_attempt_log.specs.declared.extension.Extension.{Extension}
+use Rattle.sto_attempt_log.specs.ReadSet.{words_in, AreClaimed, AreOnly}
+use Rattle.sto_attempt_log.specs.Log.{IsOnLog}
+use Rattle.sto_attempt_log.specs.Standing.{IsNext, Turned}
+use Rattle.sto_attempt_log.proofs.OneReply.{cache_none}
+use Rattle.sto_attempt_log.proofs.Anew.{ahead, all_renewed, log_renewed}
+use Rattle.sto_attempt_log.proofs.Spanning.{rests}
+use Rattle.sto_attempt_log.proofs.Reading.{turned}
 use Rattle.std.proofs.Common.{◌-◌, IsTrue, ◌↔◌, drop}
-use Rattle.sto_course.specs.Answers.{IsPrefix}
-use Rattle.sto_course.specs.Bounds.{left_extending}
-use Rattle.sto_course.proofs.Onward.{heard_none}
-use Rattle.sto_course.proofs.Stepping.{led_alone}
-use Rattle.sto_course.proofs.Prefix.{prefix_of}
-use Rattle.sto_course.proofs.Reading.{always_err}
-use Rattle.sto_course.proofs.Lowering.{advance_fewer, less_next}
-use Rattle.sto_course.proofs.Causing.{replies_on, replies_same}
-use Rattle.sto_course.proofs.Stepping.{led_begun}
+use Rattle.sto_attempt_log.specs.Answers.{IsPrefix}
+use Rattle.sto_attempt_log.specs.Bounds.{left_extending}
+use Rattle.sto_attempt_log.proofs.Onward.{heard_none}
+use Rattle.sto_attempt_log.proofs.Stepping.{led_alone}
+use Rattle.sto_attempt_log.proofs.Prefix.{prefix_of}
+use Rattle.sto_attempt_log.proofs.Reading.{always_err}
+use Rattle.sto_attempt_log.proofs.Lowering.{advance_fewer, less_next}
+use Rattle.sto_attempt_log.proofs.Causing.{replies_on, replies_same}
+use Rattle.sto_attempt_log.proofs.Stepping.{led_begun}
 use Rattle.sto_attempt.proofs.attempt.Attempt.advance.Goals as goal
 
 pub returns-then-watch-clause-turned : goal.returns-then-watch-clause-turned
 returns-then-watch-clause-turned g c v spans phase =
     let a = c.args.self.now in
-    let m = g.T.TxType.meaning a.course.ty.now in
-    let old = words_in a.course.base.items in
-    let fresh = a.renewal.fresh.items in
-    let ws = a.renewal.watches.items in
+    let m = g.T.TxType.meaning a.log.ty.now in
+    let old = words_in a.log.base.items in
+    let fresh = a.extension.fresh.items in
+    let ws = a.extension.watches.items in
     let w = c.get-watch.result.now in
     let e : slice_get (map watched ws) (length fresh) ≡ Some (watched w) =
     slice_get-map watched ws (length fresh) ∙ ap (option_map watched) (ap (slice_get ws) (sym c.len-place.ensures) ∙ c.get-watch.ensures) in
@@ -43,79 +43,79 @@ returns-then-watch-clause-turned g c v spans phase =
 pub returns-else-watch-clause-turned : goal.returns-else-watch-clause-turned
 returns-else-watch-clause-turned g c v spans phase =
     let a = c.args.self.now in
-    let m = g.T.TxType.meaning a.course.ty.now in
-    let old = words_in a.course.base.items in
-    let fresh = a.renewal.fresh.items in
-    let ws = a.renewal.watches.items in
+    let m = g.T.TxType.meaning a.log.ty.now in
+    let old = words_in a.log.base.items in
+    let fresh = a.extension.fresh.items in
+    let ws = a.extension.watches.items in
     let w = c.get-watch.result.now in
     let e : slice_get (map watched ws) (length fresh) ≡ Some (watched w) =
     slice_get-map watched ws (length fresh) ∙ ap (option_map watched) (ap (slice_get ws) (sym c.len-place.ensures) ∙ c.get-watch.ensures) in
     let next : IsNext (length m.widths) old fresh (map watched ws) w.seen w.part = ahead (length m.widths) old fresh (map watched ws) c.requires.renewed.0 c.requires.renewed.1 (watched w) e in
     record { spans = spans; observed = c.requires.observed; extended = c.requires.extended; stands = (phase, subst (λ (b : Bool). IsNext (length m.widths) old fresh (map watched ws) b w.part) c.if-watch.false next) }
 
-pub go_on-requires-clause-course : goal.go_on-requires-clause-course
-go_on-requires-clause-course g c =
+pub go_on-requires-clause-log : goal.go_on-requires-clause-log
+go_on-requires-clause-log g c =
     let a = c.args.self.now in
-    let m = g.T.TxType.meaning a.course.ty.now in
-    let law = g.met.T.TxType.lawful a.course.ty.now in
-    let f = g.B.Body.script a.course.body in
-    let rs = map told a.course.replies.items in
-    let old = words_in a.course.base.items in
-    let fresh = a.renewal.fresh.items in
-    let ws = a.renewal.watches.items in
-    let was = c.requires.course in
+    let m = g.T.TxType.meaning a.log.ty.now in
+    let law = g.met.T.TxType.lawful a.log.ty.now in
+    let f = g.B.Body.script a.log.body in
+    let rs = map told a.log.replies.items in
+    let old = words_in a.log.base.items in
+    let fresh = a.extension.fresh.items in
+    let ws = a.extension.watches.items in
+    let was = c.requires.log in
     let last : length (map watched ws) ≤ length fresh = omega (arith, length-map ws watched, c.if-place-len.false, c.len-place.ensures, c.len.ensures) in
     let stays = all_renewed (length m.widths) old fresh (map watched ws) c.requires.renewed.0 c.requires.renewed.1 last in
-    let h : IsOnCourse m (g.B.Body.then a.course.body) f (g.B.Body.left a.course.body) (g.B.Body.may_ask a.course.body) fresh a.course.set [] a.course.replies.items = record {
+    let h : IsOnLog m (g.B.Body.then a.log.body) f (g.B.Body.left a.log.body) (g.B.Body.may_ask a.log.body) fresh a.log.set [] a.log.replies.items = record {
       then = was.then;
       taken = was.taken;
       few = was.few;
-      course = course_renewed m law f a.course.base.items a.course.set.items a.course.set.updates rs was.course c.requires.some.0 c.requires.some.1 c.requires.some.2 fresh (map watched ws) c.requires.observed stays;
-      known_above = cache_none m (words_in fresh) a.course.set.updates;
+      log = log_renewed m law f a.log.base.items a.log.set.items a.log.set.updates rs was.log c.requires.some.0 c.requires.some.1 c.requires.some.2 fresh (map watched ws) c.requires.observed stays;
+      known_above = cache_none m (words_in fresh) a.log.set.updates;
     } in
-    subst (λ (b : Listed Sight). IsOnCourse m (g.B.Body.then a.course.body) f (g.B.Body.left a.course.body) (g.B.Body.may_ask a.course.body) b.items a.course.set c.new-2.result a.course.replies.items) (sym c.replace.ensures.value)
-    (subst (λ (k : List (ℕ × List ℤ)). IsOnCourse m (g.B.Body.then a.course.body) f (g.B.Body.left a.course.body) (g.B.Body.may_ask a.course.body) fresh a.course.set k a.course.replies.items) (sym c.new-2.ensures) h)
+    subst (λ (b : Listed ReadEntry). IsOnLog m (g.B.Body.then a.log.body) f (g.B.Body.left a.log.body) (g.B.Body.may_ask a.log.body) b.items a.log.set c.new-2.result a.log.replies.items) (sym c.replace.ensures.value)
+    (subst (λ (k : List (ℕ × List ℤ)). IsOnLog m (g.B.Body.then a.log.body) f (g.B.Body.left a.log.body) (g.B.Body.may_ask a.log.body) fresh a.log.set k a.log.replies.items) (sym c.new-2.ensures) h)
 
 pub returns-clause-turned : goal.returns-clause-turned
 returns-clause-turned g c v spans phase =
     let a = c.args.self.now in
-    let m = g.T.TxType.meaning a.course.ty.now in
-    let sizes = g.T.Naming.sizes a.course.ty.now in
-    let f = g.B.Body.script a.course.body in
-    let bound = a.renewal.bound in
+    let m = g.T.TxType.meaning a.log.ty.now in
+    let sizes = g.T.Naming.sizes a.log.ty.now in
+    let f = g.B.Body.script a.log.body in
+    let bound = a.extension.bound in
     let made = c.replace.result.items in
-    let same : made ≡ a.renewal.fresh.items = ap (λ (l : Listed Sight). l.items) c.replace.ensures.value in
-    let now : Renewal = record { bound = a.renewal.bound; extended = c.still-self.result; fresh = c.replace.new.dest; watches = a.renewal.watches } in
-    let rest = rests m g.T.Naming.valid sizes a.at bound a.course.base.items a.renewal.fresh.items f (map told a.course.replies.items) v spans phase in
-    let claimed : AreClaimed v bound made = subst (λ (l : List Sight). AreClaimed v bound l) (sym same) spans.renewed in
-    let only : AreOnly v bound made = subst (λ (l : List Sight). AreOnly v bound l) (sym same) spans.only in
-    let kept : c.go_on.new.self.base.items ≡ made = ap (λ (l : Listed Sight). l.items) c.in_ok-reached.ensures.base in
-    subst (λ (b : List Sight). Turned m g.T.Naming.valid sizes f bound c.lead-stand.result.0 a.words.items now b c.go_on.new.self.set.items c.go_on.new.self.set.updates (map told c.go_on.new.self.replies.items) v c.lead-stand.result.1) (sym kept)
-    (turned m g.T.Naming.valid sizes f bound a.words.items made c.go_on.new.self.set.items c.go_on.new.self.set.updates (map told c.go_on.new.self.replies.items) v rest claimed only spans.below now (λ e. refl) c.in_ok-reached.ensures.course.course
-    c.in_ok-reached.reached c.lead-stand.result.0 c.lead-stand.result.1 c.in_ok-reached.ensures.reached c.lead-stand.ensures)
+    let same : made ≡ a.extension.fresh.items = ap (λ (l : Listed ReadEntry). l.items) c.replace.ensures.value in
+    let now : Extension = record { bound = a.extension.bound; extended = c.still-self.result; fresh = c.replace.new.dest; watches = a.extension.watches } in
+    let rest = rests m g.T.Naming.valid sizes a.at bound a.log.base.items a.extension.fresh.items f (map told a.log.replies.items) v spans phase in
+    let claimed : AreClaimed v bound made = subst (λ (l : List ReadEntry). AreClaimed v bound l) (sym same) spans.renewed in
+    let only : AreOnly v bound made = subst (λ (l : List ReadEntry). AreOnly v bound l) (sym same) spans.only in
+    let kept : c.go_on.new.self.base.items ≡ made = ap (λ (l : Listed ReadEntry). l.items) c.in_ok-reached.ensures.base in
+    subst (λ (b : List ReadEntry). Turned m g.T.Naming.valid sizes f bound c.lead-read_phase.result.0 a.words.items now b c.go_on.new.self.set.items c.go_on.new.self.set.updates (map told c.go_on.new.self.replies.items) v c.lead-read_phase.result.1) (sym kept)
+    (turned m g.T.Naming.valid sizes f bound a.words.items made c.go_on.new.self.set.items c.go_on.new.self.set.updates (map told c.go_on.new.self.replies.items) v rest claimed only spans.below now (λ e. refl) c.in_ok-reached.ensures.log.log
+    c.in_ok-reached.reached c.lead-read_phase.result.0 c.lead-read_phase.result.1 c.in_ok-reached.ensures.reached c.lead-read_phase.ensures)
 
 pub returns-clause-unaborted : goal.returns-clause-unaborted
-returns-clause-unaborted g c = (led_alone c.args.self.now.renewal.bound c.go_on.new.self.set.updates c.in_ok-reached.reached c.lead-stand.result.0 c.lead-stand.result.1 c.lead-stand.ensures).1
+returns-clause-unaborted g c = (led_alone c.args.self.now.extension.bound c.go_on.new.self.set.updates c.in_ok-reached.reached c.lead-read_phase.result.0 c.lead-read_phase.result.1 c.lead-read_phase.ensures).1
 
 pub returns-then-watch-clause-left : goal.returns-then-watch-clause-left
 returns-then-watch-clause-left g c =
     let a = c.args.self.now in
-    less_next (left_extending (g.B.Body.left a.course.body - 1) (g.T.TxType.meaning a.course.ty.now).widths (drop (length a.renewal.fresh.items) (map watched a.renewal.watches.items)))
+    less_next (left_extending (g.B.Body.left a.log.body - 1) (g.T.TxType.meaning a.log.ty.now).widths (drop (length a.extension.fresh.items) (map watched a.extension.watches.items)))
 
 pub returns-else-watch-clause-left : goal.returns-else-watch-clause-left
 returns-else-watch-clause-left g c =
     let a = c.args.self.now in
-    less_next (left_extending (g.B.Body.left a.course.body - 1) (g.T.TxType.meaning a.course.ty.now).widths (drop (length a.renewal.fresh.items) (map watched a.renewal.watches.items)))
+    less_next (left_extending (g.B.Body.left a.log.body - 1) (g.T.TxType.meaning a.log.ty.now).widths (drop (length a.extension.fresh.items) (map watched a.extension.watches.items)))
 
 pub returns-then-watch-clause-grown : goal.returns-then-watch-clause-grown
 returns-then-watch-clause-grown g c =
     let a = c.args.self.now in
-    heard_none (g.T.TxType.meaning a.course.ty.now) (g.B.Body.script a.course.body) (words_in a.course.base.items) (map told a.course.replies.items) a.course.set
+    heard_none (g.T.TxType.meaning a.log.ty.now) (g.B.Body.script a.log.body) (words_in a.log.base.items) (map told a.log.replies.items) a.log.set
 
 pub returns-else-watch-clause-grown : goal.returns-else-watch-clause-grown
 returns-else-watch-clause-grown g c =
     let a = c.args.self.now in
-    heard_none (g.T.TxType.meaning a.course.ty.now) (g.B.Body.script a.course.body) (words_in a.course.base.items) (map told a.course.replies.items) a.course.set
+    heard_none (g.T.TxType.meaning a.log.ty.now) (g.B.Body.script a.log.body) (words_in a.log.base.items) (map told a.log.replies.items) a.log.set
 
 pub returns-clause-renewed : goal.returns-clause-renewed
 returns-clause-renewed g c =
@@ -124,47 +124,47 @@ returns-clause-renewed g c =
       refl,
       λ e.
           let h = c.still-self.ensures.0 e in
-          let same : length c.go_on.new.self.replies.items ≡ length a.course.replies.items = omega (arith, h.1, c.len-heard.ensures, c.len-2.ensures) in
-          replies_same a.course.replies.items c.go_on.new.self.replies.items grown.more grown.replies same,
+          let same : length c.go_on.new.self.replies.items ≡ length a.log.replies.items = omega (arith, h.1, c.len-heard.ensures, c.len-2.ensures) in
+          replies_same a.log.replies.items c.go_on.new.self.replies.items grown.more grown.replies same,
     )
 
 pub returns-clause-left : goal.returns-clause-left
 returns-clause-left g c =
     let a = c.args.self.now in
-    let m = g.T.TxType.meaning a.course.ty.now in
-    let law = g.met.T.TxType.lawful a.course.ty.now in
-    let sizes = g.T.Naming.sizes a.course.ty.now in
+    let m = g.T.TxType.meaning a.log.ty.now in
+    let law = g.met.T.TxType.lawful a.log.ty.now in
+    let sizes = g.T.Naming.sizes a.log.ty.now in
     let valid = g.T.Naming.valid in
-    let f = g.B.Body.script a.course.body in
-    let rs = map told a.course.replies.items in
-    let base = a.course.base.items in
+    let f = g.B.Body.script a.log.body in
+    let rs = map told a.log.replies.items in
+    let base = a.log.base.items in
     let grown = c.in_ok-reached.ensures.grown.grown in
-    let heard = length a.course.replies.items in
+    let heard = length a.log.replies.items in
     let now = length c.go_on.new.self.replies.items in
-    let on : heard ≤ now = replies_on a.course.replies.items c.go_on.new.self.replies.items grown.more grown.replies in
-    let before = g.B.Body.left a.course.body in
+    let on : heard ≤ now = replies_on a.log.replies.items c.go_on.new.self.replies.items grown.more grown.replies in
+    let before = g.B.Body.left a.log.body in
     let calls = g.B.Body.left c.go_on.new.self.body in
-    let renewal : Renewal = record { bound = a.renewal.bound; extended = c.still-self.result; fresh = c.replace.new.dest; watches = a.renewal.watches } in
+    let extension : Extension = record { bound = a.extension.bound; extended = c.still-self.result; fresh = c.replace.new.dest; watches = a.extension.watches } in
     let heard_is : c.len-heard.result ≡ heard = c.len-heard.ensures in
     let now_is : c.len-2.result ≡ now = c.len-2.ensures in
-    let iff : IsTrue c.still-self.result ↔ (IsTrue a.renewal.extended × (now ≡ heard)) =
+    let iff : IsTrue c.still-self.result ↔ (IsTrue a.extension.extended × (now ≡ heard)) =
     ((λ e. let h = c.still-self.ensures.0 e in (h.0, omega (arith, h.1, heard_is, now_is))), (λ h. c.still-self.ensures.1 (h.0, omega (arith, h.1, heard_is, now_is)))) in
-    advance_fewer m.widths a.renewal.bound c.go_on.new.self.set.updates c.in_ok-reached.reached c.lead-stand.result.0 c.lead-stand.result.1 c.lead-stand.ensures before calls heard now a.renewal.extended c.still-self.result a.words.items renewal
-    c.go_on.new.self.base.items (drop (length a.renewal.fresh.items) (map watched a.renewal.watches.items)) refl c.requires.extended c.in_ok-reached.ensures.left on c.in_ok-reached.ensures.asks iff
+    advance_fewer m.widths a.extension.bound c.go_on.new.self.set.updates c.in_ok-reached.reached c.lead-read_phase.result.0 c.lead-read_phase.result.1 c.lead-read_phase.ensures before calls heard now a.extension.extended c.still-self.result a.words.items extension
+    c.go_on.new.self.base.items (drop (length a.extension.fresh.items) (map watched a.extension.watches.items)) refl c.requires.extended c.in_ok-reached.ensures.left on c.in_ok-reached.ensures.asks iff
 
 pub returns-in_err-reached-clause-stopped : goal.returns-in_err-reached-clause-stopped
 returns-in_err-reached-clause-stopped g c v spans =
     let a = c.args.self.now in
-    let m = g.T.TxType.meaning a.course.ty.now in
-    let f = g.B.Body.script a.course.body in
+    let m = g.T.TxType.meaning a.log.ty.now in
+    let f = g.B.Body.script a.log.body in
     let now = map told c.go_on.new.self.replies.items in
     let made = c.replace.result.items in
-    let same : made ≡ a.renewal.fresh.items = ap (λ (l : Listed Sight). l.items) c.replace.ensures.value in
-    let claimed : AreClaimed v a.renewal.bound made = subst (λ (l : List Sight). AreClaimed v a.renewal.bound l) (sym same) spans.renewed in
-    always_err c.from_residual.result (IsPrefix m f v a.renewal.bound now) (prefix_of m f v a.renewal.bound made now c.go_on.ensures.runs claimed)
+    let same : made ≡ a.extension.fresh.items = ap (λ (l : Listed ReadEntry). l.items) c.replace.ensures.value in
+    let claimed : AreClaimed v a.extension.bound made = subst (λ (l : List ReadEntry). AreClaimed v a.extension.bound l) (sym same) spans.renewed in
+    always_err c.from_residual.result (IsPrefix m f v a.extension.bound now) (prefix_of m f v a.extension.bound made now c.go_on.ensures.runs claimed)
 
 pub returns-clause-moves : goal.returns-clause-moves
 returns-clause-moves g c = (
-  led_begun c.args.self.now.renewal.bound c.go_on.new.self.set.updates c.in_ok-reached.reached c.lead-stand.result.0 c.lead-stand.result.1 c.lead-stand.ensures,
+  led_begun c.args.self.now.extension.bound c.go_on.new.self.set.updates c.in_ok-reached.reached c.lead-read_phase.result.0 c.lead-read_phase.result.1 c.lead-read_phase.ensures,
   c.requires.bound,
 )

@@ -3,16 +3,16 @@ use Rattle.sto_part.specs.Listed.{Listed}
 use Rattle.sto_model.specs.Told.{told}
 use Rattle.sto_core.specs.Versions.{ticket_of, is_free}
 use Rattle.sto_core.proofs.Lists.{locked_is, unlocked_is}
-use Rattle.sto_course.specs.declared.stand.Stand.TheVariants.{Reading, Renewing}
-use Rattle.sto_course.specs.Standing.{Fits}
-use Rattle.sto_course.specs.Answers.{WasChanged}
-use Rattle.sto_course.proofs.Reading.{open_within, open_locked, open_goes, open_renews, open_changed}
+use Rattle.sto_attempt_log.specs.declared.read_phase.ReadPhase.TheVariants.{Reading, Renewing}
+use Rattle.sto_attempt_log.specs.Standing.{Fits}
+use Rattle.sto_attempt_log.specs.Answers.{WasChanged}
+use Rattle.sto_attempt_log.proofs.Reading.{open_within, open_locked, open_goes, open_renews, open_changed}
 use Rattle.std.proofs.Common.{pos, true≢false}
-use Rattle.sto_course.proofs.Alone.{open_alone}
+use Rattle.sto_attempt_log.proofs.Alone.{open_alone}
 use Rattle.std.proofs.Common.{◌-◌, false, ◌<◌}
-use Rattle.sto_course.proofs.Lowering.{open_renew}
-use Rattle.sto_course.proofs.Causing.{by_open}
-use Rattle.sto_course.proofs.Onward.{heard_none}
+use Rattle.sto_attempt_log.proofs.Lowering.{open_renew}
+use Rattle.sto_attempt_log.proofs.Causing.{by_open}
+use Rattle.sto_attempt_log.proofs.Onward.{heard_none}
 use Rattle.sto_attempt.proofs.attempt.Attempt.open.Goals as goal
 
 pub returns-then-is_locked-clause-steps : goal.returns-then-is_locked-clause-steps
@@ -21,12 +21,12 @@ returns-then-is_locked-clause-steps g c =
     let n = c.open-found.result.0 in
     let locked : is_free n ≡ false = unlocked_is (is_free n) (sym c.is_locked.ensures ∙ c.if-is_locked.true) in
     let h =
-    open_locked (g.T.TxType.meaning a.course.ty.now) g.T.Naming.valid (g.T.Naming.sizes a.course.ty.now) (g.B.Body.script a.course.body) a.at c.args.part a.words.items a.course.base.items a.course.set.items a.course.set.updates
-    (map told a.course.replies.items) (g.C.Cells.view c.args.cells.now) (g.C.Cells.view c.open-found.new.self) (g.C.Cells.passes c.args.cells.now) n c.requires.goes.0 c.requires.course.course c.open-found.ensures.tells locked in
+    open_locked (g.T.TxType.meaning a.log.ty.now) g.T.Naming.valid (g.T.Naming.sizes a.log.ty.now) (g.B.Body.script a.log.body) a.at c.args.part a.words.items a.log.base.items a.log.set.items a.log.set.updates
+    (map told a.log.replies.items) (g.C.Cells.view c.args.cells.now) (g.C.Cells.view c.open-found.new.self) (g.C.Cells.passes c.args.cells.now) n c.requires.goes.0 c.requires.log.log c.open-found.ensures.tells locked in
     record {
       event = search rules;
-      course = c.requires.course;
-      turned = (refl, h.0, open_within (g.T.TxType.meaning a.course.ty.now) g.T.Naming.valid (g.T.Naming.sizes a.course.ty.now) (g.B.Body.script a.course.body) a.at c.args.part a.words.items a.course.base.items a.course.set.items a.course.set.updates (map told a.course.replies.items) (g.C.Cells.view c.args.cells.now) (g.C.Cells.view c.open-found.new.self) (g.C.Cells.passes c.args.cells.now) n c.requires.goes.0 c.requires.course.course c.open-found.ensures.tells, (refl, h.1));
+      log = c.requires.log;
+      turned = (refl, h.0, open_within (g.T.TxType.meaning a.log.ty.now) g.T.Naming.valid (g.T.Naming.sizes a.log.ty.now) (g.B.Body.script a.log.body) a.at c.args.part a.words.items a.log.base.items a.log.set.items a.log.set.updates (map told a.log.replies.items) (g.C.Cells.view c.args.cells.now) (g.C.Cells.view c.open-found.new.self) (g.C.Cells.passes c.args.cells.now) n c.requires.goes.0 c.requires.log.log c.open-found.ensures.tells, (refl, h.1));
       grown = heard_none _ _ _ _ _;
       alone = λ one first. (let v = g.C.Cells.view c.args.cells.now in
           let n = c.open-found.result.0 in
@@ -44,24 +44,24 @@ returns-then-is_locked-clause-steps g c =
 pub returns-then-ticket-self-clause-steps : goal.returns-then-ticket-self-clause-steps
 returns-then-ticket-self-clause-steps g c =
     let a = c.args.self.now in
-    let m = g.T.TxType.meaning a.course.ty.now in
-    let sizes = g.T.Naming.sizes a.course.ty.now in
-    let f = g.B.Body.script a.course.body in
-    let rs = map told a.course.replies.items in
+    let m = g.T.TxType.meaning a.log.ty.now in
+    let sizes = g.T.Naming.sizes a.log.ty.now in
+    let f = g.B.Body.script a.log.body in
+    let rs = map told a.log.replies.items in
     let w = g.C.Cells.view c.open-found.new.self in
     let n = c.open-found.result.0 in
     let free : is_free n ≡ true = locked_is (is_free n) (sym c.is_locked.ensures ∙ c.if-is_locked.false) in
     let early : ticket_of n ≤ a.at = omega (arith, c.if-ticket-self.true, c.ticket-ticket.ensures.ticket) in
     let h =
-    open_goes m g.T.Naming.valid sizes f a.at c.args.part a.words.items a.course.base.items a.course.set.items a.course.set.updates rs (g.C.Cells.view c.args.cells.now) w (g.C.Cells.passes c.args.cells.now) n c.requires.goes.0
-    c.requires.course.course c.open-found.ensures.tells free early in
+    open_goes m g.T.Naming.valid sizes f a.at c.args.part a.words.items a.log.base.items a.log.set.items a.log.set.updates rs (g.C.Cells.view c.args.cells.now) w (g.C.Cells.passes c.args.cells.now) n c.requires.goes.0
+    c.requires.log.log c.open-found.ensures.tells free early in
     let none : c.new.result.items ≡ [] = ap (λ (l : Listed ℤ). l.items) c.new.ensures in
     record {
       event = search rules;
-      course = c.requires.course;
+      log = c.requires.log;
       turned = (
-        subst (λ (ws : List ℤ). Fits m g.T.Naming.valid sizes f a.at (Reading c.args.part c.ticket-ticket.result) ws a.course.base.items a.course.set.updates rs w) (sym none)
-            (subst (λ (s : ℕ). Fits m g.T.Naming.valid sizes f a.at (Reading c.args.part s) [] a.course.base.items a.course.set.updates rs w) (sym c.ticket-ticket.ensures.ticket) h),
+        subst (λ (ws : List ℤ). Fits m g.T.Naming.valid sizes f a.at (Reading c.args.part c.ticket-ticket.result) ws a.log.base.items a.log.set.updates rs w) (sym none)
+            (subst (λ (s : ℕ). Fits m g.T.Naming.valid sizes f a.at (Reading c.args.part s) [] a.log.base.items a.log.set.updates rs w) (sym c.ticket-ticket.ensures.ticket) h),
         c.requires.goes.1,
       );
       grown = heard_none _ _ _ _ _;
@@ -78,26 +78,26 @@ returns-then-ticket-self-clause-steps g c =
 pub returns-then-self-clause-steps : goal.returns-then-self-clause-steps
 returns-then-self-clause-steps g c =
     let a = c.args.self.now in
-    let m = g.T.TxType.meaning a.course.ty.now in
-    let f = g.B.Body.script a.course.body in
-    let rs = map told a.course.replies.items in
+    let m = g.T.TxType.meaning a.log.ty.now in
+    let f = g.B.Body.script a.log.body in
+    let rs = map told a.log.replies.items in
     let w = g.C.Cells.view c.open-found.new.self in
     let n = c.open-found.result.0 in
     let free : is_free n ≡ true = locked_is (is_free n) (sym c.is_locked.ensures ∙ c.if-is_locked.false) in
     let later : a.at < ticket_of n = omega (arith, c.if-ticket-self.false, c.ticket-ticket.ensures.ticket) in
     let h =
-    open_changed m g.T.Naming.valid (g.T.Naming.sizes a.course.ty.now) f a.at c.args.part a.words.items a.course.base.items a.course.set.items a.course.set.updates rs (g.C.Cells.view c.args.cells.now) w
-    (g.C.Cells.passes c.args.cells.now) n c.requires.goes.0 c.requires.course.course c.open-found.ensures.tells free later in
+    open_changed m g.T.Naming.valid (g.T.Naming.sizes a.log.ty.now) f a.at c.args.part a.words.items a.log.base.items a.log.set.items a.log.set.updates rs (g.C.Cells.view c.args.cells.now) w
+    (g.C.Cells.passes c.args.cells.now) n c.requires.goes.0 c.requires.log.log c.open-found.ensures.tells free later in
     record {
       event = search rules;
-      course = c.requires.course;
-      turned = (refl, h.0, open_within (g.T.TxType.meaning a.course.ty.now) g.T.Naming.valid (g.T.Naming.sizes a.course.ty.now) (g.B.Body.script a.course.body) a.at c.args.part a.words.items a.course.base.items a.course.set.items a.course.set.updates (map told a.course.replies.items) (g.C.Cells.view c.args.cells.now) (g.C.Cells.view c.open-found.new.self) (g.C.Cells.passes c.args.cells.now) n c.requires.goes.0 c.requires.course.course c.open-found.ensures.tells, (refl, subst (λ (s : ℕ). WasChanged m f w a.at c.args.part s rs) (sym c.ticket-ticket.ensures.ticket) h.1));
+      log = c.requires.log;
+      turned = (refl, h.0, open_within (g.T.TxType.meaning a.log.ty.now) g.T.Naming.valid (g.T.Naming.sizes a.log.ty.now) (g.B.Body.script a.log.body) a.at c.args.part a.words.items a.log.base.items a.log.set.items a.log.set.updates (map told a.log.replies.items) (g.C.Cells.view c.args.cells.now) (g.C.Cells.view c.open-found.new.self) (g.C.Cells.passes c.args.cells.now) n c.requires.goes.0 c.requires.log.log c.open-found.ensures.tells, (refl, subst (λ (s : ℕ). WasChanged m f w a.at c.args.part s rs) (sym c.ticket-ticket.ensures.ticket) h.1));
       grown = heard_none _ _ _ _ _;
       alone = λ one first. (let v = g.C.Cells.view c.args.cells.now in
           let n = c.open-found.result.0 in
           let h = open_alone g.T.Naming.valid (g.C.Cells.passes c.args.cells.now) v (g.C.Cells.view c.open-found.new.self) c.args.part n (pos 0) c.requires.goes.0.unheld c.open-found.ensures.tells one in
           absurd (omega (arith, h.1, c.requires.goes.0.number, c.if-ticket-self.false, c.ticket-ticket.ensures.ticket)));
-      reason = by_open a.course.set.items (g.C.Cells.view c.open-found.new.self) c.args.part c.ticket-ticket.result a.renewal.extended a.renewal.bound c.if-self.true (omega (arith, c.if-ticket-self.false, c.requires.goes.1 c.if-self.true));
+      reason = by_open a.log.set.items (g.C.Cells.view c.open-found.new.self) c.args.part c.ticket-ticket.result a.extension.extended a.extension.bound c.if-self.true (omega (arith, c.if-ticket-self.false, c.requires.goes.1 c.if-self.true));
       renewed = (refl, λ e. (e, refl));
       moves = (tt, omega arith);
       left = search rules;
@@ -112,19 +112,19 @@ returns-clause-steps g c =
     let n = c.open-found.result.0 in
     let free : is_free n ≡ true = locked_is (is_free n) (sym c.is_locked.ensures ∙ c.if-is_locked.false) in
     let later : a.at < ticket_of n = omega (arith, c.if-ticket-self.false, c.ticket-ticket.ensures.ticket) in
-    let m = g.T.TxType.meaning a.course.ty.now in
-    let sizes = g.T.Naming.sizes a.course.ty.now in
-    let f = g.B.Body.script a.course.body in
-    let rs = map told a.course.replies.items in
+    let m = g.T.TxType.meaning a.log.ty.now in
+    let sizes = g.T.Naming.sizes a.log.ty.now in
+    let f = g.B.Body.script a.log.body in
+    let rs = map told a.log.replies.items in
     let w = g.C.Cells.view c.open-found.new.self in
-    let law = g.met.T.TxType.lawful a.course.ty.now in
-    let base = a.course.base.items in
+    let law = g.met.T.TxType.lawful a.log.ty.now in
+    let base = a.log.base.items in
     record {
       event = search rules;
-      course = c.requires.course;
-      turned = subst (λ (s : ℕ). Fits m g.T.Naming.valid sizes f a.at (Renewing c.args.part s) a.words.items a.course.base.items a.course.set.updates rs w) (sym c.ticket-ticket.ensures.ticket)
-          (open_renews (g.T.TxType.meaning a.course.ty.now) g.T.Naming.valid (g.T.Naming.sizes a.course.ty.now) (g.B.Body.script a.course.body) a.at c.args.part a.words.items a.course.base.items a.course.set.items a.course.set.updates
-          (map told a.course.replies.items) (g.C.Cells.view c.args.cells.now) (g.C.Cells.view c.open-found.new.self) (g.C.Cells.passes c.args.cells.now) n c.requires.goes.0 c.requires.course.course c.open-found.ensures.tells free later);
+      log = c.requires.log;
+      turned = subst (λ (s : ℕ). Fits m g.T.Naming.valid sizes f a.at (Renewing c.args.part s) a.words.items a.log.base.items a.log.set.updates rs w) (sym c.ticket-ticket.ensures.ticket)
+          (open_renews (g.T.TxType.meaning a.log.ty.now) g.T.Naming.valid (g.T.Naming.sizes a.log.ty.now) (g.B.Body.script a.log.body) a.at c.args.part a.words.items a.log.base.items a.log.set.items a.log.set.updates
+          (map told a.log.replies.items) (g.C.Cells.view c.args.cells.now) (g.C.Cells.view c.open-found.new.self) (g.C.Cells.passes c.args.cells.now) n c.requires.goes.0 c.requires.log.log c.open-found.ensures.tells free later);
       grown = heard_none _ _ _ _ _;
       alone = λ one first. (let v = g.C.Cells.view c.args.cells.now in
           let n = c.open-found.result.0 in
@@ -133,7 +133,7 @@ returns-clause-steps g c =
       reason = search rules;
       renewed = (refl, λ e. (e, refl));
       moves = (tt, omega arith);
-      left = open_renew m law f rs c.args.part base c.requires.goes.0.awaits (g.B.Body.left a.course.body - 1) a.renewal.extended c.if-self.false;
+      left = open_renew m law f rs c.args.part base c.requires.goes.0.awaits (g.B.Body.left a.log.body - 1) a.extension.extended c.if-self.false;
       err = tt;
       script = refl;
       ty = refl;

@@ -6,377 +6,377 @@ use Rattle.sto_model.specs.Told.{told}
 use Rattle.sto_type.specs.Known.{Parts, IsPartOf}
 use Rattle.sto_core.specs.Versions.{ticket_of, is_free}
 use Rattle.sto_core.proofs.Lists.{locked_is, unlocked_is}
-use Rattle.sto_course.specs.declared.sight.Sight.{Sight}
-use Rattle.sto_course.specs.Sights.{words_in}
-use Rattle.sto_course.specs.Answers.{WasChanged}
-use Rattle.sto_course.specs.Standing.{IsRenewed, Spans, IsLeft}
-use Rattle.sto_course.proofs.Reading.{always_err}
-use Rattle.sto_course.proofs.Again.{some_none, was_read, some_old, some_anew, recheck_allowed, rechecked_left, rechecked_within, rechecked_locked, rechecked_changed, rechecked_spans, rechecked_renewed}
+use Rattle.sto_attempt_log.specs.declared.read_entry.ReadEntry.{ReadEntry}
+use Rattle.sto_attempt_log.specs.ReadSet.{words_in}
+use Rattle.sto_attempt_log.specs.Answers.{WasChanged}
+use Rattle.sto_attempt_log.specs.Standing.{IsRenewed, Spans, IsLeft}
+use Rattle.sto_attempt_log.proofs.Reading.{always_err}
+use Rattle.sto_attempt_log.proofs.Again.{some_none, was_read, some_old, some_anew, recheck_allowed, rechecked_left, rechecked_within, rechecked_locked, rechecked_changed, rechecked_spans, rechecked_renewed}
 use Rattle.std.proofs.Common.{◌-◌, ◌+◌, drop, OnOk}
 use Rattle.sto_core.specs.Event.{Recheck}
-use Rattle.sto_course.specs.Bounds.{events_left, left_extending}
-use Rattle.sto_course.specs.Answers.{IsPrefix}
-use Rattle.sto_course.proofs.Onward.{heard_none}
-use Rattle.sto_course.proofs.Stepping.{ok_map}
-use Rattle.sto_course.proofs.Bounding.{left_watches}
-use Rattle.sto_course.proofs.Lowering.{recheck_over, recheck_fewer}
-use Rattle.sto_course.proofs.Causing.{err_both, unaborted_ok, by_sight}
-use Rattle.sto_course.proofs.Again.{rechecked_prefix, next_seen}
+use Rattle.sto_attempt_log.specs.Bounds.{events_left, left_extending}
+use Rattle.sto_attempt_log.specs.Answers.{IsPrefix}
+use Rattle.sto_attempt_log.proofs.Onward.{heard_none}
+use Rattle.sto_attempt_log.proofs.Stepping.{ok_map}
+use Rattle.sto_attempt_log.proofs.Bounding.{left_watches}
+use Rattle.sto_attempt_log.proofs.Lowering.{recheck_over, recheck_fewer}
+use Rattle.sto_attempt_log.proofs.Causing.{err_both, unaborted_ok, by_read_entry}
+use Rattle.sto_attempt_log.proofs.Again.{rechecked_prefix, next_seen}
 use Rattle.sto_attempt.proofs.attempt.Attempt.recheck.Goals as goal
 
 pub unreachable-requires : goal.unreachable-requires
 unreachable-requires g c =
     let a = c.args.self.now in
-    let m = g.T.TxType.meaning a.course.ty.now in
-    let law = g.met.T.TxType.lawful a.course.ty.now in
-    let sizes = g.T.Naming.sizes a.course.ty.now in
-    let is : (d : Parts) → g.T.Naming.valid sizes d → m.valid d = λ d h. (g.met.T.TxType.valid_is a.course.ty.now d).1 h in
-    let f = g.B.Body.script a.course.body in
-    let rs = map told a.course.replies.items in
+    let m = g.T.TxType.meaning a.log.ty.now in
+    let law = g.met.T.TxType.lawful a.log.ty.now in
+    let sizes = g.T.Naming.sizes a.log.ty.now in
+    let is : (d : Parts) → g.T.Naming.valid sizes d → m.valid d = λ d h. (g.met.T.TxType.valid_is a.log.ty.now d).1 h in
+    let f = g.B.Body.script a.log.body in
+    let rs = map told a.log.replies.items in
     let v = g.C.Cells.view c.args.cells.now in
-    let fresh = a.renewal.fresh.items in
-    let ws = map watched a.renewal.watches.items in
+    let fresh = a.extension.fresh.items in
+    let ws = map watched a.extension.watches.items in
     let goes = c.requires.goes in
-    let none : words_in a.course.base.items c.args.part ≡ None = c.in_default.ensures.words in
-    some_none (words_in a.course.base.items c.args.part) (was_read m law g.T.Naming.valid sizes is f a.at a.renewal.bound c.args.part true a.course.base.items fresh a.course.set.items ws a.course.set.updates rs v goes.spans goes.observed goes.stands.1 c.requires.course.course) none
+    let none : words_in a.log.base.items c.args.part ≡ None = c.in_default.ensures.words in
+    some_none (words_in a.log.base.items c.args.part) (was_read m law g.T.Naming.valid sizes is f a.at a.extension.bound c.args.part true a.log.base.items fresh a.log.set.items ws a.log.set.updates rs v goes.spans goes.observed goes.stands.1 c.requires.log.log) none
 
 pub recheck-found-requires : goal.recheck-found-requires
 recheck-found-requires g c =
     let a = c.args.self.now in
-    let m = g.T.TxType.meaning a.course.ty.now in
-    let law = g.met.T.TxType.lawful a.course.ty.now in
-    let sizes = g.T.Naming.sizes a.course.ty.now in
-    let is : (d : Parts) → g.T.Naming.valid sizes d → m.valid d = λ d h. (g.met.T.TxType.valid_is a.course.ty.now d).1 h in
-    let f = g.B.Body.script a.course.body in
-    let rs = map told a.course.replies.items in
+    let m = g.T.TxType.meaning a.log.ty.now in
+    let law = g.met.T.TxType.lawful a.log.ty.now in
+    let sizes = g.T.Naming.sizes a.log.ty.now in
+    let is : (d : Parts) → g.T.Naming.valid sizes d → m.valid d = λ d h. (g.met.T.TxType.valid_is a.log.ty.now d).1 h in
+    let f = g.B.Body.script a.log.body in
+    let rs = map told a.log.replies.items in
     let v = g.C.Cells.view c.args.cells.now in
-    let fresh = a.renewal.fresh.items in
-    let ws = map watched a.renewal.watches.items in
+    let fresh = a.extension.fresh.items in
+    let ws = map watched a.extension.watches.items in
     let goes = c.requires.goes in
-    let s = c.in-Some.sight.now in
-    let there : Contains a.course.base.items s = c.in-Some.ensures.among in
-    recheck_allowed m law g.T.Naming.valid sizes is f a.at a.renewal.bound c.args.part true a.course.base.items fresh a.course.set.items ws a.course.set.updates rs v goes.spans goes.observed goes.stands.1 c.requires.course.course goes.stands.0 s there c.in-Some.ensures.part
+    let s = c.in-Some.read_entry.now in
+    let there : Contains a.log.base.items s = c.in-Some.ensures.among in
+    recheck_allowed m law g.T.Naming.valid sizes is f a.at a.extension.bound c.args.part true a.log.base.items fresh a.log.set.items ws a.log.set.updates rs v goes.spans goes.observed goes.stands.1 c.requires.log.log goes.stands.0 s there c.in-Some.ensures.part
 
 pub returns-then-is_locked-clause-turned : goal.returns-then-is_locked-clause-turned
 returns-then-is_locked-clause-turned g c =
     let a = c.args.self.now in
-    let m = g.T.TxType.meaning a.course.ty.now in
-    let law = g.met.T.TxType.lawful a.course.ty.now in
-    let sizes = g.T.Naming.sizes a.course.ty.now in
-    let is : (d : Parts) → g.T.Naming.valid sizes d → m.valid d = λ d h. (g.met.T.TxType.valid_is a.course.ty.now d).1 h in
-    let f = g.B.Body.script a.course.body in
-    let rs = map told a.course.replies.items in
+    let m = g.T.TxType.meaning a.log.ty.now in
+    let law = g.met.T.TxType.lawful a.log.ty.now in
+    let sizes = g.T.Naming.sizes a.log.ty.now in
+    let is : (d : Parts) → g.T.Naming.valid sizes d → m.valid d = λ d h. (g.met.T.TxType.valid_is a.log.ty.now d).1 h in
+    let f = g.B.Body.script a.log.body in
+    let rs = map told a.log.replies.items in
     let v = g.C.Cells.view c.args.cells.now in
-    let fresh = a.renewal.fresh.items in
-    let ws = map watched a.renewal.watches.items in
+    let fresh = a.extension.fresh.items in
+    let ws = map watched a.extension.watches.items in
     let goes = c.requires.goes in
-    let s = c.in-Some.sight.now in
-    let there : Contains a.course.base.items s = c.in-Some.ensures.among in
+    let s = c.in-Some.read_entry.now in
+    let there : Contains a.log.base.items s = c.in-Some.ensures.among in
     let w = g.C.Cells.view c.recheck-found.new.self in
     let passes = g.C.Cells.passes c.args.cells.now in
     let n = c.recheck-found.result.0 in
     let locked : is_free n ≡ false = unlocked_is (is_free n) (sym c.is_locked.ensures ∙ c.if-is_locked.true) in
-    (refl, rechecked_left m law g.T.Naming.valid sizes is f a.at a.renewal.bound c.args.part true a.course.base.items fresh a.course.set.items ws a.course.set.updates rs v goes.spans goes.observed goes.stands.1 c.requires.course.course goes.stands.0 s there c.in-Some.ensures.part w passes n (pos 0) c.recheck-found.ensures.tells, rechecked_within m law g.T.Naming.valid sizes is f a.at a.renewal.bound c.args.part true a.course.base.items fresh a.course.set.items ws a.course.set.updates rs v goes.spans goes.observed goes.stands.1 c.requires.course.course goes.stands.0 s there c.in-Some.ensures.part w passes n (pos 0) c.recheck-found.ensures.tells, (refl, rechecked_locked m law g.T.Naming.valid sizes is f a.at a.renewal.bound c.args.part true a.course.base.items fresh a.course.set.items ws a.course.set.updates rs v goes.spans goes.observed goes.stands.1 c.requires.course.course goes.stands.0 s there c.in-Some.ensures.part w passes n (pos 0) c.recheck-found.ensures.tells locked))
+    (refl, rechecked_left m law g.T.Naming.valid sizes is f a.at a.extension.bound c.args.part true a.log.base.items fresh a.log.set.items ws a.log.set.updates rs v goes.spans goes.observed goes.stands.1 c.requires.log.log goes.stands.0 s there c.in-Some.ensures.part w passes n (pos 0) c.recheck-found.ensures.tells, rechecked_within m law g.T.Naming.valid sizes is f a.at a.extension.bound c.args.part true a.log.base.items fresh a.log.set.items ws a.log.set.updates rs v goes.spans goes.observed goes.stands.1 c.requires.log.log goes.stands.0 s there c.in-Some.ensures.part w passes n (pos 0) c.recheck-found.ensures.tells, (refl, rechecked_locked m law g.T.Naming.valid sizes is f a.at a.extension.bound c.args.part true a.log.base.items fresh a.log.set.items ws a.log.set.updates rs v goes.spans goes.observed goes.stands.1 c.requires.log.log goes.stands.0 s there c.in-Some.ensures.part w passes n (pos 0) c.recheck-found.ensures.tells locked))
 
 pub returns-then-newer-ticket-clause-turned : goal.returns-then-newer-ticket-clause-turned
 returns-then-newer-ticket-clause-turned g c =
     let a = c.args.self.now in
-    let m = g.T.TxType.meaning a.course.ty.now in
-    let law = g.met.T.TxType.lawful a.course.ty.now in
-    let sizes = g.T.Naming.sizes a.course.ty.now in
-    let is : (d : Parts) → g.T.Naming.valid sizes d → m.valid d = λ d h. (g.met.T.TxType.valid_is a.course.ty.now d).1 h in
-    let f = g.B.Body.script a.course.body in
-    let rs = map told a.course.replies.items in
+    let m = g.T.TxType.meaning a.log.ty.now in
+    let law = g.met.T.TxType.lawful a.log.ty.now in
+    let sizes = g.T.Naming.sizes a.log.ty.now in
+    let is : (d : Parts) → g.T.Naming.valid sizes d → m.valid d = λ d h. (g.met.T.TxType.valid_is a.log.ty.now d).1 h in
+    let f = g.B.Body.script a.log.body in
+    let rs = map told a.log.replies.items in
     let v = g.C.Cells.view c.args.cells.now in
-    let fresh = a.renewal.fresh.items in
-    let ws = map watched a.renewal.watches.items in
+    let fresh = a.extension.fresh.items in
+    let ws = map watched a.extension.watches.items in
     let goes = c.requires.goes in
-    let s = c.in-Some.sight.now in
-    let there : Contains a.course.base.items s = c.in-Some.ensures.among in
+    let s = c.in-Some.read_entry.now in
+    let there : Contains a.log.base.items s = c.in-Some.ensures.among in
     let w = g.C.Cells.view c.recheck-found.new.self in
     let passes = g.C.Cells.passes c.args.cells.now in
     let n = c.recheck-found.result.0 in
     let free : is_free n ≡ true = locked_is (is_free n) (sym c.is_locked.ensures ∙ c.if-is_locked.false) in
     let ne : ticket_of n ≡ s.ticket → ⊥ = λ h. c.if-newer-ticket.true (c.ticket-newer.ensures.ticket ∙ h) in
-    let h = rechecked_changed m law g.T.Naming.valid sizes is f a.at a.renewal.bound c.args.part true a.course.base.items fresh a.course.set.items ws a.course.set.updates rs v goes.spans goes.observed goes.stands.1 c.requires.course.course goes.stands.0 s there c.in-Some.ensures.part w passes n (pos 0) c.recheck-found.ensures.tells free ne in
-    (refl, rechecked_left m law g.T.Naming.valid sizes is f a.at a.renewal.bound c.args.part true a.course.base.items fresh a.course.set.items ws a.course.set.updates rs v goes.spans goes.observed goes.stands.1 c.requires.course.course goes.stands.0 s there c.in-Some.ensures.part w passes n (pos 0) c.recheck-found.ensures.tells, rechecked_within m law g.T.Naming.valid sizes is f a.at a.renewal.bound c.args.part true a.course.base.items fresh a.course.set.items ws a.course.set.updates rs v goes.spans goes.observed goes.stands.1 c.requires.course.course goes.stands.0 s there c.in-Some.ensures.part w passes n (pos 0) c.recheck-found.ensures.tells, (refl, subst (λ (k : ℕ). WasChanged m f w a.at c.args.part k rs) (sym c.ticket-newer.ensures.ticket) h))
+    let h = rechecked_changed m law g.T.Naming.valid sizes is f a.at a.extension.bound c.args.part true a.log.base.items fresh a.log.set.items ws a.log.set.updates rs v goes.spans goes.observed goes.stands.1 c.requires.log.log goes.stands.0 s there c.in-Some.ensures.part w passes n (pos 0) c.recheck-found.ensures.tells free ne in
+    (refl, rechecked_left m law g.T.Naming.valid sizes is f a.at a.extension.bound c.args.part true a.log.base.items fresh a.log.set.items ws a.log.set.updates rs v goes.spans goes.observed goes.stands.1 c.requires.log.log goes.stands.0 s there c.in-Some.ensures.part w passes n (pos 0) c.recheck-found.ensures.tells, rechecked_within m law g.T.Naming.valid sizes is f a.at a.extension.bound c.args.part true a.log.base.items fresh a.log.set.items ws a.log.set.updates rs v goes.spans goes.observed goes.stands.1 c.requires.log.log goes.stands.0 s there c.in-Some.ensures.part w passes n (pos 0) c.recheck-found.ensures.tells, (refl, subst (λ (k : ℕ). WasChanged m f w a.at c.args.part k rs) (sym c.ticket-newer.ensures.ticket) h))
 
 pub advance-requires-clause-renewed : goal.advance-requires-clause-renewed
 advance-requires-clause-renewed g c =
     let a = c.args.self.now in
-    let m = g.T.TxType.meaning a.course.ty.now in
-    let law = g.met.T.TxType.lawful a.course.ty.now in
-    let sizes = g.T.Naming.sizes a.course.ty.now in
-    let is : (d : Parts) → g.T.Naming.valid sizes d → m.valid d = λ d h. (g.met.T.TxType.valid_is a.course.ty.now d).1 h in
-    let f = g.B.Body.script a.course.body in
-    let rs = map told a.course.replies.items in
+    let m = g.T.TxType.meaning a.log.ty.now in
+    let law = g.met.T.TxType.lawful a.log.ty.now in
+    let sizes = g.T.Naming.sizes a.log.ty.now in
+    let is : (d : Parts) → g.T.Naming.valid sizes d → m.valid d = λ d h. (g.met.T.TxType.valid_is a.log.ty.now d).1 h in
+    let f = g.B.Body.script a.log.body in
+    let rs = map told a.log.replies.items in
     let v = g.C.Cells.view c.args.cells.now in
-    let fresh = a.renewal.fresh.items in
-    let ws = map watched a.renewal.watches.items in
+    let fresh = a.extension.fresh.items in
+    let ws = map watched a.extension.watches.items in
     let goes = c.requires.goes in
-    let s = c.in-Some.sight.now in
-    let there : Contains a.course.base.items s = c.in-Some.ensures.among in
+    let s = c.in-Some.read_entry.now in
+    let there : Contains a.log.base.items s = c.in-Some.ensures.among in
     let w = g.C.Cells.view c.recheck-found.new.self in
     let passes = g.C.Cells.passes c.args.cells.now in
     let n = c.recheck-found.result.0 in
     let free : is_free n ≡ true = locked_is (is_free n) (sym c.is_locked.ensures ∙ c.if-is_locked.false) in
     let same : ticket_of n ≡ s.ticket = sym c.ticket-newer.ensures.ticket ∙ c.if-newer-ticket.false in
-    let y : Sight = record { part = c.args.part; ticket = s.ticket; words = c.in_ok-words.words } in
-    let known : words_in a.course.base.items c.args.part ≡ Some s.words.items = c.in-Some.ensures.words in
+    let y : ReadEntry = record { part = c.args.part; ticket = s.ticket; words = c.in_ok-words.words } in
+    let known : words_in a.log.base.items c.args.part ≡ Some s.words.items = c.in-Some.ensures.words in
     let made : c.push.new.self.items ≡ fresh ++ y ∷ [] = c.in_ok-push.ensures.ok in
-    let h = rechecked_renewed m law g.T.Naming.valid sizes is f a.at a.renewal.bound c.args.part true a.course.base.items fresh a.course.set.items ws a.course.set.updates rs v goes.spans goes.observed goes.stands.1 c.requires.course.course goes.stands.0 s there c.in-Some.ensures.part w passes n (pos 0) c.recheck-found.ensures.tells free same y refl refl c.in_ok-words.ensures known refl in
-    (goes.stands.1.more, subst (λ (l : List Sight). IsRenewed (length m.widths) (words_in a.course.base.items) l ws goes.stands.1.more) (sym made) h)
+    let h = rechecked_renewed m law g.T.Naming.valid sizes is f a.at a.extension.bound c.args.part true a.log.base.items fresh a.log.set.items ws a.log.set.updates rs v goes.spans goes.observed goes.stands.1 c.requires.log.log goes.stands.0 s there c.in-Some.ensures.part w passes n (pos 0) c.recheck-found.ensures.tells free same y refl refl c.in_ok-words.ensures known refl in
+    (goes.stands.1.more, subst (λ (l : List ReadEntry). IsRenewed (length m.widths) (words_in a.log.base.items) l ws goes.stands.1.more) (sym made) h)
 
 pub advance-requires-clause-some : goal.advance-requires-clause-some
 advance-requires-clause-some g c =
     let a = c.args.self.now in
-    let m = g.T.TxType.meaning a.course.ty.now in
-    let law = g.met.T.TxType.lawful a.course.ty.now in
-    let sizes = g.T.Naming.sizes a.course.ty.now in
-    let is : (d : Parts) → g.T.Naming.valid sizes d → m.valid d = λ d h. (g.met.T.TxType.valid_is a.course.ty.now d).1 h in
-    let f = g.B.Body.script a.course.body in
-    let rs = map told a.course.replies.items in
+    let m = g.T.TxType.meaning a.log.ty.now in
+    let law = g.met.T.TxType.lawful a.log.ty.now in
+    let sizes = g.T.Naming.sizes a.log.ty.now in
+    let is : (d : Parts) → g.T.Naming.valid sizes d → m.valid d = λ d h. (g.met.T.TxType.valid_is a.log.ty.now d).1 h in
+    let f = g.B.Body.script a.log.body in
+    let rs = map told a.log.replies.items in
     let v = g.C.Cells.view c.args.cells.now in
-    let fresh = a.renewal.fresh.items in
-    let ws = map watched a.renewal.watches.items in
+    let fresh = a.extension.fresh.items in
+    let ws = map watched a.extension.watches.items in
     let goes = c.requires.goes in
-    some_old m law g.T.Naming.valid sizes is f a.at a.renewal.bound c.args.part true a.course.base.items fresh a.course.set.items ws a.course.set.updates rs v goes.spans goes.observed goes.stands.1 c.requires.course.course
+    some_old m law g.T.Naming.valid sizes is f a.at a.extension.bound c.args.part true a.log.base.items fresh a.log.set.items ws a.log.set.updates rs v goes.spans goes.observed goes.stands.1 c.requires.log.log
 
 pub advance-requires-clause-some_new : goal.advance-requires-clause-some_new
 advance-requires-clause-some_new g c =
     let a = c.args.self.now in
-    let m = g.T.TxType.meaning a.course.ty.now in
-    let law = g.met.T.TxType.lawful a.course.ty.now in
-    let sizes = g.T.Naming.sizes a.course.ty.now in
-    let is : (d : Parts) → g.T.Naming.valid sizes d → m.valid d = λ d h. (g.met.T.TxType.valid_is a.course.ty.now d).1 h in
-    let f = g.B.Body.script a.course.body in
-    let rs = map told a.course.replies.items in
+    let m = g.T.TxType.meaning a.log.ty.now in
+    let law = g.met.T.TxType.lawful a.log.ty.now in
+    let sizes = g.T.Naming.sizes a.log.ty.now in
+    let is : (d : Parts) → g.T.Naming.valid sizes d → m.valid d = λ d h. (g.met.T.TxType.valid_is a.log.ty.now d).1 h in
+    let f = g.B.Body.script a.log.body in
+    let rs = map told a.log.replies.items in
     let v = g.C.Cells.view c.args.cells.now in
-    let fresh = a.renewal.fresh.items in
-    let ws = map watched a.renewal.watches.items in
+    let fresh = a.extension.fresh.items in
+    let ws = map watched a.extension.watches.items in
     let goes = c.requires.goes in
-    let s = c.in-Some.sight.now in
-    let there : Contains a.course.base.items s = c.in-Some.ensures.among in
+    let s = c.in-Some.read_entry.now in
+    let there : Contains a.log.base.items s = c.in-Some.ensures.among in
     let w = g.C.Cells.view c.recheck-found.new.self in
     let passes = g.C.Cells.passes c.args.cells.now in
     let n = c.recheck-found.result.0 in
     let free : is_free n ≡ true = locked_is (is_free n) (sym c.is_locked.ensures ∙ c.if-is_locked.false) in
     let same : ticket_of n ≡ s.ticket = sym c.ticket-newer.ensures.ticket ∙ c.if-newer-ticket.false in
-    let y : Sight = record { part = c.args.part; ticket = s.ticket; words = c.in_ok-words.words } in
-    let known : words_in a.course.base.items c.args.part ≡ Some s.words.items = c.in-Some.ensures.words in
+    let y : ReadEntry = record { part = c.args.part; ticket = s.ticket; words = c.in_ok-words.words } in
+    let known : words_in a.log.base.items c.args.part ≡ Some s.words.items = c.in-Some.ensures.words in
     let made : c.push.new.self.items ≡ fresh ++ y ∷ [] = c.in_ok-push.ensures.ok in
-    let h = rechecked_spans m law g.T.Naming.valid sizes is f a.at a.renewal.bound c.args.part true a.course.base.items fresh a.course.set.items ws a.course.set.updates rs v goes.spans goes.observed goes.stands.1 c.requires.course.course goes.stands.0 s there c.in-Some.ensures.part w passes n (pos 0) c.recheck-found.ensures.tells free same y refl refl c.in_ok-words.ensures known in
-    let d = some_anew m law g.T.Naming.valid sizes is f a.at a.renewal.bound c.args.part true a.course.base.items fresh a.course.set.items ws a.course.set.updates rs v goes.spans goes.observed goes.stands.1 c.requires.course.course w (fresh ++ y ∷ []) h.0 in
-    subst (λ (l : List Sight). (d : Parts) × m.valid d × IsPartOf (words_in l) d) (sym made) d
+    let h = rechecked_spans m law g.T.Naming.valid sizes is f a.at a.extension.bound c.args.part true a.log.base.items fresh a.log.set.items ws a.log.set.updates rs v goes.spans goes.observed goes.stands.1 c.requires.log.log goes.stands.0 s there c.in-Some.ensures.part w passes n (pos 0) c.recheck-found.ensures.tells free same y refl refl c.in_ok-words.ensures known in
+    let d = some_anew m law g.T.Naming.valid sizes is f a.at a.extension.bound c.args.part true a.log.base.items fresh a.log.set.items ws a.log.set.updates rs v goes.spans goes.observed goes.stands.1 c.requires.log.log w (fresh ++ y ∷ []) h.0 in
+    subst (λ (l : List ReadEntry). (d : Parts) × m.valid d × IsPartOf (words_in l) d) (sym made) d
 
 pub returns-clause-turned : goal.returns-clause-turned
 returns-clause-turned g c =
     let a = c.args.self.now in
-    let m = g.T.TxType.meaning a.course.ty.now in
-    let law = g.met.T.TxType.lawful a.course.ty.now in
-    let sizes = g.T.Naming.sizes a.course.ty.now in
-    let is : (d : Parts) → g.T.Naming.valid sizes d → m.valid d = λ d h. (g.met.T.TxType.valid_is a.course.ty.now d).1 h in
-    let f = g.B.Body.script a.course.body in
-    let rs = map told a.course.replies.items in
+    let m = g.T.TxType.meaning a.log.ty.now in
+    let law = g.met.T.TxType.lawful a.log.ty.now in
+    let sizes = g.T.Naming.sizes a.log.ty.now in
+    let is : (d : Parts) → g.T.Naming.valid sizes d → m.valid d = λ d h. (g.met.T.TxType.valid_is a.log.ty.now d).1 h in
+    let f = g.B.Body.script a.log.body in
+    let rs = map told a.log.replies.items in
     let v = g.C.Cells.view c.args.cells.now in
-    let fresh = a.renewal.fresh.items in
-    let ws = map watched a.renewal.watches.items in
+    let fresh = a.extension.fresh.items in
+    let ws = map watched a.extension.watches.items in
     let goes = c.requires.goes in
-    let s = c.in-Some.sight.now in
-    let there : Contains a.course.base.items s = c.in-Some.ensures.among in
+    let s = c.in-Some.read_entry.now in
+    let there : Contains a.log.base.items s = c.in-Some.ensures.among in
     let w = g.C.Cells.view c.recheck-found.new.self in
     let passes = g.C.Cells.passes c.args.cells.now in
     let n = c.recheck-found.result.0 in
     let free : is_free n ≡ true = locked_is (is_free n) (sym c.is_locked.ensures ∙ c.if-is_locked.false) in
     let same : ticket_of n ≡ s.ticket = sym c.ticket-newer.ensures.ticket ∙ c.if-newer-ticket.false in
-    let y : Sight = record { part = c.args.part; ticket = s.ticket; words = c.in_ok-words.words } in
-    let known : words_in a.course.base.items c.args.part ≡ Some s.words.items = c.in-Some.ensures.words in
+    let y : ReadEntry = record { part = c.args.part; ticket = s.ticket; words = c.in_ok-words.words } in
+    let known : words_in a.log.base.items c.args.part ≡ Some s.words.items = c.in-Some.ensures.words in
     let made : c.push.new.self.items ≡ fresh ++ y ∷ [] = c.in_ok-push.ensures.ok in
-    let h = rechecked_spans m law g.T.Naming.valid sizes is f a.at a.renewal.bound c.args.part true a.course.base.items fresh a.course.set.items ws a.course.set.updates rs v goes.spans goes.observed goes.stands.1 c.requires.course.course goes.stands.0 s there c.in-Some.ensures.part w passes n (pos 0) c.recheck-found.ensures.tells free same y refl refl c.in_ok-words.ensures known in
-    c.advance.ensures.turned w (subst (λ (l : List Sight). Spans m g.T.Naming.valid sizes a.at a.renewal.bound a.course.base.items l w) (sym made) h.0) h.1
+    let h = rechecked_spans m law g.T.Naming.valid sizes is f a.at a.extension.bound c.args.part true a.log.base.items fresh a.log.set.items ws a.log.set.updates rs v goes.spans goes.observed goes.stands.1 c.requires.log.log goes.stands.0 s there c.in-Some.ensures.part w passes n (pos 0) c.recheck-found.ensures.tells free same y refl refl c.in_ok-words.ensures known in
+    c.advance.ensures.turned w (subst (λ (l : List ReadEntry). Spans m g.T.Naming.valid sizes a.at a.extension.bound a.log.base.items l w) (sym made) h.0) h.1
 
 pub returns-then-is_locked-clause-grown : goal.returns-then-is_locked-clause-grown
 returns-then-is_locked-clause-grown g c =
     let a = c.args.self.now in
-    heard_none (g.T.TxType.meaning a.course.ty.now) (g.B.Body.script a.course.body) (words_in a.course.base.items) (map told a.course.replies.items) a.course.set
+    heard_none (g.T.TxType.meaning a.log.ty.now) (g.B.Body.script a.log.body) (words_in a.log.base.items) (map told a.log.replies.items) a.log.set
 
 pub returns-then-newer-ticket-clause-grown : goal.returns-then-newer-ticket-clause-grown
 returns-then-newer-ticket-clause-grown g c =
     let a = c.args.self.now in
-    heard_none (g.T.TxType.meaning a.course.ty.now) (g.B.Body.script a.course.body) (words_in a.course.base.items) (map told a.course.replies.items) a.course.set
+    heard_none (g.T.TxType.meaning a.log.ty.now) (g.B.Body.script a.log.body) (words_in a.log.base.items) (map told a.log.replies.items) a.log.set
 
 pub returns-clause-reason : goal.returns-clause-reason
 returns-clause-reason g c =
     let a = c.args.self.now in
-    unaborted_ok (Recheck c.args.part) c.advance.new.self.course.set.items (g.C.Cells.view c.recheck-found.new.self) a.renewal c.advance.result c.advance.ensures.unaborted
+    unaborted_ok (Recheck c.args.part) c.advance.new.self.log.set.items (g.C.Cells.view c.recheck-found.new.self) a.extension c.advance.result c.advance.ensures.unaborted
 
 pub returns-clause-renewed : goal.returns-clause-renewed
 returns-clause-renewed g c =
     let a = c.args.self.now in
     let b = c.advance.new.self in
-    let rs = map told a.course.replies.items in
-    let now = map told b.course.replies.items in
-    ok_map c.advance.result ((b.renewal.bound ≡ a.renewal.bound) × (b.renewal.extended ≡ true → now ≡ rs)) ((b.renewal.bound ≡ a.renewal.bound) × (b.renewal.extended ≡ true → (a.renewal.extended ≡ true) × (now ≡ rs)))
+    let rs = map told a.log.replies.items in
+    let now = map told b.log.replies.items in
+    ok_map c.advance.result ((b.extension.bound ≡ a.extension.bound) × (b.extension.extended ≡ true → now ≡ rs)) ((b.extension.bound ≡ a.extension.bound) × (b.extension.extended ≡ true → (a.extension.extended ≡ true) × (now ≡ rs)))
     (λ h. (h.0, λ e. (c.requires.goes.extended, h.1 e))) c.advance.ensures.renewed
 
 pub returns-then-newer-ticket-clause-reason : goal.returns-then-newer-ticket-clause-reason
 returns-then-newer-ticket-clause-reason g c =
     let a = c.args.self.now in
-    let ws = map watched a.renewal.watches.items in
-    by_sight (Recheck c.args.part) a.course.set.items (g.C.Cells.view c.recheck-found.new.self) c.args.part c.ticket-newer.result a.renewal.extended a.renewal.bound
-    (next_seen (length (g.T.TxType.meaning a.course.ty.now).widths) (words_in a.course.base.items) a.renewal.fresh.items ws c.args.part a.course.set.items c.requires.goes.observed c.requires.goes.stands.1)
+    let ws = map watched a.extension.watches.items in
+    by_read_entry (Recheck c.args.part) a.log.set.items (g.C.Cells.view c.recheck-found.new.self) c.args.part c.ticket-newer.result a.extension.extended a.extension.bound
+    (next_seen (length (g.T.TxType.meaning a.log.ty.now).widths) (words_in a.log.base.items) a.extension.fresh.items ws c.args.part a.log.set.items c.requires.goes.observed c.requires.goes.stands.1)
 
 pub returns-then-is_locked-clause-left : goal.returns-then-is_locked-clause-left
 returns-then-is_locked-clause-left g c =
     let a = c.args.self.now in
-    let m = g.T.TxType.meaning a.course.ty.now in
-    let law = g.met.T.TxType.lawful a.course.ty.now in
-    let sizes = g.T.Naming.sizes a.course.ty.now in
-    let is : (d : Parts) → g.T.Naming.valid sizes d → m.valid d = λ d h. (g.met.T.TxType.valid_is a.course.ty.now d).1 h in
-    let f = g.B.Body.script a.course.body in
-    let rs = map told a.course.replies.items in
+    let m = g.T.TxType.meaning a.log.ty.now in
+    let law = g.met.T.TxType.lawful a.log.ty.now in
+    let sizes = g.T.Naming.sizes a.log.ty.now in
+    let is : (d : Parts) → g.T.Naming.valid sizes d → m.valid d = λ d h. (g.met.T.TxType.valid_is a.log.ty.now d).1 h in
+    let f = g.B.Body.script a.log.body in
+    let rs = map told a.log.replies.items in
     let v = g.C.Cells.view c.args.cells.now in
-    let fresh = a.renewal.fresh.items in
-    let ws = map watched a.renewal.watches.items in
+    let fresh = a.extension.fresh.items in
+    let ws = map watched a.extension.watches.items in
     let goes = c.requires.goes in
     let passes = g.C.Cells.passes c.args.cells.now in
-    recheck_over m.widths (words_in a.course.base.items) fresh ws c.args.part goes.stands.1 (g.B.Body.left a.course.body - 1)
+    recheck_over m.widths (words_in a.log.base.items) fresh ws c.args.part goes.stands.1 (g.B.Body.left a.log.body - 1)
 
 pub returns-then-newer-ticket-clause-left : goal.returns-then-newer-ticket-clause-left
 returns-then-newer-ticket-clause-left g c =
     let a = c.args.self.now in
-    let m = g.T.TxType.meaning a.course.ty.now in
-    let law = g.met.T.TxType.lawful a.course.ty.now in
-    let sizes = g.T.Naming.sizes a.course.ty.now in
-    let is : (d : Parts) → g.T.Naming.valid sizes d → m.valid d = λ d h. (g.met.T.TxType.valid_is a.course.ty.now d).1 h in
-    let f = g.B.Body.script a.course.body in
-    let rs = map told a.course.replies.items in
+    let m = g.T.TxType.meaning a.log.ty.now in
+    let law = g.met.T.TxType.lawful a.log.ty.now in
+    let sizes = g.T.Naming.sizes a.log.ty.now in
+    let is : (d : Parts) → g.T.Naming.valid sizes d → m.valid d = λ d h. (g.met.T.TxType.valid_is a.log.ty.now d).1 h in
+    let f = g.B.Body.script a.log.body in
+    let rs = map told a.log.replies.items in
     let v = g.C.Cells.view c.args.cells.now in
-    let fresh = a.renewal.fresh.items in
-    let ws = map watched a.renewal.watches.items in
+    let fresh = a.extension.fresh.items in
+    let ws = map watched a.extension.watches.items in
     let goes = c.requires.goes in
     let passes = g.C.Cells.passes c.args.cells.now in
-    recheck_over m.widths (words_in a.course.base.items) fresh ws c.args.part goes.stands.1 (g.B.Body.left a.course.body - 1)
+    recheck_over m.widths (words_in a.log.base.items) fresh ws c.args.part goes.stands.1 (g.B.Body.left a.log.body - 1)
 
 pub returns-in_err-words-clause-err : goal.returns-in_err-words-clause-err
 returns-in_err-words-clause-err g c =
     let a = c.args.self.now in
-    let m = g.T.TxType.meaning a.course.ty.now in
-    let law = g.met.T.TxType.lawful a.course.ty.now in
-    let sizes = g.T.Naming.sizes a.course.ty.now in
-    let is : (d : Parts) → g.T.Naming.valid sizes d → m.valid d = λ d h. (g.met.T.TxType.valid_is a.course.ty.now d).1 h in
-    let f = g.B.Body.script a.course.body in
-    let rs = map told a.course.replies.items in
+    let m = g.T.TxType.meaning a.log.ty.now in
+    let law = g.met.T.TxType.lawful a.log.ty.now in
+    let sizes = g.T.Naming.sizes a.log.ty.now in
+    let is : (d : Parts) → g.T.Naming.valid sizes d → m.valid d = λ d h. (g.met.T.TxType.valid_is a.log.ty.now d).1 h in
+    let f = g.B.Body.script a.log.body in
+    let rs = map told a.log.replies.items in
     let v = g.C.Cells.view c.args.cells.now in
-    let fresh = a.renewal.fresh.items in
-    let ws = map watched a.renewal.watches.items in
+    let fresh = a.extension.fresh.items in
+    let ws = map watched a.extension.watches.items in
     let goes = c.requires.goes in
     let passes = g.C.Cells.passes c.args.cells.now in
-    let s = c.in-Some.sight.now in
-    let there : Contains a.course.base.items s = c.in-Some.ensures.among in
+    let s = c.in-Some.read_entry.now in
+    let there : Contains a.log.base.items s = c.in-Some.ensures.among in
     let w = g.C.Cells.view c.recheck-found.new.self in
     let n = c.recheck-found.result.0 in
-    always_err c.from_residual.result (IsLeft w × IsPrefix m f w a.at rs) (rechecked_left m law g.T.Naming.valid sizes is f a.at a.renewal.bound c.args.part true a.course.base.items fresh a.course.set.items ws a.course.set.updates rs v goes.spans goes.observed goes.stands.1 c.requires.course.course goes.stands.0 s there c.in-Some.ensures.part w passes n (pos 0) c.recheck-found.ensures.tells, rechecked_prefix m law g.T.Naming.valid sizes is f a.at a.renewal.bound c.args.part true a.course.base.items fresh a.course.set.items ws a.course.set.updates rs v goes.spans goes.observed goes.stands.1 c.requires.course.course goes.stands.0 s there c.in-Some.ensures.part w passes n (pos 0) c.recheck-found.ensures.tells)
+    always_err c.from_residual.result (IsLeft w × IsPrefix m f w a.at rs) (rechecked_left m law g.T.Naming.valid sizes is f a.at a.extension.bound c.args.part true a.log.base.items fresh a.log.set.items ws a.log.set.updates rs v goes.spans goes.observed goes.stands.1 c.requires.log.log goes.stands.0 s there c.in-Some.ensures.part w passes n (pos 0) c.recheck-found.ensures.tells, rechecked_prefix m law g.T.Naming.valid sizes is f a.at a.extension.bound c.args.part true a.log.base.items fresh a.log.set.items ws a.log.set.updates rs v goes.spans goes.observed goes.stands.1 c.requires.log.log goes.stands.0 s there c.in-Some.ensures.part w passes n (pos 0) c.recheck-found.ensures.tells)
 
 pub returns-then-len-eq4294967295-clause-err : goal.returns-then-len-eq4294967295-clause-err
 returns-then-len-eq4294967295-clause-err g c =
     let a = c.args.self.now in
-    let m = g.T.TxType.meaning a.course.ty.now in
-    let law = g.met.T.TxType.lawful a.course.ty.now in
-    let sizes = g.T.Naming.sizes a.course.ty.now in
-    let is : (d : Parts) → g.T.Naming.valid sizes d → m.valid d = λ d h. (g.met.T.TxType.valid_is a.course.ty.now d).1 h in
-    let f = g.B.Body.script a.course.body in
-    let rs = map told a.course.replies.items in
+    let m = g.T.TxType.meaning a.log.ty.now in
+    let law = g.met.T.TxType.lawful a.log.ty.now in
+    let sizes = g.T.Naming.sizes a.log.ty.now in
+    let is : (d : Parts) → g.T.Naming.valid sizes d → m.valid d = λ d h. (g.met.T.TxType.valid_is a.log.ty.now d).1 h in
+    let f = g.B.Body.script a.log.body in
+    let rs = map told a.log.replies.items in
     let v = g.C.Cells.view c.args.cells.now in
-    let fresh = a.renewal.fresh.items in
-    let ws = map watched a.renewal.watches.items in
+    let fresh = a.extension.fresh.items in
+    let ws = map watched a.extension.watches.items in
     let goes = c.requires.goes in
     let passes = g.C.Cells.passes c.args.cells.now in
-    let s = c.in-Some.sight.now in
-    let there : Contains a.course.base.items s = c.in-Some.ensures.among in
+    let s = c.in-Some.read_entry.now in
+    let there : Contains a.log.base.items s = c.in-Some.ensures.among in
     let w = g.C.Cells.view c.recheck-found.new.self in
     let n = c.recheck-found.result.0 in
-    (rechecked_left m law g.T.Naming.valid sizes is f a.at a.renewal.bound c.args.part true a.course.base.items fresh a.course.set.items ws a.course.set.updates rs v goes.spans goes.observed goes.stands.1 c.requires.course.course goes.stands.0 s there c.in-Some.ensures.part w passes n (pos 0) c.recheck-found.ensures.tells, rechecked_prefix m law g.T.Naming.valid sizes is f a.at a.renewal.bound c.args.part true a.course.base.items fresh a.course.set.items ws a.course.set.updates rs v goes.spans goes.observed goes.stands.1 c.requires.course.course goes.stands.0 s there c.in-Some.ensures.part w passes n (pos 0) c.recheck-found.ensures.tells)
+    (rechecked_left m law g.T.Naming.valid sizes is f a.at a.extension.bound c.args.part true a.log.base.items fresh a.log.set.items ws a.log.set.updates rs v goes.spans goes.observed goes.stands.1 c.requires.log.log goes.stands.0 s there c.in-Some.ensures.part w passes n (pos 0) c.recheck-found.ensures.tells, rechecked_prefix m law g.T.Naming.valid sizes is f a.at a.extension.bound c.args.part true a.log.base.items fresh a.log.set.items ws a.log.set.updates rs v goes.spans goes.observed goes.stands.1 c.requires.log.log goes.stands.0 s there c.in-Some.ensures.part w passes n (pos 0) c.recheck-found.ensures.tells)
 
 pub returns-in_err-push-clause-err : goal.returns-in_err-push-clause-err
 returns-in_err-push-clause-err g c =
     let a = c.args.self.now in
-    let m = g.T.TxType.meaning a.course.ty.now in
-    let law = g.met.T.TxType.lawful a.course.ty.now in
-    let sizes = g.T.Naming.sizes a.course.ty.now in
-    let is : (d : Parts) → g.T.Naming.valid sizes d → m.valid d = λ d h. (g.met.T.TxType.valid_is a.course.ty.now d).1 h in
-    let f = g.B.Body.script a.course.body in
-    let rs = map told a.course.replies.items in
+    let m = g.T.TxType.meaning a.log.ty.now in
+    let law = g.met.T.TxType.lawful a.log.ty.now in
+    let sizes = g.T.Naming.sizes a.log.ty.now in
+    let is : (d : Parts) → g.T.Naming.valid sizes d → m.valid d = λ d h. (g.met.T.TxType.valid_is a.log.ty.now d).1 h in
+    let f = g.B.Body.script a.log.body in
+    let rs = map told a.log.replies.items in
     let v = g.C.Cells.view c.args.cells.now in
-    let fresh = a.renewal.fresh.items in
-    let ws = map watched a.renewal.watches.items in
+    let fresh = a.extension.fresh.items in
+    let ws = map watched a.extension.watches.items in
     let goes = c.requires.goes in
     let passes = g.C.Cells.passes c.args.cells.now in
-    let s = c.in-Some.sight.now in
-    let there : Contains a.course.base.items s = c.in-Some.ensures.among in
+    let s = c.in-Some.read_entry.now in
+    let there : Contains a.log.base.items s = c.in-Some.ensures.among in
     let w = g.C.Cells.view c.recheck-found.new.self in
     let n = c.recheck-found.result.0 in
-    always_err c.from_residual-in_err-push.result (IsLeft w × IsPrefix m f w a.at rs) (rechecked_left m law g.T.Naming.valid sizes is f a.at a.renewal.bound c.args.part true a.course.base.items fresh a.course.set.items ws a.course.set.updates rs v goes.spans goes.observed goes.stands.1 c.requires.course.course goes.stands.0 s there c.in-Some.ensures.part w passes n (pos 0) c.recheck-found.ensures.tells, rechecked_prefix m law g.T.Naming.valid sizes is f a.at a.renewal.bound c.args.part true a.course.base.items fresh a.course.set.items ws a.course.set.updates rs v goes.spans goes.observed goes.stands.1 c.requires.course.course goes.stands.0 s there c.in-Some.ensures.part w passes n (pos 0) c.recheck-found.ensures.tells)
+    always_err c.from_residual-in_err-push.result (IsLeft w × IsPrefix m f w a.at rs) (rechecked_left m law g.T.Naming.valid sizes is f a.at a.extension.bound c.args.part true a.log.base.items fresh a.log.set.items ws a.log.set.updates rs v goes.spans goes.observed goes.stands.1 c.requires.log.log goes.stands.0 s there c.in-Some.ensures.part w passes n (pos 0) c.recheck-found.ensures.tells, rechecked_prefix m law g.T.Naming.valid sizes is f a.at a.extension.bound c.args.part true a.log.base.items fresh a.log.set.items ws a.log.set.updates rs v goes.spans goes.observed goes.stands.1 c.requires.log.log goes.stands.0 s there c.in-Some.ensures.part w passes n (pos 0) c.recheck-found.ensures.tells)
 
 pub returns-clause-err : goal.returns-clause-err
 returns-clause-err g c =
     let a = c.args.self.now in
-    let m = g.T.TxType.meaning a.course.ty.now in
-    let law = g.met.T.TxType.lawful a.course.ty.now in
-    let sizes = g.T.Naming.sizes a.course.ty.now in
-    let is : (d : Parts) → g.T.Naming.valid sizes d → m.valid d = λ d h. (g.met.T.TxType.valid_is a.course.ty.now d).1 h in
-    let f = g.B.Body.script a.course.body in
-    let rs = map told a.course.replies.items in
+    let m = g.T.TxType.meaning a.log.ty.now in
+    let law = g.met.T.TxType.lawful a.log.ty.now in
+    let sizes = g.T.Naming.sizes a.log.ty.now in
+    let is : (d : Parts) → g.T.Naming.valid sizes d → m.valid d = λ d h. (g.met.T.TxType.valid_is a.log.ty.now d).1 h in
+    let f = g.B.Body.script a.log.body in
+    let rs = map told a.log.replies.items in
     let v = g.C.Cells.view c.args.cells.now in
-    let fresh = a.renewal.fresh.items in
-    let ws = map watched a.renewal.watches.items in
+    let fresh = a.extension.fresh.items in
+    let ws = map watched a.extension.watches.items in
     let goes = c.requires.goes in
     let passes = g.C.Cells.passes c.args.cells.now in
-    let s = c.in-Some.sight.now in
-    let there : Contains a.course.base.items s = c.in-Some.ensures.among in
+    let s = c.in-Some.read_entry.now in
+    let there : Contains a.log.base.items s = c.in-Some.ensures.among in
     let w = g.C.Cells.view c.recheck-found.new.self in
     let n = c.recheck-found.result.0 in
     let free : is_free n ≡ true = locked_is (is_free n) (sym c.is_locked.ensures ∙ c.if-is_locked.false) in
     let same : ticket_of n ≡ s.ticket = sym c.ticket-newer.ensures.ticket ∙ c.if-newer-ticket.false in
-    let y : Sight = record { part = c.args.part; ticket = s.ticket; words = c.in_ok-words.words } in
-    let known : words_in a.course.base.items c.args.part ≡ Some s.words.items = c.in-Some.ensures.words in
+    let y : ReadEntry = record { part = c.args.part; ticket = s.ticket; words = c.in_ok-words.words } in
+    let known : words_in a.log.base.items c.args.part ≡ Some s.words.items = c.in-Some.ensures.words in
     let made : c.push.new.self.items ≡ fresh ++ y ∷ [] = c.in_ok-push.ensures.ok in
-    let h = rechecked_spans m law g.T.Naming.valid sizes is f a.at a.renewal.bound c.args.part true a.course.base.items fresh a.course.set.items ws a.course.set.updates rs v goes.spans goes.observed goes.stands.1 c.requires.course.course goes.stands.0 s there c.in-Some.ensures.part w passes n (pos 0) c.recheck-found.ensures.tells free same y refl refl c.in_ok-words.ensures known in
-    let now = map told c.advance.new.self.course.replies.items in
-    let left : IsLeft w = rechecked_left m law g.T.Naming.valid sizes is f a.at a.renewal.bound c.args.part true a.course.base.items fresh a.course.set.items ws a.course.set.updates rs v goes.spans goes.observed goes.stands.1 c.requires.course.course goes.stands.0 s there c.in-Some.ensures.part w passes n (pos 0) c.recheck-found.ensures.tells in
+    let h = rechecked_spans m law g.T.Naming.valid sizes is f a.at a.extension.bound c.args.part true a.log.base.items fresh a.log.set.items ws a.log.set.updates rs v goes.spans goes.observed goes.stands.1 c.requires.log.log goes.stands.0 s there c.in-Some.ensures.part w passes n (pos 0) c.recheck-found.ensures.tells free same y refl refl c.in_ok-words.ensures known in
+    let now = map told c.advance.new.self.log.replies.items in
+    let left : IsLeft w = rechecked_left m law g.T.Naming.valid sizes is f a.at a.extension.bound c.args.part true a.log.base.items fresh a.log.set.items ws a.log.set.updates rs v goes.spans goes.observed goes.stands.1 c.requires.log.log goes.stands.0 s there c.in-Some.ensures.part w passes n (pos 0) c.recheck-found.ensures.tells in
     err_both c.advance.result (IsLeft w) (IsPrefix m f w c.advance.new.self.at now) (always_err c.advance.result (IsLeft w) left)
-    (c.advance.ensures.stopped w (subst (λ (l : List Sight). Spans m g.T.Naming.valid sizes a.at a.renewal.bound a.course.base.items l w) (sym made) h.0))
+    (c.advance.ensures.stopped w (subst (λ (l : List ReadEntry). Spans m g.T.Naming.valid sizes a.at a.extension.bound a.log.base.items l w) (sym made) h.0))
 
 pub returns-clause-left : goal.returns-clause-left
 returns-clause-left g c =
     let a = c.args.self.now in
-    let m = g.T.TxType.meaning a.course.ty.now in
-    let law = g.met.T.TxType.lawful a.course.ty.now in
-    let sizes = g.T.Naming.sizes a.course.ty.now in
-    let is : (d : Parts) → g.T.Naming.valid sizes d → m.valid d = λ d h. (g.met.T.TxType.valid_is a.course.ty.now d).1 h in
-    let f = g.B.Body.script a.course.body in
-    let rs = map told a.course.replies.items in
+    let m = g.T.TxType.meaning a.log.ty.now in
+    let law = g.met.T.TxType.lawful a.log.ty.now in
+    let sizes = g.T.Naming.sizes a.log.ty.now in
+    let is : (d : Parts) → g.T.Naming.valid sizes d → m.valid d = λ d h. (g.met.T.TxType.valid_is a.log.ty.now d).1 h in
+    let f = g.B.Body.script a.log.body in
+    let rs = map told a.log.replies.items in
     let v = g.C.Cells.view c.args.cells.now in
-    let fresh = a.renewal.fresh.items in
-    let ws = map watched a.renewal.watches.items in
+    let fresh = a.extension.fresh.items in
+    let ws = map watched a.extension.watches.items in
     let goes = c.requires.goes in
     let passes = g.C.Cells.passes c.args.cells.now in
-    let s = c.in-Some.sight.now in
-    let there : Contains a.course.base.items s = c.in-Some.ensures.among in
+    let s = c.in-Some.read_entry.now in
+    let there : Contains a.log.base.items s = c.in-Some.ensures.among in
     let w = g.C.Cells.view c.recheck-found.new.self in
     let n = c.recheck-found.result.0 in
     let free : is_free n ≡ true = locked_is (is_free n) (sym c.is_locked.ensures ∙ c.if-is_locked.false) in
     let same : ticket_of n ≡ s.ticket = sym c.ticket-newer.ensures.ticket ∙ c.if-newer-ticket.false in
-    let y : Sight = record { part = c.args.part; ticket = s.ticket; words = c.in_ok-words.words } in
-    let known : words_in a.course.base.items c.args.part ≡ Some s.words.items = c.in-Some.ensures.words in
+    let y : ReadEntry = record { part = c.args.part; ticket = s.ticket; words = c.in_ok-words.words } in
+    let known : words_in a.log.base.items c.args.part ≡ Some s.words.items = c.in-Some.ensures.words in
     let made : c.push.new.self.items ≡ fresh ++ y ∷ [] = c.in_ok-push.ensures.ok in
     let b = c.advance.new.self in
-    let old = words_in a.course.base.items in
+    let old = words_in a.log.base.items in
     let next = goes.stands.1 in
-    let h = rechecked_renewed m law g.T.Naming.valid sizes is f a.at a.renewal.bound c.args.part true a.course.base.items fresh a.course.set.items ws a.course.set.updates rs v goes.spans goes.observed goes.stands.1 c.requires.course.course goes.stands.0 s there c.in-Some.ensures.part w passes n (pos 0) c.recheck-found.ensures.tells free same y refl refl c.in_ok-words.ensures known refl in
-    let gone : drop (length c.push.new.self.items) ws ≡ next.more = ap (λ (l : List Sight). drop (length l) ws) made ∙ left_watches (length m.widths) old (fresh ++ y ∷ []) ws next.more h in
-    let before = g.B.Body.left a.course.body in
-    let now = events_left (g.B.Body.left b.course.body) m.widths b.stand b.words.items b.renewal b.course.base.items in
+    let h = rechecked_renewed m law g.T.Naming.valid sizes is f a.at a.extension.bound c.args.part true a.log.base.items fresh a.log.set.items ws a.log.set.updates rs v goes.spans goes.observed goes.stands.1 c.requires.log.log goes.stands.0 s there c.in-Some.ensures.part w passes n (pos 0) c.recheck-found.ensures.tells free same y refl refl c.in_ok-words.ensures known refl in
+    let gone : drop (length c.push.new.self.items) ws ≡ next.more = ap (λ (l : List ReadEntry). drop (length l) ws) made ∙ left_watches (length m.widths) old (fresh ++ y ∷ []) ws next.more h in
+    let before = g.B.Body.left a.log.body in
+    let now = events_left (g.B.Body.left b.log.body) m.widths b.read_phase b.words.items b.extension b.log.base.items in
     let fewer : OnOk c.advance.result (now < 1 + left_extending (before - 1) m.widths next.more) =
     subst (λ (l : List Watched). OnOk c.advance.result (now < 1 + left_extending (before - 1) m.widths l)) gone c.advance.ensures.left in
     ok_map c.advance.result (now < 1 + left_extending (before - 1) m.widths next.more) (now < left_extending (before - 1) m.widths (drop (length fresh) ws))

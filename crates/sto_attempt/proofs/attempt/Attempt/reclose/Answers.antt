@@ -10,23 +10,23 @@ use Rattle.sto_model.specs.Told.{told}
 use Rattle.sto_type.specs.Known.{Parts, IsPartOf}
 use Rattle.sto_core.specs.Versions.{ticket_of, is_free}
 use Rattle.sto_core.proofs.Lists.{locked_is, unlocked_is}
-use Rattle.sto_course.specs.declared.sight.Sight.{Sight}
-use Rattle.sto_course.specs.Sights.{words_in, AllTrueIn}
-use Rattle.sto_course.specs.Answers.{WasChanged}
-use Rattle.sto_course.specs.Standing.{IsRenewed, IsNext, Spans, IsLeft}
-use Rattle.sto_course.proofs.Reading.{always_err}
-use Rattle.sto_course.proofs.Again.{some_old, some_anew, reclose_allowed, reclosed_left, reclosed_within, reclosed_locked, reclosed_changed, reclosed_false, reclosed_spans, reclosed_renewed, next_place, next_short, next_preds}
+use Rattle.sto_attempt_log.specs.declared.read_entry.ReadEntry.{ReadEntry}
+use Rattle.sto_attempt_log.specs.ReadSet.{words_in, AllTrueIn}
+use Rattle.sto_attempt_log.specs.Answers.{WasChanged}
+use Rattle.sto_attempt_log.specs.Standing.{IsRenewed, IsNext, Spans, IsLeft}
+use Rattle.sto_attempt_log.proofs.Reading.{always_err}
+use Rattle.sto_attempt_log.proofs.Again.{some_old, some_anew, reclose_allowed, reclosed_left, reclosed_within, reclosed_locked, reclosed_changed, reclosed_false, reclosed_spans, reclosed_renewed, next_place, next_short, next_preds}
 use Rattle.std.proofs.Common.{◌-◌, ◌+◌, drop, OnOk}
 use Rattle.sto_core.specs.Event.{Close}
 use Rattle.sto_item.specs.Observed.{Watched}
-use Rattle.sto_course.specs.Bounds.{events_left, left_extending}
-use Rattle.sto_course.specs.Answers.{IsPrefix}
-use Rattle.sto_course.proofs.Onward.{heard_none}
-use Rattle.sto_course.proofs.Stepping.{ok_map}
-use Rattle.sto_course.proofs.Bounding.{left_watches}
-use Rattle.sto_course.proofs.Lowering.{reclose_over, reclose_fewer}
-use Rattle.sto_course.proofs.Causing.{err_both, unaborted_ok, by_close, by_predicate}
-use Rattle.sto_course.proofs.Again.{reclosed_prefix, reclosed_read}
+use Rattle.sto_attempt_log.specs.Bounds.{events_left, left_extending}
+use Rattle.sto_attempt_log.specs.Answers.{IsPrefix}
+use Rattle.sto_attempt_log.proofs.Onward.{heard_none}
+use Rattle.sto_attempt_log.proofs.Stepping.{ok_map}
+use Rattle.sto_attempt_log.proofs.Bounding.{left_watches}
+use Rattle.sto_attempt_log.proofs.Lowering.{reclose_over, reclose_fewer}
+use Rattle.sto_attempt_log.proofs.Causing.{err_both, unaborted_ok, by_close, by_predicate}
+use Rattle.sto_attempt_log.proofs.Again.{reclosed_prefix, reclosed_read}
 use Rattle.sto_attempt.proofs.attempt.Attempt.reclose.Goals as goal
 
 some_same : (x y : Watched) → Some x ≡ Some y → x ≡ y
@@ -35,430 +35,430 @@ some_same x y e = cc
 pub close-found-requires : goal.close-found-requires
 close-found-requires g c =
     let a = c.args.self.now in
-    let m = g.T.TxType.meaning a.course.ty.now in
-    let law = g.met.T.TxType.lawful a.course.ty.now in
-    let sizes = g.T.Naming.sizes a.course.ty.now in
-    let is : (d : Parts) → g.T.Naming.valid sizes d → m.valid d = λ d h. (g.met.T.TxType.valid_is a.course.ty.now d).1 h in
-    let f = g.B.Body.script a.course.body in
-    let rs = map told a.course.replies.items in
+    let m = g.T.TxType.meaning a.log.ty.now in
+    let law = g.met.T.TxType.lawful a.log.ty.now in
+    let sizes = g.T.Naming.sizes a.log.ty.now in
+    let is : (d : Parts) → g.T.Naming.valid sizes d → m.valid d = λ d h. (g.met.T.TxType.valid_is a.log.ty.now d).1 h in
+    let f = g.B.Body.script a.log.body in
+    let rs = map told a.log.replies.items in
     let v = g.C.Cells.view c.args.cells.now in
-    let fresh = a.renewal.fresh.items in
-    let ws = map watched a.renewal.watches.items in
+    let fresh = a.extension.fresh.items in
+    let ws = map watched a.extension.watches.items in
     let goes = c.requires.before.goes in
-    reclose_allowed m law g.T.Naming.valid sizes is f a.at a.renewal.bound c.args.part false a.course.base.items fresh a.course.set.items ws a.course.set.updates rs v goes.spans goes.observed goes.stands.3 c.requires.before.course.course c.args.ticket a.words.items goes.stands.0 goes.stands.1 c.requires.all
+    reclose_allowed m law g.T.Naming.valid sizes is f a.at a.extension.bound c.args.part false a.log.base.items fresh a.log.set.items ws a.log.set.updates rs v goes.spans goes.observed goes.stands.3 c.requires.before.log.log c.args.ticket a.words.items goes.stands.0 goes.stands.1 c.requires.all
 
 pub returns-then-is_locked-clause-turned : goal.returns-then-is_locked-clause-turned
 returns-then-is_locked-clause-turned g c =
     let a = c.args.self.now in
-    let m = g.T.TxType.meaning a.course.ty.now in
-    let law = g.met.T.TxType.lawful a.course.ty.now in
-    let sizes = g.T.Naming.sizes a.course.ty.now in
-    let is : (d : Parts) → g.T.Naming.valid sizes d → m.valid d = λ d h. (g.met.T.TxType.valid_is a.course.ty.now d).1 h in
-    let f = g.B.Body.script a.course.body in
-    let rs = map told a.course.replies.items in
+    let m = g.T.TxType.meaning a.log.ty.now in
+    let law = g.met.T.TxType.lawful a.log.ty.now in
+    let sizes = g.T.Naming.sizes a.log.ty.now in
+    let is : (d : Parts) → g.T.Naming.valid sizes d → m.valid d = λ d h. (g.met.T.TxType.valid_is a.log.ty.now d).1 h in
+    let f = g.B.Body.script a.log.body in
+    let rs = map told a.log.replies.items in
     let v = g.C.Cells.view c.args.cells.now in
-    let fresh = a.renewal.fresh.items in
-    let ws = map watched a.renewal.watches.items in
+    let fresh = a.extension.fresh.items in
+    let ws = map watched a.extension.watches.items in
     let goes = c.requires.before.goes in
     let w = g.C.Cells.view c.close-found.new.self in
     let passes = g.C.Cells.passes c.args.cells.now in
     let n = c.close-found.result.0 in
     let locked : is_free n ≡ false = unlocked_is (is_free n) (sym c.is_locked.ensures ∙ c.if-is_locked.true) in
-    (refl, reclosed_left m law g.T.Naming.valid sizes is f a.at a.renewal.bound c.args.part false a.course.base.items fresh a.course.set.items ws a.course.set.updates rs v goes.spans goes.observed goes.stands.3 c.requires.before.course.course c.args.ticket a.words.items goes.stands.0 goes.stands.1 c.requires.all w passes n c.close-found.ensures.tells, reclosed_within m law g.T.Naming.valid sizes is f a.at a.renewal.bound c.args.part false a.course.base.items fresh a.course.set.items ws a.course.set.updates rs v goes.spans goes.observed goes.stands.3 c.requires.before.course.course c.args.ticket a.words.items goes.stands.0 goes.stands.1 c.requires.all w passes n c.close-found.ensures.tells, (refl, reclosed_locked m law g.T.Naming.valid sizes is f a.at a.renewal.bound c.args.part false a.course.base.items fresh a.course.set.items ws a.course.set.updates rs v goes.spans goes.observed goes.stands.3 c.requires.before.course.course c.args.ticket a.words.items goes.stands.0 goes.stands.1 c.requires.all w passes n c.close-found.ensures.tells locked))
+    (refl, reclosed_left m law g.T.Naming.valid sizes is f a.at a.extension.bound c.args.part false a.log.base.items fresh a.log.set.items ws a.log.set.updates rs v goes.spans goes.observed goes.stands.3 c.requires.before.log.log c.args.ticket a.words.items goes.stands.0 goes.stands.1 c.requires.all w passes n c.close-found.ensures.tells, reclosed_within m law g.T.Naming.valid sizes is f a.at a.extension.bound c.args.part false a.log.base.items fresh a.log.set.items ws a.log.set.updates rs v goes.spans goes.observed goes.stands.3 c.requires.before.log.log c.args.ticket a.words.items goes.stands.0 goes.stands.1 c.requires.all w passes n c.close-found.ensures.tells, (refl, reclosed_locked m law g.T.Naming.valid sizes is f a.at a.extension.bound c.args.part false a.log.base.items fresh a.log.set.items ws a.log.set.updates rs v goes.spans goes.observed goes.stands.3 c.requires.before.log.log c.args.ticket a.words.items goes.stands.0 goes.stands.1 c.requires.all w passes n c.close-found.ensures.tells locked))
 
 pub returns-then-newer-ticket-clause-turned : goal.returns-then-newer-ticket-clause-turned
 returns-then-newer-ticket-clause-turned g c =
     let a = c.args.self.now in
-    let m = g.T.TxType.meaning a.course.ty.now in
-    let law = g.met.T.TxType.lawful a.course.ty.now in
-    let sizes = g.T.Naming.sizes a.course.ty.now in
-    let is : (d : Parts) → g.T.Naming.valid sizes d → m.valid d = λ d h. (g.met.T.TxType.valid_is a.course.ty.now d).1 h in
-    let f = g.B.Body.script a.course.body in
-    let rs = map told a.course.replies.items in
+    let m = g.T.TxType.meaning a.log.ty.now in
+    let law = g.met.T.TxType.lawful a.log.ty.now in
+    let sizes = g.T.Naming.sizes a.log.ty.now in
+    let is : (d : Parts) → g.T.Naming.valid sizes d → m.valid d = λ d h. (g.met.T.TxType.valid_is a.log.ty.now d).1 h in
+    let f = g.B.Body.script a.log.body in
+    let rs = map told a.log.replies.items in
     let v = g.C.Cells.view c.args.cells.now in
-    let fresh = a.renewal.fresh.items in
-    let ws = map watched a.renewal.watches.items in
+    let fresh = a.extension.fresh.items in
+    let ws = map watched a.extension.watches.items in
     let goes = c.requires.before.goes in
     let w = g.C.Cells.view c.close-found.new.self in
     let passes = g.C.Cells.passes c.args.cells.now in
     let n = c.close-found.result.0 in
     let free : is_free n ≡ true = locked_is (is_free n) (sym c.is_locked.ensures ∙ c.if-is_locked.false) in
     let ne : ticket_of n ≡ c.args.ticket → ⊥ = λ h. c.if-newer-ticket.true (c.ticket-newer.ensures.ticket ∙ h) in
-    let h = reclosed_changed m law g.T.Naming.valid sizes is f a.at a.renewal.bound c.args.part false a.course.base.items fresh a.course.set.items ws a.course.set.updates rs v goes.spans goes.observed goes.stands.3 c.requires.before.course.course c.args.ticket a.words.items goes.stands.0 goes.stands.1 c.requires.all w passes n c.close-found.ensures.tells free ne in
-    (refl, reclosed_left m law g.T.Naming.valid sizes is f a.at a.renewal.bound c.args.part false a.course.base.items fresh a.course.set.items ws a.course.set.updates rs v goes.spans goes.observed goes.stands.3 c.requires.before.course.course c.args.ticket a.words.items goes.stands.0 goes.stands.1 c.requires.all w passes n c.close-found.ensures.tells, reclosed_within m law g.T.Naming.valid sizes is f a.at a.renewal.bound c.args.part false a.course.base.items fresh a.course.set.items ws a.course.set.updates rs v goes.spans goes.observed goes.stands.3 c.requires.before.course.course c.args.ticket a.words.items goes.stands.0 goes.stands.1 c.requires.all w passes n c.close-found.ensures.tells, (refl, subst (λ (k : ℕ). WasChanged m f w a.at c.args.part k rs) (sym c.ticket-newer.ensures.ticket) h))
+    let h = reclosed_changed m law g.T.Naming.valid sizes is f a.at a.extension.bound c.args.part false a.log.base.items fresh a.log.set.items ws a.log.set.updates rs v goes.spans goes.observed goes.stands.3 c.requires.before.log.log c.args.ticket a.words.items goes.stands.0 goes.stands.1 c.requires.all w passes n c.close-found.ensures.tells free ne in
+    (refl, reclosed_left m law g.T.Naming.valid sizes is f a.at a.extension.bound c.args.part false a.log.base.items fresh a.log.set.items ws a.log.set.updates rs v goes.spans goes.observed goes.stands.3 c.requires.before.log.log c.args.ticket a.words.items goes.stands.0 goes.stands.1 c.requires.all w passes n c.close-found.ensures.tells, reclosed_within m law g.T.Naming.valid sizes is f a.at a.extension.bound c.args.part false a.log.base.items fresh a.log.set.items ws a.log.set.updates rs v goes.spans goes.observed goes.stands.3 c.requires.before.log.log c.args.ticket a.words.items goes.stands.0 goes.stands.1 c.requires.all w passes n c.close-found.ensures.tells, (refl, subst (λ (k : ℕ). WasChanged m f w a.at c.args.part k rs) (sym c.ticket-newer.ensures.ticket) h))
 
 pub get-watch-requires : goal.get-watch-requires
 get-watch-requires g c =
     let a = c.args.self.now in
-    let m = g.T.TxType.meaning a.course.ty.now in
-    let law = g.met.T.TxType.lawful a.course.ty.now in
-    let sizes = g.T.Naming.sizes a.course.ty.now in
-    let is : (d : Parts) → g.T.Naming.valid sizes d → m.valid d = λ d h. (g.met.T.TxType.valid_is a.course.ty.now d).1 h in
-    let f = g.B.Body.script a.course.body in
-    let rs = map told a.course.replies.items in
+    let m = g.T.TxType.meaning a.log.ty.now in
+    let law = g.met.T.TxType.lawful a.log.ty.now in
+    let sizes = g.T.Naming.sizes a.log.ty.now in
+    let is : (d : Parts) → g.T.Naming.valid sizes d → m.valid d = λ d h. (g.met.T.TxType.valid_is a.log.ty.now d).1 h in
+    let f = g.B.Body.script a.log.body in
+    let rs = map told a.log.replies.items in
     let v = g.C.Cells.view c.args.cells.now in
-    let fresh = a.renewal.fresh.items in
-    let ws = map watched a.renewal.watches.items in
+    let fresh = a.extension.fresh.items in
+    let ws = map watched a.extension.watches.items in
     let goes = c.requires.before.goes in
-    let short = next_short (length m.widths) (words_in a.course.base.items) fresh ws false c.args.part goes.stands.3 in
-    omega (arith, short, length-map a.renewal.watches.items watched, c.len-place.ensures)
+    let short = next_short (length m.widths) (words_in a.log.base.items) fresh ws false c.args.part goes.stands.3 in
+    omega (arith, short, length-map a.extension.watches.items watched, c.len-place.ensures)
 
 pub returns-then-not-are_true-clause-turned : goal.returns-then-not-are_true-clause-turned
 returns-then-not-are_true-clause-turned g c =
     let a = c.args.self.now in
-    let m = g.T.TxType.meaning a.course.ty.now in
-    let law = g.met.T.TxType.lawful a.course.ty.now in
-    let sizes = g.T.Naming.sizes a.course.ty.now in
-    let is : (d : Parts) → g.T.Naming.valid sizes d → m.valid d = λ d h. (g.met.T.TxType.valid_is a.course.ty.now d).1 h in
-    let f = g.B.Body.script a.course.body in
-    let rs = map told a.course.replies.items in
+    let m = g.T.TxType.meaning a.log.ty.now in
+    let law = g.met.T.TxType.lawful a.log.ty.now in
+    let sizes = g.T.Naming.sizes a.log.ty.now in
+    let is : (d : Parts) → g.T.Naming.valid sizes d → m.valid d = λ d h. (g.met.T.TxType.valid_is a.log.ty.now d).1 h in
+    let f = g.B.Body.script a.log.body in
+    let rs = map told a.log.replies.items in
     let v = g.C.Cells.view c.args.cells.now in
-    let fresh = a.renewal.fresh.items in
-    let ws = map watched a.renewal.watches.items in
+    let fresh = a.extension.fresh.items in
+    let ws = map watched a.extension.watches.items in
     let goes = c.requires.before.goes in
     let w = g.C.Cells.view c.close-found.new.self in
     let passes = g.C.Cells.passes c.args.cells.now in
     let n = c.close-found.result.0 in
     let free : is_free n ≡ true = locked_is (is_free n) (sym c.is_locked.ensures ∙ c.if-is_locked.false) in
     let same : ticket_of n ≡ c.args.ticket = sym c.ticket-newer.ensures.ticket ∙ c.if-newer-ticket.false in
-    let old = words_in a.course.base.items in
+    let old = words_in a.log.base.items in
     let e : slice_get ws (length fresh) ≡ Some (watched c.get-watch.result.now) =
-    slice_get-map watched a.renewal.watches.items (length fresh) ∙ ap (option_map watched) (ap (slice_get a.renewal.watches.items) (sym c.len-place.ensures) ∙ c.get-watch.ensures) in
+    slice_get-map watched a.extension.watches.items (length fresh) ∙ ap (option_map watched) (ap (slice_get a.extension.watches.items) (sym c.len-place.ensures) ∙ c.get-watch.ensures) in
     let next : IsNext (length m.widths) old fresh ws false c.args.part = goes.stands.3 in
     let is_next : next.next ≡ watched c.get-watch.result.now = some_same next.next (watched c.get-watch.result.now) (sym (next_place (length m.widths) old fresh ws false c.args.part next) ∙ e) in
     let preds : List Pred = c.get-watch.result.now.preds.items in
     let same_preds : next.next.preds ≡ preds = ap (λ (x : Watched). x.preds) is_next in
-    let are : preds ≡ preds_on c.args.part a.course.set.items = sym same_preds ∙ next_preds (length m.widths) old fresh ws c.args.part a.course.set.items goes.observed next in
+    let are : preds ≡ preds_on c.args.part a.log.set.items = sym same_preds ∙ next_preds (length m.widths) old fresh ws c.args.part a.log.set.items goes.observed next in
     let fails : AllTrueIn a.words.items preds → ⊥ = λ h. true≢false (sym (c.are_true.ensures.1 (subst (λ (l : List ℤ). AllTrueIn l c.as_slice.result.now) (sym c.as_slice-2.ensures.items) (subst (λ (l : List Pred). AllTrueIn a.words.items l) (sym c.as_slice.ensures.items) h))) ∙ c.if-not-are_true.true) in
-    (refl, reclosed_left m law g.T.Naming.valid sizes is f a.at a.renewal.bound c.args.part false a.course.base.items fresh a.course.set.items ws a.course.set.updates rs v goes.spans goes.observed goes.stands.3 c.requires.before.course.course c.args.ticket a.words.items goes.stands.0 goes.stands.1 c.requires.all w passes n c.close-found.ensures.tells, reclosed_within m law g.T.Naming.valid sizes is f a.at a.renewal.bound c.args.part false a.course.base.items fresh a.course.set.items ws a.course.set.updates rs v goes.spans goes.observed goes.stands.3 c.requires.before.course.course c.args.ticket a.words.items goes.stands.0 goes.stands.1 c.requires.all w passes n c.close-found.ensures.tells, (refl, reclosed_false m law g.T.Naming.valid sizes is f a.at a.renewal.bound c.args.part false a.course.base.items fresh a.course.set.items ws a.course.set.updates rs v goes.spans goes.observed goes.stands.3 c.requires.before.course.course c.args.ticket a.words.items goes.stands.0 goes.stands.1 c.requires.all w passes n c.close-found.ensures.tells free same preds are fails))
+    (refl, reclosed_left m law g.T.Naming.valid sizes is f a.at a.extension.bound c.args.part false a.log.base.items fresh a.log.set.items ws a.log.set.updates rs v goes.spans goes.observed goes.stands.3 c.requires.before.log.log c.args.ticket a.words.items goes.stands.0 goes.stands.1 c.requires.all w passes n c.close-found.ensures.tells, reclosed_within m law g.T.Naming.valid sizes is f a.at a.extension.bound c.args.part false a.log.base.items fresh a.log.set.items ws a.log.set.updates rs v goes.spans goes.observed goes.stands.3 c.requires.before.log.log c.args.ticket a.words.items goes.stands.0 goes.stands.1 c.requires.all w passes n c.close-found.ensures.tells, (refl, reclosed_false m law g.T.Naming.valid sizes is f a.at a.extension.bound c.args.part false a.log.base.items fresh a.log.set.items ws a.log.set.updates rs v goes.spans goes.observed goes.stands.3 c.requires.before.log.log c.args.ticket a.words.items goes.stands.0 goes.stands.1 c.requires.all w passes n c.close-found.ensures.tells free same preds are fails))
 
 pub advance-requires-clause-renewed : goal.advance-requires-clause-renewed
 advance-requires-clause-renewed g c =
     let a = c.args.self.now in
-    let m = g.T.TxType.meaning a.course.ty.now in
-    let law = g.met.T.TxType.lawful a.course.ty.now in
-    let sizes = g.T.Naming.sizes a.course.ty.now in
-    let is : (d : Parts) → g.T.Naming.valid sizes d → m.valid d = λ d h. (g.met.T.TxType.valid_is a.course.ty.now d).1 h in
-    let f = g.B.Body.script a.course.body in
-    let rs = map told a.course.replies.items in
+    let m = g.T.TxType.meaning a.log.ty.now in
+    let law = g.met.T.TxType.lawful a.log.ty.now in
+    let sizes = g.T.Naming.sizes a.log.ty.now in
+    let is : (d : Parts) → g.T.Naming.valid sizes d → m.valid d = λ d h. (g.met.T.TxType.valid_is a.log.ty.now d).1 h in
+    let f = g.B.Body.script a.log.body in
+    let rs = map told a.log.replies.items in
     let v = g.C.Cells.view c.args.cells.now in
-    let fresh = a.renewal.fresh.items in
-    let ws = map watched a.renewal.watches.items in
+    let fresh = a.extension.fresh.items in
+    let ws = map watched a.extension.watches.items in
     let goes = c.requires.before.goes in
     let w = g.C.Cells.view c.close-found.new.self in
     let passes = g.C.Cells.passes c.args.cells.now in
     let n = c.close-found.result.0 in
     let free : is_free n ≡ true = locked_is (is_free n) (sym c.is_locked.ensures ∙ c.if-is_locked.false) in
     let same : ticket_of n ≡ c.args.ticket = sym c.ticket-newer.ensures.ticket ∙ c.if-newer-ticket.false in
-    let old = words_in a.course.base.items in
+    let old = words_in a.log.base.items in
     let e : slice_get ws (length fresh) ≡ Some (watched c.get-watch.result.now) =
-    slice_get-map watched a.renewal.watches.items (length fresh) ∙ ap (option_map watched) (ap (slice_get a.renewal.watches.items) (sym c.len-place.ensures) ∙ c.get-watch.ensures) in
+    slice_get-map watched a.extension.watches.items (length fresh) ∙ ap (option_map watched) (ap (slice_get a.extension.watches.items) (sym c.len-place.ensures) ∙ c.get-watch.ensures) in
     let next : IsNext (length m.widths) old fresh ws false c.args.part = goes.stands.3 in
     let is_next : next.next ≡ watched c.get-watch.result.now = some_same next.next (watched c.get-watch.result.now) (sym (next_place (length m.widths) old fresh ws false c.args.part next) ∙ e) in
     let preds : List Pred = c.get-watch.result.now.preds.items in
     let same_preds : next.next.preds ≡ preds = ap (λ (x : Watched). x.preds) is_next in
-    let y : Sight = record { part = c.args.part; ticket = c.args.ticket; words = c.in_ok-words.words } in
+    let y : ReadEntry = record { part = c.args.part; ticket = c.args.ticket; words = c.in_ok-words.words } in
     let made : c.push.new.self.items ≡ fresh ++ y ∷ [] = c.in_ok-push.ensures.ok in
     let hold : AllTrueIn a.words.items next.next.preds = subst (λ (l : List Pred). AllTrueIn a.words.items l) (c.as_slice.ensures.items ∙ sym same_preds) (subst (λ (l : List ℤ). AllTrueIn l c.as_slice.result.now) c.as_slice-2.ensures.items (c.are_true.ensures.0 c.if-not-are_true.false)) in
-    let h = reclosed_renewed m law g.T.Naming.valid sizes is f a.at a.renewal.bound c.args.part false a.course.base.items fresh a.course.set.items ws a.course.set.updates rs v goes.spans goes.observed goes.stands.3 c.requires.before.course.course c.args.ticket a.words.items goes.stands.0 goes.stands.1 c.requires.all w passes n c.close-found.ensures.tells free same y refl refl c.in_ok-words.ensures refl hold in
-    (next.more, subst (λ (l : List Sight). IsRenewed (length m.widths) old l ws next.more) (sym made) h)
+    let h = reclosed_renewed m law g.T.Naming.valid sizes is f a.at a.extension.bound c.args.part false a.log.base.items fresh a.log.set.items ws a.log.set.updates rs v goes.spans goes.observed goes.stands.3 c.requires.before.log.log c.args.ticket a.words.items goes.stands.0 goes.stands.1 c.requires.all w passes n c.close-found.ensures.tells free same y refl refl c.in_ok-words.ensures refl hold in
+    (next.more, subst (λ (l : List ReadEntry). IsRenewed (length m.widths) old l ws next.more) (sym made) h)
 
 pub advance-requires-clause-some : goal.advance-requires-clause-some
 advance-requires-clause-some g c =
     let a = c.args.self.now in
-    let m = g.T.TxType.meaning a.course.ty.now in
-    let law = g.met.T.TxType.lawful a.course.ty.now in
-    let sizes = g.T.Naming.sizes a.course.ty.now in
-    let is : (d : Parts) → g.T.Naming.valid sizes d → m.valid d = λ d h. (g.met.T.TxType.valid_is a.course.ty.now d).1 h in
-    let f = g.B.Body.script a.course.body in
-    let rs = map told a.course.replies.items in
+    let m = g.T.TxType.meaning a.log.ty.now in
+    let law = g.met.T.TxType.lawful a.log.ty.now in
+    let sizes = g.T.Naming.sizes a.log.ty.now in
+    let is : (d : Parts) → g.T.Naming.valid sizes d → m.valid d = λ d h. (g.met.T.TxType.valid_is a.log.ty.now d).1 h in
+    let f = g.B.Body.script a.log.body in
+    let rs = map told a.log.replies.items in
     let v = g.C.Cells.view c.args.cells.now in
-    let fresh = a.renewal.fresh.items in
-    let ws = map watched a.renewal.watches.items in
+    let fresh = a.extension.fresh.items in
+    let ws = map watched a.extension.watches.items in
     let goes = c.requires.before.goes in
-    some_old m law g.T.Naming.valid sizes is f a.at a.renewal.bound c.args.part false a.course.base.items fresh a.course.set.items ws a.course.set.updates rs v goes.spans goes.observed goes.stands.3 c.requires.before.course.course
+    some_old m law g.T.Naming.valid sizes is f a.at a.extension.bound c.args.part false a.log.base.items fresh a.log.set.items ws a.log.set.updates rs v goes.spans goes.observed goes.stands.3 c.requires.before.log.log
 
 pub advance-requires-clause-some_new : goal.advance-requires-clause-some_new
 advance-requires-clause-some_new g c =
     let a = c.args.self.now in
-    let m = g.T.TxType.meaning a.course.ty.now in
-    let law = g.met.T.TxType.lawful a.course.ty.now in
-    let sizes = g.T.Naming.sizes a.course.ty.now in
-    let is : (d : Parts) → g.T.Naming.valid sizes d → m.valid d = λ d h. (g.met.T.TxType.valid_is a.course.ty.now d).1 h in
-    let f = g.B.Body.script a.course.body in
-    let rs = map told a.course.replies.items in
+    let m = g.T.TxType.meaning a.log.ty.now in
+    let law = g.met.T.TxType.lawful a.log.ty.now in
+    let sizes = g.T.Naming.sizes a.log.ty.now in
+    let is : (d : Parts) → g.T.Naming.valid sizes d → m.valid d = λ d h. (g.met.T.TxType.valid_is a.log.ty.now d).1 h in
+    let f = g.B.Body.script a.log.body in
+    let rs = map told a.log.replies.items in
     let v = g.C.Cells.view c.args.cells.now in
-    let fresh = a.renewal.fresh.items in
-    let ws = map watched a.renewal.watches.items in
+    let fresh = a.extension.fresh.items in
+    let ws = map watched a.extension.watches.items in
     let goes = c.requires.before.goes in
     let w = g.C.Cells.view c.close-found.new.self in
     let passes = g.C.Cells.passes c.args.cells.now in
     let n = c.close-found.result.0 in
     let free : is_free n ≡ true = locked_is (is_free n) (sym c.is_locked.ensures ∙ c.if-is_locked.false) in
     let same : ticket_of n ≡ c.args.ticket = sym c.ticket-newer.ensures.ticket ∙ c.if-newer-ticket.false in
-    let y : Sight = record { part = c.args.part; ticket = c.args.ticket; words = c.in_ok-words.words } in
+    let y : ReadEntry = record { part = c.args.part; ticket = c.args.ticket; words = c.in_ok-words.words } in
     let made : c.push.new.self.items ≡ fresh ++ y ∷ [] = c.in_ok-push.ensures.ok in
-    let h = reclosed_spans m law g.T.Naming.valid sizes is f a.at a.renewal.bound c.args.part false a.course.base.items fresh a.course.set.items ws a.course.set.updates rs v goes.spans goes.observed goes.stands.3 c.requires.before.course.course c.args.ticket a.words.items goes.stands.0 goes.stands.1 c.requires.all w passes n c.close-found.ensures.tells free same y refl refl c.in_ok-words.ensures in
-    let d = some_anew m law g.T.Naming.valid sizes is f a.at a.renewal.bound c.args.part false a.course.base.items fresh a.course.set.items ws a.course.set.updates rs v goes.spans goes.observed goes.stands.3 c.requires.before.course.course w (fresh ++ y ∷ []) h.0 in
-    subst (λ (l : List Sight). (d : Parts) × m.valid d × IsPartOf (words_in l) d) (sym made) d
+    let h = reclosed_spans m law g.T.Naming.valid sizes is f a.at a.extension.bound c.args.part false a.log.base.items fresh a.log.set.items ws a.log.set.updates rs v goes.spans goes.observed goes.stands.3 c.requires.before.log.log c.args.ticket a.words.items goes.stands.0 goes.stands.1 c.requires.all w passes n c.close-found.ensures.tells free same y refl refl c.in_ok-words.ensures in
+    let d = some_anew m law g.T.Naming.valid sizes is f a.at a.extension.bound c.args.part false a.log.base.items fresh a.log.set.items ws a.log.set.updates rs v goes.spans goes.observed goes.stands.3 c.requires.before.log.log w (fresh ++ y ∷ []) h.0 in
+    subst (λ (l : List ReadEntry). (d : Parts) × m.valid d × IsPartOf (words_in l) d) (sym made) d
 
 pub returns-clause-turned : goal.returns-clause-turned
 returns-clause-turned g c =
     let a = c.args.self.now in
-    let m = g.T.TxType.meaning a.course.ty.now in
-    let law = g.met.T.TxType.lawful a.course.ty.now in
-    let sizes = g.T.Naming.sizes a.course.ty.now in
-    let is : (d : Parts) → g.T.Naming.valid sizes d → m.valid d = λ d h. (g.met.T.TxType.valid_is a.course.ty.now d).1 h in
-    let f = g.B.Body.script a.course.body in
-    let rs = map told a.course.replies.items in
+    let m = g.T.TxType.meaning a.log.ty.now in
+    let law = g.met.T.TxType.lawful a.log.ty.now in
+    let sizes = g.T.Naming.sizes a.log.ty.now in
+    let is : (d : Parts) → g.T.Naming.valid sizes d → m.valid d = λ d h. (g.met.T.TxType.valid_is a.log.ty.now d).1 h in
+    let f = g.B.Body.script a.log.body in
+    let rs = map told a.log.replies.items in
     let v = g.C.Cells.view c.args.cells.now in
-    let fresh = a.renewal.fresh.items in
-    let ws = map watched a.renewal.watches.items in
+    let fresh = a.extension.fresh.items in
+    let ws = map watched a.extension.watches.items in
     let goes = c.requires.before.goes in
     let w = g.C.Cells.view c.close-found.new.self in
     let passes = g.C.Cells.passes c.args.cells.now in
     let n = c.close-found.result.0 in
     let free : is_free n ≡ true = locked_is (is_free n) (sym c.is_locked.ensures ∙ c.if-is_locked.false) in
     let same : ticket_of n ≡ c.args.ticket = sym c.ticket-newer.ensures.ticket ∙ c.if-newer-ticket.false in
-    let y : Sight = record { part = c.args.part; ticket = c.args.ticket; words = c.in_ok-words.words } in
+    let y : ReadEntry = record { part = c.args.part; ticket = c.args.ticket; words = c.in_ok-words.words } in
     let made : c.push.new.self.items ≡ fresh ++ y ∷ [] = c.in_ok-push.ensures.ok in
-    let h = reclosed_spans m law g.T.Naming.valid sizes is f a.at a.renewal.bound c.args.part false a.course.base.items fresh a.course.set.items ws a.course.set.updates rs v goes.spans goes.observed goes.stands.3 c.requires.before.course.course c.args.ticket a.words.items goes.stands.0 goes.stands.1 c.requires.all w passes n c.close-found.ensures.tells free same y refl refl c.in_ok-words.ensures in
-    c.advance.ensures.turned w (subst (λ (l : List Sight). Spans m g.T.Naming.valid sizes a.at a.renewal.bound a.course.base.items l w) (sym made) h.0) h.1
+    let h = reclosed_spans m law g.T.Naming.valid sizes is f a.at a.extension.bound c.args.part false a.log.base.items fresh a.log.set.items ws a.log.set.updates rs v goes.spans goes.observed goes.stands.3 c.requires.before.log.log c.args.ticket a.words.items goes.stands.0 goes.stands.1 c.requires.all w passes n c.close-found.ensures.tells free same y refl refl c.in_ok-words.ensures in
+    c.advance.ensures.turned w (subst (λ (l : List ReadEntry). Spans m g.T.Naming.valid sizes a.at a.extension.bound a.log.base.items l w) (sym made) h.0) h.1
 
 pub returns-then-is_locked-clause-grown : goal.returns-then-is_locked-clause-grown
 returns-then-is_locked-clause-grown g c =
     let a = c.args.self.now in
-    heard_none (g.T.TxType.meaning a.course.ty.now) (g.B.Body.script a.course.body) (words_in a.course.base.items) (map told a.course.replies.items) a.course.set
+    heard_none (g.T.TxType.meaning a.log.ty.now) (g.B.Body.script a.log.body) (words_in a.log.base.items) (map told a.log.replies.items) a.log.set
 
 pub returns-then-newer-ticket-clause-grown : goal.returns-then-newer-ticket-clause-grown
 returns-then-newer-ticket-clause-grown g c =
     let a = c.args.self.now in
-    heard_none (g.T.TxType.meaning a.course.ty.now) (g.B.Body.script a.course.body) (words_in a.course.base.items) (map told a.course.replies.items) a.course.set
+    heard_none (g.T.TxType.meaning a.log.ty.now) (g.B.Body.script a.log.body) (words_in a.log.base.items) (map told a.log.replies.items) a.log.set
 
 pub returns-then-not-are_true-clause-grown : goal.returns-then-not-are_true-clause-grown
 returns-then-not-are_true-clause-grown g c =
     let a = c.args.self.now in
-    heard_none (g.T.TxType.meaning a.course.ty.now) (g.B.Body.script a.course.body) (words_in a.course.base.items) (map told a.course.replies.items) a.course.set
+    heard_none (g.T.TxType.meaning a.log.ty.now) (g.B.Body.script a.log.body) (words_in a.log.base.items) (map told a.log.replies.items) a.log.set
 
 pub returns-clause-reason : goal.returns-clause-reason
 returns-clause-reason g c =
     let a = c.args.self.now in
-    unaborted_ok (Close c.args.part) c.advance.new.self.course.set.items (g.C.Cells.view c.close-found.new.self) a.renewal c.advance.result c.advance.ensures.unaborted
+    unaborted_ok (Close c.args.part) c.advance.new.self.log.set.items (g.C.Cells.view c.close-found.new.self) a.extension c.advance.result c.advance.ensures.unaborted
 
 pub returns-clause-renewed : goal.returns-clause-renewed
 returns-clause-renewed g c =
     let a = c.args.self.now in
     let b = c.advance.new.self in
-    let rs = map told a.course.replies.items in
-    let now = map told b.course.replies.items in
-    ok_map c.advance.result ((b.renewal.bound ≡ a.renewal.bound) × (b.renewal.extended ≡ true → now ≡ rs)) ((b.renewal.bound ≡ a.renewal.bound) × (b.renewal.extended ≡ true → (a.renewal.extended ≡ true) × (now ≡ rs)))
+    let rs = map told a.log.replies.items in
+    let now = map told b.log.replies.items in
+    ok_map c.advance.result ((b.extension.bound ≡ a.extension.bound) × (b.extension.extended ≡ true → now ≡ rs)) ((b.extension.bound ≡ a.extension.bound) × (b.extension.extended ≡ true → (a.extension.extended ≡ true) × (now ≡ rs)))
     (λ h. (h.0, λ e. (c.requires.before.goes.extended, h.1 e))) c.advance.ensures.renewed
 
 pub returns-then-newer-ticket-clause-reason : goal.returns-then-newer-ticket-clause-reason
 returns-then-newer-ticket-clause-reason g c =
     let a = c.args.self.now in
-    by_close a.course.set.items (g.C.Cells.view c.close-found.new.self) c.args.part c.ticket-newer.result a.renewal.extended a.renewal.bound
+    by_close a.log.set.items (g.C.Cells.view c.close-found.new.self) c.args.part c.ticket-newer.result a.extension.extended a.extension.bound
 
 pub returns-then-not-are_true-clause-reason : goal.returns-then-not-are_true-clause-reason
 returns-then-not-are_true-clause-reason g c =
     let a = c.args.self.now in
-    let m = g.T.TxType.meaning a.course.ty.now in
-    let law = g.met.T.TxType.lawful a.course.ty.now in
-    let sizes = g.T.Naming.sizes a.course.ty.now in
-    let is : (d : Parts) → g.T.Naming.valid sizes d → m.valid d = λ d h. (g.met.T.TxType.valid_is a.course.ty.now d).1 h in
-    let f = g.B.Body.script a.course.body in
-    let rs = map told a.course.replies.items in
+    let m = g.T.TxType.meaning a.log.ty.now in
+    let law = g.met.T.TxType.lawful a.log.ty.now in
+    let sizes = g.T.Naming.sizes a.log.ty.now in
+    let is : (d : Parts) → g.T.Naming.valid sizes d → m.valid d = λ d h. (g.met.T.TxType.valid_is a.log.ty.now d).1 h in
+    let f = g.B.Body.script a.log.body in
+    let rs = map told a.log.replies.items in
     let v = g.C.Cells.view c.args.cells.now in
-    let fresh = a.renewal.fresh.items in
-    let ws = map watched a.renewal.watches.items in
+    let fresh = a.extension.fresh.items in
+    let ws = map watched a.extension.watches.items in
     let goes = c.requires.before.goes in
     let w = g.C.Cells.view c.close-found.new.self in
     let passes = g.C.Cells.passes c.args.cells.now in
     let n = c.close-found.result.0 in
     let free : is_free n ≡ true = locked_is (is_free n) (sym c.is_locked.ensures ∙ c.if-is_locked.false) in
     let same : ticket_of n ≡ c.args.ticket = sym c.ticket-newer.ensures.ticket ∙ c.if-newer-ticket.false in
-    let old = words_in a.course.base.items in
+    let old = words_in a.log.base.items in
     let e : slice_get ws (length fresh) ≡ Some (watched c.get-watch.result.now) =
-    slice_get-map watched a.renewal.watches.items (length fresh) ∙ ap (option_map watched) (ap (slice_get a.renewal.watches.items) (sym c.len-place.ensures) ∙ c.get-watch.ensures) in
+    slice_get-map watched a.extension.watches.items (length fresh) ∙ ap (option_map watched) (ap (slice_get a.extension.watches.items) (sym c.len-place.ensures) ∙ c.get-watch.ensures) in
     let next : IsNext (length m.widths) old fresh ws false c.args.part = goes.stands.3 in
     let is_next : next.next ≡ watched c.get-watch.result.now = some_same next.next (watched c.get-watch.result.now) (sym (next_place (length m.widths) old fresh ws false c.args.part next) ∙ e) in
     let preds : List Pred = c.get-watch.result.now.preds.items in
     let same_preds : next.next.preds ≡ preds = ap (λ (x : Watched). x.preds) is_next in
-    let are : preds ≡ preds_on c.args.part a.course.set.items = sym same_preds ∙ next_preds (length m.widths) old fresh ws c.args.part a.course.set.items goes.observed next in
+    let are : preds ≡ preds_on c.args.part a.log.set.items = sym same_preds ∙ next_preds (length m.widths) old fresh ws c.args.part a.log.set.items goes.observed next in
     let fails : AllTrueIn a.words.items preds → ⊥ = λ h. true≢false (sym (c.are_true.ensures.1 (subst (λ (l : List ℤ). AllTrueIn l c.as_slice.result.now) (sym c.as_slice-2.ensures.items) (subst (λ (l : List Pred). AllTrueIn a.words.items l) (sym c.as_slice.ensures.items) h))) ∙ c.if-not-are_true.true) in
-    by_predicate (Close c.args.part) a.course.set.items w c.args.part c.args.ticket a.renewal.extended a.renewal.bound a.words.items (λ h. fails (subst (λ (l : List Pred). AllTrueIn a.words.items l) (sym are) h))
-    (reclosed_read m law g.T.Naming.valid sizes is f a.at a.renewal.bound c.args.part false a.course.base.items fresh a.course.set.items ws a.course.set.updates rs v goes.spans goes.observed goes.stands.3 c.requires.before.course.course c.args.ticket a.words.items goes.stands.0 goes.stands.1 c.requires.all w passes n c.close-found.ensures.tells free same)
+    by_predicate (Close c.args.part) a.log.set.items w c.args.part c.args.ticket a.extension.extended a.extension.bound a.words.items (λ h. fails (subst (λ (l : List Pred). AllTrueIn a.words.items l) (sym are) h))
+    (reclosed_read m law g.T.Naming.valid sizes is f a.at a.extension.bound c.args.part false a.log.base.items fresh a.log.set.items ws a.log.set.updates rs v goes.spans goes.observed goes.stands.3 c.requires.before.log.log c.args.ticket a.words.items goes.stands.0 goes.stands.1 c.requires.all w passes n c.close-found.ensures.tells free same)
 
 pub returns-then-is_locked-clause-left : goal.returns-then-is_locked-clause-left
 returns-then-is_locked-clause-left g c =
     let a = c.args.self.now in
-    let m = g.T.TxType.meaning a.course.ty.now in
-    let law = g.met.T.TxType.lawful a.course.ty.now in
-    let sizes = g.T.Naming.sizes a.course.ty.now in
-    let is : (d : Parts) → g.T.Naming.valid sizes d → m.valid d = λ d h. (g.met.T.TxType.valid_is a.course.ty.now d).1 h in
-    let f = g.B.Body.script a.course.body in
-    let rs = map told a.course.replies.items in
+    let m = g.T.TxType.meaning a.log.ty.now in
+    let law = g.met.T.TxType.lawful a.log.ty.now in
+    let sizes = g.T.Naming.sizes a.log.ty.now in
+    let is : (d : Parts) → g.T.Naming.valid sizes d → m.valid d = λ d h. (g.met.T.TxType.valid_is a.log.ty.now d).1 h in
+    let f = g.B.Body.script a.log.body in
+    let rs = map told a.log.replies.items in
     let v = g.C.Cells.view c.args.cells.now in
-    let fresh = a.renewal.fresh.items in
-    let ws = map watched a.renewal.watches.items in
+    let fresh = a.extension.fresh.items in
+    let ws = map watched a.extension.watches.items in
     let goes = c.requires.before.goes in
     let passes = g.C.Cells.passes c.args.cells.now in
-    reclose_over m.widths (words_in a.course.base.items) fresh ws c.args.part goes.stands.3 (g.B.Body.left a.course.body - 1) (length a.words.items) c.requires.all
+    reclose_over m.widths (words_in a.log.base.items) fresh ws c.args.part goes.stands.3 (g.B.Body.left a.log.body - 1) (length a.words.items) c.requires.all
 
 pub returns-then-newer-ticket-clause-left : goal.returns-then-newer-ticket-clause-left
 returns-then-newer-ticket-clause-left g c =
     let a = c.args.self.now in
-    let m = g.T.TxType.meaning a.course.ty.now in
-    let law = g.met.T.TxType.lawful a.course.ty.now in
-    let sizes = g.T.Naming.sizes a.course.ty.now in
-    let is : (d : Parts) → g.T.Naming.valid sizes d → m.valid d = λ d h. (g.met.T.TxType.valid_is a.course.ty.now d).1 h in
-    let f = g.B.Body.script a.course.body in
-    let rs = map told a.course.replies.items in
+    let m = g.T.TxType.meaning a.log.ty.now in
+    let law = g.met.T.TxType.lawful a.log.ty.now in
+    let sizes = g.T.Naming.sizes a.log.ty.now in
+    let is : (d : Parts) → g.T.Naming.valid sizes d → m.valid d = λ d h. (g.met.T.TxType.valid_is a.log.ty.now d).1 h in
+    let f = g.B.Body.script a.log.body in
+    let rs = map told a.log.replies.items in
     let v = g.C.Cells.view c.args.cells.now in
-    let fresh = a.renewal.fresh.items in
-    let ws = map watched a.renewal.watches.items in
+    let fresh = a.extension.fresh.items in
+    let ws = map watched a.extension.watches.items in
     let goes = c.requires.before.goes in
     let passes = g.C.Cells.passes c.args.cells.now in
-    reclose_over m.widths (words_in a.course.base.items) fresh ws c.args.part goes.stands.3 (g.B.Body.left a.course.body - 1) (length a.words.items) c.requires.all
+    reclose_over m.widths (words_in a.log.base.items) fresh ws c.args.part goes.stands.3 (g.B.Body.left a.log.body - 1) (length a.words.items) c.requires.all
 
 pub returns-then-not-are_true-clause-left : goal.returns-then-not-are_true-clause-left
 returns-then-not-are_true-clause-left g c =
     let a = c.args.self.now in
-    let m = g.T.TxType.meaning a.course.ty.now in
-    let law = g.met.T.TxType.lawful a.course.ty.now in
-    let sizes = g.T.Naming.sizes a.course.ty.now in
-    let is : (d : Parts) → g.T.Naming.valid sizes d → m.valid d = λ d h. (g.met.T.TxType.valid_is a.course.ty.now d).1 h in
-    let f = g.B.Body.script a.course.body in
-    let rs = map told a.course.replies.items in
+    let m = g.T.TxType.meaning a.log.ty.now in
+    let law = g.met.T.TxType.lawful a.log.ty.now in
+    let sizes = g.T.Naming.sizes a.log.ty.now in
+    let is : (d : Parts) → g.T.Naming.valid sizes d → m.valid d = λ d h. (g.met.T.TxType.valid_is a.log.ty.now d).1 h in
+    let f = g.B.Body.script a.log.body in
+    let rs = map told a.log.replies.items in
     let v = g.C.Cells.view c.args.cells.now in
-    let fresh = a.renewal.fresh.items in
-    let ws = map watched a.renewal.watches.items in
+    let fresh = a.extension.fresh.items in
+    let ws = map watched a.extension.watches.items in
     let goes = c.requires.before.goes in
     let passes = g.C.Cells.passes c.args.cells.now in
-    reclose_over m.widths (words_in a.course.base.items) fresh ws c.args.part goes.stands.3 (g.B.Body.left a.course.body - 1) (length a.words.items) c.requires.all
+    reclose_over m.widths (words_in a.log.base.items) fresh ws c.args.part goes.stands.3 (g.B.Body.left a.log.body - 1) (length a.words.items) c.requires.all
 
 pub returns-in_err-words-clause-err : goal.returns-in_err-words-clause-err
 returns-in_err-words-clause-err g c =
     let a = c.args.self.now in
-    let m = g.T.TxType.meaning a.course.ty.now in
-    let law = g.met.T.TxType.lawful a.course.ty.now in
-    let sizes = g.T.Naming.sizes a.course.ty.now in
-    let is : (d : Parts) → g.T.Naming.valid sizes d → m.valid d = λ d h. (g.met.T.TxType.valid_is a.course.ty.now d).1 h in
-    let f = g.B.Body.script a.course.body in
-    let rs = map told a.course.replies.items in
+    let m = g.T.TxType.meaning a.log.ty.now in
+    let law = g.met.T.TxType.lawful a.log.ty.now in
+    let sizes = g.T.Naming.sizes a.log.ty.now in
+    let is : (d : Parts) → g.T.Naming.valid sizes d → m.valid d = λ d h. (g.met.T.TxType.valid_is a.log.ty.now d).1 h in
+    let f = g.B.Body.script a.log.body in
+    let rs = map told a.log.replies.items in
     let v = g.C.Cells.view c.args.cells.now in
-    let fresh = a.renewal.fresh.items in
-    let ws = map watched a.renewal.watches.items in
+    let fresh = a.extension.fresh.items in
+    let ws = map watched a.extension.watches.items in
     let goes = c.requires.before.goes in
     let passes = g.C.Cells.passes c.args.cells.now in
     let w = g.C.Cells.view c.close-found.new.self in
     let n = c.close-found.result.0 in
-    always_err c.from_residual.result (IsLeft w × IsPrefix m f w a.at rs) (reclosed_left m law g.T.Naming.valid sizes is f a.at a.renewal.bound c.args.part false a.course.base.items fresh a.course.set.items ws a.course.set.updates rs v goes.spans goes.observed goes.stands.3 c.requires.before.course.course c.args.ticket a.words.items goes.stands.0 goes.stands.1 c.requires.all w passes n c.close-found.ensures.tells, reclosed_prefix m law g.T.Naming.valid sizes is f a.at a.renewal.bound c.args.part false a.course.base.items fresh a.course.set.items ws a.course.set.updates rs v goes.spans goes.observed goes.stands.3 c.requires.before.course.course c.args.ticket a.words.items goes.stands.0 goes.stands.1 c.requires.all w passes n c.close-found.ensures.tells)
+    always_err c.from_residual.result (IsLeft w × IsPrefix m f w a.at rs) (reclosed_left m law g.T.Naming.valid sizes is f a.at a.extension.bound c.args.part false a.log.base.items fresh a.log.set.items ws a.log.set.updates rs v goes.spans goes.observed goes.stands.3 c.requires.before.log.log c.args.ticket a.words.items goes.stands.0 goes.stands.1 c.requires.all w passes n c.close-found.ensures.tells, reclosed_prefix m law g.T.Naming.valid sizes is f a.at a.extension.bound c.args.part false a.log.base.items fresh a.log.set.items ws a.log.set.updates rs v goes.spans goes.observed goes.stands.3 c.requires.before.log.log c.args.ticket a.words.items goes.stands.0 goes.stands.1 c.requires.all w passes n c.close-found.ensures.tells)
 
 pub returns-then-place-clause-err : goal.returns-then-place-clause-err
 returns-then-place-clause-err g c =
     let a = c.args.self.now in
-    let m = g.T.TxType.meaning a.course.ty.now in
-    let law = g.met.T.TxType.lawful a.course.ty.now in
-    let sizes = g.T.Naming.sizes a.course.ty.now in
-    let is : (d : Parts) → g.T.Naming.valid sizes d → m.valid d = λ d h. (g.met.T.TxType.valid_is a.course.ty.now d).1 h in
-    let f = g.B.Body.script a.course.body in
-    let rs = map told a.course.replies.items in
+    let m = g.T.TxType.meaning a.log.ty.now in
+    let law = g.met.T.TxType.lawful a.log.ty.now in
+    let sizes = g.T.Naming.sizes a.log.ty.now in
+    let is : (d : Parts) → g.T.Naming.valid sizes d → m.valid d = λ d h. (g.met.T.TxType.valid_is a.log.ty.now d).1 h in
+    let f = g.B.Body.script a.log.body in
+    let rs = map told a.log.replies.items in
     let v = g.C.Cells.view c.args.cells.now in
-    let fresh = a.renewal.fresh.items in
-    let ws = map watched a.renewal.watches.items in
+    let fresh = a.extension.fresh.items in
+    let ws = map watched a.extension.watches.items in
     let goes = c.requires.before.goes in
     let passes = g.C.Cells.passes c.args.cells.now in
     let w = g.C.Cells.view c.close-found.new.self in
     let n = c.close-found.result.0 in
-    (reclosed_left m law g.T.Naming.valid sizes is f a.at a.renewal.bound c.args.part false a.course.base.items fresh a.course.set.items ws a.course.set.updates rs v goes.spans goes.observed goes.stands.3 c.requires.before.course.course c.args.ticket a.words.items goes.stands.0 goes.stands.1 c.requires.all w passes n c.close-found.ensures.tells, reclosed_prefix m law g.T.Naming.valid sizes is f a.at a.renewal.bound c.args.part false a.course.base.items fresh a.course.set.items ws a.course.set.updates rs v goes.spans goes.observed goes.stands.3 c.requires.before.course.course c.args.ticket a.words.items goes.stands.0 goes.stands.1 c.requires.all w passes n c.close-found.ensures.tells)
+    (reclosed_left m law g.T.Naming.valid sizes is f a.at a.extension.bound c.args.part false a.log.base.items fresh a.log.set.items ws a.log.set.updates rs v goes.spans goes.observed goes.stands.3 c.requires.before.log.log c.args.ticket a.words.items goes.stands.0 goes.stands.1 c.requires.all w passes n c.close-found.ensures.tells, reclosed_prefix m law g.T.Naming.valid sizes is f a.at a.extension.bound c.args.part false a.log.base.items fresh a.log.set.items ws a.log.set.updates rs v goes.spans goes.observed goes.stands.3 c.requires.before.log.log c.args.ticket a.words.items goes.stands.0 goes.stands.1 c.requires.all w passes n c.close-found.ensures.tells)
 
 pub returns-in_err-push-clause-err : goal.returns-in_err-push-clause-err
 returns-in_err-push-clause-err g c =
     let a = c.args.self.now in
-    let m = g.T.TxType.meaning a.course.ty.now in
-    let law = g.met.T.TxType.lawful a.course.ty.now in
-    let sizes = g.T.Naming.sizes a.course.ty.now in
-    let is : (d : Parts) → g.T.Naming.valid sizes d → m.valid d = λ d h. (g.met.T.TxType.valid_is a.course.ty.now d).1 h in
-    let f = g.B.Body.script a.course.body in
-    let rs = map told a.course.replies.items in
+    let m = g.T.TxType.meaning a.log.ty.now in
+    let law = g.met.T.TxType.lawful a.log.ty.now in
+    let sizes = g.T.Naming.sizes a.log.ty.now in
+    let is : (d : Parts) → g.T.Naming.valid sizes d → m.valid d = λ d h. (g.met.T.TxType.valid_is a.log.ty.now d).1 h in
+    let f = g.B.Body.script a.log.body in
+    let rs = map told a.log.replies.items in
     let v = g.C.Cells.view c.args.cells.now in
-    let fresh = a.renewal.fresh.items in
-    let ws = map watched a.renewal.watches.items in
+    let fresh = a.extension.fresh.items in
+    let ws = map watched a.extension.watches.items in
     let goes = c.requires.before.goes in
     let passes = g.C.Cells.passes c.args.cells.now in
     let w = g.C.Cells.view c.close-found.new.self in
     let n = c.close-found.result.0 in
-    always_err c.from_residual-in_err-push.result (IsLeft w × IsPrefix m f w a.at rs) (reclosed_left m law g.T.Naming.valid sizes is f a.at a.renewal.bound c.args.part false a.course.base.items fresh a.course.set.items ws a.course.set.updates rs v goes.spans goes.observed goes.stands.3 c.requires.before.course.course c.args.ticket a.words.items goes.stands.0 goes.stands.1 c.requires.all w passes n c.close-found.ensures.tells, reclosed_prefix m law g.T.Naming.valid sizes is f a.at a.renewal.bound c.args.part false a.course.base.items fresh a.course.set.items ws a.course.set.updates rs v goes.spans goes.observed goes.stands.3 c.requires.before.course.course c.args.ticket a.words.items goes.stands.0 goes.stands.1 c.requires.all w passes n c.close-found.ensures.tells)
+    always_err c.from_residual-in_err-push.result (IsLeft w × IsPrefix m f w a.at rs) (reclosed_left m law g.T.Naming.valid sizes is f a.at a.extension.bound c.args.part false a.log.base.items fresh a.log.set.items ws a.log.set.updates rs v goes.spans goes.observed goes.stands.3 c.requires.before.log.log c.args.ticket a.words.items goes.stands.0 goes.stands.1 c.requires.all w passes n c.close-found.ensures.tells, reclosed_prefix m law g.T.Naming.valid sizes is f a.at a.extension.bound c.args.part false a.log.base.items fresh a.log.set.items ws a.log.set.updates rs v goes.spans goes.observed goes.stands.3 c.requires.before.log.log c.args.ticket a.words.items goes.stands.0 goes.stands.1 c.requires.all w passes n c.close-found.ensures.tells)
 
 pub returns-clause-err : goal.returns-clause-err
 returns-clause-err g c =
     let a = c.args.self.now in
-    let m = g.T.TxType.meaning a.course.ty.now in
-    let law = g.met.T.TxType.lawful a.course.ty.now in
-    let sizes = g.T.Naming.sizes a.course.ty.now in
-    let is : (d : Parts) → g.T.Naming.valid sizes d → m.valid d = λ d h. (g.met.T.TxType.valid_is a.course.ty.now d).1 h in
-    let f = g.B.Body.script a.course.body in
-    let rs = map told a.course.replies.items in
+    let m = g.T.TxType.meaning a.log.ty.now in
+    let law = g.met.T.TxType.lawful a.log.ty.now in
+    let sizes = g.T.Naming.sizes a.log.ty.now in
+    let is : (d : Parts) → g.T.Naming.valid sizes d → m.valid d = λ d h. (g.met.T.TxType.valid_is a.log.ty.now d).1 h in
+    let f = g.B.Body.script a.log.body in
+    let rs = map told a.log.replies.items in
     let v = g.C.Cells.view c.args.cells.now in
-    let fresh = a.renewal.fresh.items in
-    let ws = map watched a.renewal.watches.items in
+    let fresh = a.extension.fresh.items in
+    let ws = map watched a.extension.watches.items in
     let goes = c.requires.before.goes in
     let w = g.C.Cells.view c.close-found.new.self in
     let passes = g.C.Cells.passes c.args.cells.now in
     let n = c.close-found.result.0 in
     let free : is_free n ≡ true = locked_is (is_free n) (sym c.is_locked.ensures ∙ c.if-is_locked.false) in
     let same : ticket_of n ≡ c.args.ticket = sym c.ticket-newer.ensures.ticket ∙ c.if-newer-ticket.false in
-    let old = words_in a.course.base.items in
+    let old = words_in a.log.base.items in
     let e : slice_get ws (length fresh) ≡ Some (watched c.get-watch.result.now) =
-    slice_get-map watched a.renewal.watches.items (length fresh) ∙ ap (option_map watched) (ap (slice_get a.renewal.watches.items) (sym c.len-place.ensures) ∙ c.get-watch.ensures) in
+    slice_get-map watched a.extension.watches.items (length fresh) ∙ ap (option_map watched) (ap (slice_get a.extension.watches.items) (sym c.len-place.ensures) ∙ c.get-watch.ensures) in
     let next : IsNext (length m.widths) old fresh ws false c.args.part = goes.stands.3 in
     let is_next : next.next ≡ watched c.get-watch.result.now = some_same next.next (watched c.get-watch.result.now) (sym (next_place (length m.widths) old fresh ws false c.args.part next) ∙ e) in
     let preds : List Pred = c.get-watch.result.now.preds.items in
     let same_preds : next.next.preds ≡ preds = ap (λ (x : Watched). x.preds) is_next in
-    let y : Sight = record { part = c.args.part; ticket = c.args.ticket; words = c.in_ok-words.words } in
+    let y : ReadEntry = record { part = c.args.part; ticket = c.args.ticket; words = c.in_ok-words.words } in
     let made : c.push.new.self.items ≡ fresh ++ y ∷ [] = c.in_ok-push.ensures.ok in
     let hold : AllTrueIn a.words.items next.next.preds = subst (λ (l : List Pred). AllTrueIn a.words.items l) (c.as_slice.ensures.items ∙ sym same_preds) (subst (λ (l : List ℤ). AllTrueIn l c.as_slice.result.now) c.as_slice-2.ensures.items (c.are_true.ensures.0 c.if-not-are_true.false)) in
-    let h = reclosed_renewed m law g.T.Naming.valid sizes is f a.at a.renewal.bound c.args.part false a.course.base.items fresh a.course.set.items ws a.course.set.updates rs v goes.spans goes.observed goes.stands.3 c.requires.before.course.course c.args.ticket a.words.items goes.stands.0 goes.stands.1 c.requires.all w passes n c.close-found.ensures.tells free same y refl refl c.in_ok-words.ensures refl hold in
-    let spans = reclosed_spans m law g.T.Naming.valid sizes is f a.at a.renewal.bound c.args.part false a.course.base.items fresh a.course.set.items ws a.course.set.updates rs v goes.spans goes.observed goes.stands.3 c.requires.before.course.course c.args.ticket a.words.items goes.stands.0 goes.stands.1 c.requires.all w passes n c.close-found.ensures.tells free same y refl refl c.in_ok-words.ensures in
-    let now = map told c.advance.new.self.course.replies.items in
-    let left : IsLeft w = reclosed_left m law g.T.Naming.valid sizes is f a.at a.renewal.bound c.args.part false a.course.base.items fresh a.course.set.items ws a.course.set.updates rs v goes.spans goes.observed goes.stands.3 c.requires.before.course.course c.args.ticket a.words.items goes.stands.0 goes.stands.1 c.requires.all w passes n c.close-found.ensures.tells in
+    let h = reclosed_renewed m law g.T.Naming.valid sizes is f a.at a.extension.bound c.args.part false a.log.base.items fresh a.log.set.items ws a.log.set.updates rs v goes.spans goes.observed goes.stands.3 c.requires.before.log.log c.args.ticket a.words.items goes.stands.0 goes.stands.1 c.requires.all w passes n c.close-found.ensures.tells free same y refl refl c.in_ok-words.ensures refl hold in
+    let spans = reclosed_spans m law g.T.Naming.valid sizes is f a.at a.extension.bound c.args.part false a.log.base.items fresh a.log.set.items ws a.log.set.updates rs v goes.spans goes.observed goes.stands.3 c.requires.before.log.log c.args.ticket a.words.items goes.stands.0 goes.stands.1 c.requires.all w passes n c.close-found.ensures.tells free same y refl refl c.in_ok-words.ensures in
+    let now = map told c.advance.new.self.log.replies.items in
+    let left : IsLeft w = reclosed_left m law g.T.Naming.valid sizes is f a.at a.extension.bound c.args.part false a.log.base.items fresh a.log.set.items ws a.log.set.updates rs v goes.spans goes.observed goes.stands.3 c.requires.before.log.log c.args.ticket a.words.items goes.stands.0 goes.stands.1 c.requires.all w passes n c.close-found.ensures.tells in
     err_both c.advance.result (IsLeft w) (IsPrefix m f w c.advance.new.self.at now) (always_err c.advance.result (IsLeft w) left)
-    (c.advance.ensures.stopped w (subst (λ (l : List Sight). Spans m g.T.Naming.valid sizes a.at a.renewal.bound a.course.base.items l w) (sym made) spans.0))
+    (c.advance.ensures.stopped w (subst (λ (l : List ReadEntry). Spans m g.T.Naming.valid sizes a.at a.extension.bound a.log.base.items l w) (sym made) spans.0))
 
 pub returns-clause-left : goal.returns-clause-left
 returns-clause-left g c =
     let a = c.args.self.now in
-    let m = g.T.TxType.meaning a.course.ty.now in
-    let law = g.met.T.TxType.lawful a.course.ty.now in
-    let sizes = g.T.Naming.sizes a.course.ty.now in
-    let is : (d : Parts) → g.T.Naming.valid sizes d → m.valid d = λ d h. (g.met.T.TxType.valid_is a.course.ty.now d).1 h in
-    let f = g.B.Body.script a.course.body in
-    let rs = map told a.course.replies.items in
+    let m = g.T.TxType.meaning a.log.ty.now in
+    let law = g.met.T.TxType.lawful a.log.ty.now in
+    let sizes = g.T.Naming.sizes a.log.ty.now in
+    let is : (d : Parts) → g.T.Naming.valid sizes d → m.valid d = λ d h. (g.met.T.TxType.valid_is a.log.ty.now d).1 h in
+    let f = g.B.Body.script a.log.body in
+    let rs = map told a.log.replies.items in
     let v = g.C.Cells.view c.args.cells.now in
-    let fresh = a.renewal.fresh.items in
-    let ws = map watched a.renewal.watches.items in
+    let fresh = a.extension.fresh.items in
+    let ws = map watched a.extension.watches.items in
     let goes = c.requires.before.goes in
     let w = g.C.Cells.view c.close-found.new.self in
     let passes = g.C.Cells.passes c.args.cells.now in
     let n = c.close-found.result.0 in
     let free : is_free n ≡ true = locked_is (is_free n) (sym c.is_locked.ensures ∙ c.if-is_locked.false) in
     let same : ticket_of n ≡ c.args.ticket = sym c.ticket-newer.ensures.ticket ∙ c.if-newer-ticket.false in
-    let old = words_in a.course.base.items in
+    let old = words_in a.log.base.items in
     let e : slice_get ws (length fresh) ≡ Some (watched c.get-watch.result.now) =
-    slice_get-map watched a.renewal.watches.items (length fresh) ∙ ap (option_map watched) (ap (slice_get a.renewal.watches.items) (sym c.len-place.ensures) ∙ c.get-watch.ensures) in
+    slice_get-map watched a.extension.watches.items (length fresh) ∙ ap (option_map watched) (ap (slice_get a.extension.watches.items) (sym c.len-place.ensures) ∙ c.get-watch.ensures) in
     let next : IsNext (length m.widths) old fresh ws false c.args.part = goes.stands.3 in
     let is_next : next.next ≡ watched c.get-watch.result.now = some_same next.next (watched c.get-watch.result.now) (sym (next_place (length m.widths) old fresh ws false c.args.part next) ∙ e) in
     let preds : List Pred = c.get-watch.result.now.preds.items in
     let same_preds : next.next.preds ≡ preds = ap (λ (x : Watched). x.preds) is_next in
-    let y : Sight = record { part = c.args.part; ticket = c.args.ticket; words = c.in_ok-words.words } in
+    let y : ReadEntry = record { part = c.args.part; ticket = c.args.ticket; words = c.in_ok-words.words } in
     let made : c.push.new.self.items ≡ fresh ++ y ∷ [] = c.in_ok-push.ensures.ok in
     let hold : AllTrueIn a.words.items next.next.preds = subst (λ (l : List Pred). AllTrueIn a.words.items l) (c.as_slice.ensures.items ∙ sym same_preds) (subst (λ (l : List ℤ). AllTrueIn l c.as_slice.result.now) c.as_slice-2.ensures.items (c.are_true.ensures.0 c.if-not-are_true.false)) in
-    let h = reclosed_renewed m law g.T.Naming.valid sizes is f a.at a.renewal.bound c.args.part false a.course.base.items fresh a.course.set.items ws a.course.set.updates rs v goes.spans goes.observed goes.stands.3 c.requires.before.course.course c.args.ticket a.words.items goes.stands.0 goes.stands.1 c.requires.all w passes n c.close-found.ensures.tells free same y refl refl c.in_ok-words.ensures refl hold in
+    let h = reclosed_renewed m law g.T.Naming.valid sizes is f a.at a.extension.bound c.args.part false a.log.base.items fresh a.log.set.items ws a.log.set.updates rs v goes.spans goes.observed goes.stands.3 c.requires.before.log.log c.args.ticket a.words.items goes.stands.0 goes.stands.1 c.requires.all w passes n c.close-found.ensures.tells free same y refl refl c.in_ok-words.ensures refl hold in
     let b = c.advance.new.self in
-    let gone : drop (length c.push.new.self.items) ws ≡ next.more = ap (λ (l : List Sight). drop (length l) ws) made ∙ left_watches (length m.widths) old (fresh ++ y ∷ []) ws next.more h in
-    let before = g.B.Body.left a.course.body in
-    let now = events_left (g.B.Body.left b.course.body) m.widths b.stand b.words.items b.renewal b.course.base.items in
+    let gone : drop (length c.push.new.self.items) ws ≡ next.more = ap (λ (l : List ReadEntry). drop (length l) ws) made ∙ left_watches (length m.widths) old (fresh ++ y ∷ []) ws next.more h in
+    let before = g.B.Body.left a.log.body in
+    let now = events_left (g.B.Body.left b.log.body) m.widths b.read_phase b.words.items b.extension b.log.base.items in
     let fewer : OnOk c.advance.result (now < 1 + left_extending (before - 1) m.widths next.more) =
     subst (λ (l : List Watched). OnOk c.advance.result (now < 1 + left_extending (before - 1) m.widths l)) gone c.advance.ensures.left in
     ok_map c.advance.result (now < 1 + left_extending (before - 1) m.widths next.more) (now < left_extending (before - 1) m.widths (drop (length fresh) ws) - (1 + length a.words.items))

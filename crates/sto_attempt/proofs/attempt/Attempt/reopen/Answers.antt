@@ -5,61 +5,61 @@ use Rattle.sto_model.specs.Told.{told}
 use Rattle.sto_type.specs.Known.{Parts}
 use Rattle.sto_core.specs.Versions.{ticket_of, is_free}
 use Rattle.sto_core.proofs.Lists.{locked_is, unlocked_is}
-use Rattle.sto_course.specs.declared.stand.Stand.TheVariants.{Rereading}
-use Rattle.sto_course.specs.Sights.{words_in}
-use Rattle.sto_course.specs.Answers.{WasChanged}
-use Rattle.sto_course.specs.Standing.{Renews}
-use Rattle.sto_course.proofs.Again.{reopen_allowed, reopened_within, reopened_locked, reopened_changed, reopened_goes}
+use Rattle.sto_attempt_log.specs.declared.read_phase.ReadPhase.TheVariants.{Rereading}
+use Rattle.sto_attempt_log.specs.ReadSet.{words_in}
+use Rattle.sto_attempt_log.specs.Answers.{WasChanged}
+use Rattle.sto_attempt_log.specs.Standing.{Renews}
+use Rattle.sto_attempt_log.proofs.Again.{reopen_allowed, reopened_within, reopened_locked, reopened_changed, reopened_goes}
 use Rattle.std.proofs.Common.{◌-◌, ◌+◌, drop}
-use Rattle.sto_course.specs.Bounds.{left_extending}
-use Rattle.sto_course.proofs.Lowering.{reopen_over, reopen_fewer}
-use Rattle.sto_course.proofs.Causing.{by_open}
-use Rattle.sto_course.proofs.Onward.{heard_none}
+use Rattle.sto_attempt_log.specs.Bounds.{left_extending}
+use Rattle.sto_attempt_log.proofs.Lowering.{reopen_over, reopen_fewer}
+use Rattle.sto_attempt_log.proofs.Causing.{by_open}
+use Rattle.sto_attempt_log.proofs.Onward.{heard_none}
 use Rattle.sto_attempt.proofs.attempt.Attempt.reopen.Goals as goal
 
 pub open-found-requires : goal.open-found-requires
 open-found-requires g c =
     let a = c.args.self.now in
-    let m = g.T.TxType.meaning a.course.ty.now in
-    let law = g.met.T.TxType.lawful a.course.ty.now in
-    let sizes = g.T.Naming.sizes a.course.ty.now in
-    let is : (d : Parts) → g.T.Naming.valid sizes d → m.valid d = λ d h. (g.met.T.TxType.valid_is a.course.ty.now d).1 h in
-    let f = g.B.Body.script a.course.body in
-    let rs = map told a.course.replies.items in
+    let m = g.T.TxType.meaning a.log.ty.now in
+    let law = g.met.T.TxType.lawful a.log.ty.now in
+    let sizes = g.T.Naming.sizes a.log.ty.now in
+    let is : (d : Parts) → g.T.Naming.valid sizes d → m.valid d = λ d h. (g.met.T.TxType.valid_is a.log.ty.now d).1 h in
+    let f = g.B.Body.script a.log.body in
+    let rs = map told a.log.replies.items in
     let v = g.C.Cells.view c.args.cells.now in
-    let fresh = a.renewal.fresh.items in
-    let ws = map watched a.renewal.watches.items in
+    let fresh = a.extension.fresh.items in
+    let ws = map watched a.extension.watches.items in
     let goes = c.requires.goes in
-    reopen_allowed m law g.T.Naming.valid sizes is f a.at a.renewal.bound c.args.part false a.course.base.items fresh a.course.set.items ws a.course.set.updates rs v goes.spans goes.observed goes.stands.1 c.requires.course.course goes.stands.0
+    reopen_allowed m law g.T.Naming.valid sizes is f a.at a.extension.bound c.args.part false a.log.base.items fresh a.log.set.items ws a.log.set.updates rs v goes.spans goes.observed goes.stands.1 c.requires.log.log goes.stands.0
 
 pub returns-then-is_locked-clause-steps : goal.returns-then-is_locked-clause-steps
 returns-then-is_locked-clause-steps g c =
     let a = c.args.self.now in
-    let m = g.T.TxType.meaning a.course.ty.now in
-    let law = g.met.T.TxType.lawful a.course.ty.now in
-    let sizes = g.T.Naming.sizes a.course.ty.now in
-    let is : (d : Parts) → g.T.Naming.valid sizes d → m.valid d = λ d h. (g.met.T.TxType.valid_is a.course.ty.now d).1 h in
-    let f = g.B.Body.script a.course.body in
-    let rs = map told a.course.replies.items in
+    let m = g.T.TxType.meaning a.log.ty.now in
+    let law = g.met.T.TxType.lawful a.log.ty.now in
+    let sizes = g.T.Naming.sizes a.log.ty.now in
+    let is : (d : Parts) → g.T.Naming.valid sizes d → m.valid d = λ d h. (g.met.T.TxType.valid_is a.log.ty.now d).1 h in
+    let f = g.B.Body.script a.log.body in
+    let rs = map told a.log.replies.items in
     let v = g.C.Cells.view c.args.cells.now in
-    let fresh = a.renewal.fresh.items in
-    let ws = map watched a.renewal.watches.items in
+    let fresh = a.extension.fresh.items in
+    let ws = map watched a.extension.watches.items in
     let goes = c.requires.goes in
     let w = g.C.Cells.view c.open-found.new.self in
     let passes = g.C.Cells.passes c.args.cells.now in
     let n = c.open-found.result.0 in
     let locked : is_free n ≡ false = unlocked_is (is_free n) (sym c.is_locked.ensures ∙ c.if-is_locked.true) in
-    let h = reopened_locked m law g.T.Naming.valid sizes is f a.at a.renewal.bound c.args.part false a.course.base.items fresh a.course.set.items ws a.course.set.updates rs v goes.spans goes.observed goes.stands.1 c.requires.course.course goes.stands.0 w passes n c.open-found.ensures.tells locked in
+    let h = reopened_locked m law g.T.Naming.valid sizes is f a.at a.extension.bound c.args.part false a.log.base.items fresh a.log.set.items ws a.log.set.updates rs v goes.spans goes.observed goes.stands.1 c.requires.log.log goes.stands.0 w passes n c.open-found.ensures.tells locked in
     record {
       event = search rules;
-      course = c.requires.course;
-      turned = (refl, h.0, reopened_within m law g.T.Naming.valid sizes is f a.at a.renewal.bound c.args.part false a.course.base.items fresh a.course.set.items ws a.course.set.updates rs v goes.spans goes.observed goes.stands.1 c.requires.course.course goes.stands.0 w passes n c.open-found.ensures.tells, (refl, h.1));
+      log = c.requires.log;
+      turned = (refl, h.0, reopened_within m law g.T.Naming.valid sizes is f a.at a.extension.bound c.args.part false a.log.base.items fresh a.log.set.items ws a.log.set.updates rs v goes.spans goes.observed goes.stands.1 c.requires.log.log goes.stands.0 w passes n c.open-found.ensures.tells, (refl, h.1));
       grown = heard_none _ _ _ _ _;
       alone = λ one first. absurd first;
       reason = search rules;
       renewed = (refl, λ e. (e, refl));
       moves = (tt, omega arith);
-      left = reopen_over m.widths (words_in a.course.base.items) fresh ws c.args.part goes.stands.1 (g.B.Body.left a.course.body - 1);
+      left = reopen_over m.widths (words_in a.log.base.items) fresh ws c.args.part goes.stands.1 (g.B.Body.left a.log.body - 1);
       err = tt;
       script = refl;
       ty = refl;
@@ -68,32 +68,32 @@ returns-then-is_locked-clause-steps g c =
 pub returns-then-ticket-self-clause-steps : goal.returns-then-ticket-self-clause-steps
 returns-then-ticket-self-clause-steps g c =
     let a = c.args.self.now in
-    let m = g.T.TxType.meaning a.course.ty.now in
-    let law = g.met.T.TxType.lawful a.course.ty.now in
-    let sizes = g.T.Naming.sizes a.course.ty.now in
-    let is : (d : Parts) → g.T.Naming.valid sizes d → m.valid d = λ d h. (g.met.T.TxType.valid_is a.course.ty.now d).1 h in
-    let f = g.B.Body.script a.course.body in
-    let rs = map told a.course.replies.items in
+    let m = g.T.TxType.meaning a.log.ty.now in
+    let law = g.met.T.TxType.lawful a.log.ty.now in
+    let sizes = g.T.Naming.sizes a.log.ty.now in
+    let is : (d : Parts) → g.T.Naming.valid sizes d → m.valid d = λ d h. (g.met.T.TxType.valid_is a.log.ty.now d).1 h in
+    let f = g.B.Body.script a.log.body in
+    let rs = map told a.log.replies.items in
     let v = g.C.Cells.view c.args.cells.now in
-    let fresh = a.renewal.fresh.items in
-    let ws = map watched a.renewal.watches.items in
+    let fresh = a.extension.fresh.items in
+    let ws = map watched a.extension.watches.items in
     let goes = c.requires.goes in
     let w = g.C.Cells.view c.open-found.new.self in
     let passes = g.C.Cells.passes c.args.cells.now in
     let n = c.open-found.result.0 in
     let free : is_free n ≡ true = locked_is (is_free n) (sym c.is_locked.ensures ∙ c.if-is_locked.false) in
-    let later : a.renewal.bound < ticket_of n = omega (arith, c.if-ticket-self.true, c.ticket-ticket.ensures.ticket) in
-    let h = reopened_changed m law g.T.Naming.valid sizes is f a.at a.renewal.bound c.args.part false a.course.base.items fresh a.course.set.items ws a.course.set.updates rs v goes.spans goes.observed goes.stands.1 c.requires.course.course goes.stands.0 w passes n c.open-found.ensures.tells free later in
+    let later : a.extension.bound < ticket_of n = omega (arith, c.if-ticket-self.true, c.ticket-ticket.ensures.ticket) in
+    let h = reopened_changed m law g.T.Naming.valid sizes is f a.at a.extension.bound c.args.part false a.log.base.items fresh a.log.set.items ws a.log.set.updates rs v goes.spans goes.observed goes.stands.1 c.requires.log.log goes.stands.0 w passes n c.open-found.ensures.tells free later in
     record {
       event = search rules;
-      course = c.requires.course;
-      turned = (refl, h.0, reopened_within m law g.T.Naming.valid sizes is f a.at a.renewal.bound c.args.part false a.course.base.items fresh a.course.set.items ws a.course.set.updates rs v goes.spans goes.observed goes.stands.1 c.requires.course.course goes.stands.0 w passes n c.open-found.ensures.tells, (refl, subst (λ (k : ℕ). WasChanged m f w a.at c.args.part k rs) (sym c.ticket-ticket.ensures.ticket) h.1));
+      log = c.requires.log;
+      turned = (refl, h.0, reopened_within m law g.T.Naming.valid sizes is f a.at a.extension.bound c.args.part false a.log.base.items fresh a.log.set.items ws a.log.set.updates rs v goes.spans goes.observed goes.stands.1 c.requires.log.log goes.stands.0 w passes n c.open-found.ensures.tells, (refl, subst (λ (k : ℕ). WasChanged m f w a.at c.args.part k rs) (sym c.ticket-ticket.ensures.ticket) h.1));
       grown = heard_none _ _ _ _ _;
       alone = λ one first. absurd first;
-      reason = by_open a.course.set.items (g.C.Cells.view c.open-found.new.self) c.args.part c.ticket-ticket.result a.renewal.extended a.renewal.bound c.requires.goes.extended c.if-ticket-self.true;
+      reason = by_open a.log.set.items (g.C.Cells.view c.open-found.new.self) c.args.part c.ticket-ticket.result a.extension.extended a.extension.bound c.requires.goes.extended c.if-ticket-self.true;
       renewed = (refl, λ e. (e, refl));
       moves = (tt, omega arith);
-      left = reopen_over m.widths (words_in a.course.base.items) fresh ws c.args.part goes.stands.1 (g.B.Body.left a.course.body - 1);
+      left = reopen_over m.widths (words_in a.log.base.items) fresh ws c.args.part goes.stands.1 (g.B.Body.left a.log.body - 1);
       err = tt;
       script = refl;
       ty = refl;
@@ -102,36 +102,36 @@ returns-then-ticket-self-clause-steps g c =
 pub returns-clause-steps : goal.returns-clause-steps
 returns-clause-steps g c =
     let a = c.args.self.now in
-    let m = g.T.TxType.meaning a.course.ty.now in
-    let law = g.met.T.TxType.lawful a.course.ty.now in
-    let sizes = g.T.Naming.sizes a.course.ty.now in
-    let is : (d : Parts) → g.T.Naming.valid sizes d → m.valid d = λ d h. (g.met.T.TxType.valid_is a.course.ty.now d).1 h in
-    let f = g.B.Body.script a.course.body in
-    let rs = map told a.course.replies.items in
+    let m = g.T.TxType.meaning a.log.ty.now in
+    let law = g.met.T.TxType.lawful a.log.ty.now in
+    let sizes = g.T.Naming.sizes a.log.ty.now in
+    let is : (d : Parts) → g.T.Naming.valid sizes d → m.valid d = λ d h. (g.met.T.TxType.valid_is a.log.ty.now d).1 h in
+    let f = g.B.Body.script a.log.body in
+    let rs = map told a.log.replies.items in
     let v = g.C.Cells.view c.args.cells.now in
-    let fresh = a.renewal.fresh.items in
-    let ws = map watched a.renewal.watches.items in
+    let fresh = a.extension.fresh.items in
+    let ws = map watched a.extension.watches.items in
     let goes = c.requires.goes in
     let w = g.C.Cells.view c.open-found.new.self in
     let passes = g.C.Cells.passes c.args.cells.now in
     let n = c.open-found.result.0 in
     let free : is_free n ≡ true = locked_is (is_free n) (sym c.is_locked.ensures ∙ c.if-is_locked.false) in
-    let early : ticket_of n ≤ a.renewal.bound = omega (arith, c.if-ticket-self.false, c.ticket-ticket.ensures.ticket) in
-    let h = reopened_goes m law g.T.Naming.valid sizes is f a.at a.renewal.bound c.args.part false a.course.base.items fresh a.course.set.items ws a.course.set.updates rs v goes.spans goes.observed goes.stands.1 c.requires.course.course goes.stands.0 w passes n c.open-found.ensures.tells free early in
+    let early : ticket_of n ≤ a.extension.bound = omega (arith, c.if-ticket-self.false, c.ticket-ticket.ensures.ticket) in
+    let h = reopened_goes m law g.T.Naming.valid sizes is f a.at a.extension.bound c.args.part false a.log.base.items fresh a.log.set.items ws a.log.set.updates rs v goes.spans goes.observed goes.stands.1 c.requires.log.log goes.stands.0 w passes n c.open-found.ensures.tells free early in
     let none : c.new.result.items ≡ [] = ap (λ (l : Listed ℤ). l.items) c.new.ensures in
-    let made : Renews m g.T.Naming.valid sizes a.at (Rereading c.args.part (ticket_of n)) [] a.renewal a.course.base.items a.course.set.items w = record { spans = h.0; observed = goes.observed; extended = goes.extended; stands = (h.1, early, omega arith, goes.stands.1) } in
-    let most = left_extending (g.B.Body.left a.course.body - 1) m.widths (drop (length fresh) ws) in
+    let made : Renews m g.T.Naming.valid sizes a.at (Rereading c.args.part (ticket_of n)) [] a.extension a.log.base.items a.log.set.items w = record { spans = h.0; observed = goes.observed; extended = goes.extended; stands = (h.1, early, omega arith, goes.stands.1) } in
+    let most = left_extending (g.B.Body.left a.log.body - 1) m.widths (drop (length fresh) ws) in
     record {
       event = search rules;
-      course = c.requires.course;
-      turned = subst (λ (ks : List ℤ). Renews m g.T.Naming.valid sizes a.at (Rereading c.args.part c.ticket-ticket.result) ks a.renewal a.course.base.items a.course.set.items w) (sym none)
-          (subst (λ (k : ℕ). Renews m g.T.Naming.valid sizes a.at (Rereading c.args.part k) [] a.renewal a.course.base.items a.course.set.items w) (sym c.ticket-ticket.ensures.ticket) made);
+      log = c.requires.log;
+      turned = subst (λ (ks : List ℤ). Renews m g.T.Naming.valid sizes a.at (Rereading c.args.part c.ticket-ticket.result) ks a.extension a.log.base.items a.log.set.items w) (sym none)
+          (subst (λ (k : ℕ). Renews m g.T.Naming.valid sizes a.at (Rereading c.args.part k) [] a.extension a.log.base.items a.log.set.items w) (sym c.ticket-ticket.ensures.ticket) made);
       grown = heard_none _ _ _ _ _;
       alone = λ one first. absurd first;
       reason = search rules;
       renewed = (refl, λ e. (e, refl));
       moves = (tt, omega arith);
-      left = subst (λ (l : List ℤ). most - (1 + length l) < most) (sym none) (reopen_fewer m.widths (words_in a.course.base.items) fresh ws c.args.part goes.stands.1 (g.B.Body.left a.course.body - 1));
+      left = subst (λ (l : List ℤ). most - (1 + length l) < most) (sym none) (reopen_fewer m.widths (words_in a.log.base.items) fresh ws c.args.part goes.stands.1 (g.B.Body.left a.log.body - 1));
       err = tt;
       script = refl;
       ty = refl;

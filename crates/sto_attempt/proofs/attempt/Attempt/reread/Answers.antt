@@ -6,49 +6,49 @@ use Rattle.sto_type.specs.Known.{Parts}
 use Rattle.sto_core.specs.Event.{Word}
 use Rattle.sto_core.specs.Tells.{Tells}
 use Rattle.sto_core.specs.Allowed.{Allowed}
-use Rattle.sto_course.specs.declared.stand.Stand.{Stand}
-use Rattle.sto_course.specs.declared.stand.Stand.TheVariants.{Rereading}
-use Rattle.sto_course.specs.Sights.{words_in}
-use Rattle.sto_course.specs.Standing.{Renews, Goes, IsLeft}
-use Rattle.sto_course.proofs.Reading.{always_err}
-use Rattle.sto_course.proofs.Again.{reread_allowed, reread_goes}
+use Rattle.sto_attempt_log.specs.declared.read_phase.ReadPhase.{ReadPhase}
+use Rattle.sto_attempt_log.specs.declared.read_phase.ReadPhase.TheVariants.{Rereading}
+use Rattle.sto_attempt_log.specs.ReadSet.{words_in}
+use Rattle.sto_attempt_log.specs.Standing.{Renews, Goes, IsLeft}
+use Rattle.sto_attempt_log.proofs.Reading.{always_err}
+use Rattle.sto_attempt_log.proofs.Again.{reread_allowed, reread_goes}
 use Rattle.std.proofs.Common.{◌-◌, ◌+◌, drop}
-use Rattle.sto_course.specs.Bounds.{events_left, left_extending}
-use Rattle.sto_course.specs.Answers.{IsPrefix}
-use Rattle.sto_course.proofs.Lowering.{reread_fewer}
+use Rattle.sto_attempt_log.specs.Bounds.{events_left, left_extending}
+use Rattle.sto_attempt_log.specs.Answers.{IsPrefix}
+use Rattle.sto_attempt_log.proofs.Lowering.{reread_fewer}
 use Rattle.sto_core.specs.Allowed.{IsIdle}
-use Rattle.sto_course.proofs.Prefix.{prefix}
-use Rattle.sto_course.proofs.Spanning.{left_idle}
-use Rattle.sto_course.specs.Standing.{HasBegun}
+use Rattle.sto_attempt_log.proofs.Prefix.{prefix}
+use Rattle.sto_attempt_log.proofs.Spanning.{left_idle}
+use Rattle.sto_attempt_log.specs.Standing.{HasBegun}
 use Rattle.sto_attempt.proofs.attempt.Attempt.reread.Goals as goal
 
 pub word-value-requires : goal.word-value-requires
 word-value-requires g c =
     let a = c.args.self.now in
-    let m = g.T.TxType.meaning a.course.ty.now in
-    let law = g.met.T.TxType.lawful a.course.ty.now in
-    let sizes = g.T.Naming.sizes a.course.ty.now in
-    let is : (d : Parts) → g.T.Naming.valid sizes d → m.valid d = λ d h. (g.met.T.TxType.valid_is a.course.ty.now d).1 h in
-    let f = g.B.Body.script a.course.body in
-    let rs = map told a.course.replies.items in
+    let m = g.T.TxType.meaning a.log.ty.now in
+    let law = g.met.T.TxType.lawful a.log.ty.now in
+    let sizes = g.T.Naming.sizes a.log.ty.now in
+    let is : (d : Parts) → g.T.Naming.valid sizes d → m.valid d = λ d h. (g.met.T.TxType.valid_is a.log.ty.now d).1 h in
+    let f = g.B.Body.script a.log.body in
+    let rs = map told a.log.replies.items in
     let v = g.C.Cells.view c.args.cells.now in
-    let fresh = a.renewal.fresh.items in
-    let ws = map watched a.renewal.watches.items in
+    let fresh = a.extension.fresh.items in
+    let ws = map watched a.extension.watches.items in
     let goes = c.requires.before.goes in
-    subst (λ (i : ℕ). Allowed g.T.Naming.valid (Word c.args.part i) v) (sym c.len.ensures) (reread_allowed m law g.T.Naming.valid sizes is f a.at a.renewal.bound c.args.part false a.course.base.items fresh a.course.set.items ws a.course.set.updates rs v goes.spans goes.observed goes.stands.3 c.requires.before.course.course c.args.ticket a.words.items goes.stands.0 goes.stands.1 c.requires.more)
+    subst (λ (i : ℕ). Allowed g.T.Naming.valid (Word c.args.part i) v) (sym c.len.ensures) (reread_allowed m law g.T.Naming.valid sizes is f a.at a.extension.bound c.args.part false a.log.base.items fresh a.log.set.items ws a.log.set.updates rs v goes.spans goes.observed goes.stands.3 c.requires.before.log.log c.args.ticket a.words.items goes.stands.0 goes.stands.1 c.requires.more)
 
 pub returns-clause-turned : goal.returns-clause-turned
 returns-clause-turned g c =
     let a = c.args.self.now in
-    let m = g.T.TxType.meaning a.course.ty.now in
-    let law = g.met.T.TxType.lawful a.course.ty.now in
-    let sizes = g.T.Naming.sizes a.course.ty.now in
-    let is : (d : Parts) → g.T.Naming.valid sizes d → m.valid d = λ d h. (g.met.T.TxType.valid_is a.course.ty.now d).1 h in
-    let f = g.B.Body.script a.course.body in
-    let rs = map told a.course.replies.items in
+    let m = g.T.TxType.meaning a.log.ty.now in
+    let law = g.met.T.TxType.lawful a.log.ty.now in
+    let sizes = g.T.Naming.sizes a.log.ty.now in
+    let is : (d : Parts) → g.T.Naming.valid sizes d → m.valid d = λ d h. (g.met.T.TxType.valid_is a.log.ty.now d).1 h in
+    let f = g.B.Body.script a.log.body in
+    let rs = map told a.log.replies.items in
     let v = g.C.Cells.view c.args.cells.now in
-    let fresh = a.renewal.fresh.items in
-    let ws = map watched a.renewal.watches.items in
+    let fresh = a.extension.fresh.items in
+    let ws = map watched a.extension.watches.items in
     let goes = c.requires.before.goes in
     let w = g.C.Cells.view c.word-value.new.self in
     let passes = g.C.Cells.passes c.args.cells.now in
@@ -56,56 +56,56 @@ returns-clause-turned g c =
     let fit : FitsSigned w64 x = search rules in
     let pushed : c.push.new.self.items ≡ a.words.items ++ x ∷ [] = simp to_z-of_z at c.in_ok-push.ensures.ok in
     let tells : Tells g.T.Naming.valid passes (Word c.args.part (length a.words.items)) v 0 x w = subst (λ (i : ℕ). Tells g.T.Naming.valid passes (Word c.args.part i) v 0 x w) c.len.ensures c.word-value.ensures.tells in
-    let h = reread_goes m law g.T.Naming.valid sizes is f a.at a.renewal.bound c.args.part false a.course.base.items fresh a.course.set.items ws a.course.set.updates rs v goes.spans goes.observed goes.stands.3 c.requires.before.course.course c.args.ticket a.words.items goes.stands.0 goes.stands.1 w passes 0 x tells in
-    let made : Renews m g.T.Naming.valid sizes a.at (Rereading c.args.part c.args.ticket) (a.words.items ++ x ∷ []) a.renewal a.course.base.items a.course.set.items w =
+    let h = reread_goes m law g.T.Naming.valid sizes is f a.at a.extension.bound c.args.part false a.log.base.items fresh a.log.set.items ws a.log.set.updates rs v goes.spans goes.observed goes.stands.3 c.requires.before.log.log c.args.ticket a.words.items goes.stands.0 goes.stands.1 w passes 0 x tells in
+    let made : Renews m g.T.Naming.valid sizes a.at (Rereading c.args.part c.args.ticket) (a.words.items ++ x ∷ []) a.extension a.log.base.items a.log.set.items w =
     record { spans = h.0; observed = goes.observed; extended = goes.extended; stands = (h.1, goes.stands.1, omega (arith, c.requires.more, length-append a.words.items (x ∷ [])), goes.stands.3) } in
-    subst (λ (s : Stand). Goes m g.T.Naming.valid sizes f a.at s c.push.new.self.items a.renewal a.course.base.items a.course.set.items a.course.set.updates rs w) (sym c.requires.stand)
-    (subst (λ (ks : List ℤ). Renews m g.T.Naming.valid sizes a.at (Rereading c.args.part c.args.ticket) ks a.renewal a.course.base.items a.course.set.items w) (sym pushed) made)
+    subst (λ (s : ReadPhase). Goes m g.T.Naming.valid sizes f a.at s c.push.new.self.items a.extension a.log.base.items a.log.set.items a.log.set.updates rs w) (sym c.requires.read_phase)
+    (subst (λ (ks : List ℤ). Renews m g.T.Naming.valid sizes a.at (Rereading c.args.part c.args.ticket) ks a.extension a.log.base.items a.log.set.items w) (sym pushed) made)
 
 pub returns-clause-left : goal.returns-clause-left
 returns-clause-left g c =
     let a = c.args.self.now in
-    let m = g.T.TxType.meaning a.course.ty.now in
-    let law = g.met.T.TxType.lawful a.course.ty.now in
-    let sizes = g.T.Naming.sizes a.course.ty.now in
-    let is : (d : Parts) → g.T.Naming.valid sizes d → m.valid d = λ d h. (g.met.T.TxType.valid_is a.course.ty.now d).1 h in
-    let f = g.B.Body.script a.course.body in
-    let rs = map told a.course.replies.items in
+    let m = g.T.TxType.meaning a.log.ty.now in
+    let law = g.met.T.TxType.lawful a.log.ty.now in
+    let sizes = g.T.Naming.sizes a.log.ty.now in
+    let is : (d : Parts) → g.T.Naming.valid sizes d → m.valid d = λ d h. (g.met.T.TxType.valid_is a.log.ty.now d).1 h in
+    let f = g.B.Body.script a.log.body in
+    let rs = map told a.log.replies.items in
     let v = g.C.Cells.view c.args.cells.now in
-    let fresh = a.renewal.fresh.items in
-    let ws = map watched a.renewal.watches.items in
+    let fresh = a.extension.fresh.items in
+    let ws = map watched a.extension.watches.items in
     let goes = c.requires.before.goes in
     let passes = g.C.Cells.passes c.args.cells.now in
     let x = c.word-value.result in
     let fit : FitsSigned w64 x = search rules in
     let pushed : c.push.new.self.items ≡ a.words.items ++ x ∷ [] = simp to_z-of_z at c.in_ok-push.ensures.ok in
     let longer : length c.push.new.self.items ≡ length a.words.items + 1 = ap length pushed ∙ length-append a.words.items (x ∷ []) in
-    let calls = g.B.Body.left a.course.body in
+    let calls = g.B.Body.left a.log.body in
     let most = left_extending (calls - 1) m.widths (drop (length fresh) ws) in
-    subst (λ (s : Stand). events_left calls m.widths s c.push.new.self.items a.renewal a.course.base.items < most - (1 + length a.words.items)) (sym c.requires.stand)
+    subst (λ (s : ReadPhase). events_left calls m.widths s c.push.new.self.items a.extension a.log.base.items < most - (1 + length a.words.items)) (sym c.requires.read_phase)
     (subst (λ (k : ℕ). most - (1 + k) < most - (1 + length a.words.items)) (sym longer)
-    (reread_fewer m.widths (words_in a.course.base.items) fresh ws c.args.part goes.stands.3 (calls - 1) (length a.words.items) c.requires.more))
+    (reread_fewer m.widths (words_in a.log.base.items) fresh ws c.args.part goes.stands.3 (calls - 1) (length a.words.items) c.requires.more))
 
 pub returns-in_err-push-clause-err : goal.returns-in_err-push-clause-err
 returns-in_err-push-clause-err g c =
     let a = c.args.self.now in
-    let m = g.T.TxType.meaning a.course.ty.now in
-    let law = g.met.T.TxType.lawful a.course.ty.now in
-    let sizes = g.T.Naming.sizes a.course.ty.now in
-    let is : (d : Parts) → g.T.Naming.valid sizes d → m.valid d = λ d h. (g.met.T.TxType.valid_is a.course.ty.now d).1 h in
-    let f = g.B.Body.script a.course.body in
-    let rs = map told a.course.replies.items in
+    let m = g.T.TxType.meaning a.log.ty.now in
+    let law = g.met.T.TxType.lawful a.log.ty.now in
+    let sizes = g.T.Naming.sizes a.log.ty.now in
+    let is : (d : Parts) → g.T.Naming.valid sizes d → m.valid d = λ d h. (g.met.T.TxType.valid_is a.log.ty.now d).1 h in
+    let f = g.B.Body.script a.log.body in
+    let rs = map told a.log.replies.items in
     let v = g.C.Cells.view c.args.cells.now in
-    let fresh = a.renewal.fresh.items in
-    let ws = map watched a.renewal.watches.items in
+    let fresh = a.extension.fresh.items in
+    let ws = map watched a.extension.watches.items in
     let goes = c.requires.before.goes in
     let passes = g.C.Cells.passes c.args.cells.now in
     let w = g.C.Cells.view c.word-value.new.self in
     let x = c.word-value.result in
     let tells : Tells g.T.Naming.valid passes (Word c.args.part (length a.words.items)) v 0 x w = subst (λ (i : ℕ). Tells g.T.Naming.valid passes (Word c.args.part i) v 0 x w) c.len.ensures c.word-value.ensures.tells in
-    let h = reread_goes m law g.T.Naming.valid sizes is f a.at a.renewal.bound c.args.part false a.course.base.items fresh a.course.set.items ws a.course.set.updates rs v goes.spans goes.observed goes.stands.3 c.requires.before.course.course c.args.ticket a.words.items goes.stands.0 goes.stands.1 w passes 0 x tells in
+    let h = reread_goes m law g.T.Naming.valid sizes is f a.at a.extension.bound c.args.part false a.log.base.items fresh a.log.set.items ws a.log.set.updates rs v goes.spans goes.observed goes.stands.3 c.requires.before.log.log c.args.ticket a.words.items goes.stands.0 goes.stands.1 w passes 0 x tells in
     always_err c.from_residual.result (IsLeft w × IsPrefix m f w a.at rs)
-    (left_idle m g.T.Naming.valid sizes a.at a.renewal.bound a.course.base.items fresh f rs w h.0 (subst IsIdle (sym h.1) tt), prefix m f w a.at a.course.base.items a.course.set.items a.course.set.updates rs c.requires.before.course.course h.0.claimed)
+    (left_idle m g.T.Naming.valid sizes a.at a.extension.bound a.log.base.items fresh f rs w h.0 (subst IsIdle (sym h.1) tt), prefix m f w a.at a.log.base.items a.log.set.items a.log.set.updates rs c.requires.before.log.log h.0.claimed)
 
 pub returns-clause-moves : goal.returns-clause-moves
-returns-clause-moves g c = (subst HasBegun (sym c.requires.stand) tt, omega arith)
+returns-clause-moves g c = (subst HasBegun (sym c.requires.read_phase) tt, omega arith)

@@ -2,29 +2,29 @@ use Rattle.std.proofs.Common.{Ok, rules, ◌≡◌, ◌≤◌, ◌<◌, false, a
 use Rattle.sto_item.specs.Watched.{watched}
 use Rattle.sto_model.specs.Told.{told}
 use Rattle.sto_type.specs.Known.{Parts}
-use Rattle.sto_course.specs.declared.course.Course.{Course}
-use Rattle.sto_course.specs.declared.stand.Stand.{Stand}
-use Rattle.sto_course.specs.declared.stand.Stand.TheVariants.{Rereading}
-use Rattle.sto_course.specs.Sights.{words_in}
-use Rattle.sto_course.specs.Course.{IsOnCourse, IsCourse}
-use Rattle.sto_course.specs.Standing.{Goes, Renews, IsLeft}
-use Rattle.sto_course.proofs.Again.{below_long}
-use Rattle.sto_course.proofs.Stepping.{turned_prefix, any_prefix, ok_map, ok_always, width_got}
-use Rattle.sto_course.specs.Standing.{IsFirst}
+use Rattle.sto_attempt_log.specs.declared.log.Log.{Log}
+use Rattle.sto_attempt_log.specs.declared.read_phase.ReadPhase.{ReadPhase}
+use Rattle.sto_attempt_log.specs.declared.read_phase.ReadPhase.TheVariants.{Rereading}
+use Rattle.sto_attempt_log.specs.ReadSet.{words_in}
+use Rattle.sto_attempt_log.specs.Log.{IsOnLog, IsLog}
+use Rattle.sto_attempt_log.specs.Standing.{Goes, Renews, IsLeft}
+use Rattle.sto_attempt_log.proofs.Again.{below_long}
+use Rattle.sto_attempt_log.proofs.Stepping.{turned_prefix, any_prefix, ok_map, ok_always, width_got}
+use Rattle.sto_attempt_log.specs.Standing.{IsFirst}
 use Rattle.std.proofs.Common.{IfOk, OnOk}
 use Rattle.sto_core.specs.Event.{Event, Word, Close}
-use Rattle.sto_course.specs.Answers.{OneEvent}
-use Rattle.sto_course.specs.Growing.{HasHeard}
-use Rattle.sto_course.specs.Reasons.{IsCaused}
-use Rattle.sto_course.specs.Standing.{next_event, KeepsRenewal}
-use Rattle.sto_course.proofs.Onward.{heard_none}
-use Rattle.sto_course.proofs.Stepping.{word_next, close_next}
-use Rattle.sto_course.specs.Standing.{HasBegun, Moves}
-use Rattle.sto_course.proofs.Stepping.{moves_on, moves_ok, moves_same}
-use Rattle.sto_course.specs.Answers.{IsPrefix}
-use Rattle.sto_course.specs.Bounds.{events_left}
-use Rattle.sto_course.specs.Standing.{IsUnaborted}
-use Rattle.sto_course.proofs.Stepping.{if_ok, err_map, unaborted_caused, keeps_fresh, keeps_same}
+use Rattle.sto_attempt_log.specs.Answers.{OneEvent}
+use Rattle.sto_attempt_log.specs.Growing.{HasHeard}
+use Rattle.sto_attempt_log.specs.Reasons.{IsCaused}
+use Rattle.sto_attempt_log.specs.Standing.{next_event, KeepsExtension}
+use Rattle.sto_attempt_log.proofs.Onward.{heard_none}
+use Rattle.sto_attempt_log.proofs.Stepping.{word_next, close_next}
+use Rattle.sto_attempt_log.specs.Standing.{HasBegun, Moves}
+use Rattle.sto_attempt_log.proofs.Stepping.{moves_on, moves_ok, moves_same}
+use Rattle.sto_attempt_log.specs.Answers.{IsPrefix}
+use Rattle.sto_attempt_log.specs.Bounds.{events_left}
+use Rattle.sto_attempt_log.specs.Standing.{IsUnaborted}
+use Rattle.sto_attempt_log.proofs.Stepping.{if_ok, err_map, unaborted_caused, keeps_fresh, keeps_same}
 use Rattle.sto_type.specs.Traits.{of_type}
 use Rattle.sto_attempt.proofs.Attempts.{under_way_at, steps_at}
 use Rattle.sto_attempt.proofs.attempt.Attempt.step.Goals as goal
@@ -32,216 +32,216 @@ use Rattle.sto_attempt.proofs.attempt.Attempt.step.Goals as goal
 pub begin-requires : goal.begin-requires
 begin-requires g c =
     let a = c.args.self.now in
-    under_way_at (of_type g.T.Naming g.T.TxType) g.B.Body a (g.C.Cells.view c.args.cells.now) a.stand _ c.in-Unstarted.is c.requires
+    under_way_at (of_type g.T.Naming g.T.TxType) g.B.Body a (g.C.Cells.view c.args.cells.now) a.read_phase _ c.in-Unstarted.is c.requires
 
 pub open-requires : goal.open-requires
 open-requires g c =
     let a = c.args.self.now in
-    under_way_at (of_type g.T.Naming g.T.TxType) g.B.Body a (g.C.Cells.view c.args.cells.now) a.stand _ c.in-Opening.is c.requires
+    under_way_at (of_type g.T.Naming g.T.TxType) g.B.Body a (g.C.Cells.view c.args.cells.now) a.read_phase _ c.in-Opening.is c.requires
 
 pub word-requires-clause-before : goal.word-requires-clause-before
 word-requires-clause-before g c =
     let a = c.args.self.now in
-    under_way_at (of_type g.T.Naming g.T.TxType) g.B.Body a (g.C.Cells.view c.args.cells.now) a.stand _ c.in-Reading.is c.requires
+    under_way_at (of_type g.T.Naming g.T.TxType) g.B.Body a (g.C.Cells.view c.args.cells.now) a.read_phase _ c.in-Reading.is c.requires
 
 pub close-requires-clause-before : goal.close-requires-clause-before
 close-requires-clause-before g c =
     let a = c.args.self.now in
-    under_way_at (of_type g.T.Naming g.T.TxType) g.B.Body a (g.C.Cells.view c.args.cells.now) a.stand _ c.in-Reading.is c.requires
+    under_way_at (of_type g.T.Naming g.T.TxType) g.B.Body a (g.C.Cells.view c.args.cells.now) a.read_phase _ c.in-Reading.is c.requires
 
 pub recheck-requires : goal.recheck-requires
 recheck-requires g c =
     let a = c.args.self.now in
-    under_way_at (of_type g.T.Naming g.T.TxType) g.B.Body a (g.C.Cells.view c.args.cells.now) a.stand _ c.in-Rechecking.is c.requires
+    under_way_at (of_type g.T.Naming g.T.TxType) g.B.Body a (g.C.Cells.view c.args.cells.now) a.read_phase _ c.in-Rechecking.is c.requires
 
 pub reopen-requires : goal.reopen-requires
 reopen-requires g c =
     let a = c.args.self.now in
-    under_way_at (of_type g.T.Naming g.T.TxType) g.B.Body a (g.C.Cells.view c.args.cells.now) a.stand _ c.in-Reopening.is c.requires
+    under_way_at (of_type g.T.Naming g.T.TxType) g.B.Body a (g.C.Cells.view c.args.cells.now) a.read_phase _ c.in-Reopening.is c.requires
 
 pub reread-requires-clause-before : goal.reread-requires-clause-before
 reread-requires-clause-before g c =
     let a = c.args.self.now in
-    under_way_at (of_type g.T.Naming g.T.TxType) g.B.Body a (g.C.Cells.view c.args.cells.now) a.stand _ c.in-Rereading.is c.requires
+    under_way_at (of_type g.T.Naming g.T.TxType) g.B.Body a (g.C.Cells.view c.args.cells.now) a.read_phase _ c.in-Rereading.is c.requires
 
 pub reclose-requires-clause-before : goal.reclose-requires-clause-before
 reclose-requires-clause-before g c =
     let a = c.args.self.now in
-    under_way_at (of_type g.T.Naming g.T.TxType) g.B.Body a (g.C.Cells.view c.args.cells.now) a.stand _ c.in-Rereading.is c.requires
+    under_way_at (of_type g.T.Naming g.T.TxType) g.B.Body a (g.C.Cells.view c.args.cells.now) a.read_phase _ c.in-Rereading.is c.requires
 
 pub width-requires-in-Rereading : goal.width-requires-in-Rereading
 width-requires-in-Rereading g c =
     let a = c.args.self.now in
-    let m = g.T.TxType.meaning a.course.ty.now in
-    let law = g.met.T.TxType.lawful a.course.ty.now in
-    let sizes = g.T.Naming.sizes a.course.ty.now in
+    let m = g.T.TxType.meaning a.log.ty.now in
+    let law = g.met.T.TxType.lawful a.log.ty.now in
+    let sizes = g.T.Naming.sizes a.log.ty.now in
     let valid = g.T.Naming.valid in
-    let f = g.B.Body.script a.course.body in
-    let rs = map told a.course.replies.items in
+    let f = g.B.Body.script a.log.body in
+    let rs = map told a.log.replies.items in
     let v = g.C.Cells.view c.args.cells.now in
-    let is : (d : Parts) → valid sizes d → m.valid d = λ d h. (g.met.T.TxType.valid_is a.course.ty.now d).1 h in
+    let is : (d : Parts) → valid sizes d → m.valid d = λ d h. (g.met.T.TxType.valid_is a.log.ty.now d).1 h in
     let p = c.in-Rereading.part in
-    let goes : Renews m valid sizes a.at (Rereading p c.in-Rereading.ticket) a.words.items a.renewal a.course.base.items a.course.set.items v =
-    subst (λ (s : Stand). Goes m valid sizes f a.at s a.words.items a.renewal a.course.base.items a.course.set.items a.course.set.updates rs v) c.in-Rereading.is c.requires.goes in
-    below_long m law valid sizes is f a.at a.renewal.bound p false a.course.base.items a.renewal.fresh.items a.course.set.items (map watched a.renewal.watches.items) a.course.set.updates rs v goes.spans goes.observed goes.stands.3 c.requires.course.course
+    let goes : Renews m valid sizes a.at (Rereading p c.in-Rereading.ticket) a.words.items a.extension a.log.base.items a.log.set.items v =
+    subst (λ (s : ReadPhase). Goes m valid sizes f a.at s a.words.items a.extension a.log.base.items a.log.set.items a.log.set.updates rs v) c.in-Rereading.is c.requires.goes in
+    below_long m law valid sizes is f a.at a.extension.bound p false a.log.base.items a.extension.fresh.items a.log.set.items (map watched a.extension.watches.items) a.log.set.updates rs v goes.spans goes.observed goes.stands.3 c.requires.log.log
 
 pub reread-requires-clause-more : goal.reread-requires-clause-more
 reread-requires-clause-more g c =
     let a = c.args.self.now in
-    let m = g.T.TxType.meaning a.course.ty.now in
+    let m = g.T.TxType.meaning a.log.ty.now in
     omega (arith, width_got m.widths c.in-Rereading.part c.width-in-Rereading.result c.width-in-Rereading.ensures, c.if-len-width-2.true, c.len-in-Rereading.ensures)
 
 pub reclose-requires-clause-all : goal.reclose-requires-clause-all
 reclose-requires-clause-all g c =
     let a = c.args.self.now in
-    let m = g.T.TxType.meaning a.course.ty.now in
-    let sizes = g.T.Naming.sizes a.course.ty.now in
+    let m = g.T.TxType.meaning a.log.ty.now in
+    let sizes = g.T.Naming.sizes a.log.ty.now in
     let valid = g.T.Naming.valid in
-    let f = g.B.Body.script a.course.body in
-    let rs = map told a.course.replies.items in
+    let f = g.B.Body.script a.log.body in
+    let rs = map told a.log.replies.items in
     let v = g.C.Cells.view c.args.cells.now in
     let p = c.in-Rereading.part in
-    let goes : Renews m valid sizes a.at (Rereading p c.in-Rereading.ticket) a.words.items a.renewal a.course.base.items a.course.set.items v =
-    subst (λ (s : Stand). Goes m valid sizes f a.at s a.words.items a.renewal a.course.base.items a.course.set.items a.course.set.updates rs v) c.in-Rereading.is c.requires.goes in
+    let goes : Renews m valid sizes a.at (Rereading p c.in-Rereading.ticket) a.words.items a.extension a.log.base.items a.log.set.items v =
+    subst (λ (s : ReadPhase). Goes m valid sizes f a.at s a.words.items a.extension a.log.base.items a.log.set.items a.log.set.updates rs v) c.in-Rereading.is c.requires.goes in
     omega (arith, width_got m.widths p c.width-in-Rereading.result c.width-in-Rereading.ensures, c.if-len-width-2.false, c.len-in-Rereading.ensures, goes.stands.2)
 
 pub returns-in-Unstarted-clause-prefix : goal.returns-in-Unstarted-clause-prefix
 returns-in-Unstarted-clause-prefix g c =
     let a = c.args.self.now in
-    let m = g.T.TxType.meaning a.course.ty.now in
-    let sizes = g.T.Naming.sizes a.course.ty.now in
+    let m = g.T.TxType.meaning a.log.ty.now in
+    let sizes = g.T.Naming.sizes a.log.ty.now in
     let valid = g.T.Naming.valid in
-    let f = g.B.Body.script a.course.body in
+    let f = g.B.Body.script a.log.body in
     let b = c.begin.new.self in
     let w = g.C.Cells.view c.begin.new.cells in
-    let now = map told b.course.replies.items in
-    any_prefix m valid sizes f b.at b.words.items b.renewal b.course.base.items b.course.set.items b.course.set.updates now w b.stand c.begin.result (IsLeft w) c.begin.ensures.turned
-    (ok_map c.begin.result (IsOnCourse m (g.B.Body.then b.course.body) f (g.B.Body.left b.course.body) (g.B.Body.may_ask b.course.body) b.course.base.items b.course.set b.course.cache b.course.replies.items) (IsCourse m f (words_in b.course.base.items) b.course.set.items b.course.set.updates now) (λ h. h.course) c.begin.ensures.course) c.begin.ensures.err
+    let now = map told b.log.replies.items in
+    any_prefix m valid sizes f b.at b.words.items b.extension b.log.base.items b.log.set.items b.log.set.updates now w b.read_phase c.begin.result (IsLeft w) c.begin.ensures.turned
+    (ok_map c.begin.result (IsOnLog m (g.B.Body.then b.log.body) f (g.B.Body.left b.log.body) (g.B.Body.may_ask b.log.body) b.log.base.items b.log.set b.log.cache b.log.replies.items) (IsLog m f (words_in b.log.base.items) b.log.set.items b.log.set.updates now) (λ h. h.log) c.begin.ensures.log) c.begin.ensures.err
 
 pub returns-in-Opening-clause-prefix : goal.returns-in-Opening-clause-prefix
 returns-in-Opening-clause-prefix g c =
     let a = c.args.self.now in
-    let m = g.T.TxType.meaning a.course.ty.now in
-    let sizes = g.T.Naming.sizes a.course.ty.now in
+    let m = g.T.TxType.meaning a.log.ty.now in
+    let sizes = g.T.Naming.sizes a.log.ty.now in
     let valid = g.T.Naming.valid in
-    let f = g.B.Body.script a.course.body in
+    let f = g.B.Body.script a.log.body in
     let b = c.open.new.self in
     let w = g.C.Cells.view c.open.new.cells in
-    let now = map told b.course.replies.items in
-    turned_prefix m valid sizes f b.at b.words.items b.renewal b.course.base.items b.course.set.items b.course.set.updates now w b.stand c.open.result c.open.ensures.steps.turned c.open.ensures.steps.course.course
+    let now = map told b.log.replies.items in
+    turned_prefix m valid sizes f b.at b.words.items b.extension b.log.base.items b.log.set.items b.log.set.updates now w b.read_phase c.open.result c.open.ensures.steps.turned c.open.ensures.steps.log.log
 
 pub returns-then-len-width-clause-prefix : goal.returns-then-len-width-clause-prefix
 returns-then-len-width-clause-prefix g c =
     let a = c.args.self.now in
-    let m = g.T.TxType.meaning a.course.ty.now in
-    let sizes = g.T.Naming.sizes a.course.ty.now in
+    let m = g.T.TxType.meaning a.log.ty.now in
+    let sizes = g.T.Naming.sizes a.log.ty.now in
     let valid = g.T.Naming.valid in
-    let f = g.B.Body.script a.course.body in
+    let f = g.B.Body.script a.log.body in
     let b = c.word.new.self in
     let w = g.C.Cells.view c.word.new.cells in
-    let now = map told b.course.replies.items in
-    let course : IsCourse m f (words_in b.course.base.items) b.course.set.items b.course.set.updates now = subst (λ (k : Course g.row.T.Denot g.row.B.Denot). IsCourse m f (words_in k.base.items) k.set.items k.set.updates (map told k.replies.items)) (sym c.word.ensures.course) c.requires.course.course in
-    any_prefix m valid sizes f b.at b.words.items b.renewal b.course.base.items b.course.set.items b.course.set.updates now w b.stand c.word.result (IsLeft w) c.word.ensures.turned (ok_always c.word.result (IsCourse m f (words_in b.course.base.items) b.course.set.items b.course.set.updates now) course) c.word.ensures.err
+    let now = map told b.log.replies.items in
+    let log : IsLog m f (words_in b.log.base.items) b.log.set.items b.log.set.updates now = subst (λ (k : Log g.row.T.Denot g.row.B.Denot). IsLog m f (words_in k.base.items) k.set.items k.set.updates (map told k.replies.items)) (sym c.word.ensures.log) c.requires.log.log in
+    any_prefix m valid sizes f b.at b.words.items b.extension b.log.base.items b.log.set.items b.log.set.updates now w b.read_phase c.word.result (IsLeft w) c.word.ensures.turned (ok_always c.word.result (IsLog m f (words_in b.log.base.items) b.log.set.items b.log.set.updates now) log) c.word.ensures.err
 
 pub returns-else-len-width-clause-prefix : goal.returns-else-len-width-clause-prefix
 returns-else-len-width-clause-prefix g c =
     let a = c.args.self.now in
-    let m = g.T.TxType.meaning a.course.ty.now in
-    let sizes = g.T.Naming.sizes a.course.ty.now in
+    let m = g.T.TxType.meaning a.log.ty.now in
+    let sizes = g.T.Naming.sizes a.log.ty.now in
     let valid = g.T.Naming.valid in
-    let f = g.B.Body.script a.course.body in
+    let f = g.B.Body.script a.log.body in
     let b = c.close.new.self in
     let w = g.C.Cells.view c.close.new.cells in
-    let now = map told b.course.replies.items in
-    any_prefix m valid sizes f b.at b.words.items b.renewal b.course.base.items b.course.set.items b.course.set.updates now w b.stand c.close.result (IsLeft w) c.close.ensures.turned
-    (ok_map c.close.result (IsOnCourse m (g.B.Body.then b.course.body) f (g.B.Body.left b.course.body) (g.B.Body.may_ask b.course.body) b.course.base.items b.course.set b.course.cache b.course.replies.items) (IsCourse m f (words_in b.course.base.items) b.course.set.items b.course.set.updates now) (λ h. h.course) c.close.ensures.course) c.close.ensures.err
+    let now = map told b.log.replies.items in
+    any_prefix m valid sizes f b.at b.words.items b.extension b.log.base.items b.log.set.items b.log.set.updates now w b.read_phase c.close.result (IsLeft w) c.close.ensures.turned
+    (ok_map c.close.result (IsOnLog m (g.B.Body.then b.log.body) f (g.B.Body.left b.log.body) (g.B.Body.may_ask b.log.body) b.log.base.items b.log.set b.log.cache b.log.replies.items) (IsLog m f (words_in b.log.base.items) b.log.set.items b.log.set.updates now) (λ h. h.log) c.close.ensures.log) c.close.ensures.err
 
 pub returns-in-Renewing-clause-prefix : goal.returns-in-Renewing-clause-prefix
 returns-in-Renewing-clause-prefix g c =
     let a = c.args.self.now in
-    let m = g.T.TxType.meaning a.course.ty.now in
-    let sizes = g.T.Naming.sizes a.course.ty.now in
+    let m = g.T.TxType.meaning a.log.ty.now in
+    let sizes = g.T.Naming.sizes a.log.ty.now in
     let valid = g.T.Naming.valid in
-    let f = g.B.Body.script a.course.body in
+    let f = g.B.Body.script a.log.body in
     let b = c.renew.new.self in
     let w = g.C.Cells.view c.renew.new.cells in
-    let now = map told b.course.replies.items in
-    any_prefix m valid sizes f b.at b.words.items b.renewal b.course.base.items b.course.set.items b.course.set.updates now w b.stand c.renew.result (IsLeft w) c.renew.ensures.turned
-    (ok_map c.renew.result (IsOnCourse m (g.B.Body.then b.course.body) f (g.B.Body.left b.course.body) (g.B.Body.may_ask b.course.body) b.course.base.items b.course.set b.course.cache b.course.replies.items) (IsCourse m f (words_in b.course.base.items) b.course.set.items b.course.set.updates now) (λ h. h.course) c.renew.ensures.course) c.renew.ensures.err
+    let now = map told b.log.replies.items in
+    any_prefix m valid sizes f b.at b.words.items b.extension b.log.base.items b.log.set.items b.log.set.updates now w b.read_phase c.renew.result (IsLeft w) c.renew.ensures.turned
+    (ok_map c.renew.result (IsOnLog m (g.B.Body.then b.log.body) f (g.B.Body.left b.log.body) (g.B.Body.may_ask b.log.body) b.log.base.items b.log.set b.log.cache b.log.replies.items) (IsLog m f (words_in b.log.base.items) b.log.set.items b.log.set.updates now) (λ h. h.log) c.renew.ensures.log) c.renew.ensures.err
 
 pub returns-in-Rechecking-clause-prefix : goal.returns-in-Rechecking-clause-prefix
 returns-in-Rechecking-clause-prefix g c =
     let a = c.args.self.now in
-    let m = g.T.TxType.meaning a.course.ty.now in
-    let sizes = g.T.Naming.sizes a.course.ty.now in
+    let m = g.T.TxType.meaning a.log.ty.now in
+    let sizes = g.T.Naming.sizes a.log.ty.now in
     let valid = g.T.Naming.valid in
-    let f = g.B.Body.script a.course.body in
+    let f = g.B.Body.script a.log.body in
     let b = c.recheck.new.self in
     let w = g.C.Cells.view c.recheck.new.cells in
-    let now = map told b.course.replies.items in
-    any_prefix m valid sizes f b.at b.words.items b.renewal b.course.base.items b.course.set.items b.course.set.updates now w b.stand c.recheck.result (IsLeft w) c.recheck.ensures.turned
-    (ok_map c.recheck.result (IsOnCourse m (g.B.Body.then b.course.body) f (g.B.Body.left b.course.body) (g.B.Body.may_ask b.course.body) b.course.base.items b.course.set b.course.cache b.course.replies.items) (IsCourse m f (words_in b.course.base.items) b.course.set.items b.course.set.updates now) (λ h. h.course) c.recheck.ensures.course) c.recheck.ensures.err
+    let now = map told b.log.replies.items in
+    any_prefix m valid sizes f b.at b.words.items b.extension b.log.base.items b.log.set.items b.log.set.updates now w b.read_phase c.recheck.result (IsLeft w) c.recheck.ensures.turned
+    (ok_map c.recheck.result (IsOnLog m (g.B.Body.then b.log.body) f (g.B.Body.left b.log.body) (g.B.Body.may_ask b.log.body) b.log.base.items b.log.set b.log.cache b.log.replies.items) (IsLog m f (words_in b.log.base.items) b.log.set.items b.log.set.updates now) (λ h. h.log) c.recheck.ensures.log) c.recheck.ensures.err
 
 pub returns-in-Reopening-clause-prefix : goal.returns-in-Reopening-clause-prefix
 returns-in-Reopening-clause-prefix g c =
     let a = c.args.self.now in
-    let m = g.T.TxType.meaning a.course.ty.now in
-    let sizes = g.T.Naming.sizes a.course.ty.now in
+    let m = g.T.TxType.meaning a.log.ty.now in
+    let sizes = g.T.Naming.sizes a.log.ty.now in
     let valid = g.T.Naming.valid in
-    let f = g.B.Body.script a.course.body in
+    let f = g.B.Body.script a.log.body in
     let b = c.reopen.new.self in
     let w = g.C.Cells.view c.reopen.new.cells in
-    let now = map told b.course.replies.items in
-    turned_prefix m valid sizes f b.at b.words.items b.renewal b.course.base.items b.course.set.items b.course.set.updates now w b.stand c.reopen.result c.reopen.ensures.steps.turned c.reopen.ensures.steps.course.course
+    let now = map told b.log.replies.items in
+    turned_prefix m valid sizes f b.at b.words.items b.extension b.log.base.items b.log.set.items b.log.set.updates now w b.read_phase c.reopen.result c.reopen.ensures.steps.turned c.reopen.ensures.steps.log.log
 
 pub returns-then-len-width-2-clause-prefix : goal.returns-then-len-width-2-clause-prefix
 returns-then-len-width-2-clause-prefix g c =
     let a = c.args.self.now in
-    let m = g.T.TxType.meaning a.course.ty.now in
-    let sizes = g.T.Naming.sizes a.course.ty.now in
+    let m = g.T.TxType.meaning a.log.ty.now in
+    let sizes = g.T.Naming.sizes a.log.ty.now in
     let valid = g.T.Naming.valid in
-    let f = g.B.Body.script a.course.body in
+    let f = g.B.Body.script a.log.body in
     let b = c.reread.new.self in
     let w = g.C.Cells.view c.reread.new.cells in
-    let now = map told b.course.replies.items in
-    let course : IsCourse m f (words_in b.course.base.items) b.course.set.items b.course.set.updates now = subst (λ (k : Course g.row.T.Denot g.row.B.Denot). IsCourse m f (words_in k.base.items) k.set.items k.set.updates (map told k.replies.items)) (sym c.reread.ensures.course) c.requires.course.course in
-    any_prefix m valid sizes f b.at b.words.items b.renewal b.course.base.items b.course.set.items b.course.set.updates now w b.stand c.reread.result (IsLeft w) c.reread.ensures.turned (ok_always c.reread.result (IsCourse m f (words_in b.course.base.items) b.course.set.items b.course.set.updates now) course) c.reread.ensures.err
+    let now = map told b.log.replies.items in
+    let log : IsLog m f (words_in b.log.base.items) b.log.set.items b.log.set.updates now = subst (λ (k : Log g.row.T.Denot g.row.B.Denot). IsLog m f (words_in k.base.items) k.set.items k.set.updates (map told k.replies.items)) (sym c.reread.ensures.log) c.requires.log.log in
+    any_prefix m valid sizes f b.at b.words.items b.extension b.log.base.items b.log.set.items b.log.set.updates now w b.read_phase c.reread.result (IsLeft w) c.reread.ensures.turned (ok_always c.reread.result (IsLog m f (words_in b.log.base.items) b.log.set.items b.log.set.updates now) log) c.reread.ensures.err
 
 pub returns-else-len-width-2-clause-prefix : goal.returns-else-len-width-2-clause-prefix
 returns-else-len-width-2-clause-prefix g c =
     let a = c.args.self.now in
-    let m = g.T.TxType.meaning a.course.ty.now in
-    let sizes = g.T.Naming.sizes a.course.ty.now in
+    let m = g.T.TxType.meaning a.log.ty.now in
+    let sizes = g.T.Naming.sizes a.log.ty.now in
     let valid = g.T.Naming.valid in
-    let f = g.B.Body.script a.course.body in
+    let f = g.B.Body.script a.log.body in
     let b = c.reclose.new.self in
     let w = g.C.Cells.view c.reclose.new.cells in
-    let now = map told b.course.replies.items in
-    any_prefix m valid sizes f b.at b.words.items b.renewal b.course.base.items b.course.set.items b.course.set.updates now w b.stand c.reclose.result (IsLeft w) c.reclose.ensures.turned
-    (ok_map c.reclose.result (IsOnCourse m (g.B.Body.then b.course.body) f (g.B.Body.left b.course.body) (g.B.Body.may_ask b.course.body) b.course.base.items b.course.set b.course.cache b.course.replies.items) (IsCourse m f (words_in b.course.base.items) b.course.set.items b.course.set.updates now) (λ h. h.course) c.reclose.ensures.course) c.reclose.ensures.err
+    let now = map told b.log.replies.items in
+    any_prefix m valid sizes f b.at b.words.items b.extension b.log.base.items b.log.set.items b.log.set.updates now w b.read_phase c.reclose.result (IsLeft w) c.reclose.ensures.turned
+    (ok_map c.reclose.result (IsOnLog m (g.B.Body.then b.log.body) f (g.B.Body.left b.log.body) (g.B.Body.may_ask b.log.body) b.log.base.items b.log.set b.log.cache b.log.replies.items) (IsLog m f (words_in b.log.base.items) b.log.set.items b.log.set.updates now) (λ h. h.log) c.reclose.ensures.log) c.reclose.ensures.err
 
-pub word-requires-clause-stand : goal.word-requires-clause-stand
-word-requires-clause-stand g c =
+pub word-requires-clause-read_phase : goal.word-requires-clause-read_phase
+word-requires-clause-read_phase g c =
     c.in-Reading.is
 
 pub word-requires-clause-more : goal.word-requires-clause-more
 word-requires-clause-more g c =
     let a = c.args.self.now in
-    let m = g.T.TxType.meaning a.course.ty.now in
+    let m = g.T.TxType.meaning a.log.ty.now in
     omega (arith, width_got m.widths c.in-Reading.part c.width.result c.width.ensures, c.if-len-width.true, c.len.ensures)
 
 pub close-requires-clause-all : goal.close-requires-clause-all
 close-requires-clause-all g c =
     let a = c.args.self.now in
-    let m = g.T.TxType.meaning a.course.ty.now in
-    let f = g.B.Body.script a.course.body in
-    let rs = map told a.course.replies.items in
+    let m = g.T.TxType.meaning a.log.ty.now in
+    let f = g.B.Body.script a.log.body in
+    let rs = map told a.log.replies.items in
     let v = g.C.Cells.view c.args.cells.now in
-    let h = subst (λ (s : Stand). Goes m g.T.Naming.valid (g.T.Naming.sizes a.course.ty.now) f a.at s a.words.items a.renewal a.course.base.items a.course.set.items a.course.set.updates rs v) c.in-Reading.is c.requires.goes in
+    let h = subst (λ (s : ReadPhase). Goes m g.T.Naming.valid (g.T.Naming.sizes a.log.ty.now) f a.at s a.words.items a.extension a.log.base.items a.log.set.items a.log.set.updates rs v) c.in-Reading.is c.requires.goes in
     omega (arith, width_got m.widths c.in-Reading.part c.width.result c.width.ensures, c.if-len-width.false, c.len.ensures, h.0.stands.2)
 
-pub reread-requires-clause-stand : goal.reread-requires-clause-stand
-reread-requires-clause-stand g c =
+pub reread-requires-clause-read_phase : goal.reread-requires-clause-read_phase
+reread-requires-clause-read_phase g c =
     c.in-Rereading.is
 
 pub returns-in-Unstarted-clause-same : goal.returns-in-Unstarted-clause-same
@@ -283,24 +283,24 @@ returns-else-len-width-2-clause-same g c =
 pub returns-in-Unstarted-clause-steps : goal.returns-in-Unstarted-clause-steps
 returns-in-Unstarted-clause-steps g c =
     let a = c.args.self.now in
-    let m = g.T.TxType.meaning a.course.ty.now in
+    let m = g.T.TxType.meaning a.log.ty.now in
     let v = g.C.Cells.view c.args.cells.now in
     let w = g.C.Cells.view c.begin.new.cells in
     let b = c.begin.new.self in
-    let f = g.B.Body.script a.course.body in
-    let rs = map told a.course.replies.items in
-    let now = map told b.course.replies.items in
-    let h = subst (λ (s : Stand). Goes m g.T.Naming.valid (g.T.Naming.sizes a.course.ty.now) f a.at s a.words.items a.renewal a.course.base.items a.course.set.items a.course.set.updates rs v) c.in-Unstarted.is c.requires.goes in
+    let f = g.B.Body.script a.log.body in
+    let rs = map told a.log.replies.items in
+    let now = map told b.log.replies.items in
+    let h = subst (λ (s : ReadPhase). Goes m g.T.Naming.valid (g.T.Naming.sizes a.log.ty.now) f a.at s a.words.items a.extension a.log.base.items a.log.set.items a.log.set.updates rs v) c.in-Unstarted.is c.requires.goes in
     record {
-      event = subst (λ (x : Event). OneEvent (λ e. e ≡ x) g.T.Naming.valid (g.C.Cells.passes c.args.cells.now) v w) (sym (ap (λ (s : Stand). next_event m.widths s a.words.items) c.in-Unstarted.is)) c.begin.ensures.event;
-      course = c.begin.ensures.course;
+      event = subst (λ (x : Event). OneEvent (λ e. e ≡ x) g.T.Naming.valid (g.C.Cells.passes c.args.cells.now) v w) (sym (ap (λ (s : ReadPhase). next_event m.widths s a.words.items) c.in-Unstarted.is)) c.begin.ensures.event;
+      log = c.begin.ensures.log;
       turned = c.begin.ensures.turned;
       grown = c.begin.ensures.grown;
       alone = λ one first. c.begin.ensures.alone;
-      reason = if_ok c.begin.result (λ turn. IsFirst b.stand × IsUnaborted turn) (λ turn. IsCaused (next_event m.widths a.stand a.words.items) b.course.set.items w a.renewal turn) (λ turn h. unaborted_caused (next_event m.widths a.stand a.words.items) b.course.set.items w a.renewal turn h.1) c.begin.ensures.alone;
-      renewed = ok_always c.begin.result (KeepsRenewal a.stand w a.renewal rs b.renewal now) (subst (λ (s : Stand). KeepsRenewal s w a.renewal rs b.renewal now) (sym c.in-Unstarted.is) (keeps_fresh w a.renewal b.renewal rs now c.begin.ensures.renewal h.4));
-      moves = subst (λ (s : Stand). OnOk c.begin.result (Moves s a.at b.stand b.at w)) (sym c.in-Unstarted.is) c.begin.ensures.moves;
-      left = subst (λ (s : Stand). OnOk c.begin.result (events_left (g.B.Body.left b.course.body) m.widths b.stand b.words.items b.renewal b.course.base.items < events_left (g.B.Body.left a.course.body) m.widths s a.words.items a.renewal a.course.base.items)) (sym c.in-Unstarted.is) c.begin.ensures.left;
+      reason = if_ok c.begin.result (λ turn. IsFirst b.read_phase × IsUnaborted turn) (λ turn. IsCaused (next_event m.widths a.read_phase a.words.items) b.log.set.items w a.extension turn) (λ turn h. unaborted_caused (next_event m.widths a.read_phase a.words.items) b.log.set.items w a.extension turn h.1) c.begin.ensures.alone;
+      renewed = ok_always c.begin.result (KeepsExtension a.read_phase w a.extension rs b.extension now) (subst (λ (s : ReadPhase). KeepsExtension s w a.extension rs b.extension now) (sym c.in-Unstarted.is) (keeps_fresh w a.extension b.extension rs now c.begin.ensures.extension h.4));
+      moves = subst (λ (s : ReadPhase). OnOk c.begin.result (Moves s a.at b.read_phase b.at w)) (sym c.in-Unstarted.is) c.begin.ensures.moves;
+      left = subst (λ (s : ReadPhase). OnOk c.begin.result (events_left (g.B.Body.left b.log.body) m.widths b.read_phase b.words.items b.extension b.log.base.items < events_left (g.B.Body.left a.log.body) m.widths s a.words.items a.extension a.log.base.items)) (sym c.in-Unstarted.is) c.begin.ensures.left;
       err = err_map c.begin.result (IsLeft w × IsPrefix m f w b.at now) (IsLeft w) (λ h. h.0) c.begin.ensures.err;
       script = c.begin.ensures.script;
       ty = c.begin.ensures.ty;
@@ -309,63 +309,63 @@ returns-in-Unstarted-clause-steps g c =
 pub returns-in-Opening-clause-steps : goal.returns-in-Opening-clause-steps
 returns-in-Opening-clause-steps g c =
     let a = c.args.self.now in
-    steps_at (of_type g.T.Naming g.T.TxType) g.B.Body (g.C.Cells.passes c.args.cells.now) a c.open.new.self (g.C.Cells.view c.args.cells.now) (g.C.Cells.view c.open.new.cells) (Ok c.open.result) a.stand _ c.in-Opening.is c.open.ensures.steps
+    steps_at (of_type g.T.Naming g.T.TxType) g.B.Body (g.C.Cells.passes c.args.cells.now) a c.open.new.self (g.C.Cells.view c.args.cells.now) (g.C.Cells.view c.open.new.cells) (Ok c.open.result) a.read_phase _ c.in-Opening.is c.open.ensures.steps
 
 pub returns-then-len-width-clause-steps : goal.returns-then-len-width-clause-steps
 returns-then-len-width-clause-steps g c =
     let a = c.args.self.now in
-    let m = g.T.TxType.meaning a.course.ty.now in
+    let m = g.T.TxType.meaning a.log.ty.now in
     let v = g.C.Cells.view c.args.cells.now in
     let passes = g.C.Cells.passes c.args.cells.now in
     let valid = g.T.Naming.valid in
     let short : length a.words.items < slice_index_or m.widths c.in-Reading.part 0 = omega (arith, width_got m.widths c.in-Reading.part c.width.result c.width.ensures, c.if-len-width.true, c.len.ensures) in
-    let to : next_event m.widths a.stand a.words.items ≡ Word c.in-Reading.part (length a.words.items) = ap (λ (s : Stand). next_event m.widths s a.words.items) c.in-Reading.is ∙ word_next m.widths c.in-Reading.part a.words.items short in
-    let f = g.B.Body.script a.course.body in
+    let to : next_event m.widths a.read_phase a.words.items ≡ Word c.in-Reading.part (length a.words.items) = ap (λ (s : ReadPhase). next_event m.widths s a.words.items) c.in-Reading.is ∙ word_next m.widths c.in-Reading.part a.words.items short in
+    let f = g.B.Body.script a.log.body in
     let b = c.word.new.self in
-    let rs = map told a.course.replies.items in
-    let k = c.word.new.self.course in
+    let rs = map told a.log.replies.items in
+    let k = c.word.new.self.log in
     let w = g.C.Cells.view c.word.new.cells in
-    let now = map told b.course.replies.items in
+    let now = map told b.log.replies.items in
     record {
       event = subst (λ (x : Event). OneEvent (λ e. e ≡ x) valid passes v (g.C.Cells.view c.word.new.cells)) (sym to) c.word.ensures.event;
-      course = ok_always c.word.result (IsOnCourse m (g.B.Body.then b.course.body) f (g.B.Body.left b.course.body) (g.B.Body.may_ask b.course.body) b.course.base.items b.course.set b.course.cache b.course.replies.items) (subst (λ (k : Course g.row.T.Denot g.row.B.Denot). IsOnCourse m (g.B.Body.then k.body) f (g.B.Body.left k.body) (g.B.Body.may_ask k.body) k.base.items k.set k.cache k.replies.items) (sym c.word.ensures.course) c.requires.course);
+      log = ok_always c.word.result (IsOnLog m (g.B.Body.then b.log.body) f (g.B.Body.left b.log.body) (g.B.Body.may_ask b.log.body) b.log.base.items b.log.set b.log.cache b.log.replies.items) (subst (λ (k : Log g.row.T.Denot g.row.B.Denot). IsOnLog m (g.B.Body.then k.body) f (g.B.Body.left k.body) (g.B.Body.may_ask k.body) k.base.items k.set k.cache k.replies.items) (sym c.word.ensures.log) c.requires.log);
       turned = c.word.ensures.turned;
-      grown = ok_always c.word.result (HasHeard m f (words_in k.base.items) rs a.course.set (map told k.replies.items) k.set)
-          (subst (λ (h : Course g.row.T.Denot g.row.B.Denot). HasHeard m f (words_in h.base.items) rs a.course.set (map told h.replies.items) h.set) (sym c.word.ensures.course) (heard_none m f (words_in a.course.base.items) rs a.course.set));
+      grown = ok_always c.word.result (HasHeard m f (words_in k.base.items) rs a.log.set (map told k.replies.items) k.set)
+          (subst (λ (h : Log g.row.T.Denot g.row.B.Denot). HasHeard m f (words_in h.base.items) rs a.log.set (map told h.replies.items) h.set) (sym c.word.ensures.log) (heard_none m f (words_in a.log.base.items) rs a.log.set));
       alone = λ one first. c.word.ensures.alone;
-      reason = if_ok c.word.result (λ turn. IsFirst b.stand × IsUnaborted turn) (λ turn. IsCaused (next_event m.widths a.stand a.words.items) b.course.set.items w a.renewal turn) (λ turn h. unaborted_caused (next_event m.widths a.stand a.words.items) b.course.set.items w a.renewal turn h.1) c.word.ensures.alone;
-      renewed = ok_always c.word.result (KeepsRenewal a.stand w a.renewal rs b.renewal now) (subst (λ (s : Stand). KeepsRenewal s w a.renewal rs b.renewal now) (sym c.in-Reading.is) (keeps_same a.renewal b.renewal rs now c.word.ensures.renewal (ap (λ (k : Course g.row.T.Denot g.row.B.Denot). map told k.replies.items) c.word.ensures.course)));
-      moves = moves_same c.word.result a.stand (subst HasBegun (sym c.in-Reading.is) tt) a.at b.stand b.at w c.word.ensures.moves;
-      left = subst (λ (s : Stand). OnOk c.word.result (events_left (g.B.Body.left b.course.body) m.widths b.stand b.words.items b.renewal b.course.base.items < events_left (g.B.Body.left a.course.body) m.widths s a.words.items a.renewal a.course.base.items)) (sym c.in-Reading.is) c.word.ensures.left;
+      reason = if_ok c.word.result (λ turn. IsFirst b.read_phase × IsUnaborted turn) (λ turn. IsCaused (next_event m.widths a.read_phase a.words.items) b.log.set.items w a.extension turn) (λ turn h. unaborted_caused (next_event m.widths a.read_phase a.words.items) b.log.set.items w a.extension turn h.1) c.word.ensures.alone;
+      renewed = ok_always c.word.result (KeepsExtension a.read_phase w a.extension rs b.extension now) (subst (λ (s : ReadPhase). KeepsExtension s w a.extension rs b.extension now) (sym c.in-Reading.is) (keeps_same a.extension b.extension rs now c.word.ensures.extension (ap (λ (k : Log g.row.T.Denot g.row.B.Denot). map told k.replies.items) c.word.ensures.log)));
+      moves = moves_same c.word.result a.read_phase (subst HasBegun (sym c.in-Reading.is) tt) a.at b.read_phase b.at w c.word.ensures.moves;
+      left = subst (λ (s : ReadPhase). OnOk c.word.result (events_left (g.B.Body.left b.log.body) m.widths b.read_phase b.words.items b.extension b.log.base.items < events_left (g.B.Body.left a.log.body) m.widths s a.words.items a.extension a.log.base.items)) (sym c.in-Reading.is) c.word.ensures.left;
       err = err_map c.word.result (IsLeft w × IsPrefix m f w b.at now) (IsLeft w) (λ h. h.0) c.word.ensures.err;
-      script = ap (λ (k : Course g.row.T.Denot g.row.B.Denot). g.B.Body.script k.body) c.word.ensures.course;
-      ty = ap (λ (k : Course g.row.T.Denot g.row.B.Denot). k.ty) c.word.ensures.course;
+      script = ap (λ (k : Log g.row.T.Denot g.row.B.Denot). g.B.Body.script k.body) c.word.ensures.log;
+      ty = ap (λ (k : Log g.row.T.Denot g.row.B.Denot). k.ty) c.word.ensures.log;
     }
 
 pub returns-else-len-width-clause-steps : goal.returns-else-len-width-clause-steps
 returns-else-len-width-clause-steps g c =
     let a = c.args.self.now in
-    let m = g.T.TxType.meaning a.course.ty.now in
+    let m = g.T.TxType.meaning a.log.ty.now in
     let v = g.C.Cells.view c.args.cells.now in
     let passes = g.C.Cells.passes c.args.cells.now in
     let valid = g.T.Naming.valid in
     let long : slice_index_or m.widths c.in-Reading.part 0 ≤ length a.words.items = omega (arith, width_got m.widths c.in-Reading.part c.width.result c.width.ensures, c.if-len-width.false, c.len.ensures) in
-    let to : next_event m.widths a.stand a.words.items ≡ Close c.in-Reading.part = ap (λ (s : Stand). next_event m.widths s a.words.items) c.in-Reading.is ∙ close_next m.widths c.in-Reading.part a.words.items long in
-    let rs = map told a.course.replies.items in
+    let to : next_event m.widths a.read_phase a.words.items ≡ Close c.in-Reading.part = ap (λ (s : ReadPhase). next_event m.widths s a.words.items) c.in-Reading.is ∙ close_next m.widths c.in-Reading.part a.words.items long in
+    let rs = map told a.log.replies.items in
     let b = c.close.new.self in
     let w = g.C.Cells.view c.close.new.cells in
-    let f = g.B.Body.script a.course.body in
-    let now = map told b.course.replies.items in
+    let f = g.B.Body.script a.log.body in
+    let now = map told b.log.replies.items in
     record {
       event = subst (λ (x : Event). OneEvent (λ e. e ≡ x) valid passes v (g.C.Cells.view c.close.new.cells)) (sym to) c.close.ensures.event;
-      course = c.close.ensures.course;
+      log = c.close.ensures.log;
       turned = c.close.ensures.turned;
       grown = c.close.ensures.grown;
       alone = λ one first. c.close.ensures.alone one;
-      reason = subst (λ (x : Event). IfOk c.close.result (λ turn. IsCaused x c.close.new.self.course.set.items (g.C.Cells.view c.close.new.cells) a.renewal turn)) (sym to) c.close.ensures.reason;
-      renewed = subst (λ (s : Stand). OnOk c.close.result (KeepsRenewal s w a.renewal rs b.renewal (map told b.course.replies.items))) (sym c.in-Reading.is) c.close.ensures.renewed;
-      moves = moves_same c.close.result a.stand (subst HasBegun (sym c.in-Reading.is) tt) a.at b.stand b.at w c.close.ensures.moves;
-      left = subst (λ (s : Stand). OnOk c.close.result (events_left (g.B.Body.left b.course.body) m.widths b.stand b.words.items b.renewal b.course.base.items < events_left (g.B.Body.left a.course.body) m.widths s a.words.items a.renewal a.course.base.items)) (sym c.in-Reading.is) c.close.ensures.left;
+      reason = subst (λ (x : Event). IfOk c.close.result (λ turn. IsCaused x c.close.new.self.log.set.items (g.C.Cells.view c.close.new.cells) a.extension turn)) (sym to) c.close.ensures.reason;
+      renewed = subst (λ (s : ReadPhase). OnOk c.close.result (KeepsExtension s w a.extension rs b.extension (map told b.log.replies.items))) (sym c.in-Reading.is) c.close.ensures.renewed;
+      moves = moves_same c.close.result a.read_phase (subst HasBegun (sym c.in-Reading.is) tt) a.at b.read_phase b.at w c.close.ensures.moves;
+      left = subst (λ (s : ReadPhase). OnOk c.close.result (events_left (g.B.Body.left b.log.body) m.widths b.read_phase b.words.items b.extension b.log.base.items < events_left (g.B.Body.left a.log.body) m.widths s a.words.items a.extension a.log.base.items)) (sym c.in-Reading.is) c.close.ensures.left;
       err = err_map c.close.result (IsLeft w × IsPrefix m f w b.at now) (IsLeft w) (λ h. h.0) c.close.ensures.err;
       script = c.close.ensures.script;
       ty = c.close.ensures.ty;
@@ -374,23 +374,23 @@ returns-else-len-width-clause-steps g c =
 pub returns-in-Renewing-clause-steps : goal.returns-in-Renewing-clause-steps
 returns-in-Renewing-clause-steps g c =
     let a = c.args.self.now in
-    let m = g.T.TxType.meaning a.course.ty.now in
+    let m = g.T.TxType.meaning a.log.ty.now in
     let v = g.C.Cells.view c.args.cells.now in
     let w = g.C.Cells.view c.renew.new.cells in
     let b = c.renew.new.self in
-    let rs = map told a.course.replies.items in
-    let now = map told b.course.replies.items in
-    let f = g.B.Body.script a.course.body in
+    let rs = map told a.log.replies.items in
+    let now = map told b.log.replies.items in
+    let f = g.B.Body.script a.log.body in
     record {
-      event = subst (λ (x : Event). OneEvent (λ e. e ≡ x) g.T.Naming.valid (g.C.Cells.passes c.args.cells.now) v w) (sym (ap (λ (s : Stand). next_event m.widths s a.words.items) c.in-Renewing.is)) c.renew.ensures.event;
-      course = c.renew.ensures.course;
+      event = subst (λ (x : Event). OneEvent (λ e. e ≡ x) g.T.Naming.valid (g.C.Cells.passes c.args.cells.now) v w) (sym (ap (λ (s : ReadPhase). next_event m.widths s a.words.items) c.in-Renewing.is)) c.renew.ensures.event;
+      log = c.renew.ensures.log;
       turned = c.renew.ensures.turned;
       grown = c.renew.ensures.grown;
       alone = λ one first. absurd (subst IsFirst c.in-Renewing.is first);
-      reason = if_ok c.renew.result IsUnaborted (λ turn. IsCaused (next_event m.widths a.stand a.words.items) b.course.set.items w a.renewal turn) (λ turn h. unaborted_caused (next_event m.widths a.stand a.words.items) b.course.set.items w a.renewal turn h) c.renew.ensures.unaborted;
-      renewed = subst (λ (s : Stand). OnOk c.renew.result (KeepsRenewal s w a.renewal rs b.renewal now)) (sym c.in-Renewing.is) c.renew.ensures.renewed;
-      moves = moves_ok c.renew.result a.stand (subst HasBegun (sym c.in-Renewing.is) tt) a.at b.stand b.at w c.renew.ensures.moves;
-      left = subst (λ (s : Stand). OnOk c.renew.result (events_left (g.B.Body.left b.course.body) m.widths b.stand b.words.items b.renewal b.course.base.items < events_left (g.B.Body.left a.course.body) m.widths s a.words.items a.renewal a.course.base.items)) (sym c.in-Renewing.is) c.renew.ensures.left;
+      reason = if_ok c.renew.result IsUnaborted (λ turn. IsCaused (next_event m.widths a.read_phase a.words.items) b.log.set.items w a.extension turn) (λ turn h. unaborted_caused (next_event m.widths a.read_phase a.words.items) b.log.set.items w a.extension turn h) c.renew.ensures.unaborted;
+      renewed = subst (λ (s : ReadPhase). OnOk c.renew.result (KeepsExtension s w a.extension rs b.extension now)) (sym c.in-Renewing.is) c.renew.ensures.renewed;
+      moves = moves_ok c.renew.result a.read_phase (subst HasBegun (sym c.in-Renewing.is) tt) a.at b.read_phase b.at w c.renew.ensures.moves;
+      left = subst (λ (s : ReadPhase). OnOk c.renew.result (events_left (g.B.Body.left b.log.body) m.widths b.read_phase b.words.items b.extension b.log.base.items < events_left (g.B.Body.left a.log.body) m.widths s a.words.items a.extension a.log.base.items)) (sym c.in-Renewing.is) c.renew.ensures.left;
       err = err_map c.renew.result (IsLeft w × IsPrefix m f w b.at now) (IsLeft w) (λ h. h.0) c.renew.ensures.err;
       script = c.renew.ensures.script;
       ty = c.renew.ensures.ty;
@@ -399,23 +399,23 @@ returns-in-Renewing-clause-steps g c =
 pub returns-in-Rechecking-clause-steps : goal.returns-in-Rechecking-clause-steps
 returns-in-Rechecking-clause-steps g c =
     let a = c.args.self.now in
-    let m = g.T.TxType.meaning a.course.ty.now in
+    let m = g.T.TxType.meaning a.log.ty.now in
     let v = g.C.Cells.view c.args.cells.now in
     let w = g.C.Cells.view c.recheck.new.cells in
     let b = c.recheck.new.self in
-    let rs = map told a.course.replies.items in
-    let now = map told b.course.replies.items in
-    let f = g.B.Body.script a.course.body in
+    let rs = map told a.log.replies.items in
+    let now = map told b.log.replies.items in
+    let f = g.B.Body.script a.log.body in
     record {
-      event = subst (λ (x : Event). OneEvent (λ e. e ≡ x) g.T.Naming.valid (g.C.Cells.passes c.args.cells.now) v w) (sym (ap (λ (s : Stand). next_event m.widths s a.words.items) c.in-Rechecking.is)) c.recheck.ensures.event;
-      course = c.recheck.ensures.course;
+      event = subst (λ (x : Event). OneEvent (λ e. e ≡ x) g.T.Naming.valid (g.C.Cells.passes c.args.cells.now) v w) (sym (ap (λ (s : ReadPhase). next_event m.widths s a.words.items) c.in-Rechecking.is)) c.recheck.ensures.event;
+      log = c.recheck.ensures.log;
       turned = c.recheck.ensures.turned;
       grown = c.recheck.ensures.grown;
       alone = λ one first. absurd (subst IsFirst c.in-Rechecking.is first);
-      reason = subst (λ (x : Event). IfOk c.recheck.result (λ turn. IsCaused x b.course.set.items w a.renewal turn)) (sym (ap (λ (s : Stand). next_event m.widths s a.words.items) c.in-Rechecking.is)) c.recheck.ensures.reason;
-      renewed = subst (λ (s : Stand). OnOk c.recheck.result (KeepsRenewal s w a.renewal rs b.renewal now)) (sym c.in-Rechecking.is) c.recheck.ensures.renewed;
-      moves = moves_ok c.recheck.result a.stand (subst HasBegun (sym c.in-Rechecking.is) tt) a.at b.stand b.at w c.recheck.ensures.moves;
-      left = subst (λ (s : Stand). OnOk c.recheck.result (events_left (g.B.Body.left b.course.body) m.widths b.stand b.words.items b.renewal b.course.base.items < events_left (g.B.Body.left a.course.body) m.widths s a.words.items a.renewal a.course.base.items)) (sym c.in-Rechecking.is) c.recheck.ensures.left;
+      reason = subst (λ (x : Event). IfOk c.recheck.result (λ turn. IsCaused x b.log.set.items w a.extension turn)) (sym (ap (λ (s : ReadPhase). next_event m.widths s a.words.items) c.in-Rechecking.is)) c.recheck.ensures.reason;
+      renewed = subst (λ (s : ReadPhase). OnOk c.recheck.result (KeepsExtension s w a.extension rs b.extension now)) (sym c.in-Rechecking.is) c.recheck.ensures.renewed;
+      moves = moves_ok c.recheck.result a.read_phase (subst HasBegun (sym c.in-Rechecking.is) tt) a.at b.read_phase b.at w c.recheck.ensures.moves;
+      left = subst (λ (s : ReadPhase). OnOk c.recheck.result (events_left (g.B.Body.left b.log.body) m.widths b.read_phase b.words.items b.extension b.log.base.items < events_left (g.B.Body.left a.log.body) m.widths s a.words.items a.extension a.log.base.items)) (sym c.in-Rechecking.is) c.recheck.ensures.left;
       err = err_map c.recheck.result (IsLeft w × IsPrefix m f w b.at now) (IsLeft w) (λ h. h.0) c.recheck.ensures.err;
       script = c.recheck.ensures.script;
       ty = c.recheck.ensures.ty;
@@ -424,63 +424,63 @@ returns-in-Rechecking-clause-steps g c =
 pub returns-in-Reopening-clause-steps : goal.returns-in-Reopening-clause-steps
 returns-in-Reopening-clause-steps g c =
     let a = c.args.self.now in
-    steps_at (of_type g.T.Naming g.T.TxType) g.B.Body (g.C.Cells.passes c.args.cells.now) a c.reopen.new.self (g.C.Cells.view c.args.cells.now) (g.C.Cells.view c.reopen.new.cells) (Ok c.reopen.result) a.stand _ c.in-Reopening.is c.reopen.ensures.steps
+    steps_at (of_type g.T.Naming g.T.TxType) g.B.Body (g.C.Cells.passes c.args.cells.now) a c.reopen.new.self (g.C.Cells.view c.args.cells.now) (g.C.Cells.view c.reopen.new.cells) (Ok c.reopen.result) a.read_phase _ c.in-Reopening.is c.reopen.ensures.steps
 
 pub returns-then-len-width-2-clause-steps : goal.returns-then-len-width-2-clause-steps
 returns-then-len-width-2-clause-steps g c =
     let a = c.args.self.now in
-    let m = g.T.TxType.meaning a.course.ty.now in
+    let m = g.T.TxType.meaning a.log.ty.now in
     let v = g.C.Cells.view c.args.cells.now in
     let passes = g.C.Cells.passes c.args.cells.now in
     let valid = g.T.Naming.valid in
     let short : length a.words.items < slice_index_or m.widths c.in-Rereading.part 0 = omega (arith, width_got m.widths c.in-Rereading.part c.width-in-Rereading.result c.width-in-Rereading.ensures, c.if-len-width-2.true, c.len-in-Rereading.ensures) in
-    let to : next_event m.widths a.stand a.words.items ≡ Word c.in-Rereading.part (length a.words.items) = ap (λ (s : Stand). next_event m.widths s a.words.items) c.in-Rereading.is ∙ word_next m.widths c.in-Rereading.part a.words.items short in
-    let f = g.B.Body.script a.course.body in
+    let to : next_event m.widths a.read_phase a.words.items ≡ Word c.in-Rereading.part (length a.words.items) = ap (λ (s : ReadPhase). next_event m.widths s a.words.items) c.in-Rereading.is ∙ word_next m.widths c.in-Rereading.part a.words.items short in
+    let f = g.B.Body.script a.log.body in
     let b = c.reread.new.self in
-    let rs = map told a.course.replies.items in
-    let k = c.reread.new.self.course in
+    let rs = map told a.log.replies.items in
+    let k = c.reread.new.self.log in
     let w = g.C.Cells.view c.reread.new.cells in
-    let now = map told b.course.replies.items in
+    let now = map told b.log.replies.items in
     record {
       event = subst (λ (x : Event). OneEvent (λ e. e ≡ x) valid passes v (g.C.Cells.view c.reread.new.cells)) (sym to) c.reread.ensures.event;
-      course = ok_always c.reread.result (IsOnCourse m (g.B.Body.then b.course.body) f (g.B.Body.left b.course.body) (g.B.Body.may_ask b.course.body) b.course.base.items b.course.set b.course.cache b.course.replies.items) (subst (λ (k : Course g.row.T.Denot g.row.B.Denot). IsOnCourse m (g.B.Body.then k.body) f (g.B.Body.left k.body) (g.B.Body.may_ask k.body) k.base.items k.set k.cache k.replies.items) (sym c.reread.ensures.course) c.requires.course);
+      log = ok_always c.reread.result (IsOnLog m (g.B.Body.then b.log.body) f (g.B.Body.left b.log.body) (g.B.Body.may_ask b.log.body) b.log.base.items b.log.set b.log.cache b.log.replies.items) (subst (λ (k : Log g.row.T.Denot g.row.B.Denot). IsOnLog m (g.B.Body.then k.body) f (g.B.Body.left k.body) (g.B.Body.may_ask k.body) k.base.items k.set k.cache k.replies.items) (sym c.reread.ensures.log) c.requires.log);
       turned = c.reread.ensures.turned;
-      grown = ok_always c.reread.result (HasHeard m f (words_in k.base.items) rs a.course.set (map told k.replies.items) k.set)
-          (subst (λ (h : Course g.row.T.Denot g.row.B.Denot). HasHeard m f (words_in h.base.items) rs a.course.set (map told h.replies.items) h.set) (sym c.reread.ensures.course) (heard_none m f (words_in a.course.base.items) rs a.course.set));
+      grown = ok_always c.reread.result (HasHeard m f (words_in k.base.items) rs a.log.set (map told k.replies.items) k.set)
+          (subst (λ (h : Log g.row.T.Denot g.row.B.Denot). HasHeard m f (words_in h.base.items) rs a.log.set (map told h.replies.items) h.set) (sym c.reread.ensures.log) (heard_none m f (words_in a.log.base.items) rs a.log.set));
       alone = λ one first. absurd (subst IsFirst c.in-Rereading.is first);
-      reason = if_ok c.reread.result IsUnaborted (λ turn. IsCaused (next_event m.widths a.stand a.words.items) b.course.set.items w a.renewal turn) (λ turn h. unaborted_caused (next_event m.widths a.stand a.words.items) b.course.set.items w a.renewal turn h) c.reread.ensures.unaborted;
-      renewed = ok_always c.reread.result (KeepsRenewal a.stand w a.renewal rs b.renewal now) (subst (λ (s : Stand). KeepsRenewal s w a.renewal rs b.renewal now) (sym c.in-Rereading.is) (keeps_same a.renewal b.renewal rs now c.reread.ensures.renewal (ap (λ (k : Course g.row.T.Denot g.row.B.Denot). map told k.replies.items) c.reread.ensures.course)));
-      moves = moves_ok c.reread.result a.stand (subst HasBegun (sym c.in-Rereading.is) tt) a.at b.stand b.at w c.reread.ensures.moves;
-      left = subst (λ (s : Stand). OnOk c.reread.result (events_left (g.B.Body.left b.course.body) m.widths b.stand b.words.items b.renewal b.course.base.items < events_left (g.B.Body.left a.course.body) m.widths s a.words.items a.renewal a.course.base.items)) (sym c.in-Rereading.is) c.reread.ensures.left;
+      reason = if_ok c.reread.result IsUnaborted (λ turn. IsCaused (next_event m.widths a.read_phase a.words.items) b.log.set.items w a.extension turn) (λ turn h. unaborted_caused (next_event m.widths a.read_phase a.words.items) b.log.set.items w a.extension turn h) c.reread.ensures.unaborted;
+      renewed = ok_always c.reread.result (KeepsExtension a.read_phase w a.extension rs b.extension now) (subst (λ (s : ReadPhase). KeepsExtension s w a.extension rs b.extension now) (sym c.in-Rereading.is) (keeps_same a.extension b.extension rs now c.reread.ensures.extension (ap (λ (k : Log g.row.T.Denot g.row.B.Denot). map told k.replies.items) c.reread.ensures.log)));
+      moves = moves_ok c.reread.result a.read_phase (subst HasBegun (sym c.in-Rereading.is) tt) a.at b.read_phase b.at w c.reread.ensures.moves;
+      left = subst (λ (s : ReadPhase). OnOk c.reread.result (events_left (g.B.Body.left b.log.body) m.widths b.read_phase b.words.items b.extension b.log.base.items < events_left (g.B.Body.left a.log.body) m.widths s a.words.items a.extension a.log.base.items)) (sym c.in-Rereading.is) c.reread.ensures.left;
       err = err_map c.reread.result (IsLeft w × IsPrefix m f w b.at now) (IsLeft w) (λ h. h.0) c.reread.ensures.err;
-      script = ap (λ (k : Course g.row.T.Denot g.row.B.Denot). g.B.Body.script k.body) c.reread.ensures.course;
-      ty = ap (λ (k : Course g.row.T.Denot g.row.B.Denot). k.ty) c.reread.ensures.course;
+      script = ap (λ (k : Log g.row.T.Denot g.row.B.Denot). g.B.Body.script k.body) c.reread.ensures.log;
+      ty = ap (λ (k : Log g.row.T.Denot g.row.B.Denot). k.ty) c.reread.ensures.log;
     }
 
 pub returns-else-len-width-2-clause-steps : goal.returns-else-len-width-2-clause-steps
 returns-else-len-width-2-clause-steps g c =
     let a = c.args.self.now in
-    let m = g.T.TxType.meaning a.course.ty.now in
+    let m = g.T.TxType.meaning a.log.ty.now in
     let v = g.C.Cells.view c.args.cells.now in
     let passes = g.C.Cells.passes c.args.cells.now in
     let valid = g.T.Naming.valid in
     let long : slice_index_or m.widths c.in-Rereading.part 0 ≤ length a.words.items = omega (arith, width_got m.widths c.in-Rereading.part c.width-in-Rereading.result c.width-in-Rereading.ensures, c.if-len-width-2.false, c.len-in-Rereading.ensures) in
-    let to : next_event m.widths a.stand a.words.items ≡ Close c.in-Rereading.part = ap (λ (s : Stand). next_event m.widths s a.words.items) c.in-Rereading.is ∙ close_next m.widths c.in-Rereading.part a.words.items long in
-    let rs = map told a.course.replies.items in
+    let to : next_event m.widths a.read_phase a.words.items ≡ Close c.in-Rereading.part = ap (λ (s : ReadPhase). next_event m.widths s a.words.items) c.in-Rereading.is ∙ close_next m.widths c.in-Rereading.part a.words.items long in
+    let rs = map told a.log.replies.items in
     let b = c.reclose.new.self in
     let w = g.C.Cells.view c.reclose.new.cells in
-    let now = map told b.course.replies.items in
-    let f = g.B.Body.script a.course.body in
+    let now = map told b.log.replies.items in
+    let f = g.B.Body.script a.log.body in
     record {
       event = subst (λ (x : Event). OneEvent (λ e. e ≡ x) valid passes v (g.C.Cells.view c.reclose.new.cells)) (sym to) c.reclose.ensures.event;
-      course = c.reclose.ensures.course;
+      log = c.reclose.ensures.log;
       turned = c.reclose.ensures.turned;
       grown = c.reclose.ensures.grown;
       alone = λ one first. absurd (subst IsFirst c.in-Rereading.is first);
-      reason = subst (λ (x : Event). IfOk c.reclose.result (λ turn. IsCaused x c.reclose.new.self.course.set.items (g.C.Cells.view c.reclose.new.cells) a.renewal turn)) (sym to) c.reclose.ensures.reason;
-      renewed = subst (λ (s : Stand). OnOk c.reclose.result (KeepsRenewal s w a.renewal rs b.renewal now)) (sym c.in-Rereading.is) c.reclose.ensures.renewed;
-      moves = moves_ok c.reclose.result a.stand (subst HasBegun (sym c.in-Rereading.is) tt) a.at b.stand b.at w c.reclose.ensures.moves;
-      left = subst (λ (s : Stand). OnOk c.reclose.result (events_left (g.B.Body.left b.course.body) m.widths b.stand b.words.items b.renewal b.course.base.items < events_left (g.B.Body.left a.course.body) m.widths s a.words.items a.renewal a.course.base.items)) (sym c.in-Rereading.is) c.reclose.ensures.left;
+      reason = subst (λ (x : Event). IfOk c.reclose.result (λ turn. IsCaused x c.reclose.new.self.log.set.items (g.C.Cells.view c.reclose.new.cells) a.extension turn)) (sym to) c.reclose.ensures.reason;
+      renewed = subst (λ (s : ReadPhase). OnOk c.reclose.result (KeepsExtension s w a.extension rs b.extension now)) (sym c.in-Rereading.is) c.reclose.ensures.renewed;
+      moves = moves_ok c.reclose.result a.read_phase (subst HasBegun (sym c.in-Rereading.is) tt) a.at b.read_phase b.at w c.reclose.ensures.moves;
+      left = subst (λ (s : ReadPhase). OnOk c.reclose.result (events_left (g.B.Body.left b.log.body) m.widths b.read_phase b.words.items b.extension b.log.base.items < events_left (g.B.Body.left a.log.body) m.widths s a.words.items a.extension a.log.base.items)) (sym c.in-Rereading.is) c.reclose.ensures.left;
       err = err_map c.reclose.result (IsLeft w × IsPrefix m f w b.at now) (IsLeft w) (λ h. h.0) c.reclose.ensures.err;
       script = c.reclose.ensures.script;
       ty = c.reclose.ensures.ty;

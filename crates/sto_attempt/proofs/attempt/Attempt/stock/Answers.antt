@@ -1,41 +1,41 @@
 use Rattle.std.proofs.Common.{◌≡◌, ◌≤◌, ◌*◌, List, ap, sym, subst, map, arith, length}
 use Rattle.sto_item.specs.Pending.{Entry as Update}
 use Rattle.sto_model.specs.Told.{told}
-use Rattle.sto_course.specs.declared.stage.Stage.TheVariants.{Locking}
-use Rattle.sto_course.specs.Bounds.{round, words_of}
-use Rattle.sto_course.specs.Remaining.{commit_left}
-use Rattle.sto_course.specs.Stages.{deal, IsPlanned}
-use Rattle.sto_course.proofs.Sealing.{gathered_planned, gathered_bounded}
+use Rattle.sto_attempt_log.specs.declared.commit_phase.CommitPhase.TheVariants.{Locking}
+use Rattle.sto_attempt_log.specs.Bounds.{round, words_of}
+use Rattle.sto_attempt_log.specs.Remaining.{commit_left}
+use Rattle.sto_attempt_log.specs.Stages.{deal, IsPlanned}
+use Rattle.sto_attempt_log.proofs.Sealing.{gathered_planned, gathered_bounded}
 use Rattle.sto_attempt.proofs.attempt.Attempt.stock.Goals as goal
 
 pub room_for-requires : goal.room_for-requires
 room_for-requires g c =
     let a = c.args.self.now in
-    let law = g.met.T.TxType.lawful a.course.ty.now in
+    let law = g.met.T.TxType.lawful a.log.ty.now in
     let l = c.in_ok-lists.lists in
     let is = c.in_ok-lists.ensures in
-    let same : length l.updates.items ≡ length a.course.set.updates = ap (λ (x : List Update). length x) is.updates in
-    let it = gathered_planned (g.T.TxType.meaning a.course.ty.now) law g.T.Naming.valid (g.T.Naming.sizes a.course.ty.now) (g.B.Body.script a.course.body) a.at a.course.base.items a.course.set.items (map told a.course.replies.items) a.course.set.updates c.requires.course c.requires.some l.seen.items l.loaded.items l.tasks.items l.checks.items l.places.items is.gathered is.checks is.places (omega (arith, same, is.few)) in
+    let same : length l.updates.items ≡ length a.log.set.updates = ap (λ (x : List Update). length x) is.updates in
+    let it = gathered_planned (g.T.TxType.meaning a.log.ty.now) law g.T.Naming.valid (g.T.Naming.sizes a.log.ty.now) (g.B.Body.script a.log.body) a.at a.log.base.items a.log.set.items (map told a.log.replies.items) a.log.set.updates c.requires.log c.requires.some l.seen.items l.loaded.items l.tasks.items l.checks.items l.places.items is.gathered is.checks is.places (omega (arith, same, is.few)) in
     it.in_range
 
 pub returns-clause-planned : goal.returns-clause-planned
 returns-clause-planned g c =
     let a = c.args.self.now in
-    let law = g.met.T.TxType.lawful a.course.ty.now in
+    let law = g.met.T.TxType.lawful a.log.ty.now in
     let l = c.in_ok-lists.lists in
     let is = c.in_ok-lists.ensures in
-    let same : length l.updates.items ≡ length a.course.set.updates = ap (λ (x : List Update). length x) is.updates in
-    let it = gathered_planned (g.T.TxType.meaning a.course.ty.now) law g.T.Naming.valid (g.T.Naming.sizes a.course.ty.now) (g.B.Body.script a.course.body) a.at a.course.base.items a.course.set.items (map told a.course.replies.items) a.course.set.updates c.requires.course c.requires.some l.seen.items l.loaded.items l.tasks.items l.checks.items l.places.items is.gathered is.checks is.places (omega (arith, same, is.few)) in
-    subst (λ (x : List Update). IsPlanned (deal (g.T.TxType.meaning a.course.ty.now) g.T.Naming.valid (g.T.Naming.sizes a.course.ty.now) (g.B.Body.script a.course.body) a.at a.course.base.items a.course.set.items (map told a.course.replies.items) x l.seen.items l.loaded.items l.tasks.items l.checks.items l.places.items)) (sym is.updates) it
+    let same : length l.updates.items ≡ length a.log.set.updates = ap (λ (x : List Update). length x) is.updates in
+    let it = gathered_planned (g.T.TxType.meaning a.log.ty.now) law g.T.Naming.valid (g.T.Naming.sizes a.log.ty.now) (g.B.Body.script a.log.body) a.at a.log.base.items a.log.set.items (map told a.log.replies.items) a.log.set.updates c.requires.log c.requires.some l.seen.items l.loaded.items l.tasks.items l.checks.items l.places.items is.gathered is.checks is.places (omega (arith, same, is.few)) in
+    subst (λ (x : List Update). IsPlanned (deal (g.T.TxType.meaning a.log.ty.now) g.T.Naming.valid (g.T.Naming.sizes a.log.ty.now) (g.B.Body.script a.log.body) a.at a.log.base.items a.log.set.items (map told a.log.replies.items) x l.seen.items l.loaded.items l.tasks.items l.checks.items l.places.items)) (sym is.updates) it
 
 pub returns-clause-left : goal.returns-clause-left
 returns-clause-left g c =
     let a = c.args.self.now in
-    let law = g.met.T.TxType.lawful a.course.ty.now in
+    let law = g.met.T.TxType.lawful a.log.ty.now in
     let l = c.in_ok-lists.lists in
     let is = c.in_ok-lists.ensures in
-    let same : length l.updates.items ≡ length a.course.set.updates = ap (λ (x : List Update). length x) is.updates in
-    let it = gathered_planned (g.T.TxType.meaning a.course.ty.now) law g.T.Naming.valid (g.T.Naming.sizes a.course.ty.now) (g.B.Body.script a.course.body) a.at a.course.base.items a.course.set.items (map told a.course.replies.items) a.course.set.updates c.requires.course c.requires.some l.seen.items l.loaded.items l.tasks.items l.checks.items l.places.items is.gathered is.checks is.places (omega (arith, same, is.few)) in
-    let m = g.T.TxType.meaning a.course.ty.now in
-    let few = gathered_bounded m law g.T.Naming.valid (g.T.Naming.sizes a.course.ty.now) (g.B.Body.script a.course.body) a.at a.course.base.items a.course.set.items (map told a.course.replies.items) a.course.set.updates c.requires.course c.requires.some l.seen.items l.loaded.items l.tasks.items l.checks.items l.places.items is.gathered it in
-    subst (λ (x : List Update). commit_left (deal m g.T.Naming.valid (g.T.Naming.sizes a.course.ty.now) (g.B.Body.script a.course.body) a.at a.course.base.items a.course.set.items (map told a.course.replies.items) x l.seen.items l.loaded.items l.tasks.items l.checks.items l.places.items) (Locking 0) ≤ 2 * round (length m.widths) (words_of m.widths)) (sym is.updates) few
+    let same : length l.updates.items ≡ length a.log.set.updates = ap (λ (x : List Update). length x) is.updates in
+    let it = gathered_planned (g.T.TxType.meaning a.log.ty.now) law g.T.Naming.valid (g.T.Naming.sizes a.log.ty.now) (g.B.Body.script a.log.body) a.at a.log.base.items a.log.set.items (map told a.log.replies.items) a.log.set.updates c.requires.log c.requires.some l.seen.items l.loaded.items l.tasks.items l.checks.items l.places.items is.gathered is.checks is.places (omega (arith, same, is.few)) in
+    let m = g.T.TxType.meaning a.log.ty.now in
+    let few = gathered_bounded m law g.T.Naming.valid (g.T.Naming.sizes a.log.ty.now) (g.B.Body.script a.log.body) a.at a.log.base.items a.log.set.items (map told a.log.replies.items) a.log.set.updates c.requires.log c.requires.some l.seen.items l.loaded.items l.tasks.items l.checks.items l.places.items is.gathered it in
+    subst (λ (x : List Update). commit_left (deal m g.T.Naming.valid (g.T.Naming.sizes a.log.ty.now) (g.B.Body.script a.log.body) a.at a.log.base.items a.log.set.items (map told a.log.replies.items) x l.seen.items l.loaded.items l.tasks.items l.checks.items l.places.items) (Locking 0) ≤ 2 * round (length m.widths) (words_of m.widths)) (sym is.updates) few

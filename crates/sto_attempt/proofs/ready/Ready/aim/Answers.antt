@@ -1,6 +1,6 @@
 use Rattle.std.proofs.Common.{true, false, refl, sym, subst, List, arith}
 use Rattle.sto_item.specs.Pending.{Entry, IsRising}
-use Rattle.sto_course.proofs.Aiming.{written_is}
+use Rattle.sto_attempt_log.proofs.Aiming.{written_is}
 use Rattle.sto_attempt.proofs.ready.Ready.aim.Goals as goal
 
 pub is_written-requires : goal.is_written-requires

@@ -2,19 +2,19 @@ use Rattle.std.proofs.Common.{inr, ◌⊎◌, ◌≡◌, ◌≢◌, ◌+◌, ◌
 use Rattle.sto_core.specs.Event.{is_own_or_free}
 use Rattle.sto_core.specs.Versions.{ticket_of, is_free}
 use Rattle.sto_core.proofs.Lists.{locked_is, unlocked_is}
-use Rattle.sto_course.specs.declared.verdict.Verdict.TheVariants.{Changed}
-use Rattle.sto_course.specs.Stages.{IsDropping}
-use Rattle.sto_course.proofs.Checks.{may_check, check_locked, check_changed, check_goes, expected_is, own_free, own_written}
-use Rattle.sto_course.proofs.Aiming.{checks_next, is_in}
+use Rattle.sto_attempt_log.specs.declared.verdict.Verdict.TheVariants.{Changed}
+use Rattle.sto_attempt_log.specs.Stages.{IsDropping}
+use Rattle.sto_attempt_log.proofs.Checks.{may_check, check_locked, check_changed, check_goes, expected_is, own_free, own_written}
+use Rattle.sto_attempt_log.proofs.Aiming.{checks_next, is_in}
 use Rattle.sto_type.specs.Traits.{of_type}
 use Rattle.sto_attempt.specs.Commits.{deal_of}
 use Rattle.sto_attempt.proofs.ready.Ready.check.Goals.{else-is_locked-via-then-is_locked+else-not-is_written, else-is_locked-via-else-is_locked}
-use Rattle.sto_course.proofs.Remaining.{check_lowers, refuse_lowers}
-use Rattle.sto_course.proofs.Space.{space_checks}
-use Rattle.sto_course.proofs.Checks.{check_reason, check_unheld}
-use Rattle.sto_course.proofs.Undisturbed.{checks_on, not_busy}
-use Rattle.sto_course.specs.Verdicts.{HasReason}
-use Rattle.sto_course.specs.Reasons.{IsByPredicate, IsByTest}
+use Rattle.sto_attempt_log.proofs.Remaining.{check_lowers, refuse_lowers}
+use Rattle.sto_attempt_log.proofs.Space.{space_checks}
+use Rattle.sto_attempt_log.proofs.Checks.{check_reason, check_unheld}
+use Rattle.sto_attempt_log.proofs.Undisturbed.{checks_on, not_busy}
+use Rattle.sto_attempt_log.specs.Verdicts.{HasReason}
+use Rattle.sto_attempt_log.specs.Reasons.{IsByPredicate, IsByTest}
 use Rattle.std.specs.List.{Contains}
 use Rattle.sto_item.specs.declared.item.Item.TheVariants.{Seen}
 use Rattle.sto_attempt.proofs.ready.Ready.check.Goals as goal
@@ -22,12 +22,12 @@ use Rattle.sto_attempt.proofs.ready.Ready.check.Goals as goal
 pub check-found-requires : goal.check-found-requires
 check-found-requires g c =
     let a = c.args.self.now in
-    let law = g.met.T.TxType.lawful a.course.ty.now in
+    let law = g.met.T.TxType.lawful a.log.ty.now in
     let d = deal_of (of_type g.T.Naming g.T.TxType) g.B.Body a in
     let v = g.C.Cells.view c.args.cells.now in
     let h = c.requires.stands.1 in
     let p = c.get-part.result.now in
-    may_check d law c.args.place c.args.ticket a.finds a.loads.items v h p c.get-part.ensures
+    may_check d law c.args.place c.args.ticket a.found_tickets a.loaded_words.items v h p c.get-part.ensures
 
 pub expected-requires : goal.expected-requires
 expected-requires g c =
@@ -36,7 +36,7 @@ expected-requires g c =
 pub returns-then-not-is_written-clause-advances : goal.returns-then-not-is_written-clause-advances
 returns-then-not-is_written-clause-advances g c =
     let a = c.args.self.now in
-    let law = g.met.T.TxType.lawful a.course.ty.now in
+    let law = g.met.T.TxType.lawful a.log.ty.now in
     let d = deal_of (of_type g.T.Naming g.T.TxType) g.B.Body a in
     let v = g.C.Cells.view c.args.cells.now in
     let p = c.get-part.result.now in
@@ -49,15 +49,15 @@ returns-then-not-is_written-clause-advances g c =
       event = search rules;
       said =
           let h = c.requires.stands.1 in
-          check_locked d law c.args.place c.args.ticket a.finds a.loads.items v h p c.get-part.ensures w _ n _ c.check-found.ensures.tells busy other;
+          check_locked d law c.args.place c.args.ticket a.found_tickets a.loaded_words.items v h p c.get-part.ensures w _ n _ c.check-found.ensures.tells busy other;
       space = search rules;
       left =
           let h = c.requires.stands in
           refuse_lowers d k h.0;
-      reason = λ y e. inr (subst (λ z. HasReason a.course.set.items w z) e tt);
+      reason = λ y e. inr (subst (λ z. HasReason a.log.set.items w z) e tt);
       alone =
           let h = c.requires.stands.1 in
-          λ one quiet. absurd (not_busy v p n (c.check-found.ensures.tells.learns.alone one) (check_unheld d law c.args.place c.args.ticket a.finds a.loads.items v h p c.get-part.ensures other) busy);
+          λ one quiet. absurd (not_busy v p n (c.check-found.ensures.tells.learns.alone one) (check_unheld d law c.args.place c.args.ticket a.found_tickets a.loaded_words.items v h p c.get-part.ensures other) busy);
       by = search rules;
       kept = refl;
     }
@@ -65,7 +65,7 @@ returns-then-not-is_written-clause-advances g c =
 pub returns-then-newer-expected-clause-advances : goal.returns-then-newer-expected-clause-advances
 returns-then-newer-expected-clause-advances g c =
     let a = c.args.self.now in
-    let law = g.met.T.TxType.lawful a.course.ty.now in
+    let law = g.met.T.TxType.lawful a.log.ty.now in
     let d = deal_of (of_type g.T.Naming g.T.TxType) g.B.Body a in
     let v = g.C.Cells.view c.args.cells.now in
     let p = c.get-part.result.now in
@@ -78,11 +78,11 @@ returns-then-newer-expected-clause-advances g c =
       said =
           let h = c.requires.stands.1 in
           let own : is_own_or_free v p n ≡ true = elim c.else-is_locked.branch [
-            | else-is_locked-via-then-is_locked+else-not-is_written x ↦ own_written d c.args.place c.args.ticket a.finds a.loads.items v h p n (is_in x.as_slice.result.now a.updates.items p x.is_written.result true x.as_slice.ensures.items x.is_written.ensures x.if-not-is_written.false)
-            | else-is_locked-via-else-is_locked x ↦ own_free d c.args.place c.args.ticket a.finds a.loads.items v h p n (locked_is (is_free n) (sym c.is_locked.ensures ∙ x.if-is_locked.false))
+            | else-is_locked-via-then-is_locked+else-not-is_written x ↦ own_written d c.args.place c.args.ticket a.found_tickets a.loaded_words.items v h p n (is_in x.as_slice.result.now a.updates.items p x.is_written.result true x.as_slice.ensures.items x.is_written.ensures x.if-not-is_written.false)
+            | else-is_locked-via-else-is_locked x ↦ own_free d c.args.place c.args.ticket a.found_tickets a.loaded_words.items v h p n (locked_is (is_free n) (sym c.is_locked.ensures ∙ x.if-is_locked.false))
           ] in
-          let is = expected_is d law c.args.place c.args.ticket a.finds a.loads.items v h p c.get-part.ensures c.expected.result c.expected.ensures in
-          let it = check_changed d law c.args.place c.args.ticket a.finds a.loads.items v h p c.get-part.ensures w _ n _ c.check-found.ensures.tells own c.expected.result is ne in
+          let is = expected_is d law c.args.place c.args.ticket a.found_tickets a.loaded_words.items v h p c.get-part.ensures c.expected.result c.expected.ensures in
+          let it = check_changed d law c.args.place c.args.ticket a.found_tickets a.loaded_words.items v h p c.get-part.ensures w _ n _ c.check-found.ensures.tells own c.expected.result is ne in
           subst (λ (t : ℕ). IsDropping d c.args.ticket (Changed a.at p t) w) (sym c.ticket-newer.ensures.ticket) it;
       space = search rules;
       left =
@@ -91,19 +91,19 @@ returns-then-newer-expected-clause-advances g c =
       reason =
           let h = c.requires.stands.1 in
           let own : is_own_or_free v p n ≡ true = elim c.else-is_locked.branch [
-            | else-is_locked-via-then-is_locked+else-not-is_written x ↦ own_written d c.args.place c.args.ticket a.finds a.loads.items v h p n (is_in x.as_slice.result.now a.updates.items p x.is_written.result true x.as_slice.ensures.items x.is_written.ensures x.if-not-is_written.false)
-            | else-is_locked-via-else-is_locked x ↦ own_free d c.args.place c.args.ticket a.finds a.loads.items v h p n (locked_is (is_free n) (sym c.is_locked.ensures ∙ x.if-is_locked.false))
+            | else-is_locked-via-then-is_locked+else-not-is_written x ↦ own_written d c.args.place c.args.ticket a.found_tickets a.loaded_words.items v h p n (is_in x.as_slice.result.now a.updates.items p x.is_written.result true x.as_slice.ensures.items x.is_written.ensures x.if-not-is_written.false)
+            | else-is_locked-via-else-is_locked x ↦ own_free d c.args.place c.args.ticket a.found_tickets a.loaded_words.items v h p n (locked_is (is_free n) (sym c.is_locked.ensures ∙ x.if-is_locked.false))
           ] in
-          let is = expected_is d law c.args.place c.args.ticket a.finds a.loads.items v h p c.get-part.ensures c.expected.result c.expected.ensures in
-          λ y e. inr (subst (λ z. HasReason a.course.set.items w z) e (subst (λ (t : ℕ). Contains a.course.set.items (Seen p) ⊎ (IsByPredicate a.course.set.items w p t ⊎ IsByTest w p t)) (sym c.ticket-newer.ensures.ticket) (check_reason d law c.args.place c.args.ticket a.finds a.loads.items v h p c.get-part.ensures w _ n _ c.check-found.ensures.tells own c.expected.result is ne)));
+          let is = expected_is d law c.args.place c.args.ticket a.found_tickets a.loaded_words.items v h p c.get-part.ensures c.expected.result c.expected.ensures in
+          λ y e. inr (subst (λ z. HasReason a.log.set.items w z) e (subst (λ (t : ℕ). Contains a.log.set.items (Seen p) ⊎ (IsByPredicate a.log.set.items w p t ⊎ IsByTest w p t)) (sym c.ticket-newer.ensures.ticket) (check_reason d law c.args.place c.args.ticket a.found_tickets a.loaded_words.items v h p c.get-part.ensures w _ n _ c.check-found.ensures.tells own c.expected.result is ne)));
       alone =
           let h = c.requires.stands.1 in
           let own : is_own_or_free v p n ≡ true = elim c.else-is_locked.branch [
-            | else-is_locked-via-then-is_locked+else-not-is_written x ↦ own_written d c.args.place c.args.ticket a.finds a.loads.items v h p n (is_in x.as_slice.result.now a.updates.items p x.is_written.result true x.as_slice.ensures.items x.is_written.ensures x.if-not-is_written.false)
-            | else-is_locked-via-else-is_locked x ↦ own_free d c.args.place c.args.ticket a.finds a.loads.items v h p n (locked_is (is_free n) (sym c.is_locked.ensures ∙ x.if-is_locked.false))
+            | else-is_locked-via-then-is_locked+else-not-is_written x ↦ own_written d c.args.place c.args.ticket a.found_tickets a.loaded_words.items v h p n (is_in x.as_slice.result.now a.updates.items p x.is_written.result true x.as_slice.ensures.items x.is_written.ensures x.if-not-is_written.false)
+            | else-is_locked-via-else-is_locked x ↦ own_free d c.args.place c.args.ticket a.found_tickets a.loaded_words.items v h p n (locked_is (is_free n) (sym c.is_locked.ensures ∙ x.if-is_locked.false))
           ] in
-          let is = expected_is d law c.args.place c.args.ticket a.finds a.loads.items v h p c.get-part.ensures c.expected.result c.expected.ensures in
-          let it = check_changed d law c.args.place c.args.ticket a.finds a.loads.items v h p c.get-part.ensures w _ n _ c.check-found.ensures.tells own c.expected.result is ne in
+          let is = expected_is d law c.args.place c.args.ticket a.found_tickets a.loaded_words.items v h p c.get-part.ensures c.expected.result c.expected.ensures in
+          let it = check_changed d law c.args.place c.args.ticket a.found_tickets a.loaded_words.items v h p c.get-part.ensures w _ n _ c.check-found.ensures.tells own c.expected.result is ne in
           λ one quiet. absurd (omega (arith, it.ends.1.later, (c.check-found.ensures.tells.learns.alone one).1, h.sealed.number));
       by = search rules;
       kept = refl;
@@ -112,7 +112,7 @@ returns-then-newer-expected-clause-advances g c =
 pub returns-clause-advances : goal.returns-clause-advances
 returns-clause-advances g c =
     let a = c.args.self.now in
-    let law = g.met.T.TxType.lawful a.course.ty.now in
+    let law = g.met.T.TxType.lawful a.log.ty.now in
     let d = deal_of (of_type g.T.Naming g.T.TxType) g.B.Body a in
     let v = g.C.Cells.view c.args.cells.now in
     let p = c.get-part.result.now in
@@ -125,13 +125,13 @@ returns-clause-advances g c =
       said =
           let h = c.requires.stands.1 in
           let own : is_own_or_free v p n ≡ true = elim c.else-is_locked.branch [
-            | else-is_locked-via-then-is_locked+else-not-is_written x ↦ own_written d c.args.place c.args.ticket a.finds a.loads.items v h p n (is_in x.as_slice.result.now a.updates.items p x.is_written.result true x.as_slice.ensures.items x.is_written.ensures x.if-not-is_written.false)
-            | else-is_locked-via-else-is_locked x ↦ own_free d c.args.place c.args.ticket a.finds a.loads.items v h p n (locked_is (is_free n) (sym c.is_locked.ensures ∙ x.if-is_locked.false))
+            | else-is_locked-via-then-is_locked+else-not-is_written x ↦ own_written d c.args.place c.args.ticket a.found_tickets a.loaded_words.items v h p n (is_in x.as_slice.result.now a.updates.items p x.is_written.result true x.as_slice.ensures.items x.is_written.ensures x.if-not-is_written.false)
+            | else-is_locked-via-else-is_locked x ↦ own_free d c.args.place c.args.ticket a.found_tickets a.loaded_words.items v h p n (locked_is (is_free n) (sym c.is_locked.ensures ∙ x.if-is_locked.false))
           ] in
-          let is = expected_is d law c.args.place c.args.ticket a.finds a.loads.items v h p c.get-part.ensures c.expected.result c.expected.ensures in
-          let it = check_goes d law c.args.place c.args.ticket a.finds a.loads.items v h p c.get-part.ensures w _ n _ c.check-found.ensures.tells own c.expected.result is same (c.args.place + 1) (omega arith) in
-          checks_next d (c.args.place + 1) c.args.ticket a.finds a.loads.items w it c.next_check-self.result c.next_check-self.ensures;
-      space = space_checks (g.T.TxType.meaning c.args.self.now.course.ty.now).widths c.args.self.now.tasks.items c.args.self.now.loads c.args.self.now.checks.items (c.args.place + 1) c.args.ticket c.next_check-self.result c.next_check-self.ensures;
+          let is = expected_is d law c.args.place c.args.ticket a.found_tickets a.loaded_words.items v h p c.get-part.ensures c.expected.result c.expected.ensures in
+          let it = check_goes d law c.args.place c.args.ticket a.found_tickets a.loaded_words.items v h p c.get-part.ensures w _ n _ c.check-found.ensures.tells own c.expected.result is same (c.args.place + 1) (omega arith) in
+          checks_next d (c.args.place + 1) c.args.ticket a.found_tickets a.loaded_words.items w it c.next_check-self.result c.next_check-self.ensures;
+      space = space_checks (g.T.TxType.meaning c.args.self.now.log.ty.now).widths c.args.self.now.tasks.items c.args.self.now.loaded_words c.args.self.now.checks.items (c.args.place + 1) c.args.ticket c.next_check-self.result c.next_check-self.ensures;
       left =
           let h = c.requires.stands in
           check_lowers d k c.args.ticket h.0 (k + 1) (omega arith) c.next_check-self.result c.next_check-self.ensures;

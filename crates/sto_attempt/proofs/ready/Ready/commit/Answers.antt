@@ -1,10 +1,10 @@
 use Rattle.std.proofs.Common.{[], rules, refl}
-use Rattle.sto_course.proofs.Drawn.{may_decide}
-use Rattle.sto_course.proofs.Installing.{decide_goes}
-use Rattle.sto_course.proofs.Aiming.{puts_next}
-use Rattle.sto_course.proofs.Remaining.{decide_lowers}
-use Rattle.sto_course.proofs.Space.{space_puts}
-use Rattle.sto_course.proofs.Undisturbed.{puts_on}
+use Rattle.sto_attempt_log.proofs.Drawn.{may_decide}
+use Rattle.sto_attempt_log.proofs.Installing.{decide_goes}
+use Rattle.sto_attempt_log.proofs.Aiming.{puts_next}
+use Rattle.sto_attempt_log.proofs.Remaining.{decide_lowers}
+use Rattle.sto_attempt_log.proofs.Space.{space_puts}
+use Rattle.sto_attempt_log.proofs.Undisturbed.{puts_on}
 use Rattle.sto_type.specs.Traits.{of_type}
 use Rattle.sto_attempt.specs.Commits.{deal_of}
 use Rattle.sto_attempt.proofs.ready.Ready.commit.Goals as goal
@@ -14,7 +14,7 @@ decide-requires g c =
     let a = c.args.self.now in
     let d = deal_of (of_type g.T.Naming g.T.TxType) g.B.Body a in
     let v = g.C.Cells.view c.args.cells.now in
-    may_decide d c.args.ticket a.finds a.loads.items v c.requires.stands
+    may_decide d c.args.ticket a.found_tickets a.loaded_words.items v c.requires.stands
 
 pub returns-clause-advances : goal.returns-clause-advances
 returns-clause-advances g c =
@@ -22,11 +22,11 @@ returns-clause-advances g c =
     let d = deal_of (of_type g.T.Naming g.T.TxType) g.B.Body a in
     let v = g.C.Cells.view c.args.cells.now in
     let w = g.C.Cells.view c.decide.new.self in
-    let it = decide_goes d c.args.ticket a.finds a.loads.items v _ c.requires.stands w _ _ _ c.decide.ensures.tells in
+    let it = decide_goes d c.args.ticket a.found_tickets a.loaded_words.items v _ c.requires.stands w _ _ _ c.decide.ensures.tells in
     record {
       event = search rules;
-      said = puts_next d 0 c.args.ticket [] a.finds a.loads.items w it it.sealed.some c.next_put-self.result c.next_put-self.ensures;
-      space = space_puts (g.T.TxType.meaning c.args.self.now.course.ty.now).widths c.args.self.now.tasks.items c.args.self.now.loads c.args.self.now.places.items 0 c.args.ticket c.next_put-self.result c.next_put-self.ensures;
+      said = puts_next d 0 c.args.ticket [] a.found_tickets a.loaded_words.items w it it.sealed.some c.next_put-self.result c.next_put-self.ensures;
+      space = space_puts (g.T.TxType.meaning c.args.self.now.log.ty.now).widths c.args.self.now.tasks.items c.args.self.now.loaded_words c.args.self.now.places.items 0 c.args.ticket c.next_put-self.result c.next_put-self.ensures;
       left = decide_lowers d c.args.ticket c.next_put-self.result c.next_put-self.ensures;
       reason = λ y e. absurd (puts_on a.places.items 0 c.args.ticket c.next_put-self.result c.next_put-self.ensures y e);
       alone = λ one quiet. record { early = quiet.early; unaborted = λ y e. absurd (puts_on a.places.items 0 c.args.ticket c.next_put-self.result c.next_put-self.ensures y e) };

@@ -1,10 +1,10 @@
 use Rattle.std.proofs.Common.{ℕ, List, sym, subst, rules, refl}
 use Rattle.sto_type.specs.Known.{Parts}
-use Rattle.sto_course.proofs.Drawn.{the_draw, draw_goes}
-use Rattle.sto_course.proofs.Aiming.{checks_next}
-use Rattle.sto_course.proofs.Remaining.{draw_lowers}
-use Rattle.sto_course.proofs.Space.{space_checks}
-use Rattle.sto_course.proofs.Undisturbed.{checks_on}
+use Rattle.sto_attempt_log.proofs.Drawn.{the_draw, draw_goes}
+use Rattle.sto_attempt_log.proofs.Aiming.{checks_next}
+use Rattle.sto_attempt_log.proofs.Remaining.{draw_lowers}
+use Rattle.sto_attempt_log.proofs.Space.{space_checks}
+use Rattle.sto_attempt_log.proofs.Undisturbed.{checks_on}
 use Rattle.sto_type.specs.Traits.{of_type}
 use Rattle.sto_attempt.specs.Commits.{deal_of}
 use Rattle.sto_attempt.proofs.ready.Ready.draw.Goals as goal
@@ -12,32 +12,32 @@ use Rattle.sto_attempt.proofs.ready.Ready.draw.Goals as goal
 pub draw-ticket-requires : goal.draw-ticket-requires
 draw-ticket-requires g c =
     let a = c.args.self.now in
-    let m = g.T.TxType.meaning a.course.ty.now in
+    let m = g.T.TxType.meaning a.log.ty.now in
     let valid = g.T.Naming.valid in
     let d = deal_of (of_type g.T.Naming g.T.TxType) g.B.Body a in
     let v = g.C.Cells.view c.args.cells.now in
     let sizes = c.requires.stands.going.sealed.own.same_sizes in
-    let here : (x : Parts) → valid v.sizes x → m.valid x = λ x h. (g.met.T.TxType.valid_is a.course.ty.now x).1 (subst (λ (l : List ℕ). valid l x) sizes h) in
-    let there : (x : Parts) → m.valid x → valid v.sizes x = λ x h. subst (λ (l : List ℕ). valid l x) (sym sizes) ((g.met.T.TxType.valid_is a.course.ty.now x).0 h) in
-    the_draw d (g.met.T.TxType.lawful a.course.ty.now) a.finds a.loads.items v c.requires.stands here there
+    let here : (x : Parts) → valid v.sizes x → m.valid x = λ x h. (g.met.T.TxType.valid_is a.log.ty.now x).1 (subst (λ (l : List ℕ). valid l x) sizes h) in
+    let there : (x : Parts) → m.valid x → valid v.sizes x = λ x h. subst (λ (l : List ℕ). valid l x) (sym sizes) ((g.met.T.TxType.valid_is a.log.ty.now x).0 h) in
+    the_draw d (g.met.T.TxType.lawful a.log.ty.now) a.found_tickets a.loaded_words.items v c.requires.stands here there
 
 pub returns-clause-advances : goal.returns-clause-advances
 returns-clause-advances g c =
     let a = c.args.self.now in
-    let m = g.T.TxType.meaning a.course.ty.now in
+    let m = g.T.TxType.meaning a.log.ty.now in
     let valid = g.T.Naming.valid in
     let d = deal_of (of_type g.T.Naming g.T.TxType) g.B.Body a in
     let v = g.C.Cells.view c.args.cells.now in
     let w = g.C.Cells.view c.draw-ticket.new.self in
     let sizes = c.requires.stands.going.sealed.own.same_sizes in
-    let here : (x : Parts) → valid v.sizes x → m.valid x = λ x h. (g.met.T.TxType.valid_is a.course.ty.now x).1 (subst (λ (l : List ℕ). valid l x) sizes h) in
-    let there : (x : Parts) → m.valid x → valid v.sizes x = λ x h. subst (λ (l : List ℕ). valid l x) (sym sizes) ((g.met.T.TxType.valid_is a.course.ty.now x).0 h) in
+    let here : (x : Parts) → valid v.sizes x → m.valid x = λ x h. (g.met.T.TxType.valid_is a.log.ty.now x).1 (subst (λ (l : List ℕ). valid l x) sizes h) in
+    let there : (x : Parts) → m.valid x → valid v.sizes x = λ x h. subst (λ (l : List ℕ). valid l x) (sym sizes) ((g.met.T.TxType.valid_is a.log.ty.now x).0 h) in
     let tells = c.draw-ticket.ensures.tells in
-    let it = draw_goes d (g.met.T.TxType.lawful a.course.ty.now) a.finds a.loads.items v c.requires.stands here there w _ tells.0 c.draw-ticket.result tells.1 tells.2 in
+    let it = draw_goes d (g.met.T.TxType.lawful a.log.ty.now) a.found_tickets a.loaded_words.items v c.requires.stands here there w _ tells.0 c.draw-ticket.result tells.1 tells.2 in
     record {
       event = search rules;
-      said = checks_next d 0 c.draw-ticket.result a.finds a.loads.items w it c.next_check-self.result c.next_check-self.ensures;
-      space = space_checks (g.T.TxType.meaning c.args.self.now.course.ty.now).widths c.args.self.now.tasks.items c.args.self.now.loads c.args.self.now.checks.items 0 c.draw-ticket.result c.next_check-self.result c.next_check-self.ensures;
+      said = checks_next d 0 c.draw-ticket.result a.found_tickets a.loaded_words.items w it c.next_check-self.result c.next_check-self.ensures;
+      space = space_checks (g.T.TxType.meaning c.args.self.now.log.ty.now).widths c.args.self.now.tasks.items c.args.self.now.loaded_words c.args.self.now.checks.items 0 c.draw-ticket.result c.next_check-self.result c.next_check-self.ensures;
       left = draw_lowers d c.draw-ticket.result c.next_check-self.result c.next_check-self.ensures;
       reason = λ y e. absurd (checks_on a.checks.items 0 c.draw-ticket.result c.next_check-self.result c.next_check-self.ensures y e);
       alone = λ one quiet. record { early = quiet.early; unaborted = λ y e. absurd (checks_on a.checks.items 0 c.draw-ticket.result c.next_check-self.result c.next_check-self.ensures y e) };

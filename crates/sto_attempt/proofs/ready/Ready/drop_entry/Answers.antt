@@ -1,7 +1,7 @@
 use Rattle.std.proofs.Common.{inl, ℕ, sym, subst, rules, refl}
-use Rattle.sto_course.specs.Stages.{IsLeaving}
-use Rattle.sto_course.proofs.Leaving.{drop_goes}
-use Rattle.sto_course.proofs.Remaining.{drop_lowers}
+use Rattle.sto_attempt_log.specs.Stages.{IsLeaving}
+use Rattle.sto_attempt_log.proofs.Leaving.{drop_goes}
+use Rattle.sto_attempt_log.proofs.Remaining.{drop_lowers}
 use Rattle.sto_type.specs.Traits.{of_type}
 use Rattle.sto_attempt.specs.Commits.{deal_of}
 use Rattle.sto_attempt.proofs.ready.Ready.drop_entry.Goals as goal

@@ -8,17 +8,17 @@ use Rattle.sto_core.specs.Views.{width_in}
 use Rattle.sto_core.specs.Versions.{ticket_of, is_free}
 use Rattle.sto_core.specs.Allowed.{HasPart, MayClose}
 use Rattle.sto_core.proofs.Lists.{locked_is, unlocked_is}
-use Rattle.sto_course.specs.declared.verdict.Verdict.TheVariants.{Locked}
-use Rattle.sto_course.specs.Stages.{task, is_so, IsLeaving}
-use Rattle.sto_course.proofs.Unheld.{part_wide}
-use Rattle.sto_course.proofs.Ending.{odd_version, other_version, same_version, may_end, end_locked, end_newer, end_done, end_fails, space_ended}
-use Rattle.sto_course.proofs.Judging.{all_true, one_fails, so_of, leaving_as}
-use Rattle.sto_course.proofs.Aiming.{aimed}
-use Rattle.sto_course.proofs.Remaining.{fail_lowers, tested_lowers}
-use Rattle.sto_course.proofs.Ending.{end_unheld, fails_reason, newer_reason}
-use Rattle.sto_course.proofs.Undisturbed.{aimed_on, not_busy}
-use Rattle.sto_course.specs.Verdicts.{HasReason}
-use Rattle.sto_course.specs.Reasons.{IsByPredicate, IsByTest}
+use Rattle.sto_attempt_log.specs.declared.verdict.Verdict.TheVariants.{Locked}
+use Rattle.sto_attempt_log.specs.Stages.{task, is_so, IsLeaving}
+use Rattle.sto_attempt_log.proofs.Unheld.{part_wide}
+use Rattle.sto_attempt_log.proofs.Ending.{odd_version, other_version, same_version, may_end, end_locked, end_newer, end_done, end_fails, space_ended}
+use Rattle.sto_attempt_log.proofs.Judging.{all_true, one_fails, so_of, leaving_as}
+use Rattle.sto_attempt_log.proofs.Aiming.{aimed}
+use Rattle.sto_attempt_log.proofs.Remaining.{fail_lowers, tested_lowers}
+use Rattle.sto_attempt_log.proofs.Ending.{end_unheld, fails_reason, newer_reason}
+use Rattle.sto_attempt_log.proofs.Undisturbed.{aimed_on, not_busy}
+use Rattle.sto_attempt_log.specs.Verdicts.{HasReason}
+use Rattle.sto_attempt_log.specs.Reasons.{IsByPredicate, IsByTest}
 use Rattle.sto_type.specs.Traits.{of_type}
 use Rattle.sto_attempt.specs.Commits.{deal_of}
 use Rattle.sto_attempt.proofs.ready.Ready.end_test.Goals as goal
@@ -26,7 +26,7 @@ use Rattle.sto_attempt.proofs.ready.Ready.end_test.Goals as goal
 pub close-found-requires : goal.close-found-requires
 close-found-requires g c =
     let a = c.args.self.now in
-    let law = g.met.T.TxType.lawful a.course.ty.now in
+    let law = g.met.T.TxType.lawful a.log.ty.now in
     let d = deal_of (of_type g.T.Naming g.T.TxType) g.B.Body a in
     let v = g.C.Cells.view c.args.cells.now in
     let h = c.requires.before.stands in
@@ -36,12 +36,12 @@ close-found-requires g c =
     let t = c.args.ticket in
     let p = c.get-part.result.now in
     let at : slice_index_or a.tasks.items n 0 ≡ p = get_or_from_slice_get a.tasks.items n p 0 c.get-part.ensures in
-    subst (λ (q : ℕ). MayClose v q v.phase × HasPart v q) at (may_end d law n i t a.finds a.loads.items v h all)
+    subst (λ (q : ℕ). MayClose v q v.phase × HasPart v q) at (may_end d law n i t a.found_tickets a.loaded_words.items v h all)
 
 pub returns-then-is_locked-clause-advances : goal.returns-then-is_locked-clause-advances
 returns-then-is_locked-clause-advances g c =
     let a = c.args.self.now in
-    let law = g.met.T.TxType.lawful a.course.ty.now in
+    let law = g.met.T.TxType.lawful a.log.ty.now in
     let valid = g.T.Naming.valid in
     let d = deal_of (of_type g.T.Naming g.T.TxType) g.B.Body a in
     let v = g.C.Cells.view c.args.cells.now in
@@ -57,14 +57,14 @@ returns-then-is_locked-clause-advances g c =
     let k = c.close-found.result.0 in
     let tells : Tells valid passes (Close (task d n)) v k _ w = subst (λ (q : ℕ). Tells valid passes (Close q) v k _ w) (sym at) c.close-found.ensures.tells in
     let busy : is_free k ≡ false = unlocked_is (is_free k) (sym c.is_locked.ensures ∙ c.if-is_locked.true) in
-    let it = end_locked d law n i t a.finds a.loads.items v h all w _ k _ tells (odd_version k t busy) busy in
+    let it = end_locked d law n i t a.found_tickets a.loaded_words.items v h all w _ k _ tells (odd_version k t busy) busy in
     record {
       event = search rules;
       said = subst (λ (q : ℕ). IsLeaving d 0 c.len.result (Locked a.at q) w) at (subst (λ (e : ℕ). IsLeaving d 0 e (Locked a.at (task d n)) w) (sym c.len.ensures) it);
       space = search rules;
       left = fail_lowers d c.len.result c.len.ensures _;
-      reason = λ y e. inr (subst (λ z. HasReason a.course.set.items w z) e tt);
-      alone = λ one quiet. absurd (not_busy v (task d n) k (tells.learns.0.alone one) (end_unheld d law n i t a.finds a.loads.items v h all) busy);
+      reason = λ y e. inr (subst (λ z. HasReason a.log.set.items w z) e tt);
+      alone = λ one quiet. absurd (not_busy v (task d n) k (tells.learns.0.alone one) (end_unheld d law n i t a.found_tickets a.loaded_words.items v h all) busy);
       by = search rules;
       kept = refl;
     }
@@ -72,7 +72,7 @@ returns-then-is_locked-clause-advances g c =
 pub returns-then-newer-ticket-clause-advances : goal.returns-then-newer-ticket-clause-advances
 returns-then-newer-ticket-clause-advances g c =
     let a = c.args.self.now in
-    let law = g.met.T.TxType.lawful a.course.ty.now in
+    let law = g.met.T.TxType.lawful a.log.ty.now in
     let valid = g.T.Naming.valid in
     let d = deal_of (of_type g.T.Naming g.T.TxType) g.B.Body a in
     let v = g.C.Cells.view c.args.cells.now in
@@ -90,13 +90,13 @@ returns-then-newer-ticket-clause-advances g c =
     let free : is_free k ≡ true = locked_is (is_free k) (sym c.is_locked.ensures ∙ c.if-is_locked.false) in
     let found : ticket_of k ≡ c.ticket-newer.result = sym c.ticket-newer.ensures.ticket in
     let differs : ticket_of k ≢ t = λ e. c.if-newer-ticket.true (sym found ∙ e) in
-    let it = end_newer d law n i t a.finds a.loads.items v h all w _ k _ tells (other_version k t differs) free differs in
+    let it = end_newer d law n i t a.found_tickets a.loaded_words.items v h all w _ k _ tells (other_version k t differs) free differs in
     record {
       event = search rules;
       said = leaving_as d (length a.updates.items) c.len-then-newer-ticket.result c.len-then-newer-ticket.ensures (task d n) p at (ticket_of k) c.ticket-newer.result found w it;
       space = search rules;
       left = fail_lowers d c.len-then-newer-ticket.result c.len-then-newer-ticket.ensures _;
-      reason = λ y e. inr (subst (λ z. HasReason a.course.set.items w z) e (inr (inr (subst (λ (q : ℕ). IsByTest w q c.ticket-newer.result) at (subst (λ (r : ℕ). IsByTest w (task d n) r) found (newer_reason d law n i t a.finds a.loads.items v h all w _ k _ tells (other_version k t differs) differs))))));
+      reason = λ y e. inr (subst (λ z. HasReason a.log.set.items w z) e (inr (inr (subst (λ (q : ℕ). IsByTest w q c.ticket-newer.result) at (subst (λ (r : ℕ). IsByTest w (task d n) r) found (newer_reason d law n i t a.found_tickets a.loaded_words.items v h all w _ k _ tells (other_version k t differs) differs))))));
       alone = λ one quiet. absurd (omega (arith, it.ends.1.later, (tells.learns.0.alone one).1, h.going.sealed.number));
       by = search rules;
       kept = refl;
@@ -105,8 +105,8 @@ returns-then-newer-ticket-clause-advances g c =
 pub returns-then-all_so-clause-advances : goal.returns-then-all_so-clause-advances
 returns-then-all_so-clause-advances g c =
     let a = c.args.self.now in
-    let m = g.T.TxType.meaning a.course.ty.now in
-    let law = g.met.T.TxType.lawful a.course.ty.now in
+    let m = g.T.TxType.meaning a.log.ty.now in
+    let law = g.met.T.TxType.lawful a.log.ty.now in
     let valid = g.T.Naming.valid in
     let d = deal_of (of_type g.T.Naming g.T.TxType) g.B.Body a in
     let v = g.C.Cells.view c.args.cells.now in
@@ -125,13 +125,13 @@ returns-then-all_so-clause-advances g c =
     let same : ticket_of k ≡ t = sym c.ticket-newer.ensures.ticket ∙ c.if-newer-ticket.false in
     let again : nat_eq k (2 * t) ≡ true = same_version k t free same in
     let wide : width_in v (task d n) ≡ slice_index_or m.widths (task d n) 0 = part_wide d law n v h.going.sealed h.going.planned h.below h.unwritten in
-    let good : list_all (is_so (task d n) a.loads.items) a.course.set.items ≡ true = so_of p (task d n) at a.loads.items a.loads.items refl a.course.set.items c.all_so.result c.all_so.ensures true c.if-all_so.true in
-    let trues = all_true m.widths a.loads.items v (task d n) wide a.course.set.items h.going.sealed.course.inside good in
-    let it = end_done d law n i t a.finds a.loads.items v h all w _ k _ tells again trues (n + 1) (omega arith) in
+    let good : list_all (is_so (task d n) a.loaded_words.items) a.log.set.items ≡ true = so_of p (task d n) at a.loaded_words.items a.loaded_words.items refl a.log.set.items c.all_so.result c.all_so.ensures true c.if-all_so.true in
+    let trues = all_true m.widths a.loaded_words.items v (task d n) wide a.log.set.items h.going.sealed.log.inside good in
+    let it = end_done d law n i t a.found_tickets a.loaded_words.items v h all w _ k _ tells again trues (n + 1) (omega arith) in
     record {
       event = search rules;
-      said = aimed d (n + 1) a.finds a.loads.items w it c.aim-self.result c.aim-self.ensures;
-      space = space_ended m.widths a.tasks.items n i a.loads c.requires.before.space h.below h.within a.updates.items (n + 1) (omega arith) c.aim-self.result c.aim-self.ensures;
+      said = aimed d (n + 1) a.found_tickets a.loaded_words.items w it c.aim-self.result c.aim-self.ensures;
+      space = space_ended m.widths a.tasks.items n i a.loaded_words c.requires.before.space h.below h.within a.updates.items (n + 1) (omega arith) c.aim-self.result c.aim-self.ensures;
       left = tested_lowers d c.args.place c.args.word h.below c.args.ticket h.within (c.args.place + 1) (omega arith) c.aim-self.result c.aim-self.ensures;
       reason = λ y e. absurd (aimed_on a.updates.items a.tasks.items (n + 1) c.aim-self.result c.aim-self.ensures y e);
       alone = λ one quiet. record { early = quiet.early; unaborted = λ y e. absurd (aimed_on a.updates.items a.tasks.items (n + 1) c.aim-self.result c.aim-self.ensures y e) };
@@ -142,8 +142,8 @@ returns-then-all_so-clause-advances g c =
 pub returns-clause-advances : goal.returns-clause-advances
 returns-clause-advances g c =
     let a = c.args.self.now in
-    let m = g.T.TxType.meaning a.course.ty.now in
-    let law = g.met.T.TxType.lawful a.course.ty.now in
+    let m = g.T.TxType.meaning a.log.ty.now in
+    let law = g.met.T.TxType.lawful a.log.ty.now in
     let valid = g.T.Naming.valid in
     let d = deal_of (of_type g.T.Naming g.T.TxType) g.B.Body a in
     let v = g.C.Cells.view c.args.cells.now in
@@ -162,16 +162,16 @@ returns-clause-advances g c =
     let same : ticket_of k ≡ t = sym c.ticket-newer.ensures.ticket ∙ c.if-newer-ticket.false in
     let again : nat_eq k (2 * t) ≡ true = same_version k t free same in
     let wide : width_in v (task d n) ≡ slice_index_or m.widths (task d n) 0 = part_wide d law n v h.going.sealed h.going.planned h.below h.unwritten in
-    let bad : list_all (is_so (task d n) a.loads.items) a.course.set.items ≡ false = so_of p (task d n) at a.loads.items a.loads.items refl a.course.set.items c.all_so.result c.all_so.ensures false c.if-all_so.false in
-    let f = one_fails m.widths a.loads.items v (task d n) wide a.course.set.items h.going.sealed.course.inside bad in
-    let here : (y : Parts) → valid v.sizes y → m.valid y = λ y j. (g.met.T.TxType.valid_is a.course.ty.now y).1 (subst (λ (l : List ℕ). valid l y) h.going.sealed.own.same_sizes j) in
-    let it = end_fails d law n i t a.finds a.loads.items v h all w _ k _ tells again here f.pred f.there f.on f.fails in
+    let bad : list_all (is_so (task d n) a.loaded_words.items) a.log.set.items ≡ false = so_of p (task d n) at a.loaded_words.items a.loaded_words.items refl a.log.set.items c.all_so.result c.all_so.ensures false c.if-all_so.false in
+    let f = one_fails m.widths a.loaded_words.items v (task d n) wide a.log.set.items h.going.sealed.log.inside bad in
+    let here : (y : Parts) → valid v.sizes y → m.valid y = λ y j. (g.met.T.TxType.valid_is a.log.ty.now y).1 (subst (λ (l : List ℕ). valid l y) h.going.sealed.own.same_sizes j) in
+    let it = end_fails d law n i t a.found_tickets a.loaded_words.items v h all w _ k _ tells again here f.pred f.there f.on f.fails in
     record {
       event = search rules;
       said = leaving_as d (length a.updates.items) c.len-2.result c.len-2.ensures (task d n) p at t t refl w it;
       space = search rules;
       left = fail_lowers d c.len-2.result c.len-2.ensures _;
-      reason = λ y e. inr (subst (λ z. HasReason a.course.set.items w z) e (inr (inl (subst (λ (q : ℕ). IsByPredicate a.course.set.items w q t) at (fails_reason d law n i t a.finds a.loads.items v h all w _ k _ tells again here f.pred f.there f.on f.fails)))));
+      reason = λ y e. inr (subst (λ z. HasReason a.log.set.items w z) e (inr (inl (subst (λ (q : ℕ). IsByPredicate a.log.set.items w q t) at (fails_reason d law n i t a.found_tickets a.loaded_words.items v h all w _ k _ tells again here f.pred f.there f.on f.fails)))));
       alone = λ one quiet. absurd (omega (arith, it.ends.1.later, same, (tells.learns.0.alone one).1, h.going.sealed.number));
       by = search rules;
       kept = refl;

@@ -7,18 +7,18 @@ use Rattle.sto_core.specs.Event.{Word}
 use Rattle.sto_core.specs.Tells.{Tells}
 use Rattle.sto_core.specs.Views.{width_in}
 use Rattle.sto_core.specs.Allowed.{HasPart, MayRead}
-use Rattle.sto_course.specs.declared.stage.Loaded.{Loaded}
-use Rattle.sto_course.specs.Stages.{task, ticket_from, is_so, IsLoadingWord, Stands}
+use Rattle.sto_attempt_log.specs.declared.commit_phase.LoadedWord.{LoadedWord}
+use Rattle.sto_attempt_log.specs.Stages.{task, ticket_from, is_so, IsLoadingWord, Stands}
 use Rattle.std.specs.List.{list_all}
-use Rattle.sto_course.proofs.Loading.{may_load, load_goes, in_widths, task_wide}
-use Rattle.sto_course.proofs.Judging.{load_done, load_fails, all_true, one_fails, so_of, leaving_as}
-use Rattle.sto_course.proofs.Space.{space_aimed, space_more}
-use Rattle.sto_course.proofs.Aiming.{aimed}
-use Rattle.sto_course.proofs.Remaining.{fail_lowers, load_lowers, loaded_lowers}
-use Rattle.sto_course.proofs.Judging.{load_reason}
-use Rattle.sto_course.proofs.Undisturbed.{aimed_on, early_ticket}
-use Rattle.sto_course.specs.Verdicts.{HasReason}
-use Rattle.sto_course.specs.Reasons.{IsByPredicate}
+use Rattle.sto_attempt_log.proofs.Loading.{may_load, load_goes, in_widths, task_wide}
+use Rattle.sto_attempt_log.proofs.Judging.{load_done, load_fails, all_true, one_fails, so_of, leaving_as}
+use Rattle.sto_attempt_log.proofs.Space.{space_aimed, space_more}
+use Rattle.sto_attempt_log.proofs.Aiming.{aimed}
+use Rattle.sto_attempt_log.proofs.Remaining.{fail_lowers, load_lowers, loaded_lowers}
+use Rattle.sto_attempt_log.proofs.Judging.{load_reason}
+use Rattle.sto_attempt_log.proofs.Undisturbed.{aimed_on, early_ticket}
+use Rattle.sto_attempt_log.specs.Verdicts.{HasReason}
+use Rattle.sto_attempt_log.specs.Reasons.{IsByPredicate}
 use Rattle.sto_type.specs.Traits.{of_type}
 use Rattle.sto_attempt.specs.Commits.{deal_of}
 use Rattle.sto_attempt.proofs.ready.Ready.load.Goals as goal
@@ -26,8 +26,8 @@ use Rattle.sto_attempt.proofs.ready.Ready.load.Goals as goal
 pub width-width-requires : goal.width-width-requires
 width-width-requires g c =
     let a = c.args.self.now in
-    let m = g.T.TxType.meaning a.course.ty.now in
-    let law = g.met.T.TxType.lawful a.course.ty.now in
+    let m = g.T.TxType.meaning a.log.ty.now in
+    let law = g.met.T.TxType.lawful a.log.ty.now in
     let d = deal_of (of_type g.T.Naming g.T.TxType) g.B.Body a in
     let v = g.C.Cells.view c.args.cells.now in
     let h = c.requires.stands in
@@ -35,12 +35,12 @@ width-width-requires g c =
     let i = c.args.word in
     let p = c.get-part.result.now in
     let at : slice_index_or a.tasks.items n 0 ≡ p = get_or_from_slice_get a.tasks.items n p 0 c.get-part.ensures in
-    subst (λ (q : ℕ). q < length m.widths) at (in_widths d law n i a.finds a.loads.items v h)
+    subst (λ (q : ℕ). q < length m.widths) at (in_widths d law n i a.found_tickets a.loaded_words.items v h)
 
 pub word-value-requires : goal.word-value-requires
 word-value-requires g c =
     let a = c.args.self.now in
-    let law = g.met.T.TxType.lawful a.course.ty.now in
+    let law = g.met.T.TxType.lawful a.log.ty.now in
     let d = deal_of (of_type g.T.Naming g.T.TxType) g.B.Body a in
     let v = g.C.Cells.view c.args.cells.now in
     let h = c.requires.stands in
@@ -48,12 +48,12 @@ word-value-requires g c =
     let i = c.args.word in
     let p = c.get-part.result.now in
     let at : slice_index_or a.tasks.items n 0 ≡ p = get_or_from_slice_get a.tasks.items n p 0 c.get-part.ensures in
-    subst (λ (q : ℕ). MayRead v q v.phase × (HasPart v q × (i < width_in v q))) at (may_load d law n i a.finds a.loads.items v h)
+    subst (λ (q : ℕ). MayRead v q v.phase × (HasPart v q × (i < width_in v q))) at (may_load d law n i a.found_tickets a.loaded_words.items v h)
 
 pub overflow_add-word : goal.overflow_add-word
 overflow_add-word g c =
     let a = c.args.self.now in
-    let m = g.T.TxType.meaning a.course.ty.now in
+    let m = g.T.TxType.meaning a.log.ty.now in
     let h = c.requires.stands in
     let n = c.args.place in
     let p = c.get-part.result.now in
@@ -65,8 +65,8 @@ overflow_add-word g c =
 pub returns-then-word-width-clause-advances : goal.returns-then-word-width-clause-advances
 returns-then-word-width-clause-advances g c =
     let a = c.args.self.now in
-    let m = g.T.TxType.meaning a.course.ty.now in
-    let law = g.met.T.TxType.lawful a.course.ty.now in
+    let m = g.T.TxType.meaning a.log.ty.now in
+    let law = g.met.T.TxType.lawful a.log.ty.now in
     let valid = g.T.Naming.valid in
     let d = deal_of (of_type g.T.Naming g.T.TxType) g.B.Body a in
     let v = g.C.Cells.view c.args.cells.now in
@@ -80,16 +80,16 @@ returns-then-word-width-clause-advances g c =
     let passes = g.C.Cells.passes c.args.cells.now in
     let x = c.word-value.result in
     let tells : Tells valid passes (Word (task d n) i) v 0 x w = subst (λ (q : ℕ). Tells valid passes (Word q i) v 0 x w) (sym at) c.word-value.ensures.tells in
-    let loads = c.push_spare.new.self in
+    let loaded_words = c.push_spare.new.self in
     let fit : FitsSigned w64 x = search rules in
-    let pushed : loads.items ≡ a.loads.items ++ record { part = p; word = i; value = x } ∷ [] = ap (λ (l : Listed Loaded). l.items) c.push_spare.ensures ∙ ap (λ (y : ℤ). a.loads.items ++ record { part = p; word = i; value = y } ∷ []) (to_z-of_z w64 x fit) in
-    let items : loads.items ≡ a.loads.items ++ record { part = task d n; word = i; value = x } ∷ [] = pushed ∙ ap (λ (q : ℕ). a.loads.items ++ record { part = q; word = i; value = x } ∷ []) (sym at) in
-    let it = load_goes d law n i a.finds a.loads.items v h w _ _ x tells (i + 1) (omega arith) (omega (arith, c.if-word-width.true, width)) in
+    let pushed : loaded_words.items ≡ a.loaded_words.items ++ record { part = p; word = i; value = x } ∷ [] = ap (λ (l : Listed LoadedWord). l.items) c.push_spare.ensures ∙ ap (λ (y : ℤ). a.loaded_words.items ++ record { part = p; word = i; value = y } ∷ []) (to_z-of_z w64 x fit) in
+    let items : loaded_words.items ≡ a.loaded_words.items ++ record { part = task d n; word = i; value = x } ∷ [] = pushed ∙ ap (λ (q : ℕ). a.loaded_words.items ++ record { part = q; word = i; value = x } ∷ []) (sym at) in
+    let it = load_goes d law n i a.found_tickets a.loaded_words.items v h w _ _ x tells (i + 1) (omega arith) (omega (arith, c.if-word-width.true, width)) in
     let k = c.args.place in
     record {
       event = search rules;
-      said = subst (λ (l : List Loaded). IsLoadingWord d n (i + 1) a.finds l w) (sym items) it;
-      space = space_more m.widths a.tasks.items n i a.loads c.requires.space h.below h.within _ loads c.push_spare.ensures (i + 1) (omega arith);
+      said = subst (λ (l : List LoadedWord). IsLoadingWord d n (i + 1) a.found_tickets l w) (sym items) it;
+      space = space_more m.widths a.tasks.items n i a.loaded_words c.requires.space h.below h.within _ loaded_words c.push_spare.ensures (i + 1) (omega arith);
       left = load_lowers d k c.args.word h.below h.within (c.args.word + 1) (omega arith);
       reason = λ y e. absurd e;
       alone = λ one quiet. record { early = quiet.early; unaborted = λ y e. absurd e };
@@ -100,8 +100,8 @@ returns-then-word-width-clause-advances g c =
 pub returns-then-all_so-clause-advances : goal.returns-then-all_so-clause-advances
 returns-then-all_so-clause-advances g c =
     let a = c.args.self.now in
-    let m = g.T.TxType.meaning a.course.ty.now in
-    let law = g.met.T.TxType.lawful a.course.ty.now in
+    let m = g.T.TxType.meaning a.log.ty.now in
+    let law = g.met.T.TxType.lawful a.log.ty.now in
     let valid = g.T.Naming.valid in
     let d = deal_of (of_type g.T.Naming g.T.TxType) g.B.Body a in
     let v = g.C.Cells.view c.args.cells.now in
@@ -115,21 +115,21 @@ returns-then-all_so-clause-advances g c =
     let passes = g.C.Cells.passes c.args.cells.now in
     let x = c.word-value.result in
     let tells : Tells valid passes (Word (task d n) i) v 0 x w = subst (λ (q : ℕ). Tells valid passes (Word q i) v 0 x w) (sym at) c.word-value.ensures.tells in
-    let loads = c.push_spare.new.self in
+    let loaded_words = c.push_spare.new.self in
     let fit : FitsSigned w64 x = search rules in
-    let pushed : loads.items ≡ a.loads.items ++ record { part = p; word = i; value = x } ∷ [] = ap (λ (l : Listed Loaded). l.items) c.push_spare.ensures ∙ ap (λ (y : ℤ). a.loads.items ++ record { part = p; word = i; value = y } ∷ []) (to_z-of_z w64 x fit) in
-    let items : loads.items ≡ a.loads.items ++ record { part = task d n; word = i; value = x } ∷ [] = pushed ∙ ap (λ (q : ℕ). a.loads.items ++ record { part = q; word = i; value = x } ∷ []) (sym at) in
-    let more : List Loaded = a.loads.items ++ record { part = task d n; word = i; value = x } ∷ [] in
+    let pushed : loaded_words.items ≡ a.loaded_words.items ++ record { part = p; word = i; value = x } ∷ [] = ap (λ (l : Listed LoadedWord). l.items) c.push_spare.ensures ∙ ap (λ (y : ℤ). a.loaded_words.items ++ record { part = p; word = i; value = y } ∷ []) (to_z-of_z w64 x fit) in
+    let items : loaded_words.items ≡ a.loaded_words.items ++ record { part = task d n; word = i; value = x } ∷ [] = pushed ∙ ap (λ (q : ℕ). a.loaded_words.items ++ record { part = q; word = i; value = x } ∷ []) (sym at) in
+    let more : List LoadedWord = a.loaded_words.items ++ record { part = task d n; word = i; value = x } ∷ [] in
     let last : suc i ≡ slice_index_or m.widths (slice_index_or a.tasks.items n 0) 0 = omega (arith, h.within, width, c.if-word-width.false) in
-    let wide : width_in v (task d n) ≡ slice_index_or m.widths (task d n) 0 = task_wide d law n i a.finds a.loads.items v h in
-    let good : list_all (is_so (task d n) more) a.course.set.items ≡ true = so_of p (task d n) at loads.items more items a.course.set.items c.all_so.result c.all_so.ensures true c.if-all_so.true in
-    let all = all_true m.widths more v (task d n) wide a.course.set.items h.loading.going.sealed.course.inside good in
-    let it = load_done d law n i a.finds a.loads.items v h w _ _ x tells last all (n + 1) (omega arith) in
+    let wide : width_in v (task d n) ≡ slice_index_or m.widths (task d n) 0 = task_wide d law n i a.found_tickets a.loaded_words.items v h in
+    let good : list_all (is_so (task d n) more) a.log.set.items ≡ true = so_of p (task d n) at loaded_words.items more items a.log.set.items c.all_so.result c.all_so.ensures true c.if-all_so.true in
+    let all = all_true m.widths more v (task d n) wide a.log.set.items h.loading.going.sealed.log.inside good in
+    let it = load_done d law n i a.found_tickets a.loaded_words.items v h w _ _ x tells last all (n + 1) (omega arith) in
     let k = c.args.place in
     record {
       event = search rules;
-      said = subst (λ (l : List Loaded). Stands d a.finds l c.aim-self.result w) (sym items) (aimed d (n + 1) a.finds more w it c.aim-self.result c.aim-self.ensures);
-      space = space_aimed m.widths a.tasks.items n i a.loads c.requires.space h.below h.within _ c.push_spare.new.self c.push_spare.ensures a.updates.items (n + 1) (omega arith) (omega (arith, width, c.if-word-width.false)) c.aim-self.result c.aim-self.ensures;
+      said = subst (λ (l : List LoadedWord). Stands d a.found_tickets l c.aim-self.result w) (sym items) (aimed d (n + 1) a.found_tickets more w it c.aim-self.result c.aim-self.ensures);
+      space = space_aimed m.widths a.tasks.items n i a.loaded_words c.requires.space h.below h.within _ c.push_spare.new.self c.push_spare.ensures a.updates.items (n + 1) (omega arith) (omega (arith, width, c.if-word-width.false)) c.aim-self.result c.aim-self.ensures;
       left = loaded_lowers d k c.args.word h.below h.within (k + 1) (omega arith) c.aim-self.result c.aim-self.ensures;
       reason = λ y e. absurd (aimed_on a.updates.items a.tasks.items (n + 1) c.aim-self.result c.aim-self.ensures y e);
       alone = λ one quiet. record { early = quiet.early; unaborted = λ y e. absurd (aimed_on a.updates.items a.tasks.items (n + 1) c.aim-self.result c.aim-self.ensures y e) };
@@ -140,8 +140,8 @@ returns-then-all_so-clause-advances g c =
 pub returns-clause-advances : goal.returns-clause-advances
 returns-clause-advances g c =
     let a = c.args.self.now in
-    let m = g.T.TxType.meaning a.course.ty.now in
-    let law = g.met.T.TxType.lawful a.course.ty.now in
+    let m = g.T.TxType.meaning a.log.ty.now in
+    let law = g.met.T.TxType.lawful a.log.ty.now in
     let valid = g.T.Naming.valid in
     let d = deal_of (of_type g.T.Naming g.T.TxType) g.B.Body a in
     let v = g.C.Cells.view c.args.cells.now in
@@ -155,25 +155,25 @@ returns-clause-advances g c =
     let passes = g.C.Cells.passes c.args.cells.now in
     let x = c.word-value.result in
     let tells : Tells valid passes (Word (task d n) i) v 0 x w = subst (λ (q : ℕ). Tells valid passes (Word q i) v 0 x w) (sym at) c.word-value.ensures.tells in
-    let loads = c.push_spare.new.self in
+    let loaded_words = c.push_spare.new.self in
     let fit : FitsSigned w64 x = search rules in
-    let pushed : loads.items ≡ a.loads.items ++ record { part = p; word = i; value = x } ∷ [] = ap (λ (l : Listed Loaded). l.items) c.push_spare.ensures ∙ ap (λ (y : ℤ). a.loads.items ++ record { part = p; word = i; value = y } ∷ []) (to_z-of_z w64 x fit) in
-    let items : loads.items ≡ a.loads.items ++ record { part = task d n; word = i; value = x } ∷ [] = pushed ∙ ap (λ (q : ℕ). a.loads.items ++ record { part = q; word = i; value = x } ∷ []) (sym at) in
-    let more : List Loaded = a.loads.items ++ record { part = task d n; word = i; value = x } ∷ [] in
+    let pushed : loaded_words.items ≡ a.loaded_words.items ++ record { part = p; word = i; value = x } ∷ [] = ap (λ (l : Listed LoadedWord). l.items) c.push_spare.ensures ∙ ap (λ (y : ℤ). a.loaded_words.items ++ record { part = p; word = i; value = y } ∷ []) (to_z-of_z w64 x fit) in
+    let items : loaded_words.items ≡ a.loaded_words.items ++ record { part = task d n; word = i; value = x } ∷ [] = pushed ∙ ap (λ (q : ℕ). a.loaded_words.items ++ record { part = q; word = i; value = x } ∷ []) (sym at) in
+    let more : List LoadedWord = a.loaded_words.items ++ record { part = task d n; word = i; value = x } ∷ [] in
     let last : suc i ≡ slice_index_or m.widths (slice_index_or a.tasks.items n 0) 0 = omega (arith, h.within, width, c.if-word-width.false) in
-    let wide : width_in v (task d n) ≡ slice_index_or m.widths (task d n) 0 = task_wide d law n i a.finds a.loads.items v h in
-    let bad : list_all (is_so (task d n) more) a.course.set.items ≡ false = so_of p (task d n) at loads.items more items a.course.set.items c.all_so.result c.all_so.ensures false c.if-all_so.false in
-    let f = one_fails m.widths more v (task d n) wide a.course.set.items h.loading.going.sealed.course.inside bad in
-    let here : (y : Parts) → valid v.sizes y → m.valid y = λ y k. (g.met.T.TxType.valid_is a.course.ty.now y).1 (subst (λ (l : List ℕ). valid l y) h.loading.going.sealed.own.same_sizes k) in
-    let it = load_fails d law n i a.finds a.loads.items v h w _ _ x tells last here f.pred f.there f.on f.fails in
-    let ticket : ticket_from 0 a.finds.items (task d n) ≡ c.ticket-ticket.result = ap (ticket_from 0 a.finds.items) at ∙ sym c.ticket-ticket.ensures in
+    let wide : width_in v (task d n) ≡ slice_index_or m.widths (task d n) 0 = task_wide d law n i a.found_tickets a.loaded_words.items v h in
+    let bad : list_all (is_so (task d n) more) a.log.set.items ≡ false = so_of p (task d n) at loaded_words.items more items a.log.set.items c.all_so.result c.all_so.ensures false c.if-all_so.false in
+    let f = one_fails m.widths more v (task d n) wide a.log.set.items h.loading.going.sealed.log.inside bad in
+    let here : (y : Parts) → valid v.sizes y → m.valid y = λ y k. (g.met.T.TxType.valid_is a.log.ty.now y).1 (subst (λ (l : List ℕ). valid l y) h.loading.going.sealed.own.same_sizes k) in
+    let it = load_fails d law n i a.found_tickets a.loaded_words.items v h w _ _ x tells last here f.pred f.there f.on f.fails in
+    let ticket : ticket_from 0 a.found_tickets.items (task d n) ≡ c.ticket-ticket.result = ap (ticket_from 0 a.found_tickets.items) at ∙ sym c.ticket-ticket.ensures in
     record {
       event = search rules;
-      said = leaving_as d (length a.updates.items) c.len.result c.len.ensures (task d n) p at (ticket_from 0 a.finds.items (task d n)) c.ticket-ticket.result ticket w it;
+      said = leaving_as d (length a.updates.items) c.len.result c.len.ensures (task d n) p at (ticket_from 0 a.found_tickets.items (task d n)) c.ticket-ticket.result ticket w it;
       space = search rules;
       left = fail_lowers d c.len.result c.len.ensures _;
-      reason = λ y e. inr (subst (λ z. HasReason a.course.set.items w z) e (inr (inl (subst (λ (q : ℕ). IsByPredicate a.course.set.items w q c.ticket-ticket.result) at (subst (λ (k : ℕ). IsByPredicate a.course.set.items w (task d n) k) ticket (load_reason d law n i a.finds a.loads.items v h w _ _ x tells last here f.pred f.there f.on f.fails))))));
-      alone = λ one quiet. let early = early_ticket a.at a.finds.items (task d n) 0 (omega arith) quiet.early in absurd (omega (arith, it.ends.1.later, early));
+      reason = λ y e. inr (subst (λ z. HasReason a.log.set.items w z) e (inr (inl (subst (λ (q : ℕ). IsByPredicate a.log.set.items w q c.ticket-ticket.result) at (subst (λ (k : ℕ). IsByPredicate a.log.set.items w (task d n) k) ticket (load_reason d law n i a.found_tickets a.loaded_words.items v h w _ _ x tells last here f.pred f.there f.on f.fails))))));
+      alone = λ one quiet. let early = early_ticket a.at a.found_tickets.items (task d n) 0 (omega arith) quiet.early in absurd (omega (arith, it.ends.1.later, early));
       by = search rules;
       kept = refl;
     }

@@ -1,10 +1,10 @@
 use Rattle.std.proofs.Common.{◌≡◌, ◌+◌, ◌∙◌, ℤ, [], ◌∷◌, ◌++◌, refl, arith, rules, FitsSigned, w64, to_z, of_z}
 use Rattle.std.proofs.lemmas.Int.{to_z-of_z}
-use Rattle.sto_course.proofs.Installing.{put_is, may_put, put_goes}
-use Rattle.sto_course.proofs.Aiming.{puts_next}
-use Rattle.sto_course.proofs.Remaining.{put_lowers}
-use Rattle.sto_course.proofs.Space.{space_puts}
-use Rattle.sto_course.proofs.Undisturbed.{puts_on}
+use Rattle.sto_attempt_log.proofs.Installing.{put_is, may_put, put_goes}
+use Rattle.sto_attempt_log.proofs.Aiming.{puts_next}
+use Rattle.sto_attempt_log.proofs.Remaining.{put_lowers}
+use Rattle.sto_attempt_log.proofs.Space.{space_puts}
+use Rattle.sto_attempt_log.proofs.Undisturbed.{puts_on}
 use Rattle.sto_type.specs.Traits.{of_type}
 use Rattle.sto_attempt.specs.Commits.{deal_of}
 use Rattle.sto_attempt.proofs.ready.Ready.put.Goals as goal
@@ -12,7 +12,7 @@ use Rattle.sto_attempt.proofs.ready.Ready.put.Goals as goal
 pub put-requires : goal.put-requires
 put-requires g c =
     let a = c.args.self.now in
-    let law = g.met.T.TxType.lawful a.course.ty.now in
+    let law = g.met.T.TxType.lawful a.log.ty.now in
     let d = deal_of (of_type g.T.Naming g.T.TxType) g.B.Body a in
     let v = g.C.Cells.view c.args.cells.now in
     let puts = c.requires.stands.1.0 in
@@ -24,8 +24,8 @@ put-requires g c =
     let old_fit : FitsSigned w64 c.value.result = search rules in
     let old : ℤ = to_z w64 (of_z w64 c.value.result) in
     let old_same : to_z w64 (of_z w64 c.value.result) ≡ c.value.result = to_z-of_z w64 c.value.result old_fit in
-    let is = put_is d law c.args.place 0 c.args.ticket puts a.loads.items v h y c.get.ensures a.course.set.updates c.requires.copy c.pending-change.result c.pending-change.ensures.change old (old_same ∙ c.value.ensures) value (same ∙ c.install-value.ensures) in
-    may_put d law c.args.place 0 c.args.ticket puts a.loads.items v h refl y c.get.ensures value is
+    let is = put_is d law c.args.place 0 c.args.ticket puts a.loaded_words.items v h y c.get.ensures a.log.set.updates c.requires.copy c.pending-change.result c.pending-change.ensures.change old (old_same ∙ c.value.ensures) value (same ∙ c.install-value.ensures) in
+    may_put d law c.args.place 0 c.args.ticket puts a.loaded_words.items v h refl y c.get.ensures value is
 
 pub overflow_add-place : goal.overflow_add-place
 overflow_add-place g c =
@@ -34,7 +34,7 @@ overflow_add-place g c =
 pub returns-clause-advances : goal.returns-clause-advances
 returns-clause-advances g c =
     let a = c.args.self.now in
-    let law = g.met.T.TxType.lawful a.course.ty.now in
+    let law = g.met.T.TxType.lawful a.log.ty.now in
     let d = deal_of (of_type g.T.Naming g.T.TxType) g.B.Body a in
     let v = g.C.Cells.view c.args.cells.now in
     let puts = c.requires.stands.1.0 in
@@ -51,10 +51,10 @@ returns-clause-advances g c =
       event = search rules;
       said =
           let h = c.requires.stands.1.1 in
-          let is = put_is d law c.args.place 0 c.args.ticket puts a.loads.items v h y c.get.ensures a.course.set.updates c.requires.copy c.pending-change.result c.pending-change.ensures.change old (old_same ∙ c.value.ensures) value (same ∙ c.install-value.ensures) in
-          let it = put_goes d law c.args.place 0 c.args.ticket puts a.loads.items v h refl y c.get.ensures value is w _ _ _ c.put.ensures.tells (c.args.place + 1) (omega arith) in
-          puts_next d (c.args.place + 1) c.args.ticket (puts ++ (y.0, y.1) ∷ []) a.finds a.loads.items w it it.sealed.some c.next_put-self.result c.next_put-self.ensures;
-      space = space_puts (g.T.TxType.meaning c.args.self.now.course.ty.now).widths c.args.self.now.tasks.items c.args.self.now.loads c.args.self.now.places.items (c.args.place + 1) c.args.ticket c.next_put-self.result c.next_put-self.ensures;
+          let is = put_is d law c.args.place 0 c.args.ticket puts a.loaded_words.items v h y c.get.ensures a.log.set.updates c.requires.copy c.pending-change.result c.pending-change.ensures.change old (old_same ∙ c.value.ensures) value (same ∙ c.install-value.ensures) in
+          let it = put_goes d law c.args.place 0 c.args.ticket puts a.loaded_words.items v h refl y c.get.ensures value is w _ _ _ c.put.ensures.tells (c.args.place + 1) (omega arith) in
+          puts_next d (c.args.place + 1) c.args.ticket (puts ++ (y.0, y.1) ∷ []) a.found_tickets a.loaded_words.items w it it.sealed.some c.next_put-self.result c.next_put-self.ensures;
+      space = space_puts (g.T.TxType.meaning c.args.self.now.log.ty.now).widths c.args.self.now.tasks.items c.args.self.now.loaded_words c.args.self.now.places.items (c.args.place + 1) c.args.ticket c.next_put-self.result c.next_put-self.ensures;
       left =
           let h = c.requires.stands in
           put_lowers d k c.args.ticket h.0 (k + 1) (omega arith) c.next_put-self.result c.next_put-self.ensures;

@@ -1,10 +1,10 @@
 use Rattle.std.proofs.Common.{length, inr, ◌+◌, ℕ, List, refl, subst, arith, rules}
 use Rattle.sto_item.specs.Pending.{plain}
 use Rattle.sto_type.specs.Known.{Parts}
-use Rattle.sto_course.proofs.Installing.{may_release, release_goes, release_last}
-use Rattle.sto_course.proofs.Remaining.{release_ends, release_lowers}
-use Rattle.sto_course.specs.Verdicts.{HasReason, IsWrote}
-use Rattle.sto_course.proofs.Aiming.{release_by}
+use Rattle.sto_attempt_log.proofs.Installing.{may_release, release_goes, release_last}
+use Rattle.sto_attempt_log.proofs.Remaining.{release_ends, release_lowers}
+use Rattle.sto_attempt_log.specs.Verdicts.{HasReason, IsWrote}
+use Rattle.sto_attempt_log.proofs.Aiming.{release_by}
 use Rattle.sto_type.specs.Traits.{of_type}
 use Rattle.sto_attempt.specs.Commits.{deal_of}
 use Rattle.sto_attempt.proofs.ready.Ready.release.Goals as goal
@@ -12,19 +12,19 @@ use Rattle.sto_attempt.proofs.ready.Ready.release.Goals as goal
 pub release-requires : goal.release-requires
 release-requires g c =
     let a = c.args.self.now in
-    let law = g.met.T.TxType.lawful a.course.ty.now in
+    let law = g.met.T.TxType.lawful a.log.ty.now in
     let d = deal_of (of_type g.T.Naming g.T.TxType) g.B.Body a in
     let v = g.C.Cells.view c.args.cells.now in
-    may_release d law _ c.args.place c.args.ticket c.requires.stands.1.0 a.loads.items v c.requires.stands.1.1 (plain c.get.result.now) c.get.ensures refl
+    may_release d law _ c.args.place c.args.ticket c.requires.stands.1.0 a.loaded_words.items v c.requires.stands.1.1 (plain c.get.result.now) c.get.ensures refl
 
 pub returns-then-next-len-clause-advances : goal.returns-then-next-len-clause-advances
 returns-then-next-len-clause-advances g c =
     let a = c.args.self.now in
-    let law = g.met.T.TxType.lawful a.course.ty.now in
+    let law = g.met.T.TxType.lawful a.log.ty.now in
     let d = deal_of (of_type g.T.Naming g.T.TxType) g.B.Body a in
     let v = g.C.Cells.view c.args.cells.now in
     let w = g.C.Cells.view c.release.new.self in
-    let it = release_goes d law _ c.args.place c.args.ticket c.requires.stands.1.0 a.loads.items v c.requires.stands.1.1 (plain c.get.result.now) c.get.ensures refl w _ _ _ c.release.ensures.tells (c.args.place + 1) (omega arith) (omega (arith, c.if-next-len.true, c.len.ensures)) in
+    let it = release_goes d law _ c.args.place c.args.ticket c.requires.stands.1.0 a.loaded_words.items v c.requires.stands.1.1 (plain c.get.result.now) c.get.ensures refl w _ _ _ c.release.ensures.tells (c.args.place + 1) (omega arith) (omega (arith, c.if-next-len.true, c.len.ensures)) in
     let h = c.requires.stands in
     let k = c.args.place in
     record {
@@ -41,14 +41,14 @@ returns-then-next-len-clause-advances g c =
 pub returns-clause-advances : goal.returns-clause-advances
 returns-clause-advances g c =
     let a = c.args.self.now in
-    let m = g.T.TxType.meaning a.course.ty.now in
-    let law = g.met.T.TxType.lawful a.course.ty.now in
+    let m = g.T.TxType.meaning a.log.ty.now in
+    let law = g.met.T.TxType.lawful a.log.ty.now in
     let valid = g.T.Naming.valid in
     let d = deal_of (of_type g.T.Naming g.T.TxType) g.B.Body a in
     let v = g.C.Cells.view c.args.cells.now in
     let w = g.C.Cells.view c.release.new.self in
-    let here : (x : Parts) → valid v.sizes x → m.valid x = λ x h. (g.met.T.TxType.valid_is a.course.ty.now x).1 (subst (λ (l : List ℕ). valid l x) c.requires.stands.1.1.sealed.own.same_sizes h) in
-    let r = release_last d law _ c.args.place c.args.ticket c.requires.stands.1.0 a.loads.items v c.requires.stands.1.1 (plain c.get.result.now) c.get.ensures refl w _ _ _ c.release.ensures.tells here (omega (arith, c.if-next-len.false, c.len.ensures)) in
+    let here : (x : Parts) → valid v.sizes x → m.valid x = λ x h. (g.met.T.TxType.valid_is a.log.ty.now x).1 (subst (λ (l : List ℕ). valid l x) c.requires.stands.1.1.sealed.own.same_sizes h) in
+    let r = release_last d law _ c.args.place c.args.ticket c.requires.stands.1.0 a.loaded_words.items v c.requires.stands.1.1 (plain c.get.result.now) c.get.ensures refl w _ _ _ c.release.ensures.tells here (omega (arith, c.if-next-len.false, c.len.ensures)) in
     let h = c.requires.stands in
     let k = c.args.place in
     record {
@@ -56,8 +56,8 @@ returns-clause-advances g c =
       said = (refl, r.0, r.1, r.2);
       space = search rules;
       left = release_ends d k c.args.ticket h.0;
-      reason = λ y e. inr (subst (λ z. HasReason a.course.set.items w z) e tt);
+      reason = λ y e. inr (subst (λ z. HasReason a.log.set.items w z) e tt);
       alone = λ one quiet. record { early = quiet.early; unaborted = λ y e. subst IsWrote e tt };
-      by = release_by d (length a.places.items) c.args.place c.args.ticket c.requires.stands.1.0 a.loads.items v c.requires.stands.1.1;
+      by = release_by d (length a.places.items) c.args.place c.args.ticket c.requires.stands.1.0 a.loaded_words.items v c.requires.stands.1.1;
       kept = refl;
     }

@@ -8,14 +8,14 @@ use Rattle.sto_core.specs.Allowed.{HasPart}
 use Rattle.sto_core.specs.declared.view.Phase.TheVariants as P
 use Rattle.sto_core.specs.Versions.{is_free}
 use Rattle.sto_core.proofs.Lists.{locked_is, unlocked_is}
-use Rattle.sto_course.specs.declared.stage.Found.{Found}
-use Rattle.sto_course.specs.declared.verdict.Verdict.TheVariants.{Locked}
-use Rattle.sto_course.specs.Stages.{task, IsLeaving}
-use Rattle.sto_course.proofs.Unheld.{may_test, test_leaves, test_goes}
-use Rattle.sto_course.proofs.Remaining.{fail_lowers, test_lowers}
-use Rattle.sto_course.proofs.Undisturbed.{early_more, not_busy}
-use Rattle.sto_course.proofs.Unheld.{test_unheld}
-use Rattle.sto_course.specs.Verdicts.{HasReason}
+use Rattle.sto_attempt_log.specs.declared.commit_phase.FoundTicket.{FoundTicket}
+use Rattle.sto_attempt_log.specs.declared.verdict.Verdict.TheVariants.{Locked}
+use Rattle.sto_attempt_log.specs.Stages.{task, IsLeaving}
+use Rattle.sto_attempt_log.proofs.Unheld.{may_test, test_leaves, test_goes}
+use Rattle.sto_attempt_log.proofs.Remaining.{fail_lowers, test_lowers}
+use Rattle.sto_attempt_log.proofs.Undisturbed.{early_more, not_busy}
+use Rattle.sto_attempt_log.proofs.Unheld.{test_unheld}
+use Rattle.sto_attempt_log.specs.Verdicts.{HasReason}
 use Rattle.sto_type.specs.Traits.{of_type}
 use Rattle.sto_attempt.specs.Commits.{deal_of}
 use Rattle.sto_attempt.proofs.ready.Ready.test.Goals as goal
@@ -24,18 +24,18 @@ pub test-found-requires : goal.test-found-requires
 test-found-requires g c =
     let a = c.args.self.now in
     let d = deal_of (of_type g.T.Naming g.T.TxType) g.B.Body a in
-    let law = g.met.T.TxType.lawful a.course.ty.now in
+    let law = g.met.T.TxType.lawful a.log.ty.now in
     let v = g.C.Cells.view c.args.cells.now in
     let n = c.args.place in
     let p = c.get-part.result.now in
     let at : slice_index_or a.tasks.items n 0 ≡ p = get_or_from_slice_get a.tasks.items n p 0 c.get-part.ensures in
-    subst (λ (q : ℕ). (v.phase ≡ P.Locking) × HasPart v q × (holds q v.held ≡ false)) at (may_test d law n a.finds a.loads.items v c.requires.stands)
+    subst (λ (q : ℕ). (v.phase ≡ P.Locking) × HasPart v q × (holds q v.held ≡ false)) at (may_test d law n a.found_tickets a.loaded_words.items v c.requires.stands)
 
 pub returns-then-is_locked-clause-advances : goal.returns-then-is_locked-clause-advances
 returns-then-is_locked-clause-advances g c =
     let a = c.args.self.now in
     let d = deal_of (of_type g.T.Naming g.T.TxType) g.B.Body a in
-    let law = g.met.T.TxType.lawful a.course.ty.now in
+    let law = g.met.T.TxType.lawful a.log.ty.now in
     let v = g.C.Cells.view c.args.cells.now in
     let w = g.C.Cells.view c.test-found.new.self in
     let passes = g.C.Cells.passes c.args.cells.now in
@@ -45,14 +45,14 @@ returns-then-is_locked-clause-advances g c =
     let at : slice_index_or a.tasks.items n 0 ≡ p = get_or_from_slice_get a.tasks.items n p 0 c.get-part.ensures in
     let tells : Tells g.T.Naming.valid passes (Test (task d n)) v m _ w = subst (λ (q : ℕ). Tells g.T.Naming.valid passes (Test q) v m _ w) (sym at) c.test-found.ensures.tells in
     let busy : is_free m ≡ false = unlocked_is (is_free m) (sym c.is_locked.ensures ∙ c.if-is_locked.true) in
-    let it = test_leaves d law n a.finds a.loads.items v c.requires.stands w _ m _ tells busy in
+    let it = test_leaves d law n a.found_tickets a.loaded_words.items v c.requires.stands w _ m _ tells busy in
     record {
       event = search rules;
       said = subst (λ (q : ℕ). IsLeaving d 0 c.len.result (Locked a.at q) w) at (subst (λ (k : ℕ). IsLeaving d 0 k (Locked a.at (task d n)) w) (sym c.len.ensures) it);
       space = search rules;
       left = fail_lowers d c.len.result c.len.ensures _;
-      reason = λ y e. inr (subst (λ z. HasReason a.course.set.items w z) e tt);
-      alone = λ one quiet. absurd (not_busy v (task d n) m (tells.learns.alone one) (test_unheld d law n a.finds a.loads.items v c.requires.stands) busy);
+      reason = λ y e. inr (subst (λ z. HasReason a.log.set.items w z) e tt);
+      alone = λ one quiet. absurd (not_busy v (task d n) m (tells.learns.alone one) (test_unheld d law n a.found_tickets a.loaded_words.items v c.requires.stands) busy);
       by = search rules;
       kept = refl;
     }
@@ -61,7 +61,7 @@ pub returns-clause-advances : goal.returns-clause-advances
 returns-clause-advances g c =
     let a = c.args.self.now in
     let d = deal_of (of_type g.T.Naming g.T.TxType) g.B.Body a in
-    let law = g.met.T.TxType.lawful a.course.ty.now in
+    let law = g.met.T.TxType.lawful a.log.ty.now in
     let v = g.C.Cells.view c.args.cells.now in
     let w = g.C.Cells.view c.test-found.new.self in
     let passes = g.C.Cells.passes c.args.cells.now in
@@ -71,17 +71,17 @@ returns-clause-advances g c =
     let at : slice_index_or a.tasks.items n 0 ≡ p = get_or_from_slice_get a.tasks.items n p 0 c.get-part.ensures in
     let tells : Tells g.T.Naming.valid passes (Test (task d n)) v m _ w = subst (λ (q : ℕ). Tells g.T.Naming.valid passes (Test q) v m _ w) (sym at) c.test-found.ensures.tells in
     let free : is_free m ≡ true = locked_is (is_free m) (sym c.is_locked.ensures ∙ c.if-is_locked.false) in
-    let pushed : c.push_spare.new.self ≡ record { items = a.finds.items ++ record { part = task d n; ticket = c.ticket-ticket.result } ∷ []; spare = a.finds.spare - 1 } =
-    c.push_spare.ensures ∙ ap (λ (q : ℕ). record { items = a.finds.items ++ record { part = q; ticket = c.ticket-ticket.result } ∷ []; spare = a.finds.spare - 1 }) (sym at) in
+    let pushed : c.push_spare.new.self ≡ record { items = a.found_tickets.items ++ record { part = task d n; ticket = c.ticket-ticket.result } ∷ []; spare = a.found_tickets.spare - 1 } =
+    c.push_spare.ensures ∙ ap (λ (q : ℕ). record { items = a.found_tickets.items ++ record { part = q; ticket = c.ticket-ticket.result } ∷ []; spare = a.found_tickets.spare - 1 }) (sym at) in
     let h = c.requires.stands in
     let k = c.args.place in
     record {
       event = search rules;
-      said = test_goes d law n a.finds a.loads.items v c.requires.stands w _ m _ tells free c.ticket-ticket.result c.ticket-ticket.ensures.ticket c.push_spare.new.self pushed;
+      said = test_goes d law n a.found_tickets a.loaded_words.items v c.requires.stands w _ m _ tells free c.ticket-ticket.result c.ticket-ticket.ensures.ticket c.push_spare.new.self pushed;
       space = search rules;
       left = test_lowers d k 0 h.below c.ticket-ticket.result;
       reason = λ y e. absurd e;
-      alone = λ one quiet. record { early = early_more a.at a.finds c.push_spare.new.self (record { part = task d n; ticket = c.ticket-ticket.result }) (ap (λ (l : Listed Found). l.items) pushed) quiet.early (omega (arith, (tells.learns.alone one).1, c.ticket-ticket.ensures.ticket, c.requires.stands.loading.going.sealed.number)); unaborted = λ y e. absurd e };
+      alone = λ one quiet. record { early = early_more a.at a.found_tickets c.push_spare.new.self (record { part = task d n; ticket = c.ticket-ticket.result }) (ap (λ (l : Listed FoundTicket). l.items) pushed) quiet.early (omega (arith, (tells.learns.alone one).1, c.ticket-ticket.ensures.ticket, c.requires.stands.loading.going.sealed.number)); unaborted = λ y e. absurd e };
       by = search rules;
       kept = refl;
     }

@@ -1,9 +1,9 @@
 use Rattle.std.proofs.Common.{Option, ap, sym, ◌∙◌}
 use Rattle.std.specs.Option.{option_map_or}
-use Rattle.sto_form.specs.Lines.{lines_of}
-use Rattle.sto_form.specs.Views.{form}
+use Rattle.sto_syntax.specs.Lines.{lines_of}
+use Rattle.sto_syntax.specs.Views.{form}
 use Rattle.sto_lang.specs.DraftViews.{draft_of}
-use Rattle.sto_lang.specs.declared.objects.Known.{Known}
+use Rattle.sto_lang.specs.declared.objects.KnownObject.{KnownObject}
 use Rattle.sto_lang.proofs.FaultLemmas.{no_fault}
 use Rattle.sto_lang.proofs.AskedLemmas.{number_asked}
 use Rattle.sto_lang.proofs.draft.Draft.add_line.Goals as goal
@@ -24,5 +24,5 @@ add_form-requires-clause-within c =
 pub add_form-requires-clause-asked : goal.add_form-requires-clause-asked
 add_form-requires-clause-asked c =
     c.number_of.ensures
-    ∙ ap (λ (o : Option Known). option_map_or (λ (k : Known). k.number) o 0) c.asked-asked.ensures
+    ∙ ap (λ (o : Option KnownObject). option_map_or (λ (k : KnownObject). k.number) o 0) c.asked-asked.ensures
     ∙ number_asked (draft_of c.args.self.now) (form c.in-Some-form_of.form)

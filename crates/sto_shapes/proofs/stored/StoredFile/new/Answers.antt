@@ -8,7 +8,7 @@ use Rattle.sto_lang.specs.Views.{file as view}
 use Rattle.sto_store.specs.Stores.{AreFit, AreKinds, means}
 use Rattle.sto_store.specs.StoresLaw.{means_is}
 use Rattle.sto_type.specs.Meaning.{IsLawful}
-use Rattle.sto_records.specs.Meanings.{IsTypeOf}
+use Rattle.sto_serializability.specs.Meanings.{IsTypeOf}
 use Rattle.sto_shapes.proofs.Fitting.{sound_fit, parts_fit}
 use Rattle.sto_shapes.proofs.Sound.{sound_in_order, sound_runnable, is_type_of}
 use Rattle.sto_shapes.proofs.stored.StoredFile.new.Goals as goal

@@ -1,0 +1,91 @@
+-- The grammar of the words: which commands there are, and what each takes.
+use Rattle.std.specs.Prelude.{ℕ, ◌≤◌, List, [], ◌∷◌, ◌&&◌, true, false, is_some, Option, None, Some, codes, map, String, string_bytes, nat_le, nat_lt, decimal, ◌^◌, if◌then◌else◌}
+use Rattle.std.specs.Option.{option_map, option_and_then}
+use Rattle.std.specs.Str.{bytes_eq}
+use Rattle.std.specs.Str.Parse.{digits_value}
+use Rattle.std.specs.List.{list_any}
+use Rattle.sto_args.specs.Given.{Text, Takes, Given, value_of, number_name, given_by, as_option, gives_flag}
+use Rattle.sto_args.specs.declared.command.Command.{Command}
+use Rattle.sto_args.specs.declared.command.Command.TheVariants.{Run, Step, Upgrade, Gen, Bench}
+
+-- the number of 64 bits that a text is: decimal digits without a sign, and no leading zero unless it is 0 alone
+abbrev pub decimal_of : Text → Option ℕ
+decimal_of text = let n = digits_value 10 text in if bytes_eq (decimal n) text && nat_lt n (2 ^ 64) then Some n else None
+
+-- a number from low to high
+abbrev pub number_in : ℕ → ℕ → Text → Option ℕ
+number_in low high text = option_and_then (λ n. if nat_le low n && nat_le n high then Some n else None) (decimal_of text)
+
+-- `run [--threads N] [--tries N] [--json]`
+abbrev pub run_takes : Takes
+run_takes = record { options = codes "threads" ∷ codes "tries" ∷ codes "json" ∷ []; number = false }
+
+-- 1 to 16 threads; none where the script is to say
+abbrev pub threads_of : Option Text → Option (Option ℕ)
+threads_of None = Some None
+threads_of (Some text) = option_map (λ n. Some n) (number_in 1 16 text)
+
+-- 1 to 64 tries; 64 where none is given
+abbrev pub tries_of : Option Text → Option ℕ
+tries_of None = Some 64
+tries_of (Some text) = number_in 1 64 text
+
+abbrev pub run_of : Given → Option Command
+run_of given = option_and_then (λ threads. option_map (λ tries. Run threads tries (is_some (value_of (codes "json") given))) (tries_of (value_of (codes "tries") given))) (threads_of (value_of (codes "threads") given))
+
+-- `step [--tries N] [--json]`
+abbrev pub step_takes : Takes
+step_takes = record { options = codes "tries" ∷ codes "json" ∷ []; number = false }
+
+abbrev pub step_of : Given → Option Command
+step_of given = option_map (λ tries. Step tries (is_some (value_of (codes "json") given))) (tries_of (value_of (codes "tries") given))
+
+-- `upgrade` alone
+abbrev pub upgrade_of : List Text → Option Command
+upgrade_of [] = Some Upgrade
+upgrade_of (word ∷ words) = None
+
+-- `gen NUMBER`
+abbrev pub gen_takes : Takes
+gen_takes = record { options = []; number = true }
+
+abbrev pub gen_of : Given → Option Command
+gen_of given = option_map (λ number. Gen number) (option_and_then decimal_of (value_of number_name given))
+
+-- `bench NUMBER [--threads N]`
+abbrev pub bench_takes : Takes
+bench_takes = record { options = codes "threads" ∷ []; number = true }
+
+abbrev pub bench_of : Given → Option Command
+bench_of given = option_and_then (λ number. option_map (λ threads. Bench number threads) (threads_of (value_of (codes "threads") given))) (option_and_then decimal_of (value_of number_name given))
+
+-- the command that the first word names, with what the other words give it
+abbrev pub command_from : Text → List Text → Option Command
+command_from word words =
+    if bytes_eq word (codes "run") then option_and_then run_of (given_by run_takes words)
+    else (if bytes_eq word (codes "step") then option_and_then step_of (given_by step_takes words)
+    else (if bytes_eq word (codes "upgrade") then upgrade_of words
+    else (if bytes_eq word (codes "gen") then option_and_then gen_of (given_by gen_takes words)
+    else (if bytes_eq word (codes "bench") then option_and_then bench_of (given_by bench_takes words)
+    else None))))
+
+abbrev pub command_of : List Text → Option Command
+command_of [] = None
+command_of (word ∷ words) = if list_any gives_flag words then None else command_from word (map as_option words)
+
+-- the command that the words of a program are
+abbrev pub command_in : {Z : Type 0} → List (String Z) → Option Command
+command_in words = command_of (map (λ word. string_bytes word) words)
+
+-- the threads, where they are given
+abbrev pub HasThreads : Option ℕ → Type 0
+HasThreads None = Unit {0}
+HasThreads (Some threads) = (1 ≤ threads) × (threads ≤ 16)
+
+-- the threads and the tries are in their ranges
+abbrev pub HasRange : Command → Type 0
+HasRange (Run threads tries json) = HasThreads threads × (1 ≤ tries) × (tries ≤ 64)
+HasRange (Step tries json) = (1 ≤ tries) × (tries ≤ 64)
+HasRange Upgrade = Unit {0}
+HasRange (Gen number) = Unit {0}
+HasRange (Bench number threads) = HasThreads threads

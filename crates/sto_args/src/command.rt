@@ -1,0 +1,214 @@
+//! The commands.
+ghost use Rattle.std.specs.Prelude.{◌≡◌, ◌≤◌, IfOk, IfSome, false, is_some, map};
+ghost use Rattle.std.specs.List.{list_any};
+ghost use Rattle.std.specs.Option.{option_and_then, option_map};
+ghost use Rattle.sto_args.specs.Given.{given_by, is_refused};
+ghost use Rattle.sto_args.specs.Commands.{HasThreads, HasRange, command_in, command_from, run_takes, run_of, step_takes, step_of, upgrade_of, gen_takes, gen_of, bench_takes, bench_of, threads_of, tries_of, decimal_of};
+
+use crate::grammar::{bench_grammar, gen_grammar, matches_in, run_grammar, step_grammar};
+use crate::number::{decimal_of, number_in};
+use crate::word::{as_options, has_flag_value, has_refused};
+use std::alloc::Global;
+use sto_part::NoMemory;
+
+/// What the program is asked to do.
+#[derive(Clone, Copy, PartialEq, Eq, Debug)]
+pub enum Command {
+    /// Reads a script and runs it, on so many threads, with so many tries of each transaction, and
+    /// prints its report, as JSON or as text. Where no number of threads is given, the script says it.
+    Run {
+        threads: Option<u32>,
+        tries: u32,
+        json: bool,
+    },
+    /// Reads a script and runs it in one thread by its schedule, with so many tries of each
+    /// transaction, and prints its report, as JSON or as text.
+    Step {
+        tries: u32,
+        json: bool,
+    },
+    /// Reads a script and prints it in the newest version of the language.
+    Upgrade,
+    /// Prints the generated script of this number.
+    Gen {
+        number: u64,
+    },
+    /// Runs the generated script of this number, on so many threads, and prints its summary. Where no
+    /// number of threads is given, the script says it.
+    Bench {
+        number: u64,
+        threads: Option<u32>,
+    },
+}
+
+/// The threads that an option gives, none where it is not given.
+pub(crate) fn threads(text: Option<&str>) -> Option<Option<u32>>
+    ensures threads { result ≡ threads_of (option_map (λ t. t.now) text.entry) }
+    ensures range { IfSome result HasThreads }
+{
+    let Some(text) = text else {
+        return Some(None);
+    };
+    let threads = number_in(1, 16, text)?;
+    Some(Some(threads as u32))
+}
+
+fn is_given(text: Option<&str>) -> bool
+    ensures { result ≡ is_some (option_map (λ t. t.now) text.entry) }
+{
+    text.is_some()
+}
+
+/// The tries that an option gives, 64 where it is not given.
+pub(crate) fn tries(text: Option<&str>) -> Option<u32>
+    ensures tries { result ≡ tries_of (option_map (λ t. t.now) text.entry) }
+    ensures range { IfSome result (λ n. (1 ≤ n) × (n ≤ 64)) }
+{
+    let Some(text) = text else {
+        return Some(64);
+    };
+    let tries = number_in(1, 64, text)?;
+    Some(tries as u32)
+}
+
+fn number(text: Option<&str>) -> Option<u64>
+    ensures { result ≡ option_and_then decimal_of (option_map (λ t. t.now) text.entry) }
+{
+    decimal_of(text?)
+}
+
+fn run(alloc: Global, words: &[&str]) -> Result<Option<Command>, NoMemory>
+    requires { list_any is_refused (map (λ word. word.now) words.now) ≡ false }
+    ensures range { IfOk result (λ c. IfSome c HasRange) }
+    ensures command { IfOk result (λ c. c ≡ option_and_then run_of (given_by run_takes (map (λ word. word.now) words.now))) }
+{
+    let Ok(grammar) = run_grammar(alloc) else {
+        return Err(NoMemory);
+    };
+    let Some(matches) = matches_in(grammar, words)? else {
+        return Ok(None);
+    };
+    let Some(threads) = threads(matches.get_str("threads")) else {
+        return Ok(None);
+    };
+    let Some(tries) = tries(matches.get_str("tries")) else {
+        return Ok(None);
+    };
+    let json = is_given(matches.get_str("json"));
+    Ok(Some(Command::Run {
+        threads,
+        tries,
+        json,
+    }))
+}
+
+fn step(alloc: Global, words: &[&str]) -> Result<Option<Command>, NoMemory>
+    requires { list_any is_refused (map (λ word. word.now) words.now) ≡ false }
+    ensures range { IfOk result (λ c. IfSome c HasRange) }
+    ensures command { IfOk result (λ c. c ≡ option_and_then step_of (given_by step_takes (map (λ word. word.now) words.now))) }
+{
+    let Ok(grammar) = step_grammar(alloc) else {
+        return Err(NoMemory);
+    };
+    let Some(matches) = matches_in(grammar, words)? else {
+        return Ok(None);
+    };
+    let Some(tries) = tries(matches.get_str("tries")) else {
+        return Ok(None);
+    };
+    let json = is_given(matches.get_str("json"));
+    Ok(Some(Command::Step { tries, json }))
+}
+
+fn upgrade(words: &[&str]) -> Option<Command>
+    ensures range { IfSome result HasRange }
+    ensures command { result ≡ upgrade_of (map (λ word. word.now) words.now) }
+{
+    match words {
+        [] => Some(Command::Upgrade),
+        _ => None,
+    }
+}
+
+fn generate(alloc: Global, words: &[&str]) -> Result<Option<Command>, NoMemory>
+    requires { list_any is_refused (map (λ word. word.now) words.now) ≡ false }
+    ensures range { IfOk result (λ c. IfSome c HasRange) }
+    ensures command { IfOk result (λ c. c ≡ option_and_then gen_of (given_by gen_takes (map (λ word. word.now) words.now))) }
+{
+    let Ok(grammar) = gen_grammar(alloc) else {
+        return Err(NoMemory);
+    };
+    let Some(matches) = matches_in(grammar, words)? else {
+        return Ok(None);
+    };
+    let Some(number) = number(matches.get_str("NUMBER")) else {
+        return Ok(None);
+    };
+    Ok(Some(Command::Gen { number }))
+}
+
+fn bench(alloc: Global, words: &[&str]) -> Result<Option<Command>, NoMemory>
+    requires { list_any is_refused (map (λ word. word.now) words.now) ≡ false }
+    ensures range { IfOk result (λ c. IfSome c HasRange) }
+    ensures command { IfOk result (λ c. c ≡ option_and_then bench_of (given_by bench_takes (map (λ word. word.now) words.now))) }
+{
+    let Ok(grammar) = bench_grammar(alloc) else {
+        return Err(NoMemory);
+    };
+    let Some(matches) = matches_in(grammar, words)? else {
+        return Ok(None);
+    };
+    let Some(number) = number(matches.get_str("NUMBER")) else {
+        return Ok(None);
+    };
+    let Some(threads) = threads(matches.get_str("threads")) else {
+        return Ok(None);
+    };
+    Ok(Some(Command::Bench { number, threads }))
+}
+
+/// The command that the words after the program's name are. `None` comes exactly where they are
+/// not in the grammar.
+///
+/// | Words | Command |
+/// |---|---|
+/// | `run [--threads N] [--tries N] [--json]` | `Run`, with 1 to 16 threads, with 1 to 64 tries, and 64 where none is given, and with the form of the report |
+/// | `step [--tries N] [--json]` | `Step`, with tries and a form as for `Run` |
+/// | `upgrade` | `Upgrade` |
+/// | `gen NUMBER` | `Gen`, with a number of 64 bits |
+/// | `bench NUMBER [--threads N]` | `Bench`, with a number of 64 bits, and with threads as for `Run` |
+///
+/// Options stand before or after the NUMBER. An option is given at most once, as two words `--tries N` or as one word `--tries=N`, and `--json`
+/// as a word without a value. A number has decimal digits, no sign, and no leading zero unless it is
+/// `0` alone.
+pub fn find_command(alloc: Global, words: &[String]) -> Result<Option<Command>, NoMemory>
+    ensures range { IfOk result (λ c. IfSome c HasRange) }
+    ensures command { IfOk result (λ c. c ≡ command_in words.now) }
+{
+    let [word, rest @ ..] = words else {
+        return Ok(None);
+    };
+    if has_flag_value(rest) {
+        return Ok(None);
+    }
+    let options = as_options(alloc, rest)?;
+    command_from(alloc, word.as_str(), options.as_slice())
+}
+
+/// The command that a word names, with what the other words give it.
+fn command_from(alloc: Global, word: &str, options: &[&str]) -> Result<Option<Command>, NoMemory>
+    ensures range { IfOk result (λ c. IfSome c HasRange) }
+    ensures command { IfOk result (λ c. c ≡ command_from word.now (map (λ option. option.now) options.now)) }
+{
+    if has_refused(options) {
+        return Ok(None);
+    }
+    match word {
+        "run" => run(alloc, options),
+        "step" => step(alloc, options),
+        "upgrade" => Ok(upgrade(options)),
+        "gen" => generate(alloc, options),
+        "bench" => bench(alloc, options),
+        _ => Ok(None),
+    }
+}

@@ -1,0 +1,89 @@
+-- The records of one transaction, attempt by attempt.
+use Rattle.std.specs.Prelude.{◌≢◌, ◌⊎◌, ◌&&◌, if◌then◌else◌, ◌==◌, length}
+use Rattle.std.specs.List.{All}
+use Rattle.std.proofs.Common.{◌≡◌, ℕ, ◌+◌, ◌<◌, ◌≤◌, List, [], ◌∷◌, ◌++◌, refl, sym, ap, ◌∙◌, zero, suc, subst, arith, Bool, true, false, inl, inr}
+use Rattle.std.proofs.lemmas.List.Elements.{All-append, All-weaker, All-cons, All-nil, All-head, All-tail}
+use Rattle.sto_model.specs.Run.{Script as Steps}
+use Rattle.sto_type.specs.Meaning.{Meaning}
+use Rattle.sto_core.specs.declared.view.Entry.{Entry}
+use Rattle.sto_core.specs.declared.view.Finding.{Finding}
+use Rattle.sto_core.specs.declared.view.View.{View}
+use Rattle.sto_core.specs.Lists.{Among}
+use Rattle.sto_attempt_facts.specs.Records.{Place, Verdict, Wrote, Read, Cancelled, Locked, Changed, Record, is_abort, known_after, IsSince, times_written, wrote_with}
+use Rattle.sto_attempt_facts.specs.Told.{IsTold, HasFound, IsFound}
+use Rattle.sto_attempt_facts.specs.Counted.{times_committed, Follows, InThreads}
+use Rattle.sto_attempt_facts.specs.Added.{Grows, IsKnown, IsAdded}
+use Rattle.sto_attempt_facts.specs.Tried.{HasTried}
+use Rattle.sto_attempt_facts.specs.Trying.{HasFinding, HasMade, AreAborted}
+use Rattle.sto_attempt_facts.proofs.Events.{grows_on}
+use Rattle.sto_attempt_facts.proofs.Later.{told_later, told_known}
+
+-- what is known before an attempt is known after it
+known_after_it : (m : Meaning) (v w : View) (f : Steps) (place : Place) (r : Record) → HasTried m v w f place r → (k : ℕ) → IsKnown v k → IsKnown w k
+known_after_it m v w f place r t k (inl h) = inl (let a = t.grows.at in omega (arith, a, h))
+known_after_it m v w f place r t k (inr (inl h)) = inr (inl (record { entry = h.entry; there = t.kept h.entry h.there; ticket = h.ticket }))
+known_after_it m v w f place r t k (inr (inr h)) = inr (inr (record { claim = h.claim; there = t.grows.wrote h.claim h.there; ticket = h.ticket }))
+
+written_more : (t : ℕ) (rs : List Record) (r : Record) → times_written t (rs ++ r ∷ []) ≡ times_written t rs + wrote_with t r.verdict
+written_more t [] r = omega arith
+written_more t (x ∷ rs) r = let k = written_more t rs r in omega (arith, k)
+
+pub longer : (rs : List Record) (r : Record) → length (rs ++ r ∷ []) ≡ length rs + 1
+longer [] r = refl
+longer (x ∷ rs) r = let k = longer rs r in omega (arith, k)
+
+-- a finding of one view is one of a later view
+finding_later : (v w : View) (start part : ℕ) (P : Finding → Type 0) → Grows v w → HasFound v start part P → HasFound w start part P
+finding_later v w start part P g h = record { finding = h.finding; there = g.findings h.finding h.there; begun = h.begun; on = h.on; is = h.is }
+
+pub found_later : (v w : View) (start : ℕ) (verdict : Verdict) → Grows v w → IsFound v start verdict → IsFound w start verdict
+found_later v w start (Wrote t) g h = tt
+found_later v w start (Read n) g h = tt
+found_later v w start (Cancelled n) g h = tt
+found_later v w start (Locked n p) g h = finding_later v w start p _ g h
+found_later v w start (Changed n p t) g h = finding_later v w start p _ g h
+
+-- Before the first attempt.
+pub none_made : (m : Meaning) (v : View) (f : Steps) (place : Place) → HasMade m v v f place []
+none_made m v f place = record {
+  grows = record { at = omega arith; entries = λ e h c. h; claims = λ c h. h; wrote = λ c h. h; findings = λ g h. h };
+  known = λ k h. h;
+  entries = λ t. omega arith;
+  each = All-nil (IsAdded m v v f place);
+  threads = tt;
+  starts = omega arith;
+  draws = omega arith;
+  found = All-nil (HasFinding v v);
+}
+
+-- each of these is followed by the next one
+all_followed : (m : Meaning) (b v w : View) (f : Steps) (place : Place) (rs : List Record) (r : Record) → HasTried m v w f place r
+    → All (IsAdded m b v f place) rs → AreAborted rs → InThreads rs → InThreads (rs ++ r ∷ [])
+all_followed m b v w f place [] r t each aborted h = (All-nil _, tt)
+all_followed m b v w f place (x ∷ rs) r t each aborted h =
+    let mine : IsAdded m b v f place x = All-head (IsAdded m b v f place) x rs each in (
+      All-append (λ (s : Record). x.place.0 ≡ s.place.0 → Follows x s) rs (r ∷ []) h.0
+          (All-cons (λ (s : Record). x.place.0 ≡ s.place.0 → Follows x s) r [] (λ same. record {
+            position = (let a = ap (λ (p : Place). p.1) (mine.placed ∙ sym t.added.placed) in omega (arith, a));
+            again = λ is. All-head (λ (s : Record). is_abort s.verdict ≡ true) x rs aborted;
+            since = t.added.since (known_after x.verdict) (told_known m v f x.replies x.verdict mine.told);
+          }) (All-nil _)),
+      all_followed m b v w f place rs r t (All-tail (IsAdded m b v f place) x rs each) (All-tail (λ (s : Record). is_abort s.verdict ≡ true) x rs aborted) h.1,
+    )
+
+-- One more attempt, after aborted ones.
+pub one_more : (m : Meaning) (b v w : View) (f : Steps) (place : Place) (rs : List Record) (r : Record) → AreAborted rs → HasMade m b v f place rs → HasTried m v w f place r → HasMade m b w f place (rs ++ r ∷ [])
+one_more m b v w f place rs r aborted h t = record {
+  grows = grows_on b v w h.grows t.grows;
+  known = λ k a. known_after_it m v w f place r t k (h.known k a);
+  entries = λ n. (let a = h.entries n in let c = t.committed n in let d = written_more n rs r in omega (arith, a, c, d));
+  each = All-append (IsAdded m b w f place) rs (r ∷ [])
+      (All-weaker (IsAdded m b v f place) (IsAdded m b w f place) (λ x a. record { placed = a.placed; told = told_later m v w f x.replies x.verdict t.grows a.told; since = a.since }) rs h.each)
+      (All-cons (IsAdded m b w f place) r [] (record { placed = t.added.placed; told = t.added.told; since = λ n a. t.added.since n (h.known n a) }) (All-nil _));
+  threads = all_followed m b v w f place rs r t h.each aborted h.threads;
+  starts = (let a = h.starts in let c = t.starts in let d = longer rs r in omega (arith, a, c, d));
+  draws = (let a = h.draws in let c = t.draws in let d = longer rs r in omega (arith, a, c, d));
+  found = All-append (HasFinding b w) rs (r ∷ [])
+      (All-weaker (HasFinding b v) (HasFinding b w) (λ x a. record { start = a.start; later = a.later; within = (let c = a.within in let d = t.starts in omega (arith, c, d)); found = found_later v w a.start x.verdict t.grows a.found }) rs h.found)
+      (All-cons (HasFinding b w) r [] (record { start = w.starts; later = (let a = h.starts in let c = t.starts in omega (arith, a, c)); within = omega arith; found = t.found }) (All-nil _));
+}

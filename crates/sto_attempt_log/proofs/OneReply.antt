@@ -1,0 +1,108 @@
+-- An attempt's course over one more reply.
+use Rattle.std.proofs.Common.{◌≡◌, ℕ, not, ◌||◌, None, List, [], ◌∷◌, ◌++◌, ap, sym, ◌∙◌, subst}
+use Rattle.sto_item.specs.declared.item.Item.{Item}
+use Rattle.sto_item.specs.Pending.{Entry, AreUpdates, applied_updates, with_updates}
+use Rattle.sto_item.specs.Observed.{part_of_item}
+use Rattle.sto_item.specs.Rebase.{rebased}
+use Rattle.sto_item.specs.Recorded.{Recorded}
+use Rattle.sto_item.specs.Agreement.{Agrees, AreTrueOf}
+use Rattle.sto_model.specs.declared.call.Call.{Call}
+use Rattle.sto_model.specs.declared.body.Next.{Next}
+use Rattle.sto_model.specs.declared.body.Next.TheVariants.{Ask}
+use Rattle.sto_model.specs.Told.{Told, is_write}
+use Rattle.sto_model.specs.Machine.{reply_to}
+use Rattle.sto_model.specs.Run.{Script}
+use Rattle.sto_model.specs.Serial.{is_written, has_written}
+use Rattle.sto_type.specs.Known.{Parts, Known, IsPartOf, known}
+use Rattle.sto_type.specs.Meaning.{Meaning, IsLawful, IsReady, IsPartOfObject, EachOwned, is_empty}
+use Rattle.sto_type.specs.Runs.{IsRunOn, IsCarried}
+use Rattle.sto_type.proofs.Carrying.{IsCarried-more}
+use Rattle.sto_type.proofs.Learning.{IsPartOf-none}
+use Rattle.sto_attempt_log.specs.Asked.{AllOf, IsOfNext, IsAsked}
+use Rattle.sto_attempt_log.specs.Log.{IsRead, IsInside, IsLog, IsCache}
+use Rattle.sto_item.specs.Recorded.{AddsItems}
+use Rattle.sto_attempt_log.proofs.Every.{all_map}
+use Rattle.sto_attempt_log.proofs.Asking.{asked_next, asked_more}
+use Rattle.sto_attempt_log.proofs.Items.{agrees_added, agrees_before, all_added}
+use Rattle.sto_attempt_log.proofs.Written.{written_more, empty_with, with_parts}
+use Rattle.sto_attempt_log.proofs.Moving.{read_below, inside_below, owned_below}
+
+pub cache_none : (m : Meaning) (base : Known) (es : List Entry) → IsCache m base es (known [])
+cache_none m base es = record { above = λ d v p. IsPartOf-none (applied_updates es d); from = λ p h. cc }
+
+-- the run on contents that what was read is part of
+pub run_on : (m : Meaning) (f : Script) (base : Known) (items : List Item) (es : List Entry) (rs : List Told) (d : Parts) → IsCarried m f base items es rs → m.valid d → IsPartOf base d → IsRunOn m f d es rs
+run_on m f base items es rs d h v p = h.runs d d v p v (h.holds d v p)
+
+all_owned : (homes : List (ℕ × ℕ)) (object : ℕ) (es : List Entry) → EachOwned homes object es → AllOf (λ (e : Entry). IsPartOfObject homes object e.0) es
+all_owned homes object [] h = tt
+all_owned homes object (e ∷ es) h = (h.0, all_owned homes object es h.1)
+
+-- the same of a set that agrees alike
+pub carried_alike : (m : Meaning) (f : Script) (base : Known) (items js : List Item) (es : List Entry) (rs : List Told) → IsCarried m f base items es rs
+    → ((e d : Parts) → Agrees e items d → Agrees e js d) → ((e d : Parts) → Agrees e js d → Agrees e items d) → IsCarried m f base js es rs
+carried_alike m f base items js es rs h there here = record {
+  holds = λ d v p. there d d (h.holds d v p);
+  runs = λ d e v p w a. h.runs d e v p w (here e d a);
+}
+
+-- One call that is answered on the cache.
+module _ (m : Meaning) (law : IsLawful m) (f : Script) (base : Known) (items : List Item) (es : List Entry) (rs : List Told) (call : Call) (k : Known)
+    (was : IsLog m f base items es rs) (cache : IsCache m base es k) (d : Parts) (valid : m.valid d) (part : IsPartOf base d)
+    (t : m.takes call) (done : m.need call k ≡ None) (asks : f rs ≡ Ask call) where
+  pub here : IsRunOn m f d es rs
+  here = run_on m f base items es rs d was.carried valid part
+
+  pub ready : IsReady m call k (applied_updates es d)
+  ready = record { takes = t; valid = here.valid; part = cache.above d valid part; done = done }
+
+  -- the items of the call are true with the updates applied
+  pub true_now : AreTrueOf (applied_updates es d) (m.items call k)
+  true_now = law.holds call k (applied_updates es d) ready
+
+  abbrev pub left : List Item
+  left = rebased es (m.items call k)
+
+  next_is : IsOfNext m (Ask call) ≡ IsOfNext m (f rs)
+  next_is = ap (IsOfNext m) (sym asks)
+
+  asked_of : (p : ℕ) → IsPartOfObject m.homes call.object p → IsAsked m f rs p
+  asked_of p h = asked_next m f rs p (subst (λ (n : Next). IsOfNext m n p) (sym asks) h)
+
+  module _ (reply : Told) (v : List Entry) (ordered : AreUpdates v) (says : (c : Parts) → m.valid c → IsPartOf k c → (reply ≡ reply_to m.machines call (m.rows c)) × (v ≡ m.updates call c)) where
+    said : (reply ≡ reply_to m.machines call (m.rows (applied_updates es d))) × (v ≡ m.updates call (applied_updates es d))
+    said = says (applied_updates es d) here.valid (cache.above d valid part)
+
+    written : has_written f (rs ++ reply ∷ []) ≡ not (is_empty (with_updates es v))
+    written =
+        let own : is_written (f rs) reply ≡ not (is_empty v) =
+        ap (λ n. is_written n reply) asks ∙ ap (is_write call.code) said.0
+        ∙ (law.updated call (applied_updates es d) t here.valid).writes ∙ ap (λ (l : List Entry). not (is_empty l)) (sym said.1) in
+        written_more f rs reply ∙ ap (λ b. b || is_written (f rs) reply) was.written ∙ ap (λ b. not (is_empty es) || b) own
+        ∙ sym (empty_with es v ordered.1)
+
+    pub log_more : (js : List Item) → AddsItems (record { items = items; updates = es }) left (record { items = js; updates = es }) → IsLog m f base js (with_updates es v) (rs ++ reply ∷ [])
+    log_more js adds =
+        let old : Recorded = record { items = items; updates = es } in
+        let new : Recorded = record { items = js; updates = es } in
+        let carried : IsCarried m f base (items ++ left) (with_updates es v) (rs ++ reply ∷ []) =
+        IsCarried-more m law f base base items es rs call k was.carried t (λ c h. h) (λ c w h on. cache.above c w h) done reply v says asks in
+        let known_items = law.knows call k (applied_updates es d) ready in
+        let inside = law.inside call k (applied_updates es d) ready in
+        record {
+          carried = carried_alike m f base (items ++ left) js (with_updates es v) (rs ++ reply ∷ []) carried (λ e c a. agrees_added e c old left new adds a) (λ e c a. agrees_before e c old left new adds a);
+          read = all_added (IsRead base) old left new adds was.read (read_below base k es m.widths d here.widths (law.widths d valid) cache.from m.homes call.object (m.items call k) known_items inside);
+          inside = all_added (IsInside m.widths) old left new adds was.inside (inside_below m.widths es (m.items call k) inside);
+          asked_items =
+              let P : Item → Type 0 = λ i. IsAsked m f (rs ++ reply ∷ []) (part_of_item i) in
+              all_added P old left new adds (all_map (λ (i : Item). IsAsked m f rs (part_of_item i)) P (λ i h. asked_more m f rs reply (part_of_item i) h) items was.asked_items)
+              (all_map (λ (i : Item). IsPartOfObject m.homes call.object (part_of_item i)) P (λ i h. asked_more m f rs reply (part_of_item i) (asked_of (part_of_item i) h)) left
+              (owned_below m.homes call.object k es (m.items call k) known_items));
+          asked_updates =
+              let P : ℕ → Type 0 = λ p. IsAsked m f (rs ++ reply ∷ []) p in
+              with_parts P es v (all_map (λ (e : Entry). IsAsked m f rs e.0) (λ (e : Entry). P e.0) (λ e h. asked_more m f rs reply e.0 h) es was.asked_updates)
+              (subst (λ (l : List Entry). AllOf (λ (e : Entry). P e.0) l) (sym said.1)
+              (all_map (λ (e : Entry). IsPartOfObject m.homes call.object e.0) (λ (e : Entry). P e.0) (λ e h. asked_more m f rs reply e.0 (asked_of e.0 h)) (m.updates call (applied_updates es d))
+              (all_owned m.homes call.object (m.updates call (applied_updates es d)) (law.updated call (applied_updates es d) t here.valid).owned)));
+          written = written;
+        }

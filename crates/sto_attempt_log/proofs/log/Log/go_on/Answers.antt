@@ -1,0 +1,53 @@
+use Rattle.std.proofs.Common.{refl, arith, ap, sym, ◌∙◌, [], map, append-nil}
+use Rattle.sto_model.specs.Told.{told}
+use Rattle.sto_attempt_log.specs.ReadSet.{words_in}
+use Rattle.sto_attempt_log.proofs.Onward.{heard_none}
+use Rattle.sto_attempt_log.proofs.log.Log.go_on.Goals as goal
+
+pub take_in-requires-clause-log : goal.take_in-requires-clause-log
+take_in-requires-clause-log g c =
+    let i = c.loop-call.invariant in
+    rw i.script (record { then = i.log.then; taken = i.log.taken; few = i.log.few; log = i.log.log; known_above = c.in_ok-part-in-Ask.ensures.cache })
+
+pub take_in-requires-clause-says : goal.take_in-requires-clause-says
+take_in-requires-clause-says g c =
+    let f = g.B.Body.script c.args.self.now.body in
+    let was = c.loop-call.invariant.log in
+    let rs = map told c.loop-call.self.replies.items in
+    let asks = ap f (sym (append-nil rs)) ∙ sym (c.in-Ask.ensures.next ∙ was.then []) in
+    record {
+      call = c.in-Ask.call;
+      taken = was.taken c.in-Ask.call c.in-Ask.ensures.may;
+      asks = rw c.loop-call.invariant.script asks;
+      plan = rw c.in-Done.is at c.in_ok-part-in-Ask.ensures.plan;
+    }
+
+pub loop-call-preserved : goal.loop-call-preserved
+loop-call-preserved g c =
+    let i = c.loop-call.invariant in
+    let e = c.take_in.ensures in
+    let k = c.in_ok-take_in-in-Done.ensures in
+    record {
+      log = rw (e.ty, e.base, ← i.script) k.log;
+      some = rw (e.ty, e.base) i.some;
+      grown = rw (e.ty, e.base, ← i.script) (k.grown (map told c.args.self.now.replies.items) c.args.self.now.set (rw i.script i.grown));
+      left = omega (arith, i.left, e.left);
+      script = e.script ∙ i.script;
+      left_at_reset = e.left_at_reset ∙ i.left_at_reset;
+      may = λ call h. i.may call (e.may call h);
+      ty = e.ty ∙ i.ty;
+      base = e.base ∙ i.base;
+    }
+
+pub loop-call-init : goal.loop-call-init
+loop-call-init g c = record {
+  log = c.requires.log;
+  some = c.requires.some;
+  grown = heard_none (g.T.TxType.meaning c.args.self.now.ty.now) (g.B.Body.script c.args.self.now.body) (words_in c.args.self.now.base.items) (map told c.args.self.now.replies.items) c.args.self.now.set;
+  left = omega arith;
+  script = refl;
+  left_at_reset = refl;
+  may = λ call h. h;
+  ty = refl;
+  base = refl;
+}

@@ -1,0 +1,26 @@
+use Rattle.std.proofs.Common.{◌≡◌, ◌≤◌, ◌+◌, List, ℤ, map, length}
+use Rattle.sto_model.specs.Told.{told}
+use Rattle.sto_attempt_log.specs.Growing.{HasHeard}
+use Rattle.sto_type.specs.Known.{IsPartOf}
+use Rattle.sto_attempt_log.specs.ReadSet.{words_in}
+use Rattle.sto_model.specs.declared.call.Call.{Call}
+use Rattle.sto_attempt_log.specs.Log.{IsOnLog}
+use Rattle.sto_attempt_log.proofs.log.Log.go_on.Given as goal
+
+abbrev pub invariant-loop-call : goal.invariant-loop-call
+invariant-loop-call g l = record {
+  log :
+      IsOnLog (g.T.TxType.meaning l.self.ty.now) (g.B.Body.then l.self.body) (g.B.Body.script l.fn.self.body) (g.B.Body.left l.self.body) (g.B.Body.may_ask l.self.body)
+      l.self.base.items l.self.set l.self.cache l.self.replies.items;
+  some : (d : List (List ℤ)) × (g.T.TxType.meaning l.self.ty.now).valid d × IsPartOf (words_in l.self.base.items) d;
+  grown : HasHeard (g.T.TxType.meaning l.self.ty.now) (g.B.Body.script l.fn.self.body) (words_in l.self.base.items) (map told l.fn.self.replies.items) l.fn.self.set (map told l.self.replies.items) l.self.set;
+  left : length l.self.replies.items + g.B.Body.left l.self.body ≤ length l.fn.self.replies.items + g.B.Body.left l.fn.self.body;
+  script : g.B.Body.script l.self.body ≡ g.B.Body.script l.fn.self.body;
+  left_at_reset : g.B.Body.left_at_reset l.self.body ≡ g.B.Body.left_at_reset l.fn.self.body;
+  may : (call : Call) → g.B.Body.may_ask l.self.body call → g.B.Body.may_ask l.fn.self.body call;
+  ty : l.self.ty ≡ l.fn.self.ty;
+  base : l.self.base ≡ l.fn.self.base;
+}
+
+abbrev pub decreases-loop-call : goal.decreases-loop-call
+decreases-loop-call g l = g.B.Body.left l.self.body

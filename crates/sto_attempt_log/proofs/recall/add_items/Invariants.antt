@@ -1,0 +1,6 @@
+use Rattle.std.proofs.Common.{take}
+use Rattle.sto_item.specs.Recorded.{AddsItems}
+use Rattle.sto_attempt_log.proofs.recall.add_items.Given as goal
+
+abbrev pub invariant-loop-place : goal.invariant-loop-place
+invariant-loop-place l = AddsItems l.fn.set (take l.place l.items.items) l.set

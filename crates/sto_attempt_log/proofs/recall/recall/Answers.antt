@@ -1,0 +1,57 @@
+use Rattle.std.proofs.Common.{arith, ap, sym, subst, ◌∙◌, ◌≡◌, ◌≤◌, List, ℤ, pos, length, slice_index_or}
+use Rattle.std.proofs.lemmas.List.{length-replicate}
+use Rattle.std.proofs.lemmas.Option.{get_or_from_slice_get}
+use Rattle.sto_part.specs.Changes.{applied_all}
+use Rattle.sto_item.specs.Pending.{changes_of}
+use Rattle.sto_attempt_log.specs.ReadSet.{words_in}
+use Rattle.sto_attempt_log.specs.Log.{IsRecalled}
+use Rattle.sto_attempt_log.proofs.Recalling.{fits_read, recalled_read, fits_whole, recalled_whole}
+use Rattle.sto_attempt_log.proofs.recall.recall.Goals as goal
+
+pub updated-requires-clause-fits : goal.updated-requires-clause-fits
+updated-requires-clause-fits g c =
+    let m = g.T.TxType.meaning c.args.ty.now in
+    let law = g.met.T.TxType.lawful c.args.ty.now in
+    let ws = c.in-Some.read_entry.now.words.items in
+    let f : length (changes_of c.args.set.now.updates c.args.part) ≤ length ws =
+    fits_read m law (words_in c.args.base.now.items) c.args.set.now.updates c.requires.pending c.args.part ws c.requires.range c.in-Some.ensures.words in
+    omega (arith, f, ap length c.as_slice.ensures.items)
+
+pub returns-in-Some : goal.returns-in-Some
+returns-in-Some g c =
+    let m = g.T.TxType.meaning c.args.ty.now in
+    let law = g.met.T.TxType.lawful c.args.ty.now in
+    let base = words_in c.args.base.now.items in
+    let es = c.args.set.now.updates in
+    let ws = c.in-Some.read_entry.now.words.items in
+    record {
+      known =
+          subst (λ (l : List ℤ). IsRecalled m base es c.args.part l) (sym (c.in_ok-updated.ensures ∙ ap (applied_all (changes_of es c.args.part)) c.as_slice.ensures.items))
+          (recalled_read m law base es c.requires.pending c.args.part ws c.requires.range c.in-Some.ensures.words);
+    }
+
+pub updated-requires-then-overwrites-clause-fits : goal.updated-requires-then-overwrites-clause-fits
+updated-requires-then-overwrites-clause-fits g c =
+    let m = g.T.TxType.meaning c.args.ty.now in
+    let law = g.met.T.TxType.lawful c.args.ty.now in
+    let ws = c.as_slice-then-overwrites.result.now in
+    let width : slice_index_or m.widths c.args.part 0 ≡ c.width.result = get_or_from_slice_get m.widths c.args.part c.width.result 0 c.width.ensures in
+    let long : length ws ≡ slice_index_or m.widths c.args.part 0 =
+    ap length (c.as_slice-then-overwrites.ensures.items ∙ c.in_ok-zeros.ensures) ∙ length-replicate c.width.result (pos 0) ∙ sym width in
+    fits_whole m law (words_in c.args.base.now.items) c.args.set.now.updates c.requires.pending c.args.part ws long
+
+pub returns-then-overwrites : goal.returns-then-overwrites
+returns-then-overwrites g c =
+    let m = g.T.TxType.meaning c.args.ty.now in
+    let law = g.met.T.TxType.lawful c.args.ty.now in
+    let base = words_in c.args.base.now.items in
+    let es = c.args.set.now.updates in
+    let ws = c.as_slice-then-overwrites.result.now in
+    let width : slice_index_or m.widths c.args.part 0 ≡ c.width.result = get_or_from_slice_get m.widths c.args.part c.width.result 0 c.width.ensures in
+    let long : length ws ≡ slice_index_or m.widths c.args.part 0 =
+    ap length (c.as_slice-then-overwrites.ensures.items ∙ c.in_ok-zeros.ensures) ∙ length-replicate c.width.result (pos 0) ∙ sym width in
+    record {
+      known =
+          subst (λ (l : List ℤ). IsRecalled m base es c.args.part l) (sym c.in_ok-updated-2.ensures)
+          (recalled_whole m law base es c.requires.pending c.args.part ws long (sym c.overwrites.ensures ∙ c.if-overwrites.true));
+    }

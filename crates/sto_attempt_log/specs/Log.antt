@@ -1,0 +1,70 @@
+-- What an attempt has found out, with no word of views: parts that it has read, items, pending updates, replies, and the cache that its type plans on.
+use Rattle.std.specs.Prelude.{◌≡◌, ◌⊎◌, ◌<◌, ◌+◌, ◌^◌, ℕ, ℤ, true, not, None, List, ◌++◌, length, map, IsSome, slice_index_or}
+use Rattle.sto_item.specs.declared.item.Item.{Item}
+use Rattle.sto_item.specs.declared.item.Item.TheVariants.{Seen, Holds}
+use Rattle.sto_item.specs.Pending.{Entry, AreUpdates, changes_of, applied_updates}
+use Rattle.sto_item.specs.Observed.{part_of_item}
+use Rattle.sto_item.specs.Rebase.{overwrites}
+use Rattle.sto_model.specs.declared.call.Call.{Call}
+use Rattle.sto_model.specs.declared.body.Next.{Next}
+use Rattle.sto_model.specs.Told.{Told, told}
+use Rattle.sto_model.specs.Run.{Script}
+use Rattle.sto_model.specs.Serial.{has_written}
+use Rattle.sto_type.specs.Known.{Parts, Known, known, IsPartOf}
+use Rattle.sto_type.specs.Meaning.{Meaning, is_empty}
+use Rattle.sto_type.specs.Runs.{IsCarried}
+use Rattle.sto_attempt_log.specs.Asked.{AllOf, IsOfNext, IsAsked}
+use Rattle.sto_attempt_log.specs.ReadSet.{words_in}
+use Rattle.sto_attempt_log.specs.declared.read_entry.ReadEntry.{ReadEntry}
+use Rattle.sto_part.specs.Parts.{part_of}
+use Rattle.sto_item.specs.Recorded.{Recorded}
+use Rattle.sto_item.specs.Agreement.{HasWidths}
+use Rattle.sto_model.specs.declared.reply.Reply.{Reply}
+
+-- the item is of a part that was read
+abbrev pub IsRead : Known → Item → Type 0
+IsRead base i = IsSome (base (part_of_item i))
+
+-- a predicate names a word of its part
+abbrev pub IsInside : List ℕ → Item → Type 0
+IsInside widths (Seen p) = Unit {0}
+IsInside widths (Holds p) = p.word < slice_index_or widths p.part 0
+
+-- the items and updates carry the replies; each item names a word of a part that was read, and items and updates are of objects that were asked;
+-- there are updates exactly where a call has written
+pub record IsLog (m : Meaning) (f : Script) (base : Known) (items : List Item) (es : List Entry) (rs : List Told) : Type 0 where
+  pub carried : IsCarried m f base items es rs
+  pub read : AllOf (IsRead base) items
+  pub inside : AllOf (IsInside m.widths) items
+  pub asked_items : AllOf (λ (i : Item). IsAsked m f rs (part_of_item i)) items
+  pub asked_updates : AllOf (λ (e : Entry). IsAsked m f rs e.0) es
+  pub written : has_written f rs ≡ not (is_empty es)
+
+-- what is known with the pending updates applied: of all contents that what was read is part of, and of no other part than those read and those that the updates put whole
+pub record IsCache (m : Meaning) (base : Known) (es : List Entry) (k : Known) : Type 0 where
+  pub above : (d : Parts) → m.valid d → IsPartOf base d → IsPartOf k (applied_updates es d)
+  pub from : (p : ℕ) → IsSome (k p) → IsSome (base p) ⊎ (overwrites (changes_of es p) ≡ true)
+
+-- the pending updates are in order, and fit all valid contents that what was read is part of; there are such contents
+pub record IsPending (m : Meaning) (base : Known) (es : List Entry) : Type 0 where
+  pub ordered : AreUpdates es
+  pub fits : (d : Parts) → m.valid d → IsPartOf base d → HasWidths es d × m.valid (applied_updates es d)
+  pub some : (d : Parts) × m.valid d × IsPartOf base d
+
+-- the words are those of the part, with the pending updates applied, in all valid contents that what was read is part of
+pub record IsRecalled (m : Meaning) (base : Known) (es : List Entry) (p : ℕ) (ws : List ℤ) : Type 0 where
+  pub above : (d : Parts) → m.valid d → IsPartOf base d → part_of (applied_updates es d) p ≡ ws
+  pub from : IsSome (base p) ⊎ (overwrites (changes_of es p) ≡ true)
+
+-- all that is kept between two events: f is the script of the body, which waits where the replies have led it
+pub record IsOnLog (m : Meaning) (next : List Told → Next) (f : Script) (left : ℕ) (may : Call → Type 0) (base : List ReadEntry) (set : Recorded) (cache : List (ℕ × List ℤ)) (replies : List Reply) : Type 0 where
+  pub then : (xs : List Told) → next xs ≡ f (map told replies ++ xs)
+  pub taken : (call : Call) → may call → m.takes call
+  pub few : length replies + left < 2 ^ 32
+  pub log : IsLog m f (words_in base) set.items set.updates (map told replies)
+  pub known_above : IsCache m (words_in base) set.updates (known cache)
+
+-- the part is needed by the call that is next, and was not read
+pub record IsNeeded (m : Meaning) (next : Next) (base : Known) (p : ℕ) : Type 0 where
+  pub unread : base p ≡ None
+  pub of_next : IsOfNext m next p

@@ -1,0 +1,29 @@
+//! The course of an attempt: what it has found out, where it stands between two events, and what its commit is led by.
+//!
+//! The definitions in `specs/` and the lemmas in `proofs/` are of an attempt and its commit as a whole. The code here makes no event.
+#![tactic(auto)]
+
+mod commit_phase;
+mod extension;
+mod found_tickets;
+mod lists;
+mod loaded_words;
+mod log;
+mod observed;
+mod predicates;
+mod read_entry;
+mod read_phase;
+mod recall;
+mod verdict;
+
+pub use commit_phase::{CommitPhase, FoundTicket, LoadedWord};
+pub use extension::Extension;
+pub use found_tickets::FoundTickets;
+pub use lists::{Lists, is_seen, is_written, lists_of, width_of_all};
+pub use loaded_words::LoadedWords;
+pub use log::{Log, Reached};
+pub use observed::Observed;
+pub use predicates::Predicates;
+pub use read_entry::{ReadEntry, ReadSet};
+pub use read_phase::{ReadPhase, lead};
+pub use verdict::{Heard, Turn, Verdict};

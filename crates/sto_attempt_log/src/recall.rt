@@ -1,0 +1,175 @@
+//! What is known of a part without an event, with the pending updates applied.
+ghost use Rattle.std.specs.Prelude.{◌≡◌, ◌<◌, ◌≤◌, ◌^◌, ◌++◌, [], ◌∷◌, ℕ, ℤ, List, None, Some, false, true, length, map, IfOk, OnOk, IfSome, IfNone, MatchOption};
+ghost use Rattle.std.specs.Option.{option_map};
+ghost use Rattle.std.specs.List.{Contains};
+ghost use Rattle.sto_part.specs.Changes.{applied_all};
+ghost use Rattle.sto_item.specs.Pending.{changes_of, with_updates, AreUpdates};
+ghost use Rattle.sto_item.specs.Agreement.{HasWidths};
+ghost use Rattle.sto_item.specs.Rebase.{overwrites};
+ghost use Rattle.sto_type.specs.Known.{known, learnt};
+ghost use Rattle.sto_type.specs.Plans.{planned, IsPlan};
+ghost use Rattle.sto_attempt_log.specs.ReadSet.{words_in};
+ghost use Rattle.sto_attempt_log.specs.Log.{IsPending, IsRecalled, IsCache};
+ghost use Rattle.sto_attempt_log.specs.Refreshed.{outside, IsLearntAnew};
+ghost use Rattle.sto_item.specs.Recorded.{AddsItems};
+
+use crate::observed::Observed;
+use crate::read_entry::ReadSet;
+use std::alloc::Global;
+use sto_item::{Items, Updates};
+use sto_model::Call;
+use sto_part::{NoMemory, PartWords};
+use sto_type::{Answer, Cache, TxType};
+
+// The words with the pending updates of their part applied.
+fn updated<T: TxType>(
+    alloc: Global,
+    ty: &T,
+    set: &Observed,
+    part: u32,
+    words: &[i64],
+) -> Result<PartWords, NoMemory>
+    requires few { length words.now < 2 ^ 32 }
+    requires fits { length (changes_of set.now.updates part) ≤ length words.now }
+    ensures { IfOk result (λ made. made.items ≡ applied_all (changes_of set.now.updates part) words.now) }
+{
+    let mut made = PartWords::new(alloc);
+    for word in 0..words.len() as u32 {
+        made.push(ty.install(set.pending(part, word), words[word as usize]))?;
+    }
+    Ok(made)
+}
+
+/// The words of a part that was read, or that the pending updates put whole.
+pub(crate) fn recall<T: TxType>(
+    alloc: Global,
+    ty: &T,
+    base: &ReadSet,
+    set: &Observed,
+    part: u32,
+) -> Result<Option<PartWords>, NoMemory>
+    requires range { part < length (T.meaning ty.now).widths }
+    requires pending { IsPending (T.meaning ty.now) (words_in base.now.items) set.now.updates }
+    ensures known { IfOk result (λ o. MatchOption o (words_in base.now.items part ≡ None) (λ ws. IsRecalled (T.meaning ty.now) (words_in base.now.items) set.now.updates part ws.items)) }
+{
+    if let Some(read_entry) = base.find(part) {
+        return Ok(Some(updated(alloc, ty, set, part, read_entry.words.as_slice())?));
+    }
+    if set.overwrites(part) {
+        let zeros = PartWords::filled(alloc, 0, ty.width(part))?;
+        return Ok(Some(updated(alloc, ty, set, part, zeros.as_slice())?));
+    }
+    Ok(None)
+}
+
+/// What the type answers to a call, where no part that is known without an event is left to be needed.
+pub(crate) fn ask<T: TxType>(
+    alloc: Global,
+    ty: &T,
+    call: &Call,
+    base: &ReadSet,
+    set: &Observed,
+    cache: &mut Cache,
+) -> Result<Answer, NoMemory>
+    requires takes { (T.meaning ty.now).takes call.now }
+    requires pending { IsPending (T.meaning ty.now) (words_in base.now.items) set.now.updates }
+    requires cache { IsCache (T.meaning ty.now) (words_in base.now.items) set.now.updates (known cache.old) }
+    ensures plan { IfOk result (λ a. IsPlan (T.meaning ty.now) call.now (known cache.new) (planned a)) }
+    ensures cache { OnOk result (IsCache (T.meaning ty.now) (words_in base.now.items) set.now.updates (known cache.new)) }
+    ensures need { IfOk result (λ a. (p : ℕ) → a ≡ Answer.Need p → words_in base.now.items p ≡ None) }
+{
+    loop {
+        match ty.plan(alloc, call, &cache.all())? {
+            Answer::Need(part) => match recall(alloc, ty, base, set, part)? {
+                Some(words) => cache.learn(part, words.as_slice())?,
+                None => return Ok(Answer::Need(part)),
+            },
+            done => return Ok(done),
+        }
+    }
+}
+
+// Makes a part of one word known with the pending update of its part applied. It takes no list for the word.
+fn learn_word<T: TxType>(
+    ty: &T,
+    set: &Observed,
+    part: u32,
+    word: i64,
+    cache: &mut Cache,
+) -> Result<(), NoMemory>
+    requires fits { length (changes_of set.now.updates part) ≤ 1 }
+    ensures { OnOk result (known cache.new ≡ learnt (known cache.old) part (applied_all (changes_of set.now.updates part) (word ∷ []))) }
+{
+    let now = ty.install(set.pending(part, 0), word);
+    cache.learn(part, &[now])
+}
+
+// Recalls a part anew; where it is neither read nor put whole, all becomes unknown.
+fn learn_anew<T: TxType>(
+    alloc: Global,
+    ty: &T,
+    base: &ReadSet,
+    set: &Observed,
+    part: u32,
+    cache: &mut Cache,
+) -> Result<(), NoMemory>
+    requires range { part < length (T.meaning ty.now).widths }
+    requires pending { IsPending (T.meaning ty.now) (words_in base.now.items) set.now.updates }
+    ensures { OnOk result (IsLearntAnew (T.meaning ty.now) (words_in base.now.items) set.now.updates part (known cache.old) (known cache.new)) }
+{
+    if let Some(read_entry) = base.find(part) {
+        if read_entry.words.len() == 1 {
+            return learn_word(ty, set, part, *read_entry.words.get(0), cache);
+        }
+    }
+    match recall(alloc, ty, base, set, part)? {
+        Some(words) => cache.learn(part, words.as_slice()),
+        None => {
+            cache.forget();
+            Ok(())
+        }
+    }
+}
+
+/// Brings what is known up to date after the updates of a call: the parts that they name are recalled anew, all others stay.
+pub(crate) fn refresh<T: TxType>(
+    alloc: Global,
+    ty: &T,
+    base: &ReadSet,
+    set: &Observed,
+    updates: &Updates,
+    cache: &mut Cache,
+) -> Result<(), NoMemory>
+    requires widths { (d : List (List ℤ)) × (T.meaning ty.now).valid d × HasWidths updates.now.items d }
+    requires pending { IsPending (T.meaning ty.now) (words_in base.now.items) set.now.updates }
+    requires off { IsCache (T.meaning ty.now) (words_in base.now.items) set.now.updates (outside updates.now.items (known cache.old)) }
+    ensures { OnOk result (IsCache (T.meaning ty.now) (words_in base.now.items) set.now.updates (known cache.new)) }
+{
+    for entry in updates.as_slice() {
+        learn_anew(alloc, ty, base, set, entry.0, cache)?;
+    }
+    Ok(())
+}
+
+/// Adds items that are not there.
+pub(crate) fn add_items(set: &mut Observed, items: &Items) -> Result<(), NoMemory>
+    ensures { OnOk result (AddsItems set.old items.now.items set.new) }
+{
+    for place in 0..items.len() {
+        set.add_item(*items.get(place))?;
+    }
+    Ok(())
+}
+
+/// Composes updates after the pending ones.
+pub(crate) fn add_updates(set: &mut Observed, updates: &Updates) -> Result<(), NoMemory>
+    requires ordered { AreUpdates set.old.updates }
+    requires widths { (d : List (List ℤ)) × HasWidths set.old.updates d × HasWidths updates.now.items d }
+    ensures ok { OnOk result (set.new ≡ record set.old { updates = with_updates set.old.updates updates.now.items }) }
+    ensures ordered { AreUpdates updates.now.items }
+{
+    for entry in updates.as_slice() {
+        set.add_update(entry.0, &entry.1)?;
+    }
+    Ok(())
+}

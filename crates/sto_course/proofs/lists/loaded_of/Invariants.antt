@@ -1,7 +1,0 @@
-use Rattle.std.proofs.Common.{◌≡◌, [], drop}
-use Rattle.sto_core.specs.Allowed.{Rises}
-use Rattle.sto_course.specs.Gathering.{gathered, other_part}
-use Rattle.sto_course.proofs.lists.loaded_of.Given as goal
-
-abbrev pub invariant-loop-item : goal.invariant-loop-item
-invariant-loop-item l = (gathered (other_part l.seen) l.made.items (drop l.item-index l.items) ≡ gathered (other_part l.seen) [] l.items) × Rises l.made.items

@@ -1,6 +1,0 @@
-use Rattle.std.proofs.Common.{◌≡◌, ◌+◌, drop}
-use Rattle.sto_course.specs.Stages.{due}
-use Rattle.sto_course.proofs.lists.width_of_all.Given as goal
-
-abbrev pub invariant-loop-place : goal.invariant-loop-place
-invariant-loop-place g l = l.words + due (g.T.TxType.meaning l.ty).widths (drop l.place l.parts.items) ≡ due (g.T.TxType.meaning l.ty).widths l.parts.items

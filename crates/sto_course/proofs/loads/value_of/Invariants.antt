@@ -1,8 +1,0 @@
-use Rattle.std.proofs.Common.{◌≡◌, drop}
-use Rattle.sto_core.specs.Reads.{value_read}
-use Rattle.sto_course.specs.Stages.{reads_of}
-use Rattle.sto_course.proofs.loads.value_of.Given as goal
-
--- what was passed over is no read of the word
-abbrev pub invariant-loop-load : goal.invariant-loop-load
-invariant-loop-load l = value_read (reads_of l.loads l.part) l.word ≡ value_read (reads_of (drop l.load-index l.loads) l.part) l.word

@@ -1,6 +1,0 @@
-use Rattle.std.proofs.Common.{◌≡◌, take}
-use Rattle.sto_course.specs.Predicates.{preds_in}
-use Rattle.sto_course.proofs.predicates.preds_of.Given as goal
-
-abbrev pub invariant-loop-item : goal.invariant-loop-item
-invariant-loop-item l = l.found.items ≡ preds_in (take l.item-index l.items)

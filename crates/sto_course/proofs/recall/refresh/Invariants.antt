@@ -1,9 +1,0 @@
-use Rattle.std.proofs.Common.{drop}
-use Rattle.sto_type.specs.Known.{known}
-use Rattle.sto_course.specs.Sights.{words_in}
-use Rattle.sto_course.specs.Course.{IsCache}
-use Rattle.sto_course.specs.Refreshed.{outside}
-use Rattle.sto_course.proofs.recall.refresh.Given as goal
-
-abbrev pub invariant-loop-entry : goal.invariant-loop-entry
-invariant-loop-entry g l = IsCache (g.T.TxType.meaning l.ty) (words_in l.base.items) l.set.updates (outside (drop l.entry-index l.updates.items) (known l.cache))

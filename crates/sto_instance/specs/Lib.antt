@@ -1,6 +1,0 @@
-pub mod Turns
-pub mod LostUpdate
-pub mod Premises
-pub use Rattle.sto_lang.specs.Files
-pub use Rattle.sto_lawful.specs.Lawful
-pub use Rattle.sto_records.specs.Meanings

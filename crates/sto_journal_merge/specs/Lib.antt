@@ -1,0 +1,10 @@
+pub mod Tickets
+pub mod Splits
+pub mod PlainLines
+pub mod PlainAborts
+pub mod Sorting
+pub use Rattle.sto_attempt_facts.specs.Records
+pub use Rattle.sto_transaction.specs.Plain
+pub use Rattle.sto_lang.specs.Objects
+pub use Rattle.sto_journal.specs.Journals
+pub use Rattle.sto_serializability.specs.Merged

@@ -1,0 +1,13 @@
+pub mod Heard
+pub mod Runnable
+pub mod Runs
+pub use Rattle.sto_model.specs.Machine
+pub use Rattle.sto_model.specs.Objects
+pub use Rattle.sto_model.specs.Serial
+pub use Rattle.sto_model.specs.Told
+pub use Rattle.sto_lang.specs.Sound
+pub use Rattle.sto_lang.specs.Views
+pub use Rattle.sto_script.specs.Meaning
+pub use Rattle.sto_report_spec.specs.Orders
+pub use Rattle.sto_report_spec.specs.Replay
+pub use Rattle.sto_journal.specs.Journals

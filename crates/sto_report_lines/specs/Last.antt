@@ -1,0 +1,25 @@
+-- The last of the abort lines that were read.
+use Rattle.std.specs.Prelude.{◌≡◌, ℕ, ◌≤◌, List, [], ◌∷◌, ◌++◌, Option, None, Some}
+use Rattle.sto_report_spec.specs.Aborts.{Abort}
+use Rattle.sto_report_spec.specs.LawfulAborts.{IsSorted, count_at}
+use Rattle.sto_report_lines.specs.declared.last.LastAbort.{LastAbort}
+use Rattle.sto_report_lines.specs.Reading.{place_of}
+
+-- the last of some aborted attempts, with the number of those of its transaction
+pub record IsLast (all : List Abort) (last : LastAbort) : Type 0 where
+  pub before : List Abort
+  pub abort : Abort
+  pub are : all ≡ before ++ abort ∷ []
+  pub place : abort.place ≡ place_of last.at
+  pub seen : abort.seen ≡ last.seen
+  pub count : count_at abort.place all ≡ last.count
+  pub sorted : IsSorted all
+
+abbrev pub IsLastOf : List Abort → Option LastAbort → Type 0
+IsLastOf all None = all ≡ []
+IsLastOf all (Some last) = IsLast all last
+
+-- one more may follow, and is the last then; none is where it may not
+abbrev pub IsFollowed : List Abort → Abort → ℕ → Option LastAbort → Type 0
+IsFollowed before a tries None = count_at a.place (before ++ a ∷ []) ≤ tries → IsSorted (before ++ a ∷ []) → ⊥
+IsFollowed before a tries (Some last) = (count_at a.place (before ++ a ∷ []) ≤ tries) × IsSorted (before ++ a ∷ []) × IsLast (before ++ a ∷ []) last

@@ -1,0 +1,19 @@
+-- The order in which a feeder sends the transactions of a file.
+use Rattle.std.specs.Prelude.{◌≡◌, ◌⊎◌, ◌<◌, List}
+use Rattle.std.specs.List.{AllPairs}
+use Rattle.sto_run_threads.specs.Scripts.{File}
+use Rattle.sto_run_threads.specs.Orders.{Place, IsOrder}
+use Rattle.sto_run_queues.specs.declared.order.TransactionPlace as code
+
+-- the transaction that a place of the code names
+abbrev pub place_of : code.Place → Place
+place_of p = (p.thread, p.position)
+
+-- a lower position, or the same one of a lower thread
+abbrev pub Precedes : Place → Place → Type 0
+Precedes p q = (p.1 < q.1) ⊎ ((p.1 ≡ q.1) × (p.0 < q.0))
+
+-- every transaction of the file once: the first of each thread in rising thread number, then the second of each, and so on
+pub record AreInTurn (file : File) (order : List Place) : Type 0 where
+  pub all : IsOrder file order
+  pub rising : AllPairs Precedes order

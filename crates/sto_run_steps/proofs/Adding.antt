@@ -1,0 +1,134 @@
+-- The record of an attempt that has ended is added to those of its thread.
+use Rattle.std.specs.Prelude.{◌&&◌, if◌then◌else◌, ◌==◌, not}
+use Rattle.std.specs.List.{All}
+use Rattle.std.proofs.Common.{◌≡◌, ℕ, suc, ◌+◌, ◌-◌, ◌<◌, ◌≤◌, List, [], ◌∷◌, ◌++◌, map, length, refl, sym, ap, ◌∙◌, subst, arith, Bool, true, false, true≢false, cond, eq-eqb}
+use Rattle.std.proofs.lemmas.List.Elements.{All-cons, All-nil}
+use Rattle.sto_model.specs.Run.{Script as Steps}
+use Rattle.sto_lang.specs.Scripts.{File}
+use Rattle.sto_script.specs.Meaning.{meaning_of}
+use Rattle.sto_type.specs.Meaning.{Meaning}
+use Rattle.sto_core.specs.declared.view.View.{View}
+use Rattle.sto_run_threads.specs.Orders.{Place, count_in}
+use Rattle.sto_attempt_facts.specs.Records.{Record, is_abort}
+use Rattle.sto_attempt_facts.specs.Counted.{aborted_times, finished_places}
+use Rattle.sto_attempt_facts.specs.Added.{IsAdded, HasAdded}
+use Rattle.sto_attempt_facts.specs.Tried.{HasTried}
+use Rattle.sto_attempt_facts.specs.Trying.{HasFinding}
+use Rattle.sto_serializability.proofs.Working.{times_append, aborted_append}
+use Rattle.sto_run_threads.specs.Running.{ended_of}
+use Rattle.sto_run_threads.specs.Worked.{IsNext}
+use Rattle.sto_run_threads.proofs.Claiming.{snoc_length}
+use Rattle.sto_run_threads.proofs.Runs.{next_more}
+use Rattle.sto_run_steps.specs.Stepped.{HasMadeOne}
+use Rattle.sto_run_steps.specs.Seated.{IsBetween}
+use Rattle.sto_run_steps.proofs.Counting.{fewer_tries, fewer_transactions}
+
+counted : (a b c : Bool) → a ≡ true → b ≡ true → c ≡ true → ◌≡◌ {A = ℕ} ((if a && (b && c) then 1 else 0) + 0) 1
+counted true true true p q r = refl
+counted false b c p q r = absurd (true≢false (sym p))
+counted true false c p q r = absurd (true≢false (sym q))
+counted true true false p q r = absurd (true≢false (sym r))
+
+not_counted : (a b c : Bool) → c ≡ false → ◌≡◌ {A = ℕ} ((if a && (b && c) then 1 else 0) + 0) 0
+not_counted true true true r = absurd (true≢false r)
+not_counted true true false r = refl
+not_counted true false c r = refl
+not_counted false b c r = refl
+
+aborted_one : (place : Place) (r : Record) → r.place ≡ place → is_abort r.verdict ≡ true → aborted_times place (r ∷ []) ≡ 1
+aborted_one place r here is =
+    counted (r.place.0 == place.0) (r.place.1 == place.1) (is_abort r.verdict)
+    (eq-eqb r.place.0 place.0 (ap (λ (p : Place). p.0) here)) (eq-eqb r.place.1 place.1 (ap (λ (p : Place). p.1) here)) is
+
+ended_one : (place : Place) (r : Record) → is_abort r.verdict ≡ false → aborted_times place (r ∷ []) ≡ 0
+ended_one place r is = not_counted (r.place.0 == place.0) (r.place.1 == place.1) (is_abort r.verdict) is
+
+-- one attempt, as a run of its transaction
+one_added : (m : Meaning) (tries : ℕ) (v w : View) (f : Steps) (place : Place) (r : Record) → aborted_times place (r ∷ []) ≤ tries → HasTried m v w f place r → HasAdded m tries v w f place (r ∷ [])
+one_added m tries v w f place r few t = record {
+  grows = t.grows;
+  entries = λ n. (let a = t.committed n in omega (arith, a));
+  each = All-cons (IsAdded m v w f place) r [] t.added (All-nil (IsAdded m v w f place));
+  threads = (All-nil _, tt);
+  few = few;
+}
+
+one_found : (m : Meaning) (v w : View) (f : Steps) (place : Place) (r : Record) → HasTried m v w f place r → All (HasFinding v w) (r ∷ [])
+one_found m v w f place r t =
+    All-cons (HasFinding v w) r [] (record {
+      start = w.starts;
+      later = (let a = t.starts in omega (arith, a));
+      within = omega arith;
+      found = t.found;
+    }) (All-nil (HasFinding v w))
+
+finished_by : (b : Bool) (r : Record) → is_abort r.verdict ≡ b → finished_places (r ∷ []) ≡ (if not b then r.place ∷ [] else [])
+finished_by b r is = ap (λ (c : Bool). map (λ (x : Record). x.place) (cond (not c) (r ∷ []) [])) is ∙ by b
+  where
+    by : (c : Bool) → map (λ (x : Record). x.place) (cond (not c) (r ∷ []) []) ≡ (if not c then r.place ∷ [] else [])
+    by true = refl
+    by false = refl
+
+module _ (m : Meaning) (sizes : List ℕ) (file : File) (tries passes thread ended left : ℕ) (v w : View) (rs : List Record) (r : Record)
+    (h : IsBetween m sizes file tries passes thread ended left rs v) (next : ended < count_in file.threads thread) (again : 1 ≤ left)
+    (made : HasMadeOne m sizes file passes (thread, ended + 1) v w r) where
+  -- at the position after those that have ended
+  here : HasMadeOne m sizes file passes (thread, suc (ended_of thread rs)) v w r
+  here = subst (λ (p : ℕ). HasMadeOne m sizes file passes (thread, p) v w r) (let e = h.so_many in omega (arith, e)) made
+
+  few : (b : Bool) → is_abort r.verdict ≡ b → aborted_times (thread, suc (ended_of thread rs)) (r ∷ []) ≤ 1
+  few true is = let a = aborted_one (thread, suc (ended_of thread rs)) r here.tried.added.placed is in omega (arith, a)
+  few false is = let a = ended_one (thread, suc (ended_of thread rs)) r is in omega (arith, a)
+
+  tried : aborted_times (thread, suc (ended_of thread rs)) rs + left ≡ tries
+  tried = subst (λ (n : ℕ). aborted_times (thread, suc n) rs + left ≡ tries) (sym h.so_many) h.tried
+
+  longer : (b : Bool) → is_abort r.verdict ≡ b → IsNext m file tries w thread rs (rs ++ r ∷ []) (not b)
+  longer b is =
+      next_more m file tries v w thread rs (r ∷ []) here.script (not b) h.worked (let e = h.so_many in omega (arith, e, next)) here.there
+      (one_added m tries v w (meaning_of here.script) (thread, suc (ended_of thread rs)) r (let a = few b is in let t = tried in omega (arith, a, t, again)) here.tried)
+      (one_found m v w (meaning_of here.script) (thread, suc (ended_of thread rs)) r here.tried)
+      (let a = few b is in let t = tried in omega (arith, a, t, again))
+      (finished_by b r is ∙ at_place b)
+    where
+      at_place : (c : Bool) → (if not c then r.place ∷ [] else []) ≡ (if not c then (thread, suc (ended_of thread rs)) ∷ [] else [])
+      at_place true = refl
+      at_place false = ap (λ (p : Place). p ∷ []) here.tried.added.placed
+
+  one_start : w.starts ≡ length (rs ++ r ∷ [])
+  one_start = let a = h.starts in let b = here.tried.starts in let c = snoc_length rs r in omega (arith, a, b, c)
+
+  -- the attempt was aborted
+  pub kept_aborted : (later : ℕ) → is_abort r.verdict ≡ true → later + 1 ≡ left → IsBetween m sizes file tries passes thread ended later (rs ++ r ∷ []) w
+  kept_aborted later is used =
+      let k = longer true is in record {
+        rests = here.rests;
+        worked = k.worked;
+        tickets = λ t. (let a = times_append t rs (r ∷ []) in let b = h.tickets t in let c = here.tried.committed t in omega (arith, a, b, c));
+        own = λ u other. k.adds.apart u other (h.own u other);
+        starts = one_start;
+        so_many = k.left refl ∙ h.so_many;
+        tried = (let a = aborted_append (thread, suc ended) rs (r ∷ []) in
+            let b = aborted_one (thread, suc ended) r (here.tried.added.placed ∙ ap (λ (n : ℕ). (thread, suc n)) h.so_many) is in
+            let c = h.tried in omega (arith, a, b, c, used));
+        draws = (let a = h.draws in let b = here.tried.draws in
+            let c = fewer_tries tries left later (count_in file.threads thread - ended) (omega (arith, next)) used in omega (arith, a, b, c));
+        alone = λ one. absurd (true≢false (sym is ∙ here.alone one));
+      }
+
+  -- the transaction has ended
+  pub kept_ended : is_abort r.verdict ≡ false → IsBetween m sizes file tries passes thread (ended + 1) tries (rs ++ r ∷ []) w
+  kept_ended is =
+      let k = longer false is in record {
+        rests = here.rests;
+        worked = k.worked;
+        tickets = λ t. (let a = times_append t rs (r ∷ []) in let b = h.tickets t in let c = here.tried.committed t in omega (arith, a, b, c));
+        own = λ u other. k.adds.apart u other (h.own u other);
+        starts = one_start;
+        so_many = (let a = (k.more refl).0 in let b = h.so_many in omega (arith, a, b));
+        tried = (let a = subst (λ (n : ℕ). aborted_times (thread, suc n) (rs ++ r ∷ []) ≡ 0)
+            (let a = (k.more refl).0 in let b = h.so_many in let e : ended_of thread (rs ++ r ∷ []) ≡ ended + 1 = omega (arith, a, b) in e) (k.more refl).1 in omega (arith, a));
+        draws = (let a = h.draws in let b = here.tried.draws in
+            let c = fewer_transactions tries left (count_in file.threads thread) ended next in omega (arith, a, b, c, again));
+        alone = λ one place. (let a = aborted_append place rs (r ∷ []) in let b = ended_one place r is in let c = h.alone one place in omega (arith, a, b, c));
+      }

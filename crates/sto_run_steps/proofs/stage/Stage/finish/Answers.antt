@@ -1,0 +1,36 @@
+use Rattle.std.proofs.Common.{rules, ◌≡◌, zero, suc, length, ◌∙◌, refl, false}
+use Rattle.sto_run_steps.proofs.Turns.{rounds_more}
+use Rattle.sto_run_steps.proofs.stage.Stage.finish.Goals as goal
+
+pub loop-next-init : goal.loop-next-init
+loop-next-init g c = record {
+  seated = c.requires.seated;
+  many = refl;
+  turns = (zero, (refl, refl));
+}
+
+pub returns-then-not-moved-clause-over : goal.returns-then-not-moved-clause-over
+returns-then-not-moved-clause-over g c =
+    let off : c.in_ok-next.moved ≡ false = search rules in
+    c.in_ok-next.ensures.over off
+
+pub loop-next-preserved : goal.loop-next-preserved
+loop-next-preserved g c =
+    let inv = c.loop-next.invariant in
+    let first = c.args.self.seats.items in let stage = c.loop-next.stage in let next = c.in_ok-next.next in
+    record {
+      seated = c.in_ok-next.ensures.seated;
+      many = c.in_ok-next.ensures.many ∙ inv.many;
+      turns = (
+        suc inv.turns.0,
+        rounds_more g.T.Naming.valid (length first) (length stage.seats.items) inv.turns.0 c.args.self.words stage.words next.words first stage.seats.items next.seats.items inv.many inv.turns.1 c.in_ok-next.ensures.turns,
+      );
+    }
+
+pub returns-then-not-moved-clause-turns : goal.returns-then-not-moved-clause-turns
+returns-then-not-moved-clause-turns g c =
+    let inv = c.loop-next.invariant in
+    let first = c.args.self.seats.items in let stage = c.loop-next.stage in let next = c.in_ok-next.next in (
+      suc inv.turns.0,
+      rounds_more g.T.Naming.valid (length first) (length stage.seats.items) inv.turns.0 c.args.self.words stage.words next.words first stage.seats.items next.seats.items inv.many inv.turns.1 c.in_ok-next.ensures.turns,
+    )

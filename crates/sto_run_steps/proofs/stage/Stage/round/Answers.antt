@@ -1,0 +1,34 @@
+use Rattle.std.specs.Prelude.{◌⊎◌}
+use Rattle.std.proofs.Common.{◌≡◌, true, false, ◌∙◌, ap, arith, length, inl, inr}
+use Rattle.sto_run_steps.specs.Seated.{events_of_all}
+use Rattle.sto_run_steps.proofs.Seats.{round_more}
+use Rattle.sto_run_steps.proofs.Turns.{round_turn}
+use Rattle.sto_run_steps.proofs.stage.Stage.round.Goals as goal
+use Rattle.sto_run_steps.proofs.stage.Stage.round.Goals.{then-moved, else-moved}
+
+pub loop-thread-preserved : goal.loop-thread-preserved
+loop-thread-preserved g c =
+    let inv = c.loop-thread.invariant in
+    let how : ((c.loop-thread.moved ≡ true) × (c.if-moved.moved ≡ true)) ⊎ ((c.loop-thread.moved ≡ false) × (c.if-moved.moved ≡ c.in_ok-next.made)) =
+    elim c.if-moved.branch [
+      | then-moved w ↦ inl (w.if-moved.true, w.moved-is ∙ w.if-moved.true)
+      | else-moved w ↦ inr (w.if-moved.false, w.moved-is)
+    ] in
+    let k = round_more (events_of_all (g.W.Attempts.left c.args.work.now) (g.W.Attempts.most c.args.work.now)) c.if-moved.moved c.loop-thread.moved c.in_ok-next.made
+    c.args.self.seats.items c.loop-thread.stage.seats.items c.in_ok-next.next.seats.items c.loop-thread.thread inv.fewer inv.rest c.in_ok-next.ensures.made c.in_ok-next.ensures.over how in
+    record {
+      seated = c.in_ok-next.ensures.seated;
+      many = c.in_ok-next.ensures.many ∙ inv.many;
+      turns = round_turn g.T.Naming.valid c.loop-thread.thread c.args.self.words c.loop-thread.stage.words c.in_ok-next.next.words c.args.self.seats.items c.loop-thread.stage.seats.items c.in_ok-next.next.seats.items
+          inv.turns c.in_ok-next.ensures.turn;
+      end = inv.end;
+      fewer = k.0;
+      rest = k.1;
+    }
+
+pub returns-clause-over : goal.returns-clause-over
+returns-clause-over g c = λ still thread below s there.
+    let inv = c.loop-thread.invariant in
+    let rest = inv.rest still in
+    let many = ap (λ l. length l) rest.0 in
+    rest.1 thread (omega (arith, below, many, inv.end, c.loop-thread-test.false)) s (rw rest.0 at there)

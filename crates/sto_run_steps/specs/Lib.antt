@@ -1,0 +1,17 @@
+pub mod Stepped
+pub mod Counts
+pub mod Seated
+pub mod Proceeding
+pub mod Turning
+pub use Rattle.sto_core.specs.Opened
+pub use Rattle.sto_plain.specs.Passes
+pub use Rattle.sto_attempt_log.specs.Answers
+pub use Rattle.sto_attempt_log.specs.Bounds
+pub use Rattle.sto_transaction.specs.Plain
+pub use Rattle.sto_transaction.specs.Resting
+pub use Rattle.sto_lang.specs.Drafts
+pub use Rattle.sto_lang.specs.Views
+pub use Rattle.sto_report_spec.specs.Orders
+pub use Rattle.sto_serializability.specs.Finished
+pub use Rattle.sto_run_threads.specs.Ran
+pub use Rattle.sto_run_threads.specs.Worked

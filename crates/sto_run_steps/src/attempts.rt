@@ -1,0 +1,64 @@
+//! Attempts of transactions that are made event by event.
+ghost use Rattle.std.specs.Prelude.{◌≡◌, ◌≤◌, ℕ, IfOk};
+ghost use Rattle.sto_core.specs.declared.view.View.{View};
+ghost use Rattle.sto_transaction.specs.Answers.{OneEvent};
+ghost use Rattle.sto_run_threads.specs.Orders.{Place};
+ghost use Rattle.sto_transaction.specs.Resting.{IsAtRest};
+ghost use Rattle.sto_run_threads.specs.Ran.{IsTransaction};
+ghost use Rattle.sto_run_steps.specs.Stepped.{HasMadeOne, HasStepped};
+
+use std::alloc::Global;
+use sto_attempt::Verdict;
+use sto_core::Cells;
+use sto_model::Replies;
+use sto_part::{Naming, NoMemory};
+use sto_run_threads::Work;
+
+/// Where a step has led an attempt.
+#[derive(Drop)]
+pub enum Stepped {
+    /// There is a further event.
+    More,
+    /// It has ended: what its calls were answered, and how.
+    Ended { replies: Replies, verdict: Verdict },
+}
+
+/// What makes attempts of the transactions of a file, of which each is a machine `M` that makes one event at a time.
+///
+/// Many attempts may run side by side, each on a pass of its own.
+pub trait Attempts<T: Naming, M>: Work<T> {
+    /// On words with so many passes, the machine of an attempt of this transaction, which began at the first view, has led to the second.
+    ghost fits: { Self → ℕ → Place → M → View → View → Type 0 };
+
+    /// How many events are left at most.
+    ghost left: { Self → M → ℕ };
+
+    /// How many events an attempt makes at most.
+    ghost most: { Self → ℕ };
+
+    /// How many attempts of a transaction may be aborted.
+    fn most_tries(&self) -> u32
+        ensures { result ≡ Self.tries self.now };
+
+    /// An attempt of the transaction at a place, which has made no event yet.
+    fn begin(&self, alloc: Global, thread: u32, position: u32) -> Result<M, NoMemory>
+        requires ready { Self.ready self.now }
+        requires there { IsTransaction (Self.file self.now) (thread, position) }
+        ensures fits { IfOk result (λ trial. (passes : ℕ) (v : View) → IsAtRest (Self.meaning self.now) (Self.sizes self.now) v → 1 ≤ v.draws → fits self.now passes (thread, position) trial v v) }
+        ensures left { IfOk result (λ trial. left self.now trial ≤ most self.now) };
+
+    /// Makes the next event of an attempt of the transaction at a place, on the pass of the events before, with its view as they left it.
+    fn step<C: Cells<T>>(
+        &self,
+        alloc: Global,
+        trial: &mut M,
+        thread: u32,
+        position: u32,
+        cells: &mut C,
+    ) -> Result<Stepped, NoMemory>
+        requires { (begun : View) × fits self.now (C.passes cells.old) (thread, position) trial.old begun (C.view cells.old) }
+        ensures same { C.same cells.old cells.new }
+        ensures event { OneEvent (λ _. Unit {0}) T.valid (C.passes cells.old) (C.view cells.old) (C.view cells.new) }
+        ensures stepped { (begun : View) → fits self.now (C.passes cells.old) (thread, position) trial.old begun (C.view cells.old)
+            → IfOk result (HasStepped (fits self.now (C.passes cells.old) (thread, position)) (left self.now) (HasMadeOne (Self.meaning self.now) (Self.sizes self.now) (Self.file self.now) (C.passes cells.old) (thread, position)) (thread, position) (left self.now trial.old) trial.new begun (C.view cells.new)) };
+}

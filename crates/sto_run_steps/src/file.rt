@@ -1,0 +1,143 @@
+//! A whole file, stepped.
+ghost use Rattle.std.specs.Prelude.{◌≡◌, ◌≤◌, ◌<◌, ◌+◌, ◌*◌, ◌^◌, [], map, max, length, IfOk};
+ghost use Rattle.std.specs.List.{All, flat_map};
+ghost use Rattle.sto_core.specs.Opened.{opened_core};
+ghost use Rattle.sto_run_threads.specs.Orders.{count_in};
+ghost use Rattle.sto_transaction.specs.Plain.{plain};
+ghost use Rattle.sto_transaction.specs.Resting.{IsAtRest};
+ghost use Rattle.sto_serializability.specs.Finished.{AreFinished};
+ghost use Rattle.sto_plain.specs.Passes.{view_of};
+ghost use Rattle.sto_run_threads.specs.Counts.{scripts_from};
+ghost use Rattle.sto_run_threads.specs.Worked.{AbortsNone};
+ghost use Rattle.sto_run_steps.specs.Seated.{AreNew, AreSeated};
+ghost use Rattle.sto_run_steps.specs.Turning.{WereStepped};
+
+use crate::attempts::Attempts;
+use crate::seat::Seat;
+use crate::stage::Stage;
+use std::alloc::Global;
+use sto_lang::Turns;
+use sto_part::{Contents, Naming, NoMemory};
+use sto_plain::Plain;
+use sto_run_threads::{FinishedRun, Work, run_left};
+use sto_transaction::Record;
+
+// How many passes there are: one for each script thread, and one where there is none.
+fn passes_of<T: Naming, W: Work<T>>(work: &W) -> u32
+    ensures { result ≡ max 1 (length (W.file work.now).threads) }
+{
+    match work.threads() {
+        0 => 1,
+        threads => threads,
+    }
+}
+
+// How many transactions the thread of a pass has.
+#[tactic(auto, using(crate::proofs::Opening::none_past))]
+fn count_of<T: Naming, W: Work<T>>(work: &W, thread: u32) -> u32
+    ensures { result ≡ count_in (W.file work.now).threads thread }
+{
+    if thread < work.threads() {
+        work.count(thread)
+    } else {
+        0
+    }
+}
+
+// A seat for each pass.
+fn seats_of<T: Naming, M: Drop, W: Attempts<T, M>>(
+    work: &W,
+    alloc: Global,
+) -> Result<Vec<Seat<M>>, NoMemory>
+    ensures many { IfOk result (λ seats. length seats.items ≡ max 1 (length (W.file work.now).threads)) }
+    ensures begun { IfOk result (λ seats. AreNew (W.file work.now).threads (W.tries work.now) seats.items) }
+{
+    let tries = work.most_tries();
+    let mut seats = Vec::new(alloc);
+    for thread in 0..passes_of(work) {
+        match seats.push(Seat::new(alloc, count_of(work, thread), tries)) {
+            Ok(()) => {}
+            Err(_) => return Err(NoMemory),
+        }
+    }
+    Ok(seats)
+}
+
+// Opens the words with a pass for each seat.
+fn open<T: Naming, M: Drop, W: Attempts<T, M>>(
+    work: &W,
+    alloc: Global,
+    ty: &T,
+    contents: &Contents,
+) -> Result<Stage<T, M>, NoMemory>
+    requires ty { (T.sizes ty.now ≡ W.sizes work.now) × (contents.now.items ≡ (W.meaning work.now).opened) }
+    requires valid { T.valid (T.sizes ty.now) contents.now.items }
+    requires threads { length (W.file work.now).threads ≤ 65536 }
+    requires few { W.tries work.now * scripts_from (W.file work.now).threads 0 + W.tries work.now * scripts_from (W.file work.now).threads 0 ≤ 2 ^ 40 }
+    ensures many { IfOk result (λ s. length s.seats.items ≡ max 1 (length (W.file work.now).threads)) }
+    ensures opened { IfOk result (λ s. s.words ≡ opened_core (T.sizes ty.now) contents.now.items (length s.seats.items)) }
+    ensures begun { IfOk result (λ s. AreNew (W.file work.now).threads (W.tries work.now) s.seats.items) }
+    ensures seated { IfOk result (λ s. AreSeated (W.meaning work.now) (W.sizes work.now) (W.file work.now) (W.tries work.now) (W.fits work.now) s.words s.seats.items) }
+{
+    let seats = seats_of(work, alloc)?;
+    let words = Plain::open(alloc, ty, contents, seats.len() as u32)?;
+    Ok(Stage { words, seats })
+}
+
+// The records of all threads, thread by thread.
+fn records_of<M: Drop>(alloc: Global, seats: Vec<Seat<M>>) -> Result<Vec<Record>, NoMemory>
+    ensures { IfOk result (λ records. records.items ≡ flat_map (λ seat. seat.records.items) seats.items) }
+{
+    let mut records = Vec::new(alloc);
+    for seat in seats {
+        let mut own = seat.into_records();
+        match records.append(&mut own) {
+            Ok(()) => {}
+            Err(_) => return Err(NoMemory),
+        }
+    }
+    Ok(records)
+}
+
+/// Steps the script threads of a file, each on a pass of its own: by the schedule first, then one event each in rising thread number until
+/// each has ended or stopped. What was handed back is then run on the one pass of the reopened words, in rising thread and position.
+///
+/// An entry of the schedule, or the rest of one, for a thread that has ended or stopped is skipped.
+pub fn step_threads<T: Naming, M: Drop, W: Attempts<T, M>>(
+    work: &W,
+    alloc: Global,
+    ty: &T,
+    contents: &Contents,
+    schedule: &[Turns],
+) -> Result<FinishedRun<T>, NoMemory>
+    requires ready { W.ready work.now }
+    requires ty { (T.sizes ty.now ≡ W.sizes work.now) × (contents.now.items ≡ (W.meaning work.now).opened) }
+    requires valid { T.valid (T.sizes ty.now) contents.now.items }
+    requires schedule { All (λ turns. turns.thread < length (W.file work.now).threads) schedule.now }
+    requires threads { length (W.file work.now).threads ≤ 65536 }
+    requires few { W.tries work.now * scripts_from (W.file work.now).threads 0 + W.tries work.now * scripts_from (W.file work.now).threads 0 ≤ 2 ^ 40 }
+    ensures one { IfOk result (λ e. (length e.words.views ≡ 1) × (length e.words.statuses ≡ 1)) }
+    ensures rests { IfOk result (λ e. IsAtRest (W.meaning work.now) (W.sizes work.now) (view_of e.words 0)) }
+    ensures finished { IfOk result (λ e. AreFinished (W.meaning work.now) (W.file work.now) (W.tries work.now) (view_of e.words 0) (map plain e.records.items)) }
+
+    // Each event is made in the turn of its thread.
+    ensures stepped { IfOk result (λ e. WereStepped M T.valid (W.file work.now).threads (W.tries work.now) schedule.now (opened_core (T.sizes ty.now) contents.now.items (max 1 (length (W.file work.now).threads))) (map plain e.records.items)) }
+
+    // With one thread no attempt is aborted.
+    ensures alone { length (W.file work.now).threads ≤ 1 → IfOk result (λ e. AbortsNone [] (map plain e.records.items)) }
+{
+    let stage = open(work, alloc, ty, contents)?;
+    let stage = stage.follow(work, alloc, schedule)?;
+    let Stage { words, seats } = stage.finish(work, alloc)?;
+    let mut records = records_of(alloc, seats)?;
+    let words = match Plain::reopen(words.close()) {
+        Ok(words) => words,
+        Err(_) => return Err(NoMemory),
+    };
+    let mut pass = words.at(0);
+    run_left(work, alloc, &mut pass, &mut records)?;
+    Ok(FinishedRun {
+        records,
+        words: pass.back(),
+    })
+}

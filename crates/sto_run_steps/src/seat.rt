@@ -1,0 +1,141 @@
+//! A script thread, as far as it has come.
+ghost use Rattle.std.specs.Prelude.{◌≡◌, ◌≤◌, ◌<◌, ◌+◌, ◌-◌, ◌↔◌, ℕ, map, IsTrue, IfOk, OnOk, OnErr};
+ghost use Rattle.sto_core.specs.declared.view.View.{View};
+
+use crate::attempts::{Attempts, Stepped};
+use std::alloc::Global;
+use sto_attempt::Verdict;
+use sto_core::Cells;
+use sto_part::{Naming, NoMemory};
+use sto_transaction::Record;
+
+/// A script thread, of whose transactions the first so many have ended.
+#[derive(Drop)]
+pub(crate) struct Seat<M> {
+    /// The attempt that runs.
+    trial: Option<M>,
+    /// How many transactions have ended.
+    ended: u32,
+    /// How many there are.
+    count: u32,
+    /// How many more attempts of the next one may be aborted.
+    left: u32,
+    /// How many attempts of each may be aborted.
+    tries: u32,
+    /// Of the attempts that have ended.
+    pub(crate) records: Vec<Record>,
+}
+
+impl<M: Drop> Seat<M> {
+    ghost use Rattle.sto_run_threads.specs.Orders.{count_in};
+    ghost use Rattle.sto_transaction.specs.Plain.{plain};
+    ghost use Rattle.sto_run_steps.specs.Counts.{attempts_left, events_left};
+    ghost use Rattle.sto_run_steps.specs.Seated.{IsNew, IsSeated, IsWithin, IsIn, IsOver, HasKept, events_of};
+    ghost use Rattle.sto_run_steps.specs.Turning.{AnEvent};
+
+    /// A thread with so many transactions, of which none has begun.
+    pub(crate) fn new(alloc: Global, count: u32, tries: u32) -> Seat<M>
+        ensures { IsNew count tries result }
+    {
+        Seat {
+            trial: None,
+            ended: 0,
+            count,
+            left: tries,
+            tries,
+            records: Vec::new(alloc),
+        }
+    }
+
+    /// Whether it has ended, or stopped where its next transaction has used up its tries.
+    pub(crate) fn is_over(&self) -> bool
+        ensures { IsTrue result ↔ IsOver self.now }
+    {
+        self.ended == self.count || self.left == 0
+    }
+
+    /// The records of its attempts.
+    pub(crate) fn into_records(self) -> Vec<Record>
+        ensures { result ≡ self.records }
+    {
+        let Seat { records, .. } = self;
+        records
+    }
+
+    /// Makes the next event of the thread, which is not over, on its pass. Where there is no memory, no record is added.
+    pub(crate) fn step<T: Naming, W: Attempts<T, M>, C: Cells<T>>(
+        &mut self,
+        work: &W,
+        alloc: Global,
+        thread: u32,
+        cells: &mut C,
+    ) -> Result<(), NoMemory>
+        requires ready { W.ready work.now }
+        requires seated { IsSeated (W.meaning work.now) (W.sizes work.now) (W.file work.now) (W.tries work.now) (C.passes cells.old) (W.fits work.now (C.passes cells.old)) thread (C.view cells.old) self.old }
+        requires going { IsOver self.old → ⊥ }
+        ensures same { C.same cells.old cells.new }
+        ensures event { OnOk result (AnEvent T.valid (C.passes cells.old) (C.view cells.old) (C.view cells.new)) }
+        ensures seated { OnOk result (IsSeated (W.meaning work.now) (W.sizes work.now) (W.file work.now) (W.tries work.now) (C.passes cells.old) (W.fits work.now (C.passes cells.old)) thread (C.view cells.new) self.new) }
+        ensures left { OnOk result (events_of (W.left work.now) (W.most work.now) self.new < events_of (W.left work.now) (W.most work.now) self.old) }
+        ensures unmade { OnErr result (self.new.records.items ≡ self.old.records.items) }
+    {
+        let position = self.ended + 1;
+        self.begin(work, alloc, thread)?;
+        let Some(trial) = &mut self.trial else {
+            unreachable!()
+        };
+        match work.step(alloc, trial, thread, position, cells)? {
+            Stepped::More => Ok(()),
+            Stepped::Ended { replies, verdict } => {
+                self.trial = None;
+                self.keep(Record {
+                    thread,
+                    position,
+                    replies,
+                    verdict,
+                })
+            }
+        }
+    }
+
+    // Begins the next attempt where none runs.
+    fn begin<T: Naming, W: Attempts<T, M>>(
+        &mut self,
+        work: &W,
+        alloc: Global,
+        thread: u32,
+    ) -> Result<(), NoMemory>
+        requires ready { W.ready work.now }
+        requires counted { self.old.count ≡ count_in (W.file work.now).threads thread }
+        requires within { self.old.ended ≤ self.old.count }
+        requires going { IsOver self.old → ⊥ }
+        ensures kept { self.new ≡ record self.old { trial = self.new.trial } }
+        ensures within { OnOk result ((passes : ℕ) (v : View) → IsSeated (W.meaning work.now) (W.sizes work.now) (W.file work.now) (W.tries work.now) passes (W.fits work.now passes) thread v self.old → IsIn (IsWithin (W.meaning work.now) (W.sizes work.now) (W.file work.now) (W.tries work.now) passes thread self.old.ended self.old.left (map plain self.old.records.items) (W.fits work.now passes (thread, self.old.ended + 1))) self.new.trial v) }
+        ensures left { OnOk result (events_left (W.left work.now) (W.most work.now) (attempts_left self.old.tries self.old.left (self.old.count - self.old.ended)) self.new.trial ≤ events_of (W.left work.now) (W.most work.now) self.old) }
+    {
+        if self.trial.is_none() {
+            self.trial = Some(work.begin(alloc, thread, self.ended + 1)?);
+        }
+        Ok(())
+    }
+
+    // Keeps the record of an attempt of the next transaction: it has ended, or a try is used up.
+    fn keep(&mut self, attempt: Record) -> Result<(), NoMemory>
+        requires next { self.old.ended < self.old.count }
+        requires again { 1 ≤ self.old.left }
+        ensures kept { OnOk result (HasKept (plain attempt) self.old self.new) }
+        ensures unmade { OnErr result (self.new.records.items ≡ self.old.records.items) }
+    {
+        match attempt.verdict {
+            Verdict::Locked { .. } | Verdict::Changed { .. } => self.left -= 1,
+            _ => {
+                self.ended += 1;
+                self.left = self.tries;
+            }
+        }
+        match self.records.push(attempt) {
+            Ok(()) => Ok(()),
+            Err(_) => Err(NoMemory),
+        }
+    }
+}

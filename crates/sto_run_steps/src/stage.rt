@@ -1,0 +1,143 @@
+//! All script threads, each at its seat, with the words that their passes share.
+ghost use Rattle.std.specs.Prelude.{◌≡◌, ◌<◌, ℕ, length, true, false, IfOk};
+ghost use Rattle.std.specs.List.{All, flat_map};
+ghost use Rattle.sto_run_threads.specs.Orders.{numbers_from};
+
+use crate::attempts::Attempts;
+use crate::seat::Seat;
+use std::alloc::Global;
+use sto_lang::Turns;
+use sto_part::{Naming, NoMemory};
+use sto_plain::Plain;
+
+/// The words, with a pass for each script thread, and the threads in the order of their passes.
+#[derive(Drop)]
+pub(crate) struct Stage<T: Naming, M> {
+    pub(crate) words: Plain<T>,
+    pub(crate) seats: Vec<Seat<M>>,
+}
+
+impl<T: Naming, M: Drop> Stage<T, M> {
+    ghost use Rattle.sto_run_steps.specs.Seated.{AreSeated, IsOverAt, AreOver, events_of_all};
+    ghost use Rattle.sto_run_steps.specs.Turning.{HasTurn, HaveTurns, entry_turns, round_turns};
+
+    // Makes an event of the thread, where it is not over. It answers whether it did.
+    fn turn<W: Attempts<T, M>>(
+        self,
+        work: &W,
+        alloc: Global,
+        thread: u32,
+    ) -> Result<(Stage<T, M>, bool), NoMemory>
+        requires ready { W.ready work.now }
+        requires seated { AreSeated (W.meaning work.now) (W.sizes work.now) (W.file work.now) (W.tries work.now) (W.fits work.now) self.words self.seats.items }
+        requires inside { thread < length self.seats.items }
+        ensures turn { IfOk result (λ s. HasTurn T.valid thread self.words self.seats.items s.0.words s.0.seats.items) }
+        ensures seated { IfOk result (λ s. AreSeated (W.meaning work.now) (W.sizes work.now) (W.file work.now) (W.tries work.now) (W.fits work.now) s.0.words s.0.seats.items) }
+        ensures many { IfOk result (λ s. length s.0.seats.items ≡ length self.seats.items) }
+        ensures made { IfOk result (λ s. s.1 ≡ true → events_of_all (W.left work.now) (W.most work.now) s.0.seats.items < events_of_all (W.left work.now) (W.most work.now) self.seats.items) }
+        ensures over { IfOk result (λ s. s.1 ≡ false → (s.0.seats.items ≡ self.seats.items) × IsOverAt thread self.seats.items) }
+    {
+        let Stage { words, mut seats } = self;
+        if seats[thread as usize].is_over() {
+            return Ok((Stage { words, seats }, false));
+        }
+        let mut pass = words.at(thread);
+        seats[thread as usize].step(work, alloc, thread, &mut pass)?;
+        let words = pass.back();
+        Ok((Stage { words, seats }, true))
+    }
+
+    // Gives a thread as many events as an entry of a schedule says, or as many as it has.
+    fn take_turns<W: Attempts<T, M>>(
+        self,
+        work: &W,
+        alloc: Global,
+        turns: &Turns,
+    ) -> Result<Stage<T, M>, NoMemory>
+        requires ready { W.ready work.now }
+        requires seated { AreSeated (W.meaning work.now) (W.sizes work.now) (W.file work.now) (W.tries work.now) (W.fits work.now) self.words self.seats.items }
+        requires inside { turns.now.thread < length self.seats.items }
+        ensures turns { IfOk result (λ s. HaveTurns T.valid (entry_turns turns.now) self.words self.seats.items s.words s.seats.items) }
+        ensures seated { IfOk result (λ s. AreSeated (W.meaning work.now) (W.sizes work.now) (W.file work.now) (W.tries work.now) (W.fits work.now) s.words s.seats.items) }
+        ensures many { IfOk result (λ s. length s.seats.items ≡ length self.seats.items) }
+    {
+        let mut stage = self;
+        for _ in 0..turns.steps {
+            let (next, made) = stage.turn(work, alloc, turns.thread)?;
+            stage = next;
+            if !made {
+                return Ok(stage);
+            }
+        }
+        Ok(stage)
+    }
+
+    /// Steps the threads by a schedule.
+    pub(crate) fn follow<W: Attempts<T, M>>(
+        self,
+        work: &W,
+        alloc: Global,
+        schedule: &[Turns],
+    ) -> Result<Stage<T, M>, NoMemory>
+        requires ready { W.ready work.now }
+        requires seated { AreSeated (W.meaning work.now) (W.sizes work.now) (W.file work.now) (W.tries work.now) (W.fits work.now) self.words self.seats.items }
+        requires inside { All (λ turns. turns.thread < length self.seats.items) schedule.now }
+        ensures turns { IfOk result (λ s. HaveTurns T.valid (flat_map entry_turns schedule.now) self.words self.seats.items s.words s.seats.items) }
+        ensures seated { IfOk result (λ s. AreSeated (W.meaning work.now) (W.sizes work.now) (W.file work.now) (W.tries work.now) (W.fits work.now) s.words s.seats.items) }
+        ensures many { IfOk result (λ s. length s.seats.items ≡ length self.seats.items) }
+    {
+        let mut stage = self;
+        for turns in schedule {
+            stage = stage.take_turns(work, alloc, turns)?;
+        }
+        Ok(stage)
+    }
+
+    // Makes one event of each thread that is not over, in rising order. It answers whether there was one.
+    fn round<W: Attempts<T, M>>(
+        self,
+        work: &W,
+        alloc: Global,
+    ) -> Result<(Stage<T, M>, bool), NoMemory>
+        requires ready { W.ready work.now }
+        requires seated { AreSeated (W.meaning work.now) (W.sizes work.now) (W.file work.now) (W.tries work.now) (W.fits work.now) self.words self.seats.items }
+        ensures turns { IfOk result (λ s. HaveTurns T.valid (numbers_from 0 (length self.seats.items)) self.words self.seats.items s.0.words s.0.seats.items) }
+        ensures seated { IfOk result (λ s. AreSeated (W.meaning work.now) (W.sizes work.now) (W.file work.now) (W.tries work.now) (W.fits work.now) s.0.words s.0.seats.items) }
+        ensures many { IfOk result (λ s. length s.0.seats.items ≡ length self.seats.items) }
+        ensures moved { IfOk result (λ s. s.1 ≡ true → events_of_all (W.left work.now) (W.most work.now) s.0.seats.items < events_of_all (W.left work.now) (W.most work.now) self.seats.items) }
+        ensures over { IfOk result (λ s. s.1 ≡ false → AreOver (length s.0.seats.items) s.0.seats.items) }
+    {
+        let mut stage = self;
+        let mut moved = false;
+        let count = stage.seats.len() as u32;
+        for thread in 0..count {
+            let (next, made) = stage.turn(work, alloc, thread)?;
+            stage = next;
+            moved = moved || made;
+        }
+        Ok((stage, moved))
+    }
+
+    /// Steps the threads in turn until all are over.
+    pub(crate) fn finish<W: Attempts<T, M>>(
+        self,
+        work: &W,
+        alloc: Global,
+    ) -> Result<Stage<T, M>, NoMemory>
+        requires ready { W.ready work.now }
+        requires seated { AreSeated (W.meaning work.now) (W.sizes work.now) (W.file work.now) (W.tries work.now) (W.fits work.now) self.words self.seats.items }
+        ensures turns { IfOk result (λ s. (rounds : ℕ) × HaveTurns T.valid (round_turns (length self.seats.items) rounds) self.words self.seats.items s.words s.seats.items) }
+        ensures seated { IfOk result (λ s. AreSeated (W.meaning work.now) (W.sizes work.now) (W.file work.now) (W.tries work.now) (W.fits work.now) s.words s.seats.items) }
+        ensures many { IfOk result (λ s. length s.seats.items ≡ length self.seats.items) }
+        ensures over { IfOk result (λ s. AreOver (length s.seats.items) s.seats.items) }
+    {
+        let mut stage = self;
+        loop {
+            let (next, moved) = stage.round(work, alloc)?;
+            stage = next;
+            if !moved {
+                return Ok(stage);
+            }
+        }
+    }
+}

@@ -1,0 +1,25 @@
+-- Which starts and commits of a pass its records account for.
+use Rattle.std.specs.Prelude.{◌≡◌, ◌≤◌, ℕ, ◌+◌, ◌*◌, List, length}
+use Rattle.sto_core.specs.declared.view.View.{View}
+use Rattle.sto_core.specs.Rule.{total}
+use Rattle.sto_attempt_facts.specs.Records.{Record, times_written}
+use Rattle.sto_attempt_facts.specs.Counted.{times_committed}
+
+-- from the view v to the view w records were added: as many as there were starts, and those that wrote are the new committed entries
+pub record AddsUp (v w : View) (rs later : List Record) : Type 0 where
+  pub tickets : (t : ℕ) → times_committed t w.entries + times_written t rs ≡ times_committed t v.entries + times_written t later
+  pub starts : w.starts + length rs ≡ v.starts + length later
+
+-- the view has gathered passes with these views, which made these records since, and drew at most so often each
+pub record HasGathered (need : ℕ) (before : List View) (v : View) (rs : List Record) : Type 0 where
+  pub gathered : v.gathered ≡ total (λ u. u.gathered) before
+  pub draws : total (λ u. u.draws) before ≤ v.draws + need * length before
+  pub starts : v.starts ≡ total (λ u. u.starts) before + length rs
+  pub tickets : (t : ℕ) → times_committed t v.entries ≡ total (λ u. times_committed t u.entries) before + times_written t rs
+
+-- the view has gathered all passes of words with so many, it may draw so often, and its records account for all that was done on them
+pub record HasAll (need passes : ℕ) (v : View) (rs : List Record) : Type 0 where
+  pub gathered : v.gathered ≡ passes
+  pub draws : need ≤ v.draws
+  pub starts : v.starts ≡ length rs
+  pub tickets : (t : ℕ) → times_written t rs ≡ times_committed t v.entries

@@ -1,0 +1,27 @@
+-- A run of one transaction of a file.
+use Rattle.std.specs.Prelude.{◌≡◌, ℕ, List, Bool, Some}
+use Rattle.sto_lang.specs.Scripts.{Script, File}
+use Rattle.sto_script.specs.Meaning.{meaning_of}
+use Rattle.sto_type.specs.Meaning.{Meaning}
+use Rattle.sto_core.specs.declared.view.View.{View}
+use Rattle.sto_report_spec.specs.Orders.{Place, transaction_at}
+use Rattle.sto_attempt_facts.specs.Records.{Record}
+use Rattle.sto_transaction.specs.Ran.{HasRun, HasBroken}
+
+-- the file has a transaction at the place
+pub record IsTransaction (file : File) (place : Place) : Type 0 where
+  pub script : Script
+  pub there : transaction_at file place ≡ Some script
+
+-- from the view v to the view w, on words with so many passes, that transaction was run with so many tries. It has ended, or is
+-- handed back
+pub record HasRunAt (m : Meaning) (sizes : List ℕ) (file : File) (tries passes : ℕ) (v w : View) (place : Place) (before later : List Record) (ended : Bool) : Type 0 where
+  pub script : Script
+  pub there : transaction_at file place ≡ Some script
+  pub ran : HasRun m sizes tries passes v w (meaning_of script) place before later ended
+
+-- memory was wanting in a run of that transaction
+pub record HasBrokenAt (m : Meaning) (sizes : List ℕ) (file : File) (tries : ℕ) (v w : View) (place : Place) (before later : List Record) : Type 0 where
+  pub script : Script
+  pub there : transaction_at file place ≡ Some script
+  pub broken : HasBroken m sizes tries v w (meaning_of script) place before later

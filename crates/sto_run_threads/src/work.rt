@@ -1,0 +1,106 @@
+//! The transactions of a file as work.
+ghost use Rattle.std.specs.Prelude.{◌<◌};
+ghost use Rattle.sto_lang.specs.Views.{file as view};
+ghost use Rattle.sto_run_threads.specs.Taken.{IsTaken};
+
+use crate::gate::Gate;
+use crate::one::Work;
+use crate::turn::{HeldTurn, RetryTurn};
+use crossbeam_utils::Backoff;
+use std::alloc::Global;
+use std::mem;
+use sto_core::Cells;
+use sto_lang::File;
+use sto_part::NoMemory;
+use sto_script::ScriptBody;
+use sto_transaction::{Record, Transacted, Transaction, Watch};
+use sto_type::TxType;
+
+// Tells a gate how far a transaction is, takes the turn once an attempt was aborted, and backs off between two tries.
+#[derive(Drop)]
+struct AtGate<'g, G> {
+    gate: &'g G,
+    thread: u32,
+    position: u32,
+    turn: &'g RetryTurn,
+    held: Option<HeldTurn<'g>>,
+    backoff: Backoff,
+}
+
+impl<G: Gate> Watch for AtGate<'_, G> {
+    fn before_event(&mut self, events: u64) {
+        self.gate.during(self.thread, self.position, events);
+    }
+
+    fn before_retry(&mut self) {
+        match self.held {
+            Some(_) => self.backoff.snooze(),
+            None => self.held = self.turn.take(),
+        }
+    }
+}
+
+/// A file, the type of its objects, how many attempts of a transaction may be aborted, who is told, and whose turn it is once some were.
+#[derive(Drop)]
+pub struct FileWork<'f, T: TxType, G: Gate> {
+    pub file: &'f File,
+    pub ty: &'f T,
+    pub tries: u32,
+    pub gate: &'f G,
+    pub turn: &'f RetryTurn,
+}
+
+impl<T: TxType, G: Gate> Work<T> for FileWork<'_, T, G> {
+    ghost file = { λ w. view w.file.now };
+
+    ghost meaning = { λ w. T.meaning w.ty.now };
+
+    ghost sizes = { λ w. T.sizes w.ty.now };
+
+    ghost tries = { λ w. w.tries };
+
+    ghost ready = { λ w. IsTaken (view w.file.now) (T.meaning w.ty.now) × (0 < w.tries) };
+
+    fn threads(&self) -> u32 {
+        self.file.threads.len()
+    }
+
+    fn count(&self, thread: u32) -> u32 {
+        self.file.threads.get(thread).scripts.len()
+    }
+
+    fn run_one<C: Cells<T>>(
+        &self,
+        alloc: Global,
+        cells: &mut C,
+        thread: u32,
+        position: u32,
+        records: &mut Vec<Record>,
+    ) -> Result<bool, NoMemory> {
+        self.gate.before(thread, position);
+        let script = self.file.threads.get(thread).scripts.get(position - 1);
+        let body = ScriptBody::new(alloc, script)?;
+        let transaction = Transaction {
+            ty: self.ty,
+            body,
+            thread,
+            position,
+            tries: self.tries,
+        };
+        let mut watch = AtGate {
+            gate: self.gate,
+            thread,
+            position,
+            turn: self.turn,
+            held: None,
+            backoff: Backoff::new(),
+        };
+        let Transacted { ended, .. } = transaction.run(alloc, cells, &mut watch, records)?;
+        // The gate may hold the worker, so the turn is given back first.
+        mem::drop(watch);
+        if ended {
+            self.gate.after(thread, position);
+        }
+        Ok(ended)
+    }
+}

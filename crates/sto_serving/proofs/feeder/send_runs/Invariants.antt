@@ -1,7 +1,0 @@
-use Rattle.std.proofs.Common.{length}
-use Rattle.sto_serving.specs.Passes.{AreAt}
-use Rattle.sto_serving.proofs.Feeding.{runs_sent}
-use Rattle.sto_serving.proofs.feeder.send_runs.Given as goal
-
-abbrev pub invariant-loop-place : goal.invariant-loop-place
-invariant-loop-place g l = record { at : AreAt l.queues l.feeders.items (runs_sent (length l.queues) l.order l.place-index) }

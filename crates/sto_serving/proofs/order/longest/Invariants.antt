@@ -1,6 +1,0 @@
-use Rattle.std.proofs.Common.{ℕ, ◌<◌, ◌≤◌}
-use Rattle.sto_working.specs.Orders.{count_in}
-use Rattle.sto_serving.proofs.order.longest.Given as goal
-
-abbrev pub invariant-loop-thread : goal.invariant-loop-thread
-invariant-loop-thread g l = record { each : (u : ℕ) → u < l.thread → count_in (g.W.Work.file l.work).threads u ≤ l.longest }

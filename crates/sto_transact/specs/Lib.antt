@@ -1,9 +1,0 @@
-pub mod Plain
-pub mod Resting
-pub mod Ran
-pub mod Going
-pub mod Trials
-pub use Rattle.sto_model.specs.Run
-pub use Rattle.sto_told.specs.Records
-pub use Rattle.sto_course.specs.Answers
-pub use Rattle.sto_course.specs.Bounds

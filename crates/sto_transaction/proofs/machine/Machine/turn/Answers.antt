@@ -1,0 +1,39 @@
+-- Each way on is one of `proofs/Steps`, at what the step of the attempt or of the commit ensures.
+use Rattle.std.proofs.Common.{Ok, Option, subst}
+use Rattle.sto_attempt_log.specs.declared.verdict.Verdict.{Verdict}
+use Rattle.sto_transaction.specs.declared.machine.Machine.{Machine}
+use Rattle.sto_transaction.specs.declared.machine.Machine.TheVariants.{Committing}
+use Rattle.sto_transaction.specs.Trials.{Proceeds, HasTurned}
+use Rattle.sto_transaction.proofs.Steps.{turn_of, reads_on, commits_on}
+use Rattle.sto_transaction.proofs.machine.Machine.turn.Goals as goal
+
+pub returns-in-Running-clause-turned : goal.returns-in-Running-clause-turned
+returns-in-Running-clause-turned g c ty f begun h =
+    let v = g.C.Cells.view c.args.cells.now in
+    let w = g.C.Cells.view c.step.new.cells in
+    let passes = g.C.Cells.passes c.args.cells.now in
+    let under = subst (λ (t : Machine g.row.T.Denot g.row.B.Denot). Proceeds g.T.TxType.meaning g.T.Naming.valid g.T.Naming.sizes g.B.Body.script g.B.Body.then g.B.Body.left g.B.Body.may_ask passes ty f t begun v) c.in-Running.is h in
+    let k = c.step.ensures.steps in
+    reads_on g.T.TxType.meaning g.T.Naming.valid g.T.Naming.sizes g.B.Body.script g.B.Body.then g.B.Body.left g.B.Body.may_ask passes ty f c.in-Running.attempt c.step.new.self begun v w c.step.result under.0 under.1 k.ty k.script k.event k.log k.turned k.alone k.moves k.err
+
+pub returns-in-None-clause-turned : goal.returns-in-None-clause-turned
+returns-in-None-clause-turned g c ty f begun h =
+    let v = g.C.Cells.view c.args.cells.now in
+    let w = g.C.Cells.view c.step-in-Committing.new.cells in
+    let passes = g.C.Cells.passes c.args.cells.now in
+    let s = c.step-in-Committing.new.self in
+    let under = subst (λ (t : Machine g.row.T.Denot g.row.B.Denot). Proceeds g.T.TxType.meaning g.T.Naming.valid g.T.Naming.sizes g.B.Body.script g.B.Body.then g.B.Body.left g.B.Body.may_ask passes ty f t begun v) c.in-Committing.is h in
+    let k = c.step-in-Committing.ensures.advances in
+    subst (λ (x : Option Verdict). HasTurned g.T.TxType.meaning g.T.Naming.valid g.T.Naming.sizes g.B.Body.script g.B.Body.then g.B.Body.left g.B.Body.may_ask passes ty f (Ok (turn_of x)) (Committing s) begun w) c.in-None.is
+    (commits_on g.T.TxType.meaning g.T.Naming.valid g.T.Naming.sizes g.B.Body.script g.B.Body.then g.B.Body.left g.B.Body.may_ask passes ty f c.in-Committing.ready s begun v w c.step-in-Committing.result under.0 under.1 k.kept k.event k.said k.space k.alone k.by)
+
+pub returns-in-Some-clause-turned : goal.returns-in-Some-clause-turned
+returns-in-Some-clause-turned g c ty f begun h =
+    let v = g.C.Cells.view c.args.cells.now in
+    let w = g.C.Cells.view c.step-in-Committing.new.cells in
+    let passes = g.C.Cells.passes c.args.cells.now in
+    let s = c.step-in-Committing.new.self in
+    let under = subst (λ (t : Machine g.row.T.Denot g.row.B.Denot). Proceeds g.T.TxType.meaning g.T.Naming.valid g.T.Naming.sizes g.B.Body.script g.B.Body.then g.B.Body.left g.B.Body.may_ask passes ty f t begun v) c.in-Committing.is h in
+    let k = c.step-in-Committing.ensures.advances in
+    subst (λ (x : Option Verdict). HasTurned g.T.TxType.meaning g.T.Naming.valid g.T.Naming.sizes g.B.Body.script g.B.Body.then g.B.Body.left g.B.Body.may_ask passes ty f (Ok (turn_of x)) (Committing s) begun w) c.in-Some.is
+    (commits_on g.T.TxType.meaning g.T.Naming.valid g.T.Naming.sizes g.B.Body.script g.B.Body.then g.B.Body.left g.B.Body.may_ask passes ty f c.in-Committing.ready s begun v w c.step-in-Committing.result under.0 under.1 k.kept k.event k.said k.space k.alone k.by)

@@ -1,0 +1,16 @@
+-- All attempts so far were aborted; the body that is tried next has the same script.
+use Rattle.std.proofs.Common.{◌≡◌, map}
+use Rattle.sto_model.specs.declared.call.Call.{Call}
+use Rattle.sto_transaction.specs.Plain.{plain}
+use Rattle.sto_transaction.proofs.Tries.{HasRetried}
+use Rattle.sto_transaction.proofs.transaction.Transaction.run.Given as goal
+
+abbrev pub invariant-loop-aborted : goal.invariant-loop-aborted
+invariant-loop-aborted g l = record {
+  retried :
+      HasRetried (g.T.TxType.meaning l.ty) (g.T.Naming.sizes l.ty) (g.C.Cells.passes l.fn.cells) l.aborted (g.C.Cells.view l.fn.cells) (g.C.Cells.view l.cells)
+      (g.B.Body.script l.fn.self.body) (l.thread, l.position) (map plain l.fn.records.items) (map plain l.records.items);
+  script : g.B.Body.script l.body ≡ g.B.Body.script l.fn.self.body;
+  takes : (call : Call) → g.B.Body.may_ask l.body call → (g.T.TxType.meaning l.ty).takes call;
+  same : g.C.Cells.same l.fn.cells l.cells;
+}

@@ -1,0 +1,17 @@
+-- The trial proceeds from the view at the beginning, on the same pass.
+use Rattle.sto_model.specs.Run.{Script}
+use Rattle.sto_core.specs.declared.view.View.{View}
+use Rattle.sto_transaction.specs.Trials.{Proceeds, machine_left}
+use Rattle.sto_transaction.proofs.transaction.finish.Given as goal
+
+abbrev pub invariant-loop-events : goal.invariant-loop-events
+invariant-loop-events g l = record {
+  proceeds :
+      (ty : g.row.T.Denot) (f : Script) (begun : View)
+      → Proceeds g.T.TxType.meaning g.T.Naming.valid g.T.Naming.sizes g.B.Body.script g.B.Body.then g.B.Body.left g.B.Body.may_ask (g.C.Cells.passes l.fn.cells) ty f l.fn.machine begun (g.C.Cells.view l.fn.cells)
+      → Proceeds g.T.TxType.meaning g.T.Naming.valid g.T.Naming.sizes g.B.Body.script g.B.Body.then g.B.Body.left g.B.Body.may_ask (g.C.Cells.passes l.cells) ty f l.machine begun (g.C.Cells.view l.cells);
+  same : g.C.Cells.same l.fn.cells l.cells;
+}
+
+abbrev pub decreases-loop-events : goal.decreases-loop-events
+decreases-loop-events g l = machine_left g.T.TxType.meaning g.T.Naming.valid g.T.Naming.sizes g.B.Body.script g.B.Body.then g.B.Body.left g.B.Body.may_ask l.machine

@@ -1,0 +1,9 @@
+pub mod Plain
+pub mod Resting
+pub mod Ran
+pub mod Going
+pub mod Trials
+pub use Rattle.sto_model.specs.Run
+pub use Rattle.sto_attempt_facts.specs.Records
+pub use Rattle.sto_attempt_log.specs.Answers
+pub use Rattle.sto_attempt_log.specs.Bounds

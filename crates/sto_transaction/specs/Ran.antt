@@ -1,0 +1,40 @@
+-- What a run of one transaction on an idle pass ensures.
+use Rattle.std.specs.Prelude.{◌≡◌, ◌≤◌, ◌⊎◌, ℕ, ◌+◌, List, [], ◌∷◌, ◌++◌, length, Bool, true, false, if◌then◌else◌}
+use Rattle.std.specs.List.{All}
+use Rattle.sto_model.specs.Run.{Script as Steps}
+use Rattle.sto_type.specs.Meaning.{Meaning}
+use Rattle.sto_core.specs.declared.view.View.{View}
+use Rattle.sto_attempt_facts.specs.Records.{Place, Record}
+use Rattle.sto_attempt_facts.specs.Counted.{aborted_times, finished_places}
+use Rattle.sto_attempt_facts.specs.Added.{HasAdded}
+use Rattle.sto_attempt_facts.specs.Trying.{HasFinding}
+use Rattle.sto_transaction.specs.Resting.{IsAtRest}
+
+-- from the view v to the view w, on words with so many passes, a transaction that does f was run with so many tries. It has
+-- ended, or all its tries were aborted
+pub record HasRun (m : Meaning) (sizes : List ℕ) (tries passes : ℕ) (v w : View) (f : Steps) (place : Place) (before later : List Record) (ended : Bool) : Type 0 where
+  pub new : List Record
+  pub whole : later ≡ before ++ new
+  pub added : HasAdded m tries v w f place new
+  -- as many records as starts, each aborted one with its finding
+  pub starts : w.starts ≡ v.starts + length new
+  pub found : All (HasFinding v w) new
+  -- the last record is not aborted, or all are
+  pub ends : finished_places new ≡ (if ended then place ∷ [] else [])
+  pub used : ended ≡ false → aborted_times place new ≡ tries
+  pub rests : IsAtRest m sizes w
+  pub draws : v.draws ≤ w.draws + tries
+  -- beside no other pass it ends at once
+  pub alone : passes ≡ 1 → (ended ≡ true) × (aborted_times place new ≡ 0)
+
+-- memory was wanting in such a run: the records that it added stay, all of aborted attempts, and the pass is at rest. The attempt
+-- that met it has no record, and no entry; it may have begun
+pub record HasBroken (m : Meaning) (sizes : List ℕ) (tries : ℕ) (v w : View) (f : Steps) (place : Place) (before later : List Record) : Type 0 where
+  pub new : List Record
+  pub whole : later ≡ before ++ new
+  pub added : HasAdded m tries v w f place new
+  pub aborted : aborted_times place new ≡ length new
+  pub starts : (w.starts ≡ v.starts + length new) ⊎ (w.starts ≡ v.starts + length new + 1)
+  pub found : All (HasFinding v w) new
+  pub rests : IsAtRest m sizes w
+  pub draws : v.draws ≤ w.draws + tries

@@ -1,0 +1,135 @@
+//! An attempt in all its phases, as one machine.
+ghost use Rattle.std.specs.Prelude.{◌≡◌, ◌<◌, ◌≤◌, ℕ, length, IfOk, OnOk};
+ghost use Rattle.sto_model.specs.declared.call.Call.{Call};
+ghost use Rattle.sto_model.specs.Run.{Script};
+ghost use Rattle.sto_core.specs.declared.view.View.{View};
+ghost use Rattle.sto_attempt_log.specs.Answers.{OneEvent};
+ghost use Rattle.sto_attempt_log.specs.Bounds.{bound, words_of};
+ghost use Rattle.sto_transaction.specs.Resting.{IsAtRest};
+ghost use Rattle.sto_transaction.specs.Trials.{Proceeds, IsAtSeal, IsAtEnd, HasTurned, HasStepped, HasEnded, machine_left, left_after};
+
+use std::alloc::Global;
+use std::mem;
+use sto_attempt::{Attempt, Ready, Turn, Verdict};
+use sto_core::Cells;
+use sto_model::{Body, Replies};
+use sto_part::NoMemory;
+use sto_type::TxType;
+
+/// An attempt, which is lent to each of its steps.
+#[derive(Drop)]
+pub enum Machine<'t, T: TxType, B: Body> {
+    /// Its body runs.
+    Running(Attempt<'t, T, B>),
+    /// Its commit is under way.
+    Committing(Ready<'t, T, B>),
+    /// It has ended, and nothing is left of it.
+    Over,
+}
+
+/// What is left of an attempt that has ended.
+#[derive(Drop)]
+pub struct Ended<B> {
+    /// The body, as it stood at the end.
+    pub body: B,
+    /// What it was answered, in order.
+    pub replies: Replies,
+    /// How the attempt ended.
+    pub verdict: Verdict,
+}
+
+impl<'t, T: TxType, B: Body + Drop> Machine<'t, T, B> {
+    /// An attempt of a body, which it resets, on a pass that is at rest and has a draw left. It has made no event yet.
+    ///
+    /// The type is to take every call that the body may ask.
+    pub fn new(alloc: Global, ty: &'t T, body: B) -> Machine<'t, T, B>
+        requires { (call : Call) → B.may_ask body call → (T.meaning ty.now).takes call }
+        ensures proceeds { (passes : ℕ) (v : View) → IsAtRest (T.meaning ty.now) (T.sizes ty.now) v → 0 < v.draws → Proceeds T.meaning T.valid T.sizes B.script B.then B.left B.may_ask passes ty.now (B.script body) result v v }
+        ensures left { machine_left T.meaning T.valid T.sizes B.script B.then B.left B.may_ask result ≤ bound (B.left_at_reset body) (length (T.meaning ty.now).widths) (words_of (T.meaning ty.now).widths) }
+    {
+        Machine::Running(Attempt::new(alloc, ty, body))
+    }
+
+    /// Makes exactly one event. It answers what is left of the attempt where that was the last one, and else goes on to the next.
+    ///
+    /// The pass is that of the earlier steps, with its view as they left it; steps of other passes leave it so. After `NoMemory` the
+    /// attempt has ended: the pass is at rest, and nothing was drawn.
+    pub fn step<C: Cells<T>>(
+        &mut self,
+        alloc: Global,
+        cells: &mut C,
+    ) -> Result<Option<Ended<B>>, NoMemory>
+        requires { (ty : T) × (f : Script) × (begun : View) × Proceeds T.meaning T.valid T.sizes B.script B.then B.left B.may_ask (C.passes cells.old) ty f self.old begun (C.view cells.old) }
+        ensures event { OneEvent (λ _. Unit {0}) T.valid (C.passes cells.old) (C.view cells.old) (C.view cells.new) }
+        ensures stepped { (ty : T) (f : Script) (begun : View) → Proceeds T.meaning T.valid T.sizes B.script B.then B.left B.may_ask (C.passes cells.old) ty f self.old begun (C.view cells.old) → HasStepped T.meaning T.valid T.sizes B.script B.then B.left B.may_ask (C.passes cells.old) ty f result self.new begun (C.view cells.new) }
+
+        // There are fewer events left.
+        ensures left { IfOk result (λ end. left_after T.meaning T.valid T.sizes B.script B.then B.left B.may_ask end self.new < machine_left T.meaning T.valid T.sizes B.script B.then B.left B.may_ask self.old) }
+        ensures same { C.same cells.old cells.new }
+    {
+        match self.turn(alloc, cells)? {
+            Turn::More => Ok(None),
+            Turn::Ready => {
+                self.seal(alloc)?;
+                Ok(None)
+            }
+            Turn::Ended(verdict) => Ok(Some(self.end(verdict))),
+        }
+    }
+
+    // Makes one event, and tells what is to be done next.
+    fn turn<C: Cells<T>>(&mut self, alloc: Global, cells: &mut C) -> Result<Turn, NoMemory>
+        requires { (ty : T) × (f : Script) × (begun : View) × Proceeds T.meaning T.valid T.sizes B.script B.then B.left B.may_ask (C.passes cells.old) ty f self.old begun (C.view cells.old) }
+        ensures event { OneEvent (λ _. Unit {0}) T.valid (C.passes cells.old) (C.view cells.old) (C.view cells.new) }
+        ensures turned { (ty : T) (f : Script) (begun : View) → Proceeds T.meaning T.valid T.sizes B.script B.then B.left B.may_ask (C.passes cells.old) ty f self.old begun (C.view cells.old) → HasTurned T.meaning T.valid T.sizes B.script B.then B.left B.may_ask (C.passes cells.old) ty f result self.new begun (C.view cells.new) }
+        ensures left { OnOk result (machine_left T.meaning T.valid T.sizes B.script B.then B.left B.may_ask self.new < machine_left T.meaning T.valid T.sizes B.script B.then B.left B.may_ask self.old) }
+        ensures same { C.same cells.old cells.new }
+    {
+        match self {
+            Machine::Running(attempt) => attempt.step(alloc, cells),
+            Machine::Committing(ready) => match ready.step(cells) {
+                None => Ok(Turn::More),
+                Some(verdict) => Ok(Turn::Ended(verdict)),
+            },
+            Machine::Over => unreachable!(),
+        }
+    }
+
+    // Goes on from a body that is ready to its commit.
+    fn seal(&mut self, alloc: Global) -> Result<(), NoMemory>
+        requires { (ty : T) × (f : Script) × (begun : View) × (v : View) × IsAtSeal T.meaning T.valid T.sizes B.script B.then B.left B.may_ask ty f self.old begun v }
+        ensures proceeds { OnOk result ((passes : ℕ) (ty : T) (f : Script) (begun v : View) → IsAtSeal T.meaning T.valid T.sizes B.script B.then B.left B.may_ask ty f self.old begun v → Proceeds T.meaning T.valid T.sizes B.script B.then B.left B.may_ask passes ty f self.new begun v) }
+        ensures left { OnOk result (machine_left T.meaning T.valid T.sizes B.script B.then B.left B.may_ask self.new ≤ machine_left T.meaning T.valid T.sizes B.script B.then B.left B.may_ask self.old) }
+    {
+        match mem::replace(self, Machine::Over) {
+            Machine::Running(attempt) => match attempt.seal(alloc) {
+                Ok(ready) => {
+                    mem::drop(mem::replace(self, Machine::Committing(ready)));
+                    Ok(())
+                }
+                Err((attempt, error)) => {
+                    mem::drop(attempt);
+                    Err(error)
+                }
+            },
+            _ => unreachable!(),
+        }
+    }
+
+    // Takes what is left of an attempt that has ended.
+    fn end(&mut self, verdict: Verdict) -> Ended<B>
+        requires { (passes : ℕ) × (ty : T) × (f : Script) × (begun : View) × (w : View) × IsAtEnd T.meaning T.valid T.sizes B.script B.then B.left B.may_ask passes ty f self.old verdict begun w }
+        ensures { (passes : ℕ) (ty : T) (f : Script) (begun w : View) → IsAtEnd T.meaning T.valid T.sizes B.script B.then B.left B.may_ask passes ty f self.old verdict begun w → HasEnded T.meaning T.valid T.sizes B.script B.then B.left B.may_ask passes ty f result begun w }
+    {
+        let heard = match mem::replace(self, Machine::Over) {
+            Machine::Running(attempt) => attempt.end(),
+            Machine::Committing(ready) => ready.end(),
+            Machine::Over => unreachable!(),
+        };
+        Ended {
+            body: heard.body,
+            replies: heard.replies,
+            verdict,
+        }
+    }
+}

@@ -1,0 +1,154 @@
+//! One transaction: attempts of a body until one is not aborted.
+ghost use Rattle.std.specs.Prelude.{◌≡◌, ◌<◌, ◌≤◌, map, true, IfOk, OnErr};
+ghost use Rattle.sto_model.specs.declared.call.Call.{Call};
+ghost use Rattle.sto_model.specs.Run.{Script};
+ghost use Rattle.sto_core.specs.declared.view.View.{View};
+ghost use Rattle.sto_attempt_facts.specs.Records.{is_abort};
+ghost use Rattle.sto_transaction.specs.Plain.{plain, verdict};
+ghost use Rattle.sto_transaction.specs.Ran.{HasRun, HasBroken};
+ghost use Rattle.sto_transaction.specs.Resting.{IsAtRest};
+ghost use Rattle.sto_transaction.specs.Trials.{Proceeds, HasEnded, HasFinished, HasStopped};
+
+use crate::machine::{Ended, Machine};
+use crate::record::Record;
+use std::alloc::{AllocError, Global};
+use std::mem;
+use sto_attempt::Verdict;
+use sto_core::Cells;
+use sto_model::Body;
+use sto_part::NoMemory;
+use sto_type::TxType;
+
+/// Is told how far a transaction is. It may wait there; it changes nothing else.
+pub trait Watch {
+    /// The attempt is about to make an event, after so many.
+    fn before_event(&mut self, events: u64);
+
+    /// An attempt was aborted, and another one is about to be made.
+    fn before_retry(&mut self);
+}
+
+/// The code of a transaction, the objects that it is run on, and under which place it is recorded.
+#[derive(Drop)]
+pub struct Transaction<'t, T: TxType, B: Body> {
+    /// The type of the objects, which is to take every call that the body may ask.
+    pub ty: &'t T,
+    /// What is run. It is reset before each attempt.
+    pub body: B,
+    /// The script thread.
+    pub thread: u32,
+    /// The position there, from 1.
+    pub position: u32,
+    /// How many attempts may be aborted, at least 1.
+    pub tries: u32,
+}
+
+/// What is left of a transaction that was run.
+#[derive(Drop)]
+pub struct Transacted<B> {
+    /// The body, as its last attempt has left it.
+    pub body: B,
+    /// Whether the transaction has ended. Else all its tries were aborted.
+    pub ended: bool,
+}
+
+impl<T: TxType, B: Body + Drop> Transaction<'_, T, B> {
+    /// Runs it on a pass that is at rest and has a draw left for each try: attempts are made until one commits or cancels, or all were
+    /// aborted.
+    ///
+    /// Each attempt adds its record: what its calls were answered, and how it ended. Room for the record is made before the attempt.
+    /// After `NoMemory` the pass is at rest again, and the records of the attempts before stay.
+    pub fn run<C: Cells<T>, W: Watch>(
+        self,
+        alloc: Global,
+        cells: &mut C,
+        watch: &mut W,
+        records: &mut Vec<Record>,
+    ) -> Result<Transacted<B>, NoMemory>
+        requires takes { (call : Call) → B.may_ask self.body call → (T.meaning self.ty.now).takes call }
+        requires rests { IsAtRest (T.meaning self.ty.now) (T.sizes self.ty.now) (C.view cells.old) }
+        requires draws { self.tries ≤ (C.view cells.old).draws }
+        requires some { 0 < self.tries }
+        ensures ran { IfOk result (λ r. HasRun (T.meaning self.entry.ty.now) (T.sizes self.entry.ty.now) self.entry.tries (C.passes cells.old) (C.view cells.old) (C.view cells.new) (B.script self.entry.body) (self.entry.thread, self.entry.position) (map plain records.old.items) (map plain records.new.items) r.ended) }
+        ensures err { OnErr result (HasBroken (T.meaning self.entry.ty.now) (T.sizes self.entry.ty.now) self.entry.tries (C.view cells.old) (C.view cells.new) (B.script self.entry.body) (self.entry.thread, self.entry.position) (map plain records.old.items) (map plain records.new.items)) }
+        ensures same { C.same cells.old cells.new }
+    {
+        let Transaction {
+            ty,
+            mut body,
+            thread,
+            position,
+            tries,
+        } = self;
+        for aborted in 0..tries {
+            if aborted > 0 {
+                watch.before_retry();
+            }
+            if let Err(AllocError) = records.reserve(1) {
+                return Err(NoMemory);
+            }
+            let attempt = run_attempt(alloc, ty, body, cells, watch)?;
+            body = attempt.body;
+            let ended = !is_abort(attempt.verdict);
+            records.push_reserved(Record {
+                thread,
+                position,
+                replies: attempt.replies,
+                verdict: attempt.verdict,
+            });
+            if ended {
+                return Ok(Transacted { body, ended });
+            }
+        }
+        Ok(Transacted { body, ended: false })
+    }
+}
+
+// Runs one attempt of a body to its end.
+fn run_attempt<T: TxType, B: Body + Drop, C: Cells<T>, W: Watch>(
+    alloc: Global,
+    ty: &T,
+    body: B,
+    cells: &mut C,
+    watch: &mut W,
+) -> Result<Ended<B>, NoMemory>
+    requires takes { (call : Call) → B.may_ask body call → (T.meaning ty.now).takes call }
+    requires rests { IsAtRest (T.meaning ty.now) (T.sizes ty.now) (C.view cells.old) }
+    requires draws { 0 < (C.view cells.old).draws }
+    ensures ended { IfOk result (λ e. HasEnded T.meaning T.valid T.sizes B.script B.then B.left B.may_ask (C.passes cells.old) ty.now (B.script body) e (C.view cells.old) (C.view cells.new)) }
+    ensures err { OnErr result (HasStopped (T.meaning ty.now) (T.sizes ty.now) (C.view cells.old) (C.view cells.new)) }
+    ensures same { C.same cells.old cells.new }
+{
+    let mut machine = Machine::new(alloc, ty, body);
+    let ended = finish(alloc, &mut machine, cells, watch);
+    mem::drop(machine);
+    ended
+}
+
+// Steps an attempt to its end.
+fn finish<T: TxType, B: Body + Drop, C: Cells<T>, W: Watch>(
+    alloc: Global,
+    machine: &mut Machine<'_, T, B>,
+    cells: &mut C,
+    watch: &mut W,
+) -> Result<Ended<B>, NoMemory>
+    requires { (ty : T) × (f : Script) × (begun : View) × Proceeds T.meaning T.valid T.sizes B.script B.then B.left B.may_ask (C.passes cells.old) ty f machine.old begun (C.view cells.old) }
+    ensures ended { (ty : T) (f : Script) (begun : View) → Proceeds T.meaning T.valid T.sizes B.script B.then B.left B.may_ask (C.passes cells.old) ty f machine.old begun (C.view cells.old) → HasFinished T.meaning T.valid T.sizes B.script B.then B.left B.may_ask (C.passes cells.old) ty f result begun (C.view cells.new) }
+    ensures same { C.same cells.old cells.new }
+{
+    let mut events: u64 = 0;
+    loop {
+        watch.before_event(events);
+        match machine.step(alloc, cells)? {
+            None => events = events.saturating_add(1),
+            Some(ended) => return Ok(ended),
+        }
+    }
+}
+
+// Whether the attempt was aborted.
+fn is_abort(end: Verdict) -> bool
+    ensures { result ≡ is_abort (verdict end) }
+{
+    matches!(end, Verdict::Locked { .. } | Verdict::Changed { .. })
+}

@@ -1,5 +1,0 @@
-use Rattle.sto_type.specs.Known.{known, IsPartOf}
-use Rattle.sto_types_tests.proofs.store.opened.Given as goal
-
-abbrev pub invariant-loop-part : goal.invariant-loop-part
-invariant-loop-part g l = IsPartOf (known l.cache) (g.T.TxType.meaning l.ty).opened
