@@ -15,7 +15,7 @@ use Rattle.sto_model.specs.declared.shape.Shape.{Shape}
 use Rattle.sto_type.specs.Meaning.{Meaning, IsLawful, IsUpdated, IsPartOfObject, EachOwned, is_empty}
 use Rattle.sto_type.specs.Runs.{AreTaken}
 use Rattle.sto_report_checker.specs.Updated.{Updates, with_next, updates_along}
-use Rattle.sto_shapes.specs.Meanings.{updating_by}
+use Rattle.sto_run.specs.Meanings.{updating_by}
 use Rattle.sto_report_lines.specs.Written.{onto_objects, objects_along}
 
 -- Elements.

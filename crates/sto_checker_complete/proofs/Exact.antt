@@ -20,7 +20,7 @@ use Rattle.sto_report_checker.specs.Replay.{opening_state}
 use Rattle.sto_report_checker.specs.LawfulAborts.{declared_as, part_number}
 use Rattle.sto_report_checker.specs.Updated.{updated}
 use Rattle.sto_type.specs.Meaning.{Meaning, IsPartOfObject}
-use Rattle.sto_shapes.specs.Meanings.{updating_by, IsHomeAt, IsTypeOf}
+use Rattle.sto_run.specs.Meanings.{updating_by, IsHomeAt, IsTypeOf}
 use Rattle.sto_report_lines.specs.Written.{written_of}
 use Rattle.sto_report_lines.specs.Right.{WroteAt}
 use Rattle.sto_report_lines.specs.Exact.{UpdatesWritten}

@@ -19,7 +19,7 @@ use Rattle.sto_report_checker.specs.Updated.{Updates, updates_along, updates_in,
 use Rattle.sto_type.specs.Known.{Parts}
 use Rattle.sto_type.specs.Meaning.{Meaning, IsLawful, IsPartOfObject}
 use Rattle.sto_type.specs.Runs.{AreTaken}
-use Rattle.sto_shapes.specs.Meanings.{updating_by}
+use Rattle.sto_run.specs.Meanings.{updating_by}
 use Rattle.sto_report_lines.specs.Written.{objects_along, objects_in, written_from}
 use Rattle.sto_report_lines.specs.Right.{WroteAt}
 use Rattle.sto_report_lines.proofs.Unwritten.{unwritten}

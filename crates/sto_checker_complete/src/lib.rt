@@ -7,7 +7,7 @@ ghost use Rattle.sto_lang.specs.Files.{file_of};
 ghost use Rattle.sto_lang.specs.Views.{file as view};
 ghost use Rattle.sto_report_checker.specs.Lawful.{IsLawful};
 ghost use Rattle.sto_store.specs.Stores.{means};
-ghost use Rattle.sto_shapes.specs.Meanings.{updating_by, IsTypeOf};
+ghost use Rattle.sto_run.specs.Meanings.{updating_by, IsTypeOf};
 ghost use Rattle.sto_report_lines.specs.Answer.{IsFound};
 ghost use Rattle.sto_report_lines.specs.declared.found.Found.TheVariants.{Lawful};
 
@@ -15,7 +15,7 @@ use std::alloc::Global;
 use sto_objects::Objects;
 use sto_part::NoMemory;
 use sto_report_checker::{Found, check_report};
-use sto_shapes::StoredFile;
+use sto_run::StoredFile;
 use sto_type::TxType;
 
 /// Checks the text of a report of a file whose objects were built, as `check_report` does. A text that is lawful by what the types

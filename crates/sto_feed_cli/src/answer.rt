@@ -10,8 +10,8 @@ use std::sync::Wait;
 use std::thread::Threads;
 use sto_args::Feeding;
 use sto_cli::{Refusal, file_in, report, workers_for};
-use sto_feeding::{Gate, feed_file};
 use sto_lang::Text;
+use sto_run::{Gate, feed_file};
 
 /// What is printed for these bytes: the report of a run in which a feeder sends the transactions to the workers.
 pub(crate) fn feed_text<R: Threads + Wait + Sync, G: Gate>(

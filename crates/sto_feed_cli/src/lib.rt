@@ -10,5 +10,5 @@ pub use sto_cli::{
     Failed, MemSink, MemSource, QuietSink, QuietSource, Sink, Source, StdSink, StdSource,
     WordsFault, refuse_words, words_of,
 };
-pub use sto_feeding::{Gate, NoGate};
+pub use sto_run::{Gate, NoGate};
 pub use top::feed;

@@ -12,7 +12,7 @@ use std::alloc::Global;
 use std::sync::Wait;
 use std::thread::Threads;
 use sto_cli::{Sink, Source, say, status};
-use sto_feeding::Gate;
+use sto_run::Gate;
 
 /// All that the program does with the words after its name, `[--threads N] [--tries N]`: it reads a script, runs it on N workers,
 /// to which a feeder sends its transactions one by one through queues, and prints the report. Where no number of threads is

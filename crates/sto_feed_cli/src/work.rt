@@ -11,8 +11,8 @@ use std::sync::Wait;
 use std::thread::Threads;
 use sto_args::{Feeding, find_feeding};
 use sto_cli::{Refusal, Sink, Source, bytes_left, write_text};
-use sto_feeding::Gate;
 use sto_lang::Text;
+use sto_run::Gate;
 
 /// Reads the source, and feeds its transactions to the workers.
 fn feed_source<R: Threads + Wait + Sync, S: Source, G: Gate>(

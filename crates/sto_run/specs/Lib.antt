@@ -1,4 +1,5 @@
 pub mod Lawful
+pub mod Runnable
 pub use Rattle.sto_plain.specs.Passes
 pub use Rattle.sto_store.specs.Stores
 pub use Rattle.sto_transaction.specs.Plain

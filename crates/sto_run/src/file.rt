@@ -4,18 +4,19 @@ ghost use Rattle.sto_lang.specs.Objects.{shapes_of};
 ghost use Rattle.sto_lang.specs.Sound.{IsSound, IsFromTo};
 ghost use Rattle.sto_lang.specs.Views.{file as view};
 ghost use Rattle.sto_serializability.specs.Meanings.{updating_by, IsTypeOf};
-ghost use Rattle.sto_shapes.specs.Stores.{means};
+ghost use Rattle.sto_store.specs.Stores.{means};
 ghost use Rattle.sto_run_threads.specs.Taken.{IsTaken};
 ghost use Rattle.sto_run.specs.Lawful.{IsLawfulJournal};
 
 use crate::journal::journal_of;
+use crate::stored::StoredFile;
+use crate::whole::opening_of;
 use std::alloc::Global;
 use std::thread::Threads;
 use sto_journal::Journal;
 use sto_lang::File;
 use sto_part::NoMemory;
 use sto_run_threads::{FileWork, FinishedRun, Gate, RetryTurn, run_threads};
-use sto_shapes::{StoredFile, opening_of};
 use sto_type::TxType;
 
 /// Runs a file on so many workers, where a type has its objects, and gives the journal of the run. What a type is to be for

@@ -10,13 +10,13 @@ ghost use Rattle.sto_transaction.specs.Plain.{plain};
 ghost use Rattle.sto_transaction.specs.Resting.{IsAtRest};
 ghost use Rattle.sto_run.specs.Lawful.{IsLawfulJournal};
 
+use crate::whole::{homes_of, rows_of};
 use std::alloc::Global;
 use sto_journal::Journal;
 use sto_journal_merge::merge;
 use sto_lang::File;
 use sto_part::NoMemory;
 use sto_plain::Plain;
-use sto_shapes::{homes_of, rows_of};
 use sto_transaction::Record;
 use sto_type::TxType;
 

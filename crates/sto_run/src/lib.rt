@@ -1,11 +1,20 @@
-//! Runs of files, and the journals that they leave.
+//! Runs of files on threads, by steps and through queues, and the journals that they leave.
+//!
+//! With them what a run asks of the type of a file's objects as a whole: what they open with, the homes of their parts, and the
+//! rows of their contents.
 #![tactic(auto)]
 
+mod feed;
 mod file;
 mod journal;
 mod step;
+mod stored;
+mod whole;
 
+pub use feed::{feed_file, feed_over};
 pub use file::{run_file, run_over};
 pub use journal::journal_of;
 pub use step::{step_file, step_over};
 pub use sto_run_threads::{Gate, NoGate};
+pub use stored::StoredFile;
+pub use whole::{homes_of, opening_of, rows_of};

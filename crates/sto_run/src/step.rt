@@ -5,11 +5,13 @@ ghost use Rattle.sto_lang.specs.Objects.{shapes_of};
 ghost use Rattle.sto_lang.specs.Sound.{IsSound, IsSchedule, IsFromTo};
 ghost use Rattle.sto_lang.specs.Views.{file as view};
 ghost use Rattle.sto_serializability.specs.Meanings.{updating_by, IsTypeOf};
-ghost use Rattle.sto_shapes.specs.Stores.{means};
+ghost use Rattle.sto_store.specs.Stores.{means};
 ghost use Rattle.sto_run_threads.specs.Taken.{IsTaken};
 ghost use Rattle.sto_run.specs.Lawful.{IsLawfulJournal};
 
 use crate::journal::journal_of;
+use crate::stored::StoredFile;
+use crate::whole::opening_of;
 use std::alloc::Global;
 use sto_journal::Journal;
 use sto_lang::{File, Turns};
@@ -17,7 +19,6 @@ use sto_part::NoMemory;
 use sto_run_steps::step_threads;
 use sto_run_threads::{FileWork, FinishedRun, NoGate, RetryTurn};
 use sto_script::ScriptBody;
-use sto_shapes::{StoredFile, opening_of};
 use sto_transaction::Machine;
 use sto_type::TxType;
 

@@ -9,8 +9,8 @@ use Rattle.sto_script.specs.Asks.{Asks}
 use Rattle.sto_report_checker.specs.Orders.{Place, transaction_at}
 use Rattle.sto_store.specs.Stores.{means}
 use Rattle.sto_type.specs.Meaning.{Meaning}
-use Rattle.sto_shapes.specs.Meanings.{updating_by, IsTypeOf}
-use Rattle.sto_shapes.proofs.Meant.{stored_means, stored_takes}
+use Rattle.sto_run.specs.Meanings.{updating_by, IsTypeOf}
+use Rattle.sto_run.proofs.Stored.{stored_means, stored_takes}
 use Rattle.sto_checker_complete.proofs.Exact.{updates_written}
 use Rattle.sto_checker_complete.proofs.check_stored.Goals as goal
 

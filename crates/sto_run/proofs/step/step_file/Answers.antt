@@ -3,8 +3,8 @@ use Rattle.std.proofs.lemmas.Result.{IfOk-weaker}
 use Rattle.sto_lang.specs.Objects.{shapes_of}
 use Rattle.sto_lang.specs.declared.file.File as whole
 use Rattle.sto_lang.specs.Views.{file as view}
-use Rattle.sto_shapes.specs.Stores.{means}
-use Rattle.sto_shapes.proofs.Meant.{stored_means, stored_takes}
+use Rattle.sto_store.specs.Stores.{means}
+use Rattle.sto_run.proofs.Stored.{stored_means, stored_takes}
 use Rattle.sto_run.proofs.Meant.{lawful_meant}
 use Rattle.sto_run.proofs.Taken.{taken_in}
 use Rattle.sto_run.proofs.step.step_file.Goals as goal

@@ -1,8 +1,0 @@
-pub mod Homes
-pub mod Ordered
-pub mod Fitting
-pub mod Asking
-pub mod Places
-pub mod Sound
-pub mod Meant
-pub mod Entire
