@@ -1,4 +1,4 @@
--- What is said of a commit by its stage is said by any name of that stage.
+-- What is said of a commit by its phase is said by any name of that phase.
 use Rattle.std.proofs.Common.{◌≡◌, ℕ, Option, sym, subst}
 use Rattle.sto_core.specs.declared.view.View.{View}
 use Rattle.sto_attempt_log.specs.declared.commit_phase.CommitPhase.{CommitPhase}

@@ -13,7 +13,7 @@ use Rattle.sto_attempt_log.specs.Log.{IsOnLog}
 use Rattle.sto_attempt_log.specs.Growing.{HasHeard}
 use Rattle.sto_attempt_log.specs.Reasons.{IsCaused}
 use Rattle.sto_attempt_log.specs.ReadSet.{words_in}
-use Rattle.sto_attempt_log.specs.Stages.{Deal, deal}
+use Rattle.sto_attempt_log.specs.CommitPhases.{Deal, deal}
 use Rattle.sto_attempt_log.specs.Standing.{Goes, Fits, Renews, Spans, Turned, IsLeft, IsFirst, IsUnaborted, KeepsExtension, Moves, next_event}
 use Rattle.sto_type.specs.Traits.{OfType}
 use Rattle.sto_model.specs.Bodies.{OfBody}
@@ -25,7 +25,7 @@ heard a = map told a.log.replies.items
 
 -- t and b are what the traits of the type and of the body say
 module _ {T B : Type 0} (t : OfType T) (b : OfBody B) where
-  -- what an attempt has found out is on the course of the body and the type of the one before
+  -- what an attempt has found out is on the log of the body and the type of the one before
   abbrev pub IsLogOf : Attempt T B → Attempt T B → Type 0
   IsLogOf old new =
       IsOnLog (t.meaning old.log.ty.now) (b.then new.log.body) (b.script old.log.body) (b.left new.log.body) (b.may_ask new.log.body)
@@ -87,7 +87,7 @@ module _ {T B : Type 0} (t : OfType T) (b : OfBody B) where
     pub goes : GoesAt read_phase a v
     pub log : IsOwnLog a
 
-  -- the event e has led from a stand of old and v to new and w, and the body was run up to the next event
+  -- the event e has led from a read phase of old and v to new and w, and the body was run up to the next event
   pub record Steps (passes : ℕ) (read_phase : ReadPhase) (e : Event) (old new : Attempt T B) (v w : View) (result : Result Turn NoMemory) : Type 0 where
     pub event : OneEvent (λ x. x ≡ e) t.valid passes v w
     pub log : OnOk result (IsLogOf old new)

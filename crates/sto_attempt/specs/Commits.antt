@@ -10,7 +10,7 @@ use Rattle.sto_attempt.specs.declared.ready.Ready.{Ready}
 use Rattle.sto_attempt_log.specs.Answers.{OneEvent, IsCommitEvent, IsPrefix}
 use Rattle.sto_attempt_log.specs.Remaining.{commit_left}
 use Rattle.sto_attempt_log.specs.Verdicts.{ComesTo, HasReason, IsUndisturbed}
-use Rattle.sto_attempt_log.specs.Stages.{Deal, deal, Stands, Said, EndsBy, SpaceAt}
+use Rattle.sto_attempt_log.specs.CommitPhases.{Deal, deal, Stands, Said, EndsBy, SpaceAt}
 use Rattle.sto_attempt.specs.declared.ready.Ready.{Ready}
 
 -- t and b are what the traits of the type and of the body say
@@ -21,7 +21,7 @@ module _ {T B : Type 0} (t : OfType T) (b : OfBody B) where
       deal (t.meaning r.log.ty.now) t.valid (t.sizes r.log.ty.now) (b.script r.log.body) r.at r.log.base.items r.log.set.items (map told r.log.replies.items)
       r.updates.items r.seen.items r.loaded.items r.tasks.items r.checks.items r.places.items
 
-  -- the event of this stage is next, and there is room for what it finds
+  -- the event of this phase is next, and there is room for what it finds
   pub record IsBefore (commit_phase : CommitPhase) (r : Ready T B) (v : View) : Type 0 where
     pub stands : Stands (deal_of r) r.found_tickets r.loaded_words.items commit_phase v
     pub space : SpaceAt (t.meaning r.log.ty.now).widths r.tasks.items r.loaded_words commit_phase

@@ -14,6 +14,6 @@ pub use Rattle.sto_attempt_log.specs.Predicates
 pub use Rattle.sto_attempt_log.specs.Reasons
 pub use Rattle.sto_attempt_log.specs.Remaining
 pub use Rattle.sto_attempt_log.specs.ReadSet
-pub use Rattle.sto_attempt_log.specs.Stages
+pub use Rattle.sto_attempt_log.specs.CommitPhases
 pub use Rattle.sto_attempt_log.specs.Standing
 pub use Rattle.sto_attempt_log.specs.Verdicts

@@ -3,7 +3,7 @@ ghost use Rattle.std.specs.Prelude.{◌≡◌, ◌<◌, ◌≤◌, Some, None, l
 ghost use Rattle.std.specs.List.{list_all};
 ghost use Rattle.sto_attempt_log.specs.declared.commit_phase.CommitPhase.{CommitPhase};
 ghost use Rattle.sto_attempt_log.specs.declared.verdict.Verdict.{Verdict};
-ghost use Rattle.sto_attempt_log.specs.Stages.{IsAim, IsNextCheck, IsNextPut, is_so, expected_of};
+ghost use Rattle.sto_attempt_log.specs.CommitPhases.{IsAim, IsNextCheck, IsNextPut, is_so, expected_of};
 ghost use Rattle.sto_core.specs.Allowed.{Rises};
 ghost use Rattle.sto_attempt.specs.Commits.{IsBefore, Advances, HasPrefix};
 

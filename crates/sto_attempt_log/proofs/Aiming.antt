@@ -18,7 +18,7 @@ use Rattle.sto_attempt_log.specs.declared.commit_phase.LoadedWord.{LoadedWord}
 use Rattle.sto_attempt_log.specs.declared.verdict.Verdict.{Verdict}
 use Rattle.sto_attempt_log.specs.declared.verdict.Verdict.TheVariants.{Wrote, Read, Cancelled, Locked, Changed}
 use Rattle.sto_attempt_log.specs.Standing.{IsLeft}
-use Rattle.sto_attempt_log.specs.Stages.{Deal, task, reads_of, is_of_part, EndsWith, FailsWith, EndsIn, EndsBy, IsAim, IsNextCheck, IsNextPut, IsCheckingAt, IsInstallingAt, IsLeaving, IsLoadingAt, IsLoadingWord, IsTestingAt, Stands, Said}
+use Rattle.sto_attempt_log.specs.CommitPhases.{Deal, task, reads_of, is_of_part, EndsWith, FailsWith, EndsIn, EndsBy, IsAim, IsNextCheck, IsNextPut, IsCheckingAt, IsInstallingAt, IsLeaving, IsLoadingAt, IsLoadingWord, IsTestingAt, Stands, Said}
 use Rattle.sto_attempt_log.proofs.Loading.{each_at}
 
 pub any_writes : (xs : List (ℕ × Listed Change)) (p : ℕ) → list_any (is_of_part p) xs ≡ writes (map plain xs) p

@@ -157,7 +157,7 @@ preds_were_true old p ws (Holds q ∷ is) e h = true_both ws (pred_on p (Holds q
       | inr miss ↦ rw miss tt
     ]
 
--- the course of an attempt whose observed parts were all read anew
+-- the log of an attempt whose observed parts were all read anew
 module _ (m : Meaning) (law : IsLawful m) (f : Script) (base : List ReadEntry) (items : List Item) (es : List Update) (rs : List Told) (log : IsLog m f (words_in base) items es rs)
     (c : Parts) (valid : m.valid c) (part : IsPartOf (words_in base) c) where
   abbrev long : ℕ

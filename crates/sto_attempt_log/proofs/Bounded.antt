@@ -12,7 +12,7 @@ use Rattle.sto_type.specs.Known.{Parts}
 use Rattle.sto_attempt_log.specs.declared.commit_phase.CommitPhase.TheVariants as S
 use Rattle.sto_attempt_log.specs.Bounds.{words_of, round}
 use Rattle.sto_attempt_log.specs.Gathering.{places_at, places_in}
-use Rattle.sto_attempt_log.specs.Stages.{Deal, IsPlanned, due}
+use Rattle.sto_attempt_log.specs.CommitPhases.{Deal, IsPlanned, due}
 use Rattle.sto_attempt_log.specs.Remaining.{loading, commit_left}
 use Rattle.sto_attempt_log.proofs.Gathering.{among_none}
 use Rattle.sto_attempt_log.proofs.Loading.{each_but, each_cons}

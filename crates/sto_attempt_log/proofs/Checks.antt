@@ -1,4 +1,4 @@
--- The check of a part after the draw, by the stage of the commit.
+-- The check of a part after the draw, by the phase of the commit.
 use Rattle.std.proofs.Common.{◌≡◌, ◌≢◌, ◌≤◌, ◌<◌, ◌⊎◌, ℕ, zero, suc, ℤ, true, false, Bool, nat_eq, nat_lt, ◌||◌, if◌then◌else◌, Some, List, [], ◌∷◌, ◌++◌, take, refl, ap, sym, ◌∙◌, subst, arith, inl, inr, eqb-true, eq-eqb, slice_get, IsSome}
 use Rattle.std.proofs.lemmas.Bool.{cases_Bool}
 use Rattle.std.proofs.lemmas.Bool.Decides.{nat_tests}
@@ -33,7 +33,7 @@ use Rattle.sto_attempt_log.specs.Answers.{HasFound}
 use Rattle.sto_attempt_log.specs.Log.{IsRead}
 use Rattle.sto_attempt_log.specs.ReadSet.{words_in, ticket_in, AreClaimed, claim_of}
 use Rattle.sto_attempt_log.specs.Reasons.{IsByPredicate, IsByTest}
-use Rattle.sto_attempt_log.specs.Stages.{Deal, ticket_from, is_same_part, expected_of, IsExpected, WasFound, IsChecked, FailsWith, IsDropping, IsCheckingAt}
+use Rattle.sto_attempt_log.specs.CommitPhases.{Deal, ticket_from, is_same_part, expected_of, IsExpected, WasFound, IsChecked, FailsWith, IsDropping, IsCheckingAt}
 use Rattle.sto_attempt_log.proofs.Every.{all_contained}
 use Rattle.sto_attempt_log.proofs.Prefix.{prefix}
 use Rattle.sto_attempt_log.proofs.Reading.{has_part, among_front}

@@ -28,7 +28,7 @@ use Rattle.sto_attempt_log.specs.Asked.{AllOf}
 use Rattle.sto_attempt_log.specs.Log.{IsRead}
 use Rattle.sto_attempt_log.specs.ReadSet.{words_in, IsTrueIn, HasClaims}
 use Rattle.sto_attempt_log.specs.Looking.{LooksAt, IsCovered}
-use Rattle.sto_attempt_log.specs.Stages.{Deal, ticket_from, reads_of, words_loaded, IsNamed, IsTrueOn, IsDone, WasFound, WasTested, IsLookedAt, IsChecked, IsLoadingAt, IsCheckingAt}
+use Rattle.sto_attempt_log.specs.CommitPhases.{Deal, ticket_from, reads_of, words_loaded, IsNamed, IsTrueOn, IsDone, WasFound, WasTested, IsLookedAt, IsChecked, IsLoadingAt, IsCheckingAt}
 use Rattle.sto_attempt_log.proofs.Every.{all_contained}
 use Rattle.sto_attempt_log.proofs.Claimed.{claims_fit, part_of_claims, claimed_words}
 use Rattle.sto_attempt_log.proofs.Drawing.{was_seen, seen_ticket, read_words, draw_looks, were_true}

@@ -27,7 +27,7 @@ use Rattle.sto_attempt_log.specs.declared.verdict.Verdict.{Verdict}
 use Rattle.sto_attempt_log.specs.declared.verdict.Verdict.TheVariants.{Locked, Changed}
 use Rattle.sto_attempt_log.specs.Asked.{AllOf, IsAsked}
 use Rattle.sto_attempt_log.specs.ReadSet.{words_in, ticket_in, claim_of, IsTrueIn, HasClaims}
-use Rattle.sto_attempt_log.specs.Stages.{Deal, task, ticket_from, reads_of, IsDone, IsTrueOn, WasFound, IsLeaving, IsLoadingAt, IsTestedWord, words_loaded, due, HasSpace, SpaceAt, IsAim}
+use Rattle.sto_attempt_log.specs.CommitPhases.{Deal, task, ticket_from, reads_of, IsDone, IsTrueOn, WasFound, IsLeaving, IsLoadingAt, IsTestedWord, words_loaded, due, HasSpace, SpaceAt, IsAim}
 use Rattle.sto_attempt_log.proofs.Every.{all_contained}
 use Rattle.sto_attempt_log.proofs.Prefix.{prefix}
 use Rattle.sto_attempt_log.proofs.Reading.{own_still, among_front}

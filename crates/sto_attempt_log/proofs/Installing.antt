@@ -35,7 +35,7 @@ use Rattle.sto_attempt_log.specs.ReadSet.{words_in}
 use Rattle.sto_attempt_log.specs.Looking.{LooksAt}
 use Rattle.sto_attempt_log.specs.Standing.{IsLeft}
 use Rattle.sto_attempt_log.specs.Committing.{written}
-use Rattle.sto_attempt_log.specs.Stages.{Deal, reads_of, IsPlace, EndsWith, IsCheckingAt, IsInstallingAt}
+use Rattle.sto_attempt_log.specs.CommitPhases.{Deal, reads_of, IsPlace, EndsWith, IsCheckingAt, IsInstallingAt}
 use Rattle.sto_part.specs.Changes.{applied}
 use Rattle.sto_attempt_log.proofs.Values.{put_value}
 use Rattle.sto_attempt_log.proofs.Looking.{has_written_of}

@@ -33,7 +33,7 @@ use Rattle.sto_attempt_log.specs.Log.{IsRead, IsInside}
 use Rattle.sto_part.specs.Preds.{holds_of}
 use Rattle.sto_attempt_log.specs.ReadSet.{words_in, IsTrueIn, HasClaims}
 use Rattle.sto_attempt_log.specs.Reasons.{IsReadHeld, IsByPredicate}
-use Rattle.sto_attempt_log.specs.Stages.{Deal, task, ticket_from, reads_of, is_so, words_loaded, IsTrueOn, IsDone, IsAsBefore, IsFreshAt, WasFound, IsLeaving, IsLoadingAt, IsLoadingWord}
+use Rattle.sto_attempt_log.specs.CommitPhases.{Deal, task, ticket_from, reads_of, is_so, words_loaded, IsTrueOn, IsDone, IsAsBefore, IsFreshAt, WasFound, IsLeaving, IsLoadingAt, IsLoadingWord}
 use Rattle.sto_attempt_log.proofs.Every.{all_contained}
 use Rattle.sto_attempt_log.proofs.Claimed.{claims_fit, part_of_claims, claimed_words}
 use Rattle.sto_attempt_log.proofs.Drawing.{read_words, were_true}

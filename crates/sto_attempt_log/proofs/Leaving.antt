@@ -26,7 +26,7 @@ use Rattle.sto_attempt_log.specs.Asked.{IsAsked}
 use Rattle.sto_attempt_log.specs.Answers.{IsPrefix, WasLocked, WasChanged}
 use Rattle.sto_attempt_log.specs.Standing.{IsLeft}
 use Rattle.sto_attempt_log.specs.Committing.{written, IsSealed}
-use Rattle.sto_attempt_log.specs.Stages.{Deal, FailsWith, EndsWith, IsLeaving, IsDropping}
+use Rattle.sto_attempt_log.specs.CommitPhases.{Deal, FailsWith, EndsWith, IsLeaving, IsDropping}
 use Rattle.sto_attempt_log.proofs.Claimed.{claimed_still}
 use Rattle.sto_attempt_log.proofs.Reading.{own_still, has_part}
 use Rattle.sto_attempt_log.proofs.Holding.{parts_held, all_get, rest_from, drop_past, without_first, holds_first, none_left, phase_stays}

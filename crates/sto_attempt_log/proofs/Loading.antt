@@ -23,7 +23,7 @@ use Rattle.sto_attempt_log.specs.declared.commit_phase.FoundTicket.{FoundTicket}
 use Rattle.sto_attempt_log.specs.declared.commit_phase.LoadedWord.{LoadedWord}
 use Rattle.sto_attempt_log.specs.Asked.{AllOf}
 use Rattle.sto_attempt_log.specs.ReadSet.{words_in}
-use Rattle.sto_attempt_log.specs.Stages.{Deal, task, ticket_from, reads_of, IsTrueOn, IsDone, IsAsBefore, IsFreshAt, WasFound, IsLoadingAt, IsLoadingWord}
+use Rattle.sto_attempt_log.specs.CommitPhases.{Deal, task, ticket_from, reads_of, IsTrueOn, IsDone, IsAsBefore, IsFreshAt, WasFound, IsLoadingAt, IsLoadingWord}
 use Rattle.sto_attempt_log.proofs.Drawing.{read_entry_of}
 use Rattle.sto_attempt_log.proofs.Moving.{width_of}
 use Rattle.sto_attempt_log.proofs.Ticketing.{held_written}

@@ -23,7 +23,7 @@ use Rattle.sto_attempt_log.specs.Asked.{AllOf, IsAsked}
 use Rattle.sto_attempt_log.specs.Answers.{HasFound}
 use Rattle.sto_attempt_log.specs.Standing.{IsLeft}
 use Rattle.sto_attempt_log.specs.Committing.{written}
-use Rattle.sto_attempt_log.specs.Stages.{Deal, ticket_from, reads_of, FailsWith, EndsWith, IsDone, IsAsBefore, IsFreshAt, WasFound, IsLeaving, IsLockingAt, IsLoadingAt}
+use Rattle.sto_attempt_log.specs.CommitPhases.{Deal, ticket_from, reads_of, FailsWith, EndsWith, IsDone, IsAsBefore, IsFreshAt, WasFound, IsLeaving, IsLockingAt, IsLoadingAt}
 use Rattle.sto_attempt_log.proofs.Prefix.{prefix}
 use Rattle.sto_attempt_log.proofs.Reading.{has_part, among_front, idle_reading}
 use Rattle.sto_attempt_log.proofs.Holding.{parts_held, all_get, first_below, each_held, not_held, take_more, map_snoc, none_left}

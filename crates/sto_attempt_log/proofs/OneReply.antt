@@ -1,4 +1,4 @@
--- An attempt's course over one more reply.
+-- An attempt's log over one more reply.
 use Rattle.std.proofs.Common.{◌≡◌, ℕ, not, ◌||◌, None, List, [], ◌∷◌, ◌++◌, ap, sym, ◌∙◌, subst}
 use Rattle.sto_item.specs.declared.item.Item.{Item}
 use Rattle.sto_item.specs.Pending.{Entry, AreUpdates, applied_updates, with_updates}

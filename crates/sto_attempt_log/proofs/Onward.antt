@@ -1,4 +1,4 @@
--- The course after one more call, as the code has it.
+-- The log after one more call, as the code has it.
 use Rattle.std.proofs.Common.{◌≡◌, List, [], ◌∷◌, ◌++◌, ap, sym, ◌∙◌, subst}
 use Rattle.sto_item.specs.declared.item.Item.{Item}
 use Rattle.sto_item.specs.Pending.{Entry, AreUpdates, applied_updates, with_updates}

@@ -8,7 +8,7 @@ use Rattle.std.proofs.lemmas.List.Sorted.{IsNonDecreasingBy-push}
 use Rattle.sto_core.specs.Reads.{value_read}
 use Rattle.sto_attempt_log.specs.declared.commit_phase.FoundTicket.{FoundTicket}
 use Rattle.sto_attempt_log.specs.declared.commit_phase.LoadedWord.{LoadedWord}
-use Rattle.sto_attempt_log.specs.Stages.{ticket_from, reads_of, is_load_of}
+use Rattle.sto_attempt_log.specs.CommitPhases.{ticket_from, reads_of, is_load_of}
 use Rattle.sto_attempt_log.specs.Ordered.{RisesAfter, is_before, AreInOrder, RisesUpTo}
 use Rattle.sto_attempt_log.proofs.Values.{one_on, one_off}
 

@@ -11,7 +11,7 @@ use Rattle.sto_item.specs.Agreement.{HasWidths}
 use Rattle.sto_core.specs.Lists.{Each, Among}
 use Rattle.sto_core.specs.History.{writes}
 use Rattle.sto_type.specs.Known.{Parts}
-use Rattle.sto_attempt_log.specs.Stages.{IsPlace}
+use Rattle.sto_attempt_log.specs.CommitPhases.{IsPlace}
 use Rattle.sto_attempt_log.specs.Gathering.{places_at, places_in}
 use Rattle.sto_attempt_log.proofs.Gathering.{among_first, among_rest, among_none, among_cases}
 use Rattle.sto_attempt_log.proofs.Planning.{width_at, widths_of}

@@ -18,7 +18,7 @@ use Rattle.sto_core.specs.History.{writes}
 use Rattle.sto_type.specs.Known.{Parts}
 use Rattle.sto_attempt_log.specs.Asked.{AllOf}
 use Rattle.sto_attempt_log.specs.Log.{IsInside}
-use Rattle.sto_attempt_log.specs.Stages.{is_of_part, is_same_part, IsNamed}
+use Rattle.sto_attempt_log.specs.CommitPhases.{is_of_part, is_same_part, IsNamed}
 use Rattle.sto_attempt_log.specs.Gathering.{gathered, seen_part, not_in, other_part, is_add, adding_part, unwritten_part}
 use Rattle.sto_attempt_log.proofs.Aiming.{any_writes}
 use Rattle.sto_attempt_log.proofs.Checks.{among_any, any_among}

@@ -14,7 +14,7 @@ use Rattle.sto_item.specs.declared.item.Item.TheVariants.{Seen, Holds}
 use Rattle.sto_attempt_log.specs.declared.commit_phase.LoadedWord.{LoadedWord}
 use Rattle.sto_part.specs.Preds.{holds_of}
 use Rattle.sto_core.specs.Reads.{value_read}
-use Rattle.sto_attempt_log.specs.Stages.{reads_of, is_so}
+use Rattle.sto_attempt_log.specs.CommitPhases.{reads_of, is_so}
 use Rattle.sto_attempt_log.specs.Predicates.{preds_in}
 
 -- a test of all elements does not see their order

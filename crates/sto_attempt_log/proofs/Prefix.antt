@@ -1,4 +1,4 @@
--- What the course tells of the replies on contents that have the claims.
+-- What the log tells of the replies on contents that have the claims.
 use Rattle.std.proofs.Common.{◌≡◌, ℕ, not, List, [], ap, sym, ◌∙◌, subst}
 use Rattle.sto_item.specs.declared.item.Item.{Item}
 use Rattle.sto_item.specs.Pending.{Entry}

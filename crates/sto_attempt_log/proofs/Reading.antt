@@ -49,7 +49,7 @@ use Rattle.sto_attempt_log.proofs.Moving.{width_of}
 use Rattle.sto_attempt_log.proofs.Numbered.{numbered_more, all_numbered, words_numbered}
 use Rattle.sto_attempt_log.proofs.Prefix.{prefix, prefix_on, has_read, has_cancelled}
 
--- the view of an attempt between two reads, with no word of its course
+-- the view of an attempt between two reads, with no word of its log
 pub record AtRest (m : Meaning) (valid : Validity) (sizes : List ℕ) (at : ℕ) (v : View) : Type 0 where
   pub own : IsOwn m sizes v
   pub unheld : v.held ≡ []
@@ -451,7 +451,7 @@ start_below valid passes v w n t j c there start = absurd (omega (arith, t.learn
 pub start_only : (valid : Validity) (passes : ℕ) (v w : View) (n : ℕ) → Tells valid passes Start v n (pos 0) w → AreOnly w n []
 start_only valid passes v w n t j c there start number = absurd (omega (arith, t.learns.1.claims j c there, start))
 
--- one more part that was read leaves the course
+-- one more part that was read leaves the log
 pub log_wider : (m : Meaning) (f : Script) (base : List ReadEntry) (x : ReadEntry) (items : List Item) (es : List Update) (rs : List Told) → IsLog m f (words_in base) items es rs → IsLog m f (words_in (base ++ x ∷ [])) items es rs
 log_wider m f base x items es rs h = record {
   carried = record {

@@ -3,7 +3,7 @@ use Rattle.std.proofs.Common.{◌≡◌, ◌≤◌, ◌<◌, ◌+◌, ◌-◌, �
 use Rattle.sto_attempt_log.specs.declared.commit_phase.CommitPhase.{CommitPhase}
 use Rattle.sto_attempt_log.specs.declared.commit_phase.CommitPhase.TheVariants as S
 use Rattle.sto_attempt_log.specs.declared.verdict.Verdict.{Verdict}
-use Rattle.sto_attempt_log.specs.Stages.{Deal, IsAim, IsNextCheck, IsNextPut, task}
+use Rattle.sto_attempt_log.specs.CommitPhases.{Deal, IsAim, IsNextCheck, IsNextPut, task}
 use Rattle.sto_attempt_log.specs.Remaining.{loading, deciding, drawing, commit_left}
 
 pub loading_at : (widths tasks : List ℕ) (n : ℕ) → n < length tasks → loading widths (drop n tasks) ≡ slice_index_or widths (slice_index_or tasks n 0) 0 + 2 + loading widths (drop (suc n) tasks)
@@ -15,7 +15,7 @@ module _ (d : Deal) where
   abbrev draws : ℕ
   draws = drawing d
 
-  -- a helper's choice of the next stage
+  -- a helper's choice of the next phase
   aimed : (n : ℕ) (commit_phase : CommitPhase) → IsAim d.us d.tasks n commit_phase → commit_left d commit_phase ≤ loading d.m.widths (drop n d.tasks) + drawing d
   aimed n S.Drawing a = omega arith
   aimed n (S.Loading k i) a = subst (λ (q : ℕ). (loading d.m.widths (drop q d.tasks) - i) + drawing d ≤ loading d.m.widths (drop n d.tasks) + drawing d) (sym a.0) (omega arith)

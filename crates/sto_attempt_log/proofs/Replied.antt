@@ -19,7 +19,7 @@ use Rattle.sto_attempt_log.specs.declared.commit_phase.FoundTicket.{FoundTicket}
 use Rattle.sto_attempt_log.specs.declared.commit_phase.LoadedWord.{LoadedWord}
 use Rattle.sto_attempt_log.specs.Answers.{OneEvent, IsCommitEvent, IsPrefix}
 use Rattle.sto_attempt_log.specs.Committing.{IsSealed}
-use Rattle.sto_attempt_log.specs.Stages.{Deal, Stands}
+use Rattle.sto_attempt_log.specs.CommitPhases.{Deal, Stands}
 use Rattle.sto_attempt_log.proofs.Prefix.{prefix}
 use Rattle.sto_attempt_log.proofs.Reading.{among_front}
 

@@ -29,7 +29,7 @@ use Rattle.sto_attempt_log.specs.ReadSet.{words_in}
 use Rattle.sto_attempt_log.specs.Log.{IsLog}
 use Rattle.sto_attempt_log.specs.Standing.{Fits}
 use Rattle.sto_attempt_log.specs.Gathering.{gathered, seen_part, other_part, adding_part, unwritten_part, places_in, is_add, AreGathered}
-use Rattle.sto_attempt_log.specs.Stages.{Deal, deal, IsPlanned, IsLockingAt, WasFound, ticket_from, reads_of}
+use Rattle.sto_attempt_log.specs.CommitPhases.{Deal, deal, IsPlanned, IsLockingAt, WasFound, ticket_from, reads_of}
 use Rattle.sto_attempt_log.proofs.Asking.{asked_range}
 use Rattle.sto_attempt_log.proofs.Bounded.{begins_bounded}
 use Rattle.sto_attempt_log.proofs.Every.{all_contained}

@@ -5,7 +5,7 @@ use Rattle.sto_item.specs.Pending.{Entry as Update}
 use Rattle.sto_attempt_log.specs.declared.commit_phase.CommitPhase.{CommitPhase}
 use Rattle.sto_attempt_log.specs.declared.commit_phase.CommitPhase.TheVariants as S
 use Rattle.sto_attempt_log.specs.declared.commit_phase.LoadedWord.{LoadedWord}
-use Rattle.sto_attempt_log.specs.Stages.{due, HasSpace, SpaceAt, IsAim, IsNextCheck, IsNextPut}
+use Rattle.sto_attempt_log.specs.CommitPhases.{due, HasSpace, SpaceAt, IsAim, IsNextCheck, IsNextPut}
 
 pub due_at : (widths tasks : List ℕ) (n : ℕ) → n < length tasks → due widths (drop n tasks) ≡ slice_index_or widths (slice_index_or tasks n 0) 0 + due widths (drop (suc n) tasks)
 due_at widths [] n l = absurd (omega (arith, l))

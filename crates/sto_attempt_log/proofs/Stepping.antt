@@ -62,7 +62,7 @@ module _ (m : Meaning) (valid : Validity) (sizes : List ℕ) (f : Script) (at : 
   any_prefix read_phase (Ok turn) P h log stopped = turned_prefix read_phase turn h log
   any_prefix read_phase (Err e) P h log stopped = stopped.1
 
--- from a course and more
+-- from a log and more
 pub ok_map : {T E : Type 0} (r : Result T E) (P Q : Type 0) → (P → Q) → OnOk r P → OnOk r Q
 ok_map (Ok x) P Q f h = f h
 ok_map (Err e) P Q f h = tt
@@ -145,7 +145,7 @@ unaborted_caused e items v extension (Ended (Changed n p t)) h = absurd h
 fresh_not : (old new : Extension) → new ≡ old → old.extended ≡ false → new.extended ≡ true → ⊥
 fresh_not old new e fresh x = let h : true ≡ false = sym x ∙ (ap (λ (r : Extension). r.extended) e ∙ fresh) in cc
 
--- a renewal that stays tells truly whether the running call has extended
+-- an extension that stays tells truly whether the running call has extended
 pub keeps_fresh : (w : View) (old new : Extension) (rs now : List Told) → new ≡ old → old.extended ≡ false → KeepsExtension Unstarted w old rs new now
 keeps_fresh w old new rs now e fresh = (ap (λ (r : Extension). r.bound) e, λ x. absurd (fresh_not old new e fresh x))
 

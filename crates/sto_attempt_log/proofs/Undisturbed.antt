@@ -12,10 +12,10 @@ use Rattle.sto_attempt_log.specs.declared.commit_phase.CommitPhase.{CommitPhase}
 use Rattle.sto_attempt_log.specs.declared.commit_phase.CommitPhase.TheVariants as S
 use Rattle.sto_attempt_log.specs.declared.commit_phase.FoundTicket.{FoundTicket}
 use Rattle.sto_attempt_log.specs.declared.verdict.Verdict.{Verdict}
-use Rattle.sto_attempt_log.specs.Stages.{ticket_from, IsAim, IsNextCheck, IsNextPut}
+use Rattle.sto_attempt_log.specs.CommitPhases.{ticket_from, IsAim, IsNextCheck, IsNextPut}
 use Rattle.sto_attempt_log.specs.Verdicts.{ComesTo}
 
--- where a helper picks the next stage, the commit goes on
+-- where a helper picks the next phase, the commit goes on
 pub aimed_on : (us : List Update) (tasks : List ℕ) (n : ℕ) (commit_phase : CommitPhase) → IsAim us tasks n commit_phase → (verdict : Verdict) → ComesTo None commit_phase verdict → ⊥
 aimed_on us tasks n S.Drawing a verdict e = absurd e
 aimed_on us tasks n (S.Loading k i) a verdict e = absurd e

@@ -31,7 +31,7 @@ use Rattle.sto_attempt_log.specs.Asked.{AllOf, IsAsked}
 use Rattle.sto_attempt_log.specs.Answers.{HasFound}
 use Rattle.sto_attempt_log.specs.Log.{IsRead}
 use Rattle.sto_attempt_log.specs.ReadSet.{words_in, ticket_in, claim_of, IsClaimed}
-use Rattle.sto_attempt_log.specs.Stages.{Deal, task, ticket_from, reads_of, FailsWith, IsDone, IsAsBefore, IsTrueOn, IsFreshAt, IsPlanned, WasFound, IsLeaving, IsTestingAt, IsTestedWord}
+use Rattle.sto_attempt_log.specs.CommitPhases.{Deal, task, ticket_from, reads_of, FailsWith, IsDone, IsAsBefore, IsTrueOn, IsFreshAt, IsPlanned, WasFound, IsLeaving, IsTestingAt, IsTestedWord}
 use Rattle.sto_attempt_log.proofs.Every.{all_contained}
 use Rattle.sto_attempt_log.proofs.Drawing.{read_entry_of, read_words}
 use Rattle.sto_attempt_log.proofs.Moving.{width_of}

@@ -9,7 +9,7 @@ use Rattle.sto_core.specs.Reads.{Reads, was_read, value_read}
 use Rattle.sto_core.specs.Puts.{IsPutOf}
 use Rattle.sto_core.proofs.Lists.{both_are}
 use Rattle.sto_attempt_log.specs.declared.commit_phase.LoadedWord.{LoadedWord}
-use Rattle.sto_attempt_log.specs.Stages.{reads_of, is_load_of}
+use Rattle.sto_attempt_log.specs.CommitPhases.{reads_of, is_load_of}
 
 pub one_on : (x : LoadedWord) (xs : List LoadedWord) (p i : ℕ) → is_load_of p i x ≡ true → value_read (reads_of (x ∷ xs) p) i ≡ x.value
 one_on x xs p i e = let b = both_are (nat_eq x.part p) (nat_eq x.word i) e in rw (b.0, b.1) refl

@@ -9,7 +9,7 @@ use Rattle.sto_item.specs.declared.item.Item.{Item}
 use Rattle.sto_item.specs.declared.item.Item.TheVariants.{Seen, Holds}
 use Rattle.sto_item.specs.Pending.{Entry as Update, plain, is_keep}
 use Rattle.sto_item.specs.Places.{with_part}
-use Rattle.sto_attempt_log.specs.Stages.{is_of_part, is_same_part}
+use Rattle.sto_attempt_log.specs.CommitPhases.{is_of_part, is_same_part}
 
 -- part numbers with one more, if there is one
 abbrev pub with_maybe : List ℕ → Option ℕ → List ℕ

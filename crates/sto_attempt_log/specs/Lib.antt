@@ -15,7 +15,7 @@ pub mod Bounds
 pub mod Extending
 pub mod Looking
 pub mod Committing
-pub mod Stages
+pub mod CommitPhases
 pub mod Gathering
 pub mod Verdicts
 pub mod Ordered

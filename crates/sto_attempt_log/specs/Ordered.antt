@@ -4,7 +4,7 @@ use Rattle.std.specs.List.Sorted.{IsNonDecreasingBy}
 use Rattle.sto_attempt_log.specs.declared.commit_phase.FoundTicket.{FoundTicket}
 use Rattle.sto_attempt_log.specs.declared.commit_phase.LoadedWord.{LoadedWord}
 use Rattle.sto_core.specs.Reads.{value_read}
-use Rattle.sto_attempt_log.specs.Stages.{reads_of}
+use Rattle.sto_attempt_log.specs.CommitPhases.{reads_of}
 
 -- from a place on the parts rise
 abbrev pub RisesAfter : ℕ → List FoundTicket → Type 0

@@ -58,7 +58,7 @@ abbrev pub IsReason : Event → List Item → View → ℕ → ℕ → Bool → 
 IsReason event items v part ticket renewed bound =
     IsByReading event part ticket renewed bound ⊎ (Contains items (Seen part) ⊎ (IsByPredicate items v part ticket ⊎ IsByTest v part ticket))
 
--- a turn that ends with a change has one of them; the renewal is that before the step
+-- a turn that ends with a change has one of them; the extension is that before the step
 abbrev pub IsCaused : Event → List Item → View → Extension → Turn → Type 0
 IsCaused event items v extension (Ended (Changed n p t)) = IsReason event items v p t extension.extended extension.bound
 IsCaused event items v extension _ = Unit {0}

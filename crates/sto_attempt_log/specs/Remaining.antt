@@ -2,7 +2,7 @@
 use Rattle.std.specs.Prelude.{ℕ, ◌+◌, ◌-◌, List, [], ◌∷◌, length, drop, slice_index_or}
 use Rattle.sto_attempt_log.specs.declared.commit_phase.CommitPhase.{CommitPhase}
 use Rattle.sto_attempt_log.specs.declared.commit_phase.CommitPhase.TheVariants as S
-use Rattle.sto_attempt_log.specs.Stages.{Deal}
+use Rattle.sto_attempt_log.specs.CommitPhases.{Deal}
 
 -- the events to load parts: each word, and the begin and the end of a test
 abbrev pub loading : List ℕ → List ℕ → ℕ
@@ -17,7 +17,7 @@ deciding d = 1 + length d.places + length d.us
 abbrev pub drawing : Deal → ℕ
 drawing d = 1 + length d.checks + deciding d
 
--- the events left at a stage
+-- the events left at a phase
 abbrev pub commit_left : Deal → CommitPhase → ℕ
 commit_left d (S.Locking n) = (length d.us - n) + loading d.m.widths d.tasks + drawing d
 commit_left d (S.Loading n i) = (loading d.m.widths (drop n d.tasks) - i) + drawing d

@@ -1,7 +1,7 @@
 //! What the locks and tests of a commit have found.
 ghost use Rattle.std.specs.Prelude.{◌≡◌, ◌+◌, ◌-◌, ◌^◌, ◌<◌, ◌≤◌, ℕ, [], ◌∷◌, ◌++◌, length, OnOk, IfSome};
 ghost use Rattle.std.specs.List.Sorted.{IsNonDecreasingBy};
-ghost use Rattle.sto_attempt_log.specs.Stages.{ticket_from};
+ghost use Rattle.sto_attempt_log.specs.CommitPhases.{ticket_from};
 ghost use Rattle.sto_attempt_log.specs.Ordered.{RisesAfter};
 
 use crate::commit_phase::FoundTicket;

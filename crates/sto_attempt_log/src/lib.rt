@@ -1,4 +1,4 @@
-//! The course of an attempt: what it has found out, where it stands between two events, and what its commit is led by.
+//! The log of an attempt: what it has found out, where it stands between two events, and what its commit is led by.
 //!
 //! The definitions in `specs/` and the lemmas in `proofs/` are of an attempt and its commit as a whole. The code here makes no event.
 #![tactic(auto)]

@@ -1,7 +1,7 @@
 //! The words that a commit has read.
 ghost use Rattle.std.specs.Prelude.{◌≡◌, ◌+◌, ◌-◌, ◌^◌, ◌<◌, ◌≤◌, [], ◌∷◌, ◌++◌, length, OnOk, MatchOption};
 ghost use Rattle.sto_core.specs.Reads.{value_read};
-ghost use Rattle.sto_attempt_log.specs.Stages.{reads_of, is_load_of};
+ghost use Rattle.sto_attempt_log.specs.CommitPhases.{reads_of, is_load_of};
 ghost use Rattle.sto_attempt_log.specs.Ordered.{is_before, AreInOrder, RisesUpTo, HasValue, HasNoValue};
 
 use crate::commit_phase::LoadedWord;

@@ -1,4 +1,4 @@
-//! The course of an attempt between two events: the body is run on what is known, up to the next part that has to be read, or to its end.
+//! The log of an attempt between two events: the body is run on what is known, up to the next part that has to be read, or to its end.
 ghost use Rattle.std.specs.Prelude.{◌≡◌, ◌≤◌, ◌<◌, ◌+◌, [], ℤ, List, map, length, OnOk, OnErr, IfOk};
 ghost use Rattle.sto_model.specs.Told.{Told, told};
 ghost use Rattle.sto_type.specs.Known.{known, IsPartOf};

@@ -7,7 +7,7 @@ ghost use Rattle.sto_item.specs.Agreement.{KeepsAgreement, KeepsTruth};
 ghost use Rattle.sto_item.specs.Rebase.{overwrites, rebased, HoldsWherePut};
 ghost use Rattle.sto_item.specs.Recorded.{AddsItem};
 ghost use Rattle.sto_item.specs.Watched.{watched};
-ghost use Rattle.sto_attempt_log.specs.Stages.{is_so};
+ghost use Rattle.sto_attempt_log.specs.CommitPhases.{is_so};
 ghost use Rattle.sto_attempt_log.specs.Predicates.{ArePredsOf};
 
 use crate::loaded_words::LoadedWords;

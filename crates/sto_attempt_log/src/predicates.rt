@@ -5,7 +5,7 @@ ghost use Rattle.std.specs.List.Sorted.{IsNonDecreasingBy};
 ghost use Rattle.sto_part.specs.declared.pred.Pred.{Pred};
 ghost use Rattle.sto_part.specs.Preds.{holds_of};
 ghost use Rattle.sto_core.specs.Reads.{value_read};
-ghost use Rattle.sto_attempt_log.specs.Stages.{reads_of, is_so};
+ghost use Rattle.sto_attempt_log.specs.CommitPhases.{reads_of, is_so};
 ghost use Rattle.sto_attempt_log.specs.Predicates.{preds_in, ArePredsOf};
 ghost use Rattle.sto_item.specs.declared.item.Item.{Item};
 

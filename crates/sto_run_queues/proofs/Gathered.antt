@@ -1,4 +1,4 @@
--- Two crews that served different queues are gathered into one.
+-- Two teams that served different queues are gathered into one.
 use Rattle.std.specs.Prelude.{◌%◌, nat_eq}
 use Rattle.std.specs.List.{All}
 use Rattle.std.proofs.Common.{◌≡◌, ℕ, zero, suc, ◌+◌, ◌*◌, ◌<◌, ◌≤◌, List, [], ◌∷◌, ◌++◌, map, take, drop, refl, sym, ap, ap₂, ◌∙◌, subst, arith, append_assoc, length, inl, inr, eq-eqb, ne_eqb}

@@ -85,7 +85,7 @@ pub pass_at : (queues : List JobQueue) (passes : List JobPass) (number : ℕ) (p
 pass_at queues passes number pass queue v h low is too =
     subst (λ (x : JobPass). IsPass queue x (v number)) (sym too) (of_at queues number queue (get_or passes number pass) (v number) is (h.each number pass low))
 
--- workers of two crews
+-- workers of two teams
 pub taken_both : (queues : List JobQueue) (xs ys : List ℕ) (js ks : List (List Job)) (ps qs : List JobPass) → HaveTaken queues xs js ps → HaveTaken queues ys ks qs → HaveTaken queues (xs ++ ys) (js ++ ks) (ps ++ qs)
 taken_both queues [] ys [] ks [] qs h k = k
 taken_both queues [] ys [] ks (p ∷ ps) qs h k = absurd h

@@ -21,7 +21,7 @@ use sto_queue::JobQueue;
 use sto_run_threads::Work;
 use sto_table::Shared;
 
-// Gathers what two crews have done.
+// Gathers what two teams have done.
 fn gather<T: Naming>(
     shared: &Shared<T>,
     first: ServingTeam<T>,

@@ -9,7 +9,7 @@ use Rattle.sto_core.specs.declared.view.View.{View}
 use Rattle.sto_core.specs.History.{Validity}
 use Rattle.sto_run_threads.specs.Orders.{Place, transaction_at}
 use Rattle.sto_transaction.specs.declared.machine.Machine.{Machine}
-use Rattle.sto_transaction.specs.Trials.{Proceeds, machine_left}
+use Rattle.sto_transaction.specs.Machines.{Proceeds, machine_left}
 
 -- on words with so many passes, the attempt is one of the transaction of the file at a place, on a type, and has led from the view
 -- `begun` to the view v

@@ -1,4 +1,4 @@
--- Two crews are gathered into one.
+-- Two teams are gathered into one.
 use Rattle.std.proofs.Common.{◌≡◌, ℕ, ◌+◌, ◌≤◌, List, ◌++◌, sym, ap, subst, arith}
 use Rattle.atomic_table.specs.declared.shared.Seat.{Seat}
 use Rattle.sto_lang.specs.Scripts.{File}

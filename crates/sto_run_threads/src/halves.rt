@@ -17,7 +17,7 @@ use sto_claims::Claims;
 use sto_part::{Naming, NoMemory};
 use sto_table::Shared;
 
-/// Gathers what two crews have done, which claimed different threads.
+/// Gathers what two teams have done, which claimed different threads.
 pub fn gather<T: Naming, W: Work<T>>(
     work: &W,
     shared: &Shared<T>,

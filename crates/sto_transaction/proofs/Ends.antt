@@ -17,7 +17,7 @@ use Rattle.sto_attempt_log.specs.declared.verdict.Verdict.TheVariants.{Wrote, Re
 use Rattle.sto_attempt_log.specs.declared.verdict.Turn.TheVariants.{Ended}
 use Rattle.sto_attempt_log.specs.Answers.{OneEvent, IsCommitEvent}
 use Rattle.sto_attempt_log.specs.Standing.{Ends, IsLeft, IsUnaborted}
-use Rattle.sto_attempt_log.specs.Stages.{Deal, EndsWith, EndsIn}
+use Rattle.sto_attempt_log.specs.CommitPhases.{Deal, EndsWith, EndsIn}
 use Rattle.sto_attempt_log.specs.Verdicts.{IsWrote}
 use Rattle.sto_attempt_facts.specs.Records.{Place, IsSince, is_abort, wrote_with}
 use Rattle.sto_attempt_facts.specs.Counted.{times_committed}

@@ -23,7 +23,7 @@ use Rattle.sto_attempt_facts.proofs.Progress.{begun_runs, keeps_running}
 use Rattle.sto_attempt_facts.proofs.Ended.{IsPlain, undrawn_keeps}
 use Rattle.sto_transaction.specs.Going.{InBody, HasGone}
 use Rattle.sto_transaction.specs.Resting.{IsAtRest}
-use Rattle.sto_transaction.specs.Trials.{HasStopped}
+use Rattle.sto_transaction.specs.Machines.{HasStopped}
 
 -- an event of an attempt that has begun and reads
 IsReadingEvent : Event → Type 0

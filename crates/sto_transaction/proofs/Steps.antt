@@ -22,13 +22,13 @@ use Rattle.sto_attempt_log.specs.declared.verdict.Turn.TheVariants as Turns
 use Rattle.sto_attempt_log.specs.Answers.{OneEvent, IsCommitEvent}
 use Rattle.sto_attempt_log.specs.Log.{IsOnLog}
 use Rattle.sto_attempt_log.specs.Standing.{Goes, Turned, Fits, Ends, Moves, IsFirst, IsLeft, IsUnaborted, next_event}
-use Rattle.sto_attempt_log.specs.Stages.{Said, EndsBy, Stands, SpaceAt}
+use Rattle.sto_attempt_log.specs.CommitPhases.{Said, EndsBy, Stands, SpaceAt}
 use Rattle.sto_attempt_log.specs.Verdicts.{IsUndisturbed}
 use Rattle.sto_attempt_log.proofs.Reading.{idle_reading}
 use Rattle.sto_transaction.specs.Resting.{IsAtRest}
 use Rattle.sto_transaction.specs.declared.machine.Ended.{Ended}
 use Rattle.sto_transaction.specs.declared.machine.Machine.TheVariants.{Running, Committing}
-use Rattle.sto_transaction.specs.Trials.{HasStopped, deal_of, IsOwnLog, RunsBody, IsReady, Commits, HasEnded, HasTurned, HasFinished}
+use Rattle.sto_transaction.specs.Machines.{HasStopped, deal_of, IsOwnLog, RunsBody, IsReady, Commits, HasEnded, HasTurned, HasFinished}
 use Rattle.sto_transaction.proofs.Gone.{HasLed, HasMoved, has_led, gone_of, rests_after, stopped}
 use Rattle.sto_transaction.proofs.Ends.{ended_reading, ended_commit, commit_runs, unaborted_turn, unaborted_wrote}
 

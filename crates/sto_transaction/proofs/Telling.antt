@@ -14,7 +14,7 @@ use Rattle.sto_attempt_log.specs.Standing.{Ends}
 use Rattle.sto_attempt_log.specs.declared.verdict.Verdict.{Verdict}
 use Rattle.sto_attempt_log.specs.declared.verdict.Verdict.TheVariants.{Wrote, Read, Cancelled, Locked, Changed}
 use Rattle.sto_model.specs.Asked.{AsksOf}
-use Rattle.sto_attempt_log.specs.Stages.{Deal, EndsWith}
+use Rattle.sto_attempt_log.specs.CommitPhases.{Deal, EndsWith}
 use Rattle.sto_attempt_facts.specs.Told.{HasFound, IsLockedFinding, IsTicketFinding, HasClaimed, IsAskedPart, IsTold, IsFound, HasRead, HasCancelled, WasAborted, WasChanged}
 use Rattle.sto_attempt_facts.specs.Added.{IsKnown}
 use Rattle.sto_attempt_facts.specs.Records.{IsSince}

@@ -15,7 +15,7 @@ use Rattle.sto_attempt_facts.proofs.Later.{told_later}
 use Rattle.sto_attempt_facts.proofs.Tries.{none_made, one_more, longer, found_later}
 use Rattle.sto_transaction.specs.Ran.{HasRun, HasBroken}
 use Rattle.sto_transaction.specs.Resting.{IsAtRest}
-use Rattle.sto_transaction.specs.Trials.{HasStopped}
+use Rattle.sto_transaction.specs.Machines.{HasStopped}
 use Rattle.sto_transaction.proofs.Counting.{all_aborted, last_unaborted, none_finished, last_finished}
 
 -- so many attempts were made between the views v and w, all aborted, and added these records

@@ -2,7 +2,7 @@ pub mod Plain
 pub mod Resting
 pub mod Ran
 pub mod Going
-pub mod Trials
+pub mod Machines
 pub use Rattle.sto_model.specs.Run
 pub use Rattle.sto_attempt_facts.specs.Records
 pub use Rattle.sto_attempt_log.specs.Answers

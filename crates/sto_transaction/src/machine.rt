@@ -6,7 +6,7 @@ ghost use Rattle.sto_core.specs.declared.view.View.{View};
 ghost use Rattle.sto_attempt_log.specs.Answers.{OneEvent};
 ghost use Rattle.sto_attempt_log.specs.Bounds.{bound, words_of};
 ghost use Rattle.sto_transaction.specs.Resting.{IsAtRest};
-ghost use Rattle.sto_transaction.specs.Trials.{Proceeds, IsAtSeal, IsAtEnd, HasTurned, HasStepped, HasEnded, machine_left, left_after};
+ghost use Rattle.sto_transaction.specs.Machines.{Proceeds, IsAtSeal, IsAtEnd, HasTurned, HasStepped, HasEnded, machine_left, left_after};
 
 use std::alloc::Global;
 use std::mem;

@@ -7,7 +7,7 @@ ghost use Rattle.sto_attempt_facts.specs.Records.{is_abort};
 ghost use Rattle.sto_transaction.specs.Plain.{plain, verdict};
 ghost use Rattle.sto_transaction.specs.Ran.{HasRun, HasBroken};
 ghost use Rattle.sto_transaction.specs.Resting.{IsAtRest};
-ghost use Rattle.sto_transaction.specs.Trials.{Proceeds, HasEnded, HasFinished, HasStopped};
+ghost use Rattle.sto_transaction.specs.Machines.{Proceeds, HasEnded, HasFinished, HasStopped};
 
 use crate::machine::{Ended, Machine};
 use crate::record::Record;

@@ -1,5 +1,5 @@
 use Rattle.std.proofs.Common.{◌≡◌, drop}
-use Rattle.sto_attempt_log.specs.Stages.{ticket_from}
+use Rattle.sto_attempt_log.specs.CommitPhases.{ticket_from}
 use Rattle.sto_attempt_log.proofs.found_tickets.ticket_found.Given as goal
 
 -- the last of those that were passed over, and of the rest

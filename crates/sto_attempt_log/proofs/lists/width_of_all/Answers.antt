@@ -1,6 +1,6 @@
 use Rattle.std.proofs.Common.{◌≡◌, ◌<◌, ◌+◌, ◌∙◌, ℕ, suc, ap, subst, arith, length, drop, slice_index_or}
 use Rattle.std.proofs.lemmas.Option.{get_or_from_slice_get}
-use Rattle.sto_attempt_log.specs.Stages.{due}
+use Rattle.sto_attempt_log.specs.CommitPhases.{due}
 use Rattle.sto_attempt_log.proofs.Checks.{each_get}
 use Rattle.sto_attempt_log.proofs.Space.{due_at}
 use Rattle.sto_attempt_log.proofs.lists.width_of_all.Goals as goal

@@ -1,5 +1,5 @@
 use Rattle.std.proofs.Common.{◌≡◌, ◌+◌, drop}
-use Rattle.sto_attempt_log.specs.Stages.{due}
+use Rattle.sto_attempt_log.specs.CommitPhases.{due}
 use Rattle.sto_attempt_log.proofs.lists.width_of_all.Given as goal
 
 abbrev pub invariant-loop-place : goal.invariant-loop-place

@@ -1,6 +1,6 @@
 use Rattle.std.proofs.Common.{◌≡◌, drop}
 use Rattle.sto_core.specs.Reads.{value_read}
-use Rattle.sto_attempt_log.specs.Stages.{reads_of}
+use Rattle.sto_attempt_log.specs.CommitPhases.{reads_of}
 use Rattle.sto_attempt_log.proofs.loaded_words.value_of.Given as goal
 
 -- what was passed over is no read of the word

@@ -2,7 +2,7 @@
 use Rattle.std.proofs.Common.{◌≡◌, ℕ, ap, sym, ◌∙◌, subst, Ok, Option, Result}
 use Rattle.sto_part.specs.declared.NoMemory.{NoMemory}
 use Rattle.sto_transaction.specs.declared.machine.Ended.{Ended}
-use Rattle.sto_transaction.specs.Trials.{Proceeds, HasStepped, HasEnded}
+use Rattle.sto_transaction.specs.Machines.{Proceeds, HasStepped, HasEnded}
 use Rattle.sto_transaction.proofs.transaction.finish.Goals as goal
 
 pub step-requires : goal.step-requires

@@ -1,7 +1,7 @@
--- The trial proceeds from the view at the beginning, on the same pass.
+-- The machine proceeds from the view at the beginning, on the same pass.
 use Rattle.sto_model.specs.Run.{Script}
 use Rattle.sto_core.specs.declared.view.View.{View}
-use Rattle.sto_transaction.specs.Trials.{Proceeds, machine_left}
+use Rattle.sto_transaction.specs.Machines.{Proceeds, machine_left}
 use Rattle.sto_transaction.proofs.transaction.finish.Given as goal
 
 abbrev pub invariant-loop-events : goal.invariant-loop-events

@@ -4,7 +4,7 @@ use Rattle.sto_model.specs.Told.{told}
 use Rattle.sto_attempt_log.specs.declared.commit_phase.CommitPhase.TheVariants.{Locking}
 use Rattle.sto_attempt_log.specs.Bounds.{round, words_of}
 use Rattle.sto_attempt_log.specs.Remaining.{commit_left}
-use Rattle.sto_attempt_log.specs.Stages.{deal, IsPlanned}
+use Rattle.sto_attempt_log.specs.CommitPhases.{deal, IsPlanned}
 use Rattle.sto_attempt_log.proofs.Sealing.{gathered_planned, gathered_bounded}
 use Rattle.sto_attempt.proofs.attempt.Attempt.stock.Goals as goal
 

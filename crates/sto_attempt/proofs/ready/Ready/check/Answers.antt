@@ -3,7 +3,7 @@ use Rattle.sto_core.specs.Event.{is_own_or_free}
 use Rattle.sto_core.specs.Versions.{ticket_of, is_free}
 use Rattle.sto_core.proofs.Lists.{locked_is, unlocked_is}
 use Rattle.sto_attempt_log.specs.declared.verdict.Verdict.TheVariants.{Changed}
-use Rattle.sto_attempt_log.specs.Stages.{IsDropping}
+use Rattle.sto_attempt_log.specs.CommitPhases.{IsDropping}
 use Rattle.sto_attempt_log.proofs.Checks.{may_check, check_locked, check_changed, check_goes, expected_is, own_free, own_written}
 use Rattle.sto_attempt_log.proofs.Aiming.{checks_next, is_in}
 use Rattle.sto_type.specs.Traits.{of_type}

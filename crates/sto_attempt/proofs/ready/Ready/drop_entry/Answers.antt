@@ -1,5 +1,5 @@
 use Rattle.std.proofs.Common.{inl, ℕ, sym, subst, rules, refl}
-use Rattle.sto_attempt_log.specs.Stages.{IsLeaving}
+use Rattle.sto_attempt_log.specs.CommitPhases.{IsLeaving}
 use Rattle.sto_attempt_log.proofs.Leaving.{drop_goes}
 use Rattle.sto_attempt_log.proofs.Remaining.{drop_lowers}
 use Rattle.sto_type.specs.Traits.{of_type}

@@ -9,7 +9,7 @@ use Rattle.sto_core.specs.Versions.{ticket_of, is_free}
 use Rattle.sto_core.specs.Allowed.{HasPart, MayClose}
 use Rattle.sto_core.proofs.Lists.{locked_is, unlocked_is}
 use Rattle.sto_attempt_log.specs.declared.verdict.Verdict.TheVariants.{Locked}
-use Rattle.sto_attempt_log.specs.Stages.{task, is_so, IsLeaving}
+use Rattle.sto_attempt_log.specs.CommitPhases.{task, is_so, IsLeaving}
 use Rattle.sto_attempt_log.proofs.Unheld.{part_wide}
 use Rattle.sto_attempt_log.proofs.Ending.{odd_version, other_version, same_version, may_end, end_locked, end_newer, end_done, end_fails, space_ended}
 use Rattle.sto_attempt_log.proofs.Judging.{all_true, one_fails, so_of, leaving_as}

@@ -8,7 +8,7 @@ use Rattle.sto_core.specs.Tells.{Tells}
 use Rattle.sto_core.specs.Views.{width_in}
 use Rattle.sto_core.specs.Allowed.{HasPart, MayRead}
 use Rattle.sto_attempt_log.specs.declared.commit_phase.LoadedWord.{LoadedWord}
-use Rattle.sto_attempt_log.specs.Stages.{task, ticket_from, is_so, IsLoadingWord, Stands}
+use Rattle.sto_attempt_log.specs.CommitPhases.{task, ticket_from, is_so, IsLoadingWord, Stands}
 use Rattle.std.specs.List.{list_all}
 use Rattle.sto_attempt_log.proofs.Loading.{may_load, load_goes, in_widths, task_wide}
 use Rattle.sto_attempt_log.proofs.Judging.{load_done, load_fails, all_true, one_fails, so_of, leaving_as}

@@ -7,7 +7,7 @@ use Rattle.sto_core.specs.Tells.{Tells}
 use Rattle.sto_core.specs.Views.{width_in}
 use Rattle.sto_core.specs.Allowed.{HasPart, MayRead}
 use Rattle.sto_attempt_log.specs.declared.commit_phase.LoadedWord.{LoadedWord}
-use Rattle.sto_attempt_log.specs.Stages.{task, IsTestedWord}
+use Rattle.sto_attempt_log.specs.CommitPhases.{task, IsTestedWord}
 use Rattle.sto_attempt_log.proofs.Unheld.{may_read_word, word_goes}
 use Rattle.sto_attempt_log.proofs.Space.{space_more}
 use Rattle.sto_attempt_log.proofs.Remaining.{word_lowers}

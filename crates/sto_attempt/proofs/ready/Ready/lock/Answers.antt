@@ -7,7 +7,7 @@ use Rattle.sto_attempt_log.specs.declared.commit_phase.FoundTicket.{FoundTicket}
 use Rattle.sto_attempt_log.specs.declared.commit_phase.LoadedWord.{LoadedWord}
 use Rattle.sto_attempt_log.specs.declared.commit_phase.CommitPhase.{CommitPhase}
 use Rattle.sto_attempt_log.specs.declared.verdict.Verdict.TheVariants.{Locked}
-use Rattle.sto_attempt_log.specs.Stages.{Stands, Said, SpaceAt}
+use Rattle.sto_attempt_log.specs.CommitPhases.{Stands, Said, SpaceAt}
 use Rattle.sto_attempt_log.proofs.Locking.{may_lock, lock_ends, lock_leaves, lock_goes, lock_done}
 use Rattle.sto_attempt_log.proofs.Ending.{space_begun, space_left}
 use Rattle.sto_attempt_log.proofs.Aiming.{aimed, gives_up}

@@ -10,7 +10,7 @@ use Rattle.sto_core.specs.Versions.{is_free}
 use Rattle.sto_core.proofs.Lists.{locked_is, unlocked_is}
 use Rattle.sto_attempt_log.specs.declared.commit_phase.FoundTicket.{FoundTicket}
 use Rattle.sto_attempt_log.specs.declared.verdict.Verdict.TheVariants.{Locked}
-use Rattle.sto_attempt_log.specs.Stages.{task, IsLeaving}
+use Rattle.sto_attempt_log.specs.CommitPhases.{task, IsLeaving}
 use Rattle.sto_attempt_log.proofs.Unheld.{may_test, test_leaves, test_goes}
 use Rattle.sto_attempt_log.proofs.Remaining.{fail_lowers, test_lowers}
 use Rattle.sto_attempt_log.proofs.Undisturbed.{early_more, not_busy}

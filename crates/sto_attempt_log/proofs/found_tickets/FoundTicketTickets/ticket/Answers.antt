@@ -2,7 +2,7 @@ use Rattle.std.proofs.Common.{◌≡◌, ◌-◌, List, length, ap, sym, ◌∙�
 use Rattle.std.proofs.lemmas.List.{take_all}
 use Rattle.sto_part.specs.Listed.{Listed}
 use Rattle.sto_attempt_log.specs.declared.commit_phase.FoundTicket.{FoundTicket}
-use Rattle.sto_attempt_log.specs.Stages.{ticket_from}
+use Rattle.sto_attempt_log.specs.CommitPhases.{ticket_from}
 use Rattle.sto_attempt_log.proofs.Orders.{ticket_split}
 use Rattle.sto_attempt_log.proofs.found_tickets.FoundTickets.ticket.Goals as goal
 

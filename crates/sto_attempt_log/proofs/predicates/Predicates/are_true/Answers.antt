@@ -3,7 +3,7 @@ use Rattle.std.specs.List.{list_all}
 use Rattle.sto_part.specs.declared.pred.Pred.{Pred}
 use Rattle.sto_part.specs.Preds.{holds_of}
 use Rattle.sto_core.specs.Reads.{value_read}
-use Rattle.sto_attempt_log.specs.Stages.{reads_of}
+use Rattle.sto_attempt_log.specs.CommitPhases.{reads_of}
 use Rattle.sto_attempt_log.proofs.Preds.{is_true_of, preds_so}
 use Rattle.sto_attempt_log.proofs.predicates.Predicates.are_true.Goals as goal
 

@@ -5,7 +5,7 @@ use Rattle.sto_lang.specs.Views.{file as view, script}
 use Rattle.sto_script.specs.Bodies.{then_of, script_of, left_of, left_at_reset_of, MayAskOf}
 use Rattle.sto_run_threads.specs.Orders.{Place}
 use Rattle.sto_transaction.specs.Bounds.{bound, words_of}
-use Rattle.sto_transaction.specs.Trials.{Proceeds}
+use Rattle.sto_transaction.specs.Machines.{Proceeds}
 use Rattle.sto_run_threads.proofs.Places.{at_place, position_above}
 use Rattle.sto_run_steps.specs.Proceeding.{script_left}
 use Rattle.sto_run_steps.proofs.Counting.{bound_more, at_most}

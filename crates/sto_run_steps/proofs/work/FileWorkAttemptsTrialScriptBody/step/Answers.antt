@@ -5,7 +5,7 @@ use Rattle.sto_script.specs.Meaning.{meaning_of}
 use Rattle.sto_script.specs.Bodies.{then_of, script_of, left_of, MayAskOf}
 use Rattle.sto_script.specs.declared.body.ScriptBody.{ScriptBody}
 use Rattle.sto_transaction.specs.declared.machine.Ended.{Ended}
-use Rattle.sto_transaction.specs.Trials.{HasStepped, left_after}
+use Rattle.sto_transaction.specs.Machines.{HasStepped, left_after}
 use Rattle.sto_run_steps.specs.Proceeding.{script_left}
 use Rattle.sto_run_steps.proofs.work.FileWorkAttemptsTrialScriptBody.step.Goals as goal
 

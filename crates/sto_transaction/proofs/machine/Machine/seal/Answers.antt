@@ -4,7 +4,7 @@ use Rattle.sto_attempt_log.specs.declared.read_phase.ReadPhase.{ReadPhase}
 use Rattle.sto_attempt_log.specs.Bounds.{events_left}
 use Rattle.sto_transaction.specs.declared.machine.Machine.{Machine}
 use Rattle.sto_transaction.specs.declared.machine.Machine.TheVariants.{Running}
-use Rattle.sto_transaction.specs.Trials.{Proceeds, IsAtSeal, machine_left}
+use Rattle.sto_transaction.specs.Machines.{Proceeds, IsAtSeal, machine_left}
 use Rattle.sto_transaction.proofs.Steps.{seals}
 use Rattle.sto_transaction.proofs.machine.Machine.seal.Goals as goal
 

@@ -3,7 +3,7 @@ use Rattle.std.proofs.Common.{Ok, Option, subst}
 use Rattle.sto_attempt_log.specs.declared.verdict.Verdict.{Verdict}
 use Rattle.sto_transaction.specs.declared.machine.Machine.{Machine}
 use Rattle.sto_transaction.specs.declared.machine.Machine.TheVariants.{Committing}
-use Rattle.sto_transaction.specs.Trials.{Proceeds, HasTurned}
+use Rattle.sto_transaction.specs.Machines.{Proceeds, HasTurned}
 use Rattle.sto_transaction.proofs.Steps.{turn_of, reads_on, commits_on}
 use Rattle.sto_transaction.proofs.machine.Machine.turn.Goals as goal
 

@@ -1,4 +1,4 @@
--- How a commit stands to the view of its pass, by its stage.
+-- How a commit stands to the view of its pass, by its phase.
 use Rattle.std.specs.Prelude.{◌≡◌, ◌≢◌, ◌≤◌, ◌<◌, ◌+◌, ◌^◌, ◌⊎◌, ℕ, suc, ℤ, true, false, Bool, nat_eq, ◌&&◌, if◌then◌else◌, Option, Some, None, List, [], ◌∷◌, map, take, drop, length, slice_index_or}
 use Rattle.std.specs.List.{Contains, list_any}
 use Rattle.std.specs.Option.{option_map_or}
@@ -135,7 +135,7 @@ pub record HasRoom (d : Deal) (n : ℕ) (found_tickets : Listed FoundTicket) : T
   pub used : length found_tickets.items ≤ n
   pub spare : length d.us + length d.tasks ≤ n + found_tickets.spare
 
--- what is so at every stage before the decision
+-- what is so at every phase before the decision
 pub record IsGoing (d : Deal) (v : View) : Type 0 where
   pub sealed : IsSealed d.m d.valid d.sizes d.f d.at d.base d.items d.us d.rs v
   pub planned : IsPlanned d

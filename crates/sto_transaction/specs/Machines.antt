@@ -17,7 +17,7 @@ use Rattle.sto_attempt_log.specs.declared.verdict.Turn.TheVariants as turns
 use Rattle.sto_attempt_log.specs.declared.read_phase.ReadPhase.TheVariants.{Committing as CommittingReadPhase}
 use Rattle.sto_attempt_log.specs.Log.{IsOnLog}
 use Rattle.sto_attempt_log.specs.Standing.{Goes, Fits, IsFirst}
-use Rattle.sto_attempt_log.specs.Stages.{Deal, deal, Stands, SpaceAt}
+use Rattle.sto_attempt_log.specs.CommitPhases.{Deal, deal, Stands, SpaceAt}
 use Rattle.sto_attempt_log.specs.Verdicts.{IsUndisturbed}
 use Rattle.sto_attempt_log.specs.Bounds.{events_left}
 use Rattle.sto_attempt_log.specs.Remaining.{commit_left}
@@ -49,7 +49,7 @@ module _ {T B : Type 0} (meaning : T → Meaning) (valid : Validity) (sizes : T 
       deal (meaning r.log.ty.now) valid (sizes r.log.ty.now) (script r.log.body) r.at r.log.base.items r.log.set.items (map told r.log.replies.items)
       r.updates.items r.seen.items r.loaded.items r.tasks.items r.checks.items r.places.items
 
-  -- the course of an attempt of a body with the script f, on a type
+  -- the log of an attempt of a body with the script f, on a type
   pub record IsOwnLog (ty : T) (f : Script) (a : Attempt T B) : Type 0 where
     pub same_type : a.log.ty.now ≡ ty
     pub same_script : script a.log.body ≡ f
