@@ -9,7 +9,7 @@ ghost use Rattle.sto_journal.specs.Journals.{places};
 ghost use Rattle.sto_replay.specs.Runnable.{IsRunnable};
 ghost use Rattle.sto_replay.specs.Runs.{IsSoFar, places_of};
 
-use crate::transaction::{Replayed, ending, run_transaction};
+use crate::transaction::{SerialOutcome, ending, run_transaction};
 use std::alloc::Global;
 use sto_journal::{Journal, Line, Lines};
 use sto_lang::File;
@@ -59,7 +59,12 @@ impl Progress {
         ensures counted { OnOk result (length self.new.lines.items ≡ length self.old.lines.items + 1) }
     {
         let script = file.threads.get(thread).scripts.get(position - 1);
-        let Replayed { outcome, writer } = run_transaction(alloc, script, shapes, &mut self.state)?;
+        let SerialOutcome { outcome, writer } = run_transaction(
+            alloc,
+            script,
+            shapes,
+            &mut self.state,
+        )?;
         if writer {
             self.writers += 1;
         }

@@ -17,7 +17,7 @@ use sto_part::NoMemory;
 use sto_script::ScriptBody;
 
 /// What a transaction did: its replies and its end, and whether it committed with a call that wrote something.
-pub(crate) struct Replayed {
+pub(crate) struct SerialOutcome {
     pub(crate) outcome: Outcome,
     pub(crate) writer: bool,
 }
@@ -39,7 +39,7 @@ pub(crate) fn run_transaction(
     script: &Script,
     shapes: &Shapes,
     state: &mut State,
-) -> Result<Replayed, NoMemory>
+) -> Result<SerialOutcome, NoMemory>
     requires fits { CanRun shapes.now.items (view script.now) }
     requires objects { length state.old.items ≡ length shapes.now.items }
     ensures run { IfOk result (λ ran. serial_run_of (machines_of shapes.now.items) script.now.weight (meaning_of (view script.now)) state.old.items
@@ -53,5 +53,5 @@ pub(crate) fn run_transaction(
         End::Commit => has_written(&mut body, outcome.replies.as_slice()),
         End::Cancel => false,
     };
-    Ok(Replayed { outcome, writer })
+    Ok(SerialOutcome { outcome, writer })
 }

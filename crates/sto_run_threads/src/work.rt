@@ -13,7 +13,7 @@ use sto_core::Cells;
 use sto_lang::File;
 use sto_part::NoMemory;
 use sto_script::ScriptBody;
-use sto_transaction::{Record, Transacted, Transaction, Watch};
+use sto_transaction::{AttemptWatch, Record, Transacted, Transaction};
 use sto_type::TxType;
 
 // Tells a gate how far a transaction is, takes the turn once an attempt was aborted, and backs off between two tries.
@@ -27,7 +27,7 @@ struct AtGate<'g, G> {
     backoff: Backoff,
 }
 
-impl<G: Gate> Watch for AtGate<'_, G> {
+impl<G: Gate> AttemptWatch for AtGate<'_, G> {
     fn before_event(&mut self, events: u64) {
         self.gate.during(self.thread, self.position, events);
     }

@@ -9,4 +9,4 @@ mod transaction;
 
 pub use machine::{Ended, Machine};
 pub use record::Record;
-pub use transaction::{Transacted, Transaction, Watch};
+pub use transaction::{AttemptWatch, Transacted, Transaction};

@@ -20,7 +20,7 @@ use sto_part::NoMemory;
 use sto_type::TxType;
 
 /// Is told how far a transaction is. It may wait there; it changes nothing else.
-pub trait Watch {
+pub trait AttemptWatch {
     /// The attempt is about to make an event, after so many.
     fn before_event(&mut self, events: u64);
 
@@ -58,7 +58,7 @@ impl<T: TxType, B: Body + Drop> Transaction<'_, T, B> {
     ///
     /// Each attempt adds its record: what its calls were answered, and how it ended. Room for the record is made before the attempt.
     /// After `NoMemory` the pass is at rest again, and the records of the attempts before stay.
-    pub fn run<C: Cells<T>, W: Watch>(
+    pub fn run<C: Cells<T>, W: AttemptWatch>(
         self,
         alloc: Global,
         cells: &mut C,
@@ -105,7 +105,7 @@ impl<T: TxType, B: Body + Drop> Transaction<'_, T, B> {
 }
 
 // Runs one attempt of a body to its end.
-fn run_attempt<T: TxType, B: Body + Drop, C: Cells<T>, W: Watch>(
+fn run_attempt<T: TxType, B: Body + Drop, C: Cells<T>, W: AttemptWatch>(
     alloc: Global,
     ty: &T,
     body: B,
@@ -126,7 +126,7 @@ fn run_attempt<T: TxType, B: Body + Drop, C: Cells<T>, W: Watch>(
 }
 
 // Steps an attempt to its end.
-fn finish<T: TxType, B: Body + Drop, C: Cells<T>, W: Watch>(
+fn finish<T: TxType, B: Body + Drop, C: Cells<T>, W: AttemptWatch>(
     alloc: Global,
     machine: &mut Machine<'_, T, B>,
     cells: &mut C,
