@@ -1,4 +1,4 @@
--- What is so before the event of a stand is so at any name of that stand.
+-- What is so before the event of a read phase is so at any name of that phase.
 use Rattle.std.proofs.Common.{◌≡◌, ℕ, Result, sym, subst}
 use Rattle.sto_part.specs.declared.NoMemory.{NoMemory}
 use Rattle.sto_core.specs.declared.view.View.{View}

@@ -34,7 +34,7 @@ module _ {T B : Type 0} (t : OfType T) (b : OfBody B) where
   abbrev pub IsOwnLog : Attempt T B → Type 0
   IsOwnLog a = IsLogOf a a
 
-  -- what the view of its pass is to be at a stand: in a first reading, in an extension, and in either
+  -- what the view of its pass is to be at a read phase: in a first reading, in an extension, and in either
   abbrev pub FitsAt : ReadPhase → Attempt T B → View → Type 0
   FitsAt read_phase a v =
       Fits (t.meaning a.log.ty.now) t.valid (t.sizes a.log.ty.now) (b.script a.log.body) a.at read_phase a.words.items a.log.base.items a.log.set.updates (heard a) v
@@ -62,11 +62,11 @@ module _ {T B : Type 0} (t : OfType T) (b : OfBody B) where
   HasGrown old new =
       HasHeard (t.meaning old.log.ty.now) (b.script old.log.body) (words_in new.log.base.items) (heard old) old.log.set (heard new) new.log.set
 
-  -- the events left at a stand, at most, by the widths of the type of the one before
+  -- the events left at a read phase, at most, by the widths of the type of the one before
   abbrev pub left_of : Attempt T B → ReadPhase → Attempt T B → ℕ
   left_of old read_phase a = events_left (b.left a.log.body) (t.meaning old.log.ty.now).widths read_phase a.words.items a.extension a.log.base.items
 
-  -- fewer events are left than at the stand before
+  -- fewer events are left than at the read phase before
   abbrev pub HasFewer : ReadPhase → Attempt T B → Attempt T B → Type 0
   HasFewer read_phase old new = left_of old new.read_phase new < left_of old read_phase old
 
@@ -82,7 +82,7 @@ module _ {T B : Type 0} (t : OfType T) (b : OfBody B) where
   abbrev pub HasStopped : Attempt T B → Attempt T B → View → Type 0
   HasStopped old new w = IsLeft w × IsPrefixOf old new w
 
-  -- what is so before the event of a stand
+  -- what is so before the event of a read phase
   pub record IsUnderWay (read_phase : ReadPhase) (a : Attempt T B) (v : View) : Type 0 where
     pub goes : GoesAt read_phase a v
     pub log : IsOwnLog a

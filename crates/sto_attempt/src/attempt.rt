@@ -158,6 +158,8 @@ impl<'t, T: TxType, B: Body> Attempt<'t, T, B> {
         requires { IsUnderWay T.TxType B.Body (ReadPhase.Opening part) self.old (C.view cells.old) }
         ensures steps { Steps T.TxType B.Body (C.passes cells.old) (ReadPhase.Opening part) (Open part)
             self.old self.new (C.view cells.old) (C.view cells.new) (Ok result) }
+        ensures log { self.new.log ≡ self.old.log }
+        ensures extension { self.new.extension ≡ self.old.extension }
         ensures same { C.same cells.old cells.new }
     {
         let found = cells.open(part);
@@ -387,6 +389,8 @@ impl<'t, T: TxType, B: Body> Attempt<'t, T, B> {
         requires { IsUnderWay T.TxType B.Body (ReadPhase.Reopening part) self.old (C.view cells.old) }
         ensures steps { Steps T.TxType B.Body (C.passes cells.old) (ReadPhase.Reopening part) (Open part)
             self.old self.new (C.view cells.old) (C.view cells.new) (Ok result) }
+        ensures log { self.new.log ≡ self.old.log }
+        ensures extension { self.new.extension ≡ self.old.extension }
         ensures same { C.same cells.old cells.new }
     {
         let found = cells.open(part);

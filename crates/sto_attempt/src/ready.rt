@@ -99,6 +99,7 @@ impl<T: TxType, B: Body> Ready<'_, T, B> {
         requires { IsBefore T.TxType B.Body (CommitPhase.Locking place) self.old (C.view cells.old) }
         ensures advances { Advances T.TxType B.Body (C.passes cells.old) (CommitPhase.Locking place)
             self.old self.new (C.view cells.old) (C.view cells.new) result }
+        ensures kept { self.new ≡ record self.old { found_tickets = self.new.found_tickets; commit_phase = self.new.commit_phase } }
         ensures same { C.same cells.old cells.new }
     {
         let part = self.updates.get(place).0;
@@ -143,6 +144,7 @@ impl<T: TxType, B: Body> Ready<'_, T, B> {
         requires { IsBefore T.TxType B.Body (CommitPhase.Loading place word) self.old (C.view cells.old) }
         ensures advances { Advances T.TxType B.Body (C.passes cells.old) (CommitPhase.Loading place word)
             self.old self.new (C.view cells.old) (C.view cells.new) result }
+        ensures kept { self.new ≡ record self.old { loaded_words = self.new.loaded_words; commit_phase = self.new.commit_phase } }
         ensures same { C.same cells.old cells.new }
     {
         let part = *self.tasks.get(place);
@@ -180,6 +182,7 @@ impl<T: TxType, B: Body> Ready<'_, T, B> {
         requires { IsBefore T.TxType B.Body CommitPhase.Drawing self.old (C.view cells.old) }
         ensures advances { Advances T.TxType B.Body (C.passes cells.old) CommitPhase.Drawing
             self.old self.new (C.view cells.old) (C.view cells.new) result }
+        ensures kept { self.new ≡ record self.old { commit_phase = self.new.commit_phase } }
         ensures same { C.same cells.old cells.new }
     {
         let ticket = cells.draw(&self.updates, &self.seen, &self.loaded);
@@ -209,6 +212,7 @@ impl<T: TxType, B: Body> Ready<'_, T, B> {
         requires { IsBefore T.TxType B.Body (CommitPhase.Checking place ticket) self.old (C.view cells.old) }
         ensures advances { Advances T.TxType B.Body (C.passes cells.old) (CommitPhase.Checking place ticket)
             self.old self.new (C.view cells.old) (C.view cells.new) result }
+        ensures kept { self.new ≡ record self.old { commit_phase = self.new.commit_phase } }
         ensures same { C.same cells.old cells.new }
     {
         let part = *self.checks.get(place);
@@ -261,6 +265,7 @@ impl<T: TxType, B: Body> Ready<'_, T, B> {
         requires { IsBefore T.TxType B.Body (CommitPhase.Dropping ticket verdict) self.old (C.view cells.old) }
         ensures advances { Advances T.TxType B.Body (C.passes cells.old) (CommitPhase.Dropping ticket verdict)
             self.old self.new (C.view cells.old) (C.view cells.new) result }
+        ensures kept { self.new ≡ record self.old { commit_phase = self.new.commit_phase } }
         ensures same { C.same cells.old cells.new }
     {
         cells.decide(false);
@@ -277,6 +282,7 @@ impl<T: TxType, B: Body> Ready<'_, T, B> {
         requires { IsBefore T.TxType B.Body (CommitPhase.Deciding ticket) self.old (C.view cells.old) }
         ensures advances { Advances T.TxType B.Body (C.passes cells.old) (CommitPhase.Deciding ticket)
             self.old self.new (C.view cells.old) (C.view cells.new) result }
+        ensures kept { self.new ≡ record self.old { commit_phase = self.new.commit_phase } }
         ensures same { C.same cells.old cells.new }
     {
         cells.decide(true);
@@ -306,6 +312,7 @@ impl<T: TxType, B: Body> Ready<'_, T, B> {
         requires { IsBefore T.TxType B.Body (CommitPhase.Putting place ticket) self.old (C.view cells.old) }
         ensures advances { Advances T.TxType B.Body (C.passes cells.old) (CommitPhase.Putting place ticket)
             self.old self.new (C.view cells.old) (C.view cells.new) result }
+        ensures kept { self.new ≡ record self.old { commit_phase = self.new.commit_phase } }
         ensures same { C.same cells.old cells.new }
     {
         let (part, word) = *self.places.get(place);
@@ -329,6 +336,7 @@ impl<T: TxType, B: Body> Ready<'_, T, B> {
         requires { IsBefore T.TxType B.Body (CommitPhase.Releasing place ticket) self.old (C.view cells.old) }
         ensures advances { Advances T.TxType B.Body (C.passes cells.old) (CommitPhase.Releasing place ticket)
             self.old self.new (C.view cells.old) (C.view cells.new) result }
+        ensures kept { self.new ≡ record self.old { commit_phase = self.new.commit_phase } }
         ensures same { C.same cells.old cells.new }
     {
         let part = self.updates.get(place).0;
@@ -374,6 +382,7 @@ impl<T: TxType, B: Body> Ready<'_, T, B> {
         requires { IsBefore T.TxType B.Body (CommitPhase.Leaving place end verdict) self.old (C.view cells.old) }
         ensures advances { Advances T.TxType B.Body (C.passes cells.old) (CommitPhase.Leaving place end verdict)
             self.old self.new (C.view cells.old) (C.view cells.new) result }
+        ensures kept { self.new ≡ record self.old { commit_phase = self.new.commit_phase } }
         ensures same { C.same cells.old cells.new }
     {
         let part = self.updates.get(place).0;

@@ -16,6 +16,7 @@ impl<T: TxType, B: Body> Ready<'_, T, B> {
         requires { IsBefore T.TxType B.Body (CommitPhase.Testing place) self.old (C.view cells.old) }
         ensures advances { Advances T.TxType B.Body (C.passes cells.old) (CommitPhase.Testing place)
             self.old self.new (C.view cells.old) (C.view cells.new) result }
+        ensures kept { self.new ≡ record self.old { found_tickets = self.new.found_tickets; commit_phase = self.new.commit_phase } }
         ensures same { C.same cells.old cells.new }
     {
         let part = *self.tasks.get(place);
@@ -50,6 +51,7 @@ impl<T: TxType, B: Body> Ready<'_, T, B> {
         requires { IsBefore T.TxType B.Body (CommitPhase.Tested place word ticket) self.old (C.view cells.old) }
         ensures advances { Advances T.TxType B.Body (C.passes cells.old) (CommitPhase.Tested place word ticket)
             self.old self.new (C.view cells.old) (C.view cells.new) result }
+        ensures kept { self.new ≡ record self.old { loaded_words = self.new.loaded_words; commit_phase = self.new.commit_phase } }
         ensures same { C.same cells.old cells.new }
     {
         let width = self.log.ty.width(*self.tasks.get(place));
@@ -74,6 +76,7 @@ impl<T: TxType, B: Body> Ready<'_, T, B> {
         requires more { word < width }
         ensures advances { Advances T.TxType B.Body (C.passes cells.old) (CommitPhase.Tested place word ticket)
             self.old self.new (C.view cells.old) (C.view cells.new) result }
+        ensures kept { self.new ≡ record self.old { loaded_words = self.new.loaded_words; commit_phase = self.new.commit_phase } }
         ensures same { C.same cells.old cells.new }
     {
         let part = *self.tasks.get(place);
@@ -100,6 +103,7 @@ impl<T: TxType, B: Body> Ready<'_, T, B> {
         requires all { slice_index_or (T.meaning self.old.log.ty.now).widths (slice_index_or self.old.tasks.items place 0) 0 ≤ word }
         ensures advances { Advances T.TxType B.Body (C.passes cells.old) (CommitPhase.Tested place word ticket)
             self.old self.new (C.view cells.old) (C.view cells.new) result }
+        ensures kept { self.new ≡ record self.old { commit_phase = self.new.commit_phase } }
         ensures same { C.same cells.old cells.new }
     {
         let part = *self.tasks.get(place);

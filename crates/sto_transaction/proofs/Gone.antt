@@ -55,7 +55,7 @@ within_read widths p ws = by (nat_lt (length ws) (slice_index_or widths p 0))
     by true = tt
     by false = tt
 
--- a stand from which the reading goes on
+-- a read phase from which the reading goes on
 GoesOn : ReadPhase → Type 0
 GoesOn Unstarted = ⊥
 GoesOn Committing = ⊥
