@@ -1,5 +1,5 @@
 -- What a call that is refused leaves, and what one that is not refused tells.
-use Rattle.std.proofs.Common.{◌≡◌, ℕ, List, [], ◌++◌, ◌⊎◌, inl, inr, refl, sym, ap, ◌∙◌, subst, append-nil, Option, None, Some, Result, Ok, Err, true≢false}
+use Rattle.std.proofs.Common.{◌≡◌, ℕ, List, [], ◌++◌, ◌⊎◌, inl, inr, refl, sym, ap, ◌∙◌, subst, append-nil, Option, None, Some, Result, Ok, Err, true≢false, true, false, Bool}
 use Rattle.std.specs.Result.{is_ok}
 use Rattle.std.specs.Option.{is_some}
 use Rattle.sto_io.specs.Told.{Rose}
@@ -9,12 +9,29 @@ use Rattle.sto_report_lines.specs.declared.found.Found.TheVariants.{Lawful, Not}
 use Rattle.sto_report_lines.specs.Answer.{IsFound}
 use Rattle.sto_check_cli.specs.Inputs.{Input, InputFault, input_of}
 use Rattle.sto_check_cli.specs.Inputs as inputs
-use Rattle.sto_check_cli.specs.Ends.{Checked, Unchecked, IsWriteRefusal, Ends, RoseBy, RoseFor}
+use Rattle.sto_check_cli.specs.Ends.{Checked, Done, Stopped, Unchecked, IsWriteRefusal, Refused, Ends, RoseBy, RoseFor}
 use Rattle.sto_check_cli.specs.Statuses.{status_of, EndsSo, IsToldFound}
 use Rattle.sto_check_cli.specs.declared.refusal.Refusal.{Refusal}
 use Rattle.sto_check_cli.specs.declared.refusal.Refusal.TheVariants.{Usage, Script, NoReport, ReadFault, WriteFault, NoMemory}
 
 -- ---- the work
+
+pub refused_finding : (e : Refusal) (asked : Checking) (left rest held : Option (List ℕ)) → Unchecked e left rest → Refused e (Some asked) left rest held held
+refused_finding (Script fault) asked left rest held h = (h, refl)
+refused_finding NoReport asked left rest held h = (h, refl)
+refused_finding ReadFault asked left rest held h = refl
+refused_finding NoMemory asked left rest held h = refl
+refused_finding Usage asked left rest held h = absurd h
+refused_finding WriteFault asked left rest held h = absurd h
+
+pub refused_writing : (e : Refusal) (asked : Checking) (found : Found) (left rest held now : Option (List ℕ)) → Checked asked found left rest → IsWriteRefusal e found held now
+    → Refused e (Some asked) left rest held now
+refused_writing WriteFault asked found left rest held now c h = record { found = found; count = h.0; checked = c; gained = h.1 }
+refused_writing NoMemory asked found left rest held now c h = h
+refused_writing Usage asked found left rest held now c h = absurd h
+refused_writing (Script fault) asked found left rest held now c h = absurd h
+refused_writing NoReport asked found left rest held now c h = absurd h
+refused_writing ReadFault asked found left rest held now c h = absurd h
 
 -- finding does not touch the output
 pub unwritten : (e : Refusal) (left rest : Option (List ℕ)) (count : ℕ) → Unchecked e left rest → RoseBy WriteFault e count count

@@ -25,6 +25,9 @@ large bytes l = ap (λ (b : Bool). if b then too_large else divided bytes) (lt-l
 small : (bytes : List ℕ) → length bytes ≤ 16777216 → input_of bytes ≡ divided bytes
 small bytes l = ap (λ (b : Bool). if b then too_large else divided bytes) (le-ltb 16777216 (length bytes) l)
 
+pub without_report : (bytes : List ℕ) → length bytes ≤ 16777216 → has_report bytes ≡ false → input_of bytes ≡ Err inputs.NoReport
+without_report bytes l e = small bytes l ∙ ap (λ (b : Bool). if b then with_report (report_in bytes) (file_of (script_in bytes)) else Err inputs.NoReport) e
+
 -- what stands on both sides of the line `report`
 module _ (bytes script report : List ℕ) (l : length bytes ≤ 16777216) (some : has_report bytes ≡ true) (before : script ≡ script_in bytes) (after : report ≡ report_in bytes) where
   pub read_so : (read : Result File ScriptFault) → file_of script ≡ read → input_of bytes ≡ with_report report read

@@ -1,11 +1,20 @@
 -- One more of each: statements, transactions, threads.
 use Rattle.std.proofs.Common.{◌≡◌, ◌+◌, refl, ap, sym, ◌∙◌, arith, ℕ, suc, List, [], ◌∷◌, ◌++◌, map, length}
-use Rattle.sto_lang.specs.Statements.{◌then◌}
+use Rattle.sto_lang.specs.Statements.{Statements, Nothing, Ask, Sum, Diff, Choose, Repeat, Cancel, ◌then◌}
 use Rattle.sto_lang.specs.Drafts.{numbered_name}
 use Rattle.sto_lang.specs.Sound.{numbered_from}
 use Rattle.sto_lang.proofs.Differing.{numbers_last}
 use Rattle.sto_gen.specs.Draws.{next, state_after, transfer_after}
 use Rattle.sto_gen.specs.Generated.{transaction, transactions, state_before, threads}
+
+pub then_nothing : (all : Statements) → all ≡ all then Nothing
+then_nothing Nothing = refl
+then_nothing (Ask to object code a b rest) = ap (Ask to object code a b) (then_nothing rest)
+then_nothing (Sum to a b rest) = ap (Sum to a b) (then_nothing rest)
+then_nothing (Diff to a b rest) = ap (Diff to a b) (then_nothing rest)
+then_nothing (Choose a test b first second rest) = ap (Choose a test b first second) (then_nothing rest)
+then_nothing (Repeat times body rest) = ap (Repeat times body) (then_nothing rest)
+then_nothing (Cancel rest) = ap Cancel (then_nothing rest)
 
 next_is : (n : ℕ) → suc n ≡ n + 1
 next_is n = omega arith

@@ -1,19 +1,28 @@
 -- Numbers of 64 bits are short, and lists of what is short are.
-use Rattle.std.proofs.Common.{◌≡◌, ℕ, ◌<◌, ◌^◌, ℤ, List, [], ◌∷◌, length, map, sym, subst, arith, Bool, true, false, cond, ◌==◌, is_some, Some}
+use Rattle.std.proofs.Common.{◌≡◌, ℕ, suc, ◌<◌, ◌^◌, ℤ, pos, negsuc, List, [], ◌∷◌, length, map, sym, subst, arith, Bool, true, false, cond, ◌==◌, is_some, Some}
 use Rattle.std.proofs.lemmas.List.{length-map}
 use Rattle.std.specs.List.{All}
+use Rattle.std.specs.Int.RustNames.{FitsSigned}
+use Rattle.std.proofs.Common.{w64}
 use Rattle.std.proofs.lemmas.List.Elements.{All-head, All-tail}
+use Rattle.sto_model.specs.declared.reply.Reply.{Reply}
 use Rattle.sto_model.specs.Told.{told}
 use Rattle.sto_model.specs.Rows.{Row}
+use Rattle.sto_type.specs.declared.answer.Home.{Home}
 use Rattle.sto_syntax.specs.Words.{is_name}
 use Rattle.sto_lang.specs.declared.file.Thread.{Thread}
 use Rattle.sto_lang.specs.Objects.{Declaration, HaveNames, with_number}
 use Rattle.sto_lang.specs.Views.{names_of}
 use Rattle.sto_report_spec.specs.Aborts.{name_of}
-use Rattle.sto_report_spec.specs.Short.{IsShortRow, AreShortRows, IsShortCause, AreShortReplies, IsShortEntry, AreShortEntries, IsShortAbort, AreShortAborts}
+use Rattle.sto_report_spec.specs.Short.{IsShort, IsShortRow, AreShortRows, IsShortCause, AreShortReplies, IsShortEntry, AreShortEntries, IsShortAbort, AreShortAborts}
 use Rattle.sto_journal.specs.declared.journal.Line.{Line}
 use Rattle.sto_journal.specs.declared.journal.AbortLine.{AbortLine}
-use Rattle.sto_journal.specs.Journals.{entry, abort, cause, IsAbortOf}
+use Rattle.sto_journal.specs.declared.journal.Cause.TheVariants.{Locked, Changed}
+use Rattle.sto_journal.specs.Journals.{IsShortlyTold, entry, abort, cause, IsAbortOf}
+
+pub is_short : (z : ℤ) → FitsSigned w64 z → IsShort z
+is_short (pos n) h = omega (arith, h)
+is_short (negsuc n) h = omega (arith, h)
 
 pub rows_short : (rows : List Row) → All IsShortRow rows → AreShortRows rows
 rows_short [] h = tt
@@ -21,6 +30,10 @@ rows_short (row ∷ rows) h = (All-head IsShortRow row rows h, rows_short rows (
 
 pub first_and_rest : (rows : List Row) (first : Row) (rest : List Row) → rows ≡ first ∷ rest → IsShortRow first → All IsShortRow rest → AreShortRows rows
 first_and_rest rows first rest e h k = subst AreShortRows (sym e) (h, rows_short rest k)
+
+pub replies_short : (replies : List Reply) → All IsShortlyTold replies → AreShortReplies (map told replies)
+replies_short [] h = tt
+replies_short (r ∷ replies) h = ((All-head IsShortlyTold r replies h).short, replies_short replies (All-tail IsShortlyTold r replies h))
 
 -- a declared object has a name
 named : (ds : List Declaration) (number : ℕ) → HaveNames ds → is_some (with_number number ds) ≡ true → is_name (name_of (with_number number ds)) ≡ true
@@ -31,6 +44,12 @@ named (d ∷ ds) number h e = by (d.number == number) (named ds number h.1) e
         → is_some (cond b (Some d) (with_number number ds)) ≡ true → is_name (name_of (cond b (Some d) (with_number number ds))) ≡ true
     by true k e = h.0
     by false k e = k e
+
+pub locked_short : (ds : List Declaration) (home : Home) → HaveNames ds → is_some (with_number home.object ds) ≡ true → home.local < 2 ^ 64 → IsShortCause (cause ds (Locked home))
+locked_short ds home h e k = (named ds home.object h e, k)
+
+pub changed_short : (ds : List Declaration) (home : Home) (by : ℕ) → HaveNames ds → is_some (with_number home.object ds) ≡ true → home.local < 2 ^ 64 → by < 2 ^ 64 → IsShortCause (cause ds (Changed home by))
+changed_short ds home by h e k l = (named ds home.object h e, k, l)
 
 pub abort_short : (threads : List Thread) (ds : List Declaration) (l : AbortLine) → IsAbortOf (length threads) ds l → l.position < 2 ^ 64 → l.at < 2 ^ 64
     → AreShortReplies (map told l.replies.items) → IsShortCause (cause ds l.cause) → IsShortAbort (names_of threads) (abort ds l)

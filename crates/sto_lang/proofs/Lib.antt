@@ -2,6 +2,7 @@ pub mod WrittenLemmas
 pub mod NameTables
 pub mod ObjectLemmas
 pub mod OrderLemmas
+pub mod DraftLemmas
 pub mod WeightLemmas
 pub mod ThreadLemmas
 pub mod PlaceLemmas
@@ -10,6 +11,7 @@ pub mod FittingLemmas
 pub mod InnerLemmas
 pub mod FaultLemmas
 pub mod AsciiLemmas
+pub mod AllowedLemmas
 pub mod Differing
 pub mod SoundStatements
 pub mod SoundCalls

@@ -1,5 +1,5 @@
 -- A file has the version that its first line with words says.
-use Rattle.std.proofs.Common.{◌≡◌, ℕ, ℤ, pos, negsuc, suc, List, [], ◌∷◌, ◌++◌, refl, ap, sym, ◌∙◌, Bool, true, false, not, ◌&&◌, Option, None, Some, cond, codes, option_and_then, Ok, nat_le, arith}
+use Rattle.std.proofs.Common.{◌≡◌, ℕ, ℤ, pos, negsuc, suc, List, [], ◌∷◌, ◌++◌, refl, ap, sym, ◌∙◌, Bool, true, false, not, ◌&&◌, Option, None, Some, cond, codes, option_and_then, Result, Ok, Err, nat_lt, nat_le, length, IfOk, arith}
 use Rattle.std.specs.Prelude.{◌==◌}
 use Rattle.std.specs.Option.{option_map}
 use Rattle.std.specs.List.{list_all}
@@ -16,6 +16,7 @@ use Rattle.sto_syntax.specs.Operations.{operation_of, test_of, kinds_with}
 use Rattle.sto_syntax.specs.Words.{is_name, is_i64, number_of}
 use Rattle.sto_syntax.specs.Lines.{lines_of, words_of}
 use Rattle.sto_syntax.specs.Forms.{Operand, ThreadWord, Numbered, Named, ScheduleEntry, Form, VersionLine, DeclareLine, ThreadLine, BeginLine, CallLine, SumLine, DiffLine, IfLine, ElseLine, EndLine, CancelLine, CommitLine, ScheduleLine, all_of, operand_of, entry_of, declaration, box_line, counter_line, array_line, hash_line, tree_line, vector_line, alone, asked, call, test_line, call_line, sum_line, diff_line, if_line, repeat_line, version_line, named_line, thread_line, schedule_line, assignment, acting, statement, form_of, is_empty}
+use Rattle.sto_lang.specs.declared.fault.ReadError.{ReadError}
 use Rattle.sto_lang.specs.declared.fault.FaultKind.{FaultKind}
 use Rattle.sto_lang.specs.declared.fault.FaultKind.TheVariants.{TooLarge, BadByte}
 use Rattle.sto_lang.specs.declared.file.File as code
@@ -27,8 +28,10 @@ use Rattle.sto_lang.specs.Places.{is_blank}
 use Rattle.sto_lang.specs.Limits.{has_thread, is_in_range, is_turn}
 use Rattle.sto_lang.specs.Uses.{asks_unknown, is_known_thread}
 use Rattle.sto_lang.specs.Faults.{fault_of}
-use Rattle.sto_lang.specs.Files.{fault, is_allowed, unless, with_line_of, with_words, whole, ◌>>=◌, with_lines}
+use Rattle.sto_lang.specs.Files.{fault, is_allowed, unless, with_line_of, with_words, whole, ◌>>=◌, with_lines, file_of}
 use Rattle.sto_lang.specs.Versions.{first_words, are_second, version_of}
+use Rattle.sto_lang.specs.Reads.{Gives}
+use Rattle.sto_lang.specs.Views.{file as seen}
 use Rattle.sto_lang.proofs.Branches.{Where, either, where_true, where_false, after, made}
 use Rattle.sto_lang.proofs.SoundPlaces.{both}
 use Rattle.sto_lang.proofs.SoundSteps.{no_fault, neither, denied}
@@ -346,3 +349,11 @@ lines_version number (line ∷ lines) file k = by_words number lines (words_of l
 by_size : (large : Bool) (bytes : List ℕ) (file : File) → cond large (fault 0 TooLarge) (with_lines opening 1 (lines_of bytes)) ≡ Ok file → file.version ≡ version_of bytes
 by_size true bytes file k = absurd cc
 by_size false bytes file k = lines_version 1 (lines_of bytes) file k
+
+-- a file that bytes are has the version of the bytes
+pub file_version : (bytes : List ℕ) (file : File) → file_of bytes ≡ Ok file → file.version ≡ version_of bytes
+file_version bytes file k = by_size (nat_lt 1048576 (length bytes)) bytes file k
+
+pub read_version : (bytes : List ℕ) (result : Result code.File ReadError) → Gives seen result (file_of bytes) → IfOk result (λ f. f.version ≡ version_of bytes)
+read_version bytes (Ok f) h = file_version bytes (seen f) h
+read_version bytes (Err e) h = tt

@@ -1,12 +1,12 @@
 -- What is kept of journal lines, with one more of them.
-use Rattle.std.proofs.Common.{◌≡◌, ◌⊎◌, ℕ, zero, suc, ◌+◌, ◌<◌, ◌≤◌, ◌^◌, List, [], ◌∷◌, ◌++◌, length, map, refl, sym, ap, ◌∙◌, Bool, true, false, cond, ◌==◌, Option, Some, slice_get, slice_set, option_and_then, arith, append-nil, inl, inr}
+use Rattle.std.proofs.Common.{◌≡◌, ◌⊎◌, ℕ, zero, suc, ◌+◌, ◌<◌, ◌≤◌, ◌^◌, List, [], ◌∷◌, ◌++◌, length, map, refl, sym, ap, ◌∙◌, subst, Bool, true, false, cond, ◌==◌, Option, None, Some, slice_get, slice_set, option_and_then, replicate, arith, append-nil, inl, inr}
 use Rattle.std.specs.Option.{option_map}
-use Rattle.std.specs.List.{slice_split, All}
+use Rattle.std.specs.List.{slice_split, flat_map, All}
 use Rattle.std.proofs.lemmas.List.Elements.{All-nil, All-cons, All-head, All-tail}
-use Rattle.std.proofs.lemmas.List.{length-map}
+use Rattle.std.proofs.lemmas.List.{length-map, map-append}
 use Rattle.std.proofs.lemmas.Option.{slice_get_within, slice_get-map}
 use Rattle.std.proofs.lemmas.Bool.Decides.{nat_tests}
-use Rattle.sto_model.specs.Told.{Told}
+use Rattle.sto_model.specs.Told.{Told, told}
 use Rattle.sto_model.specs.Run.{State, Script as Steps}
 use Rattle.sto_model.specs.Serial.{SerialRun, is_writer_run, has_written}
 use Rattle.sto_model.specs.declared.run.End.{End}
@@ -14,15 +14,16 @@ use Rattle.sto_model.specs.declared.run.End.TheVariants as ends
 use Rattle.sto_lang.specs.Scripts.{Script, File}
 use Rattle.sto_script.specs.Meaning.{meaning_of}
 use Rattle.sto_report_spec.specs.Orders.{Place, at_position, transaction_at, count_in, positions_of}
-use Rattle.sto_report_spec.specs.Replay.{Entry, run_at, is_writer, ending_by, entries_from, state_from, opening_state}
-use Rattle.sto_report_spec.specs.Named.{is_space, named_in, places_in, order_named}
+use Rattle.sto_report_spec.specs.Replay.{Entry, run_at, is_writer, ending_by, counted, entry_at, entries_from, state_from, opening_state, final_state}
+use Rattle.sto_report_spec.specs.Named.{is_line_feed, is_space, named_in, places_in, order_named}
 use Rattle.sto_report_spec.specs.declared.ending.Ending.{Ending}
-use Rattle.sto_report_spec.specs.declared.ending.Ending.TheVariants.{Commit, Cancel}
+use Rattle.sto_report_spec.specs.declared.ending.Ending.TheVariants.{Commit, Read, Cancel}
 use Rattle.sto_journal.specs.declared.journal.Line.{Line}
 use Rattle.sto_journal.specs.Journals.{entry, places}
+use Rattle.sto_replay.specs.Runs.{writers_from, IsSoFar}
 use Rattle.sto_replay.proofs.Replayed.{entries_from-more}
 use Rattle.sto_report_lines.specs.Lines.{HasContent}
-use Rattle.sto_report_lines.specs.Written.{objects_along, objects_in, written_from}
+use Rattle.sto_report_lines.specs.Written.{objects_along, objects_in, written_from, written_of}
 use Rattle.sto_report_lines.specs.declared.past.Past.{Past}
 use Rattle.sto_report_lines.specs.Past.{told_objects, IsPast}
 use Rattle.sto_report_lines.specs.Right.{entry_after}
@@ -33,6 +34,12 @@ use Rattle.sto_report_lines.specs.Shown.{IsInside}
 pub at_end : {X : Type 0} (xs : List X) (x : X) → slice_get (xs ++ x ∷ []) (length xs) ≡ Some x
 at_end [] x = refl
 at_end (y ∷ xs) x = at_end xs x
+
+pub all_zero : (n t c : ℕ) → slice_get (replicate n 0) t ≡ Some c → c ≡ 0
+all_zero zero zero c e = absurd cc
+all_zero zero (suc t) c e = absurd cc
+all_zero (suc n) zero c e = cc
+all_zero (suc n) (suc t) c e = all_zero n t c e
 
 pub set_at : (xs : List ℕ) (i v t c : ℕ) → i < length xs → slice_get (slice_set xs i v) t ≡ Some c → ((t ≡ i) × (c ≡ v)) ⊎ ((t ≡ i → ⊥) × (slice_get xs t ≡ Some c))
 set_at [] i v t c l e = absurd (omega (arith, l))
@@ -165,6 +172,10 @@ named_once names line content (inl e) = ap (places_in names) e ∙ append-nil (n
 named_once names line content (inr e) = ap (places_in names) e ∙ append-nil (named_in names (slice_split is_space content))
 
 -- What holds of all lines holds of their entries.
+
+pub entries_all : (P : Entry → Type 0) (lines : List Line) → All (λ (l : Line). P (entry l)) lines → All P (map entry lines)
+entries_all P [] h = All-nil P
+entries_all P (l ∷ lines) h = All-cons P (entry l) (map entry lines) (All-head (λ (x : Line). P (entry x)) l lines h) (entries_all P lines (All-tail (λ (x : Line). P (entry x)) l lines h))
 
 pub lines_all : (P : Entry → Type 0) (lines : List Line) → All P (map entry lines) → All (λ (l : Line). P (entry l)) lines
 lines_all P [] h = All-nil (λ (l : Line). P (entry l))

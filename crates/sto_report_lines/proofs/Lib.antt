@@ -1,6 +1,8 @@
 pub mod Truth
 pub mod Cuts
+pub mod Digits
 pub mod Lines
+pub mod Named
 pub mod Reading
 pub mod Walked
 pub mod Uncommitted

@@ -1,8 +1,9 @@
 -- The lines of bytes, one after the other.
-use Rattle.std.proofs.Common.{◌≡◌, ℕ, zero, suc, ◌+◌, ◌-◌, ◌<◌, ◌≤◌, List, [], ◌∷◌, ◌++◌, length, take, drop, refl, sym, ap, ◌∙◌, Bool, true, false, cond, ◌==◌, arith, None, Some, position, slice_get, inl, inr}
+use Rattle.std.proofs.Common.{◌≡◌, ℕ, zero, suc, ◌+◌, ◌-◌, ◌<◌, ◌≤◌, List, [], ◌∷◌, ◌++◌, length, take, drop, refl, sym, ap, ◌∙◌, subst, Bool, true, false, cond, ◌==◌, arith, None, Some, position, slice_get, inl, inr}
 use Rattle.std.specs.List.{slice_split}
+use Rattle.std.proofs.lemmas.Grind.{common_steps}
 use Rattle.sto_report_lines.specs.Lines.{is_line_feed, onto_line, lines_of, HasContent}
-use Rattle.sto_report_lines.proofs.Cuts.{Lacks, split_at, split_none, cut_at, cut_none, rest_is}
+use Rattle.sto_report_lines.proofs.Cuts.{Lacks, split_at, split_none, IsCut, cut_at, cut_none, rest_is}
 
 pub line_of : (xs ys : List ℕ) → Lacks is_line_feed xs → lines_of (xs ++ 10 ∷ ys) ≡ (xs ++ 10 ∷ []) ∷ lines_of ys
 line_of [] ys h = refl
@@ -61,8 +62,25 @@ few_lines (b ∷ bytes) = by (is_line_feed b) (few_lines bytes) (length_onto b (
 
 -- what is left begins with the next line
 
+pub left_none : {X : Type 0} (all : List X) (n : ℕ) → n ≤ length all → [] ≡ drop n all → length all ≡ n
+left_none [] n l e = omega (arith, l)
+left_none (x ∷ all) zero l e = absurd cc
+left_none (x ∷ all) (suc n) l e = let same = left_none all n (omega (arith, l)) e in omega (arith, same)
+
 pub left_next : {X : Type 0} (all : List X) (n : ℕ) (x : X) (xs : List X) → x ∷ xs ≡ drop n all → slice_get all n ≡ Some x
 left_next [] zero x xs e = absurd cc
 left_next [] (suc n) x xs e = absurd cc
 left_next (y ∷ all) zero x xs e = cc
 left_next (y ∷ all) (suc n) x xs e = left_next all n x xs e
+
+pub left_more : {X : Type 0} (all : List X) (n : ℕ) (x : X) (xs : List X) → x ∷ xs ≡ drop n all → xs ≡ drop (n + 1) all
+left_more [] zero x xs e = absurd cc
+left_more [] (suc n) x xs e = absurd cc
+left_more (y ∷ all) zero x xs e = cc
+left_more (y ∷ all) (suc n) x xs e = let next : suc n + 1 ≡ suc (n + 1) = omega arith in left_more all n x xs e ∙ ap (λ (k : ℕ). drop k (y ∷ all)) (sym next)
+
+pub left_within : {X : Type 0} (all : List X) (n : ℕ) (x : X) (xs : List X) → x ∷ xs ≡ drop n all → n + 1 ≤ length all
+left_within [] zero x xs e = absurd cc
+left_within [] (suc n) x xs e = absurd cc
+left_within (y ∷ all) zero x xs e = omega arith
+left_within (y ∷ all) (suc n) x xs e = let k = left_within all n x xs e in omega (arith, k)

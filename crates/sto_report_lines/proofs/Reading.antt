@@ -1,16 +1,17 @@
 -- What words are read as.
-use Rattle.std.proofs.Common.{◌≡◌, ℕ, suc, ◌+◌, ◌<◌, ◌≤◌, ◌^◌, List, [], ◌∷◌, length, refl, sym, ap, ◌∙◌, subst, Bool, true, false, cond, Option, None, Some, arith, position, codes}
-use Rattle.std.specs.List.{slice_split}
+use Rattle.std.proofs.Common.{◌≡◌, ℕ, zero, suc, ◌+◌, ◌<◌, ◌≤◌, ◌^◌, List, [], ◌∷◌, length, refl, sym, ap, ◌∙◌, subst, Bool, true, false, cond, Option, None, Some, arith, position, codes}
+use Rattle.std.specs.List.{slice_split, count_by}
 use Rattle.std.specs.Option.{option_map}
 use Rattle.std.specs.Str.{bytes_eq}
 use Rattle.std.specs.Str.Parse.{digits_value}
 use Rattle.std.proofs.lemmas.List.Splits.{length-slice_split}
 use Rattle.sto_report_spec.specs.Orders.{Place}
-use Rattle.sto_report_spec.specs.Aborts.{Locked, Changed, Abort}
-use Rattle.sto_report_spec.specs.Named.{is_dot, place_in, place_of_pieces, named_in}
+use Rattle.sto_report_spec.specs.Aborts.{LocalPart, Cause, Locked, Changed, Abort}
+use Rattle.sto_report_spec.specs.Named.{is_dot, is_space, place_in, place_of_pieces, named_in}
 use Rattle.sto_report_spec.specs.NamedAborts.{Heard, reply_in, part_by, locked_in, changed_in, heard_in, abort_by, aborts_in}
+use Rattle.sto_report_lines.specs.declared.transaction.Transaction.{Transaction}
 use Rattle.sto_report_lines.specs.declared.told.ToldCause.{ToldCause}
-use Rattle.sto_report_lines.specs.Reading.{IsReadAs, begins_with_digit, IsSmallCause, IsOnlyCause}
+use Rattle.sto_report_lines.specs.Reading.{place_of, IsReadAs, begins_with_digit, IsSmallCause, IsSmall, IsCauseRead, IsOnlyCause, IsHeardRead, IsTold}
 
 -- there is at least one piece
 pub record Pieces (pieces : List (List ℕ)) : Type 0 where
@@ -81,6 +82,9 @@ module _ (names : List (List ℕ)) where
   pub second_word : (words : List (List ℕ)) (a b : List ℕ) (ws : List (List ℕ)) → words ≡ a ∷ b ∷ ws → begins_with_digit a ≡ true → named_in names words ≡ place_of_pieces names (slice_split is_dot b)
   second_word words a b ws e d = ap (named_in names) e ∙ by_digit a b ws true d
 
+pub read_same : (places others : List Place) (read : Option Transaction) → places ≡ others → IsReadAs others read → IsReadAs places read
+read_same places others read e h = subst (λ (ps : List Place). IsReadAs ps read) (sym e) h
+
 -- Causes.
 
 -- the head of an option
@@ -97,6 +101,9 @@ never h e = absurd cc
 part_small : (n : ℕ) → 2 ^ 32 ≤ n → n < 2 ^ 32 → ⊥
 part_small n l k = absurd (omega (arith, l, k))
 
+made_locked : List ℕ → List ℕ → Heard
+made_locked a b = record { replies = []; cause = Locked (part_by a b) }
+
 module _ (words : List (List ℕ)) (a b : List ℕ) (e : words ≡ a ∷ b ∷ []) (h : Heard) (f : locked_in words ≡ Some h) where
   locked_is : record { replies = []; cause = Locked (part_by a b) } ≡ h
   locked_is = same_heard (record { replies = []; cause = Locked (part_by a b) }) h (ap locked_in (sym e) ∙ f)
@@ -106,6 +113,9 @@ module _ (words : List (List ℕ)) (a b : List ℕ) (e : words ≡ a ∷ b ∷ [
 
   pub large_locked : 2 ^ 32 ≤ digits_value 10 b → IsSmallCause h.cause → ⊥
   large_locked l small = part_small (digits_value 10 b) l (subst (λ (x : Heard). IsSmallCause x.cause) (sym locked_is) small)
+
+pub locked_one : (words : List (List ℕ)) (a : List ℕ) → words ≡ a ∷ [] → (h : Heard) → locked_in words ≡ Some h → ⊥
+locked_one words a e h f = never h (ap locked_in (sym e) ∙ f)
 
 pub locked_more : (words : List (List ℕ)) (a b : List ℕ) (p : ℕ → Bool) (xs : List ℕ) → words ≡ a ∷ b ∷ slice_split p xs → (h : Heard) → locked_in words ≡ Some h → ⊥
 locked_more words a b p xs e h f =
@@ -125,6 +135,15 @@ module _ (words : List (List ℕ)) (a b by c : List ℕ) (e : words ≡ a ∷ b 
 
   pub large_writer : 2 ^ 32 ≤ digits_value 10 c → IsSmallCause h.cause → ⊥
   large_writer l small = part_small (digits_value 10 c) l (subst (λ (x : Heard). IsSmallCause x.cause) (sym changed_is) small).1
+
+pub changed_one : (words : List (List ℕ)) (a : List ℕ) → words ≡ a ∷ [] → (h : Heard) → changed_in words ≡ Some h → ⊥
+changed_one words a e h f = never h (ap changed_in (sym e) ∙ f)
+
+pub changed_two : (words : List (List ℕ)) (a b : List ℕ) → words ≡ a ∷ b ∷ [] → (h : Heard) → changed_in words ≡ Some h → ⊥
+changed_two words a b e h f = never h (ap changed_in (sym e) ∙ f)
+
+pub changed_three : (words : List (List ℕ)) (a b c : List ℕ) → words ≡ a ∷ b ∷ c ∷ [] → (h : Heard) → changed_in words ≡ Some h → ⊥
+changed_three words a b c e h f = never h (ap changed_in (sym e) ∙ f)
 
 pub changed_more : (words : List (List ℕ)) (a b c d : List ℕ) (p : ℕ → Bool) (xs : List ℕ) → words ≡ a ∷ b ∷ c ∷ d ∷ slice_split p xs → (h : Heard) → changed_in words ≡ Some h → ⊥
 changed_more words a b c d p xs e h f =
@@ -167,6 +186,20 @@ module _ (words : List (List ℕ)) (w : List ℕ) (ws : List (List ℕ)) (e : wo
 
   pub one_more_heard : bytes_eq w (codes "locked") ≡ false → bytes_eq w (codes "changed") ≡ false → (h : Heard) → heard_in words ≡ Some h → OneMore h
   one_more_heard l k h f = unmapped (heard_in ws) h refl (sym (heard_reply l k) ∙ f)
+
+-- the last word is no cause
+pub last_word : (words : List (List ℕ)) (w : List ℕ) → words ≡ w ∷ [] → (h : Heard) → heard_in words ≡ Some h → ⊥
+last_word words w e h f = by (bytes_eq w (codes "locked")) (bytes_eq w (codes "changed")) (ap heard_in (sym e) ∙ f)
+  where
+    by : (l k : Bool) → cond l (locked_in []) (cond k (changed_in []) (option_map (λ (x : Heard). record { replies = reply_in w ∷ x.replies; cause = x.cause }) (heard_in []))) ≡ Some h → ⊥
+    by true k g = never h g
+    by false true g = never h g
+    by false false g = never h g
+
+-- the replies before, and a cause
+pub heard_after : (h g : Heard) (n : ℕ) (told : ToldCause) → length h.replies ≡ n + length g.replies → h.cause ≡ g.cause → IsOnlyCause g (Some told) → IsHeardRead h (Some (n, told))
+heard_after h g n told e f only =
+    (let none = only.0 in omega (arith, e, none), subst (λ (c : Cause). IsCauseRead c told) (sym f) only.1)
 
 -- Abort lines.
 

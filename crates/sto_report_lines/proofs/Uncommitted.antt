@@ -1,9 +1,10 @@
 -- A body that cancels where another commits hears the same.
-use Rattle.std.proofs.Common.{◌≡◌, ℕ, zero, suc, List, [], ◌∷◌, refl, ap, ◌∙◌}
+use Rattle.std.proofs.Common.{◌≡◌, ℕ, zero, suc, List, [], ◌∷◌, refl, sym, ap, ◌∙◌}
 use Rattle.sto_model.specs.Told.{Told}
 use Rattle.sto_model.specs.Machine.{Machine, reply_to, state_after}
-use Rattle.sto_model.specs.Run.{Script, State}
-use Rattle.sto_model.specs.Serial.{by_next, ended, heard, run_within, serial_run_of, end_step}
+use Rattle.sto_model.specs.Run.{Script, State, IsAsk, MayAsk}
+use Rattle.sto_model.specs.Serial.{SerialRun, by_next, ended, heard, run_within, settled_run, serial_run_of, end_step}
+use Rattle.sto_model.specs.declared.call.Call.{Call}
 use Rattle.sto_model.specs.declared.body.Next.{Next}
 use Rattle.sto_model.specs.declared.body.Next.TheVariants.{Ask, Commit, Cancel}
 use Rattle.sto_model.specs.declared.run.End.{End}
@@ -39,3 +40,8 @@ never_commits Cancel e = absurd cc
 pub cancels : (z : Next) (e : End) → uncommitted z ≡ end_step e → e ≡ E.Cancel
 cancels z E.Commit h = absurd (never_commits z h)
 cancels z E.Cancel h = refl
+
+pub asks_on : (z : Next) → IsAsk (uncommitted z) → IsAsk z
+asks_on (Ask call) h = tt
+asks_on Commit h = absurd h
+asks_on Cancel h = absurd h
