@@ -8,7 +8,7 @@ use Rattle.sto_part.specs.declared.pred.Pred.{Pred}
 use Rattle.sto_part.specs.Preds.{holds_of}
 use Rattle.sto_item.specs.declared.item.Item.{Item}
 use Rattle.sto_item.specs.declared.item.Item.TheVariants.{Seen, Holds}
-use Rattle.sto_item.specs.Observed.{sees, is_read_entry_of, preds_on, pred_on}
+use Rattle.sto_item.specs.Observed.{sees, is_sight_of, preds_on, pred_on}
 use Rattle.sto_model.specs.Told.{Told, told}
 use Rattle.sto_model.specs.declared.reply.Reply.{Reply}
 use Rattle.sto_core.specs.declared.view.View.{View}
@@ -46,12 +46,12 @@ by_open items v p t renewed bound e l = inl (record { by = inr (refl, e, l) })
 -- a part that is seen
 seen_there : (p : ℕ) (items : List Item) → sees p items ≡ true → Contains items (Seen p)
 seen_there p [] e = cc
-seen_there p (i ∷ is) e = elim (cases_Bool (is_read_entry_of p i)) [
+seen_there p (i ∷ is) e = elim (cases_Bool (is_sight_of p i)) [
   | inl here ↦ (0, omega arith, is_seen i here)
   | inr other ↦ let c = seen_there p is (rw other at e) in (suc c.0, omega (arith, c.1), c.2)
 ]
   where
-    is_seen : (i : Item) → is_read_entry_of p i ≡ true → i ≡ Seen p
+    is_seen : (i : Item) → is_sight_of p i ≡ true → i ≡ Seen p
     is_seen (Seen q) h = ap (λ (k : ℕ). Seen k) (eqb-true q p h)
     is_seen (Holds q) h = cc
 

@@ -6,7 +6,7 @@ use Rattle.std.proofs.lemmas.List.{length-map, get_or-map}
 use Rattle.sto_part.specs.declared.pred.Pred.{Pred}
 use Rattle.sto_item.specs.declared.item.Item.{Item}
 use Rattle.sto_item.specs.declared.item.Item.TheVariants.{Seen, Holds}
-use Rattle.sto_item.specs.Observed.{Watched, IsObserved, watch_at, sees, is_read_entry_of, preds_on, pred_on, part_of_item, parts_of_items}
+use Rattle.sto_item.specs.Observed.{Watched, IsObserved, watch_at, sees, is_sight_of, preds_on, pred_on, part_of_item, parts_of_items}
 use Rattle.sto_type.specs.Known.{Known}
 use Rattle.sto_attempt_log.specs.Asked.{AllOf}
 use Rattle.sto_attempt_log.specs.ReadSet.{IsTrueIn, AllTrueIn}
@@ -24,7 +24,7 @@ or_left false b h = absurd (true≢false (sym h))
 -- a part that is seen is seen by its watch
 seen_by : (p : ℕ) (pre : List Item) (is : List Item) → sees p (pre ++ Seen p ∷ is) ≡ true
 seen_by p [] is = or_left (nat_eq p p) (sees p is) (eq-eqb p p refl)
-seen_by p (i ∷ pre) is = or_right (is_read_entry_of p i) (sees p (pre ++ Seen p ∷ is)) (seen_by p pre is)
+seen_by p (i ∷ pre) is = or_right (is_sight_of p i) (sees p (pre ++ Seen p ∷ is)) (seen_by p pre is)
 
 all_true_append : (ws : List ℤ) (xs ys : List Pred) → AllTrueIn ws (xs ++ ys) → AllTrueIn ws xs × AllTrueIn ws ys
 all_true_append ws [] ys h = (tt, h)

@@ -90,8 +90,8 @@ module _ (m : Meaning) (law : IsLawful m) (valid : Validity) (sizes : List ℕ) 
     seen_rise = seen_rise;
     loaded_rise = loaded_rise;
     apart = apart;
-    read_set = λ j p e. let k = read_words base p (read j p e) in was_seen valid v at base sealed.number sealed.claimed sealed.fit p k.0 k.1;
-    loaded_words = loaded_words;
+    sights = λ j p e. let k = read_words base p (read j p e) in was_seen valid v at base sealed.number sealed.claimed sealed.fit p k.0 k.1;
+    loads = loaded_words;
     keeps =
         let true_then = were_true m (words_in base) items claims.0 (λ p ws e. claimed_words v at base claims.0 p ws sealed.claimed claims.2 e) (sealed.log.carried.holds claims.0 ok part) in
         let looks : AllOf (LooksAt (words_in base) (looked_parts v seen loaded)) items = draw_looks valid v at base sealed.number sealed.claimed sealed.fit seen loaded items sealed.log.read true_then covered in

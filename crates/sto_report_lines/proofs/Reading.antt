@@ -9,7 +9,7 @@ use Rattle.sto_report_spec.specs.Orders.{Place}
 use Rattle.sto_report_spec.specs.Aborts.{LocalPart, Cause, Locked, Changed, Abort}
 use Rattle.sto_report_spec.specs.Named.{is_dot, is_space, place_in, place_of_pieces, named_in}
 use Rattle.sto_report_spec.specs.NamedAborts.{Heard, reply_in, part_by, locked_in, changed_in, heard_in, abort_by, aborts_in}
-use Rattle.sto_report_lines.specs.declared.transaction.Transaction.{Transaction}
+use Rattle.sto_report_lines.specs.declared.transaction.TransactionPlace.{TransactionPlace}
 use Rattle.sto_report_lines.specs.declared.told.ToldCause.{ToldCause}
 use Rattle.sto_report_lines.specs.Reading.{place_of, IsReadAs, begins_with_digit, IsSmallCause, IsSmall, IsCauseRead, IsOnlyCause, IsHeardRead, IsTold}
 
@@ -82,7 +82,7 @@ module _ (names : List (List ℕ)) where
   pub second_word : (words : List (List ℕ)) (a b : List ℕ) (ws : List (List ℕ)) → words ≡ a ∷ b ∷ ws → begins_with_digit a ≡ true → named_in names words ≡ place_of_pieces names (slice_split is_dot b)
   second_word words a b ws e d = ap (named_in names) e ∙ by_digit a b ws true d
 
-pub read_same : (places others : List Place) (read : Option Transaction) → places ≡ others → IsReadAs others read → IsReadAs places read
+pub read_same : (places others : List Place) (read : Option TransactionPlace) → places ≡ others → IsReadAs others read → IsReadAs places read
 read_same places others read e h = subst (λ (ps : List Place). IsReadAs ps read) (sym e) h
 
 -- Causes.

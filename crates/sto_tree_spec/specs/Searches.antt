@@ -73,6 +73,12 @@ first_same f g (suc n) all =
     let front : first_below f n ≡ first_below g n = first_same f g n (λ j l. all j (omega (arith, l))) in
     ap (λ o. found_or o (f n) n) front ∙ ap (λ b. found_or (first_below g n) b n) (all n (omega arith))
 
+-- a search that goes up one by one
+pub first_further : (test : ℕ → Bool) (i j : ℕ) → j ≡ i + 1 → first_below test i ≡ None → test i ≡ false → first_below test j ≡ None
+first_further test i j at none miss =
+    let e : j ≡ suc i = omega (arith, at) in
+    ap (first_below test) e ∙ ap (λ o. found_or o (test i) i) none ∙ ap (λ b. found_or None b i) miss
+
 pub first_stop : (test : ℕ → Bool) (n i : ℕ) → first_below test i ≡ None → i < n → test i ≡ true → first_below test n ≡ Some i
 first_stop test n i none h hit =
     let f : (j : ℕ) × (first_below test n ≡ Some j) = first_found test n i h hit in

@@ -2,7 +2,7 @@ use Rattle.std.proofs.Common.{ltb, rules, ℕ}
 use Rattle.std.proofs.lemmas.List.Sorted.{IsPartitionPoint-from_clause, IsPartitionedBy-ltb}
 use Rattle.sto_part.specs.Listed.{Listed}
 use Rattle.sto_part.specs.declared.change.Change.{Change}
-use Rattle.sto_item.proofs.FoundTicket.{parts_rise}
+use Rattle.sto_item.proofs.Found.{parts_rise}
 use Rattle.sto_attempt_log.proofs.Halving.{any_here, none_here}
 use Rattle.sto_attempt_log.proofs.lists.is_written.Goals as goal
 
