@@ -8,12 +8,16 @@ use Rattle.sto_objects.specs.declared.objects.Objects.{Objects}
 use Rattle.sto_serializability.specs.Meanings.{updating_by}
 use Rattle.sto_store.specs.Stores.{means}
 use Rattle.sto_run.specs.Lawful.{IsLawfulJournal}
+use Rattle.sto_run.specs.declared.stored.StoredFile.{StoredFile}
 use Rattle.sto_run.proofs.Kinds.{meaning_of}
+use Rattle.sto_run.proofs.Stored.{stored_means}
 use Rattle.sto_run.proofs.Meant.{lawful_meant}
 
-pub lawful_run : (x y : Objects) (f g : whole.File) (t n : ℕ) (j : Journal) → (f ≡ g) × (x ≡ y) × (t ≡ n) → meaning_of y ≡ means (shapes_of (view g).declarations)
+pub lawful_run :
+    (s : StoredFile) (x : Objects) (f g : whole.File) (t n : ℕ) (j : Journal) → s.file.now ≡ g → (f ≡ g) × (x ≡ s.objects) × (t ≡ n)
     → IsLawfulJournal (updating_by (λ shapes. meaning_of x)) (view f) t j → IsLawfulJournal (updating_by means) (view g) n j
-lawful_run x y f g t n j same meant h =
-    lawful_meant (meaning_of x) means (view g) n j (ap meaning_of same.1 ∙ meant)
+lawful_run s x f g t n j here same h =
+    lawful_meant (meaning_of x) means (view g) n j
+    (ap meaning_of same.1 ∙ stored_means s ∙ ap (λ (file : whole.File). means (shapes_of (view file).declarations)) here)
     (subst (λ (k : ℕ). IsLawfulJournal (updating_by (λ shapes. meaning_of x)) (view g) k j) same.2
     (subst (λ (file : whole.File). IsLawfulJournal (updating_by (λ shapes. meaning_of x)) (view file) t j) same.0 h))

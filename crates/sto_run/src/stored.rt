@@ -3,7 +3,6 @@ ghost use Rattle.std.specs.Prelude.{◌≡◌, IfOk};
 ghost use Rattle.sto_lang.specs.Objects.{shapes_of};
 ghost use Rattle.sto_lang.specs.Sound.{IsSound};
 ghost use Rattle.sto_lang.specs.Views.{file as view};
-ghost use Rattle.sto_store.specs.Stores.{means};
 ghost use Rattle.sto_serializability.specs.Meanings.{IsTypeOf};
 ghost use Rattle.sto_run_threads.specs.Taken.{IsTaken};
 ghost use Rattle.sto_run.specs.Kinds.{AreOf};
@@ -31,7 +30,6 @@ impl<'f> StoredFile<'f> {
         requires { IsSound (view file.now) }
         ensures file { IfOk result (λ s. s.file.now ≡ file.entry.now) }
         ensures type_of { IfOk result (λ s. IsTypeOf (shapes_of (view file.entry.now).declarations) (⟦<Objects as TxType>⟧.meaning s.objects)) }
-        ensures meant { IfOk result (λ s. ⟦<Objects as TxType>⟧.meaning s.objects ≡ means (shapes_of (view file.entry.now).declarations)) }
         ensures taken { IfOk result (λ s. IsTaken (view file.entry.now) (⟦<Objects as TxType>⟧.meaning s.objects)) }
     {
         let shapes = shapes(alloc, file)?;

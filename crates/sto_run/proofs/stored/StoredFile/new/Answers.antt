@@ -33,11 +33,6 @@ returns-clause-type_of c =
     let law : IsLawful (means shapes) = subst (λ (ss : List Shape). IsLawful (means ss)) c.in_ok-shapes.ensures c.in_ok-objects.ensures.lawful in
     subst (IsTypeOf shapes) (sym (objects_mean x shapes kinds)) (is_type_of shapes (sound_in_order (view c.args.file.now)) law)
 
-pub returns-clause-meant : goal.returns-clause-meant
-returns-clause-meant c =
-    let x = c.in_ok-objects.objects in
-    objects_mean x (shapes_of (view c.args.file.now).declarations) (subst (AreOf x) c.in_ok-shapes.ensures c.in_ok-objects.ensures.kinds)
-
 pub returns-clause-taken : goal.returns-clause-taken
 returns-clause-taken c =
     let x = c.in_ok-objects.objects in
