@@ -2,6 +2,7 @@
 #![tactic(auto)]
 
 mod kinds;
+mod measure;
 mod objects;
 mod wide;
 

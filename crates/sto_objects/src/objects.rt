@@ -1,5 +1,5 @@
 //! The objects of a file, as one type.
-ghost use Rattle.std.specs.Prelude.{[], ◌∷◌};
+ghost use Rattle.std.specs.Prelude.{◌≡◌, [], ◌∷◌, IfOk};
 ghost use Rattle.std.proofs.Common.{lit≤};
 ghost use Rattle.sto_part.specs.Codes.{IsSignedCode};
 ghost use Rattle.sto_type.specs.JoinedLaw.{joined_lawful, all_lawful};
@@ -9,12 +9,13 @@ ghost use Rattle.sto_counter.specs.CountedLaw.{counter_lawful};
 ghost use Rattle.sto_objects.specs.contracts.wide.WideTxType.TheImpl.Laws.{valid_is-law as wide_valid_is, lawful-law as wide_lawful};
 
 use crate::kinds::{Boxes, Counters};
+use crate::measure::widths_of;
 use crate::wide::Wide;
 use std::alloc::Global;
 use sto_box::TBox;
 use sto_counter::TCounter;
 use sto_model::{Call, State};
-use sto_part::{Contents, Naming, NoMemory};
+use sto_part::{Contents, List, Naming, NoMemory};
 use sto_type::{Answer, Both, Home, KnownParts, TxType};
 
 type Store = Both<Boxes, Both<Counters, Wide>>;
@@ -25,6 +26,19 @@ type Store = Both<Boxes, Both<Counters, Wide>>;
 #[derive(Drop)]
 pub struct Objects {
     pub store: Both<Boxes, Both<Counters, Wide>>,
+    // How many words each part has: an attempt asks it at each word that it reads.
+    widths: List<u32>,
+    ghost measured: { widths.items ≡ (⟦<Store as TxType>⟧.meaning store).widths },
+}
+
+impl Objects {
+    /// The objects of a store.
+    pub fn new(alloc: Global, store: Both<Boxes, Both<Counters, Wide>>) -> Result<Objects, NoMemory>
+        ensures { IfOk result (λ o. o.store ≡ store) }
+    {
+        let widths = widths_of(alloc, &store)?;
+        Ok(Objects { store, widths })
+    }
 }
 
 impl Naming for Objects {
@@ -55,7 +69,7 @@ impl TxType for Objects {
     }
 
     fn width(&self, part: u32) -> u32 {
-        self.store.width(part)
+        *self.widths.get(part)
     }
 
     fn home(&self, part: u32) -> Home {

@@ -1,7 +1,7 @@
 -- The shapes of a sound file are fit to be built.
 use Rattle.std.specs.Prelude.{nat_eq, map, sum_by, ◌*◌}
 use Rattle.std.specs.List.{All}
-use Rattle.std.proofs.Common.{◌≡◌, ◌<◌, ◌≤◌, ◌+◌, ◌^◌, ℕ, List, [], ◌∷◌, ◌++◌, refl, sym, subst, arith, Bool, true, false}
+use Rattle.std.proofs.Common.{◌≡◌, ◌<◌, ◌≤◌, ◌+◌, ◌^◌, ℕ, List, [], ◌∷◌, ◌++◌, refl, sym, subst, arith}
 use Rattle.std.proofs.lemmas.Nat.{mul-le}
 use Rattle.std.proofs.lemmas.List.Elements.{All-head, All-tail}
 use Rattle.sto_model.specs.declared.shape.Shape.{Shape}
@@ -13,11 +13,7 @@ use Rattle.sto_lang.specs.Objects.{Declaration, shapes_of}
 use Rattle.sto_lang.specs.Scripts.{File}
 use Rattle.sto_lang.specs.Sound.{HasRanges, IsSound}
 use Rattle.sto_store.specs.Stores.{rank, of_kind, IsFit, AreFit}
-use Rattle.sto_run.proofs.Ordered.{order_is}
-
-by_test : {P : Type 0} (b : Bool) → (b ≡ true → P) → (b ≡ false → P) → P
-by_test true f g = f refl
-by_test false f g = g refl
+use Rattle.sto_run.proofs.Ordered.{by_test, order_is}
 
 is_fit : (version : ℕ) (s : Shape) → HasRanges version s → IsFit s
 is_fit version (Single v) h = tt

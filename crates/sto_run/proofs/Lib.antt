@@ -6,12 +6,12 @@ pub mod Placed
 pub mod Merged
 pub mod Meant
 pub mod Printed
-pub mod Taken
 pub mod Homes
 pub mod Ordered
 pub mod Fitting
 pub mod Asking
-pub mod Places
 pub mod Sound
+pub mod Kinds
 pub mod Stored
 pub mod Entire
+pub mod RunJournals

@@ -8,7 +8,7 @@ use Rattle.sto_lang.specs.Shapes.{of_rank, in_order}
 use Rattle.sto_store.specs.Stores.{rank, of_kind, AreInOrder}
 use Rattle.sto_store.proofs.Built.{kind_append}
 
-by_test : {P : Type 0} (b : Bool) → (b ≡ true → P) → (b ≡ false → P) → P
+pub by_test : {P : Type 0} (b : Bool) → (b ≡ true → P) → (b ≡ false → P) → P
 by_test true f g = f refl
 by_test false f g = g refl
 

@@ -20,7 +20,7 @@ use Rattle.sto_transaction.specs.Plain.{verdict, plain}
 use Rattle.sto_journal_merge.specs.PlainAborts.{IsPartIn, IsInRange}
 
 -- a transaction is one of a thread
-has_thread : (threads : List (List Script)) (thread position : ℕ) (s : Script) → option_and_then (at_position position) (slice_get threads thread) ≡ Some s → thread < length threads
+pub has_thread : (threads : List (List Script)) (thread position : ℕ) (s : Script) → option_and_then (at_position position) (slice_get threads thread) ≡ Some s → thread < length threads
 has_thread threads thread position s e = by (slice_get threads thread) refl e
   where
     by : (found : Option (List Script)) → slice_get threads thread ≡ found → option_and_then (at_position position) found ≡ Some s → thread < length threads

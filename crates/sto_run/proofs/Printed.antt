@@ -1,12 +1,11 @@
 -- A lawful journal of a sound file can be printed.
 use Rattle.std.specs.List.{All}
 use Rattle.std.specs.Str.{bytes_eq}
-use Rattle.std.proofs.Common.{◌≡◌, ℕ, zero, suc, ◌<◌, ◌≤◌, List, [], ◌∷◌, length, map, refl, sym, ap, ◌∙◌, subst, arith, Bool, true, false, cond, ◌==◌, Option, None, Some, is_some, slice_get, option_and_then, inl, inr}
+use Rattle.std.proofs.Common.{◌≡◌, ℕ, zero, suc, ◌<◌, ◌≤◌, List, [], ◌∷◌, length, map, refl, sym, ap, ◌∙◌, subst, arith, Bool, true, false, cond, ◌==◌, Option, None, Some, is_some, inl, inr}
 use Rattle.std.proofs.lemmas.Bool.{cases_lt}
 use Rattle.std.proofs.lemmas.Bool.Decides.{nat_tests}
 use Rattle.std.proofs.lemmas.List.{length-map}
 use Rattle.std.proofs.lemmas.List.Elements.{All-nil, All-cons, All-head, All-tail}
-use Rattle.std.proofs.lemmas.Option.{slice_get_within}
 use Rattle.sto_model.specs.Machine.{Machine, opening_of, reply_to, state_after}
 use Rattle.sto_model.specs.Run.{Script as Steps, State}
 use Rattle.sto_model.specs.Serial.{SerialRun, by_next, ended, heard, run_within, settled}
@@ -24,7 +23,7 @@ use Rattle.sto_lang.specs.declared.file.Decl.{Decl}
 use Rattle.sto_lang.specs.Views.{declaration}
 use Rattle.sto_lang.proofs.SoundObjects.{order_count}
 use Rattle.sto_script.specs.Meaning.{meaning_of}
-use Rattle.sto_report_spec.specs.Orders.{Place, at_position, transaction_at, count_in, positions_of, numbers_from, IsOrder}
+use Rattle.sto_report_spec.specs.Orders.{Place, transaction_at, count_in, positions_of, numbers_from, IsOrder}
 use Rattle.sto_report_spec.specs.Replay.{opening_state, run_at, script_run, machines_for, state_from, final_state}
 use Rattle.sto_report_spec.specs.Aborts.{name_of, part_in}
 use Rattle.sto_report_spec.specs.Named.{AreNames}
@@ -37,6 +36,7 @@ use Rattle.sto_journal.specs.declared.journal.Cause.TheVariants as kinds
 use Rattle.sto_journal.specs.declared.journal.Journal.{Journal}
 use Rattle.sto_journal.specs.Journals.{places, abort, cause, home_in, HaveRows, HaveThreads, IsAbortOf, AreAbortsOf}
 use Rattle.sto_run.specs.Lawful.{IsLawfulJournal}
+use Rattle.sto_run.proofs.Placed.{has_thread}
 
 -- the threads of the lines
 
@@ -94,13 +94,6 @@ is_declared declarations (Some x) d h e = refl
 same_home : (declarations : List Declaration) (c : causes.Cause) → (part_in (cause declarations c)).object ≡ name_of (with_number (home_in c).object declarations)
 same_home declarations (kinds.Locked home) = refl
 same_home declarations (kinds.Changed home by) = refl
-
-has_thread : (threads : List (List Script)) (thread position : ℕ) (s : Script) → option_and_then (at_position position) (slice_get threads thread) ≡ Some s → thread < length threads
-has_thread threads thread position s e = by (slice_get threads thread) refl e
-  where
-    by : (found : Option (List Script)) → slice_get threads thread ≡ found → option_and_then (at_position position) found ≡ Some s → thread < length threads
-    by None is h = absurd cc
-    by (Some scripts) is h = slice_get_within threads thread scripts is
 
 aborts_within : (u : Updating) (file : File) (order : List Place) (aborts : List AbortLine) → HaveNames file.declarations
     → All (IsLawfulAbort u file order) (map (abort file.declarations) aborts) → AreAbortsOf (length file.threads) file.declarations aborts

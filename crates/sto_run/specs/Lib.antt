@@ -1,3 +1,4 @@
+pub mod Kinds
 pub mod Lawful
 pub mod Runnable
 pub use Rattle.sto_plain.specs.Passes
@@ -9,4 +10,6 @@ pub use Rattle.sto_lang.specs.Sound
 pub use Rattle.sto_lang.specs.Views
 pub use Rattle.sto_serializability.specs.Finished
 pub use Rattle.sto_serializability.specs.Meanings
+pub use Rattle.sto_run_threads.specs.Counts
 pub use Rattle.sto_run_threads.specs.Taken
+pub use Rattle.sto_run_threads.specs.Worked

@@ -1,16 +1,13 @@
 //! Runs of whole files by a feeder and workers.
 ghost use Rattle.std.specs.Prelude.{◌≡◌, [], IfOk};
-ghost use Rattle.sto_lang.specs.Objects.{shapes_of};
 ghost use Rattle.sto_lang.specs.Sound.{IsSound, IsFromTo};
 ghost use Rattle.sto_lang.specs.Views.{file as view};
-ghost use Rattle.sto_serializability.specs.Meanings.{updating_by, IsTypeOf};
+ghost use Rattle.sto_serializability.specs.Meanings.{updating_by};
 ghost use Rattle.sto_store.specs.Stores.{means};
-ghost use Rattle.sto_run_threads.specs.Taken.{IsTaken};
 ghost use Rattle.sto_run.specs.Lawful.{IsLawfulJournal};
 
-use crate::journal::journal_of;
+use crate::opened::OpenedRun;
 use crate::stored::StoredFile;
-use crate::whole::opening_of;
 use std::alloc::Global;
 use std::sync::Wait;
 use std::thread::Threads;
@@ -18,50 +15,16 @@ use sto_journal::Journal;
 use sto_lang::File;
 use sto_part::NoMemory;
 use sto_run_queues::feed_threads;
-use sto_run_threads::{FileWork, FinishedRun, Gate, RetryTurn};
-use sto_type::TxType;
-
-/// Feeds the transactions of a file to so many workers, where a type has its objects, and gives the journal of the run. What a
-/// type is to be for that, each mixture of lawful types with the objects of the file is.
-///
-/// A feeder sends position 1 of each script thread in rising thread number, then position 2, and so on, each to the queue whose
-/// number is left where the thread's is divided by the number of workers. Each worker takes what was sent to its queue. A
-/// transaction with so many aborted attempts is handed back, with all that its worker takes later, and these are run last,
-/// beside no other. The gate is told before and after each transaction and before each event of an attempt.
-pub fn feed_over<R: Threads + Wait + Sync, T: TxType + Send + Sync, G: Gate>(
-    rt: &R,
-    alloc: Global,
-    file: &File,
-    ty: &T,
-    workers: u32,
-    tries: u32,
-    gate: &G,
-) -> Result<Journal, NoMemory>
-    requires sound { IsSound (view file.now) }
-    requires type_of { IsTypeOf (shapes_of (view file.now).declarations) (T.meaning ty.now) }
-    requires taken { IsTaken (view file.now) (T.meaning ty.now) }
-    requires workers { IsFromTo 1 16 workers }
-    requires tries { IsFromTo 1 64 tries }
-    ensures lawful { IfOk result (IsLawfulJournal (updating_by (λ _. T.meaning ty.now)) (view file.now) tries) }
-    ensures alone { workers ≡ 1 → IfOk result (λ journal. journal.aborts.items ≡ []) }
-{
-    let contents = opening_of(alloc, ty)?;
-    let turn = RetryTurn::new();
-    let work = FileWork {
-        file,
-        ty,
-        tries,
-        gate,
-        turn: &turn,
-    };
-    let ended = feed_threads(rt, &work, alloc, ty, &contents, workers)?;
-    let FinishedRun { records, words } = ended;
-    journal_of(alloc, file, ty, &words, records)
-}
+use sto_run_threads::{Gate, RetryTurn};
 
 /// Feeds the transactions of a file one by one, through queues, to so many workers, which run them by attempts on words that
 /// they share, and gives the journal of the run. Its report in either form is lawful for the file and so many tries of a
 /// transaction; with one worker it tells no aborted attempt. Where a worker waits for a job that does not come, it waits on.
+///
+/// A feeder sends position 1 of each script thread in rising thread number, then position 2, and so on, each to the queue whose
+/// number is left where the thread's is divided by the number of workers. Each worker takes what was sent to its queue. A
+/// transaction with so many aborted attempts is handed back, with all that its worker takes later, and these are run last,
+/// beside no other.
 pub fn feed_file<R: Threads + Wait + Sync, G: Gate>(
     rt: &R,
     alloc: Global,
@@ -77,5 +40,8 @@ pub fn feed_file<R: Threads + Wait + Sync, G: Gate>(
     ensures alone { workers ≡ 1 → IfOk result (λ journal. journal.aborts.items ≡ []) }
 {
     let stored = StoredFile::new(alloc, file)?;
-    feed_over(rt, alloc, file, &stored.objects, workers, tries, gate)
+    let turn = RetryTurn::new();
+    let run = OpenedRun::new(alloc, file, &stored.objects, tries, gate, &turn)?;
+    let finished = feed_threads(rt, &run.work, alloc, run.work.ty, &run.opening, workers)?;
+    run.journal(alloc, finished)
 }

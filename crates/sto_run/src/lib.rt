@@ -7,14 +7,16 @@
 mod feed;
 mod file;
 mod journal;
+mod opened;
 mod step;
 mod stored;
 mod whole;
 
-pub use feed::{feed_file, feed_over};
-pub use file::{run_file, run_over};
+pub use feed::feed_file;
+pub use file::run_file;
 pub use journal::journal_of;
-pub use step::{step_file, step_over};
+pub use opened::OpenedRun;
+pub use step::step_file;
 pub use sto_run_threads::{Gate, NoGate};
 pub use stored::StoredFile;
 pub use whole::{homes_of, opening_of, rows_of};

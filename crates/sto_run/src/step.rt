@@ -1,26 +1,23 @@
 //! Runs of whole files in one thread.
 ghost use Rattle.std.specs.Prelude.{◌≡◌, ◌<◌, ◌≤◌, [], length, IfOk};
 ghost use Rattle.std.specs.List.{All};
-ghost use Rattle.sto_lang.specs.Objects.{shapes_of};
 ghost use Rattle.sto_lang.specs.Sound.{IsSound, IsSchedule, IsFromTo};
 ghost use Rattle.sto_lang.specs.Views.{file as view};
-ghost use Rattle.sto_serializability.specs.Meanings.{updating_by, IsTypeOf};
+ghost use Rattle.sto_serializability.specs.Meanings.{updating_by};
 ghost use Rattle.sto_store.specs.Stores.{means};
-ghost use Rattle.sto_run_threads.specs.Taken.{IsTaken};
 ghost use Rattle.sto_run.specs.Lawful.{IsLawfulJournal};
 
-use crate::journal::journal_of;
+use crate::opened::OpenedRun;
 use crate::stored::StoredFile;
-use crate::whole::opening_of;
 use std::alloc::Global;
 use sto_journal::Journal;
 use sto_lang::{File, Turns};
+use sto_objects::Objects;
 use sto_part::NoMemory;
 use sto_run_steps::step_threads;
-use sto_run_threads::{FileWork, FinishedRun, NoGate, RetryTurn};
+use sto_run_threads::{NoGate, RetryTurn};
 use sto_script::ScriptBody;
 use sto_transaction::Machine;
-use sto_type::TxType;
 
 // The entries of a file's schedule; none where it has no schedule.
 fn turns_of(file: &File) -> &[Turns]
@@ -33,44 +30,11 @@ fn turns_of(file: &File) -> &[Turns]
     }
 }
 
-/// Runs a file in one thread by its schedule, where a type has its objects, and gives the journal of the run. Each entry of the
-/// schedule lets a script thread make so many events; once it is used up, the threads that are left make one event each, in
-/// rising number and again and again. What is handed back is run last, beside no other.
-pub fn step_over<T: TxType>(
-    alloc: Global,
-    file: &File,
-    ty: &T,
-    tries: u32,
-) -> Result<Journal, NoMemory>
-    requires sound { IsSound (view file.now) }
-    requires type_of { IsTypeOf (shapes_of (view file.now).declarations) (T.meaning ty.now) }
-    requires taken { IsTaken (view file.now) (T.meaning ty.now) }
-    requires tries { IsFromTo 1 64 tries }
-    ensures lawful { IfOk result (IsLawfulJournal (updating_by (λ _. T.meaning ty.now)) (view file.now) tries) }
-    ensures alone { length (view file.now).threads ≤ 1 → IfOk result (λ journal. journal.aborts.items ≡ []) }
-{
-    let contents = opening_of(alloc, ty)?;
-    let turn = RetryTurn::new();
-    let work = FileWork {
-        file,
-        ty,
-        tries,
-        gate: &NoGate,
-        turn: &turn,
-    };
-    let ended = step_threads::<T, Machine<'_, T, ScriptBody<'_>>, _>(
-        &work,
-        alloc,
-        ty,
-        &contents,
-        turns_of(file),
-    )?;
-    let FinishedRun { records, words } = ended;
-    journal_of(alloc, file, ty, &words, records)
-}
-
 /// Runs a file in one thread by its schedule, and gives the journal of the run. Its report in either form is lawful for the
 /// file and so many tries of a transaction; where the file has at most one thread it tells no aborted attempt.
+///
+/// Each entry of the schedule lets a script thread make so many events; once it is used up, the threads that are left make one
+/// event each, in rising number and again and again. What is handed back is run last, beside no other.
 pub fn step_file(alloc: Global, file: &File, tries: u32) -> Result<Journal, NoMemory>
     requires sound { IsSound (view file.now) }
     requires tries { IsFromTo 1 64 tries }
@@ -78,5 +42,14 @@ pub fn step_file(alloc: Global, file: &File, tries: u32) -> Result<Journal, NoMe
     ensures alone { length (view file.now).threads ≤ 1 → IfOk result (λ journal. journal.aborts.items ≡ []) }
 {
     let stored = StoredFile::new(alloc, file)?;
-    step_over(alloc, file, &stored.objects, tries)
+    let turn = RetryTurn::new();
+    let run = OpenedRun::new(alloc, file, &stored.objects, tries, &NoGate, &turn)?;
+    let finished = step_threads::<Objects, Machine<'_, Objects, ScriptBody<'_>>, _>(
+        &run.work,
+        alloc,
+        run.work.ty,
+        &run.opening,
+        turns_of(run.work.file),
+    )?;
+    run.journal(alloc, finished)
 }

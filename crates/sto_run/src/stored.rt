@@ -1,11 +1,11 @@
 //! A file and the store of its objects.
-ghost use Rattle.std.specs.Prelude.{◌≡◌, map, IfOk};
-ghost use Rattle.sto_model.specs.declared.shape.Shape.TheVariants.{Single, Counter, Array, Hash, Tree, Vector};
+ghost use Rattle.std.specs.Prelude.{◌≡◌, IfOk};
 ghost use Rattle.sto_lang.specs.Objects.{shapes_of};
 ghost use Rattle.sto_lang.specs.Sound.{IsSound};
 ghost use Rattle.sto_lang.specs.Views.{file as view};
-ghost use Rattle.sto_store.specs.Stores.{AreKinds};
 ghost use Rattle.sto_serializability.specs.Meanings.{IsTypeOf};
+ghost use Rattle.sto_run_threads.specs.Taken.{IsTaken};
+ghost use Rattle.sto_run.specs.Kinds.{AreOf};
 ghost use Rattle.sto_run.specs.Runnable.{AreRunnable};
 
 use std::alloc::Global;
@@ -21,7 +21,7 @@ pub struct StoredFile<'f> {
     pub file: &'f File,
     pub objects: Objects,
     ghost runnable: { AreRunnable (view file.now) },
-    ghost kinds: { AreKinds (map (λ x. Single x.first) objects.store.first) (map (λ x. Counter x.first) objects.store.second.first) (map (λ x. Array x.len x.first) objects.store.second.second.kinds.first) (map (λ x. Hash x.buckets x.places) objects.store.second.second.kinds.second.first) (map (λ x. Tree x.leaves) objects.store.second.second.kinds.second.second.first) (map (λ x. Vector x.capacity) objects.store.second.second.kinds.second.second.second) (shapes_of (view file.now).declarations) },
+    ghost kinds: { AreOf objects (shapes_of (view file.now).declarations) },
 }
 
 impl<'f> StoredFile<'f> {
@@ -30,6 +30,7 @@ impl<'f> StoredFile<'f> {
         requires { IsSound (view file.now) }
         ensures file { IfOk result (λ s. s.file.now ≡ file.entry.now) }
         ensures type_of { IfOk result (λ s. IsTypeOf (shapes_of (view file.entry.now).declarations) (⟦<Objects as TxType>⟧.meaning s.objects)) }
+        ensures taken { IfOk result (λ s. IsTaken (view file.entry.now) (⟦<Objects as TxType>⟧.meaning s.objects)) }
     {
         let shapes = shapes(alloc, file)?;
         let objects = build(alloc, &shapes)?;

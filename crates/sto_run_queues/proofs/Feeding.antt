@@ -21,10 +21,10 @@ use Rattle.sto_run_queues.proofs.Going.{goes_more, goes_not}
 use Rattle.sto_run_queues.proofs.Passes.{at_known, pass_at, set_at}
 
 -- what the pass of a queue knows before the ith place of an order, and before the end mark of the ith queue
-abbrev pub runs_sent : ℕ → List code.Place → ℕ → ℕ → Known
+abbrev pub runs_sent : ℕ → List code.TransactionPlace → ℕ → ℕ → Known
 runs_sent queues ps i n = feeding (jobs_for queues n (map place_of ps)) (length (going_to queues n (map place_of (take i ps))))
 
-abbrev pub ends_sent : ℕ → List code.Place → ℕ → ℕ → Known
+abbrev pub ends_sent : ℕ → List code.TransactionPlace → ℕ → ℕ → Known
 ends_sent queues ps i n =
     feeding (jobs_for queues n (map place_of ps)) (if nat_lt n i then length (jobs_for queues n (map place_of ps)) else length (going_to queues n (map place_of ps)))
 
@@ -43,16 +43,16 @@ at_length : (xs : List Job) (y : Job) (ys : List Job) → slice_get (xs ++ y ∷
 at_length [] y ys = refl
 at_length (x ∷ xs) y ys = at_length xs y ys
 
-going_split : (queues number : ℕ) (ps : List code.Place) (i : ℕ) (p : code.Place) → i < length ps → p ≡ get_or ps i p → p.thread % queues ≡ number
+going_split : (queues number : ℕ) (ps : List code.TransactionPlace) (i : ℕ) (p : code.TransactionPlace) → i < length ps → p ≡ get_or ps i p → p.thread % queues ≡ number
     → going_to queues number (map place_of ps) ≡ going_to queues number (map place_of (take i ps)) ++ place_of p ∷ going_to queues number (map place_of (drop (i + 1) ps))
 going_split queues number ps i p l is own =
-    ap (λ (xs : List code.Place). going_to queues number (map place_of xs)) (sym (take-append-drop (i + 1) ps))
+    ap (λ (xs : List code.TransactionPlace). going_to queues number (map place_of xs)) (sym (take-append-drop (i + 1) ps))
     ∙ ap (going_to queues number) (map-append place_of (take (i + 1) ps) (drop (i + 1) ps))
     ∙ filter-append (goes_to queues number) (map place_of (take (i + 1) ps)) (map place_of (drop (i + 1) ps))
     ∙ ap (λ (l : List Place). l ++ going_to queues number (map place_of (drop (i + 1) ps))) (goes_more queues number ps i p l is own)
     ∙ append_assoc (going_to queues number (map place_of (take i ps))) (place_of p ∷ []) (going_to queues number (map place_of (drop (i + 1) ps)))
 
-pub next_run : (queues number : ℕ) (ps : List code.Place) (i : ℕ) (p : code.Place) → i < length ps → p ≡ get_or ps i p → p.thread % queues ≡ number
+pub next_run : (queues number : ℕ) (ps : List code.TransactionPlace) (i : ℕ) (p : code.TransactionPlace) → i < length ps → p ≡ get_or ps i p → p.thread % queues ≡ number
     → slice_get (jobs_for queues number (map place_of ps)) (length (going_to queues number (map place_of (take i ps)))) ≡ Some (Run p.thread p.position)
 next_run queues number ps i p l is own =
     let before = going_to queues number (map place_of (take i ps)) in let after = going_to queues number (map place_of (drop (i + 1) ps)) in
@@ -72,7 +72,7 @@ pub jobs_many : (queues number : ℕ) (order : List Place) → length (jobs_for 
 jobs_many queues number order = length_push (map run_of (going_to queues number order)) Last ∙ ap (λ (n : ℕ). n + 1) (length-map (going_to queues number order) run_of)
 
 -- a place was sent
-pub run_sent : (queues : List JobQueue) (passes : List JobPass) (ps : List code.Place) (i number : ℕ) (place : code.Place) (q : JobQueue) (p r : JobPass)
+pub run_sent : (queues : List JobQueue) (passes : List JobPass) (ps : List code.TransactionPlace) (i number : ℕ) (place : code.TransactionPlace) (q : JobQueue) (p r : JobPass)
     → AreAt queues passes (runs_sent (length queues) ps i) → i < length ps → place ≡ get_or ps i place → number ≡ place.thread % length queues
     → number < length queues → q ≡ get_or queues number q → p ≡ get_or passes number p → IsPass q r (feeding (known p).jobs ((known p).sent + 1))
     → AreAt queues (set passes number r) (runs_sent (length queues) ps (i + 1))
@@ -97,19 +97,19 @@ below_is n i l = grind (arith, nat_tests, l)
 past_is : (n i : ℕ) → i ≤ n → nat_lt n i ≡ false
 past_is n i l = grind (arith, nat_tests, l)
 
-pub all_runs_sent : (queues : List JobQueue) (passes : List JobPass) (ps : List code.Place) (i : ℕ) → length ps ≤ i → AreAt queues passes (runs_sent (length queues) ps i)
+pub all_runs_sent : (queues : List JobQueue) (passes : List JobPass) (ps : List code.TransactionPlace) (i : ℕ) → length ps ≤ i → AreAt queues passes (runs_sent (length queues) ps i)
     → AreAt queues passes (λ n. feeding (jobs_for (length queues) n (map place_of ps)) (length (going_to (length queues) n (map place_of ps))))
 all_runs_sent queues passes ps i far h =
     at_same queues passes (runs_sent (length queues) ps i) (λ n. feeding (jobs_for (length queues) n (map place_of ps)) (length (going_to (length queues) n (map place_of ps))))
-    (λ n l. ap (λ (xs : List code.Place). feeding (jobs_for (length queues) n (map place_of ps)) (length (going_to (length queues) n (map place_of xs)))) (take_all i ps far)) h
+    (λ n l. ap (λ (xs : List code.TransactionPlace). feeding (jobs_for (length queues) n (map place_of ps)) (length (going_to (length queues) n (map place_of xs)))) (take_all i ps far)) h
 
-pub no_end_sent : (queues : List JobQueue) (passes : List JobPass) (ps : List code.Place)
+pub no_end_sent : (queues : List JobQueue) (passes : List JobPass) (ps : List code.TransactionPlace)
     → AreAt queues passes (λ n. feeding (jobs_for (length queues) n (map place_of ps)) (length (going_to (length queues) n (map place_of ps)))) → AreAt queues passes (ends_sent (length queues) ps 0)
 no_end_sent queues passes ps h =
     at_same queues passes (λ n. feeding (jobs_for (length queues) n (map place_of ps)) (length (going_to (length queues) n (map place_of ps)))) (ends_sent (length queues) ps 0)
     (λ n l. sym (ap (λ (b : Bool). feeding (jobs_for (length queues) n (map place_of ps)) (if b then length (jobs_for (length queues) n (map place_of ps)) else length (going_to (length queues) n (map place_of ps)))) (past_is n 0 (omega arith)))) h
 
-pub all_ends_sent : (queues : List JobQueue) (passes : List JobPass) (ps : List code.Place) (i : ℕ) → length queues ≤ i → AreAt queues passes (ends_sent (length queues) ps i)
+pub all_ends_sent : (queues : List JobQueue) (passes : List JobPass) (ps : List code.TransactionPlace) (i : ℕ) → length queues ≤ i → AreAt queues passes (ends_sent (length queues) ps i)
     → AreAt queues passes (λ n. all_sent (jobs_for (length queues) n (map place_of ps)))
 all_ends_sent queues passes ps i far h =
     at_same queues passes (ends_sent (length queues) ps i) (λ n. all_sent (jobs_for (length queues) n (map place_of ps)))
@@ -117,14 +117,14 @@ all_ends_sent queues passes ps i far h =
     (below_is n i (omega (arith, l, far)))) h
 
 -- the next end mark
-pub end_comes : (queues : List JobQueue) (passes : List JobPass) (ps : List code.Place) (number : ℕ) (q : JobQueue) (p : JobPass)
+pub end_comes : (queues : List JobQueue) (passes : List JobPass) (ps : List code.TransactionPlace) (number : ℕ) (q : JobQueue) (p : JobPass)
     → AreAt queues passes (ends_sent (length queues) ps number) → number < length queues → q ≡ get_or queues number q → p ≡ get_or passes number p
     → IsPass q p (feeding (jobs_for (length queues) number (map place_of ps)) (length (going_to (length queues) number (map place_of ps))))
 end_comes queues passes ps number q p h low there too =
     subst (λ (b : Bool). IsPass q p (feeding (jobs_for (length queues) number (map place_of ps)) (if b then length (jobs_for (length queues) number (map place_of ps)) else length (going_to (length queues) number (map place_of ps)))))
     (past_is number number (omega arith)) (pass_at queues passes number p q (ends_sent (length queues) ps number) h low there too)
 
-pub end_sent : (queues : List JobQueue) (passes : List JobPass) (ps : List code.Place) (number : ℕ) (q : JobQueue) (p r : JobPass)
+pub end_sent : (queues : List JobQueue) (passes : List JobPass) (ps : List code.TransactionPlace) (number : ℕ) (q : JobQueue) (p r : JobPass)
     → AreAt queues passes (ends_sent (length queues) ps number) → number < length queues → q ≡ get_or queues number q → p ≡ get_or passes number p
     → IsPass q r (feeding (known p).jobs ((known p).sent + 1)) → AreAt queues (set passes number r) (ends_sent (length queues) ps (number + 1))
 end_sent queues passes ps number q p r h low there too sent =

@@ -68,20 +68,20 @@ are_jobs file queues number order h = record {
 }
 
 -- one more place of an order
-place_more : (queues number : ℕ) (ps : List code.Place) (i : ℕ) (p : code.Place) → i < length ps → p ≡ get_or ps i p
+place_more : (queues number : ℕ) (ps : List code.TransactionPlace) (i : ℕ) (p : code.TransactionPlace) → i < length ps → p ≡ get_or ps i p
     → going_to queues number (map place_of (take (i + 1) ps)) ≡ going_to queues number (map place_of (take i ps)) ++ going_to queues number (place_of p ∷ [])
 place_more queues number ps i p l is =
-    ap (λ (xs : List code.Place). going_to queues number (map place_of xs)) (take_more ps i p l ∙ ap (λ (x : code.Place). take i ps ++ x ∷ []) (sym is))
+    ap (λ (xs : List code.TransactionPlace). going_to queues number (map place_of xs)) (take_more ps i p l ∙ ap (λ (x : code.TransactionPlace). take i ps ++ x ∷ []) (sym is))
     ∙ ap (going_to queues number) (map-append place_of (take i ps) (p ∷ []))
     ∙ filter-append (goes_to queues number) (map place_of (take i ps)) (place_of p ∷ [])
 
-pub goes_more : (queues number : ℕ) (ps : List code.Place) (i : ℕ) (p : code.Place) → i < length ps → p ≡ get_or ps i p → p.thread % queues ≡ number
+pub goes_more : (queues number : ℕ) (ps : List code.TransactionPlace) (i : ℕ) (p : code.TransactionPlace) → i < length ps → p ≡ get_or ps i p → p.thread % queues ≡ number
     → going_to queues number (map place_of (take (i + 1) ps)) ≡ going_to queues number (map place_of (take i ps)) ++ place_of p ∷ []
 goes_more queues number ps i p l is own =
     place_more queues number ps i p l is
     ∙ ap (λ (b : Bool). going_to queues number (map place_of (take i ps)) ++ cond b (place_of p ∷ []) []) (eq-eqb (p.thread % queues) number own)
 
-pub goes_not : (queues number : ℕ) (ps : List code.Place) (i : ℕ) (p : code.Place) → i < length ps → p ≡ get_or ps i p → (p.thread % queues ≡ number → ⊥)
+pub goes_not : (queues number : ℕ) (ps : List code.TransactionPlace) (i : ℕ) (p : code.TransactionPlace) → i < length ps → p ≡ get_or ps i p → (p.thread % queues ≡ number → ⊥)
     → going_to queues number (map place_of (take (i + 1) ps)) ≡ going_to queues number (map place_of (take i ps))
 goes_not queues number ps i p l is other =
     place_more queues number ps i p l is

@@ -45,31 +45,31 @@ next_position count n = elim (cases_order n count) [
         ∙ append-nil (numbers_from 1 count) ∙ ap (numbers_from 1) (sym b)
 
 -- one more place at the end
-pub rising_more : (ps : List code.Place) (p : code.Place) → AllPairs Precedes (map place_of ps) → All (λ (q : code.Place). Precedes (place_of q) (place_of p)) ps → AllPairs Precedes (map place_of (ps ++ p ∷ []))
+pub rising_more : (ps : List code.TransactionPlace) (p : code.TransactionPlace) → AllPairs Precedes (map place_of ps) → All (λ (q : code.TransactionPlace). Precedes (place_of q) (place_of p)) ps → AllPairs Precedes (map place_of (ps ++ p ∷ []))
 rising_more ps p h all =
     subst (AllPairs Precedes) (sym (map-append place_of ps (p ∷ [])))
     (all_pairs_push Precedes (map place_of ps) (place_of p) h (λ k d l. All-map (λ (q : Place). Precedes q (place_of p)) place_of ps all k d l))
 
-pub more_own : (ps : List code.Place) (p : code.Place) (thread : ℕ) → p.thread ≡ thread → positions_of thread (map place_of (ps ++ p ∷ [])) ≡ positions_of thread (map place_of ps) ++ p.position ∷ []
+pub more_own : (ps : List code.TransactionPlace) (p : code.TransactionPlace) (thread : ℕ) → p.thread ≡ thread → positions_of thread (map place_of (ps ++ p ∷ [])) ≡ positions_of thread (map place_of ps) ++ p.position ∷ []
 more_own ps p thread own =
     ap (positions_of thread) (map-append place_of ps (p ∷ [])) ∙ positions_append thread (map place_of ps) (place_of p ∷ [])
     ∙ ap (λ (l : List ℕ). positions_of thread (map place_of ps) ++ l) (one_of_own (place_of p) thread own)
 
-pub more_other : (ps : List code.Place) (p : code.Place) (thread : ℕ) → (p.thread ≡ thread → ⊥) → positions_of thread (map place_of (ps ++ p ∷ [])) ≡ positions_of thread (map place_of ps)
+pub more_other : (ps : List code.TransactionPlace) (p : code.TransactionPlace) (thread : ℕ) → (p.thread ≡ thread → ⊥) → positions_of thread (map place_of (ps ++ p ∷ [])) ≡ positions_of thread (map place_of ps)
 more_other ps p thread other =
     ap (positions_of thread) (map-append place_of ps (p ∷ [])) ∙ positions_append thread (map place_of ps) (place_of p ∷ [])
     ∙ ap (λ (l : List ℕ). positions_of thread (map place_of ps) ++ l) (one_of_other (place_of p) thread other) ∙ append-nil (positions_of thread (map place_of ps))
 
 -- A round that has come to a thread: the places so far precede its place, and those of lower threads are there.
-pub record HasCome (ps qs : List code.Place) (position thread : ℕ) (count : ℕ → ℕ) : Type 0 where
-  pub before : All (λ (q : code.Place). Precedes (place_of q) (thread, position)) qs
+pub record HasCome (ps qs : List code.TransactionPlace) (position thread : ℕ) (count : ℕ → ℕ) : Type 0 where
+  pub before : All (λ (q : code.TransactionPlace). Precedes (place_of q) (thread, position)) qs
   pub rising : AllPairs Precedes (map place_of qs)
   pub there : (u : ℕ) → u < thread → positions_of u (map place_of qs) ≡ positions_of u (map place_of ps) ++ one_at position (count u)
   pub ahead : (u : ℕ) → thread ≤ u → positions_of u (map place_of qs) ≡ positions_of u (map place_of ps)
 
-pub round_begins : (ps : List code.Place) (position : ℕ) (count : ℕ → ℕ) → All (λ (p : code.Place). p.position < position) ps → AllPairs Precedes (map place_of ps) → HasCome ps ps position 0 count
+pub round_begins : (ps : List code.TransactionPlace) (position : ℕ) (count : ℕ → ℕ) → All (λ (p : code.TransactionPlace). p.position < position) ps → AllPairs Precedes (map place_of ps) → HasCome ps ps position 0 count
 round_begins ps position count earlier rising = record {
-  before = All-weaker (λ (p : code.Place). p.position < position) (λ (q : code.Place). Precedes (place_of q) (0, position)) (λ p l. inl l) ps earlier;
+  before = All-weaker (λ (p : code.TransactionPlace). p.position < position) (λ (q : code.TransactionPlace). Precedes (place_of q) (0, position)) (λ p l. inl l) ps earlier;
   rising = rising;
   there = λ u l. absurd (omega (arith, l));
   ahead = λ u l. refl;
@@ -83,11 +83,11 @@ one : {X : Type 0} (P : X → Type 0) (x : X) → P x → All P (x ∷ [])
 one P x p zero d l = p
 one P x p (suc k) d l = absurd (omega (arith, l))
 
-pub round_adds : (ps qs : List code.Place) (p : code.Place) (count : ℕ → ℕ) → HasCome ps qs p.position p.thread count → p.position ≤ count p.thread → HasCome ps (qs ++ p ∷ []) p.position (p.thread + 1) count
+pub round_adds : (ps qs : List code.TransactionPlace) (p : code.TransactionPlace) (count : ℕ → ℕ) → HasCome ps qs p.position p.thread count → p.position ≤ count p.thread → HasCome ps (qs ++ p ∷ []) p.position (p.thread + 1) count
 round_adds ps qs p count h within = record {
-  before = All-append (λ (q : code.Place). Precedes (place_of q) (p.thread + 1, p.position)) qs (p ∷ [])
-      (All-weaker (λ (q : code.Place). Precedes (place_of q) (p.thread, p.position)) (λ (q : code.Place). Precedes (place_of q) (p.thread + 1, p.position)) (λ q k. later p.position p.thread (place_of q) k) qs h.before)
-      (one (λ (q : code.Place). Precedes (place_of q) (p.thread + 1, p.position)) p (inr (refl, omega arith)));
+  before = All-append (λ (q : code.TransactionPlace). Precedes (place_of q) (p.thread + 1, p.position)) qs (p ∷ [])
+      (All-weaker (λ (q : code.TransactionPlace). Precedes (place_of q) (p.thread, p.position)) (λ (q : code.TransactionPlace). Precedes (place_of q) (p.thread + 1, p.position)) (λ q k. later p.position p.thread (place_of q) k) qs h.before)
+      (one (λ (q : code.TransactionPlace). Precedes (place_of q) (p.thread + 1, p.position)) p (inr (refl, omega arith)));
   rising = rising_more qs p h.rising h.before;
   there = λ u l. elim (cases_eq p.thread u) [
     | inl same ↦ more_own qs p u same ∙ ap (λ (l : List ℕ). l ++ p.position ∷ []) (h.ahead u (omega (arith, same)))
@@ -97,9 +97,9 @@ round_adds ps qs p count h within = record {
   ahead = λ u l. more_other qs p u (λ same. absurd (omega (arith, l, same))) ∙ h.ahead u (omega (arith, l));
 }
 
-pub round_passes : (ps qs : List code.Place) (position thread : ℕ) (count : ℕ → ℕ) → HasCome ps qs position thread count → count thread < position → HasCome ps qs position (thread + 1) count
+pub round_passes : (ps qs : List code.TransactionPlace) (position thread : ℕ) (count : ℕ → ℕ) → HasCome ps qs position thread count → count thread < position → HasCome ps qs position (thread + 1) count
 round_passes ps qs position thread count h past = record {
-  before = All-weaker (λ (q : code.Place). Precedes (place_of q) (thread, position)) (λ (q : code.Place). Precedes (place_of q) (thread + 1, position)) (λ q k. later position thread (place_of q) k) qs h.before;
+  before = All-weaker (λ (q : code.TransactionPlace). Precedes (place_of q) (thread, position)) (λ (q : code.TransactionPlace). Precedes (place_of q) (thread + 1, position)) (λ q k. later position thread (place_of q) k) qs h.before;
   rising = h.rising;
   there = λ u l. elim (cases_eq thread u) [
     | inl same ↦ h.ahead u (omega (arith, same)) ∙ sym (append-nil (positions_of u (map place_of ps)))
@@ -114,7 +114,7 @@ at_most : (position thread : ℕ) (p : Place) → Precedes p (thread, position) 
 at_most position thread p (inl l) = omega (arith, l)
 at_most position thread p (inr k) = let e = k.0 in omega (arith, e)
 
-pub round_each : (ps qs : List code.Place) (position thread : ℕ) (count : ℕ → ℕ) → HasCome ps qs position thread count → 1 ≤ position → ((u : ℕ) → thread ≤ u → count u ≡ 0)
+pub round_each : (ps qs : List code.TransactionPlace) (position thread : ℕ) (count : ℕ → ℕ) → HasCome ps qs position thread count → 1 ≤ position → ((u : ℕ) → thread ≤ u → count u ≡ 0)
     → (u : ℕ) → positions_of u (map place_of qs) ≡ positions_of u (map place_of ps) ++ one_at position (count u)
 round_each ps qs position thread count h some none u = elim (cases_order u thread) [
   | inl same ↦ past (omega (arith, same))

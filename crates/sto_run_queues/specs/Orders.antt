@@ -6,7 +6,7 @@ use Rattle.sto_run_threads.specs.Orders.{Place, IsOrder}
 use Rattle.sto_run_queues.specs.declared.order.TransactionPlace as code
 
 -- the transaction that a place of the code names
-abbrev pub place_of : code.Place → Place
+abbrev pub place_of : code.TransactionPlace → Place
 place_of p = (p.thread, p.position)
 
 -- a lower position, or the same one of a lower thread

@@ -33,9 +33,7 @@ pub fn build(alloc: Global, shapes: &Shapes) -> Result<Objects, NoMemory>
     let boxes = build_boxes(alloc, all)?;
     let counters = build_counters(alloc, all)?;
     let wide = build_wide(alloc, all)?;
-    Ok(Objects {
-        store: Both::new(boxes, Both::new(counters, wide)),
-    })
+    Objects::new(alloc, Both::new(boxes, Both::new(counters, wide)))
 }
 
 fn build_wide(alloc: Global, shapes: &[Shape]) -> Result<Wide, NoMemory>

@@ -1,25 +1,16 @@
-use Rattle.std.proofs.Common.{◌≡◌, ap, ◌∙◌}
+use Rattle.std.proofs.Common.{◌≡◌, refl}
 use Rattle.std.proofs.lemmas.Result.{IfOk-weaker}
-use Rattle.sto_lang.specs.Objects.{shapes_of}
-use Rattle.sto_lang.specs.declared.file.File as whole
-use Rattle.sto_lang.specs.Views.{file as view}
-use Rattle.sto_store.specs.Stores.{means}
-use Rattle.sto_run.proofs.Stored.{stored_means, stored_takes}
-use Rattle.sto_run.proofs.Meant.{lawful_meant}
-use Rattle.sto_run.proofs.Taken.{taken_in}
+use Rattle.sto_run.proofs.RunJournals.{lawful_run}
 use Rattle.sto_run.proofs.feed.feed_file.Goals as goal
 
-pub feed_over-requires-clause-taken : goal.feed_over-requires-clause-taken
-feed_over-requires-clause-taken g c = λ κs within.
-    let s = c.in_ok-stored.stored in
-    taken_in _ _ _ c.in_ok-stored.ensures.file
-    record {
-      weighed = λ place script at. (s.runnable place script at).weighed;
-      takes = stored_takes s;
-    }
+pub feed_threads-requires-clause-ty : goal.feed_threads-requires-clause-ty
+feed_threads-requires-clause-ty g c = λ κs within. (refl, c.in_ok-run.ensures.opened)
+
+pub feed_threads-requires-clause-few : goal.feed_threads-requires-clause-few
+feed_threads-requires-clause-few g c = λ κs within. c.in_ok-run.ensures.few
 
 pub returns-clause-lawful : goal.returns-clause-lawful
 returns-clause-lawful g c =
-    let s = c.in_ok-stored.stored in
-    let same = stored_means s ∙ ap (λ (f : whole.File). means (shapes_of (view f).declarations)) c.in_ok-stored.ensures.file in
-    IfOk-weaker c.feed_over.result _ _ (λ j h. lawful_meant _ means (view c.args.file.now) c.args.tries j same h) c.feed_over.ensures.lawful
+    IfOk-weaker c.journal.result _ _
+    (λ j h. lawful_run c.in_ok-stored.stored c.in_ok-run.run.work.ty.now c.in_ok-run.run.work.file.now c.args.file.now _ c.args.tries j c.in_ok-stored.ensures.file c.in_ok-run.ensures.of h)
+    c.journal.ensures.lawful

@@ -1,25 +1,28 @@
-use Rattle.std.proofs.Common.{◌≡◌, ap, ◌∙◌}
+use Rattle.std.proofs.Common.{◌≡◌, ◌≤◌, length, refl, sym, subst}
 use Rattle.std.proofs.lemmas.Result.{IfOk-weaker}
-use Rattle.sto_lang.specs.Objects.{shapes_of}
 use Rattle.sto_lang.specs.declared.file.File as whole
 use Rattle.sto_lang.specs.Views.{file as view}
-use Rattle.sto_store.specs.Stores.{means}
-use Rattle.sto_run.proofs.Stored.{stored_means, stored_takes}
-use Rattle.sto_run.proofs.Meant.{lawful_meant}
-use Rattle.sto_run.proofs.Taken.{taken_in}
+use Rattle.sto_run.proofs.Draws.{few_threads}
+use Rattle.sto_run.proofs.RunJournals.{lawful_run}
 use Rattle.sto_run.proofs.step.step_file.Goals as goal
 
-pub step_over-requires-clause-taken : goal.step_over-requires-clause-taken
-step_over-requires-clause-taken c =
-    let s = c.in_ok-stored.stored in
-    taken_in _ _ _ c.in_ok-stored.ensures.file
-    record {
-      weighed = λ place script at. (s.runnable place script at).weighed;
-      takes = stored_takes s;
-    }
+pub step_threads-requires-clause-ty : goal.step_threads-requires-clause-ty
+step_threads-requires-clause-ty c = (refl, c.in_ok-run.ensures.opened)
+
+pub step_threads-requires-clause-few : goal.step_threads-requires-clause-few
+step_threads-requires-clause-few c = c.in_ok-run.ensures.few
+
+pub step_threads-requires-clause-threads : goal.step_threads-requires-clause-threads
+step_threads-requires-clause-threads c = few_threads (view c.in_ok-run.run.work.file.now) c.in_ok-run.ensures.sound
+
+pub turns_of-requires : goal.turns_of-requires
+turns_of-requires c = c.in_ok-run.ensures.sound.scheduled
+
+pub returns-clause-alone : goal.returns-clause-alone
+returns-clause-alone c = λ few. c.journal.ensures.alone (c.in_ok-finished.ensures.alone (subst (λ (f : whole.File). length (view f).threads ≤ 1) (sym c.in_ok-run.ensures.of.0) few))
 
 pub returns-clause-lawful : goal.returns-clause-lawful
 returns-clause-lawful c =
-    let s = c.in_ok-stored.stored in
-    let same = stored_means s ∙ ap (λ (f : whole.File). means (shapes_of (view f).declarations)) c.in_ok-stored.ensures.file in
-    IfOk-weaker c.step_over.result _ _ (λ j h. lawful_meant _ means (view c.args.file.now) c.args.tries j same h) c.step_over.ensures.lawful
+    IfOk-weaker c.journal.result _ _
+    (λ j h. lawful_run c.in_ok-stored.stored c.in_ok-run.run.work.ty.now c.in_ok-run.run.work.file.now c.args.file.now _ c.args.tries j c.in_ok-stored.ensures.file c.in_ok-run.ensures.of h)
+    c.journal.ensures.lawful

@@ -14,7 +14,7 @@ loop-place-init g c = record { at = c.requires.none }
 pub send-requires-clause-of : goal.send-requires-clause-of
 send-requires-clause-of g c =
     let queues = c.args.queues.now in let ps = c.args.order.now in let i : ℕ = c.loop-place.place-index in let low = c.loop-place-test.true in
-    let place : code.Place = slice_index_or ps i (record { thread = 0; position = 0 }) in
+    let place : code.TransactionPlace = slice_index_or ps i (record { thread = 0; position = 0 }) in
     let is = get_or_default ps i (record { thread = 0; position = 0 }) place low in
     let number = c.queue_of-number.result in let goes = c.queue_of-number.ensures.is in let within = c.queue_of-number.ensures.within in
     let q = c.index-queues-number.result in let p = c.index_mut.result.now in
@@ -25,7 +25,7 @@ send-requires-clause-of g c =
 pub send-requires-clause-next : goal.send-requires-clause-next
 send-requires-clause-next g c =
     let queues = c.args.queues.now in let ps = c.args.order.now in let i : ℕ = c.loop-place.place-index in let low = c.loop-place-test.true in
-    let place : code.Place = slice_index_or ps i (record { thread = 0; position = 0 }) in
+    let place : code.TransactionPlace = slice_index_or ps i (record { thread = 0; position = 0 }) in
     let is = get_or_default ps i (record { thread = 0; position = 0 }) place low in
     let number = c.queue_of-number.result in let goes = c.queue_of-number.ensures.is in let within = c.queue_of-number.ensures.within in
     let q = c.index-queues-number.result in let p = c.index_mut.result.now in
@@ -36,7 +36,7 @@ send-requires-clause-next g c =
 pub loop-place-preserved : goal.loop-place-preserved
 loop-place-preserved g c =
     let queues = c.args.queues.now in let ps = c.args.order.now in let i : ℕ = c.loop-place.place-index in let low = c.loop-place-test.true in
-    let place : code.Place = slice_index_or ps i (record { thread = 0; position = 0 }) in
+    let place : code.TransactionPlace = slice_index_or ps i (record { thread = 0; position = 0 }) in
     let is = get_or_default ps i (record { thread = 0; position = 0 }) place low in
     let number = c.queue_of-number.result in let goes = c.queue_of-number.ensures.is in let within = c.queue_of-number.ensures.within in
     let q = c.index-queues-number.result in let p = c.index_mut.result.now in

@@ -10,16 +10,16 @@ pub loop-thread-preserved : goal.loop-thread-preserved
 loop-thread-preserved g c =
     let count : ℕ → ℕ = count_in (g.W.Work.file c.args.work.now).threads in
     let first = c.args.order.now.items in let items = c.loop-thread.order.items in let thread = c.loop-thread.thread in
-    let p : code.Place = record { thread = thread; position = c.args.position } in
+    let p : code.TransactionPlace = record { thread = thread; position = c.args.position } in
     elim c.if-position-count.branch [
       | then-position-count+in-Ok w ↦
           (let more : c.if-position-count.order.items ≡ items ++ p ∷ [] = ap (λ v. v.items) w.order-is ∙ w.in-Ok.ensures.items in
           let low = w.if-position-count.true in let is = c.count.ensures in
-          record { come = subst (λ (l : List code.Place). HasCome first l c.args.position (thread + 1) count) (sym more) (round_adds first items p count c.loop-thread.invariant.come (omega (arith, low, is))) })
+          record { come = subst (λ (l : List code.TransactionPlace). HasCome first l c.args.position (thread + 1) count) (sym more) (round_adds first items p count c.loop-thread.invariant.come (omega (arith, low, is))) })
       | else-position-count w ↦
           (let same : c.if-position-count.order.items ≡ items = ap (λ v. v.items) w.order-is in
           let past = w.if-position-count.false in let is = c.count.ensures in
-          record { come = subst (λ (l : List code.Place). HasCome first l c.args.position (thread + 1) count) (sym same) (round_passes first items c.args.position thread count c.loop-thread.invariant.come (omega (arith, past, is))) })
+          record { come = subst (λ (l : List code.TransactionPlace). HasCome first l c.args.position (thread + 1) count) (sym same) (round_passes first items c.args.position thread count c.loop-thread.invariant.come (omega (arith, past, is))) })
     ]
 
 pub returns-clause-each : goal.returns-clause-each

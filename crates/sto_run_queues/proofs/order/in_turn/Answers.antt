@@ -11,6 +11,6 @@ loop-earlier-preserved g c =
     let earlier = c.loop-earlier.earlier in
     record {
       rising = c.in_ok-add_round.ensures.rising;
-      before = All-weaker (λ (p : code.Place). p.position ≤ earlier + 1) (λ (p : code.Place). p.position < earlier + 1 + 1) (λ p l. omega (arith, l)) c.add_round.new.order.items c.in_ok-add_round.ensures.later;
+      before = All-weaker (λ (p : code.TransactionPlace). p.position ≤ earlier + 1) (λ (p : code.TransactionPlace). p.position < earlier + 1 + 1) (λ p l. omega (arith, l)) c.add_round.new.order.items c.in_ok-add_round.ensures.later;
       each = λ u. c.in_ok-add_round.ensures.each u ∙ ap (λ (l : List ℕ). l ++ one_at (earlier + 1) (count u)) (c.loop-earlier.invariant.each u) ∙ next_position (count u) earlier;
     }

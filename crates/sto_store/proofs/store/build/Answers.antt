@@ -1,4 +1,5 @@
 use Rattle.std.proofs.Common.{◌≡◌, ◌<◌, ◌≤◌, ◌+◌, ◌^◌, ℕ, List, ap, sym, ◌∙◌, arith, subst, [], ◌∷◌, ◌++◌, map, length, length-append}
+use Rattle.std.proofs.lemmas.Result.{IfOk-weaker}
 use Rattle.sto_model.specs.declared.shape.Shape.{Shape}
 use Rattle.sto_model.specs.declared.shape.Shape.TheVariants.{Single, Counter, Array, Hash, Tree, Vector}
 use Rattle.sto_part.specs.Codes.{IsSignedCode}
@@ -14,6 +15,7 @@ use Rattle.sto_vector.specs.VectoredLaw.{vector_lawful}
 use Rattle.sto_store.specs.Stores.{of_kind, mean_of, means, AreKinds, AreWide}
 use Rattle.sto_store.specs.StoresLaw.{means_is, takes_all}
 use Rattle.sto_store.proofs.Built.{sum_kinds, kind_objects, kind_widths, wide_objects, wide_widths, whole_widths, same_parts, means_lawful, kind_lawful}
+use Rattle.sto_objects.specs.declared.objects.Objects.{Objects}
 use Rattle.sto_objects.specs.declared.wide.Wide.{Wide}
 use Rattle.sto_store.proofs.store.build.Goals as goal
 
@@ -21,6 +23,16 @@ use Rattle.sto_store.proofs.store.build.Goals as goal
 abbrev AreOf : List Shape → Wide → Type 0
 AreOf ss w =
     AreWide (map (λ x. Array x.len x.first) w.kinds.first) (map (λ x. Hash x.buckets x.places) w.kinds.second.first) (map (λ x. Tree x.leaves) w.kinds.second.second.first) (map (λ x. Vector x.capacity) w.kinds.second.second.second) ss
+
+-- the objects of a store are of these shapes where its kinds are
+kinds_are :
+    (o : Objects) (ss shapes : List Shape) → ss ≡ shapes → map (λ x. Single x.first) o.store.first ≡ of_kind 0 ss → map (λ x. Counter x.first) o.store.second.first ≡ of_kind 1 ss → AreOf ss o.store.second.second
+    → AreKinds (map (λ x. Single x.first) o.store.first) (map (λ x. Counter x.first) o.store.second.first) (map (λ x. Array x.len x.first) o.store.second.second.kinds.first) (map (λ x. Hash x.buckets x.places) o.store.second.second.kinds.second.first) (map (λ x. Tree x.leaves) o.store.second.second.kinds.second.second.first) (map (λ x. Vector x.capacity) o.store.second.second.kinds.second.second.second) shapes
+kinds_are o ss shapes same boxes counters wide = record {
+  boxes_are = boxes ∙ ap (of_kind 0) same;
+  counters_are = counters ∙ ap (of_kind 1) same;
+  wide = subst (λ (t : List Shape). AreOf t o.store.second.second) same wide;
+}
 
 pub build_boxes-requires-clause-parts : goal.build_boxes-requires-clause-parts
 build_boxes-requires-clause-parts c = omega (arith, whole_widths c.as_slice-all.result.now (same_parts c.as_slice-all.result.now c.args.shapes.now.items c.as_slice-all.ensures.items c.requires.parts))
@@ -74,7 +86,7 @@ returns-clause-lawful c =
     let ss = c.as_slice-all.result.now in
     let bounds : (1 ≤ 1) × (1 ≤ 2) = (omega arith, omega arith) in
     let wide = c.in_ok-wide.ensures in
-    subst (λ t. IsLawful (means t)) c.as_slice-all.ensures.items
+    let law = subst (λ (t : List Shape). IsLawful (means t)) c.as_slice-all.ensures.items
     (means_lawful ss
     (kind_lawful 0 ss (λ x. Single x.first) c.in_ok-boxes.boxes c.in_ok-boxes.ensures
     (all_lawful (λ x. mean_of (Single x.first)) (λ x. box_lawful 1 IsSignedCode (x.first ∷ []) bounds (box_opened 1 IsSignedCode x.first x.second bounds x.first_fits x.second_fits x.code)) c.in_ok-boxes.boxes))
@@ -87,18 +99,31 @@ returns-clause-lawful c =
     (kind_lawful 4 ss (λ x. Tree x.leaves) c.in_ok-wide.wide.kinds.second.second.first wide.sized.trees_are
     (all_lawful (λ x. mean_of (Tree x.leaves)) (λ x. tree_is_lawful x.leaves x.some x.few) c.in_ok-wide.wide.kinds.second.second.first))
     (kind_lawful 5 ss (λ x. Vector x.capacity) c.in_ok-wide.wide.kinds.second.second.second wide.sized.vectors_are
-    (all_lawful (λ x. mean_of (Vector x.capacity)) (λ x. vector_lawful x.capacity x.few) c.in_ok-wide.wide.kinds.second.second.second)))
+    (all_lawful (λ x. mean_of (Vector x.capacity)) (λ x. vector_lawful x.capacity x.few) c.in_ok-wide.wide.kinds.second.second.second))) in
+    IfOk-weaker c.new-3.result (λ o. o.store ≡ c.new-2.result) _ (λ o e. law) c.new-3.ensures
 
 pub returns-clause-takes : goal.returns-clause-takes
-returns-clause-takes c = λ order call t f.
+returns-clause-takes c = IfOk-weaker c.new-3.result (λ o. o.store ≡ c.new-2.result) _
+    (λ o e order call t f.
     let shapes = c.args.shapes.now.items in
-    let same = c.as_slice-all.ensures.items in
-    let s = c.new-2.result in
-    let kinds : AreKinds (map (λ x. Single x.first) s.first) (map (λ x. Counter x.first) s.second.first) (map (λ x. Array x.len x.first) s.second.second.kinds.first) (map (λ x. Hash x.buckets x.places) s.second.second.kinds.second.first) (map (λ x. Tree x.leaves) s.second.second.kinds.second.second.first) (map (λ x. Vector x.capacity) s.second.second.kinds.second.second.second) shapes =
-    record {
-      boxes_are = ap (map (λ x. Single x.first)) c.new-2.ensures.first ∙ c.in_ok-boxes.ensures ∙ ap (of_kind 0) same;
-      counters_are = ap (map (λ x. Counter x.first)) (ap (λ b. b.first) c.new-2.ensures.second ∙ c.new.ensures.first) ∙ c.in_ok-counters.ensures ∙ ap (of_kind 1) same;
-      wide = subst (AreOf shapes) (sym (ap (λ b. b.second) c.new-2.ensures.second ∙ c.new.ensures.second)) (subst (λ (t : List Shape). AreOf t c.in_ok-wide.wide) same c.in_ok-wide.ensures);
-    } in
+    let s = o.store in
+    let first = ap (λ b. b.first) e ∙ c.new-2.ensures.first in
+    let second = ap (λ b. b.second) e ∙ c.new-2.ensures.second in
+    let kinds = kinds_are o c.as_slice-all.result.now shapes c.as_slice-all.ensures.items
+    (ap (map (λ x. Single x.first)) first ∙ c.in_ok-boxes.ensures)
+    (ap (map (λ x. Counter x.first)) (ap (λ b. b.first) second ∙ c.new.ensures.first) ∙ c.in_ok-counters.ensures)
+    (subst (AreOf c.as_slice-all.result.now) (sym (ap (λ b. b.second) second ∙ c.new.ensures.second)) c.in_ok-wide.ensures) in
     let is = means_is (λ x. Single x.first) (λ x. Counter x.first) (λ x. Array x.len x.first) (λ x. Hash x.buckets x.places) (λ x. Tree x.leaves) (λ x. Vector x.capacity) s.first s.second.first s.second.second.kinds.first s.second.second.kinds.second.first s.second.second.kinds.second.second.first s.second.second.kinds.second.second.second shapes kinds in
-    subst (λ m. m.takes call) (sym is) ((takes_all shapes order).takes call t f)
+    subst (λ m. m.takes call) (sym is) ((takes_all shapes order).takes call t f))
+    c.new-3.ensures
+
+pub returns-clause-kinds : goal.returns-clause-kinds
+returns-clause-kinds c = IfOk-weaker c.new-3.result (λ o. o.store ≡ c.new-2.result) _
+    (λ o e.
+    let first = ap (λ b. b.first) e ∙ c.new-2.ensures.first in
+    let second = ap (λ b. b.second) e ∙ c.new-2.ensures.second in
+    kinds_are o c.as_slice-all.result.now c.args.shapes.now.items c.as_slice-all.ensures.items
+    (ap (map (λ x. Single x.first)) first ∙ c.in_ok-boxes.ensures)
+    (ap (map (λ x. Counter x.first)) (ap (λ b. b.first) second ∙ c.new.ensures.first) ∙ c.in_ok-counters.ensures)
+    (subst (AreOf c.as_slice-all.result.now) (sym (ap (λ b. b.second) second ∙ c.new.ensures.second)) c.in_ok-wide.ensures))
+    c.new-3.ensures

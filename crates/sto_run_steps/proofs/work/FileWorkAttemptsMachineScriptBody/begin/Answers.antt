@@ -10,7 +10,7 @@ use Rattle.sto_run_threads.proofs.Places.{at_place, position_above}
 use Rattle.sto_run_steps.specs.Proceeding.{script_left}
 use Rattle.sto_run_steps.proofs.Counting.{bound_more, at_most}
 use Rattle.sto_run_steps.proofs.Weights.{weighs_within}
-use Rattle.sto_run_steps.proofs.work.FileWorkAttemptsTrialScriptBody.begin.Goals as goal
+use Rattle.sto_run_steps.proofs.work.FileWorkAttemptsMachineScriptBody.begin.Goals as goal
 
 pub new-requires : goal.new-requires
 new-requires g c =
