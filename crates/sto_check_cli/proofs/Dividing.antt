@@ -1,5 +1,5 @@
 -- Lines that are looked through for a line `report`.
-use Rattle.std.proofs.Common.{◌≡◌, ℕ, ◌+◌, ◌<◌, ◌≤◌, List, [], ◌∷◌, ◌++◌, length, take, drop, refl, sym, ap, ◌∙◌, append_assoc, append-nil, arith, Bool, true, false, cond, ◌||◌, ◌==◌, length-append, length-drop}
+use Rattle.std.proofs.Common.{◌≡◌, ℕ, ◌+◌, ◌<◌, ◌≤◌, List, [], ◌∷◌, ◌++◌, length, take, drop, refl, sym, ap, ◌∙◌, append_assoc, append-nil, arith, Bool, true, false, cond, ◌||◌, length-append, length-drop}
 use Rattle.std.specs.List.{list_any, concat}
 use Rattle.std.proofs.lemmas.List.{drop-drop}
 use Rattle.std.proofs.Math.Seq.{take-add, drop-append_seam, take-append_seam}
@@ -30,9 +30,6 @@ pub record IsPassed (bytes : List ℕ) (before : ℕ) (rest : List ℕ) : Type 0
   pub behind : report_in bytes ≡ report_in rest
   pub left : drop before bytes ≡ rest
   pub within : before ≤ length bytes
-
-pub passed_none : (bytes : List ℕ) → IsPassed bytes 0 bytes
-passed_none bytes = record { any = refl; script = refl; behind = refl; left = refl; within = omega arith }
 
 module _ (bytes : List ℕ) (before : ℕ) (rest line more : List ℕ) (h : IsPassed bytes before rest) (e : lines_of rest ≡ line ∷ lines_of more) where
   rest_is : rest ≡ line ++ more
@@ -72,7 +69,3 @@ module _ (bytes : List ℕ) (before : ℕ) (rest line more : List ℕ) (h : IsPa
 
   pub found_less : length more < length rest → length more < length bytes
   found_less less = omega (arith, count, less)
-
--- where no line is left, none is `report`
-pub passed_all : (bytes : List ℕ) (before : ℕ) (rest : List ℕ) → IsPassed bytes before rest → lines_of rest ≡ [] → has_report bytes ≡ false
-passed_all bytes before rest h e = h.any ∙ ap (list_any is_report_line) e

@@ -1,7 +1,6 @@
 -- What is said of a report, and why nothing is.
 use Rattle.std.specs.Prelude.{◌≡◌, ℕ, List, Ok, Err}
 use Rattle.sto_lang.specs.Scripts.{File}
-use Rattle.sto_lang.specs.Files.{file_of}
 use Rattle.sto_report_checker.specs.Updated.{Updating}
 use Rattle.sto_report_checker.specs.Lawful.{IsLawful}
 use Rattle.sto_report_lines.specs.declared.found.Found.{Found}
@@ -9,9 +8,9 @@ use Rattle.sto_report_lines.specs.declared.found.Found.TheVariants.{Lawful}
 use Rattle.sto_report_lines.specs.Answer.{IsFound}
 use Rattle.sto_report_lines.specs.Exact.{IsRightReport, UpdatesWritten}
 use Rattle.sto_check_cli.specs.Inputs.{Input, input_of}
-use Rattle.sto_check_cli.specs.Inputs as inputs
-use Rattle.sto_check_cli.specs.declared.refusal.Refusal.{Refusal}
-use Rattle.sto_check_cli.specs.declared.refusal.Refusal.TheVariants.{Usage, Script, NoReport, ReadFault, WriteFault, NoMemory}
+use Rattle.sto_cli_common.specs.declared.refusal.Refusal.{Refusal}
+use Rattle.sto_cli_common.specs.declared.refusal.Refusal.TheVariants.{Usage, ReadFault, WriteFault, NoMemory}
+use Rattle.sto_cli_common.specs.declared.refusal.Refusal.TheVariants as refusals
 
 -- the answer for a report, which no other is; each text that is lawful by what some types say of updates is found so, where
 -- these update only objects that were written; and what is found so is the report of an order of the file
@@ -27,20 +26,10 @@ pub record IsFoundIn (tries : ℕ) (bytes : List ℕ) (found : Found) : Type 0 w
   pub reads : input_of bytes ≡ Ok input
   pub judged : IsJudged input.file tries input.report found
 
--- why bytes are no file: the fault that is told is theirs; want of memory may come at any time
-abbrev pub IsFileFault : Refusal → List ℕ → Type 0
-IsFileFault (Script fault) script = file_of script ≡ Err fault
-IsFileFault NoMemory script = Unit {0}
-IsFileFault NoReport script = ⊥
-IsFileFault Usage script = ⊥
-IsFileFault ReadFault script = ⊥
-IsFileFault WriteFault script = ⊥
-
--- the same of what was read
-abbrev pub IsInputFault : Refusal → List ℕ → Type 0
-IsInputFault (Script fault) bytes = input_of bytes ≡ Err (inputs.Script fault)
-IsInputFault NoReport bytes = input_of bytes ≡ Err inputs.NoReport
-IsInputFault NoMemory bytes = Unit {0}
-IsInputFault Usage bytes = ⊥
-IsInputFault ReadFault bytes = ⊥
-IsInputFault WriteFault bytes = ⊥
+-- why nothing was found of what was read: the fault that is told is its own, and want of memory may come at any time
+abbrev pub IsInputRefusal : Refusal → List ℕ → Type 0
+IsInputRefusal (refusals.Input fault) bytes = input_of bytes ≡ Err fault
+IsInputRefusal NoMemory bytes = Unit {0}
+IsInputRefusal Usage bytes = ⊥
+IsInputRefusal ReadFault bytes = ⊥
+IsInputRefusal WriteFault bytes = ⊥

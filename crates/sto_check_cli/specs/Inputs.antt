@@ -7,6 +7,8 @@ use Rattle.sto_lang.specs.Files.{file_of}
 use Rattle.sto_lang.specs.declared.fault.ScriptFault.{ScriptFault}
 use Rattle.sto_lang.specs.declared.fault.FaultKind.TheVariants.{TooLarge}
 use Rattle.sto_report_lines.specs.Lines.{lines_of}
+use Rattle.sto_cli_common.specs.declared.refusal.InputFault.{InputFault}
+use Rattle.sto_cli_common.specs.declared.refusal.InputFault.TheVariants.{Script, NoReport}
 
 -- a line of exactly these six bytes; the last line of what is read may lack its line feed
 abbrev pub is_report_line : List ℕ → Bool
@@ -35,11 +37,6 @@ report_in bytes = concat (lines_behind (lines_of bytes))
 pub record Input : Type 0 where
   pub file : File
   pub report : List ℕ
-
--- what is wrong with what is read: the script has a fault, which is also that of too many bytes; or no line is `report`
-pub data InputFault : Type 0 where
-  Script : (fault : ScriptFault) → InputFault
-  NoReport : InputFault
 
 abbrev pub with_report : List ℕ → Result File ScriptFault → Result Input InputFault
 with_report report (Ok file) = Ok (record { file = file; report = report })

@@ -1,10 +1,12 @@
 pub mod Inputs
 pub mod Answers
-pub mod Ends
-pub mod Statuses
-pub mod Words
+pub mod Programs
+pub mod Findings
 pub use Rattle.sto_lang.specs.Files
 pub use Rattle.sto_lang.specs.Views
 pub use Rattle.sto_args.specs.Asked
 pub use Rattle.sto_io.specs.Told
 pub use Rattle.sto_cli_common.specs.Said
+pub use Rattle.sto_cli_common.specs.Statuses
+pub use Rattle.sto_cli_common.specs.Ends
+pub use Rattle.sto_cli_common.specs.Outcomes

@@ -3,13 +3,12 @@
 
 mod divide;
 mod judge;
-mod refusal;
-mod say;
+mod line;
 mod top;
 mod work;
 
-pub use sto_cli_common::{WordsFault, words_of};
+pub use sto_cli_common::{WordsFault, refuse_words, words_of};
 pub use sto_io::{
     Failed, MemSink, MemSource, QuietSink, QuietSource, Sink, Source, StdSink, StdSource,
 };
-pub use top::{check, refuse_words};
+pub use top::check;

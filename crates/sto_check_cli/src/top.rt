@@ -1,33 +1,29 @@
 //! The top call.
-ghost use Rattle.std.specs.Prelude.{◌≡◌, ◌≢◌, ◌⊎◌, None, Ok, Err};
+ghost use Rattle.std.specs.Prelude.{◌≡◌, ◌≢◌, ◌⊎◌, None};
 ghost use Rattle.sto_io.specs.Told.{Rose};
-ghost use Rattle.sto_cli_common.specs.Said.{Says};
 ghost use Rattle.sto_args.specs.Asked.{checking_in};
 ghost use Rattle.sto_report_lines.specs.declared.found.Found.TheVariants as found;
-ghost use Rattle.sto_check_cli.specs.Inputs.{InputFault};
-ghost use Rattle.sto_check_cli.specs.Ends.{Ends};
-ghost use Rattle.sto_check_cli.specs.Words.{refusal_of};
-ghost use Rattle.sto_check_cli.specs.Statuses.{status_of, line_of, EndsWith, IsDone, IsWrong, IsFaulty, IsStopped, IsFaultless, IsToldFault, IsToldFound};
+ghost use Rattle.sto_cli_common.specs.declared.refusal.InputFault.{InputFault};
+ghost use Rattle.sto_cli_common.specs.Said.{Says};
+ghost use Rattle.sto_cli_common.specs.Statuses.{status_of, line_of, EndsWith};
+ghost use Rattle.sto_cli_common.specs.Ends.{Ends};
+ghost use Rattle.sto_cli_common.specs.Outcomes.{IsDone, IsFaulty, IsStopped, IsFaultless, IsToldFault};
+ghost use Rattle.sto_check_cli.specs.Programs.{program, found_status};
+ghost use Rattle.sto_check_cli.specs.Findings.{IsWrong, IsToldFound};
 
-use crate::refusal::Refusal;
-use crate::say::say;
 use crate::work::perform;
 use std::alloc::Global;
-use sto_cli_common::WordsFault;
+use sto_cli_common::{Refusal, say};
 use sto_io::{Sink, Source};
 use sto_report_checker::Found;
 
 fn status(outcome: Result<Found, Refusal>) -> u8
-    ensures { result ≡ status_of outcome }
+    ensures { result ≡ status_of found_status outcome }
 {
     match outcome {
         Ok(Found::Lawful) => 0,
         Ok(Found::Not { .. }) => 1,
-        Err(Refusal::Usage) => 2,
-        Err(Refusal::Script(_) | Refusal::NoReport) => 3,
-        Err(Refusal::ReadFault) => 4,
-        Err(Refusal::WriteFault) => 5,
-        Err(Refusal::NoMemory) => 6,
+        Err(refusal) => refusal.status(),
     }
 }
 
@@ -52,21 +48,26 @@ pub fn check<S: Source, K: Sink, E: Sink>(
     diag: &mut E,
 ) -> u8
     // One outcome has this status and these effects, and its line is written beside.
-    ensures ends { EndsWith result (λ outcome.
-        Ends outcome (checking_in words.now) (S.left source.old) (S.left source.new) (K.held out.old) (K.held out.new)
+    ensures ends { EndsWith found_status result (λ outcome.
+        Ends program outcome (checking_in words.now) (S.left source.old) (S.left source.new) (K.held out.old) (K.held out.new)
         × Says (line_of outcome) (E.held diag.old) (E.held diag.new) (E.faults diag.old) (E.faults diag.new)) }
-    ensures lawful { result ≡ 0 → IsDone found.Lawful (checking_in words.now) (S.left source.old) (S.left source.new) (K.held out.old) (K.held out.new) }
+    ensures lawful { result ≡ 0
+        → IsDone program found.Lawful (checking_in words.now) (S.left source.old) (S.left source.new) (K.held out.old) (K.held out.new) }
     ensures wrong { result ≡ 1 → IsWrong (checking_in words.now) (S.left source.old) (S.left source.new) (K.held out.old) (K.held out.new) }
     // What is so of the report is what is printed.
     ensures exact { (found : Found) → IsToldFound found (checking_in words.now) (S.left source.old) (S.left source.new)
-        → (Rose (S.faults source.old) (S.faults source.new) → ⊥) → (Rose (K.faults out.old) (K.faults out.new) → ⊥) → (result ≡ status_of (Ok found)) ⊎ (result ≡ 6) }
+        → (Rose (S.faults source.old) (S.faults source.new) → ⊥) → (Rose (K.faults out.old) (K.faults out.new) → ⊥)
+        → (result ≡ found_status found) ⊎ (result ≡ 6) }
     ensures usage { result ≡ 2 → checking_in words.now ≡ None }
     ensures usage_only { checking_in words.now ≡ None → (result ≡ 2) ⊎ (result ≡ 6) }
-    ensures faulty { result ≡ 3 → IsFaulty (checking_in words.now) (S.left source.old) (S.left source.new) }
-    ensures refused { (fault : InputFault) → IsToldFault fault (checking_in words.now) (S.left source.old) (S.left source.new) → (result ≡ 3) ⊎ (result ≡ 4) ⊎ (result ≡ 6) }
-    ensures complete { IsFaultless (checking_in words.now) (S.left source.old) (S.left source.new)
-        → (Rose (S.faults source.old) (S.faults source.new) → ⊥) → (Rose (K.faults out.old) (K.faults out.new) → ⊥) → (result ≡ 0) ⊎ (result ≡ 1) ⊎ (result ≡ 6) }
-    ensures stopped { result ≡ 5 → IsStopped (checking_in words.now) (S.left source.old) (S.left source.new) (K.held out.old) (K.held out.new) }
+    ensures faulty { result ≡ 3 → IsFaulty program (checking_in words.now) (S.left source.old) (S.left source.new) }
+    ensures refused { (fault : InputFault) → IsToldFault program fault (checking_in words.now) (S.left source.old) (S.left source.new)
+        → (result ≡ 3) ⊎ (result ≡ 4) ⊎ (result ≡ 6) }
+    ensures complete { IsFaultless program (checking_in words.now) (S.left source.old) (S.left source.new)
+        → (Rose (S.faults source.old) (S.faults source.new) → ⊥) → (Rose (K.faults out.old) (K.faults out.new) → ⊥)
+        → (result ≡ 0) ⊎ (result ≡ 1) ⊎ (result ≡ 6) }
+    ensures stopped { result ≡ 5
+        → IsStopped program (checking_in words.now) (S.left source.old) (S.left source.new) (K.held out.old) (K.held out.new) }
     ensures unchanged { result ≢ 0 → result ≢ 1 → result ≢ 5 → K.held out.new ≡ K.held out.old }
     ensures read_fault { result ≡ 4 → Rose (S.faults source.old) (S.faults source.new) }
     ensures no_read_fault { result ≢ 4 → S.faults source.new ≡ S.faults source.old }
@@ -75,16 +76,4 @@ pub fn check<S: Source, K: Sink, E: Sink>(
 {
     let outcome = perform(alloc, words, source, out);
     status(say(alloc, diag, outcome))
-}
-
-/// Says beside why the words cannot be read, and gives the exit status: 2 where one of them is not
-/// UTF-8, since such a word is in no grammar, and 6 for want of memory.
-pub fn refuse_words<E: Sink>(alloc: Global, fault: WordsFault, diag: &mut E) -> u8
-    ensures status { result ≡ status_of (Err (refusal_of fault)) }
-    ensures says { Says (line_of (Err (refusal_of fault))) (E.held diag.old) (E.held diag.new) (E.faults diag.old) (E.faults diag.new) }
-{
-    match fault {
-        WordsFault::NotText => status(say(alloc, diag, Err(Refusal::Usage))),
-        WordsFault::NoMemory => status(say(alloc, diag, Err(Refusal::NoMemory))),
-    }
 }

@@ -1,66 +1,38 @@
-//! The order of work: the words, the source, the script, the report, the text, the writing.
-ghost use Rattle.std.specs.Prelude.{◌<◌, ◌≤◌, length, IfOk, IfErr};
-ghost use Rattle.sto_io.specs.Told.{Takes, AtEnd};
+//! The order of work: the words, the source, the script, the report, the line, the writing.
+ghost use Rattle.std.specs.Prelude.{IfOk, IfErr};
 ghost use Rattle.sto_args.specs.Asked.{checking_in, HasTries};
-ghost use Rattle.sto_check_cli.specs.declared.refusal.Refusal.TheVariants.{ReadFault, WriteFault};
-ghost use Rattle.sto_check_cli.specs.Ends.{Checked, IsReadRefusal, Unchecked, Ends, RoseFor, IsWriteRefusal, Written};
+ghost use Rattle.sto_cli_common.specs.declared.refusal.Refusal.TheVariants.{ReadFault, WriteFault};
+ghost use Rattle.sto_cli_common.specs.Ends.{Made, Unmade, Ends, RoseFor};
+ghost use Rattle.sto_check_cli.specs.Programs.{program, text_of};
 
 use crate::judge::found_in;
-use crate::refusal::Refusal;
-use crate::say::text_of;
+use crate::line::text_of;
 use std::alloc::Global;
 use sto_args::{Checking, find_checking};
-use sto_io::{ReadAllError, Sink, Source, read_all, write_all};
-use sto_part::Bytes;
+use sto_cli_common::{Refusal, bytes_left, write_text};
+use sto_io::{Sink, Source};
 use sto_report_checker::Found;
 
-/// Reads the source to its end or past the limit.
-fn bytes_left<S: Source>(alloc: Global, source: &mut S) -> Result<Bytes, Refusal>
-    ensures taken { IfOk result (λ bytes. Takes (S.left source.old) (S.left source.new) bytes.items) }
-    ensures few { IfOk result (λ bytes. length bytes.items ≤ 16777217) }
-    ensures end { IfOk result (λ bytes. length bytes.items < 16777217 → AtEnd (S.left source.new)) }
-    ensures refused { IfErr result IsReadRefusal }
-    ensures source_faults { RoseFor ReadFault result (S.faults source.old) (S.faults source.new) }
-{
-    match read_all(alloc, source, 16_777_217) {
-        Ok(bytes) => Ok(bytes),
-        Err(ReadAllError::Fault) => Err(Refusal::ReadFault),
-        Err(ReadAllError::NoMemory) => Err(Refusal::NoMemory),
-    }
-}
-
-/// Reads the source, and checks the report in it.
+/// Reads the source to its end or past the limit, and checks the report in it.
 fn found_of<S: Source>(alloc: Global, asked: Checking, source: &mut S) -> Result<Found, Refusal>
     requires { HasTries asked }
-    ensures checked { IfOk result (λ found. Checked asked found (S.left source.old) (S.left source.new)) }
-    ensures unchecked { IfErr result (λ e. Unchecked e (S.left source.old) (S.left source.new)) }
+    ensures made { IfOk result (λ found. Made program asked found (S.left source.old) (S.left source.new) (text_of found)) }
+    ensures unmade { IfErr result (λ e. Unmade program e asked (S.left source.old) (S.left source.new)) }
     ensures source_faults { RoseFor ReadFault result (S.faults source.old) (S.faults source.new) }
 {
-    let bytes = bytes_left(alloc, source)?;
+    let bytes = bytes_left(alloc, source, 16_777_217)?;
     found_in(alloc, asked.tries, bytes.as_slice())
 }
 
-/// Writes what was found.
-fn write_found<K: Sink>(alloc: Global, found: Found, out: &mut K) -> Result<(), Refusal>
-    ensures written { Written result found (K.held out.old) (K.held out.new) }
-    ensures out_faults { RoseFor WriteFault result (K.faults out.old) (K.faults out.new) }
-{
-    let text = text_of(alloc, found)?;
-    match write_all(out, text.as_bytes()) {
-        Ok(()) => Ok(()),
-        Err(_) => Err(Refusal::WriteFault),
-    }
-}
-
-#[tactic(auto, using(crate::proofs::Endings::refused_finding, crate::proofs::Endings::refused_writing, crate::proofs::Endings::unwritten, crate::proofs::Endings::unread))]
 /// Does what the words say: checks the report, and writes what was found.
+#[tactic(auto, using(sto_cli_common::proofs::Making::refused_making, sto_cli_common::proofs::Making::refused_writing, sto_cli_common::proofs::Making::unwritten, sto_cli_common::proofs::Making::unread))]
 pub(crate) fn perform<S: Source, K: Sink>(
     alloc: Global,
     words: &[String],
     source: &mut S,
     out: &mut K,
 ) -> Result<Found, Refusal>
-    ensures ends { Ends result (checking_in words.now) (S.left source.old) (S.left source.new) (K.held out.old) (K.held out.new) }
+    ensures ends { Ends program result (checking_in words.now) (S.left source.old) (S.left source.new) (K.held out.old) (K.held out.new) }
     ensures source_faults { RoseFor ReadFault result (S.faults source.old) (S.faults source.new) }
     ensures out_faults { RoseFor WriteFault result (K.faults out.old) (K.faults out.new) }
 {
@@ -68,6 +40,7 @@ pub(crate) fn perform<S: Source, K: Sink>(
         return Err(Refusal::Usage);
     };
     let found = found_of(alloc, asked, source)?;
-    write_found(alloc, found, out)?;
+    let line = text_of(alloc, found)?;
+    write_text(out, line.as_bytes())?;
     Ok(found)
 }

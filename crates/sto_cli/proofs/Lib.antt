@@ -1,3 +1,3 @@
 pub mod Reports
-pub mod Sizes
-pub mod Endings
+pub mod Reading
+pub mod Exclusive

@@ -1,8 +1,5 @@
 pub mod Outputs
-pub mod Answers
-pub mod Ends
-pub mod Statuses
-pub mod Words
+pub mod Programs
 pub use Rattle.sto_store.specs.Stores
 pub use Rattle.sto_lang.specs.Files
 pub use Rattle.sto_lang.specs.Sound
@@ -12,3 +9,6 @@ pub use Rattle.sto_serializability.specs.Meanings
 pub use Rattle.sto_args.specs.Commands
 pub use Rattle.sto_io.specs.Told
 pub use Rattle.sto_cli_common.specs.Said
+pub use Rattle.sto_cli_common.specs.Statuses
+pub use Rattle.sto_cli_common.specs.Ends
+pub use Rattle.sto_cli_common.specs.Outcomes

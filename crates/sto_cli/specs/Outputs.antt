@@ -2,7 +2,8 @@
 use Rattle.std.specs.Prelude.{◌≡◌, ℕ, List, length, Bool, Ok, Err, if◌then◌else◌}
 use Rattle.sto_lang.specs.Files.{file_of}
 use Rattle.sto_lang.specs.Scripts.{File}
-use Rattle.sto_lang.specs.declared.fault.ScriptFault.{ScriptFault}
+use Rattle.sto_cli_common.specs.declared.refusal.InputFault.{InputFault}
+use Rattle.sto_cli_common.specs.declared.refusal.InputFault.TheVariants.{Script, NoReport}
 use Rattle.sto_write.specs.Texts.{text_of, upgraded}
 use Rattle.sto_gen.specs.Generated.{file_of as generated}
 use Rattle.sto_report_spec.specs.declared.form.ReportForm.{ReportForm}
@@ -38,18 +39,15 @@ IsOutput Upgrade bytes text = (file : File) × (file_of bytes ≡ Ok file) × (t
 IsOutput (Gen number) bytes text = text ≡ text_of (generated number)
 IsOutput (Bench number threads) bytes text = IsSummary number text
 
--- the command reads a script
-abbrev pub IsReader : Command → Type 0
-IsReader (Run threads tries json) = Unit {0}
-IsReader (Step tries json) = Unit {0}
-IsReader Upgrade = Unit {0}
-IsReader (Gen number) = ⊥
-IsReader (Bench number threads) = ⊥
+-- the bytes are no script, for this fault
+abbrev pub IsScriptFault : List ℕ → InputFault → Type 0
+IsScriptFault bytes (Script fault) = file_of bytes ≡ Err fault
+IsScriptFault bytes NoReport = ⊥
 
 -- the bytes have this fault
-abbrev pub HasFault : Command → List ℕ → ScriptFault → Type 0
-HasFault (Run threads tries json) bytes fault = file_of bytes ≡ Err fault
-HasFault (Step tries json) bytes fault = file_of bytes ≡ Err fault
-HasFault Upgrade bytes fault = file_of bytes ≡ Err fault
+abbrev pub HasFault : Command → List ℕ → InputFault → Type 0
+HasFault (Run threads tries json) bytes fault = IsScriptFault bytes fault
+HasFault (Step tries json) bytes fault = IsScriptFault bytes fault
+HasFault Upgrade bytes fault = IsScriptFault bytes fault
 HasFault (Gen number) bytes fault = ⊥
 HasFault (Bench number threads) bytes fault = ⊥

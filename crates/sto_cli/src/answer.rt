@@ -1,36 +1,23 @@
 //! The texts of the commands.
-ghost use Rattle.std.specs.Prelude.{◌≡◌, ℕ, [], Option, Ok, IfOk, IfErr};
+ghost use Rattle.std.specs.Prelude.{ℕ, [], IfOk, IfErr};
 ghost use Rattle.sto_args.specs.declared.command.Command.TheVariants as commands;
 ghost use Rattle.sto_args.specs.Commands.{HasThreads};
-ghost use Rattle.sto_lang.specs.Files.{file_of};
 ghost use Rattle.sto_lang.specs.Sound.{IsSound, IsFromTo};
 ghost use Rattle.sto_lang.specs.Views.{file as view};
 ghost use Rattle.sto_report_spec.specs.Lawful.{IsLawfulIn};
 ghost use Rattle.sto_run.specs.Meanings.{updating_by};
 ghost use Rattle.sto_run.specs.Stores.{means};
 ghost use Rattle.sto_run.specs.Lawful.{IsLawfulJournal};
-ghost use Rattle.sto_cli.specs.Outputs.{IsOutput, IsReport, IsSummary, form_for};
-ghost use Rattle.sto_cli.specs.Answers.{IsAnswerFault};
+ghost use Rattle.sto_cli_common.specs.Ends.{IsFileRefusal};
+ghost use Rattle.sto_cli.specs.Outputs.{IsOutput, form_for};
 
-use crate::refusal::Refusal;
 use std::alloc::Global;
 use std::thread::Threads;
+use sto_cli_common::{Refusal, file_in};
 use sto_journal::Journal;
-use sto_lang::{File, ReadError, Text};
+use sto_lang::{File, Text};
 use sto_part::NoMemory;
 use sto_run::{Gate, run_file, step_file};
-
-/// The file that the bytes are. They are refused where they have a fault of a script, which is told, or for want of memory.
-pub fn file_in(alloc: Global, bytes: &[u8]) -> Result<File, Refusal>
-    ensures file { IfOk result (λ f. file_of bytes.now ≡ Ok (view f)) }
-    ensures fault { IfErr result (λ e. IsAnswerFault e bytes.now) }
-{
-    match sto_lang::read(alloc, bytes) {
-        Ok(file) => Ok(file),
-        Err(ReadError::Fault(fault)) => Err(Refusal::Script(fault)),
-        Err(ReadError::NoMemory) => Err(Refusal::NoMemory),
-    }
-}
 
 /// The report of a lawful journal of a file, as a text or as one line of JSON. It is lawful for each number of tries for which
 /// the journal is.
@@ -70,7 +57,7 @@ pub(crate) fn run_text<R: Threads + Sync, G: Gate>(
     requires threads { HasThreads threads }
     requires tries { IsFromTo 1 64 tries }
     ensures text { IfOk result (λ text. IsOutput (commands.Run threads tries json) bytes.now text.items) }
-    ensures fault { IfErr result (λ e. IsAnswerFault e bytes.now) }
+    ensures fault { IfErr result (λ e. IsFileRefusal e bytes.now) }
 {
     let file = file_in(alloc, bytes)?;
     let journal = run_file(rt, alloc, &file, workers_for(&file, threads), tries, gate)?;
@@ -86,7 +73,7 @@ pub(crate) fn step_text(
 ) -> Result<Text, Refusal>
     requires { IsFromTo 1 64 tries }
     ensures text { IfOk result (λ text. IsOutput (commands.Step tries json) bytes.now text.items) }
-    ensures fault { IfErr result (λ e. IsAnswerFault e bytes.now) }
+    ensures fault { IfErr result (λ e. IsFileRefusal e bytes.now) }
 {
     let file = file_in(alloc, bytes)?;
     let journal = step_file(alloc, &file, tries)?;
@@ -96,7 +83,7 @@ pub(crate) fn step_text(
 /// What `upgrade` prints for these bytes.
 pub(crate) fn upgrade_text(alloc: Global, bytes: &[u8]) -> Result<Text, Refusal>
     ensures text { IfOk result (λ text. IsOutput commands.Upgrade bytes.now text.items) }
-    ensures fault { IfErr result (λ e. IsAnswerFault e bytes.now) }
+    ensures fault { IfErr result (λ e. IsFileRefusal e bytes.now) }
 {
     let mut file = file_in(alloc, bytes)?;
     file.version = 2;

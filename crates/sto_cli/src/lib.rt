@@ -1,22 +1,17 @@
 //! The program: its words, its source and its sinks, and all that a call of it does.
 //!
-//! The steps of such a call are public, for a program that takes the same ones but runs its script in another way: [`bytes_left`],
-//! [`file_in`], [`workers_for`], [`report`], [`write_text`], [`say`] and [`status`].
+//! What it shares with the other programs is in `sto_cli_common`. [`workers_for`] and [`report`] are public, for a program that runs
+//! its script in another way.
 #![tactic(auto)]
 
 mod answer;
-mod beside;
-mod refusal;
 mod top;
 mod work;
 
-pub use answer::{file_in, report, workers_for};
-pub use beside::say;
-pub use refusal::Refusal;
-pub use sto_cli_common::{WordsFault, words_of};
+pub use answer::{report, workers_for};
+pub use sto_cli_common::{WordsFault, refuse_words, words_of};
 pub use sto_io::{
     Failed, MemSink, MemSource, QuietSink, QuietSource, Sink, Source, StdSink, StdSource,
 };
 pub use sto_run::{Gate, NoGate};
-pub use top::{refuse_words, status, sto};
-pub use work::{bytes_left, write_text};
+pub use top::sto;

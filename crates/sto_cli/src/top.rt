@@ -1,35 +1,20 @@
 //! The top call.
-ghost use Rattle.std.specs.Prelude.{◌≡◌, ◌≢◌, ◌⊎◌, None, Err};
+ghost use Rattle.std.specs.Prelude.{◌≡◌, ◌≢◌, ◌⊎◌, None};
 ghost use Rattle.sto_io.specs.Told.{Rose};
-ghost use Rattle.sto_cli_common.specs.Said.{Says};
 ghost use Rattle.sto_args.specs.Commands.{command_in};
-ghost use Rattle.sto_cli.specs.Ends.{Ends};
-ghost use Rattle.sto_cli.specs.Words.{refusal_of};
-ghost use Rattle.sto_lang.specs.declared.fault.ScriptFault.{ScriptFault};
-ghost use Rattle.sto_cli.specs.Statuses.{status_of, line_of, EndsWith, IsDone, IsFaulty, IsStopped, IsFaultless, IsToldFault};
+ghost use Rattle.sto_cli_common.specs.declared.refusal.InputFault.{InputFault};
+ghost use Rattle.sto_cli_common.specs.Said.{Says};
+ghost use Rattle.sto_cli_common.specs.Statuses.{line_of, done_status, EndsWith};
+ghost use Rattle.sto_cli_common.specs.Ends.{Ends};
+ghost use Rattle.sto_cli_common.specs.Outcomes.{IsDone, IsFaulty, IsStopped, IsFaultless, IsToldFault};
+ghost use Rattle.sto_cli.specs.Programs.{program};
 
-use crate::beside::say;
-use crate::refusal::Refusal;
 use crate::work::perform;
 use std::alloc::Global;
 use std::thread::Threads;
-use sto_cli_common::WordsFault;
+use sto_cli_common::{say, status};
 use sto_io::{Sink, Source};
 use sto_run::Gate;
-
-/// The exit status of a call that ended so.
-pub fn status(outcome: Result<(), Refusal>) -> u8
-    ensures { result ≡ status_of outcome }
-{
-    match outcome {
-        Ok(()) => 0,
-        Err(Refusal::Usage) => 2,
-        Err(Refusal::Script(_)) => 3,
-        Err(Refusal::ReadFault) => 4,
-        Err(Refusal::WriteFault) => 5,
-        Err(Refusal::NoMemory) => 6,
-    }
-}
 
 /// All that the program does with the words after its name. It gives the exit status.
 ///
@@ -51,18 +36,22 @@ pub fn sto<R: Threads + Sync, S: Source, K: Sink, E: Sink, G: Gate>(
     gate: &G,
 ) -> u8
     // One outcome has this status and these effects, and its line is written beside.
-    ensures ends { EndsWith result (λ outcome.
-        Ends outcome (command_in words.now) (S.left source.old) (S.left source.new) (K.held out.old) (K.held out.new)
+    ensures ends { EndsWith done_status result (λ outcome.
+        Ends program outcome (command_in words.now) (S.left source.old) (S.left source.new) (K.held out.old) (K.held out.new)
         × Says (line_of outcome) (E.held diag.old) (E.held diag.new) (E.faults diag.old) (E.faults diag.new)) }
     // The headline.
-    ensures done { result ≡ 0 → IsDone (command_in words.now) (S.left source.old) (S.left source.new) (K.held out.old) (K.held out.new) }
+    ensures done { result ≡ 0
+        → IsDone program tt (command_in words.now) (S.left source.old) (S.left source.new) (K.held out.old) (K.held out.new) }
     ensures usage { result ≡ 2 → command_in words.now ≡ None }
     ensures usage_only { command_in words.now ≡ None → (result ≡ 2) ⊎ (result ≡ 6) }
-    ensures faulty { result ≡ 3 → IsFaulty (command_in words.now) (S.left source.old) (S.left source.new) }
-    ensures refused { (fault : ScriptFault) → IsToldFault fault (command_in words.now) (S.left source.old) (S.left source.new) → (result ≡ 3) ⊎ (result ≡ 4) ⊎ (result ≡ 6) }
-    ensures complete { IsFaultless (command_in words.now) (S.left source.old) (S.left source.new)
-        → (Rose (S.faults source.old) (S.faults source.new) → ⊥) → (Rose (K.faults out.old) (K.faults out.new) → ⊥) → (result ≡ 0) ⊎ (result ≡ 6) }
-    ensures stopped { result ≡ 5 → IsStopped (command_in words.now) (S.left source.old) (S.left source.new) (K.held out.old) (K.held out.new) }
+    ensures faulty { result ≡ 3 → IsFaulty program (command_in words.now) (S.left source.old) (S.left source.new) }
+    ensures refused { (fault : InputFault) → IsToldFault program fault (command_in words.now) (S.left source.old) (S.left source.new)
+        → (result ≡ 3) ⊎ (result ≡ 4) ⊎ (result ≡ 6) }
+    ensures complete { IsFaultless program (command_in words.now) (S.left source.old) (S.left source.new)
+        → (Rose (S.faults source.old) (S.faults source.new) → ⊥) → (Rose (K.faults out.old) (K.faults out.new) → ⊥)
+        → (result ≡ 0) ⊎ (result ≡ 6) }
+    ensures stopped { result ≡ 5
+        → IsStopped program (command_in words.now) (S.left source.old) (S.left source.new) (K.held out.old) (K.held out.new) }
     ensures unchanged { result ≢ 0 → result ≢ 5 → K.held out.new ≡ K.held out.old }
     ensures read_fault { result ≡ 4 → Rose (S.faults source.old) (S.faults source.new) }
     ensures no_read_fault { result ≢ 4 → S.faults source.new ≡ S.faults source.old }
@@ -71,16 +60,4 @@ pub fn sto<R: Threads + Sync, S: Source, K: Sink, E: Sink, G: Gate>(
 {
     let outcome = perform(rt, alloc, words, source, out, gate);
     status(say(alloc, diag, outcome))
-}
-
-/// Says beside why the words cannot be read, and gives the exit status: 2 where one of them is not
-/// UTF-8, since such a word is in no grammar, and 6 for want of memory.
-pub fn refuse_words<E: Sink>(alloc: Global, fault: WordsFault, diag: &mut E) -> u8
-    ensures status { result ≡ status_of (Err (refusal_of fault)) }
-    ensures says { Says (line_of (Err (refusal_of fault))) (E.held diag.old) (E.held diag.new) (E.faults diag.old) (E.faults diag.new) }
-{
-    match fault {
-        WordsFault::NotText => status(say(alloc, diag, Err(Refusal::Usage))),
-        WordsFault::NoMemory => status(say(alloc, diag, Err(Refusal::NoMemory))),
-    }
 }

@@ -1,0 +1,6 @@
+pub mod Saying
+pub mod Making
+pub mod Reading
+pub mod Scripts
+pub mod Endings
+pub mod Facts

@@ -1,2 +1,10 @@
 pub mod Said
 pub mod Read
+pub mod Statuses
+pub mod Words
+pub mod Programs
+pub mod Ends
+pub mod Outcomes
+pub use Rattle.sto_lang.specs.Files
+pub use Rattle.sto_lang.specs.Views
+pub use Rattle.sto_io.specs.Told

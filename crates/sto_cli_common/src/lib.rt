@@ -1,9 +1,13 @@
-//! What the programs have in common at their beginning and at their end: the words after their names, and the line that each
-//! writes beside its output.
+//! What the programs have in common: the words after their names, what they read and write whole, why a call is refused, and the
+//! line that is written beside and the exit status that tell of it.
 #![tactic(auto)]
 
 mod beside;
+mod refusal;
+mod streams;
 mod words;
 
-pub use beside::{fault_line, write_line};
-pub use words::{WordsFault, words_of};
+pub use beside::{fault_line, say, say_refusal, write_line};
+pub use refusal::{InputFault, Refusal, status};
+pub use streams::{bytes_left, file_in, script_left, write_text};
+pub use words::{WordsFault, refuse_words, words_of};

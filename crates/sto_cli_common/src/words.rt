@@ -1,6 +1,15 @@
 //! The words after the name of a program.
+ghost use Rattle.std.specs.Prelude.{◌≡◌};
+ghost use Rattle.sto_cli_common.specs.Said.{Says};
+ghost use Rattle.sto_cli_common.specs.Statuses.{refusal_status, refusal_line};
+ghost use Rattle.sto_cli_common.specs.Words.{refusal_of};
+
+use crate::beside::say_refusal;
+use crate::refusal::Refusal;
+use std::alloc::Global;
 use std::env;
 use std::io::ErrorKind;
+use sto_io::Sink;
 
 /// Why the words of a call cannot be read.
 #[derive(Clone, Copy, PartialEq, Eq, Debug)]
@@ -24,4 +33,17 @@ pub fn words_of(rt: &HostRuntime) -> Result<Vec<String>, WordsFault> {
         }
     }
     Ok(words)
+}
+
+/// Says beside why the words cannot be read, and gives the exit status: 2 where one of them is not
+/// UTF-8, since such a word is in no grammar, and 6 for want of memory.
+pub fn refuse_words<E: Sink>(alloc: Global, fault: WordsFault, diag: &mut E) -> u8
+    ensures status { result ≡ refusal_status (refusal_of fault) }
+    ensures says { Says (refusal_line (refusal_of fault)) (E.held diag.old) (E.held diag.new) (E.faults diag.old) (E.faults diag.new) }
+{
+    let refusal = match fault {
+        WordsFault::NotText => Refusal::Usage,
+        WordsFault::NoMemory => Refusal::NoMemory,
+    };
+    say_refusal(alloc, diag, refusal).status()
 }

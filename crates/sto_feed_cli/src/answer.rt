@@ -1,15 +1,16 @@
 //! The text of a feed.
 ghost use Rattle.std.specs.Prelude.{IfOk, IfErr};
 ghost use Rattle.sto_args.specs.Asked.{HasNumbers};
+ghost use Rattle.sto_cli_common.specs.Ends.{IsFileRefusal};
 ghost use Rattle.sto_cli.specs.Outputs.{IsOutput};
-ghost use Rattle.sto_cli.specs.Answers.{IsAnswerFault};
 ghost use Rattle.sto_feed_cli.specs.Commands.{command_for};
 
 use std::alloc::Global;
 use std::sync::Wait;
 use std::thread::Threads;
 use sto_args::Feeding;
-use sto_cli::{Refusal, file_in, report, workers_for};
+use sto_cli::{report, workers_for};
+use sto_cli_common::{Refusal, file_in};
 use sto_lang::Text;
 use sto_run::{Gate, feed_file};
 
@@ -23,7 +24,7 @@ pub(crate) fn feed_text<R: Threads + Wait + Sync, G: Gate>(
 ) -> Result<Text, Refusal>
     requires { HasNumbers asked }
     ensures text { IfOk result (λ text. IsOutput (command_for asked) bytes.now text.items) }
-    ensures fault { IfErr result (λ e. IsAnswerFault e bytes.now) }
+    ensures fault { IfErr result (λ e. IsFileRefusal e bytes.now) }
 {
     let file = file_in(alloc, bytes)?;
     let workers = workers_for(&file, asked.threads);

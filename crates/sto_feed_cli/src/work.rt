@@ -1,8 +1,9 @@
 //! The order of work: the words, the source, the script, the run, the text, the writing.
 ghost use Rattle.std.specs.Prelude.{IfOk, IfErr};
 ghost use Rattle.sto_args.specs.Asked.{HasNumbers};
-ghost use Rattle.sto_cli.specs.declared.refusal.Refusal.TheVariants.{ReadFault, WriteFault};
-ghost use Rattle.sto_cli.specs.Ends.{Made, Unmade, Ends, RoseFor, RoseForText};
+ghost use Rattle.sto_cli_common.specs.declared.refusal.Refusal.TheVariants.{ReadFault, WriteFault};
+ghost use Rattle.sto_cli_common.specs.Ends.{Made, Unmade, Ends, RoseFor};
+ghost use Rattle.sto_cli.specs.Programs.{program};
 ghost use Rattle.sto_feed_cli.specs.Commands.{command_for, feed_command};
 
 use crate::answer::feed_text;
@@ -10,7 +11,8 @@ use std::alloc::Global;
 use std::sync::Wait;
 use std::thread::Threads;
 use sto_args::{Feeding, find_feeding};
-use sto_cli::{Refusal, Sink, Source, bytes_left, write_text};
+use sto_cli_common::{Refusal, script_left, write_text};
+use sto_io::{Sink, Source};
 use sto_lang::Text;
 use sto_run::Gate;
 
@@ -23,15 +25,16 @@ fn feed_source<R: Threads + Wait + Sync, S: Source, G: Gate>(
     gate: &G,
 ) -> Result<Text, Refusal>
     requires { HasNumbers asked }
-    ensures made { IfOk result (λ text. Made (command_for asked) (S.left source.old) (S.left source.new) text.items) }
-    ensures unmade { IfErr result (λ e. Unmade e (command_for asked) (S.left source.old) (S.left source.new)) }
-    ensures source_faults { RoseForText result (S.faults source.old) (S.faults source.new) }
+    ensures made { IfOk result (λ text. Made program (command_for asked) tt (S.left source.old) (S.left source.new) text.items) }
+    ensures unmade { IfErr result (λ e. Unmade program e (command_for asked) (S.left source.old) (S.left source.new)) }
+    ensures source_faults { RoseFor ReadFault result (S.faults source.old) (S.faults source.new) }
 {
-    let bytes = bytes_left(alloc, source)?;
+    let bytes = script_left(alloc, source)?;
     feed_text(rt, alloc, asked, bytes.as_slice(), gate)
 }
 
 /// Does what the words say: makes the whole report, and writes it.
+#[tactic(auto, using(sto_cli_common::proofs::Making::refused_making, sto_cli_common::proofs::Making::refused_writing, sto_cli_common::proofs::Making::unwritten, sto_cli_common::proofs::Making::unread))]
 pub(crate) fn perform<R: Threads + Wait + Sync, S: Source, K: Sink, G: Gate>(
     rt: &R,
     alloc: Global,
@@ -40,7 +43,7 @@ pub(crate) fn perform<R: Threads + Wait + Sync, S: Source, K: Sink, G: Gate>(
     out: &mut K,
     gate: &G,
 ) -> Result<(), Refusal>
-    ensures ends { Ends result (feed_command words.now) (S.left source.old) (S.left source.new) (K.held out.old) (K.held out.new) }
+    ensures ends { Ends program result (feed_command words.now) (S.left source.old) (S.left source.new) (K.held out.old) (K.held out.new) }
     ensures source_faults { RoseFor ReadFault result (S.faults source.old) (S.faults source.new) }
     ensures out_faults { RoseFor WriteFault result (K.faults out.old) (K.faults out.new) }
 {
@@ -48,5 +51,5 @@ pub(crate) fn perform<R: Threads + Wait + Sync, S: Source, K: Sink, G: Gate>(
         return Err(Refusal::Usage);
     };
     let text = feed_source(rt, alloc, asked, source, gate)?;
-    write_text(out, &text)
+    write_text(out, text.as_bytes())
 }

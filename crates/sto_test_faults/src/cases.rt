@@ -1,11 +1,12 @@
 //! Files of cases.
-use crate::call::{Call, Ending, Failing, NONE, Program};
+use crate::ending::Ending;
 use crate::group::Group;
 use crate::text::written_out;
 use crate::{changes, failing, prefixes};
 use std::sync::Wait;
 use std::thread::Threads;
 use std::{fs, io};
+use sto_test_calls::{Call, Failing, NONE, Program};
 
 /// What is done with the cases of a file.
 #[derive(Clone, Copy)]
@@ -129,7 +130,7 @@ fn call<R: Threads + Wait + Sync>(group: &mut Group<'_, R>, case: &Case<'_>) -> 
 fn begin<R: Threads + Wait + Sync>(group: &mut Group<'_, R>, case: &Case<'_>) -> io::Result<()> {
     let failing = Failing { source: 1, ..NONE };
     let alloc = group.rt.alloc();
-    let ended = case.call.ended(group.threads, alloc, case.input, failing)?;
-    let begins = ended.out.as_slice().starts_with(case.text.as_bytes());
-    group.add(case.call.words, ended.status == case.status && begins)
+    let called = case.call.on(group.threads, alloc, case.input, failing)?;
+    let begins = called.out.as_slice().starts_with(case.text.as_bytes());
+    group.add(case.call.words, called.status == case.status && begins)
 }

@@ -2,14 +2,15 @@
 //!
 //! A change is a line `2 1 3:TEXT`: from line 2 of the report on, 1 line is replaced by the text, in which a slash stands for the
 //! end of a line, and line 3 is then the first that is not right. Where that number is 0, the report is lawful.
-use crate::call::{Ending, NONE};
 use crate::cases::Case;
+use crate::ending::Ending;
 use crate::group::Group;
 use crate::text::written_out;
 use std::alloc::{AllocError, Global};
 use std::io;
 use std::sync::Wait;
 use std::thread::Threads;
+use sto_test_calls::NONE;
 
 #[derive(Clone, Copy)]
 struct Change<'a> {

@@ -1,12 +1,13 @@
 //! Sources and sinks, each of whose calls fails in turn: that is never taken for the end or for done.
-use crate::call::{Call, Ending, Failing, NONE, Program};
 use crate::cases::Case;
+use crate::ending::Ending;
 use crate::group::Group;
 use crate::text::written_out;
 use std::alloc::AllocError;
 use std::sync::Wait;
 use std::thread::Threads;
 use std::{io, str};
+use sto_test_calls::{Call, Failing, NONE, Program};
 
 // How many bytes a source gives at a call.
 const PIECE: u32 = 16;
@@ -54,11 +55,11 @@ fn is_read<R: Threads + Wait + Sync>(
     failing: Failing,
 ) -> Result<bool, AllocError> {
     let alloc = group.rt.alloc();
-    let ended = case.call.ended(group.threads, alloc, case.input, failing)?;
+    let called = case.call.on(group.threads, alloc, case.input, failing)?;
     Ok(if case.text.is_empty() {
-        ended.status == case.status && !ended.out.as_slice().is_empty()
+        called.status == case.status && !called.out.as_slice().is_empty()
     } else {
-        ended.is(&case.ending(case.text))
+        case.ending(case.text).is_of(&called)
     })
 }
 
@@ -76,13 +77,13 @@ pub fn fail_writing<R: Threads + Wait + Sync>(
     case: &Case<'_>,
 ) -> io::Result<()> {
     let alloc = group.rt.alloc();
-    let whole = case.call.ended(group.threads, alloc, case.input, NONE)?;
+    let whole = case.call.on(group.threads, alloc, case.input, NONE)?;
     let text = match case.text {
         "" => str::from_utf8(whole.out.as_slice()).unwrap_or(""),
         text => text,
     };
     let ending = case.ending(text);
-    group.add(case.call.words, whole.is(&ending))?;
+    group.add(case.call.words, ending.is_of(&whole))?;
     fail_each_byte(group, case, &ending)
 }
 

@@ -1,10 +1,11 @@
 //! The generated script: its reports are lawful, and the feed loses nothing of it.
-use crate::call::{Call, Ended, Ending, NONE, Program};
+use crate::ending::Ending;
 use crate::group::Group;
 use std::alloc::{AllocError, Global};
 use std::sync::Wait;
 use std::thread::Threads;
 use std::{io, str};
+use sto_test_calls::{Call, Called, NONE, Program};
 
 // Calls that print a report of the script.
 const CALLS: [(Program, &str); 3] = [
@@ -21,7 +22,7 @@ pub fn go_over<R: Threads + Wait + Sync>(rt: &HostRuntime, threads: &R) -> io::R
         name: "generated",
         cases: 0,
     };
-    let generated = ended(threads, rt.alloc(), Program::Sto, "gen 1", "")?;
+    let generated = called(threads, rt.alloc(), Program::Sto, "gen 1", "")?;
     let script = str::from_utf8(generated.out.as_slice()).unwrap_or("");
     for (program, words) in CALLS {
         check_report(&mut group, script, program, words)?;
@@ -35,7 +36,7 @@ fn check_report<R: Threads + Wait + Sync>(
     program: Program,
     words: &str,
 ) -> io::Result<()> {
-    let reported = ended(group.threads, group.rt.alloc(), program, words, script)?;
+    let reported = called(group.threads, group.rt.alloc(), program, words, script)?;
     let report = str::from_utf8(reported.out.as_slice()).unwrap_or("");
     group.add(words, reported.status == 0 && is_whole(report))?;
     check(group, script, report)
@@ -45,15 +46,15 @@ fn is_whole(report: &str) -> bool {
     transactions_in(report) == 3200 && sum_of_accounts(report) == Some(64_000)
 }
 
-fn ended<R: Threads + Wait + Sync>(
+fn called<R: Threads + Wait + Sync>(
     threads: &R,
     alloc: Global,
     program: Program,
     words: &str,
     input: &str,
-) -> Result<Ended, AllocError> {
+) -> Result<Called, AllocError> {
     let call = Call { program, words };
-    call.ended(threads, alloc, input, NONE)
+    call.on(threads, alloc, input, NONE)
 }
 
 // The report is lawful.

@@ -1,8 +1,9 @@
 //! Cases of one kind.
-use crate::call::{Call, Ending, Failing};
+use crate::ending::Ending;
 use std::io;
 use std::sync::Wait;
 use std::thread::Threads;
+use sto_test_calls::{Call, Failing};
 
 /// Counts the cases of a group, and tells of those that do not hold.
 #[derive(Drop)]
@@ -35,8 +36,8 @@ impl<R: Threads + Wait + Sync> Group<'_, R> {
         failing: Failing,
         ending: &Ending<'_>,
     ) -> io::Result<()> {
-        let ended = call.ended(self.threads, self.rt.alloc(), input, failing)?;
-        self.add(call.words, ended.is(ending))
+        let called = call.on(self.threads, self.rt.alloc(), input, failing)?;
+        self.add(call.words, ending.is_of(&called))
     }
 
     /// Tells how many cases there were.

@@ -17,9 +17,9 @@
 //! are written there.
 #![tactic(auto)]
 
-mod call;
 mod cases;
 mod changes;
+mod ending;
 mod failing;
 mod generated;
 mod group;

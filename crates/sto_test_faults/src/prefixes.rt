@@ -1,11 +1,11 @@
 //! Every prefix of a script of one transaction: it is a script exactly where none of its lines is cut short and no transaction is
 //! open.
-use crate::call::NONE;
 use crate::cases::Case;
 use crate::group::Group;
 use std::io;
 use std::sync::Wait;
 use std::thread::Threads;
+use sto_test_calls::NONE;
 
 /// Cuts the input of a case at each place.
 pub fn cut<R: Threads + Wait + Sync>(group: &mut Group<'_, R>, case: &Case<'_>) -> io::Result<()> {
@@ -23,11 +23,11 @@ fn ends_rightly<R: Threads + Wait + Sync>(
     prefix: &str,
 ) -> io::Result<bool> {
     let alloc = group.rt.alloc();
-    let ended = case.call.ended(group.threads, alloc, prefix, NONE)?;
+    let called = case.call.on(group.threads, alloc, prefix, NONE)?;
     Ok(if is_script(prefix, case.text) {
-        ended.status == 0 && ended.line.as_slice().is_empty()
+        called.status == 0 && called.line.as_slice().is_empty()
     } else {
-        ended.status == 3 && ended.out.as_slice().is_empty()
+        called.status == 3 && called.out.as_slice().is_empty()
     })
 }
 

@@ -5,7 +5,7 @@ use std::sync::Wait;
 use std::thread::Threads;
 use sto_cli::Gate;
 use sto_part::NoMemory;
-use sto_test_calls::{Called, call, call_feed};
+use sto_test_calls::{Called, NONE, call, call_feed};
 
 /// What a run wrote on standard output and on standard error, and its exit status.
 #[derive(Drop)]
@@ -24,7 +24,10 @@ pub fn outcome_of<R: Threads + Sync, G: Gate>(
     gate: &G,
 ) -> Result<Outcome, AllocError> {
     let words: Vec<&str> = words.split_whitespace().collect(alloc)?;
-    as_text(alloc, call(threads, alloc, words.as_slice(), script, gate))
+    as_text(
+        alloc,
+        call(threads, alloc, words.as_slice(), script, NONE, gate),
+    )
 }
 
 /// Runs `feed` so.
@@ -38,7 +41,7 @@ pub fn outcome_of_feed<R: Threads + Wait + Sync, G: Gate>(
     let words: Vec<&str> = words.split_whitespace().collect(alloc)?;
     as_text(
         alloc,
-        call_feed(threads, alloc, words.as_slice(), script, gate),
+        call_feed(threads, alloc, words.as_slice(), script, NONE, gate),
     )
 }
 

@@ -1,10 +1,41 @@
-use Rattle.std.proofs.Common.{◌∙◌}
-use Rattle.sto_cli.proofs.Endings.{unchanged}
+use Rattle.std.proofs.Common.{arith}
+use Rattle.sto_cli_common.specs.Statuses.{done_status}
+use Rattle.sto_cli_common.proofs.Endings.{ended, read_so, write_so}
+use Rattle.sto_cli_common.proofs.Facts.{facts}
+use Rattle.sto_cli.specs.Programs.{program}
+use Rattle.sto_cli.proofs.Exclusive.{exclusive, few_statuses, done_or}
 use Rattle.sto_feed_cli.specs.Commands.{feed_command}
 use Rattle.sto_feed_cli.proofs.top.feed.Goals as goal
 
-pub returns-clause-unchanged : goal.returns-clause-unchanged
-returns-clause-unchanged g c = λ done stopped.
-    unchanged c.perform-outcome.result c.say.result (feed_command c.args.words.now)
-    (g.S.Source.left c.args.source.now) (g.S.Source.left c.perform-outcome.new.source) (g.K.Sink.held c.args.out.now) (g.K.Sink.held c.perform-outcome.new.out)
-    c.say.ensures.same c.perform-outcome.ensures.ends (λ e. done (c.status.ensures ∙ e)) (λ e. stopped (c.status.ensures ∙ e))
+pub returns : goal.returns
+returns g c =
+    let command = feed_command c.args.words.now in
+    let left = g.S.Source.left c.args.source.now in
+    let rest = g.S.Source.left c.perform-outcome.new.source in
+    let held = g.K.Sink.held c.args.out.now in
+    let now = g.K.Sink.held c.perform-outcome.new.out in
+    let read = g.S.Source.faults c.args.source.now in
+    let read_now = g.S.Source.faults c.perform-outcome.new.source in
+    let wrote = g.K.Sink.faults c.args.out.now in
+    let wrote_now = g.K.Sink.faults c.perform-outcome.new.out in
+    let status = c.status.result in
+    let same = c.say.ensures.same in
+    let ends = ended program command left rest held now c.perform-outcome.result c.say.result same c.perform-outcome.ensures.ends in
+    let reads = read_so read read_now c.perform-outcome.result c.say.result same c.perform-outcome.ensures.source_faults in
+    let writes = write_so wrote wrote_now c.perform-outcome.result c.say.result same c.perform-outcome.ensures.out_faults in
+    let so = facts program exclusive done_status few_statuses c.say.result status c.status.ensures command left rest held now read read_now wrote wrote_now ends reads writes in
+    record {
+      ends = (c.say.result, c.status.ensures, (ends, c.say.ensures.says));
+      done = λ e. (so.done (omega (arith, e))).2;
+      usage = so.usage;
+      usage_only = so.usage_only;
+      faulty = so.faulty;
+      refused = so.refused;
+      complete = λ faultless no_read no_write. done_or status (so.complete faultless no_read no_write);
+      stopped = so.stopped;
+      unchanged = λ undone stopped. so.unchanged (λ done e. undone e) stopped;
+      read_fault = so.read_fault;
+      no_read_fault = so.no_read_fault;
+      write_fault = so.write_fault;
+      no_write_fault = so.no_write_fault;
+    }

@@ -1,0 +1,72 @@
+//! Why nothing, or not all, was printed.
+ghost use Rattle.std.specs.Prelude.{◌≡◌};
+ghost use Rattle.sto_cli_common.specs.declared.refusal.Refusal.TheVariants.{NoMemory};
+ghost use Rattle.sto_cli_common.specs.Statuses.{status_of, done_status, refusal_status};
+
+use std::alloc::AllocError;
+use sto_lang::ScriptFault;
+
+/// What is wrong with the bytes that were read.
+#[derive(Clone, Copy, PartialEq, Eq, Debug)]
+pub enum InputFault {
+    /// They are too many, or no script stands where one must.
+    Script(ScriptFault),
+    /// A report must follow the script, and no line is `report`.
+    NoReport,
+}
+
+/// Why a call of a program was refused.
+#[derive(Clone, Copy, PartialEq, Eq, Debug)]
+pub enum Refusal {
+    /// The words are not in the grammar.
+    Usage,
+    /// The bytes that were read have a fault.
+    Input(InputFault),
+    /// The source failed.
+    ReadFault,
+    /// The output failed.
+    WriteFault,
+    /// Memory could not be had.
+    NoMemory,
+}
+
+impl From<AllocError> for Refusal {
+    ghost from_gives = { λ _ e. e ≡ NoMemory };
+
+    fn from(_: AllocError) -> Self {
+        Refusal::NoMemory
+    }
+}
+
+impl From<sto_part::NoMemory> for Refusal {
+    ghost from_gives = { λ _ e. e ≡ NoMemory };
+
+    fn from(_: sto_part::NoMemory) -> Self {
+        Refusal::NoMemory
+    }
+}
+
+impl Refusal {
+    /// The exit status of a call that was refused so.
+    pub fn status(self) -> u8
+        ensures { result ≡ refusal_status self }
+    {
+        match self {
+            Refusal::Usage => 2,
+            Refusal::Input(_) => 3,
+            Refusal::ReadFault => 4,
+            Refusal::WriteFault => 5,
+            Refusal::NoMemory => 6,
+        }
+    }
+}
+
+/// The exit status of a call that ended so: 0 where all is done.
+pub fn status(outcome: Result<(), Refusal>) -> u8
+    ensures { result ≡ status_of done_status outcome }
+{
+    match outcome {
+        Ok(()) => 0,
+        Err(refusal) => refusal.status(),
+    }
+}
