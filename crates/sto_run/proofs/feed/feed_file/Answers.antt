@@ -12,5 +12,5 @@ feed_threads-requires-clause-few g c = λ κs within. c.in_ok-run.ensures.few
 pub returns-clause-lawful : goal.returns-clause-lawful
 returns-clause-lawful g c =
     IfOk-weaker c.journal.result _ _
-    (λ j h. lawful_run c.in_ok-stored.stored c.in_ok-run.run.work.ty.now c.in_ok-run.run.work.file.now c.args.file.now _ c.args.tries j c.in_ok-stored.ensures.file c.in_ok-run.ensures.of h)
+    (λ j h. lawful_run c.in_ok-stored.stored c.in_ok-run.run'.work.ty.now c.in_ok-run.run'.work.file.now c.args.file.now _ c.args.tries j c.in_ok-stored.ensures.file c.in_ok-run.ensures.of h)
     c.journal.ensures.lawful
