@@ -109,5 +109,11 @@ def show(text):
 
 
 def end_when_told():
-    """Has the script end as at an error where it is told to, so that rt ends too and copies go."""
-    signal.signal(signal.SIGTERM, lambda *_: sys.exit(128 + signal.SIGTERM))
+    """Has the script end as at an error where it is told to, so that rt ends too and copies go. To be told once is enough."""
+
+    def end(number, _):
+        signal.signal(number, signal.SIG_IGN)
+        sys.exit(128 + number)
+
+    for it in (signal.SIGTERM, signal.SIGHUP):
+        signal.signal(it, end)

@@ -11,7 +11,7 @@ pub mod Ordered
 pub mod Fitting
 pub mod Asking
 pub mod Sound
-pub mod Kinds
-pub mod Stored
+pub mod ObjectMeanings
+pub mod StoredObjects
 pub mod Entire
 pub mod RunJournals

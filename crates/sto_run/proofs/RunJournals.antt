@@ -9,8 +9,8 @@ use Rattle.sto_serializability.specs.Meanings.{updating_by}
 use Rattle.sto_store.specs.Stores.{means}
 use Rattle.sto_run.specs.Lawful.{IsLawfulJournal}
 use Rattle.sto_run.specs.declared.stored.StoredFile.{StoredFile}
-use Rattle.sto_run.proofs.Kinds.{meaning_of}
-use Rattle.sto_run.proofs.Stored.{stored_means}
+use Rattle.sto_run.proofs.ObjectMeanings.{meaning_of}
+use Rattle.sto_run.proofs.StoredObjects.{stored_means}
 use Rattle.sto_run.proofs.Meant.{lawful_meant}
 
 pub lawful_run :

@@ -1,4 +1,4 @@
-pub mod Kinds
+pub mod ObjectShapes
 pub mod Lawful
 pub mod Runnable
 pub use Rattle.sto_plain.specs.Passes

@@ -1,9 +1,12 @@
 //! Runs of whole files by a feeder and workers.
-ghost use Rattle.std.specs.Prelude.{◌≡◌, [], IfOk};
+ghost use Rattle.std.specs.Prelude.{◌≡◌, ◌<◌, ◌≤◌, ◌+◌, ◌*◌, ◌^◌, [], IfOk};
+ghost use Rattle.sto_lang.specs.Objects.{shapes_of};
 ghost use Rattle.sto_lang.specs.Sound.{IsSound, IsFromTo};
 ghost use Rattle.sto_lang.specs.Views.{file as view};
-ghost use Rattle.sto_serializability.specs.Meanings.{updating_by};
+ghost use Rattle.sto_serializability.specs.Meanings.{updating_by, IsTypeOf};
 ghost use Rattle.sto_store.specs.Stores.{means};
+ghost use Rattle.sto_run_threads.specs.Counts.{scripts_from};
+ghost use Rattle.sto_run_threads.specs.Taken.{IsTaken};
 ghost use Rattle.sto_run.specs.Lawful.{IsLawfulJournal};
 
 use crate::opened::OpenedRun;
@@ -16,6 +19,7 @@ use sto_lang::File;
 use sto_part::NoMemory;
 use sto_run_queues::feed_threads;
 use sto_run_threads::{Gate, RetryTurn};
+use sto_type::TxType;
 
 /// Feeds the transactions of a file one by one, through queues, to so many workers, which run them by attempts on words that
 /// they share, and gives the journal of the run. Its report in either form is lawful for the file and so many tries of a
@@ -42,6 +46,29 @@ pub fn feed_file<R: Threads + Wait + Sync, G: Gate>(
     let stored = StoredFile::new(alloc, file)?;
     let turn = RetryTurn::new();
     let run = OpenedRun::new(alloc, file, &stored.objects, tries, gate, &turn)?;
+    feed_opened(rt, alloc, &run, workers)
+}
+
+// Feeds the transactions of what was opened to so many workers, and gives the journal.
+fn feed_opened<R: Threads + Wait + Sync, T: TxType + Send + Sync, G: Gate>(
+    rt: &R,
+    alloc: Global,
+    run: &OpenedRun<'_, T, G>,
+    workers: u32,
+) -> Result<Journal, NoMemory>
+    requires sound { IsSound (view run.now.work.file.now) }
+    requires type_of { IsTypeOf (shapes_of (view run.now.work.file.now).declarations) (T.meaning run.now.work.ty.now) }
+    requires ready { IsTaken (view run.now.work.file.now) (T.meaning run.now.work.ty.now) × (0 < run.now.work.tries) }
+    requires tries { run.now.work.tries ≤ 64 }
+    requires opened { run.now.opening.items ≡ (T.meaning run.now.work.ty.now).opened }
+    requires valid { T.valid (T.sizes run.now.work.ty.now) run.now.opening.items }
+    requires few { run.now.work.tries * scripts_from (view run.now.work.file.now).threads 0
+        + run.now.work.tries * scripts_from (view run.now.work.file.now).threads 0 ≤ 2 ^ 40 }
+    requires workers { IsFromTo 1 16 workers }
+    ensures lawful { IfOk result (IsLawfulJournal (updating_by (λ _. T.meaning run.now.work.ty.now)) (view run.now.work.file.now)
+        run.now.work.tries) }
+    ensures alone { workers ≡ 1 → IfOk result (λ journal. journal.aborts.items ≡ []) }
+{
     let finished = feed_threads(rt, &run.work, alloc, run.work.ty, &run.opening, workers)?;
     run.journal(alloc, finished)
 }

@@ -5,7 +5,7 @@ ghost use Rattle.sto_lang.specs.Sound.{IsSound};
 ghost use Rattle.sto_lang.specs.Views.{file as view};
 ghost use Rattle.sto_serializability.specs.Meanings.{IsTypeOf};
 ghost use Rattle.sto_run_threads.specs.Taken.{IsTaken};
-ghost use Rattle.sto_run.specs.Kinds.{AreOf};
+ghost use Rattle.sto_run.specs.ObjectShapes.{AreOf};
 ghost use Rattle.sto_run.specs.Runnable.{AreRunnable};
 
 use std::alloc::Global;

@@ -10,7 +10,7 @@ use Rattle.sto_report_checker.specs.Orders.{Place, transaction_at}
 use Rattle.sto_store.specs.Stores.{means}
 use Rattle.sto_type.specs.Meaning.{Meaning}
 use Rattle.sto_run.specs.Meanings.{updating_by, IsTypeOf}
-use Rattle.sto_run.proofs.Stored.{stored_means, stored_takes}
+use Rattle.sto_run.proofs.StoredObjects.{stored_means, stored_takes}
 use Rattle.sto_checker_complete.proofs.Exact.{updates_written}
 use Rattle.sto_checker_complete.proofs.check_stored.Goals as goal
 

@@ -13,7 +13,7 @@ pub step_threads-requires-clause-few : goal.step_threads-requires-clause-few
 step_threads-requires-clause-few c = c.in_ok-run.ensures.few
 
 pub step_threads-requires-clause-threads : goal.step_threads-requires-clause-threads
-step_threads-requires-clause-threads c = few_threads (view c.in_ok-run.run.work.file.now) c.in_ok-run.ensures.sound
+step_threads-requires-clause-threads c = few_threads (view c.in_ok-run.run'.work.file.now) c.in_ok-run.ensures.sound
 
 pub turns_of-requires : goal.turns_of-requires
 turns_of-requires c = c.in_ok-run.ensures.sound.scheduled
@@ -24,5 +24,5 @@ returns-clause-alone c = λ few. c.journal.ensures.alone (c.in_ok-finished.ensur
 pub returns-clause-lawful : goal.returns-clause-lawful
 returns-clause-lawful c =
     IfOk-weaker c.journal.result _ _
-    (λ j h. lawful_run c.in_ok-stored.stored c.in_ok-run.run.work.ty.now c.in_ok-run.run.work.file.now c.args.file.now _ c.args.tries j c.in_ok-stored.ensures.file c.in_ok-run.ensures.of h)
+    (λ j h. lawful_run c.in_ok-stored.stored c.in_ok-run.run'.work.ty.now c.in_ok-run.run'.work.file.now c.args.file.now _ c.args.tries j c.in_ok-stored.ensures.file c.in_ok-run.ensures.of h)
     c.journal.ensures.lawful

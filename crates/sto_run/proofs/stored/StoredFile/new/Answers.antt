@@ -7,9 +7,9 @@ use Rattle.sto_lang.specs.Views.{file as view}
 use Rattle.sto_store.specs.Stores.{AreFit, means}
 use Rattle.sto_type.specs.Meaning.{IsLawful}
 use Rattle.sto_serializability.specs.Meanings.{IsTypeOf}
-use Rattle.sto_run.specs.Kinds.{AreOf}
+use Rattle.sto_run.specs.ObjectShapes.{AreOf}
 use Rattle.sto_run.proofs.Fitting.{sound_fit, parts_fit}
-use Rattle.sto_run.proofs.Kinds.{objects_mean, objects_take}
+use Rattle.sto_run.proofs.ObjectMeanings.{objects_mean, objects_take}
 use Rattle.sto_run.proofs.Sound.{sound_in_order, sound_runnable, is_type_of}
 use Rattle.sto_run.proofs.stored.StoredFile.new.Goals as goal
 

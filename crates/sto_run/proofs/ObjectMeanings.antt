@@ -11,7 +11,7 @@ use Rattle.sto_objects.specs.declared.objects.Objects.{Objects}
 use Rattle.sto_store.specs.Stores.{mean_of, means}
 use Rattle.sto_store.specs.StoresLaw.{means_is}
 use Rattle.sto_run_threads.specs.Taken.{IsTaken}
-use Rattle.sto_run.specs.Kinds.{AreOf}
+use Rattle.sto_run.specs.ObjectShapes.{AreOf}
 use Rattle.sto_run.specs.Runnable.{AreRunnable}
 use Rattle.sto_run.proofs.Asking.{store_takes}
 use Rattle.sto_run.proofs.Sound.{sound_in_order}

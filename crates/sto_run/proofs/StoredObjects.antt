@@ -9,7 +9,7 @@ use Rattle.sto_report_spec.specs.Orders.{Place, transaction_at}
 use Rattle.sto_script.specs.Asks.{Asks}
 use Rattle.sto_store.specs.Stores.{means}
 use Rattle.sto_run.specs.declared.stored.StoredFile.{StoredFile}
-use Rattle.sto_run.proofs.Kinds.{meaning_of, objects_mean, objects_take}
+use Rattle.sto_run.proofs.ObjectMeanings.{meaning_of, objects_mean, objects_take}
 
 pub stored_means : (s : StoredFile) → meaning_of s.objects ≡ means (shapes_of (view s.file.now).declarations)
 stored_means s = objects_mean s.objects (shapes_of (view s.file.now).declarations) s.kinds
