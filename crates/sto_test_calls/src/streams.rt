@@ -11,11 +11,12 @@ const ROOM: u32 = 2_000_000;
 // Room for the longest line beside.
 const LINE_ROOM: u32 = 100;
 
-/// How many bytes the source gives at a call, at least 1, and which call of the source, of the output and of the sink beside fails.
-/// Calls are counted from 1, so with 0 none fails. Each sink takes one byte at a call.
+/// How many bytes the source gives and how many each sink takes at a call, at least 1, and which call of the source, of the output
+/// and of the sink beside fails. Calls are counted from 1, so with 0 none fails.
 #[derive(Clone, Copy)]
 pub struct Failing {
-    pub piece: u32,
+    pub given: u32,
+    pub taken: u32,
     pub source: u64,
     pub out: u64,
     pub diag: u64,
@@ -23,7 +24,8 @@ pub struct Failing {
 
 /// No call fails.
 pub const NONE: Failing = Failing {
-    piece: 65_536,
+    given: 65_536,
+    taken: 65_536,
     source: 0,
     out: 0,
     diag: 0,
@@ -56,11 +58,11 @@ pub(crate) fn streams_for(
     ensures { IfOk result (λ streams. drop streams.source.at streams.source.bytes.items ≡ input.now) }
 {
     let bytes = copy_of(alloc, input)?;
-    let calls = only(alloc, failing.source)?;
+    let taken = failing.taken.max(1);
     Ok(Streams {
-        source: MemSource::new(bytes, failing.piece.max(1), calls),
-        out: MemSink::new(alloc, ROOM, 1, only(alloc, failing.out)?)?,
-        diag: MemSink::new(alloc, LINE_ROOM, 1, only(alloc, failing.diag)?)?,
+        source: MemSource::new(bytes, failing.given.max(1), only(alloc, failing.source)?),
+        out: MemSink::new(alloc, ROOM, taken, only(alloc, failing.out)?)?,
+        diag: MemSink::new(alloc, LINE_ROOM, taken, only(alloc, failing.diag)?)?,
     })
 }
 

@@ -65,7 +65,7 @@ fn is_read<R: Threads + Wait + Sync>(
 
 fn failing_read(number: usize) -> Failing {
     Failing {
-        piece: PIECE,
+        given: PIECE,
         source: number as u64,
         ..NONE
     }
@@ -97,6 +97,7 @@ fn fail_each_byte<R: Threads + Wait + Sync>(
         let number = written.saturating_add(1);
         if is_tried(number, length) {
             let failing = Failing {
+                taken: 1,
                 out: number as u64,
                 ..NONE
             };
@@ -142,6 +143,7 @@ fn fail_each_beside<R: Threads + Wait + Sync>(
 ) -> io::Result<()> {
     for written in 0..=ending.line.len() {
         let failing = Failing {
+            taken: 1,
             diag: written.saturating_add(1) as u64,
             ..failing
         };
