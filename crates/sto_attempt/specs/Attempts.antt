@@ -1,10 +1,11 @@
 -- An attempt that reads, on its pass, before an event and after it. Where two attempts are named, they are the one before and the one after.
-use Rattle.std.specs.Prelude.{◌≡◌, ◌<◌, ℕ, List, map, Result, IfOk, OnOk, OnErr}
+use Rattle.std.specs.Prelude.{◌≡◌, ◌<◌, ◌-◌, ℕ, ℤ, List, length, map, slice_index_or, Result, IfOk, OnOk, OnErr}
 use Rattle.sto_part.specs.declared.NoMemory.{NoMemory}
 use Rattle.sto_model.specs.Told.{Told, told}
 use Rattle.sto_core.specs.declared.view.View.{View}
 use Rattle.sto_core.specs.Event.{Event}
 use Rattle.sto_attempt_log.specs.declared.read_phase.ReadPhase.{ReadPhase}
+use Rattle.sto_attempt_log.specs.declared.read_phase.ReadPhase.TheVariants.{Reading, Rereading}
 use Rattle.sto_attempt_log.specs.declared.verdict.Turn.{Turn}
 use Rattle.sto_attempt_log.specs.declared.lists.Lists.{Lists}
 use Rattle.sto_attempt_log.specs.Answers.{OneEvent, IsPrefix}
@@ -22,6 +23,12 @@ use Rattle.sto_attempt.specs.declared.attempt.Attempt.{Attempt}
 -- the replies that the body has heard
 abbrev pub heard : {T B : Type 0} → Attempt T B → List Told
 heard a = map told a.log.replies.items
+
+-- how many words are left of the part that is being read, where these were read
+abbrev pub unread : List ℕ → ReadPhase → List ℤ → ℕ
+unread widths (Reading p t) words = slice_index_or widths p 0 - length words
+unread widths (Rereading p t) words = slice_index_or widths p 0 - length words
+unread widths _ words = 0
 
 -- t and b are what the traits of the type and of the body say
 module _ {T B : Type 0} (t : OfType T) (b : OfBody B) where
@@ -69,6 +76,9 @@ module _ {T B : Type 0} (t : OfType T) (b : OfBody B) where
   -- fewer events are left than at the read phase before
   abbrev pub HasFewer : ReadPhase → Attempt T B → Attempt T B → Type 0
   HasFewer read_phase old new = left_of old new.read_phase new < left_of old read_phase old
+
+  abbrev pub words_left : Attempt T B → ℕ
+  words_left a = unread (t.meaning a.log.ty.now).widths a.read_phase a.words.items
 
   -- the event of the next step
   abbrev pub event_of : Attempt T B → Event

@@ -13,7 +13,7 @@ ghost use Rattle.sto_attempt_log.specs.Answers.{OneEvent};
 ghost use Rattle.sto_attempt_log.specs.Bounds.{bound, words_of, left_extending, left_renewing, events_left};
 ghost use Rattle.sto_attempt_log.specs.Reasons.{IsCaused};
 ghost use Rattle.sto_attempt_log.specs.Standing.{HasBegun, IsFirst, IsUnaborted, IsRenewed};
-ghost use Rattle.sto_attempt.specs.Attempts.{IsLogOf, IsOwnLog, IsUnderWay, Steps, FitsAt, SpansAt, HasTurned, HasGrown, left_of, HasFewer, event_of, IsPrefixOf, HasStopped, heard};
+ghost use Rattle.sto_attempt.specs.Attempts.{IsLogOf, IsOwnLog, IsUnderWay, Steps, FitsAt, SpansAt, HasTurned, HasGrown, left_of, HasFewer, event_of, IsPrefixOf, HasStopped, heard, words_left};
 
 use std::alloc::Global;
 use std::mem;
@@ -110,7 +110,7 @@ impl<'t, T: TxType, B: Body> Attempt<'t, T, B> {
             ReadPhase::Opening { part } => Ok(self.open(alloc, cells, part)),
             ReadPhase::Reading { part, ticket } => {
                 if self.words.len() < self.log.ty.width(part) {
-                    self.word(cells, part, ticket)
+                    self.read_word(cells)
                 } else {
                     self.close(alloc, cells, part, ticket)
                 }
@@ -120,7 +120,7 @@ impl<'t, T: TxType, B: Body> Attempt<'t, T, B> {
             ReadPhase::Reopening { part } => Ok(self.reopen(alloc, cells, part)),
             ReadPhase::Rereading { part, ticket } => {
                 if self.words.len() < self.log.ty.width(part) {
-                    self.reread(cells, part, ticket)
+                    self.read_word(cells)
                 } else {
                     self.reclose(alloc, cells, part, ticket)
                 }
@@ -129,7 +129,39 @@ impl<'t, T: TxType, B: Body> Attempt<'t, T, B> {
         }
     }
 
-    // LoadedWords the clock.
+    /// How many words of the part that is being read are left; none where no part is being read.
+    pub fn words_left(&self) -> u32
+        requires { (v : View) × IsUnderWay T.TxType B.Body self.now.read_phase self.now v }
+        ensures left { result ≡ words_left T.TxType B.Body self.now }
+        ensures few { 0 < result → length self.now.words.items + result < 2 ^ 32 }
+    {
+        match self.read_phase {
+            ReadPhase::Reading { part, .. } => self.log.ty.width(part) - self.words.len(),
+            ReadPhase::Rereading { part, .. } => self.log.ty.width(part) - self.words.len(),
+            _ => 0,
+        }
+    }
+
+    /// Reads the next word of the part that is being read, as a step does where one is left.
+    pub fn read_word<C: Cells<T>>(&mut self, cells: &mut C) -> Result<Turn, NoMemory>
+        requires before { IsUnderWay T.TxType B.Body self.old.read_phase self.old (C.view cells.old) }
+        requires more { 0 < words_left T.TxType B.Body self.old }
+        requires few { length self.old.words.items + 1 < 2 ^ 32 }
+        ensures steps { Steps T.TxType B.Body (C.passes cells.old) self.old.read_phase (event_of T.TxType B.Body self.old)
+            self.old self.new (C.view cells.old) (C.view cells.new) result }
+        ensures prefix { IsPrefixOf T.TxType B.Body self.old self.new (C.view cells.new) }
+        ensures one { IfOk result (λ turn. turn ≡ Turn.More) × OnOk result (words_left T.TxType B.Body self.new + 1 ≡ words_left T.TxType B.Body self.old) }
+        ensures longer { OnOk result (length self.new.words.items ≡ length self.old.words.items + 1) }
+        ensures same { C.same cells.old cells.new }
+    {
+        match self.read_phase {
+            ReadPhase::Reading { part, ticket } => self.word(cells, part, ticket),
+            ReadPhase::Rereading { part, ticket } => self.reread(cells, part, ticket),
+            _ => unreachable!(),
+        }
+    }
+
+    // Loads the clock.
     fn begin<C: Cells<T>>(&mut self, alloc: Global, cells: &mut C) -> Result<Turn, NoMemory>
         requires { IsUnderWay T.TxType B.Body ReadPhase.Unstarted self.old (C.view cells.old) }
         ensures log { OnOk result (IsLogOf T.TxType B.Body self.old self.new) }
@@ -169,7 +201,7 @@ impl<'t, T: TxType, B: Body> Attempt<'t, T, B> {
         }
         let ticket = found.ticket();
         if ticket <= self.at {
-            self.words = PartWords::new(alloc);
+            self.words = self.room(alloc, part);
             self.read_phase = ReadPhase::Reading { part, ticket };
             return Turn::More;
         }
@@ -183,6 +215,16 @@ impl<'t, T: TxType, B: Body> Attempt<'t, T, B> {
         }
         self.read_phase = ReadPhase::Renewing { part, ticket };
         Turn::More
+    }
+
+    // No word, with room for all of a part. Where memory is wanting, the read of the words tells it.
+    fn room(&self, alloc: Global, part: u32) -> PartWords
+        requires { part < length (T.meaning self.now.log.ty.now).widths }
+        ensures { result.items ≡ [] }
+    {
+        let mut words = PartWords::new(alloc);
+        let _ = words.reserve(self.log.ty.width(part));
+        words
     }
 
     // Reads the next word of the part.
@@ -199,6 +241,8 @@ impl<'t, T: TxType, B: Body> Attempt<'t, T, B> {
         ensures event { OneEvent (λ e. e ≡ Word part (length self.old.words.items)) T.valid (C.passes cells.old) (C.view cells.old) (C.view cells.new) }
         ensures log { self.new.log ≡ self.old.log }
         ensures err { OnErr result (HasStopped T.TxType B.Body self.old self.new (C.view cells.new)) }
+        ensures one { IfOk result (λ turn. turn ≡ Turn.More) × OnOk result (words_left T.TxType B.Body self.new + 1 ≡ words_left T.TxType B.Body self.old) }
+        ensures longer { OnOk result (length self.new.words.items ≡ length self.old.words.items + 1) }
         ensures same { C.same cells.old cells.new }
     {
         let value = cells.word(part, self.words.len());
@@ -244,7 +288,7 @@ impl<'t, T: TxType, B: Body> Attempt<'t, T, B> {
                 ticket: newer,
             }));
         }
-        let words = self.words.copied()?;
+        let words = mem::replace(&mut self.words, PartWords::new(alloc));
         let read_entry = ReadEntry {
             part,
             ticket,
@@ -304,7 +348,7 @@ impl<'t, T: TxType, B: Body> Attempt<'t, T, B> {
         Ok(turn)
     }
 
-    // LoadedWords the clock again, and begins to read anew what was observed.
+    // Loads the clock again, and begins to read anew what was observed.
     fn renew<C: Cells<T>>(&mut self, alloc: Global, cells: &mut C) -> Result<Turn, NoMemory>
         requires fits { (p : ℕ) × (t : ℕ) × FitsAt T.TxType B.Body (ReadPhase.Renewing p t) self.old (C.view cells.old) }
         requires log { IsOwnLog T.TxType B.Body self.old }
@@ -332,7 +376,7 @@ impl<'t, T: TxType, B: Body> Attempt<'t, T, B> {
         self.advance(alloc)
     }
 
-    // LoadedWords the version of a part that was seen. Where it has its ticket, it is read anew with that.
+    // Loads the version of a part that was seen. Where it has its ticket, it is read anew with that.
     fn recheck<C: Cells<T>>(
         &mut self,
         alloc: Global,
@@ -407,7 +451,7 @@ impl<'t, T: TxType, B: Body> Attempt<'t, T, B> {
                 ticket,
             });
         }
-        self.words = PartWords::new(alloc);
+        self.words = self.room(alloc, part);
         self.read_phase = ReadPhase::Rereading { part, ticket };
         Turn::More
     }
@@ -431,6 +475,8 @@ impl<'t, T: TxType, B: Body> Attempt<'t, T, B> {
         ensures event { OneEvent (λ e. e ≡ Word part (length self.old.words.items)) T.valid (C.passes cells.old) (C.view cells.old) (C.view cells.new) }
         ensures log { self.new.log ≡ self.old.log }
         ensures err { OnErr result (HasStopped T.TxType B.Body self.old self.new (C.view cells.new)) }
+        ensures one { IfOk result (λ turn. turn ≡ Turn.More) × OnOk result (words_left T.TxType B.Body self.new + 1 ≡ words_left T.TxType B.Body self.old) }
+        ensures longer { OnOk result (length self.new.words.items ≡ length self.old.words.items + 1) }
         ensures same { C.same cells.old cells.new }
     {
         let value = cells.word(part, self.words.len());
@@ -485,7 +531,7 @@ impl<'t, T: TxType, B: Body> Attempt<'t, T, B> {
                 ticket,
             }));
         }
-        let words = self.words.copied()?;
+        let words = mem::replace(&mut self.words, PartWords::new(alloc));
         let again = ReadEntry {
             part,
             ticket,

@@ -134,7 +134,7 @@ impl<T: TxType, B: Body> Ready<'_, T, B> {
         }
     }
 
-    // LoadedWords a word of a held part.
+    // Loads a word of a held part.
     pub(crate) fn load<C: Cells<T>>(
         &mut self,
         cells: &mut C,

@@ -62,7 +62,7 @@ impl<T: TxType, B: Body> Ready<'_, T, B> {
         }
     }
 
-    // LoadedWords a word of the part.
+    // Loads a word of the part.
     pub(crate) fn load_tested<C: Cells<T>>(
         &mut self,
         cells: &mut C,

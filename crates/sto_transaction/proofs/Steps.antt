@@ -1,5 +1,5 @@
 -- What a step of an attempt, or of its commit, leaves for the next one.
-use Rattle.std.proofs.Common.{◌≡◌, ◌≤◌, ℕ, List, map, Some, None, Option, Result, Ok, Err, IfOk, OnOk, OnErr, refl, sym, ap, ◌∙◌, subst, arith}
+use Rattle.std.proofs.Common.{◌≡◌, ◌≤◌, ◌<◌, ℕ, List, map, Some, None, Option, Result, Ok, Err, IfOk, OnOk, OnErr, refl, sym, ap, ◌∙◌, subst, arith}
 use denote.Bor.{Bor}
 use Rattle.sto_part.specs.declared.NoMemory.{NoMemory}
 use Rattle.sto_part.specs.Listed.{Listed}
@@ -22,13 +22,15 @@ use Rattle.sto_attempt_log.specs.declared.verdict.Turn.TheVariants as Turns
 use Rattle.sto_attempt_log.specs.Answers.{OneEvent, IsCommitEvent}
 use Rattle.sto_attempt_log.specs.Log.{IsOnLog}
 use Rattle.sto_attempt_log.specs.Standing.{Goes, Turned, Fits, Ends, Moves, IsFirst, IsLeft, IsUnaborted, next_event}
+use Rattle.sto_attempt_log.specs.Bounds.{events_left}
 use Rattle.sto_attempt_log.specs.CommitPhases.{Said, EndsBy, Stands, SpaceAt}
 use Rattle.sto_attempt_log.specs.Verdicts.{IsUndisturbed}
 use Rattle.sto_attempt_log.proofs.Reading.{idle_reading}
 use Rattle.sto_transaction.specs.Resting.{IsAtRest}
 use Rattle.sto_transaction.specs.declared.machine.Ended.{Ended}
+use Rattle.sto_transaction.specs.declared.machine.Machine.{Machine}
 use Rattle.sto_transaction.specs.declared.machine.Machine.TheVariants.{Running, Committing}
-use Rattle.sto_transaction.specs.Machines.{HasStopped, deal_of, IsOwnLog, RunsBody, IsReady, Commits, HasEnded, HasTurned, HasFinished}
+use Rattle.sto_transaction.specs.Machines.{HasStopped, deal_of, IsOwnLog, RunsBody, IsReady, Commits, HasEnded, HasTurned, HasFinished, Proceeds, machine_left}
 use Rattle.sto_transaction.proofs.Gone.{HasLed, HasMoved, has_led, gone_of, rests_after, stopped}
 use Rattle.sto_transaction.proofs.Ends.{ended_reading, ended_commit, commit_runs, unaborted_turn, unaborted_wrote}
 
@@ -122,6 +124,21 @@ module _ {T B : Type 0} (meaning : T → Meaning) (valid : Validity) (sizes : T 
       subst (λ (t : T). HasTurned meaning valid sizes script next left may passes t f r (Running b) begun w) types
       (subst (λ (g : Script). HasTurned meaning valid sizes script next left may passes a.log.ty.now g r (Running b) begun w) scripts
       (turned_to passes a b begun v w (ap (λ (k : Bor T). k.now) same_ref) same_script rest_there led r log turned (λ one. alone one (h.alone one)) moves err))
+
+  -- A word that was read leads on.
+  pub read_more : (passes : ℕ) (ty : T) (f : Script) (r : Result Turn NoMemory) (machine : Machine T B) (begun w : View) (turn : Turn) → r ≡ Ok turn → IfOk r (λ t. t ≡ Turns.More)
+      → HasTurned meaning valid sizes script next left may passes ty f r machine begun w → Proceeds meaning valid sizes script next left may passes ty f machine begun w
+  read_more passes ty f r machine begun w turn is more h =
+      let same : turn ≡ Turns.More = subst (λ (x : Result Turn NoMemory). IfOk x (λ t. t ≡ Turns.More)) is more in
+      subst (λ (t : Turn). HasTurned meaning valid sizes script next left may passes ty f (Ok t) machine begun w) same
+      (subst (λ (x : Result Turn NoMemory). HasTurned meaning valid sizes script next left may passes ty f x machine begun w) is h)
+
+  -- The events left, by the type before the step.
+  pub fewer_left : (a b : Attempt T B) → b.log.ty ≡ a.log.ty
+      → events_left (left b.log.body) (meaning a.log.ty.now).widths b.read_phase b.words.items b.extension b.log.base.items < machine_left meaning valid sizes script next left may (Running a)
+      → machine_left meaning valid sizes script next left may (Running b) < machine_left meaning valid sizes script next left may (Running a)
+  fewer_left a b same h =
+      subst (λ (k : Bor T). events_left (left b.log.body) (meaning k.now).widths b.read_phase b.words.items b.extension b.log.base.items < machine_left meaning valid sizes script next left may (Running a)) (sym same) h
 
   -- where a step of the commit leads
   abbrev HasCommitted : ℕ → T → Script → Option Verdict → Ready T B → View → View → Type 0

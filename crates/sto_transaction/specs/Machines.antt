@@ -122,6 +122,12 @@ module _ {T B : Type 0} (meaning : T → Meaning) (valid : Validity) (sizes : T 
   HasTurned passes ty f (Ok (turns.Ended x)) machine begun w = IsAtEnd passes ty f machine x begun w
   HasTurned passes ty f (Err error) machine begun w = HasStopped (meaning ty) (sizes ty) begun w
 
+  -- the same where a body that is ready was sealed
+  abbrev pub HasAdvanced : ℕ → T → Script → Result (Option Verdict) NoMemory → Machine T B → View → View → Type 0
+  HasAdvanced passes ty f (Ok None) machine begun w = Proceeds passes ty f machine begun w
+  HasAdvanced passes ty f (Ok (Some x)) machine begun w = IsAtEnd passes ty f machine x begun w
+  HasAdvanced passes ty f (Err error) machine begun w = HasStopped (meaning ty) (sizes ty) begun w
+
   -- what a step leads to: it proceeds, or it has ended
   abbrev pub HasStepped : ℕ → T → Script → Result (Option (Ended B)) NoMemory → Machine T B → View → View → Type 0
   HasStepped passes ty f (Ok None) machine begun w = Proceeds passes ty f machine begun w

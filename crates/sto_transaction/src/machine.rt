@@ -6,7 +6,7 @@ ghost use Rattle.sto_core.specs.declared.view.View.{View};
 ghost use Rattle.sto_attempt_log.specs.Answers.{OneEvent};
 ghost use Rattle.sto_attempt_log.specs.Bounds.{bound, words_of};
 ghost use Rattle.sto_transaction.specs.Resting.{IsAtRest};
-ghost use Rattle.sto_transaction.specs.Machines.{Proceeds, IsAtSeal, IsAtEnd, HasTurned, HasStepped, HasEnded, machine_left, left_after};
+ghost use Rattle.sto_transaction.specs.Machines.{Proceeds, IsAtSeal, IsAtEnd, HasTurned, HasAdvanced, HasStepped, HasEnded, machine_left, left_after};
 
 use std::alloc::Global;
 use std::mem;
@@ -67,13 +67,31 @@ impl<'t, T: TxType, B: Body + Drop> Machine<'t, T, B> {
         ensures left { IfOk result (λ end. left_after T.meaning T.valid T.sizes B.script B.then B.left B.may_ask end self.new < machine_left T.meaning T.valid T.sizes B.script B.then B.left B.may_ask self.old) }
         ensures same { C.same cells.old cells.new }
     {
+        match self.advance(alloc, cells)? {
+            None => Ok(None),
+            Some(verdict) => Ok(Some(self.end(verdict))),
+        }
+    }
+
+    // Makes one event, and goes on to the commit of a body that is ready. It answers the verdict with the last one.
+    pub(crate) fn advance<C: Cells<T>>(
+        &mut self,
+        alloc: Global,
+        cells: &mut C,
+    ) -> Result<Option<Verdict>, NoMemory>
+        requires { (ty : T) × (f : Script) × (begun : View) × Proceeds T.meaning T.valid T.sizes B.script B.then B.left B.may_ask (C.passes cells.old) ty f self.old begun (C.view cells.old) }
+        ensures event { OneEvent (λ _. Unit {0}) T.valid (C.passes cells.old) (C.view cells.old) (C.view cells.new) }
+        ensures advanced { (ty : T) (f : Script) (begun : View) → Proceeds T.meaning T.valid T.sizes B.script B.then B.left B.may_ask (C.passes cells.old) ty f self.old begun (C.view cells.old) → HasAdvanced T.meaning T.valid T.sizes B.script B.then B.left B.may_ask (C.passes cells.old) ty f result self.new begun (C.view cells.new) }
+        ensures left { OnOk result (machine_left T.meaning T.valid T.sizes B.script B.then B.left B.may_ask self.new < machine_left T.meaning T.valid T.sizes B.script B.then B.left B.may_ask self.old) }
+        ensures same { C.same cells.old cells.new }
+    {
         match self.turn(alloc, cells)? {
             Turn::More => Ok(None),
             Turn::Ready => {
                 self.seal(alloc)?;
                 Ok(None)
             }
-            Turn::Ended(verdict) => Ok(Some(self.end(verdict))),
+            Turn::Ended(verdict) => Ok(Some(verdict)),
         }
     }
 
@@ -117,7 +135,7 @@ impl<'t, T: TxType, B: Body + Drop> Machine<'t, T, B> {
     }
 
     // Takes what is left of an attempt that has ended.
-    fn end(&mut self, verdict: Verdict) -> Ended<B>
+    pub(crate) fn end(&mut self, verdict: Verdict) -> Ended<B>
         requires { (passes : ℕ) × (ty : T) × (f : Script) × (begun : View) × (w : View) × IsAtEnd T.meaning T.valid T.sizes B.script B.then B.left B.may_ask passes ty f self.old verdict begun w }
         ensures { (passes : ℕ) (ty : T) (f : Script) (begun w : View) → IsAtEnd T.meaning T.valid T.sizes B.script B.then B.left B.may_ask passes ty f self.old verdict begun w → HasEnded T.meaning T.valid T.sizes B.script B.then B.left B.may_ask passes ty f result begun w }
     {

@@ -1,5 +1,5 @@
 //! One transaction: attempts of a body until one is not aborted.
-ghost use Rattle.std.specs.Prelude.{◌≡◌, ◌<◌, ◌≤◌, map, true, IfOk, OnErr};
+ghost use Rattle.std.specs.Prelude.{◌≡◌, ◌<◌, ◌≤◌, map, true, IfOk, OnOk, OnErr};
 ghost use Rattle.sto_model.specs.declared.call.Call.{Call};
 ghost use Rattle.sto_model.specs.Run.{Script};
 ghost use Rattle.sto_core.specs.declared.view.View.{View};
@@ -7,13 +7,13 @@ ghost use Rattle.sto_attempt_facts.specs.Records.{is_abort};
 ghost use Rattle.sto_transaction.specs.Plain.{plain, verdict};
 ghost use Rattle.sto_transaction.specs.Ran.{HasRun, HasBroken};
 ghost use Rattle.sto_transaction.specs.Resting.{IsAtRest};
-ghost use Rattle.sto_transaction.specs.Machines.{Proceeds, HasEnded, HasFinished, HasStopped};
+ghost use Rattle.sto_transaction.specs.Machines.{Proceeds, HasEnded, HasFinished, HasStopped, machine_left};
 
 use crate::machine::{Ended, Machine};
 use crate::record::Record;
 use std::alloc::{AllocError, Global};
 use std::mem;
-use sto_attempt::Verdict;
+use sto_attempt::{Attempt, Verdict};
 use sto_core::Cells;
 use sto_model::Body;
 use sto_part::NoMemory;
@@ -139,11 +139,52 @@ fn finish<T: TxType, B: Body + Drop, C: Cells<T>, W: AttemptWatch>(
     let mut events: u64 = 0;
     loop {
         watch.before_event(events);
-        match machine.step(alloc, cells)? {
-            None => events = events.saturating_add(1),
-            Some(ended) => return Ok(ended),
+        match machine.advance(alloc, cells)? {
+            None => events = read_part(machine, cells, watch, events.saturating_add(1))?,
+            Some(verdict) => return Ok(machine.end(verdict)),
         }
     }
+}
+
+// Reads what is left of the part that is being read, word by word. It answers how many events were made then.
+fn read_part<T: TxType, B: Body + Drop, C: Cells<T>, W: AttemptWatch>(
+    machine: &mut Machine<'_, T, B>,
+    cells: &mut C,
+    watch: &mut W,
+    events: u64,
+) -> Result<u64, NoMemory>
+    requires { (ty : T) × (f : Script) × (begun : View) × Proceeds T.meaning T.valid T.sizes B.script B.then B.left B.may_ask (C.passes cells.old) ty f machine.old begun (C.view cells.old) }
+    ensures proceeds { (ty : T) (f : Script) (begun : View) → Proceeds T.meaning T.valid T.sizes B.script B.then B.left B.may_ask (C.passes cells.old) ty f machine.old begun (C.view cells.old) → OnOk result (Proceeds T.meaning T.valid T.sizes B.script B.then B.left B.may_ask (C.passes cells.old) ty f machine.new begun (C.view cells.new)) }
+    ensures err { (ty : T) (f : Script) (begun : View) → Proceeds T.meaning T.valid T.sizes B.script B.then B.left B.may_ask (C.passes cells.old) ty f machine.old begun (C.view cells.old) → OnErr result (HasStopped (T.meaning ty) (T.sizes ty) begun (C.view cells.new)) }
+    ensures left { OnOk result (machine_left T.meaning T.valid T.sizes B.script B.then B.left B.may_ask machine.new ≤ machine_left T.meaning T.valid T.sizes B.script B.then B.left B.may_ask machine.old) }
+    ensures same { C.same cells.old cells.new }
+{
+    match machine {
+        Machine::Running(attempt) => read_words(attempt, cells, watch, events),
+        _ => Ok(events),
+    }
+}
+
+// The same of an attempt whose body runs.
+fn read_words<T: TxType, B: Body + Drop, C: Cells<T>, W: AttemptWatch>(
+    attempt: &mut Attempt<'_, T, B>,
+    cells: &mut C,
+    watch: &mut W,
+    events: u64,
+) -> Result<u64, NoMemory>
+    requires { (ty : T) × (f : Script) × (begun : View) × Proceeds T.meaning T.valid T.sizes B.script B.then B.left B.may_ask (C.passes cells.old) ty f (Machine.Running attempt.old) begun (C.view cells.old) }
+    ensures proceeds { (ty : T) (f : Script) (begun : View) → Proceeds T.meaning T.valid T.sizes B.script B.then B.left B.may_ask (C.passes cells.old) ty f (Machine.Running attempt.old) begun (C.view cells.old) → OnOk result (Proceeds T.meaning T.valid T.sizes B.script B.then B.left B.may_ask (C.passes cells.old) ty f (Machine.Running attempt.new) begun (C.view cells.new)) }
+    ensures err { (ty : T) (f : Script) (begun : View) → Proceeds T.meaning T.valid T.sizes B.script B.then B.left B.may_ask (C.passes cells.old) ty f (Machine.Running attempt.old) begun (C.view cells.old) → OnErr result (HasStopped (T.meaning ty) (T.sizes ty) begun (C.view cells.new)) }
+    ensures left { OnOk result (machine_left T.meaning T.valid T.sizes B.script B.then B.left B.may_ask (Machine.Running attempt.new) ≤ machine_left T.meaning T.valid T.sizes B.script B.then B.left B.may_ask (Machine.Running attempt.old)) }
+    ensures same { C.same cells.old cells.new }
+{
+    let mut events = events;
+    for _ in 0..attempt.words_left() {
+        watch.before_event(events);
+        attempt.read_word(cells)?;
+        events = events.saturating_add(1);
+    }
+    Ok(events)
 }
 
 // Whether the attempt was aborted.

@@ -4,8 +4,8 @@ use Rattle.sto_core.specs.declared.view.View.{View}
 use Rattle.sto_transaction.specs.Machines.{Proceeds, machine_left}
 use Rattle.sto_transaction.proofs.transaction.finish.Given as goal
 
-abbrev pub invariant-loop-events : goal.invariant-loop-events
-invariant-loop-events g l = record {
+abbrev pub invariant-loop-machine : goal.invariant-loop-machine
+invariant-loop-machine g l = record {
   proceeds :
       (ty : g.row.T.Denot) (f : Script) (begun : View)
       → Proceeds g.T.TxType.meaning g.T.Naming.valid g.T.Naming.sizes g.B.Body.script g.B.Body.then g.B.Body.left g.B.Body.may_ask (g.C.Cells.passes l.fn.cells) ty f l.fn.machine begun (g.C.Cells.view l.fn.cells)
@@ -13,5 +13,5 @@ invariant-loop-events g l = record {
   same : g.C.Cells.same l.fn.cells l.cells;
 }
 
-abbrev pub decreases-loop-events : goal.decreases-loop-events
-decreases-loop-events g l = machine_left g.T.TxType.meaning g.T.Naming.valid g.T.Naming.sizes g.B.Body.script g.B.Body.then g.B.Body.left g.B.Body.may_ask l.machine
+abbrev pub decreases-loop-machine : goal.decreases-loop-machine
+decreases-loop-machine g l = machine_left g.T.TxType.meaning g.T.Naming.valid g.T.Naming.sizes g.B.Body.script g.B.Body.then g.B.Body.left g.B.Body.may_ask l.machine

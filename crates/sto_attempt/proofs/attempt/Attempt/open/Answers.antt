@@ -1,5 +1,4 @@
-use Rattle.std.proofs.Common.{rules, ◌≡◌, ◌≤◌, ◌<◌, true, false, List, ℤ, ℕ, [], ap, sym, ◌∙◌, subst, map, arith, refl}
-use Rattle.sto_part.specs.Listed.{Listed}
+use Rattle.std.proofs.Common.{rules, ◌≡◌, ◌≤◌, ◌<◌, true, false, List, ℤ, ℕ, [], sym, ◌∙◌, subst, map, arith, refl}
 use Rattle.sto_model.specs.Told.{told}
 use Rattle.sto_core.specs.Versions.{ticket_of, is_free}
 use Rattle.sto_core.proofs.Lists.{locked_is, unlocked_is}
@@ -55,7 +54,7 @@ returns-then-ticket-self-clause-steps g c =
     let h =
     open_goes m g.T.Naming.valid sizes f a.at c.args.part a.words.items a.log.base.items a.log.set.items a.log.set.updates rs (g.C.Cells.view c.args.cells.now) w (g.C.Cells.passes c.args.cells.now) n c.requires.goes.0
     c.requires.log.log c.open-found.ensures.tells free early in
-    let none : c.new.result.items ≡ [] = ap (λ (l : Listed ℤ). l.items) c.new.ensures in
+    let none : c.room.result.items ≡ [] = c.room.ensures in
     record {
       event = search rules;
       log = c.requires.log;

@@ -1,4 +1,5 @@
 use Rattle.std.proofs.Common.{◌≡◌, ◌<◌, true, false, Some, List, ℤ, ℕ, [], ◌∷◌, ◌++◌, ap, sym, ◌∙◌, subst, map, length, arith, refl, true≢false}
+use Rattle.sto_part.specs.Listed.{Listed}
 use Rattle.std.specs.List.{slice_get}
 use Rattle.std.specs.Option.{option_map}
 use Rattle.std.proofs.lemmas.Option.{slice_get-map}
@@ -157,10 +158,10 @@ advance-requires-clause-renewed g c =
     let is_next : next.next ≡ watched c.get-watch.result.now = some_same next.next (watched c.get-watch.result.now) (sym (next_place (length m.widths) old fresh ws false c.args.part next) ∙ e) in
     let preds : List Pred = c.get-watch.result.now.preds.items in
     let same_preds : next.next.preds ≡ preds = ap (λ (x : Watched). x.preds) is_next in
-    let y : ReadEntry = record { part = c.args.part; ticket = c.args.ticket; words = c.in_ok-words.words } in
+    let y : ReadEntry = record { part = c.args.part; ticket = c.args.ticket; words = c.replace-words.result } in
     let made : c.push.new.self.items ≡ fresh ++ y ∷ [] = c.in_ok-push.ensures.ok in
     let hold : AllTrueIn a.words.items next.next.preds = subst (λ (l : List Pred). AllTrueIn a.words.items l) (c.as_slice.ensures.items ∙ sym same_preds) (subst (λ (l : List ℤ). AllTrueIn l c.as_slice.result.now) c.as_slice-2.ensures.items (c.are_true.ensures.0 c.if-not-are_true.false)) in
-    let h = reclosed_renewed m law g.T.Naming.valid sizes is f a.at a.extension.bound c.args.part false a.log.base.items fresh a.log.set.items ws a.log.set.updates rs v goes.spans goes.observed goes.stands.3 c.requires.before.log.log c.args.ticket a.words.items goes.stands.0 goes.stands.1 c.requires.all w passes n c.close-found.ensures.tells free same y refl refl c.in_ok-words.ensures refl hold in
+    let h = reclosed_renewed m law g.T.Naming.valid sizes is f a.at a.extension.bound c.args.part false a.log.base.items fresh a.log.set.items ws a.log.set.updates rs v goes.spans goes.observed goes.stands.3 c.requires.before.log.log c.args.ticket a.words.items goes.stands.0 goes.stands.1 c.requires.all w passes n c.close-found.ensures.tells free same y refl refl (ap (λ (l : Listed ℤ). l.items) c.replace-words.ensures.value) refl hold in
     (next.more, subst (λ (l : List ReadEntry). IsRenewed (length m.widths) old l ws next.more) (sym made) h)
 
 pub advance-requires-clause-some : goal.advance-requires-clause-some
@@ -196,9 +197,9 @@ advance-requires-clause-some_new g c =
     let n = c.close-found.result.0 in
     let free : is_free n ≡ true = locked_is (is_free n) (sym c.is_locked.ensures ∙ c.if-is_locked.false) in
     let same : ticket_of n ≡ c.args.ticket = sym c.ticket-newer.ensures.ticket ∙ c.if-newer-ticket.false in
-    let y : ReadEntry = record { part = c.args.part; ticket = c.args.ticket; words = c.in_ok-words.words } in
+    let y : ReadEntry = record { part = c.args.part; ticket = c.args.ticket; words = c.replace-words.result } in
     let made : c.push.new.self.items ≡ fresh ++ y ∷ [] = c.in_ok-push.ensures.ok in
-    let h = reclosed_spans m law g.T.Naming.valid sizes is f a.at a.extension.bound c.args.part false a.log.base.items fresh a.log.set.items ws a.log.set.updates rs v goes.spans goes.observed goes.stands.3 c.requires.before.log.log c.args.ticket a.words.items goes.stands.0 goes.stands.1 c.requires.all w passes n c.close-found.ensures.tells free same y refl refl c.in_ok-words.ensures in
+    let h = reclosed_spans m law g.T.Naming.valid sizes is f a.at a.extension.bound c.args.part false a.log.base.items fresh a.log.set.items ws a.log.set.updates rs v goes.spans goes.observed goes.stands.3 c.requires.before.log.log c.args.ticket a.words.items goes.stands.0 goes.stands.1 c.requires.all w passes n c.close-found.ensures.tells free same y refl refl (ap (λ (l : Listed ℤ). l.items) c.replace-words.ensures.value) in
     let d = some_anew m law g.T.Naming.valid sizes is f a.at a.extension.bound c.args.part false a.log.base.items fresh a.log.set.items ws a.log.set.updates rs v goes.spans goes.observed goes.stands.3 c.requires.before.log.log w (fresh ++ y ∷ []) h.0 in
     subst (λ (l : List ReadEntry). (d : Parts) × m.valid d × IsPartOf (words_in l) d) (sym made) d
 
@@ -220,9 +221,9 @@ returns-clause-turned g c =
     let n = c.close-found.result.0 in
     let free : is_free n ≡ true = locked_is (is_free n) (sym c.is_locked.ensures ∙ c.if-is_locked.false) in
     let same : ticket_of n ≡ c.args.ticket = sym c.ticket-newer.ensures.ticket ∙ c.if-newer-ticket.false in
-    let y : ReadEntry = record { part = c.args.part; ticket = c.args.ticket; words = c.in_ok-words.words } in
+    let y : ReadEntry = record { part = c.args.part; ticket = c.args.ticket; words = c.replace-words.result } in
     let made : c.push.new.self.items ≡ fresh ++ y ∷ [] = c.in_ok-push.ensures.ok in
-    let h = reclosed_spans m law g.T.Naming.valid sizes is f a.at a.extension.bound c.args.part false a.log.base.items fresh a.log.set.items ws a.log.set.updates rs v goes.spans goes.observed goes.stands.3 c.requires.before.log.log c.args.ticket a.words.items goes.stands.0 goes.stands.1 c.requires.all w passes n c.close-found.ensures.tells free same y refl refl c.in_ok-words.ensures in
+    let h = reclosed_spans m law g.T.Naming.valid sizes is f a.at a.extension.bound c.args.part false a.log.base.items fresh a.log.set.items ws a.log.set.updates rs v goes.spans goes.observed goes.stands.3 c.requires.before.log.log c.args.ticket a.words.items goes.stands.0 goes.stands.1 c.requires.all w passes n c.close-found.ensures.tells free same y refl refl (ap (λ (l : Listed ℤ). l.items) c.replace-words.ensures.value) in
     c.advance.ensures.turned w (subst (λ (l : List ReadEntry). Spans m g.T.Naming.valid sizes a.at a.extension.bound a.log.base.items l w) (sym made) h.0) h.1
 
 pub returns-then-is_locked-clause-grown : goal.returns-then-is_locked-clause-grown
@@ -337,24 +338,6 @@ returns-then-not-are_true-clause-left g c =
     let passes = g.C.Cells.passes c.args.cells.now in
     reclose_over m.widths (words_in a.log.base.items) fresh ws c.args.part goes.stands.3 (g.B.Body.left a.log.body - 1) (length a.words.items) c.requires.all
 
-pub returns-in_err-words-clause-err : goal.returns-in_err-words-clause-err
-returns-in_err-words-clause-err g c =
-    let a = c.args.self.now in
-    let m = g.T.TxType.meaning a.log.ty.now in
-    let law = g.met.T.TxType.lawful a.log.ty.now in
-    let sizes = g.T.Naming.sizes a.log.ty.now in
-    let is : (d : Parts) → g.T.Naming.valid sizes d → m.valid d = λ d h. (g.met.T.TxType.valid_is a.log.ty.now d).1 h in
-    let f = g.B.Body.script a.log.body in
-    let rs = map told a.log.replies.items in
-    let v = g.C.Cells.view c.args.cells.now in
-    let fresh = a.extension.fresh.items in
-    let ws = map watched a.extension.watches.items in
-    let goes = c.requires.before.goes in
-    let passes = g.C.Cells.passes c.args.cells.now in
-    let w = g.C.Cells.view c.close-found.new.self in
-    let n = c.close-found.result.0 in
-    always_err c.from_residual.result (IsLeft w × IsPrefix m f w a.at rs) (reclosed_left m law g.T.Naming.valid sizes is f a.at a.extension.bound c.args.part false a.log.base.items fresh a.log.set.items ws a.log.set.updates rs v goes.spans goes.observed goes.stands.3 c.requires.before.log.log c.args.ticket a.words.items goes.stands.0 goes.stands.1 c.requires.all w passes n c.close-found.ensures.tells, reclosed_prefix m law g.T.Naming.valid sizes is f a.at a.extension.bound c.args.part false a.log.base.items fresh a.log.set.items ws a.log.set.updates rs v goes.spans goes.observed goes.stands.3 c.requires.before.log.log c.args.ticket a.words.items goes.stands.0 goes.stands.1 c.requires.all w passes n c.close-found.ensures.tells)
-
 pub returns-then-place-clause-err : goal.returns-then-place-clause-err
 returns-then-place-clause-err g c =
     let a = c.args.self.now in
@@ -389,7 +372,7 @@ returns-in_err-push-clause-err g c =
     let passes = g.C.Cells.passes c.args.cells.now in
     let w = g.C.Cells.view c.close-found.new.self in
     let n = c.close-found.result.0 in
-    always_err c.from_residual-in_err-push.result (IsLeft w × IsPrefix m f w a.at rs) (reclosed_left m law g.T.Naming.valid sizes is f a.at a.extension.bound c.args.part false a.log.base.items fresh a.log.set.items ws a.log.set.updates rs v goes.spans goes.observed goes.stands.3 c.requires.before.log.log c.args.ticket a.words.items goes.stands.0 goes.stands.1 c.requires.all w passes n c.close-found.ensures.tells, reclosed_prefix m law g.T.Naming.valid sizes is f a.at a.extension.bound c.args.part false a.log.base.items fresh a.log.set.items ws a.log.set.updates rs v goes.spans goes.observed goes.stands.3 c.requires.before.log.log c.args.ticket a.words.items goes.stands.0 goes.stands.1 c.requires.all w passes n c.close-found.ensures.tells)
+    always_err c.from_residual.result (IsLeft w × IsPrefix m f w a.at rs) (reclosed_left m law g.T.Naming.valid sizes is f a.at a.extension.bound c.args.part false a.log.base.items fresh a.log.set.items ws a.log.set.updates rs v goes.spans goes.observed goes.stands.3 c.requires.before.log.log c.args.ticket a.words.items goes.stands.0 goes.stands.1 c.requires.all w passes n c.close-found.ensures.tells, reclosed_prefix m law g.T.Naming.valid sizes is f a.at a.extension.bound c.args.part false a.log.base.items fresh a.log.set.items ws a.log.set.updates rs v goes.spans goes.observed goes.stands.3 c.requires.before.log.log c.args.ticket a.words.items goes.stands.0 goes.stands.1 c.requires.all w passes n c.close-found.ensures.tells)
 
 pub returns-clause-err : goal.returns-clause-err
 returns-clause-err g c =
@@ -416,11 +399,11 @@ returns-clause-err g c =
     let is_next : next.next ≡ watched c.get-watch.result.now = some_same next.next (watched c.get-watch.result.now) (sym (next_place (length m.widths) old fresh ws false c.args.part next) ∙ e) in
     let preds : List Pred = c.get-watch.result.now.preds.items in
     let same_preds : next.next.preds ≡ preds = ap (λ (x : Watched). x.preds) is_next in
-    let y : ReadEntry = record { part = c.args.part; ticket = c.args.ticket; words = c.in_ok-words.words } in
+    let y : ReadEntry = record { part = c.args.part; ticket = c.args.ticket; words = c.replace-words.result } in
     let made : c.push.new.self.items ≡ fresh ++ y ∷ [] = c.in_ok-push.ensures.ok in
     let hold : AllTrueIn a.words.items next.next.preds = subst (λ (l : List Pred). AllTrueIn a.words.items l) (c.as_slice.ensures.items ∙ sym same_preds) (subst (λ (l : List ℤ). AllTrueIn l c.as_slice.result.now) c.as_slice-2.ensures.items (c.are_true.ensures.0 c.if-not-are_true.false)) in
-    let h = reclosed_renewed m law g.T.Naming.valid sizes is f a.at a.extension.bound c.args.part false a.log.base.items fresh a.log.set.items ws a.log.set.updates rs v goes.spans goes.observed goes.stands.3 c.requires.before.log.log c.args.ticket a.words.items goes.stands.0 goes.stands.1 c.requires.all w passes n c.close-found.ensures.tells free same y refl refl c.in_ok-words.ensures refl hold in
-    let spans = reclosed_spans m law g.T.Naming.valid sizes is f a.at a.extension.bound c.args.part false a.log.base.items fresh a.log.set.items ws a.log.set.updates rs v goes.spans goes.observed goes.stands.3 c.requires.before.log.log c.args.ticket a.words.items goes.stands.0 goes.stands.1 c.requires.all w passes n c.close-found.ensures.tells free same y refl refl c.in_ok-words.ensures in
+    let h = reclosed_renewed m law g.T.Naming.valid sizes is f a.at a.extension.bound c.args.part false a.log.base.items fresh a.log.set.items ws a.log.set.updates rs v goes.spans goes.observed goes.stands.3 c.requires.before.log.log c.args.ticket a.words.items goes.stands.0 goes.stands.1 c.requires.all w passes n c.close-found.ensures.tells free same y refl refl (ap (λ (l : Listed ℤ). l.items) c.replace-words.ensures.value) refl hold in
+    let spans = reclosed_spans m law g.T.Naming.valid sizes is f a.at a.extension.bound c.args.part false a.log.base.items fresh a.log.set.items ws a.log.set.updates rs v goes.spans goes.observed goes.stands.3 c.requires.before.log.log c.args.ticket a.words.items goes.stands.0 goes.stands.1 c.requires.all w passes n c.close-found.ensures.tells free same y refl refl (ap (λ (l : Listed ℤ). l.items) c.replace-words.ensures.value) in
     let now = map told c.advance.new.self.log.replies.items in
     let left : IsLeft w = reclosed_left m law g.T.Naming.valid sizes is f a.at a.extension.bound c.args.part false a.log.base.items fresh a.log.set.items ws a.log.set.updates rs v goes.spans goes.observed goes.stands.3 c.requires.before.log.log c.args.ticket a.words.items goes.stands.0 goes.stands.1 c.requires.all w passes n c.close-found.ensures.tells in
     err_both c.advance.result (IsLeft w) (IsPrefix m f w c.advance.new.self.at now) (always_err c.advance.result (IsLeft w) left)
@@ -451,10 +434,10 @@ returns-clause-left g c =
     let is_next : next.next ≡ watched c.get-watch.result.now = some_same next.next (watched c.get-watch.result.now) (sym (next_place (length m.widths) old fresh ws false c.args.part next) ∙ e) in
     let preds : List Pred = c.get-watch.result.now.preds.items in
     let same_preds : next.next.preds ≡ preds = ap (λ (x : Watched). x.preds) is_next in
-    let y : ReadEntry = record { part = c.args.part; ticket = c.args.ticket; words = c.in_ok-words.words } in
+    let y : ReadEntry = record { part = c.args.part; ticket = c.args.ticket; words = c.replace-words.result } in
     let made : c.push.new.self.items ≡ fresh ++ y ∷ [] = c.in_ok-push.ensures.ok in
     let hold : AllTrueIn a.words.items next.next.preds = subst (λ (l : List Pred). AllTrueIn a.words.items l) (c.as_slice.ensures.items ∙ sym same_preds) (subst (λ (l : List ℤ). AllTrueIn l c.as_slice.result.now) c.as_slice-2.ensures.items (c.are_true.ensures.0 c.if-not-are_true.false)) in
-    let h = reclosed_renewed m law g.T.Naming.valid sizes is f a.at a.extension.bound c.args.part false a.log.base.items fresh a.log.set.items ws a.log.set.updates rs v goes.spans goes.observed goes.stands.3 c.requires.before.log.log c.args.ticket a.words.items goes.stands.0 goes.stands.1 c.requires.all w passes n c.close-found.ensures.tells free same y refl refl c.in_ok-words.ensures refl hold in
+    let h = reclosed_renewed m law g.T.Naming.valid sizes is f a.at a.extension.bound c.args.part false a.log.base.items fresh a.log.set.items ws a.log.set.updates rs v goes.spans goes.observed goes.stands.3 c.requires.before.log.log c.args.ticket a.words.items goes.stands.0 goes.stands.1 c.requires.all w passes n c.close-found.ensures.tells free same y refl refl (ap (λ (l : Listed ℤ). l.items) c.replace-words.ensures.value) refl hold in
     let b = c.advance.new.self in
     let gone : drop (length c.push.new.self.items) ws ≡ next.more = ap (λ (l : List ReadEntry). drop (length l) ws) made ∙ left_watches (length m.widths) old (fresh ++ y ∷ []) ws next.more h in
     let before = g.B.Body.left a.log.body in

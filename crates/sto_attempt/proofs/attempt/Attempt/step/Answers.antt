@@ -1,8 +1,7 @@
-use Rattle.std.proofs.Common.{Ok, rules, ◌≡◌, ◌≤◌, ◌<◌, false, ap, sym, ◌∙◌, subst, map, length, arith, slice_index_or}
+use Rattle.std.proofs.Common.{Ok, ◌≡◌, ◌≤◌, ◌<◌, false, ap, sym, ◌∙◌, subst, map, length, arith, slice_index_or}
 use Rattle.sto_item.specs.Watched.{watched}
 use Rattle.sto_model.specs.Told.{told}
 use Rattle.sto_type.specs.Known.{Parts}
-use Rattle.sto_attempt_log.specs.declared.log.Log.{Log}
 use Rattle.sto_attempt_log.specs.declared.read_phase.ReadPhase.{ReadPhase}
 use Rattle.sto_attempt_log.specs.declared.read_phase.ReadPhase.TheVariants.{Rereading}
 use Rattle.sto_attempt_log.specs.ReadSet.{words_in}
@@ -12,19 +11,17 @@ use Rattle.sto_attempt_log.proofs.Again.{below_long}
 use Rattle.sto_attempt_log.proofs.Stepping.{turned_prefix, any_prefix, ok_map, ok_always, width_got}
 use Rattle.sto_attempt_log.specs.Standing.{IsFirst}
 use Rattle.std.proofs.Common.{IfOk, OnOk}
-use Rattle.sto_core.specs.Event.{Event, Word, Close}
+use Rattle.sto_core.specs.Event.{Event, Close}
 use Rattle.sto_attempt_log.specs.Answers.{OneEvent}
-use Rattle.sto_attempt_log.specs.Growing.{HasHeard}
 use Rattle.sto_attempt_log.specs.Reasons.{IsCaused}
 use Rattle.sto_attempt_log.specs.Standing.{next_event, KeepsExtension}
-use Rattle.sto_attempt_log.proofs.Onward.{heard_none}
-use Rattle.sto_attempt_log.proofs.Stepping.{word_next, close_next}
+use Rattle.sto_attempt_log.proofs.Stepping.{close_next}
 use Rattle.sto_attempt_log.specs.Standing.{HasBegun, Moves}
-use Rattle.sto_attempt_log.proofs.Stepping.{moves_on, moves_ok, moves_same}
+use Rattle.sto_attempt_log.proofs.Stepping.{moves_ok, moves_same}
 use Rattle.sto_attempt_log.specs.Answers.{IsPrefix}
 use Rattle.sto_attempt_log.specs.Bounds.{events_left}
 use Rattle.sto_attempt_log.specs.Standing.{IsUnaborted}
-use Rattle.sto_attempt_log.proofs.Stepping.{if_ok, err_map, unaborted_caused, keeps_fresh, keeps_same}
+use Rattle.sto_attempt_log.proofs.Stepping.{if_ok, err_map, unaborted_caused, keeps_fresh}
 use Rattle.sto_type.specs.Traits.{of_type}
 use Rattle.sto_attempt.proofs.Attempts.{under_way_at, steps_at}
 use Rattle.sto_attempt.proofs.attempt.Attempt.step.Goals as goal
@@ -38,11 +35,6 @@ pub open-requires : goal.open-requires
 open-requires g c =
     let a = c.args.self.now in
     under_way_at (of_type g.T.Naming g.T.TxType) g.B.Body a (g.C.Cells.view c.args.cells.now) a.read_phase _ c.in-Opening.is c.requires
-
-pub word-requires-clause-before : goal.word-requires-clause-before
-word-requires-clause-before g c =
-    let a = c.args.self.now in
-    under_way_at (of_type g.T.Naming g.T.TxType) g.B.Body a (g.C.Cells.view c.args.cells.now) a.read_phase _ c.in-Reading.is c.requires
 
 pub close-requires-clause-before : goal.close-requires-clause-before
 close-requires-clause-before g c =
@@ -58,11 +50,6 @@ pub reopen-requires : goal.reopen-requires
 reopen-requires g c =
     let a = c.args.self.now in
     under_way_at (of_type g.T.Naming g.T.TxType) g.B.Body a (g.C.Cells.view c.args.cells.now) a.read_phase _ c.in-Reopening.is c.requires
-
-pub reread-requires-clause-before : goal.reread-requires-clause-before
-reread-requires-clause-before g c =
-    let a = c.args.self.now in
-    under_way_at (of_type g.T.Naming g.T.TxType) g.B.Body a (g.C.Cells.view c.args.cells.now) a.read_phase _ c.in-Rereading.is c.requires
 
 pub reclose-requires-clause-before : goal.reclose-requires-clause-before
 reclose-requires-clause-before g c =
@@ -84,12 +71,6 @@ width-requires-in-Rereading g c =
     let goes : Renews m valid sizes a.at (Rereading p c.in-Rereading.ticket) a.words.items a.extension a.log.base.items a.log.set.items v =
     subst (λ (s : ReadPhase). Goes m valid sizes f a.at s a.words.items a.extension a.log.base.items a.log.set.items a.log.set.updates rs v) c.in-Rereading.is c.requires.goes in
     below_long m law valid sizes is f a.at a.extension.bound p false a.log.base.items a.extension.fresh.items a.log.set.items (map watched a.extension.watches.items) a.log.set.updates rs v goes.spans goes.observed goes.stands.3 c.requires.log.log
-
-pub reread-requires-clause-more : goal.reread-requires-clause-more
-reread-requires-clause-more g c =
-    let a = c.args.self.now in
-    let m = g.T.TxType.meaning a.log.ty.now in
-    omega (arith, width_got m.widths c.in-Rereading.part c.width-in-Rereading.result c.width-in-Rereading.ensures, c.if-len-width-2.true, c.len-in-Rereading.ensures)
 
 pub reclose-requires-clause-all : goal.reclose-requires-clause-all
 reclose-requires-clause-all g c =
@@ -129,19 +110,6 @@ returns-in-Opening-clause-prefix g c =
     let w = g.C.Cells.view c.open.new.cells in
     let now = map told b.log.replies.items in
     turned_prefix m valid sizes f b.at b.words.items b.extension b.log.base.items b.log.set.items b.log.set.updates now w b.read_phase c.open.result c.open.ensures.steps.turned c.open.ensures.steps.log.log
-
-pub returns-then-len-width-clause-prefix : goal.returns-then-len-width-clause-prefix
-returns-then-len-width-clause-prefix g c =
-    let a = c.args.self.now in
-    let m = g.T.TxType.meaning a.log.ty.now in
-    let sizes = g.T.Naming.sizes a.log.ty.now in
-    let valid = g.T.Naming.valid in
-    let f = g.B.Body.script a.log.body in
-    let b = c.word.new.self in
-    let w = g.C.Cells.view c.word.new.cells in
-    let now = map told b.log.replies.items in
-    let log : IsLog m f (words_in b.log.base.items) b.log.set.items b.log.set.updates now = subst (λ (k : Log g.row.T.Denot g.row.B.Denot). IsLog m f (words_in k.base.items) k.set.items k.set.updates (map told k.replies.items)) (sym c.word.ensures.log) c.requires.log.log in
-    any_prefix m valid sizes f b.at b.words.items b.extension b.log.base.items b.log.set.items b.log.set.updates now w b.read_phase c.word.result (IsLeft w) c.word.ensures.turned (ok_always c.word.result (IsLog m f (words_in b.log.base.items) b.log.set.items b.log.set.updates now) log) c.word.ensures.err
 
 pub returns-else-len-width-clause-prefix : goal.returns-else-len-width-clause-prefix
 returns-else-len-width-clause-prefix g c =
@@ -194,19 +162,6 @@ returns-in-Reopening-clause-prefix g c =
     let now = map told b.log.replies.items in
     turned_prefix m valid sizes f b.at b.words.items b.extension b.log.base.items b.log.set.items b.log.set.updates now w b.read_phase c.reopen.result c.reopen.ensures.steps.turned c.reopen.ensures.steps.log.log
 
-pub returns-then-len-width-2-clause-prefix : goal.returns-then-len-width-2-clause-prefix
-returns-then-len-width-2-clause-prefix g c =
-    let a = c.args.self.now in
-    let m = g.T.TxType.meaning a.log.ty.now in
-    let sizes = g.T.Naming.sizes a.log.ty.now in
-    let valid = g.T.Naming.valid in
-    let f = g.B.Body.script a.log.body in
-    let b = c.reread.new.self in
-    let w = g.C.Cells.view c.reread.new.cells in
-    let now = map told b.log.replies.items in
-    let log : IsLog m f (words_in b.log.base.items) b.log.set.items b.log.set.updates now = subst (λ (k : Log g.row.T.Denot g.row.B.Denot). IsLog m f (words_in k.base.items) k.set.items k.set.updates (map told k.replies.items)) (sym c.reread.ensures.log) c.requires.log.log in
-    any_prefix m valid sizes f b.at b.words.items b.extension b.log.base.items b.log.set.items b.log.set.updates now w b.read_phase c.reread.result (IsLeft w) c.reread.ensures.turned (ok_always c.reread.result (IsLog m f (words_in b.log.base.items) b.log.set.items b.log.set.updates now) log) c.reread.ensures.err
-
 pub returns-else-len-width-2-clause-prefix : goal.returns-else-len-width-2-clause-prefix
 returns-else-len-width-2-clause-prefix g c =
     let a = c.args.self.now in
@@ -220,16 +175,6 @@ returns-else-len-width-2-clause-prefix g c =
     any_prefix m valid sizes f b.at b.words.items b.extension b.log.base.items b.log.set.items b.log.set.updates now w b.read_phase c.reclose.result (IsLeft w) c.reclose.ensures.turned
     (ok_map c.reclose.result (IsOnLog m (g.B.Body.then b.log.body) f (g.B.Body.left b.log.body) (g.B.Body.may_ask b.log.body) b.log.base.items b.log.set b.log.cache b.log.replies.items) (IsLog m f (words_in b.log.base.items) b.log.set.items b.log.set.updates now) (λ h. h.log) c.reclose.ensures.log) c.reclose.ensures.err
 
-pub word-requires-clause-read_phase : goal.word-requires-clause-read_phase
-word-requires-clause-read_phase g c =
-    c.in-Reading.is
-
-pub word-requires-clause-more : goal.word-requires-clause-more
-word-requires-clause-more g c =
-    let a = c.args.self.now in
-    let m = g.T.TxType.meaning a.log.ty.now in
-    omega (arith, width_got m.widths c.in-Reading.part c.width.result c.width.ensures, c.if-len-width.true, c.len.ensures)
-
 pub close-requires-clause-all : goal.close-requires-clause-all
 close-requires-clause-all g c =
     let a = c.args.self.now in
@@ -240,10 +185,6 @@ close-requires-clause-all g c =
     let h = subst (λ (s : ReadPhase). Goes m g.T.Naming.valid (g.T.Naming.sizes a.log.ty.now) f a.at s a.words.items a.extension a.log.base.items a.log.set.items a.log.set.updates rs v) c.in-Reading.is c.requires.goes in
     omega (arith, width_got m.widths c.in-Reading.part c.width.result c.width.ensures, c.if-len-width.false, c.len.ensures, h.0.stands.2)
 
-pub reread-requires-clause-read_phase : goal.reread-requires-clause-read_phase
-reread-requires-clause-read_phase g c =
-    c.in-Rereading.is
-
 pub returns-in-Unstarted-clause-same : goal.returns-in-Unstarted-clause-same
 returns-in-Unstarted-clause-same g c =
     c.begin.ensures.same
@@ -251,10 +192,6 @@ returns-in-Unstarted-clause-same g c =
 pub returns-in-Opening-clause-same : goal.returns-in-Opening-clause-same
 returns-in-Opening-clause-same g c =
     c.open.ensures.same
-
-pub returns-then-len-width-clause-same : goal.returns-then-len-width-clause-same
-returns-then-len-width-clause-same g c =
-    c.word.ensures.same
 
 pub returns-else-len-width-clause-same : goal.returns-else-len-width-clause-same
 returns-else-len-width-clause-same g c =
@@ -271,10 +208,6 @@ returns-in-Rechecking-clause-same g c =
 pub returns-in-Reopening-clause-same : goal.returns-in-Reopening-clause-same
 returns-in-Reopening-clause-same g c =
     c.reopen.ensures.same
-
-pub returns-then-len-width-2-clause-same : goal.returns-then-len-width-2-clause-same
-returns-then-len-width-2-clause-same g c =
-    c.reread.ensures.same
 
 pub returns-else-len-width-2-clause-same : goal.returns-else-len-width-2-clause-same
 returns-else-len-width-2-clause-same g c =
@@ -310,37 +243,6 @@ pub returns-in-Opening-clause-steps : goal.returns-in-Opening-clause-steps
 returns-in-Opening-clause-steps g c =
     let a = c.args.self.now in
     steps_at (of_type g.T.Naming g.T.TxType) g.B.Body (g.C.Cells.passes c.args.cells.now) a c.open.new.self (g.C.Cells.view c.args.cells.now) (g.C.Cells.view c.open.new.cells) (Ok c.open.result) a.read_phase _ c.in-Opening.is c.open.ensures.steps
-
-pub returns-then-len-width-clause-steps : goal.returns-then-len-width-clause-steps
-returns-then-len-width-clause-steps g c =
-    let a = c.args.self.now in
-    let m = g.T.TxType.meaning a.log.ty.now in
-    let v = g.C.Cells.view c.args.cells.now in
-    let passes = g.C.Cells.passes c.args.cells.now in
-    let valid = g.T.Naming.valid in
-    let short : length a.words.items < slice_index_or m.widths c.in-Reading.part 0 = omega (arith, width_got m.widths c.in-Reading.part c.width.result c.width.ensures, c.if-len-width.true, c.len.ensures) in
-    let to : next_event m.widths a.read_phase a.words.items ≡ Word c.in-Reading.part (length a.words.items) = ap (λ (s : ReadPhase). next_event m.widths s a.words.items) c.in-Reading.is ∙ word_next m.widths c.in-Reading.part a.words.items short in
-    let f = g.B.Body.script a.log.body in
-    let b = c.word.new.self in
-    let rs = map told a.log.replies.items in
-    let k = c.word.new.self.log in
-    let w = g.C.Cells.view c.word.new.cells in
-    let now = map told b.log.replies.items in
-    record {
-      event = subst (λ (x : Event). OneEvent (λ e. e ≡ x) valid passes v (g.C.Cells.view c.word.new.cells)) (sym to) c.word.ensures.event;
-      log = ok_always c.word.result (IsOnLog m (g.B.Body.then b.log.body) f (g.B.Body.left b.log.body) (g.B.Body.may_ask b.log.body) b.log.base.items b.log.set b.log.cache b.log.replies.items) (subst (λ (k : Log g.row.T.Denot g.row.B.Denot). IsOnLog m (g.B.Body.then k.body) f (g.B.Body.left k.body) (g.B.Body.may_ask k.body) k.base.items k.set k.cache k.replies.items) (sym c.word.ensures.log) c.requires.log);
-      turned = c.word.ensures.turned;
-      grown = ok_always c.word.result (HasHeard m f (words_in k.base.items) rs a.log.set (map told k.replies.items) k.set)
-          (subst (λ (h : Log g.row.T.Denot g.row.B.Denot). HasHeard m f (words_in h.base.items) rs a.log.set (map told h.replies.items) h.set) (sym c.word.ensures.log) (heard_none m f (words_in a.log.base.items) rs a.log.set));
-      alone = λ one first. c.word.ensures.alone;
-      reason = if_ok c.word.result (λ turn. IsFirst b.read_phase × IsUnaborted turn) (λ turn. IsCaused (next_event m.widths a.read_phase a.words.items) b.log.set.items w a.extension turn) (λ turn h. unaborted_caused (next_event m.widths a.read_phase a.words.items) b.log.set.items w a.extension turn h.1) c.word.ensures.alone;
-      renewed = ok_always c.word.result (KeepsExtension a.read_phase w a.extension rs b.extension now) (subst (λ (s : ReadPhase). KeepsExtension s w a.extension rs b.extension now) (sym c.in-Reading.is) (keeps_same a.extension b.extension rs now c.word.ensures.extension (ap (λ (k : Log g.row.T.Denot g.row.B.Denot). map told k.replies.items) c.word.ensures.log)));
-      moves = moves_same c.word.result a.read_phase (subst HasBegun (sym c.in-Reading.is) tt) a.at b.read_phase b.at w c.word.ensures.moves;
-      left = subst (λ (s : ReadPhase). OnOk c.word.result (events_left (g.B.Body.left b.log.body) m.widths b.read_phase b.words.items b.extension b.log.base.items < events_left (g.B.Body.left a.log.body) m.widths s a.words.items a.extension a.log.base.items)) (sym c.in-Reading.is) c.word.ensures.left;
-      err = err_map c.word.result (IsLeft w × IsPrefix m f w b.at now) (IsLeft w) (λ h. h.0) c.word.ensures.err;
-      script = ap (λ (k : Log g.row.T.Denot g.row.B.Denot). g.B.Body.script k.body) c.word.ensures.log;
-      ty = ap (λ (k : Log g.row.T.Denot g.row.B.Denot). k.ty) c.word.ensures.log;
-    }
 
 pub returns-else-len-width-clause-steps : goal.returns-else-len-width-clause-steps
 returns-else-len-width-clause-steps g c =
@@ -426,37 +328,6 @@ returns-in-Reopening-clause-steps g c =
     let a = c.args.self.now in
     steps_at (of_type g.T.Naming g.T.TxType) g.B.Body (g.C.Cells.passes c.args.cells.now) a c.reopen.new.self (g.C.Cells.view c.args.cells.now) (g.C.Cells.view c.reopen.new.cells) (Ok c.reopen.result) a.read_phase _ c.in-Reopening.is c.reopen.ensures.steps
 
-pub returns-then-len-width-2-clause-steps : goal.returns-then-len-width-2-clause-steps
-returns-then-len-width-2-clause-steps g c =
-    let a = c.args.self.now in
-    let m = g.T.TxType.meaning a.log.ty.now in
-    let v = g.C.Cells.view c.args.cells.now in
-    let passes = g.C.Cells.passes c.args.cells.now in
-    let valid = g.T.Naming.valid in
-    let short : length a.words.items < slice_index_or m.widths c.in-Rereading.part 0 = omega (arith, width_got m.widths c.in-Rereading.part c.width-in-Rereading.result c.width-in-Rereading.ensures, c.if-len-width-2.true, c.len-in-Rereading.ensures) in
-    let to : next_event m.widths a.read_phase a.words.items ≡ Word c.in-Rereading.part (length a.words.items) = ap (λ (s : ReadPhase). next_event m.widths s a.words.items) c.in-Rereading.is ∙ word_next m.widths c.in-Rereading.part a.words.items short in
-    let f = g.B.Body.script a.log.body in
-    let b = c.reread.new.self in
-    let rs = map told a.log.replies.items in
-    let k = c.reread.new.self.log in
-    let w = g.C.Cells.view c.reread.new.cells in
-    let now = map told b.log.replies.items in
-    record {
-      event = subst (λ (x : Event). OneEvent (λ e. e ≡ x) valid passes v (g.C.Cells.view c.reread.new.cells)) (sym to) c.reread.ensures.event;
-      log = ok_always c.reread.result (IsOnLog m (g.B.Body.then b.log.body) f (g.B.Body.left b.log.body) (g.B.Body.may_ask b.log.body) b.log.base.items b.log.set b.log.cache b.log.replies.items) (subst (λ (k : Log g.row.T.Denot g.row.B.Denot). IsOnLog m (g.B.Body.then k.body) f (g.B.Body.left k.body) (g.B.Body.may_ask k.body) k.base.items k.set k.cache k.replies.items) (sym c.reread.ensures.log) c.requires.log);
-      turned = c.reread.ensures.turned;
-      grown = ok_always c.reread.result (HasHeard m f (words_in k.base.items) rs a.log.set (map told k.replies.items) k.set)
-          (subst (λ (h : Log g.row.T.Denot g.row.B.Denot). HasHeard m f (words_in h.base.items) rs a.log.set (map told h.replies.items) h.set) (sym c.reread.ensures.log) (heard_none m f (words_in a.log.base.items) rs a.log.set));
-      alone = λ one first. absurd (subst IsFirst c.in-Rereading.is first);
-      reason = if_ok c.reread.result IsUnaborted (λ turn. IsCaused (next_event m.widths a.read_phase a.words.items) b.log.set.items w a.extension turn) (λ turn h. unaborted_caused (next_event m.widths a.read_phase a.words.items) b.log.set.items w a.extension turn h) c.reread.ensures.unaborted;
-      renewed = ok_always c.reread.result (KeepsExtension a.read_phase w a.extension rs b.extension now) (subst (λ (s : ReadPhase). KeepsExtension s w a.extension rs b.extension now) (sym c.in-Rereading.is) (keeps_same a.extension b.extension rs now c.reread.ensures.extension (ap (λ (k : Log g.row.T.Denot g.row.B.Denot). map told k.replies.items) c.reread.ensures.log)));
-      moves = moves_ok c.reread.result a.read_phase (subst HasBegun (sym c.in-Rereading.is) tt) a.at b.read_phase b.at w c.reread.ensures.moves;
-      left = subst (λ (s : ReadPhase). OnOk c.reread.result (events_left (g.B.Body.left b.log.body) m.widths b.read_phase b.words.items b.extension b.log.base.items < events_left (g.B.Body.left a.log.body) m.widths s a.words.items a.extension a.log.base.items)) (sym c.in-Rereading.is) c.reread.ensures.left;
-      err = err_map c.reread.result (IsLeft w × IsPrefix m f w b.at now) (IsLeft w) (λ h. h.0) c.reread.ensures.err;
-      script = ap (λ (k : Log g.row.T.Denot g.row.B.Denot). g.B.Body.script k.body) c.reread.ensures.log;
-      ty = ap (λ (k : Log g.row.T.Denot g.row.B.Denot). k.ty) c.reread.ensures.log;
-    }
-
 pub returns-else-len-width-2-clause-steps : goal.returns-else-len-width-2-clause-steps
 returns-else-len-width-2-clause-steps g c =
     let a = c.args.self.now in
@@ -485,3 +356,17 @@ returns-else-len-width-2-clause-steps g c =
       script = c.reclose.ensures.script;
       ty = c.reclose.ensures.ty;
     }
+
+pub read_word-requires-clause-more : goal.read_word-requires-clause-more
+read_word-requires-clause-more g c =
+    let a = c.args.self.now in
+    let m = g.T.TxType.meaning a.log.ty.now in
+    let short : length a.words.items < slice_index_or m.widths c.in-Reading.part 0 = omega (arith, width_got m.widths c.in-Reading.part c.width.result c.width.ensures, c.if-len-width.true, c.len.ensures) in
+    rw c.in-Reading.is (omega (arith, short))
+
+pub read_word-requires-then-len-width-2-clause-more : goal.read_word-requires-then-len-width-2-clause-more
+read_word-requires-then-len-width-2-clause-more g c =
+    let a = c.args.self.now in
+    let m = g.T.TxType.meaning a.log.ty.now in
+    let short : length a.words.items < slice_index_or m.widths c.in-Rereading.part 0 = omega (arith, width_got m.widths c.in-Rereading.part c.width-in-Rereading.result c.width-in-Rereading.ensures, c.if-len-width-2.true, c.len-in-Rereading.ensures) in
+    rw c.in-Rereading.is (omega (arith, short))
