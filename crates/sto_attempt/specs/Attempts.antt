@@ -15,7 +15,7 @@ use Rattle.sto_attempt_log.specs.Growing.{HasHeard}
 use Rattle.sto_attempt_log.specs.Reasons.{IsCaused}
 use Rattle.sto_attempt_log.specs.ReadSet.{words_in}
 use Rattle.sto_attempt_log.specs.CommitPhases.{Deal, deal}
-use Rattle.sto_attempt_log.specs.Standing.{Goes, Fits, Renews, Spans, Turned, IsLeft, IsFirst, IsUnaborted, KeepsExtension, Moves, next_event}
+use Rattle.sto_attempt_log.specs.Standing.{Goes, Fits, MayGoOn, Renews, Spans, Turned, IsLeft, IsFirst, IsUnaborted, KeepsExtension, Moves, next_event}
 use Rattle.sto_type.specs.Traits.{OfType}
 use Rattle.sto_model.specs.Bodies.{OfBody}
 use Rattle.sto_attempt.specs.declared.attempt.Attempt.{Attempt}
@@ -53,6 +53,10 @@ module _ {T B : Type 0} (t : OfType T) (b : OfBody B) where
   GoesAt read_phase a v =
       Goes (t.meaning a.log.ty.now) t.valid (t.sizes a.log.ty.now) (b.script a.log.body) a.at read_phase a.words.items a.extension
       a.log.base.items a.log.set.items a.log.set.updates (heard a) v
+
+  -- the body is at its end, and where it is given more to do, the attempt may go on
+  abbrev pub Waits : Attempt T B → View → Type 0
+  Waits a v = MayGoOn (t.meaning a.log.ty.now) t.valid (t.sizes a.log.ty.now) (b.script a.log.body) a.at a.words.items a.log.base.items a.log.set.updates (heard a) v
 
   -- the pass reads anew as of the bound of the extension
   abbrev pub SpansAt : Attempt T B → View → Type 0

@@ -34,11 +34,11 @@ pub struct Attempt<'t, T: TxType, B: Body> {
     pub(crate) log: Log<'t, T, B>,
     /// The value of the clock as of which it reads.
     pub(crate) at: u64,
-    read_phase: ReadPhase,
+    pub(crate) read_phase: ReadPhase,
     /// The words of the open read, in order.
     pub(crate) words: PartWords,
     /// Of the running or the last extension.
-    extension: Extension,
+    pub(crate) extension: Extension,
 }
 
 impl<'t, T: TxType, B: Body> Attempt<'t, T, B> {
@@ -161,8 +161,8 @@ impl<'t, T: TxType, B: Body> Attempt<'t, T, B> {
         }
     }
 
-    // Loads the clock.
-    fn begin<C: Cells<T>>(&mut self, alloc: Global, cells: &mut C) -> Result<Turn, NoMemory>
+    /// Makes the first event: loads the clock, and runs the body up to the next event. It is never aborted.
+    pub fn begin<C: Cells<T>>(&mut self, alloc: Global, cells: &mut C) -> Result<Turn, NoMemory>
         requires { IsUnderWay T.TxType B.Body ReadPhase.Unstarted self.old (C.view cells.old) }
         ensures log { OnOk result (IsLogOf T.TxType B.Body self.old self.new) }
         ensures turned { IfOk result (HasTurned T.TxType B.Body self.old self.new (C.view cells.new)) }

@@ -3,6 +3,7 @@
 
 mod attempt;
 mod ready;
+mod resume;
 mod seal;
 mod testing;
 

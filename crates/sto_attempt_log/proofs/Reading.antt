@@ -40,7 +40,7 @@ use Rattle.sto_attempt_log.specs.Log.{IsLog, IsCache, IsRead}
 use Rattle.sto_attempt_log.specs.Answers.{IsPrefix, HasFound, WasLocked, WasChanged}
 use Rattle.sto_attempt_log.specs.Reached.{IsReached}
 use Rattle.sto_attempt_log.specs.Led.{IsLed}
-use Rattle.sto_attempt_log.specs.Standing.{numbered, AreDecided, IsOwn, IsAsOf, Fits, Turned, IsLeft}
+use Rattle.sto_attempt_log.specs.Standing.{numbered, AreDecided, IsOwn, IsAsOf, Fits, MayGoOn, Turned, IsLeft}
 use Rattle.sto_attempt_log.proofs.Asking.{asked_next, asked_there}
 use Rattle.sto_attempt_log.proofs.Every.{all_map}
 use Rattle.sto_attempt_log.proofs.Claimed.{words_more, ticket_more, ticket_new, part_of_fewer, claimed_still, claimed_more}
@@ -125,12 +125,16 @@ module _ (m : Meaning) (valid : Validity) (sizes : List ℕ) (f : Script) (at : 
   within : at ≤ v.at
   within = omega (arith, rest.number)
 
+  may_go_on : MayGoOn m valid sizes f at ws base es rs v
+  may_go_on =
+      (record { own = rest.own; unheld = rest.unheld; decided = rest.decided; draws = rest.draws; number = rest.number; claimed = claimed; only = only; below = below; fit = rest.fit; stands = idle_reading v rest.phase; awaits = tt }, rest.phase)
+
   pub turned : (reached : Reached) (read_phase : ReadPhase) (turn : Turn) → IsReached m f base rs reached → IsLed at es reached read_phase turn → To read_phase turn
   turned (Needs p) read_phase turn r l =
       moved_to read_phase (S.Opening p) turn More l.0 l.1
       (record { own = rest.own; unheld = rest.unheld; decided = rest.decided; draws = rest.draws; number = rest.number; claimed = claimed; only = only; below = below; fit = rest.fit; stands = rest.phase; awaits = r }, as_of)
   turned Commits read_phase turn r l = elim l [
-    | inl none ↦ moved_to read_phase S.Over turn (Ended (Read at)) none.1 none.2 (refl, left, within, (refl, has_read m f v at base items es rs log claimed none.0 r))
+    | inl none ↦ moved_to read_phase S.Over turn (Ended (Read at)) none.1 none.2 (refl, left, within, ((refl, has_read m f v at base items es rs log claimed none.0 r), may_go_on))
     | inr found ↦
         moved_to read_phase S.Committing turn Ready found.1 found.2
         (record { own = rest.own; unheld = rest.unheld; decided = rest.decided; draws = rest.draws; number = rest.number; claimed = claimed; only = only; below = below; fit = rest.fit; stands = rest.phase; awaits = (r, found.0) }, refl)

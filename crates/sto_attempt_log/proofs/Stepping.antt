@@ -23,12 +23,21 @@ use Rattle.sto_attempt_log.specs.Log.{IsLog}
 use Rattle.sto_attempt_log.specs.Answers.{IsPrefix}
 use Rattle.std.proofs.lemmas.Bool.Decides.{nat_tests}
 use Rattle.sto_core.specs.Event.{Event, Word, Close}
-use Rattle.sto_attempt_log.specs.Standing.{Goes, Ends, Turned, HasBegun, KeepsExtension, Moves, IsFirst, IsUnaborted, reading_event}
+use Rattle.sto_attempt_log.specs.Standing.{Goes, Ends, EndsAs, Turned, HasBegun, KeepsExtension, Moves, IsFirst, IsUnaborted, reading_event}
 use Rattle.sto_attempt_log.specs.Reasons.{IsCaused}
 use Rattle.sto_attempt_log.specs.declared.log.Reached.{Reached}
 use Rattle.sto_attempt_log.specs.declared.log.Reached.TheVariants.{Needs, Commits, Cancels}
 use Rattle.sto_attempt_log.specs.Led.{IsLed}
 use Rattle.sto_attempt_log.proofs.Prefix.{prefix}
+
+-- what a turn tells of its verdict
+pub ends_of : (m : Meaning) (valid : Validity) (sizes : List ℕ) (f : Script) (at : ℕ) (ws : List ℤ) (base : List ReadEntry) (es : List Update) (rs : List Told) (v : View) (verdict : Verdict)
+    → EndsAs m valid sizes f at ws base es rs v verdict → Ends m f v at rs verdict
+ends_of m valid sizes f at ws base es rs v (Wrote t) h = h
+ends_of m valid sizes f at ws base es rs v (Read n) h = h.0
+ends_of m valid sizes f at ws base es rs v (Cancelled n) h = h
+ends_of m valid sizes f at ws base es rs v (Locked n p) h = h
+ends_of m valid sizes f at ws base es rs v (Changed n p t) h = h
 
 module _ (m : Meaning) (valid : Validity) (sizes : List ℕ) (f : Script) (at : ℕ) (ws : List ℤ) (extension : Extension) (base : List ReadEntry) (items : List Item) (es : List Update) (rs : List Told) (v : View) where
   goes_prefix : (read_phase : ReadPhase) → Goes m valid sizes f at read_phase ws extension base items es rs v → IsLog m f (words_in base) items es rs → IsPrefix m f v at rs
@@ -54,7 +63,7 @@ module _ (m : Meaning) (valid : Validity) (sizes : List ℕ) (f : Script) (at : 
   pub turned_prefix : (read_phase : ReadPhase) (turn : Turn) → Turned m valid sizes f at read_phase ws extension base items es rs v turn → IsLog m f (words_in base) items es rs → IsPrefix m f v at rs
   turned_prefix read_phase More h log = goes_prefix read_phase h log
   turned_prefix read_phase Ready h log = prefix m f v at base items es rs log h.0.claimed
-  turned_prefix read_phase (Ended verdict) h log = ends_prefix verdict h.3
+  turned_prefix read_phase (Ended verdict) h log = ends_prefix verdict (ends_of m valid sizes f at ws base es rs v verdict h.3)
 
   -- also where memory is wanting
   pub any_prefix : (read_phase : ReadPhase) (r : Result Turn NoMemory) (P : Type 0) → IfOk r (λ turn. Turned m valid sizes f at read_phase ws extension base items es rs v turn) → OnOk r (IsLog m f (words_in base) items es rs)

@@ -161,11 +161,20 @@ Goes m valid sizes f at (Rereading p t) words extension base items es rs v = Ren
 Goes m valid sizes f at Committing words extension base items es rs v = ⊥
 Goes m valid sizes f at Over words extension base items es rs v = ⊥
 
+-- the body is at its end, and the pass stands as between two reads: where the body is given more to do, the attempt may go on
+abbrev pub MayGoOn : Meaning → Validity → List ℕ → Script → ℕ → List ℤ → List ReadEntry → List Update → List Told → View → Type 0
+MayGoOn m valid sizes f at words base es rs v = Fits m valid sizes f at Over words base es rs v × (v.phase ≡ P.Reading)
+
+-- what an end tells, and that after one without an update the attempt may go on
+abbrev pub EndsAs : Meaning → Validity → List ℕ → Script → ℕ → List ℤ → List ReadEntry → List Update → List Told → View → Verdict → Type 0
+EndsAs m valid sizes f at words base es rs v (Read n) = Ends m f v at rs (Read n) × MayGoOn m valid sizes f at words base es rs v
+EndsAs m valid sizes f at words base es rs v verdict = Ends m f v at rs verdict
+
 -- what a turn tells; after an end the number of the verdict is not above that of the view
 abbrev pub Turned : Meaning → Validity → List ℕ → Script → ℕ → ReadPhase → List ℤ → Extension → List ReadEntry → List Item → List Update → List Told → View → Turn → Type 0
 Turned m valid sizes f at read_phase words extension base items es rs v More = Goes m valid sizes f at read_phase words extension base items es rs v
 Turned m valid sizes f at read_phase words extension base items es rs v Ready = Fits m valid sizes f at read_phase words base es rs v × (read_phase ≡ Committing)
-Turned m valid sizes f at read_phase words extension base items es rs v (Ended verdict) = (read_phase ≡ Over) × IsLeft v × (at ≤ v.at) × Ends m f v at rs verdict
+Turned m valid sizes f at read_phase words extension base items es rs v (Ended verdict) = (read_phase ≡ Over) × IsLeft v × (at ≤ v.at) × EndsAs m valid sizes f at words base es rs v verdict
 
 -- the next event within a read that has read these words: the next word, or the end
 abbrev pub reading_event : List ℕ → ℕ → List ℤ → Event

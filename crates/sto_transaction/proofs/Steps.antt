@@ -26,6 +26,7 @@ use Rattle.sto_attempt_log.specs.Bounds.{events_left}
 use Rattle.sto_attempt_log.specs.CommitPhases.{Said, EndsBy, Stands, SpaceAt}
 use Rattle.sto_attempt_log.specs.Verdicts.{IsUndisturbed}
 use Rattle.sto_attempt_log.proofs.Reading.{idle_reading}
+use Rattle.sto_attempt_log.proofs.Stepping.{ends_of}
 use Rattle.sto_transaction.specs.Resting.{IsAtRest}
 use Rattle.sto_transaction.specs.declared.machine.Ended.{Ended}
 use Rattle.sto_transaction.specs.declared.machine.Machine.{Machine}
@@ -102,7 +103,9 @@ module _ {T B : Type 0} (meaning : T → Meaning) (valid : Validity) (sizes : T 
       unfolding OnLog goes fits
       turned_to (Ok Turns.More) log turned alone moves err = (rest, more log turned (led.moved b.read_phase b.at moves) (λ one. (alone one).0))
       turned_to (Ok Turns.Ready) log turned alone moves err = (rest, ready log turned.0 turned.1 (led.moved b.read_phase b.at moves))
-      turned_to (Ok (Turns.Ended x)) log turned alone moves err = over x log turned.1 turned.2 turned.3 (led.moved b.read_phase b.at moves) (λ one. (alone one).1)
+      turned_to (Ok (Turns.Ended x)) log turned alone moves err =
+          let ends = ends_of (meaning a.log.ty.now) valid (sizes a.log.ty.now) (script a.log.body) b.at b.words.items b.log.base.items b.log.set.updates (map told b.log.replies.items) w x turned.3 in
+          over x log turned.1 turned.2 ends (led.moved b.read_phase b.at moves) (λ one. (alone one).1)
       turned_to (Err e) log turned alone moves err = stopped (meaning a.log.ty.now) (sizes a.log.ty.now) begun w rest led.read err
 
   -- A step of an attempt whose body runs.

@@ -1,0 +1,47 @@
+-- It goes on as after a read: what the view tells was told before.
+use Rattle.std.proofs.Common.{◌≡◌, ℕ, List, ap, sym, subst, map}
+use Rattle.sto_part.specs.Listed.{Listed}
+use Rattle.sto_model.specs.Told.{told}
+use Rattle.sto_attempt_log.specs.declared.read_entry.ReadEntry.{ReadEntry}
+use Rattle.sto_attempt_log.specs.declared.extension.Extension.{Extension}
+use Rattle.sto_attempt_log.specs.Standing.{Turned}
+use Rattle.std.proofs.Common.{false}
+use Rattle.sto_attempt_log.proofs.Claimed.{claims_fit, part_of_claims}
+use Rattle.sto_attempt_log.proofs.Reading.{turned}
+use Rattle.sto_attempt_log.proofs.Stepping.{led_alone, led_begun}
+use Rattle.sto_attempt.proofs.attempt.Attempt.resume.Goals as goal
+
+pub go_on-requires-clause-some : goal.go_on-requires-clause-some
+go_on-requires-clause-some g c =
+    let a = c.args.self.now in
+    let v = c.requires.waits.0 in
+    let h = c.requires.waits.1.0 in
+    let whole = claims_fit g.T.Naming.valid v a.at h.fit in (
+      whole.0,
+      (g.met.T.TxType.valid_is a.log.ty.now whole.0).1 (subst (λ (l : List ℕ). g.T.Naming.valid l whole.0) h.own.same_sizes whole.1),
+      part_of_claims v a.at a.log.base.items whole.0 h.claimed whole.2,
+    )
+
+pub returns-clause-turned : goal.returns-clause-turned
+returns-clause-turned g c v waits =
+    let a = c.args.self.now in
+    let m = g.T.TxType.meaning a.log.ty.now in
+    let sizes = g.T.Naming.sizes a.log.ty.now in
+    let f = g.B.Body.script a.log.body in
+    let base = a.log.base.items in
+    let es = c.go_on.new.self.set.updates in
+    let rs = map told c.go_on.new.self.replies.items in
+    let h = waits.0 in
+    let fresh : Extension = record a.extension { extended = false } in
+    let same : c.go_on.new.self.base.items ≡ base = ap (λ (l : Listed ReadEntry). l.items) c.in_ok-reached.ensures.base in
+    subst (λ (b : List ReadEntry). Turned m g.T.Naming.valid sizes f a.at c.lead-read_phase.result.0 a.words.items fresh b c.go_on.new.self.set.items es rs v c.lead-read_phase.result.1) (sym same)
+    (turned m g.T.Naming.valid sizes f a.at a.words.items base c.go_on.new.self.set.items es rs v
+    (record { own = h.own; unheld = h.unheld; decided = h.decided; draws = h.draws; number = h.number; fit = h.fit; phase = waits.1 })
+    h.claimed h.only h.below fresh (λ e. cc) c.in_ok-reached.ensures.log.log c.in_ok-reached.reached c.lead-read_phase.result.0 c.lead-read_phase.result.1
+    c.in_ok-reached.ensures.reached c.lead-read_phase.ensures)
+
+pub returns-clause-alone : goal.returns-clause-alone
+returns-clause-alone g c = led_alone c.args.self.now.at c.go_on.new.self.set.updates c.in_ok-reached.reached c.lead-read_phase.result.0 c.lead-read_phase.result.1 c.lead-read_phase.ensures
+
+pub returns-clause-begun : goal.returns-clause-begun
+returns-clause-begun g c = led_begun c.args.self.now.at c.go_on.new.self.set.updates c.in_ok-reached.reached c.lead-read_phase.result.0 c.lead-read_phase.result.1 c.lead-read_phase.ensures
