@@ -7,3 +7,4 @@ mod Orders
 mod Along
 mod Writers
 mod Exact
+pub mod Meant

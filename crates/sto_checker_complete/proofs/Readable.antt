@@ -27,16 +27,10 @@ use Rattle.sto_lang.specs.Faults.{fault_of}
 use Rattle.sto_lang.specs.Files.{fault, is_allowed, unless, with_line_of, with_words, with_line, whole, ◌>>=◌, with_lines, file_of}
 use Rattle.sto_lang.proofs.Branches.{Where}
 use Rattle.sto_lang.proofs.SoundObjects.{shapes_are}
+use Rattle.sto_store.proofs.Meant.{OpensFit}
 use Rattle.sto_checker_complete.proofs.Numbers.{Fits, count_fits, zero_fits}
 use Rattle.sto_checker_complete.proofs.Asking.{ArgFits, HaveNumbers}
 use Rattle.sto_checker_complete.proofs.Forms.{IfFits, OperandFits, FormFits, ValueFits, form_fits}
-
--- the value that an object is declared with is of 64 bits
-abbrev pub HasNumber : Shape → Type 0
-HasNumber (Single value) = Fits value
-HasNumber (Counter value) = Fits value
-HasNumber (Array len value) = Fits value
-HasNumber shape = Unit {0}
 
 -- the numbers of what is open are
 abbrev BlockFits : OpenBlock → Type 0
@@ -60,13 +54,13 @@ ScriptFits script = HaveNumbers script.body
 
 -- those of the lines so far are
 record DraftFits (d : Draft) : Type 0 where
-  objects : All (λ o. HasNumber o.shape) d.objects
+  objects : All (λ o. OpensFit o.shape) d.objects
   scripts : All (All ScriptFits) d.threads
   inside : InsideFits d.inside
 
 -- those of a file are
 pub record FileFits (file : File) : Type 0 where
-  pub shapes : All HasNumber (shapes_of file.declarations)
+  pub shapes : All OpensFit (shapes_of file.declarations)
   pub scripts : All (All ScriptFits) file.threads
 
 -- Statements.
@@ -147,7 +141,7 @@ inner_fits objects t (ScheduleLine entries) f h = h
 
 -- Lines.
 
-shape_fits : (declared : Declared) → ValueFits declared → HasNumber (shape_of declared)
+shape_fits : (declared : Declared) → ValueFits declared → OpensFit (shape_of declared)
 shape_fits (declares.Box value) f = integer_fits value f
 shape_fits (declares.Counter value) f = integer_fits value f
 shape_fits (declares.Array len value) f = integer_fits value f
@@ -174,7 +168,7 @@ inside_fits d form f h = record { objects = h.objects; scripts = h.scripts; insi
 
 draft_fits : (d : Draft) (form : Form) → FormFits form → DraftFits d → DraftFits (with_form d form)
 draft_fits d (DeclareLine name declared) f h =
-    record { objects = All-push (λ o. HasNumber o.shape) d.objects _ h.objects (shape_fits declared f); scripts = h.scripts; inside = h.inside }
+    record { objects = All-push (λ o. OpensFit o.shape) d.objects _ h.objects (shape_fits declared f); scripts = h.scripts; inside = h.inside }
 draft_fits d (VersionLine version) f h = record { objects = h.objects; scripts = h.scripts; inside = h.inside }
 draft_fits d (ThreadLine name) f h = record { objects = h.objects; scripts = All-push (All ScriptFits) d.threads [] h.scripts (All-nil ScriptFits); inside = h.inside }
 draft_fits d BeginLine f h = record { objects = h.objects; scripts = h.scripts; inside = record { blocks = tt; statements = tt } }
@@ -224,7 +218,7 @@ whole_fits : (d : Draft) (number : ℕ) (inside : Option Begun) (file : File) �
 whole_fits d number None file h e =
     let same : record { version = d.version; declarations = declarations_of d.objects; names = d.names; threads = d.threads; schedule = d.schedule } ≡ file = cc in
     subst FileFits same (record {
-      shapes = subst (All HasNumber) (sym (shapes_are d.objects)) (in_order_all HasNumber (shapes_in d.objects) (All-map HasNumber (λ o. o.shape) d.objects h.objects));
+      shapes = subst (All OpensFit) (sym (shapes_are d.objects)) (in_order_all OpensFit (shapes_in d.objects) (All-map OpensFit (λ o. o.shape) d.objects h.objects));
       scripts = h.scripts;
     })
 whole_fits d number (Some t) file h e = absurd cc
@@ -240,7 +234,7 @@ lines_fit d number (line ∷ lines) file h e = by (with_line d number lines line
 by_size : (large : Bool) (bytes : List ℕ) (file : File) → cond large (fault 0 TooLarge) (with_lines opening 1 (lines_of bytes)) ≡ Ok file → FileFits file
 by_size true bytes file e = absurd cc
 by_size false bytes file e =
-    lines_fit opening 1 (lines_of bytes) file (record { objects = All-nil (λ (o : Object). HasNumber o.shape); scripts = All-nil (All ScriptFits); inside = tt }) e
+    lines_fit opening 1 (lines_of bytes) file (record { objects = All-nil (λ (o : Object). OpensFit o.shape); scripts = All-nil (All ScriptFits); inside = tt }) e
 
 -- each file that can be read
 pub readable_fits : (bytes : List ℕ) (file : File) → file_of bytes ≡ Ok file → FileFits file

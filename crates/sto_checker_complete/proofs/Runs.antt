@@ -20,7 +20,7 @@ use Rattle.sto_lang.specs.Shapes.{most_length}
 use Rattle.sto_lang.specs.Sound.{HasRanges}
 use Rattle.sto_checker_complete.proofs.Numbers.{Fits, ToldFits, RowFits, HasFew, count_fits, zero_fits, reply_fits, state_fits}
 use Rattle.sto_checker_complete.proofs.Asking.{IsFittingOf, StepsOf}
-use Rattle.sto_checker_complete.proofs.Readable.{HasNumber}
+use Rattle.sto_store.proofs.Meant.{OpensFit}
 
 -- each object has at most so many rows, with numbers of 64 bits
 abbrev pub AreFew : ℕ → State → Type 0
@@ -57,7 +57,7 @@ one_row v f = record { few = omega arith; each = All-cons RowFits (pos 0, v) [] 
 no_row : HasFew 16384 []
 no_row = record { few = omega arith; each = All-nil RowFits }
 
-rows_few : (version : ℕ) (shape : Shape) → HasNumber shape × HasRanges version shape → HasFew 16384 (opening_rows shape)
+rows_few : (version : ℕ) (shape : Shape) → OpensFit shape × HasRanges version shape → HasFew 16384 (opening_rows shape)
 rows_few version (Single v) h = one_row v h.0
 rows_few version (Counter v) h = one_row v h.0
 rows_few version (Array len v) h =
@@ -69,10 +69,10 @@ rows_few version (Hash buckets places) h = no_row
 rows_few version (Tree leaves) h = no_row
 rows_few version (Vector capacity) h = no_row
 
-pub opening_few : (version : ℕ) (shapes : List Shape) → All (λ s. HasNumber s × HasRanges version s) shapes → AreFew 16384 (opening_of (machines_of shapes))
+pub opening_few : (version : ℕ) (shapes : List Shape) → All (λ s. OpensFit s × HasRanges version s) shapes → AreFew 16384 (opening_of (machines_of shapes))
 opening_few version [] h = All-nil (HasFew 16384)
 opening_few version (s ∷ shapes) h =
-    let P : Shape → Type 0 = λ s. HasNumber s × HasRanges version s in
+    let P : Shape → Type 0 = λ s. OpensFit s × HasRanges version s in
     All-cons (HasFew 16384) (opening_rows s) _ (rows_few version s (All-head P s shapes h)) (opening_few version shapes (All-tail P s shapes h))
 
 -- Runs.

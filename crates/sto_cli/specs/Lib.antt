@@ -5,6 +5,7 @@ pub use Rattle.sto_lang.specs.Files
 pub use Rattle.sto_lang.specs.Sound
 pub use Rattle.sto_lang.specs.Views
 pub use Rattle.sto_report_spec.specs.Lawful
+pub use Rattle.sto_journal.specs.Journals
 pub use Rattle.sto_serializability.specs.Meanings
 pub use Rattle.sto_args.specs.Commands
 pub use Rattle.sto_io.specs.Told

@@ -1,5 +1,5 @@
 -- What a command may print for the bytes that it reads, and the fault that it tells of them.
-use Rattle.std.specs.Prelude.{◌≡◌, ℕ, List, length, Bool, Ok, Err, if◌then◌else◌}
+use Rattle.std.specs.Prelude.{◌≡◌, ◌≤◌, ℕ, min, max, List, [], length, Bool, Option, None, Some, Ok, Err, if◌then◌else◌}
 use Rattle.sto_lang.specs.Files.{file_of}
 use Rattle.sto_lang.specs.Scripts.{File}
 use Rattle.sto_cli_common.specs.declared.refusal.InputFault.{InputFault}
@@ -8,6 +8,9 @@ use Rattle.sto_write.specs.Texts.{text_of, upgraded}
 use Rattle.sto_gen.specs.Generated.{file_of as generated}
 use Rattle.sto_report_spec.specs.declared.form.ReportForm.{ReportForm}
 use Rattle.sto_report_spec.specs.declared.form.ReportForm.TheVariants.{Text, Json}
+use Rattle.sto_report_spec.specs.Aborts.{Abort}
+use Rattle.sto_report_spec.specs.NamedAborts.{aborts_named}
+use Rattle.sto_report_spec.specs.NamedJson.{json_aborts_named}
 use Rattle.sto_report_spec.specs.Lawful.{IsLawfulIn}
 use Rattle.sto_run.specs.Meanings.{updating_by}
 use Rattle.sto_run.specs.Stores.{means}
@@ -21,20 +24,34 @@ use Rattle.sto_args.specs.declared.command.Command.TheVariants.{Run, Step, Upgra
 abbrev pub form_for : Bool → ReportForm
 form_for json = if json then Json else Text
 
+-- how many workers run a file with so many script threads: as many as are asked for, else 16, but no more than there are script
+-- threads, and at least one
+abbrev pub workers_of : Option ℕ → ℕ → ℕ
+workers_of None count = max (min 16 count) 1
+workers_of (Some threads) count = max (min threads count) 1
+
+-- the aborted attempts that a report in a form names
+abbrev pub aborts_told : ReportForm → List (List ℕ) → List ℕ → List Abort
+aborts_told Text names text = aborts_named names text
+aborts_told Json names text = json_aborts_named names text
+
 -- a lawful report of the file that the bytes are, for so many tries and in the form that is asked for, with what the types of
--- objects say of updates
-abbrev pub IsReport : ℕ → Bool → List ℕ → List ℕ → Type 0
-IsReport tries json bytes text = (file : File) × (file_of bytes ≡ Ok file) × IsLawfulIn (form_for json) (updating_by means) file tries text
+-- objects say of updates; it names no aborted attempt where nothing runs beside
+abbrev pub IsReport : ℕ → Bool → (File → Type 0) → List ℕ → List ℕ → Type 0
+IsReport tries json alone bytes text =
+    (file : File) × (file_of bytes ≡ Ok file) × IsLawfulIn (form_for json) (updating_by means) file tries text
+    × (alone file → aborts_told (form_for json) file.names text ≡ [])
 
 -- the summary of a lawful journal of the file that the number generates, for 64 tries
 abbrev pub IsSummary : ℕ → List ℕ → Type 0
 IsSummary number text = (journal : Journal) × IsLawfulJournal (updating_by means) (generated number) 64 journal × (text ≡ summary_of number (length journal.lines.items) journal.state.items)
 
--- `run` and `step` print a lawful report; `upgrade` prints the canonical text of the file that the bytes are with its version
+-- `run` and `step` print a lawful report, in which nothing is aborted where one worker runs the file, or where `step` has at most one
+-- script thread; `upgrade` prints the canonical text of the file that the bytes are with its version
 -- set to 2; `gen` prints the canonical text of the file that the number generates, and `bench` the summary of a run of it
 abbrev pub IsOutput : Command → List ℕ → List ℕ → Type 0
-IsOutput (Run threads tries json) bytes text = IsReport tries json bytes text
-IsOutput (Step tries json) bytes text = IsReport tries json bytes text
+IsOutput (Run threads tries json) bytes text = IsReport tries json (λ file. workers_of threads (length file.threads) ≡ 1) bytes text
+IsOutput (Step tries json) bytes text = IsReport tries json (λ file. length file.threads ≤ 1) bytes text
 IsOutput Upgrade bytes text = (file : File) × (file_of bytes ≡ Ok file) × (text ≡ text_of (upgraded file))
 IsOutput (Gen number) bytes text = text ≡ text_of (generated number)
 IsOutput (Bench number threads) bytes text = IsSummary number text

@@ -1,15 +1,16 @@
 //! The texts of the commands.
-ghost use Rattle.std.specs.Prelude.{ℕ, [], IfOk, IfErr};
+ghost use Rattle.std.specs.Prelude.{◌≡◌, ℕ, [], length, map, IfOk, IfErr};
 ghost use Rattle.sto_args.specs.declared.command.Command.TheVariants as commands;
 ghost use Rattle.sto_args.specs.Commands.{HasThreads};
 ghost use Rattle.sto_lang.specs.Sound.{IsSound, IsFromTo};
 ghost use Rattle.sto_lang.specs.Views.{file as view};
+ghost use Rattle.sto_journal.specs.Journals.{abort};
 ghost use Rattle.sto_report_spec.specs.Lawful.{IsLawfulIn};
 ghost use Rattle.sto_run.specs.Meanings.{updating_by};
 ghost use Rattle.sto_run.specs.Stores.{means};
 ghost use Rattle.sto_run.specs.Lawful.{IsLawfulJournal};
 ghost use Rattle.sto_cli_common.specs.Ends.{IsFileRefusal};
-ghost use Rattle.sto_cli.specs.Outputs.{IsOutput, form_for};
+ghost use Rattle.sto_cli.specs.Outputs.{IsOutput, aborts_told, form_for, workers_of};
 
 use std::alloc::Global;
 use std::thread::Threads;
@@ -20,11 +21,14 @@ use sto_part::NoMemory;
 use sto_run::{Gate, run_file, step_file};
 
 /// The report of a lawful journal of a file, as a text or as one line of JSON. It is lawful for each number of tries for which
-/// the journal is.
+/// the journal is, and names the aborted attempts of the journal.
 pub fn report(alloc: Global, file: &File, journal: &Journal, json: bool) -> Result<Text, NoMemory>
     requires sound { IsSound (view file.now) }
     requires lawful { (tries : ℕ) × IsLawfulJournal (updating_by means) (view file.now) tries journal.now }
-    ensures { IfOk result (λ text. (tries : ℕ) → IsLawfulJournal (updating_by means) (view file.now) tries journal.now → IsLawfulIn (form_for json) (updating_by means) (view file.now) tries text.items) }
+    ensures lawful { IfOk result (λ text. (tries : ℕ) → IsLawfulJournal (updating_by means) (view file.now) tries journal.now
+        → IsLawfulIn (form_for json) (updating_by means) (view file.now) tries text.items) }
+    ensures aborts { IfOk result (λ text. aborts_told (form_for json) (view file.now).names text.items
+        ≡ map (abort (view file.now).declarations) journal.now.aborts.items) }
 {
     if json {
         return Ok(sto_journal::json_report(alloc, file, journal)?);
@@ -32,16 +36,14 @@ pub fn report(alloc: Global, file: &File, journal: &Journal, json: bool) -> Resu
     Ok(sto_journal::report(alloc, file, journal)?)
 }
 
-/// How many workers run a file. Where the words do not say it, there are as many as script threads, but at least 1 and at
-/// most 16.
+/// How many workers run a file: as many as the words ask for, else 16, but no more than the file has script threads, and at least
+/// one.
 pub fn workers_for(file: &File, threads: Option<u32>) -> u32
     requires { HasThreads threads }
-    ensures { IsFromTo 1 16 result }
+    ensures count { result ≡ workers_of threads (length (view file.now).threads) }
+    ensures few { IsFromTo 1 16 result }
 {
-    match threads {
-        Some(threads) => threads,
-        None => file.threads.len().clamp(1, 16),
-    }
+    threads.unwrap_or(16).min(file.threads.len()).max(1)
 }
 
 /// What `run` prints for these bytes.

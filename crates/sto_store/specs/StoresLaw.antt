@@ -5,7 +5,6 @@ use Rattle.std.specs.Int.RustNames.{FitsSigned}
 use Rattle.std.proofs.Common.{ap, sym, ◌∙◌, arith, subst, length-append, append_assoc}
 use Rattle.std.proofs.lemmas.Bool.Decides.{nat_tests}
 use Rattle.std.proofs.lemmas.List.{map-append}
-use Rattle.sto_part.specs.Codes.{IsSignedCode}
 use Rattle.sto_model.specs.declared.call.Call.{Call}
 use Rattle.sto_model.specs.declared.operation.Operation.{Operation}
 use Rattle.sto_model.specs.declared.operation.Operation.TheVariants.{Get, Set, Add, Test as TestWord, Take, Put, Remove, Has, Len, Next, Count, Scan, Push, Pop}
@@ -17,13 +16,9 @@ use Rattle.sto_model.specs.Objects.{machine_of, machines_of, takes_by, IsTaken}
 use Rattle.sto_type.specs.Meaning.{Meaning}
 use Rattle.sto_type.specs.Joined.{call_beyond, home_moved, joined, no_meaning, all_joined}
 use Rattle.sto_type.proofs.Answering.{home_past}
-use Rattle.sto_box.specs.Boxed.{BoxTakes}
-use Rattle.sto_counter.specs.Counted.{CounterTakes}
-use Rattle.sto_array.specs.Arrayed.{ArrayTakes, homes_from as array_homes}
-use Rattle.sto_hash.specs.Hashed.{HashTakes, homes_from as hash_homes}
+use Rattle.sto_array.specs.Arrayed.{homes_from as array_homes}
+use Rattle.sto_hash.specs.Hashed.{homes_from as hash_homes}
 use Rattle.sto_tree.specs.Layout.{listed}
-use Rattle.sto_tree.specs.Meaning.{TreeTakes}
-use Rattle.sto_vector.specs.Vectored.{VectorTakes}
 use Rattle.sto_store.specs.Homes.{homes_within, homes_from, HasParts}
 use Rattle.sto_store.specs.Stores.{of_kind, mean_of, means_of, sized_means, wide_means, means, AreInOrder, AreSized, AreWide, AreKinds}
 

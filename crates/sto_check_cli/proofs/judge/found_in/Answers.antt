@@ -1,6 +1,9 @@
 use Rattle.std.proofs.Common.{Ok}
 use Rattle.sto_lang.specs.Views.{file as view}
 use Rattle.sto_lang.proofs.SoundFiles.{readable_sound}
+use Rattle.sto_run.specs.Meanings.{updating_by}
+use Rattle.sto_run.specs.Stores.{means}
+use Rattle.sto_checker_complete.proofs.Meant.{means_written}
 use Rattle.sto_check_cli.proofs.Faults.{read_so}
 use Rattle.sto_check_cli.proofs.judge.found_in.Goals as goal
 
@@ -14,5 +17,5 @@ returns-clause-found c =
     record {
       input = record { file = view c.in_ok-file.file; report = c.in-Some.report.now };
       reads = read_so c.args.bytes.now c.in-Some.script.now c.in-Some.report.now c.if-bytes-gt-MOST.false parts.0 parts.1 parts.2 (Ok (view c.in_ok-file.file)) c.in_ok-file.ensures.file;
-      judged = record { is = said.found; only = said.only; complete = said.complete; right = said.right };
+      judged = record { is = said.found; only = said.only; complete = said.complete (updating_by means) (means_written c.in-Some.script.now (view c.in_ok-file.file) c.in_ok-file.ensures.file); right = said.right };
     }

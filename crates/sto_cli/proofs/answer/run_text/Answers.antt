@@ -1,3 +1,5 @@
+use Rattle.std.proofs.Common.{◌∙◌, ap, map}
+use Rattle.sto_journal.specs.Journals.{abort}
 use Rattle.sto_lang.specs.Views.{file as view}
 use Rattle.sto_lang.proofs.SoundFiles.{readable_sound}
 use Rattle.sto_cli.proofs.answer.run_text.Goals as goal
@@ -12,4 +14,11 @@ pub report-requires-clause-lawful : goal.report-requires-clause-lawful
 report-requires-clause-lawful g c = (c.args.tries, c.in_ok-journal.ensures.lawful)
 
 pub returns-clause-text : goal.returns-clause-text
-returns-clause-text g c = (view c.in_ok-file.file, c.in_ok-file.ensures.file, c.in_ok-report.ensures c.args.tries c.in_ok-journal.ensures.lawful)
+returns-clause-text g c =
+    let file = view c.in_ok-file.file in
+    let journal = c.in_ok-journal.journal in (
+      file,
+      c.in_ok-file.ensures.file,
+      c.in_ok-report.ensures.lawful c.args.tries c.in_ok-journal.ensures.lawful,
+      λ one. c.in_ok-report.ensures.aborts ∙ ap (map (abort file.declarations)) (c.in_ok-journal.ensures.alone (c.workers_for.ensures.count ∙ one)),
+    )

@@ -1,5 +1,7 @@
+use Rattle.std.proofs.Common.{◌∙◌, ap, map}
 use Rattle.sto_lang.specs.Views.{file as view}
 use Rattle.sto_lang.proofs.SoundFiles.{readable_sound}
+use Rattle.sto_cli.specs.Journals.{abort}
 use Rattle.sto_feed_cli.proofs.answer.feed_text.Goals as goal
 
 pub feed_file-requires-clause-sound : goal.feed_file-requires-clause-sound
@@ -12,4 +14,11 @@ pub report-requires-clause-lawful : goal.report-requires-clause-lawful
 report-requires-clause-lawful g c = (c.args.asked.tries, c.in_ok-journal.ensures.lawful)
 
 pub returns-clause-text : goal.returns-clause-text
-returns-clause-text g c = (view c.in_ok-file.file, c.in_ok-file.ensures.file, c.in_ok-report.ensures c.args.asked.tries c.in_ok-journal.ensures.lawful)
+returns-clause-text g c =
+    let file = view c.in_ok-file.file in
+    let journal = c.in_ok-journal.journal in (
+      file,
+      c.in_ok-file.ensures.file,
+      c.in_ok-report.ensures.lawful c.args.asked.tries c.in_ok-journal.ensures.lawful,
+      λ one. c.in_ok-report.ensures.aborts ∙ ap (map (abort file.declarations)) (c.in_ok-journal.ensures.alone (c.workers_for-workers.ensures.count ∙ one)),
+    )

@@ -1,9 +1,8 @@
-use Rattle.std.proofs.Common.{◌≡◌, ◌<◌, ◌+◌, ℕ, ℤ, pos, Some, true, false, nat_eq, map, rules, refl, ap, sym, ◌∙◌, arith, FitsSigned}
+use Rattle.std.proofs.Common.{pos, Some, map, rules, refl, ap, ◌∙◌, FitsSigned}
 use Rattle.std.specs.Int.{w64}
-use Rattle.std.proofs.lemmas.Int.{to_z-of_z}
 use Rattle.std.proofs.lemmas.Option.{slice_get-get_or}
 use Rattle.sto_model.specs.declared.shape.Shape.TheVariants.{Single}
-use Rattle.sto_store.proofs.Built.{few_members, few, there, past, not_box, fit_at, first_word}
+use Rattle.sto_store.proofs.Built.{few_members, few, there, past, not_box, first_word}
 use Rattle.sto_store.proofs.store.build_boxes.Goals as goal
 use Rattle.sto_store.proofs.store.build_boxes.Goals.{in-Single+in_ok-push, in_default}
 

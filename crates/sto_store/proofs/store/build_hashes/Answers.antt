@@ -1,9 +1,7 @@
-use Rattle.std.proofs.Common.{◌≡◌, ◌<◌, ◌+◌, ℕ, ℤ, pos, Some, true, false, nat_eq, map, rules, refl, ap, sym, ◌∙◌, arith, FitsSigned}
-use Rattle.std.specs.Int.{w64}
-use Rattle.std.proofs.lemmas.Int.{to_z-of_z}
+use Rattle.std.proofs.Common.{pos, Some, map, refl, ap, ◌∙◌}
 use Rattle.std.proofs.lemmas.Option.{slice_get-get_or}
 use Rattle.sto_model.specs.declared.shape.Shape.TheVariants.{Single, Hash}
-use Rattle.sto_store.proofs.Built.{few_members, few, there, past, not_hash, fit_at, first_word}
+use Rattle.sto_store.proofs.Built.{few_members, few, there, past, not_hash, fit_at}
 use Rattle.sto_store.proofs.store.build_hashes.Goals as goal
 use Rattle.sto_store.proofs.store.build_hashes.Goals.{in-Hash+in_ok-push, in_default}
 

@@ -1,4 +1,4 @@
-use Rattle.std.proofs.Common.{◌≡◌, ◌<◌, ◌+◌, ◌^◌, ap, ◌∙◌, arith, map, length}
+use Rattle.std.proofs.Common.{ap, ◌∙◌, arith, map}
 use Rattle.sto_model.specs.declared.shape.Shape.TheVariants.{Tree, Vector}
 use Rattle.sto_store.proofs.Built.{sum_kinds, kind_objects, kind_widths, whole_widths}
 use Rattle.sto_store.proofs.store.build_sized.Goals as goal

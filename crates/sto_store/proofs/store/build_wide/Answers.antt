@@ -1,6 +1,6 @@
-use Rattle.std.proofs.Common.{◌≡◌, ◌<◌, ◌+◌, ◌^◌, ap, ◌∙◌, arith, ◌++◌, map, length, length-append}
+use Rattle.std.proofs.Common.{ap, ◌∙◌, arith, map, length-append}
 use Rattle.sto_model.specs.declared.shape.Shape.TheVariants.{Array, Hash, Tree, Vector}
-use Rattle.sto_store.specs.Stores.{of_kind, mean_of, AreSized}
+use Rattle.sto_store.specs.Stores.{mean_of, AreSized}
 use Rattle.sto_type.specs.Joined.{joined, all_joined}
 use Rattle.sto_store.proofs.Built.{sum_kinds, kind_objects, kind_widths, sized_objects, sized_widths, whole_widths}
 use Rattle.sto_store.proofs.store.build_wide.Goals as goal
