@@ -150,7 +150,8 @@ impl<'t, T: TxType, B: Body> Attempt<'t, T, B> {
         ensures steps { Steps T.TxType B.Body (C.passes cells.old) self.old.read_phase (event_of T.TxType B.Body self.old)
             self.old self.new (C.view cells.old) (C.view cells.new) result }
         ensures prefix { IsPrefixOf T.TxType B.Body self.old self.new (C.view cells.new) }
-        ensures one { IfOk result (λ turn. turn ≡ Turn.More) × OnOk result (words_left T.TxType B.Body self.new + 1 ≡ words_left T.TxType B.Body self.old) }
+        ensures one { IfOk result (λ turn. turn ≡ Turn.More)
+            × OnOk result (words_left T.TxType B.Body self.new + 1 ≡ words_left T.TxType B.Body self.old) }
         ensures longer { OnOk result (length self.new.words.items ≡ length self.old.words.items + 1) }
         ensures same { C.same cells.old cells.new }
     {
@@ -241,7 +242,8 @@ impl<'t, T: TxType, B: Body> Attempt<'t, T, B> {
         ensures event { OneEvent (λ e. e ≡ Word part (length self.old.words.items)) T.valid (C.passes cells.old) (C.view cells.old) (C.view cells.new) }
         ensures log { self.new.log ≡ self.old.log }
         ensures err { OnErr result (HasStopped T.TxType B.Body self.old self.new (C.view cells.new)) }
-        ensures one { IfOk result (λ turn. turn ≡ Turn.More) × OnOk result (words_left T.TxType B.Body self.new + 1 ≡ words_left T.TxType B.Body self.old) }
+        ensures one { IfOk result (λ turn. turn ≡ Turn.More)
+            × OnOk result (words_left T.TxType B.Body self.new + 1 ≡ words_left T.TxType B.Body self.old) }
         ensures longer { OnOk result (length self.new.words.items ≡ length self.old.words.items + 1) }
         ensures same { C.same cells.old cells.new }
     {
@@ -475,7 +477,8 @@ impl<'t, T: TxType, B: Body> Attempt<'t, T, B> {
         ensures event { OneEvent (λ e. e ≡ Word part (length self.old.words.items)) T.valid (C.passes cells.old) (C.view cells.old) (C.view cells.new) }
         ensures log { self.new.log ≡ self.old.log }
         ensures err { OnErr result (HasStopped T.TxType B.Body self.old self.new (C.view cells.new)) }
-        ensures one { IfOk result (λ turn. turn ≡ Turn.More) × OnOk result (words_left T.TxType B.Body self.new + 1 ≡ words_left T.TxType B.Body self.old) }
+        ensures one { IfOk result (λ turn. turn ≡ Turn.More)
+            × OnOk result (words_left T.TxType B.Body self.new + 1 ≡ words_left T.TxType B.Body self.old) }
         ensures longer { OnOk result (length self.new.words.items ≡ length self.old.words.items + 1) }
         ensures same { C.same cells.old cells.new }
     {

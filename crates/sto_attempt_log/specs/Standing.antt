@@ -72,7 +72,7 @@ Awaits m f base es rs Committing = (f rs ≡ Commit) × (is_empty es ≡ false)
 Awaits m f base es rs Unstarted = Unit {0}
 Awaits m f base es rs Over = Unit {0}
 
--- the view is as the earlier steps left it: the parts that were read are claimed as of `at`, and the phase is that of the stand
+-- the view is as the earlier steps left it: the parts that were read are claimed as of `at`, and the phase is that of the read phase
 pub record Fits (m : Meaning) (valid : Validity) (sizes : List ℕ) (f : Script) (at : ℕ) (read_phase : ReadPhase) (words : List ℤ) (base : List ReadEntry) (es : List Update) (rs : List Told) (v : View) : Type 0 where
   pub own : IsOwn m sizes v
   pub unheld : v.held ≡ []

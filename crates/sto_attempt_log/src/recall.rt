@@ -9,8 +9,8 @@ ghost use Rattle.sto_item.specs.Rebase.{overwrites};
 ghost use Rattle.sto_type.specs.Known.{known, learnt};
 ghost use Rattle.sto_type.specs.Plans.{planned, IsPlan};
 ghost use Rattle.sto_attempt_log.specs.ReadSet.{words_in};
-ghost use Rattle.sto_attempt_log.specs.Log.{IsPending, IsRecalled, IsCache};
-ghost use Rattle.sto_attempt_log.specs.Refreshed.{outside, IsLearntAnew};
+ghost use Rattle.sto_attempt_log.specs.Log.{IsPending, IsCache};
+ghost use Rattle.sto_attempt_log.specs.Refreshed.{outside, IsLearnt, IsLearntAnew};
 ghost use Rattle.sto_item.specs.Recorded.{AddsItems};
 
 use crate::observed::Observed;
@@ -34,32 +34,75 @@ fn updated<T: TxType>(
     ensures { IfOk result (λ made. made.items ≡ applied_all (changes_of set.now.updates part) words.now) }
 {
     let mut made = PartWords::new(alloc);
+    made.reserve(words.len() as u32)?;
     for word in 0..words.len() as u32 {
         made.push(ty.install(set.pending(part, word), words[word as usize]))?;
     }
     Ok(made)
 }
 
-/// The words of a part that was read, or that the pending updates put whole.
-pub(crate) fn recall<T: TxType>(
+// Makes a part of one word known with the pending update of its part applied. It takes no list for the word.
+fn learn_word<T: TxType>(
+    ty: &T,
+    set: &Observed,
+    part: u32,
+    word: i64,
+    cache: &mut Cache,
+) -> Result<(), NoMemory>
+    requires fits { length (changes_of set.now.updates part) ≤ 1 }
+    ensures { OnOk result (known cache.new ≡ learnt (known cache.old) part (applied_all (changes_of set.now.updates part) (word ∷ []))) }
+{
+    let now = ty.install(set.pending(part, 0), word);
+    cache.learn(part, &[now])
+}
+
+// Makes a part known: these words, with the pending update of the part applied. It takes a list only where it has to.
+fn learn_updated<T: TxType>(
+    alloc: Global,
+    ty: &T,
+    set: &Observed,
+    part: u32,
+    words: &[i64],
+    cache: &mut Cache,
+) -> Result<(), NoMemory>
+    requires few { length words.now < 2 ^ 32 }
+    requires fits { length (changes_of set.now.updates part) ≤ length words.now }
+    ensures { OnOk result (known cache.new ≡ learnt (known cache.old) part (applied_all (changes_of set.now.updates part) words.now)) }
+{
+    if words.len() == 1 {
+        return learn_word(ty, set, part, words[0], cache);
+    }
+    if !set.has_updates() {
+        return cache.learn(part, words);
+    }
+    let made = updated(alloc, ty, set, part, words)?;
+    cache.learn(part, made.as_slice())
+}
+
+// Makes a part known that was read, or that the pending updates put whole. It answers false where it is neither.
+fn recall<T: TxType>(
     alloc: Global,
     ty: &T,
     base: &ReadSet,
     set: &Observed,
     part: u32,
-) -> Result<Option<PartWords>, NoMemory>
+    cache: &mut Cache,
+) -> Result<bool, NoMemory>
     requires range { part < length (T.meaning ty.now).widths }
     requires pending { IsPending (T.meaning ty.now) (words_in base.now.items) set.now.updates }
-    ensures known { IfOk result (λ o. MatchOption o (words_in base.now.items part ≡ None) (λ ws. IsRecalled (T.meaning ty.now) (words_in base.now.items) set.now.updates part ws.items)) }
+    ensures known { IfOk result (λ is. is ≡ true → IsLearnt (T.meaning ty.now) (words_in base.now.items) set.now.updates part (known cache.old) (known cache.new)) }
+    ensures other { IfOk result (λ is. is ≡ false → (cache.new ≡ cache.old) × (words_in base.now.items part ≡ None)) }
 {
     if let Some(read_entry) = base.find(part) {
-        return Ok(Some(updated(alloc, ty, set, part, read_entry.words.as_slice())?));
+        learn_updated(alloc, ty, set, part, read_entry.words.as_slice(), cache)?;
+        return Ok(true);
     }
     if set.overwrites(part) {
         let zeros = PartWords::filled(alloc, 0, ty.width(part))?;
-        return Ok(Some(updated(alloc, ty, set, part, zeros.as_slice())?));
+        learn_updated(alloc, ty, set, part, zeros.as_slice(), cache)?;
+        return Ok(true);
     }
-    Ok(None)
+    Ok(false)
 }
 
 /// What the type answers to a call, where no part that is known without an event is left to be needed.
@@ -80,28 +123,14 @@ pub(crate) fn ask<T: TxType>(
 {
     loop {
         match ty.plan(alloc, call, &cache.all())? {
-            Answer::Need(part) => match recall(alloc, ty, base, set, part)? {
-                Some(words) => cache.learn(part, words.as_slice())?,
-                None => return Ok(Answer::Need(part)),
-            },
+            Answer::Need(part) => {
+                if !recall(alloc, ty, base, set, part, cache)? {
+                    return Ok(Answer::Need(part));
+                }
+            }
             done => return Ok(done),
         }
     }
-}
-
-// Makes a part of one word known with the pending update of its part applied. It takes no list for the word.
-fn learn_word<T: TxType>(
-    ty: &T,
-    set: &Observed,
-    part: u32,
-    word: i64,
-    cache: &mut Cache,
-) -> Result<(), NoMemory>
-    requires fits { length (changes_of set.now.updates part) ≤ 1 }
-    ensures { OnOk result (known cache.new ≡ learnt (known cache.old) part (applied_all (changes_of set.now.updates part) (word ∷ []))) }
-{
-    let now = ty.install(set.pending(part, 0), word);
-    cache.learn(part, &[now])
 }
 
 // Recalls a part anew; where it is neither read nor put whole, all becomes unknown.
@@ -117,18 +146,11 @@ fn learn_anew<T: TxType>(
     requires pending { IsPending (T.meaning ty.now) (words_in base.now.items) set.now.updates }
     ensures { OnOk result (IsLearntAnew (T.meaning ty.now) (words_in base.now.items) set.now.updates part (known cache.old) (known cache.new)) }
 {
-    if let Some(read_entry) = base.find(part) {
-        if read_entry.words.len() == 1 {
-            return learn_word(ty, set, part, *read_entry.words.get(0), cache);
-        }
+    if recall(alloc, ty, base, set, part, cache)? {
+        return Ok(());
     }
-    match recall(alloc, ty, base, set, part)? {
-        Some(words) => cache.learn(part, words.as_slice()),
-        None => {
-            cache.forget();
-            Ok(())
-        }
-    }
+    cache.forget();
+    Ok(())
 }
 
 /// Brings what is known up to date after the updates of a call: the parts that they name are recalled anew, all others stay.

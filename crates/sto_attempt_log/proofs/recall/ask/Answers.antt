@@ -1,9 +1,9 @@
-use Rattle.std.proofs.Common.{arith, sym, subst, length, ◌<◌, List, ℤ}
+use Rattle.std.proofs.Common.{arith, sym, subst, length, ◌<◌}
 use Rattle.sto_type.specs.Known.{Known, known, unknown}
 use Rattle.sto_type.proofs.Over.{need_unknown, need_in_range}
 use Rattle.sto_type.proofs.Learning.{unknown-learnt}
 use Rattle.sto_attempt_log.specs.ReadSet.{words_in}
-use Rattle.sto_attempt_log.specs.Log.{IsCache, IsRecalled}
+use Rattle.sto_attempt_log.specs.Log.{IsCache}
 use Rattle.sto_attempt_log.proofs.Recalling.{cache_part, cache_learnt}
 use Rattle.sto_attempt_log.proofs.recall.ask.Goals as goal
 
@@ -21,8 +21,9 @@ loop-part-smaller g c =
     let k = known c.loop-part.cache in
     let some = cache_part m (words_in c.args.base.now.items) c.args.set.now.updates k c.requires.pending c.loop-part.invariant in
     let e = rw (c.in-Need.is, c.all.ensures) at c.in_ok-done.ensures in
-    let u = unknown-learnt (length m.widths) c.in-Need.part c.as_slice.result.now k (need_in_range m law c.args.call.now k some.0 c.in-Need.part c.requires.takes some.1 some.2 e) (need_unknown m law c.args.call.now k some.0 c.in-Need.part c.requires.takes some.1 some.2 e) in
-    let less : unknown (length m.widths) (known c.learn.new.self) < unknown (length m.widths) k = rw c.in_ok-learn-in-Some.ensures.ok (omega (arith, u)) in
+    let it = c.in_ok-recall-in-Need.ensures.known c.if-not-branch.false in
+    let u = unknown-learnt (length m.widths) c.in-Need.part it.0 k (need_in_range m law c.args.call.now k some.0 c.in-Need.part c.requires.takes some.1 some.2 e) (need_unknown m law c.args.call.now k some.0 c.in-Need.part c.requires.takes some.1 some.2 e) in
+    let less : unknown (length m.widths) (known c.recall.new.cache) < unknown (length m.widths) k = rw it.2 (omega (arith, u)) in
     less
 
 pub loop-part-preserved : goal.loop-part-preserved
@@ -30,10 +31,15 @@ loop-part-preserved g c =
     let m = g.T.TxType.meaning c.args.ty.now in
     let base = words_in c.args.base.now.items in
     let es = c.args.set.now.updates in
-    let k = known c.loop-part.cache in
-    let r : IsRecalled m base es c.in-Need.part c.in-Some.words.items = rw c.in-Some.is at c.in_ok-words-in-Need.ensures.known in
-    let now : IsRecalled m base es c.in-Need.part c.as_slice.result.now = subst (λ (l : List ℤ). IsRecalled m base es c.in-Need.part l) (sym c.as_slice.ensures.items) r in
-    subst (λ (q : Known). IsCache m base es q) (sym c.in_ok-learn-in-Some.ensures.ok) (cache_learnt m base es k c.in-Need.part c.as_slice.result.now c.loop-part.invariant now)
+    let it = c.in_ok-recall-in-Need.ensures.known c.if-not-branch.false in
+    subst (λ (q : Known). IsCache m base es q) (sym it.2) (cache_learnt m base es (known c.loop-part.cache) c.in-Need.part it.0 c.loop-part.invariant it.1)
 
-pub returns-in-None-clause-plan : goal.returns-in-None-clause-plan
-returns-in-None-clause-plan g c = rw (c.in-Need.is, c.all.ensures) at c.in_ok-done.ensures
+pub returns-then-not-branch-clause-plan : goal.returns-then-not-branch-clause-plan
+returns-then-not-branch-clause-plan g c =
+    let same = (c.in_ok-recall-in-Need.ensures.other c.if-not-branch.true).0 in
+    rw same (rw (c.in-Need.is, c.all.ensures) at c.in_ok-done.ensures)
+
+pub returns-then-not-branch-clause-cache : goal.returns-then-not-branch-clause-cache
+returns-then-not-branch-clause-cache g c =
+    let same = (c.in_ok-recall-in-Need.ensures.other c.if-not-branch.true).0 in
+    rw same c.loop-part.invariant

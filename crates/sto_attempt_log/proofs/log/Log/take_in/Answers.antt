@@ -1,4 +1,4 @@
-use Rattle.std.proofs.Common.{refl, arith, ap, sym, subst, ◌∙◌, ◌≡◌, ◌++◌, ◌∷◌, [], length, map, append_assoc, append-nil, length-append}
+use Rattle.std.proofs.Common.{arith, ap, sym, subst, ◌∙◌, ◌≡◌, ◌++◌, ◌∷◌, [], length, map, append_assoc, append-nil, length-append}
 use Rattle.std.proofs.lemmas.List.{map-append}
 use Rattle.sto_model.specs.Told.{told}
 use Rattle.sto_model.specs.Run.{IsAsk}
