@@ -5,6 +5,7 @@ pub mod Found
 pub mod Runs
 pub mod Joined
 pub mod Resting
+mod Results
 pub mod Claiming
 pub mod Scripts
 pub mod Gathered

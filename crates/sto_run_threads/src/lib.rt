@@ -14,7 +14,7 @@ mod worker;
 
 pub use all::{Worked, work_all};
 pub use file::{FinishedRun, run_rest, run_threads};
-pub use gate::{Gate, NoGate};
+pub use gate::{Gate, NoGate, SleepingGate};
 pub use halves::{gather, work_halves};
 pub use left::run_left;
 pub use one::Work;

@@ -1,19 +1,21 @@
-//! The turn of transactions that were aborted.
-use crossbeam_utils::Backoff;
+//! What the workers of a run tell one another.
+use std::sync::atomic::{AtomicBool, Ordering};
 use std::sync::{Mutex, MutexGuard};
+use sto_part::NoMemory;
 
-// How often a worker looks whether the turn is free, before it goes on without it. Where another thread can run, it runs in between.
-const PATIENCE: u32 = 10_000_000;
-
-/// The turn of transactions that were aborted: of those that share it one is tried at a time, beside others that no abort has met
-/// yet. So where all transactions disturb each other, few are tried in vain, and where none do, none waits. A worker waits
-/// for the turn for a bounded time and then goes on without it, so nothing stands on who has it.
+/// The turn of transactions that were aborted: of those that share it one is tried at a time, beside others that take none. So where all
+/// transactions disturb each other, few are tried in vain, and where none do, none waits. Who looks for it often enough in vain goes on
+/// without it, so nothing stands on who has it.
 ///
 /// Adaptive transaction scheduling (R. M. Yoo and H.-H. S. Lee, SPAA 2008) with a contention of 0 before the first abort and
 /// of 1 after it.
+///
+/// With it workers tell each other that memory is wanting.
 #[derive(Drop)]
 pub struct RetryTurn {
     free: Mutex<()>,
+    // Whether memory was wanting for a worker.
+    wanting: AtomicBool,
 }
 
 /// Who holds it has the turn.
@@ -24,18 +26,24 @@ impl RetryTurn {
     pub fn new() -> RetryTurn {
         RetryTurn {
             free: Mutex::new(()),
+            wanting: AtomicBool::new(false),
         }
     }
 
-    /// Takes the turn once it is free; none where it was not free for long.
+    /// Takes the turn; none where it is not free.
     pub(crate) fn take(&self) -> Option<HeldTurn<'_>> {
-        let backoff = Backoff::new();
-        for _ in 0..PATIENCE {
-            if let Some(held) = self.free.try_lock() {
-                return Some(held);
-            }
-            backoff.snooze();
+        self.free.try_lock()
+    }
+
+    /// Tells all workers where memory was wanting for this, so that none begins a transaction any more.
+    pub(crate) fn note<X>(&self, made: &Result<X, NoMemory>) {
+        if made.is_err() {
+            self.wanting.store(true, Ordering::Relaxed);
         }
-        None
+    }
+
+    /// Whether memory was wanting for a worker.
+    pub(crate) fn is_stopped(&self) -> bool {
+        self.wanting.load(Ordering::Relaxed)
     }
 }

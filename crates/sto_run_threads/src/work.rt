@@ -16,26 +16,48 @@ use sto_script::ScriptBody;
 use sto_transaction::{AttemptWatch, Record, Transacted, Transaction};
 use sto_type::TxType;
 
-// Tells a gate how far a transaction is, takes the turn once an attempt was aborted, and backs off between two tries.
+// An attempt of fewer events is short: to make one in vain costs less than to wait for the turn.
+const SHORT: u64 = 2_000;
+
+// How often a transaction looks whether the turn is free, before it goes on without it for good.
+const LOOKS: u32 = 10_000_000;
+
+// Tells a gate how far a transaction is, takes the turn once a long attempt was aborted, and backs off between two others.
 #[derive(Drop)]
 struct AtGate<'g, G> {
     gate: &'g G,
     thread: u32,
     position: u32,
+    // How many events the attempt has made.
+    events: u64,
     turn: &'g RetryTurn,
     held: Option<HeldTurn<'g>>,
+    // How often it may still look whether the turn is free.
+    looks: u32,
     backoff: Backoff,
 }
 
 impl<G: Gate> AttemptWatch for AtGate<'_, G> {
     fn before_event(&mut self, events: u64) {
+        self.events = events;
         self.gate.during(self.thread, self.position, events);
     }
 
     fn before_retry(&mut self) {
-        match self.held {
-            Some(_) => self.backoff.snooze(),
-            None => self.held = self.turn.take(),
+        if self.events < SHORT || self.held.is_some() {
+            if self.backoff.is_completed() {
+                self.gate.pause();
+            } else {
+                self.backoff.snooze();
+            }
+            return;
+        }
+        for _ in 0..mem::replace(&mut self.looks, 0) {
+            self.held = self.turn.take();
+            if self.held.is_some() {
+                return;
+            }
+            self.gate.pause();
         }
     }
 }
@@ -77,9 +99,14 @@ impl<T: TxType, G: Gate> Work<T> for FileWork<'_, T, G> {
         position: u32,
         records: &mut Vec<Record>,
     ) -> Result<bool, NoMemory> {
-        self.gate.before(thread, position);
         let script = self.file.threads.get(thread).scripts.get(position - 1);
-        let body = ScriptBody::new(alloc, script)?;
+        if self.turn.is_stopped() {
+            return Err(NoMemory);
+        }
+        self.gate.before(thread, position);
+        let body = ScriptBody::new(alloc, script);
+        self.turn.note(&body);
+        let body = body?;
         let transaction = Transaction {
             ty: self.ty,
             body,
@@ -91,13 +118,17 @@ impl<T: TxType, G: Gate> Work<T> for FileWork<'_, T, G> {
             gate: self.gate,
             thread,
             position,
+            events: 0,
             turn: self.turn,
             held: None,
+            looks: LOOKS,
             backoff: Backoff::new(),
         };
-        let Transacted { ended, .. } = transaction.run(alloc, cells, &mut watch, records)?;
+        let ran = transaction.run(alloc, cells, &mut watch, records);
         // The gate may hold the worker, so the turn is given back first.
         mem::drop(watch);
+        self.turn.note(&ran);
+        let Transacted { ended, .. } = ran?;
         if ended {
             self.gate.after(thread, position);
         }

@@ -1,4 +1,4 @@
-use Rattle.std.proofs.Common.{◌≡◌, sym, ◌∙◌}
+use Rattle.std.proofs.Common.{sym, ◌∙◌}
 use Rattle.sto_run_threads.proofs.Places.{count_at}
 use Rattle.sto_run_threads.proofs.work.FileWorkWork.count.Goals as goal
 

@@ -1,0 +1,8 @@
+-- What clauses on a result tell once it is known which one it is.
+use Rattle.std.proofs.Common.{◌≡◌, Result, Ok, Err, IfOk, OnErr, subst}
+
+pub at_ok : {T E : Type 0} {r : Result T E} {x : T} (P : T → Type 0) → r ≡ Ok x → IfOk r P → P x
+at_ok {T} {E} {r} {x} P e h = subst (λ (s : Result T E). IfOk s P) e h
+
+pub at_err : {T E : Type 0} {r : Result T E} {x : E} {Q : Type 0} → r ≡ Err x → OnErr r Q → Q
+at_err {T} {E} {r} {x} {Q} e h = subst (λ (s : Result T E). OnErr s Q) e h
