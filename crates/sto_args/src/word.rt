@@ -47,7 +47,8 @@ fn as_option(word: &str) -> &str
 
 /// The words as options and their values.
 pub(crate) fn as_options<'a>(alloc: Global, words: &'a [String]) -> Result<Vec<&'a str>, NoMemory>
-    ensures { IfOk result (λ options. map (λ word. word.now) options.items ≡ map as_option (map (λ word. string_bytes word) words.entry.now)) }
+    ensures { IfOk result (λ options. map (λ word. word.now) options.items
+        ≡ map as_option (map (λ word. string_bytes word) words.entry.now)) }
 {
     let mut options = Vec::new(alloc);
     for word in words {

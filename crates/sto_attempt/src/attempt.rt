@@ -53,8 +53,11 @@ impl<'t, T: TxType, B: Body> Attempt<'t, T, B> {
         ensures none { result.log.base.items ≡ [] }
         ensures fresh { result.extension.extended ≡ false }
         ensures read_phase { result.read_phase ≡ ReadPhase.Unstarted }
-        ensures events { events_left (B.left result.log.body) (T.meaning ty.now).widths result.read_phase result.words.items result.extension result.log.base.items ≤ bound (B.left_at_reset body) (length (T.meaning ty.now).widths) (words_of (T.meaning ty.now).widths) }
-        ensures log { IsOnLog (T.meaning ty.now) (B.then result.log.body) (B.script body) (B.left result.log.body) (B.may_ask result.log.body) result.log.base.items result.log.set result.log.cache result.log.replies.items }
+        ensures events { events_left (B.left result.log.body) (T.meaning ty.now).widths result.read_phase result.words.items
+            result.extension result.log.base.items ≤ bound (B.left_at_reset body) (length (T.meaning ty.now).widths)
+            (words_of (T.meaning ty.now).widths) }
+        ensures log { IsOnLog (T.meaning ty.now) (B.then result.log.body) (B.script body) (B.left result.log.body)
+            (B.may_ask result.log.body) result.log.base.items result.log.set result.log.cache result.log.replies.items }
     {
         let mut body = body;
         body.reset();
@@ -239,7 +242,8 @@ impl<'t, T: TxType, B: Body> Attempt<'t, T, B> {
         ensures moves { OnOk result (HasBegun self.new.read_phase × (self.new.at ≡ self.old.at)) }
         ensures left { OnOk result (HasFewer T.TxType B.Body (ReadPhase.Reading part ticket) self.old self.new) }
         ensures alone { IfOk result (λ turn. IsFirst self.new.read_phase × IsUnaborted turn) }
-        ensures event { OneEvent (λ e. e ≡ Word part (length self.old.words.items)) T.valid (C.passes cells.old) (C.view cells.old) (C.view cells.new) }
+        ensures event { OneEvent (λ e. e ≡ Word part (length self.old.words.items)) T.valid (C.passes cells.old) (C.view cells.old)
+            (C.view cells.new) }
         ensures log { self.new.log ≡ self.old.log }
         ensures err { OnErr result (HasStopped T.TxType B.Body self.old self.new (C.view cells.new)) }
         ensures one { IfOk result (λ turn. turn ≡ Turn.More)
@@ -266,7 +270,8 @@ impl<'t, T: TxType, B: Body> Attempt<'t, T, B> {
         ensures turned { IfOk result (HasTurned T.TxType B.Body self.old self.new (C.view cells.new)) }
         ensures reason { IfOk result (λ turn. IsCaused (Close part) self.new.log.set.items (C.view cells.new) self.old.extension turn) }
         ensures grown { OnOk result (HasGrown T.TxType B.Body self.old self.new) }
-        ensures renewed { OnOk result ((self.new.extension.bound ≡ self.old.extension.bound) × (self.new.extension.extended ≡ true → (self.old.extension.extended ≡ true) × (heard self.new ≡ heard self.old))) }
+        ensures renewed { OnOk result ((self.new.extension.bound ≡ self.old.extension.bound)
+            × (self.new.extension.extended ≡ true → (self.old.extension.extended ≡ true) × (heard self.new ≡ heard self.old))) }
         ensures moves { OnOk result (HasBegun self.new.read_phase × (self.new.at ≡ self.old.at)) }
         ensures left { OnOk result (HasFewer T.TxType B.Body (ReadPhase.Reading part ticket) self.old self.new) }
         ensures alone { C.passes cells.old ≡ 1 → IfOk result (λ turn. IsFirst self.new.read_phase × IsUnaborted turn) }
@@ -313,17 +318,23 @@ impl<'t, T: TxType, B: Body> Attempt<'t, T, B> {
         requires log { IsOwnLog T.TxType B.Body self.old }
         requires observed { IsObserved self.old.log.set.items (map watched self.old.extension.watches.items) }
         requires extended { self.old.extension.extended ≡ true }
-        requires renewed { (left : List Watched) × IsRenewed (length (T.meaning self.old.log.ty.now).widths) (words_in self.old.log.base.items) self.old.extension.fresh.items (map watched self.old.extension.watches.items) left }
+        requires renewed { (left : List Watched) × IsRenewed (length (T.meaning self.old.log.ty.now).widths)
+            (words_in self.old.log.base.items) self.old.extension.fresh.items (map watched self.old.extension.watches.items) left }
         requires bound { self.old.at ≤ self.old.extension.bound }
         requires some { (d : List (List ℤ)) × (T.meaning self.old.log.ty.now).valid d × IsPartOf (words_in self.old.log.base.items) d }
-        requires some_new { (d : List (List ℤ)) × (T.meaning self.old.log.ty.now).valid d × IsPartOf (words_in self.old.extension.fresh.items) d }
+        requires some_new { (d : List (List ℤ)) × (T.meaning self.old.log.ty.now).valid d
+            × IsPartOf (words_in self.old.extension.fresh.items) d }
         ensures log { OnOk result (IsLogOf T.TxType B.Body self.old self.new) }
-        ensures turned { (v : View) → SpansAt T.TxType B.Body self.old v → v.phase ≡ Phase.Reading → IfOk result (HasTurned T.TxType B.Body self.old self.new v) }
+        ensures turned { (v : View) → SpansAt T.TxType B.Body self.old v → v.phase ≡ Phase.Reading
+            → IfOk result (HasTurned T.TxType B.Body self.old self.new v) }
         ensures unaborted { IfOk result IsUnaborted }
         ensures grown { OnOk result (HasGrown T.TxType B.Body self.old self.new) }
-        ensures renewed { OnOk result ((self.new.extension.bound ≡ self.old.extension.bound) × (self.new.extension.extended ≡ true → heard self.new ≡ heard self.old)) }
+        ensures renewed { OnOk result ((self.new.extension.bound ≡ self.old.extension.bound)
+            × (self.new.extension.extended ≡ true → heard self.new ≡ heard self.old)) }
         ensures moves { OnOk result (HasBegun self.new.read_phase × (self.old.at ≤ self.new.at)) }
-        ensures left { OnOk result (left_of T.TxType B.Body self.old self.new.read_phase self.new < 1 + left_extending (B.left self.old.log.body - 1) (T.meaning self.old.log.ty.now).widths (drop (length self.old.extension.fresh.items) (map watched self.old.extension.watches.items))) }
+        ensures left { OnOk result (left_of T.TxType B.Body self.old self.new.read_phase self.new
+            < 1 + left_extending (B.left self.old.log.body - 1) (T.meaning self.old.log.ty.now).widths
+            (drop (length self.old.extension.fresh.items) (map watched self.old.extension.watches.items))) }
         ensures stopped { (v : View) → SpansAt T.TxType B.Body self.old v → OnErr result (IsPrefixOf T.TxType B.Body self.old self.new v) }
         ensures script { B.script self.new.log.body ≡ B.script self.old.log.body }
         ensures ty { self.new.log.ty ≡ self.old.log.ty }
@@ -358,9 +369,11 @@ impl<'t, T: TxType, B: Body> Attempt<'t, T, B> {
         ensures turned { IfOk result (HasTurned T.TxType B.Body self.old self.new (C.view cells.new)) }
         ensures unaborted { IfOk result IsUnaborted }
         ensures grown { OnOk result (HasGrown T.TxType B.Body self.old self.new) }
-        ensures renewed { OnOk result ((self.new.extension.bound ≡ (C.view cells.new).at) × (self.new.extension.extended ≡ true → heard self.new ≡ heard self.old)) }
+        ensures renewed { OnOk result ((self.new.extension.bound ≡ (C.view cells.new).at)
+            × (self.new.extension.extended ≡ true → heard self.new ≡ heard self.old)) }
         ensures moves { OnOk result (HasBegun self.new.read_phase × (self.old.at ≤ self.new.at)) }
-        ensures left { OnOk result (left_of T.TxType B.Body self.old self.new.read_phase self.new < left_renewing (B.left self.old.log.body - 1) (T.meaning self.old.log.ty.now).widths) }
+        ensures left { OnOk result (left_of T.TxType B.Body self.old self.new.read_phase self.new
+            < left_renewing (B.left self.old.log.body - 1) (T.meaning self.old.log.ty.now).widths) }
         ensures event { OneEvent (λ e. e ≡ Renew) T.valid (C.passes cells.old) (C.view cells.old) (C.view cells.new) }
         ensures err { OnErr result (HasStopped T.TxType B.Body self.old self.new (C.view cells.new)) }
         ensures script { B.script self.new.log.body ≡ B.script self.old.log.body }
@@ -390,7 +403,8 @@ impl<'t, T: TxType, B: Body> Attempt<'t, T, B> {
         ensures turned { IfOk result (HasTurned T.TxType B.Body self.old self.new (C.view cells.new)) }
         ensures reason { IfOk result (λ turn. IsCaused (Recheck part) self.new.log.set.items (C.view cells.new) self.old.extension turn) }
         ensures grown { OnOk result (HasGrown T.TxType B.Body self.old self.new) }
-        ensures renewed { OnOk result ((self.new.extension.bound ≡ self.old.extension.bound) × (self.new.extension.extended ≡ true → (self.old.extension.extended ≡ true) × (heard self.new ≡ heard self.old))) }
+        ensures renewed { OnOk result ((self.new.extension.bound ≡ self.old.extension.bound)
+            × (self.new.extension.extended ≡ true → (self.old.extension.extended ≡ true) × (heard self.new ≡ heard self.old))) }
         ensures moves { OnOk result (HasBegun self.new.read_phase × (self.old.at ≤ self.new.at)) }
         ensures left { OnOk result (HasFewer T.TxType B.Body (ReadPhase.Rechecking part) self.old self.new) }
         ensures event { OneEvent (λ e. e ≡ Recheck part) T.valid (C.passes cells.old) (C.view cells.old) (C.view cells.new) }
@@ -474,7 +488,8 @@ impl<'t, T: TxType, B: Body> Attempt<'t, T, B> {
         ensures extension { self.new.extension ≡ self.old.extension }
         ensures moves { OnOk result (HasBegun self.new.read_phase × (self.old.at ≤ self.new.at)) }
         ensures left { OnOk result (HasFewer T.TxType B.Body (ReadPhase.Rereading part ticket) self.old self.new) }
-        ensures event { OneEvent (λ e. e ≡ Word part (length self.old.words.items)) T.valid (C.passes cells.old) (C.view cells.old) (C.view cells.new) }
+        ensures event { OneEvent (λ e. e ≡ Word part (length self.old.words.items)) T.valid (C.passes cells.old) (C.view cells.old)
+            (C.view cells.new) }
         ensures log { self.new.log ≡ self.old.log }
         ensures err { OnErr result (HasStopped T.TxType B.Body self.old self.new (C.view cells.new)) }
         ensures one { IfOk result (λ turn. turn ≡ Turn.More)
@@ -501,7 +516,8 @@ impl<'t, T: TxType, B: Body> Attempt<'t, T, B> {
         ensures turned { IfOk result (HasTurned T.TxType B.Body self.old self.new (C.view cells.new)) }
         ensures reason { IfOk result (λ turn. IsCaused (Close part) self.new.log.set.items (C.view cells.new) self.old.extension turn) }
         ensures grown { OnOk result (HasGrown T.TxType B.Body self.old self.new) }
-        ensures renewed { OnOk result ((self.new.extension.bound ≡ self.old.extension.bound) × (self.new.extension.extended ≡ true → (self.old.extension.extended ≡ true) × (heard self.new ≡ heard self.old))) }
+        ensures renewed { OnOk result ((self.new.extension.bound ≡ self.old.extension.bound)
+            × (self.new.extension.extended ≡ true → (self.old.extension.extended ≡ true) × (heard self.new ≡ heard self.old))) }
         ensures moves { OnOk result (HasBegun self.new.read_phase × (self.old.at ≤ self.new.at)) }
         ensures left { OnOk result (HasFewer T.TxType B.Body (ReadPhase.Rereading part ticket) self.old self.new) }
         ensures event { OneEvent (λ e. e ≡ Close part) T.valid (C.passes cells.old) (C.view cells.old) (C.view cells.new) }

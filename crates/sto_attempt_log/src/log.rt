@@ -49,11 +49,17 @@ impl<T: TxType, B: Body> Log<'_, T, B> {
     /// Runs the body on what is known.
     pub fn go_on(&mut self, alloc: Global) -> Result<Reached, NoMemory>
         requires some { (d : List (List ℤ)) × (T.meaning self.old.ty.now).valid d × IsPartOf (words_in self.old.base.items) d }
-        requires log { IsOnLog (T.meaning self.old.ty.now) (B.then self.old.body) (B.script self.old.body) (B.left self.old.body) (B.may_ask self.old.body) self.old.base.items self.old.set self.old.cache self.old.replies.items }
-        ensures log { OnOk result (IsOnLog (T.meaning self.old.ty.now) (B.then self.new.body) (B.script self.old.body) (B.left self.new.body) (B.may_ask self.new.body) self.old.base.items self.new.set self.new.cache self.new.replies.items) }
-        ensures reached { IfOk result (λ r. IsReached (T.meaning self.old.ty.now) (B.script self.old.body) self.old.base.items (map told self.new.replies.items) r) }
-        ensures grown { OnOk result (HasHeard (T.meaning self.old.ty.now) (B.script self.old.body) (words_in self.old.base.items) (map told self.old.replies.items) self.old.set (map told self.new.replies.items) self.new.set) }
-        ensures runs { (d : List (List ℤ)) → (T.meaning self.old.ty.now).valid d → IsPartOf (words_in self.old.base.items) d → IsRun (T.meaning self.old.ty.now).machines (B.script self.old.body) ((T.meaning self.old.ty.now).rows d) (map told self.new.replies.items) }
+        requires log { IsOnLog (T.meaning self.old.ty.now) (B.then self.old.body) (B.script self.old.body) (B.left self.old.body)
+            (B.may_ask self.old.body) self.old.base.items self.old.set self.old.cache self.old.replies.items }
+        ensures log { OnOk result (IsOnLog (T.meaning self.old.ty.now) (B.then self.new.body) (B.script self.old.body)
+            (B.left self.new.body) (B.may_ask self.new.body) self.old.base.items self.new.set self.new.cache self.new.replies.items) }
+        ensures reached { IfOk result (λ r. IsReached (T.meaning self.old.ty.now) (B.script self.old.body) self.old.base.items
+            (map told self.new.replies.items) r) }
+        ensures grown { OnOk result (HasHeard (T.meaning self.old.ty.now) (B.script self.old.body) (words_in self.old.base.items)
+            (map told self.old.replies.items) self.old.set (map told self.new.replies.items) self.new.set) }
+        ensures runs { (d : List (List ℤ)) → (T.meaning self.old.ty.now).valid d → IsPartOf (words_in self.old.base.items) d
+            → IsRun (T.meaning self.old.ty.now).machines (B.script self.old.body) ((T.meaning self.old.ty.now).rows d)
+            (map told self.new.replies.items) }
         ensures left { length self.new.replies.items + B.left self.new.body ≤ length self.old.replies.items + B.left self.old.body }
         ensures asks { IfOk result (IsByCall (B.left self.new.body)) }
         ensures script { B.script self.new.body ≡ B.script self.old.body }
@@ -96,10 +102,16 @@ impl<T: TxType, B: Body> Log<'_, T, B> {
         updates: &Updates,
     ) -> Result<(), NoMemory>
         requires some { (d : List (List ℤ)) × (T.meaning self.old.ty.now).valid d × IsPartOf (words_in self.old.base.items) d }
-        requires log { IsOnLog (T.meaning self.old.ty.now) (B.then self.old.body) (B.script self.old.body) (B.left self.old.body) (B.may_ask self.old.body) self.old.base.items self.old.set self.old.cache self.old.replies.items }
-        requires says { SaysNext (T.meaning self.old.ty.now) (B.script self.old.body) (known self.old.cache) (map told self.old.replies.items) (told reply) items.now.items updates.now.items }
-        ensures log { OnOk result (IsOnLog (T.meaning self.old.ty.now) (B.then self.new.body) (B.script self.old.body) (B.left self.new.body) (B.may_ask self.new.body) self.old.base.items self.new.set self.new.cache self.new.replies.items) }
-        ensures grown { OnOk result ((rs : List Told) → (old : Recorded) → HasHeard (T.meaning self.old.ty.now) (B.script self.old.body) (words_in self.old.base.items) rs old (map told self.old.replies.items) self.old.set → HasHeard (T.meaning self.old.ty.now) (B.script self.old.body) (words_in self.old.base.items) rs old (map told self.new.replies.items) self.new.set) }
+        requires log { IsOnLog (T.meaning self.old.ty.now) (B.then self.old.body) (B.script self.old.body) (B.left self.old.body)
+            (B.may_ask self.old.body) self.old.base.items self.old.set self.old.cache self.old.replies.items }
+        requires says { SaysNext (T.meaning self.old.ty.now) (B.script self.old.body) (known self.old.cache)
+            (map told self.old.replies.items) (told reply) items.now.items updates.now.items }
+        ensures log { OnOk result (IsOnLog (T.meaning self.old.ty.now) (B.then self.new.body) (B.script self.old.body)
+            (B.left self.new.body) (B.may_ask self.new.body) self.old.base.items self.new.set self.new.cache self.new.replies.items) }
+        ensures grown { OnOk result ((rs : List Told) → (old : Recorded)
+            → HasHeard (T.meaning self.old.ty.now) (B.script self.old.body) (words_in self.old.base.items) rs old
+            (map told self.old.replies.items) self.old.set → HasHeard (T.meaning self.old.ty.now) (B.script self.old.body)
+            (words_in self.old.base.items) rs old (map told self.new.replies.items) self.new.set) }
         ensures fewer { OnOk result (B.left self.new.body < B.left self.old.body) }
         ensures kept { OnErr result (self.new.replies ≡ self.old.replies) }
         ensures left { length self.new.replies.items + B.left self.new.body ≤ length self.old.replies.items + B.left self.old.body }

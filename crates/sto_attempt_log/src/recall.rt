@@ -90,7 +90,8 @@ fn recall<T: TxType>(
 ) -> Result<bool, NoMemory>
     requires range { part < length (T.meaning ty.now).widths }
     requires pending { IsPending (T.meaning ty.now) (words_in base.now.items) set.now.updates }
-    ensures known { IfOk result (λ is. is ≡ true → IsLearnt (T.meaning ty.now) (words_in base.now.items) set.now.updates part (known cache.old) (known cache.new)) }
+    ensures known { IfOk result (λ is. is ≡ true → IsLearnt (T.meaning ty.now) (words_in base.now.items) set.now.updates part
+        (known cache.old) (known cache.new)) }
     ensures other { IfOk result (λ is. is ≡ false → (cache.new ≡ cache.old) × (words_in base.now.items part ≡ None)) }
 {
     if let Some(read_entry) = base.find(part) {
@@ -144,7 +145,8 @@ fn learn_anew<T: TxType>(
 ) -> Result<(), NoMemory>
     requires range { part < length (T.meaning ty.now).widths }
     requires pending { IsPending (T.meaning ty.now) (words_in base.now.items) set.now.updates }
-    ensures { OnOk result (IsLearntAnew (T.meaning ty.now) (words_in base.now.items) set.now.updates part (known cache.old) (known cache.new)) }
+    ensures { OnOk result (IsLearntAnew (T.meaning ty.now) (words_in base.now.items) set.now.updates part (known cache.old)
+        (known cache.new)) }
 {
     if recall(alloc, ty, base, set, part, cache)? {
         return Ok(());

@@ -13,7 +13,8 @@ fn is_report_line(line: &[u8]) -> bool
 /// What stands before the first line that is exactly `report`, and what stands behind it. None comes exactly where there is no
 /// such line.
 pub(crate) fn divide(bytes: &[u8]) -> Option<(&[u8], &[u8])>
-    ensures divided { MatchOption result (has_report bytes.now ≡ false) (λ parts. (has_report bytes.now ≡ true) × (parts.0.now ≡ script_in bytes.now) × (parts.1.now ≡ report_in bytes.now)) }
+    ensures divided { MatchOption result (has_report bytes.now ≡ false) (λ parts. (has_report bytes.now ≡ true)
+        × (parts.0.now ≡ script_in bytes.now) × (parts.1.now ≡ report_in bytes.now)) }
     ensures less { IfSome result (λ parts. length parts.1.now < length bytes.now) }
 {
     let mut rest = bytes;

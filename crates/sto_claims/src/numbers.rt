@@ -90,8 +90,10 @@ impl Claims {
         requires of { claimer.old.seat.table_id ≡ self.now.table.shared.table_id }
         requires open { past self.now.table.shared.key.count claimer.old.seat.me.0.numbers ≡ 0 }
         ensures of { claimer.new.seat.table_id ≡ claimer.old.seat.table_id }
-        ensures some { IfSome result (λ n. (n < self.now.table.shared.key.count) × HasClaimed claimer.old.seat.me.0 n claimer.new.seat.me.0) }
-        ensures none { IfNone result ((n : ℕ) × (self.now.table.shared.key.count ≤ n) × HasClaimed claimer.old.seat.me.0 n claimer.new.seat.me.0) }
+        ensures some { IfSome result (λ n. (n < self.now.table.shared.key.count)
+            × HasClaimed claimer.old.seat.me.0 n claimer.new.seat.me.0) }
+        ensures none { IfNone result ((n : ℕ) × (self.now.table.shared.key.count ≤ n)
+            × HasClaimed claimer.old.seat.me.0 n claimer.new.seat.me.0) }
     {
         let found = self
             .table
@@ -164,7 +166,8 @@ fn share(
     requires of { seat.table_id ≡ claims.now.table.shared.table_id }
     requires seat { seat.me ≡ (taken [] seats, []) }
     ensures many { IfOk result (λ r. length r.items ≡ seats) }
-    ensures fresh { IfOk result (λ r. All (λ c. (c.seat.table_id ≡ claims.now.table.shared.table_id) × (c.seat.me.0 ≡ taken [] 1)) r.items) }
+    ensures fresh { IfOk result (λ r. All (λ c. (c.seat.table_id ≡ claims.now.table.shared.table_id) × (c.seat.me.0 ≡ taken [] 1))
+        r.items) }
 {
     let mut seat = seat;
     let mut claimers = List::new(alloc);
@@ -186,7 +189,8 @@ pub fn open_claims(alloc: Global, count: u32, seats: u32) -> Result<OpenedClaims
     requires { 1 ≤ seats }
     ensures key { IfOk result (λ o. (o.claims.table.shared.key.count ≡ count) × (o.claims.table.shared.key.seats ≡ seats)) }
     ensures many { IfOk result (λ o. length o.claimers.items ≡ seats) }
-    ensures fresh { IfOk result (λ o. All (λ c. (c.seat.table_id ≡ o.claims.table.shared.table_id) × (c.seat.me.0 ≡ taken [] 1)) o.claimers.items) }
+    ensures fresh { IfOk result (λ o. All (λ c. (c.seat.table_id ≡ o.claims.table.shared.table_id) × (c.seat.me.0 ≡ taken [] 1))
+        o.claimers.items) }
 {
     let most = Most { count, seats };
     let (table, seat) = match Table::of_words(alloc, &[0], &most) {

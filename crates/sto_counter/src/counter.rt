@@ -97,7 +97,9 @@ impl TxType for TCounter {
 
 // The answer where the value is known.
 fn answer(alloc: Global, call: &Call, value: i64) -> Result<Answer, NoMemory>
-    ensures { IfOk result (IsSaid (effect_by (Counter (pos 0)) (operation_of call.now.code) call.now.a call.now.b (only_row value)).reply (counter_items (operation_of call.now.code) call.now.a call.now.b value) (counter_updates (operation_of call.now.code) call.now.a value)) }
+    ensures { IfOk result (IsSaid (effect_by (Counter (pos 0)) (operation_of call.now.code) call.now.a call.now.b (only_row value)).reply
+        (counter_items (operation_of call.now.code) call.now.a call.now.b value)
+        (counter_updates (operation_of call.now.code) call.now.a value)) }
 {
     match Operation::from_code(call.code) {
         Some(Operation::Get) => Ok(Answer::Done {

@@ -52,7 +52,8 @@ fn count_all(buckets: u32, places: u32, cache: &KnownParts<'_>) -> Result<u32, u
     requires few { buckets * (1 + places) < 2 ^ 32 }
     requires words { 2 * places < 2 ^ 32 }
     requires part { (d : List (List ℤ)) × IsHash buckets places d × IsPartOf (known cache.now) d }
-    ensures { MatchResult result (λ total. (first_asked places (known cache.now) 0 buckets ≡ None) × (total ≡ known_total places (known cache.now) 0 buckets)) (λ part. first_asked places (known cache.now) 0 buckets ≡ Some part) }
+    ensures { MatchResult result (λ total. (first_asked places (known cache.now) 0 buckets ≡ None)
+        × (total ≡ known_total places (known cache.now) 0 buckets)) (λ part. first_asked places (known cache.now) 0 buckets ≡ Some part) }
 {
     let mut total = 0;
     for bucket in 0..buckets {

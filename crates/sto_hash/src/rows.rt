@@ -18,7 +18,8 @@ pub(crate) fn table_rows(
 ) -> Result<Rows, NoMemory>
     requires few { buckets * (1 + places) < 2 ^ 32 }
     requires valid { IsHash buckets places (take (buckets * (1 + places)) (drop first contents.now.items)) }
-    ensures { IfOk result (λ r. r.items ≡ rows_of (pairs_from places (take (buckets * (1 + places)) (drop first contents.now.items)) 0 buckets)) }
+    ensures { IfOk result (λ r. r.items ≡ rows_of (pairs_from places (take (buckets * (1 + places)) (drop first contents.now.items)) 0
+        buckets)) }
 {
     let _parts = contents.parts();
     let mut rows = Rows::new(alloc);

@@ -78,7 +78,8 @@ impl Updates {
 
     /// Takes the update of the highest part.
     pub fn pop(&mut self) -> Option<(u32, Update)>
-        ensures { MatchOption result ((self.old.items ≡ []) × (self.new ≡ self.old)) (λ item. (self.old.items ≡ self.new.items ++ plain item ∷ []) × (self.new.spare ≡ self.old.spare + 1)) }
+        ensures { MatchOption result ((self.old.items ≡ []) × (self.new ≡ self.old))
+            (λ item. (self.old.items ≡ self.new.items ++ plain item ∷ []) × (self.new.spare ≡ self.old.spare + 1)) }
     {
         self.list.pop()
     }
@@ -237,7 +238,8 @@ fn place_of(entries: &[(u32, Update)], part: u32) -> Result<u32, u32>
     requires few { length entries.now < 2 ^ 32 }
     requires rising { IsRising (map plain entries.now) }
     ensures place { MatchResult result (IsPlaceOf (map plain entries.now) part) (IsPlaceFor (map plain entries.now) part) }
-    ensures changes { MatchResult result (λ i. changes_of (map plain entries.now) part ≡ (entry_at (map plain entries.now) i).1) (λ i. changes_of (map plain entries.now) part ≡ []) }
+    ensures changes { MatchResult result (λ i. changes_of (map plain entries.now) part ≡ (entry_at (map plain entries.now) i).1)
+        (λ i. changes_of (map plain entries.now) part ≡ []) }
 {
     let place = entries.partition_point(|entry| entry.0 < part);
     if place < entries.len() && entries[place].0 == part {
@@ -251,7 +253,8 @@ fn place_of(entries: &[(u32, Update)], part: u32) -> Result<u32, u32>
 fn put_over(entries: &mut List<(u32, Update)>, place: u32, update: &Update)
     requires place { place < length entries.old.items }
     requires width { length (entry_at (map plain entries.old.items) place).1 ≡ length update.now.items }
-    ensures { map plain entries.new.items ≡ slice_set (map plain entries.old.items) place ((entry_at (map plain entries.old.items) place).0, composed_all (entry_at (map plain entries.old.items) place).1 update.now.items) }
+    ensures { map plain entries.new.items ≡ slice_set (map plain entries.old.items) place
+        ((entry_at (map plain entries.old.items) place).0, composed_all (entry_at (map plain entries.old.items) place).1 update.now.items) }
 {
     let entry = entries.get_mut(place);
     compose(&mut entry.1, update);
@@ -272,7 +275,8 @@ fn renumber_all(entries: &mut List<(u32, Update)>, first: u32)
 fn renumber_one(entries: &mut List<(u32, Update)>, place: u32, first: u32)
     requires place { place < length entries.old.items }
     requires few { first + (entry_at (map plain entries.old.items) place).0 < 2 ^ 32 }
-    ensures items { map plain entries.new.items ≡ slice_set (map plain entries.old.items) place (renumbered first (entry_at (map plain entries.old.items) place)) }
+    ensures items { map plain entries.new.items ≡ slice_set (map plain entries.old.items) place
+        (renumbered first (entry_at (map plain entries.old.items) place)) }
     ensures room { entries.new.spare ≡ entries.old.spare }
 {
     let entry = entries.get_mut(place);

@@ -17,7 +17,8 @@ use std::fmt::Write;
 use sto_lang::{Decl, Thread};
 
 fn push_part(out: &mut String, decls: &[Decl], object: u32, part: u32) -> Result<(), AllocError>
-    ensures text { OnOk result (string_bytes out.new ≡ string_bytes out.old ++ part_text (part_by_home (map declaration decls.now) (object, part))) }
+    ensures text { OnOk result (string_bytes out.new ≡ string_bytes out.old
+        ++ part_text (part_by_home (map declaration decls.now) (object, part))) }
     ensures short { part < 2 ^ 64 }
 {
     let name = object_name(decls, object);
@@ -61,7 +62,8 @@ pub fn push_abort(
 ) -> Result<(), AllocError>
     requires names { HaveNames (map declaration decls.now) }
     requires known { IsAbortOf (length threads.now) (map declaration decls.now) line.now }
-    ensures text { OnOk result (string_bytes out.new ≡ string_bytes out.old ++ abort_text (names_of threads.now) (abort (map declaration decls.now) line.now)) }
+    ensures text { OnOk result (string_bytes out.new ≡ string_bytes out.old
+        ++ abort_text (names_of threads.now) (abort (map declaration decls.now) line.now)) }
     ensures short { OnOk result (IsShortAbort (names_of threads.now) (abort (map declaration decls.now) line.now)) }
 {
     let AbortLine {
@@ -89,7 +91,8 @@ pub(crate) fn push_aborts(
 ) -> Result<(), AllocError>
     requires names { HaveNames (map declaration decls.now) }
     requires known { AreAbortsOf (length threads.now) (map declaration decls.now) lines.now }
-    ensures text { OnOk result (string_bytes out.new ≡ string_bytes out.old ++ flat_map (abort_text (names_of threads.now)) (map (abort (map declaration decls.now)) lines.now)) }
+    ensures text { OnOk result (string_bytes out.new ≡ string_bytes out.old
+        ++ flat_map (abort_text (names_of threads.now)) (map (abort (map declaration decls.now)) lines.now)) }
     ensures short { OnOk result (All (λ l. IsShortAbort (names_of threads.now) (abort (map declaration decls.now) l)) lines.now) }
 {
     for line in lines {

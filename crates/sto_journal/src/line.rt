@@ -41,7 +41,8 @@ pub(crate) fn push_lines(
     lines: &[Line],
 ) -> Result<(), AllocError>
     requires { HaveThreads (length threads.now) lines.now }
-    ensures text { OnOk result (string_bytes out.new ≡ string_bytes out.old ++ flat_map (line_text (names_of threads.now)) (map entry lines.now)) }
+    ensures text { OnOk result (string_bytes out.new ≡ string_bytes out.old
+        ++ flat_map (line_text (names_of threads.now)) (map entry lines.now)) }
     ensures short { OnOk result (All (λ l. IsShortEntry (names_of threads.now) (entry l)) lines.now) }
 {
     for line in lines {

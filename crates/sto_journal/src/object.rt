@@ -90,7 +90,10 @@ fn locked_value(
     saw: Value,
     thread: &str,
 ) -> Result<Value, AllocError>
-    ensures value { IfOk result (λ v. view v ≡ members (member (codes "at") (numeral at) (member (codes "cause") (string (codes "locked")) (member (codes "object") (string object.now) (member (codes "part") (numeral part) (member (codes "position") (numeral position) (member (codes "saw") (view saw) (member (codes "thread") (string thread.now) no_members)))))))) }
+    ensures value { IfOk result (λ v. view v ≡ members (member (codes "at") (numeral at)
+        (member (codes "cause") (string (codes "locked")) (member (codes "object") (string object.now)
+        (member (codes "part") (numeral part) (member (codes "position") (numeral position)
+        (member (codes "saw") (view saw) (member (codes "thread") (string thread.now) no_members)))))))) }
     ensures short { part < 2 ^ 64 }
 {
     json!(in alloc; {"at": at, "cause": "locked", "object": object, "part": part, "position": position, "saw": saw, "thread": thread})
@@ -106,7 +109,11 @@ fn changed_value(
     saw: Value,
     thread: &str,
 ) -> Result<Value, AllocError>
-    ensures value { IfOk result (λ v. view v ≡ members (member (codes "at") (numeral at) (member (codes "by") (numeral by) (member (codes "cause") (string (codes "changed")) (member (codes "object") (string object.now) (member (codes "part") (numeral part) (member (codes "position") (numeral position) (member (codes "saw") (view saw) (member (codes "thread") (string thread.now) no_members))))))))) }
+    ensures value { IfOk result (λ v. view v ≡ members (member (codes "at") (numeral at)
+        (member (codes "by") (numeral by) (member (codes "cause") (string (codes "changed"))
+        (member (codes "object") (string object.now) (member (codes "part") (numeral part)
+        (member (codes "position") (numeral position) (member (codes "saw") (view saw)
+        (member (codes "thread") (string thread.now) no_members))))))))) }
     ensures part { part < 2 ^ 64 }
     ensures writer { by < 2 ^ 64 }
 {
@@ -155,7 +162,8 @@ fn abort_values(
 ) -> Result<Value, AllocError>
     requires names { HaveNames (map declaration decls.now) }
     requires known { AreAbortsOf (length threads.now) (map declaration decls.now) lines.now }
-    ensures value { IfOk result (λ v. view v ≡ listed (abort_data (names_of threads.now)) (map (abort (map declaration decls.now)) lines.now)) }
+    ensures value { IfOk result (λ v. view v ≡ listed (abort_data (names_of threads.now))
+        (map (abort (map declaration decls.now)) lines.now)) }
     ensures short { IfOk result (λ _. All (λ l. IsShortAbort (names_of threads.now) (abort (map declaration decls.now) l)) lines.now) }
 {
     let mut items = Vec::new(alloc);
@@ -191,9 +199,12 @@ fn report_value(alloc: Global, file: &File, journal: &Journal) -> Result<Value, 
     requires lines { HaveThreads (length file.now.threads.items) journal.now.lines.items }
     requires aborts { AreAbortsOf (length file.now.threads.items) (map declaration file.now.decls.items) journal.now.aborts.items }
     requires rows { HaveRows journal.now.state.items file.now.decls.items }
-    ensures value { IfOk result (λ v. view v ≡ report_data (names_of file.now.threads.items) (map declaration file.now.decls.items) (map entry journal.now.lines.items) (map (abort (map declaration file.now.decls.items)) journal.now.aborts.items) journal.now.state.items) }
+    ensures value { IfOk result (λ v. view v ≡ report_data (names_of file.now.threads.items) (map declaration file.now.decls.items)
+        (map entry journal.now.lines.items) (map (abort (map declaration file.now.decls.items)) journal.now.aborts.items)
+        journal.now.state.items) }
     ensures entries { IfOk result (λ _. All (λ l. IsShortEntry (names_of file.now.threads.items) (entry l)) journal.now.lines.items) }
-    ensures aborts { IfOk result (λ _. All (λ l. IsShortAbort (names_of file.now.threads.items) (abort (map declaration file.now.decls.items) l)) journal.now.aborts.items) }
+    ensures aborts { IfOk result (λ _. All (λ l. IsShortAbort (names_of file.now.threads.items)
+        (abort (map declaration file.now.decls.items) l)) journal.now.aborts.items) }
 {
     let (threads, decls) = (file.threads.as_slice(), file.decls.as_slice());
     let aborts = abort_values(alloc, threads, decls, journal.aborts.as_slice())?;
@@ -207,9 +218,12 @@ fn json_line(alloc: Global, file: &File, journal: &Journal) -> Result<String, Al
     requires lines { HaveThreads (length file.now.threads.items) journal.now.lines.items }
     requires aborts { AreAbortsOf (length file.now.threads.items) (map declaration file.now.decls.items) journal.now.aborts.items }
     requires rows { HaveRows journal.now.state.items file.now.decls.items }
-    ensures text { IfOk result (λ s. string_bytes s ≡ json_text (names_of file.now.threads.items) (map declaration file.now.decls.items) (map entry journal.now.lines.items) (map (abort (map declaration file.now.decls.items)) journal.now.aborts.items) journal.now.state.items) }
+    ensures text { IfOk result (λ s. string_bytes s ≡ json_text (names_of file.now.threads.items) (map declaration file.now.decls.items)
+        (map entry journal.now.lines.items) (map (abort (map declaration file.now.decls.items)) journal.now.aborts.items)
+        journal.now.state.items) }
     ensures entries { IfOk result (λ _. All (λ l. IsShortEntry (names_of file.now.threads.items) (entry l)) journal.now.lines.items) }
-    ensures aborts { IfOk result (λ _. All (λ l. IsShortAbort (names_of file.now.threads.items) (abort (map declaration file.now.decls.items) l)) journal.now.aborts.items) }
+    ensures aborts { IfOk result (λ _. All (λ l. IsShortAbort (names_of file.now.threads.items)
+        (abort (map declaration file.now.decls.items) l)) journal.now.aborts.items) }
 {
     let value = report_value(alloc, file, journal)?;
     let mut line = value.to_string(alloc)?;
@@ -225,9 +239,12 @@ pub fn json_report(alloc: Global, file: &File, journal: &Journal) -> Result<Text
     requires lines { HaveThreads (length file.now.threads.items) journal.now.lines.items }
     requires aborts { AreAbortsOf (length file.now.threads.items) (map declaration file.now.decls.items) journal.now.aborts.items }
     requires rows { HaveRows journal.now.state.items file.now.decls.items }
-    ensures text { IfOk result (λ text. text.items ≡ json_text (names_of file.now.threads.items) (map declaration file.now.decls.items) (map entry journal.now.lines.items) (map (abort (map declaration file.now.decls.items)) journal.now.aborts.items) journal.now.state.items) }
+    ensures text { IfOk result (λ text. text.items ≡ json_text (names_of file.now.threads.items) (map declaration file.now.decls.items)
+        (map entry journal.now.lines.items) (map (abort (map declaration file.now.decls.items)) journal.now.aborts.items)
+        journal.now.state.items) }
     ensures order { IfOk result (λ text. json_order_named (names_of file.now.threads.items) text.items ≡ places journal.now.lines.items) }
-    ensures aborts { IfOk result (λ text. json_aborts_named (names_of file.now.threads.items) text.items ≡ map (abort (map declaration file.now.decls.items)) journal.now.aborts.items) }
+    ensures aborts { IfOk result (λ text. json_aborts_named (names_of file.now.threads.items) text.items
+        ≡ map (abort (map declaration file.now.decls.items)) journal.now.aborts.items) }
 {
     match json_line(alloc, file, journal) {
         Ok(line) => Text::of_string(line),

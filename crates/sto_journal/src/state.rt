@@ -29,7 +29,8 @@ pub(crate) fn push_objects(
     state: &State,
 ) -> Result<(), AllocError>
     requires { HaveRows state.now.items decls.now }
-    ensures { OnOk result (string_bytes out.new ≡ string_bytes out.old ++ flat_map (object_text state.now.items) (map declaration decls.now)) }
+    ensures { OnOk result (string_bytes out.new ≡ string_bytes out.old
+        ++ flat_map (object_text state.now.items) (map declaration decls.now)) }
 {
     for decl in decls {
         push_object(out, decl, state)?;

@@ -25,7 +25,8 @@ pub(crate) fn abort_lines(
     requires few { length tickets.now < 2 ^ 32 }
     requires room { length aborted.items < 2 ^ 32 }
     requires parts { All (IsInRange (length homes.now)) aborted.items }
-    ensures { IfOk result (λ lines. (ds : Declarations) → map (abort ds) lines.items ≡ flat_map (aborts_at ds (map home_pair homes.now) tickets.now) aborted.items) }
+    ensures { IfOk result (λ lines. (ds : Declarations) → map (abort ds) lines.items
+        ≡ flat_map (aborts_at ds (map home_pair homes.now) tickets.now) aborted.items) }
 {
     let mut lines = List::new(alloc);
     for record in aborted {

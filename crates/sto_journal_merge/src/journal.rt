@@ -71,7 +71,8 @@ pub fn merge(
     requires few { length records.items < 2 ^ 32 }
     requires parts { All (IsInRange (length homes.now)) records.items }
     ensures lines { IfOk result (λ j. AreLines (map plain records.items) (map entry j.lines.items)) }
-    ensures aborts { IfOk result (λ j. (ds : Declarations) (threads : ℕ) → All (λ r. r.thread < threads) records.items → map (abort ds) j.aborts.items ≡ aborts_from ds (map home_pair homes.now) (map plain records.items) 0 threads) }
+    ensures aborts { IfOk result (λ j. (ds : Declarations) (threads : ℕ) → All (λ r. r.thread < threads) records.items
+        → map (abort ds) j.aborts.items ≡ aborts_from ds (map home_pair homes.now) (map plain records.items) 0 threads) }
     ensures state { IfOk result (λ j. j.state ≡ state) }
 {
     let Ok(Sorted { tickets, parted }) = arrange(alloc, records) else {

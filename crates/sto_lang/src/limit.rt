@@ -16,7 +16,8 @@ use sto_syntax::{Declared, Entries, Form, Name, ScheduleEntry, ThreadWord};
 #[tactic(auto, using(crate::proofs::LimitLemmas::widest, crate::proofs::LimitLemmas::small_parts, crate::proofs::LimitLemmas::small_words))]
 /// Whether a declaration has a number outside its range, or goes past a limit.
 fn is_declared_beyond(draft: &Draft, declared: &Declared) -> bool
-    ensures { result ≡ (not (is_in_ranges draft.now.version declared.now) || is_full draft.now.version draft.now.objects (shape_of declared.now)) }
+    ensures { result ≡ (not (is_in_ranges draft.now.version declared.now) || is_full draft.now.version draft.now.objects
+        (shape_of declared.now)) }
 {
     let version = draft.version;
     !is_in_ranges(version, declared) || draft.objects.is_full(version, &shape(declared))

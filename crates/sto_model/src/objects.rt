@@ -93,7 +93,8 @@ pub(crate) fn ask_rows(
 ) -> Result<Reply, NoMemory>
     requires { IsTrue (takes_by shape (operation_of call.now.code) call.now.a) }
     ensures reply { IfOk result (λ r. told r ≡ (effect_by shape (operation_of call.now.code) call.now.a call.now.b rows.old.items).reply) }
-    ensures after { OnOk result (rows.new.items ≡ (effect_by shape (operation_of call.now.code) call.now.a call.now.b rows.old.items).after) }
+    ensures after { OnOk result (rows.new.items ≡ (effect_by shape (operation_of call.now.code) call.now.a call.now.b
+        rows.old.items).after) }
     ensures err { OnErr result (rows.new.items ≡ rows.old.items) }
 {
     match Operation::from_code(call.code) {

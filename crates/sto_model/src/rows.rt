@@ -80,7 +80,8 @@ impl Rows {
 
     /// Takes the row with the greatest key.
     pub fn pop(&mut self) -> Option<(i64, i64)>
-        ensures { MatchOption result ((self.old.items ≡ []) × (self.new ≡ self.old)) (λ item. (self.old.items ≡ self.new.items ++ item ∷ []) × (self.new.spare ≡ self.old.spare + 1)) }
+        ensures { MatchOption result ((self.old.items ≡ []) × (self.new ≡ self.old)) (λ item. (self.old.items ≡ self.new.items ++ item ∷ [])
+            × (self.new.spare ≡ self.old.spare + 1)) }
     {
         self.list.pop()
     }

@@ -101,7 +101,8 @@ impl Contents {
 
     /// Takes the last part; there is none exactly where the list is empty.
     pub fn pop(&mut self) -> Option<PartWords>
-        ensures { MatchOption result ((self.old.items ≡ []) × (self.new ≡ self.old)) (λ item. (self.old.items ≡ self.new.items ++ item.items ∷ []) × (self.new.spare ≡ self.old.spare + 1)) }
+        ensures { MatchOption result ((self.old.items ≡ []) × (self.new ≡ self.old))
+            (λ item. (self.old.items ≡ self.new.items ++ item.items ∷ []) × (self.new.spare ≡ self.old.spare + 1)) }
     {
         self.parts.pop()
     }

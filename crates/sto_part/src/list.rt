@@ -120,7 +120,8 @@ impl<T> List<T> {
 
     /// Takes the last item; there is none exactly where the list is empty.
     pub fn pop(&mut self) -> Option<T>
-        ensures { MatchOption result ((self.old.items ≡ []) × (self.new ≡ self.old)) (λ item. (self.old.items ≡ self.new.items ++ item ∷ []) × (self.new.spare ≡ self.old.spare + 1)) }
+        ensures { MatchOption result ((self.old.items ≡ []) × (self.new ≡ self.old)) (λ item. (self.old.items ≡ self.new.items ++ item ∷ [])
+            × (self.new.spare ≡ self.old.spare + 1)) }
     {
         self.vec.pop()
     }

@@ -92,8 +92,10 @@ impl Progress {
         requires room { length self.old.lines.items ≤ 10000 * thread }
         requires so_far { IsSoFar (view file.now) self.old.lines.items self.old.writers self.old.state.items }
         ensures so_far { OnOk result (IsSoFar (view file.now) self.new.lines.items self.new.writers self.new.state.items) }
-        ensures placed { OnOk result (places self.new.lines.items ≡ places self.old.lines.items ++ places_of thread (count_in (view file.now).threads thread)) }
-        ensures counted { OnOk result (length self.new.lines.items ≡ length self.old.lines.items + count_in (view file.now).threads thread) }
+        ensures placed { OnOk result (places self.new.lines.items ≡ places self.old.lines.items
+            ++ places_of thread (count_in (view file.now).threads thread)) }
+        ensures counted { OnOk result (length self.new.lines.items
+            ≡ length self.old.lines.items + count_in (view file.now).threads thread) }
     {
         let count = file.threads.get(thread).scripts.len();
         for earlier in 0..count {

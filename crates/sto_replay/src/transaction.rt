@@ -42,9 +42,11 @@ pub(crate) fn run_transaction(
 ) -> Result<SerialOutcome, NoMemory>
     requires fits { CanRun shapes.now.items (view script.now) }
     requires objects { length state.old.items ≡ length shapes.now.items }
-    ensures run { IfOk result (λ ran. serial_run_of (machines_of shapes.now.items) script.now.weight (meaning_of (view script.now)) state.old.items
+    ensures run { IfOk result (λ ran. serial_run_of (machines_of shapes.now.items) script.now.weight (meaning_of (view script.now))
+        state.old.items
         ≡ record { replies = map told ran.outcome.replies.items; end = ran.outcome.end; after = state.new.items }) }
-    ensures writer { IfOk result (λ ran. ran.writer ≡ is_writer_run (meaning_of (view script.now)) (map told ran.outcome.replies.items) ran.outcome.end) }
+    ensures writer { IfOk result (λ ran. ran.writer ≡ is_writer_run (meaning_of (view script.now)) (map told ran.outcome.replies.items)
+        ran.outcome.end) }
     ensures objects { length state.new.items ≡ length state.old.items }
 {
     let mut body = ScriptBody::new(alloc, script)?;

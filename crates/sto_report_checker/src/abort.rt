@@ -37,7 +37,8 @@ pub(crate) struct GivenAbort<'a> {
 fn abort_in<'a>(threads: &[Thread], content: &'a [u8]) -> Option<ToldAbort<'a>>
     requires threads { length threads.now < 2 ^ 32 }
     requires content { length content.now < 2 ^ 32 }
-    ensures { (a : Abort) → aborts_in (names_of threads.now) (slice_split is_space content.now) ≡ a ∷ [] → IsSmall a → IsAbortRead a result }
+    ensures { (a : Abort) → aborts_in (names_of threads.now) (slice_split is_space content.now) ≡ a ∷ [] → IsSmall a
+        → IsAbortRead a result }
 {
     let (first, after) = first_piece(content, b' ');
     let (place, after) = first_piece(after?, b' ');

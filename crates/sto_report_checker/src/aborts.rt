@@ -34,8 +34,10 @@ pub(crate) fn gather<'a>(
     requires tries { 1 ≤ tries }
     requires taken { IsJournalTaken (view file.now) tries (lines_of reader.old.bytes.now) replayed.now reader.old.read }
     ensures bytes { reader.new.bytes.now ≡ reader.old.bytes.now }
-    ensures gathered { IfOk result (λ g. AreGathered (view file.now) tries (lines_of reader.old.bytes.now) (places replayed.now.past.run.lines.items) g.aborts.items (total (view file.now) + length g.aborts.items)) }
-    ensures ended { IfOk result (λ g. IsEnded (view file.now) tries (lines_of reader.old.bytes.now) replayed.now.past (total (view file.now) + length g.aborts.items) reader.new.read g.wrong) }
+    ensures gathered { IfOk result (λ g. AreGathered (view file.now) tries (lines_of reader.old.bytes.now)
+        (places replayed.now.past.run.lines.items) g.aborts.items (total (view file.now) + length g.aborts.items)) }
+    ensures ended { IfOk result (λ g. IsEnded (view file.now) tries (lines_of reader.old.bytes.now) replayed.now.past
+        (total (view file.now) + length g.aborts.items) reader.new.read g.wrong) }
 {
     let mut aborts = List::new(alloc);
     let mut last: Option<LastAbort> = None;

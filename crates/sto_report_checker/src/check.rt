@@ -37,7 +37,8 @@ fn read_aborts(
     requires shapes { shapes.now.items ≡ shapes_of (view file.now).declarations }
     requires taken { IsJournalTaken (view file.now) tries (lines_of reader.old.bytes.now) replayed.now reader.old.read }
     ensures bytes { reader.new.bytes.now ≡ reader.old.bytes.now }
-    ensures read { IfOk result (λ wrong. IsWrongOr (view file.now) tries (lines_of reader.old.bytes.now) (AreObjectsRead (view file.now) tries (lines_of reader.old.bytes.now) replayed.now.past reader.new.read 0) wrong) }
+    ensures read { IfOk result (λ wrong. IsWrongOr (view file.now) tries (lines_of reader.old.bytes.now)
+        (AreObjectsRead (view file.now) tries (lines_of reader.old.bytes.now) replayed.now.past reader.new.read 0) wrong) }
 {
     let before = reader.number();
     let Gathered { aborts, wrong } = gather(alloc, file, tries, reader, replayed)?;
@@ -67,7 +68,8 @@ fn wrong_line(
     requires tries { 1 ≤ tries }
     requires shapes { shapes.now.items ≡ shapes_of (view file.now).declarations }
     requires unread { reader.old.read ≡ 0 }
-    ensures { IfOk result (λ wrong. IsWrongOr (view file.now) tries (lines_of reader.old.bytes.now) (IsAnswer (view file.now) tries (lines_of reader.old.bytes.now) Lawful) wrong) }
+    ensures { IfOk result (λ wrong. IsWrongOr (view file.now) tries (lines_of reader.old.bytes.now)
+        (IsAnswer (view file.now) tries (lines_of reader.old.bytes.now) Lawful) wrong) }
 {
     let mut replayed = Replayed::opening(alloc, file, shapes)?;
     if let Some(line) = read_journal(alloc, file, shapes, reader, &mut replayed)? {
@@ -88,7 +90,8 @@ pub fn check_report(alloc: Global, file: &File, tries: u32, bytes: &[u8]) -> Res
     requires few { length bytes.now + 1 < 2 ^ 32 }
     ensures found { IfOk result (λ found. IsFound (view file.now) tries bytes.now found) }
     ensures only { IfOk result (λ found. (other : Found) → IsFound (view file.now) tries bytes.now other → other ≡ found) }
-    ensures complete { IfOk result (λ found. (u : Updating) → UpdatesWritten u (view file.now) → IsLawful u (view file.now) tries bytes.now → found ≡ Found.Lawful) }
+    ensures complete { IfOk result (λ found. (u : Updating) → UpdatesWritten u (view file.now) → IsLawful u (view file.now) tries bytes.now
+        → found ≡ Found.Lawful) }
     ensures right { IfOk result (λ found. found ≡ Found.Lawful → IsRightReport (view file.now) tries bytes.now) }
 {
     let shapes = sto_lang::shapes(alloc, file)?;

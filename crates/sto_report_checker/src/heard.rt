@@ -33,7 +33,9 @@ fn first_replies(
 ) -> Result<Option<Replies>, NoMemory>
     requires fits { CanRun shapes.now.items (script_view script.now) }
     requires objects { length state.old.items ≡ length shapes.now.items }
-    ensures replies { IfOk result (λ first. let heard = (serial_run_of (machines_of shapes.now.items) script.now.weight (meaning_of (script_view script.now)) state.old.items).replies in MatchOption first (length heard < count) (λ replies. (count ≤ length heard) × (map told replies.items ≡ take count heard))) }
+    ensures replies { IfOk result (λ first. let heard = (serial_run_of (machines_of shapes.now.items) script.now.weight
+        (meaning_of (script_view script.now)) state.old.items).replies in MatchOption first (length heard < count)
+        (λ replies. (count ≤ length heard) × (map told replies.items ≡ take count heard))) }
     ensures state { state.new ≡ state.old }
 {
     let body = ScriptBody::new(alloc, script)?;
@@ -51,8 +53,10 @@ fn first_replies(
 fn is_abort(alloc: Global, file: &File, line: &AbortLine, bytes: &[u8]) -> Result<bool, NoMemory>
     requires names { HaveNames (map declaration file.now.decls.items) }
     requires known { IsAbortOf (length file.now.threads.items) (map declaration file.now.decls.items) line.now }
-    ensures text { IfOk result (λ yes. IsTrue yes ↔ (bytes.now ≡ abort_text (names_of file.now.threads.items) (abort (map declaration file.now.decls.items) line.now))) }
-    ensures short { IfOk result (λ _. IsShortAbort (names_of file.now.threads.items) (abort (map declaration file.now.decls.items) line.now)) }
+    ensures text { IfOk result (λ yes. IsTrue yes ↔ (bytes.now
+        ≡ abort_text (names_of file.now.threads.items) (abort (map declaration file.now.decls.items) line.now))) }
+    ensures short { IfOk result (λ _. IsShortAbort (names_of file.now.threads.items)
+        (abort (map declaration file.now.decls.items) line.now)) }
 {
     let mut text = String::new(alloc);
     match push_abort(

@@ -41,7 +41,8 @@ pub(crate) fn read_journal(
     requires none { replayed.old.past.run.lines.items ≡ [] }
     requires unread { reader.old.read ≡ 0 }
     ensures bytes { reader.new.bytes.now ≡ reader.old.bytes.now }
-    ensures taken { IfOk result (λ wrong. (tries : ℕ) → IsWrongOr (view file.now) tries (lines_of reader.old.bytes.now) (IsJournalTaken (view file.now) tries (lines_of reader.old.bytes.now) replayed.new reader.new.read) wrong) }
+    ensures taken { IfOk result (λ wrong. (tries : ℕ) → IsWrongOr (view file.now) tries (lines_of reader.old.bytes.now)
+        (IsJournalTaken (view file.now) tries (lines_of reader.old.bytes.now) replayed.new reader.new.read) wrong) }
 {
     for _ in 0..total(file) {
         let number = reader.number();

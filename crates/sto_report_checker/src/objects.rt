@@ -36,7 +36,9 @@ pub(crate) fn read_objects(
 ) -> Result<Option<u32>, NoMemory>
     requires sound { IsSound (view file.now) }
     requires read { (tries : ℕ) × AreObjectsRead (view file.now) tries (lines_of reader.old.bytes.now) past.now reader.old.read 0 }
-    ensures { IfOk result (λ wrong. (tries : ℕ) → AreObjectsRead (view file.now) tries (lines_of reader.old.bytes.now) past.now reader.old.read 0 → IsWrongOr (view file.now) tries (lines_of reader.old.bytes.now) (IsAnswer (view file.now) tries (lines_of reader.old.bytes.now) Lawful) wrong) }
+    ensures { IfOk result (λ wrong. (tries : ℕ) → AreObjectsRead (view file.now) tries (lines_of reader.old.bytes.now) past.now
+        reader.old.read 0 → IsWrongOr (view file.now) tries (lines_of reader.old.bytes.now)
+        (IsAnswer (view file.now) tries (lines_of reader.old.bytes.now) Lawful) wrong) }
 {
     for decl in file.decls.as_slice() {
         let number = reader.number();

@@ -83,7 +83,9 @@ impl Windows {
     pub(crate) fn add(&mut self, line: &Line) -> Result<(), NoMemory>
         requires thread { line.now.thread < length self.old.threads.items }
         requires room { (l : Listed Window) → slice_get self.old.threads.items line.now.thread ≡ Some l → length l.items + 1 < 2 ^ 32 }
-        ensures { OnOk result ((l : Listed Window) → slice_get self.old.threads.items line.now.thread ≡ Some l → map (λ m. m.items) self.new.threads.items ≡ with_more (map (λ m. m.items) self.old.threads.items) line.now.thread (window_after l.items (entry line.now))) }
+        ensures { OnOk result ((l : Listed Window) → slice_get self.old.threads.items line.now.thread ≡ Some l
+            → map (λ m. m.items) self.new.threads.items ≡ with_more (map (λ m. m.items) self.old.threads.items) line.now.thread
+            (window_after l.items (entry line.now))) }
     {
         let windows = self.threads.get_mut(line.thread);
         let next = window_after(windows.as_slice(), line);

@@ -18,7 +18,8 @@ pub struct LastAbort {
 // The last line, where it is one more of the same transaction.
 fn again(last: LastAbort, seen: u32, tries: u32) -> Option<LastAbort>
     ensures none { result ≡ None → (last.seen ≤ seen) → (last.count < tries) → ⊥ }
-    ensures some { IfSome result (λ l. (last.seen ≤ seen) × (last.count < tries) × (l ≡ record { at = last.at; seen = seen; count = last.count + 1 })) }
+    ensures some { IfSome result (λ l. (last.seen ≤ seen) × (last.count < tries)
+        × (l ≡ record { at = last.at; seen = seen; count = last.count + 1 })) }
 {
     if last.seen <= seen && last.count < tries {
         return Some(LastAbort {
@@ -46,7 +47,8 @@ pub fn followed_by(
     tries: u32,
 ) -> Option<LastAbort>
     requires { 1 ≤ tries }
-    ensures { (before : List Abort) (a : Abort) → IsLastOf before last → a.place ≡ place_of at → a.seen ≡ seen → IsFollowed before a tries result }
+    ensures { (before : List Abort) (a : Abort) → IsLastOf before last → a.place ≡ place_of at → a.seen ≡ seen
+        → IsFollowed before a tries result }
 {
     match last {
         None => Some(LastAbort { at, seen, count: 1 }),
@@ -57,7 +59,8 @@ pub fn followed_by(
 // The last line with one more behind it.
 fn behind(last: LastAbort, at: TransactionPlace, seen: u32, tries: u32) -> Option<LastAbort>
     requires { 1 ≤ tries }
-    ensures { (before : List Abort) (a : Abort) → IsLast before last → a.place ≡ place_of at → a.seen ≡ seen → IsFollowed before a tries result }
+    ensures { (before : List Abort) (a : Abort) → IsLast before last → a.place ≡ place_of at → a.seen ≡ seen
+        → IsFollowed before a tries result }
 {
     if last.at.thread == at.thread && last.at.position == at.position {
         return again(last, seen, tries);

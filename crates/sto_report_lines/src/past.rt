@@ -57,7 +57,8 @@ pub fn is_line(
 /// The objects that the transaction of a line wrote, by its replies.
 fn objects_of(alloc: Global, script: &Script, line: &Line) -> Result<List<u32>, NoMemory>
     requires { calls_of script.now.body ≤ script.now.weight }
-    ensures { IfOk result (λ objects. objects.items ≡ objects_along (meaning_of (script_view script.now)) (map told line.now.replies.items)) }
+    ensures { IfOk result (λ objects. objects.items ≡ objects_along (meaning_of (script_view script.now))
+        (map told line.now.replies.items)) }
 {
     let mut body = ScriptBody::new(alloc, script)?;
     objects_written(alloc, &mut body, line.replies.as_slice())
@@ -72,7 +73,8 @@ pub fn add_objects(
 ) -> Result<(), NoMemory>
     requires weighed { calls_of script.now.body ≤ script.now.weight }
     requires room { length written.old.items + 1 < 2 ^ 32 }
-    ensures { OnOk result (map (λ objects. objects.items) written.new.items ≡ map (λ objects. objects.items) written.old.items ++ told_objects line.now.end (objects_along (meaning_of (script_view script.now)) (map told line.now.replies.items))) }
+    ensures { OnOk result (map (λ objects. objects.items) written.new.items ≡ map (λ objects. objects.items) written.old.items
+        ++ told_objects line.now.end (objects_along (meaning_of (script_view script.now)) (map told line.now.replies.items))) }
 {
     match line.end {
         Ending::Commit => {

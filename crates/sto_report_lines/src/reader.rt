@@ -45,7 +45,9 @@ impl<'a> Reader<'a> {
     /// Reads the next line, also one without its line feed; there is none exactly where all lines were read.
     pub fn next_line(&mut self) -> Option<GivenLine<'a>>
         ensures same { self.new.bytes.now ≡ self.old.bytes.now }
-        ensures line { MatchOption result ((length (lines_of self.old.bytes.now) ≡ self.old.read) × (self.new.read ≡ self.old.read)) (λ line. (slice_get (lines_of self.old.bytes.now) self.old.read ≡ Some line.text.now) × HasContent line.text.now line.content.now × (self.new.read ≡ self.old.read + 1)) }
+        ensures line { MatchOption result ((length (lines_of self.old.bytes.now) ≡ self.old.read) × (self.new.read ≡ self.old.read))
+            (λ line. (slice_get (lines_of self.old.bytes.now) self.old.read ≡ Some line.text.now)
+            × HasContent line.text.now line.content.now × (self.new.read ≡ self.old.read + 1)) }
     {
         let (line, rest) = first_line(self.rest)?;
         self.rest = rest;
@@ -63,7 +65,8 @@ fn line_feed(bytes: &[u8]) -> Option<usize>
 
 /// The first line, and what follows it.
 pub fn first_line(bytes: &[u8]) -> Option<(GivenLine<'_>, &[u8])>
-    ensures found { MatchOption result (lines_of bytes.now ≡ []) (λ found. (lines_of bytes.now ≡ found.0.text.now ∷ lines_of found.1.now) × HasContent found.0.text.now found.0.content.now) }
+    ensures found { MatchOption result (lines_of bytes.now ≡ []) (λ found. (lines_of bytes.now ≡ found.0.text.now ∷ lines_of found.1.now)
+        × HasContent found.0.text.now found.0.content.now) }
     ensures less { IfSome result (λ found. length found.1.now < length bytes.now) }
 {
     if bytes.is_empty() {

@@ -57,7 +57,8 @@ pub fn replies_of<B: Body + Drop>(
 ) -> Result<Replies, NoMemory>
     requires taken { (call : Call) → B.may_ask body call → IsTaken shapes.now.items call }
     requires objects { length state.old.items ≡ length shapes.now.items }
-    ensures replies { IfOk result (λ rs. map told rs.items ≡ (serial_run_of (machines_of shapes.now.items) (B.left_at_reset body) (B.script body) state.old.items).replies) }
+    ensures replies { IfOk result (λ rs. map told rs.items ≡
+        (serial_run_of (machines_of shapes.now.items) (B.left_at_reset body) (B.script body) state.old.items).replies) }
     ensures state { state.new ≡ state.old }
 {
     let mut tentative = Tentative { body };

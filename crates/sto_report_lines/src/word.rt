@@ -13,7 +13,8 @@ fn place_of(bytes: &[u8], at: u8) -> Option<usize>
 
 /// What stands before the first byte of a kind, and after it.
 pub fn first_piece(bytes: &[u8], at: u8) -> (&[u8], Option<&[u8]>)
-    ensures pieces { MatchOption result.1 (slice_split (λ b. b == at) bytes.now ≡ result.0.now ∷ []) (λ rest. slice_split (λ b. b == at) bytes.now ≡ result.0.now ∷ slice_split (λ b. b == at) rest.now) }
+    ensures pieces { MatchOption result.1 (slice_split (λ b. b == at) bytes.now ≡ result.0.now ∷ [])
+        (λ rest. slice_split (λ b. b == at) bytes.now ≡ result.0.now ∷ slice_split (λ b. b == at) rest.now) }
     ensures less { IfSome result.1 (λ rest. length rest.now < length bytes.now) }
 {
     match place_of(bytes, at) {

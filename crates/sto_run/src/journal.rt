@@ -34,8 +34,10 @@ pub fn journal_of<T: TxType>(
     requires type_of { IsTypeOf (shapes_of (view file.now).declarations) (T.meaning ty.now) }
     requires one { (length words.now.views ≡ 1) × (length words.now.statuses ≡ 1) }
     requires rests { IsAtRest (T.meaning ty.now) (T.sizes ty.now) (view_of words.now 0) }
-    requires finished { (tries : ℕ) × (tries ≤ 64) × AreFinished (T.meaning ty.now) (view file.now) tries (view_of words.now 0) (map plain records.items) }
-    ensures { IfOk result (λ journal. (tries : ℕ) → AreFinished (T.meaning ty.now) (view file.now) tries (view_of words.now 0) (map plain records.items)
+    requires finished { (tries : ℕ) × (tries ≤ 64) × AreFinished (T.meaning ty.now) (view file.now) tries (view_of words.now 0)
+        (map plain records.items) }
+    ensures { IfOk result (λ journal. (tries : ℕ) → AreFinished (T.meaning ty.now) (view file.now) tries (view_of words.now 0)
+        (map plain records.items)
         → IsLawfulJournal (updating_by (λ _. T.meaning ty.now)) (view file.now) tries journal) }
 {
     let homes = homes_of(alloc, ty)?;

@@ -29,7 +29,8 @@ impl<'f> StoredFile<'f> {
     pub fn new(alloc: Global, file: &'f File) -> Result<StoredFile<'f>, NoMemory>
         requires { IsSound (view file.now) }
         ensures file { IfOk result (λ s. s.file.now ≡ file.entry.now) }
-        ensures type_of { IfOk result (λ s. IsTypeOf (shapes_of (view file.entry.now).declarations) (⟦<Objects as TxType>⟧.meaning s.objects)) }
+        ensures type_of { IfOk result (λ s. IsTypeOf (shapes_of (view file.entry.now).declarations)
+            (⟦<Objects as TxType>⟧.meaning s.objects)) }
         ensures taken { IfOk result (λ s. IsTaken (view file.entry.now) (⟦<Objects as TxType>⟧.meaning s.objects)) }
     {
         let shapes = shapes(alloc, file)?;

@@ -35,7 +35,8 @@ use sto_table::{Rests, Shared};
 
 // Closes queues whose jobs were all sent and all taken.
 fn close_all(queues: Vec<JobQueue>, feeders: Vec<JobPass>, workers: Vec<JobPass>)
-    requires { (jobs : ℕ → List Job) × AreAt queues.items feeders.items (λ n. all_sent (jobs n)) × AreAt queues.items workers.items (λ n. all_taken (jobs n)) }
+    requires { (jobs : ℕ → List Job) × AreAt queues.items feeders.items (λ n. all_sent (jobs n))
+        × AreAt queues.items workers.items (λ n. all_taken (jobs n)) }
 {
     let mut queues = queues;
     let mut feeders = feeders;
@@ -63,11 +64,15 @@ fn feed_and_serve<R: Threads + Wait + Sync, T: Naming + Send + Sync, W: Work<T> 
     requires queues { 1 ≤ length queues.now }
     requires none { AreAt queues.now feeders.items (λ n. feeding (jobs_for (length queues.now) n (map place_of order.now)) 0) }
     requires some { 1 ≤ vec_len servers }
-    requires posted { All (λ w. IsPosted shared.now queues.now (length queues.now) (W.meaning work.now) (W.sizes work.now) (W.file work.now) (W.tries work.now) w.number w.worker w.rest.seat) servers.items }
+    requires posted { All (λ w. IsPosted shared.now queues.now (length queues.now) (W.meaning work.now) (W.sizes work.now) (W.file work.now)
+        (W.tries work.now) w.number w.worker w.rest.seat) servers.items }
     requires apart { (n : ℕ) → times n (map (λ w. w.number) servers.items) ≤ 1 }
     ensures fed { IfOk result (λ r. AreAt queues.now r.0.items (λ n. all_sent (jobs_for (length queues.now) n (map place_of order.now)))) }
-    ensures served { IfOk result (λ r. IsServed shared.now queues.now (W.meaning work.now) (W.sizes work.now) (W.file work.now) (W.tries work.now) (map (λ w. w.number) servers.items) (map (λ w. (known w.worker).jobs) servers.items) r.1.workers.items r.1.rest.seat (map plain r.1.records.items)) }
-    ensures gathered { IfOk result (λ r. HasGathered (W.tries work.now * scripts_from (W.file work.now).threads 0) (map (λ w. w.rest.seat.me.0.view) servers.items) r.1.rest.seat.me.0.view (map plain r.1.records.items)) }
+    ensures served { IfOk result (λ r. IsServed shared.now queues.now (W.meaning work.now) (W.sizes work.now) (W.file work.now)
+        (W.tries work.now) (map (λ w. w.number) servers.items) (map (λ w. (known w.worker).jobs) servers.items) r.1.workers.items
+        r.1.rest.seat (map plain r.1.records.items)) }
+    ensures gathered { IfOk result (λ r. HasGathered (W.tries work.now * scripts_from (W.file work.now).threads 0)
+        (map (λ w. w.rest.seat.me.0.view) servers.items) r.1.rest.seat.me.0.view (map plain r.1.records.items)) }
 {
     // Where no thread can be made, `join` runs the second one first: all queues have room for all jobs, so the feeder waits for nobody.
     let (team, fed) = join(
@@ -76,16 +81,21 @@ fn feed_and_serve<R: Threads + Wait + Sync, T: Naming + Send + Sync, W: Work<T> 
             requires sync { IsSync R.row }
             requires ready { W.ready work.now }
             requires some { 1 ≤ vec_len servers }
-            requires posted { All (λ w. IsPosted shared.now queues.now (length queues.now) (W.meaning work.now) (W.sizes work.now) (W.file work.now) (W.tries work.now) w.number w.worker w.rest.seat) servers.items }
+            requires posted { All (λ w. IsPosted shared.now queues.now (length queues.now) (W.meaning work.now) (W.sizes work.now)
+                (W.file work.now) (W.tries work.now) w.number w.worker w.rest.seat) servers.items }
             requires apart { (n : ℕ) → times n (map (λ w. w.number) servers.items) ≤ 1 }
-            ensures served { IfOk result (λ c. IsServed shared.entry.now queues.entry.now (W.meaning work.entry.now) (W.sizes work.entry.now) (W.file work.entry.now) (W.tries work.entry.now) (map (λ w. w.number) servers.items) (map (λ w. (known w.worker).jobs) servers.items) c.workers.items c.rest.seat (map plain c.records.items)) }
-            ensures gathered { IfOk result (λ c. HasGathered (W.tries work.entry.now * scripts_from (W.file work.entry.now).threads 0) (map (λ w. w.rest.seat.me.0.view) servers.items) c.rest.seat.me.0.view (map plain c.records.items)) }
+            ensures served { IfOk result (λ c. IsServed shared.entry.now queues.entry.now (W.meaning work.entry.now)
+                (W.sizes work.entry.now) (W.file work.entry.now) (W.tries work.entry.now) (map (λ w. w.number) servers.items)
+                (map (λ w. (known w.worker).jobs) servers.items) c.workers.items c.rest.seat (map plain c.records.items)) }
+            ensures gathered { IfOk result (λ c. HasGathered (W.tries work.entry.now * scripts_from (W.file work.entry.now).threads 0)
+                (map (λ w. w.rest.seat.me.0.view) servers.items) c.rest.seat.me.0.view (map plain c.records.items)) }
         { serve_halves(rt, work, alloc, shared, queues, servers) },
         move || -> Vec<JobPass>
             requires sync { IsSync R.row }
             requires queues { 1 ≤ length queues.now }
             requires none { AreAt queues.now feeders.items (λ n. feeding (jobs_for (length queues.now) n (map place_of order.now)) 0) }
-            ensures { AreAt queues.entry.now result.items (λ n. all_sent (jobs_for (length queues.entry.now) n (map place_of order.entry.now))) }
+            ensures { AreAt queues.entry.now result.items (λ n. all_sent
+                (jobs_for (length queues.entry.now) n (map place_of order.entry.now))) }
         { feed(rt, queues, feeders, order) },
     );
     let team = team?;
@@ -105,14 +115,19 @@ pub fn serve_all<R: Threads + Wait + Sync, T: Naming + Send + Sync, W: Work<T> +
 ) -> Result<Worked<T>, NoMemory>
     requires ready { W.ready work.now }
     requires some { 1 ≤ length rests.items }
-    requires rests { All (λ r. IsReady shared.now (W.meaning work.now) (W.sizes work.now) (W.file work.now) (W.tries work.now) r.seat) rests.items }
+    requires rests { All (λ r. IsReady shared.now (W.meaning work.now) (W.sizes work.now) (W.file work.now) (W.tries work.now) r.seat)
+        rests.items }
     requires order { IsOrder (W.file work.now) (map place_of order.now) }
     ensures of { IfOk result (λ d. IsOf shared.now d.rest.seat) }
     ensures rests { IfOk result (λ d. IsAtRest (W.meaning work.now) (W.sizes work.now) d.rest.seat.me.0.view) }
-    ensures worked { IfOk result (λ d. HasWorked (W.meaning work.now) (W.file work.now) (W.tries work.now) d.rest.seat.me.0.view (map plain d.records.items)) }
-    ensures served { IfOk result (λ d. HaveServed (W.tries work.now) (map (λ n. jobs_for (length rests.items) n (map place_of order.now)) (numbers_from 0 (length rests.items))) (map plain d.records.items)) }
+    ensures worked { IfOk result (λ d. HasWorked (W.meaning work.now) (W.file work.now) (W.tries work.now) d.rest.seat.me.0.view
+        (map plain d.records.items)) }
+    ensures served { IfOk result (λ d. HaveServed (W.tries work.now)
+        (map (λ n. jobs_for (length rests.items) n (map place_of order.now)) (numbers_from 0 (length rests.items)))
+        (map plain d.records.items)) }
     ensures alone { IfOk result (λ d. shared.now.table.shared.key.passes ≡ 1 → AbortsNone [] (map plain d.records.items)) }
-    ensures gathered { IfOk result (λ d. HasGathered (W.tries work.now * scripts_from (W.file work.now).threads 0) (map (λ r. r.seat.me.0.view) rests.items) d.rest.seat.me.0.view (map plain d.records.items)) }
+    ensures gathered { IfOk result (λ d. HasGathered (W.tries work.now * scripts_from (W.file work.now).threads 0)
+        (map (λ r. r.seat.me.0.view) rests.items) d.rest.seat.me.0.view (map plain d.records.items)) }
 {
     let Stations {
         queues,

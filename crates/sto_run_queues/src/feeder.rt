@@ -19,7 +19,8 @@ fn send_runs<R: Wait>(
 )
     requires some { 1 ≤ length queues.now }
     requires none { AreAt queues.now feeders.old.items (λ n. feeding (jobs_for (length queues.now) n (map place_of order.now)) 0) }
-    ensures { AreAt queues.now feeders.new.items (λ n. feeding (jobs_for (length queues.now) n (map place_of order.now)) (length (going_to (length queues.now) n (map place_of order.now)))) }
+    ensures { AreAt queues.now feeders.new.items (λ n. feeding (jobs_for (length queues.now) n (map place_of order.now))
+        (length (going_to (length queues.now) n (map place_of order.now)))) }
 {
     for place in order {
         let TransactionPlace { thread, position } = *place;

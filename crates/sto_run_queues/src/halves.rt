@@ -29,8 +29,10 @@ fn gather<T: Naming>(
 ) -> Result<ServingTeam<T>, NoMemory>
     requires first { IsOf shared.now first.rest.seat }
     requires other { IsOf shared.now other.rest.seat }
-    ensures both { IfOk result (λ c. IsOf shared.now c.rest.seat × (c.rest.seat.me.0.view ≡ gathered_into first.rest.seat.me.0.view other.rest.seat.me.0.view)
-        × (map plain c.records.items ≡ map plain first.records.items ++ map plain other.records.items) × (c.workers.items ≡ first.workers.items ++ other.workers.items)) }
+    ensures both { IfOk result (λ c. IsOf shared.now c.rest.seat
+        × (c.rest.seat.me.0.view ≡ gathered_into first.rest.seat.me.0.view other.rest.seat.me.0.view)
+        × (map plain c.records.items ≡ map plain first.records.items ++ map plain other.records.items)
+        × (c.workers.items ≡ first.workers.items ++ other.workers.items)) }
 {
     let ServingTeam {
         mut workers,
@@ -86,10 +88,14 @@ pub fn serve_halves<R: Threads + Wait + Sync, T: Naming + Send + Sync, W: Work<T
 ) -> Result<ServingTeam<T>, NoMemory>
     requires ready { W.ready work.now }
     requires some { 1 ≤ vec_len servers }
-    requires posted { All (λ w. IsPosted shared.now queues.now (length queues.now) (W.meaning work.now) (W.sizes work.now) (W.file work.now) (W.tries work.now) w.number w.worker w.rest.seat) servers.items }
+    requires posted { All (λ w. IsPosted shared.now queues.now (length queues.now) (W.meaning work.now) (W.sizes work.now) (W.file work.now)
+        (W.tries work.now) w.number w.worker w.rest.seat) servers.items }
     requires apart { (n : ℕ) → times n (map (λ w. w.number) servers.items) ≤ 1 }
-    ensures served { IfOk result (λ c. IsServed shared.now queues.now (W.meaning work.now) (W.sizes work.now) (W.file work.now) (W.tries work.now) (map (λ w. w.number) servers.items) (map (λ w. (known w.worker).jobs) servers.items) c.workers.items c.rest.seat (map plain c.records.items)) }
-    ensures gathered { IfOk result (λ c. HasGathered (W.tries work.now * scripts_from (W.file work.now).threads 0) (map (λ w. w.rest.seat.me.0.view) servers.items) c.rest.seat.me.0.view (map plain c.records.items)) }
+    ensures served { IfOk result (λ c. IsServed shared.now queues.now (W.meaning work.now) (W.sizes work.now) (W.file work.now)
+        (W.tries work.now) (map (λ w. w.number) servers.items) (map (λ w. (known w.worker).jobs) servers.items) c.workers.items c.rest.seat
+        (map plain c.records.items)) }
+    ensures gathered { IfOk result (λ c. HasGathered (W.tries work.now * scripts_from (W.file work.now).threads 0)
+        (map (λ w. w.rest.seat.me.0.view) servers.items) c.rest.seat.me.0.view (map plain c.records.items)) }
 {
     let mut servers = servers;
     let half = servers.len() / 2;
@@ -106,19 +112,27 @@ pub fn serve_halves<R: Threads + Wait + Sync, T: Naming + Send + Sync, W: Work<T
             requires sync { IsSync R.row }
             requires ready { W.ready work.now }
             requires some { 1 ≤ vec_len servers }
-            requires posted { All (λ w. IsPosted shared.now queues.now (length queues.now) (W.meaning work.now) (W.sizes work.now) (W.file work.now) (W.tries work.now) w.number w.worker w.rest.seat) servers.items }
+            requires posted { All (λ w. IsPosted shared.now queues.now (length queues.now) (W.meaning work.now) (W.sizes work.now)
+                (W.file work.now) (W.tries work.now) w.number w.worker w.rest.seat) servers.items }
             requires apart { (n : ℕ) → times n (map (λ w. w.number) servers.items) ≤ 1 }
-            ensures served { IfOk result (λ c. IsServed shared.entry.now queues.entry.now (W.meaning work.entry.now) (W.sizes work.entry.now) (W.file work.entry.now) (W.tries work.entry.now) (map (λ w. w.number) servers.items) (map (λ w. (known w.worker).jobs) servers.items) c.workers.items c.rest.seat (map plain c.records.items)) }
-            ensures gathered { IfOk result (λ c. HasGathered (W.tries work.entry.now * scripts_from (W.file work.entry.now).threads 0) (map (λ w. w.rest.seat.me.0.view) servers.items) c.rest.seat.me.0.view (map plain c.records.items)) }
+            ensures served { IfOk result (λ c. IsServed shared.entry.now queues.entry.now (W.meaning work.entry.now)
+                (W.sizes work.entry.now) (W.file work.entry.now) (W.tries work.entry.now) (map (λ w. w.number) servers.items)
+                (map (λ w. (known w.worker).jobs) servers.items) c.workers.items c.rest.seat (map plain c.records.items)) }
+            ensures gathered { IfOk result (λ c. HasGathered (W.tries work.entry.now * scripts_from (W.file work.entry.now).threads 0)
+                (map (λ w. w.rest.seat.me.0.view) servers.items) c.rest.seat.me.0.view (map plain c.records.items)) }
         { serve_halves(rt, work, alloc, shared, queues, servers) },
         move || -> Result<ServingTeam<T>, NoMemory>
             requires sync { IsSync R.row }
             requires ready { W.ready work.now }
             requires some { 1 ≤ vec_len others }
-            requires posted { All (λ w. IsPosted shared.now queues.now (length queues.now) (W.meaning work.now) (W.sizes work.now) (W.file work.now) (W.tries work.now) w.number w.worker w.rest.seat) others.items }
+            requires posted { All (λ w. IsPosted shared.now queues.now (length queues.now) (W.meaning work.now) (W.sizes work.now)
+                (W.file work.now) (W.tries work.now) w.number w.worker w.rest.seat) others.items }
             requires apart { (n : ℕ) → times n (map (λ w. w.number) others.items) ≤ 1 }
-            ensures served { IfOk result (λ c. IsServed shared.entry.now queues.entry.now (W.meaning work.entry.now) (W.sizes work.entry.now) (W.file work.entry.now) (W.tries work.entry.now) (map (λ w. w.number) others.items) (map (λ w. (known w.worker).jobs) others.items) c.workers.items c.rest.seat (map plain c.records.items)) }
-            ensures gathered { IfOk result (λ c. HasGathered (W.tries work.entry.now * scripts_from (W.file work.entry.now).threads 0) (map (λ w. w.rest.seat.me.0.view) others.items) c.rest.seat.me.0.view (map plain c.records.items)) }
+            ensures served { IfOk result (λ c. IsServed shared.entry.now queues.entry.now (W.meaning work.entry.now)
+                (W.sizes work.entry.now) (W.file work.entry.now) (W.tries work.entry.now) (map (λ w. w.number) others.items)
+                (map (λ w. (known w.worker).jobs) others.items) c.workers.items c.rest.seat (map plain c.records.items)) }
+            ensures gathered { IfOk result (λ c. HasGathered (W.tries work.entry.now * scripts_from (W.file work.entry.now).threads 0)
+                (map (λ w. w.rest.seat.me.0.view) others.items) c.rest.seat.me.0.view (map plain c.records.items)) }
         { serve_halves(rt, work, alloc, shared, queues, others) },
     );
     let first = first?;

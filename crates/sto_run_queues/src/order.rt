@@ -37,7 +37,9 @@ fn add_round<T: Naming, W: Work<T>>(
     requires rising { AllPairs Precedes (map place_of order.old.items) }
     ensures later { OnOk result (All (λ p. p.position ≤ position) order.new.items) }
     ensures rising { OnOk result (AllPairs Precedes (map place_of order.new.items)) }
-    ensures each { OnOk result ((thread : ℕ) → positions_of thread (map place_of order.new.items) ≡ positions_of thread (map place_of order.old.items) ++ (if nat_le position (count_in (W.file work.now).threads thread) then position ∷ [] else [])) }
+    ensures each { OnOk result ((thread : ℕ) → positions_of thread (map place_of order.new.items)
+        ≡ positions_of thread (map place_of order.old.items)
+        ++ (if nat_le position (count_in (W.file work.now).threads thread) then position ∷ [] else [])) }
 {
     for thread in 0..work.threads() {
         if position <= work.count(thread) {

@@ -70,15 +70,18 @@ fn serve_one<T: Naming, W: Work<T>, C: Cells<T>>(
 ) -> Result<bool, NoMemory>
     requires ready { W.ready work.now }
     requires there { IsTransaction (W.file work.now) (thread, position) }
-    requires next { runs ≡ true → (suc (ended_of thread (map plain records.old.items)) ≡ position) × (aborted_times (thread, position) (map plain records.old.items) ≡ 0) }
+    requires next { runs ≡ true → (suc (ended_of thread (map plain records.old.items)) ≡ position)
+        × (aborted_times (thread, position) (map plain records.old.items) ≡ 0) }
     requires rests { IsAtRest (W.meaning work.now) (W.sizes work.now) (C.view cells.old) }
     requires draws { W.tries work.now ≤ (C.view cells.old).draws }
     requires worked { HasWorked (W.meaning work.now) (W.file work.now) (W.tries work.now) (C.view cells.old) (map plain records.old.items) }
     ensures same { C.same cells.old cells.new }
     ensures rests { OnOk result (IsAtRest (W.meaning work.now) (W.sizes work.now) (C.view cells.new)) }
     ensures draws { OnOk result ((C.view cells.old).draws ≤ (C.view cells.new).draws + W.tries work.now) }
-    ensures adds_up { OnOk result (AddsUp (C.view cells.old) (C.view cells.new) (map plain records.old.items) (map plain records.new.items)) }
-    ensures ran { IfOk result (λ on. IsJobRun (W.meaning work.now) (W.file work.now) (W.tries work.now) (C.passes cells.old) (C.view cells.new) (thread, position) (map plain records.old.items) (map plain records.new.items) runs on) }
+    ensures adds_up { OnOk result (AddsUp (C.view cells.old) (C.view cells.new) (map plain records.old.items)
+        (map plain records.new.items)) }
+    ensures ran { IfOk result (λ on. IsJobRun (W.meaning work.now) (W.file work.now) (W.tries work.now) (C.passes cells.old)
+        (C.view cells.new) (thread, position) (map plain records.old.items) (map plain records.new.items) runs on) }
 {
     if runs {
         work.run_one(alloc, cells, thread, position, records)
@@ -98,9 +101,12 @@ pub fn serve<R: Wait, T: Naming, W: Work<T>>(
     server: Server<T>,
 ) -> Result<ServingTeam<T>, NoMemory>
     requires ready { W.ready work.now }
-    requires posted { IsPosted shared.now queues.now (length queues.now) (W.meaning work.now) (W.sizes work.now) (W.file work.now) (W.tries work.now) server.number server.worker server.rest.seat }
-    ensures served { IfOk result (λ c. IsServed shared.now queues.now (W.meaning work.now) (W.sizes work.now) (W.file work.now) (W.tries work.now) (server.number ∷ []) ((known server.worker).jobs ∷ []) c.workers.items c.rest.seat (map plain c.records.items)) }
-    ensures gathered { IfOk result (λ c. HasGathered (W.tries work.now * scripts_from (W.file work.now).threads 0) (server.rest.seat.me.0.view ∷ []) c.rest.seat.me.0.view (map plain c.records.items)) }
+    requires posted { IsPosted shared.now queues.now (length queues.now) (W.meaning work.now) (W.sizes work.now) (W.file work.now)
+        (W.tries work.now) server.number server.worker server.rest.seat }
+    ensures served { IfOk result (λ c. IsServed shared.now queues.now (W.meaning work.now) (W.sizes work.now) (W.file work.now)
+        (W.tries work.now) (server.number ∷ []) ((known server.worker).jobs ∷ []) c.workers.items c.rest.seat (map plain c.records.items)) }
+    ensures gathered { IfOk result (λ c. HasGathered (W.tries work.now * scripts_from (W.file work.now).threads 0)
+        (server.rest.seat.me.0.view ∷ []) c.rest.seat.me.0.view (map plain c.records.items)) }
 {
     let Server {
         number,

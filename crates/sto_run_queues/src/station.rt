@@ -38,13 +38,19 @@ pub fn open_stations<T: Naming, W: Work<T>>(
     rests: Rests<T>,
 ) -> Result<Stations<T>, NoMemory>
     requires order { IsOrder (W.file work.now) (map place_of order.now) }
-    requires ready { All (λ r. IsReady shared.now (W.meaning work.now) (W.sizes work.now) (W.file work.now) (W.tries work.now) r.seat) rests.items }
+    requires ready { All (λ r. IsReady shared.now (W.meaning work.now) (W.sizes work.now) (W.file work.now) (W.tries work.now) r.seat)
+        rests.items }
     ensures queues { IfOk result (λ s. length s.queues.items ≡ length rests.items) }
-    ensures feeders { IfOk result (λ s. AreAt s.queues.items s.feeders.items (λ n. feeding (jobs_for (length rests.items) n (map place_of order.now)) 0)) }
-    ensures posted { IfOk result (λ s. All (λ w. IsPosted shared.now s.queues.items (length s.queues.items) (W.meaning work.now) (W.sizes work.now) (W.file work.now) (W.tries work.now) w.number w.worker w.rest.seat) s.servers.items) }
+    ensures feeders { IfOk result (λ s. AreAt s.queues.items s.feeders.items
+        (λ n. feeding (jobs_for (length rests.items) n (map place_of order.now)) 0)) }
+    ensures posted { IfOk result (λ s. All (λ w. IsPosted shared.now s.queues.items (length s.queues.items) (W.meaning work.now)
+        (W.sizes work.now) (W.file work.now) (W.tries work.now) w.number w.worker w.rest.seat) s.servers.items) }
     ensures numbers { IfOk result (λ s. map (λ w. w.number) s.servers.items ≡ numbers_from 0 (length rests.items)) }
-    ensures jobs { IfOk result (λ s. map (λ w. (known w.worker).jobs) s.servers.items ≡ map (λ n. jobs_for (length rests.items) n (map place_of order.now)) (numbers_from 0 (length rests.items))) }
-    ensures gathered { IfOk result (λ s. (need : _) (v : _) (rs : _) → HasGathered need (map (λ w. w.rest.seat.me.0.view) s.servers.items) v rs → HasGathered need (map (λ r. r.seat.me.0.view) rests.items) v rs) }
+    ensures jobs { IfOk result (λ s. map (λ w. (known w.worker).jobs) s.servers.items
+        ≡ map (λ n. jobs_for (length rests.items) n (map place_of order.now)) (numbers_from 0 (length rests.items))) }
+    ensures gathered { IfOk result (λ s. (need : _) (v : _) (rs : _)
+        → HasGathered need (map (λ w. w.rest.seat.me.0.view) s.servers.items) v rs
+        → HasGathered need (map (λ r. r.seat.me.0.view) rests.items) v rs) }
 {
     let mut rests = rests;
     let count = rests.len() as usize;

@@ -44,7 +44,8 @@ pub trait Attempts<T: Naming, M>: Work<T> {
     fn begin(&self, alloc: Global, thread: u32, position: u32) -> Result<M, NoMemory>
         requires ready { Self.ready self.now }
         requires there { IsTransaction (Self.file self.now) (thread, position) }
-        ensures fits { IfOk result (λ trial. (passes : ℕ) (v : View) → IsAtRest (Self.meaning self.now) (Self.sizes self.now) v → 1 ≤ v.draws → fits self.now passes (thread, position) trial v v) }
+        ensures fits { IfOk result (λ trial. (passes : ℕ) (v : View) → IsAtRest (Self.meaning self.now) (Self.sizes self.now) v → 1
+            ≤ v.draws → fits self.now passes (thread, position) trial v v) }
         ensures left { IfOk result (λ trial. left self.now trial ≤ most self.now) };
 
     /// Makes the next event of an attempt of the transaction at a place, on the pass of the events before, with its view as they left it.
@@ -60,5 +61,7 @@ pub trait Attempts<T: Naming, M>: Work<T> {
         ensures same { C.same cells.old cells.new }
         ensures event { OneEvent (λ _. Unit {0}) T.valid (C.passes cells.old) (C.view cells.old) (C.view cells.new) }
         ensures stepped { (begun : View) → fits self.now (C.passes cells.old) (thread, position) trial.old begun (C.view cells.old)
-            → IfOk result (HasStepped (fits self.now (C.passes cells.old) (thread, position)) (left self.now) (HasMadeOne (Self.meaning self.now) (Self.sizes self.now) (Self.file self.now) (C.passes cells.old) (thread, position)) (thread, position) (left self.now trial.old) trial.new begun (C.view cells.new)) };
+            → IfOk result (HasStepped (fits self.now (C.passes cells.old) (thread, position)) (left self.now)
+            (HasMadeOne (Self.meaning self.now) (Self.sizes self.now) (Self.file self.now) (C.passes cells.old) (thread, position))
+            (thread, position) (left self.now trial.old) trial.new begun (C.view cells.new)) };
 }

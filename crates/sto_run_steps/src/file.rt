@@ -73,11 +73,13 @@ fn open<T: Naming, M: Drop, W: Attempts<T, M>>(
     requires ty { (T.sizes ty.now ≡ W.sizes work.now) × (contents.now.items ≡ (W.meaning work.now).opened) }
     requires valid { T.valid (T.sizes ty.now) contents.now.items }
     requires threads { length (W.file work.now).threads ≤ 65536 }
-    requires few { W.tries work.now * scripts_from (W.file work.now).threads 0 + W.tries work.now * scripts_from (W.file work.now).threads 0 ≤ 2 ^ 40 }
+    requires few { W.tries work.now * scripts_from (W.file work.now).threads 0 + W.tries work.now * scripts_from (W.file work.now).threads 0
+        ≤ 2 ^ 40 }
     ensures many { IfOk result (λ s. length s.seats.items ≡ max 1 (length (W.file work.now).threads)) }
     ensures opened { IfOk result (λ s. s.words ≡ opened_core (T.sizes ty.now) contents.now.items (length s.seats.items)) }
     ensures begun { IfOk result (λ s. AreNew (W.file work.now).threads (W.tries work.now) s.seats.items) }
-    ensures seated { IfOk result (λ s. AreSeated (W.meaning work.now) (W.sizes work.now) (W.file work.now) (W.tries work.now) (W.fits work.now) s.words s.seats.items) }
+    ensures seated { IfOk result (λ s. AreSeated (W.meaning work.now) (W.sizes work.now) (W.file work.now) (W.tries work.now)
+        (W.fits work.now) s.words s.seats.items) }
 {
     let seats = seats_of(work, alloc)?;
     let words = Plain::open(alloc, ty, contents, seats.len() as u32)?;
@@ -115,13 +117,16 @@ pub fn step_threads<T: Naming, M: Drop, W: Attempts<T, M>>(
     requires valid { T.valid (T.sizes ty.now) contents.now.items }
     requires schedule { All (λ turns. turns.thread < length (W.file work.now).threads) schedule.now }
     requires threads { length (W.file work.now).threads ≤ 65536 }
-    requires few { W.tries work.now * scripts_from (W.file work.now).threads 0 + W.tries work.now * scripts_from (W.file work.now).threads 0 ≤ 2 ^ 40 }
+    requires few { W.tries work.now * scripts_from (W.file work.now).threads 0 + W.tries work.now * scripts_from (W.file work.now).threads 0
+        ≤ 2 ^ 40 }
     ensures one { IfOk result (λ e. (length e.words.views ≡ 1) × (length e.words.statuses ≡ 1)) }
     ensures rests { IfOk result (λ e. IsAtRest (W.meaning work.now) (W.sizes work.now) (view_of e.words 0)) }
-    ensures finished { IfOk result (λ e. AreFinished (W.meaning work.now) (W.file work.now) (W.tries work.now) (view_of e.words 0) (map plain e.records.items)) }
+    ensures finished { IfOk result (λ e. AreFinished (W.meaning work.now) (W.file work.now) (W.tries work.now) (view_of e.words 0)
+        (map plain e.records.items)) }
 
     // Each event is made in the turn of its thread.
-    ensures stepped { IfOk result (λ e. WereStepped M T.valid (W.file work.now).threads (W.tries work.now) schedule.now (opened_core (T.sizes ty.now) contents.now.items (max 1 (length (W.file work.now).threads))) (map plain e.records.items)) }
+    ensures stepped { IfOk result (λ e. WereStepped M T.valid (W.file work.now).threads (W.tries work.now) schedule.now
+        (opened_core (T.sizes ty.now) contents.now.items (max 1 (length (W.file work.now).threads))) (map plain e.records.items)) }
 
     // With one thread no attempt is aborted.
     ensures alone { length (W.file work.now).threads ≤ 1 → IfOk result (λ e. AbortsNone [] (map plain e.records.items)) }

@@ -71,12 +71,15 @@ impl<M: Drop> Seat<M> {
         cells: &mut C,
     ) -> Result<(), NoMemory>
         requires ready { W.ready work.now }
-        requires seated { IsSeated (W.meaning work.now) (W.sizes work.now) (W.file work.now) (W.tries work.now) (C.passes cells.old) (W.fits work.now (C.passes cells.old)) thread (C.view cells.old) self.old }
+        requires seated { IsSeated (W.meaning work.now) (W.sizes work.now) (W.file work.now) (W.tries work.now) (C.passes cells.old)
+            (W.fits work.now (C.passes cells.old)) thread (C.view cells.old) self.old }
         requires going { IsOver self.old → ⊥ }
         ensures same { C.same cells.old cells.new }
         ensures event { OnOk result (AnEvent T.valid (C.passes cells.old) (C.view cells.old) (C.view cells.new)) }
-        ensures seated { OnOk result (IsSeated (W.meaning work.now) (W.sizes work.now) (W.file work.now) (W.tries work.now) (C.passes cells.old) (W.fits work.now (C.passes cells.old)) thread (C.view cells.new) self.new) }
-        ensures left { OnOk result (events_of (W.left work.now) (W.most work.now) self.new < events_of (W.left work.now) (W.most work.now) self.old) }
+        ensures seated { OnOk result (IsSeated (W.meaning work.now) (W.sizes work.now) (W.file work.now) (W.tries work.now)
+            (C.passes cells.old) (W.fits work.now (C.passes cells.old)) thread (C.view cells.new) self.new) }
+        ensures left { OnOk result (events_of (W.left work.now) (W.most work.now) self.new
+            < events_of (W.left work.now) (W.most work.now) self.old) }
         ensures unmade { OnErr result (self.new.records.items ≡ self.old.records.items) }
     {
         let position = self.ended + 1;
@@ -110,8 +113,14 @@ impl<M: Drop> Seat<M> {
         requires within { self.old.ended ≤ self.old.count }
         requires going { IsOver self.old → ⊥ }
         ensures kept { self.new ≡ record self.old { trial = self.new.trial } }
-        ensures within { OnOk result ((passes : ℕ) (v : View) → IsSeated (W.meaning work.now) (W.sizes work.now) (W.file work.now) (W.tries work.now) passes (W.fits work.now passes) thread v self.old → IsIn (IsWithin (W.meaning work.now) (W.sizes work.now) (W.file work.now) (W.tries work.now) passes thread self.old.ended self.old.left (map plain self.old.records.items) (W.fits work.now passes (thread, self.old.ended + 1))) self.new.trial v) }
-        ensures left { OnOk result (events_left (W.left work.now) (W.most work.now) (attempts_left self.old.tries self.old.left (self.old.count - self.old.ended)) self.new.trial ≤ events_of (W.left work.now) (W.most work.now) self.old) }
+        ensures within { OnOk result ((passes : ℕ) (v : View)
+            → IsSeated (W.meaning work.now) (W.sizes work.now) (W.file work.now) (W.tries work.now) passes (W.fits work.now passes) thread v
+            self.old → IsIn (IsWithin (W.meaning work.now) (W.sizes work.now) (W.file work.now) (W.tries work.now) passes thread
+            self.old.ended self.old.left (map plain self.old.records.items) (W.fits work.now passes (thread, self.old.ended + 1)))
+            self.new.trial v) }
+        ensures left { OnOk result (events_left (W.left work.now) (W.most work.now)
+            (attempts_left self.old.tries self.old.left (self.old.count - self.old.ended)) self.new.trial
+            ≤ events_of (W.left work.now) (W.most work.now) self.old) }
     {
         if self.trial.is_none() {
             self.trial = Some(work.begin(alloc, thread, self.ended + 1)?);

@@ -29,12 +29,15 @@ impl<T: Naming, M: Drop> Stage<T, M> {
         thread: u32,
     ) -> Result<(Stage<T, M>, bool), NoMemory>
         requires ready { W.ready work.now }
-        requires seated { AreSeated (W.meaning work.now) (W.sizes work.now) (W.file work.now) (W.tries work.now) (W.fits work.now) self.words self.seats.items }
+        requires seated { AreSeated (W.meaning work.now) (W.sizes work.now) (W.file work.now) (W.tries work.now) (W.fits work.now)
+            self.words self.seats.items }
         requires inside { thread < length self.seats.items }
         ensures turn { IfOk result (λ s. HasTurn T.valid thread self.words self.seats.items s.0.words s.0.seats.items) }
-        ensures seated { IfOk result (λ s. AreSeated (W.meaning work.now) (W.sizes work.now) (W.file work.now) (W.tries work.now) (W.fits work.now) s.0.words s.0.seats.items) }
+        ensures seated { IfOk result (λ s. AreSeated (W.meaning work.now) (W.sizes work.now) (W.file work.now) (W.tries work.now)
+            (W.fits work.now) s.0.words s.0.seats.items) }
         ensures many { IfOk result (λ s. length s.0.seats.items ≡ length self.seats.items) }
-        ensures made { IfOk result (λ s. s.1 ≡ true → events_of_all (W.left work.now) (W.most work.now) s.0.seats.items < events_of_all (W.left work.now) (W.most work.now) self.seats.items) }
+        ensures made { IfOk result (λ s. s.1 ≡ true → events_of_all (W.left work.now) (W.most work.now) s.0.seats.items
+            < events_of_all (W.left work.now) (W.most work.now) self.seats.items) }
         ensures over { IfOk result (λ s. s.1 ≡ false → (s.0.seats.items ≡ self.seats.items) × IsOverAt thread self.seats.items) }
     {
         let Stage { words, mut seats } = self;
@@ -55,10 +58,12 @@ impl<T: Naming, M: Drop> Stage<T, M> {
         turns: &Turns,
     ) -> Result<Stage<T, M>, NoMemory>
         requires ready { W.ready work.now }
-        requires seated { AreSeated (W.meaning work.now) (W.sizes work.now) (W.file work.now) (W.tries work.now) (W.fits work.now) self.words self.seats.items }
+        requires seated { AreSeated (W.meaning work.now) (W.sizes work.now) (W.file work.now) (W.tries work.now) (W.fits work.now)
+            self.words self.seats.items }
         requires inside { turns.now.thread < length self.seats.items }
         ensures turns { IfOk result (λ s. HaveTurns T.valid (entry_turns turns.now) self.words self.seats.items s.words s.seats.items) }
-        ensures seated { IfOk result (λ s. AreSeated (W.meaning work.now) (W.sizes work.now) (W.file work.now) (W.tries work.now) (W.fits work.now) s.words s.seats.items) }
+        ensures seated { IfOk result (λ s. AreSeated (W.meaning work.now) (W.sizes work.now) (W.file work.now) (W.tries work.now)
+            (W.fits work.now) s.words s.seats.items) }
         ensures many { IfOk result (λ s. length s.seats.items ≡ length self.seats.items) }
     {
         let mut stage = self;
@@ -80,10 +85,13 @@ impl<T: Naming, M: Drop> Stage<T, M> {
         schedule: &[Turns],
     ) -> Result<Stage<T, M>, NoMemory>
         requires ready { W.ready work.now }
-        requires seated { AreSeated (W.meaning work.now) (W.sizes work.now) (W.file work.now) (W.tries work.now) (W.fits work.now) self.words self.seats.items }
+        requires seated { AreSeated (W.meaning work.now) (W.sizes work.now) (W.file work.now) (W.tries work.now) (W.fits work.now)
+            self.words self.seats.items }
         requires inside { All (λ turns. turns.thread < length self.seats.items) schedule.now }
-        ensures turns { IfOk result (λ s. HaveTurns T.valid (flat_map entry_turns schedule.now) self.words self.seats.items s.words s.seats.items) }
-        ensures seated { IfOk result (λ s. AreSeated (W.meaning work.now) (W.sizes work.now) (W.file work.now) (W.tries work.now) (W.fits work.now) s.words s.seats.items) }
+        ensures turns { IfOk result (λ s. HaveTurns T.valid (flat_map entry_turns schedule.now) self.words self.seats.items s.words
+            s.seats.items) }
+        ensures seated { IfOk result (λ s. AreSeated (W.meaning work.now) (W.sizes work.now) (W.file work.now) (W.tries work.now)
+            (W.fits work.now) s.words s.seats.items) }
         ensures many { IfOk result (λ s. length s.seats.items ≡ length self.seats.items) }
     {
         let mut stage = self;
@@ -100,11 +108,15 @@ impl<T: Naming, M: Drop> Stage<T, M> {
         alloc: Global,
     ) -> Result<(Stage<T, M>, bool), NoMemory>
         requires ready { W.ready work.now }
-        requires seated { AreSeated (W.meaning work.now) (W.sizes work.now) (W.file work.now) (W.tries work.now) (W.fits work.now) self.words self.seats.items }
-        ensures turns { IfOk result (λ s. HaveTurns T.valid (numbers_from 0 (length self.seats.items)) self.words self.seats.items s.0.words s.0.seats.items) }
-        ensures seated { IfOk result (λ s. AreSeated (W.meaning work.now) (W.sizes work.now) (W.file work.now) (W.tries work.now) (W.fits work.now) s.0.words s.0.seats.items) }
+        requires seated { AreSeated (W.meaning work.now) (W.sizes work.now) (W.file work.now) (W.tries work.now) (W.fits work.now)
+            self.words self.seats.items }
+        ensures turns { IfOk result (λ s. HaveTurns T.valid (numbers_from 0 (length self.seats.items)) self.words self.seats.items s.0.words
+            s.0.seats.items) }
+        ensures seated { IfOk result (λ s. AreSeated (W.meaning work.now) (W.sizes work.now) (W.file work.now) (W.tries work.now)
+            (W.fits work.now) s.0.words s.0.seats.items) }
         ensures many { IfOk result (λ s. length s.0.seats.items ≡ length self.seats.items) }
-        ensures moved { IfOk result (λ s. s.1 ≡ true → events_of_all (W.left work.now) (W.most work.now) s.0.seats.items < events_of_all (W.left work.now) (W.most work.now) self.seats.items) }
+        ensures moved { IfOk result (λ s. s.1 ≡ true → events_of_all (W.left work.now) (W.most work.now) s.0.seats.items
+            < events_of_all (W.left work.now) (W.most work.now) self.seats.items) }
         ensures over { IfOk result (λ s. s.1 ≡ false → AreOver (length s.0.seats.items) s.0.seats.items) }
     {
         let mut stage = self;
@@ -125,9 +137,12 @@ impl<T: Naming, M: Drop> Stage<T, M> {
         alloc: Global,
     ) -> Result<Stage<T, M>, NoMemory>
         requires ready { W.ready work.now }
-        requires seated { AreSeated (W.meaning work.now) (W.sizes work.now) (W.file work.now) (W.tries work.now) (W.fits work.now) self.words self.seats.items }
-        ensures turns { IfOk result (λ s. (rounds : ℕ) × HaveTurns T.valid (round_turns (length self.seats.items) rounds) self.words self.seats.items s.words s.seats.items) }
-        ensures seated { IfOk result (λ s. AreSeated (W.meaning work.now) (W.sizes work.now) (W.file work.now) (W.tries work.now) (W.fits work.now) s.words s.seats.items) }
+        requires seated { AreSeated (W.meaning work.now) (W.sizes work.now) (W.file work.now) (W.tries work.now) (W.fits work.now)
+            self.words self.seats.items }
+        ensures turns { IfOk result (λ s. (rounds : ℕ) × HaveTurns T.valid (round_turns (length self.seats.items) rounds) self.words
+            self.seats.items s.words s.seats.items) }
+        ensures seated { IfOk result (λ s. AreSeated (W.meaning work.now) (W.sizes work.now) (W.file work.now) (W.tries work.now)
+            (W.fits work.now) s.words s.seats.items) }
         ensures many { IfOk result (λ s. length s.seats.items ≡ length self.seats.items) }
         ensures over { IfOk result (λ s. AreOver (length s.seats.items) s.seats.items) }
     {

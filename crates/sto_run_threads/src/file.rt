@@ -37,14 +37,17 @@ pub fn run_rest<T: Naming, W: Work<T>>(
     requires ready { W.ready work.now }
     requires of { IsOf shared worked.rest.seat }
     requires rests { IsAtRest (W.meaning work.now) (W.sizes work.now) worked.rest.seat.me.0.view }
-    requires worked { HasWorked (W.meaning work.now) (W.file work.now) (W.tries work.now) worked.rest.seat.me.0.view (map plain worked.records.items) }
-    requires all { HasAll (W.tries work.now * scripts_from (W.file work.now).threads 0) shared.table.shared.key.passes worked.rest.seat.me.0.view (map plain worked.records.items) }
+    requires worked { HasWorked (W.meaning work.now) (W.file work.now) (W.tries work.now) worked.rest.seat.me.0.view
+        (map plain worked.records.items) }
+    requires all { HasAll (W.tries work.now * scripts_from (W.file work.now).threads 0) shared.table.shared.key.passes
+        worked.rest.seat.me.0.view (map plain worked.records.items) }
     ensures one { IfOk result (λ e. (length e.words.views ≡ 1) × (length e.words.statuses ≡ 1)) }
     ensures rests { IfOk result (λ e. IsAtRest (W.meaning work.now) (W.sizes work.now) (view_of e.words 0)) }
     ensures starts { IfOk result (λ e. (view_of e.words 0).starts ≡ length e.records.items) }
     ensures found { IfOk result (λ e. All (WasFound (view_of e.words 0)) (map plain e.records.items)) }
     ensures none { IfOk result (λ e. AbortsNone (map plain worked.records.items) (map plain e.records.items)) }
-    ensures finished { IfOk result (λ e. AreFinished (W.meaning work.now) (W.file work.now) (W.tries work.now) (view_of e.words 0) (map plain e.records.items)) }
+    ensures finished { IfOk result (λ e. AreFinished (W.meaning work.now) (W.file work.now) (W.tries work.now) (view_of e.words 0)
+        (map plain e.records.items)) }
 {
     let Worked { mut records, rest } = worked;
     let closed = close(alloc, shared, rest)?;
@@ -73,13 +76,15 @@ pub fn run_threads<R: Threads + Sync, T: Naming + Send + Sync, W: Work<T> + Sync
     requires ty { (T.sizes ty.now ≡ W.sizes work.now) × (contents.now.items ≡ (W.meaning work.now).opened) }
     requires valid { T.valid (T.sizes ty.now) contents.now.items }
     requires workers { (1 ≤ workers) × (workers ≤ 65536) }
-    requires few { W.tries work.now * scripts_from (W.file work.now).threads 0 + W.tries work.now * scripts_from (W.file work.now).threads 0 ≤ 2 ^ 40 }
+    requires few { W.tries work.now * scripts_from (W.file work.now).threads 0 + W.tries work.now * scripts_from (W.file work.now).threads 0
+        ≤ 2 ^ 40 }
     ensures one { IfOk result (λ e. (length e.words.views ≡ 1) × (length e.words.statuses ≡ 1)) }
     ensures rests { IfOk result (λ e. IsAtRest (W.meaning work.now) (W.sizes work.now) (view_of e.words 0)) }
     ensures starts { IfOk result (λ e. (view_of e.words 0).starts ≡ length e.records.items) }
     ensures found { IfOk result (λ e. All (WasFound (view_of e.words 0)) (map plain e.records.items)) }
     ensures alone { IfOk result (λ e. workers ≡ 1 → AbortsNone [] (map plain e.records.items)) }
-    ensures finished { IfOk result (λ e. AreFinished (W.meaning work.now) (W.file work.now) (W.tries work.now) (view_of e.words 0) (map plain e.records.items)) }
+    ensures finished { IfOk result (λ e. AreFinished (W.meaning work.now) (W.file work.now) (W.tries work.now) (view_of e.words 0)
+        (map plain e.records.items)) }
 {
     let Opened { shared, rests } = open(alloc, ty, contents, workers)?;
     let worked = work_all(rt, work, alloc, &shared, rests)?;

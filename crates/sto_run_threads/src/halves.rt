@@ -25,10 +25,14 @@ pub fn gather<T: Naming, W: Work<T>>(
     first: Team<T>,
     other: Team<T>,
 ) -> Result<Team<T>, NoMemory>
-    requires first { HasFinished shared.now claims.now (W.meaning work.now) (W.sizes work.now) (W.file work.now) (W.tries work.now) first.rest.seat first.claimer.seat (map plain first.records.items) }
-    requires other { HasFinished shared.now claims.now (W.meaning work.now) (W.sizes work.now) (W.file work.now) (W.tries work.now) other.rest.seat other.claimer.seat (map plain other.records.items) }
-    ensures finished { IfOk result (λ c. HasFinished shared.now claims.now (W.meaning work.now) (W.sizes work.now) (W.file work.now) (W.tries work.now) c.rest.seat c.claimer.seat (map plain c.records.items)) }
-    ensures both { IfOk result (λ c. (c.rest.seat.me.0.view ≡ gathered_into first.rest.seat.me.0.view other.rest.seat.me.0.view) × (map plain c.records.items ≡ map plain first.records.items ++ map plain other.records.items)) }
+    requires first { HasFinished shared.now claims.now (W.meaning work.now) (W.sizes work.now) (W.file work.now) (W.tries work.now)
+        first.rest.seat first.claimer.seat (map plain first.records.items) }
+    requires other { HasFinished shared.now claims.now (W.meaning work.now) (W.sizes work.now) (W.file work.now) (W.tries work.now)
+        other.rest.seat other.claimer.seat (map plain other.records.items) }
+    ensures finished { IfOk result (λ c. HasFinished shared.now claims.now (W.meaning work.now) (W.sizes work.now) (W.file work.now)
+        (W.tries work.now) c.rest.seat c.claimer.seat (map plain c.records.items)) }
+    ensures both { IfOk result (λ c. (c.rest.seat.me.0.view ≡ gathered_into first.rest.seat.me.0.view other.rest.seat.me.0.view)
+        × (map plain c.records.items ≡ map plain first.records.items ++ map plain other.records.items)) }
     ensures seats { IfOk result (λ c. c.claimer.seat.me.0.seats ≡ first.claimer.seat.me.0.seats + other.claimer.seat.me.0.seats) }
 {
     let Team {
@@ -64,9 +68,12 @@ pub fn work_halves<R: Threads + Sync, T: Naming + Send + Sync, W: Work<T> + Sync
     requires ready { W.ready work.now }
     requires count { claims.now.table.shared.key.count ≡ length (W.file work.now).threads }
     requires some { 1 ≤ vec_len workers }
-    requires hired { All (λ w. IsHired shared.now claims.now (W.meaning work.now) (W.sizes work.now) (W.file work.now) (W.tries work.now) w.rest.seat w.claimer.seat) workers.items }
-    ensures finished { IfOk result (λ c. HasFinished shared.now claims.now (W.meaning work.now) (W.sizes work.now) (W.file work.now) (W.tries work.now) c.rest.seat c.claimer.seat (map plain c.records.items)) }
-    ensures gathered { IfOk result (λ c. HasGathered (W.tries work.now * scripts_from (W.file work.now).threads 0) (map (λ w. w.rest.seat.me.0.view) workers.items) c.rest.seat.me.0.view (map plain c.records.items)) }
+    requires hired { All (λ w. IsHired shared.now claims.now (W.meaning work.now) (W.sizes work.now) (W.file work.now) (W.tries work.now)
+        w.rest.seat w.claimer.seat) workers.items }
+    ensures finished { IfOk result (λ c. HasFinished shared.now claims.now (W.meaning work.now) (W.sizes work.now) (W.file work.now)
+        (W.tries work.now) c.rest.seat c.claimer.seat (map plain c.records.items)) }
+    ensures gathered { IfOk result (λ c. HasGathered (W.tries work.now * scripts_from (W.file work.now).threads 0)
+        (map (λ w. w.rest.seat.me.0.view) workers.items) c.rest.seat.me.0.view (map plain c.records.items)) }
     ensures seats { IfOk result (λ c. c.claimer.seat.me.0.seats ≡ sum_by (λ w. w.claimer.seat.me.0.seats) workers.items) }
 {
     let mut workers = workers;
@@ -88,9 +95,13 @@ pub fn work_halves<R: Threads + Sync, T: Naming + Send + Sync, W: Work<T> + Sync
             requires ready { W.ready work.now }
             requires count { claims.now.table.shared.key.count ≡ length (W.file work.now).threads }
             requires some { 1 ≤ vec_len workers }
-            requires hired { All (λ w. IsHired shared.now claims.now (W.meaning work.now) (W.sizes work.now) (W.file work.now) (W.tries work.now) w.rest.seat w.claimer.seat) workers.items }
-            ensures finished { IfOk result (λ c. HasFinished shared.entry.now claims.entry.now (W.meaning work.entry.now) (W.sizes work.entry.now) (W.file work.entry.now) (W.tries work.entry.now) c.rest.seat c.claimer.seat (map plain c.records.items)) }
-            ensures gathered { IfOk result (λ c. HasGathered (W.tries work.entry.now * scripts_from (W.file work.entry.now).threads 0) (map (λ w. w.rest.seat.me.0.view) workers.items) c.rest.seat.me.0.view (map plain c.records.items)) }
+            requires hired { All (λ w. IsHired shared.now claims.now (W.meaning work.now) (W.sizes work.now) (W.file work.now)
+                (W.tries work.now) w.rest.seat w.claimer.seat) workers.items }
+            ensures finished { IfOk result (λ c. HasFinished shared.entry.now claims.entry.now (W.meaning work.entry.now)
+                (W.sizes work.entry.now) (W.file work.entry.now) (W.tries work.entry.now) c.rest.seat c.claimer.seat
+                (map plain c.records.items)) }
+            ensures gathered { IfOk result (λ c. HasGathered (W.tries work.entry.now * scripts_from (W.file work.entry.now).threads 0)
+                (map (λ w. w.rest.seat.me.0.view) workers.items) c.rest.seat.me.0.view (map plain c.records.items)) }
             ensures seats { IfOk result (λ c. c.claimer.seat.me.0.seats ≡ sum_by (λ w. w.claimer.seat.me.0.seats) workers.items) }
         { work_halves(rt, work, alloc, shared, claims, workers) },
         move || -> Result<Team<T>, NoMemory>
@@ -98,9 +109,13 @@ pub fn work_halves<R: Threads + Sync, T: Naming + Send + Sync, W: Work<T> + Sync
             requires ready { W.ready work.now }
             requires count { claims.now.table.shared.key.count ≡ length (W.file work.now).threads }
             requires some { 1 ≤ vec_len others }
-            requires hired { All (λ w. IsHired shared.now claims.now (W.meaning work.now) (W.sizes work.now) (W.file work.now) (W.tries work.now) w.rest.seat w.claimer.seat) others.items }
-            ensures finished { IfOk result (λ c. HasFinished shared.entry.now claims.entry.now (W.meaning work.entry.now) (W.sizes work.entry.now) (W.file work.entry.now) (W.tries work.entry.now) c.rest.seat c.claimer.seat (map plain c.records.items)) }
-            ensures gathered { IfOk result (λ c. HasGathered (W.tries work.entry.now * scripts_from (W.file work.entry.now).threads 0) (map (λ w. w.rest.seat.me.0.view) others.items) c.rest.seat.me.0.view (map plain c.records.items)) }
+            requires hired { All (λ w. IsHired shared.now claims.now (W.meaning work.now) (W.sizes work.now) (W.file work.now)
+                (W.tries work.now) w.rest.seat w.claimer.seat) others.items }
+            ensures finished { IfOk result (λ c. HasFinished shared.entry.now claims.entry.now (W.meaning work.entry.now)
+                (W.sizes work.entry.now) (W.file work.entry.now) (W.tries work.entry.now) c.rest.seat c.claimer.seat
+                (map plain c.records.items)) }
+            ensures gathered { IfOk result (λ c. HasGathered (W.tries work.entry.now * scripts_from (W.file work.entry.now).threads 0)
+                (map (λ w. w.rest.seat.me.0.view) others.items) c.rest.seat.me.0.view (map plain c.records.items)) }
             ensures seats { IfOk result (λ c. c.claimer.seat.me.0.seats ≡ sum_by (λ w. w.claimer.seat.me.0.seats) others.items) }
         { work_halves(rt, work, alloc, shared, claims, others) },
     );

@@ -60,10 +60,12 @@ pub fn run_left<T: Naming, W: Work<T>, C: Cells<T>>(
     requires tickets { (t : ℕ) → times_written t (map plain records.old.items) ≡ times_committed t (C.view cells.old).entries }
     ensures same { C.same cells.old cells.new }
     ensures rests { OnOk result (IsAtRest (W.meaning work.now) (W.sizes work.now) (C.view cells.new)) }
-    ensures adds_up { OnOk result (AddsUp (C.view cells.old) (C.view cells.new) (map plain records.old.items) (map plain records.new.items)) }
+    ensures adds_up { OnOk result (AddsUp (C.view cells.old) (C.view cells.new) (map plain records.old.items)
+        (map plain records.new.items)) }
     ensures none { OnOk result (AbortsNone (map plain records.old.items) (map plain records.new.items)) }
     ensures found { OnOk result (All (WasFound (C.view cells.new)) (map plain records.new.items)) }
-    ensures finished { OnOk result (AreFinished (W.meaning work.now) (W.file work.now) (W.tries work.now) (C.view cells.new) (map plain records.new.items)) }
+    ensures finished { OnOk result (AreFinished (W.meaning work.now) (W.file work.now) (W.tries work.now) (C.view cells.new)
+        (map plain records.new.items)) }
 {
     for thread in 0..work.threads() {
         let count = work.count(thread);

@@ -54,6 +54,9 @@ pub trait Work<T: Naming> {
         requires rests { IsAtRest (meaning self.now) (sizes self.now) (C.view cells.old) }
         requires draws { tries self.now ≤ (C.view cells.old).draws }
         ensures same { C.same cells.old cells.new }
-        ensures ran { IfOk result (λ ended. HasRunAt (meaning self.now) (sizes self.now) (file self.now) (tries self.now) (C.passes cells.old) (C.view cells.old) (C.view cells.new) (thread, position) (map plain records.old.items) (map plain records.new.items) ended) }
-        ensures err { OnErr result (HasBrokenAt (meaning self.now) (sizes self.now) (file self.now) (tries self.now) (C.view cells.old) (C.view cells.new) (thread, position) (map plain records.old.items) (map plain records.new.items)) };
+        ensures ran { IfOk result (λ ended. HasRunAt (meaning self.now) (sizes self.now) (file self.now) (tries self.now)
+            (C.passes cells.old) (C.view cells.old) (C.view cells.new) (thread, position) (map plain records.old.items)
+            (map plain records.new.items) ended) }
+        ensures err { OnErr result (HasBrokenAt (meaning self.now) (sizes self.now) (file self.now) (tries self.now) (C.view cells.old)
+            (C.view cells.new) (thread, position) (map plain records.old.items) (map plain records.new.items)) };
 }

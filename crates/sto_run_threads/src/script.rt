@@ -34,8 +34,10 @@ pub fn run_script<T: Naming, W: Work<T>, C: Cells<T>>(
     ensures same { C.same cells.old cells.new }
     ensures rests { OnOk result (IsAtRest (W.meaning work.now) (W.sizes work.now) (C.view cells.new)) }
     ensures draws { OnOk result ((C.view cells.old).draws ≤ (C.view cells.new).draws + W.tries work.now * (count - ended)) }
-    ensures adds_up { OnOk result (AddsUp (C.view cells.old) (C.view cells.new) (map plain records.old.items) (map plain records.new.items)) }
-    ensures ran { IfOk result (λ all. IsScriptRun (W.meaning work.now) (W.file work.now) (W.tries work.now) (C.passes cells.old) (C.view cells.new) thread (map plain records.old.items) (map plain records.new.items) all) }
+    ensures adds_up { OnOk result (AddsUp (C.view cells.old) (C.view cells.new) (map plain records.old.items)
+        (map plain records.new.items)) }
+    ensures ran { IfOk result (λ all. IsScriptRun (W.meaning work.now) (W.file work.now) (W.tries work.now) (C.passes cells.old)
+        (C.view cells.new) thread (map plain records.old.items) (map plain records.new.items) all) }
 {
     for position in ended..count {
         if !work.run_one(alloc, cells, thread, position + 1, records)? {

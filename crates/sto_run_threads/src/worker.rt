@@ -38,9 +38,12 @@ pub fn work_alone<T: Naming, W: Work<T>>(
 ) -> Result<Team<T>, NoMemory>
     requires ready { W.ready work.now }
     requires count { claims.now.table.shared.key.count ≡ length (W.file work.now).threads }
-    requires hired { IsHired shared.now claims.now (W.meaning work.now) (W.sizes work.now) (W.file work.now) (W.tries work.now) worker.rest.seat worker.claimer.seat }
-    ensures finished { IfOk result (λ c. HasFinished shared.now claims.now (W.meaning work.now) (W.sizes work.now) (W.file work.now) (W.tries work.now) c.rest.seat c.claimer.seat (map plain c.records.items)) }
-    ensures gathered { IfOk result (λ c. HasGathered (W.tries work.now * scripts_from (W.file work.now).threads 0) (worker.rest.seat.me.0.view ∷ []) c.rest.seat.me.0.view (map plain c.records.items)) }
+    requires hired { IsHired shared.now claims.now (W.meaning work.now) (W.sizes work.now) (W.file work.now) (W.tries work.now)
+        worker.rest.seat worker.claimer.seat }
+    ensures finished { IfOk result (λ c. HasFinished shared.now claims.now (W.meaning work.now) (W.sizes work.now) (W.file work.now)
+        (W.tries work.now) c.rest.seat c.claimer.seat (map plain c.records.items)) }
+    ensures gathered { IfOk result (λ c. HasGathered (W.tries work.now * scripts_from (W.file work.now).threads 0)
+        (worker.rest.seat.me.0.view ∷ []) c.rest.seat.me.0.view (map plain c.records.items)) }
     ensures seats { IfOk result (λ c. c.claimer.seat.me.0.seats ≡ worker.claimer.seat.me.0.seats) }
 {
     let Worker { rest, mut claimer } = worker;

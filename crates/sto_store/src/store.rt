@@ -26,8 +26,13 @@ pub fn build(alloc: Global, shapes: &Shapes) -> Result<Objects, NoMemory>
     requires fit { AreFit shapes.now.items }
     requires parts { sum_by part_count shapes.now.items < 2 ^ 32 }
     ensures lawful { IfOk result (λ s. IsLawful (means shapes.now.items)) }
-    ensures takes { IfOk result (λ s. AreInOrder shapes.now.items → (call : Call) → IsTaken shapes.now.items call → IsFitting call → (⟦<Objects as TxType>⟧.meaning s).takes call) }
-    ensures kinds { IfOk result (λ s. AreKinds (map (λ x. Single x.first) s.store.first) (map (λ x. Counter x.first) s.store.second.first) (map (λ x. Array x.len x.first) s.store.second.second.kinds.first) (map (λ x. Hash x.buckets x.places) s.store.second.second.kinds.second.first) (map (λ x. Tree x.leaves) s.store.second.second.kinds.second.second.first) (map (λ x. Vector x.capacity) s.store.second.second.kinds.second.second.second) shapes.now.items) }
+    ensures takes { IfOk result (λ s. AreInOrder shapes.now.items → (call : Call) → IsTaken shapes.now.items call → IsFitting call
+        → (⟦<Objects as TxType>⟧.meaning s).takes call) }
+    ensures kinds { IfOk result (λ s. AreKinds (map (λ x. Single x.first) s.store.first) (map (λ x. Counter x.first) s.store.second.first)
+        (map (λ x. Array x.len x.first) s.store.second.second.kinds.first)
+        (map (λ x. Hash x.buckets x.places) s.store.second.second.kinds.second.first)
+        (map (λ x. Tree x.leaves) s.store.second.second.kinds.second.second.first)
+        (map (λ x. Vector x.capacity) s.store.second.second.kinds.second.second.second) shapes.now.items) }
 {
     let all = shapes.as_slice();
     let boxes = build_boxes(alloc, all)?;
@@ -40,7 +45,9 @@ fn build_wide(alloc: Global, shapes: &[Shape]) -> Result<Wide, NoMemory>
     requires few { length shapes.now < 2 ^ 32 }
     requires fit { AreFit shapes.now }
     requires parts { sum_by part_count shapes.now < 2 ^ 32 }
-    ensures { IfOk result (λ w. AreWide (map (λ x. Array x.len x.first) w.kinds.first) (map (λ x. Hash x.buckets x.places) w.kinds.second.first) (map (λ x. Tree x.leaves) w.kinds.second.second.first) (map (λ x. Vector x.capacity) w.kinds.second.second.second) shapes.now) }
+    ensures { IfOk result (λ w. AreWide (map (λ x. Array x.len x.first) w.kinds.first)
+        (map (λ x. Hash x.buckets x.places) w.kinds.second.first) (map (λ x. Tree x.leaves) w.kinds.second.second.first)
+        (map (λ x. Vector x.capacity) w.kinds.second.second.second) shapes.now) }
 {
     let arrays = build_arrays(alloc, shapes)?;
     let hashes = build_hashes(alloc, shapes)?;

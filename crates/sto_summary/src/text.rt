@@ -56,7 +56,8 @@ fn push_balance(out: &mut String, balance: i128) -> Result<(), AllocError>
 
 fn push_summary(out: &mut String, number: u64, journal: &Journal) -> Result<(), AllocError>
     requires { 4 ≤ length journal.now.state.items }
-    ensures { OnOk result (string_bytes out.new ≡ string_bytes out.old ++ summary_of number (length journal.now.lines.items) journal.now.state.items) }
+    ensures { OnOk result (string_bytes out.new ≡ string_bytes out.old
+        ++ summary_of number (length journal.now.lines.items) journal.now.state.items) }
 {
     let Journal { lines, state, .. } = journal;
     push_count(out, "bench", number)?;

@@ -37,7 +37,8 @@ impl<'a> Entries<'a> {
     /// The words of these bytes, where all are entries.
     pub fn of(version: u32, bytes: &'a [u8]) -> Option<Entries<'a>>
         requires { length bytes.now < 2 ^ 32 }
-        ensures { MatchOption result (all_of (entry_of version) (words_of bytes.now) ≡ None) (λ e. all_of (entry_of version) (words_of bytes.now) ≡ Some (entries e)) }
+        ensures { MatchOption result (all_of (entry_of version) (words_of bytes.now) ≡ None)
+            (λ e. all_of (entry_of version) (words_of bytes.now) ≡ Some (entries e)) }
     {
         if all_entries(version, bytes) {
             Some(Entries { version, bytes })

@@ -206,7 +206,8 @@ fn unnamed_line(rest: &[u8]) -> Option<Form<'_>>
 
 /// The operation of a call by its word and what follows its object, and the words of its arguments.
 fn operation_in<'a>(version: u32, word: &[u8], rest: &'a [u8]) -> Option<(OperationWord, &'a [u8])>
-    ensures { (to : Option (List ℕ)) (object : List ℕ) → MatchOption result (call_line version to word.now (object ∷ words_of rest.now) ≡ None) (λ found. call_line version to word.now (object ∷ words_of rest.now) ≡ call to object (words_of found.1.now) found.0) }
+    ensures { (to : Option (List ℕ)) (object : List ℕ) → MatchOption result (call_line version to word.now (object ∷ words_of rest.now)
+        ≡ None) (λ found. call_line version to word.now (object ∷ words_of rest.now) ≡ call to object (words_of found.1.now) found.0) }
 {
     if word == b"test".as_slice() {
         let (test, rest) = next_word(rest)?;
@@ -404,7 +405,9 @@ fn statement<'a>(version: u32, word: &[u8], rest: &'a [u8]) -> Option<Form<'a>>
 
 /// What follows the `=` of an assignment, by what follows its first word. Most lines have another byte in that place.
 fn after_equals(rest: &[u8]) -> Option<&[u8]>
-    ensures { (version : ℕ) (word : List ℕ) → MatchOption result (form_of version word (words_of rest.now) ≡ statement version word (words_of rest.now)) (λ after. form_of version word (words_of rest.now) ≡ assignment version word (words_of after.now)) }
+    ensures { (version : ℕ) (word : List ℕ) → MatchOption result (form_of version word (words_of rest.now)
+        ≡ statement version word (words_of rest.now)) (λ after. form_of version word (words_of rest.now)
+        ≡ assignment version word (words_of after.now)) }
 {
     if begins_otherwise(rest) {
         return None;
@@ -418,7 +421,8 @@ fn after_equals(rest: &[u8]) -> Option<&[u8]>
 
 /// Whether the first byte is that of a word which is not `=`.
 fn begins_otherwise(rest: &[u8]) -> bool
-    ensures { result ≡ true → (version : ℕ) (word : List ℕ) → form_of version word (words_of rest.now) ≡ statement version word (words_of rest.now) }
+    ensures { result ≡ true → (version : ℕ) (word : List ℕ) → form_of version word (words_of rest.now)
+        ≡ statement version word (words_of rest.now) }
 {
     match rest {
         [first, ..] => *first != b'=' && !is_blank(*first),

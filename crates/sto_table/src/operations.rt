@@ -28,7 +28,8 @@ impl<T: Naming> Shared<T> {
 
     // Where the word of the part stands.
     fn word_place(&self, part: u32, word: u32) -> usize
-        requires { (part < length self.now.table.shared.key.opening.value.items) × (word < length (part_of self.now.table.shared.key.opening.value.items part)) }
+        requires { (part < length self.now.table.shared.key.opening.value.items)
+            × (word < length (part_of self.now.table.shared.key.opening.value.items part)) }
         ensures is { result ≡ place_of self.now.table.shared.key.passes self.now.table.shared.key.opening.value.items part + suc word }
         ensures within { result < self.now.table.shared.table_id.words }
     {

@@ -19,7 +19,8 @@ pub fn call_check(
     failing: Failing,
 ) -> Result<Called, NoMemory>
     ensures ends { IfOk result (λ called. EndsWith found_status called.status (λ outcome.
-        (rest held : Option (List ℕ)) × Ends program outcome (checking_of (map (λ word. word.now) words.now)) (Some input.now) rest held (Some called.out.items))) }
+        (rest held : Option (List ℕ)) × Ends program outcome (checking_of (map (λ word. word.now) words.now)) (Some input.now) rest held
+        (Some called.out.items))) }
 {
     let given = owned(alloc, words)?;
     let Streams {

@@ -27,7 +27,8 @@ pub fn call<R: Threads + Sync, G: Gate>(
     gate: &G,
 ) -> Result<Called, NoMemory>
     ensures ends { IfOk result (λ called. EndsWith done_status called.status (λ outcome.
-        (rest held : Option (List ℕ)) × Ends program outcome (command_of (map (λ word. word.now) words.now)) (Some script.now) rest held (Some called.out.items))) }
+        (rest held : Option (List ℕ)) × Ends program outcome (command_of (map (λ word. word.now) words.now)) (Some script.now) rest held
+        (Some called.out.items))) }
 {
     let given = owned(alloc, words)?;
     let Streams {
@@ -58,7 +59,8 @@ pub fn call_feed<R: Threads + Wait + Sync, G: Gate>(
     gate: &G,
 ) -> Result<Called, NoMemory>
     ensures ends { IfOk result (λ called. EndsWith done_status called.status (λ outcome.
-        (rest held : Option (List ℕ)) × Ends program outcome (option_map command_for (feeding_of (map (λ word. word.now) words.now))) (Some script.now) rest held (Some called.out.items))) }
+        (rest held : Option (List ℕ)) × Ends program outcome (option_map command_for (feeding_of (map (λ word. word.now) words.now)))
+        (Some script.now) rest held (Some called.out.items))) }
 {
     let given = owned(alloc, words)?;
     let Streams {

@@ -189,7 +189,8 @@ const FIVE_MORE: &[Change] = &[Change::Add(5)];
 
 // Part 0 is overwritten, part 1 is so in its first word, and part 2 has an addition.
 fn updated_thrice(alloc: Global) -> Result<ItemSet, NoMemory>
-    ensures { IfOk result (λ s. s.updates ≡ (0, Change.Put (pos 7) ∷ Change.Put (pos 8) ∷ []) ∷ (1, Change.Put (pos 7) ∷ Change.Keep ∷ []) ∷ (2, Change.Add (pos 5) ∷ []) ∷ []) }
+    ensures { IfOk result (λ s. s.updates ≡ (0, Change.Put (pos 7) ∷ Change.Put (pos 8) ∷ []) ∷ (1, Change.Put (pos 7) ∷ Change.Keep ∷ [])
+        ∷ (2, Change.Add (pos 5) ∷ []) ∷ []) }
 {
     let mut set = ItemSet::new(alloc);
     add(alloc, &mut set, 0, BOTH_PUT)?;

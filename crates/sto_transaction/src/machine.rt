@@ -44,8 +44,10 @@ impl<'t, T: TxType, B: Body + Drop> Machine<'t, T, B> {
     /// The type is to take every call that the body may ask.
     pub fn new(alloc: Global, ty: &'t T, body: B) -> Machine<'t, T, B>
         requires { (call : Call) → B.may_ask body call → (T.meaning ty.now).takes call }
-        ensures proceeds { (passes : ℕ) (v : View) → IsAtRest (T.meaning ty.now) (T.sizes ty.now) v → 0 < v.draws → Proceeds T.meaning T.valid T.sizes B.script B.then B.left B.may_ask passes ty.now (B.script body) result v v }
-        ensures left { machine_left T.meaning T.valid T.sizes B.script B.then B.left B.may_ask result ≤ bound (B.left_at_reset body) (length (T.meaning ty.now).widths) (words_of (T.meaning ty.now).widths) }
+        ensures proceeds { (passes : ℕ) (v : View) → IsAtRest (T.meaning ty.now) (T.sizes ty.now) v → 0 < v.draws
+            → Proceeds T.meaning T.valid T.sizes B.script B.then B.left B.may_ask passes ty.now (B.script body) result v v }
+        ensures left { machine_left T.meaning T.valid T.sizes B.script B.then B.left B.may_ask result
+            ≤ bound (B.left_at_reset body) (length (T.meaning ty.now).widths) (words_of (T.meaning ty.now).widths) }
     {
         Machine::Running(Attempt::new(alloc, ty, body))
     }
@@ -59,12 +61,17 @@ impl<'t, T: TxType, B: Body + Drop> Machine<'t, T, B> {
         alloc: Global,
         cells: &mut C,
     ) -> Result<Option<Ended<B>>, NoMemory>
-        requires { (ty : T) × (f : Script) × (begun : View) × Proceeds T.meaning T.valid T.sizes B.script B.then B.left B.may_ask (C.passes cells.old) ty f self.old begun (C.view cells.old) }
+        requires { (ty : T) × (f : Script) × (begun : View) × Proceeds T.meaning T.valid T.sizes B.script B.then B.left B.may_ask
+            (C.passes cells.old) ty f self.old begun (C.view cells.old) }
         ensures event { OneEvent (λ _. Unit {0}) T.valid (C.passes cells.old) (C.view cells.old) (C.view cells.new) }
-        ensures stepped { (ty : T) (f : Script) (begun : View) → Proceeds T.meaning T.valid T.sizes B.script B.then B.left B.may_ask (C.passes cells.old) ty f self.old begun (C.view cells.old) → HasStepped T.meaning T.valid T.sizes B.script B.then B.left B.may_ask (C.passes cells.old) ty f result self.new begun (C.view cells.new) }
+        ensures stepped { (ty : T) (f : Script) (begun : View)
+            → Proceeds T.meaning T.valid T.sizes B.script B.then B.left B.may_ask (C.passes cells.old) ty f self.old begun
+            (C.view cells.old) → HasStepped T.meaning T.valid T.sizes B.script B.then B.left B.may_ask (C.passes cells.old) ty f result
+            self.new begun (C.view cells.new) }
 
         // There are fewer events left.
-        ensures left { IfOk result (λ end. left_after T.meaning T.valid T.sizes B.script B.then B.left B.may_ask end self.new < machine_left T.meaning T.valid T.sizes B.script B.then B.left B.may_ask self.old) }
+        ensures left { IfOk result (λ end. left_after T.meaning T.valid T.sizes B.script B.then B.left B.may_ask end self.new
+            < machine_left T.meaning T.valid T.sizes B.script B.then B.left B.may_ask self.old) }
         ensures same { C.same cells.old cells.new }
     {
         match self.advance(alloc, cells)? {
@@ -79,10 +86,15 @@ impl<'t, T: TxType, B: Body + Drop> Machine<'t, T, B> {
         alloc: Global,
         cells: &mut C,
     ) -> Result<Option<Verdict>, NoMemory>
-        requires { (ty : T) × (f : Script) × (begun : View) × Proceeds T.meaning T.valid T.sizes B.script B.then B.left B.may_ask (C.passes cells.old) ty f self.old begun (C.view cells.old) }
+        requires { (ty : T) × (f : Script) × (begun : View) × Proceeds T.meaning T.valid T.sizes B.script B.then B.left B.may_ask
+            (C.passes cells.old) ty f self.old begun (C.view cells.old) }
         ensures event { OneEvent (λ _. Unit {0}) T.valid (C.passes cells.old) (C.view cells.old) (C.view cells.new) }
-        ensures advanced { (ty : T) (f : Script) (begun : View) → Proceeds T.meaning T.valid T.sizes B.script B.then B.left B.may_ask (C.passes cells.old) ty f self.old begun (C.view cells.old) → HasAdvanced T.meaning T.valid T.sizes B.script B.then B.left B.may_ask (C.passes cells.old) ty f result self.new begun (C.view cells.new) }
-        ensures left { OnOk result (machine_left T.meaning T.valid T.sizes B.script B.then B.left B.may_ask self.new < machine_left T.meaning T.valid T.sizes B.script B.then B.left B.may_ask self.old) }
+        ensures advanced { (ty : T) (f : Script) (begun : View)
+            → Proceeds T.meaning T.valid T.sizes B.script B.then B.left B.may_ask (C.passes cells.old) ty f self.old begun
+            (C.view cells.old) → HasAdvanced T.meaning T.valid T.sizes B.script B.then B.left B.may_ask (C.passes cells.old) ty f result
+            self.new begun (C.view cells.new) }
+        ensures left { OnOk result (machine_left T.meaning T.valid T.sizes B.script B.then B.left B.may_ask self.new
+            < machine_left T.meaning T.valid T.sizes B.script B.then B.left B.may_ask self.old) }
         ensures same { C.same cells.old cells.new }
     {
         match self.turn(alloc, cells)? {
@@ -97,10 +109,15 @@ impl<'t, T: TxType, B: Body + Drop> Machine<'t, T, B> {
 
     // Makes one event, and tells what is to be done next.
     fn turn<C: Cells<T>>(&mut self, alloc: Global, cells: &mut C) -> Result<Turn, NoMemory>
-        requires { (ty : T) × (f : Script) × (begun : View) × Proceeds T.meaning T.valid T.sizes B.script B.then B.left B.may_ask (C.passes cells.old) ty f self.old begun (C.view cells.old) }
+        requires { (ty : T) × (f : Script) × (begun : View) × Proceeds T.meaning T.valid T.sizes B.script B.then B.left B.may_ask
+            (C.passes cells.old) ty f self.old begun (C.view cells.old) }
         ensures event { OneEvent (λ _. Unit {0}) T.valid (C.passes cells.old) (C.view cells.old) (C.view cells.new) }
-        ensures turned { (ty : T) (f : Script) (begun : View) → Proceeds T.meaning T.valid T.sizes B.script B.then B.left B.may_ask (C.passes cells.old) ty f self.old begun (C.view cells.old) → HasTurned T.meaning T.valid T.sizes B.script B.then B.left B.may_ask (C.passes cells.old) ty f result self.new begun (C.view cells.new) }
-        ensures left { OnOk result (machine_left T.meaning T.valid T.sizes B.script B.then B.left B.may_ask self.new < machine_left T.meaning T.valid T.sizes B.script B.then B.left B.may_ask self.old) }
+        ensures turned { (ty : T) (f : Script) (begun : View)
+            → Proceeds T.meaning T.valid T.sizes B.script B.then B.left B.may_ask (C.passes cells.old) ty f self.old begun
+            (C.view cells.old) → HasTurned T.meaning T.valid T.sizes B.script B.then B.left B.may_ask (C.passes cells.old) ty f result
+            self.new begun (C.view cells.new) }
+        ensures left { OnOk result (machine_left T.meaning T.valid T.sizes B.script B.then B.left B.may_ask self.new
+            < machine_left T.meaning T.valid T.sizes B.script B.then B.left B.may_ask self.old) }
         ensures same { C.same cells.old cells.new }
     {
         match self {
@@ -115,9 +132,13 @@ impl<'t, T: TxType, B: Body + Drop> Machine<'t, T, B> {
 
     // Goes on from a body that is ready to its commit.
     fn seal(&mut self, alloc: Global) -> Result<(), NoMemory>
-        requires { (ty : T) × (f : Script) × (begun : View) × (v : View) × IsAtSeal T.meaning T.valid T.sizes B.script B.then B.left B.may_ask ty f self.old begun v }
-        ensures proceeds { OnOk result ((passes : ℕ) (ty : T) (f : Script) (begun v : View) → IsAtSeal T.meaning T.valid T.sizes B.script B.then B.left B.may_ask ty f self.old begun v → Proceeds T.meaning T.valid T.sizes B.script B.then B.left B.may_ask passes ty f self.new begun v) }
-        ensures left { OnOk result (machine_left T.meaning T.valid T.sizes B.script B.then B.left B.may_ask self.new ≤ machine_left T.meaning T.valid T.sizes B.script B.then B.left B.may_ask self.old) }
+        requires { (ty : T) × (f : Script) × (begun : View) × (v : View)
+            × IsAtSeal T.meaning T.valid T.sizes B.script B.then B.left B.may_ask ty f self.old begun v }
+        ensures proceeds { OnOk result ((passes : ℕ) (ty : T) (f : Script) (begun v : View)
+            → IsAtSeal T.meaning T.valid T.sizes B.script B.then B.left B.may_ask ty f self.old begun v
+            → Proceeds T.meaning T.valid T.sizes B.script B.then B.left B.may_ask passes ty f self.new begun v) }
+        ensures left { OnOk result (machine_left T.meaning T.valid T.sizes B.script B.then B.left B.may_ask self.new
+            ≤ machine_left T.meaning T.valid T.sizes B.script B.then B.left B.may_ask self.old) }
     {
         match mem::replace(self, Machine::Over) {
             Machine::Running(attempt) => match attempt.seal(alloc) {
@@ -136,8 +157,11 @@ impl<'t, T: TxType, B: Body + Drop> Machine<'t, T, B> {
 
     // Takes what is left of an attempt that has ended.
     pub(crate) fn end(&mut self, verdict: Verdict) -> Ended<B>
-        requires { (passes : ℕ) × (ty : T) × (f : Script) × (begun : View) × (w : View) × IsAtEnd T.meaning T.valid T.sizes B.script B.then B.left B.may_ask passes ty f self.old verdict begun w }
-        ensures { (passes : ℕ) (ty : T) (f : Script) (begun w : View) → IsAtEnd T.meaning T.valid T.sizes B.script B.then B.left B.may_ask passes ty f self.old verdict begun w → HasEnded T.meaning T.valid T.sizes B.script B.then B.left B.may_ask passes ty f result begun w }
+        requires { (passes : ℕ) × (ty : T) × (f : Script) × (begun : View) × (w : View)
+            × IsAtEnd T.meaning T.valid T.sizes B.script B.then B.left B.may_ask passes ty f self.old verdict begun w }
+        ensures { (passes : ℕ) (ty : T) (f : Script) (begun w : View)
+            → IsAtEnd T.meaning T.valid T.sizes B.script B.then B.left B.may_ask passes ty f self.old verdict begun w
+            → HasEnded T.meaning T.valid T.sizes B.script B.then B.left B.may_ask passes ty f result begun w }
     {
         let heard = match mem::replace(self, Machine::Over) {
             Machine::Running(attempt) => attempt.end(),

@@ -69,8 +69,12 @@ impl<T: TxType, B: Body + Drop> Transaction<'_, T, B> {
         requires rests { IsAtRest (T.meaning self.ty.now) (T.sizes self.ty.now) (C.view cells.old) }
         requires draws { self.tries ≤ (C.view cells.old).draws }
         requires some { 0 < self.tries }
-        ensures ran { IfOk result (λ r. HasRun (T.meaning self.entry.ty.now) (T.sizes self.entry.ty.now) self.entry.tries (C.passes cells.old) (C.view cells.old) (C.view cells.new) (B.script self.entry.body) (self.entry.thread, self.entry.position) (map plain records.old.items) (map plain records.new.items) r.ended) }
-        ensures err { OnErr result (HasBroken (T.meaning self.entry.ty.now) (T.sizes self.entry.ty.now) self.entry.tries (C.view cells.old) (C.view cells.new) (B.script self.entry.body) (self.entry.thread, self.entry.position) (map plain records.old.items) (map plain records.new.items)) }
+        ensures ran { IfOk result (λ r. HasRun (T.meaning self.entry.ty.now) (T.sizes self.entry.ty.now) self.entry.tries
+            (C.passes cells.old) (C.view cells.old) (C.view cells.new) (B.script self.entry.body) (self.entry.thread, self.entry.position)
+            (map plain records.old.items) (map plain records.new.items) r.ended) }
+        ensures err { OnErr result (HasBroken (T.meaning self.entry.ty.now) (T.sizes self.entry.ty.now) self.entry.tries (C.view cells.old)
+            (C.view cells.new) (B.script self.entry.body) (self.entry.thread, self.entry.position) (map plain records.old.items)
+            (map plain records.new.items)) }
         ensures same { C.same cells.old cells.new }
     {
         let Transaction {
@@ -115,7 +119,8 @@ fn run_attempt<T: TxType, B: Body + Drop, C: Cells<T>, W: AttemptWatch>(
     requires takes { (call : Call) → B.may_ask body call → (T.meaning ty.now).takes call }
     requires rests { IsAtRest (T.meaning ty.now) (T.sizes ty.now) (C.view cells.old) }
     requires draws { 0 < (C.view cells.old).draws }
-    ensures ended { IfOk result (λ e. HasEnded T.meaning T.valid T.sizes B.script B.then B.left B.may_ask (C.passes cells.old) ty.now (B.script body) e (C.view cells.old) (C.view cells.new)) }
+    ensures ended { IfOk result (λ e. HasEnded T.meaning T.valid T.sizes B.script B.then B.left B.may_ask (C.passes cells.old) ty.now
+        (B.script body) e (C.view cells.old) (C.view cells.new)) }
     ensures err { OnErr result (HasStopped (T.meaning ty.now) (T.sizes ty.now) (C.view cells.old) (C.view cells.new)) }
     ensures same { C.same cells.old cells.new }
 {
@@ -132,8 +137,11 @@ fn finish<T: TxType, B: Body + Drop, C: Cells<T>, W: AttemptWatch>(
     cells: &mut C,
     watch: &mut W,
 ) -> Result<Ended<B>, NoMemory>
-    requires { (ty : T) × (f : Script) × (begun : View) × Proceeds T.meaning T.valid T.sizes B.script B.then B.left B.may_ask (C.passes cells.old) ty f machine.old begun (C.view cells.old) }
-    ensures ended { (ty : T) (f : Script) (begun : View) → Proceeds T.meaning T.valid T.sizes B.script B.then B.left B.may_ask (C.passes cells.old) ty f machine.old begun (C.view cells.old) → HasFinished T.meaning T.valid T.sizes B.script B.then B.left B.may_ask (C.passes cells.old) ty f result begun (C.view cells.new) }
+    requires { (ty : T) × (f : Script) × (begun : View) × Proceeds T.meaning T.valid T.sizes B.script B.then B.left B.may_ask
+        (C.passes cells.old) ty f machine.old begun (C.view cells.old) }
+    ensures ended { (ty : T) (f : Script) (begun : View) → Proceeds T.meaning T.valid T.sizes B.script B.then B.left B.may_ask
+        (C.passes cells.old) ty f machine.old begun (C.view cells.old)
+        → HasFinished T.meaning T.valid T.sizes B.script B.then B.left B.may_ask (C.passes cells.old) ty f result begun (C.view cells.new) }
     ensures same { C.same cells.old cells.new }
 {
     let mut events: u64 = 0;
@@ -153,10 +161,17 @@ fn read_part<T: TxType, B: Body + Drop, C: Cells<T>, W: AttemptWatch>(
     watch: &mut W,
     events: u64,
 ) -> Result<u64, NoMemory>
-    requires { (ty : T) × (f : Script) × (begun : View) × Proceeds T.meaning T.valid T.sizes B.script B.then B.left B.may_ask (C.passes cells.old) ty f machine.old begun (C.view cells.old) }
-    ensures proceeds { (ty : T) (f : Script) (begun : View) → Proceeds T.meaning T.valid T.sizes B.script B.then B.left B.may_ask (C.passes cells.old) ty f machine.old begun (C.view cells.old) → OnOk result (Proceeds T.meaning T.valid T.sizes B.script B.then B.left B.may_ask (C.passes cells.old) ty f machine.new begun (C.view cells.new)) }
-    ensures err { (ty : T) (f : Script) (begun : View) → Proceeds T.meaning T.valid T.sizes B.script B.then B.left B.may_ask (C.passes cells.old) ty f machine.old begun (C.view cells.old) → OnErr result (HasStopped (T.meaning ty) (T.sizes ty) begun (C.view cells.new)) }
-    ensures left { OnOk result (machine_left T.meaning T.valid T.sizes B.script B.then B.left B.may_ask machine.new ≤ machine_left T.meaning T.valid T.sizes B.script B.then B.left B.may_ask machine.old) }
+    requires { (ty : T) × (f : Script) × (begun : View) × Proceeds T.meaning T.valid T.sizes B.script B.then B.left B.may_ask
+        (C.passes cells.old) ty f machine.old begun (C.view cells.old) }
+    ensures proceeds { (ty : T) (f : Script) (begun : View) → Proceeds T.meaning T.valid T.sizes B.script B.then B.left B.may_ask
+        (C.passes cells.old) ty f machine.old begun (C.view cells.old)
+        → OnOk result (Proceeds T.meaning T.valid T.sizes B.script B.then B.left B.may_ask (C.passes cells.old) ty f machine.new begun
+        (C.view cells.new)) }
+    ensures err { (ty : T) (f : Script) (begun : View) → Proceeds T.meaning T.valid T.sizes B.script B.then B.left B.may_ask
+        (C.passes cells.old) ty f machine.old begun (C.view cells.old)
+        → OnErr result (HasStopped (T.meaning ty) (T.sizes ty) begun (C.view cells.new)) }
+    ensures left { OnOk result (machine_left T.meaning T.valid T.sizes B.script B.then B.left B.may_ask machine.new
+        ≤ machine_left T.meaning T.valid T.sizes B.script B.then B.left B.may_ask machine.old) }
     ensures same { C.same cells.old cells.new }
 {
     match machine {
@@ -172,10 +187,17 @@ fn read_words<T: TxType, B: Body + Drop, C: Cells<T>, W: AttemptWatch>(
     watch: &mut W,
     events: u64,
 ) -> Result<u64, NoMemory>
-    requires { (ty : T) × (f : Script) × (begun : View) × Proceeds T.meaning T.valid T.sizes B.script B.then B.left B.may_ask (C.passes cells.old) ty f (Machine.Running attempt.old) begun (C.view cells.old) }
-    ensures proceeds { (ty : T) (f : Script) (begun : View) → Proceeds T.meaning T.valid T.sizes B.script B.then B.left B.may_ask (C.passes cells.old) ty f (Machine.Running attempt.old) begun (C.view cells.old) → OnOk result (Proceeds T.meaning T.valid T.sizes B.script B.then B.left B.may_ask (C.passes cells.old) ty f (Machine.Running attempt.new) begun (C.view cells.new)) }
-    ensures err { (ty : T) (f : Script) (begun : View) → Proceeds T.meaning T.valid T.sizes B.script B.then B.left B.may_ask (C.passes cells.old) ty f (Machine.Running attempt.old) begun (C.view cells.old) → OnErr result (HasStopped (T.meaning ty) (T.sizes ty) begun (C.view cells.new)) }
-    ensures left { OnOk result (machine_left T.meaning T.valid T.sizes B.script B.then B.left B.may_ask (Machine.Running attempt.new) ≤ machine_left T.meaning T.valid T.sizes B.script B.then B.left B.may_ask (Machine.Running attempt.old)) }
+    requires { (ty : T) × (f : Script) × (begun : View) × Proceeds T.meaning T.valid T.sizes B.script B.then B.left B.may_ask
+        (C.passes cells.old) ty f (Machine.Running attempt.old) begun (C.view cells.old) }
+    ensures proceeds { (ty : T) (f : Script) (begun : View) → Proceeds T.meaning T.valid T.sizes B.script B.then B.left B.may_ask
+        (C.passes cells.old) ty f (Machine.Running attempt.old) begun (C.view cells.old)
+        → OnOk result (Proceeds T.meaning T.valid T.sizes B.script B.then B.left B.may_ask (C.passes cells.old) ty f
+        (Machine.Running attempt.new) begun (C.view cells.new)) }
+    ensures err { (ty : T) (f : Script) (begun : View) → Proceeds T.meaning T.valid T.sizes B.script B.then B.left B.may_ask
+        (C.passes cells.old) ty f (Machine.Running attempt.old) begun (C.view cells.old)
+        → OnErr result (HasStopped (T.meaning ty) (T.sizes ty) begun (C.view cells.new)) }
+    ensures left { OnOk result (machine_left T.meaning T.valid T.sizes B.script B.then B.left B.may_ask (Machine.Running attempt.new)
+        ≤ machine_left T.meaning T.valid T.sizes B.script B.then B.left B.may_ask (Machine.Running attempt.old)) }
     ensures same { C.same cells.old cells.new }
 {
     let mut events = events;

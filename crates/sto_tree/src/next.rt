@@ -60,7 +60,8 @@ fn find_next(
     requires few { parts_of leaves < 2 ^ 32 }
     requires below { (n : ℕ) → n < length listed.now → slice_index listed.now n < leaves }
     requires part { (d : Seq (Seq ℤ)) × IsTree leaves d × IsPartOf (known cache.now) d }
-    ensures { IfOk result (λ r. MatchResult r (λ found. (next_need (known cache.now) key listed.now ≡ None) × (found ≡ next_found (known cache.now) key listed.now)) (λ p. next_need (known cache.now) key listed.now ≡ Some p)) }
+    ensures { IfOk result (λ r. MatchResult r (λ found. (next_need (known cache.now) key listed.now ≡ None)
+        × (found ≡ next_found (known cache.now) key listed.now)) (λ p. next_need (known cache.now) key listed.now ≡ Some p)) }
 {
     for leaf in listed {
         let part = key_part(*leaf);

@@ -64,7 +64,8 @@ fn put_in_leaf(
     requires at { IsAtLeaf leaves (known cache.now) call.now.a found.directory.now found.number found.keys.now }
     requires below { found.number < leaves }
     requires keys { length found.keys.now ≡ 16 }
-    ensures { IfOk result (λ o. MatchOption o (IsCrowded leaves (known cache.now) call.now.a found.entry.keys.now) (λ a. IsPlan (tree_meaning leaves) call.now (known cache.now) (planned a))) }
+    ensures { IfOk result (λ o. MatchOption o (IsCrowded leaves (known cache.now) call.now.a found.entry.keys.now)
+        (λ a. IsPlan (tree_meaning leaves) call.now (known cache.now) (planned a))) }
 {
     if let Some(place) = place_of(found.keys, call.a) {
         return Ok(Some(Answer::Done {
@@ -112,7 +113,8 @@ fn room_items(
 ) -> Result<Items, NoMemory>
     requires part { the_key_part leaf < 2 ^ 32 }
     requires few { parts_of leaves < 2 ^ 32 }
-    ensures { IfOk result (λ l. l.items ≡ the_cover leaf key key (SeenPart (the_key_part leaf) ∷ compared 0 0 test (pos (4 * leaves)) ∷ [])) }
+    ensures { IfOk result (λ l. l.items ≡ the_cover leaf key key (SeenPart (the_key_part leaf) ∷ compared 0 0 test (pos (4 * leaves))
+        ∷ [])) }
 {
     let mut items = leaf_items(alloc, leaf, key)?;
     items.push(compares(0, 0, test, (4 * leaves) as i64))?;

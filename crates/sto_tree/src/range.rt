@@ -42,7 +42,8 @@ fn add_leaf(rows: &mut Rows, leaves: u32, cache: &KnownParts<'_>, leaf: u32) -> 
     requires few { parts_of leaves < 2 ^ 32 }
     requires part { (d : List (List ℤ)) × IsTree leaves d × IsPartOf (known cache.now) d }
     requires leaf { leaf < leaves }
-    ensures { OnOk result (rows.new.items ≡ with_part rows.old.items (known cache.now (the_key_part leaf)) (known_values (known cache.now) leaf)) }
+    ensures { OnOk result (rows.new.items ≡ with_part rows.old.items (known cache.now (the_key_part leaf))
+        (known_values (known cache.now) leaf)) }
 {
     match cache.get(key_part(leaf)) {
         Some(keys) => add_places(rows, leaves, cache, leaf, keys),

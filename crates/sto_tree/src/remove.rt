@@ -53,7 +53,8 @@ pub(crate) fn plan_remove(
 fn removed(alloc: Global, leaf: u32, place: u32) -> Result<Updates, NoMemory>
     requires part { the_key_part leaf < 2 ^ 32 }
     requires place { place < 8 }
-    ensures { IfOk result (λ l. l.items ≡ size_grows (negsuc 0) ∷ (the_key_part leaf, key_changes (at_place place (PutWord (pos 0)) KeepWord)) ∷ []) }
+    ensures { IfOk result (λ l. l.items ≡ size_grows (negsuc 0)
+        ∷ (the_key_part leaf, key_changes (at_place place (PutWord (pos 0)) KeepWord)) ∷ []) }
 {
     let mut updates = Updates::new(alloc);
     updates.push((0, word_change(alloc, Change::Add(-1))?))?;

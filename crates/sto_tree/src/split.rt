@@ -119,7 +119,11 @@ fn leaf_items(alloc: Global, found: Leaf<'_>, free: u32, key: i64) -> Result<Ite
     requires directory { 3 * found.number + 2 < length found.directory.now }
     requires other { 9 * free < 2 ^ 32 }
     requires above { 1 ≤ free }
-    ensures { IfOk result (λ l. l.items ≡ compared 1 (3 * found.entry.number) Equal (pos 1) ∷ compared 1 (3 * found.entry.number + 1) AtMost key ∷ compared 1 (3 * found.entry.number + 2) Equal (the_high found.entry.directory.now found.entry.number) ∷ compared 1 (3 * (free - 1)) Equal (pos 1) ∷ compared 1 (3 * free) Equal (pos 0) ∷ SeenPart (the_key_part found.entry.number) ∷ []) }
+    ensures { IfOk result (λ l. l.items ≡ compared 1 (3 * found.entry.number) Equal (pos 1)
+        ∷ compared 1 (3 * found.entry.number + 1) AtMost key
+        ∷ compared 1 (3 * found.entry.number + 2) Equal (the_high found.entry.directory.now found.entry.number)
+        ∷ compared 1 (3 * (free - 1)) Equal (pos 1) ∷ compared 1 (3 * free) Equal (pos 0) ∷ SeenPart (the_key_part found.entry.number)
+        ∷ []) }
 {
     let leaf = found.number;
     let end = high(found.directory, leaf);
@@ -147,7 +151,8 @@ fn moved_rows(
     requires below { found.number < leaves }
     requires keys { length found.keys.now ≡ 16 }
     requires middle { middle ≡ the_middle found.keys.now }
-    ensures { IfOk result (λ r. r.items ≡ gathered (place_slot found.entry.keys.now (moved_value (known cache.now) found.entry.number found.entry.keys.now)) 8) }
+    ensures { IfOk result (λ r. r.items ≡ gathered (place_slot found.entry.keys.now
+        (moved_value (known cache.now) found.entry.number found.entry.keys.now)) 8) }
 {
     let mut rows = Rows::new(alloc);
     for place in 0..8 {
@@ -195,8 +200,10 @@ fn move_updates(
     requires middle { middle ≡ the_middle found.keys.now }
     requires fits { FitsSigned w64 (the_middle found.keys.now -ℤ pos 1) }
     requires eight { length rows.now.items ≡ 8 }
-    requires ordered { AreUpdates (the_move_updates leaves found.directory.now found.number found.keys.now free (rows_of_leaf rows.now.items 1)) }
-    ensures { IfOk result (λ l. l.items ≡ the_move_updates leaves found.entry.directory.now found.entry.number found.entry.keys.now free (rows_of_leaf rows.now.items 1)) }
+    requires ordered { AreUpdates (the_move_updates leaves found.directory.now found.number found.keys.now free
+        (rows_of_leaf rows.now.items 1)) }
+    ensures { IfOk result (λ l. l.items ≡ the_move_updates leaves found.entry.directory.now found.entry.number found.entry.keys.now free
+        (rows_of_leaf rows.now.items 1)) }
 {
     let mut updates = Updates::new(alloc);
     let ranges = split_directory(alloc, leaves, found, free, middle)?;
@@ -222,7 +229,8 @@ fn split_directory(
     requires directory { length found.directory.now ≡ 3 * leaves }
     requires middle { middle ≡ the_middle found.keys.now }
     requires fits { FitsSigned w64 (the_middle found.keys.now -ℤ pos 1) }
-    ensures { IfOk result (λ l. l.items ≡ in_threes (split_ranges leaves found.entry.directory.now found.entry.number found.entry.keys.now free) 0 leaves) }
+    ensures { IfOk result (λ l. l.items ≡ in_threes (split_ranges leaves found.entry.directory.now found.entry.number found.entry.keys.now
+        free) 0 leaves) }
 {
     let end = high(found.directory, found.number);
     let below = middle - 1;
@@ -245,7 +253,8 @@ fn range_after(
     below: i64,
     end: i64,
 ) -> (Change, Change, Change)
-    ensures { result ≡ (if nat_eq other leaf then (KeepWord, KeepWord, PutWord below) else if nat_eq other free then (PutWord (pos 1), PutWord middle, PutWord end) else (KeepWord, KeepWord, KeepWord)) }
+    ensures { result ≡ (if nat_eq other leaf then (KeepWord, KeepWord, PutWord below) else if nat_eq other free then
+        (PutWord (pos 1), PutWord middle, PutWord end) else (KeepWord, KeepWord, KeepWord)) }
 {
     if other == leaf {
         (Change::Keep, Change::Keep, Change::Put(below))
@@ -260,7 +269,8 @@ fn range_after(
 fn lower_changes(alloc: Global, keys: &[i64], middle: i64) -> Result<Update, NoMemory>
     requires keys { length keys.now ≡ 16 }
     requires middle { middle ≡ the_middle keys.now }
-    ensures { IfOk result (λ l. l.items ≡ key_changes (λ i. if moves_at keys.now i then (PutWord (pos 0), KeepWord) else (KeepWord, KeepWord))) }
+    ensures { IfOk result (λ l. l.items ≡ key_changes (λ i. if moves_at keys.now i then (PutWord (pos 0), KeepWord) else
+        (KeepWord, KeepWord))) }
 {
     let mut update = Update::new(alloc);
     for place in 0..8 {

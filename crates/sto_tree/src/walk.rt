@@ -96,7 +96,8 @@ fn see_leaf(
     requires part { the_key_part leaf + 8 < 2 ^ 32 }
     requires keys { (ks : Seq ℤ) → known cache.now (the_key_part leaf) ≡ Some ks → length ks ≡ 16 }
     ensures need { IfOk result (λ o. o ≡ leaf_need (known cache.now) scans directory.now from to leaf) }
-    ensures items { IfOk result (λ o. o ≡ None → items.new.items ≡ items.old.items ++ leaf_observed (known cache.now) scans directory.now from to leaf) }
+    ensures items { IfOk result (λ o. o ≡ None → items.new.items ≡ items.old.items
+        ++ leaf_observed (known cache.now) scans directory.now from to leaf) }
 {
     let Some(keys) = cache.get(key_part(leaf)) else {
         return Ok(Some(key_part(leaf)));
@@ -126,7 +127,8 @@ pub(crate) fn see_leaves(
     requires width { length directory.now ≡ 3 * leaves }
     requires below { (n : ℕ) → n < length listed.now → slice_index listed.now n < leaves }
     requires part { (d : Seq (Seq ℤ)) × IsTree leaves d × IsPartOf (known cache.now) d }
-    ensures { let reading = between_each scans directory.now from to listed.now [] in IfOk result (λ r. MatchResult r (λ items. IsSaid reading (known cache.now) items.items) (λ p. need_of reading (known cache.now) ≡ Some p)) }
+    ensures { let reading = between_each scans directory.now from to listed.now [] in IfOk result
+        (λ r. MatchResult r (λ items. IsSaid reading (known cache.now) items.items) (λ p. need_of reading (known cache.now) ≡ Some p)) }
 {
     let mut items = Items::new(alloc);
     for leaf in listed {

@@ -89,7 +89,8 @@ pub(crate) fn size_answer(
     bound: i64,
     size: u32,
 ) -> Result<Answer, NoMemory>
-    ensures { IfOk result (λ a. planned a ≡ Say (ToldFlag (compared (test_of test) (pos size) bound)) (test_items (test_of test) bound (pos size)) []) }
+    ensures { IfOk result (λ a. planned a ≡ Say (ToldFlag (compared (test_of test) (pos size) bound))
+        (test_items (test_of test) bound (pos size)) []) }
 {
     test_answer(alloc, test_at(test), bound, i64::from(size))
 }
@@ -113,7 +114,8 @@ pub(crate) fn push_answer(
     value: i64,
 ) -> Result<Answer, NoMemory>
     requires { 1 + capacity < 2 ^ 32 }
-    ensures { IfOk result (λ a. planned a ≡ Say (if nat_lt size capacity then ToldDone else ToldFull) (push_items capacity size) (push_updates capacity value size)) }
+    ensures { IfOk result (λ a. planned a ≡ Say (if nat_lt size capacity then ToldDone else ToldFull) (push_items capacity size)
+        (push_updates capacity value size)) }
 {
     if size < capacity {
         Ok(Answer::Done {

@@ -140,7 +140,8 @@ fn answer(
 ) -> Result<Answer, NoMemory>
     requires few { 1 + capacity < 2 ^ 32 }
     requires range { size ≤ capacity }
-    ensures { IfOk result (λ a. planned a ≡ vector_plan capacity (operation_of call.now.code) (place_of capacity call.now.a) call.now.a call.now.b size (λ p. word_known (known cache.now p))) }
+    ensures { IfOk result (λ a. planned a ≡ vector_plan capacity (operation_of call.now.code) (place_of capacity call.now.a) call.now.a
+        call.now.b size (λ p. word_known (known cache.now p))) }
 {
     match Operation::from_code(call.code) {
         Some(Operation::Get) => match place_in(capacity, call.a) {

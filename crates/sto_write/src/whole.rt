@@ -81,7 +81,8 @@ fn push_declarations(out: &mut Text, decls: &[Decl]) -> Result<(), NoMemory>
 
 /// Adds a transaction.
 fn push_script(out: &mut Text, decls: &[Decl], script: &Script) -> Result<(), NoMemory>
-    ensures { OnOk result (out.new.items ≡ out.old.items ++ flat_map line_text (script_lines (map declaration decls.now) (script_of script.now))) }
+    ensures { OnOk result (out.new.items ≡ out.old.items ++ flat_map line_text
+        (script_lines (map declaration decls.now) (script_of script.now))) }
 {
     push_alone(out, "begin")?;
     push_statements(out, decls, &script.vars, &script.body)?;
@@ -89,7 +90,8 @@ fn push_script(out: &mut Text, decls: &[Decl], script: &Script) -> Result<(), No
 }
 
 fn push_scripts(out: &mut Text, decls: &[Decl], scripts: &[Script]) -> Result<(), NoMemory>
-    ensures { OnOk result (out.new.items ≡ out.old.items ++ flat_map (λ s. flat_map line_text (script_lines (map declaration decls.now) (script_of s))) scripts.now) }
+    ensures { OnOk result (out.new.items ≡ out.old.items ++ flat_map
+        (λ s. flat_map line_text (script_lines (map declaration decls.now) (script_of s))) scripts.now) }
 {
     for script in scripts {
         push_script(out, decls, script)?;
@@ -104,7 +106,8 @@ fn push_thread(
     decls: &[Decl],
     thread: &Thread,
 ) -> Result<(), NoMemory>
-    ensures { OnOk result (out.new.items ≡ out.old.items ++ flat_map line_text (thread_lines version (map declaration decls.now) thread.now.name.items (map script_of thread.now.scripts.items))) }
+    ensures { OnOk result (out.new.items ≡ out.old.items ++ flat_map line_text
+        (thread_lines version (map declaration decls.now) thread.now.name.items (map script_of thread.now.scripts.items))) }
 {
     push_thread_line(out, version, &thread.name)?;
     push_scripts(out, decls, thread.scripts.as_slice())
@@ -128,7 +131,9 @@ fn push_threads(
     decls: &[Decl],
     threads: &[Thread],
 ) -> Result<(), NoMemory>
-    ensures { OnOk result (out.new.items ≡ out.old.items ++ flat_map (λ t. flat_map line_text (thread_lines version (map declaration decls.now) t.name.items (map script_of t.scripts.items))) threads.now) }
+    ensures { OnOk result (out.new.items ≡ out.old.items ++ flat_map
+        (λ t. flat_map line_text (thread_lines version (map declaration decls.now) t.name.items (map script_of t.scripts.items)))
+        threads.now) }
 {
     for thread in threads {
         push_thread(out, version, decls, thread)?;
@@ -176,7 +181,8 @@ fn push_entries(
     threads: &[Thread],
     turns: &[Turns],
 ) -> Result<(), NoMemory>
-    ensures { OnOk result (out.new.items ≡ out.old.items ++ flat_map (λ t. 32 ∷ entry_word (entry_for version (names_of threads.now) t)) turns.now) }
+    ensures { OnOk result (out.new.items ≡ out.old.items ++ flat_map (λ t. 32 ∷ entry_word (entry_for version (names_of threads.now) t))
+        turns.now) }
 {
     for entry in turns {
         push_entry(out, version, threads, *entry)?;
@@ -191,7 +197,8 @@ fn push_schedule(
     threads: &[Thread],
     schedule: &Option<Schedule>,
 ) -> Result<(), NoMemory>
-    ensures { OnOk result (out.new.items ≡ out.old.items ++ flat_map line_text (schedule_lines version (names_of threads.now) (option_map (λ s. s.items) schedule.now))) }
+    ensures { OnOk result (out.new.items ≡ out.old.items ++ flat_map line_text
+        (schedule_lines version (names_of threads.now) (option_map (λ s. s.items) schedule.now))) }
 {
     match schedule {
         None => Ok(()),
