@@ -51,12 +51,18 @@ impl TxType for Objects {
     ghost meaning = { λ x. ⟦<Store as TxType>⟧.meaning x.store };
 
     ghost valid_is = { λ x c.
-        IsValidBoth-is ⟦<Boxes as Naming>⟧.valid ⟦<Both<Counters, Wide> as Naming>⟧.valid _ _ _ (⟦<Boxes as Naming>⟧.sizes x.store.first) (⟦<Both<Counters, Wide> as Naming>⟧.sizes x.store.second) c (IsValidMany-is ⟦<TBox<i64> as TxType>⟧.meaning ⟦<TBox<i64> as Naming>⟧.sizes ⟦<TBox<i64> as Naming>⟧.valid (λ _ d. (λ h. h, λ h. h)) x.store.first)
-        (λ c. IsValidBoth-is ⟦<Counters as Naming>⟧.valid ⟦<Wide as Naming>⟧.valid _ _ _ (⟦<Counters as Naming>⟧.sizes x.store.second.first) (⟦<Wide as Naming>⟧.sizes x.store.second.second) c (IsValidMany-is ⟦<TCounter as TxType>⟧.meaning ⟦<TCounter as Naming>⟧.sizes ⟦<TCounter as Naming>⟧.valid (λ _ d. (λ h. h, λ h. h)) x.store.second.first)
+        IsValidBoth-is ⟦<Boxes as Naming>⟧.valid ⟦<Both<Counters, Wide> as Naming>⟧.valid _ _ _ (⟦<Boxes as Naming>⟧.sizes x.store.first)
+        (⟦<Both<Counters, Wide> as Naming>⟧.sizes x.store.second) c
+        (IsValidMany-is ⟦<TBox<i64> as TxType>⟧.meaning ⟦<TBox<i64> as Naming>⟧.sizes ⟦<TBox<i64> as Naming>⟧.valid
+        (λ _ d. (λ h. h, λ h. h)) x.store.first)
+        (λ c. IsValidBoth-is ⟦<Counters as Naming>⟧.valid ⟦<Wide as Naming>⟧.valid _ _ _ (⟦<Counters as Naming>⟧.sizes x.store.second.first)
+        (⟦<Wide as Naming>⟧.sizes x.store.second.second) c (IsValidMany-is ⟦<TCounter as TxType>⟧.meaning ⟦<TCounter as Naming>⟧.sizes
+        ⟦<TCounter as Naming>⟧.valid (λ _ d. (λ h. h, λ h. h)) x.store.second.first)
         (wide_valid_is x.store.second.second)) };
 
     ghost lawful = { λ x.
-        joined_lawful _ _ (all_lawful _ (λ b. box_lawful 1 IsSignedCode (b.first ∷ []) (lit≤ tt, lit≤ tt) (box_opened 1 IsSignedCode b.first b.second (lit≤ tt, lit≤ tt) b.first_fits b.second_fits b.code)) x.store.first)
+        joined_lawful _ _ (all_lawful _ (λ b. box_lawful 1 IsSignedCode (b.first ∷ []) (lit≤ tt, lit≤ tt)
+        (box_opened 1 IsSignedCode b.first b.second (lit≤ tt, lit≤ tt) b.first_fits b.second_fits b.code)) x.store.first)
         (joined_lawful _ _ (all_lawful _ (λ k. counter_lawful k.first k.fits) x.store.second.first)
         (wide_lawful x.store.second.second)) };
 

@@ -36,10 +36,19 @@ impl TxType for Wide {
     ghost meaning = { λ x. ⟦<Kinds as TxType>⟧.meaning x.kinds };
 
     ghost valid_is = { λ x c.
-        IsValidBoth-is ⟦<Arrays as Naming>⟧.valid ⟦<Both<Hashes, Sized> as Naming>⟧.valid _ _ _ (⟦<Arrays as Naming>⟧.sizes x.kinds.first) (⟦<Both<Hashes, Sized> as Naming>⟧.sizes x.kinds.second) c (IsValidMany-is ⟦<TArray as TxType>⟧.meaning ⟦<TArray as Naming>⟧.sizes ⟦<TArray as Naming>⟧.valid (λ _ d. (λ h. h, λ h. h)) x.kinds.first)
-        (λ c. IsValidBoth-is ⟦<Hashes as Naming>⟧.valid ⟦<Sized as Naming>⟧.valid _ _ _ (⟦<Hashes as Naming>⟧.sizes x.kinds.second.first) (⟦<Sized as Naming>⟧.sizes x.kinds.second.second) c (IsValidMany-is ⟦<THash as TxType>⟧.meaning ⟦<THash as Naming>⟧.sizes ⟦<THash as Naming>⟧.valid (λ _ d. (λ h. h, λ h. h)) x.kinds.second.first)
-        (λ c. IsValidBoth-is ⟦<Trees as Naming>⟧.valid ⟦<Vectors as Naming>⟧.valid _ _ _ (⟦<Trees as Naming>⟧.sizes x.kinds.second.second.first) (⟦<Vectors as Naming>⟧.sizes x.kinds.second.second.second) c (IsValidMany-is ⟦<TTree as TxType>⟧.meaning ⟦<TTree as Naming>⟧.sizes ⟦<TTree as Naming>⟧.valid (λ _ d. (λ h. h, λ h. h)) x.kinds.second.second.first)
-        (IsValidMany-is ⟦<TVector as TxType>⟧.meaning ⟦<TVector as Naming>⟧.sizes ⟦<TVector as Naming>⟧.valid (λ _ d. (λ h. h, λ h. h)) x.kinds.second.second.second))) };
+        IsValidBoth-is ⟦<Arrays as Naming>⟧.valid ⟦<Both<Hashes, Sized> as Naming>⟧.valid _ _ _ (⟦<Arrays as Naming>⟧.sizes x.kinds.first)
+        (⟦<Both<Hashes, Sized> as Naming>⟧.sizes x.kinds.second) c
+        (IsValidMany-is ⟦<TArray as TxType>⟧.meaning ⟦<TArray as Naming>⟧.sizes ⟦<TArray as Naming>⟧.valid (λ _ d. (λ h. h, λ h. h))
+        x.kinds.first)
+        (λ c. IsValidBoth-is ⟦<Hashes as Naming>⟧.valid ⟦<Sized as Naming>⟧.valid _ _ _ (⟦<Hashes as Naming>⟧.sizes x.kinds.second.first)
+        (⟦<Sized as Naming>⟧.sizes x.kinds.second.second) c (IsValidMany-is ⟦<THash as TxType>⟧.meaning ⟦<THash as Naming>⟧.sizes
+        ⟦<THash as Naming>⟧.valid (λ _ d. (λ h. h, λ h. h)) x.kinds.second.first)
+        (λ c. IsValidBoth-is ⟦<Trees as Naming>⟧.valid ⟦<Vectors as Naming>⟧.valid _ _ _
+        (⟦<Trees as Naming>⟧.sizes x.kinds.second.second.first) (⟦<Vectors as Naming>⟧.sizes x.kinds.second.second.second) c
+        (IsValidMany-is ⟦<TTree as TxType>⟧.meaning ⟦<TTree as Naming>⟧.sizes ⟦<TTree as Naming>⟧.valid (λ _ d. (λ h. h, λ h. h))
+        x.kinds.second.second.first)
+        (IsValidMany-is ⟦<TVector as TxType>⟧.meaning ⟦<TVector as Naming>⟧.sizes ⟦<TVector as Naming>⟧.valid (λ _ d. (λ h. h, λ h. h))
+        x.kinds.second.second.second))) };
 
     ghost lawful = { λ x.
         joined_lawful _ _ (all_lawful _ (λ a. array_lawful a.len a.first a.fits) x.kinds.first)

@@ -217,11 +217,13 @@ impl<A: Word, B: Word> Words for (A, B) {
 
     ghost one_or_two = { (lit≤ tt, lit≤ tt) };
 
-    ghost length_of = { pair_length A.words_of A.value_of B.words_of B.value_of (λ a. A.length_of a ∙ A.one_word) (λ b. B.length_of b ∙ B.one_word) };
+    ghost length_of = { pair_length A.words_of A.value_of B.words_of B.value_of (λ a. A.length_of a ∙ A.one_word)
+        (λ b. B.length_of b ∙ B.one_word) };
 
     ghost decodes = { pair_decodes A.words_of A.value_of B.words_of B.value_of (λ a. A.length_of a ∙ A.one_word) A.decodes B.decodes };
 
-    ghost encodes = { pair_encodes A.words_of A.value_of B.words_of B.value_of A.IsCode B.IsCode (λ ws e. A.encodes ws (e ∙ sym A.one_word)) (λ ws e. B.encodes ws (e ∙ sym B.one_word)) };
+    ghost encodes = { pair_encodes A.words_of A.value_of B.words_of B.value_of A.IsCode B.IsCode (λ ws e. A.encodes ws (e ∙ sym A.one_word))
+        (λ ws e. B.encodes ws (e ∙ sym B.one_word)) };
 
     fn encode(&self, out: &mut [i64]) {
         let (front, back) = out.split_at_mut(1);

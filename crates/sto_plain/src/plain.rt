@@ -41,7 +41,8 @@ impl<T: Naming> Model for Plain<T> {
 
     ghost view = { λ p. core_shown p.clock p.statuses.items p.versions.items p.contents.items p.book };
 
-    ghost invariant = { λ p. Kept T.valid p.tickets.items (core_shown p.clock p.statuses.items p.versions.items p.contents.items p.book) × (length p.versions.items ≡ length p.contents.items) };
+    ghost invariant = { λ p. Kept T.valid p.tickets.items (core_shown p.clock p.statuses.items p.versions.items p.contents.items p.book)
+        × (length p.versions.items ≡ length p.contents.items) };
 }
 
 // Writes down what an event makes of the view of its pass.

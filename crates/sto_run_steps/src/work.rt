@@ -19,7 +19,8 @@ impl<'f, T: TxType, G: Gate> Attempts<T, Machine<'f, T, ScriptBody<'f>>> for Fil
 
     ghost left = { λ w. script_left T.meaning T.valid T.sizes };
 
-    ghost most = { λ w. bound (weight_total (view w.file.now).threads) (length (T.meaning w.ty.now).widths) (words_of (T.meaning w.ty.now).widths) };
+    ghost most = { λ w. bound (weight_total (view w.file.now).threads) (length (T.meaning w.ty.now).widths)
+        (words_of (T.meaning w.ty.now).widths) };
 
     fn most_tries(&self) -> u32 {
         self.tries

@@ -41,7 +41,8 @@ impl<'t, T: Naming> Cells<T> for Pass<'t, T> {
 
     ghost same_as_itself = { λ p. (refl, refl, refl, refl, refl, refl) };
 
-    ghost same_through = { λ a b c. same_through a.shared.now.table.shared.key.passes a.seat b.shared.now.table.shared.key.passes b.seat c.shared.now.table.shared.key.passes c.seat };
+    ghost same_through = { λ a b c. same_through a.shared.now.table.shared.key.passes a.seat b.shared.now.table.shared.key.passes b.seat
+        c.shared.now.table.shared.key.passes c.seat };
 
     ghost same_passes = { λ a b s. s.0 };
 
