@@ -2,7 +2,8 @@
 #![tactic(auto)]
 
 use std::process::ExitCode;
-use sto_cli::{NoGate, StdSink, StdSource, refuse_words, sto, words_of};
+use sto_cli::{StdSink, StdSource, refuse_words, sto, words_of};
+use sto_run_threads::SleepingGate;
 
 fn main(rt: HostRuntime) -> ExitCode {
     let mut diag = StdSink::error(&rt);
@@ -19,6 +20,6 @@ fn main(rt: HostRuntime) -> ExitCode {
         &mut source,
         &mut out,
         &mut diag,
-        &NoGate,
+        &SleepingGate::new(&rt),
     ))
 }
