@@ -1,0 +1,9 @@
+pub mod Alike
+pub mod Extending
+pub mod Adding
+pub mod AtEnd
+pub mod Coming
+pub mod Hearing
+pub mod Beginning
+pub mod Lasting
+pub mod Committing

@@ -1,0 +1,6 @@
+pub mod Scripts
+pub mod Bodies
+pub mod Waiting
+pub mod Lives
+pub use Rattle.sto_transaction.specs.Machines
+pub use Rattle.sto_transaction.specs.Resting

@@ -1,0 +1,9 @@
+//! A transaction whose calls come one by one: each is answered at once, and the transaction may wait between two of them.
+#![tactic(auto)]
+
+mod asked;
+mod live;
+mod run_on;
+
+pub use asked::Asked;
+pub use live::{Live, Stopped};
