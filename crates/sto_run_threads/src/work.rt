@@ -20,7 +20,7 @@ use sto_type::TxType;
 const SHORT: u64 = 2_000;
 
 // How often a transaction looks whether the turn is free, before it goes on without it for good.
-const LOOKS: u32 = 10_000_000;
+const LOOKS: u32 = 60_000;
 
 // Tells a gate how far a transaction is, takes the turn once a long attempt was aborted, and backs off between two others.
 #[derive(Drop)]
