@@ -1,11 +1,12 @@
 -- What is said of a report, and why nothing is.
 use Rattle.std.specs.Prelude.{◌≡◌, ℕ, List, Ok, Err}
 use Rattle.sto_lang.specs.Scripts.{File}
+use Rattle.sto_report_checker.specs.Updated.{Updating}
 use Rattle.sto_report_checker.specs.Lawful.{IsLawful}
 use Rattle.sto_report_lines.specs.declared.found.Found.{Found}
 use Rattle.sto_report_lines.specs.declared.found.Found.TheVariants.{Lawful}
 use Rattle.sto_report_lines.specs.Answer.{IsFound}
-use Rattle.sto_report_lines.specs.Exact.{IsRightReport}
+use Rattle.sto_report_lines.specs.Exact.{IsRightReport, UpdatesWritten}
 use Rattle.sto_run.specs.Meanings.{updating_by}
 use Rattle.sto_run.specs.Stores.{means}
 use Rattle.sto_check_cli.specs.Inputs.{Input, input_of}
@@ -14,11 +15,12 @@ use Rattle.sto_cli_common.specs.declared.refusal.Refusal.TheVariants.{Usage, Rea
 use Rattle.sto_cli_common.specs.declared.refusal.Refusal.TheVariants as refusals
 
 -- the answer for a report, which no other is; each text that is lawful by what the types of objects say of updates is found so, and
--- what is found so is the report of an order of the file
+-- by what any types say that update only objects that were written; and what is found so is the report of an order of the file
 pub record IsJudged (file : File) (tries : ℕ) (report : List ℕ) (found : Found) : Type 0 where
   pub is : IsFound file tries report found
   pub only : (other : Found) → IsFound file tries report other → other ≡ found
   pub complete : IsLawful (updating_by means) file tries report → found ≡ Lawful
+  pub complete_for : (u : Updating) → UpdatesWritten u file → IsLawful u file tries report → found ≡ Lawful
   pub right : found ≡ Lawful → IsRightReport file tries report
 
 -- the same of the report in what was read

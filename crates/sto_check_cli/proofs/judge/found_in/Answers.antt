@@ -17,5 +17,5 @@ returns-clause-found c =
     record {
       input = record { file = view c.in_ok-file.file; report = c.in-Some.report.now };
       reads = read_so c.args.bytes.now c.in-Some.script.now c.in-Some.report.now c.if-bytes-gt-MOST.false parts.0 parts.1 parts.2 (Ok (view c.in_ok-file.file)) c.in_ok-file.ensures.file;
-      judged = record { is = said.found; only = said.only; complete = said.complete (updating_by means) (means_written c.in-Some.script.now (view c.in_ok-file.file) c.in_ok-file.ensures.file); right = said.right };
+      judged = record { is = said.found; only = said.only; complete = said.complete (updating_by means) (means_written c.in-Some.script.now (view c.in_ok-file.file) c.in_ok-file.ensures.file); complete_for = said.complete; right = said.right };
     }
