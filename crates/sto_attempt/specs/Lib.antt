@@ -1,5 +1,6 @@
 pub mod Commits
 pub mod Attempts
+pub mod Pausing
 pub use Rattle.sto_item.specs.Observed
 pub use Rattle.sto_item.specs.Watched
 pub use Rattle.sto_core.specs.Allowed

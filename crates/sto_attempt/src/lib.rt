@@ -2,11 +2,13 @@
 #![tactic(auto)]
 
 mod attempt;
+mod pause;
 mod ready;
 mod resume;
 mod seal;
 mod testing;
 
 pub use attempt::Attempt;
+pub use pause::Paused;
 pub use ready::Ready;
 pub use sto_attempt_log::{Heard, ReadEntry, ReadSet, Turn, Verdict};

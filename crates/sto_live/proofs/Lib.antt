@@ -6,4 +6,5 @@ pub mod Coming
 pub mod Hearing
 pub mod Beginning
 pub mod Lasting
+pub mod Pausing
 pub mod Committing

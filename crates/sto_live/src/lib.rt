@@ -3,7 +3,9 @@
 
 mod asked;
 mod live;
+mod pause;
 mod run_on;
 
 pub use asked::Asked;
 pub use live::{Live, Stopped};
+pub use pause::PausedLive;
