@@ -24,7 +24,7 @@ module _ {T : Type 0} (t : OfType T) where
       → IsWaiting t asked ty (script_of calls E.Commit) (attempt_with_type old p) begun v → IsWaiting t asked ty (script_of calls E.Commit) (attempt_with_type new p) begun v
   waits_on ty calls begun v p old new same h =
       let here : IsWaiting t asked ty (script_of calls E.Commit) (attempt_with_type (record { ref_ptr = new.ref_ptr; now = old.now }) p) begun v =
-          record { own = record { same_type = h.own.same_type; same_script = h.own.same_script; log = h.own.log }; waits = h.waits; in_body = h.in_body } in
+      record { own = record { same_type = h.own.same_type; same_script = h.own.same_script; log = h.own.log }; waits = h.waits; in_body = h.in_body } in
       subst (λ (d : T). IsWaiting t asked ty (script_of calls E.Commit) (attempt_with_type (record { ref_ptr = new.ref_ptr; now = d }) p) begun v) same here
 
   pub is_paused : (ty : T) (calls : List Call) (rs : List Told) (l : Live T) (begun v : View) (p : Paused Asked) → attempt_with_type l.attempt.log.ty p ≡ l.attempt

@@ -14,6 +14,8 @@ use Rattle.sto_live.specs.Lives.{IsLive}
 abbrev pub with_type : {T : Type 0} → Bor T → PausedLive → Live T
 with_type y p = record { ty = y; attempt = attempt_with_type y p.attempt }
 
--- on its type it is live as before: these calls were asked, and answered so
-abbrev pub IsPaused : {T : Type 0} → OfType T → T → List Call → List Told → PausedLive → (begun v : View) → Type 0
-IsPaused t ty calls rs p begun v = (y : Bor T) → y.now ≡ ty → IsLive t ty calls rs (with_type y p) begun v
+-- t is what the trait of the type says
+module _ {T : Type 0} (t : OfType T) where
+  -- on its type it is live as before: these calls were asked, and answered so
+  abbrev pub IsPaused : T → List Call → List Told → PausedLive → (begun v : View) → Type 0
+  IsPaused ty calls rs p begun v = (y : Bor T) → y.now ≡ ty → IsLive t ty calls rs (with_type y p) begun v
