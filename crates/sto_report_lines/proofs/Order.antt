@@ -143,8 +143,8 @@ module _ (before : List Abort) (a : Abort) (last : LastAbort) (at : TransactionP
 
     pub again_either : (r : Option LastAbort) → (r ≡ None → last.known ≤ seen → last.count < tries → ⊥)
         → IfSome r (λ (l : LastAbort). (last.known ≤ seen) × (last.count < tries) × (l ≡ record { at = last.at; known = known; count = last.count + 1 })) → IsFollowed before a tries r
-    again_either None no k = again_none (no refl)
-    again_either (Some l) no k = subst (λ (x : LastAbort). IsFollowed before a tries (Some x)) (sym k.2) (again_some k.0 k.1)
+    again_either None wrong k = again_none (wrong refl)
+    again_either (Some l) wrong k = subst (λ (x : LastAbort). IsFollowed before a tries (Some x)) (sym k.2) (again_some k.0 k.1)
 
   thread_is : h.abort.place.0 ≡ last.at.thread
   thread_is = ap (λ (x : Place). x.0) h.place

@@ -53,7 +53,11 @@ pub fn followed_by(
         → known_at_end a ≡ known → IsFollowed before a tries result }
 {
     match last {
-        None => Some(LastAbort { at, known, count: 1 }),
+        None => Some(LastAbort {
+            at,
+            known,
+            count: 1,
+        }),
         Some(last) => behind(last, at, seen, known, tries),
     }
 }
