@@ -13,16 +13,12 @@ use Rattle.sto_cli_common.specs.declared.refusal.Refusal.TheVariants.{Usage, Rea
 use Rattle.sto_cli_common.specs.declared.refusal.Refusal.TheVariants as refusals
 use Rattle.sto_cli_common.specs.Statuses.{status_of}
 use Rattle.sto_cli_common.specs.Ends.{Made, Ends, RoseFor}
-use Rattle.sto_cli_common.proofs.Facts.{IsExclusive}
+use Rattle.sto_cli_common.proofs.Causes.{IsExclusive}
 use Rattle.sto_check_cli.specs.Inputs.{Input, input_of}
 use Rattle.sto_check_cli.specs.Programs.{program, found_status}
 use Rattle.sto_check_cli.specs.Findings.{IsToldFound}
 
 -- each answer has one of two statuses
-pub is_found : (found : Found) → (found_status found ≡ 0 → ⊥) → (found_status found ≡ 1 → ⊥) → ⊥
-is_found Lawful lawful wrong = lawful refl
-is_found (Not line) lawful wrong = wrong refl
-
 pub few_statuses : (found : Found) → found_status found < 2
 few_statuses Lawful = omega arith
 few_statuses (Not line) = omega arith
@@ -34,14 +30,6 @@ by_lawful P (Not line) e h = absurd (omega (arith, e))
 pub by_wrong : (P : Found → Type 0) (found : Found) → found_status found ≡ 1 → P found → (line : ℕ) × P (Not line)
 by_wrong P Lawful e h = absurd (omega (arith, e))
 by_wrong P (Not line) e h = (line, h)
-
-by_found : (status : ℕ) (found : Found) → status ≡ found_status found → (status ≡ 0) ⊎ (status ≡ 1) ⊎ (status ≡ 6)
-by_found status Lawful e = inl e
-by_found status (Not line) e = inr (inl e)
-
-pub found_or : (status : ℕ) → ((found : Found) × (status ≡ found_status found)) ⊎ (status ≡ 6) → (status ≡ 0) ⊎ (status ≡ 1) ⊎ (status ≡ 6)
-found_or status (inl e) = by_found status e.0 e.1
-found_or status (inr e) = inr (inr e)
 
 input_or : Input → Result Input InputFault → Input
 input_or other (Ok input) = input

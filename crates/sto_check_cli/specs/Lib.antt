@@ -10,3 +10,4 @@ pub use Rattle.sto_cli_common.specs.Said
 pub use Rattle.sto_cli_common.specs.Statuses
 pub use Rattle.sto_cli_common.specs.Ends
 pub use Rattle.sto_cli_common.specs.Outcomes
+pub use Rattle.sto_cli_common.specs.Causes

@@ -1,13 +1,13 @@
 //! The top call.
-ghost use Rattle.std.specs.Prelude.{◌≡◌, ◌≢◌, ◌⊎◌, None};
+ghost use Rattle.std.specs.Prelude.{◌≡◌, ◌⊎◌};
 ghost use Rattle.sto_io.specs.Told.{Rose};
 ghost use Rattle.sto_args.specs.Asked.{checking_in};
 ghost use Rattle.sto_report_lines.specs.declared.found.Found.TheVariants as found;
-ghost use Rattle.sto_cli_common.specs.declared.refusal.InputFault.{InputFault};
 ghost use Rattle.sto_cli_common.specs.Said.{Says};
 ghost use Rattle.sto_cli_common.specs.Statuses.{status_of, line_of, EndsWith};
 ghost use Rattle.sto_cli_common.specs.Ends.{Ends};
-ghost use Rattle.sto_cli_common.specs.Outcomes.{IsDone, IsFaulty, IsStopped, IsFaultless, IsToldFault};
+ghost use Rattle.sto_cli_common.specs.Outcomes.{IsDone};
+ghost use Rattle.sto_cli_common.specs.Causes.{HasCauses};
 ghost use Rattle.sto_check_cli.specs.Programs.{program, found_status};
 ghost use Rattle.sto_check_cli.specs.Findings.{IsWrong, IsToldFound};
 
@@ -47,32 +47,21 @@ pub fn check<S: Source, K: Sink, E: Sink>(
     out: &mut K,
     diag: &mut E,
 ) -> u8
+    // With status 0 or 1 all of the input was read, and what was found of the report in it is what was written; no other is right.
+    ensures lawful { result ≡ 0
+        → IsDone program found.Lawful (checking_in words.now) (S.left source.old) (S.left source.new) (K.held out.old) (K.held out.new) }
+    ensures wrong { result ≡ 1 → IsWrong (checking_in words.now) (S.left source.old) (S.left source.new) (K.held out.old) (K.held out.new) }
+    // What is so of the report is what is written.
+    ensures exact { (found : Found) → IsToldFound found (checking_in words.now) (S.left source.old) (S.left source.new)
+        → (Rose (S.faults source.old) (S.faults source.new) → ⊥) → (Rose (K.faults out.old) (K.faults out.new) → ⊥)
+        → (result ≡ found_status found) ⊎ (result ≡ 6) }
     // One outcome has this status and these effects, and its line is written beside.
     ensures ends { EndsWith found_status result (λ outcome.
         Ends program outcome (checking_in words.now) (S.left source.old) (S.left source.new) (K.held out.old) (K.held out.new)
         × Says (line_of outcome) (E.held diag.old) (E.held diag.new) (E.faults diag.old) (E.faults diag.new)) }
-    ensures lawful { result ≡ 0
-        → IsDone program found.Lawful (checking_in words.now) (S.left source.old) (S.left source.new) (K.held out.old) (K.held out.new) }
-    ensures wrong { result ≡ 1 → IsWrong (checking_in words.now) (S.left source.old) (S.left source.new) (K.held out.old) (K.held out.new) }
-    // What is so of the report is what is printed.
-    ensures exact { (found : Found) → IsToldFound found (checking_in words.now) (S.left source.old) (S.left source.new)
-        → (Rose (S.faults source.old) (S.faults source.new) → ⊥) → (Rose (K.faults out.old) (K.faults out.new) → ⊥)
-        → (result ≡ found_status found) ⊎ (result ≡ 6) }
-    ensures usage { result ≡ 2 → checking_in words.now ≡ None }
-    ensures usage_only { checking_in words.now ≡ None → (result ≡ 2) ⊎ (result ≡ 6) }
-    ensures faulty { result ≡ 3 → IsFaulty program (checking_in words.now) (S.left source.old) (S.left source.new) }
-    ensures refused { (fault : InputFault) → IsToldFault program fault (checking_in words.now) (S.left source.old) (S.left source.new)
-        → (result ≡ 3) ⊎ (result ≡ 4) ⊎ (result ≡ 6) }
-    ensures complete { IsFaultless program (checking_in words.now) (S.left source.old) (S.left source.new)
-        → (Rose (S.faults source.old) (S.faults source.new) → ⊥) → (Rose (K.faults out.old) (K.faults out.new) → ⊥)
-        → (result ≡ 0) ⊎ (result ≡ 1) ⊎ (result ≡ 6) }
-    ensures stopped { result ≡ 5
-        → IsStopped program (checking_in words.now) (S.left source.old) (S.left source.new) (K.held out.old) (K.held out.new) }
-    ensures unchanged { result ≢ 0 → result ≢ 1 → result ≢ 5 → K.held out.new ≡ K.held out.old }
-    ensures read_fault { result ≡ 4 → Rose (S.faults source.old) (S.faults source.new) }
-    ensures no_read_fault { result ≢ 4 → S.faults source.new ≡ S.faults source.old }
-    ensures write_fault { result ≡ 5 → Rose (K.faults out.old) (K.faults out.new) }
-    ensures no_write_fault { result ≢ 5 → K.faults out.new ≡ K.faults out.old }
+    // What follows: the cause of each status, and what stays as it was.
+    ensures causes { HasCauses program found_status result (checking_in words.now) (S.left source.old) (S.left source.new)
+        (K.held out.old) (K.held out.new) (S.faults source.old) (S.faults source.new) (K.faults out.old) (K.faults out.new) }
 {
     let outcome = perform(alloc, words, source, out);
     status(say(alloc, diag, outcome))

@@ -1,5 +1,5 @@
 -- A command prints a text for an input, or the input has a fault.
-use Rattle.std.proofs.Common.{◌≡◌, ◌<◌, ℕ, List, refl, sym, ap, ◌∙◌, arith, true, ◌⊎◌, inl, inr, Ok, true≢false}
+use Rattle.std.proofs.Common.{◌≡◌, ◌<◌, ℕ, List, refl, sym, ap, ◌∙◌, arith, true, Ok, true≢false}
 use Rattle.std.specs.Result.{is_ok}
 use Rattle.sto_lang.specs.Files.{file_of}
 use Rattle.sto_lang.specs.Scripts.{File}
@@ -8,7 +8,7 @@ use Rattle.sto_args.specs.declared.command.Command.TheVariants.{Run, Step, Upgra
 use Rattle.sto_cli_common.specs.declared.refusal.InputFault.{InputFault}
 use Rattle.sto_cli_common.specs.declared.refusal.InputFault.TheVariants.{Script, NoReport}
 use Rattle.sto_cli_common.specs.Statuses.{done_status}
-use Rattle.sto_cli_common.proofs.Facts.{IsExclusive}
+use Rattle.sto_cli_common.proofs.Causes.{IsExclusive}
 use Rattle.sto_cli.specs.Outputs.{IsOutput, IsScriptFault, HasFault}
 use Rattle.sto_cli.specs.Programs.{reads_script, program}
 
@@ -35,8 +35,3 @@ exclusive = record { read = reads; faultless = λ command bytes fault done text 
 
 pub few_statuses : (done : Unit {0}) → done_status done < 2
 few_statuses done = omega arith
-
--- the one status of what is done
-pub done_or : (status : ℕ) → ((done : Unit {0}) × (status ≡ done_status done)) ⊎ (status ≡ 6) → (status ≡ 0) ⊎ (status ≡ 6)
-done_or status (inl e) = inl e.1
-done_or status (inr e) = inr e

@@ -3,4 +3,4 @@ pub mod Making
 pub mod Reading
 pub mod Scripts
 pub mod Endings
-pub mod Facts
+pub mod Causes

@@ -5,6 +5,7 @@ pub mod Words
 pub mod Programs
 pub mod Ends
 pub mod Outcomes
+pub mod Causes
 pub use Rattle.sto_lang.specs.Files
 pub use Rattle.sto_lang.specs.Views
 pub use Rattle.sto_io.specs.Told

@@ -1,11 +1,10 @@
 //! The top call.
-ghost use Rattle.std.specs.Prelude.{◌≡◌, ◌≢◌, ◌⊎◌, None};
-ghost use Rattle.sto_io.specs.Told.{Rose};
-ghost use Rattle.sto_cli_common.specs.declared.refusal.InputFault.{InputFault};
+ghost use Rattle.std.specs.Prelude.{◌≡◌};
 ghost use Rattle.sto_cli_common.specs.Said.{Says};
 ghost use Rattle.sto_cli_common.specs.Statuses.{line_of, done_status, EndsWith};
 ghost use Rattle.sto_cli_common.specs.Ends.{Ends};
-ghost use Rattle.sto_cli_common.specs.Outcomes.{IsDone, IsFaulty, IsStopped, IsFaultless, IsToldFault};
+ghost use Rattle.sto_cli_common.specs.Outcomes.{IsDone};
+ghost use Rattle.sto_cli_common.specs.Causes.{HasCauses};
 ghost use Rattle.sto_cli.specs.Programs.{program};
 ghost use Rattle.sto_feed_cli.specs.Commands.{feed_command};
 
@@ -40,28 +39,16 @@ pub fn feed<R: Threads + Wait + Sync, S: Source, K: Sink, E: Sink, G: Gate>(
     diag: &mut E,
     gate: &G,
 ) -> u8
+    // The headline: with status 0 all of the input was read, and exactly one text was written, one that the words ask for.
+    ensures headline { result ≡ 0
+        → IsDone program tt (feed_command words.now) (S.left source.old) (S.left source.new) (K.held out.old) (K.held out.new) }
     // One outcome has this status and these effects, and its line is written beside.
     ensures ends { EndsWith done_status result (λ outcome.
         Ends program outcome (feed_command words.now) (S.left source.old) (S.left source.new) (K.held out.old) (K.held out.new)
         × Says (line_of outcome) (E.held diag.old) (E.held diag.new) (E.faults diag.old) (E.faults diag.new)) }
-    // The headline.
-    ensures done { result ≡ 0
-        → IsDone program tt (feed_command words.now) (S.left source.old) (S.left source.new) (K.held out.old) (K.held out.new) }
-    ensures usage { result ≡ 2 → feed_command words.now ≡ None }
-    ensures usage_only { feed_command words.now ≡ None → (result ≡ 2) ⊎ (result ≡ 6) }
-    ensures faulty { result ≡ 3 → IsFaulty program (feed_command words.now) (S.left source.old) (S.left source.new) }
-    ensures refused { (fault : InputFault) → IsToldFault program fault (feed_command words.now) (S.left source.old) (S.left source.new)
-        → (result ≡ 3) ⊎ (result ≡ 4) ⊎ (result ≡ 6) }
-    ensures complete { IsFaultless program (feed_command words.now) (S.left source.old) (S.left source.new)
-        → (Rose (S.faults source.old) (S.faults source.new) → ⊥) → (Rose (K.faults out.old) (K.faults out.new) → ⊥)
-        → (result ≡ 0) ⊎ (result ≡ 6) }
-    ensures stopped { result ≡ 5
-        → IsStopped program (feed_command words.now) (S.left source.old) (S.left source.new) (K.held out.old) (K.held out.new) }
-    ensures unchanged { result ≢ 0 → result ≢ 5 → K.held out.new ≡ K.held out.old }
-    ensures read_fault { result ≡ 4 → Rose (S.faults source.old) (S.faults source.new) }
-    ensures no_read_fault { result ≢ 4 → S.faults source.new ≡ S.faults source.old }
-    ensures write_fault { result ≡ 5 → Rose (K.faults out.old) (K.faults out.new) }
-    ensures no_write_fault { result ≢ 5 → K.faults out.new ≡ K.faults out.old }
+    // What follows: the cause of each status, and what stays as it was.
+    ensures causes { HasCauses program done_status result (feed_command words.now) (S.left source.old) (S.left source.new)
+        (K.held out.old) (K.held out.new) (S.faults source.old) (S.faults source.new) (K.faults out.old) (K.faults out.new) }
 {
     let outcome = perform(rt, alloc, words, source, out, gate);
     status(say(alloc, diag, outcome))

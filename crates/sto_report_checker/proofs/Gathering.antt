@@ -7,15 +7,16 @@ use Rattle.std.proofs.lemmas.Option.{slice_get_within}
 use Rattle.sto_lang.specs.Scripts.{File}
 use Rattle.sto_report_spec.specs.Orders.{Place}
 use Rattle.sto_report_spec.specs.Replay.{shown}
-use Rattle.sto_report_spec.specs.Aborts.{Abort}
+use Rattle.sto_report_spec.specs.Aborts.{LocalPart, Cause, Locked, Changed, Abort}
 use Rattle.sto_report_spec.specs.NamedAborts.{aborts_named}
-use Rattle.sto_report_spec.specs.LawfulAborts.{IsSorted, count_at}
+use Rattle.sto_report_spec.specs.LawfulAborts.{IsSorted, count_at, known_by, known_at_end}
 use Rattle.sto_journal.specs.Journals.{places}
 use Rattle.sto_report_lines.specs.declared.past.Past.{Past}
 use Rattle.sto_report_lines.specs.declared.last.LastAbort.{LastAbort}
+use Rattle.sto_report_lines.specs.declared.told.ToldAbort.{ToldAbort}
 use Rattle.sto_report_lines.specs.declared.transaction.TransactionPlace.{TransactionPlace}
 use Rattle.sto_report_lines.specs.Lines.{is_line_feed, onto_line, lines_of, HasContent, is_state_line, beyond_state}
-use Rattle.sto_report_lines.specs.Reading.{place_of, IsTold}
+use Rattle.sto_report_lines.specs.Reading.{place_of, known_of, IsCauseRead, IsTold}
 use Rattle.sto_report_lines.specs.Last.{IsLast, IsLastOf, IsFollowed}
 use Rattle.sto_report_lines.specs.Right.{total, order_in, behind, aborts_in, IsRightAlone, IsAbortLine, IsRightBehind}
 use Rattle.sto_report_lines.specs.Answer.{IsRightAt, AreRight, IsWhole, GoesWrong}
@@ -24,7 +25,7 @@ use Rattle.sto_report_lines.specs.Reached.{AreRead, IsJournalRead, AreObjectsRea
 use Rattle.sto_report_lines.proofs.Stages.{take_next, length_front, order_stays, abort_right, right_abort, still_none, aborts_grow, state_comes, no_object_yet, none_behind, no_aborts_behind, right_at, right_after, right_more}
 use Rattle.sto_report_lines.proofs.Ends.{no_state}
 use Rattle.sto_report_checker.specs.declared.abort.GivenAbort.{GivenAbort}
-use Rattle.sto_report_checker.specs.Given.{abort_of, IsPlaced, IsGiven, TellsAbort, IsHeard}
+use Rattle.sto_report_checker.specs.Given.{abort_of, cause_by, IsPlaced, IsGiven, TellsAbort, IsHeard}
 use Rattle.sto_report_checker.specs.Gathered.{IsJudged, AreJudged, AreGathered, IsEnded}
 use Rattle.sto_report_checker.proofs.Lists.{push_cases}
 use Rattle.sto_report_checker.proofs.Judged.{right_heard, heard_right}
@@ -61,6 +62,18 @@ first_within p (b ∷ bytes) first rest e = by (p b) (slice_split p bytes) (λ l
 pub content_within : (bytes : List ℕ) (i : ℕ) (line content : List ℕ) → slice_get (lines_of bytes) i ≡ Some line → HasContent line content → length content ≤ length bytes
 content_within bytes i line content e (inl k) = let l = line_within bytes i line e in let m = first_within is_line_feed line content ([] ∷ []) k in omega (arith, l, m)
 content_within bytes i line content e (inr k) = let l = line_within bytes i line e in let m = first_within is_line_feed line content [] k in omega (arith, l, m)
+
+-- what an attempt that was read knew of at its end
+known_read_by : (c : Cause) (seen : ℕ) (told : ToldAbort) → IsCauseRead c told.cause → seen ≡ told.seen → known_by c seen ≡ known_of told.cause.by told.seen
+known_read_by (Locked part) seen told h s = s ∙ ap (λ (o : Option ℕ). known_of o told.seen) (sym h.2)
+known_read_by (Changed part by) seen told h s = ap (λ (o : Option ℕ). known_of o told.seen) (sym h.2)
+
+known_read : (a : Abort) (told : ToldAbort) → IsTold a told → known_at_end a ≡ known_of told.cause.by told.seen
+known_read a told t = known_read_by a.cause a.seen told t.cause t.seen
+
+known_made : (part : LocalPart) (o : Option ℕ) (seen : ℕ) → known_by (cause_by part o) seen ≡ known_of o seen
+known_made part None seen = refl
+known_made part (Some by) seen = refl
 
 -- the last of the abort lines that were read, where all of them are right
 abbrev pub IsLastRead : File → ℕ → List (List ℕ) → ℕ → Option LastAbort → Type 0
@@ -152,18 +165,18 @@ module _ (file : File) (tries : ℕ) (lines : List (List ℕ)) (order : List Pla
           told k = tells k.abort k.named k.right.alone
 
           -- or by its place among the others
-          pub unfollowed : ((before : List Abort) (a : Abort) → IsLastOf before last → a.place ≡ place_of given.told.place → a.seen ≡ given.told.seen → IsFollowed before a tries None)
+          pub unfollowed : ((before : List Abort) (a : Abort) → IsLastOf before last → a.place ≡ place_of given.told.place → a.seen ≡ given.told.seen → known_at_end a ≡ known_of given.told.cause.by given.told.seen → IsFollowed before a tries None)
               → AreRight file tries lines read → GoesWrong file tries lines read
           unfollowed none right =
-              inl (here, λ at. (let k = abort_line at in let t = told k in none (aborts_in file front) k.abort (read_last right) t.place t.seen k.right.few k.right.sorted))
+              inl (here, λ at. (let k = abort_line at in let t = told k in none (aborts_in file front) k.abort (read_last right) t.place t.seen (known_read k.abort given.told t) k.right.few k.right.sorted))
 
           -- one more is gathered
-          module _ (more : LastAbort) (follows : (before : List Abort) (a : Abort) → IsLastOf before last → a.place ≡ place_of given.told.place → a.seen ≡ given.told.seen → IsFollowed before a tries (Some more)) where
+          module _ (more : LastAbort) (follows : (before : List Abort) (a : Abort) → IsLastOf before last → a.place ≡ place_of given.told.place → a.seen ≡ given.told.seen → known_at_end a ≡ known_of given.told.cause.by given.told.seen → IsFollowed before a tries (Some more)) where
             judged : IsJudged file tries lines order read given
             judged = record {
               given_is = is;
               right = λ right heard.
-                  let f = follows (aborts_in file front) (abort_of file (shown file order given.told.seen) given.told) (read_last right) refl refl in
+                  let f = follows (aborts_in file front) (abort_of file (shown file order given.told.seen) given.told) (read_last right) refl refl (known_made (record { object = given.told.cause.object.now; part = given.told.cause.part }) given.told.cause.by given.told.seen) in
                   right_line (subst (IsAbortLine file tries order (aborts_in file front)) text (heard_right file order given tries (aborts_in file front) is heard f.0 f.1));
               heard = λ right at. right_heard file order given tries (aborts_in file front) line text is.placed tells (abort_line at);
             }
@@ -192,6 +205,6 @@ module _ (file : File) (tries : ℕ) (lines : List (List ℕ)) (order : List Pla
                 let before : AreRight file tries lines read = fewer read (read + 1) (omega arith) right in
                 let k = abort_line (right read (omega arith)) in
                 let t = told k in
-                let f = follows (aborts_in file front) k.abort (read_last before) t.place t.seen in
+                let f = follows (aborts_in file front) k.abort (read_last before) t.place t.seen (known_read k.abort given.told t) in
                 subst (λ (listed : List Abort). IsLast listed more)
                 (sym (ap (aborts_in file) next ∙ aborts_grow file tries front line past h.none state_false ∙ ap (λ (listed : List Abort). aborts_in file front ++ listed) k.named)) f.2

@@ -56,7 +56,8 @@ pub(crate) fn gather<'a>(
         let Some(given) = given_abort(file, replayed, line) else {
             return Ok(Gathered { aborts, wrong });
         };
-        let Some(more) = followed_by(last, given.told.place, given.told.seen, tries) else {
+        let known = given.told.known_at_end();
+        let Some(more) = followed_by(last, given.told.place, given.told.seen, known, tries) else {
             return Ok(Gathered { aborts, wrong });
         };
         last = Some(more);

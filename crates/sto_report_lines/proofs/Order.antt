@@ -4,7 +4,7 @@ use Rattle.std.proofs.lemmas.Bool.Decides.{nat_tests}
 use Rattle.std.proofs.lemmas.List.Sums.{sum_by-cons}
 use Rattle.sto_report_spec.specs.Orders.{Place}
 use Rattle.sto_report_spec.specs.Aborts.{Abort}
-use Rattle.sto_report_spec.specs.LawfulAborts.{MayPrecede, IsSorted, count_at}
+use Rattle.sto_report_spec.specs.LawfulAborts.{MayPrecede, IsSorted, count_at, known_at_end}
 use Rattle.sto_report_lines.specs.declared.last.LastAbort.{LastAbort}
 use Rattle.sto_report_lines.specs.declared.transaction.TransactionPlace.{TransactionPlace}
 use Rattle.sto_report_lines.specs.Reading.{place_of}
@@ -104,7 +104,7 @@ first_own xs l a h k =
     let one = one_more_own (xs ++ l ∷ []) a in
     omega (arith, none, one)
 
-module _ (before : List Abort) (a : Abort) (last : LastAbort) (at : TransactionPlace) (seen tries : ℕ) (h : IsLast before last) (p : a.place ≡ place_of at) (s : a.seen ≡ seen) where
+module _ (before : List Abort) (a : Abort) (last : LastAbort) (at : TransactionPlace) (seen known tries : ℕ) (h : IsLast before last) (p : a.place ≡ place_of at) (s : a.seen ≡ seen) (n : known_at_end a ≡ known) where
   whole : before ++ a ∷ [] ≡ (h.before ++ h.abort ∷ []) ++ a ∷ []
   whole = ap (λ (l : List Abort). l ++ a ∷ []) h.are
 
@@ -125,26 +125,26 @@ module _ (before : List Abort) (a : Abort) (last : LastAbort) (at : TransactionP
         let own = ap (λ (x : Place). count_at x before) (sym one_place) ∙ h.count in
         omega (arith, more, own)
 
-    pub again_some : last.seen ≤ seen → last.count < tries → IsFollowed before a tries (Some (record { at = last.at; seen = seen; count = last.count + 1 }))
+    pub again_some : last.known ≤ seen → last.count < tries → IsFollowed before a tries (Some (record { at = last.at; known = known; count = last.count + 1 }))
     again_some l k =
-        let sorted = follows (inr (inr (one_place, (let e = h.seen in omega (arith, l, e, s))))) in (
+        let sorted = follows (inr (inr (one_place, (let e = h.known in omega (arith, l, e, s))))) in (
           (let c = count_again in omega (arith, c, k)),
           sorted,
-          record { before = before; abort = a; are = refl; place = sym one_place ∙ h.place; seen = s; count = count_again; sorted = sorted },
+          record { before = before; abort = a; are = refl; place = sym one_place ∙ h.place; known = n; count = count_again; sorted = sorted },
         )
 
-    pub again_none : (last.seen ≤ seen → last.count < tries → ⊥) → IsFollowed before a tries None
+    pub again_none : (last.known ≤ seen → last.count < tries → ⊥) → IsFollowed before a tries None
     again_none wrong few sorted = by (followed sorted)
       where
         by : MayPrecede h.abort a → ⊥
         by (inl l) = let e = ap (λ (x : Place). x.0) one_place in absurd (omega (arith, l, e))
         by (inr (inl l)) = let e = ap (λ (x : Place). x.1) one_place in let m = l.1 in absurd (omega (arith, m, e))
-        by (inr (inr l)) = wrong (let m = l.1 in let e = h.seen in omega (arith, m, e, s)) (let c = count_again in omega (arith, c, few))
+        by (inr (inr l)) = wrong (let m = l.1 in let e = h.known in omega (arith, m, e, s)) (let c = count_again in omega (arith, c, few))
 
-    pub again_either : (r : Option LastAbort) → (r ≡ None → last.seen ≤ seen → last.count < tries → ⊥)
-        → IfSome r (λ (l : LastAbort). (last.seen ≤ seen) × (last.count < tries) × (l ≡ record { at = last.at; seen = seen; count = last.count + 1 })) → IsFollowed before a tries r
-    again_either None n k = again_none (n refl)
-    again_either (Some l) n k = subst (λ (x : LastAbort). IsFollowed before a tries (Some x)) (sym k.2) (again_some k.0 k.1)
+    pub again_either : (r : Option LastAbort) → (r ≡ None → last.known ≤ seen → last.count < tries → ⊥)
+        → IfSome r (λ (l : LastAbort). (last.known ≤ seen) × (last.count < tries) × (l ≡ record { at = last.at; known = known; count = last.count + 1 })) → IsFollowed before a tries r
+    again_either None wrong k = again_none (wrong refl)
+    again_either (Some l) wrong k = subst (λ (x : LastAbort). IsFollowed before a tries (Some x)) (sym k.2) (again_some k.0 k.1)
 
   thread_is : h.abort.place.0 ≡ last.at.thread
   thread_is = ap (λ (x : Place). x.0) h.place
@@ -159,14 +159,14 @@ module _ (before : List Abort) (a : Abort) (last : LastAbort) (at : TransactionP
   own_position = ap (λ (x : Place). x.1) p
 
   -- the first of a later transaction
-  pub later_some : 1 ≤ tries → (last.at.thread < at.thread) ⊎ ((last.at.thread ≡ at.thread) × (last.at.position < at.position)) → IsFollowed before a tries (Some (record { at = at; seen = seen; count = 1 }))
+  pub later_some : 1 ≤ tries → (last.at.thread < at.thread) ⊎ ((last.at.thread ≡ at.thread) × (last.at.position < at.position)) → IsFollowed before a tries (Some (record { at = at; known = known; count = 1 }))
   later_some one k =
       let behind = behind_by k in
       let sorted = follows (precede_by k) in
       let count = ap (λ (l : List Abort). count_at a.place l) whole ∙ first_own h.before h.abort a (subst IsSorted h.are h.sorted) behind in (
         omega (arith, count, one),
         sorted,
-        record { before = before; abort = a; are = refl; place = p; seen = s; count = count; sorted = sorted },
+        record { before = before; abort = a; are = refl; place = p; known = n; count = count; sorted = sorted },
       )
     where
       behind_by : (last.at.thread < at.thread) ⊎ ((last.at.thread ≡ at.thread) × (last.at.position < at.position)) → IsBehind h.abort.place a.place

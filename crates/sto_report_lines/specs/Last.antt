@@ -1,7 +1,7 @@
 -- The last of the abort lines that were read.
 use Rattle.std.specs.Prelude.{◌≡◌, ℕ, ◌≤◌, List, [], ◌∷◌, ◌++◌, Option, None, Some}
 use Rattle.sto_report_spec.specs.Aborts.{Abort}
-use Rattle.sto_report_spec.specs.LawfulAborts.{IsSorted, count_at}
+use Rattle.sto_report_spec.specs.LawfulAborts.{IsSorted, count_at, known_at_end}
 use Rattle.sto_report_lines.specs.declared.last.LastAbort.{LastAbort}
 use Rattle.sto_report_lines.specs.Reading.{place_of}
 
@@ -11,7 +11,7 @@ pub record IsLast (all : List Abort) (last : LastAbort) : Type 0 where
   pub abort : Abort
   pub are : all ≡ before ++ abort ∷ []
   pub place : abort.place ≡ place_of last.at
-  pub seen : abort.seen ≡ last.seen
+  pub known : known_at_end abort ≡ last.known
   pub count : count_at abort.place all ≡ last.count
   pub sorted : IsSorted all
 

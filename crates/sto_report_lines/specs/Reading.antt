@@ -46,6 +46,11 @@ abbrev pub IsHeardRead : Heard → Option (ℕ × ToldCause) → Type 0
 IsHeardRead heard None = ⊥
 IsHeardRead heard (Some told) = (length heard.replies ≡ told.0) × IsCauseRead heard.cause told.1
 
+-- how many writers an attempt knew of at its end, by the one that changed the part, where one did, and by those that it saw
+abbrev pub known_of : Option ℕ → ℕ → ℕ
+known_of (Some by) seen = by
+known_of None seen = seen
+
 -- what was read tells of the aborted attempt all but what its replies are
 pub record IsTold (abort : Abort) (told : ToldAbort) : Type 0 where
   pub place : abort.place ≡ place_of told.place

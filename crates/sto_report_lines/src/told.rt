@@ -5,7 +5,7 @@ ghost use Rattle.sto_lang.specs.Views.{names_of};
 ghost use Rattle.sto_report_spec.specs.Aborts.{Abort};
 ghost use Rattle.sto_report_spec.specs.Named.{is_space};
 ghost use Rattle.sto_report_spec.specs.NamedAborts.{Heard, locked_in, changed_in, heard_in, aborts_in};
-ghost use Rattle.sto_report_lines.specs.Reading.{IsSmallCause, IsSmall, IsOnlyCause, IsHeardRead, IsAbortRead, HasHead};
+ghost use Rattle.sto_report_lines.specs.Reading.{IsSmallCause, IsSmall, IsOnlyCause, IsHeardRead, IsAbortRead, HasHead, known_of};
 
 use crate::transaction::{TransactionPlace, transaction_in};
 use crate::word::{first_piece, number};
@@ -26,6 +26,18 @@ pub struct ToldAbort<'a> {
     pub seen: u32,
     pub heard: u32,
     pub cause: ToldCause<'a>,
+}
+
+impl ToldAbort<'_> {
+    /// How many writers the attempt knew of at its end: the one that changed the part, or those that it saw.
+    pub fn known_at_end(&self) -> u32
+        ensures { result ≡ known_of self.now.cause.by self.now.seen }
+    {
+        match self.cause.by {
+            Some(by) => by,
+            None => self.seen,
+        }
+    }
 }
 
 // What stands after `locked`.

@@ -71,12 +71,21 @@ pub record IsLawfulAbort (u : Updating) (file : File) (order : List Place) (abor
   pub part : IsPartAsked file script abort.replies (part_in abort.cause) object
   pub cause : IsCause u file order abort object abort.cause
 
--- an abort may stand before another: by thread, then by position, and in one transaction by what they saw
+-- how many writers an attempt knew of that saw so many and was aborted for this cause: the one that changed the part, too
+abbrev pub known_by : Cause → ℕ → ℕ
+known_by (Locked part) seen = seen
+known_by (Changed part by) seen = by
+
+abbrev pub known_at_end : Abort → ℕ
+known_at_end abort = known_by abort.cause abort.seen
+
+-- an abort may stand before another: by thread, then by position, and in one transaction where the later attempt saw at least what
+-- the earlier one knew at its end
 abbrev pub MayPrecede : Abort → Abort → Type 0
 MayPrecede a b =
     (a.place.0 < b.place.0)
     ⊎ ((a.place.0 ≡ b.place.0) × (a.place.1 < b.place.1))
-    ⊎ ((a.place ≡ b.place) × (a.seen ≤ b.seen))
+    ⊎ ((a.place ≡ b.place) × (known_at_end a ≤ b.seen))
 
 -- each may stand before the next
 abbrev pub IsSorted : List Abort → Type 0

@@ -19,7 +19,7 @@ use Rattle.sto_core.specs.Core.{Core}
 use Rattle.sto_core.specs.Rule.{Past}
 use Rattle.sto_report_spec.specs.Orders.{Place, transaction_at}
 use Rattle.sto_report_spec.specs.Aborts.{Abort}
-use Rattle.sto_report_spec.specs.LawfulAborts.{IsLawfulAbort, MayPrecede, IsSorted, count_at, AreLawful}
+use Rattle.sto_report_spec.specs.LawfulAborts.{IsLawfulAbort, known_at_end, MayPrecede, IsSorted, count_at, AreLawful}
 use Rattle.sto_attempt_facts.specs.Records.{Verdict, Wrote, Read, Cancelled, Locked, Changed, Record, is_abort, stands_at, known_after, IsSince, writers_up_to}
 use Rattle.sto_serializability.specs.Finished.{IsRecord, AreFinished}
 use Rattle.sto_attempt_facts.specs.Counted.{Follows, InThreads, aborted_times}
@@ -42,6 +42,7 @@ module _ (ds : List Declaration) (homes : List (ℕ × ℕ)) (all : List Record)
   record IsLineOf (r : Record) (a : Abort) : Type 0 where
     placed : a.place ≡ r.place
     seen : a.seen ≡ writers_up_to (stands_at r.verdict) all
+    known : known_at_end a ≡ writers_up_to (known_after r.verdict) all
     aborted : is_abort r.verdict ≡ true
 
   lines_are : (place : Place) (replies : List Told) (v : Verdict)
@@ -49,8 +50,8 @@ module _ (ds : List Declaration) (homes : List (ℕ × ℕ)) (all : List Record)
   lines_are place replies (Wrote t) = tt
   lines_are place replies (Read n) = tt
   lines_are place replies (Cancelled n) = tt
-  lines_are place replies (Locked n p) = (record { placed = refl; seen = refl; aborted = refl }, tt)
-  lines_are place replies (Changed n p t) = (record { placed = refl; seen = refl; aborted = refl }, tt)
+  lines_are place replies (Locked n p) = (record { placed = refl; seen = refl; known = refl; aborted = refl }, tt)
+  lines_are place replies (Changed n p t) = (record { placed = refl; seen = refl; known = refl; aborted = refl }, tt)
 
   -- a fact of the lines of each record is one of the lines of a thread, and of all lines
   pub thread_every : (P : Abort → Type 0) (thread : ℕ) (rs : List Record) → Every (λ r. r.place.0 ≡ thread → Every P (lines r)) rs → Every P (aborts_of_thread ds homes all thread rs)
@@ -89,9 +90,6 @@ module _ (ds : List Declaration) (homes : List (ℕ × ℕ)) (all : List Record)
 
   -- their order
 
-  stands_known : (v : Verdict) → stands_at v ≤ known_after v ⊎ (known_after v < stands_at v)
-  stands_known v = elim (cases_lt (known_after v) (stands_at v)) [ inl l ↦ inr l | inr l ↦ inl l ]
-
   since_stands : (n : ℕ) (v : Verdict) → is_abort v ≡ true → IsSince n v → n ≤ stands_at v
   since_stands n (Wrote t) h l = absurd cc
   since_stands n (Read i) h l = absurd cc
@@ -99,8 +97,8 @@ module _ (ds : List Declaration) (homes : List (ℕ × ℕ)) (all : List Record)
   since_stands n (Locked i p) h l = l
   since_stands n (Changed i p t) h l = l
 
-  precede : (r s : Record) → r.place.0 ≡ s.place.0 → Follows r s → stands_at r.verdict ≤ known_after r.verdict → (a b : Abort) → IsLineOf r a → IsLineOf s b → MayPrecede a b
-  precede r s e f low a b of_r of_s = elim (cases_lt r.place.1 s.place.1) [
+  precede : (r s : Record) → r.place.0 ≡ s.place.0 → Follows r s → (a b : Abort) → IsLineOf r a → IsLineOf s b → MayPrecede a b
+  precede r s e f a b of_r of_s = elim (cases_lt r.place.1 s.place.1) [
     | inl l ↦ inr (inl (
       ap (λ (x : Place). x.0) of_r.placed ∙ e ∙ ap (λ (x : Place). x.0) (sym of_s.placed),
       (let x = ap (λ (y : Place). y.1) of_r.placed in let y = ap (λ (z : Place). z.1) of_s.placed in omega (arith, l, x, y)),
@@ -111,18 +109,14 @@ module _ (ds : List Declaration) (homes : List (ℕ × ℕ)) (all : List Record)
         let up = since_stands (known_after r.verdict) s.verdict of_s.aborted f.since in
         inr (inr (
           of_r.placed ∙ place_same ∙ sym of_s.placed,
-          (let w = writers_rise all (stands_at r.verdict) (stands_at s.verdict) (omega (arith, low, up)) in let x = of_r.seen in let y = of_s.seen in omega (arith, w, x, y)),
+          (let w = writers_rise all (known_after r.verdict) (stands_at s.verdict) up in let x = of_r.known in let y = of_s.seen in omega (arith, w, x, y)),
         ))
   ]
 
-  -- an aborted attempt knows of no less than the number that it stands at
-  abbrev Knows : Record → Type 0
-  Knows r = is_abort r.verdict ≡ true → stands_at r.verdict ≤ known_after r.verdict
-
-  line_before : (r s : Record) → r.place.0 ≡ s.place.0 → Knows r → Follows r s → Every (λ a. Every (MayPrecede a) (lines s)) (lines r)
-  line_before r s e k f =
+  line_before : (r s : Record) → r.place.0 ≡ s.place.0 → Follows r s → Every (λ a. Every (MayPrecede a) (lines s)) (lines r)
+  line_before r s e f =
       every_weaker (IsLineOf r) (λ a. Every (MayPrecede a) (lines s))
-      (λ a of_r. every_weaker (IsLineOf s) (MayPrecede a) (λ b of_s. precede r s e f (k of_r.aborted) a b of_r of_s) (lines s) (lines_are s.place s.replies s.verdict))
+      (λ a of_r. every_weaker (IsLineOf s) (MayPrecede a) (λ b of_s. precede r s e f a b of_r of_s) (lines s) (lines_are s.place s.replies s.verdict))
       (lines r) (lines_are r.place r.replies r.verdict)
 
   one_line : (place : Place) (replies : List Told) (v : Verdict) → Later MayPrecede (lines_of_abort ds homes all place replies v)
@@ -140,9 +134,9 @@ module _ (ds : List Declaration) (homes : List (ℕ × ℕ)) (all : List Record)
     turned xs P ys (every_weaker (λ y. Every (λ z. P z y) (x ∷ xs)) (λ y. Every (λ z. P z y) xs) (λ y k. k.1) ys h),
   )
 
-  thread_sorted : (thread : ℕ) (rs : List Record) → Every Knows rs → InThreads rs → Later MayPrecede (aborts_of_thread ds homes all thread rs)
-  thread_sorted thread [] k h = tt
-  thread_sorted thread (r ∷ rs) k h = by (r.place.0 == thread) refl (thread_sorted thread rs k.1 h.1)
+  thread_sorted : (thread : ℕ) (rs : List Record) → InThreads rs → Later MayPrecede (aborts_of_thread ds homes all thread rs)
+  thread_sorted thread [] h = tt
+  thread_sorted thread (r ∷ rs) h = by (r.place.0 == thread) refl (thread_sorted thread rs h.1)
     where
       by : (b : Bool) → r.place.0 == thread ≡ b → Later MayPrecede (aborts_of_thread ds homes all thread rs)
           → Later MayPrecede (cond b (lines r ++ aborts_of_thread ds homes all thread rs) (aborts_of_thread ds homes all thread rs))
@@ -152,14 +146,14 @@ module _ (ds : List Declaration) (homes : List (ℕ × ℕ)) (all : List Record)
           (turned (lines r) MayPrecede (aborts_of_thread ds homes all thread rs)
           (thread_every (λ b. Every (λ a. MayPrecede a b) (lines r)) thread rs
           (every_weaker (λ (s : Record). r.place.0 ≡ s.place.0 → Follows r s) (λ s. s.place.0 ≡ thread → Every (λ b. Every (λ a. MayPrecede a b) (lines r)) (lines s))
-          (λ s f e. turned (lines s) (λ b a. MayPrecede a b) (lines r) (line_before r s (here ∙ sym e) k.0 (f (here ∙ sym e)))) rs
+          (λ s f e. turned (lines s) (λ b a. MayPrecede a b) (lines r) (line_before r s (here ∙ sym e) (f (here ∙ sym e)))) rs
           (every (λ (s : Record). r.place.0 ≡ s.place.0 → Follows r s) rs h.0))))
       by false is rest = rest
 
-  pub all_sorted : Every Knows all → InThreads all → (first count : ℕ) → Later MayPrecede (aborts_from ds homes all first count)
-  all_sorted k h first zero = tt
-  all_sorted k h first (suc count) =
-      later_append MayPrecede (aborts_of_thread ds homes all first all) (aborts_from ds homes all (suc first) count) (thread_sorted first all k h) (all_sorted k h (suc first) count)
+  pub all_sorted : InThreads all → (first count : ℕ) → Later MayPrecede (aborts_from ds homes all first count)
+  all_sorted h first zero = tt
+  all_sorted h first (suc count) =
+      later_append MayPrecede (aborts_of_thread ds homes all first all) (aborts_from ds homes all (suc first) count) (thread_sorted first all h) (all_sorted h (suc first) count)
       (every_weaker (λ a. a.place.0 ≡ first) (λ a. Every (MayPrecede a) (aborts_from ds homes all (suc first) count))
       (λ a e. every_weaker (λ b. suc first ≤ b.place.0) (MayPrecede a) (λ b l. inl (omega (arith, e, l))) (aborts_from ds homes all (suc first) count) (from_thread (suc first) count))
       (aborts_of_thread ds homes all first all) (of_thread first all))
@@ -266,13 +260,6 @@ module _ {valid : Validity} {sizes : List ℕ} {opening : Contents} {past : Past
       let there = journal.stands means file usable type_of closed tries rs ordered finished merged r h in
       lawful_by r r.verdict refl b there.script there.transaction there.at
 
-  knows_by : (f : Steps) (replies : List Told) (w : Verdict) → is_abort w ≡ true → StandsAt m core.clock (λ n. contents_as_of opening past.log n) (λ t p. writes (committed_updates (past.log t)) p) rs f replies w → stands_at w ≤ known_after w
-  knows_by f replies (Wrote t) a h = omega arith
-  knows_by f replies (Read n) a h = omega arith
-  knows_by f replies (Cancelled n) a h = omega arith
-  knows_by f replies (Locked n p) a h = omega arith
-  knows_by f replies (Changed n p t) a h = let l = h.later in omega (arith, l)
-
   -- The aborted attempts are lawful.
   pub aborts_lawful : AreLawful (updating_by means) file tries (places_of ordered) (aborts_from file.declarations m.homes rs 0 (length file.threads))
   aborts_lawful = record {
@@ -283,9 +270,5 @@ module _ {valid : Validity} {sizes : List ℕ} {opening : Contents} {past : Past
         0 (length file.threads));
     few = λ place. (let k = few_at file.declarations m.homes rs place 0 (length file.threads) in let f = finished.few place in omega (arith, k, f));
     sorted = sorted_of file.declarations m.homes rs (aborts_from file.declarations m.homes rs 0 (length file.threads))
-        (all_sorted file.declarations m.homes rs
-        (every_weaker (IsRecord m file v) (λ (r : Record). is_abort r.verdict ≡ true → stands_at r.verdict ≤ known_after r.verdict)
-        (λ r h a. let there = journal.stands means file usable type_of closed tries rs ordered finished merged r h in knows_by (meaning_of there.script) r.replies r.verdict a there.at) rs
-        (every (IsRecord m file v) rs finished.each))
-        finished.threads 0 (length file.threads));
+        (all_sorted file.declarations m.homes rs finished.threads 0 (length file.threads));
   }

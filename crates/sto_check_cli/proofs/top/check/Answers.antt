@@ -1,10 +1,11 @@
-use Rattle.std.proofs.Common.{◌≡◌, ◌∙◌, ◌⊎◌, ℕ, arith, sym, subst}
+use Rattle.std.proofs.Common.{◌≡◌, ◌∙◌, ◌⊎◌, ℕ, sym, subst}
+use Rattle.sto_report_lines.specs.declared.found.Found.TheVariants.{Lawful, Not}
 use Rattle.sto_args.specs.Asked.{checking_in}
 use Rattle.sto_cli_common.specs.Outcomes.{IsDone}
 use Rattle.sto_cli_common.proofs.Endings.{ended, read_so, write_so}
-use Rattle.sto_cli_common.proofs.Facts.{facts}
+use Rattle.sto_cli_common.proofs.Causes.{causes}
 use Rattle.sto_check_cli.specs.Programs.{program, found_status}
-use Rattle.sto_check_cli.proofs.Endings.{exact, exclusive, is_found, few_statuses, by_lawful, by_wrong, found_or}
+use Rattle.sto_check_cli.proofs.Endings.{exact, exclusive, few_statuses, by_lawful, by_wrong}
 use Rattle.sto_check_cli.proofs.top.check.Goals as goal
 
 pub returns : goal.returns
@@ -23,23 +24,13 @@ returns g c =
     let ends = ended program asked left rest held now c.perform-outcome.result c.say.result same c.perform-outcome.ensures.ends in
     let reads = read_so read read_now c.perform-outcome.result c.say.result same c.perform-outcome.ensures.source_faults in
     let writes = write_so wrote wrote_now c.perform-outcome.result c.say.result same c.perform-outcome.ensures.out_faults in
-    let so = facts program exclusive found_status few_statuses c.say.result status c.status.ensures asked left rest held now read read_now wrote wrote_now ends reads writes in
+    let so = causes program exclusive found_status few_statuses c.say.result status c.status.ensures asked left rest held now read read_now wrote wrote_now ends reads writes in
     record {
-      ends = (c.say.result, c.status.ensures, (ends, c.say.ensures.says));
-      lawful = λ e. let told = so.done (omega (arith, e)) in by_lawful (λ found. IsDone program found asked left rest held now) told.0 (sym told.1 ∙ e) told.2;
-      wrong = λ e. let told = so.done (omega (arith, e)) in by_wrong (λ found. IsDone program found asked left rest held now) told.0 (sym told.1 ∙ e) told.2;
+      lawful = λ zero. let told = so.done (Lawful, zero) in by_lawful (λ found. IsDone program found asked left rest held now) told.0 (sym told.1 ∙ zero) told.2;
+      wrong = λ one. let told = so.done (Not 0, one) in by_wrong (λ found. IsDone program found asked left rest held now) told.0 (sym told.1 ∙ one) told.2;
       exact = λ found told no_read no_write.
           subst (λ (n : ℕ). (n ≡ found_status found) ⊎ (n ≡ 6)) (sym c.status.ensures)
           (exact c.say.result found asked left rest held now read read_now wrote wrote_now ends reads writes told no_read no_write);
-      usage = so.usage;
-      usage_only = so.usage_only;
-      faulty = so.faulty;
-      refused = so.refused;
-      complete = λ faultless no_read no_write. found_or status (so.complete faultless no_read no_write);
-      stopped = so.stopped;
-      unchanged = λ lawful wrong stopped. so.unchanged (λ found e. is_found found (λ zero. lawful (e ∙ zero)) (λ one. wrong (e ∙ one))) stopped;
-      read_fault = so.read_fault;
-      no_read_fault = so.no_read_fault;
-      write_fault = so.write_fault;
-      no_write_fault = so.no_write_fault;
+      ends = (c.say.result, c.status.ensures, (ends, c.say.ensures.says));
+      causes = so;
     }

@@ -1,9 +1,8 @@
-use Rattle.std.proofs.Common.{arith}
 use Rattle.sto_cli_common.specs.Statuses.{done_status}
 use Rattle.sto_cli_common.proofs.Endings.{ended, read_so, write_so}
-use Rattle.sto_cli_common.proofs.Facts.{facts}
+use Rattle.sto_cli_common.proofs.Causes.{causes}
 use Rattle.sto_cli.specs.Programs.{program}
-use Rattle.sto_cli.proofs.Exclusive.{exclusive, few_statuses, done_or}
+use Rattle.sto_cli.proofs.Exclusive.{exclusive, few_statuses}
 use Rattle.sto_feed_cli.specs.Commands.{feed_command}
 use Rattle.sto_feed_cli.proofs.top.feed.Goals as goal
 
@@ -23,19 +22,9 @@ returns g c =
     let ends = ended program command left rest held now c.perform-outcome.result c.say.result same c.perform-outcome.ensures.ends in
     let reads = read_so read read_now c.perform-outcome.result c.say.result same c.perform-outcome.ensures.source_faults in
     let writes = write_so wrote wrote_now c.perform-outcome.result c.say.result same c.perform-outcome.ensures.out_faults in
-    let so = facts program exclusive done_status few_statuses c.say.result status c.status.ensures command left rest held now read read_now wrote wrote_now ends reads writes in
+    let so = causes program exclusive done_status few_statuses c.say.result status c.status.ensures command left rest held now read read_now wrote wrote_now ends reads writes in
     record {
+      headline = λ zero. (so.done (tt, zero)).2;
       ends = (c.say.result, c.status.ensures, (ends, c.say.ensures.says));
-      done = λ e. (so.done (omega (arith, e))).2;
-      usage = so.usage;
-      usage_only = so.usage_only;
-      faulty = so.faulty;
-      refused = so.refused;
-      complete = λ faultless no_read no_write. done_or status (so.complete faultless no_read no_write);
-      stopped = so.stopped;
-      unchanged = λ undone stopped. so.unchanged (λ done e. undone e) stopped;
-      read_fault = so.read_fault;
-      no_read_fault = so.no_read_fault;
-      write_fault = so.write_fault;
-      no_write_fault = so.no_write_fault;
+      causes = so;
     }

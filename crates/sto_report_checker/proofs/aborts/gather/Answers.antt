@@ -46,7 +46,8 @@ returns-in_default-followed_by-clause-ended c =
       omega (arith, c.number-number.ensures, h.count),
       λ right.
           subst (GoesWrong f c.args.tries lines) h.count
-          (unfollowed f c.args.tries lines order c.loop-line.aborts.items read h text stands state_false given is.0 is.1 is.2 c.loop-line.last c.loop-line.invariant.last c.in_default-followed_by.ensures
+          (unfollowed f c.args.tries lines order c.loop-line.aborts.items read h text stands state_false given is.0 is.1 is.2 c.loop-line.last c.loop-line.invariant.last
+          (λ before a l p s n. c.in_default-followed_by.ensures before a l p s (n ∙ sym c.known_at_end-known.ensures))
           (subst (AreRight f c.args.tries lines) (sym h.count) right)),
     )
 
@@ -69,8 +70,10 @@ loop-line-preserved c =
       gathered =
           subst (AreGathered f c.args.tries lines order c.push.new.self.items) (sym c.in-Some.ensures.line.2)
           (subst (λ (gathered : List GivenAbort). AreGathered f c.args.tries lines order gathered (read + 1)) (sym c.in_ok-push.ensures.ok)
-          (gathered_more f c.args.tries lines order c.loop-line.aborts.items read h text stands state_false given is.0 is.1 is.2 c.loop-line.last c.loop-line.invariant.last more c.in-Some-followed_by.ensures));
+          (gathered_more f c.args.tries lines order c.loop-line.aborts.items read h text stands state_false given is.0 is.1 is.2 c.loop-line.last c.loop-line.invariant.last more
+          (λ before a l p s n. c.in-Some-followed_by.ensures before a l p s (n ∙ sym c.known_at_end-known.ensures))));
       last =
           subst (λ (n : ℕ). IsLastRead f c.args.tries lines n (Some more)) (sym c.in-Some.ensures.line.2)
-          (last_more f c.args.tries lines order c.loop-line.aborts.items read h text stands state_false given is.0 is.1 is.2 c.loop-line.last c.loop-line.invariant.last more c.in-Some-followed_by.ensures);
+          (last_more f c.args.tries lines order c.loop-line.aborts.items read h text stands state_false given is.0 is.1 is.2 c.loop-line.last c.loop-line.invariant.last more
+          (λ before a l p s n. c.in-Some-followed_by.ensures before a l p s (n ∙ sym c.known_at_end-known.ensures)));
     }

@@ -9,6 +9,7 @@ use Rattle.sto_cli_common.specs.Programs.{Program}
 use Rattle.sto_cli_common.specs.Statuses.{status_of}
 use Rattle.sto_cli_common.specs.Ends.{Reads, Made, Faulty, Ends, RoseFor}
 use Rattle.sto_cli_common.specs.Outcomes.{IsDone, IsFaulty, IsStopped, IsToldFault, IfReads, IsToldWell, IsFaultless}
+use Rattle.sto_cli_common.specs.Causes.{HasAnswered, HasCauses}
 
 -- only what is read has faults, and what has one is not answered
 pub record IsExclusive {C A : Type 0} (p : Program C A) : Type 0 where
@@ -178,35 +179,33 @@ complete p answered (Err NoMemory) (Some c) left rest held now r rn w wn h fr fw
 
 -- ---- all of it
 
--- what the clauses of a call say: of its status, of what its source had left and its sink holds, and of their counts of faults
-pub record Facts {C A : Type 0} (p : Program C A) (answered : A → ℕ) (status : ℕ) (command : Option C) (left rest held now : Option (List ℕ)) (read read_now wrote wrote_now : ℕ) : Type 0 where
-  pub done : status < 2 → (answer : A) × (status ≡ answered answer) × IsDone p answer command left rest held now
-  pub usage : status ≡ 2 → command ≡ None
-  pub usage_only : command ≡ None → (status ≡ 2) ⊎ (status ≡ 6)
-  pub faulty : status ≡ 3 → IsFaulty p command left rest
-  pub refused : (fault : InputFault) → IsToldFault p fault command left rest → (status ≡ 3) ⊎ (status ≡ 4) ⊎ (status ≡ 6)
-  pub complete : IsFaultless p command left rest → (Rose read read_now → ⊥) → (Rose wrote wrote_now → ⊥) → ((answer : A) × (status ≡ answered answer)) ⊎ (status ≡ 6)
-  pub stopped : status ≡ 5 → IsStopped p command left rest held now
-  pub unchanged : ((answer : A) → status ≡ answered answer → ⊥) → (status ≡ 5 → ⊥) → now ≡ held
-  pub read_fault : status ≡ 4 → Rose read read_now
-  pub no_read_fault : (status ≡ 4 → ⊥) → read_now ≡ read
-  pub write_fault : status ≡ 5 → Rose wrote wrote_now
-  pub no_write_fault : (status ≡ 5 → ⊥) → wrote_now ≡ wrote
+below : {A : Type 0} (answered : A → ℕ) → ((answer : A) → answered answer < 2) → (status : ℕ) → HasAnswered answered status → status < 2
+below answered low status a = let few = low a.0 in omega (arith, few, a.1)
 
-pub facts : {C A : Type 0} (p : Program C A) → IsExclusive p → (answered : A → ℕ) → ((answer : A) → answered answer < 2) → (ending : Result A Refusal) (status : ℕ) → status ≡ status_of answered ending
+among : {A : Type 0} (answered : A → ℕ) (ending : Result A Refusal)
+    → HasAnswered answered (status_of answered ending) ⊎ ((2 ≤ status_of answered ending) × (status_of answered ending ≤ 6))
+among answered (Ok answer) = inl (answer, refl)
+among answered (Err Usage) = inr (omega arith, omega arith)
+among answered (Err (Input fault)) = inr (omega arith, omega arith)
+among answered (Err ReadFault) = inr (omega arith, omega arith)
+among answered (Err WriteFault) = inr (omega arith, omega arith)
+among answered (Err NoMemory) = inr (omega arith, omega arith)
+
+pub causes : {C A : Type 0} (p : Program C A) → IsExclusive p → (answered : A → ℕ) → ((answer : A) → answered answer < 2) → (ending : Result A Refusal) (status : ℕ) → status ≡ status_of answered ending
     → (command : Option C) (left rest held now : Option (List ℕ)) (read read_now wrote wrote_now : ℕ)
     → Ends p ending command left rest held now → RoseFor ReadFault ending read read_now → RoseFor WriteFault ending wrote wrote_now
-    → Facts p answered status command left rest held now read read_now wrote wrote_now
-facts p exclusive answered low ending status is command left rest held now read read_now wrote wrote_now h fr fw =
-    subst (λ (n : ℕ). Facts p answered n command left rest held now read read_now wrote wrote_now) (sym is) (record {
-      done = done p answered low left rest held now ending command h;
+    → HasCauses p answered status command left rest held now read read_now wrote wrote_now
+causes p exclusive answered low ending status is command left rest held now read read_now wrote wrote_now h fr fw =
+    subst (λ (n : ℕ). HasCauses p answered n command left rest held now read read_now wrote wrote_now) (sym is) (record {
+      among = among answered ending;
+      done = λ a. done p answered low left rest held now ending command h (below answered low (status_of answered ending) a);
       usage = usage p answered low left rest held now ending command h;
       usage_only = usage_only p answered low left rest held now ending command h;
       faulty = faulty p answered low left rest held now ending command h;
       refused = λ fault f. refused p exclusive answered ending command left rest held now fault h f;
       complete = complete p answered ending command left rest held now read read_now wrote wrote_now h fr fw;
       stopped = stopped p answered low left rest held now ending command h;
-      unchanged = unchanged p answered low left rest held now ending command h;
+      unchanged = λ undone. unchanged p answered low left rest held now ending command h (λ answer e. undone (answer, e));
       read_fault = read_fault p answered low left rest held now read read_now ending fr;
       no_read_fault = no_read_fault p answered low left rest held now read read_now ending fr;
       write_fault = write_fault p answered low left rest held now wrote wrote_now ending fw;
