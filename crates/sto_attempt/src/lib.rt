@@ -9,4 +9,4 @@ mod testing;
 
 pub use attempt::Attempt;
 pub use ready::Ready;
-pub use sto_attempt_log::{Heard, ReadEntry, ReadSet, Turn, Verdict};
+pub use sto_attempt_log::{Heard, Memory, ReadEntry, ReadSet, Turn, Verdict};
