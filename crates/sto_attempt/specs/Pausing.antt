@@ -11,4 +11,5 @@ with_type ty p = record {
   read_phase = p.read_phase;
   words = p.words;
   extension = p.extension;
+  memory = p.memory;
 }

@@ -18,12 +18,12 @@ ghost use Rattle.sto_attempt.specs.Attempts.{IsLogOf, IsOwnLog, IsUnderWay, Step
 use std::alloc::Global;
 use std::mem;
 use sto_attempt_log::{
-    Extension, Heard, Log, Observed, ReadEntry, ReadPhase, ReadSet, Turn, Verdict, lead,
+    Extension, Heard, Log, Memory, Observed, ReadEntry, ReadPhase, Turn, Verdict, lead,
 };
 use sto_core::Cells;
 use sto_model::{Body, Replies};
 use sto_part::{NoMemory, PartWords, Pred, holds};
-use sto_type::{Cache, TxType};
+use sto_type::TxType;
 
 /// An attempt, which makes one event at a time on the pass that it is lent.
 ///
@@ -39,13 +39,15 @@ pub struct Attempt<'t, T: TxType, B: Body> {
     pub(crate) words: PartWords,
     /// Of the running or the last extension.
     pub(crate) extension: Extension,
+    /// The lists that are not in use.
+    pub(crate) memory: Memory,
 }
 
 impl<'t, T: TxType, B: Body> Attempt<'t, T, B> {
     /// An attempt of a body, which it resets. It has made no event yet.
     ///
-    /// The type is to take every call that the body may ask.
-    pub fn new(alloc: Global, ty: &'t T, body: B) -> Attempt<'t, T, B>
+    /// The type is to take every call that the body may ask. The memory is given back at the end.
+    pub fn new(alloc: Global, ty: &'t T, body: B, memory: Memory) -> Attempt<'t, T, B>
         requires { (call : Call) → B.may_ask body call → (T.meaning ty.now).takes call }
         ensures ty { result.log.ty.now ≡ ty.now }
         ensures script { B.script result.log.body ≡ B.script body }
@@ -63,19 +65,21 @@ impl<'t, T: TxType, B: Body> Attempt<'t, T, B> {
         body.reset();
         // so many replies at most: they fit a list
         let _left = body.left();
+        let mut memory = memory;
         Attempt {
             log: Log {
                 ty,
                 body,
                 replies: Replies::new(alloc),
                 set: Observed::new(alloc),
-                base: ReadSet::new(alloc),
-                cache: Cache::new(alloc),
+                base: memory.take_base(alloc),
+                cache: memory.take_cache(alloc),
             },
             at: 0,
             read_phase: ReadPhase::Unstarted,
             words: PartWords::new(alloc),
-            extension: Extension::new(alloc),
+            extension: Extension::new(alloc, &mut memory),
+            memory,
         }
     }
 
@@ -86,14 +90,27 @@ impl<'t, T: TxType, B: Body> Attempt<'t, T, B> {
         &self.log.replies
     }
 
-    /// The body and what it heard, of an attempt that has ended or is given up before its commit.
-    pub fn end(self) -> Heard<B>
-        ensures body { result.body ≡ self.entry.log.body }
-        ensures replies { result.replies ≡ self.entry.log.replies }
+    /// The body and what it heard, of an attempt that has ended or is given up before its commit, and the memory that it was lent.
+    pub fn end(self) -> (Heard<B>, Memory)
+        ensures body { result.0.body ≡ self.entry.log.body }
+        ensures replies { result.0.replies ≡ self.entry.log.replies }
     {
-        let Attempt { log, .. } = self;
-        let Log { body, replies, .. } = log;
-        Heard { body, replies }
+        let Attempt {
+            log,
+            extension,
+            mut memory,
+            ..
+        } = self;
+        let Log {
+            body,
+            replies,
+            base,
+            cache,
+            ..
+        } = log;
+        memory.keep_log(base, cache);
+        memory.keep_fresh(extension.fresh);
+        (Heard { body, replies }, memory)
     }
 
     /// Makes the next event, and runs the body up to the one after it.
@@ -351,8 +368,9 @@ impl<'t, T: TxType, B: Body> Attempt<'t, T, B> {
             return Ok(Turn::More);
         }
         self.at = self.extension.bound;
-        self.log.base = mem::replace(&mut self.extension.fresh, ReadSet::new(alloc));
-        self.log.cache = Cache::new(alloc);
+        mem::swap(&mut self.log.base, &mut self.extension.fresh);
+        self.extension.fresh.clear();
+        self.log.cache.forget();
         let heard = self.log.replies.len();
         let reached = self.log.go_on(alloc)?;
         let (read_phase, turn) = lead(&self.log.set, self.at, reached);
@@ -382,12 +400,10 @@ impl<'t, T: TxType, B: Body> Attempt<'t, T, B> {
     {
         let bound = cells.renew();
         let watches = self.log.set.observed()?;
-        self.extension = Extension {
-            bound,
-            fresh: ReadSet::new(alloc),
-            watches,
-            extended: true,
-        };
+        self.extension.fresh.clear();
+        self.extension.bound = bound;
+        self.extension.watches = watches;
+        self.extension.extended = true;
         self.advance(alloc)
     }
 

@@ -3,7 +3,7 @@ ghost use Rattle.std.specs.Prelude.{◌≡◌};
 ghost use Rattle.sto_attempt.specs.Pausing.{with_type};
 
 use crate::attempt::Attempt;
-use sto_attempt_log::{Extension, Log, Observed, ReadPhase, ReadSet};
+use sto_attempt_log::{Extension, Log, Memory, Observed, ReadPhase, ReadSet};
 use sto_model::{Body, Replies};
 use sto_part::PartWords;
 use sto_type::{Cache, TxType};
@@ -20,6 +20,7 @@ pub struct Paused<B: Body> {
     pub(crate) read_phase: ReadPhase,
     pub(crate) words: PartWords,
     pub(crate) extension: Extension,
+    pub(crate) memory: Memory,
 }
 
 impl<T: TxType, B: Body> Attempt<'_, T, B> {
@@ -34,6 +35,7 @@ impl<T: TxType, B: Body> Attempt<'_, T, B> {
             read_phase,
             words,
             extension,
+            memory,
         } = self;
         let Log {
             body,
@@ -53,6 +55,7 @@ impl<T: TxType, B: Body> Attempt<'_, T, B> {
             read_phase,
             words,
             extension,
+            memory,
         }
     }
 }
@@ -72,6 +75,7 @@ impl<B: Body> Paused<B> {
             read_phase,
             words,
             extension,
+            memory,
         } = self;
         Attempt {
             log: Log {
@@ -86,6 +90,7 @@ impl<B: Body> Paused<B> {
             read_phase,
             words,
             extension,
+            memory,
         }
     }
 

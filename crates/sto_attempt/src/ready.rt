@@ -8,8 +8,8 @@ ghost use Rattle.sto_core.specs.Allowed.{Rises};
 ghost use Rattle.sto_attempt.specs.Commits.{IsBefore, Advances, HasPrefix};
 
 use sto_attempt_log::{
-    CommitPhase, FoundTicket, FoundTickets, Heard, LoadedWord, LoadedWords, Log, Verdict, is_seen,
-    is_written,
+    CommitPhase, FoundTicket, FoundTickets, Heard, Lists, LoadedWord, LoadedWords, Log, Memory,
+    Verdict, is_seen, is_written,
 };
 use sto_core::Cells;
 use sto_item::Updates;
@@ -39,6 +39,8 @@ pub struct Ready<'t, T: TxType, B: Body> {
     /// What the commit has read.
     pub(crate) loaded_words: LoadedWords,
     pub(crate) commit_phase: CommitPhase,
+    /// The lists that are not in use.
+    pub(crate) memory: Memory,
 }
 
 impl<T: TxType, B: Body> Ready<'_, T, B> {
@@ -49,14 +51,43 @@ impl<T: TxType, B: Body> Ready<'_, T, B> {
         &self.log.replies
     }
 
-    /// The body and what it heard.
-    pub fn end(self) -> Heard<B>
-        ensures body { result.body ≡ self.entry.log.body }
-        ensures replies { result.replies ≡ self.entry.log.replies }
+    /// The body and what it heard, and the memory that the attempt was lent.
+    pub fn end(self) -> (Heard<B>, Memory)
+        ensures body { result.0.body ≡ self.entry.log.body }
+        ensures replies { result.0.replies ≡ self.entry.log.replies }
     {
-        let Ready { log, .. } = self;
-        let Log { body, replies, .. } = log;
-        Heard { body, replies }
+        let Ready {
+            log,
+            updates,
+            seen,
+            loaded,
+            tasks,
+            checks,
+            places,
+            found_tickets,
+            loaded_words,
+            mut memory,
+            ..
+        } = self;
+        let lists = Lists {
+            updates,
+            seen,
+            loaded,
+            tasks,
+            checks,
+            places,
+            found_tickets,
+        };
+        let Log {
+            body,
+            replies,
+            base,
+            cache,
+            ..
+        } = log;
+        memory.keep_log(base, cache);
+        memory.keep_lists(lists, loaded_words);
+        (Heard { body, replies }, memory)
     }
 
     /// Makes the next event of the commit, or of its giving up, and answers the verdict with the last one.

@@ -1,6 +1,7 @@
 //! What an extension of the snapshot keeps while it is under way.
 ghost use Rattle.std.specs.Prelude.{◌≡◌, [], false};
 
+use crate::memory::Memory;
 use crate::read_entry::ReadSet;
 use std::alloc::Global;
 use sto_item::Watches;
@@ -20,14 +21,14 @@ pub struct Extension {
 
 impl Extension {
     /// Nothing to read anew.
-    pub fn new(alloc: Global) -> Extension
+    pub fn new(alloc: Global, memory: &mut Memory) -> Extension
         ensures fresh { result.fresh.items ≡ [] }
         ensures extended { result.extended ≡ false }
     {
         Extension {
             bound: 0,
             extended: false,
-            fresh: ReadSet::new(alloc),
+            fresh: memory.take_fresh(alloc),
             watches: Watches::new(alloc),
         }
     }

@@ -43,6 +43,14 @@ impl FoundTickets {
         }
     }
 
+    /// Takes all tickets away. Their room stays.
+    pub fn clear(&mut self)
+        ensures { self.new.items ≡ [] }
+    {
+        self.list.clear();
+        self.start = 0;
+    }
+
     /// Makes room for at least so many more.
     pub fn reserve(&mut self, more: u32) -> Result<(), NoMemory>
         ensures items { self.new.items ≡ self.old.items }

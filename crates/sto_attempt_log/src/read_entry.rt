@@ -64,6 +64,14 @@ impl ReadSet {
         self.list.len()
     }
 
+    /// Takes all parts away. Their room stays.
+    pub fn clear(&mut self)
+        ensures { self.new.items ≡ [] }
+    {
+        self.list.clear();
+        self.places.clear();
+    }
+
     /// Adds a part last.
     pub fn push(&mut self, read_entry: ReadEntry) -> Result<(), NoMemory>
         requires { length self.old.items + 1 < 2 ^ 32 }

@@ -16,7 +16,7 @@ use crate::asked::Asked;
 use crate::run_on::{finish, run_on};
 use std::alloc::Global;
 use std::mem;
-use sto_attempt::{Attempt, Turn, Verdict};
+use sto_attempt::{Attempt, Memory, Turn, Verdict};
 use sto_core::Cells;
 use sto_model::{Call, Replies};
 use sto_part::NoMemory;
@@ -44,11 +44,12 @@ pub struct Live<'t, T: TxType> {
 }
 
 impl<'t, T: TxType> Live<'t, T> {
-    /// Begins a transaction on a pass that is at rest and has a draw left.
+    /// Begins a transaction on a pass that is at rest and has a draw left. It takes the memory, which its end puts back.
     pub fn begin<C: Cells<T>>(
         alloc: Global,
         ty: &'t T,
         cells: &mut C,
+        memory: &mut Memory,
     ) -> Result<Live<'t, T>, NoMemory>
         requires rests { IsAtRest (T.meaning ty.now) (T.sizes ty.now) (C.view cells.old) }
         requires draws { 0 < (C.view cells.old).draws }
@@ -56,7 +57,7 @@ impl<'t, T: TxType> Live<'t, T> {
         ensures err { OnErr result (HasStopped (T.meaning ty.now) (T.sizes ty.now) (C.view cells.old) (C.view cells.new)) }
         ensures same { C.same cells.old cells.new }
     {
-        let mut attempt = Attempt::new(alloc, ty, Asked::new(alloc));
+        let mut attempt = Attempt::new(alloc, ty, Asked::new(alloc), memory.take(alloc));
         attempt.begin(alloc, cells)?;
         Ok(Live { ty, attempt })
     }
@@ -118,7 +119,12 @@ impl<'t, T: TxType> Live<'t, T> {
     /// Commits. The replies of what is left of it are those that were answered.
     ///
     /// After `NoMemory` nothing of it took effect.
-    pub fn commit<C: Cells<T>>(self, alloc: Global, cells: &mut C) -> Result<Ended<Asked>, NoMemory>
+    pub fn commit<C: Cells<T>>(
+        self,
+        alloc: Global,
+        cells: &mut C,
+        memory: &mut Memory,
+    ) -> Result<Ended<Asked>, NoMemory>
         requires { (ty : T) × (calls : List Call) × (rs : List Told) × (begun : View)
             × IsLive T.TxType ty calls rs self begun (C.view cells.old) }
         ensures committed { (ty : T) (calls : List Call) (rs : List Told) (begun : View)
@@ -133,14 +139,15 @@ impl<'t, T: TxType> Live<'t, T> {
         let mut attempt = attempt;
         match attempt.resume(alloc)? {
             Turn::Ready => match attempt.seal(alloc) {
-                Ok(ready) => Ok(finish(ready, cells)),
+                Ok(ready) => Ok(finish(ready, cells, memory)),
                 Err((attempt, error)) => {
                     mem::drop(attempt);
                     Err(error)
                 }
             },
             Turn::Ended(verdict) => {
-                let heard = attempt.end();
+                let (heard, lent) = attempt.end();
+                *memory = lent;
                 Ok(Ended {
                     body: heard.body,
                     replies: heard.replies,
@@ -152,7 +159,7 @@ impl<'t, T: TxType> Live<'t, T> {
     }
 
     /// Gives it up. It makes no event: the pass is left as it is, at rest.
-    pub fn cancel(self, alloc: Global) -> Result<Ended<Asked>, NoMemory>
+    pub fn cancel(self, alloc: Global, memory: &mut Memory) -> Result<Ended<Asked>, NoMemory>
         requires { (ty : T) × (calls : List Call) × (rs : List Told) × (begun : View) × (v : View)
             × IsLive T.TxType ty calls rs self begun v }
         ensures cancelled { (passes : ℕ) (ty : T) (calls : List Call) (rs : List Told) (begun v : View)
@@ -168,7 +175,8 @@ impl<'t, T: TxType> Live<'t, T> {
         mem::drop(attempt.replace_body(body));
         match attempt.resume(alloc)? {
             Turn::Ended(verdict) => {
-                let heard = attempt.end();
+                let (heard, lent) = attempt.end();
+                *memory = lent;
                 Ok(Ended {
                     body: heard.body,
                     replies: heard.replies,

@@ -8,7 +8,7 @@ ghost use Rattle.sto_transaction.specs.Machines.{Commits, HasEnded};
 ghost use Rattle.sto_live.specs.Waiting.{IsWaiting, IsEnd, HasCome, HasRunOn, HearsMore};
 
 use std::alloc::Global;
-use sto_attempt::{Attempt, Ready, Turn};
+use sto_attempt::{Attempt, Memory, Ready, Turn};
 use sto_core::Cells;
 use sto_model::Body;
 use sto_part::NoMemory;
@@ -57,10 +57,11 @@ fn step_on<T: TxType, B: Body, C: Cells<T>>(
     Ok(turn)
 }
 
-/// Makes the events of a commit, up to its verdict.
+/// Makes the events of a commit, up to its verdict, and puts back the memory that the attempt was lent.
 pub(crate) fn finish<T: TxType, B: Body, C: Cells<T>>(
     ready: Ready<'_, T, B>,
     cells: &mut C,
+    memory: &mut Memory,
 ) -> Ended<B>
     requires { (ty : T) × (f : Script) × (begun : View) × IsAtRest (T.meaning ty) (T.sizes ty) begun
         × Commits T.meaning T.valid T.sizes B.script B.then B.left B.may_ask (C.passes cells.old) ty f ready begun (C.view cells.old) }
@@ -73,7 +74,8 @@ pub(crate) fn finish<T: TxType, B: Body, C: Cells<T>>(
     let mut ready = ready;
     loop {
         if let Some(verdict) = ready.step(cells) {
-            let heard = ready.end();
+            let (heard, lent) = ready.end();
+            *memory = lent;
             return Ended {
                 body: heard.body,
                 replies: heard.replies,

@@ -20,7 +20,7 @@ use sto_part::{Naming, NoMemory};
 use sto_queue::{Job, JobPass, JobQueue};
 use sto_run_threads::Work;
 use sto_table::{Rest, Shared};
-use sto_transaction::Record;
+use sto_transaction::{Memory, Record};
 
 /// A pass at rest, the number of a queue, and the pass to take from it with.
 #[derive(Drop)]
@@ -65,6 +65,7 @@ fn serve_one<T: Naming, W: Work<T>, C: Cells<T>>(
     cells: &mut C,
     thread: u32,
     position: u32,
+    memory: &mut Memory,
     records: &mut Vec<Record>,
     runs: bool,
 ) -> Result<bool, NoMemory>
@@ -84,7 +85,7 @@ fn serve_one<T: Naming, W: Work<T>, C: Cells<T>>(
         (C.view cells.new) (thread, position) (map plain records.old.items) (map plain records.new.items) runs on) }
 {
     if runs {
-        work.run_one(alloc, cells, thread, position, records)
+        work.run_one(alloc, cells, thread, position, memory, records)
     } else {
         Ok(false)
     }
@@ -114,10 +115,20 @@ pub fn serve<R: Wait, T: Naming, W: Work<T>>(
         rest,
     } = server;
     let mut pass = shared.pass(rest);
+    let mut memory = Memory::new(alloc);
     let mut records = Vec::new(alloc);
     let mut runs = true;
     while let Job::Run { thread, position } = next_job(rt, &queues[number], &mut worker) {
-        runs = serve_one(work, alloc, &mut pass, thread, position, &mut records, runs)?;
+        runs = serve_one(
+            work,
+            alloc,
+            &mut pass,
+            thread,
+            position,
+            &mut memory,
+            &mut records,
+            runs,
+        )?;
     }
     let mut workers = Vec::new(alloc);
     match workers.push(worker) {

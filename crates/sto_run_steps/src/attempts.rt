@@ -13,6 +13,7 @@ use sto_core::Cells;
 use sto_model::Replies;
 use sto_part::{Naming, NoMemory};
 use sto_run_threads::Work;
+use sto_transaction::Memory;
 
 /// Where a step has led an attempt.
 #[derive(Drop)]
@@ -40,8 +41,14 @@ pub trait Attempts<T: Naming, M>: Work<T> {
     fn most_tries(&self) -> u32
         ensures { result ≡ Self.tries self.now };
 
-    /// An attempt of the transaction at a place, which has made no event yet.
-    fn begin(&self, alloc: Global, thread: u32, position: u32) -> Result<M, NoMemory>
+    /// An attempt of the transaction at a place, which has made no event yet. It takes the memory.
+    fn begin(
+        &self,
+        alloc: Global,
+        thread: u32,
+        position: u32,
+        memory: &mut Memory,
+    ) -> Result<M, NoMemory>
         requires ready { Self.ready self.now }
         requires there { IsTransaction (Self.file self.now) (thread, position) }
         ensures fits { IfOk result (λ trial. (passes : ℕ) (v : View) → IsAtRest (Self.meaning self.now) (Self.sizes self.now) v → 1
@@ -49,6 +56,7 @@ pub trait Attempts<T: Naming, M>: Work<T> {
         ensures left { IfOk result (λ trial. left self.now trial ≤ most self.now) };
 
     /// Makes the next event of an attempt of the transaction at a place, on the pass of the events before, with its view as they left it.
+    /// The last event puts the memory back.
     fn step<C: Cells<T>>(
         &self,
         alloc: Global,
@@ -56,6 +64,7 @@ pub trait Attempts<T: Naming, M>: Work<T> {
         thread: u32,
         position: u32,
         cells: &mut C,
+        memory: &mut Memory,
     ) -> Result<Stepped, NoMemory>
         requires { (begun : View) × fits self.now (C.passes cells.old) (thread, position) trial.old begun (C.view cells.old) }
         ensures same { C.same cells.old cells.new }

@@ -7,7 +7,7 @@ use std::alloc::Global;
 use sto_attempt::Verdict;
 use sto_core::Cells;
 use sto_part::{Naming, NoMemory};
-use sto_transaction::Record;
+use sto_transaction::{Memory, Record};
 
 /// A script thread, of whose transactions the first so many have ended.
 #[derive(Drop)]
@@ -24,6 +24,8 @@ pub(crate) struct Seat<M> {
     tries: u32,
     /// Of the attempts that have ended.
     pub(crate) records: Vec<Record>,
+    /// What the attempts are lent, one after the other.
+    memory: Memory,
 }
 
 impl<M: Drop> Seat<M> {
@@ -44,6 +46,7 @@ impl<M: Drop> Seat<M> {
             left: tries,
             tries,
             records: Vec::new(alloc),
+            memory: Memory::new(alloc),
         }
     }
 
@@ -87,7 +90,7 @@ impl<M: Drop> Seat<M> {
         let Some(trial) = &mut self.trial else {
             unreachable!()
         };
-        match work.step(alloc, trial, thread, position, cells)? {
+        match work.step(alloc, trial, thread, position, cells, &mut self.memory)? {
             Stepped::More => Ok(()),
             Stepped::Ended { replies, verdict } => {
                 self.trial = None;
@@ -123,7 +126,8 @@ impl<M: Drop> Seat<M> {
             ≤ events_of (W.left work.now) (W.most work.now) self.old) }
     {
         if self.trial.is_none() {
-            self.trial = Some(work.begin(alloc, thread, self.ended + 1)?);
+            let trial = work.begin(alloc, thread, self.ended + 1, &mut self.memory)?;
+            self.trial = Some(trial);
         }
         Ok(())
     }

@@ -11,7 +11,7 @@ use sto_core::Cells;
 use sto_part::NoMemory;
 use sto_run_threads::{FileWork, Gate};
 use sto_script::ScriptBody;
-use sto_transaction::{Ended, Machine};
+use sto_transaction::{Ended, Machine, Memory};
 use sto_type::TxType;
 
 impl<'f, T: TxType, G: Gate> Attempts<T, Machine<'f, T, ScriptBody<'f>>> for FileWork<'f, T, G> {
@@ -31,10 +31,11 @@ impl<'f, T: TxType, G: Gate> Attempts<T, Machine<'f, T, ScriptBody<'f>>> for Fil
         alloc: Global,
         thread: u32,
         position: u32,
+        memory: &mut Memory,
     ) -> Result<Machine<'f, T, ScriptBody<'f>>, NoMemory> {
         let script = self.file.threads.get(thread).scripts.get(position - 1);
         let body = ScriptBody::new(alloc, script)?;
-        Ok(Machine::new(alloc, self.ty, body))
+        Ok(Machine::new(alloc, self.ty, body, memory.take(alloc)))
     }
 
     fn step<C: Cells<T>>(
@@ -44,8 +45,9 @@ impl<'f, T: TxType, G: Gate> Attempts<T, Machine<'f, T, ScriptBody<'f>>> for Fil
         _thread: u32,
         _position: u32,
         cells: &mut C,
+        memory: &mut Memory,
     ) -> Result<Stepped, NoMemory> {
-        match trial.step(alloc, cells)? {
+        match trial.step(alloc, cells, memory)? {
             None => Ok(Stepped::More),
             Some(end) => {
                 let Ended {

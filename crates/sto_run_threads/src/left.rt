@@ -17,7 +17,7 @@ use std::alloc::Global;
 use sto_attempt::Verdict;
 use sto_core::Cells;
 use sto_part::{Naming, NoMemory};
-use sto_transaction::Record;
+use sto_transaction::{Memory, Record};
 
 // Whether an attempt is the last one of a transaction of the thread.
 fn has_ended(attempt: &Record, thread: u32) -> bool
@@ -67,10 +67,20 @@ pub fn run_left<T: Naming, W: Work<T>, C: Cells<T>>(
     ensures finished { OnOk result (AreFinished (W.meaning work.now) (W.file work.now) (W.tries work.now) (C.view cells.new)
         (map plain records.new.items)) }
 {
+    let mut memory = Memory::new(alloc);
     for thread in 0..work.threads() {
         let count = work.count(thread);
         let ended = count_ended(records.as_slice(), thread);
-        run_script(work, alloc, cells, thread, ended, count, records)?;
+        run_script(
+            work,
+            alloc,
+            cells,
+            thread,
+            ended,
+            count,
+            &mut memory,
+            records,
+        )?;
     }
     Ok(())
 }

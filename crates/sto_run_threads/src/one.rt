@@ -10,7 +10,7 @@ ghost use Rattle.sto_run_threads.specs.Ran.{IsTransaction, HasRunAt, HasBrokenAt
 use std::alloc::Global;
 use sto_core::Cells;
 use sto_part::{Naming, NoMemory};
-use sto_transaction::Record;
+use sto_transaction::{Memory, Record};
 
 /// What runs transactions of a file, by attempts.
 pub trait Work<T: Naming> {
@@ -40,13 +40,14 @@ pub trait Work<T: Naming> {
 
     /// Runs the transaction at a place on an idle pass, and adds a record for each attempt. It answers whether the
     /// transaction has ended, or used up its tries. After `NoMemory` the pass is idle again, and the records of the attempts before
-    /// stay.
+    /// stay. The memory is lent to each attempt in turn.
     fn run_one<C: Cells<T>>(
         &self,
         alloc: Global,
         cells: &mut C,
         thread: u32,
         position: u32,
+        memory: &mut Memory,
         records: &mut Vec<Record>,
     ) -> Result<bool, NoMemory>
         requires ready { ready self.now }

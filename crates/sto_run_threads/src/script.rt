@@ -11,7 +11,7 @@ use crate::one::Work;
 use std::alloc::Global;
 use sto_core::Cells;
 use sto_part::{Naming, NoMemory};
-use sto_transaction::Record;
+use sto_transaction::{Memory, Record};
 
 /// Runs what is left of a script thread on an idle pass: of `count` transactions the first `ended` have ended.
 /// It answers whether all have ended now. Else the next one is handed back, with all that follow.
@@ -22,6 +22,7 @@ pub fn run_script<T: Naming, W: Work<T>, C: Cells<T>>(
     thread: u32,
     ended: u32,
     count: u32,
+    memory: &mut Memory,
     records: &mut Vec<Record>,
 ) -> Result<bool, NoMemory>
     requires ready { W.ready work.now }
@@ -40,7 +41,7 @@ pub fn run_script<T: Naming, W: Work<T>, C: Cells<T>>(
         (C.view cells.new) thread (map plain records.old.items) (map plain records.new.items) all) }
 {
     for position in ended..count {
-        if !work.run_one(alloc, cells, thread, position + 1, records)? {
+        if !work.run_one(alloc, cells, thread, position + 1, memory, records)? {
             return Ok(false);
         }
     }

@@ -13,7 +13,7 @@ use sto_core::Cells;
 use sto_lang::File;
 use sto_part::NoMemory;
 use sto_script::ScriptBody;
-use sto_transaction::{AttemptWatch, Record, Transacted, Transaction};
+use sto_transaction::{AttemptWatch, Memory, Record, Transacted, Transaction};
 use sto_type::TxType;
 
 // An attempt of fewer events is short: to make one in vain costs less than to wait for the turn.
@@ -97,6 +97,7 @@ impl<T: TxType, G: Gate> Work<T> for FileWork<'_, T, G> {
         cells: &mut C,
         thread: u32,
         position: u32,
+        memory: &mut Memory,
         records: &mut Vec<Record>,
     ) -> Result<bool, NoMemory> {
         let script = self.file.threads.get(thread).scripts.get(position - 1);
@@ -124,7 +125,7 @@ impl<T: TxType, G: Gate> Work<T> for FileWork<'_, T, G> {
             looks: LOOKS,
             backoff: Backoff::new(),
         };
-        let ran = transaction.run(alloc, cells, &mut watch, records);
+        let ran = transaction.run(alloc, cells, &mut watch, memory, records);
         // The gate may hold the worker, so the turn is given back first.
         mem::drop(watch);
         self.turn.note(&ran);

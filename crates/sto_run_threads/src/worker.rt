@@ -11,7 +11,7 @@ use std::alloc::Global;
 use sto_claims::{Claimer, Claims};
 use sto_part::{Naming, NoMemory};
 use sto_table::{Rest, Shared};
-use sto_transaction::Record;
+use sto_transaction::{Memory, Record};
 
 /// A pass at rest, and a claimer of script threads.
 #[derive(Drop)]
@@ -48,10 +48,20 @@ pub fn work_alone<T: Naming, W: Work<T>>(
 {
     let Worker { rest, mut claimer } = worker;
     let mut pass = shared.pass(rest);
+    let mut memory = Memory::new(alloc);
     let mut records = Vec::new(alloc);
     while let Some(thread) = claims.claim(&mut claimer) {
         let count = work.count(thread);
-        run_script(work, alloc, &mut pass, thread, 0, count, &mut records)?;
+        run_script(
+            work,
+            alloc,
+            &mut pass,
+            thread,
+            0,
+            count,
+            &mut memory,
+            &mut records,
+        )?;
     }
     Ok(Team {
         rest: pass.rest(),

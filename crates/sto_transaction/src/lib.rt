@@ -9,4 +9,5 @@ mod transaction;
 
 pub use machine::{Ended, Machine};
 pub use record::Record;
+pub use sto_attempt::Memory;
 pub use transaction::{AttemptWatch, Transacted, Transaction};

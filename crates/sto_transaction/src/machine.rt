@@ -10,7 +10,7 @@ ghost use Rattle.sto_transaction.specs.Machines.{Proceeds, IsAtSeal, IsAtEnd, Ha
 
 use std::alloc::Global;
 use std::mem;
-use sto_attempt::{Attempt, Ready, Turn, Verdict};
+use sto_attempt::{Attempt, Memory, Ready, Turn, Verdict};
 use sto_core::Cells;
 use sto_model::{Body, Replies};
 use sto_part::NoMemory;
@@ -41,25 +41,26 @@ pub struct Ended<B> {
 impl<'t, T: TxType, B: Body + Drop> Machine<'t, T, B> {
     /// An attempt of a body, which it resets, on a pass that is at rest and has a draw left. It has made no event yet.
     ///
-    /// The type is to take every call that the body may ask.
-    pub fn new(alloc: Global, ty: &'t T, body: B) -> Machine<'t, T, B>
+    /// The type is to take every call that the body may ask. The memory is lent to the attempt, which gives it back at its end.
+    pub fn new(alloc: Global, ty: &'t T, body: B, memory: Memory) -> Machine<'t, T, B>
         requires { (call : Call) → B.may_ask body call → (T.meaning ty.now).takes call }
         ensures proceeds { (passes : ℕ) (v : View) → IsAtRest (T.meaning ty.now) (T.sizes ty.now) v → 0 < v.draws
             → Proceeds T.meaning T.valid T.sizes B.script B.then B.left B.may_ask passes ty.now (B.script body) result v v }
         ensures left { machine_left T.meaning T.valid T.sizes B.script B.then B.left B.may_ask result
             ≤ bound (B.left_at_reset body) (length (T.meaning ty.now).widths) (words_of (T.meaning ty.now).widths) }
     {
-        Machine::Running(Attempt::new(alloc, ty, body))
+        Machine::Running(Attempt::new(alloc, ty, body, memory))
     }
 
     /// Makes exactly one event. It answers what is left of the attempt where that was the last one, and else goes on to the next.
     ///
     /// The pass is that of the earlier steps, with its view as they left it; steps of other passes leave it so. After `NoMemory` the
-    /// attempt has ended: the pass is at rest, and nothing was drawn.
+    /// attempt has ended: the pass is at rest, and nothing was drawn. With the last event the memory that it was lent is put back.
     pub fn step<C: Cells<T>>(
         &mut self,
         alloc: Global,
         cells: &mut C,
+        memory: &mut Memory,
     ) -> Result<Option<Ended<B>>, NoMemory>
         requires { (ty : T) × (f : Script) × (begun : View) × Proceeds T.meaning T.valid T.sizes B.script B.then B.left B.may_ask
             (C.passes cells.old) ty f self.old begun (C.view cells.old) }
@@ -76,7 +77,7 @@ impl<'t, T: TxType, B: Body + Drop> Machine<'t, T, B> {
     {
         match self.advance(alloc, cells)? {
             None => Ok(None),
-            Some(verdict) => Ok(Some(self.end(verdict))),
+            Some(verdict) => Ok(Some(self.end(verdict, memory))),
         }
     }
 
@@ -155,19 +156,20 @@ impl<'t, T: TxType, B: Body + Drop> Machine<'t, T, B> {
         }
     }
 
-    // Takes what is left of an attempt that has ended.
-    pub(crate) fn end(&mut self, verdict: Verdict) -> Ended<B>
+    // Takes what is left of an attempt that has ended, and puts back the memory that it was lent.
+    pub(crate) fn end(&mut self, verdict: Verdict, memory: &mut Memory) -> Ended<B>
         requires { (passes : ℕ) × (ty : T) × (f : Script) × (begun : View) × (w : View)
             × IsAtEnd T.meaning T.valid T.sizes B.script B.then B.left B.may_ask passes ty f self.old verdict begun w }
         ensures { (passes : ℕ) (ty : T) (f : Script) (begun w : View)
             → IsAtEnd T.meaning T.valid T.sizes B.script B.then B.left B.may_ask passes ty f self.old verdict begun w
             → HasEnded T.meaning T.valid T.sizes B.script B.then B.left B.may_ask passes ty f result begun w }
     {
-        let heard = match mem::replace(self, Machine::Over) {
+        let (heard, lent) = match mem::replace(self, Machine::Over) {
             Machine::Running(attempt) => attempt.end(),
             Machine::Committing(ready) => ready.end(),
             Machine::Over => unreachable!(),
         };
+        *memory = lent;
         Ended {
             body: heard.body,
             replies: heard.replies,

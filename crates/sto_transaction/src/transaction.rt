@@ -13,7 +13,7 @@ use crate::machine::{Ended, Machine};
 use crate::record::Record;
 use std::alloc::{AllocError, Global};
 use std::mem;
-use sto_attempt::{Attempt, Verdict};
+use sto_attempt::{Attempt, Memory, Verdict};
 use sto_core::Cells;
 use sto_model::Body;
 use sto_part::NoMemory;
@@ -57,12 +57,13 @@ impl<T: TxType, B: Body + Drop> Transaction<'_, T, B> {
     /// aborted.
     ///
     /// Each attempt adds its record: what its calls were answered, and how it ended. Room for the record is made before the attempt.
-    /// After `NoMemory` the pass is at rest again, and the records of the attempts before stay.
+    /// After `NoMemory` the pass is at rest again, and the records of the attempts before stay. The memory is lent to each attempt in turn.
     pub fn run<C: Cells<T>, W: AttemptWatch>(
         self,
         alloc: Global,
         cells: &mut C,
         watch: &mut W,
+        memory: &mut Memory,
         records: &mut Vec<Record>,
     ) -> Result<Transacted<B>, NoMemory>
         requires takes { (call : Call) → B.may_ask self.body call → (T.meaning self.ty.now).takes call }
@@ -91,7 +92,7 @@ impl<T: TxType, B: Body + Drop> Transaction<'_, T, B> {
             if let Err(AllocError) = records.reserve(1) {
                 return Err(NoMemory);
             }
-            let attempt = run_attempt(alloc, ty, body, cells, watch)?;
+            let attempt = run_attempt(alloc, ty, body, cells, watch, memory)?;
             body = attempt.body;
             let ended = !is_abort(attempt.verdict);
             records.push_reserved(Record {
@@ -115,6 +116,7 @@ fn run_attempt<T: TxType, B: Body + Drop, C: Cells<T>, W: AttemptWatch>(
     body: B,
     cells: &mut C,
     watch: &mut W,
+    memory: &mut Memory,
 ) -> Result<Ended<B>, NoMemory>
     requires takes { (call : Call) → B.may_ask body call → (T.meaning ty.now).takes call }
     requires rests { IsAtRest (T.meaning ty.now) (T.sizes ty.now) (C.view cells.old) }
@@ -124,8 +126,8 @@ fn run_attempt<T: TxType, B: Body + Drop, C: Cells<T>, W: AttemptWatch>(
     ensures err { OnErr result (HasStopped (T.meaning ty.now) (T.sizes ty.now) (C.view cells.old) (C.view cells.new)) }
     ensures same { C.same cells.old cells.new }
 {
-    let mut machine = Machine::new(alloc, ty, body);
-    let ended = finish(alloc, &mut machine, cells, watch);
+    let mut machine = Machine::new(alloc, ty, body, memory.take(alloc));
+    let ended = finish(alloc, &mut machine, cells, watch, memory);
     mem::drop(machine);
     ended
 }
@@ -136,6 +138,7 @@ fn finish<T: TxType, B: Body + Drop, C: Cells<T>, W: AttemptWatch>(
     machine: &mut Machine<'_, T, B>,
     cells: &mut C,
     watch: &mut W,
+    memory: &mut Memory,
 ) -> Result<Ended<B>, NoMemory>
     requires { (ty : T) × (f : Script) × (begun : View) × Proceeds T.meaning T.valid T.sizes B.script B.then B.left B.may_ask
         (C.passes cells.old) ty f machine.old begun (C.view cells.old) }
@@ -149,7 +152,7 @@ fn finish<T: TxType, B: Body + Drop, C: Cells<T>, W: AttemptWatch>(
         watch.before_event(events);
         match machine.advance(alloc, cells)? {
             None => events = read_part(machine, cells, watch, events.saturating_add(1))?,
-            Some(verdict) => return Ok(machine.end(verdict)),
+            Some(verdict) => return Ok(machine.end(verdict, memory)),
         }
     }
 }

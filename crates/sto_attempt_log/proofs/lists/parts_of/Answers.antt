@@ -4,8 +4,8 @@ use Rattle.sto_attempt_log.proofs.Gathering.{gathered-rises}
 use Rattle.sto_attempt_log.specs.Gathering.{gathered, seen_part, other_part}
 use Rattle.sto_attempt_log.proofs.lists.parts_of.Goals as goal
 
-pub loaded_of-requires : goal.loaded_of-requires
-loaded_of-requires c = subst (λ (l : List ℕ). Rises l) (sym (c.as_slice.ensures.items ∙ c.in_ok-seen.ensures)) (gathered-rises seen_part [] c.items-items.result.now tt)
+pub loaded_of-requires-clause-seen : goal.loaded_of-requires-clause-seen
+loaded_of-requires-clause-seen c = subst (λ (l : List ℕ). Rises l) (sym (c.as_slice.ensures.items ∙ c.in_ok-seen.ensures)) (gathered-rises seen_part [] c.items-items.result.now tt)
 
 pub returns-clause-seen : goal.returns-clause-seen
 returns-clause-seen c = c.in_ok-seen.ensures ∙ ap (gathered seen_part []) c.items-items.ensures.items

@@ -73,8 +73,8 @@ go_on-requires-clause-log g c =
       log = log_renewed m law f a.log.base.items a.log.set.items a.log.set.updates rs was.log c.requires.some.0 c.requires.some.1 c.requires.some.2 fresh (map watched ws) c.requires.observed stays;
       known_above = cache_none m (words_in fresh) a.log.set.updates;
     } in
-    subst (λ (b : Listed ReadEntry). IsOnLog m (g.B.Body.then a.log.body) f (g.B.Body.left a.log.body) (g.B.Body.may_ask a.log.body) b.items a.log.set c.new-2.result a.log.replies.items) (sym c.replace.ensures.value)
-    (subst (λ (k : List (ℕ × List ℤ)). IsOnLog m (g.B.Body.then a.log.body) f (g.B.Body.left a.log.body) (g.B.Body.may_ask a.log.body) fresh a.log.set k a.log.replies.items) (sym c.new-2.ensures) h)
+    subst (λ (b : Listed ReadEntry). IsOnLog m (g.B.Body.then a.log.body) f (g.B.Body.left a.log.body) (g.B.Body.may_ask a.log.body) b.items a.log.set c.forget.new.self a.log.replies.items) (sym c.swap.ensures.x_after)
+    (subst (λ (k : List (ℕ × List ℤ)). IsOnLog m (g.B.Body.then a.log.body) f (g.B.Body.left a.log.body) (g.B.Body.may_ask a.log.body) fresh a.log.set k a.log.replies.items) (sym c.forget.ensures) h)
 
 pub returns-clause-turned : goal.returns-clause-turned
 returns-clause-turned g c v spans phase =
@@ -83,9 +83,9 @@ returns-clause-turned g c v spans phase =
     let sizes = g.T.Naming.sizes a.log.ty.now in
     let f = g.B.Body.script a.log.body in
     let bound = a.extension.bound in
-    let made = c.replace.result.items in
-    let same : made ≡ a.extension.fresh.items = ap (λ (l : Listed ReadEntry). l.items) c.replace.ensures.value in
-    let now : Extension = record { bound = a.extension.bound; extended = c.still-self.result; fresh = c.replace.new.dest; watches = a.extension.watches } in
+    let made = c.swap.new.x.items in
+    let same : made ≡ a.extension.fresh.items = ap (λ (l : Listed ReadEntry). l.items) c.swap.ensures.x_after in
+    let now : Extension = record { bound = a.extension.bound; extended = c.still-self.result; fresh = c.clear.new.self; watches = a.extension.watches } in
     let rest = rests m g.T.Naming.valid sizes a.at bound a.log.base.items a.extension.fresh.items f (map told a.log.replies.items) v spans phase in
     let claimed : AreClaimed v bound made = subst (λ (l : List ReadEntry). AreClaimed v bound l) (sym same) spans.renewed in
     let only : AreOnly v bound made = subst (λ (l : List ReadEntry). AreOnly v bound l) (sym same) spans.only in
@@ -144,7 +144,7 @@ returns-clause-left g c =
     let on : heard ≤ now = replies_on a.log.replies.items c.go_on.new.self.replies.items grown.more grown.replies in
     let before = g.B.Body.left a.log.body in
     let calls = g.B.Body.left c.go_on.new.self.body in
-    let extension : Extension = record { bound = a.extension.bound; extended = c.still-self.result; fresh = c.replace.new.dest; watches = a.extension.watches } in
+    let extension : Extension = record { bound = a.extension.bound; extended = c.still-self.result; fresh = c.clear.new.self; watches = a.extension.watches } in
     let heard_is : c.len-heard.result ≡ heard = c.len-heard.ensures in
     let now_is : c.len-2.result ≡ now = c.len-2.ensures in
     let iff : IsTrue c.still-self.result ↔ (IsTrue a.extension.extended × (now ≡ heard)) =
@@ -158,8 +158,8 @@ returns-in_err-reached-clause-stopped g c v spans =
     let m = g.T.TxType.meaning a.log.ty.now in
     let f = g.B.Body.script a.log.body in
     let now = map told c.go_on.new.self.replies.items in
-    let made = c.replace.result.items in
-    let same : made ≡ a.extension.fresh.items = ap (λ (l : Listed ReadEntry). l.items) c.replace.ensures.value in
+    let made = c.swap.new.x.items in
+    let same : made ≡ a.extension.fresh.items = ap (λ (l : Listed ReadEntry). l.items) c.swap.ensures.x_after in
     let claimed : AreClaimed v a.extension.bound made = subst (λ (l : List ReadEntry). AreClaimed v a.extension.bound l) (sym same) spans.renewed in
     always_err c.from_residual.result (IsPrefix m f v a.extension.bound now) (prefix_of m f v a.extension.bound made now c.go_on.ensures.runs claimed)
 

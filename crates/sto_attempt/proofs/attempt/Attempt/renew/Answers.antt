@@ -27,7 +27,7 @@ advance-requires-clause-renewed g c =
     let a = c.args.self.now in
     let m = g.T.TxType.meaning a.log.ty.now in
     let ws = map watched c.in_ok-watches.watches.items in
-    let none : c.new.result.items ≡ [] = ap (λ (l : Listed ReadEntry). l.items) c.new.ensures in
+    let none : c.clear.new.self.items ≡ [] = c.clear.ensures in
     let h : IsRenewed (length m.widths) (words_in a.log.base.items) [] ws ws = record { done = []; all = refl; parts = refl; stay = tt } in
     (ws, subst (λ (l : List ReadEntry). IsRenewed (length m.widths) (words_in a.log.base.items) l ws ws) (sym none) h)
 
@@ -51,7 +51,7 @@ returns-clause-turned g c =
     let w = g.C.Cells.view c.renew-bound.new.self in
     let n = c.renew-bound.result in
     let h = renew_spans m g.T.Naming.valid sizes f a.at c.requires.fits.0 c.requires.fits.1 a.words.items a.log.base.items a.log.set.updates rs v w (g.C.Cells.passes c.args.cells.now) n (pos 0) c.requires.fits.2 c.renew-bound.ensures.tells in
-    let none : c.new.result.items ≡ [] = ap (λ (l : Listed ReadEntry). l.items) c.new.ensures in
+    let none : c.clear.new.self.items ≡ [] = c.clear.ensures in
     c.advance.ensures.turned w (subst (λ (l : List ReadEntry). Spans m g.T.Naming.valid sizes a.at n a.log.base.items l w) (sym none) h.0) h.1
 
 pub returns-in_err-watches-clause-err : goal.returns-in_err-watches-clause-err
@@ -89,7 +89,7 @@ returns-clause-err g c =
     let n = c.renew-bound.result in
     let fits = c.requires.fits.2 in
     let h = renew_spans m valid sizes f a.at c.requires.fits.0 c.requires.fits.1 a.words.items base a.log.set.updates rs v w passes n (pos 0) fits c.renew-bound.ensures.tells in
-    let none : c.new.result.items ≡ [] = ap (λ (l : Listed ReadEntry). l.items) c.new.ensures in
+    let none : c.clear.new.self.items ≡ [] = c.clear.ensures in
     let now = map told c.advance.new.self.log.replies.items in
     let left : IsLeft w = left_idle m valid sizes a.at n base [] f rs w h.0 (idle_reading w h.1) in
     err_both c.advance.result (IsLeft w) (IsPrefix m f w c.advance.new.self.at now) (always_err c.advance.result (IsLeft w) left) (c.advance.ensures.stopped w (subst (λ (l : List ReadEntry). Spans m valid sizes a.at n base l w) (sym none) h.0))
@@ -110,7 +110,7 @@ returns-clause-left g c =
     let fits = c.requires.fits.2 in
     let is : (d : Parts) → valid v.sizes d → m.valid d = λ d h. (g.met.T.TxType.valid_is a.log.ty.now d).1 (subst (λ (l : List ℕ). valid l d) fits.own.same_sizes h) in
     let some = some_contents m valid v a.at base is fits.fit fits.claimed in
-    let none : c.new.result.items ≡ [] = ap (λ (l : Listed ReadEntry). l.items) c.new.ensures in
+    let none : c.clear.new.self.items ≡ [] = c.clear.ensures in
     let ws = map watched c.in_ok-watches.watches.items in
     let before = g.B.Body.left a.log.body in
     let now = events_left (g.B.Body.left b.log.body) m.widths b.read_phase b.words.items b.extension b.log.base.items in
