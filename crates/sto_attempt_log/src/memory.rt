@@ -9,7 +9,6 @@ use std::alloc::Global;
 use std::marker::Model;
 use std::mem;
 use sto_part::{List, Parts};
-use sto_type::Cache;
 
 /// The lists of an attempt and of its commit while no attempt uses them: each is empty, and has the room that earlier attempts have made.
 ///
@@ -19,7 +18,6 @@ use sto_type::Cache;
 pub struct Memory {
     base: ReadSet,
     fresh: ReadSet,
-    cache: Cache,
     seen: Parts,
     loaded: Parts,
     tasks: Parts,
@@ -36,7 +34,7 @@ impl Model for Memory {
 
     ghost view = { λ _. tt };
 
-    ghost invariant = { λ m. (m.base.items ≡ []) × (m.fresh.items ≡ []) × (m.cache ≡ []) × (m.seen.items ≡ [])
+    ghost invariant = { λ m. (m.base.items ≡ []) × (m.fresh.items ≡ []) × (m.seen.items ≡ [])
         × (m.loaded.items ≡ []) × (m.tasks.items ≡ []) × (m.checks.items ≡ []) × (m.places.items ≡ [])
         × (m.found_tickets.items ≡ []) × (m.loaded_words.items ≡ []) };
 }
@@ -47,7 +45,6 @@ impl Memory {
         Memory {
             base: ReadSet::new(alloc),
             fresh: ReadSet::new(alloc),
-            cache: Cache::new(alloc),
             seen: Parts::new(alloc),
             loaded: Parts::new(alloc),
             tasks: Parts::new(alloc),
@@ -75,13 +72,6 @@ impl Memory {
         ensures { result.items ≡ [] }
     {
         mem::replace(&mut self.fresh, ReadSet::new(alloc))
-    }
-
-    /// A cache that knows no part.
-    pub fn take_cache(&mut self, alloc: Global) -> Cache
-        ensures { result ≡ [] }
-    {
-        mem::replace(&mut self.cache, Cache::new(alloc))
     }
 
     pub(crate) fn take_seen(&mut self, alloc: Global) -> Parts
@@ -127,13 +117,11 @@ impl Memory {
         mem::replace(&mut self.loaded_words, LoadedWords::new(alloc))
     }
 
-    /// Keeps the room of what an attempt has read and knows.
-    pub fn keep_log(&mut self, base: ReadSet, cache: Cache) {
-        let (mut base, mut cache) = (base, cache);
+    /// Keeps the room of what an attempt has read.
+    pub fn keep_base(&mut self, base: ReadSet) {
+        let mut base = base;
         base.clear();
-        cache.forget();
         self.base = base;
-        self.cache = cache;
     }
 
     /// Keeps the room of what an extension has read anew.
