@@ -45,6 +45,10 @@ loop-thread-preserved g c =
       same = g.met.C.Cells.same_through c.args.cells.now c.loop-thread.cells c.run_script.new.cells inv.same c.run_script.ensures.same;
     }
 
+pub returns-in_err-run_script-clause-same : goal.returns-in_err-run_script-clause-same
+returns-in_err-run_script-clause-same g c =
+    g.met.C.Cells.same_through c.args.cells.now c.loop-thread.cells c.run_script.new.cells c.loop-thread.invariant.same c.run_script.ensures.same
+
 pub returns-clause-finished : goal.returns-clause-finished
 returns-clause-finished g c =
     let file = g.W.Work.file c.args.work.now in
