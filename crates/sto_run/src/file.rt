@@ -63,12 +63,12 @@ pub fn run_workload<R: Threads + Sync, F: Workload + Drop + Send + Sync, G: Gate
 }
 
 // Runs what was opened on so many workers, and gives the journal.
-fn run_opened<R: Threads + Sync, F: Workload + Drop + Send + Sync, T: TxType + Send + Sync, G: Gate>(
-    rt: &R,
-    alloc: Global,
-    run: &OpenedRun<'_, F, T, G>,
-    workers: u32,
-) -> Result<Journal, NoMemory>
+fn run_opened<
+    R: Threads + Sync,
+    F: Workload + Drop + Send + Sync,
+    T: TxType + Send + Sync,
+    G: Gate,
+>(rt: &R, alloc: Global, run: &OpenedRun<'_, F, T, G>, workers: u32) -> Result<Journal, NoMemory>
     requires sound { IsSound (F.file run.now.work.workload) }
     requires type_of { IsTypeOf (shapes_of (F.file run.now.work.workload).declarations) (T.meaning run.now.work.ty.now) }
     requires ready { IsTaken (F.file run.now.work.workload) (T.meaning run.now.work.ty.now) × (0 < run.now.work.tries) }

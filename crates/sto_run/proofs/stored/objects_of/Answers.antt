@@ -20,10 +20,8 @@ build-requires-clause-fit g c = subst AreFit (sym c.in_ok-shapes.ensures) (sound
 pub build-requires-clause-parts : goal.build-requires-clause-parts
 build-requires-clause-parts g c = subst (λ (ss : List Shape). sum_by part_count ss < 2 ^ 32) (sym c.in_ok-shapes.ensures) (parts_fit (g.F.Workload.file c.args.file.now) c.requires)
 
-pub returns-clause-means : goal.returns-clause-means
-returns-clause-means g c =
-    let shapes = shapes_of (g.F.Workload.file c.args.file.now).declarations in
-    IfOk-weaker c.build.result _ _ (λ x kinds. objects_mean x shapes (subst (AreOf x) c.in_ok-shapes.ensures kinds)) c.build.ensures.kinds
+pub returns-clause-kinds : goal.returns-clause-kinds
+returns-clause-kinds g c = IfOk-weaker c.build.result _ _ (λ x kinds. subst (AreOf x) c.in_ok-shapes.ensures kinds) c.build.ensures.kinds
 
 pub returns-clause-type_of : goal.returns-clause-type_of
 returns-clause-type_of g c =
