@@ -21,5 +21,6 @@ pub fn objects_of<F: Workload>(alloc: Global, file: &F) -> Result<Objects, NoMem
     ensures taken { IfOk result (λ x. IsTaken (F.file file.now) (⟦<Objects as TxType>⟧.meaning x)) }
 {
     let shapes = file.shapes(alloc)?;
-    build(alloc, &shapes)
+    let objects = build(alloc, &shapes)?;
+    Ok(objects)
 }

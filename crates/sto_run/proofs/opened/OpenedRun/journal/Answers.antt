@@ -7,7 +7,7 @@ use Rattle.sto_run.proofs.Alone.{no_aborts, never_aborted}
 use Rattle.sto_run.proofs.opened.OpenedRun.journal.Goals as goal
 
 pub journal_of-requires-clause-finished : goal.journal_of-requires-clause-finished
-journal_of-requires-clause-finished g c = (c.args.self.now.work.tries, c.requires.tries, c.requires.finished)
+journal_of-requires-clause-finished g c = λ κs within. (c.args.self.now.work.tries, c.requires.tries, c.requires.finished)
 
 pub returns-clause-lawful : goal.returns-clause-lawful
 returns-clause-lawful g c = IfOk-weaker c.journal_of.result _ _ (λ j h. h c.args.self.now.work.tries c.requires.finished) c.journal_of.ensures
