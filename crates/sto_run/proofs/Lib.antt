@@ -12,5 +12,6 @@ pub mod Fitting
 pub mod Asking
 pub mod Sound
 pub mod ObjectMeanings
+pub mod StoredObjects
 pub mod Entire
 pub mod RunJournals
