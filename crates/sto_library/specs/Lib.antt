@@ -1,0 +1,6 @@
+pub mod Planned
+pub mod Values
+pub use Rattle.sto_atomically.specs.Atomic
+pub use Rattle.sto_code.specs.Calls
+pub use Rattle.sto_code.specs.Progs
+pub use Rattle.sto_code.specs.Steps
