@@ -1,7 +1,7 @@
-//! A bank: transfers on two and on four threads, and audits beside them that each see all the money.
+//! A bank: transfers on two threads, and audits beside them that each see all the money.
 #![tactic(auto)]
 
-ghost use Rattle.std.specs.Prelude.{◌≡◌, IfOk};
+ghost use Rattle.std.specs.Prelude.{◌≡◌};
 ghost use Rattle.sto_library.specs.Values.{Serves};
 ghost use Rattle.sto_example_bank.specs.Accounts.{transfer, audit};
 
@@ -9,7 +9,7 @@ use std::alloc::Global;
 use std::io;
 use std::thread::{Threads, join};
 use sto_library::{
-    BoxId, Code, Done, IdleWorker, Schema, SharedStore, State, Stop, Tx, TxType,
+    BoxId, Code, Done, IdleWorker, Objects, Schema, SharedStore, Stop, StoreWorker, Tx, TxType,
     wrapping_difference, wrapping_sum,
 };
 
@@ -72,15 +72,15 @@ impl Code for Audit {
     }
 }
 
-/// What a teller's day led to.
+/// A worker after its day.
 #[derive(Drop)]
 struct Day<T: TxType> {
     worker: IdleWorker<T>,
-    /// How many audits told something else than all the money.
-    wrong: u32,
+    /// Whether each audit told all the money.
+    right: bool,
 }
 
-/// Transfers between the accounts in turn, with an audit after each.
+/// Moves money from one account to another again and again, with an audit after each.
 fn work<T: TxType>(
     alloc: Global,
     store: &SharedStore<T>,
@@ -90,33 +90,26 @@ fn work<T: TxType>(
     requires { Serves T.TxType store.now.words worker.rest.seat }
     ensures { Serves T.TxType store.now.words result.worker.rest.seat }
 {
-    let [a, b, c] = accounts;
+    let [from, to, other] = accounts;
     let mut teller = store.worker(alloc, worker);
-    let mut wrong = 0;
+    let mut right = true;
     for amount in 1..41 {
-        let _moved = teller.run(&Transfer {
-            from: a,
-            to: b,
-            amount,
-        });
-        let _moved = teller.run(&Transfer {
-            from: b,
-            to: c,
-            amount,
-        });
-        let _moved = teller.run(&Transfer {
-            from: c,
-            to: a,
-            amount,
-        });
-        match teller.run(&Audit { a, b, c }) {
-            Ok(Done::Gave(300)) => {}
-            _ => wrong += 1,
-        }
+        let _moved = teller.run(&Transfer { from, to, amount });
+        right = is_all(&mut teller, from, to, other) && right;
     }
     Day {
         worker: teller.rest(),
-        wrong,
+        right,
+    }
+}
+
+/// Whether an audit of three accounts tells all the money.
+fn is_all<T: TxType>(teller: &mut StoreWorker<'_, T>, a: BoxId, b: BoxId, c: BoxId) -> bool
+    ensures { teller.new.words ≡ teller.old.words }
+{
+    match teller.run(&Audit { a, b, c }) {
+        Ok(Done::Gave(sum)) => sum == 300,
+        _ => false,
     }
 }
 
@@ -134,38 +127,45 @@ fn work_both<R: Threads, T: TxType + Send + Sync>(
     ensures first { Serves T.TxType store.now.words result.0.worker.rest.seat }
     ensures other { Serves T.TxType store.now.words result.1.worker.rest.seat }
 {
+    let [a, b, c] = accounts;
     join(
         rt,
         move || -> Day<T>
             requires { Serves T.TxType store.now.words first.rest.seat }
             ensures { Serves T.TxType store.entry.now.words result.worker.rest.seat }
-        { work(alloc, store, first, accounts) },
+        { work(alloc, store, first, [a, b, c]) },
         move || -> Day<T>
             requires { Serves T.TxType store.now.words other.rest.seat }
             ensures { Serves T.TxType store.entry.now.words result.worker.rest.seat }
-        { work(alloc, store, other, accounts) },
+        { work(alloc, store, other, [b, c, a]) },
     )
 }
 
-/// A day with two tellers: how many audits were wrong, and what the accounts hold at its end.
-fn run_bank<R: Threads + Sync>(rt: &R, alloc: Global) -> Option<(u32, State)> {
+/// A store of three accounts, each with 100, and their names.
+fn open_bank(alloc: Global) -> Option<(SharedStore<Objects>, [BoxId; 3])> {
     let mut schema = Schema::new(alloc);
-    let accounts = [
-        schema.boxed(100).ok()?,
-        schema.boxed(100).ok()?,
-        schema.boxed(100).ok()?,
-    ];
-    let mut store = schema.open(alloc, 2).ok()?;
-    let (first, other) = (store.hire()?, store.hire()?);
+    let a = schema.boxed(100).ok()?;
+    let b = schema.boxed(100).ok()?;
+    let c = schema.boxed(100).ok()?;
+    Some((schema.open(alloc, 2).ok()?, [a, b, c]))
+}
+
+/// A day of the bank with two tellers: whether each audit was right.
+fn run_bank<R: Threads>(rt: &R, alloc: Global) -> Option<bool> {
+    let (mut store, accounts) = open_bank(alloc)?;
+    let first = store.hire()?;
+    let other = store.hire()?;
     let (x, y) = work_both(rt, alloc, &store, first, other, accounts);
     store.back(x.worker).ok()?;
     store.back(y.worker).ok()?;
-    Some((x.wrong + y.wrong, store.close(alloc).ok()?))
+    let rows = store.close(alloc).ok()?;
+    Some(x.right && y.right && rows.len() == 3)
 }
 
 fn main(rt: HostRuntime) -> io::Result<()> {
     match run_bank(&rt, rt.alloc()) {
-        Some((wrong, rows)) => println!(rt; "wrong audits {wrong}, objects {}", rows.len()),
+        Some(true) => println!(rt; "each audit told 300"),
+        Some(false) => println!(rt; "an audit told something else"),
         None => println!(rt; "no memory"),
     }
 }

@@ -1,5 +1,6 @@
 pub mod Planned
 pub mod Values
+pub mod Closings
 pub use Rattle.sto_atomically.specs.Atomic
 pub use Rattle.sto_code.specs.Calls
 pub use Rattle.sto_code.specs.Progs

@@ -1,8 +1,9 @@
 //! A store, in which its workers rest.
-ghost use Rattle.std.specs.Prelude.{◌≡◌, [], ◌∷◌, ◌++◌, map, IfOk, MatchOption};
+ghost use Rattle.std.specs.Prelude.{◌≡◌, [], ◌∷◌, ◌++◌, map, length, IfOk, IfErr, MatchOption};
 ghost use Rattle.std.specs.List.{All};
 ghost use Rattle.sto_open.specs.Working.{AreRowsAfter};
 ghost use Rattle.sto_library.specs.Values.{Serves, TakeCalls};
+ghost use Rattle.sto_library.specs.Closings.{ComesBack};
 
 use crate::worker::StoreWorker;
 use std::alloc::Global;
@@ -95,7 +96,9 @@ impl<T: TxType> SharedStore<T> {
 impl<T: TxType + Drop> SharedStore<T> {
     /// Closes the store, and answers the rows that each of its objects holds. All its workers are to rest in it; else it comes back.
     pub fn close(self, alloc: Global) -> Result<State, CloseError<T>>
-        ensures { IfOk result (λ rows. AreRowsAfter T.valid (T.meaning self.words.ty) self.views rows.items) }
+        ensures rows { IfOk result (λ rows. AreRowsAfter T.valid (T.meaning self.words.ty) self.views rows.items) }
+        ensures all { IfOk result (λ _. length self.views ≡ self.words.shared.table.shared.key.passes) }
+        ensures missing { IfErr result (ComesBack self) }
     {
         let SharedStore {
             words,
