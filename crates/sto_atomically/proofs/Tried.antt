@@ -1,0 +1,128 @@
+-- What one attempt led to, by its record.
+use Rattle.std.specs.List.{All}
+use Rattle.std.proofs.Common.{◌≡◌, ◌⊎◌, ◌≤◌, ◌<◌, ◌+◌, ℕ, List, [], ◌∷◌, ◌++◌, map, length, Bool, true, false, refl, sym, ap, ◌∙◌, subst, arith, inl, inr, le_refl}
+use Rattle.std.specs.Prelude.{if◌then◌else◌, Option, Some, None, Result, Ok, MatchOption, IsSome}
+use Rattle.sto_part.specs.Listed.{Listed}
+use Rattle.std.proofs.lemmas.List.{map-append}
+use Rattle.std.proofs.lemmas.List.Elements.{All-weaker}
+use Rattle.sto_model.specs.Told.{told}
+use Rattle.sto_model.specs.Run.{Script as Steps}
+use Rattle.sto_model.specs.declared.shape.Shape.{Shape}
+use Rattle.sto_type.specs.Meaning.{Meaning}
+use Rattle.sto_core.specs.declared.view.View.{View}
+use Rattle.sto_attempt_facts.specs.Records.{Place, Record as Told, is_abort, times_written}
+use Rattle.sto_attempt_facts.specs.Counted.{InThreads, times_committed, aborted_times, finished_places}
+use Rattle.sto_attempt_facts.specs.Added.{IsAdded, IsKnown, IsOwnTicket, Grows}
+use Rattle.sto_transaction.specs.declared.record.Record.{Record}
+use Rattle.sto_transaction.specs.Plain.{plain, verdict}
+use Rattle.sto_transaction.specs.Ran.{HasRun, HasBroken}
+use Rattle.sto_code.specs.Shortened.{short_of}
+use Rattle.sto_code.specs.declared.short_reply.ShortReply.{ShortReply}
+use Rattle.sto_code.specs.declared.tx.Stop.{Stop}
+use Rattle.sto_code.specs.Progs.{Prog, next_within, Runs}
+use Rattle.sto_atomically.specs.Atomic.{HasSeen, TakesNoEffect, IsAtomic, HasTried}
+use Rattle.sto_atomically.proofs.Counts.{all_aborted, none_finished, all_before, some_aborted, last_item}
+
+seen_known : (v : View) (n : ℕ) → HasSeen v n → IsKnown v n
+seen_known v n (inl h) = inl h
+seen_known v n (inr (inl h)) = inr (inl (record { entry = h.entry; there = h.there; ticket = h.ticket }))
+seen_known v n (inr (inr h)) = inr (inr h)
+
+module _ (m : Meaning) (sizes : List ℕ) (passes : ℕ) (v w : View) (f : Steps) (place : Place) (left : List Record) (x : Record) (rs : List Record) (ended : Bool)
+    (all : rs ≡ left ++ x ∷ []) (ran : HasRun m sizes 1 passes v w f place [] (map plain rs) ended) where
+  new_is : ran.new ≡ map plain left ++ plain x ∷ []
+  new_is = sym ran.whole ∙ ap (map plain) all ∙ map-append plain left (x ∷ [])
+
+  each : All (IsAdded m v w f place) (map plain left ++ plain x ∷ [])
+  each = subst (All (IsAdded m v w f place)) (sym ran.whole ∙ ap (map plain) all ∙ map-append plain left (x ∷ [])) ran.added.each
+
+  pub last_added : IsAdded m v w f place (plain x)
+  last_added = last_item (IsAdded m v w f place) (map plain left) (plain x) each
+
+  placed : All (λ (r : Told). r.place ≡ place) (map plain left ++ plain x ∷ [])
+  placed = All-weaker (IsAdded m v w f place) (λ (r : Told). r.place ≡ place) (λ r h. h.placed) (map plain left ++ plain x ∷ []) each
+
+  pub aborted_none : is_abort (verdict x.verdict) ≡ true → TakesNoEffect v w
+  aborted_none abort t =
+      let all_abort = all_before place (plain x) abort (map plain left) placed (subst InThreads new_is ran.added.threads) in
+      let none : times_written t (map plain left ++ plain x ∷ []) ≡ 0 = none_finished t (map plain left ++ plain x ∷ []) all_abort in
+      let same = ap (times_written t) new_is in
+      let e = ran.added.entries t in omega (arith, none, same, e)
+
+  pub not_alone : is_abort (verdict x.verdict) ≡ true → passes ≡ 1 → ⊥
+  not_alone abort one =
+      let some : 0 < aborted_times place (map plain left ++ plain x ∷ []) = some_aborted place (plain x) abort (map plain left) last_added.placed in
+      let same = ap (aborted_times place) new_is in
+      let k = (ran.alone one).1 in omega (arith, some, same, k)
+
+pub some_record : (m : Meaning) (sizes : List ℕ) (passes : ℕ) (v w : View) (f : Steps) (place : Place) (rs : List Record) (ended : Bool)
+    → HasRun m sizes 1 passes v w f place [] (map plain rs) ended → rs ≡ [] → ⊥
+some_record m sizes passes v w f place rs true ran none =
+    let new : ran.new ≡ [] = sym ran.whole ∙ ap (map plain) none in
+    let some : finished_places ran.new ≡ place ∷ [] = ran.ends in
+    let l = ap length some in let k = ap (λ (l : List Told). length (finished_places l)) new in absurd (omega (arith, l, k))
+some_record m sizes passes v w f place rs false ran none =
+    let new : ran.new ≡ [] = sym ran.whole ∙ ap (map plain) none in
+    let one = ran.used refl in let k = ap (aborted_times place) new in absurd (omega (arith, one, k))
+
+pub broken_none : (m : Meaning) (sizes : List ℕ) (v w : View) (f : Steps) (place : Place) (before later : List Told) → HasBroken m sizes 1 v w f place before later → TakesNoEffect v w
+broken_none m sizes v w f place before later h t = let a = all_aborted place t h.new h.aborted in let e = h.added.entries t in omega (arith, a, e)
+
+pub grows_itself : (v : View) → Grows v v
+grows_itself v = record { at = le_refl v.at; entries = λ e h c. h; claims = λ c h. h; wrote = λ c h. h; findings = λ f h. h }
+
+pub grows_through : (u v w : View) → Grows u v → Grows v w → Grows u w
+grows_through u v w g h = record {
+  at = (let a = g.at in let b = h.at in omega (arith, a, b));
+  entries = λ e there c. h.entries e (g.entries e there c) c;
+  claims = λ c there. h.claims c (g.claims c there);
+  wrote = λ c there. h.wrote c (g.wrote c there);
+  findings = λ f there. h.findings f (g.findings f there);
+}
+
+-- what was seen stays seen
+pub seen_later : (v w : View) → Grows v w → (n : ℕ) → HasSeen v n → HasSeen w n
+seen_later v w g n (inl h) = inl (let a = g.at in omega (arith, a, h))
+seen_later v w g n (inr (inl h)) = inr (inl (record { entry = h.entry; there = g.entries h.entry h.there h.committed; committed = h.committed; ticket = h.ticket }))
+seen_later v w g n (inr (inr h)) = inr (inr (record { claim = h.claim; there = g.wrote h.claim h.there; ticket = h.ticket }))
+
+pub record_atomic : {A : Type 0} (m : Meaning) (v w : View) (shapes : List Shape) (most : ℕ) (p : Prog A) (place : Place) (x : Record) (says : List ShortReply → Type 0)
+    → IsAdded m v w (λ rs. next_within shapes most p (map short_of rs)) place (plain x) → is_abort (verdict x.verdict) ≡ false → says (map short_of (map told x.replies.items))
+    → IsAtomic m v w shapes most p says
+record_atomic m v w shapes most p place x says added ended said = record {
+  replies = map told x.replies.items;
+  verdict = verdict x.verdict;
+  ended = ended;
+  told = added.told;
+  since = λ n h. added.since n (seen_known v n h);
+  said = said;
+}
+
+-- a run of the code that was given, which added the first records
+pub same_run : {A K : Type 0} (does : K → Prog A) (m : Meaning) (sizes : List ℕ) (passes : ℕ) (v w : View) (place : Place) (before later : List Record) (ended : Bool)
+    (c code : K) (s shapes : Listed Shape) (n most : ℕ) → c ≡ code → s ≡ shapes → n ≡ most → before ≡ []
+    → HasRun m sizes 1 passes v w (λ rs. next_within s.items n (does c) (map short_of rs)) place (map plain before) (map plain later) ended
+    → HasRun m sizes 1 passes v w (λ rs. next_within shapes.items most (does code) (map short_of rs)) place [] (map plain later) ended
+same_run {A} {K} does m sizes passes v w place before later ended c code s shapes n most a b e none ran =
+    subst (λ (k : K). HasRun m sizes 1 passes v w (λ rs. next_within shapes.items most (does k) (map short_of rs)) place [] (map plain later) ended) a
+    (subst (λ (k : Listed Shape). HasRun m sizes 1 passes v w (λ rs. next_within k.items most (does c) (map short_of rs)) place [] (map plain later) ended) b
+    (subst (λ (k : ℕ). HasRun m sizes 1 passes v w (λ rs. next_within s.items k (does c) (map short_of rs)) place [] (map plain later) ended) e
+    (subst (λ (k : List Record). HasRun m sizes 1 passes v w (λ rs. next_within s.items n (does c) (map short_of rs)) place (map plain k) (map plain later) ended) none ran)))
+
+-- what is so by the record that is told, where it is aborted and where it is not
+pub told_tried : {A : Type 0} (m : Meaning) (sizes : List ℕ) (passes : ℕ) (v w : View) (shapes : List Shape) (most : ℕ) (p : Prog A) (place : Place) (left : List Record) (x : Record)
+    (rs : List Record) (ended : Bool) (said : Option (Result A Stop)) → rs ≡ left ++ x ∷ []
+    → HasRun m sizes 1 passes v w (λ rs. next_within shapes most p (map short_of rs)) place [] (map plain rs) ended
+    → MatchOption said (is_abort (verdict x.verdict) ≡ true) (λ said. (is_abort (verdict x.verdict) ≡ false) × Runs p (map short_of (map told x.replies.items)) said)
+    → HasTried m v w shapes most p (Ok said)
+told_tried m sizes passes v w shapes most p place left x rs ended None all ran h =
+    aborted_none m sizes passes v w (λ rs. next_within shapes most p (map short_of rs)) place left x rs ended all ran h
+told_tried m sizes passes v w shapes most p place left x rs ended (Some said) all ran h =
+    record_atomic m v w shapes most p place x (λ hs. Runs p hs said)
+    (last_added m sizes passes v w (λ rs. next_within shapes most p (map short_of rs)) place left x rs ended all ran) h.0 h.1
+
+pub told_alone : {A : Type 0} (m : Meaning) (sizes : List ℕ) (passes : ℕ) (v w : View) (f : Steps) (place : Place) (left : List Record) (x : Record)
+    (rs : List Record) (ended : Bool) (said : Option (Result A Stop)) (Q : Result A Stop → Type 0) → rs ≡ left ++ x ∷ [] → HasRun m sizes 1 passes v w f place [] (map plain rs) ended
+    → MatchOption said (is_abort (verdict x.verdict) ≡ true) Q → passes ≡ 1 → IsSome said
+told_alone m sizes passes v w f place left x rs ended None Q all ran h one = absurd (not_alone m sizes passes v w f place left x rs ended all ran h one)
+told_alone m sizes passes v w f place left x rs ended (Some said) Q all ran h one = refl

@@ -1,0 +1,9 @@
+//! Code that is run as a transaction on a pass, and what it leads to.
+#![tactic(auto)]
+
+mod atomic;
+mod attempt;
+mod outcome;
+
+pub use atomic::atomically;
+pub use outcome::{Done, Unrun};

@@ -1,0 +1,24 @@
+//! What a transaction leads to.
+use sto_model::Call;
+
+/// What a transaction that was run gave.
+#[derive(Drop)]
+pub enum Done<A> {
+    /// It was committed, and gave this.
+    Gave(A),
+    /// Its code gave it up. Nothing took effect.
+    Cancelled,
+}
+
+/// Why a transaction was not run to its end. Nothing of it took effect, and the worker can go on with others.
+#[derive(Clone, Copy)]
+pub enum Unrun {
+    /// All tries were aborted, since others changed what it looked at.
+    Busy,
+    /// Its code asked this call, which its object does not take; or more calls than it may.
+    Refused(Call),
+    /// The worker has no ticket left.
+    Worn,
+    /// Memory was wanting.
+    NoMemory,
+}

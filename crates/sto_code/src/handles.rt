@@ -1,0 +1,278 @@
+//! The objects of a store, as code names them, and their calls.
+ghost use Rattle.std.specs.Prelude.{◌≡◌, pos};
+ghost use Rattle.sto_code.specs.Calls.{call_of, number, perhaps, is_yes, is_done, test_number};
+ghost use Rattle.sto_code.specs.Progs.{HasAsked};
+
+use crate::short_reply::{is_done, is_yes, number, perhaps};
+use crate::tx::{Stop, Tx};
+use sto_model::Call;
+use sto_part::Test;
+
+// A call of an object.
+fn call(object: u32, code: u8, a: i64, b: i64) -> Call
+    ensures { result ≡ call_of object code a b }
+{
+    Call { object, code, a, b }
+}
+
+// The number of a comparison.
+fn test_number(test: Test) -> i64
+    ensures { result ≡ pos (test_number test) }
+{
+    match test {
+        Test::Eq => 0,
+        Test::Ne => 1,
+        Test::Lt => 2,
+        Test::Le => 3,
+        Test::Gt => 4,
+        Test::Ge => 5,
+    }
+}
+
+/// A box of a store, by the number of the object.
+#[derive(Clone, Copy, PartialEq, Eq, Debug)]
+pub struct BoxId {
+    pub number: u32,
+}
+
+impl BoxId {
+    /// Its value.
+    pub fn get(self, tx: &mut Tx<'_>) -> Result<i64, Stop>
+        ensures { HasAsked (call_of self.number 0 (pos 0) (pos 0)) number tx.old tx.new result }
+    {
+        let heard = tx.ask(call(self.number, 0, 0, 0))?;
+        Ok(number(heard))
+    }
+
+    /// Makes this its value.
+    pub fn set(self, tx: &mut Tx<'_>, value: i64) -> Result<(), Stop>
+        ensures { HasAsked (call_of self.number 1 value (pos 0)) (λ _. tt) tx.old tx.new result }
+    {
+        let _heard = tx.ask(call(self.number, 1, value, 0))?;
+        Ok(())
+    }
+}
+
+/// A counter of a store, by the number of the object.
+#[derive(Clone, Copy, PartialEq, Eq, Debug)]
+pub struct CounterId {
+    pub number: u32,
+}
+
+impl CounterId {
+    /// Its value.
+    pub fn get(self, tx: &mut Tx<'_>) -> Result<i64, Stop>
+        ensures { HasAsked (call_of self.number 0 (pos 0) (pos 0)) number tx.old tx.new result }
+    {
+        let heard = tx.ask(call(self.number, 0, 0, 0))?;
+        Ok(number(heard))
+    }
+
+    /// Adds to it; false where the sum would be no number of 64 bits, and then it stays.
+    pub fn add(self, tx: &mut Tx<'_>, by: i64) -> Result<bool, Stop>
+        ensures { HasAsked (call_of self.number 2 by (pos 0)) is_done tx.old tx.new result }
+    {
+        let heard = tx.ask(call(self.number, 2, by, 0))?;
+        Ok(is_done(heard))
+    }
+
+    /// Whether its value compares so.
+    pub fn test(self, tx: &mut Tx<'_>, test: Test, than: i64) -> Result<bool, Stop>
+        ensures { HasAsked (call_of self.number 3 (pos (test_number test)) than) is_yes tx.old tx.new result }
+    {
+        let heard = tx.ask(call(self.number, 3, test_number(test), than))?;
+        Ok(is_yes(heard))
+    }
+
+    /// Takes from it; false where it has less, or the rest would be no number of 64 bits, and then it stays.
+    pub fn take(self, tx: &mut Tx<'_>, by: i64) -> Result<bool, Stop>
+        ensures { HasAsked (call_of self.number 4 by (pos 0)) is_yes tx.old tx.new result }
+    {
+        let heard = tx.ask(call(self.number, 4, by, 0))?;
+        Ok(is_yes(heard))
+    }
+}
+
+/// An array of a store, by the number of the object.
+#[derive(Clone, Copy, PartialEq, Eq, Debug)]
+pub struct ArrayId {
+    pub number: u32,
+}
+
+impl ArrayId {
+    /// The value at a place; None where it has no such place.
+    pub fn get(self, tx: &mut Tx<'_>, place: i64) -> Result<Option<i64>, Stop>
+        ensures { HasAsked (call_of self.number 0 place (pos 0)) perhaps tx.old tx.new result }
+    {
+        let heard = tx.ask(call(self.number, 0, place, 0))?;
+        Ok(perhaps(heard))
+    }
+
+    /// Makes this the value at a place; false where it has no such place.
+    pub fn set(self, tx: &mut Tx<'_>, place: i64, value: i64) -> Result<bool, Stop>
+        ensures { HasAsked (call_of self.number 1 place value) is_done tx.old tx.new result }
+    {
+        let heard = tx.ask(call(self.number, 1, place, value))?;
+        Ok(is_done(heard))
+    }
+
+    /// Adds to the value at a place; false where it has no such place, or the sum would be no number of 64 bits.
+    pub fn add(self, tx: &mut Tx<'_>, place: i64, by: i64) -> Result<bool, Stop>
+        ensures { HasAsked (call_of self.number 2 place by) is_done tx.old tx.new result }
+    {
+        let heard = tx.ask(call(self.number, 2, place, by))?;
+        Ok(is_done(heard))
+    }
+}
+
+/// A hash table of a store, by the number of the object.
+#[derive(Clone, Copy, PartialEq, Eq, Debug)]
+pub struct HashId {
+    pub number: u32,
+}
+
+impl HashId {
+    /// The value of a key.
+    pub fn get(self, tx: &mut Tx<'_>, key: i64) -> Result<Option<i64>, Stop>
+        ensures { HasAsked (call_of self.number 0 key (pos 0)) perhaps tx.old tx.new result }
+    {
+        let heard = tx.ask(call(self.number, 0, key, 0))?;
+        Ok(perhaps(heard))
+    }
+
+    /// Gives a key this value; false where the key is new and its bucket is full.
+    pub fn put(self, tx: &mut Tx<'_>, key: i64, value: i64) -> Result<bool, Stop>
+        ensures { HasAsked (call_of self.number 5 key value) is_done tx.old tx.new result }
+    {
+        let heard = tx.ask(call(self.number, 5, key, value))?;
+        Ok(is_done(heard))
+    }
+
+    /// Takes a key away; false where it is not there.
+    pub fn remove(self, tx: &mut Tx<'_>, key: i64) -> Result<bool, Stop>
+        ensures { HasAsked (call_of self.number 6 key (pos 0)) is_yes tx.old tx.new result }
+    {
+        let heard = tx.ask(call(self.number, 6, key, 0))?;
+        Ok(is_yes(heard))
+    }
+
+    /// Whether a key is there.
+    pub fn has(self, tx: &mut Tx<'_>, key: i64) -> Result<bool, Stop>
+        ensures { HasAsked (call_of self.number 7 key (pos 0)) is_yes tx.old tx.new result }
+    {
+        let heard = tx.ask(call(self.number, 7, key, 0))?;
+        Ok(is_yes(heard))
+    }
+
+    /// How many keys there are.
+    pub fn len(self, tx: &mut Tx<'_>) -> Result<i64, Stop>
+        ensures { HasAsked (call_of self.number 8 (pos 0) (pos 0)) number tx.old tx.new result }
+    {
+        let heard = tx.ask(call(self.number, 8, 0, 0))?;
+        Ok(number(heard))
+    }
+}
+
+/// A tree of a store, by the number of the object.
+#[derive(Clone, Copy, PartialEq, Eq, Debug)]
+pub struct TreeId {
+    pub number: u32,
+}
+
+impl TreeId {
+    /// The value of a key.
+    pub fn get(self, tx: &mut Tx<'_>, key: i64) -> Result<Option<i64>, Stop>
+        ensures { HasAsked (call_of self.number 0 key (pos 0)) perhaps tx.old tx.new result }
+    {
+        let heard = tx.ask(call(self.number, 0, key, 0))?;
+        Ok(perhaps(heard))
+    }
+
+    /// Gives a key this value; false where the key is new and the tree is full.
+    pub fn put(self, tx: &mut Tx<'_>, key: i64, value: i64) -> Result<bool, Stop>
+        ensures { HasAsked (call_of self.number 5 key value) is_done tx.old tx.new result }
+    {
+        let heard = tx.ask(call(self.number, 5, key, value))?;
+        Ok(is_done(heard))
+    }
+
+    /// Takes a key away; false where it is not there.
+    pub fn remove(self, tx: &mut Tx<'_>, key: i64) -> Result<bool, Stop>
+        ensures { HasAsked (call_of self.number 6 key (pos 0)) is_yes tx.old tx.new result }
+    {
+        let heard = tx.ask(call(self.number, 6, key, 0))?;
+        Ok(is_yes(heard))
+    }
+
+    /// How many keys there are.
+    pub fn len(self, tx: &mut Tx<'_>) -> Result<i64, Stop>
+        ensures { HasAsked (call_of self.number 8 (pos 0) (pos 0)) number tx.old tx.new result }
+    {
+        let heard = tx.ask(call(self.number, 8, 0, 0))?;
+        Ok(number(heard))
+    }
+
+    /// The least key from this one on.
+    pub fn next(self, tx: &mut Tx<'_>, from: i64) -> Result<Option<i64>, Stop>
+        ensures { HasAsked (call_of self.number 9 from (pos 0)) perhaps tx.old tx.new result }
+    {
+        let heard = tx.ask(call(self.number, 9, from, 0))?;
+        Ok(perhaps(heard))
+    }
+
+    /// How many keys there are from the first to the last.
+    pub fn count(self, tx: &mut Tx<'_>, first: i64, last: i64) -> Result<i64, Stop>
+        ensures { HasAsked (call_of self.number 10 first last) number tx.old tx.new result }
+    {
+        let heard = tx.ask(call(self.number, 10, first, last))?;
+        Ok(number(heard))
+    }
+}
+
+/// A vector of a store, by the number of the object.
+#[derive(Clone, Copy, PartialEq, Eq, Debug)]
+pub struct VectorId {
+    pub number: u32,
+}
+
+impl VectorId {
+    /// The value at a place; None past its end.
+    pub fn get(self, tx: &mut Tx<'_>, place: i64) -> Result<Option<i64>, Stop>
+        ensures { HasAsked (call_of self.number 0 place (pos 0)) perhaps tx.old tx.new result }
+    {
+        let heard = tx.ask(call(self.number, 0, place, 0))?;
+        Ok(perhaps(heard))
+    }
+
+    /// Whether its length compares so.
+    pub fn test(self, tx: &mut Tx<'_>, test: Test, than: i64) -> Result<bool, Stop>
+        ensures { HasAsked (call_of self.number 3 (pos (test_number test)) than) is_yes tx.old tx.new result }
+    {
+        let heard = tx.ask(call(self.number, 3, test_number(test), than))?;
+        Ok(is_yes(heard))
+    }
+
+    /// How many values there are.
+    pub fn len(self, tx: &mut Tx<'_>) -> Result<i64, Stop>
+        ensures { HasAsked (call_of self.number 8 (pos 0) (pos 0)) number tx.old tx.new result }
+    {
+        let heard = tx.ask(call(self.number, 8, 0, 0))?;
+        Ok(number(heard))
+    }
+
+    /// Adds a value last; false where it is full.
+    pub fn push(self, tx: &mut Tx<'_>, value: i64) -> Result<bool, Stop>
+        ensures { HasAsked (call_of self.number 12 value (pos 0)) is_done tx.old tx.new result }
+    {
+        let heard = tx.ask(call(self.number, 12, value, 0))?;
+        Ok(is_done(heard))
+    }
+
+    /// Takes the last value away.
+    pub fn pop(self, tx: &mut Tx<'_>) -> Result<Option<i64>, Stop>
+        ensures { HasAsked (call_of self.number 13 (pos 0) (pos 0)) perhaps tx.old tx.new result }
+    {
+        let heard = tx.ask(call(self.number, 13, 0, 0))?;
+        Ok(perhaps(heard))
+    }
+}

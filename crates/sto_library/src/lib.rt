@@ -1,0 +1,22 @@
+//! Shared transactional objects, as programs use them: a plan of objects, a store, its workers, and code that they run as transactions.
+#![tactic(auto)]
+
+mod schema;
+mod store;
+mod waits;
+mod worker;
+
+pub use schema::Schema;
+pub use sto_atomically::{Done, Unrun};
+pub use sto_code::{
+    ArrayId, BoxId, Code, CounterId, HashId, ShortReply, Stop, TreeId, Tx, VectorId,
+};
+pub use sto_model::{Call, State};
+pub use sto_objects::Objects;
+pub use sto_open::{IdleWorker, Unopened, Unplanned};
+pub use sto_part::{NoMemory, Test, wrapping_difference, wrapping_sum};
+pub use sto_transaction::AttemptWatch;
+pub use sto_type::TxType;
+pub use store::{CloseError, SharedStore};
+pub use waits::Waits;
+pub use worker::StoreWorker;

@@ -1,0 +1,116 @@
+//! A store, in which its workers rest.
+ghost use Rattle.std.specs.Prelude.{◌≡◌, [], ◌∷◌, ◌++◌, map, length, IfOk, IfErr, MatchOption};
+ghost use Rattle.std.specs.List.{All};
+ghost use Rattle.sto_open.specs.Working.{AreRowsAfter};
+ghost use Rattle.sto_library.specs.Values.{Serves, TakeCalls};
+ghost use Rattle.sto_library.specs.Closings.{ComesBack};
+
+use crate::worker::StoreWorker;
+use std::alloc::Global;
+use std::marker::Model;
+use sto_model::{Shapes, State};
+use sto_open::{IdleWorker, IdleWorkers};
+use sto_part::NoMemory;
+use sto_type::TxType;
+
+/// Objects that threads share, and the workers that rest.
+///
+/// A worker is hired, goes to a thread, runs transactions there, and comes back. Contracts see the objects, their shapes, and what the
+/// workers know that rest here.
+#[derive(Drop)]
+pub struct SharedStore<T: TxType> {
+    words: sto_open::Store<T>,
+    shapes: Shapes,
+    idle: IdleWorkers<T>,
+}
+
+impl<T: TxType> Model for SharedStore<T> {
+    ghost use Rattle.std.specs.Prelude.{map};
+    ghost use Rattle.std.specs.List.{All};
+    ghost use Rattle.sto_type.specs.Traits.{of_type};
+    ghost use Rattle.sto_library.specs.Values.{Stored, Serves, TakeCalls};
+
+    ghost Value = { Stored T };
+
+    ghost view = { λ s. record { words = s.words; shapes = s.shapes.items; views = map (λ w. w.rest.seat.me.0.view) s.idle.items } };
+
+    ghost invariant = { λ s. All (λ w. Serves (of_type T.Naming T.TxType) s.words w.rest.seat) s.idle.items
+        × TakeCalls (of_type T.Naming T.TxType) s.words s.shapes.items };
+}
+
+/// Why a store was not closed.
+#[derive(Drop)]
+pub enum CloseError<T: TxType> {
+    /// Not all its workers came back. Here it is.
+    Missing(SharedStore<T>),
+    /// Memory was wanting. The store is lost.
+    NoMemory,
+}
+
+impl<T: TxType> SharedStore<T> {
+    /// A store of objects of these shapes, with its workers.
+    pub fn new(words: sto_open::Store<T>, shapes: Shapes, idle: IdleWorkers<T>) -> SharedStore<T>
+        requires workers { All (λ w. Serves T.TxType words w.rest.seat) idle.items }
+        requires takes { TakeCalls T.TxType words shapes.items }
+        ensures { (result.words ≡ words) × (result.shapes ≡ shapes.items) × (result.views ≡ map (λ w. w.rest.seat.me.0.view) idle.items) }
+    {
+        SharedStore {
+            words,
+            shapes,
+            idle,
+        }
+    }
+
+    /// A worker that rests here, if there is one.
+    pub fn hire(&mut self) -> Option<IdleWorker<T>>
+        ensures words { (self.new.words ≡ self.old.words) × (self.new.shapes ≡ self.old.shapes) }
+        ensures worker { MatchOption result (self.old.views ≡ []) (λ w. Serves T.TxType self.old.words w.rest.seat
+            × (self.old.views ≡ self.new.views ++ w.rest.seat.me.0.view ∷ [])) }
+    {
+        self.idle.pop()
+    }
+
+    /// Takes a worker back that was hired here. Where memory is wanting it is lost.
+    pub fn back(&mut self, worker: IdleWorker<T>) -> Result<(), NoMemory>
+        requires { Serves T.TxType self.old.words worker.rest.seat }
+        ensures words { (self.new.words ≡ self.old.words) × (self.new.shapes ≡ self.old.shapes) }
+        ensures worker { IfOk result (λ _. self.new.views ≡ self.old.views ++ worker.rest.seat.me.0.view ∷ []) }
+    {
+        if self.idle.len() == u32::MAX {
+            return Err(NoMemory);
+        }
+        self.idle.push(worker)?;
+        Ok(())
+    }
+
+    /// Lends the store to a worker that was hired here.
+    pub fn worker(&self, alloc: Global, idle: IdleWorker<T>) -> StoreWorker<'_, T>
+        requires { Serves T.TxType self.now.words idle.rest.seat }
+        ensures { (result.words ≡ self.now.words) × (result.shapes ≡ self.now.shapes) × (result.seat ≡ idle.rest.seat)
+            × (result.left ≡ idle.left) }
+    {
+        StoreWorker::new(alloc, &self.words, &self.shapes, idle)
+    }
+}
+
+impl<T: TxType + Drop> SharedStore<T> {
+    /// Closes the store, and answers the rows that each of its objects holds. All its workers are to rest in it; else it comes back.
+    pub fn close(self, alloc: Global) -> Result<State, CloseError<T>>
+        ensures rows { IfOk result (λ rows. AreRowsAfter T.valid (T.meaning self.words.ty) self.views rows.items) }
+        ensures all { IfOk result (λ _. length self.views ≡ self.words.shared.table.shared.key.passes) }
+        ensures missing { IfErr result (ComesBack self) }
+    {
+        let SharedStore {
+            words,
+            shapes,
+            idle,
+        } = self;
+        match words.close(alloc, idle) {
+            Ok(rows) => Ok(rows),
+            Err(sto_open::Unclosed::Missing(words, idle)) => {
+                Err(CloseError::Missing(SharedStore::new(words, shapes, idle)))
+            }
+            Err(sto_open::Unclosed::NoMemory) => Err(CloseError::NoMemory),
+        }
+    }
+}

@@ -1,0 +1,128 @@
+//! A worker at its store.
+ghost use Rattle.std.specs.Prelude.{◌≡◌, ◌≤◌};
+ghost use Rattle.sto_attempt_facts.specs.Added.{Grows};
+ghost use Rattle.sto_atomically.specs.Atomic.{HasLed, IsUndisturbed};
+ghost use Rattle.sto_library.specs.Values.{Serves, TakeCalls};
+
+use crate::waits::Waits;
+use std::alloc::Global;
+use std::marker::Model;
+use sto_atomically::{Done, Unrun, atomically};
+use sto_code::Code;
+use sto_model::Shapes;
+use sto_open::{BusyWorker, IdleWorker};
+use sto_transaction::{AttemptWatch, Memory};
+use sto_type::TxType;
+
+// How many attempts of a transaction are made.
+const TRIES: u32 = 1 << 16;
+
+/// A worker that runs transactions on the objects of its store.
+#[derive(Drop)]
+pub struct StoreWorker<'s, T: TxType> {
+    alloc: Global,
+    words: &'s sto_open::Store<T>,
+    shapes: &'s Shapes,
+    busy: BusyWorker<'s, T>,
+    memory: Memory,
+}
+
+impl<'s, T: TxType> Model for StoreWorker<'s, T> {
+    ghost use Rattle.std.specs.Prelude.{◌≡◌, ◌≤◌};
+    ghost use Rattle.sto_type.specs.Traits.{of_type};
+    ghost use Rattle.sto_library.specs.Values.{Working, Serves, TakeCalls};
+
+    ghost Value = { Working T };
+
+    ghost view = { λ w. record { words = w.words.now; shapes = w.shapes.now.items; seat = w.busy.pass.seat; left = w.busy.left } };
+
+    ghost invariant = { λ w. Serves (of_type T.Naming T.TxType) w.words.now w.busy.pass.seat
+        × TakeCalls (of_type T.Naming T.TxType) w.words.now w.shapes.now.items
+        × (w.busy.left ≤ w.busy.pass.seat.me.0.view.draws)
+        × (w.busy.pass.shared.now.table.shared.key.passes ≡ w.words.now.shared.table.shared.key.passes) };
+}
+
+impl<'s, T: TxType> StoreWorker<'s, T> {
+    /// A worker at its store.
+    pub(crate) fn new(
+        alloc: Global,
+        words: &'s sto_open::Store<T>,
+        shapes: &'s Shapes,
+        idle: IdleWorker<T>,
+    ) -> StoreWorker<'s, T>
+        requires serves { Serves T.TxType words.now idle.rest.seat }
+        requires takes { TakeCalls T.TxType words.now shapes.now.items }
+        ensures { (result.words ≡ words.entry.now) × (result.shapes ≡ shapes.entry.now.items) × (result.seat ≡ idle.rest.seat)
+            × (result.left ≡ idle.left) }
+    {
+        StoreWorker {
+            alloc,
+            words,
+            shapes,
+            busy: words.resume(idle),
+            memory: Memory::new(alloc),
+        }
+    }
+
+    /// Runs code as one transaction: attempts are made until one is not aborted by what others did.
+    ///
+    /// The value is that of the code run alone on the contents right before the transaction's ticket, or of a transaction that only
+    /// reads, on those of the time as of which it read; after all that this worker had seen. On each error nothing took effect, and the
+    /// worker can go on.
+    pub fn run<K: Code>(&mut self, code: &K) -> Result<Done<K::Out>, Unrun>
+    where
+        K::Out: Drop,
+        ensures led { HasLed (T.meaning self.old.words.ty) self.old.seat.me.0.view self.new.seat.me.0.view self.old.shapes
+            (K.most code.now) (K.does code.now) result }
+        ensures grows { Grows self.old.seat.me.0.view self.new.seat.me.0.view }
+        ensures alone { self.old.words.shared.table.shared.key.passes ≡ 1 → IsUndisturbed result }
+        ensures same { (self.new.words ≡ self.old.words) × (self.new.shapes ≡ self.old.shapes) }
+    {
+        self.run_with(TRIES, &mut Waits::new(), code)
+    }
+
+    /// The same with at most so many attempts, and with something else to do between them.
+    pub fn run_with<K: Code, W: AttemptWatch>(
+        &mut self,
+        tries: u32,
+        watch: &mut W,
+        code: &K,
+    ) -> Result<Done<K::Out>, Unrun>
+    where
+        K::Out: Drop,
+        ensures led { HasLed (T.meaning self.old.words.ty) self.old.seat.me.0.view self.new.seat.me.0.view self.old.shapes
+            (K.most code.now) (K.does code.now) result }
+        ensures grows { Grows self.old.seat.me.0.view self.new.seat.me.0.view }
+        ensures alone { self.old.words.shared.table.shared.key.passes ≡ 1 → 1 ≤ tries → IsUndisturbed result }
+        ensures same { (self.new.words ≡ self.old.words) × (self.new.shapes ≡ self.old.shapes) }
+    {
+        let busy = &mut self.busy;
+        atomically(
+            self.alloc,
+            &self.words.ty,
+            self.shapes,
+            &mut busy.pass,
+            &mut busy.left,
+            tries,
+            watch,
+            &mut self.memory,
+            code,
+        )
+    }
+
+    /// How many attempts it may still make.
+    pub fn left(&self) -> u64
+        ensures { result ≡ self.now.left }
+    {
+        self.busy.left
+    }
+
+    /// Ends its work at the store. It can be given back, or come again.
+    pub fn rest(self) -> IdleWorker<T>
+        ensures serves { Serves T.TxType self.entry.words result.rest.seat }
+        ensures seat { (result.rest.seat ≡ self.entry.seat) × (result.left ≡ self.entry.left) }
+    {
+        let StoreWorker { busy, .. } = self;
+        busy.rest()
+    }
+}

@@ -1,0 +1,10 @@
+pub mod Plans
+pub mod Shaped
+pub mod Refusals
+pub mod Closings
+pub mod Working
+pub use Rattle.sto_core.specs.Allowed
+pub use Rattle.sto_model.specs.Objects
+pub use Rattle.sto_store.specs.StoresLaw
+pub use Rattle.sto_table.specs.Rests
+pub use Rattle.sto_transaction.specs.Resting
