@@ -1,6 +1,7 @@
 pub mod Says
 pub mod ReadSet
 pub mod Placed
+pub mod Flat
 pub mod Asked
 pub mod Log
 pub mod Refreshed

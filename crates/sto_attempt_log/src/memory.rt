@@ -8,7 +8,7 @@ use crate::read_entry::ReadSet;
 use std::alloc::Global;
 use std::marker::Model;
 use std::mem;
-use sto_part::{List, Parts};
+use sto_part::{List, PartWords, Parts};
 use sto_type::Cache;
 
 /// The lists of an attempt and of its commit while no attempt uses them: each is empty, and has the room that earlier attempts have made.
@@ -20,6 +20,7 @@ pub struct Memory {
     base: ReadSet,
     fresh: ReadSet,
     cache: Cache,
+    words: PartWords,
     seen: Parts,
     loaded: Parts,
     tasks: Parts,
@@ -36,7 +37,7 @@ impl Model for Memory {
 
     ghost view = { λ _. tt };
 
-    ghost invariant = { λ m. (m.base.items ≡ []) × (m.fresh.items ≡ []) × (m.cache ≡ []) × (m.seen.items ≡ [])
+    ghost invariant = { λ m. (m.base.items ≡ []) × (m.fresh.items ≡ []) × (m.cache ≡ []) × (m.words.items ≡ []) × (m.seen.items ≡ [])
         × (m.loaded.items ≡ []) × (m.tasks.items ≡ []) × (m.checks.items ≡ []) × (m.places.items ≡ [])
         × (m.found_tickets.items ≡ []) × (m.loaded_words.items ≡ []) };
 }
@@ -48,6 +49,7 @@ impl Memory {
             base: ReadSet::new(alloc),
             fresh: ReadSet::new(alloc),
             cache: Cache::new(alloc),
+            words: PartWords::new(alloc),
             seen: Parts::new(alloc),
             loaded: Parts::new(alloc),
             tasks: Parts::new(alloc),
@@ -82,6 +84,13 @@ impl Memory {
         ensures { result ≡ [] }
     {
         mem::replace(&mut self.cache, Cache::new(alloc))
+    }
+
+    /// A list for the words of an open read.
+    pub fn take_words(&mut self, alloc: Global) -> PartWords
+        ensures { result.items ≡ [] }
+    {
+        mem::replace(&mut self.words, PartWords::new(alloc))
     }
 
     pub(crate) fn take_seen(&mut self, alloc: Global) -> Parts
@@ -136,10 +145,12 @@ impl Memory {
         self.cache = cache;
     }
 
-    /// Keeps the room of what an extension has read anew.
-    pub fn keep_fresh(&mut self, fresh: ReadSet) {
-        let mut fresh = fresh;
+    /// Keeps the room of the words of an open read, and of what an extension has read anew.
+    pub fn keep_reads(&mut self, words: PartWords, fresh: ReadSet) {
+        let (mut words, mut fresh) = (words, fresh);
+        words.clear();
         fresh.clear();
+        self.words = words;
         self.fresh = fresh;
     }
 

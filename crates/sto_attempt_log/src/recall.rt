@@ -95,7 +95,7 @@ fn recall<T: TxType>(
     ensures other { IfOk result (λ is. is ≡ false → (cache.new ≡ cache.old) × (words_in base.now.items part ≡ None)) }
 {
     if let Some(read_entry) = base.find(part) {
-        learn_updated(alloc, ty, set, part, read_entry.words.as_slice(), cache)?;
+        learn_updated(alloc, ty, set, part, read_entry.words, cache)?;
         return Ok(true);
     }
     if set.overwrites(part) {
