@@ -21,6 +21,7 @@ pub mod Gathering
 pub mod Verdicts
 pub mod Ordered
 pub mod Predicates
+pub mod Kept
 pub use Rattle.sto_part.specs.Changes
 pub use Rattle.sto_part.specs.Listed
 pub use Rattle.sto_part.specs.Preds
