@@ -1,5 +1,5 @@
 //! What an attempt notes: items and pending updates.
-ghost use Rattle.std.specs.Prelude.{◌≡◌, ◌^◌, ◌<◌, [], length, map, nat_lt, IfOk, OnOk};
+ghost use Rattle.std.specs.Prelude.{◌≡◌, ◌^◌, ◌<◌, [], length, map, nat_lt, IfOk, IfSome, OnOk};
 ghost use Rattle.std.specs.List.{list_all};
 ghost use Rattle.std.specs.Option.{option_to_list};
 ghost use Rattle.sto_item.specs.Pending.{changes_of, change_at, with_update, AreUpdates, IsWidthOf};
@@ -17,9 +17,13 @@ use std::marker::Model;
 use sto_item::{Item, ItemSet, Updates, Watches};
 use sto_part::{Change, NoMemory, Pred, Update, apply_word, holds};
 
+// Up to so many items are gone through for each part, which takes no memory.
+const FEW: usize = 16;
+
 /// The items and the pending updates of an attempt.
 ///
-/// A commit gives it the predicates among the items part by part. Then those on a part are found in logarithmic time.
+/// A commit of more than a few items gives it the predicates among them part by part. Then those on a part are found in logarithmic
+/// time.
 #[derive(Drop)]
 pub struct Observed {
     set: ItemSet,
@@ -67,12 +71,23 @@ impl Observed {
         self.set.add_update(part, update)
     }
 
+    /// The predicates among the items part by part, where there are more than a few items.
+    pub fn predicates(&self, alloc: Global) -> Result<Option<Predicates>, NoMemory>
+        ensures { IfOk result (λ ps. IfSome ps (ArePredsOf self.now.items)) }
+    {
+        let items = self.set.items();
+        if items.len() <= FEW {
+            return Ok(None);
+        }
+        Ok(Some(Predicates::among(alloc, items)?))
+    }
+
     /// Keeps the predicates among the items part by part.
-    pub fn sort(&mut self, predicates: Predicates)
-        requires { ArePredsOf self.old.items predicates }
+    pub fn sort(&mut self, predicates: Option<Predicates>)
+        requires { IfSome predicates (ArePredsOf self.old.items) }
         ensures { self.new ≡ self.old }
     {
-        self.predicates = Some(predicates);
+        self.predicates = predicates;
     }
 
     /// The pending change of a word, or `Keep`.
