@@ -21,7 +21,7 @@ use sto_attempt_log::{Extension, Heard, Log, Memory, Observed, ReadPhase, Turn, 
 use sto_core::Cells;
 use sto_model::{Body, Replies};
 use sto_part::{NoMemory, PartWords, Pred, holds};
-use sto_type::TxType;
+use sto_type::{Cache, TxType};
 
 /// An attempt, which makes one event at a time on the pass that it is lent.
 ///
@@ -71,7 +71,7 @@ impl<'t, T: TxType, B: Body> Attempt<'t, T, B> {
                 replies: Replies::new(alloc),
                 set: Observed::new(alloc),
                 base: memory.take_base(),
-                cache: memory.take_cache(),
+                cache: Cache::new(alloc),
             },
             at: 0,
             read_phase: ReadPhase::Unstarted,
@@ -104,10 +104,9 @@ impl<'t, T: TxType, B: Body> Attempt<'t, T, B> {
             body,
             replies,
             base,
-            cache,
             ..
         } = log;
-        memory.keep_log(base, cache);
+        memory.keep_base(base);
         memory.keep_reads(words, extension.fresh);
         (Heard { body, replies }, memory)
     }

@@ -10,7 +10,6 @@ use std::alloc::Global;
 use std::marker::Model;
 use std::mem;
 use sto_part::{List, PartWords, Parts};
-use sto_type::Cache;
 
 /// The lists of an attempt and of its commit while no attempt uses them: each is empty, and has the room that earlier attempts have made.
 ///
@@ -28,7 +27,6 @@ pub struct Memory {
 pub struct KeptLists {
     base: ReadSet,
     fresh: ReadSet,
-    cache: Cache,
     words: PartWords,
     seen: Parts,
     loaded: Parts,
@@ -58,7 +56,6 @@ impl KeptLists {
         KeptLists {
             base: ReadSet::new(alloc),
             fresh: ReadSet::new(alloc),
-            cache: Cache::new(alloc),
             words: PartWords::new(alloc),
             seen: Parts::new(alloc),
             loaded: Parts::new(alloc),
@@ -108,16 +105,6 @@ impl Memory {
         match &mut self.kept {
             Some(kept) => mem::replace(&mut kept.fresh, ReadSet::new(self.alloc)),
             None => ReadSet::new(self.alloc),
-        }
-    }
-
-    /// A cache that knows no part.
-    pub fn take_cache(&mut self) -> Cache
-        ensures { result ≡ [] }
-    {
-        match &mut self.kept {
-            Some(kept) => mem::replace(&mut kept.cache, Cache::new(self.alloc)),
-            None => Cache::new(self.alloc),
         }
     }
 
@@ -208,15 +195,13 @@ impl Memory {
         }
     }
 
-    /// Keeps the room of what an attempt has read and knows.
-    pub fn keep_log(&mut self, base: ReadSet, cache: Cache) {
+    /// Keeps the room of what an attempt has read.
+    pub fn keep_base(&mut self, base: ReadSet) {
         let Some(mut kept) = self.some_kept() else {
             return;
         };
         kept.base = base;
         kept.base.clear();
-        kept.cache = cache;
-        kept.cache.forget();
         self.kept = Some(kept);
     }
 
