@@ -30,7 +30,7 @@ returns-in-Some-clause-ended g c ty f begun rest h =
     let v = g.C.Cells.view c.loop-verdict.cells in
     let w = g.C.Cells.view c.step.new.cells in
     let k = subst (λ (n : ℕ). Advances t g.B.Body n r.commit_phase r s v w c.step.result) (g.met.C.Cells.same_passes c.args.cells.now c.loop-verdict.cells c.loop-verdict.invariant.same) c.step.ensures.advances in
-    ended_as g.T.TxType.meaning g.T.Naming.valid g.T.Naming.sizes g.B.Body.script g.B.Body.then g.B.Body.left g.B.Body.may_ask first ty f s.log.body c.end-heard.result.body s.log.replies c.end-heard.result.replies
+    ended_as g.T.TxType.meaning g.T.Naming.valid g.T.Naming.sizes g.B.Body.script g.B.Body.then g.B.Body.left g.B.Body.may_ask first ty f s.log.body c.end-heard.result.0.body s.log.replies c.end-heard.result.0.replies
     c.in-Some.verdict begun w c.end-heard.ensures.body c.end-heard.ensures.replies
     (subst (λ (x : Option Verdict). HasTurned g.T.TxType.meaning g.T.Naming.valid g.T.Naming.sizes g.B.Body.script g.B.Body.then g.B.Body.left g.B.Body.may_ask first ty f (Ok (turn_of x)) (Committing s) begun w) c.in-Some.is
     (commits_on g.T.TxType.meaning g.T.Naming.valid g.T.Naming.sizes g.B.Body.script g.B.Body.then g.B.Body.left g.B.Body.may_ask first ty f r s begun v w c.step.result rest
