@@ -25,11 +25,11 @@ shapes_here = shapes_of objects
 
 -- ---- one transaction
 
-abbrev note_if : Bool → ℕ → ℕ → ℕ → Statements
+abbrev pub note_if : Bool → ℕ → ℕ → ℕ → Statements
 note_if b object key value = if b then Ask None object 5 (number key) (number value) Nothing else Nothing
 
 -- a transaction with a note in the log where a holds, and one of an owner where b does
-abbrev noted : Bool → Bool → ℕ → ℕ → ℕ → ℕ → Transfer → Script
+abbrev pub noted : Bool → Bool → ℕ → ℕ → ℕ → ℕ → Transfer → Script
 noted a b log_key owner_key owner amount t = record {
   variables = codes "x" ∷ [];
   body = balance t.from (Choose (Var 0) Ge (number t.amount) (moves t) Nothing (note_if a 3 log_key amount then note_if b 2 owner_key owner));
@@ -84,7 +84,7 @@ transaction_sound : (thread position : ℕ) (t : Transfer) → IsSoundScript sha
 transaction_sound thread position t =
     noted_sound (position % 20 == 0) (position % 25 == 0) (1000 * thread + position) (8 * thread + position / 25) thread t.amount t
 
-notes_weigh : (a b : Bool) → (if a then 1 else 0) + (if b then 1 else 0) ≤ 2
+pub notes_weigh : (a b : Bool) → (if a then 1 else 0) + (if b then 1 else 0) ≤ 2
 notes_weigh true true = omega arith
 notes_weigh true false = omega arith
 notes_weigh false true = omega arith
@@ -92,17 +92,17 @@ notes_weigh false false = omega arith
 
 -- ---- all of them
 
-fold_last : {A X : Type 0} (f : A → X → A) (a : A) (xs : List X) (x : X) → fold f a (xs ++ x ∷ []) ≡ f (fold f a xs) x
+pub fold_last : {A X : Type 0} (f : A → X → A) (a : A) (xs : List X) (x : X) → fold f a (xs ++ x ∷ []) ≡ f (fold f a xs) x
 fold_last f a [] x = refl
 fold_last f a (y ∷ xs) x = fold_last f (f a y) xs x
 
-transaction_length : (thread state count : ℕ) → length (transactions thread state count) ≡ count
+pub transaction_length : (thread state count : ℕ) → length (transactions thread state count) ≡ count
 unfolding transactions
 transaction_length thread state zero = refl
 transaction_length thread state (suc count) =
     omega (arith, transaction_length thread state count, length_last (transactions thread state count) (transaction thread (count + 1) (transfer_after (state_after count state))))
 
-transactions_weigh : (thread state count : ℕ) → sum_by (λ script. script.weight) (transactions thread state count) ≤ 8 * count
+pub transactions_weigh : (thread state count : ℕ) → sum_by (λ script. script.weight) (transactions thread state count) ≤ 8 * count
 unfolding transactions
 transactions_weigh thread state zero = omega arith
 transactions_weigh thread state (suc count) =
@@ -120,7 +120,7 @@ transactions_sound thread state (suc count) =
     let t = transfer_after (state_after count state) in
     All-push (IsSoundScript shapes_here) (transactions thread state count) (transaction thread (count + 1) t) (transactions_sound thread state count) (transaction_sound thread (count + 1) t)
 
-thread_count : (state count : ℕ) → length (threads state count) ≡ count
+pub thread_count : (state count : ℕ) → length (threads state count) ≡ count
 unfolding threads
 thread_count state zero = refl
 thread_count state (suc count) = omega (arith, thread_count state count, length_last (threads state count) (transactions count (state_before count state) 200))
@@ -136,7 +136,7 @@ transactions_of_threads state (suc count) =
       fold_last (λ a thread. a + length thread) 0 (threads state count) (transactions count (state_before count state) 200),
     )
 
-threads_weigh : (state count : ℕ) → weight_total (threads state count) ≤ 1600 * count
+pub threads_weigh : (state count : ℕ) → weight_total (threads state count) ≤ 1600 * count
 unfolding threads
 threads_weigh state zero = omega arith
 threads_weigh state (suc count) =
@@ -156,19 +156,19 @@ threads_sound state (suc count) =
 
 -- ---- the objects, as lines declare them
 
-abbrev acct : Object
+abbrev pub acct : Object
 acct = record { name = codes "acct"; shape = shapes.Array 64 (pos 1000) }
 
-abbrev done : Object
+abbrev pub done : Object
 done = record { name = codes "done"; shape = shapes.Counter (pos 0) }
 
-abbrev owner : Object
+abbrev pub owner : Object
 owner = record { name = codes "owner"; shape = shapes.Hash 16 8 }
 
-abbrev log : Object
+abbrev pub log : Object
 log = record { name = codes "log"; shape = shapes.Tree 64 }
 
-abbrev declared : List Object
+abbrev pub declared : List Object
 declared = acct ∷ done ∷ owner ∷ log ∷ []
 
 all_four : (P : Object → Type 0) → P acct → P done → P owner → P log → All P declared

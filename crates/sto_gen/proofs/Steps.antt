@@ -4,7 +4,7 @@ use Rattle.sto_lang.specs.Statements.{Statements, Nothing, Ask, Sum, Diff, Choos
 use Rattle.sto_lang.specs.Drafts.{numbered_name}
 use Rattle.sto_lang.specs.Sound.{numbered_from}
 use Rattle.sto_lang.proofs.Differing.{numbers_last}
-use Rattle.sto_gen.specs.Draws.{next, state_after, transfer_after}
+use Rattle.sto_gen.specs.Draws.{next, state_after, transfer_after, transfers_after}
 use Rattle.sto_gen.specs.Generated.{transaction, transactions, state_before, threads}
 
 pub then_nothing : (all : Statements) → all ≡ all then Nothing
@@ -22,6 +22,10 @@ next_is n = omega arith
 pub one_more_transfer : (count state : ℕ) → next (next (next (state_after count state))) ≡ state_after (count + 1) state
 unfolding state_after
 one_more_transfer count state = ap (λ n. state_after n state) (next_is count)
+
+pub one_more_drawn : (count state : ℕ) → transfers_after count state ++ transfer_after (state_after count state) ∷ [] ≡ transfers_after (count + 1) state
+unfolding transfers_after
+one_more_drawn count state = ap (λ n. transfers_after n state) (next_is count)
 
 pub one_more_transaction : (thread state count : ℕ)
     → transactions thread state count ++ transaction thread (count + 1) (transfer_after (state_after count state)) ∷ [] ≡ transactions thread state (count + 1)

@@ -1,5 +1,5 @@
 -- The draws that a number begins, and the transfers that they make.
-use Rattle.std.specs.Prelude.{ℕ, zero, suc, ◌+◌, ◌*◌, ◌/◌, ◌%◌, ◌^◌}
+use Rattle.std.specs.Prelude.{ℕ, zero, suc, ◌+◌, ◌*◌, ◌/◌, ◌%◌, ◌^◌, List, [], ◌∷◌, ◌++◌}
 use Rattle.sto_gen.specs.declared.draws.Transfer.{Transfer}
 
 -- the state after one more draw
@@ -25,3 +25,8 @@ transfer_after state = transfer_by (next state) (next (next state)) (next (next 
 unfoldable pub state_after : ℕ → ℕ → ℕ
 state_after zero state = state
 state_after (suc transfers) state = next (next (next (state_after transfers state)))
+
+-- the first transfers after a state, so many
+unfoldable pub transfers_after : ℕ → ℕ → List Transfer
+transfers_after zero state = []
+transfers_after (suc count) state = transfers_after count state ++ transfer_after (state_after count state) ∷ []

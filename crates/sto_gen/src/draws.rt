@@ -1,13 +1,16 @@
 //! Draws of a linear congruential generator, and the transfers that they make.
-ghost use Rattle.std.specs.Prelude.{◌≡◌, ◌<◌, ◌%◌, ◌≤◌};
-ghost use Rattle.sto_gen.specs.Draws.{next, draw, transfer_after};
+ghost use Rattle.std.specs.Prelude.{◌≡◌, ◌<◌, ◌%◌, ◌≤◌, IfOk};
+ghost use Rattle.sto_gen.specs.Draws.{next, draw, transfer_after, transfers_after};
+
+use std::alloc::Global;
+use sto_part::{List, NoMemory};
 
 /// An amount to be moved from one account to another.
 #[derive(Clone, Copy, PartialEq, Eq, Debug)]
-pub(crate) struct Transfer {
-    pub(crate) from: u64,
-    pub(crate) to: u64,
-    pub(crate) amount: u64,
+pub struct Transfer {
+    pub from: u8,
+    pub to: u8,
+    pub amount: u8,
 }
 
 /// The draws that a number begins.
@@ -48,6 +51,24 @@ impl Draws {
         let from = self.pick(64);
         let to = (from + 1 + self.pick(63)) % 64;
         let amount = 1 + self.pick(100);
-        Transfer { from, to, amount }
+        Transfer {
+            from: from as u8,
+            to: to as u8,
+            amount: amount as u8,
+        }
     }
+}
+
+/// The transfers of the file that a number generates, one for each transaction: those of the first thread in the order of its
+/// transactions, then those of the second, and so on.
+pub fn transfers(alloc: Global, number: u64) -> Result<List<Transfer>, NoMemory>
+    ensures { IfOk result (λ l. l.items ≡ transfers_after 3200 number) }
+{
+    let mut draws = Draws { state: number };
+    let mut transfers = List::new(alloc);
+    transfers.reserve(3200)?;
+    for _ in 0..3200_u64 {
+        transfers.push(draws.transfer())?;
+    }
+    Ok(transfers)
 }

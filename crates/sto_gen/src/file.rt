@@ -1,8 +1,10 @@
 //! The whole generated file.
-ghost use Rattle.std.specs.Prelude.{◌≡◌, ◌<◌, ◌^◌, length, IfOk, OnOk, map};
+ghost use Rattle.std.specs.Prelude.{◌≡◌, ◌<◌, ◌^◌, length, IfOk, OnOk, Ok, map};
 ghost use Rattle.std.specs.Str.{IsAscii};
 ghost use Rattle.sto_lang.specs.Views.{declaration, script, threads_of, names_of, file};
+ghost use Rattle.sto_lang.specs.Files.{file_of as reading_of};
 ghost use Rattle.sto_lang.specs.Sound.{IsSound, numbered_from};
+ghost use Rattle.sto_write.specs.Texts.{text_of};
 ghost use Rattle.sto_gen.specs.Draws.{state_after};
 ghost use Rattle.sto_gen.specs.Generated.{objects, transactions, threads, file_of};
 
@@ -26,8 +28,8 @@ fn declaration(alloc: Global, name: &str, shape: Shape, number: u32) -> Result<D
     })
 }
 
-/// The accounts, the number of transfers that are done, the owners and the log.
-fn objects(alloc: Global) -> Result<Decls, NoMemory>
+/// The objects of a generated file: the accounts, the number of transfers that are done, the owners and the log.
+pub fn objects(alloc: Global) -> Result<Decls, NoMemory>
     ensures { IfOk result (λ l. map declaration l.items ≡ objects) }
 {
     let accounts = Shape::Array {
@@ -83,9 +85,12 @@ fn threads(alloc: Global, number: u64) -> Result<Threads, NoMemory>
 /// The accounts and amounts come from a linear congruential generator with the multiplier
 /// 6364136223846793005 and the increment 1442695040888963407 modulo 2^64, which begins at the
 /// number (Knuth, The Art of Computer Programming, volume 2, section 3.2.1).
+///
+/// Its canonical text reads as this file.
 pub fn generate(alloc: Global, number: u64) -> Result<File, NoMemory>
     ensures file { IfOk result (λ f. file f ≡ file_of number) }
     ensures sound { IfOk result (λ f. IsSound (file f)) }
+    ensures reads_back { IfOk result (λ f. reading_of (text_of (file f)) ≡ Ok (file f)) }
 {
     Ok(File {
         version: 1,

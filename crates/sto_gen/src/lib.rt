@@ -5,5 +5,6 @@ mod draws;
 mod file;
 mod transaction;
 
-pub use file::generate;
-pub use transaction::{ACCT, LOG, OWNER};
+pub use draws::{Transfer, transfers};
+pub use file::{generate, objects};
+pub use transaction::{ACCT, ADD, DONE, GET, LOG, OWNER, PUT};

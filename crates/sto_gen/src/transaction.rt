@@ -12,7 +12,7 @@ use sto_lang::{Arg, Script, Stmt, Stmts, Text};
 use sto_part::{List, NoMemory, Test};
 
 /// The number of the counter of transfers among the objects of a generated file.
-const DONE: u32 = 0;
+pub const DONE: u32 = 0;
 
 /// The number of the accounts among the objects of a generated file.
 pub const ACCT: u32 = 1;
@@ -23,12 +23,14 @@ pub const OWNER: u32 = 2;
 /// The number of the log among the objects of a generated file.
 pub const LOG: u32 = 3;
 
-/// The codes of the operations.
-const GET: u8 = 0;
+/// The code of the operation that reads an account.
+pub const GET: u8 = 0;
 
-const ADD: u8 = 2;
+/// The code of the operation that adds to an account or a counter.
+pub const ADD: u8 = 2;
 
-const PUT: u8 = 5;
+/// The code of the operation that puts a pair into the log or the table of owners.
+pub const PUT: u8 = 5;
 
 /// A call with two numbers, whose answer no variable takes.
 fn call(object: u32, code: u8, a: i64, b: i64) -> Stmt
@@ -59,7 +61,7 @@ fn moves(alloc: Global, transfer: &Transfer) -> Result<Stmts, NoMemory>
 
 /// Adds a line to the log, in each 20th transaction.
 #[tactic(auto, using(crate::proofs::Steps::then_nothing))]
-fn push_log_note(body: &mut Stmts, thread: u64, position: u64, amount: u64) -> Result<(), NoMemory>
+fn push_log_note(body: &mut Stmts, thread: u64, position: u64, amount: u8) -> Result<(), NoMemory>
     requires thread { thread < 16 }
     requires position { position ≤ 200 }
     requires amount { amount ≤ 100 }
