@@ -1,15 +1,15 @@
-use Rattle.std.proofs.Common.{◌≡◌, ap, refl, subst, length, []}
-use Rattle.std.proofs.lemmas.Result.{IfOk-weaker}
-use Rattle.sto_args.specs.declared.command.Command.TheVariants as commands
+use Rattle.std.proofs.Common.{◌≡◌, ℕ, ap, refl, subst, sym, ◌∙◌, length}
+use Rattle.std.proofs.lemmas.List.{length-map}
 use Rattle.sto_lang.specs.Scripts.{File}
 use Rattle.sto_lang.specs.Views.{file as view}
 use Rattle.sto_run.specs.Meanings.{updating_by}
 use Rattle.sto_run.specs.Stores.{means}
+use Rattle.sto_journal.specs.Journals.{place, places}
 use Rattle.sto_summary.specs.Summary.{summary_of}
 use Rattle.sto_summary.proofs.Rows.{have_four}
+use Rattle.sto_summary.proofs.Orders.{order_long}
 use Rattle.sto_run.specs.Lawful.{IsLawfulJournal}
 use Rattle.sto_run.proofs.Printed.{lawful_rows}
-use Rattle.sto_cli.specs.Outputs.{IsOutput}
 use Rattle.sto_cli.proofs.answer.bench_text.Goals as goal
 
 pub run_file-requires-clause-sound : goal.run_file-requires-clause-sound
@@ -23,7 +23,6 @@ summary-requires g c =
 pub returns : goal.returns
 returns g c =
     let journal = c.in_ok-journal.journal in
-    IfOk-weaker c.summary.result (λ text. text.items ≡ summary_of c.args.number (length journal.lines.items) journal.state.items)
-    (λ text. IsOutput (commands.Bench c.args.number c.args.threads) [] text.items)
-    (λ text h. (journal, subst (λ (f : File). IsLawfulJournal (updating_by means) f 64 journal) c.in_ok-file.ensures.file c.in_ok-journal.ensures.lawful, h))
-    c.summary.ensures
+    let lawful = subst (λ (f : File). IsLawfulJournal (updating_by means) f 64 journal) c.in_ok-file.ensures.file c.in_ok-journal.ensures.lawful in
+    let all : length journal.lines.items ≡ 3200 = sym (length-map journal.lines.items place) ∙ order_long c.args.number (places journal.lines.items) lawful.order in
+    (journal, lawful, c.in_ok-text.ensures ∙ ap (λ (count : ℕ). summary_of c.args.number count journal.state.items) all)
