@@ -1,16 +1,16 @@
-//! A bank: transfers on two threads, and audits beside them that each see all the money.
+//! A bank: two tellers move money, and two auditors look at the same time whether all of it is there.
 #![tactic(auto)]
 
 ghost use Rattle.std.specs.Prelude.{◌≡◌};
-ghost use Rattle.sto_library.specs.Values.{Serves};
+ghost use Rattle.sto_library.specs.Tasks.{IsOutcome};
 ghost use Rattle.sto_example_bank.specs.Accounts.{transfer, audit};
 
 use std::alloc::Global;
 use std::io;
-use std::thread::{Threads, join};
+use std::thread::Threads;
 use sto_library::{
-    BoxId, Code, Done, IdleWorker, Objects, Schema, SharedStore, Stop, StoreWorker, Tx, TxType,
-    wrapping_difference, wrapping_sum,
+    BoxId, Code, Done, Objects, Schema, SharedStore, State, Stop, StoreWorker, Task, Tx, TxType,
+    Unrun, wrapping_difference, wrapping_sum,
 };
 
 /// Takes an amount from one account, where it is there, and adds it to another. It gives what is left.
@@ -45,7 +45,7 @@ impl Code for Transfer {
     }
 }
 
-/// Gives what the accounts have together.
+/// Gives what three accounts have together.
 #[derive(Clone, Copy)]
 struct Audit {
     a: BoxId,
@@ -72,100 +72,93 @@ impl Code for Audit {
     }
 }
 
-/// A worker after its day.
-#[derive(Drop)]
-struct Day<T: TxType> {
-    worker: IdleWorker<T>,
-    /// Whether each audit told all the money.
-    right: bool,
-}
+/// A teller makes the same transfer 20 times. It gives how the last one went.
+impl<T: TxType> Task<T> for Transfer {
+    type Out = Result<Done<i64>, Unrun>;
 
-/// Moves money from one account to another again and again, with an audit after each.
-fn work<T: TxType>(
-    alloc: Global,
-    store: &SharedStore<T>,
-    worker: IdleWorker<T>,
-    accounts: [BoxId; 3],
-) -> Day<T>
-    requires { Serves T.TxType store.now.words worker.rest.seat }
-    ensures { Serves T.TxType store.now.words result.worker.rest.seat }
-{
-    let [from, to, other] = accounts;
-    let mut teller = store.worker(alloc, worker);
-    let mut right = true;
-    for amount in 1..41 {
-        let _moved = teller.run(&Transfer { from, to, amount });
-        right = is_all(&mut teller, from, to, other) && right;
-    }
-    Day {
-        worker: teller.rest(),
-        right,
+    ghost gives = { λ t worker _ told. IsOutcome T.TxType worker 4 (transfer t.from t.to t.amount) told };
+
+    fn work(&self, worker: &mut StoreWorker<'_, T>) -> Result<Done<i64>, Unrun> {
+        for _ in 1..20 {
+            let _told = worker.run(self);
+        }
+        worker.run(self)
     }
 }
 
-/// Whether an audit of three accounts tells all the money.
-fn is_all<T: TxType>(teller: &mut StoreWorker<'_, T>, a: BoxId, b: BoxId, c: BoxId) -> bool
-    ensures { teller.new.words ≡ teller.old.words }
-{
-    match teller.run(&Audit { a, b, c }) {
-        Ok(Done::Gave(sum)) => sum == 300,
-        _ => false,
+/// An auditor audits 20 times. It gives how the last audit went, or the first one that tells something else than 300.
+impl<T: TxType> Task<T> for Audit {
+    type Out = Result<Done<i64>, Unrun>;
+
+    ghost gives = { λ x worker _ told. IsOutcome T.TxType worker 3 (audit x.a x.b x.c) told };
+
+    fn work(&self, worker: &mut StoreWorker<'_, T>) -> Result<Done<i64>, Unrun> {
+        for _ in 1..20 {
+            let told = worker.run(self);
+            if !matches!(told, Ok(Done::Gave(300))) {
+                return told;
+            }
+        }
+        worker.run(self)
     }
 }
 
-/// Two tellers at the same time.
-fn work_both<R: Threads, T: TxType + Send + Sync>(
-    rt: &R,
-    alloc: Global,
-    store: &SharedStore<T>,
-    first: IdleWorker<T>,
-    other: IdleWorker<T>,
-    accounts: [BoxId; 3],
-) -> (Day<T>, Day<T>)
-    requires first { Serves T.TxType store.now.words first.rest.seat }
-    requires other { Serves T.TxType store.now.words other.rest.seat }
-    ensures first { Serves T.TxType store.now.words result.0.worker.rest.seat }
-    ensures other { Serves T.TxType store.now.words result.1.worker.rest.seat }
-{
-    let [a, b, c] = accounts;
-    join(
-        rt,
-        move || -> Day<T>
-            requires { Serves T.TxType store.now.words first.rest.seat }
-            ensures { Serves T.TxType store.entry.now.words result.worker.rest.seat }
-        { work(alloc, store, first, [a, b, c]) },
-        move || -> Day<T>
-            requires { Serves T.TxType store.now.words other.rest.seat }
-            ensures { Serves T.TxType store.entry.now.words result.worker.rest.seat }
-        { work(alloc, store, other, [b, c, a]) },
-    )
-}
-
-/// A store of three accounts, each with 100, and their names.
+/// A store of three accounts with 100 each, for four workers; and the accounts.
 fn open_bank(alloc: Global) -> Option<(SharedStore<Objects>, [BoxId; 3])> {
     let mut schema = Schema::new(alloc);
     let a = schema.boxed(100).ok()?;
     let b = schema.boxed(100).ok()?;
     let c = schema.boxed(100).ok()?;
-    Some((schema.open(alloc, 2).ok()?, [a, b, c]))
+    Some((schema.open(alloc, 4).ok()?, [a, b, c]))
 }
 
-/// A day of the bank with two tellers: whether each audit was right.
-fn run_bank<R: Threads>(rt: &R, alloc: Global) -> Option<bool> {
-    let (mut store, accounts) = open_bank(alloc)?;
-    let first = store.hire()?;
-    let other = store.hire()?;
-    let (x, y) = work_both(rt, alloc, &store, first, other, accounts);
-    store.back(x.worker).ok()?;
-    store.back(y.worker).ok()?;
+/// What an account has at the end.
+fn value_of(rows: &State, account: BoxId) -> Option<i64> {
+    if account.number >= rows.len() {
+        return None;
+    }
+    match rows.get(account.number).as_slice() {
+        [(_, value)] => Some(*value),
+        _ => None,
+    }
+}
+
+/// A day of the bank: what both audits told, and what each account has at the end.
+fn run_bank<R: Threads + Sync>(rt: &R, alloc: Global) -> Option<([i64; 2], [i64; 3])> {
+    let (mut store, [a, b, c]) = open_bank(alloc)?;
+    let first = Transfer {
+        from: a,
+        to: b,
+        amount: 3,
+    };
+    let other = Transfer {
+        from: b,
+        to: c,
+        amount: 2,
+    };
+    let audit = Audit { a, b, c };
+    let (_, _, x, y) = store
+        .run_four(rt, alloc, &first, &other, &audit, &audit)
+        .ok()?;
+    let (Ok(Done::Gave(x)), Ok(Done::Gave(y))) = (x, y) else {
+        return None;
+    };
     let rows = store.close(alloc).ok()?;
-    Some(x.right && y.right && rows.len() == 3)
+    Some((
+        [x, y],
+        [
+            value_of(&rows, a)?,
+            value_of(&rows, b)?,
+            value_of(&rows, c)?,
+        ],
+    ))
 }
 
 fn main(rt: HostRuntime) -> io::Result<()> {
     match run_bank(&rt, rt.alloc()) {
-        Some(true) => println!(rt; "each audit told 300"),
-        Some(false) => println!(rt; "an audit told something else"),
+        Some(([x, y], [a, b, c])) => println!(rt;
+            "audits told {x} and {y}; the accounts have {a}, {b}, {c}"
+        ),
         None => println!(rt; "no memory"),
     }
 }

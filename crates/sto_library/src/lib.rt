@@ -3,6 +3,8 @@
 
 mod schema;
 mod store;
+mod task;
+mod together;
 mod waits;
 mod worker;
 
@@ -18,5 +20,6 @@ pub use sto_part::{NoMemory, Test, wrapping_difference, wrapping_sum};
 pub use sto_transaction::AttemptWatch;
 pub use sto_type::TxType;
 pub use store::{CloseError, SharedStore};
+pub use task::{Task, TaskError};
 pub use waits::Waits;
 pub use worker::StoreWorker;

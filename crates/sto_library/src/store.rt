@@ -83,6 +83,13 @@ impl<T: TxType> SharedStore<T> {
         Ok(())
     }
 
+    /// How many workers rest here.
+    pub fn resting(&self) -> u32
+        ensures { result ≡ length self.now.views }
+    {
+        self.idle.len()
+    }
+
     /// Lends the store to a worker that was hired here.
     pub fn worker(&self, alloc: Global, idle: IdleWorker<T>) -> StoreWorker<'_, T>
         requires { Serves T.TxType self.now.words idle.rest.seat }

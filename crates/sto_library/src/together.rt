@@ -1,0 +1,236 @@
+//! Tasks side by side, each by a worker on a thread of its own.
+ghost use Rattle.std.specs.Prelude.{◌≡◌, ◌+◌, ◌<◌, length, IfOk, IfErr, IfSome, MatchOption};
+ghost use Rattle.std.specs.Thread.{IsSync};
+ghost use Rattle.sto_library.specs.Values.{Serves};
+ghost use Rattle.sto_library.specs.Tasks.{IsDone, HasFailed};
+
+use crate::store::SharedStore;
+use crate::task::{Finished, Task, TaskError, work_alone};
+use std::alloc::Global;
+use std::thread::{Threads, join};
+use sto_open::IdleWorker;
+use sto_part::NoMemory;
+use sto_type::TxType;
+
+// Two workers.
+type Pair<T> = (IdleWorker<T>, IdleWorker<T>);
+
+// What two tasks gave, with their workers.
+type FinishedPair<T, A, B> = (Finished<T, A>, Finished<T, B>);
+
+// Two workers that rest, if so many do.
+fn hire_two<T: TxType>(store: &mut SharedStore<T>) -> Option<Pair<T>>
+    ensures same { (store.new.words ≡ store.old.words) × (store.new.shapes ≡ store.old.shapes) }
+    ensures serve { IfSome result (λ w. Serves T.TxType store.old.words w.0.rest.seat × Serves T.TxType store.old.words w.1.rest.seat) }
+    ensures fewer { MatchOption result ((length store.old.views < 2) × (store.new ≡ store.old))
+        (λ _. length store.old.views ≡ length store.new.views + 2) }
+{
+    if store.resting() < 2 {
+        return None;
+    }
+    let first = store.hire()?;
+    let other = store.hire()?;
+    Some((first, other))
+}
+
+// Four workers that rest, if so many do.
+fn hire_four<T: TxType>(store: &mut SharedStore<T>) -> Option<(Pair<T>, Pair<T>)>
+    ensures same { (store.new.words ≡ store.old.words) × (store.new.shapes ≡ store.old.shapes) }
+    ensures first { IfSome result (λ w. Serves T.TxType store.old.words w.0.0.rest.seat
+        × Serves T.TxType store.old.words w.0.1.rest.seat) }
+    ensures other { IfSome result (λ w. Serves T.TxType store.old.words w.1.0.rest.seat
+        × Serves T.TxType store.old.words w.1.1.rest.seat) }
+    ensures fewer { MatchOption result ((length store.old.views < 4) × (store.new ≡ store.old))
+        (λ _. length store.old.views ≡ length store.new.views + 4) }
+{
+    if store.resting() < 4 {
+        return None;
+    }
+    let first = hire_two(store)?;
+    let other = hire_two(store)?;
+    Some((first, other))
+}
+
+// Two workers come back.
+fn back_two<T: TxType>(
+    store: &mut SharedStore<T>,
+    first: IdleWorker<T>,
+    other: IdleWorker<T>,
+) -> Result<(), NoMemory>
+    requires first { Serves T.TxType store.old.words first.rest.seat }
+    requires other { Serves T.TxType store.old.words other.rest.seat }
+    ensures same { (store.new.words ≡ store.old.words) × (store.new.shapes ≡ store.old.shapes) }
+    ensures more { IfOk result (λ _. length store.new.views ≡ length store.old.views + 2) }
+{
+    store.back(first)?;
+    store.back(other)
+}
+
+// Does two tasks at a time.
+fn work_both<R: Threads, T: TxType + Drop + Send + Sync, A: Task<T> + Sync, B: Task<T> + Sync>(
+    rt: &R,
+    alloc: Global,
+    store: &SharedStore<T>,
+    workers: Pair<T>,
+    a: &A,
+    b: &B,
+) -> FinishedPair<T, A::Out, B::Out>
+where
+    A::Out: Send + Drop,
+    B::Out: Send + Drop,
+    requires a { Serves T.TxType store.now.words workers.0.rest.seat }
+    requires b { Serves T.TxType store.now.words workers.1.rest.seat }
+    ensures a_serves { Serves T.TxType store.now.words result.0.worker.rest.seat }
+    ensures b_serves { Serves T.TxType store.now.words result.1.worker.rest.seat }
+    ensures a { IsDone store.now.words store.now.shapes (A.gives a.now) result.0.out }
+    ensures b { IsDone store.now.words store.now.shapes (B.gives b.now) result.1.out }
+{
+    let (first, other) = workers;
+    join(
+        rt,
+        move || -> Finished<T, A::Out>
+            requires { Serves T.TxType store.now.words first.rest.seat }
+            ensures serves { Serves T.TxType store.entry.now.words result.worker.rest.seat }
+            ensures done { IsDone store.entry.now.words store.entry.now.shapes (A.gives a.entry.now) result.out }
+        { work_alone(alloc, store, first, a) },
+        move || -> Finished<T, B::Out>
+            requires { Serves T.TxType store.now.words other.rest.seat }
+            ensures serves { Serves T.TxType store.entry.now.words result.worker.rest.seat }
+            ensures done { IsDone store.entry.now.words store.entry.now.shapes (B.gives b.entry.now) result.out }
+        { work_alone(alloc, store, other, b) },
+    )
+}
+
+// Does four tasks at a time.
+fn work_four<
+    R: Threads + Sync,
+    T: TxType + Drop + Send + Sync,
+    A: Task<T> + Sync,
+    B: Task<T> + Sync,
+    C: Task<T> + Sync,
+    D: Task<T> + Sync,
+>(
+    rt: &R,
+    alloc: Global,
+    store: &SharedStore<T>,
+    workers: (Pair<T>, Pair<T>),
+    a: &A,
+    b: &B,
+    c: &C,
+    d: &D,
+) -> (
+    FinishedPair<T, A::Out, B::Out>,
+    FinishedPair<T, C::Out, D::Out>,
+)
+where
+    A::Out: Send + Drop,
+    B::Out: Send + Drop,
+    C::Out: Send + Drop,
+    D::Out: Send + Drop,
+    requires a { Serves T.TxType store.now.words workers.0.0.rest.seat }
+    requires b { Serves T.TxType store.now.words workers.0.1.rest.seat }
+    requires c { Serves T.TxType store.now.words workers.1.0.rest.seat }
+    requires d { Serves T.TxType store.now.words workers.1.1.rest.seat }
+    ensures a_serves { Serves T.TxType store.now.words result.0.0.worker.rest.seat }
+    ensures b_serves { Serves T.TxType store.now.words result.0.1.worker.rest.seat }
+    ensures c_serves { Serves T.TxType store.now.words result.1.0.worker.rest.seat }
+    ensures d_serves { Serves T.TxType store.now.words result.1.1.worker.rest.seat }
+    ensures a { IsDone store.now.words store.now.shapes (A.gives a.now) result.0.0.out }
+    ensures b { IsDone store.now.words store.now.shapes (B.gives b.now) result.0.1.out }
+    ensures c { IsDone store.now.words store.now.shapes (C.gives c.now) result.1.0.out }
+    ensures d { IsDone store.now.words store.now.shapes (D.gives d.now) result.1.1.out }
+{
+    let (first, other) = workers;
+    join(
+        rt,
+        move || -> FinishedPair<T, A::Out, B::Out>
+            requires sync { IsSync R.row }
+            requires a { Serves T.TxType store.now.words first.0.rest.seat }
+            requires b { Serves T.TxType store.now.words first.1.rest.seat }
+            ensures a_serves { Serves T.TxType store.entry.now.words result.0.worker.rest.seat }
+            ensures b_serves { Serves T.TxType store.entry.now.words result.1.worker.rest.seat }
+            ensures a { IsDone store.entry.now.words store.entry.now.shapes (A.gives a.entry.now) result.0.out }
+            ensures b { IsDone store.entry.now.words store.entry.now.shapes (B.gives b.entry.now) result.1.out }
+        { work_both(rt, alloc, store, first, a, b) },
+        move || -> FinishedPair<T, C::Out, D::Out>
+            requires sync { IsSync R.row }
+            requires c { Serves T.TxType store.now.words other.0.rest.seat }
+            requires d { Serves T.TxType store.now.words other.1.rest.seat }
+            ensures c_serves { Serves T.TxType store.entry.now.words result.0.worker.rest.seat }
+            ensures d_serves { Serves T.TxType store.entry.now.words result.1.worker.rest.seat }
+            ensures c { IsDone store.entry.now.words store.entry.now.shapes (C.gives c.entry.now) result.0.out }
+            ensures d { IsDone store.entry.now.words store.entry.now.shapes (D.gives d.entry.now) result.1.out }
+        { work_both(rt, alloc, store, other, c, d) },
+    )
+}
+
+impl<T: TxType + Drop + Send + Sync> SharedStore<T> {
+    /// Does two tasks side by side, each by a worker that rests here, on a thread of its own where one can be made. It answers what they
+    /// gave, each as its task says, once both are done and the workers are back.
+    pub fn run_both<R: Threads, A: Task<T> + Sync, B: Task<T> + Sync>(
+        &mut self,
+        rt: &R,
+        alloc: Global,
+        a: &A,
+        b: &B,
+    ) -> Result<(A::Out, B::Out), TaskError>
+    where
+        A::Out: Send + Drop,
+        B::Out: Send + Drop,
+        ensures same { (self.new.words ≡ self.old.words) × (self.new.shapes ≡ self.old.shapes) }
+        ensures a { IfOk result (λ r. IsDone self.old.words self.old.shapes (A.gives a.now) r.0) }
+        ensures b { IfOk result (λ r. IsDone self.old.words self.old.shapes (B.gives b.now) r.1) }
+        ensures back { IfOk result (λ _. length self.new.views ≡ length self.old.views) }
+        ensures failed { IfErr result (λ error. HasFailed error 2 self.old self.new) }
+    {
+        let Some(workers) = hire_two(self) else {
+            return Err(TaskError::Workers);
+        };
+        let (first, other) = work_both(rt, alloc, self, workers, a, b);
+        match back_two(self, first.worker, other.worker) {
+            Ok(()) => Ok((first.out, other.out)),
+            Err(NoMemory) => Err(TaskError::NoMemory),
+        }
+    }
+
+    /// Does four tasks side by side, as `run_both` does two.
+    pub fn run_four<
+        R: Threads + Sync,
+        A: Task<T> + Sync,
+        B: Task<T> + Sync,
+        C: Task<T> + Sync,
+        D: Task<T> + Sync,
+    >(
+        &mut self,
+        rt: &R,
+        alloc: Global,
+        a: &A,
+        b: &B,
+        c: &C,
+        d: &D,
+    ) -> Result<(A::Out, B::Out, C::Out, D::Out), TaskError>
+    where
+        A::Out: Send + Drop,
+        B::Out: Send + Drop,
+        C::Out: Send + Drop,
+        D::Out: Send + Drop,
+        ensures same { (self.new.words ≡ self.old.words) × (self.new.shapes ≡ self.old.shapes) }
+        ensures a { IfOk result (λ r. IsDone self.old.words self.old.shapes (A.gives a.now) r.0) }
+        ensures b { IfOk result (λ r. IsDone self.old.words self.old.shapes (B.gives b.now) r.1) }
+        ensures c { IfOk result (λ r. IsDone self.old.words self.old.shapes (C.gives c.now) r.2) }
+        ensures d { IfOk result (λ r. IsDone self.old.words self.old.shapes (D.gives d.now) r.3) }
+        ensures back { IfOk result (λ _. length self.new.views ≡ length self.old.views) }
+        ensures failed { IfErr result (λ error. HasFailed error 4 self.old self.new) }
+    {
+        let Some(workers) = hire_four(self) else {
+            return Err(TaskError::Workers);
+        };
+        let ((w, x), (y, z)) = work_four(rt, alloc, self, workers, a, b, c, d);
+        if back_two(self, w.worker, x.worker).is_err()
+            || back_two(self, y.worker, z.worker).is_err()
+        {
+            return Err(TaskError::NoMemory);
+        }
+        Ok((w.out, x.out, y.out, z.out))
+    }
+}
