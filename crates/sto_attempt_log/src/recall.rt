@@ -76,7 +76,7 @@ fn learn_updated<T: TxType>(
         return cache.learn(part, words);
     }
     let made = updated(alloc, ty, set, part, words)?;
-    cache.learn(part, made.as_slice())
+    cache.learn_own(part, made)
 }
 
 // Makes a part known that was read, or that the pending updates put whole. It answers false where it is neither.

@@ -1,7 +1,4 @@
-use Rattle.std.proofs.Common.{◌≡◌, ◌<◌, ◌∙◌, ap, sym, arith, length, take, drop, map, length-set, slice_index_or}
-use Rattle.std.proofs.lemmas.List.Edits.{map_over_more}
-use Rattle.sto_index.specs.declared.index.Stamp.{Stamp}
-use Rattle.sto_index.specs.Stamps.{fresh}
+use Rattle.std.proofs.Common.{◌<◌, arith, length}
 use Rattle.sto_index.proofs.Stamped.{wiped_more}
 use Rattle.sto_index.proofs.index.wipe.Goals as goal
 

@@ -1,6 +1,4 @@
-use Rattle.std.proofs.Common.{◌≡◌, ◌<◌, ◌≤◌, ◌+◌, ◌∙◌, ap, sym, arith}
-use Rattle.sto_index.specs.Index.{place_at}
-use Rattle.sto_index.specs.Stamps.{place_of}
+use Rattle.std.proofs.Common.{◌+◌, arith}
 use Rattle.sto_index.proofs.Stamped.{none_past, none_wiped, up_to_wiped}
 use Rattle.sto_index.proofs.index.PartIndex.clear.Goals as goal
 

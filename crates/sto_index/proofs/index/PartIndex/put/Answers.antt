@@ -1,6 +1,5 @@
-use Rattle.std.proofs.Common.{◌≡◌, ◌<◌, length, ap, sym, ◌∙◌, arith, nat_eq, if◌then◌else◌, Some}
+use Rattle.std.proofs.Common.{◌<◌, length, ap, arith}
 use Rattle.std.proofs.lemmas.List.{length-map}
-use Rattle.sto_index.specs.Index.{place_at}
 use Rattle.sto_index.specs.Stamps.{place_of}
 use Rattle.sto_index.proofs.Stamped.{put_at}
 use Rattle.sto_index.proofs.index.PartIndex.put.Goals as goal

@@ -1,4 +1,4 @@
-use Rattle.std.proofs.Common.{◌≡◌, ◌-◌, ◌∙◌, ap, sym, arith}
+use Rattle.std.proofs.Common.{◌-◌}
 use Rattle.sto_index.proofs.Stamped.{lengthened}
 use Rattle.sto_index.proofs.index.PartIndex.reserve.Goals as goal
 
