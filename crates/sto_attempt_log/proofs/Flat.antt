@@ -1,8 +1,7 @@
 -- Parts that were read, kept with the words of all in one list.
-use Rattle.std.specs.List.{All, slice_range, slice_get}
+use Rattle.std.specs.List.{All, slice_get}
 use Rattle.std.specs.Option.{option_map}
-use Rattle.std.specs.Prelude.{MatchOption}
-use Rattle.std.proofs.Common.{◌≡◌, ◌<◌, ◌≤◌, ◌+◌, ◌-◌, ℕ, ℤ, zero, suc, Option, Some, None, List, [], ◌∷◌, ◌++◌, length, map, take, drop, refl, arith, slice_index_or, ap, ◌∙◌, sym, length-append}
+use Rattle.std.proofs.Common.{◌≡◌, ◌≤◌, ◌+◌, ◌-◌, ℕ, ℤ, zero, suc, Option, Some, List, [], ◌∷◌, ◌++◌, length, take, drop, refl, arith, ap, ◌∙◌, length-append}
 use Rattle.sto_attempt_log.specs.declared.read_entry.ReadEntry.{ReadEntry}
 use Rattle.sto_attempt_log.specs.declared.read_entry.ReadHead.{ReadHead}
 use Rattle.sto_attempt_log.specs.Flat.{entry_with, entry_of, entries_of, IsWithin}

@@ -9,7 +9,6 @@ use Rattle.sto_part.specs.Parts.{part_of}
 use Rattle.sto_part.specs.Changes.{applied, applied_all}
 use Rattle.sto_part.specs.declared.change.Change.{Change}
 use Rattle.sto_part.specs.declared.change.Change.TheVariants.{Keep}
-use Rattle.sto_item.specs.declared.item.Item.{Item}
 use Rattle.sto_item.specs.Pending.{Entry, changes_of, applied_updates, is_put}
 use Rattle.sto_item.specs.Rebase.{overwrites}
 use Rattle.sto_item.specs.Agreement.{HasWidths}

@@ -1,7 +1,6 @@
-use Rattle.std.proofs.Common.{◌≡◌, ◌<◌, ◌∙◌, sym, ap, subst, arith, length, List, ℤ, slice_get, Some}
-use Rattle.sto_attempt_log.specs.declared.read_entry.ReadEntry.{ReadEntry}
-use Rattle.sto_attempt_log.specs.Flat.{entry_of, entry_with, entries_of}
-use Rattle.sto_attempt_log.proofs.Placed.{IsPlaceOf, place_of, no_words, no_ticket, stands_there}
+use Rattle.std.proofs.Common.{◌∙◌, sym, arith}
+use Rattle.sto_attempt_log.specs.Flat.{entry_of, entries_of}
+use Rattle.sto_attempt_log.proofs.Placed.{place_of, no_words, no_ticket, stands_there}
 use Rattle.sto_attempt_log.proofs.Flat.{entry_at, within_at, many_entries}
 use Rattle.sto_attempt_log.proofs.read_entry.ReadSet.find.Goals as goal
 
