@@ -1,5 +1,5 @@
 //! Places of parts, found by their numbers, and forgotten in one step.
-ghost use Rattle.std.specs.Prelude.{◌≡◌, ◌+◌, ◌-◌, ◌^◌, ◌<◌, ◌≤◌, ℕ, [], ◌∷◌, ◌++◌, length, map, nat_eq, if◌then◌else◌, Some, None, replicate, OnOk, OnErr};
+ghost use Rattle.std.specs.Prelude.{◌≡◌, ◌+◌, ◌^◌, ◌<◌, ◌≤◌, ℕ, [], ◌++◌, length, map, nat_eq, if◌then◌else◌, Some, None, replicate, OnOk, OnErr};
 ghost use Rattle.sto_index.specs.Index.{place_at};
 ghost use Rattle.sto_index.specs.Stamps.{fresh};
 
@@ -85,19 +85,6 @@ impl PartIndex {
             place,
         };
         self.stamps.set(part, stamp);
-    }
-
-    /// Notes the place of a part.
-    pub fn set(&mut self, part: u32, place: u32) -> Result<(), NoMemory>
-        ensures ok { OnOk result ((q : ℕ) → place_at self.new q ≡ (if nat_eq part q then Some place else place_at self.old q)) }
-        ensures err { OnErr result (self.new ≡ self.old) }
-    {
-        if part == u32::MAX {
-            return Err(NoMemory);
-        }
-        self.reserve(part + 1)?;
-        self.put(part, place);
-        Ok(())
     }
 
     /// Forgets all places, and keeps the room.
