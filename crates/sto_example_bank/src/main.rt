@@ -13,7 +13,7 @@ use sto_library::{
     Unrun, wrapping_difference, wrapping_sum,
 };
 
-/// Takes an amount from one account, where it is there, and adds it to another. It gives what is left.
+/// Takes an amount from one account, where it is there, and adds it to another. It gives what was there.
 #[derive(Clone, Copy)]
 struct Transfer {
     from: BoxId,
@@ -37,11 +37,10 @@ impl Code for Transfer {
         if x < self.amount {
             return tx.cancel();
         }
-        let left = wrapping_difference(x, self.amount);
-        self.from.set(tx, left)?;
+        self.from.set(tx, wrapping_difference(x, self.amount))?;
         let y = self.to.get(tx)?;
         self.to.set(tx, wrapping_sum(y, self.amount))?;
-        Ok(left)
+        Ok(x)
     }
 }
 
