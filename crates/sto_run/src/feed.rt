@@ -10,7 +10,7 @@ ghost use Rattle.sto_run_threads.specs.Taken.{IsTaken};
 ghost use Rattle.sto_run.specs.Lawful.{IsLawfulJournal};
 
 use crate::opened::OpenedRun;
-use crate::stored::StoredFile;
+use crate::stored::objects_of;
 use std::alloc::Global;
 use std::sync::Wait;
 use std::thread::Threads;
@@ -18,7 +18,7 @@ use sto_journal::Journal;
 use sto_lang::File;
 use sto_part::NoMemory;
 use sto_run_queues::feed_threads;
-use sto_run_threads::{Gate, RetryTurn};
+use sto_run_threads::{Gate, LentFile, RetryTurn, Workload};
 use sto_type::TxType;
 
 /// Feeds the transactions of a file one by one, through queues, to so many workers, which run them by attempts on words that
@@ -43,29 +43,30 @@ pub fn feed_file<R: Threads + Wait + Sync, G: Gate>(
     ensures lawful { IfOk result (IsLawfulJournal (updating_by means) (view file.now) tries) }
     ensures alone { workers ≡ 1 → IfOk result (λ journal. journal.aborts.items ≡ []) }
 {
-    let stored = StoredFile::new(alloc, file)?;
+    let file = LentFile { file };
+    let objects = objects_of(alloc, &file)?;
     let turn = RetryTurn::new();
-    let run = OpenedRun::new(alloc, file, &stored.objects, tries, gate, &turn)?;
+    let run = OpenedRun::new(alloc, file, &objects, tries, gate, &turn)?;
     feed_opened(rt, alloc, &run, workers)
 }
 
 // Feeds the transactions of what was opened to so many workers, and gives the journal.
-fn feed_opened<R: Threads + Wait + Sync, T: TxType + Send + Sync, G: Gate>(
-    rt: &R,
-    alloc: Global,
-    run: &OpenedRun<'_, T, G>,
-    workers: u32,
-) -> Result<Journal, NoMemory>
-    requires sound { IsSound (view run.now.work.file.now) }
-    requires type_of { IsTypeOf (shapes_of (view run.now.work.file.now).declarations) (T.meaning run.now.work.ty.now) }
-    requires ready { IsTaken (view run.now.work.file.now) (T.meaning run.now.work.ty.now) × (0 < run.now.work.tries) }
+fn feed_opened<
+    R: Threads + Wait + Sync,
+    F: Workload + Drop + Send + Sync,
+    T: TxType + Send + Sync,
+    G: Gate,
+>(rt: &R, alloc: Global, run: &OpenedRun<'_, F, T, G>, workers: u32) -> Result<Journal, NoMemory>
+    requires sound { IsSound (F.file run.now.work.workload) }
+    requires type_of { IsTypeOf (shapes_of (F.file run.now.work.workload).declarations) (T.meaning run.now.work.ty.now) }
+    requires ready { IsTaken (F.file run.now.work.workload) (T.meaning run.now.work.ty.now) × (0 < run.now.work.tries) }
     requires tries { run.now.work.tries ≤ 64 }
     requires opened { run.now.opening.items ≡ (T.meaning run.now.work.ty.now).opened }
     requires valid { T.valid (T.sizes run.now.work.ty.now) run.now.opening.items }
-    requires few { run.now.work.tries * scripts_from (view run.now.work.file.now).threads 0
-        + run.now.work.tries * scripts_from (view run.now.work.file.now).threads 0 ≤ 2 ^ 40 }
+    requires few { run.now.work.tries * scripts_from (F.file run.now.work.workload).threads 0
+        + run.now.work.tries * scripts_from (F.file run.now.work.workload).threads 0 ≤ 2 ^ 40 }
     requires workers { IsFromTo 1 16 workers }
-    ensures lawful { IfOk result (IsLawfulJournal (updating_by (λ _. T.meaning run.now.work.ty.now)) (view run.now.work.file.now)
+    ensures lawful { IfOk result (IsLawfulJournal (updating_by (λ _. T.meaning run.now.work.ty.now)) (F.file run.now.work.workload)
         run.now.work.tries) }
     ensures alone { workers ≡ 1 → IfOk result (λ journal. journal.aborts.items ≡ []) }
 {

@@ -13,10 +13,10 @@ mod stored;
 mod whole;
 
 pub use feed::feed_file;
-pub use file::run_file;
+pub use file::{run_file, run_workload};
 pub use journal::journal_of;
 pub use opened::OpenedRun;
 pub use step::step_file;
-pub use sto_run_threads::{Gate, NoGate};
-pub use stored::StoredFile;
+pub use sto_run_threads::{Gate, LentFile, NoGate, Workload};
+pub use stored::objects_of;
 pub use whole::{homes_of, opening_of, rows_of};

@@ -9,17 +9,18 @@ use crate::attempts::{Attempts, Stepped};
 use std::alloc::Global;
 use sto_core::Cells;
 use sto_part::NoMemory;
-use sto_run_threads::{FileWork, Gate};
+use sto_run_threads::{FileWork, Gate, LentFile};
 use sto_script::ScriptBody;
 use sto_transaction::{Ended, Machine, Memory};
 use sto_type::TxType;
 
-impl<'f, T: TxType, G: Gate> Attempts<T, Machine<'f, T, ScriptBody<'f>>> for FileWork<'f, T, G> {
-    ghost fits = { λ w. ProceedsAt T.meaning T.valid T.sizes (view w.file.now) w.ty.now };
+impl<'w, 'f, T: TxType, G: Gate> Attempts<T, Machine<'w, T, ScriptBody<'f>>>
+    for FileWork<'w, LentFile<'f>, T, G> {
+    ghost fits = { λ w. ProceedsAt T.meaning T.valid T.sizes (view w.workload.file.now) w.ty.now };
 
     ghost left = { λ w. script_left T.meaning T.valid T.sizes };
 
-    ghost most = { λ w. bound (weight_total (view w.file.now).threads) (length (T.meaning w.ty.now).widths)
+    ghost most = { λ w. bound (weight_total (view w.workload.file.now).threads) (length (T.meaning w.ty.now).widths)
         (words_of (T.meaning w.ty.now).widths) };
 
     fn most_tries(&self) -> u32 {
@@ -32,8 +33,14 @@ impl<'f, T: TxType, G: Gate> Attempts<T, Machine<'f, T, ScriptBody<'f>>> for Fil
         thread: u32,
         position: u32,
         memory: &mut Memory,
-    ) -> Result<Machine<'f, T, ScriptBody<'f>>, NoMemory> {
-        let script = self.file.threads.get(thread).scripts.get(position - 1);
+    ) -> Result<Machine<'w, T, ScriptBody<'f>>, NoMemory> {
+        let script = self
+            .workload
+            .file
+            .threads
+            .get(thread)
+            .scripts
+            .get(position - 1);
         let body = ScriptBody::new(alloc, script)?;
         Ok(Machine::new(alloc, self.ty, body, memory.take(alloc)))
     }
@@ -41,7 +48,7 @@ impl<'f, T: TxType, G: Gate> Attempts<T, Machine<'f, T, ScriptBody<'f>>> for Fil
     fn step<C: Cells<T>>(
         &self,
         alloc: Global,
-        trial: &mut Machine<'f, T, ScriptBody<'f>>,
+        trial: &mut Machine<'w, T, ScriptBody<'f>>,
         _thread: u32,
         _position: u32,
         cells: &mut C,

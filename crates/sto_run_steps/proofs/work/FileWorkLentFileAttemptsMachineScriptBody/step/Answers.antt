@@ -7,7 +7,7 @@ use Rattle.sto_script.specs.declared.body.ScriptBody.{ScriptBody}
 use Rattle.sto_transaction.specs.declared.machine.Ended.{Ended}
 use Rattle.sto_transaction.specs.Machines.{HasStepped, left_after}
 use Rattle.sto_run_steps.specs.Proceeding.{script_left}
-use Rattle.sto_run_steps.proofs.work.FileWorkAttemptsMachineScriptBody.step.Goals as goal
+use Rattle.sto_run_steps.proofs.work.FileWorkLentFileAttemptsMachineScriptBody.step.Goals as goal
 
 pub returns-in-Some-clause-stepped : goal.returns-in-Some-clause-stepped
 returns-in-Some-clause-stepped g c = λ begun k.
