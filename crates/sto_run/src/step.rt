@@ -14,8 +14,8 @@ use sto_journal::Journal;
 use sto_lang::{File, Turns};
 use sto_objects::Objects;
 use sto_part::NoMemory;
-use sto_run_steps::step_threads;
-use sto_run_threads::{Gate, LentFile, NoGate, RetryTurn};
+use sto_run_steps::{SteppedWork, step_threads};
+use sto_run_threads::{LentFile, NoGate, RetryTurn};
 use sto_script::ScriptBody;
 use sto_transaction::Machine;
 
@@ -41,22 +41,12 @@ pub fn step_file(alloc: Global, file: &File, tries: u32) -> Result<Journal, NoMe
     ensures lawful { IfOk result (IsLawfulJournal (updating_by means) (view file.now) tries) }
     ensures alone { length (view file.now).threads ≤ 1 → IfOk result (λ journal. journal.aborts.items ≡ []) }
 {
-    step_with(alloc, file, tries, &NoGate)
-}
-
-// The same with any gate, which is told of what is handed back.
-fn step_with<G: Gate>(alloc: Global, file: &File, tries: u32, gate: &G) -> Result<Journal, NoMemory>
-    requires sound { IsSound (view file.now) }
-    requires tries { IsFromTo 1 64 tries }
-    ensures lawful { IfOk result (IsLawfulJournal (updating_by means) (view file.now) tries) }
-    ensures alone { length (view file.now).threads ≤ 1 → IfOk result (λ journal. journal.aborts.items ≡ []) }
-{
     let file = LentFile { file };
     let objects = objects_of(alloc, &file)?;
     let turn = RetryTurn::new();
-    let run = OpenedRun::new(alloc, file, &objects, tries, gate, &turn)?;
+    let run = OpenedRun::new(alloc, file, &objects, tries, &NoGate, &turn)?;
     let finished = step_threads::<Objects, Machine<'_, Objects, ScriptBody<'_>>, _>(
-        &run.work,
+        &SteppedWork { work: &run.work },
         alloc,
         run.work.ty,
         &run.opening,

@@ -7,7 +7,7 @@ use Rattle.sto_run.proofs.Draws.{few_threads}
 use Rattle.sto_lang.specs.Objects.{shapes_of}
 use Rattle.sto_run.proofs.ObjectMeanings.{objects_mean}
 use Rattle.sto_run.proofs.RunJournals.{lawful_run}
-use Rattle.sto_run.proofs.step.step_with.Goals as goal
+use Rattle.sto_run.proofs.step.step_file.Goals as goal
 
 pub step_threads-requires-clause-ty : goal.step_threads-requires-clause-ty
 step_threads-requires-clause-ty g c = (refl, c.in_ok-run.ensures.opened)
