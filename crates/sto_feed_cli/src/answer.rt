@@ -12,7 +12,7 @@ use sto_args::Feeding;
 use sto_cli::{leave, report, workers_for};
 use sto_cli_common::{Refusal, file_in};
 use sto_lang::Text;
-use sto_run::{Gate, feed_file};
+use sto_run_feed::{Gate, feed_file};
 
 /// What is printed for these bytes: the report of a run in which a feeder sends the transactions to the workers.
 pub(crate) fn feed_text<R: Threads + Wait + Sync, G: Gate>(

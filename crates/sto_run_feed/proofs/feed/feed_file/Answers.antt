@@ -6,7 +6,7 @@ use Rattle.std.proofs.lemmas.Result.{IfOk-weaker}
 use Rattle.sto_lang.specs.Objects.{shapes_of}
 use Rattle.sto_run.proofs.ObjectMeanings.{objects_mean}
 use Rattle.sto_run.proofs.RunJournals.{lawful_run}
-use Rattle.sto_run.proofs.feed.feed_file.Goals as goal
+use Rattle.sto_run_feed.proofs.feed.feed_file.Goals as goal
 
 pub returns-clause-lawful : goal.returns-clause-lawful
 returns-clause-lawful g c =

@@ -1,5 +1,5 @@
 use Rattle.std.proofs.Common.{◌≡◌, refl}
-use Rattle.sto_run.proofs.feed.feed_opened.Goals as goal
+use Rattle.sto_run_feed.proofs.feed.feed_opened.Goals as goal
 
 pub feed_threads-requires-clause-ty : goal.feed_threads-requires-clause-ty
 feed_threads-requires-clause-ty g c = λ κs within. (refl, c.requires.opened)

@@ -9,14 +9,13 @@ ghost use Rattle.sto_run_threads.specs.Counts.{scripts_from};
 ghost use Rattle.sto_run_threads.specs.Taken.{IsTaken};
 ghost use Rattle.sto_run.specs.Lawful.{IsLawfulJournal};
 
-use crate::opened::OpenedRun;
-use crate::stored::objects_of;
 use std::alloc::Global;
 use std::sync::Wait;
 use std::thread::Threads;
 use sto_journal::Journal;
 use sto_lang::File;
 use sto_part::NoMemory;
+use sto_run::{OpenedRun, objects_of};
 use sto_run_queues::feed_threads;
 use sto_run_threads::{Gate, LentFile, RetryTurn, Workload};
 use sto_type::TxType;
