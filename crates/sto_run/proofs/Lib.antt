@@ -12,6 +12,5 @@ pub mod Fitting
 pub mod Asking
 pub mod Sound
 pub mod ObjectMeanings
-pub mod StoredObjects
 pub mod Entire
 pub mod RunJournals
