@@ -7,7 +7,7 @@ use Rattle.sto_objects.specs.declared.objects.Objects.{Objects}
 use Rattle.sto_serializability.specs.Meanings.{updating_by}
 use Rattle.sto_store.specs.Stores.{means}
 use Rattle.sto_run.specs.Lawful.{IsLawfulJournal}
-use Rattle.sto_run.proofs.ObjectMeanings.{meaning_of}
+use Rattle.sto_store.proofs.ObjectMeanings.{meaning_of}
 use Rattle.sto_run.proofs.Meant.{lawful_meant}
 
 pub lawful_run :

@@ -4,7 +4,7 @@ ghost use Rattle.sto_lang.specs.Objects.{shapes_of};
 ghost use Rattle.sto_lang.specs.Sound.{IsSound};
 ghost use Rattle.sto_serializability.specs.Meanings.{IsTypeOf};
 ghost use Rattle.sto_run_threads.specs.Taken.{IsTaken};
-ghost use Rattle.sto_run.specs.ObjectShapes.{AreOf};
+ghost use Rattle.sto_store.specs.ObjectShapes.{AreOf};
 
 use std::alloc::Global;
 use sto_objects::Objects;

@@ -1,7 +1,7 @@
 use Rattle.std.proofs.Common.{◌≡◌, ap}
 use Rattle.std.proofs.lemmas.Result.{IfOk-weaker}
 use Rattle.sto_lang.specs.Objects.{shapes_of}
-use Rattle.sto_run.proofs.ObjectMeanings.{objects_mean}
+use Rattle.sto_store.proofs.ObjectMeanings.{objects_mean}
 use Rattle.sto_run.proofs.RunJournals.{lawful_run}
 use Rattle.sto_run.proofs.file.run_workload.Goals as goal
 

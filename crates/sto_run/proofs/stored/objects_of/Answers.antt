@@ -6,9 +6,10 @@ use Rattle.sto_lang.specs.Objects.{shapes_of}
 use Rattle.sto_store.specs.Stores.{AreFit, means}
 use Rattle.sto_type.specs.Meaning.{IsLawful}
 use Rattle.sto_serializability.specs.Meanings.{IsTypeOf}
-use Rattle.sto_run.specs.ObjectShapes.{AreOf}
+use Rattle.sto_store.specs.ObjectShapes.{AreOf}
 use Rattle.sto_run.proofs.Fitting.{sound_fit, parts_fit}
-use Rattle.sto_run.proofs.ObjectMeanings.{objects_mean, objects_take}
+use Rattle.sto_store.proofs.ObjectMeanings.{objects_mean}
+use Rattle.sto_run.proofs.ObjectCalls.{objects_take}
 use Rattle.sto_run.proofs.Sound.{sound_in_order, sound_runnable, is_type_of}
 use Rattle.sto_run.proofs.stored.objects_of.Goals as goal
 

@@ -4,7 +4,7 @@ use Rattle.sto_lang.specs.Views.{file as view}
 use Rattle.sto_run_threads.specs.declared.workload.LentFile.{LentFile}
 use Rattle.std.proofs.lemmas.Result.{IfOk-weaker}
 use Rattle.sto_lang.specs.Objects.{shapes_of}
-use Rattle.sto_run.proofs.ObjectMeanings.{objects_mean}
+use Rattle.sto_store.proofs.ObjectMeanings.{objects_mean}
 use Rattle.sto_run.proofs.RunJournals.{lawful_run}
 use Rattle.sto_run_feed.proofs.feed.feed_file.Goals as goal
 
