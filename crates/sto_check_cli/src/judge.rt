@@ -5,6 +5,7 @@ ghost use Rattle.sto_check_cli.specs.Answers.{IsInputRefusal, IsFoundIn};
 
 use crate::divide::divide;
 use std::alloc::Global;
+use std::mem;
 use sto_cli_common::{InputFault, Refusal, file_in};
 use sto_lang::{FaultKind, ScriptFault};
 use sto_report_checker::{Found, check_report};
@@ -28,5 +29,8 @@ pub(crate) fn found_in(alloc: Global, tries: u32, bytes: &[u8]) -> Result<Found,
         return Err(Refusal::Input(InputFault::NoReport));
     };
     let file = file_in(alloc, script)?;
-    Ok(check_report(alloc, &file, tries, report)?)
+    let found = check_report(alloc, &file, tries, report)?;
+    // The program is about to end, and the system takes the file back sooner.
+    mem::forget(file);
+    Ok(found)
 }

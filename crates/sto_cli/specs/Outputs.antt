@@ -48,12 +48,13 @@ IsSummary number text = (journal : Journal) × IsLawfulJournal (updating_by mean
 
 -- `run` and `step` print a lawful report, in which nothing is aborted where one worker runs the file, or where `step` has at most one
 -- script thread; `upgrade` prints the canonical text of the file that the bytes are with its version
--- set to 2; `gen` prints the canonical text of the file that the number generates, and `bench` the summary of a run of it
+-- set to 2; `gen` prints the canonical text of the file that the number generates, which reads as that file, and `bench` the summary of
+-- a run of it
 abbrev pub IsOutput : Command → List ℕ → List ℕ → Type 0
 IsOutput (Run threads tries json) bytes text = IsReport tries json (λ file. workers_of threads (length file.threads) ≡ 1) bytes text
 IsOutput (Step tries json) bytes text = IsReport tries json (λ file. length file.threads ≤ 1) bytes text
 IsOutput Upgrade bytes text = (file : File) × (file_of bytes ≡ Ok file) × (text ≡ text_of (upgraded file))
-IsOutput (Gen number) bytes text = text ≡ text_of (generated number)
+IsOutput (Gen number) bytes text = (text ≡ text_of (generated number)) × (file_of text ≡ Ok (generated number))
 IsOutput (Bench number threads) bytes text = IsSummary number text
 
 -- the bytes are no script, for this fault

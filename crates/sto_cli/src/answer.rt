@@ -13,7 +13,9 @@ ghost use Rattle.sto_cli_common.specs.Ends.{IsFileRefusal};
 ghost use Rattle.sto_cli.specs.Outputs.{IsOutput, aborts_told, form_for, workers_of};
 
 use std::alloc::Global;
+use std::mem;
 use std::thread::Threads;
+use sto_bench::run_generated;
 use sto_cli_common::{Refusal, file_in};
 use sto_journal::Journal;
 use sto_lang::{File, Text};
@@ -46,6 +48,13 @@ pub fn workers_for(file: &File, threads: Option<u32>) -> u32
     threads.unwrap_or(16).min(file.threads.len()).max(1)
 }
 
+/// Leaves a file and a journal to the system, which takes them back sooner. It is for a program whose text is made and that is about to
+/// end.
+pub fn leave(file: File, journal: Journal) {
+    mem::forget(file);
+    mem::forget(journal);
+}
+
 /// What `run` prints for these bytes.
 pub(crate) fn run_text<R: Threads + Sync, G: Gate>(
     rt: &R,
@@ -63,7 +72,9 @@ pub(crate) fn run_text<R: Threads + Sync, G: Gate>(
 {
     let file = file_in(alloc, bytes)?;
     let journal = run_file(rt, alloc, &file, workers_for(&file, threads), tries, gate)?;
-    Ok(report(alloc, &file, &journal, json)?)
+    let text = report(alloc, &file, &journal, json)?;
+    leave(file, journal);
+    Ok(text)
 }
 
 /// What `step` prints for these bytes.
@@ -79,7 +90,9 @@ pub(crate) fn step_text(
 {
     let file = file_in(alloc, bytes)?;
     let journal = step_file(alloc, &file, tries)?;
-    Ok(report(alloc, &file, &journal, json)?)
+    let text = report(alloc, &file, &journal, json)?;
+    leave(file, journal);
+    Ok(text)
 }
 
 /// What `upgrade` prints for these bytes.
@@ -97,7 +110,9 @@ pub(crate) fn gen_text(alloc: Global, number: u64) -> Result<Text, NoMemory>
     ensures { IfOk result (λ text. IsOutput (commands.Gen number) [] text.items) }
 {
     let file = sto_gen::generate(alloc, number)?;
-    sto_write::write(alloc, &file)
+    let text = sto_write::write(alloc, &file)?;
+    mem::forget(file);
+    Ok(text)
 }
 
 /// What `bench` prints for this number.
@@ -111,7 +126,8 @@ pub(crate) fn bench_text<R: Threads + Sync, G: Gate>(
     requires { HasThreads threads }
     ensures { IfOk result (λ text. IsOutput (commands.Bench number threads) [] text.items) }
 {
-    let file = sto_gen::generate(alloc, number)?;
-    let journal = run_file(rt, alloc, &file, workers_for(&file, threads), 64, gate)?;
-    sto_summary::summary(alloc, number, &journal)
+    let journal = run_generated(rt, alloc, number, threads.unwrap_or(16), 64, gate)?;
+    let text = sto_summary::summary(alloc, number, &journal)?;
+    mem::forget(journal);
+    Ok(text)
 }

@@ -1,6 +1,6 @@
 //! The program: its words, its source and its sinks, and all that a call of it does.
 //!
-//! What it shares with the other programs is in `sto_cli_common`. [`workers_for`] and [`report`] are public, for a program that runs
+//! What it shares with the other programs is in `sto_cli_common`. [`workers_for`], [`report`] and [`leave`] are public, for a program that runs
 //! its script in another way.
 #![tactic(auto)]
 
@@ -8,7 +8,7 @@ mod answer;
 mod top;
 mod work;
 
-pub use answer::{report, workers_for};
+pub use answer::{leave, report, workers_for};
 pub use sto_cli_common::{WordsFault, refuse_words, words_of};
 pub use sto_io::{
     Failed, MemSink, MemSource, QuietSink, QuietSource, Sink, Source, StdSink, StdSource,

@@ -9,10 +9,10 @@ use std::alloc::Global;
 use std::sync::Wait;
 use std::thread::Threads;
 use sto_args::Feeding;
-use sto_cli::{report, workers_for};
+use sto_cli::{leave, report, workers_for};
 use sto_cli_common::{Refusal, file_in};
 use sto_lang::Text;
-use sto_run::{Gate, feed_file};
+use sto_run_feed::{Gate, feed_file};
 
 /// What is printed for these bytes: the report of a run in which a feeder sends the transactions to the workers.
 pub(crate) fn feed_text<R: Threads + Wait + Sync, G: Gate>(
@@ -29,5 +29,7 @@ pub(crate) fn feed_text<R: Threads + Wait + Sync, G: Gate>(
     let file = file_in(alloc, bytes)?;
     let workers = workers_for(&file, asked.threads);
     let journal = feed_file(rt, alloc, &file, workers, asked.tries, gate)?;
-    Ok(report(alloc, &file, &journal, false)?)
+    let text = report(alloc, &file, &journal, false)?;
+    leave(file, journal);
+    Ok(text)
 }

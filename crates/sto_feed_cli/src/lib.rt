@@ -10,5 +10,5 @@ pub use sto_cli_common::{WordsFault, refuse_words, words_of};
 pub use sto_io::{
     Failed, MemSink, MemSource, QuietSink, QuietSource, Sink, Source, StdSink, StdSource,
 };
-pub use sto_run::{Gate, NoGate};
+pub use sto_run_feed::{Gate, NoGate};
 pub use top::feed;

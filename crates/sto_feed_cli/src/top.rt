@@ -14,7 +14,7 @@ use std::sync::Wait;
 use std::thread::Threads;
 use sto_cli_common::{say, status};
 use sto_io::{Sink, Source};
-use sto_run::Gate;
+use sto_run_feed::Gate;
 
 /// All that the program does with the words after its name, `[--threads N] [--tries N]`: it reads a script, runs it on N workers,
 /// to which a feeder sends its transactions one by one through queues, and prints the report. Where no number of threads is

@@ -14,7 +14,7 @@ use sto_args::{Feeding, find_feeding};
 use sto_cli_common::{Refusal, script_left, write_text};
 use sto_io::{Sink, Source};
 use sto_lang::Text;
-use sto_run::Gate;
+use sto_run_feed::Gate;
 
 /// Reads the source, and feeds its transactions to the workers.
 fn feed_source<R: Threads + Wait + Sync, S: Source, G: Gate>(

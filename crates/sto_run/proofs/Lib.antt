@@ -11,7 +11,6 @@ pub mod Ordered
 pub mod Fitting
 pub mod Asking
 pub mod Sound
-pub mod ObjectMeanings
-pub mod StoredObjects
+pub mod ObjectCalls
 pub mod Entire
 pub mod RunJournals

@@ -1,4 +1,3 @@
-pub mod ObjectShapes
 pub mod Lawful
 pub mod Runnable
 pub use Rattle.sto_plain.specs.Passes

@@ -2,7 +2,6 @@
 ghost use Rattle.std.specs.Prelude.{◌≡◌, ◌≤◌, ℕ, length, map, IfOk};
 ghost use Rattle.sto_lang.specs.Objects.{shapes_of};
 ghost use Rattle.sto_lang.specs.Sound.{IsSound};
-ghost use Rattle.sto_lang.specs.Views.{file as view};
 ghost use Rattle.sto_plain.specs.Passes.{view_of};
 ghost use Rattle.sto_serializability.specs.Finished.{AreFinished};
 ghost use Rattle.sto_serializability.specs.Meanings.{updating_by, IsTypeOf};
@@ -14,31 +13,31 @@ use crate::whole::{homes_of, rows_of};
 use std::alloc::Global;
 use sto_journal::Journal;
 use sto_journal_merge::merge;
-use sto_lang::File;
 use sto_part::NoMemory;
 use sto_plain::Plain;
+use sto_run_threads::Workload;
 use sto_transaction::Record;
 use sto_type::TxType;
 
 /// The journal of the records of one finished run of a file, whose words have one pass left, which knows all that the
 /// passes of the run knew. Its report in either form is lawful for the file and the number of tries of the run.
 /// After `NoMemory` the records are given up.
-pub fn journal_of<T: TxType>(
+pub fn journal_of<F: Workload, T: TxType>(
     alloc: Global,
-    file: &File,
+    file: &F,
     ty: &T,
     words: &Plain<T>,
     records: Vec<Record>,
 ) -> Result<Journal, NoMemory>
-    requires sound { IsSound (view file.now) }
-    requires type_of { IsTypeOf (shapes_of (view file.now).declarations) (T.meaning ty.now) }
+    requires sound { IsSound (F.file file.now) }
+    requires type_of { IsTypeOf (shapes_of (F.file file.now).declarations) (T.meaning ty.now) }
     requires one { (length words.now.views ≡ 1) × (length words.now.statuses ≡ 1) }
     requires rests { IsAtRest (T.meaning ty.now) (T.sizes ty.now) (view_of words.now 0) }
-    requires finished { (tries : ℕ) × (tries ≤ 64) × AreFinished (T.meaning ty.now) (view file.now) tries (view_of words.now 0)
+    requires finished { (tries : ℕ) × (tries ≤ 64) × AreFinished (T.meaning ty.now) (F.file file.now) tries (view_of words.now 0)
         (map plain records.items) }
-    ensures { IfOk result (λ journal. (tries : ℕ) → AreFinished (T.meaning ty.now) (view file.now) tries (view_of words.now 0)
+    ensures { IfOk result (λ journal. (tries : ℕ) → AreFinished (T.meaning ty.now) (F.file file.now) tries (view_of words.now 0)
         (map plain records.items)
-        → IsLawfulJournal (updating_by (λ _. T.meaning ty.now)) (view file.now) tries journal) }
+        → IsLawfulJournal (updating_by (λ _. T.meaning ty.now)) (F.file file.now) tries journal) }
 {
     let homes = homes_of(alloc, ty)?;
     let contents = words.contents()?;

@@ -1,10 +1,9 @@
-//! Runs of files on threads, by steps and through queues, and the journals that they leave.
+//! Runs of files on threads and by steps, and the journals that they leave.
 //!
 //! With them what a run asks of the type of a file's objects as a whole: what they open with, the homes of their parts, and the
 //! rows of their contents.
 #![tactic(auto)]
 
-mod feed;
 mod file;
 mod journal;
 mod opened;
@@ -12,11 +11,10 @@ mod step;
 mod stored;
 mod whole;
 
-pub use feed::feed_file;
-pub use file::run_file;
+pub use file::{run_file, run_workload};
 pub use journal::journal_of;
 pub use opened::OpenedRun;
 pub use step::step_file;
-pub use sto_run_threads::{Gate, NoGate};
-pub use stored::StoredFile;
+pub use sto_run_threads::{Gate, LentFile, NoGate, Workload};
+pub use stored::objects_of;
 pub use whole::{homes_of, opening_of, rows_of};

@@ -2,7 +2,6 @@
 ghost use Rattle.std.specs.Prelude.{◌≡◌, ◌<◌, ◌≤◌, ◌+◌, ◌*◌, ◌^◌, [], length, map, IfOk};
 ghost use Rattle.sto_lang.specs.Objects.{shapes_of};
 ghost use Rattle.sto_lang.specs.Sound.{IsSound, IsFromTo};
-ghost use Rattle.sto_lang.specs.Views.{file as view};
 ghost use Rattle.sto_plain.specs.Passes.{view_of};
 ghost use Rattle.sto_serializability.specs.Finished.{AreFinished};
 ghost use Rattle.sto_serializability.specs.Meanings.{updating_by, IsTypeOf};
@@ -17,48 +16,47 @@ use crate::journal::journal_of;
 use crate::whole::opening_of;
 use std::alloc::Global;
 use sto_journal::Journal;
-use sto_lang::File;
 use sto_part::{Contents, NoMemory};
-use sto_run_threads::{FileWork, FinishedRun, Gate, RetryTurn};
+use sto_run_threads::{FileWork, FinishedRun, Gate, RetryTurn, Workload};
 use sto_type::TxType;
 
 /// A run of a file that is to begin, where a type has its objects: its transactions as work, and the contents that the objects
 /// open with.
 #[derive(Drop)]
-pub struct OpenedRun<'f, T: TxType, G: Gate> {
-    pub work: FileWork<'f, T, G>,
+pub struct OpenedRun<'f, F: Workload + Drop, T: TxType, G: Gate> {
+    pub work: FileWork<'f, F, T, G>,
     pub opening: Contents,
 }
 
-impl<'f, T: TxType, G: Gate> OpenedRun<'f, T, G> {
+impl<'f, F: Workload + Drop, T: TxType, G: Gate> OpenedRun<'f, F, T, G> {
     /// Opens a run. What a type is to be for it, each mixture of lawful types with the objects of the file is. A transaction with so
     /// many aborted attempts is to be run last, beside no other, with all that follow in its thread. The gate is told before and after
     /// each transaction and before each event of an attempt.
     pub fn new(
         alloc: Global,
-        file: &'f File,
+        file: F,
         ty: &'f T,
         tries: u32,
         gate: &'f G,
         turn: &'f RetryTurn,
-    ) -> Result<OpenedRun<'f, T, G>, NoMemory>
-        requires sound { IsSound (view file.now) }
-        requires type_of { IsTypeOf (shapes_of (view file.now).declarations) (T.meaning ty.now) }
-        requires taken { IsTaken (view file.now) (T.meaning ty.now) }
+    ) -> Result<OpenedRun<'f, F, T, G>, NoMemory>
+        requires sound { IsSound (F.file file) }
+        requires type_of { IsTypeOf (shapes_of (F.file file).declarations) (T.meaning ty.now) }
+        requires taken { IsTaken (F.file file) (T.meaning ty.now) }
         requires tries { IsFromTo 1 64 tries }
-        ensures of { IfOk result (λ r. (r.work.file.now ≡ file.entry.now) × (r.work.ty.now ≡ ty.entry.now) × (r.work.tries ≡ tries)) }
-        ensures sound { IfOk result (λ r. IsSound (view r.work.file.now)) }
-        ensures type_of { IfOk result (λ r. IsTypeOf (shapes_of (view r.work.file.now).declarations) (T.meaning r.work.ty.now)) }
-        ensures ready { IfOk result (λ r. IsTaken (view r.work.file.now) (T.meaning r.work.ty.now) × (0 < r.work.tries)) }
+        ensures of { IfOk result (λ r. (r.work.workload ≡ file) × (r.work.ty.now ≡ ty.entry.now) × (r.work.tries ≡ tries)) }
+        ensures sound { IfOk result (λ r. IsSound (F.file r.work.workload)) }
+        ensures type_of { IfOk result (λ r. IsTypeOf (shapes_of (F.file r.work.workload).declarations) (T.meaning r.work.ty.now)) }
+        ensures ready { IfOk result (λ r. IsTaken (F.file r.work.workload) (T.meaning r.work.ty.now) × (0 < r.work.tries)) }
         ensures tries { IfOk result (λ r. r.work.tries ≤ 64) }
         ensures opened { IfOk result (λ r. r.opening.items ≡ (T.meaning r.work.ty.now).opened) }
         ensures valid { IfOk result (λ r. T.valid (T.sizes r.work.ty.now) r.opening.items) }
-        ensures few { IfOk result (λ r. r.work.tries * scripts_from (view r.work.file.now).threads 0
-            + r.work.tries * scripts_from (view r.work.file.now).threads 0 ≤ 2 ^ 40) }
+        ensures few { IfOk result (λ r. r.work.tries * scripts_from (F.file r.work.workload).threads 0
+            + r.work.tries * scripts_from (F.file r.work.workload).threads 0 ≤ 2 ^ 40) }
     {
         let opening = opening_of(alloc, ty)?;
         let work = FileWork {
-            file,
+            workload: file,
             ty,
             tries,
             gate,
@@ -70,18 +68,18 @@ impl<'f, T: TxType, G: Gate> OpenedRun<'f, T, G> {
     /// The journal of the run, once it has finished. It is lawful for the file and so many tries of a transaction, and tells no
     /// aborted attempt where there was none. After `NoMemory` the records are given up.
     pub fn journal(&self, alloc: Global, finished: FinishedRun<T>) -> Result<Journal, NoMemory>
-        requires sound { IsSound (view self.now.work.file.now) }
-        requires type_of { IsTypeOf (shapes_of (view self.now.work.file.now).declarations) (T.meaning self.now.work.ty.now) }
+        requires sound { IsSound (F.file self.now.work.workload) }
+        requires type_of { IsTypeOf (shapes_of (F.file self.now.work.workload).declarations) (T.meaning self.now.work.ty.now) }
         requires tries { self.now.work.tries ≤ 64 }
         requires one { (length finished.words.views ≡ 1) × (length finished.words.statuses ≡ 1) }
         requires rests { IsAtRest (T.meaning self.now.work.ty.now) (T.sizes self.now.work.ty.now) (view_of finished.words 0) }
-        requires finished { AreFinished (T.meaning self.now.work.ty.now) (view self.now.work.file.now) self.now.work.tries
+        requires finished { AreFinished (T.meaning self.now.work.ty.now) (F.file self.now.work.workload) self.now.work.tries
             (view_of finished.words 0) (map plain finished.records.items) }
-        ensures lawful { IfOk result (IsLawfulJournal (updating_by (λ _. T.meaning self.now.work.ty.now)) (view self.now.work.file.now)
+        ensures lawful { IfOk result (IsLawfulJournal (updating_by (λ _. T.meaning self.now.work.ty.now)) (F.file self.now.work.workload)
             self.now.work.tries) }
         ensures alone { AbortsNone [] (map plain finished.records.items) → IfOk result (λ journal. journal.aborts.items ≡ []) }
     {
         let FinishedRun { records, words } = finished;
-        journal_of(alloc, self.work.file, self.work.ty, &words, records)
+        journal_of(alloc, &self.work.workload, self.work.ty, &words, records)
     }
 }

@@ -8,14 +8,14 @@ ghost use Rattle.sto_store.specs.Stores.{means};
 ghost use Rattle.sto_run.specs.Lawful.{IsLawfulJournal};
 
 use crate::opened::OpenedRun;
-use crate::stored::StoredFile;
+use crate::stored::objects_of;
 use std::alloc::Global;
 use sto_journal::Journal;
 use sto_lang::{File, Turns};
 use sto_objects::Objects;
 use sto_part::NoMemory;
-use sto_run_steps::step_threads;
-use sto_run_threads::{NoGate, RetryTurn};
+use sto_run_steps::{SteppedWork, step_threads};
+use sto_run_threads::{LentFile, NoGate, RetryTurn};
 use sto_script::ScriptBody;
 use sto_transaction::Machine;
 
@@ -41,15 +41,16 @@ pub fn step_file(alloc: Global, file: &File, tries: u32) -> Result<Journal, NoMe
     ensures lawful { IfOk result (IsLawfulJournal (updating_by means) (view file.now) tries) }
     ensures alone { length (view file.now).threads ≤ 1 → IfOk result (λ journal. journal.aborts.items ≡ []) }
 {
-    let stored = StoredFile::new(alloc, file)?;
+    let file = LentFile { file };
+    let objects = objects_of(alloc, &file)?;
     let turn = RetryTurn::new();
-    let run = OpenedRun::new(alloc, file, &stored.objects, tries, &NoGate, &turn)?;
+    let run = OpenedRun::new(alloc, file, &objects, tries, &NoGate, &turn)?;
     let finished = step_threads::<Objects, Machine<'_, Objects, ScriptBody<'_>>, _>(
-        &run.work,
+        &SteppedWork { work: &run.work },
         alloc,
         run.work.ty,
         &run.opening,
-        turns_of(run.work.file),
+        turns_of(run.work.workload.file),
     )?;
     run.journal(alloc, finished)
 }

@@ -12,3 +12,4 @@ mod work;
 
 pub use attempts::{Attempts, Stepped};
 pub use file::step_threads;
+pub use work::SteppedWork;

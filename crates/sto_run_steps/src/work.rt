@@ -1,29 +1,69 @@
 //! The transactions of a file, attempt by attempt.
-ghost use Rattle.std.specs.Prelude.{length};
+ghost use Rattle.std.specs.Prelude.{◌<◌, length};
 ghost use Rattle.sto_lang.specs.Drafts.{weight_total};
 ghost use Rattle.sto_lang.specs.Views.{file as view};
 ghost use Rattle.sto_transaction.specs.Bounds.{bound, words_of};
+ghost use Rattle.sto_run_threads.specs.Taken.{IsTaken};
 ghost use Rattle.sto_run_steps.specs.Proceeding.{ProceedsAt, script_left};
 
 use crate::attempts::{Attempts, Stepped};
 use std::alloc::Global;
 use sto_core::Cells;
 use sto_part::NoMemory;
-use sto_run_threads::{FileWork, Gate};
+use sto_run_threads::{FileWork, Gate, LentFile, Work};
 use sto_script::ScriptBody;
-use sto_transaction::{Ended, Machine, Memory};
+use sto_transaction::{Ended, Machine, Memory, Record};
 use sto_type::TxType;
 
-impl<'f, T: TxType, G: Gate> Attempts<T, Machine<'f, T, ScriptBody<'f>>> for FileWork<'f, T, G> {
-    ghost fits = { λ w. ProceedsAt T.meaning T.valid T.sizes (view w.file.now) w.ty.now };
+/// The work of a file that stands in memory, to be made event by event.
+#[derive(Drop)]
+pub struct SteppedWork<'w, T: TxType, G: Gate> {
+    pub work: &'w FileWork<'w, LentFile<'w>, T, G>,
+}
+
+impl<T: TxType, G: Gate> Work<T> for SteppedWork<'_, T, G> {
+    ghost file = { λ w. view w.work.now.workload.file.now };
+
+    ghost meaning = { λ w. T.meaning w.work.now.ty.now };
+
+    ghost sizes = { λ w. T.sizes w.work.now.ty.now };
+
+    ghost tries = { λ w. w.work.now.tries };
+
+    ghost ready = { λ w. IsTaken (view w.work.now.workload.file.now) (T.meaning w.work.now.ty.now) × (0 < w.work.now.tries) };
+
+    fn threads(&self) -> u32 {
+        self.work.threads()
+    }
+
+    fn count(&self, thread: u32) -> u32 {
+        self.work.count(thread)
+    }
+
+    fn run_one<C: Cells<T>>(
+        &self,
+        alloc: Global,
+        cells: &mut C,
+        thread: u32,
+        position: u32,
+        memory: &mut Memory,
+        records: &mut Vec<Record>,
+    ) -> Result<bool, NoMemory> {
+        self.work
+            .run_one(alloc, cells, thread, position, memory, records)
+    }
+}
+
+impl<'w, T: TxType, G: Gate> Attempts<T, Machine<'w, T, ScriptBody<'w>>> for SteppedWork<'w, T, G> {
+    ghost fits = { λ w. ProceedsAt T.meaning T.valid T.sizes (view w.work.now.workload.file.now) w.work.now.ty.now };
 
     ghost left = { λ w. script_left T.meaning T.valid T.sizes };
 
-    ghost most = { λ w. bound (weight_total (view w.file.now).threads) (length (T.meaning w.ty.now).widths)
-        (words_of (T.meaning w.ty.now).widths) };
+    ghost most = { λ w. bound (weight_total (view w.work.now.workload.file.now).threads) (length (T.meaning w.work.now.ty.now).widths)
+        (words_of (T.meaning w.work.now.ty.now).widths) };
 
     fn most_tries(&self) -> u32 {
-        self.tries
+        self.work.tries
     }
 
     fn begin(
@@ -32,16 +72,18 @@ impl<'f, T: TxType, G: Gate> Attempts<T, Machine<'f, T, ScriptBody<'f>>> for Fil
         thread: u32,
         position: u32,
         memory: &mut Memory,
-    ) -> Result<Machine<'f, T, ScriptBody<'f>>, NoMemory> {
-        let script = self.file.threads.get(thread).scripts.get(position - 1);
+    ) -> Result<Machine<'w, T, ScriptBody<'w>>, NoMemory> {
+        let work = self.work;
+        let file = work.workload.file;
+        let script = file.threads.get(thread).scripts.get(position - 1);
         let body = ScriptBody::new(alloc, script)?;
-        Ok(Machine::new(alloc, self.ty, body, memory.take()))
+        Ok(Machine::new(alloc, work.ty, body, memory.take()))
     }
 
     fn step<C: Cells<T>>(
         &self,
         alloc: Global,
-        trial: &mut Machine<'f, T, ScriptBody<'f>>,
+        trial: &mut Machine<'w, T, ScriptBody<'w>>,
         _thread: u32,
         _position: u32,
         cells: &mut C,

@@ -1,7 +1,10 @@
--- A run of one transaction of a file.
+-- One transaction of a file: its body, and a run of it.
 use Rattle.std.specs.Prelude.{◌≡◌, ℕ, List, Bool, Some}
+use Rattle.sto_model.specs.declared.call.Call.{Call}
+use Rattle.sto_model.specs.Run.{Script as Steps}
 use Rattle.sto_lang.specs.Scripts.{Script, File}
 use Rattle.sto_script.specs.Meaning.{meaning_of}
+use Rattle.sto_script.specs.Asks.{Asks}
 use Rattle.sto_type.specs.Meaning.{Meaning}
 use Rattle.sto_core.specs.declared.view.View.{View}
 use Rattle.sto_report_spec.specs.Orders.{Place, transaction_at}
@@ -12,6 +15,13 @@ use Rattle.sto_transaction.specs.Ran.{HasRun, HasBroken}
 pub record IsTransaction (file : File) (place : Place) : Type 0 where
   pub script : Script
   pub there : transaction_at file place ≡ Some script
+
+-- a body does what that transaction says, and asks only its calls
+pub record IsBodyAt (file : File) (place : Place) (steps : Steps) (MayAsk : Call → Type 0) : Type 0 where
+  pub script : Script
+  pub there : transaction_at file place ≡ Some script
+  pub does : steps ≡ meaning_of script
+  pub asks : (call : Call) → MayAsk call → Asks script.body call
 
 -- from the view v to the view w, on words with so many passes, that transaction was run with so many tries. It has ended, or is
 -- handed back

@@ -11,6 +11,7 @@ mod script;
 mod turn;
 mod work;
 mod worker;
+mod workload;
 
 pub use all::{Worked, work_all};
 pub use file::{FinishedRun, run_rest, run_threads};
@@ -22,3 +23,4 @@ pub use script::run_script;
 pub use turn::RetryTurn;
 pub use work::FileWork;
 pub use worker::{Team, Worker, work_alone};
+pub use workload::{LentFile, Workload};

@@ -1,18 +1,16 @@
 //! The transactions of a file as work.
 ghost use Rattle.std.specs.Prelude.{◌<◌};
-ghost use Rattle.sto_lang.specs.Views.{file as view};
 ghost use Rattle.sto_run_threads.specs.Taken.{IsTaken};
 
 use crate::gate::Gate;
 use crate::one::Work;
 use crate::turn::{HeldTurn, RetryTurn};
+use crate::workload::Workload;
 use crossbeam_utils::Backoff;
 use std::alloc::Global;
 use std::mem;
 use sto_core::Cells;
-use sto_lang::File;
 use sto_part::NoMemory;
-use sto_script::ScriptBody;
 use sto_transaction::{AttemptWatch, Memory, Record, Transacted, Transaction};
 use sto_type::TxType;
 
@@ -62,18 +60,18 @@ impl<G: Gate> AttemptWatch for AtGate<'_, G> {
     }
 }
 
-/// A file, the type of its objects, how many attempts of a transaction may be aborted, who is told, and whose turn it is once some were.
+/// A workload, the type of its objects, how many attempts of a transaction may be aborted, who is told, and whose turn it is once some were.
 #[derive(Drop)]
-pub struct FileWork<'f, T: TxType, G: Gate> {
-    pub file: &'f File,
+pub struct FileWork<'f, F: Workload + Drop, T: TxType, G: Gate> {
+    pub workload: F,
     pub ty: &'f T,
     pub tries: u32,
     pub gate: &'f G,
     pub turn: &'f RetryTurn,
 }
 
-impl<T: TxType, G: Gate> Work<T> for FileWork<'_, T, G> {
-    ghost file = { λ w. view w.file.now };
+impl<F: Workload + Drop, T: TxType, G: Gate> Work<T> for FileWork<'_, F, T, G> {
+    ghost file = { λ w. F.file w.workload };
 
     ghost meaning = { λ w. T.meaning w.ty.now };
 
@@ -81,14 +79,14 @@ impl<T: TxType, G: Gate> Work<T> for FileWork<'_, T, G> {
 
     ghost tries = { λ w. w.tries };
 
-    ghost ready = { λ w. IsTaken (view w.file.now) (T.meaning w.ty.now) × (0 < w.tries) };
+    ghost ready = { λ w. IsTaken (F.file w.workload) (T.meaning w.ty.now) × (0 < w.tries) };
 
     fn threads(&self) -> u32 {
-        self.file.threads.len()
+        self.workload.threads()
     }
 
     fn count(&self, thread: u32) -> u32 {
-        self.file.threads.get(thread).scripts.len()
+        self.workload.count(thread)
     }
 
     fn run_one<C: Cells<T>>(
@@ -100,12 +98,11 @@ impl<T: TxType, G: Gate> Work<T> for FileWork<'_, T, G> {
         memory: &mut Memory,
         records: &mut Vec<Record>,
     ) -> Result<bool, NoMemory> {
-        let script = self.file.threads.get(thread).scripts.get(position - 1);
         if self.turn.is_stopped() {
             return Err(NoMemory);
         }
         self.gate.before(thread, position);
-        let body = ScriptBody::new(alloc, script);
+        let body = self.workload.transaction(alloc, thread, position);
         self.turn.note(&body);
         let body = body?;
         let transaction = Transaction {

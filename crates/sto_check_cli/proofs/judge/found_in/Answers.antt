@@ -13,7 +13,7 @@ check_report-requires-clause-sound c = readable_sound c.in-Some.script.now (view
 pub returns-clause-found : goal.returns-clause-found
 returns-clause-found c =
     let parts = c.in-Some.ensures.divided in
-    let said = c.in_ok-check_report.ensures in
+    let said = c.in_ok-found.ensures in
     record {
       input = record { file = view c.in_ok-file.file; report = c.in-Some.report.now };
       reads = read_so c.args.bytes.now c.in-Some.script.now c.in-Some.report.now c.if-bytes-gt-MOST.false parts.0 parts.1 parts.2 (Ok (view c.in_ok-file.file)) c.in_ok-file.ensures.file;

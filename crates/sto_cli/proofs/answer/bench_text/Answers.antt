@@ -1,29 +1,22 @@
-use Rattle.std.proofs.Common.{◌≡◌, ap, refl, subst, length, []}
+use Rattle.std.proofs.Common.{◌≡◌, ap, ◌∙◌, length, [], arith}
 use Rattle.std.proofs.lemmas.Result.{IfOk-weaker}
 use Rattle.sto_args.specs.declared.command.Command.TheVariants as commands
-use Rattle.sto_lang.specs.Scripts.{File}
-use Rattle.sto_lang.specs.Views.{file as view}
-use Rattle.sto_run.specs.Meanings.{updating_by}
-use Rattle.sto_run.specs.Stores.{means}
+use Rattle.sto_model.specs.Run.{State}
+use Rattle.sto_gen.specs.Generated.{file_of as generated}
+use Rattle.sto_journal.specs.Journals.{places}
 use Rattle.sto_summary.specs.Summary.{summary_of}
-use Rattle.sto_summary.proofs.Rows.{have_four}
-use Rattle.sto_run.specs.Lawful.{IsLawfulJournal}
-use Rattle.sto_run.proofs.Printed.{lawful_rows}
+use Rattle.sto_run.proofs.Printed.{length-final}
 use Rattle.sto_cli.specs.Outputs.{IsOutput}
 use Rattle.sto_cli.proofs.answer.bench_text.Goals as goal
 
-pub run_file-requires-clause-sound : goal.run_file-requires-clause-sound
-run_file-requires-clause-sound g c = λ κs within. c.in_ok-file.ensures.sound
-
 pub summary-requires : goal.summary-requires
 summary-requires g c =
-    have_four c.in_ok-journal.journal.state.items c.in_ok-file.file.decls.items (ap (λ (f : File). f.declarations) c.in_ok-file.ensures.file)
-    (lawful_rows (updating_by means) (view c.in_ok-file.file) 64 c.in_ok-journal.journal c.in_ok-file.ensures.sound c.in_ok-journal.ensures.lawful c.in_ok-file.file.decls.items refl)
+    let journal = c.in_ok-journal.journal in
+    let rows = ap (λ (st : State). length st) c.in_ok-journal.ensures.final ∙ length-final (generated c.args.number) (places journal.lines.items) in
+    omega (arith, rows)
 
 pub returns : goal.returns
 returns g c =
     let journal = c.in_ok-journal.journal in
-    IfOk-weaker c.summary.result (λ text. text.items ≡ summary_of c.args.number (length journal.lines.items) journal.state.items)
-    (λ text. IsOutput (commands.Bench c.args.number c.args.threads) [] text.items)
-    (λ text h. (journal, subst (λ (f : File). IsLawfulJournal (updating_by means) f 64 journal) c.in_ok-file.ensures.file c.in_ok-journal.ensures.lawful, h))
-    c.summary.ensures
+    let text = c.in_ok-text.text in
+    (journal, c.in_ok-journal.ensures, c.in_ok-text.ensures)

@@ -19,6 +19,6 @@ returns-clause-text g c =
     let journal = c.in_ok-journal.journal in (
       file,
       c.in_ok-file.ensures.file,
-      c.in_ok-report.ensures.lawful c.args.asked.tries c.in_ok-journal.ensures.lawful,
-      λ one. c.in_ok-report.ensures.aborts ∙ ap (map (abort file.declarations)) (c.in_ok-journal.ensures.alone (c.workers_for-workers.ensures.count ∙ one)),
+      c.in_ok-text.ensures.lawful c.args.asked.tries c.in_ok-journal.ensures.lawful,
+      λ one. c.in_ok-text.ensures.aborts ∙ ap (map (abort file.declarations)) (c.in_ok-journal.ensures.alone (c.workers_for-workers.ensures.count ∙ one)),
     )

@@ -1,7 +1,6 @@
 use Rattle.std.proofs.Common.{◌≡◌, ℕ, List, length, map, sym, ap, ◌∙◌, subst, arith}
 use Rattle.std.proofs.lemmas.List.{length-map}
 use Rattle.sto_lang.specs.Scripts.{File}
-use Rattle.sto_lang.specs.Views.{file as view}
 use Rattle.sto_model.specs.declared.state.State.{State}
 use Rattle.sto_attempt_facts.specs.Records as plainly
 use Rattle.sto_type.specs.Meaning.{Meaning}
@@ -25,20 +24,20 @@ rows_of-requires g c =
     let v = view_of c.args.words.now 0 in
     let now = c.in_ok-contents.ensures.commits in
     let closed = closed_words (g.T.Naming.valid) m (g.T.Naming.sizes c.args.ty.now) c.args.words.now c.in_ok-contents.contents.items (g.met.T.TxType.valid_is c.args.ty.now) c.requires.one.0 c.requires.one.1 c.requires.rests now in
-    let valid = valid_at_end m (view c.args.file.now) c.requires.sound c.requires.type_of closed c.requires.finished.0 (map plain c.args.records.items) c.requires.finished.2 in
+    let valid = valid_at_end m (g.F.Workload.file c.args.file.now) c.requires.sound c.requires.type_of closed c.requires.finished.0 (map plain c.args.records.items) c.requires.finished.2 in
     subst m.valid (sym now.are) valid
 
 pub merge-requires-clause-parts : goal.merge-requires-clause-parts
 merge-requires-clause-parts g c =
     let m : Meaning = g.T.TxType.meaning c.args.ty.now in
-    in_parts m (view c.args.file.now) (view_of c.args.words.now 0) (length c.deref.result.now) c.args.records.items
+    in_parts m (g.F.Workload.file c.args.file.now) (view_of c.args.words.now 0) (length c.deref.result.now) c.args.records.items
     (ap (λ (l : List (ℕ × ℕ)). length l) (sym c.in_ok-homes.ensures) ∙ length-map c.in_ok-homes.homes.items home_pair ∙ ap (λ (l : List Home). length l) (sym c.deref.ensures.value))
     c.requires.finished.2.each
 
 pub merge-requires-clause-few : goal.merge-requires-clause-few
 merge-requires-clause-few g c =
     let rs : List plainly.Record = map plain c.args.records.items in
-    let file : File = view c.args.file.now in
+    let file : File = g.F.Workload.file c.args.file.now in
     let few = few_records file c.requires.finished.0 rs (have_scripts (g.T.TxType.meaning c.args.ty.now) file (view_of c.args.words.now 0) rs c.requires.finished.2.each) c.requires.finished.2.few c.requires.finished.2.order c.requires.finished.1 in
     let same = length-map c.args.records.items plain in
     let all = c.requires.sound.few_transactions in
@@ -47,7 +46,7 @@ merge-requires-clause-few g c =
 pub returns : goal.returns
 returns g c = λ tries finished.
     let m : Meaning = g.T.TxType.meaning c.args.ty.now in
-    let file : File = view c.args.file.now in
+    let file : File = g.F.Workload.file c.args.file.now in
     let rs : List plainly.Record = map plain c.args.records.items in
     let count : ℕ = length file.threads in
     let now = c.in_ok-contents.ensures.commits in

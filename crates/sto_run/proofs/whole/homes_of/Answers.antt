@@ -1,5 +1,6 @@
 use Rattle.std.proofs.Common.{◌≡◌, ◌++◌, ◌∷◌, [], true, not, is_ok, ap, ◌∙◌, arith}
-use Rattle.sto_run.proofs.Entire.{take_all, home_added}
+use Rattle.std.proofs.lemmas.List.{take_all}
+use Rattle.sto_run.proofs.Entire.{home_added}
 use Rattle.sto_run.proofs.whole.homes_of.Goals as goal
 
 pub loop-part-preserved : goal.loop-part-preserved
@@ -12,4 +13,4 @@ pub returns : goal.returns
 returns g c =
     let m = g.T.TxType.meaning c.args.ty.now in
     let many = (g.met.T.TxType.lawful c.args.ty.now).homes in
-    c.loop-part.invariant ∙ take_all m.homes c.loop-part.part (omega (arith, many, c.parts-part-end.ensures, c.loop-part-test.false))
+    c.loop-part.invariant ∙ take_all c.loop-part.part m.homes (omega (arith, many, c.parts-part-end.ensures, c.loop-part-test.false))

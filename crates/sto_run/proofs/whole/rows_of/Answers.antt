@@ -1,6 +1,6 @@
 use Rattle.std.proofs.Common.{ap, subst, sym, ◌∙◌}
 use Rattle.std.proofs.lemmas.Result.{IfOk-weaker}
-use Rattle.sto_run.proofs.Entire.{whole_contents}
+use Rattle.sto_store.proofs.Whole.{whole_contents}
 use Rattle.sto_run.proofs.whole.rows_of.Goals as goal
 
 pub rows_at-requires : goal.rows_at-requires

@@ -1,4 +1,4 @@
-use Rattle.std.proofs.Common.{◌≡◌, ◌≤◌, ◌<◌, true, false, List, ℤ, ℕ, [], ◌∷◌, ◌++◌, ap, sym, ◌∙◌, subst, map, arith, refl}
+use Rattle.std.proofs.Common.{◌≡◌, ◌≤◌, ◌<◌, true, false, List, ℕ, [], ◌∷◌, ◌++◌, ap, sym, ◌∙◌, subst, map, arith, refl}
 use Rattle.sto_part.specs.Listed.{Listed}
 use Rattle.sto_model.specs.Told.{told}
 use Rattle.sto_core.specs.Versions.{ticket_of, is_free}
@@ -73,8 +73,8 @@ returns-then-newer-ticket-clause-turned g c =
     let h = close_changed m g.T.Naming.valid sizes f a.at c.args.part c.args.ticket a.words.items a.log.base.items a.log.set.items a.log.set.updates rs v c.requires.before.goes.0 w passes n c.close-found.ensures.tells c.requires.before.log.log free ne in
     (refl, h.0, close_within m g.T.Naming.valid sizes f a.at c.args.part c.args.ticket a.words.items a.log.base.items a.log.set.items a.log.set.updates rs v c.requires.before.goes.0 w passes n c.close-found.ensures.tells c.requires.before.log.log, (refl, subst (λ (s : ℕ). WasChanged m f w a.at c.args.part s rs) (sym c.ticket-newer.ensures.ticket) h.1))
 
-pub returns-then-len-eq4294967295-clause-err : goal.returns-then-len-eq4294967295-clause-err
-returns-then-len-eq4294967295-clause-err g c =
+pub returns-then-len-clause-err : goal.returns-then-len-clause-err
+returns-then-len-clause-err g c =
     let a = c.args.self.now in
     let m = g.T.TxType.meaning a.log.ty.now in
     let law = g.met.T.TxType.lawful a.log.ty.now in

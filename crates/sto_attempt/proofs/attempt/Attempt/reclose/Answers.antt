@@ -1,5 +1,4 @@
 use Rattle.std.proofs.Common.{◌≡◌, ◌<◌, true, false, Some, List, ℤ, ℕ, [], ◌∷◌, ◌++◌, ap, sym, ◌∙◌, subst, map, length, arith, refl, true≢false}
-use Rattle.sto_part.specs.Listed.{Listed}
 use Rattle.std.specs.List.{slice_get}
 use Rattle.std.specs.Option.{option_map}
 use Rattle.std.proofs.lemmas.Option.{slice_get-map}

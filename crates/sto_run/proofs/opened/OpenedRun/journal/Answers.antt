@@ -1,14 +1,13 @@
 use Rattle.std.proofs.Common.{◌≡◌, ◌≤◌, ℕ, List, [], map, refl, arith}
 use Rattle.std.proofs.lemmas.Result.{IfOk-weaker}
 use Rattle.sto_lang.specs.Scripts.{File}
-use Rattle.sto_lang.specs.Views.{file as view}
 use Rattle.sto_type.specs.Meaning.{Meaning}
 use Rattle.sto_serializability.specs.Meanings.{updating_by}
 use Rattle.sto_run.proofs.Alone.{no_aborts, never_aborted}
 use Rattle.sto_run.proofs.opened.OpenedRun.journal.Goals as goal
 
 pub journal_of-requires-clause-finished : goal.journal_of-requires-clause-finished
-journal_of-requires-clause-finished g c = (c.args.self.now.work.tries, c.requires.tries, c.requires.finished)
+journal_of-requires-clause-finished g c = λ κs within. (c.args.self.now.work.tries, c.requires.tries, c.requires.finished)
 
 pub returns-clause-lawful : goal.returns-clause-lawful
 returns-clause-lawful g c = IfOk-weaker c.journal_of.result _ _ (λ j h. h c.args.self.now.work.tries c.requires.finished) c.journal_of.ensures
@@ -16,7 +15,7 @@ returns-clause-lawful g c = IfOk-weaker c.journal_of.result _ _ (λ j h. h c.arg
 pub returns-clause-alone : goal.returns-clause-alone
 returns-clause-alone g c = λ none.
     let m : Meaning = g.T.TxType.meaning c.args.self.now.work.ty.now in
-    let file : File = view c.args.self.now.work.file.now in
+    let file : File = g.F.Workload.file c.args.self.now.work.workload in
     IfOk-weaker c.journal_of.result _ _
     (λ j h. no_aborts (updating_by (λ shapes. m)) file j (h 0 (never_aborted m file c.args.self.now.work.tries _ _ c.requires.finished none)))
     c.journal_of.ensures

@@ -1,6 +1,5 @@
-use Rattle.std.proofs.Common.{◌-◌, map, subst, arith}
+use Rattle.std.proofs.Common.{map, subst, sym}
 use Rattle.sto_model.specs.Run.{Script as Steps}
-use Rattle.sto_lang.specs.Views.{file as view, script}
 use Rattle.sto_script.specs.Meaning.{meaning_of}
 use Rattle.sto_report_spec.specs.Orders.{Place}
 use Rattle.sto_attempt_log.proofs.Reading.{always_err}
@@ -8,21 +7,16 @@ use Rattle.sto_transaction.specs.Plain.{plain}
 use Rattle.sto_transaction.specs.Ran.{HasRun, HasBroken}
 use Rattle.sto_run_threads.specs.Ran.{HasBrokenAt}
 use Rattle.sto_run_threads.proofs.Results.{at_ok, at_err}
-use Rattle.sto_run_threads.proofs.Places.{at_place, position_above}
 use Rattle.sto_run_threads.proofs.Scripts.{not_begun}
 use Rattle.sto_run_threads.proofs.work.FileWorkWork.run_one.Goals as goal
 
-pub new-body-requires : goal.new-body-requires
-new-body-requires g c =
-    let at = at_place c.args.self.now.file.now c.args.thread c.args.position (c.args.position - 1) c.get.result.now c.get-script.result.now
-    (omega (arith, position_above (view c.args.self.now.file.now) c.args.thread c.args.position c.requires.there)) c.get.ensures c.get-script.ensures in
-    c.requires.ready.0.weighed (c.args.thread, c.args.position) (script c.get-script.result.now) at
+pub transaction-body-requires-clause-weighed : goal.transaction-body-requires-clause-weighed
+transaction-body-requires-clause-weighed g c = λ script there. c.requires.ready.0.weighed (c.args.thread, c.args.position) script there
 
 pub run-ran-requires-clause-takes : goal.run-ran-requires-clause-takes
 run-ran-requires-clause-takes g c = λ call may.
-    let at = at_place c.args.self.now.file.now c.args.thread c.args.position (c.args.position - 1) c.get.result.now c.get-script.result.now
-    (omega (arith, position_above (view c.args.self.now.file.now) c.args.thread c.args.position c.requires.there)) c.get.ensures c.get-script.ensures in
-    c.requires.ready.0.takes (c.args.thread, c.args.position) (script c.get-script.result.now) at call (at_ok _ c.in_ok-body.was c.new-body.ensures.may call may)
+    let made = at_ok _ c.in_ok-body.was c.transaction-body.ensures.made in
+    c.requires.ready.0.takes (c.args.thread, c.args.position) made.script made.there call (made.asks call may)
 
 -- none was begun
 pub returns-then-is_stopped-clause-err : goal.returns-then-is_stopped-clause-err
@@ -40,35 +34,31 @@ pub returns-in_err-body-clause-err : goal.returns-in_err-body-clause-err
 returns-in_err-body-clause-err g c =
     let m = g.T.TxType.meaning c.args.self.now.ty.now in let sizes = g.T.Naming.sizes c.args.self.now.ty.now in let v = g.C.Cells.view c.args.cells.now in
     let place : Place = (c.args.thread, c.args.position) in
-    let at = at_place c.args.self.now.file.now c.args.thread c.args.position (c.args.position - 1) c.get.result.now c.get-script.result.now
-    (omega (arith, position_above (view c.args.self.now.file.now) c.args.thread c.args.position c.requires.there)) c.get.ensures c.get-script.ensures in
-    let text = script c.get-script.result.now in let rs = map plain c.args.records.now.items in
-    always_err c.from_residual.result (HasBrokenAt m sizes (view c.args.self.now.file.now) c.args.self.now.tries v v place rs rs)
-    (record { script = text; there = at; broken = not_begun m sizes c.args.self.now.tries v (meaning_of text) place rs c.requires.rests })
+    let text = c.requires.there.script in let rs = map plain c.args.records.now.items in
+    always_err c.from_residual.result (HasBrokenAt m sizes (g.F.Workload.file c.args.self.now.workload) c.args.self.now.tries v v place rs rs)
+    (record { script = text; there = c.requires.there.there; broken = not_begun m sizes c.args.self.now.tries v (meaning_of text) place rs c.requires.rests })
 
 pub returns-in_err-ended-clause-err : goal.returns-in_err-ended-clause-err
 returns-in_err-ended-clause-err g c =
     let m = g.T.TxType.meaning c.args.self.now.ty.now in let sizes = g.T.Naming.sizes c.args.self.now.ty.now in
     let v = g.C.Cells.view c.args.cells.now in let w = g.C.Cells.view c.run-ran.new.cells in
     let place : Place = (c.args.thread, c.args.position) in
-    let at = at_place c.args.self.now.file.now c.args.thread c.args.position (c.args.position - 1) c.get.result.now c.get-script.result.now
-    (omega (arith, position_above (view c.args.self.now.file.now) c.args.thread c.args.position c.requires.there)) c.get.ensures c.get-script.ensures in
-    let text = script c.get-script.result.now in let rs = map plain c.args.records.now.items in let later = map plain c.run-ran.new.records.items in
-    always_err c.from_residual-in_err-ended.result (HasBrokenAt m sizes (view c.args.self.now.file.now) c.args.self.now.tries v w place rs later)
-    (record { script = text; there = at; broken = subst (λ (f : Steps). HasBroken m sizes c.args.self.now.tries v w f place rs later) (at_ok _ c.in_ok-body.was c.new-body.ensures.script) (at_err c.in_err-ended.was c.run-ran.ensures.err) })
+    let made = at_ok _ c.in_ok-body.was c.transaction-body.ensures.made in
+    let rs = map plain c.args.records.now.items in let later = map plain c.run-ran.new.records.items in
+    always_err c.from_residual-in_err-ended.result (HasBrokenAt m sizes (g.F.Workload.file c.args.self.now.workload) c.args.self.now.tries v w place rs later)
+    (record { script = made.script; there = made.there; broken = subst (λ (f : Steps). HasBroken m sizes c.args.self.now.tries v w f place rs later) made.does (at_err c.in_err-ended.was c.run-ran.ensures.err) })
 
 pub returns-then-ended-clause-ran : goal.returns-then-ended-clause-ran
 returns-then-ended-clause-ran g c =
     let m = g.T.TxType.meaning c.args.self.now.ty.now in let sizes = g.T.Naming.sizes c.args.self.now.ty.now in
     let v = g.C.Cells.view c.args.cells.now in let w = g.C.Cells.view c.run-ran.new.cells in
     let place : Place = (c.args.thread, c.args.position) in
-    let at = at_place c.args.self.now.file.now c.args.thread c.args.position (c.args.position - 1) c.get.result.now c.get-script.result.now
-    (omega (arith, position_above (view c.args.self.now.file.now) c.args.thread c.args.position c.requires.there)) c.get.ensures c.get-script.ensures in
+    let made = at_ok _ c.in_ok-body.was c.transaction-body.ensures.made in
     let rs = map plain c.args.records.now.items in let later = map plain c.run-ran.new.records.items in
     record {
-      script = script c.get-script.result.now;
-      there = at;
-      ran = subst (λ (f : Steps). HasRun m sizes c.args.self.now.tries (g.C.Cells.passes c.args.cells.now) v w f place rs later c.in_ok-ended.field-0.ended) (at_ok _ c.in_ok-body.was c.new-body.ensures.script) (at_ok _ c.in_ok-ended.was c.run-ran.ensures.ran);
+      script = made.script;
+      there = made.there;
+      ran = subst (λ (f : Steps). HasRun m sizes c.args.self.now.tries (g.C.Cells.passes c.args.cells.now) v w f place rs later c.in_ok-ended.field-0.ended) made.does (at_ok _ c.in_ok-ended.was c.run-ran.ensures.ran);
     }
 
 pub returns-else-ended-clause-ran : goal.returns-else-ended-clause-ran
@@ -76,11 +66,10 @@ returns-else-ended-clause-ran g c =
     let m = g.T.TxType.meaning c.args.self.now.ty.now in let sizes = g.T.Naming.sizes c.args.self.now.ty.now in
     let v = g.C.Cells.view c.args.cells.now in let w = g.C.Cells.view c.run-ran.new.cells in
     let place : Place = (c.args.thread, c.args.position) in
-    let at = at_place c.args.self.now.file.now c.args.thread c.args.position (c.args.position - 1) c.get.result.now c.get-script.result.now
-    (omega (arith, position_above (view c.args.self.now.file.now) c.args.thread c.args.position c.requires.there)) c.get.ensures c.get-script.ensures in
+    let made = at_ok _ c.in_ok-body.was c.transaction-body.ensures.made in
     let rs = map plain c.args.records.now.items in let later = map plain c.run-ran.new.records.items in
     record {
-      script = script c.get-script.result.now;
-      there = at;
-      ran = subst (λ (f : Steps). HasRun m sizes c.args.self.now.tries (g.C.Cells.passes c.args.cells.now) v w f place rs later c.in_ok-ended.field-0.ended) (at_ok _ c.in_ok-body.was c.new-body.ensures.script) (at_ok _ c.in_ok-ended.was c.run-ran.ensures.ran);
+      script = made.script;
+      there = made.there;
+      ran = subst (λ (f : Steps). HasRun m sizes c.args.self.now.tries (g.C.Cells.passes c.args.cells.now) v w f place rs later c.in_ok-ended.field-0.ended) made.does (at_ok _ c.in_ok-ended.was c.run-ran.ensures.ran);
     }

@@ -1,0 +1,10 @@
+//! The run of a generated file, whose transactions are made when they are run.
+#![tactic(auto)]
+
+mod body;
+mod file;
+mod run;
+
+pub use body::GeneratedBody;
+pub use file::GeneratedFile;
+pub use run::run_generated;
