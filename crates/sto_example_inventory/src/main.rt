@@ -1,7 +1,7 @@
 //! An inventory: two sellers sell from one stock at the same time, and never what is not there.
 #![tactic(auto)]
 
-ghost use Rattle.std.specs.Prelude.{◌≡◌};
+ghost use Rattle.std.specs.Prelude.{◌≡◌, pos};
 ghost use Rattle.sto_library.specs.Tasks.{IsOutcome};
 ghost use Rattle.sto_example_inventory.specs.Stock.{noted, sale, count};
 
@@ -66,7 +66,7 @@ struct Count {
 impl Code for Count {
     type Out = (i64, i64);
 
-    ghost does = { λ c. count c.stock c.book 1 2 };
+    ghost does = { λ c. count c.stock c.book (pos 1) (pos 2) };
 
     ghost most = { λ _. 3 };
 
