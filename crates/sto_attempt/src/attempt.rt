@@ -17,7 +17,9 @@ ghost use Rattle.sto_attempt.specs.Attempts.{IsLogOf, IsOwnLog, IsUnderWay, Step
 
 use std::alloc::Global;
 use std::mem;
-use sto_attempt_log::{Extension, Heard, Log, Memory, Observed, ReadPhase, Turn, Verdict, lead};
+use sto_attempt_log::{
+    Extension, Heard, Log, Memory, Observed, ReadPhase, Turn, Verdict, lead, learn_updated,
+};
 use sto_core::Cells;
 use sto_model::{Body, Replies};
 use sto_part::{NoMemory, PartWords, Pred, holds};
@@ -304,9 +306,12 @@ impl<'t, T: TxType, B: Body> Attempt<'t, T, B> {
             return Err(NoMemory);
         }
         let words = self.words.as_slice();
-        self.log.base.push(part, ticket, words)?;
-        let heard = self.log.replies.len();
-        let reached = self.log.go_on(alloc)?;
+        let log = &mut self.log;
+        log.base.push(part, ticket, words)?;
+        // What was just read is known at once, so that the call is not planned once more only to ask for it.
+        learn_updated(alloc, log.ty, &log.set, part, words, &mut log.cache)?;
+        let heard = log.replies.len();
+        let reached = log.go_on(alloc)?;
         let (read_phase, turn) = lead(&self.log.set, self.at, reached);
         self.extension.extended = still(self.extension.extended, heard, self.log.replies.len());
         self.read_phase = read_phase;

@@ -14,6 +14,7 @@ pub mod Onward
 pub mod Numbered
 pub mod Prefix
 pub mod Reading
+pub mod ReadIn
 pub mod Extended
 pub mod Looking
 pub mod Drawing

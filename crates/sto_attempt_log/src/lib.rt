@@ -28,4 +28,5 @@ pub use observed::Observed;
 pub use predicates::Predicates;
 pub use read_entry::{ReadEntry, ReadRef, ReadSet};
 pub use read_phase::{ReadPhase, lead};
+pub use recall::learn_updated;
 pub use verdict::{Heard, Turn, Verdict};

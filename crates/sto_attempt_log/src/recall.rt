@@ -56,8 +56,8 @@ fn learn_word<T: TxType>(
     cache.learn(part, &[now])
 }
 
-// Makes a part known: these words, with the pending update of the part applied. It takes a list only where it has to.
-fn learn_updated<T: TxType>(
+/// Makes a part known: these words, with the pending update of the part applied. It takes a list only where it has to.
+pub fn learn_updated<T: TxType>(
     alloc: Global,
     ty: &T,
     set: &Observed,

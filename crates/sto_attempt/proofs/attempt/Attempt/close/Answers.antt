@@ -3,17 +3,18 @@ use Rattle.sto_part.specs.Listed.{Listed}
 use Rattle.sto_model.specs.Told.{told}
 use Rattle.sto_core.specs.Versions.{ticket_of, is_free}
 use Rattle.sto_core.proofs.Lists.{locked_is, unlocked_is}
-use Rattle.sto_type.specs.Known.{Parts, known, IsPartOf}
+use Rattle.sto_type.specs.Known.{Parts, Known, known, IsPartOf}
 use Rattle.sto_attempt_log.specs.Flat.{entry_with}
 use Rattle.sto_attempt_log.specs.declared.read_entry.ReadEntry.{ReadEntry}
 use Rattle.sto_attempt_log.specs.declared.extension.Extension.{Extension}
 use Rattle.sto_attempt_log.specs.ReadSet.{words_in, AreClaimed, AreOnly}
-use Rattle.sto_attempt_log.specs.Log.{IsOnLog}
+use Rattle.sto_attempt_log.specs.Log.{IsOnLog, IsCache}
 use Rattle.sto_attempt_log.specs.Standing.{IsAsOf, Turned, IsLeft}
 use Rattle.sto_attempt_log.specs.Answers.{WasChanged}
 use Rattle.sto_attempt_log.proofs.Prefix.{some_contents}
 use Rattle.sto_attempt_log.specs.Answers.{IsPrefix}
-use Rattle.sto_attempt_log.proofs.Reading.{may_close, close_within, close_stops, close_locked, close_changed, close_rests, close_claims, close_only, close_below, log_wider, cache_wider, turned, always_err}
+use Rattle.sto_attempt_log.proofs.Reading.{may_close, close_within, close_stops, close_locked, close_changed, close_rests, close_claims, close_only, close_below, log_wider, turned, always_err}
+use Rattle.sto_attempt_log.proofs.ReadIn.{fits_new, cache_new}
 use Rattle.std.proofs.Common.{pos, true≢false}
 use Rattle.sto_attempt_log.specs.Standing.{numbered}
 use Rattle.sto_attempt_log.proofs.Alone.{close_alone}
@@ -101,6 +102,41 @@ returns-in_err-push-clause-err g c =
     let n = c.close-found.result.0 in
     always_err c.from_residual.result (IsLeft w × IsPrefix m f w a.at rs) (close_stops m g.T.Naming.valid sizes f a.at c.args.part c.args.ticket a.words.items a.log.base.items a.log.set.items a.log.set.updates rs v c.requires.before.goes.0 w passes n c.close-found.ensures.tells c.requires.before.log.log)
 
+pub learn_updated-requires-clause-fits : goal.learn_updated-requires-clause-fits
+learn_updated-requires-clause-fits g c =
+    let a = c.args.self.now in
+    let m = g.T.TxType.meaning a.log.ty.now in
+    let law = g.met.T.TxType.lawful a.log.ty.now in
+    let sizes = g.T.Naming.sizes a.log.ty.now in
+    let f = g.B.Body.script a.log.body in
+    let rs = map told a.log.replies.items in
+    let v = g.C.Cells.view c.args.cells.now in
+    let w = g.C.Cells.view c.close-found.new.self in
+    let passes = g.C.Cells.passes c.args.cells.now in
+    let n = c.close-found.result.0 in
+    let free : is_free n ≡ true = locked_is (is_free n) (sym c.is_locked.ensures ∙ c.if-is_locked.false) in
+    let same : ticket_of n ≡ c.args.ticket = sym c.ticket-newer.ensures.ticket ∙ c.if-newer-ticket.false in
+    let x : ReadEntry = entry_with c.args.part c.args.ticket c.as_slice-words.result.now in
+    let rest = close_rests m g.T.Naming.valid sizes f a.at c.args.part c.args.ticket a.words.items a.log.base.items a.log.set.items a.log.set.updates rs v c.requires.before.goes.0 w passes n c.close-found.ensures.tells c.requires.before.log.log law free same c.requires.all x refl refl c.as_slice-words.ensures.items in
+    let claims = close_claims m g.T.Naming.valid sizes f a.at c.args.part c.args.ticket a.words.items a.log.base.items a.log.set.items a.log.set.updates rs v c.requires.before.goes.0 w passes n c.close-found.ensures.tells c.requires.before.log.log law free same c.requires.all x refl refl c.as_slice-words.ensures.items in
+    let is : (d : Parts) → g.T.Naming.valid w.sizes d → m.valid d = λ d h. (g.met.T.TxType.valid_is a.log.ty.now d).1 (subst (λ (l : List ℕ). g.T.Naming.valid l d) rest.own.same_sizes h) in
+    let some = some_contents m g.T.Naming.valid w a.at (a.log.base.items ++ x ∷ []) is c.close-found.ensures.tells.fit claims in
+    fits_new m law f a.log.base.items x a.log.set.items a.log.set.updates rs c.requires.before.log.log c.requires.before.goes.0.awaits some
+
+pub returns-in_err-learn_updated-clause-err : goal.returns-in_err-learn_updated-clause-err
+returns-in_err-learn_updated-clause-err g c =
+    let a = c.args.self.now in
+    let m = g.T.TxType.meaning a.log.ty.now in
+    let law = g.met.T.TxType.lawful a.log.ty.now in
+    let sizes = g.T.Naming.sizes a.log.ty.now in
+    let f = g.B.Body.script a.log.body in
+    let rs = map told a.log.replies.items in
+    let v = g.C.Cells.view c.args.cells.now in
+    let w = g.C.Cells.view c.close-found.new.self in
+    let passes = g.C.Cells.passes c.args.cells.now in
+    let n = c.close-found.result.0 in
+    always_err c.from_residual-in_err-learn_updated.result (IsLeft w × IsPrefix m f w a.at rs) (close_stops m g.T.Naming.valid sizes f a.at c.args.part c.args.ticket a.words.items a.log.base.items a.log.set.items a.log.set.updates rs v c.requires.before.goes.0 w passes n c.close-found.ensures.tells c.requires.before.log.log)
+
 pub go_on-requires-clause-some : goal.go_on-requires-clause-some
 go_on-requires-clause-some g c =
     let a = c.args.self.now in
@@ -131,16 +167,27 @@ go_on-requires-clause-log g c =
     let f = g.B.Body.script a.log.body in
     let rs = map told a.log.replies.items in
     let v = g.C.Cells.view c.args.cells.now in
+    let w = g.C.Cells.view c.close-found.new.self in
+    let passes = g.C.Cells.passes c.args.cells.now in
+    let n = c.close-found.result.0 in
+    let free : is_free n ≡ true = locked_is (is_free n) (sym c.is_locked.ensures ∙ c.if-is_locked.false) in
+    let same : ticket_of n ≡ c.args.ticket = sym c.ticket-newer.ensures.ticket ∙ c.if-newer-ticket.false in
     let x : ReadEntry = entry_with c.args.part c.args.ticket c.as_slice-words.result.now in
+    let rest = close_rests m g.T.Naming.valid sizes f a.at c.args.part c.args.ticket a.words.items a.log.base.items a.log.set.items a.log.set.updates rs v c.requires.before.goes.0 w passes n c.close-found.ensures.tells c.requires.before.log.log law free same c.requires.all x refl refl c.as_slice-words.ensures.items in
+    let claims = close_claims m g.T.Naming.valid sizes f a.at c.args.part c.args.ticket a.words.items a.log.base.items a.log.set.items a.log.set.updates rs v c.requires.before.goes.0 w passes n c.close-found.ensures.tells c.requires.before.log.log law free same c.requires.all x refl refl c.as_slice-words.ensures.items in
+    let is : (d : Parts) → g.T.Naming.valid w.sizes d → m.valid d = λ d h. (g.met.T.TxType.valid_is a.log.ty.now d).1 (subst (λ (l : List ℕ). g.T.Naming.valid l d) rest.own.same_sizes h) in
+    let some = some_contents m g.T.Naming.valid w a.at (a.log.base.items ++ x ∷ []) is c.close-found.ensures.tells.fit claims in
+    let es = a.log.set.updates in
     let was = c.requires.before.log in
-    let h : IsOnLog m (g.B.Body.then a.log.body) f (g.B.Body.left a.log.body) (g.B.Body.may_ask a.log.body) (a.log.base.items ++ x ∷ []) a.log.set a.log.cache a.log.replies.items = record {
+    let cache = cache_new m law f a.log.base.items x a.log.set.items es rs was.log c.requires.before.goes.0.awaits some (known a.log.cache) was.known_above in
+    let h : IsOnLog m (g.B.Body.then a.log.body) f (g.B.Body.left a.log.body) (g.B.Body.may_ask a.log.body) (a.log.base.items ++ x ∷ []) a.log.set c.learn_updated.new.cache a.log.replies.items = record {
       then = was.then;
       taken = was.taken;
       few = was.few;
-      log = log_wider m f a.log.base.items x a.log.set.items a.log.set.updates rs was.log;
-      known_above = cache_wider m a.log.base.items x a.log.set.updates (known a.log.cache) was.known_above;
+      log = log_wider m f a.log.base.items x a.log.set.items es rs was.log;
+      known_above = subst (λ (k : Known). IsCache m (words_in (a.log.base.items ++ x ∷ [])) es k) (sym c.in_ok-learn_updated.ensures) cache;
     } in
-    subst (λ (b : List ReadEntry). IsOnLog m (g.B.Body.then a.log.body) f (g.B.Body.left a.log.body) (g.B.Body.may_ask a.log.body) b a.log.set a.log.cache a.log.replies.items) (sym c.in_ok-push.ensures.ok) h
+    subst (λ (b : List ReadEntry). IsOnLog m (g.B.Body.then a.log.body) f (g.B.Body.left a.log.body) (g.B.Body.may_ask a.log.body) b a.log.set c.learn_updated.new.cache a.log.replies.items) (sym c.in_ok-push.ensures.ok) h
 
 pub returns-in_err-reached-clause-err : goal.returns-in_err-reached-clause-err
 returns-in_err-reached-clause-err g c =
