@@ -90,6 +90,15 @@ impl<T: TxType> SharedStore<T> {
         self.idle.len()
     }
 
+    /// Its objects with their words, and their shapes.
+    pub(crate) fn parts(&self) -> (&sto_open::Store<T>, &Shapes)
+        ensures words { result.0.now ≡ self.now.words }
+        ensures shapes { result.1.now.items ≡ self.now.shapes }
+        ensures takes { TakeCalls T.TxType result.0.now result.1.now.items }
+    {
+        (&self.words, &self.shapes)
+    }
+
     /// Lends the store to a worker that was hired here.
     pub fn worker(&self, alloc: Global, idle: IdleWorker<T>) -> StoreWorker<'_, T>
         requires { Serves T.TxType self.now.words idle.rest.seat }

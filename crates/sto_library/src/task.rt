@@ -1,11 +1,11 @@
 //! What a worker does, told by whoever gives it to do.
 ghost use Rattle.std.specs.Prelude.{◌≡◌};
-ghost use Rattle.sto_library.specs.Values.{Serves, Working};
+ghost use Rattle.sto_library.specs.Values.{Serves, TakeCalls, Working};
 ghost use Rattle.sto_library.specs.Tasks.{IsDone};
 
-use crate::store::SharedStore;
 use crate::worker::StoreWorker;
 use std::alloc::Global;
+use sto_model::Shapes;
 use sto_open::IdleWorker;
 use sto_type::TxType;
 
@@ -44,15 +44,17 @@ pub(crate) struct Finished<T: TxType, O> {
 /// Does a task in this thread.
 pub(crate) fn work_alone<T: TxType, K: Task<T>>(
     alloc: Global,
-    store: &SharedStore<T>,
+    words: &sto_open::Store<T>,
+    shapes: &Shapes,
     worker: IdleWorker<T>,
     task: &K,
 ) -> Finished<T, K::Out>
-    requires { Serves T.TxType store.now.words worker.rest.seat }
-    ensures serves { Serves T.TxType store.now.words result.worker.rest.seat }
-    ensures done { IsDone store.now.words store.now.shapes (K.gives task.now) result.out }
+    requires takes { TakeCalls T.TxType words.now shapes.now.items }
+    requires serves { Serves T.TxType words.now worker.rest.seat }
+    ensures serves { Serves T.TxType words.now result.worker.rest.seat }
+    ensures done { IsDone words.now shapes.now.items (K.gives task.now) result.out }
 {
-    let mut busy = store.worker(alloc, worker);
+    let mut busy = StoreWorker::new(alloc, words, shapes, worker);
     let out = task.work(&mut busy);
     Finished {
         worker: busy.rest(),

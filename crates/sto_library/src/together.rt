@@ -1,13 +1,14 @@
 //! Tasks side by side, each by a worker on a thread of its own.
 ghost use Rattle.std.specs.Prelude.{◌≡◌, ◌+◌, ◌<◌, length, IfOk, IfErr, IfSome, MatchOption};
 ghost use Rattle.std.specs.Thread.{IsSync};
-ghost use Rattle.sto_library.specs.Values.{Serves};
+ghost use Rattle.sto_library.specs.Values.{Serves, TakeCalls};
 ghost use Rattle.sto_library.specs.Tasks.{IsDone, HasFailed};
 
 use crate::store::SharedStore;
 use crate::task::{Finished, Task, TaskError, work_alone};
 use std::alloc::Global;
 use std::thread::{Threads, join};
+use sto_model::Shapes;
 use sto_open::IdleWorker;
 use sto_part::NoMemory;
 use sto_type::TxType;
@@ -70,7 +71,8 @@ fn back_two<T: TxType>(
 fn work_both<R: Threads, T: TxType + Drop + Send + Sync, A: Task<T> + Sync, B: Task<T> + Sync>(
     rt: &R,
     alloc: Global,
-    store: &SharedStore<T>,
+    words: &sto_open::Store<T>,
+    shapes: &Shapes,
     workers: Pair<T>,
     a: &A,
     b: &B,
@@ -78,26 +80,29 @@ fn work_both<R: Threads, T: TxType + Drop + Send + Sync, A: Task<T> + Sync, B: T
 where
     A::Out: Send + Drop,
     B::Out: Send + Drop,
-    requires a { Serves T.TxType store.now.words workers.0.rest.seat }
-    requires b { Serves T.TxType store.now.words workers.1.rest.seat }
-    ensures a_serves { Serves T.TxType store.now.words result.0.worker.rest.seat }
-    ensures b_serves { Serves T.TxType store.now.words result.1.worker.rest.seat }
-    ensures a { IsDone store.now.words store.now.shapes (A.gives a.now) result.0.out }
-    ensures b { IsDone store.now.words store.now.shapes (B.gives b.now) result.1.out }
+    requires takes { TakeCalls T.TxType words.now shapes.now.items }
+    requires a { Serves T.TxType words.now workers.0.rest.seat }
+    requires b { Serves T.TxType words.now workers.1.rest.seat }
+    ensures a_serves { Serves T.TxType words.now result.0.worker.rest.seat }
+    ensures b_serves { Serves T.TxType words.now result.1.worker.rest.seat }
+    ensures a { IsDone words.now shapes.now.items (A.gives a.now) result.0.out }
+    ensures b { IsDone words.now shapes.now.items (B.gives b.now) result.1.out }
 {
     let (first, other) = workers;
     join(
         rt,
         move || -> Finished<T, A::Out>
-            requires { Serves T.TxType store.now.words first.rest.seat }
-            ensures serves { Serves T.TxType store.entry.now.words result.worker.rest.seat }
-            ensures done { IsDone store.entry.now.words store.entry.now.shapes (A.gives a.entry.now) result.out }
-        { work_alone(alloc, store, first, a) },
+            requires takes { TakeCalls T.TxType words.now shapes.now.items }
+            requires serves { Serves T.TxType words.now first.rest.seat }
+            ensures serves { Serves T.TxType words.entry.now result.worker.rest.seat }
+            ensures done { IsDone words.entry.now shapes.entry.now.items (A.gives a.entry.now) result.out }
+        { work_alone(alloc, words, shapes, first, a) },
         move || -> Finished<T, B::Out>
-            requires { Serves T.TxType store.now.words other.rest.seat }
-            ensures serves { Serves T.TxType store.entry.now.words result.worker.rest.seat }
-            ensures done { IsDone store.entry.now.words store.entry.now.shapes (B.gives b.entry.now) result.out }
-        { work_alone(alloc, store, other, b) },
+            requires takes { TakeCalls T.TxType words.now shapes.now.items }
+            requires serves { Serves T.TxType words.now other.rest.seat }
+            ensures serves { Serves T.TxType words.entry.now result.worker.rest.seat }
+            ensures done { IsDone words.entry.now shapes.entry.now.items (B.gives b.entry.now) result.out }
+        { work_alone(alloc, words, shapes, other, b) },
     )
 }
 
@@ -112,7 +117,8 @@ fn work_four<
 >(
     rt: &R,
     alloc: Global,
-    store: &SharedStore<T>,
+    words: &sto_open::Store<T>,
+    shapes: &Shapes,
     workers: (Pair<T>, Pair<T>),
     a: &A,
     b: &B,
@@ -127,40 +133,43 @@ where
     B::Out: Send + Drop,
     C::Out: Send + Drop,
     D::Out: Send + Drop,
-    requires a { Serves T.TxType store.now.words workers.0.0.rest.seat }
-    requires b { Serves T.TxType store.now.words workers.0.1.rest.seat }
-    requires c { Serves T.TxType store.now.words workers.1.0.rest.seat }
-    requires d { Serves T.TxType store.now.words workers.1.1.rest.seat }
-    ensures a_serves { Serves T.TxType store.now.words result.0.0.worker.rest.seat }
-    ensures b_serves { Serves T.TxType store.now.words result.0.1.worker.rest.seat }
-    ensures c_serves { Serves T.TxType store.now.words result.1.0.worker.rest.seat }
-    ensures d_serves { Serves T.TxType store.now.words result.1.1.worker.rest.seat }
-    ensures a { IsDone store.now.words store.now.shapes (A.gives a.now) result.0.0.out }
-    ensures b { IsDone store.now.words store.now.shapes (B.gives b.now) result.0.1.out }
-    ensures c { IsDone store.now.words store.now.shapes (C.gives c.now) result.1.0.out }
-    ensures d { IsDone store.now.words store.now.shapes (D.gives d.now) result.1.1.out }
+    requires takes { TakeCalls T.TxType words.now shapes.now.items }
+    requires a { Serves T.TxType words.now workers.0.0.rest.seat }
+    requires b { Serves T.TxType words.now workers.0.1.rest.seat }
+    requires c { Serves T.TxType words.now workers.1.0.rest.seat }
+    requires d { Serves T.TxType words.now workers.1.1.rest.seat }
+    ensures a_serves { Serves T.TxType words.now result.0.0.worker.rest.seat }
+    ensures b_serves { Serves T.TxType words.now result.0.1.worker.rest.seat }
+    ensures c_serves { Serves T.TxType words.now result.1.0.worker.rest.seat }
+    ensures d_serves { Serves T.TxType words.now result.1.1.worker.rest.seat }
+    ensures a { IsDone words.now shapes.now.items (A.gives a.now) result.0.0.out }
+    ensures b { IsDone words.now shapes.now.items (B.gives b.now) result.0.1.out }
+    ensures c { IsDone words.now shapes.now.items (C.gives c.now) result.1.0.out }
+    ensures d { IsDone words.now shapes.now.items (D.gives d.now) result.1.1.out }
 {
     let (first, other) = workers;
     join(
         rt,
         move || -> FinishedPair<T, A::Out, B::Out>
             requires sync { IsSync R.row }
-            requires a { Serves T.TxType store.now.words first.0.rest.seat }
-            requires b { Serves T.TxType store.now.words first.1.rest.seat }
-            ensures a_serves { Serves T.TxType store.entry.now.words result.0.worker.rest.seat }
-            ensures b_serves { Serves T.TxType store.entry.now.words result.1.worker.rest.seat }
-            ensures a { IsDone store.entry.now.words store.entry.now.shapes (A.gives a.entry.now) result.0.out }
-            ensures b { IsDone store.entry.now.words store.entry.now.shapes (B.gives b.entry.now) result.1.out }
-        { work_both(rt, alloc, store, first, a, b) },
+            requires takes { TakeCalls T.TxType words.now shapes.now.items }
+            requires a { Serves T.TxType words.now first.0.rest.seat }
+            requires b { Serves T.TxType words.now first.1.rest.seat }
+            ensures a_serves { Serves T.TxType words.entry.now result.0.worker.rest.seat }
+            ensures b_serves { Serves T.TxType words.entry.now result.1.worker.rest.seat }
+            ensures a { IsDone words.entry.now shapes.entry.now.items (A.gives a.entry.now) result.0.out }
+            ensures b { IsDone words.entry.now shapes.entry.now.items (B.gives b.entry.now) result.1.out }
+        { work_both(rt, alloc, words, shapes, first, a, b) },
         move || -> FinishedPair<T, C::Out, D::Out>
             requires sync { IsSync R.row }
-            requires c { Serves T.TxType store.now.words other.0.rest.seat }
-            requires d { Serves T.TxType store.now.words other.1.rest.seat }
-            ensures c_serves { Serves T.TxType store.entry.now.words result.0.worker.rest.seat }
-            ensures d_serves { Serves T.TxType store.entry.now.words result.1.worker.rest.seat }
-            ensures c { IsDone store.entry.now.words store.entry.now.shapes (C.gives c.entry.now) result.0.out }
-            ensures d { IsDone store.entry.now.words store.entry.now.shapes (D.gives d.entry.now) result.1.out }
-        { work_both(rt, alloc, store, other, c, d) },
+            requires takes { TakeCalls T.TxType words.now shapes.now.items }
+            requires c { Serves T.TxType words.now other.0.rest.seat }
+            requires d { Serves T.TxType words.now other.1.rest.seat }
+            ensures c_serves { Serves T.TxType words.entry.now result.0.worker.rest.seat }
+            ensures d_serves { Serves T.TxType words.entry.now result.1.worker.rest.seat }
+            ensures c { IsDone words.entry.now shapes.entry.now.items (C.gives c.entry.now) result.0.out }
+            ensures d { IsDone words.entry.now shapes.entry.now.items (D.gives d.entry.now) result.1.out }
+        { work_both(rt, alloc, words, shapes, other, c, d) },
     )
 }
 
@@ -186,7 +195,8 @@ impl<T: TxType + Drop + Send + Sync> SharedStore<T> {
         let Some(workers) = hire_two(self) else {
             return Err(TaskError::Workers);
         };
-        let (first, other) = work_both(rt, alloc, self, workers, a, b);
+        let (words, shapes) = self.parts();
+        let (first, other) = work_both(rt, alloc, words, shapes, workers, a, b);
         match back_two(self, first.worker, other.worker) {
             Ok(()) => Ok((first.out, other.out)),
             Err(NoMemory) => Err(TaskError::NoMemory),
@@ -225,7 +235,8 @@ impl<T: TxType + Drop + Send + Sync> SharedStore<T> {
         let Some(workers) = hire_four(self) else {
             return Err(TaskError::Workers);
         };
-        let ((w, x), (y, z)) = work_four(rt, alloc, self, workers, a, b, c, d);
+        let (words, shapes) = self.parts();
+        let ((w, x), (y, z)) = work_four(rt, alloc, words, shapes, workers, a, b, c, d);
         if back_two(self, w.worker, x.worker).is_err()
             || back_two(self, y.worker, z.worker).is_err()
         {
