@@ -42,9 +42,9 @@ IsReport tries json alone bytes text =
     (file : File) × (file_of bytes ≡ Ok file) × IsLawfulIn (form_for json) (updating_by means) file tries text
     × (alone file → aborts_told (form_for json) file.names text ≡ [])
 
--- the summary of a lawful journal of the file that the number generates, for 64 tries
+-- the summary of a lawful journal of the file that the number generates, for 64 tries: it tells of all 3,200 transactions
 abbrev pub IsSummary : ℕ → List ℕ → Type 0
-IsSummary number text = (journal : Journal) × IsLawfulJournal (updating_by means) (generated number) 64 journal × (text ≡ summary_of number (length journal.lines.items) journal.state.items)
+IsSummary number text = (journal : Journal) × IsLawfulJournal (updating_by means) (generated number) 64 journal × (text ≡ summary_of number 3200 journal.state.items)
 
 -- `run` and `step` print a lawful report, in which nothing is aborted where one worker runs the file, or where `step` has at most one
 -- script thread; `upgrade` prints the canonical text of the file that the bytes are with its version

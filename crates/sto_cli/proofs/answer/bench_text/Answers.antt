@@ -1,12 +1,11 @@
-use Rattle.std.proofs.Common.{◌≡◌, ap, ◌∙◌, length, [], arith}
-use Rattle.std.proofs.lemmas.Result.{IfOk-weaker}
-use Rattle.sto_args.specs.declared.command.Command.TheVariants as commands
+use Rattle.std.proofs.Common.{◌≡◌, ℕ, ap, sym, ◌∙◌, length, arith}
+use Rattle.std.proofs.lemmas.List.{length-map}
 use Rattle.sto_model.specs.Run.{State}
 use Rattle.sto_gen.specs.Generated.{file_of as generated}
-use Rattle.sto_journal.specs.Journals.{places}
+use Rattle.sto_journal.specs.Journals.{place, places}
 use Rattle.sto_summary.specs.Summary.{summary_of}
+use Rattle.sto_summary.proofs.Orders.{order_long}
 use Rattle.sto_run.proofs.Printed.{length-final}
-use Rattle.sto_cli.specs.Outputs.{IsOutput}
 use Rattle.sto_cli.proofs.answer.bench_text.Goals as goal
 
 pub summary-requires : goal.summary-requires
@@ -18,5 +17,5 @@ summary-requires g c =
 pub returns : goal.returns
 returns g c =
     let journal = c.in_ok-journal.journal in
-    let text = c.in_ok-text.text in
-    (journal, c.in_ok-journal.ensures, c.in_ok-text.ensures)
+    let all : length journal.lines.items ≡ 3200 = sym (length-map journal.lines.items place) ∙ order_long c.args.number (places journal.lines.items) c.in_ok-journal.ensures.order in
+    (journal, c.in_ok-journal.ensures, c.in_ok-text.ensures ∙ ap (λ (count : ℕ). summary_of c.args.number count journal.state.items) all)
