@@ -1,3 +1,6 @@
 pub mod Rows
 pub mod Texts
 pub mod Orders
+pub mod Balances
+pub mod Transfers
+pub mod Accounts
