@@ -113,7 +113,7 @@ noted_kept a b log_key owner_key owner amount t from to st was =
     let here : State = was.rows.0 ∷ rows_from 0 was.balances ∷ was.rows.1 ∷ was.rows.2 ∷ [] in
     subst P (sym was.rows.3)
     (settled_kept (run_within machines (noted a b log_key owner_key owner amount t).weight (meaning_of (noted a b log_key owner_key owner amount t)) here).end here _
-        (subst AreKept was.rows.3 was) (by_notes a b))
+    (subst AreKept was.rows.3 was) (by_notes a b))
   where
     by_notes : (c d : Bool)
         → AreKept (run_within machines (noted c d log_key owner_key owner amount t).weight (meaning_of (noted c d log_key owner_key owner amount t)) (was.rows.0 ∷ rows_from 0 was.balances ∷ was.rows.1 ∷ was.rows.2 ∷ [])).after
