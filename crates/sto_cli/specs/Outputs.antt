@@ -1,5 +1,5 @@
 -- What a command may print for the bytes that it reads, and the fault that it tells of them.
-use Rattle.std.specs.Prelude.{◌≡◌, ◌≤◌, ℕ, pos, min, max, List, [], codes, Bool, Option, None, Some, Ok, Err, if◌then◌else◌, length}
+use Rattle.std.specs.Prelude.{◌≡◌, ◌≤◌, ℕ, min, max, List, [], length, Bool, Option, None, Some, Ok, Err, if◌then◌else◌}
 use Rattle.sto_lang.specs.Files.{file_of}
 use Rattle.sto_lang.specs.Scripts.{File}
 use Rattle.sto_cli_common.specs.declared.refusal.InputFault.{InputFault}
@@ -15,7 +15,7 @@ use Rattle.sto_report_spec.specs.Lawful.{IsLawfulIn}
 use Rattle.sto_run.specs.Meanings.{updating_by}
 use Rattle.sto_run.specs.Stores.{means}
 use Rattle.sto_journal.specs.declared.journal.Journal.{Journal}
-use Rattle.sto_summary.specs.Summary.{summary_of, rows_named, total_of}
+use Rattle.sto_summary.specs.Summary.{summary_of, HasTotals}
 use Rattle.sto_run.specs.Lawful.{IsLawfulJournal}
 use Rattle.sto_args.specs.declared.command.Command.{Command}
 use Rattle.sto_args.specs.declared.command.Command.TheVariants.{Run, Step, Upgrade, Gen, Bench}
@@ -42,12 +42,11 @@ IsReport tries json alone bytes text =
     (file : File) × (file_of bytes ≡ Ok file) × IsLawfulIn (form_for json) (updating_by means) file tries text
     × (alone file → aborts_told (form_for json) file.names text ≡ [])
 
--- the summary of a lawful journal of the file that the number generates, for 64 tries: it tells of all 3,200 transactions, and that
--- the accounts hold 64,000 together
+-- the summary of a lawful journal of the file that the number generates, for 64 tries: it tells of all 3,200 transactions, and
+-- of what they leave in whatever order: accounts that hold 64,000 together, 160 pairs in the log and 128 in the table of owners
 abbrev pub IsSummary : ℕ → List ℕ → Type 0
 IsSummary number text =
-    (journal : Journal) × IsLawfulJournal (updating_by means) (generated number) 64 journal × (text ≡ summary_of number 3200 journal.state.items)
-    × (total_of (rows_named journal.state.items (codes "acct")) ≡ pos 64000)
+    (journal : Journal) × IsLawfulJournal (updating_by means) (generated number) 64 journal × (text ≡ summary_of number 3200 journal.state.items) × HasTotals journal.state.items
 
 -- `run` and `step` print a lawful report, in which nothing is aborted where one worker runs the file, or where `step` has at most one
 -- script thread; `upgrade` prints the canonical text of the file that the bytes are with its version

@@ -3,4 +3,6 @@ pub mod Texts
 pub mod Orders
 pub mod Balances
 pub mod Transfers
-pub mod Accounts
+pub mod Pairs
+pub mod Notes
+pub mod Totals

@@ -1,12 +1,12 @@
 -- What a transaction of the generated file leaves of the accounts.
-use Rattle.std.specs.Prelude.{slice_index_or, slice_set, if◌then◌else◌, int_le, neg_ℤ}
+use Rattle.std.specs.Prelude.{slice_index_or, slice_set, if◌then◌else◌, int_le, neg_ℤ, nat_le}
 use Rattle.std.proofs.Common.{◌≡◌, ◌≤◌, ◌<◌, ◌-◌, ℕ, zero, suc, ◌+◌, ℤ, pos, ◌+ℤ◌, List, [], ◌∷◌, length, refl, ap, sym, ◌∙◌, arith, Bool, true, false, Option, Some, subst}
 use Rattle.std.proofs.lemmas.Int.{ints}
-use Rattle.sto_model.specs.Rows.{Row, value_at}
+use Rattle.sto_model.specs.Rows.{Row, value_at, keys_beside}
 use Rattle.sto_model.specs.Run.{State}
 use Rattle.sto_model.specs.Machine.{Machine}
-use Rattle.sto_model.specs.Objects.{machines_of, added_at, value_or_absent}
-use Rattle.sto_model.specs.Serial.{run_within, settled}
+use Rattle.sto_model.specs.Objects.{machines_of, added_at, value_or_absent, put_effect}
+use Rattle.sto_model.specs.Serial.{SerialRun, run_within, settled}
 use Rattle.sto_model.specs.declared.run.End.{End}
 use Rattle.sto_model.specs.declared.run.End.TheVariants as ends
 use Rattle.sto_lang.specs.Objects.{shapes_of}
@@ -21,30 +21,36 @@ use Rattle.sto_summary.proofs.Balances.{rows_from, sum_of, value_is, added_is, s
 abbrev pub machines : List Machine
 machines = machines_of (shapes_of objects)
 
--- the accounts have these rows
-abbrev pub HasRows : List Row → State → Type 0
-HasRows rows st = (done owner log : List Row) × (st ≡ done ∷ rows ∷ owner ∷ log ∷ [])
+-- the rows of the table of owners after a note, where there is one
+abbrev pub owners_after : Bool → ℕ → ℕ → List Row → List Row
+owners_after b key owner rows = if b then (put_effect (nat_le 8 (keys_beside rows 16 (pos key))) (pos key) (pos owner) rows).after else rows
 
--- the accounts hold 64,000 together, and none is below zero
-pub record AreKept (st : State) : Type 0 where
+-- those of the log
+abbrev pub log_after : Bool → ℕ → ℕ → List Row → List Row
+log_after a key amount rows = if a then (put_effect (nat_le 256 (length rows)) (pos key) (pos amount) rows).after else rows
+
+-- the run commits, and leaves these rows of the last three objects
+record Leaves (accounts owners log : List Row) (run : SerialRun) : Type 0 where
+  done : List Row
+  is : run.after ≡ done ∷ accounts ∷ owners ∷ log ∷ []
+  commits : run.end ≡ ends.Commit
+
+-- the accounts hold 64,000 together, with no balance below zero; and these are the rows of the owners and of the log
+pub record AreLeft (owners log : List Row) (st : State) : Type 0 where
   pub balances : List ℕ
   pub many : length balances ≡ 64
   pub sum : sum_of balances ≡ 64000
-  pub rows : HasRows (rows_from 0 balances) st
+  pub done : List Row
+  pub is : st ≡ done ∷ rows_from 0 balances ∷ owners ∷ log ∷ []
 
-owner_note : (b : Bool) (key owner n : ℕ) (x : Values) (rows done owners log : List Row)
-    → HasRows rows (run_within machines n (λ rs. doing (note_if b 2 key owner) committing x rs) (done ∷ rows ∷ owners ∷ log ∷ [])).after
-owner_note true key owner zero x rows done owners log = (done, owners, log, refl)
-owner_note true key owner (suc zero) x rows done owners log = (done, _, log, refl)
-owner_note true key owner (suc (suc n)) x rows done owners log = (done, _, log, refl)
-owner_note false key owner zero x rows done owners log = (done, owners, log, refl)
-owner_note false key owner (suc n) x rows done owners log = (done, owners, log, refl)
-
-notes : (a b : Bool) (log_key amount owner_key owner n : ℕ) (x : Values) (rows done owners log : List Row)
-    → HasRows rows (run_within machines n (λ rs. doing (note_if a 3 log_key amount then note_if b 2 owner_key owner) committing x rs) (done ∷ rows ∷ owners ∷ log ∷ [])).after
-notes true b log_key amount owner_key owner zero x rows done owners log = (done, owners, log, refl)
-notes true b log_key amount owner_key owner (suc n) x rows done owners log = owner_note b owner_key owner n x rows done owners _
-notes false b log_key amount owner_key owner n x rows done owners log = owner_note b owner_key owner n x rows done owners log
+notes : (a b : Bool) (log_key amount owner_key owner n : ℕ) (x : Values) (accounts done owners log : List Row)
+    → Leaves accounts (owners_after b owner_key owner owners) (log_after a log_key amount log)
+    (run_within machines (suc (suc n)) (λ rs. doing (note_if a 3 log_key amount then note_if b 2 owner_key owner) committing x rs) (done ∷ accounts ∷ owners ∷ log ∷ []))
+notes true true log_key amount owner_key owner zero x accounts done owners log = record { done = done; is = refl; commits = refl }
+notes true true log_key amount owner_key owner (suc n) x accounts done owners log = record { done = done; is = refl; commits = refl }
+notes true false log_key amount owner_key owner n x accounts done owners log = record { done = done; is = refl; commits = refl }
+notes false true log_key amount owner_key owner n x accounts done owners log = record { done = done; is = refl; commits = refl }
+notes false false log_key amount owner_key owner n x accounts done owners log = record { done = done; is = refl; commits = refl }
 
 length_set : (bs : List ℕ) (i new : ℕ) → length (slice_set bs i new) ≡ length bs
 length_set [] i new = refl
@@ -66,8 +72,24 @@ module _ (a b : Bool) (log_key owner_key owner amount : ℕ) (t : Transfer) (fro
   abbrev here : State
   here = done ∷ rows_from 0 bs ∷ owners ∷ log ∷ []
 
+  abbrev IsDone : SerialRun → Type 0
+  IsDone run = AreLeft (owners_after b owner_key owner owners) (log_after a log_key amount log) run.after × (run.end ≡ ends.Commit)
+
+  with_balances : (run : SerialRun) (left : List ℕ) (accounts : List Row) → length left ≡ 64 → sum_of left ≡ 64000 → accounts ≡ rows_from 0 left
+      → Leaves accounts (owners_after b owner_key owner owners) (log_after a log_key amount log) run → IsDone run
+  with_balances run left accounts long holds rows h = (
+    record {
+      balances = left;
+      many = long;
+      sum = holds;
+      done = h.done;
+      is = h.is ∙ ap (λ (l : List Row). h.done ∷ l ∷ owners_after b owner_key owner owners ∷ log_after a log_key amount log ∷ []) rows;
+    },
+    h.commits,
+  )
+
   moved : (n : ℕ) (x : Values) → t.amount ≤ slice_index_or bs t.from 0
-      → AreKept (run_within machines (suc (suc (suc n))) (λ rs. doing (moves t) (doing after_moves committing) x rs) here).after
+      → IsDone (run_within machines (suc (suc (suc (suc (suc n))))) (λ rs. doing (moves t) (doing after_moves committing) x rs) here)
   moved n x enough =
       let out : ℕ = slice_index_or bs t.from 0 in
       let fewer : List ℕ = slice_set bs t.from (out - t.amount) in
@@ -80,44 +102,45 @@ module _ (a b : Bool) (log_key owner_key owner amount : ℕ) (t : Transfer) (fro
       let first = added_is bs t.from (out - t.amount) (neg_ℤ (pos t.amount)) from_here (lowered out t.amount enough) (omega (arith, one_of bs t.from, sum)) in
       let second = added_is fewer t.to (into + t.amount) (pos t.amount) to_here refl (omega (arith, one_of fewer t.to, sum_out, sum, enough)) in
       let both = ap (λ (rows : List Row). (added_at (value_at rows (pos t.to)) (pos t.to) (pos t.amount) rows).after) first ∙ second in
-      record {
-        balances = more;
-        many = length_set fewer t.to (into + t.amount) ∙ length_set bs t.from (out - t.amount) ∙ many;
-        sum = omega (arith, sum_in, sum_out, sum, enough);
-        rows = subst (λ (rows : List Row). HasRows rows (run_within machines (suc (suc (suc n))) (λ rs. doing (moves t) (doing after_moves committing) x rs) here).after) both
-            (notes a b log_key amount owner_key owner n x _ _ owners log);
-      }
+      let h = notes a b log_key amount owner_key owner n x _ _ owners log in
+      with_balances (run_within machines (suc (suc (suc (suc (suc n))))) (λ rs. doing (moves t) (doing after_moves committing) x rs) here) more _
+      (length_set fewer t.to (into + t.amount) ∙ length_set bs t.from (out - t.amount) ∙ many) (omega (arith, sum_in, sum_out, sum, enough)) both
+      (record { done = h.done; is = h.is; commits = h.commits })
 
   chosen : (c : Bool) (n : ℕ) (x : Values) → (c ≡ true → t.amount ≤ slice_index_or bs t.from 0)
-      → AreKept (run_within machines (suc (suc (suc n))) (λ rs. if c then doing (moves t) (doing after_moves committing) x rs else doing after_moves committing x rs) here).after
+      → IsDone (run_within machines (suc (suc (suc (suc (suc n))))) (λ rs. if c then doing (moves t) (doing after_moves committing) x rs else doing after_moves committing x rs) here)
   chosen true n x enough = moved n x (enough refl)
-  chosen false n x enough = record { balances = bs; many = many; sum = sum; rows = notes a b log_key amount owner_key owner (suc (suc (suc n))) x (rows_from 0 bs) done owners log }
+  chosen false n x enough =
+      with_balances (run_within machines (suc (suc (suc (suc (suc n))))) (λ rs. doing after_moves committing x rs) here) bs (rows_from 0 bs) many sum refl
+      (notes a b log_key amount owner_key owner (suc (suc (suc n))) x (rows_from 0 bs) done owners log)
 
-  asked_first : (n : ℕ) → AreKept (run_within machines (suc (suc (suc (suc n)))) (meaning_of (noted a b log_key owner_key owner amount t)) here).after
+  asked_first : (n : ℕ) → IsDone (run_within machines (suc (suc (suc (suc (suc (suc n)))))) (meaning_of (noted a b log_key owner_key owner amount t)) here)
   asked_first n =
       let balance : ℕ = slice_index_or bs t.from 0 in
       let found = value_is bs t.from (omega (arith, from, many)) in
       let heard : taken (value_or_absent (value_at (rows_from 0 bs) (pos t.from))) ≡ pos balance = ap (λ (o : Option ℤ). taken (value_or_absent o)) found in
+      let h =
       chosen (int_le (pos t.amount) (taken (value_or_absent (value_at (rows_from 0 bs) (pos t.from))))) n (taken (value_or_absent (value_at (rows_from 0 bs) (pos t.from))) ∷ [])
-      (λ e. at_most t.amount balance (subst (λ (y : ℤ). int_le (pos t.amount) y ≡ true) heard e))
+      (λ e. at_most t.amount balance (subst (λ (y : ℤ). int_le (pos t.amount) y ≡ true) heard e)) in (h.0, h.1)
 
-settled_kept : (end : End) (before along : State) → AreKept before → AreKept along → AreKept (settled end before along)
-settled_kept ends.Commit before along was is = is
-settled_kept ends.Cancel before along was is = was
+settled_left : (end : End) (before along : State) (owners log : List Row) → AreLeft owners log along → end ≡ ends.Commit → AreLeft owners log (settled end before along)
+settled_left ends.Commit before along owners log h e = h
+settled_left ends.Cancel before along owners log h e = absurd cc
 
--- a transaction keeps them
-pub noted_kept : (a b : Bool) (log_key owner_key owner amount : ℕ) (t : Transfer) → t.from < 64 → t.to < 64 → (st : State) → AreKept st
-    → AreKept (script_run machines st (Some (noted a b log_key owner_key owner amount t))).after
-noted_kept a b log_key owner_key owner amount t from to st was =
-    let P : State → Type 0 = λ s. AreKept (script_run machines s (Some (noted a b log_key owner_key owner amount t))).after in
-    let here : State = was.rows.0 ∷ rows_from 0 was.balances ∷ was.rows.1 ∷ was.rows.2 ∷ [] in
-    subst P (sym was.rows.3)
-    (settled_kept (run_within machines (noted a b log_key owner_key owner amount t).weight (meaning_of (noted a b log_key owner_key owner amount t)) here).end here _
-    (subst AreKept was.rows.3 was) (by_notes a b))
+-- what a transaction leaves
+pub noted_left : (a b : Bool) (log_key owner_key owner amount : ℕ) (t : Transfer) → t.from < 64 → t.to < 64 → (owners log : List Row) (st : State) → AreLeft owners log st
+    → AreLeft (owners_after b owner_key owner owners) (log_after a log_key amount log) (script_run machines st (Some (noted a b log_key owner_key owner amount t))).after
+noted_left a b log_key owner_key owner amount t from to owners log st was =
+    let here : State = was.done ∷ rows_from 0 was.balances ∷ owners ∷ log ∷ [] in
+    let P : State → Type 0 = λ s. AreLeft (owners_after b owner_key owner owners) (log_after a log_key amount log) (script_run machines s (Some (noted a b log_key owner_key owner amount t))).after in
+    let run = run_within machines (noted a b log_key owner_key owner amount t).weight (meaning_of (noted a b log_key owner_key owner amount t)) here in
+    let h = by_notes a b in subst P (sym was.is) (settled_left run.end here run.after (owners_after b owner_key owner owners) (log_after a log_key amount log) h.0 h.1)
   where
     by_notes : (c d : Bool)
-        → AreKept (run_within machines (noted c d log_key owner_key owner amount t).weight (meaning_of (noted c d log_key owner_key owner amount t)) (was.rows.0 ∷ rows_from 0 was.balances ∷ was.rows.1 ∷ was.rows.2 ∷ [])).after
-    by_notes true true = asked_first true true log_key owner_key owner amount t from to was.balances was.many was.sum was.rows.0 was.rows.1 was.rows.2 4
-    by_notes true false = asked_first true false log_key owner_key owner amount t from to was.balances was.many was.sum was.rows.0 was.rows.1 was.rows.2 3
-    by_notes false true = asked_first false true log_key owner_key owner amount t from to was.balances was.many was.sum was.rows.0 was.rows.1 was.rows.2 3
-    by_notes false false = asked_first false false log_key owner_key owner amount t from to was.balances was.many was.sum was.rows.0 was.rows.1 was.rows.2 2
+        → AreLeft (owners_after d owner_key owner owners) (log_after c log_key amount log)
+        (run_within machines (noted c d log_key owner_key owner amount t).weight (meaning_of (noted c d log_key owner_key owner amount t)) (was.done ∷ rows_from 0 was.balances ∷ owners ∷ log ∷ [])).after
+        × ((run_within machines (noted c d log_key owner_key owner amount t).weight (meaning_of (noted c d log_key owner_key owner amount t)) (was.done ∷ rows_from 0 was.balances ∷ owners ∷ log ∷ [])).end ≡ ends.Commit)
+    by_notes true true = asked_first true true log_key owner_key owner amount t from to was.balances was.many was.sum was.done owners log 2
+    by_notes true false = asked_first true false log_key owner_key owner amount t from to was.balances was.many was.sum was.done owners log 1
+    by_notes false true = asked_first false true log_key owner_key owner amount t from to was.balances was.many was.sum was.done owners log 1
+    by_notes false false = asked_first false false log_key owner_key owner amount t from to was.balances was.many was.sum was.done owners log 0
