@@ -49,9 +49,8 @@ typedef struct task {
     uint64_t refused;
 } task;
 
-static inline void run_threads(sto_handle *store, task *tasks, unsigned n, unsigned rounds, void *(*work)(void *))
+static inline void start_threads(sto_handle *store, task *tasks, pthread_t *threads, unsigned n, unsigned rounds, void *(*work)(void *))
 {
-    pthread_t threads[64];
     for (unsigned i = 0; i < n; i++) {
         tasks[i] = (task){.worker = STO_NONE, .number = i, .rounds = rounds};
         need(sto_worker(store, &tasks[i].worker), "sto_worker");
@@ -62,9 +61,20 @@ static inline void run_threads(sto_handle *store, task *tasks, unsigned n, unsig
             exit(1);
         }
     }
+}
+
+static inline void join_threads(pthread_t *threads, unsigned n)
+{
     for (unsigned i = 0; i < n; i++) {
         pthread_join(threads[i], NULL);
     }
+}
+
+static inline void run_threads(sto_handle *store, task *tasks, unsigned n, unsigned rounds, void *(*work)(void *))
+{
+    pthread_t threads[64];
+    start_threads(store, tasks, threads, n, rounds, work);
+    join_threads(threads, n);
 }
 
 #endif

@@ -87,6 +87,7 @@ unsafe extern "C" {
     fn sto_pairs(worker: *mut Handle, pairs: *mut CPair, room: usize, count: *mut usize) -> u32;
     fn sto_commit(worker: *mut Handle, place: *mut u64) -> u32;
     fn sto_cancel(worker: *mut Handle) -> u32;
+    fn sto_tickets(worker: *mut Handle, left: *mut u64) -> u32;
 }
 
 /// Why a call was not done.
@@ -116,6 +117,44 @@ fn done(status: u32) -> Result<(), Error> {
         14..=17 => Err(Error::BadShape),
         other => Err(Error::Other(other)),
     }
+}
+
+impl std::fmt::Display for Error {
+    fn fmt(&self, f: &mut std::fmt::Formatter<'_>) -> std::fmt::Result {
+        write!(f, "{self:?}")
+    }
+}
+
+impl std::error::Error for Error {}
+
+/// What an object is asked, as include/sto.h has it.
+#[derive(Clone, Copy, PartialEq, Eq, Debug)]
+pub enum Operation {
+    Get = 0,
+    Set = 1,
+    Add = 2,
+    Test = 3,
+    Take = 4,
+    Put = 5,
+    Remove = 6,
+    Has = 7,
+    Len = 8,
+    Next = 9,
+    Count = 10,
+    Scan = 11,
+    Push = 12,
+    Pop = 13,
+}
+
+/// How a number is compared with another one.
+#[derive(Clone, Copy, PartialEq, Eq, Debug)]
+pub enum Comparison {
+    Equal = 0,
+    NotEqual = 1,
+    Less = 2,
+    LessOrEqual = 3,
+    Greater = 4,
+    GreaterOrEqual = 5,
 }
 
 /// What a call answered.
@@ -167,6 +206,13 @@ pub struct Worker {
 unsafe impl Send for Worker {}
 
 impl Worker {
+    /// How many more transactions it may begin.
+    pub fn tickets(&mut self) -> Result<u64, Error> {
+        let mut left = 0;
+        done(unsafe { sto_tickets(&mut self.handle, &mut left) })?;
+        Ok(left)
+    }
+
     /// Runs the code until it commits, and answers what it gave. Where the code answers an error other than `Aborted`, the
     /// transaction is given up.
     pub fn atomically<A>(&mut self, mut code: impl FnMut(&mut Tx<'_>) -> Result<A, Error>) -> Result<A, Error> {
@@ -209,9 +255,9 @@ pub struct Tx<'w> {
 }
 
 impl Tx<'_> {
-    /// Asks a call, by the number of its operation.
-    pub fn ask(&mut self, object: u32, operation: u32, a: i64, b: i64) -> Result<Reply, Error> {
-        let call = CCall { object, operation, a, b };
+    /// Asks a call.
+    pub fn ask(&mut self, object: u32, operation: Operation, a: i64, b: i64) -> Result<Reply, Error> {
+        let call = CCall { object, operation: operation as u32, a, b };
         let mut reply = CReply { answer: 0, unused: 0, value: 0 };
         done(unsafe { sto_ask(&mut self.worker.handle, &call, &mut reply) })?;
         Ok(match reply.answer {
@@ -234,25 +280,116 @@ impl Tx<'_> {
 
     /// The value of a box or a counter.
     pub fn get(&mut self, object: u32) -> Result<i64, Error> {
-        match self.ask(object, 0, 0, 0)? {
-            Reply::Value(value) => Ok(value),
+        value(self.ask(object, Operation::Get, 0, 0)?)
+    }
+
+    /// The value at a place of an array or a vector, or of a key of a hash table or a tree; none where there is none.
+    pub fn get_at(&mut self, object: u32, at: i64) -> Result<Option<i64>, Error> {
+        option(self.ask(object, Operation::Get, at, 0)?)
+    }
+
+    /// Sets a box.
+    pub fn set(&mut self, object: u32, value: i64) -> Result<(), Error> {
+        self.ask(object, Operation::Set, value, 0).map(|_| ())
+    }
+
+    /// Sets a place of an array, and answers whether it is there.
+    pub fn set_at(&mut self, object: u32, at: i64, value: i64) -> Result<bool, Error> {
+        changed(self.ask(object, Operation::Set, at, value)?)
+    }
+
+    /// Adds to a counter, and answers whether the sum is a number of 64 bits; else nothing changes.
+    pub fn add(&mut self, object: u32, delta: i64) -> Result<bool, Error> {
+        changed(self.ask(object, Operation::Add, delta, 0)?)
+    }
+
+    /// Adds to a place of an array, and answers whether it is there and the sum in range.
+    pub fn add_at(&mut self, object: u32, at: i64, delta: i64) -> Result<bool, Error> {
+        changed(self.ask(object, Operation::Add, at, delta)?)
+    }
+
+    /// Whether a counter, or the length of a vector, compares so with a number.
+    pub fn test(&mut self, object: u32, how: Comparison, with: i64) -> Result<bool, Error> {
+        flag(self.ask(object, Operation::Test, how as i64, with)?)
+    }
+
+    /// Takes from a counter where it has as much, and answers whether it had.
+    pub fn take(&mut self, object: u32, amount: i64) -> Result<bool, Error> {
+        flag(self.ask(object, Operation::Take, amount, 0)?)
+    }
+
+    /// Puts a key with a value into a hash table or a tree, and answers whether there was room.
+    pub fn put(&mut self, object: u32, key: i64, value: i64) -> Result<bool, Error> {
+        changed(self.ask(object, Operation::Put, key, value)?)
+    }
+
+    /// Removes a key of a hash table or a tree, and answers whether it was there.
+    pub fn remove(&mut self, object: u32, key: i64) -> Result<bool, Error> {
+        flag(self.ask(object, Operation::Remove, key, 0)?)
+    }
+
+    /// Whether a hash table has a key.
+    pub fn has(&mut self, object: u32, key: i64) -> Result<bool, Error> {
+        flag(self.ask(object, Operation::Has, key, 0)?)
+    }
+
+    /// How many keys or values there are.
+    pub fn len(&mut self, object: u32) -> Result<i64, Error> {
+        value(self.ask(object, Operation::Len, 0, 0)?)
+    }
+
+    /// The least key of a tree that is at least this one.
+    pub fn next(&mut self, object: u32, key: i64) -> Result<Option<i64>, Error> {
+        option(self.ask(object, Operation::Next, key, 0)?)
+    }
+
+    /// How many keys of a tree are from the first to the last one.
+    pub fn count(&mut self, object: u32, first: i64, last: i64) -> Result<i64, Error> {
+        value(self.ask(object, Operation::Count, first, last)?)
+    }
+
+    /// The keys of a tree from the first to the last one, with their values.
+    pub fn scan(&mut self, object: u32, first: i64, last: i64) -> Result<Vec<(i64, i64)>, Error> {
+        match self.ask(object, Operation::Scan, first, last)? {
+            Reply::Pairs(pairs) => Ok(pairs),
             _ => Err(Error::NoCall),
         }
     }
 
-    pub fn set(&mut self, object: u32, value: i64) -> Result<(), Error> {
-        self.ask(object, 1, value, 0).map(|_| ())
+    /// Puts a value behind the others of a vector, and answers whether there was room.
+    pub fn push(&mut self, object: u32, value: i64) -> Result<bool, Error> {
+        changed(self.ask(object, Operation::Push, value, 0)?)
     }
 
-    pub fn add(&mut self, object: u32, delta: i64) -> Result<(), Error> {
-        self.ask(object, 2, delta, 0).map(|_| ())
+    /// Takes the last value of a vector.
+    pub fn pop(&mut self, object: u32) -> Result<Option<i64>, Error> {
+        option(self.ask(object, Operation::Pop, 0, 0)?)
     }
+}
 
-    pub fn put(&mut self, object: u32, key: i64, value: i64) -> Result<Reply, Error> {
-        self.ask(object, 5, key, value)
+fn value(reply: Reply) -> Result<i64, Error> {
+    option(reply)?.ok_or(Error::NoCall)
+}
+
+fn option(reply: Reply) -> Result<Option<i64>, Error> {
+    match reply {
+        Reply::Value(value) => Ok(Some(value)),
+        Reply::Absent => Ok(None),
+        _ => Err(Error::NoCall),
     }
+}
 
-    pub fn scan(&mut self, object: u32, from: i64, to: i64) -> Result<Reply, Error> {
-        self.ask(object, 11, from, to)
+fn flag(reply: Reply) -> Result<bool, Error> {
+    match reply {
+        Reply::Flag(flag) => Ok(flag),
+        _ => Err(Error::NoCall),
+    }
+}
+
+fn changed(reply: Reply) -> Result<bool, Error> {
+    match reply {
+        Reply::Done => Ok(true),
+        Reply::Absent | Reply::Full | Reply::Range => Ok(false),
+        _ => Err(Error::NoCall),
     }
 }

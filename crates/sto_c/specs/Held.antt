@@ -1,5 +1,5 @@
 -- What a handle may hold.
-use Rattle.std.specs.Prelude.{◌≢◌}
+use Rattle.std.specs.Prelude.{◌≡◌, ◌≢◌, Bool, true, false}
 use Rattle.sto_type.specs.Traits.{OfType, of_type}
 use Rattle.sto_objects.specs.declared.objects.Objects.{Objects}
 use Rattle.sto_objects.specs.contracts.objects.ObjectsNaming.TheImpl.{ghosts as naming_ghosts}
@@ -29,3 +29,8 @@ IsHeld (Worker h) = IsWorker h
 -- it is not nothing
 abbrev pub IsFull : Held → Type 0
 IsFull x = (x ≢ Nothing) × IsHeld x
+
+-- whether it is not nothing
+abbrev pub IfFull : Bool → Held → Type 0
+IfFull true x = x ≢ Nothing
+IfFull false x = x ≡ Nothing

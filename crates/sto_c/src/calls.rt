@@ -1,12 +1,15 @@
 //! What a worker is asked.
+ghost use Rattle.std.specs.Prelude.{◌≡◌, OnErr};
 ghost use Rattle.sto_c.specs.Held.{IsWorker};
+ghost use Rattle.sto_c.specs.Steps.{IsOfSameStore, HasBegun, HasAsked, HasCommitted, HasCancelled};
 
 use crate::crossing::{CallIn, PairOut, ReplyOut};
 use crate::held::HeldWorker;
 use crate::status::Status;
 use crossbeam_utils::Backoff;
 use std::alloc::Global;
-use sto_model::{Call, Reply};
+use sto_model::Reply;
+use sto_session::{Unanswered, Unbegun, Uncommitted};
 
 // How often a whole transaction is tried before it is busy.
 const TRIES: u32 = 8;
@@ -14,22 +17,15 @@ const TRIES: u32 = 8;
 /// Begins a transaction.
 pub(crate) fn begin(alloc: Global, held: &mut HeldWorker) -> Result<(), Status>
     requires { IsWorker held.old }
-    ensures { IsWorker held.new }
+    ensures worker { IsWorker held.new }
+    ensures store { IsOfSameStore held.old held.new }
+    ensures begun { HasBegun held.old result held.new }
 {
     match held.worker.begin(alloc) {
         Ok(()) => Ok(()),
-        Err(error) => Err(Status::from(error)),
-    }
-}
-
-// The call, of an object that is there and by an operation that is one.
-fn call_of(held: &HeldWorker, given: &CallIn) -> Result<Call, Status> {
-    if held.objects <= given.object {
-        return Err(Status::NoObject);
-    }
-    match given.call() {
-        Some(call) => Ok(call),
-        None => Err(Status::NoCall),
+        Err(Unbegun::InTransaction) => Err(Status::InTransaction),
+        Err(Unbegun::Worn) => Err(Status::NoTickets),
+        Err(Unbegun::NoMemory) => Err(Status::NoMemory),
     }
 }
 
@@ -41,7 +37,14 @@ fn last_reply(held: &HeldWorker) -> Option<&Reply> {
     }
 }
 
-/// Asks a call of the transaction that it is in.
+// Writes the last reply of the transaction that it is in.
+fn tell_last(held: &HeldWorker, reply: &mut ReplyOut) {
+    if let Some(last) = last_reply(held) {
+        *reply = ReplyOut::of(last);
+    }
+}
+
+/// Asks a call of the transaction that it is in: of an object that is there, and by an operation that is one.
 pub(crate) fn ask(
     alloc: Global,
     held: &mut HeldWorker,
@@ -49,42 +52,60 @@ pub(crate) fn ask(
     reply: &mut ReplyOut,
 ) -> Result<(), Status>
     requires { IsWorker held.old }
-    ensures { IsWorker held.new }
+    ensures worker { IsWorker held.new }
+    ensures store { IsOfSameStore held.old held.new }
+    ensures asked { HasAsked given.now held.old result held.new }
+    ensures kept { OnErr result (reply.new ≡ reply.old) }
 {
-    let call = call_of(held, given)?;
+    if held.objects <= given.object {
+        return Err(Status::NoObject);
+    }
+    let Some(call) = given.call() else {
+        return Err(Status::NoCall);
+    };
     match held.worker.ask(alloc, call) {
         Ok(()) => {
-            if let Some(last) = last_reply(held) {
-                *reply = ReplyOut::of(last);
-            }
+            tell_last(held, reply);
             Ok(())
         }
-        Err(error) => Err(Status::from(error)),
+        Err(Unanswered::NoTransaction) => Err(Status::NoTransaction),
+        Err(Unanswered::Untaken) => Err(Status::NoCall),
+        Err(Unanswered::Aborted) => Err(Status::Aborted),
+        Err(Unanswered::NoMemory) => Err(Status::NoMemory),
     }
 }
 
 /// Commits the transaction that it is in.
 pub(crate) fn commit(alloc: Global, held: &mut HeldWorker, place: &mut u64) -> Result<(), Status>
     requires { IsWorker held.old }
-    ensures { IsWorker held.new }
+    ensures worker { IsWorker held.new }
+    ensures store { IsOfSameStore held.old held.new }
+    ensures committed { HasCommitted place.new held.old result held.new }
+    ensures kept { OnErr result (place.new ≡ place.old) }
 {
     match held.worker.commit(alloc) {
         Ok(number) => {
             *place = number;
             Ok(())
         }
-        Err(error) => Err(Status::from(error)),
+        Err(Uncommitted::NoTransaction) => Err(Status::NoTransaction),
+        Err(Uncommitted::Aborted) => Err(Status::Aborted),
+        Err(Uncommitted::NoMemory) => Err(Status::NoMemory),
     }
 }
 
 /// Gives the transaction up that it is in.
 pub(crate) fn cancel(alloc: Global, held: &mut HeldWorker) -> Result<(), Status>
     requires { IsWorker held.old }
-    ensures { IsWorker held.new }
+    ensures worker { IsWorker held.new }
+    ensures store { IsOfSameStore held.old held.new }
+    ensures cancelled { HasCancelled held.old result held.new }
 {
     match held.worker.cancel(alloc) {
         Ok(_) => Ok(()),
-        Err(error) => Err(Status::from(error)),
+        Err(Uncommitted::NoTransaction) => Err(Status::NoTransaction),
+        Err(Uncommitted::Aborted) => Err(Status::Aborted),
+        Err(Uncommitted::NoMemory) => Err(Status::NoMemory),
     }
 }
 
@@ -121,7 +142,8 @@ fn ask_all(
     replies: &mut [ReplyOut],
 ) -> Result<(), Status>
     requires { IsWorker held.old }
-    ensures { IsWorker held.new }
+    ensures worker { IsWorker held.new }
+    ensures store { IsOfSameStore held.old held.new }
 {
     for at in 0..calls.len() {
         let mut reply = ReplyOut {
@@ -146,7 +168,8 @@ fn try_once(
     place: &mut u64,
 ) -> Result<(), Status>
     requires { IsWorker held.old }
-    ensures { IsWorker held.new }
+    ensures worker { IsWorker held.new }
+    ensures store { IsOfSameStore held.old held.new }
 {
     begin(alloc, held)?;
     match ask_all(alloc, held, calls, replies) {
@@ -168,7 +191,8 @@ pub(crate) fn run(
     place: &mut u64,
 ) -> Result<(), Status>
     requires { IsWorker held.old }
-    ensures { IsWorker held.new }
+    ensures worker { IsWorker held.new }
+    ensures store { IsOfSameStore held.old held.new }
 {
     if replies.len() < calls.len() {
         return Err(Status::NoRoom);

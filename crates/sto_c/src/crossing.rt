@@ -1,4 +1,7 @@
 //! What crosses between C and the library: the structs of include/sto.h.
+ghost use Rattle.std.specs.Prelude.{◌≡◌, ◌≤◌, IfSome, IfNone};
+ghost use Rattle.sto_c.specs.Steps.{call_in};
+
 use sto_model::{Call, Reply, Shape};
 
 /// What an object is to be.
@@ -50,7 +53,10 @@ const OPERATIONS: u32 = 14;
 
 impl CallIn {
     /// The call; none where its operation is no operation.
-    pub(crate) fn call(&self) -> Option<Call> {
+    pub(crate) fn call(&self) -> Option<Call>
+        ensures some { IfSome result (λ call. call ≡ call_in self.now) }
+        ensures none { IfNone result (14 ≤ self.now.operation) }
+    {
         if OPERATIONS <= self.operation {
             return None;
         }

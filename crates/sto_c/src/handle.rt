@@ -1,9 +1,9 @@
 //! Values that C holds by a pointer.
-ghost use Rattle.std.specs.Prelude.{◌≡◌, ◌≢◌, ◌↔◌, IfSome, IfNone, IsTrue};
+ghost use Rattle.std.specs.Prelude.{◌≡◌, ◌≢◌, ◌↔◌, IfSome, IfNone};
 ghost use Rattle.sto_c.specs.declared.held.Held.{Held};
 ghost use Rattle.sto_c.specs.declared.held.Held.TheVariants.{Nothing};
 ghost use Rattle.sto_c.specs.contracts.held.Held.{the_row};
-ghost use Rattle.sto_c.specs.Held.{IsHeld, IsFull};
+ghost use Rattle.sto_c.specs.Held.{IsHeld, IsFull, IfFull};
 
 use crate::held::Held;
 use crate::loose::Loose;
@@ -82,7 +82,7 @@ impl Handle {
 
     /// Whether it holds something.
     pub(crate) fn is_full(&self) -> bool
-        ensures { IsTrue result ↔ (self.now.raw.value ≢ Nothing) }
+        ensures { IfFull result self.now.raw.value }
     {
         self.full == 1
     }

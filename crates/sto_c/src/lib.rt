@@ -3,11 +3,15 @@
 //! Each function tests what it is given, and answers a status. docs/c.md is the guide.
 #![tactic(auto)]
 
-ghost use Rattle.sto_c.specs.Held.{IsHeld};
+ghost use Rattle.std.specs.Prelude.{◌≡◌, OnErr, length};
+ghost use Rattle.sto_c.specs.Statuses.{Answers};
+ghost use Rattle.sto_c.specs.Steps.{held, OfWorker, Fills, IsStoreOf, IsHiredOf, KeepsStore, HasFreed, HasBegun, HasAsked, HasCommitted,
+    HasCancelled, HasRun, HasLooked, HasToldLeft};
 
 mod calls;
 mod crossing;
 mod handle;
+mod handles;
 mod held;
 mod holding;
 mod loose;
@@ -16,25 +20,8 @@ mod status;
 
 use crossing::{CallIn, PairOut, ReplyOut, ShapeIn};
 use handle::Handle;
-use held::Held;
-use status::{Status, number_of};
+use status::number_of;
 use std::alloc::Global;
-
-// Puts a value into a handle that holds nothing.
-fn keep(alloc: Global, handle: &mut Handle, held: Held) -> u32
-    requires { IsHeld held }
-{
-    if let Held::Nothing = held {
-        return Status::Empty.number();
-    }
-    match Box::new(alloc, held) {
-        Ok(held) => {
-            handle.put(held);
-            0
-        }
-        Err(_) => Status::NoMemory.number(),
-    }
-}
 
 /// Opens a store of these objects, for so many workers.
 #[unsafe(no_mangle)]
@@ -43,53 +30,35 @@ pub extern "C" fn sto_open(
     store: &mut Handle,
     shapes: &[ShapeIn],
     workers: u32,
-) -> u32 {
-    if store.is_full() {
-        return Status::Taken.number();
-    }
-    match opening::open(alloc, shapes, workers) {
-        Ok(opened) => keep(alloc, store, Held::Store(opened)),
-        Err(status) => status.number(),
-    }
+) -> u32
+    ensures { Answers result (λ done. Fills (IsStoreOf (length shapes.now)) (held store.old) done (held store.new)) }
+{
+    number_of(handles::open(alloc, store, shapes, workers))
 }
 
 /// Takes a worker of a store.
 #[unsafe(no_mangle)]
-pub extern "C" fn sto_worker(alloc: Global, store: &mut Handle, worker: &mut Handle) -> u32 {
-    if worker.is_full() {
-        return Status::Taken.number();
-    }
-    let Some(held) = store.take(alloc) else {
-        return Status::Empty.number();
-    };
-    let mut held = held;
-    let hired = holding::hire(alloc, &mut *held);
-    store.put(held);
-    match hired {
-        Ok(hired) => keep(alloc, worker, Held::Worker(hired)),
-        Err(status) => status.number(),
-    }
+pub extern "C" fn sto_worker(alloc: Global, store: &mut Handle, worker: &mut Handle) -> u32
+    ensures worker { Answers result (λ done. Fills (IsHiredOf (held store.old)) (held worker.old) done (held worker.new)) }
+    ensures store { KeepsStore (held store.old) (held store.new) }
+{
+    number_of(handles::hire(alloc, store, worker))
 }
 
 /// Frees what a handle holds.
 #[unsafe(no_mangle)]
-pub extern "C" fn sto_free(alloc: Global, handle: &mut Handle) -> u32 {
-    match handle.take(alloc) {
-        Some(_) => 0,
-        None => Status::Empty.number(),
-    }
+pub extern "C" fn sto_free(alloc: Global, handle: &mut Handle) -> u32
+    ensures { Answers result (λ done. HasFreed (held handle.old) done (held handle.new)) }
+{
+    number_of(handles::free(alloc, handle))
 }
 
 /// Begins a transaction.
 #[unsafe(no_mangle)]
-pub extern "C" fn sto_begin(alloc: Global, worker: &mut Handle) -> u32 {
-    let Some(held) = worker.take(alloc) else {
-        return Status::Empty.number();
-    };
-    let mut held = held;
-    let done = holding::begin(alloc, &mut *held);
-    worker.put(held);
-    number_of(done)
+pub extern "C" fn sto_begin(alloc: Global, worker: &mut Handle) -> u32
+    ensures { Answers result (λ done. OfWorker HasBegun (held worker.old) done (held worker.new)) }
+{
+    number_of(handles::begin(alloc, worker))
 }
 
 /// Asks a call of the transaction.
@@ -99,14 +68,10 @@ pub extern "C" fn sto_ask(
     worker: &mut Handle,
     call: &CallIn,
     reply: &mut ReplyOut,
-) -> u32 {
-    let Some(held) = worker.take(alloc) else {
-        return Status::Empty.number();
-    };
-    let mut held = held;
-    let done = holding::ask(alloc, &mut *held, call, reply);
-    worker.put(held);
-    number_of(done)
+) -> u32
+    ensures { Answers result (λ done. OfWorker (HasAsked call.now) (held worker.old) done (held worker.new) × OnErr done (reply.new ≡ reply.old)) }
+{
+    number_of(handles::ask(alloc, worker, call, reply))
 }
 
 /// Copies the pairs of the last reply.
@@ -116,37 +81,26 @@ pub extern "C" fn sto_pairs(
     worker: &mut Handle,
     pairs: &mut [PairOut],
     count: &mut usize,
-) -> u32 {
-    let Some(held) = worker.take(alloc) else {
-        return Status::Empty.number();
-    };
-    let done = holding::pairs(&*held, pairs, count);
-    worker.put(held);
-    number_of(done)
+) -> u32
+    ensures { Answers result (λ done. OfWorker HasLooked (held worker.old) done (held worker.new)) }
+{
+    number_of(handles::pairs(alloc, worker, pairs, count))
 }
 
 /// Commits the transaction.
 #[unsafe(no_mangle)]
-pub extern "C" fn sto_commit(alloc: Global, worker: &mut Handle, place: &mut u64) -> u32 {
-    let Some(held) = worker.take(alloc) else {
-        return Status::Empty.number();
-    };
-    let mut held = held;
-    let done = holding::commit(alloc, &mut *held, place);
-    worker.put(held);
-    number_of(done)
+pub extern "C" fn sto_commit(alloc: Global, worker: &mut Handle, place: &mut u64) -> u32
+    ensures { Answers result (λ done. OfWorker (HasCommitted place.new) (held worker.old) done (held worker.new) × OnErr done (place.new ≡ place.old)) }
+{
+    number_of(handles::commit(alloc, worker, place))
 }
 
 /// Gives the transaction up.
 #[unsafe(no_mangle)]
-pub extern "C" fn sto_cancel(alloc: Global, worker: &mut Handle) -> u32 {
-    let Some(held) = worker.take(alloc) else {
-        return Status::Empty.number();
-    };
-    let mut held = held;
-    let done = holding::cancel(alloc, &mut *held);
-    worker.put(held);
-    number_of(done)
+pub extern "C" fn sto_cancel(alloc: Global, worker: &mut Handle) -> u32
+    ensures { Answers result (λ done. OfWorker HasCancelled (held worker.old) done (held worker.new)) }
+{
+    number_of(handles::cancel(alloc, worker))
 }
 
 /// Runs a whole transaction.
@@ -157,23 +111,16 @@ pub extern "C" fn sto_run(
     calls: &[CallIn],
     replies: &mut [ReplyOut],
     place: &mut u64,
-) -> u32 {
-    let Some(held) = worker.take(alloc) else {
-        return Status::Empty.number();
-    };
-    let mut held = held;
-    let done = holding::run(alloc, &mut *held, calls, replies, place);
-    worker.put(held);
-    number_of(done)
+) -> u32
+    ensures { Answers result (λ done. OfWorker HasRun (held worker.old) done (held worker.new)) }
+{
+    number_of(handles::run(alloc, worker, calls, replies, place))
 }
 
 /// How many more transactions a worker may begin.
 #[unsafe(no_mangle)]
-pub extern "C" fn sto_tickets(alloc: Global, worker: &mut Handle, left: &mut u64) -> u32 {
-    let Some(held) = worker.take(alloc) else {
-        return Status::Empty.number();
-    };
-    let done = holding::tickets(&*held, left);
-    worker.put(held);
-    number_of(done)
+pub extern "C" fn sto_tickets(alloc: Global, worker: &mut Handle, left: &mut u64) -> u32
+    ensures { Answers result (λ done. OfWorker (HasToldLeft left.new) (held worker.old) done (held worker.new) × OnErr done (left.new ≡ left.old)) }
+{
+    number_of(handles::tickets(alloc, worker, left))
 }

@@ -1,11 +1,12 @@
 //! What a function answers, as include/sto.h has it.
+ghost use Rattle.std.specs.Prelude.{◌≡◌};
+ghost use Rattle.sto_c.specs.Statuses.{number, number_of};
+
 use sto_open::{Unopened, Unplanned};
-use sto_owned::Unhired;
-use sto_session::{Unanswered, Unbegun, Uncommitted};
 
 /// Why a call was not done.
 #[derive(Clone, Copy, PartialEq, Eq, Debug)]
-pub(crate) enum Status {
+pub enum Status {
     NoMemory,
     Empty,
     Taken,
@@ -28,7 +29,9 @@ pub(crate) enum Status {
 
 impl Status {
     /// Its number; 0 is that of a call that was done.
-    pub(crate) fn number(self) -> u32 {
+    pub(crate) fn number(self) -> u32
+        ensures { result ≡ number self }
+    {
         match self {
             Status::NoMemory => 1,
             Status::Empty => 2,
@@ -53,7 +56,9 @@ impl Status {
 }
 
 /// The number of what a call led to.
-pub(crate) fn number_of(done: Result<(), Status>) -> u32 {
+pub(crate) fn number_of(done: Result<(), Status>) -> u32
+    ensures { result ≡ number_of done }
+{
     match done {
         Ok(()) => 0,
         Err(status) => status.number(),
@@ -76,46 +81,6 @@ impl From<Unopened> for Status {
         match error {
             Unopened::Workers => Status::BadWorkers,
             Unopened::NoMemory => Status::NoMemory,
-        }
-    }
-}
-
-impl From<Unhired> for Status {
-    fn from(error: Unhired) -> Status {
-        match error {
-            Unhired::NoneLeft => Status::NoWorker,
-            Unhired::NoMemory => Status::NoMemory,
-        }
-    }
-}
-
-impl From<Unbegun> for Status {
-    fn from(error: Unbegun) -> Status {
-        match error {
-            Unbegun::InTransaction => Status::InTransaction,
-            Unbegun::Worn => Status::NoTickets,
-            Unbegun::NoMemory => Status::NoMemory,
-        }
-    }
-}
-
-impl From<Unanswered> for Status {
-    fn from(error: Unanswered) -> Status {
-        match error {
-            Unanswered::NoTransaction => Status::NoTransaction,
-            Unanswered::Untaken => Status::NoCall,
-            Unanswered::Aborted => Status::Aborted,
-            Unanswered::NoMemory => Status::NoMemory,
-        }
-    }
-}
-
-impl From<Uncommitted> for Status {
-    fn from(error: Uncommitted) -> Status {
-        match error {
-            Uncommitted::NoTransaction => Status::NoTransaction,
-            Uncommitted::Aborted => Status::Aborted,
-            Uncommitted::NoMemory => Status::NoMemory,
         }
     }
 }
