@@ -44,7 +44,29 @@ fn tell_last(held: &HeldWorker, reply: &mut ReplyOut) {
     }
 }
 
-/// Asks a call of the transaction that it is in: of an object that is there, and by an operation that is one.
+// Asks a call of the transaction that it is in: of an object that is there, and by an operation that is one.
+fn answer(alloc: Global, held: &mut HeldWorker, given: &CallIn) -> Result<(), Status>
+    requires { IsWorker held.old }
+    ensures worker { IsWorker held.new }
+    ensures store { IsOfSameStore held.old held.new }
+    ensures asked { HasAsked given.now held.old result held.new }
+{
+    if held.objects <= given.object {
+        return Err(Status::NoObject);
+    }
+    let Some(call) = given.call() else {
+        return Err(Status::NoCall);
+    };
+    match held.worker.ask(alloc, call) {
+        Ok(()) => Ok(()),
+        Err(Unanswered::NoTransaction) => Err(Status::NoTransaction),
+        Err(Unanswered::Untaken) => Err(Status::NoCall),
+        Err(Unanswered::Aborted) => Err(Status::Aborted),
+        Err(Unanswered::NoMemory) => Err(Status::NoMemory),
+    }
+}
+
+/// Asks a call of the transaction that it is in, and tells the reply.
 pub(crate) fn ask(
     alloc: Global,
     held: &mut HeldWorker,
@@ -57,21 +79,12 @@ pub(crate) fn ask(
     ensures asked { HasAsked given.now held.old result held.new }
     ensures kept { OnErr result (reply.new ≡ reply.old) }
 {
-    if held.objects <= given.object {
-        return Err(Status::NoObject);
-    }
-    let Some(call) = given.call() else {
-        return Err(Status::NoCall);
-    };
-    match held.worker.ask(alloc, call) {
+    match answer(alloc, held, given) {
         Ok(()) => {
             tell_last(held, reply);
             Ok(())
         }
-        Err(Unanswered::NoTransaction) => Err(Status::NoTransaction),
-        Err(Unanswered::Untaken) => Err(Status::NoCall),
-        Err(Unanswered::Aborted) => Err(Status::Aborted),
-        Err(Unanswered::NoMemory) => Err(Status::NoMemory),
+        Err(status) => Err(status),
     }
 }
 
