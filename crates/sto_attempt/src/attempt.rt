@@ -17,9 +17,7 @@ ghost use Rattle.sto_attempt.specs.Attempts.{IsLogOf, IsOwnLog, IsUnderWay, Step
 
 use std::alloc::Global;
 use std::mem;
-use sto_attempt_log::{
-    Extension, Heard, Log, Memory, Observed, ReadEntry, ReadPhase, Turn, Verdict, lead,
-};
+use sto_attempt_log::{Extension, Heard, Log, Memory, Observed, ReadPhase, Turn, Verdict, lead};
 use sto_core::Cells;
 use sto_model::{Body, Replies};
 use sto_part::{NoMemory, PartWords, Pred, holds};
@@ -72,12 +70,12 @@ impl<'t, T: TxType, B: Body> Attempt<'t, T, B> {
                 body,
                 replies: Replies::new(alloc),
                 set: Observed::new(alloc),
-                base: memory.take_base(alloc),
+                base: memory.take_base(),
                 cache: Cache::new(alloc),
             },
             at: 0,
             read_phase: ReadPhase::Unstarted,
-            words: PartWords::new(alloc),
+            words: memory.take_words(),
             extension: Extension::new(alloc, &mut memory),
             memory,
         }
@@ -97,6 +95,7 @@ impl<'t, T: TxType, B: Body> Attempt<'t, T, B> {
     {
         let Attempt {
             log,
+            words,
             extension,
             mut memory,
             ..
@@ -108,7 +107,7 @@ impl<'t, T: TxType, B: Body> Attempt<'t, T, B> {
             ..
         } = log;
         memory.keep_base(base);
-        memory.keep_fresh(extension.fresh);
+        memory.keep_reads(words, extension.fresh);
         (Heard { body, replies }, memory)
     }
 
@@ -221,7 +220,7 @@ impl<'t, T: TxType, B: Body> Attempt<'t, T, B> {
         }
         let ticket = found.ticket();
         if ticket <= self.at {
-            self.words = self.room(alloc, part);
+            make_room(&mut self.words, self.log.ty.width(part));
             self.read_phase = ReadPhase::Reading { part, ticket };
             return Turn::More;
         }
@@ -235,16 +234,6 @@ impl<'t, T: TxType, B: Body> Attempt<'t, T, B> {
         }
         self.read_phase = ReadPhase::Renewing { part, ticket };
         Turn::More
-    }
-
-    // No word, with room for all of a part. Where memory is wanting, the read of the words tells it.
-    fn room(&self, alloc: Global, part: u32) -> PartWords
-        requires { part < length (T.meaning self.now.log.ty.now).widths }
-        ensures { result.items ≡ [] }
-    {
-        let mut words = PartWords::new(alloc);
-        let _ = words.reserve(self.log.ty.width(part));
-        words
     }
 
     // Reads the next word of the part.
@@ -311,16 +300,11 @@ impl<'t, T: TxType, B: Body> Attempt<'t, T, B> {
                 ticket: newer,
             }));
         }
-        let words = mem::replace(&mut self.words, PartWords::new(alloc));
-        let read_entry = ReadEntry {
-            part,
-            ticket,
-            words,
-        };
         if self.log.base.len() == u32::MAX {
             return Err(NoMemory);
         }
-        self.log.base.push(read_entry)?;
+        let words = self.words.as_slice();
+        self.log.base.push(part, ticket, words)?;
         let heard = self.log.replies.len();
         let reached = self.log.go_on(alloc)?;
         let (read_phase, turn) = lead(&self.log.set, self.at, reached);
@@ -446,16 +430,10 @@ impl<'t, T: TxType, B: Body> Attempt<'t, T, B> {
                 ticket: newer,
             }));
         }
-        let words = read_entry.words.copied()?;
-        let again = ReadEntry {
-            part,
-            ticket,
-            words,
-        };
         if self.extension.fresh.len() == u32::MAX {
             return Err(NoMemory);
         }
-        self.extension.fresh.push(again)?;
+        self.extension.fresh.push(part, ticket, read_entry.words)?;
         self.advance(alloc)
     }
 
@@ -482,7 +460,7 @@ impl<'t, T: TxType, B: Body> Attempt<'t, T, B> {
                 ticket,
             });
         }
-        self.words = self.room(alloc, part);
+        make_room(&mut self.words, self.log.ty.width(part));
         self.read_phase = ReadPhase::Rereading { part, ticket };
         Turn::More
     }
@@ -565,18 +543,21 @@ impl<'t, T: TxType, B: Body> Attempt<'t, T, B> {
                 ticket,
             }));
         }
-        let words = mem::replace(&mut self.words, PartWords::new(alloc));
-        let again = ReadEntry {
-            part,
-            ticket,
-            words,
-        };
         if place == u32::MAX {
             return Err(NoMemory);
         }
-        self.extension.fresh.push(again)?;
+        let words = self.words.as_slice();
+        self.extension.fresh.push(part, ticket, words)?;
         self.advance(alloc)
     }
+}
+
+// Empties the words, with room for all of a part. Where memory is wanting, the read of the words tells it.
+fn make_room(words: &mut PartWords, width: u32)
+    ensures { words.new.items ≡ [] }
+{
+    words.clear();
+    let _ = words.reserve(width);
 }
 
 // Whether the predicates are true of the words of their part.

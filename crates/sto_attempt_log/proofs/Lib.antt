@@ -2,6 +2,7 @@ pub mod Every
 pub mod Asking
 pub mod Claimed
 pub mod Placed
+pub mod Flat
 pub mod Items
 pub mod Written
 pub mod Moving

@@ -2,7 +2,7 @@
 use Rattle.std.proofs.Common.{◌≡◌, List, [], ◌∷◌, ◌++◌, ap, sym, ◌∙◌, subst}
 use Rattle.sto_item.specs.declared.item.Item.{Item}
 use Rattle.sto_item.specs.Pending.{Entry, AreUpdates, applied_updates, with_updates}
-use Rattle.sto_item.specs.Rebase.{rebased, HoldsWherePut}
+use Rattle.sto_item.specs.Rebase.{rebased}
 use Rattle.sto_item.specs.Agreement.{HasWidths}
 use Rattle.sto_item.specs.Recorded.{Recorded}
 use Rattle.sto_model.specs.declared.call.Call.{Call}
@@ -13,7 +13,6 @@ use Rattle.sto_type.specs.Known.{Parts, Known, IsPartOf}
 use Rattle.sto_type.specs.Meaning.{Meaning, IsLawful}
 use Rattle.sto_type.specs.Plans.{Say, IsPlan}
 use Rattle.sto_type.specs.Runs.{IsRunOn}
-use Rattle.sto_type.proofs.Carrying.{HoldsWherePut-true}
 use Rattle.sto_type.proofs.Steps.{step_widths}
 use Rattle.sto_attempt_log.specs.Log.{IsLog, IsCache, IsPending}
 use Rattle.sto_attempt_log.specs.Refreshed.{outside}
@@ -22,7 +21,7 @@ use Rattle.sto_item.proofs.Added.{AddsItems-updates}
 use Rattle.sto_type.specs.Runs.{Answered, IsAnswer, updates_along}
 use Rattle.sto_type.proofs.Growing.{HasGrown-none, HasGrown-more}
 use Rattle.sto_attempt_log.specs.Growing.{AreKnown, HasHeard}
-use Rattle.sto_attempt_log.proofs.OneReply.{run_on, true_now, log_more}
+use Rattle.sto_attempt_log.proofs.OneReply.{run_on, log_more}
 use Rattle.sto_attempt_log.proofs.Refreshing.{cache_outside}
 
 -- the pending updates fit what was read
@@ -38,12 +37,6 @@ module _ (m : Meaning) (law : IsLawful m) (f : Script) (base : Known) (old : Rec
     (t : m.takes call) (asks : f rs ≡ Ask call) (reply : Told) (is : List Item) (v : List Entry) (plan : IsPlan m call k (Say reply is v)) where
   on : IsRunOn m f some.0 old.updates rs
   on = run_on m f base old.items old.updates rs some.0 was.carried some.1 some.2
-
-  pub may_rebase : HoldsWherePut old.updates is
-  may_rebase =
-      subst (λ (l : List Item). HoldsWherePut old.updates l) (sym plan.1)
-      (HoldsWherePut-true old.updates (m.items call k) some.0 on.ordered.0 on.widths
-      (true_now m law f base old.items old.updates rs call k was cache some.0 some.1 some.2 t plan.0 asks))
 
   pub may_compose : (mid : Recorded) (left : List Item) → AddsItems old left mid → AreUpdates mid.updates × ((d : Parts) × HasWidths mid.updates d × HasWidths v d)
   may_compose mid left adds =

@@ -1,12 +1,9 @@
 -- Parts that were read are found by their places.
-use Rattle.std.specs.Prelude.{if◌then◌else◌, nat_lt}
-use Rattle.std.specs.BTreeMap.{BTreeMap, get, is_at}
+use Rattle.std.specs.Prelude.{if◌then◌else◌}
 use Rattle.std.specs.List.{Contains, slice_get}
 use Rattle.std.specs.Option.{option_or}
-use Rattle.std.specs.Ordering.{nat_cmp}
-use Rattle.std.proofs.Common.{◌≡◌, ◌<◌, ◌+◌, ℕ, suc, Bool, false, nat_eq, Option, Some, None, List, [], ◌∷◌, ◌++◌, length, refl, ap, sym, ◌∙◌, subst, arith, inl, inr, eqb-true}
+use Rattle.std.proofs.Common.{◌≡◌, ◌<◌, ◌+◌, ℕ, suc, nat_eq, Option, Some, None, List, [], ◌∷◌, ◌++◌, length, refl, ap, sym, ◌∙◌, subst, arith, inl, inr, eqb-true}
 use Rattle.std.proofs.lemmas.Bool.{cases_Bool}
-use Rattle.std.proofs.lemmas.Bool.Decides.{nat_tests}
 use Rattle.std.proofs.lemmas.Option.{get_or_from_slice_get}
 use Rattle.sto_attempt_log.specs.declared.read_entry.ReadEntry.{ReadEntry}
 use Rattle.sto_attempt_log.specs.Placed.{place_in, placed}
@@ -89,45 +86,3 @@ pub pushed_places :
 pushed_places was now ss more x place told next last longer q =
     next q ∙ ap (λ (o : Option ℕ). option_or o (if nat_eq x.part q then Some place else None)) (told q)
     ∙ ap (λ (n : ℕ). placed (place_in 0 ss) x.part n q) last ∙ sym (ap (λ (l : List ReadEntry). place_in 0 l q) longer ∙ place_pushed ss x q)
-
--- a map that notes the first place
-compared : (p q : ℕ) → is_at (nat_cmp p) q ≡ nat_eq p q
-compared p q = elim (cases_Bool (nat_eq p q)) [
-  | inl hit ↦
-      let low : nat_lt p q ≡ false = grind (arith, nat_tests) in
-      rw (hit, low) refl
-  | inr miss ↦ elim (cases_Bool (nat_lt p q)) [
-    | inl low ↦ rw (miss, low) refl
-    | inr high ↦ rw (miss, high) refl
-  ]
-]
-
-pub placed_there : (m : BTreeMap ℕ ℕ) (part place k : ℕ) → get nat_cmp m part ≡ Some k → (q : ℕ) → get nat_cmp m q ≡ placed (get nat_cmp m) part place q
-placed_there m part place k there q = elim (cases_Bool (nat_eq part q)) [
-  | inl hit ↦
-      let same : part ≡ q = eqb-true part q hit in
-      let here : get nat_cmp m q ≡ Some k = subst (λ (n : ℕ). get nat_cmp m n ≡ Some k) same there in
-      here ∙ sym (ap (λ (o : Option ℕ). option_or o (if nat_eq part q then Some place else None)) here)
-  | inr miss ↦ kept (get nat_cmp m q) ∙ sym (ap (λ (b : Bool). option_or (get nat_cmp m q) (if b then Some place else None)) miss)
-]
-  where
-    kept : (o : Option ℕ) → o ≡ option_or o None
-    kept None = refl
-    kept (Some n) = refl
-
-pub placed_new : (m n : BTreeMap ℕ ℕ) (part place : ℕ) → get nat_cmp m part ≡ None → ((q : ℕ) → get nat_cmp n q ≡ (if is_at (nat_cmp part) q then Some place else get nat_cmp m q))
-    → (q : ℕ) → get nat_cmp n q ≡ placed (get nat_cmp m) part place q
-placed_new m n part place none h q = elim (cases_Bool (nat_eq part q)) [
-  | inl hit ↦
-      let same : part ≡ q = eqb-true part q hit in
-      let here : get nat_cmp m q ≡ None = subst (λ (k : ℕ). get nat_cmp m k ≡ None) same none in
-      h q ∙ ap (λ (b : Bool). if b then Some place else get nat_cmp m q) (compared part q ∙ hit)
-      ∙ sym (ap (λ (o : Option ℕ). option_or o (if nat_eq part q then Some place else None)) here ∙ ap (λ (b : Bool). if b then Some place else None) hit)
-  | inr miss ↦
-      h q ∙ ap (λ (b : Bool). if b then Some place else get nat_cmp m q) (compared part q ∙ miss) ∙ kept (get nat_cmp m q)
-      ∙ sym (ap (λ (b : Bool). option_or (get nat_cmp m q) (if b then Some place else None)) miss)
-]
-  where
-    kept : (o : Option ℕ) → o ≡ option_or o None
-    kept None = refl
-    kept (Some k) = refl

@@ -9,18 +9,15 @@ use Rattle.sto_part.specs.Parts.{part_of}
 use Rattle.sto_part.specs.Changes.{applied, applied_all}
 use Rattle.sto_part.specs.declared.change.Change.{Change}
 use Rattle.sto_part.specs.declared.change.Change.TheVariants.{Keep}
-use Rattle.sto_item.specs.declared.item.Item.{Item}
 use Rattle.sto_item.specs.Pending.{Entry, changes_of, applied_updates, is_put}
 use Rattle.sto_item.specs.Rebase.{overwrites}
 use Rattle.sto_item.specs.Agreement.{HasWidths}
-use Rattle.sto_item.specs.Recorded.{Recorded, AddsItem}
 use Rattle.sto_item.proofs.Applied.{part_of-applied, length-changes_of, same_width, get_or-applied_all, applied_all-puts}
 use Rattle.sto_item.proofs.Widths.{length-applied_all}
 use Rattle.sto_type.specs.Known.{Parts, Known, IsPartOf, learnt}
 use Rattle.sto_type.specs.Meaning.{Meaning, IsLawful}
 use Rattle.sto_type.proofs.Learning.{IsPartOf-learnt}
 use Rattle.sto_attempt_log.specs.Log.{IsPending, IsRecalled, IsCache}
-use Rattle.sto_item.specs.Recorded.{AddsItems}
 use Rattle.sto_attempt_log.proofs.Moving.{width_of}
 
 -- the words of a part that has one
@@ -36,11 +33,6 @@ unupdated (e ∷ es) p ws none =
     let some : 0 < length (e ∷ es) = omega arith in
     let more : nat_lt 0 (length (e ∷ es)) ≡ true = grind (arith, nat_tests) in
     absurd (true≢false (sym more ∙ none))
-
--- one more item
-pub adds_more : (old : Recorded) (is : List Item) (between : Recorded) (i : Item) (new : Recorded) → AddsItems old is between → AddsItem between i new → AddsItems old (is ++ i ∷ []) new
-adds_more old [] between i new a b = (new, subst (λ (s : Recorded). AddsItem s i new) a b, refl)
-adds_more old (x ∷ is) between i new a b = (a.0, a.1, adds_more a.0 is between i new a.2 b)
 
 -- one more word
 pub word_more : (cs : List Change) (ws : List ℤ) (w : ℕ) (made : List ℤ) (x y : ℤ) → length cs ≤ length ws → w < length ws → made ≡ take w (applied_all cs ws) → slice_index_or ws w (pos 0) ≡ y

@@ -1,6 +1,7 @@
 pub mod Says
 pub mod ReadSet
 pub mod Placed
+pub mod Flat
 pub mod Asked
 pub mod Log
 pub mod Refreshed
@@ -20,6 +21,7 @@ pub mod Gathering
 pub mod Verdicts
 pub mod Ordered
 pub mod Predicates
+pub mod Kept
 pub use Rattle.sto_part.specs.Changes
 pub use Rattle.sto_part.specs.Listed
 pub use Rattle.sto_part.specs.Preds

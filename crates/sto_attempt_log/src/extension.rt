@@ -28,7 +28,7 @@ impl Extension {
         Extension {
             bound: 0,
             extended: false,
-            fresh: memory.take_fresh(alloc),
+            fresh: memory.take_fresh(),
             watches: Watches::new(alloc),
         }
     }

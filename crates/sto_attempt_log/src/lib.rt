@@ -26,6 +26,6 @@ pub use log::{Log, Reached};
 pub use memory::Memory;
 pub use observed::Observed;
 pub use predicates::Predicates;
-pub use read_entry::{ReadEntry, ReadSet};
+pub use read_entry::{ReadEntry, ReadRef, ReadSet};
 pub use read_phase::{ReadPhase, lead};
 pub use verdict::{Heard, Turn, Verdict};

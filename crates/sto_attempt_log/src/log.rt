@@ -121,8 +121,7 @@ impl<T: TxType, B: Body> Log<'_, T, B> {
         ensures ty { self.new.ty ≡ self.old.ty }
         ensures base { self.new.base ≡ self.old.base }
     {
-        let left = self.set.rebase(alloc, items)?;
-        add_items(&mut self.set, &left)?;
+        add_items(&mut self.set, items)?;
         add_updates(&mut self.set, updates)?;
         refresh(
             alloc,

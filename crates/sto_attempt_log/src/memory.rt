@@ -1,5 +1,6 @@
 //! The memory that a worker lends to one attempt after the other.
-ghost use Rattle.std.specs.Prelude.{◌≡◌, []};
+ghost use Rattle.std.specs.Prelude.{◌≡◌, [], IfSome};
+ghost use Rattle.sto_attempt_log.specs.Kept.{AreEmpty};
 
 use crate::found_tickets::FoundTickets;
 use crate::lists::Lists;
@@ -8,7 +9,7 @@ use crate::read_entry::ReadSet;
 use std::alloc::Global;
 use std::marker::Model;
 use std::mem;
-use sto_part::{List, Parts};
+use sto_part::{List, PartWords, Parts};
 
 /// The lists of an attempt and of its commit while no attempt uses them: each is empty, and has the room that earlier attempts have made.
 ///
@@ -16,8 +17,17 @@ use sto_part::{List, Parts};
 /// place, and what it gives back is cleared. So it is empty whenever it can be seen, and contracts see nothing of it.
 #[derive(Drop)]
 pub struct Memory {
+    alloc: Global,
+    // None before the first are kept. They stand on the heap, since memory is moved with each attempt.
+    kept: Option<Box<KeptLists>>,
+}
+
+/// The lists that are kept.
+#[derive(Drop)]
+pub struct KeptLists {
     base: ReadSet,
     fresh: ReadSet,
+    words: PartWords,
     seen: Parts,
     loaded: Parts,
     tasks: Parts,
@@ -28,23 +38,25 @@ pub struct Memory {
 }
 
 impl Model for Memory {
-    ghost use Rattle.std.specs.Prelude.{◌≡◌, []};
+    ghost use Rattle.std.specs.Prelude.{IfSome};
+    ghost use Rattle.sto_attempt_log.specs.Kept.{AreEmpty};
 
     ghost Value = { Unit {0} };
 
     ghost view = { λ _. tt };
 
-    ghost invariant = { λ m. (m.base.items ≡ []) × (m.fresh.items ≡ []) × (m.seen.items ≡ [])
-        × (m.loaded.items ≡ []) × (m.tasks.items ≡ []) × (m.checks.items ≡ []) × (m.places.items ≡ [])
-        × (m.found_tickets.items ≡ []) × (m.loaded_words.items ≡ []) };
+    ghost invariant = { λ m. IfSome m.kept (λ b. AreEmpty b.value) };
 }
 
-impl Memory {
-    /// Memory with no room yet. It takes none.
-    pub fn new(alloc: Global) -> Memory {
-        Memory {
+impl KeptLists {
+    // Lists without room.
+    fn new(alloc: Global) -> KeptLists
+        ensures { AreEmpty result }
+    {
+        KeptLists {
             base: ReadSet::new(alloc),
             fresh: ReadSet::new(alloc),
+            words: PartWords::new(alloc),
             seen: Parts::new(alloc),
             loaded: Parts::new(alloc),
             tasks: Parts::new(alloc),
@@ -54,108 +66,185 @@ impl Memory {
             loaded_words: LoadedWords::new(alloc),
         }
     }
+}
+
+impl Memory {
+    /// Memory with no room yet. It takes none.
+    pub fn new(alloc: Global) -> Memory {
+        Memory { alloc, kept: None }
+    }
 
     /// Takes all of it. Memory with no room stays in its place.
-    pub fn take(&mut self, alloc: Global) -> Memory {
-        mem::replace(self, Memory::new(alloc))
+    pub fn take(&mut self) -> Memory {
+        Memory {
+            alloc: self.alloc,
+            kept: self.take_kept(),
+        }
+    }
+
+    fn take_kept(&mut self) -> Option<Box<KeptLists>>
+        ensures { IfSome result (λ b. AreEmpty b.value) }
+    {
+        mem::replace(&mut self.kept, None)
     }
 
     /// A list for the parts that are read.
-    pub fn take_base(&mut self, alloc: Global) -> ReadSet
+    pub fn take_base(&mut self) -> ReadSet
         ensures { result.items ≡ [] }
     {
-        mem::replace(&mut self.base, ReadSet::new(alloc))
+        match &mut self.kept {
+            Some(kept) => mem::replace(&mut kept.base, ReadSet::new(self.alloc)),
+            None => ReadSet::new(self.alloc),
+        }
     }
 
     /// A list for the parts that are read anew.
-    pub(crate) fn take_fresh(&mut self, alloc: Global) -> ReadSet
+    pub(crate) fn take_fresh(&mut self) -> ReadSet
         ensures { result.items ≡ [] }
     {
-        mem::replace(&mut self.fresh, ReadSet::new(alloc))
+        match &mut self.kept {
+            Some(kept) => mem::replace(&mut kept.fresh, ReadSet::new(self.alloc)),
+            None => ReadSet::new(self.alloc),
+        }
     }
 
-    pub(crate) fn take_seen(&mut self, alloc: Global) -> Parts
+    /// A list for the words of an open read.
+    pub fn take_words(&mut self) -> PartWords
         ensures { result.items ≡ [] }
     {
-        mem::replace(&mut self.seen, Parts::new(alloc))
+        match &mut self.kept {
+            Some(kept) => mem::replace(&mut kept.words, PartWords::new(self.alloc)),
+            None => PartWords::new(self.alloc),
+        }
     }
 
-    pub(crate) fn take_loaded(&mut self, alloc: Global) -> Parts
+    pub(crate) fn take_seen(&mut self) -> Parts
         ensures { result.items ≡ [] }
     {
-        mem::replace(&mut self.loaded, Parts::new(alloc))
+        match &mut self.kept {
+            Some(kept) => mem::replace(&mut kept.seen, Parts::new(self.alloc)),
+            None => Parts::new(self.alloc),
+        }
     }
 
-    pub(crate) fn take_tasks(&mut self, alloc: Global) -> Parts
+    pub(crate) fn take_loaded(&mut self) -> Parts
         ensures { result.items ≡ [] }
     {
-        mem::replace(&mut self.tasks, Parts::new(alloc))
+        match &mut self.kept {
+            Some(kept) => mem::replace(&mut kept.loaded, Parts::new(self.alloc)),
+            None => Parts::new(self.alloc),
+        }
     }
 
-    pub(crate) fn take_checks(&mut self, alloc: Global) -> Parts
+    pub(crate) fn take_tasks(&mut self) -> Parts
         ensures { result.items ≡ [] }
     {
-        mem::replace(&mut self.checks, Parts::new(alloc))
+        match &mut self.kept {
+            Some(kept) => mem::replace(&mut kept.tasks, Parts::new(self.alloc)),
+            None => Parts::new(self.alloc),
+        }
     }
 
-    pub(crate) fn take_places(&mut self, alloc: Global) -> List<(u32, u32)>
+    pub(crate) fn take_checks(&mut self) -> Parts
         ensures { result.items ≡ [] }
     {
-        mem::replace(&mut self.places, List::new(alloc))
+        match &mut self.kept {
+            Some(kept) => mem::replace(&mut kept.checks, Parts::new(self.alloc)),
+            None => Parts::new(self.alloc),
+        }
     }
 
-    pub(crate) fn take_found_tickets(&mut self, alloc: Global) -> FoundTickets
+    pub(crate) fn take_places(&mut self) -> List<(u32, u32)>
         ensures { result.items ≡ [] }
     {
-        mem::replace(&mut self.found_tickets, FoundTickets::new(alloc))
+        match &mut self.kept {
+            Some(kept) => mem::replace(&mut kept.places, List::new(self.alloc)),
+            None => List::new(self.alloc),
+        }
+    }
+
+    pub(crate) fn take_found_tickets(&mut self) -> FoundTickets
+        ensures { result.items ≡ [] }
+    {
+        match &mut self.kept {
+            Some(kept) => mem::replace(&mut kept.found_tickets, FoundTickets::new(self.alloc)),
+            None => FoundTickets::new(self.alloc),
+        }
     }
 
     /// A list for the words that a commit reads.
-    pub fn take_loaded_words(&mut self, alloc: Global) -> LoadedWords
+    pub fn take_loaded_words(&mut self) -> LoadedWords
         ensures { result.items ≡ [] }
     {
-        mem::replace(&mut self.loaded_words, LoadedWords::new(alloc))
+        match &mut self.kept {
+            Some(kept) => mem::replace(&mut kept.loaded_words, LoadedWords::new(self.alloc)),
+            None => LoadedWords::new(self.alloc),
+        }
+    }
+
+    // The lists that are kept, to keep more. None where there is no memory for them.
+    fn some_kept(&mut self) -> Option<Box<KeptLists>>
+        ensures { IfSome result (λ b. AreEmpty b.value) }
+    {
+        match self.take_kept() {
+            Some(kept) => Some(kept),
+            None => match Box::new(self.alloc, KeptLists::new(self.alloc)) {
+                Ok(kept) => Some(kept),
+                Err(_) => None,
+            },
+        }
     }
 
     /// Keeps the room of what an attempt has read.
     pub fn keep_base(&mut self, base: ReadSet) {
-        let mut base = base;
-        base.clear();
-        self.base = base;
+        let Some(mut kept) = self.some_kept() else {
+            return;
+        };
+        kept.base = base;
+        kept.base.clear();
+        self.kept = Some(kept);
     }
 
-    /// Keeps the room of what an extension has read anew.
-    pub fn keep_fresh(&mut self, fresh: ReadSet) {
-        let mut fresh = fresh;
-        fresh.clear();
-        self.fresh = fresh;
+    /// Keeps the room of the words of an open read, and of what an extension has read anew.
+    pub fn keep_reads(&mut self, words: PartWords, fresh: ReadSet) {
+        let Some(mut kept) = self.some_kept() else {
+            return;
+        };
+        kept.words = words;
+        kept.words.clear();
+        kept.fresh = fresh;
+        kept.fresh.clear();
+        self.kept = Some(kept);
     }
 
     /// Keeps the room of the lists that a commit was led by, and of the words that it has read.
     pub fn keep_lists(&mut self, lists: Lists, loaded_words: LoadedWords) {
+        let Some(mut kept) = self.some_kept() else {
+            return;
+        };
         let Lists {
-            mut seen,
-            mut loaded,
-            mut tasks,
-            mut checks,
-            mut places,
-            mut found_tickets,
+            seen,
+            loaded,
+            tasks,
+            checks,
+            places,
+            found_tickets,
             ..
         } = lists;
-        let mut loaded_words = loaded_words;
-        seen.clear();
-        loaded.clear();
-        tasks.clear();
-        checks.clear();
-        places.clear();
-        found_tickets.clear();
-        loaded_words.clear();
-        self.seen = seen;
-        self.loaded = loaded;
-        self.tasks = tasks;
-        self.checks = checks;
-        self.places = places;
-        self.found_tickets = found_tickets;
-        self.loaded_words = loaded_words;
+        kept.seen = seen;
+        kept.seen.clear();
+        kept.loaded = loaded;
+        kept.loaded.clear();
+        kept.tasks = tasks;
+        kept.tasks.clear();
+        kept.checks = checks;
+        kept.checks.clear();
+        kept.places = places;
+        kept.places.clear();
+        kept.found_tickets = found_tickets;
+        kept.found_tickets.clear();
+        kept.loaded_words = loaded_words;
+        kept.loaded_words.clear();
+        self.kept = Some(kept);
     }
 }

@@ -1,10 +1,10 @@
 //! What an attempt notes: items and pending updates.
-ghost use Rattle.std.specs.Prelude.{◌≡◌, ◌^◌, ◌<◌, [], length, map, nat_lt, IfOk, OnOk};
+ghost use Rattle.std.specs.Prelude.{◌≡◌, ◌^◌, ◌<◌, [], length, map, nat_lt, IfOk, IfSome, OnOk};
 ghost use Rattle.std.specs.List.{list_all};
+ghost use Rattle.std.specs.Option.{option_to_list};
 ghost use Rattle.sto_item.specs.Pending.{changes_of, change_at, with_update, AreUpdates, IsWidthOf};
 ghost use Rattle.sto_item.specs.Observed.{IsObserved};
-ghost use Rattle.sto_item.specs.Agreement.{KeepsAgreement, KeepsTruth};
-ghost use Rattle.sto_item.specs.Rebase.{overwrites, rebased, HoldsWherePut};
+ghost use Rattle.sto_item.specs.Rebase.{overwrites, moved, rebased_one};
 ghost use Rattle.sto_item.specs.Recorded.{AddsItem};
 ghost use Rattle.sto_item.specs.Watched.{watched};
 ghost use Rattle.sto_attempt_log.specs.CommitPhases.{is_so};
@@ -14,12 +14,16 @@ use crate::loaded_words::LoadedWords;
 use crate::predicates::Predicates;
 use std::alloc::Global;
 use std::marker::Model;
-use sto_item::{Item, ItemSet, Items, Updates, Watches, rebase};
-use sto_part::{Change, NoMemory, Update, holds};
+use sto_item::{Item, ItemSet, Updates, Watches};
+use sto_part::{Change, NoMemory, Pred, Update, apply_word, holds};
+
+// Up to so many items are gone through for each part, which takes no memory.
+const FEW: usize = 16;
 
 /// The items and the pending updates of an attempt.
 ///
-/// A commit gives it the predicates among the items part by part. Then those on a part are found in logarithmic time.
+/// A commit of more than a few items gives it the predicates among them part by part. Then those on a part are found in logarithmic
+/// time.
 #[derive(Drop)]
 pub struct Observed {
     set: ItemSet,
@@ -67,12 +71,23 @@ impl Observed {
         self.set.add_update(part, update)
     }
 
+    /// The predicates among the items part by part, where there are more than a few items.
+    pub fn predicates(&self, alloc: Global) -> Result<Option<Predicates>, NoMemory>
+        ensures { IfOk result (λ ps. IfSome ps (ArePredsOf self.now.items)) }
+    {
+        let items = self.set.items();
+        if items.len() <= FEW {
+            return Ok(None);
+        }
+        Ok(Some(Predicates::among(alloc, items)?))
+    }
+
     /// Keeps the predicates among the items part by part.
-    pub fn sort(&mut self, predicates: Predicates)
-        requires { ArePredsOf self.old.items predicates }
+    pub fn sort(&mut self, predicates: Option<Predicates>)
+        requires { IfSome predicates (ArePredsOf self.old.items) }
         ensures { self.new ≡ self.old }
     {
-        self.predicates = Some(predicates);
+        self.predicates = predicates;
     }
 
     /// The pending change of a word, or `Keep`.
@@ -120,14 +135,20 @@ impl Observed {
         self.set.observed()
     }
 
-    /// What is left of items below the pending updates.
-    pub(crate) fn rebase(&self, alloc: Global, items: &Items) -> Result<Items, NoMemory>
-        requires { HoldsWherePut self.now.updates items.now.items }
-        ensures items { IfOk result (λ made. made.items ≡ rebased self.now.updates items.now.items) }
-        ensures agreement { IfOk result (λ made. KeepsAgreement self.now.updates items.now.items made.items) }
-        ensures truth { IfOk result (λ made. KeepsTruth self.now.updates items.now.items made.items) }
+    /// What is left of an item below the pending updates.
+    pub(crate) fn left_of(&self, item: &Item) -> Option<Item>
+        ensures { option_to_list result ≡ rebased_one self.now.updates item.now }
     {
-        rebase(alloc, items, &self.set)
+        match item {
+            Item::Seen(part) => {
+                if self.overwrites(*part) {
+                    None
+                } else {
+                    Some(*item)
+                }
+            }
+            Item::Holds(pred) => left_of_pred(pred, self.pending(pred.part, pred.word)),
+        }
     }
 
     /// Whether the predicates on a part are true of the words that were read.
@@ -138,6 +159,20 @@ impl Observed {
             Some(predicates) => predicates.are_true(loaded_words, part),
             None => all_so(self.set.items(), loaded_words, part),
         }
+    }
+}
+
+// What is left of a predicate below the change of its word.
+fn left_of_pred(pred: &Pred, change: Change) -> Option<Item>
+    ensures { option_to_list result ≡ moved pred.now change }
+{
+    match change {
+        Change::Keep => Some(Item::Holds(*pred)),
+        Change::Put(_) => None,
+        Change::Add(_) => Some(Item::Holds(Pred {
+            shift: apply_word(change, pred.shift),
+            ..*pred
+        })),
     }
 }
 

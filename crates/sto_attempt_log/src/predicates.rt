@@ -35,7 +35,7 @@ impl Model for Predicates {
 
 impl Predicates {
     /// Those among items.
-    pub fn among(alloc: Global, items: &[Item]) -> Result<Predicates, NoMemory>
+    pub(crate) fn among(alloc: Global, items: &[Item]) -> Result<Predicates, NoMemory>
         ensures { IfOk result (λ ps. ArePredsOf items.now ps) }
     {
         match sorted_preds(alloc, items) {

@@ -1,18 +1,18 @@
 //! The parts that an attempt has read.
-ghost use Rattle.std.specs.Prelude.{◌≡◌, ◌+◌, ◌^◌, ◌<◌, ℕ, [], ◌∷◌, ◌++◌, length, OnOk, OnErr, IfSome};
-ghost use Rattle.std.specs.List.{Contains};
+ghost use Rattle.std.specs.Prelude.{◌≡◌, ◌+◌, ◌^◌, ◌<◌, ◌≤◌, ℕ, [], ◌∷◌, ◌++◌, length, OnOk, OnErr, IfSome};
+ghost use Rattle.std.specs.List.{Contains, slice_range};
 ghost use Rattle.std.specs.Option.{option_map, option_map_or};
-ghost use Rattle.std.specs.Ordering.{nat_cmp};
-ghost use Rattle.std.specs.BTreeMap.{get};
+ghost use Rattle.sto_index.specs.Index.{place_at};
 ghost use Rattle.sto_attempt_log.specs.Placed.{placed};
 ghost use Rattle.sto_attempt_log.specs.ReadSet.{words_in, ticket_in};
+ghost use Rattle.sto_attempt_log.specs.Flat.{entry_with};
 
 use std::alloc::Global;
-use std::collections::BTreeMap;
 use std::marker::Model;
+use sto_index::PartIndex;
 use sto_part::{List, NoMemory, PartWords};
 
-/// A part as an attempt has found it.
+/// A part as an attempt has found it, as contracts see it.
 #[derive(Drop)]
 pub struct ReadEntry {
     /// The number of the part.
@@ -23,27 +23,55 @@ pub struct ReadEntry {
     pub words: PartWords,
 }
 
-/// Parts in the order in which they were read, each found by its number in logarithmic time.
+/// A part as an attempt has found it, lent.
+#[derive(Clone, Copy)]
+pub struct ReadRef<'r> {
+    /// The number of the part.
+    pub part: u32,
+    /// The ticket in its version.
+    pub ticket: u64,
+    /// Its words.
+    pub words: &'r [i64],
+}
+
+/// A part that was read, and where its words stand.
+#[derive(Clone, Copy, Debug)]
+pub struct ReadHead {
+    /// The number of the part.
+    pub part: u32,
+    /// The ticket in its version.
+    pub ticket: u64,
+    /// The place of its first word.
+    pub start: u32,
+    /// The number of its words.
+    pub width: u32,
+}
+
+/// Parts in the order in which they were read, each found by its number in one step.
 #[derive(Drop)]
 pub struct ReadSet {
-    list: List<ReadEntry>,
+    heads: List<ReadHead>,
+    // The words of all parts, one part after another.
+    words: List<i64>,
     // The place of the first of each part.
-    places: BTreeMap<u32, u32>,
+    places: PartIndex,
 }
 
 impl Model for ReadSet {
     ghost use Rattle.std.specs.Prelude.{◌≡◌, ℕ};
-    ghost use Rattle.std.specs.Ordering.{nat_cmp};
-    ghost use Rattle.std.specs.BTreeMap.{get};
+    ghost use Rattle.std.specs.List.{All};
     ghost use Rattle.sto_part.specs.Listed.{Listed};
+    ghost use Rattle.sto_index.specs.Index.{place_at};
     ghost use Rattle.sto_attempt_log.specs.declared.read_entry.ReadEntry.{ReadEntry};
     ghost use Rattle.sto_attempt_log.specs.Placed.{place_in};
+    ghost use Rattle.sto_attempt_log.specs.Flat.{entries_of, IsWithin};
 
     ghost Value = { Listed ReadEntry };
 
-    ghost view = { λ s. s.list };
+    ghost view = { λ s. record { items = entries_of s.words.items s.heads.items; spare = s.heads.spare } };
 
-    ghost invariant = { λ s. (part : ℕ) → get nat_cmp s.places part ≡ place_in 0 s.list.items part };
+    ghost invariant = { λ s. ((part : ℕ) → place_at s.places part ≡ place_in 0 (entries_of s.words.items s.heads.items) part)
+        × All (IsWithin s.words.items) s.heads.items };
 }
 
 impl ReadSet {
@@ -52,8 +80,9 @@ impl ReadSet {
         ensures { result ≡ record { items = []; spare = 0 } }
     {
         ReadSet {
-            list: List::new(alloc),
-            places: BTreeMap::new(alloc),
+            heads: List::new(alloc),
+            words: List::new(alloc),
+            places: PartIndex::new(alloc),
         }
     }
 
@@ -61,39 +90,65 @@ impl ReadSet {
     pub fn len(&self) -> u32
         ensures { result ≡ length self.now.items }
     {
-        self.list.len()
+        self.heads.len()
     }
 
     /// Takes all parts away. Their room stays.
     pub fn clear(&mut self)
         ensures { self.new.items ≡ [] }
     {
-        self.list.clear();
+        self.heads.clear();
+        self.words.clear();
         self.places.clear();
     }
 
     /// Adds a part last.
-    pub fn push(&mut self, read_entry: ReadEntry) -> Result<(), NoMemory>
+    pub fn push(&mut self, part: u32, ticket: u64, words: &[i64]) -> Result<(), NoMemory>
         requires { length self.old.items + 1 < 2 ^ 32 }
-        ensures ok { OnOk result (self.new.items ≡ self.old.items ++ read_entry ∷ []) }
+        ensures ok { OnOk result (self.new.items ≡ self.old.items ++ entry_with part ticket words.now ∷ []) }
         ensures err { OnErr result (self.new.items ≡ self.old.items) }
     {
-        self.list.reserve(1)?;
-        let place = self.list.len();
-        place_first(&mut self.places, read_entry.part, place)?;
-        self.list.push_spare(read_entry);
+        let start = self.words.len();
+        if part == u32::MAX || words.len() >= (u32::MAX - start) as usize {
+            return Err(NoMemory);
+        }
+        let width = words.len() as u32;
+        make_room(
+            &mut self.heads,
+            &mut self.words,
+            &mut self.places,
+            part,
+            width,
+        )?;
+        let place = self.heads.len();
+        place_first(&mut self.places, part, place);
+        self.heads.push_spare(ReadHead {
+            part,
+            ticket,
+            start,
+            width,
+        });
+        self.words.extend_spare(words);
         Ok(())
     }
 
     /// The part as it was read; the first counts.
-    pub fn find(&self, part: u32) -> Option<&ReadEntry>
-        ensures words { words_in self.now.items part ≡ option_map (λ s. s.now.words.items) result }
-        ensures ticket { ticket_in self.now.items part ≡ option_map (λ s. s.now.ticket) result }
-        ensures part { IfSome result (λ s. s.now.part ≡ part) }
-        ensures among { IfSome result (λ s. Contains self.now.items s.now) }
+    pub fn find(&self, part: u32) -> Option<ReadRef<'_>>
+        ensures words { words_in self.now.items part ≡ option_map (λ s. s.words.now) result }
+        ensures ticket { ticket_in self.now.items part ≡ option_map (λ s. s.ticket) result }
+        ensures part { IfSome result (λ s. s.part ≡ part) }
+        ensures few { IfSome result (λ s. length s.words.now < 2 ^ 32) }
+        ensures among { IfSome result (λ s. Contains self.now.items (entry_with s.part s.ticket s.words.now)) }
     {
-        match self.places.get(&part) {
-            Some(place) => Some(self.list.get(*place)),
+        match self.places.get(part) {
+            Some(place) => {
+                let head = *self.heads.get(place);
+                Some(ReadRef {
+                    part: head.part,
+                    ticket: head.ticket,
+                    words: cut(self.words.as_slice(), head.start, head.width),
+                })
+            }
             None => None,
         }
     }
@@ -109,16 +164,43 @@ impl ReadSet {
     }
 }
 
-// Notes where a part stands, if it stands nowhere yet.
-fn place_first(places: &mut BTreeMap<u32, u32>, part: u32, place: u32) -> Result<(), NoMemory>
-    ensures ok { OnOk result ((q : ℕ) → get nat_cmp places.new q ≡ placed (get nat_cmp places.old) part place q) }
-    ensures err { OnErr result (places.new.entries ≡ places.old.entries) }
+// So many words from a place on.
+fn cut(words: &[i64], start: u32, width: u32) -> &[i64]
+    requires { start + width ≤ length words.now }
+    ensures words { result.now ≡ slice_range words.now start (start + width) }
+    ensures length { length result.now ≡ width }
 {
-    if places.contains_key(&part) {
-        return Ok(());
-    }
-    match places.insert(part, place) {
-        Ok(_) => Ok(()),
-        Err(_) => Err(NoMemory),
+    &words[start as usize..start as usize + width as usize]
+}
+
+// Makes room for one more part of this width.
+fn make_room(
+    heads: &mut List<ReadHead>,
+    words: &mut List<i64>,
+    places: &mut PartIndex,
+    part: u32,
+    width: u32,
+) -> Result<(), NoMemory>
+    requires { part + 1 < 2 ^ 32 }
+    ensures heads { heads.new.items ≡ heads.old.items }
+    ensures words { words.new.items ≡ words.old.items }
+    ensures places { (q : ℕ) → place_at places.new q ≡ place_at places.old q }
+    ensures heads_room { OnOk result (1 ≤ heads.new.spare) }
+    ensures words_room { OnOk result (width ≤ words.new.spare) }
+    ensures places_room { OnOk result (part < length places.new) }
+{
+    heads.reserve(1)?;
+    words.reserve(width)?;
+    places.reserve(part + 1)?;
+    Ok(())
+}
+
+// Notes where a part stands, if it stands nowhere yet.
+fn place_first(places: &mut PartIndex, part: u32, place: u32)
+    requires { part < length places.old }
+    ensures { (q : ℕ) → place_at places.new q ≡ placed (place_at places.old) part place q }
+{
+    if places.get(part).is_none() {
+        places.put(part, place);
     }
 }

@@ -5,7 +5,7 @@ ghost use Rattle.std.specs.List.{Contains};
 ghost use Rattle.sto_part.specs.Changes.{applied_all};
 ghost use Rattle.sto_item.specs.Pending.{changes_of, with_updates, AreUpdates};
 ghost use Rattle.sto_item.specs.Agreement.{HasWidths};
-ghost use Rattle.sto_item.specs.Rebase.{overwrites};
+ghost use Rattle.sto_item.specs.Rebase.{overwrites, rebased, rebased_one};
 ghost use Rattle.sto_type.specs.Known.{known, learnt};
 ghost use Rattle.sto_type.specs.Plans.{planned, IsPlan};
 ghost use Rattle.sto_attempt_log.specs.ReadSet.{words_in};
@@ -16,7 +16,7 @@ ghost use Rattle.sto_item.specs.Recorded.{AddsItems};
 use crate::observed::Observed;
 use crate::read_entry::ReadSet;
 use std::alloc::Global;
-use sto_item::{Items, Updates};
+use sto_item::{Item, Items, Updates};
 use sto_model::Call;
 use sto_part::{NoMemory, PartWords};
 use sto_type::{Answer, Cache, TxType};
@@ -76,7 +76,7 @@ fn learn_updated<T: TxType>(
         return cache.learn(part, words);
     }
     let made = updated(alloc, ty, set, part, words)?;
-    cache.learn(part, made.as_slice())
+    cache.learn_own(part, made)
 }
 
 // Makes a part known that was read, or that the pending updates put whole. It answers false where it is neither.
@@ -95,7 +95,7 @@ fn recall<T: TxType>(
     ensures other { IfOk result (λ is. is ≡ false → (cache.new ≡ cache.old) × (words_in base.now.items part ≡ None)) }
 {
     if let Some(read_entry) = base.find(part) {
-        learn_updated(alloc, ty, set, part, read_entry.words.as_slice(), cache)?;
+        learn_updated(alloc, ty, set, part, read_entry.words, cache)?;
         return Ok(true);
     }
     if set.overwrites(part) {
@@ -175,14 +175,24 @@ pub(crate) fn refresh<T: TxType>(
     Ok(())
 }
 
-/// Adds items that are not there.
+/// Adds what is left of items below the pending updates, where it is not there.
 pub(crate) fn add_items(set: &mut Observed, items: &Items) -> Result<(), NoMemory>
-    ensures { OnOk result (AddsItems set.old items.now.items set.new) }
+    ensures { OnOk result (AddsItems set.old (rebased set.old.updates items.now.items) set.new) }
 {
     for place in 0..items.len() {
-        set.add_item(*items.get(place))?;
+        add_left(set, items.get(place))?;
     }
     Ok(())
+}
+
+// Adds what is left of an item below the pending updates, if it is not there.
+fn add_left(set: &mut Observed, item: &Item) -> Result<(), NoMemory>
+    ensures { OnOk result (AddsItems set.old (rebased_one set.old.updates item.now) set.new) }
+{
+    match set.left_of(item) {
+        Some(left) => set.add_item(left),
+        None => Ok(()),
+    }
 }
 
 /// Composes updates after the pending ones.

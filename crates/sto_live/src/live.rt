@@ -57,7 +57,7 @@ impl<'t, T: TxType> Live<'t, T> {
         ensures err { OnErr result (HasStopped (T.meaning ty.now) (T.sizes ty.now) (C.view cells.old) (C.view cells.new)) }
         ensures same { C.same cells.old cells.new }
     {
-        let mut attempt = Attempt::new(alloc, ty, Asked::new(alloc), memory.take(alloc));
+        let mut attempt = Attempt::new(alloc, ty, Asked::new(alloc), memory.take());
         attempt.begin(alloc, cells)?;
         Ok(Live { ty, attempt })
     }

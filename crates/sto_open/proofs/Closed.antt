@@ -53,15 +53,3 @@ module _ (valid : Validity) (m : Meaning) (sizes : List ℕ) (v : View) (rests :
       ((same (contents_as_of now.opening now.past.log c.clock)).1
       (subst (λ (s : List ℕ). valid s (contents_as_of now.opening now.past.log c.clock)) (sym serves.same_sizes ∙ rests.sized)
       (all_valid now.rule c.clock (le_refl c.clock))))
-
-take_all : {A : Type 0} (xs : List A) (n : ℕ) → length xs ≤ n → take n xs ≡ xs
-take_all [] zero h = refl
-take_all [] (suc n) h = refl
-take_all (x ∷ xs) zero h = absurd (omega (arith, h))
-take_all (x ∷ xs) (suc n) h = ap (λ l. x ∷ l) (take_all xs n (omega (arith, h)))
-
--- valid contents have as many parts as the type
-pub whole_contents : (m : Meaning) → IsLawful m → (c : Parts) → m.valid c → take (length m.widths) (drop 0 c) ≡ c
-whole_contents m law c valid =
-    let many = ap length (law.widths c valid) in
-    take_all c (length m.widths) (omega (arith, many, length-map c length))

@@ -1,23 +1,9 @@
 -- Passes are gathered one after the other.
 use Rattle.std.proofs.Common.{◌≡◌, ◌+◌, ℕ, List, [], ◌∷◌, ◌++◌, map, length, refl, sym, ap, ◌∙◌, arith, length-append}
 use Rattle.std.proofs.lemmas.List.{map-append}
-use Rattle.sto_type.specs.Meaning.{Meaning}
-use Rattle.sto_core.specs.declared.view.Entry.{Entry}
-use Rattle.sto_core.specs.declared.view.Fate.TheVariants.{Pending}
 use Rattle.sto_core.specs.declared.view.View.{View}
 use Rattle.sto_core.specs.Gathered.{gathered_into}
-use Rattle.sto_core.proofs.Lists.{each_append}
-use Rattle.sto_transaction.specs.Resting.{IsAtRest}
 use Rattle.sto_open.specs.Working.{gathered_onto}
-
-pub gathered_rests : (m : Meaning) (sizes : List ℕ) (v u : View) → IsAtRest m sizes v → IsAtRest m sizes u → IsAtRest m sizes (gathered_into v u)
-gathered_rests m sizes v u h k = record {
-  idle = tt;
-  held = refl;
-  settled = each_append (λ (e : Entry). e.fate ≡ Pending → ⊥) v.entries u.entries h.settled k.settled;
-  sized = h.sized;
-  opened = h.opened;
-}
 
 -- the last of them is gathered first
 gathered_last : (us : List View) (u v : View) → gathered_onto (us ++ u ∷ []) v ≡ gathered_onto us (gathered_into v u)

@@ -2,7 +2,6 @@
 use Rattle.std.specs.List.{All}
 use Rattle.std.proofs.Common.{◌≡◌, ◌∷◌, [], ℕ, ℤ, zero, suc, List, map, length, get_or, drop, refl, sym, ap, subst, arith}
 use Rattle.std.proofs.lemmas.List.Elements.{All-nil, All-cons, All-head, All-tail}
-use mathlib.Core.Option.{some-ne-none}
 use Rattle.atomic_table.specs.declared.shared.Seat.{Seat}
 use Rattle.sto_type.specs.Meaning.{Meaning}
 use Rattle.sto_core.specs.declared.view.View.{View}
@@ -12,13 +11,11 @@ use Rattle.sto_table.specs.declared.shared.Shared.{Shared}
 use Rattle.sto_table.specs.Rests.{IsOf}
 use Rattle.sto_table.specs.Openings.{opened_down}
 use Rattle.sto_transaction.specs.Resting.{IsAtRest}
+use Rattle.sto_transaction.proofs.Resting.{opened_rests}
 use Rattle.sto_open.specs.Working.{IsWorker, IsFresh}
 
-opened_rests : (m : Meaning) (sizes : List ℕ) (number : ℕ) → IsAtRest m sizes (opened_view sizes m.opened number)
-opened_rests m sizes number = record { idle = tt; held = refl; settled = λ j x at. absurd (some-ne-none x (sym at)); sized = refl; opened = refl }
-
 pub fresh_works : {T : Type 0} (m : Meaning) (sizes : List ℕ) (s : Shared T) (seat : Seat (Unit {0}) Stance) → IsFresh m sizes s seat → IsWorker m sizes s seat
-fresh_works m sizes s seat h = record { of = h.of; rests = subst (IsAtRest m sizes) (sym h.view) (opened_rests m sizes h.number) }
+fresh_works m sizes s seat h = record { of = h.of; rests = subst (IsAtRest m sizes) (sym h.view) (opened_rests m sizes m.opened h.number refl) }
 
 pub all_fresh : {T X : Type 0} (m : Meaning) (sizes : List ℕ) (s : Shared T) (seat : X → Seat (Unit {0}) Stance) (rests : List X) (passes : ℕ)
     → map (λ (x : X). (seat x).me.0.view) rests ≡ opened_down sizes m.opened passes → All (λ (x : X). IsOf s (seat x)) rests

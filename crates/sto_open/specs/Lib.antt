@@ -1,5 +1,4 @@
 pub mod Plans
-pub mod Shaped
 pub mod Refusals
 pub mod Closings
 pub mod Working

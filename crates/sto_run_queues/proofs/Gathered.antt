@@ -22,7 +22,7 @@ use Rattle.sto_table.specs.Rests.{IsOf}
 use Rattle.sto_run_threads.specs.Records.{Record}
 use Rattle.sto_transaction.specs.Resting.{IsAtRest}
 use Rattle.sto_run_threads.specs.Worked.{HasWorked}
-use Rattle.sto_run_threads.proofs.Resting.{gathered_rests}
+use Rattle.sto_transaction.proofs.Resting.{gathered_rests}
 use Rattle.sto_run_threads.proofs.Joined.{times_append, either_list, gathered_apart, none_both, above_all, once_self}
 use Rattle.sto_run_queues.specs.Served.{HaveServed, AreFrom, IsServed}
 use Rattle.sto_run_queues.proofs.Passes.{taken_both}

@@ -17,7 +17,7 @@ use Rattle.sto_transaction.specs.Plain.{plain}
 use Rattle.sto_run_threads.specs.Counts.{scripts_from}
 use Rattle.sto_run_threads.proofs.Claiming.{thread_within, times_le}
 use Rattle.sto_run_threads.proofs.Joined.{none_worked}
-use Rattle.sto_run_threads.proofs.Resting.{opened_rests}
+use Rattle.sto_transaction.proofs.Resting.{opened_rests}
 use Rattle.sto_run_steps.specs.Counts.{attempts_left}
 use Rattle.sto_run_steps.specs.Seated.{IsBetween, IsWithin, IsAt, IsSeated, IsNew, AreNew, AreSeated}
 use Rattle.sto_run_steps.specs.declared.seat.Seat.{Seat}

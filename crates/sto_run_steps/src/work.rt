@@ -35,7 +35,7 @@ impl<'f, T: TxType, G: Gate> Attempts<T, Machine<'f, T, ScriptBody<'f>>> for Fil
     ) -> Result<Machine<'f, T, ScriptBody<'f>>, NoMemory> {
         let script = self.file.threads.get(thread).scripts.get(position - 1);
         let body = ScriptBody::new(alloc, script)?;
-        Ok(Machine::new(alloc, self.ty, body, memory.take(alloc)))
+        Ok(Machine::new(alloc, self.ty, body, memory.take()))
     }
 
     fn step<C: Cells<T>>(

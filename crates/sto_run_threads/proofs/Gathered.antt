@@ -15,7 +15,7 @@ use Rattle.sto_attempt_facts.specs.Records.{Record}
 use Rattle.sto_transaction.specs.Resting.{IsAtRest}
 use Rattle.sto_run_threads.specs.Worked.{HasWorked, AreOf, AreDone}
 use Rattle.sto_run_threads.specs.Teams.{HasFinished}
-use Rattle.sto_run_threads.proofs.Resting.{gathered_rests}
+use Rattle.sto_transaction.proofs.Resting.{gathered_rests}
 use Rattle.sto_run_threads.proofs.Joined.{times_append, gathered_worked, gathered_of, none_both}
 use Rattle.sto_run_threads.proofs.Claiming.{done_both}
 

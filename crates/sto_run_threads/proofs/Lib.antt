@@ -4,7 +4,6 @@ pub mod Accounts
 pub mod Found
 pub mod Runs
 pub mod Joined
-pub mod Resting
 mod Results
 pub mod Claiming
 pub mod Scripts

@@ -14,7 +14,7 @@ use Rattle.sto_serializability.proofs.Chains.{Every}
 use Rattle.sto_run_threads.specs.Counts.{scripts_from}
 use Rattle.sto_transaction.specs.Resting.{IsAtRest}
 use Rattle.sto_run_threads.specs.Teams.{IsReady}
-use Rattle.sto_run_threads.proofs.Resting.{opened_rests}
+use Rattle.sto_transaction.proofs.Resting.{opened_rests}
 
 one_ready : {T : Type 0} (s : Shared T) (m : Meaning) (sizes : List ℕ) (file : File) (tries : ℕ) (opening : Contents) (number : ℕ) (seat : Seat (Unit {0}) Stance)
     → opening ≡ m.opened → tries * scripts_from file.threads 0 ≤ opening_draws

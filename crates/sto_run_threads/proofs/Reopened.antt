@@ -16,7 +16,7 @@ use Rattle.sto_run_threads.specs.Worked.{HasWorked}
 use Rattle.sto_run_threads.proofs.Found.{all_found_later}
 use Rattle.sto_run_threads.specs.Accounts.{HasAll}
 use Rattle.sto_run_threads.proofs.Accounts.{reopened_all}
-use Rattle.sto_run_threads.proofs.Resting.{reopened_rests}
+use Rattle.sto_transaction.proofs.Resting.{reopened_rests}
 
 live_is : (v : View) → 0 < v.gathered → live_view (v ∷ []) ≡ v
 live_is v l = let e : nat_lt 0 v.gathered ≡ true = grind (arith, nat_tests, l) in ap (λ (b : Bool). if b then v else live_view []) e

@@ -126,7 +126,7 @@ fn run_attempt<T: TxType, B: Body + Drop, C: Cells<T>, W: AttemptWatch>(
     ensures err { OnErr result (HasStopped (T.meaning ty.now) (T.sizes ty.now) (C.view cells.old) (C.view cells.new)) }
     ensures same { C.same cells.old cells.new }
 {
-    let mut machine = Machine::new(alloc, ty, body, memory.take(alloc));
+    let mut machine = Machine::new(alloc, ty, body, memory.take());
     let ended = finish(alloc, &mut machine, cells, watch, memory);
     mem::drop(machine);
     ended

@@ -1,10 +1,9 @@
-use Rattle.std.proofs.Common.{arith, ap, sym, subst, ◌∙◌, ◌≡◌, ◌≤◌, List, ℤ, pos, length, slice_index_or}
+use Rattle.std.proofs.Common.{ap, sym, ◌∙◌, ◌≡◌, ◌≤◌, pos, length, slice_index_or}
 use Rattle.std.proofs.lemmas.List.{length-replicate}
 use Rattle.std.proofs.lemmas.Option.{get_or_from_slice_get}
 use Rattle.sto_part.specs.Changes.{applied_all}
 use Rattle.sto_item.specs.Pending.{changes_of}
 use Rattle.sto_attempt_log.specs.ReadSet.{words_in}
-use Rattle.sto_attempt_log.specs.Log.{IsRecalled}
 use Rattle.sto_attempt_log.proofs.Recalling.{fits_read, recalled_read, fits_whole, recalled_whole}
 use Rattle.sto_attempt_log.proofs.recall.recall.Goals as goal
 
@@ -12,10 +11,10 @@ pub learn_updated-requires-clause-fits : goal.learn_updated-requires-clause-fits
 learn_updated-requires-clause-fits g c =
     let m = g.T.TxType.meaning c.args.ty.now in
     let law = g.met.T.TxType.lawful c.args.ty.now in
-    let ws = c.in-Some.read_entry.now.words.items in
+    let ws = c.in-Some.read_entry.words.now in
     let f : length (changes_of c.args.set.now.updates c.args.part) ≤ length ws =
     fits_read m law (words_in c.args.base.now.items) c.args.set.now.updates c.requires.pending c.args.part ws c.requires.range c.in-Some.ensures.words in
-    omega (arith, f, ap length c.as_slice.ensures.items)
+    f
 
 pub returns-in-Some-clause-known : goal.returns-in-Some-clause-known
 returns-in-Some-clause-known g c is =
@@ -23,21 +22,18 @@ returns-in-Some-clause-known g c is =
     let law = g.met.T.TxType.lawful c.args.ty.now in
     let base = words_in c.args.base.now.items in
     let es = c.args.set.now.updates in
-    let ws = c.in-Some.read_entry.now.words.items in
+    let ws = c.in-Some.read_entry.words.now in
     let cs = changes_of es c.args.part in
-    let recalled : IsRecalled m base es c.args.part (applied_all cs c.as_slice.result.now) =
-    subst (λ (l : List ℤ). IsRecalled m base es c.args.part (applied_all cs l)) (sym c.as_slice.ensures.items)
-    (recalled_read m law base es c.requires.pending c.args.part ws c.requires.range c.in-Some.ensures.words) in
-    (applied_all cs c.as_slice.result.now, recalled, c.in_ok-learn_updated.ensures)
+    (applied_all cs ws, recalled_read m law base es c.requires.pending c.args.part ws c.requires.range c.in-Some.ensures.words, c.in_ok-learn_updated.ensures)
 
 pub learn_updated-requires-then-overwrites-clause-fits : goal.learn_updated-requires-then-overwrites-clause-fits
 learn_updated-requires-then-overwrites-clause-fits g c =
     let m = g.T.TxType.meaning c.args.ty.now in
     let law = g.met.T.TxType.lawful c.args.ty.now in
-    let ws = c.as_slice-then-overwrites.result.now in
+    let ws = c.as_slice.result.now in
     let width : slice_index_or m.widths c.args.part 0 ≡ c.width.result = get_or_from_slice_get m.widths c.args.part c.width.result 0 c.width.ensures in
     let long : length ws ≡ slice_index_or m.widths c.args.part 0 =
-    ap length (c.as_slice-then-overwrites.ensures.items ∙ c.in_ok-zeros.ensures) ∙ length-replicate c.width.result (pos 0) ∙ sym width in
+    ap length (c.as_slice.ensures.items ∙ c.in_ok-zeros.ensures) ∙ length-replicate c.width.result (pos 0) ∙ sym width in
     fits_whole m law (words_in c.args.base.now.items) c.args.set.now.updates c.requires.pending c.args.part ws long
 
 pub returns-then-overwrites-clause-known : goal.returns-then-overwrites-clause-known
@@ -46,10 +42,10 @@ returns-then-overwrites-clause-known g c is =
     let law = g.met.T.TxType.lawful c.args.ty.now in
     let base = words_in c.args.base.now.items in
     let es = c.args.set.now.updates in
-    let ws = c.as_slice-then-overwrites.result.now in
+    let ws = c.as_slice.result.now in
     let width : slice_index_or m.widths c.args.part 0 ≡ c.width.result = get_or_from_slice_get m.widths c.args.part c.width.result 0 c.width.ensures in
     let long : length ws ≡ slice_index_or m.widths c.args.part 0 =
-    ap length (c.as_slice-then-overwrites.ensures.items ∙ c.in_ok-zeros.ensures) ∙ length-replicate c.width.result (pos 0) ∙ sym width in (
+    ap length (c.as_slice.ensures.items ∙ c.in_ok-zeros.ensures) ∙ length-replicate c.width.result (pos 0) ∙ sym width in (
       applied_all (changes_of es c.args.part) ws,
       recalled_whole m law base es c.requires.pending c.args.part ws long (sym c.overwrites.ensures ∙ c.if-overwrites.true),
       c.in_ok-learn_updated-2.ensures,

@@ -4,7 +4,8 @@ use Rattle.sto_core.specs.declared.view.View.{View}
 use Rattle.sto_transaction.specs.Resting.{IsAtRest}
 use Rattle.sto_open.specs.declared.worker.IdleWorker.{IdleWorker}
 use Rattle.sto_open.specs.Working.{IsWorker}
-use Rattle.sto_open.proofs.Gathered.{gathered_rests, gathered_next}
+use Rattle.sto_transaction.proofs.Resting.{gathered_rests}
+use Rattle.sto_open.proofs.Gathered.{gathered_next}
 use Rattle.sto_open.proofs.closing.gather_all.Goals as goal
 
 pub loop-other-preserved : goal.loop-other-preserved

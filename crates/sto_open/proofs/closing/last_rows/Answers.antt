@@ -1,6 +1,7 @@
 use Rattle.std.proofs.Common.{sym, ap, ◌∙◌, subst}
 use Rattle.std.proofs.lemmas.Result.{IfOk-weaker}
-use Rattle.sto_open.proofs.Closed.{one_view, one_pass, none_held, last_valid, whole_contents}
+use Rattle.sto_store.proofs.Whole.{whole_contents}
+use Rattle.sto_open.proofs.Closed.{one_view, one_pass, none_held, last_valid}
 use Rattle.sto_open.proofs.closing.last_rows.Goals as goal
 
 pub contents-requires : goal.contents-requires

@@ -2,7 +2,7 @@ use Rattle.std.proofs.Common.{ap, ◌∙◌}
 use Rattle.std.proofs.lemmas.Result.{IfOk-weaker}
 use Rattle.sto_type.specs.Meaning.{Meaning}
 use Rattle.sto_store.specs.StoresLaw.{machines_are}
-use Rattle.sto_open.proofs.Meant.{objects_mean}
+use Rattle.sto_store.proofs.ObjectMeanings.{objects_mean}
 use Rattle.sto_open.proofs.plan.built.Goals as goal
 
 pub returns-clause-machines : goal.returns-clause-machines

@@ -1,9 +1,10 @@
-use Rattle.std.proofs.Common.{◌≡◌, ◌≤◌, ◌<◌, true, false, List, ℤ, ℕ, [], ◌∷◌, ◌++◌, ap, sym, ◌∙◌, subst, map, arith, refl}
+use Rattle.std.proofs.Common.{◌≡◌, ◌≤◌, ◌<◌, true, false, List, ℕ, [], ◌∷◌, ◌++◌, ap, sym, ◌∙◌, subst, map, arith, refl}
 use Rattle.sto_part.specs.Listed.{Listed}
 use Rattle.sto_model.specs.Told.{told}
 use Rattle.sto_core.specs.Versions.{ticket_of, is_free}
 use Rattle.sto_core.proofs.Lists.{locked_is, unlocked_is}
 use Rattle.sto_type.specs.Known.{Parts, known, IsPartOf}
+use Rattle.sto_attempt_log.specs.Flat.{entry_with}
 use Rattle.sto_attempt_log.specs.declared.read_entry.ReadEntry.{ReadEntry}
 use Rattle.sto_attempt_log.specs.declared.extension.Extension.{Extension}
 use Rattle.sto_attempt_log.specs.ReadSet.{words_in, AreClaimed, AreOnly}
@@ -72,8 +73,8 @@ returns-then-newer-ticket-clause-turned g c =
     let h = close_changed m g.T.Naming.valid sizes f a.at c.args.part c.args.ticket a.words.items a.log.base.items a.log.set.items a.log.set.updates rs v c.requires.before.goes.0 w passes n c.close-found.ensures.tells c.requires.before.log.log free ne in
     (refl, h.0, close_within m g.T.Naming.valid sizes f a.at c.args.part c.args.ticket a.words.items a.log.base.items a.log.set.items a.log.set.updates rs v c.requires.before.goes.0 w passes n c.close-found.ensures.tells c.requires.before.log.log, (refl, subst (λ (s : ℕ). WasChanged m f w a.at c.args.part s rs) (sym c.ticket-newer.ensures.ticket) h.1))
 
-pub returns-then-len-eq4294967295-clause-err : goal.returns-then-len-eq4294967295-clause-err
-returns-then-len-eq4294967295-clause-err g c =
+pub returns-then-len-clause-err : goal.returns-then-len-clause-err
+returns-then-len-clause-err g c =
     let a = c.args.self.now in
     let m = g.T.TxType.meaning a.log.ty.now in
     let law = g.met.T.TxType.lawful a.log.ty.now in
@@ -114,9 +115,9 @@ go_on-requires-clause-some g c =
     let n = c.close-found.result.0 in
     let free : is_free n ≡ true = locked_is (is_free n) (sym c.is_locked.ensures ∙ c.if-is_locked.false) in
     let same : ticket_of n ≡ c.args.ticket = sym c.ticket-newer.ensures.ticket ∙ c.if-newer-ticket.false in
-    let x : ReadEntry = record { part = c.args.part; ticket = c.args.ticket; words = c.replace-words.result } in
-    let rest = close_rests m g.T.Naming.valid sizes f a.at c.args.part c.args.ticket a.words.items a.log.base.items a.log.set.items a.log.set.updates rs v c.requires.before.goes.0 w passes n c.close-found.ensures.tells c.requires.before.log.log law free same c.requires.all x refl refl (ap (λ (l : Listed ℤ). l.items) c.replace-words.ensures.value) in
-    let claims = close_claims m g.T.Naming.valid sizes f a.at c.args.part c.args.ticket a.words.items a.log.base.items a.log.set.items a.log.set.updates rs v c.requires.before.goes.0 w passes n c.close-found.ensures.tells c.requires.before.log.log law free same c.requires.all x refl refl (ap (λ (l : Listed ℤ). l.items) c.replace-words.ensures.value) in
+    let x : ReadEntry = entry_with c.args.part c.args.ticket c.as_slice-words.result.now in
+    let rest = close_rests m g.T.Naming.valid sizes f a.at c.args.part c.args.ticket a.words.items a.log.base.items a.log.set.items a.log.set.updates rs v c.requires.before.goes.0 w passes n c.close-found.ensures.tells c.requires.before.log.log law free same c.requires.all x refl refl c.as_slice-words.ensures.items in
+    let claims = close_claims m g.T.Naming.valid sizes f a.at c.args.part c.args.ticket a.words.items a.log.base.items a.log.set.items a.log.set.updates rs v c.requires.before.goes.0 w passes n c.close-found.ensures.tells c.requires.before.log.log law free same c.requires.all x refl refl c.as_slice-words.ensures.items in
     let is : (d : Parts) → g.T.Naming.valid w.sizes d → m.valid d = λ d h. (g.met.T.TxType.valid_is a.log.ty.now d).1 (subst (λ (l : List ℕ). g.T.Naming.valid l d) rest.own.same_sizes h) in
     let some = some_contents m g.T.Naming.valid w a.at (a.log.base.items ++ x ∷ []) is c.close-found.ensures.tells.fit claims in
     subst (λ (b : List ReadEntry). (d : Parts) × m.valid d × IsPartOf (words_in b) d) (sym c.in_ok-push.ensures.ok) some
@@ -130,7 +131,7 @@ go_on-requires-clause-log g c =
     let f = g.B.Body.script a.log.body in
     let rs = map told a.log.replies.items in
     let v = g.C.Cells.view c.args.cells.now in
-    let x : ReadEntry = record { part = c.args.part; ticket = c.args.ticket; words = c.replace-words.result } in
+    let x : ReadEntry = entry_with c.args.part c.args.ticket c.as_slice-words.result.now in
     let was = c.requires.before.log in
     let h : IsOnLog m (g.B.Body.then a.log.body) f (g.B.Body.left a.log.body) (g.B.Body.may_ask a.log.body) (a.log.base.items ++ x ∷ []) a.log.set a.log.cache a.log.replies.items = record {
       then = was.then;
@@ -157,9 +158,9 @@ returns-in_err-reached-clause-err g c =
     let n = c.close-found.result.0 in
     let free : is_free n ≡ true = locked_is (is_free n) (sym c.is_locked.ensures ∙ c.if-is_locked.false) in
     let same : ticket_of n ≡ c.args.ticket = sym c.ticket-newer.ensures.ticket ∙ c.if-newer-ticket.false in
-    let x : ReadEntry = record { part = c.args.part; ticket = c.args.ticket; words = c.replace-words.result } in
+    let x : ReadEntry = entry_with c.args.part c.args.ticket c.as_slice-words.result.now in
     let made : c.push.new.self.items ≡ base ++ x ∷ [] = c.in_ok-push.ensures.ok in
-    let claims : AreClaimed w a.at c.push.new.self.items = subst (λ (b : List ReadEntry). AreClaimed w a.at b) (sym made) (close_claims m g.T.Naming.valid sizes f a.at c.args.part c.args.ticket a.words.items a.log.base.items a.log.set.items a.log.set.updates rs v c.requires.before.goes.0 w passes n c.close-found.ensures.tells c.requires.before.log.log law free same c.requires.all x refl refl (ap (λ (l : Listed ℤ). l.items) c.replace-words.ensures.value)) in
+    let claims : AreClaimed w a.at c.push.new.self.items = subst (λ (b : List ReadEntry). AreClaimed w a.at b) (sym made) (close_claims m g.T.Naming.valid sizes f a.at c.args.part c.args.ticket a.words.items a.log.base.items a.log.set.items a.log.set.updates rs v c.requires.before.goes.0 w passes n c.close-found.ensures.tells c.requires.before.log.log law free same c.requires.all x refl refl c.as_slice-words.ensures.items) in
     let now = map told c.go_on.new.self.replies.items in
     let left = close_left m g.T.Naming.valid sizes f a.at c.args.part c.args.ticket a.words.items a.log.base.items a.log.set.items a.log.set.updates rs v c.requires.before.goes.0 w passes n c.close-found.ensures.tells c.requires.before.log.log in
     always_err c.from_residual-in_err-reached.result (IsLeft w × IsPrefix m f w a.at now) (left, prefix_of m f w a.at c.push.new.self.items now c.go_on.ensures.runs claims)
@@ -178,19 +179,19 @@ returns-clause-turned g c =
     let n = c.close-found.result.0 in
     let free : is_free n ≡ true = locked_is (is_free n) (sym c.is_locked.ensures ∙ c.if-is_locked.false) in
     let same : ticket_of n ≡ c.args.ticket = sym c.ticket-newer.ensures.ticket ∙ c.if-newer-ticket.false in
-    let x : ReadEntry = record { part = c.args.part; ticket = c.args.ticket; words = c.replace-words.result } in
-    let rest = close_rests m g.T.Naming.valid sizes f a.at c.args.part c.args.ticket a.words.items a.log.base.items a.log.set.items a.log.set.updates rs v c.requires.before.goes.0 w passes n c.close-found.ensures.tells c.requires.before.log.log law free same c.requires.all x refl refl (ap (λ (l : Listed ℤ). l.items) c.replace-words.ensures.value) in
-    let claims = close_claims m g.T.Naming.valid sizes f a.at c.args.part c.args.ticket a.words.items a.log.base.items a.log.set.items a.log.set.updates rs v c.requires.before.goes.0 w passes n c.close-found.ensures.tells c.requires.before.log.log law free same c.requires.all x refl refl (ap (λ (l : Listed ℤ). l.items) c.replace-words.ensures.value) in
-    let only_one = close_only m g.T.Naming.valid sizes f a.at c.args.part c.args.ticket a.words.items a.log.base.items a.log.set.items a.log.set.updates rs v c.requires.before.goes.0 w passes n c.close-found.ensures.tells c.requires.before.log.log law free same c.requires.all x refl refl (ap (λ (l : Listed ℤ). l.items) c.replace-words.ensures.value) in
-    let below = close_below m g.T.Naming.valid sizes f a.at c.args.part c.args.ticket a.words.items a.log.base.items a.log.set.items a.log.set.updates rs v c.requires.before.goes.0 w passes n c.close-found.ensures.tells c.requires.before.log.log law free same c.requires.all x refl refl (ap (λ (l : Listed ℤ). l.items) c.replace-words.ensures.value) in
+    let x : ReadEntry = entry_with c.args.part c.args.ticket c.as_slice-words.result.now in
+    let rest = close_rests m g.T.Naming.valid sizes f a.at c.args.part c.args.ticket a.words.items a.log.base.items a.log.set.items a.log.set.updates rs v c.requires.before.goes.0 w passes n c.close-found.ensures.tells c.requires.before.log.log law free same c.requires.all x refl refl c.as_slice-words.ensures.items in
+    let claims = close_claims m g.T.Naming.valid sizes f a.at c.args.part c.args.ticket a.words.items a.log.base.items a.log.set.items a.log.set.updates rs v c.requires.before.goes.0 w passes n c.close-found.ensures.tells c.requires.before.log.log law free same c.requires.all x refl refl c.as_slice-words.ensures.items in
+    let only_one = close_only m g.T.Naming.valid sizes f a.at c.args.part c.args.ticket a.words.items a.log.base.items a.log.set.items a.log.set.updates rs v c.requires.before.goes.0 w passes n c.close-found.ensures.tells c.requires.before.log.log law free same c.requires.all x refl refl c.as_slice-words.ensures.items in
+    let below = close_below m g.T.Naming.valid sizes f a.at c.args.part c.args.ticket a.words.items a.log.base.items a.log.set.items a.log.set.updates rs v c.requires.before.goes.0 w passes n c.close-found.ensures.tells c.requires.before.log.log law free same c.requires.all x refl refl c.as_slice-words.ensures.items in
     let made : c.push.new.self.items ≡ a.log.base.items ++ x ∷ [] = c.in_ok-push.ensures.ok in
     let claimed : AreClaimed w a.at c.push.new.self.items = subst (λ (b : List ReadEntry). AreClaimed w a.at b) (sym made) claims in
     let only : AreOnly w a.at c.push.new.self.items = subst (λ (b : List ReadEntry). AreOnly w a.at b) (sym made) only_one in
     let kept : c.go_on.new.self.base.items ≡ c.push.new.self.items = ap (λ (l : Listed ReadEntry). l.items) c.in_ok-reached.ensures.base in
     let now : Extension = record { bound = a.extension.bound; extended = c.still-self.result; fresh = a.extension.fresh; watches = a.extension.watches } in
     let as_of : IsAsOf a.at now = λ e. c.requires.before.goes.1 (c.still-self.ensures.0 e).0 in
-    subst (λ (b : List ReadEntry). Turned m g.T.Naming.valid sizes f a.at c.lead-read_phase.result.0 c.replace-words.new.dest.items now b c.go_on.new.self.set.items c.go_on.new.self.set.updates (map told c.go_on.new.self.replies.items) w c.lead-read_phase.result.1) (sym kept)
-    (turned m g.T.Naming.valid sizes f a.at c.replace-words.new.dest.items c.push.new.self.items c.go_on.new.self.set.items c.go_on.new.self.set.updates (map told c.go_on.new.self.replies.items) w rest claimed only below now as_of c.in_ok-reached.ensures.log.log
+    subst (λ (b : List ReadEntry). Turned m g.T.Naming.valid sizes f a.at c.lead-read_phase.result.0 a.words.items now b c.go_on.new.self.set.items c.go_on.new.self.set.updates (map told c.go_on.new.self.replies.items) w c.lead-read_phase.result.1) (sym kept)
+    (turned m g.T.Naming.valid sizes f a.at a.words.items c.push.new.self.items c.go_on.new.self.set.items c.go_on.new.self.set.updates (map told c.go_on.new.self.replies.items) w rest claimed only below now as_of c.in_ok-reached.ensures.log.log
     c.in_ok-reached.reached c.lead-read_phase.result.0 c.lead-read_phase.result.1 c.in_ok-reached.ensures.reached c.lead-read_phase.ensures)
 
 pub returns-then-is_locked-clause-alone : goal.returns-then-is_locked-clause-alone
@@ -278,7 +279,7 @@ returns-clause-left g c =
     let n = c.close-found.result.0 in
     let free : is_free n ≡ true = locked_is (is_free n) (sym c.is_locked.ensures ∙ c.if-is_locked.false) in
     let same : ticket_of n ≡ c.args.ticket = sym c.ticket-newer.ensures.ticket ∙ c.if-newer-ticket.false in
-    let x : ReadEntry = record { part = c.args.part; ticket = c.args.ticket; words = c.replace-words.result } in
+    let x : ReadEntry = entry_with c.args.part c.args.ticket c.as_slice-words.result.now in
     let made : c.push.new.self.items ≡ base ++ x ∷ [] = c.in_ok-push.ensures.ok in
     let grown = c.in_ok-reached.ensures.grown.grown in
     let heard = length a.log.replies.items in
@@ -292,9 +293,9 @@ returns-clause-left g c =
     let iff : IsTrue c.still-self.result ↔ (IsTrue a.extension.extended × (now ≡ heard)) =
     ((λ e. let h = c.still-self.ensures.0 e in (h.0, omega (arith, h.1, heard_is, now_is))), (λ h. c.still-self.ensures.1 (h.0, omega (arith, h.1, heard_is, now_is)))) in
     let kept : c.go_on.new.self.base.items ≡ base ++ x ∷ [] = ap (λ (l : Listed ReadEntry). l.items) c.in_ok-reached.ensures.base ∙ made in
-    subst (λ (b : List ReadEntry). events_left calls m.widths c.lead-read_phase.result.0 c.replace-words.new.dest.items extension b < left_opening (before - 1) m.widths a.extension.extended (words_in base) - (1 + length a.words.items)) (sym kept)
+    subst (λ (b : List ReadEntry). events_left calls m.widths c.lead-read_phase.result.0 a.words.items extension b < left_opening (before - 1) m.widths a.extension.extended (words_in base) - (1 + length a.words.items)) (sym kept)
     (close_fewer m law f rs c.args.part base c.requires.before.goes.0.awaits (length a.words.items) c.requires.all a.at c.go_on.new.self.set.updates c.in_ok-reached.reached c.lead-read_phase.result.0 c.lead-read_phase.result.1 c.lead-read_phase.ensures
-    before calls heard now a.extension.extended c.still-self.result c.replace-words.new.dest.items extension x refl refl c.in_ok-reached.ensures.left on c.in_ok-reached.ensures.asks iff)
+    before calls heard now a.extension.extended c.still-self.result a.words.items extension x refl refl c.in_ok-reached.ensures.left on c.in_ok-reached.ensures.asks iff)
 
 pub returns-then-is_locked-clause-grown : goal.returns-then-is_locked-clause-grown
 returns-then-is_locked-clause-grown g c =

@@ -54,7 +54,7 @@ returns-then-ticket-self-clause-steps g c =
     let h =
     open_goes m g.T.Naming.valid sizes f a.at c.args.part a.words.items a.log.base.items a.log.set.items a.log.set.updates rs (g.C.Cells.view c.args.cells.now) w (g.C.Cells.passes c.args.cells.now) n c.requires.goes.0
     c.requires.log.log c.open-found.ensures.tells free early in
-    let none : c.room.result.items ≡ [] = c.room.ensures in
+    let none : c.make_room.new.words.items ≡ [] = c.make_room.ensures in
     record {
       event = search rules;
       log = c.requires.log;

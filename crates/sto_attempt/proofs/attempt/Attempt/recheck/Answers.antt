@@ -6,6 +6,7 @@ use Rattle.sto_model.specs.Told.{told}
 use Rattle.sto_type.specs.Known.{Parts, IsPartOf}
 use Rattle.sto_core.specs.Versions.{ticket_of, is_free}
 use Rattle.sto_core.proofs.Lists.{locked_is, unlocked_is}
+use Rattle.sto_attempt_log.specs.Flat.{entry_with}
 use Rattle.sto_attempt_log.specs.declared.read_entry.ReadEntry.{ReadEntry}
 use Rattle.sto_attempt_log.specs.ReadSet.{words_in}
 use Rattle.sto_attempt_log.specs.Answers.{WasChanged}
@@ -53,7 +54,7 @@ recheck-found-requires g c =
     let fresh = a.extension.fresh.items in
     let ws = map watched a.extension.watches.items in
     let goes = c.requires.goes in
-    let s = c.in-Some.read_entry.now in
+    let s : ReadEntry = entry_with c.in-Some.read_entry.part c.in-Some.read_entry.ticket c.in-Some.read_entry.words.now in
     let there : Contains a.log.base.items s = c.in-Some.ensures.among in
     recheck_allowed m law g.T.Naming.valid sizes is f a.at a.extension.bound c.args.part true a.log.base.items fresh a.log.set.items ws a.log.set.updates rs v goes.spans goes.observed goes.stands.1 c.requires.log.log goes.stands.0 s there c.in-Some.ensures.part
 
@@ -70,7 +71,7 @@ returns-then-is_locked-clause-turned g c =
     let fresh = a.extension.fresh.items in
     let ws = map watched a.extension.watches.items in
     let goes = c.requires.goes in
-    let s = c.in-Some.read_entry.now in
+    let s : ReadEntry = entry_with c.in-Some.read_entry.part c.in-Some.read_entry.ticket c.in-Some.read_entry.words.now in
     let there : Contains a.log.base.items s = c.in-Some.ensures.among in
     let w = g.C.Cells.view c.recheck-found.new.self in
     let passes = g.C.Cells.passes c.args.cells.now in
@@ -91,7 +92,7 @@ returns-then-newer-ticket-clause-turned g c =
     let fresh = a.extension.fresh.items in
     let ws = map watched a.extension.watches.items in
     let goes = c.requires.goes in
-    let s = c.in-Some.read_entry.now in
+    let s : ReadEntry = entry_with c.in-Some.read_entry.part c.in-Some.read_entry.ticket c.in-Some.read_entry.words.now in
     let there : Contains a.log.base.items s = c.in-Some.ensures.among in
     let w = g.C.Cells.view c.recheck-found.new.self in
     let passes = g.C.Cells.passes c.args.cells.now in
@@ -114,17 +115,17 @@ advance-requires-clause-renewed g c =
     let fresh = a.extension.fresh.items in
     let ws = map watched a.extension.watches.items in
     let goes = c.requires.goes in
-    let s = c.in-Some.read_entry.now in
+    let s : ReadEntry = entry_with c.in-Some.read_entry.part c.in-Some.read_entry.ticket c.in-Some.read_entry.words.now in
     let there : Contains a.log.base.items s = c.in-Some.ensures.among in
     let w = g.C.Cells.view c.recheck-found.new.self in
     let passes = g.C.Cells.passes c.args.cells.now in
     let n = c.recheck-found.result.0 in
     let free : is_free n ≡ true = locked_is (is_free n) (sym c.is_locked.ensures ∙ c.if-is_locked.false) in
     let same : ticket_of n ≡ s.ticket = sym c.ticket-newer.ensures.ticket ∙ c.if-newer-ticket.false in
-    let y : ReadEntry = record { part = c.args.part; ticket = s.ticket; words = c.in_ok-words.words } in
+    let y : ReadEntry = entry_with c.args.part c.in-Some.read_entry.ticket c.in-Some.read_entry.words.now in
     let known : words_in a.log.base.items c.args.part ≡ Some s.words.items = c.in-Some.ensures.words in
     let made : c.push.new.self.items ≡ fresh ++ y ∷ [] = c.in_ok-push.ensures.ok in
-    let h = rechecked_renewed m law g.T.Naming.valid sizes is f a.at a.extension.bound c.args.part true a.log.base.items fresh a.log.set.items ws a.log.set.updates rs v goes.spans goes.observed goes.stands.1 c.requires.log.log goes.stands.0 s there c.in-Some.ensures.part w passes n (pos 0) c.recheck-found.ensures.tells free same y refl refl c.in_ok-words.ensures known refl in
+    let h = rechecked_renewed m law g.T.Naming.valid sizes is f a.at a.extension.bound c.args.part true a.log.base.items fresh a.log.set.items ws a.log.set.updates rs v goes.spans goes.observed goes.stands.1 c.requires.log.log goes.stands.0 s there c.in-Some.ensures.part w passes n (pos 0) c.recheck-found.ensures.tells free same y refl refl refl known refl in
     (goes.stands.1.more, subst (λ (l : List ReadEntry). IsRenewed (length m.widths) (words_in a.log.base.items) l ws goes.stands.1.more) (sym made) h)
 
 pub advance-requires-clause-some : goal.advance-requires-clause-some
@@ -155,17 +156,17 @@ advance-requires-clause-some_new g c =
     let fresh = a.extension.fresh.items in
     let ws = map watched a.extension.watches.items in
     let goes = c.requires.goes in
-    let s = c.in-Some.read_entry.now in
+    let s : ReadEntry = entry_with c.in-Some.read_entry.part c.in-Some.read_entry.ticket c.in-Some.read_entry.words.now in
     let there : Contains a.log.base.items s = c.in-Some.ensures.among in
     let w = g.C.Cells.view c.recheck-found.new.self in
     let passes = g.C.Cells.passes c.args.cells.now in
     let n = c.recheck-found.result.0 in
     let free : is_free n ≡ true = locked_is (is_free n) (sym c.is_locked.ensures ∙ c.if-is_locked.false) in
     let same : ticket_of n ≡ s.ticket = sym c.ticket-newer.ensures.ticket ∙ c.if-newer-ticket.false in
-    let y : ReadEntry = record { part = c.args.part; ticket = s.ticket; words = c.in_ok-words.words } in
+    let y : ReadEntry = entry_with c.args.part c.in-Some.read_entry.ticket c.in-Some.read_entry.words.now in
     let known : words_in a.log.base.items c.args.part ≡ Some s.words.items = c.in-Some.ensures.words in
     let made : c.push.new.self.items ≡ fresh ++ y ∷ [] = c.in_ok-push.ensures.ok in
-    let h = rechecked_spans m law g.T.Naming.valid sizes is f a.at a.extension.bound c.args.part true a.log.base.items fresh a.log.set.items ws a.log.set.updates rs v goes.spans goes.observed goes.stands.1 c.requires.log.log goes.stands.0 s there c.in-Some.ensures.part w passes n (pos 0) c.recheck-found.ensures.tells free same y refl refl c.in_ok-words.ensures known in
+    let h = rechecked_spans m law g.T.Naming.valid sizes is f a.at a.extension.bound c.args.part true a.log.base.items fresh a.log.set.items ws a.log.set.updates rs v goes.spans goes.observed goes.stands.1 c.requires.log.log goes.stands.0 s there c.in-Some.ensures.part w passes n (pos 0) c.recheck-found.ensures.tells free same y refl refl refl known in
     let d = some_anew m law g.T.Naming.valid sizes is f a.at a.extension.bound c.args.part true a.log.base.items fresh a.log.set.items ws a.log.set.updates rs v goes.spans goes.observed goes.stands.1 c.requires.log.log w (fresh ++ y ∷ []) h.0 in
     subst (λ (l : List ReadEntry). (d : Parts) × m.valid d × IsPartOf (words_in l) d) (sym made) d
 
@@ -182,17 +183,17 @@ returns-clause-turned g c =
     let fresh = a.extension.fresh.items in
     let ws = map watched a.extension.watches.items in
     let goes = c.requires.goes in
-    let s = c.in-Some.read_entry.now in
+    let s : ReadEntry = entry_with c.in-Some.read_entry.part c.in-Some.read_entry.ticket c.in-Some.read_entry.words.now in
     let there : Contains a.log.base.items s = c.in-Some.ensures.among in
     let w = g.C.Cells.view c.recheck-found.new.self in
     let passes = g.C.Cells.passes c.args.cells.now in
     let n = c.recheck-found.result.0 in
     let free : is_free n ≡ true = locked_is (is_free n) (sym c.is_locked.ensures ∙ c.if-is_locked.false) in
     let same : ticket_of n ≡ s.ticket = sym c.ticket-newer.ensures.ticket ∙ c.if-newer-ticket.false in
-    let y : ReadEntry = record { part = c.args.part; ticket = s.ticket; words = c.in_ok-words.words } in
+    let y : ReadEntry = entry_with c.args.part c.in-Some.read_entry.ticket c.in-Some.read_entry.words.now in
     let known : words_in a.log.base.items c.args.part ≡ Some s.words.items = c.in-Some.ensures.words in
     let made : c.push.new.self.items ≡ fresh ++ y ∷ [] = c.in_ok-push.ensures.ok in
-    let h = rechecked_spans m law g.T.Naming.valid sizes is f a.at a.extension.bound c.args.part true a.log.base.items fresh a.log.set.items ws a.log.set.updates rs v goes.spans goes.observed goes.stands.1 c.requires.log.log goes.stands.0 s there c.in-Some.ensures.part w passes n (pos 0) c.recheck-found.ensures.tells free same y refl refl c.in_ok-words.ensures known in
+    let h = rechecked_spans m law g.T.Naming.valid sizes is f a.at a.extension.bound c.args.part true a.log.base.items fresh a.log.set.items ws a.log.set.updates rs v goes.spans goes.observed goes.stands.1 c.requires.log.log goes.stands.0 s there c.in-Some.ensures.part w passes n (pos 0) c.recheck-found.ensures.tells free same y refl refl refl known in
     c.advance.ensures.turned w (subst (λ (l : List ReadEntry). Spans m g.T.Naming.valid sizes a.at a.extension.bound a.log.base.items l w) (sym made) h.0) h.1
 
 pub returns-then-is_locked-clause-grown : goal.returns-then-is_locked-clause-grown
@@ -258,8 +259,8 @@ returns-then-newer-ticket-clause-left g c =
     let passes = g.C.Cells.passes c.args.cells.now in
     recheck_over m.widths (words_in a.log.base.items) fresh ws c.args.part goes.stands.1 (g.B.Body.left a.log.body - 1)
 
-pub returns-in_err-words-clause-err : goal.returns-in_err-words-clause-err
-returns-in_err-words-clause-err g c =
+pub returns-then-len-clause-err : goal.returns-then-len-clause-err
+returns-then-len-clause-err g c =
     let a = c.args.self.now in
     let m = g.T.TxType.meaning a.log.ty.now in
     let law = g.met.T.TxType.lawful a.log.ty.now in
@@ -272,27 +273,7 @@ returns-in_err-words-clause-err g c =
     let ws = map watched a.extension.watches.items in
     let goes = c.requires.goes in
     let passes = g.C.Cells.passes c.args.cells.now in
-    let s = c.in-Some.read_entry.now in
-    let there : Contains a.log.base.items s = c.in-Some.ensures.among in
-    let w = g.C.Cells.view c.recheck-found.new.self in
-    let n = c.recheck-found.result.0 in
-    always_err c.from_residual.result (IsLeft w × IsPrefix m f w a.at rs) (rechecked_left m law g.T.Naming.valid sizes is f a.at a.extension.bound c.args.part true a.log.base.items fresh a.log.set.items ws a.log.set.updates rs v goes.spans goes.observed goes.stands.1 c.requires.log.log goes.stands.0 s there c.in-Some.ensures.part w passes n (pos 0) c.recheck-found.ensures.tells, rechecked_prefix m law g.T.Naming.valid sizes is f a.at a.extension.bound c.args.part true a.log.base.items fresh a.log.set.items ws a.log.set.updates rs v goes.spans goes.observed goes.stands.1 c.requires.log.log goes.stands.0 s there c.in-Some.ensures.part w passes n (pos 0) c.recheck-found.ensures.tells)
-
-pub returns-then-len-eq4294967295-clause-err : goal.returns-then-len-eq4294967295-clause-err
-returns-then-len-eq4294967295-clause-err g c =
-    let a = c.args.self.now in
-    let m = g.T.TxType.meaning a.log.ty.now in
-    let law = g.met.T.TxType.lawful a.log.ty.now in
-    let sizes = g.T.Naming.sizes a.log.ty.now in
-    let is : (d : Parts) → g.T.Naming.valid sizes d → m.valid d = λ d h. (g.met.T.TxType.valid_is a.log.ty.now d).1 h in
-    let f = g.B.Body.script a.log.body in
-    let rs = map told a.log.replies.items in
-    let v = g.C.Cells.view c.args.cells.now in
-    let fresh = a.extension.fresh.items in
-    let ws = map watched a.extension.watches.items in
-    let goes = c.requires.goes in
-    let passes = g.C.Cells.passes c.args.cells.now in
-    let s = c.in-Some.read_entry.now in
+    let s : ReadEntry = entry_with c.in-Some.read_entry.part c.in-Some.read_entry.ticket c.in-Some.read_entry.words.now in
     let there : Contains a.log.base.items s = c.in-Some.ensures.among in
     let w = g.C.Cells.view c.recheck-found.new.self in
     let n = c.recheck-found.result.0 in
@@ -312,11 +293,11 @@ returns-in_err-push-clause-err g c =
     let ws = map watched a.extension.watches.items in
     let goes = c.requires.goes in
     let passes = g.C.Cells.passes c.args.cells.now in
-    let s = c.in-Some.read_entry.now in
+    let s : ReadEntry = entry_with c.in-Some.read_entry.part c.in-Some.read_entry.ticket c.in-Some.read_entry.words.now in
     let there : Contains a.log.base.items s = c.in-Some.ensures.among in
     let w = g.C.Cells.view c.recheck-found.new.self in
     let n = c.recheck-found.result.0 in
-    always_err c.from_residual-in_err-push.result (IsLeft w × IsPrefix m f w a.at rs) (rechecked_left m law g.T.Naming.valid sizes is f a.at a.extension.bound c.args.part true a.log.base.items fresh a.log.set.items ws a.log.set.updates rs v goes.spans goes.observed goes.stands.1 c.requires.log.log goes.stands.0 s there c.in-Some.ensures.part w passes n (pos 0) c.recheck-found.ensures.tells, rechecked_prefix m law g.T.Naming.valid sizes is f a.at a.extension.bound c.args.part true a.log.base.items fresh a.log.set.items ws a.log.set.updates rs v goes.spans goes.observed goes.stands.1 c.requires.log.log goes.stands.0 s there c.in-Some.ensures.part w passes n (pos 0) c.recheck-found.ensures.tells)
+    always_err c.from_residual.result (IsLeft w × IsPrefix m f w a.at rs) (rechecked_left m law g.T.Naming.valid sizes is f a.at a.extension.bound c.args.part true a.log.base.items fresh a.log.set.items ws a.log.set.updates rs v goes.spans goes.observed goes.stands.1 c.requires.log.log goes.stands.0 s there c.in-Some.ensures.part w passes n (pos 0) c.recheck-found.ensures.tells, rechecked_prefix m law g.T.Naming.valid sizes is f a.at a.extension.bound c.args.part true a.log.base.items fresh a.log.set.items ws a.log.set.updates rs v goes.spans goes.observed goes.stands.1 c.requires.log.log goes.stands.0 s there c.in-Some.ensures.part w passes n (pos 0) c.recheck-found.ensures.tells)
 
 pub returns-clause-err : goal.returns-clause-err
 returns-clause-err g c =
@@ -332,16 +313,16 @@ returns-clause-err g c =
     let ws = map watched a.extension.watches.items in
     let goes = c.requires.goes in
     let passes = g.C.Cells.passes c.args.cells.now in
-    let s = c.in-Some.read_entry.now in
+    let s : ReadEntry = entry_with c.in-Some.read_entry.part c.in-Some.read_entry.ticket c.in-Some.read_entry.words.now in
     let there : Contains a.log.base.items s = c.in-Some.ensures.among in
     let w = g.C.Cells.view c.recheck-found.new.self in
     let n = c.recheck-found.result.0 in
     let free : is_free n ≡ true = locked_is (is_free n) (sym c.is_locked.ensures ∙ c.if-is_locked.false) in
     let same : ticket_of n ≡ s.ticket = sym c.ticket-newer.ensures.ticket ∙ c.if-newer-ticket.false in
-    let y : ReadEntry = record { part = c.args.part; ticket = s.ticket; words = c.in_ok-words.words } in
+    let y : ReadEntry = entry_with c.args.part c.in-Some.read_entry.ticket c.in-Some.read_entry.words.now in
     let known : words_in a.log.base.items c.args.part ≡ Some s.words.items = c.in-Some.ensures.words in
     let made : c.push.new.self.items ≡ fresh ++ y ∷ [] = c.in_ok-push.ensures.ok in
-    let h = rechecked_spans m law g.T.Naming.valid sizes is f a.at a.extension.bound c.args.part true a.log.base.items fresh a.log.set.items ws a.log.set.updates rs v goes.spans goes.observed goes.stands.1 c.requires.log.log goes.stands.0 s there c.in-Some.ensures.part w passes n (pos 0) c.recheck-found.ensures.tells free same y refl refl c.in_ok-words.ensures known in
+    let h = rechecked_spans m law g.T.Naming.valid sizes is f a.at a.extension.bound c.args.part true a.log.base.items fresh a.log.set.items ws a.log.set.updates rs v goes.spans goes.observed goes.stands.1 c.requires.log.log goes.stands.0 s there c.in-Some.ensures.part w passes n (pos 0) c.recheck-found.ensures.tells free same y refl refl refl known in
     let now = map told c.advance.new.self.log.replies.items in
     let left : IsLeft w = rechecked_left m law g.T.Naming.valid sizes is f a.at a.extension.bound c.args.part true a.log.base.items fresh a.log.set.items ws a.log.set.updates rs v goes.spans goes.observed goes.stands.1 c.requires.log.log goes.stands.0 s there c.in-Some.ensures.part w passes n (pos 0) c.recheck-found.ensures.tells in
     err_both c.advance.result (IsLeft w) (IsPrefix m f w c.advance.new.self.at now) (always_err c.advance.result (IsLeft w) left)
@@ -361,19 +342,19 @@ returns-clause-left g c =
     let ws = map watched a.extension.watches.items in
     let goes = c.requires.goes in
     let passes = g.C.Cells.passes c.args.cells.now in
-    let s = c.in-Some.read_entry.now in
+    let s : ReadEntry = entry_with c.in-Some.read_entry.part c.in-Some.read_entry.ticket c.in-Some.read_entry.words.now in
     let there : Contains a.log.base.items s = c.in-Some.ensures.among in
     let w = g.C.Cells.view c.recheck-found.new.self in
     let n = c.recheck-found.result.0 in
     let free : is_free n ≡ true = locked_is (is_free n) (sym c.is_locked.ensures ∙ c.if-is_locked.false) in
     let same : ticket_of n ≡ s.ticket = sym c.ticket-newer.ensures.ticket ∙ c.if-newer-ticket.false in
-    let y : ReadEntry = record { part = c.args.part; ticket = s.ticket; words = c.in_ok-words.words } in
+    let y : ReadEntry = entry_with c.args.part c.in-Some.read_entry.ticket c.in-Some.read_entry.words.now in
     let known : words_in a.log.base.items c.args.part ≡ Some s.words.items = c.in-Some.ensures.words in
     let made : c.push.new.self.items ≡ fresh ++ y ∷ [] = c.in_ok-push.ensures.ok in
     let b = c.advance.new.self in
     let old = words_in a.log.base.items in
     let next = goes.stands.1 in
-    let h = rechecked_renewed m law g.T.Naming.valid sizes is f a.at a.extension.bound c.args.part true a.log.base.items fresh a.log.set.items ws a.log.set.updates rs v goes.spans goes.observed goes.stands.1 c.requires.log.log goes.stands.0 s there c.in-Some.ensures.part w passes n (pos 0) c.recheck-found.ensures.tells free same y refl refl c.in_ok-words.ensures known refl in
+    let h = rechecked_renewed m law g.T.Naming.valid sizes is f a.at a.extension.bound c.args.part true a.log.base.items fresh a.log.set.items ws a.log.set.updates rs v goes.spans goes.observed goes.stands.1 c.requires.log.log goes.stands.0 s there c.in-Some.ensures.part w passes n (pos 0) c.recheck-found.ensures.tells free same y refl refl refl known refl in
     let gone : drop (length c.push.new.self.items) ws ≡ next.more = ap (λ (l : List ReadEntry). drop (length l) ws) made ∙ left_watches (length m.widths) old (fresh ++ y ∷ []) ws next.more h in
     let before = g.B.Body.left a.log.body in
     let now = events_left (g.B.Body.left b.log.body) m.widths b.read_phase b.words.items b.extension b.log.base.items in

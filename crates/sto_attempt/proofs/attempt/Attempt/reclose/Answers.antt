@@ -1,5 +1,4 @@
 use Rattle.std.proofs.Common.{◌≡◌, ◌<◌, true, false, Some, List, ℤ, ℕ, [], ◌∷◌, ◌++◌, ap, sym, ◌∙◌, subst, map, length, arith, refl, true≢false}
-use Rattle.sto_part.specs.Listed.{Listed}
 use Rattle.std.specs.List.{slice_get}
 use Rattle.std.specs.Option.{option_map}
 use Rattle.std.proofs.lemmas.Option.{slice_get-map}
@@ -11,6 +10,7 @@ use Rattle.sto_model.specs.Told.{told}
 use Rattle.sto_type.specs.Known.{Parts, IsPartOf}
 use Rattle.sto_core.specs.Versions.{ticket_of, is_free}
 use Rattle.sto_core.proofs.Lists.{locked_is, unlocked_is}
+use Rattle.sto_attempt_log.specs.Flat.{entry_with}
 use Rattle.sto_attempt_log.specs.declared.read_entry.ReadEntry.{ReadEntry}
 use Rattle.sto_attempt_log.specs.ReadSet.{words_in, AllTrueIn}
 use Rattle.sto_attempt_log.specs.Answers.{WasChanged}
@@ -158,10 +158,10 @@ advance-requires-clause-renewed g c =
     let is_next : next.next ≡ watched c.get-watch.result.now = some_same next.next (watched c.get-watch.result.now) (sym (next_place (length m.widths) old fresh ws false c.args.part next) ∙ e) in
     let preds : List Pred = c.get-watch.result.now.preds.items in
     let same_preds : next.next.preds ≡ preds = ap (λ (x : Watched). x.preds) is_next in
-    let y : ReadEntry = record { part = c.args.part; ticket = c.args.ticket; words = c.replace-words.result } in
+    let y : ReadEntry = entry_with c.args.part c.args.ticket c.as_slice-words.result.now in
     let made : c.push.new.self.items ≡ fresh ++ y ∷ [] = c.in_ok-push.ensures.ok in
     let hold : AllTrueIn a.words.items next.next.preds = subst (λ (l : List Pred). AllTrueIn a.words.items l) (c.as_slice.ensures.items ∙ sym same_preds) (subst (λ (l : List ℤ). AllTrueIn l c.as_slice.result.now) c.as_slice-2.ensures.items (c.are_true.ensures.0 c.if-not-are_true.false)) in
-    let h = reclosed_renewed m law g.T.Naming.valid sizes is f a.at a.extension.bound c.args.part false a.log.base.items fresh a.log.set.items ws a.log.set.updates rs v goes.spans goes.observed goes.stands.3 c.requires.before.log.log c.args.ticket a.words.items goes.stands.0 goes.stands.1 c.requires.all w passes n c.close-found.ensures.tells free same y refl refl (ap (λ (l : Listed ℤ). l.items) c.replace-words.ensures.value) refl hold in
+    let h = reclosed_renewed m law g.T.Naming.valid sizes is f a.at a.extension.bound c.args.part false a.log.base.items fresh a.log.set.items ws a.log.set.updates rs v goes.spans goes.observed goes.stands.3 c.requires.before.log.log c.args.ticket a.words.items goes.stands.0 goes.stands.1 c.requires.all w passes n c.close-found.ensures.tells free same y refl refl c.as_slice-words.ensures.items refl hold in
     (next.more, subst (λ (l : List ReadEntry). IsRenewed (length m.widths) old l ws next.more) (sym made) h)
 
 pub advance-requires-clause-some : goal.advance-requires-clause-some
@@ -197,9 +197,9 @@ advance-requires-clause-some_new g c =
     let n = c.close-found.result.0 in
     let free : is_free n ≡ true = locked_is (is_free n) (sym c.is_locked.ensures ∙ c.if-is_locked.false) in
     let same : ticket_of n ≡ c.args.ticket = sym c.ticket-newer.ensures.ticket ∙ c.if-newer-ticket.false in
-    let y : ReadEntry = record { part = c.args.part; ticket = c.args.ticket; words = c.replace-words.result } in
+    let y : ReadEntry = entry_with c.args.part c.args.ticket c.as_slice-words.result.now in
     let made : c.push.new.self.items ≡ fresh ++ y ∷ [] = c.in_ok-push.ensures.ok in
-    let h = reclosed_spans m law g.T.Naming.valid sizes is f a.at a.extension.bound c.args.part false a.log.base.items fresh a.log.set.items ws a.log.set.updates rs v goes.spans goes.observed goes.stands.3 c.requires.before.log.log c.args.ticket a.words.items goes.stands.0 goes.stands.1 c.requires.all w passes n c.close-found.ensures.tells free same y refl refl (ap (λ (l : Listed ℤ). l.items) c.replace-words.ensures.value) in
+    let h = reclosed_spans m law g.T.Naming.valid sizes is f a.at a.extension.bound c.args.part false a.log.base.items fresh a.log.set.items ws a.log.set.updates rs v goes.spans goes.observed goes.stands.3 c.requires.before.log.log c.args.ticket a.words.items goes.stands.0 goes.stands.1 c.requires.all w passes n c.close-found.ensures.tells free same y refl refl c.as_slice-words.ensures.items in
     let d = some_anew m law g.T.Naming.valid sizes is f a.at a.extension.bound c.args.part false a.log.base.items fresh a.log.set.items ws a.log.set.updates rs v goes.spans goes.observed goes.stands.3 c.requires.before.log.log w (fresh ++ y ∷ []) h.0 in
     subst (λ (l : List ReadEntry). (d : Parts) × m.valid d × IsPartOf (words_in l) d) (sym made) d
 
@@ -221,9 +221,9 @@ returns-clause-turned g c =
     let n = c.close-found.result.0 in
     let free : is_free n ≡ true = locked_is (is_free n) (sym c.is_locked.ensures ∙ c.if-is_locked.false) in
     let same : ticket_of n ≡ c.args.ticket = sym c.ticket-newer.ensures.ticket ∙ c.if-newer-ticket.false in
-    let y : ReadEntry = record { part = c.args.part; ticket = c.args.ticket; words = c.replace-words.result } in
+    let y : ReadEntry = entry_with c.args.part c.args.ticket c.as_slice-words.result.now in
     let made : c.push.new.self.items ≡ fresh ++ y ∷ [] = c.in_ok-push.ensures.ok in
-    let h = reclosed_spans m law g.T.Naming.valid sizes is f a.at a.extension.bound c.args.part false a.log.base.items fresh a.log.set.items ws a.log.set.updates rs v goes.spans goes.observed goes.stands.3 c.requires.before.log.log c.args.ticket a.words.items goes.stands.0 goes.stands.1 c.requires.all w passes n c.close-found.ensures.tells free same y refl refl (ap (λ (l : Listed ℤ). l.items) c.replace-words.ensures.value) in
+    let h = reclosed_spans m law g.T.Naming.valid sizes is f a.at a.extension.bound c.args.part false a.log.base.items fresh a.log.set.items ws a.log.set.updates rs v goes.spans goes.observed goes.stands.3 c.requires.before.log.log c.args.ticket a.words.items goes.stands.0 goes.stands.1 c.requires.all w passes n c.close-found.ensures.tells free same y refl refl c.as_slice-words.ensures.items in
     c.advance.ensures.turned w (subst (λ (l : List ReadEntry). Spans m g.T.Naming.valid sizes a.at a.extension.bound a.log.base.items l w) (sym made) h.0) h.1
 
 pub returns-then-is_locked-clause-grown : goal.returns-then-is_locked-clause-grown
@@ -399,11 +399,11 @@ returns-clause-err g c =
     let is_next : next.next ≡ watched c.get-watch.result.now = some_same next.next (watched c.get-watch.result.now) (sym (next_place (length m.widths) old fresh ws false c.args.part next) ∙ e) in
     let preds : List Pred = c.get-watch.result.now.preds.items in
     let same_preds : next.next.preds ≡ preds = ap (λ (x : Watched). x.preds) is_next in
-    let y : ReadEntry = record { part = c.args.part; ticket = c.args.ticket; words = c.replace-words.result } in
+    let y : ReadEntry = entry_with c.args.part c.args.ticket c.as_slice-words.result.now in
     let made : c.push.new.self.items ≡ fresh ++ y ∷ [] = c.in_ok-push.ensures.ok in
     let hold : AllTrueIn a.words.items next.next.preds = subst (λ (l : List Pred). AllTrueIn a.words.items l) (c.as_slice.ensures.items ∙ sym same_preds) (subst (λ (l : List ℤ). AllTrueIn l c.as_slice.result.now) c.as_slice-2.ensures.items (c.are_true.ensures.0 c.if-not-are_true.false)) in
-    let h = reclosed_renewed m law g.T.Naming.valid sizes is f a.at a.extension.bound c.args.part false a.log.base.items fresh a.log.set.items ws a.log.set.updates rs v goes.spans goes.observed goes.stands.3 c.requires.before.log.log c.args.ticket a.words.items goes.stands.0 goes.stands.1 c.requires.all w passes n c.close-found.ensures.tells free same y refl refl (ap (λ (l : Listed ℤ). l.items) c.replace-words.ensures.value) refl hold in
-    let spans = reclosed_spans m law g.T.Naming.valid sizes is f a.at a.extension.bound c.args.part false a.log.base.items fresh a.log.set.items ws a.log.set.updates rs v goes.spans goes.observed goes.stands.3 c.requires.before.log.log c.args.ticket a.words.items goes.stands.0 goes.stands.1 c.requires.all w passes n c.close-found.ensures.tells free same y refl refl (ap (λ (l : Listed ℤ). l.items) c.replace-words.ensures.value) in
+    let h = reclosed_renewed m law g.T.Naming.valid sizes is f a.at a.extension.bound c.args.part false a.log.base.items fresh a.log.set.items ws a.log.set.updates rs v goes.spans goes.observed goes.stands.3 c.requires.before.log.log c.args.ticket a.words.items goes.stands.0 goes.stands.1 c.requires.all w passes n c.close-found.ensures.tells free same y refl refl c.as_slice-words.ensures.items refl hold in
+    let spans = reclosed_spans m law g.T.Naming.valid sizes is f a.at a.extension.bound c.args.part false a.log.base.items fresh a.log.set.items ws a.log.set.updates rs v goes.spans goes.observed goes.stands.3 c.requires.before.log.log c.args.ticket a.words.items goes.stands.0 goes.stands.1 c.requires.all w passes n c.close-found.ensures.tells free same y refl refl c.as_slice-words.ensures.items in
     let now = map told c.advance.new.self.log.replies.items in
     let left : IsLeft w = reclosed_left m law g.T.Naming.valid sizes is f a.at a.extension.bound c.args.part false a.log.base.items fresh a.log.set.items ws a.log.set.updates rs v goes.spans goes.observed goes.stands.3 c.requires.before.log.log c.args.ticket a.words.items goes.stands.0 goes.stands.1 c.requires.all w passes n c.close-found.ensures.tells in
     err_both c.advance.result (IsLeft w) (IsPrefix m f w c.advance.new.self.at now) (always_err c.advance.result (IsLeft w) left)
@@ -434,10 +434,10 @@ returns-clause-left g c =
     let is_next : next.next ≡ watched c.get-watch.result.now = some_same next.next (watched c.get-watch.result.now) (sym (next_place (length m.widths) old fresh ws false c.args.part next) ∙ e) in
     let preds : List Pred = c.get-watch.result.now.preds.items in
     let same_preds : next.next.preds ≡ preds = ap (λ (x : Watched). x.preds) is_next in
-    let y : ReadEntry = record { part = c.args.part; ticket = c.args.ticket; words = c.replace-words.result } in
+    let y : ReadEntry = entry_with c.args.part c.args.ticket c.as_slice-words.result.now in
     let made : c.push.new.self.items ≡ fresh ++ y ∷ [] = c.in_ok-push.ensures.ok in
     let hold : AllTrueIn a.words.items next.next.preds = subst (λ (l : List Pred). AllTrueIn a.words.items l) (c.as_slice.ensures.items ∙ sym same_preds) (subst (λ (l : List ℤ). AllTrueIn l c.as_slice.result.now) c.as_slice-2.ensures.items (c.are_true.ensures.0 c.if-not-are_true.false)) in
-    let h = reclosed_renewed m law g.T.Naming.valid sizes is f a.at a.extension.bound c.args.part false a.log.base.items fresh a.log.set.items ws a.log.set.updates rs v goes.spans goes.observed goes.stands.3 c.requires.before.log.log c.args.ticket a.words.items goes.stands.0 goes.stands.1 c.requires.all w passes n c.close-found.ensures.tells free same y refl refl (ap (λ (l : Listed ℤ). l.items) c.replace-words.ensures.value) refl hold in
+    let h = reclosed_renewed m law g.T.Naming.valid sizes is f a.at a.extension.bound c.args.part false a.log.base.items fresh a.log.set.items ws a.log.set.updates rs v goes.spans goes.observed goes.stands.3 c.requires.before.log.log c.args.ticket a.words.items goes.stands.0 goes.stands.1 c.requires.all w passes n c.close-found.ensures.tells free same y refl refl c.as_slice-words.ensures.items refl hold in
     let b = c.advance.new.self in
     let gone : drop (length c.push.new.self.items) ws ≡ next.more = ap (λ (l : List ReadEntry). drop (length l) ws) made ∙ left_watches (length m.widths) old (fresh ++ y ∷ []) ws next.more h in
     let before = g.B.Body.left a.log.body in

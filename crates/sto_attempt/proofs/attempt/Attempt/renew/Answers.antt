@@ -1,5 +1,4 @@
-use Rattle.std.proofs.Common.{◌≡◌, ◌<◌, List, ℕ, pos, [], ap, sym, subst, map, length, refl}
-use Rattle.sto_part.specs.Listed.{Listed}
+use Rattle.std.proofs.Common.{◌≡◌, ◌<◌, List, ℕ, pos, [], sym, subst, map, length, refl}
 use Rattle.sto_item.specs.Watched.{watched}
 use Rattle.sto_model.specs.Told.{told}
 use Rattle.sto_type.specs.Known.{Parts}

@@ -117,7 +117,7 @@ returns-clause-steps g c =
     let free : is_free n ≡ true = locked_is (is_free n) (sym c.is_locked.ensures ∙ c.if-is_locked.false) in
     let early : ticket_of n ≤ a.extension.bound = omega (arith, c.if-ticket-self.false, c.ticket-ticket.ensures.ticket) in
     let h = reopened_goes m law g.T.Naming.valid sizes is f a.at a.extension.bound c.args.part false a.log.base.items fresh a.log.set.items ws a.log.set.updates rs v goes.spans goes.observed goes.stands.1 c.requires.log.log goes.stands.0 w passes n c.open-found.ensures.tells free early in
-    let none : c.room.result.items ≡ [] = c.room.ensures in
+    let none : c.make_room.new.words.items ≡ [] = c.make_room.ensures in
     let made : Renews m g.T.Naming.valid sizes a.at (Rereading c.args.part (ticket_of n)) [] a.extension a.log.base.items a.log.set.items w = record { spans = h.0; observed = goes.observed; extended = goes.extended; stands = (h.1, early, omega arith, goes.stands.1) } in
     let most = left_extending (g.B.Body.left a.log.body - 1) m.widths (drop (length fresh) ws) in
     record {

@@ -1,22 +1,12 @@
-use Rattle.std.proofs.Common.{arith, ap, sym, subst, ◌∙◌, ◌≡◌, ◌++◌, ◌∷◌, [], length, map, append_assoc, append-nil, length-append}
+use Rattle.std.proofs.Common.{arith, refl, ap, sym, subst, ◌∙◌, ◌≡◌, ◌++◌, ◌∷◌, [], length, map, append_assoc, append-nil, length-append}
 use Rattle.std.proofs.lemmas.List.{map-append}
 use Rattle.sto_model.specs.Told.{told}
 use Rattle.sto_model.specs.Run.{IsAsk}
+use Rattle.sto_item.specs.Rebase.{rebased}
 use Rattle.sto_type.specs.Known.{known}
 use Rattle.sto_attempt_log.specs.ReadSet.{words_in}
-use Rattle.sto_attempt_log.proofs.Onward.{may_rebase, may_compose, may_refresh, log_next, answered, answer, answer_adds, answer_updates, heard_more}
+use Rattle.sto_attempt_log.proofs.Onward.{may_compose, may_refresh, log_next, answered, answer, answer_adds, answer_updates, heard_more}
 use Rattle.sto_attempt_log.proofs.log.Log.take_in.Goals as goal
-
-pub rebase-requires : goal.rebase-requires
-rebase-requires g c =
-    let m = g.T.TxType.meaning c.args.self.now.ty.now in
-    let law = g.met.T.TxType.lawful c.args.self.now.ty.now in
-    let f = g.B.Body.script c.args.self.now.body in
-    let base = words_in c.args.self.now.base.items in
-    let was = c.requires.log in
-    let says = c.requires.says in
-    let rs = map told c.args.self.now.replies.items in
-    may_rebase m law f base c.args.self.now.set rs says.call (known c.args.self.now.cache) was.log was.known_above c.requires.some says.taken says.asks (told c.args.reply) c.args.items.now.items c.args.updates.now.items says.plan
 
 pub add_updates-requires : goal.add_updates-requires
 add_updates-requires g c =
@@ -27,7 +17,7 @@ add_updates-requires g c =
     let was = c.requires.log in
     let says = c.requires.says in
     let rs = map told c.args.self.now.replies.items in
-    let fit = may_compose m law f base c.args.self.now.set rs says.call (known c.args.self.now.cache) was.log was.known_above c.requires.some says.taken says.asks (told c.args.reply) c.args.items.now.items c.args.updates.now.items says.plan c.add_items.new.set c.in_ok-left.left.items c.in_ok-add_items.ensures in
+    let fit = may_compose m law f base c.args.self.now.set rs says.call (known c.args.self.now.cache) was.log was.known_above c.requires.some says.taken says.asks (told c.args.reply) c.args.items.now.items c.args.updates.now.items says.plan c.add_items.new.set (rebased c.args.self.now.set.updates c.args.items.now.items) c.in_ok-add_items.ensures in
     record { ordered = fit.0; widths = fit.1 }
 
 pub refresh-requires : goal.refresh-requires
@@ -41,7 +31,7 @@ refresh-requires g c =
     let rs = map told c.args.self.now.replies.items in
     let fit =
     may_refresh m law f base c.args.self.now.set rs says.call (known c.args.self.now.cache) was.log was.known_above c.requires.some says.taken says.asks (told c.args.reply) c.args.items.now.items c.args.updates.now.items says.plan c.in_ok-add_updates.ensures.ordered
-    c.in_ok-left.left.items c.in_ok-left.ensures.items c.add_items.new.set c.add_updates.new.set c.in_ok-add_items.ensures c.in_ok-add_updates.ensures.ok in
+    (rebased c.args.self.now.set.updates c.args.items.now.items) refl c.add_items.new.set c.add_updates.new.set c.in_ok-add_items.ensures c.in_ok-add_updates.ensures.ok in
     record { widths = fit.0; pending = fit.1; off = fit.2 }
 
 pub hear-requires : goal.hear-requires
@@ -63,7 +53,7 @@ returns-clause-log g c =
     let more : map told c.push.new.self.items ≡ rs ++ told c.args.reply ∷ [] = ap (map told) c.in_ok-push.ensures.ok ∙ map-append told c.args.self.now.replies.items (c.args.reply ∷ []) in
     let next =
     log_next m law f base c.args.self.now.set rs says.call (known c.args.self.now.cache) was.log was.known_above c.requires.some says.taken says.asks (told c.args.reply) c.args.items.now.items c.args.updates.now.items says.plan c.in_ok-add_updates.ensures.ordered
-    c.in_ok-left.left.items c.in_ok-left.ensures.items c.add_items.new.set c.add_updates.new.set c.in_ok-add_items.ensures c.in_ok-add_updates.ensures.ok in
+    (rebased c.args.self.now.set.updates c.args.items.now.items) refl c.add_items.new.set c.add_updates.new.set c.in_ok-add_items.ensures c.in_ok-add_updates.ensures.ok in
     record {
       then = λ xs. c.hear.ensures.then xs ∙ was.then (told c.args.reply ∷ xs) ∙ ap f (sym (append_assoc rs (told c.args.reply ∷ []) xs) ∙ ap (λ l. l ++ xs) (sym more));
       taken = λ call h. was.taken call (c.hear.ensures.may call h);
@@ -84,8 +74,8 @@ returns-clause-grown g c =
     let more : map told c.push.new.self.items ≡ rs ++ told c.args.reply ∷ [] = ap (map told) c.in_ok-push.ensures.ok ∙ map-append told c.args.self.now.replies.items (c.args.reply ∷ []) in
     λ first old heard. rw more (heard_more m f base first old rs c.args.self.now.set (told c.args.reply) (answered m law f base c.args.self.now.set rs says.call (known c.args.self.now.cache) was.log was.known_above c.requires.some says.taken says.asks (told c.args.reply) c.args.items.now.items c.args.updates.now.items says.plan) c.add_updates.new.set heard
     (answer m law f base c.args.self.now.set rs says.call (known c.args.self.now.cache) was.log was.known_above c.requires.some says.taken says.asks (told c.args.reply) c.args.items.now.items c.args.updates.now.items says.plan) was.known_above
-    (answer_adds m law f base c.args.self.now.set rs says.call (known c.args.self.now.cache) was.log was.known_above c.requires.some says.taken says.asks (told c.args.reply) c.args.items.now.items c.args.updates.now.items says.plan c.in_ok-left.left.items c.in_ok-left.ensures.items c.add_items.new.set c.add_updates.new.set c.in_ok-add_items.ensures c.in_ok-add_updates.ensures.ok)
-    (answer_updates m law f base c.args.self.now.set rs says.call (known c.args.self.now.cache) was.log was.known_above c.requires.some says.taken says.asks (told c.args.reply) c.args.items.now.items c.args.updates.now.items says.plan c.in_ok-left.left.items c.add_items.new.set c.add_updates.new.set c.in_ok-add_items.ensures c.in_ok-add_updates.ensures.ok))
+    (answer_adds m law f base c.args.self.now.set rs says.call (known c.args.self.now.cache) was.log was.known_above c.requires.some says.taken says.asks (told c.args.reply) c.args.items.now.items c.args.updates.now.items says.plan (rebased c.args.self.now.set.updates c.args.items.now.items) refl c.add_items.new.set c.add_updates.new.set c.in_ok-add_items.ensures c.in_ok-add_updates.ensures.ok)
+    (answer_updates m law f base c.args.self.now.set rs says.call (known c.args.self.now.cache) was.log was.known_above c.requires.some says.taken says.asks (told c.args.reply) c.args.items.now.items c.args.updates.now.items says.plan (rebased c.args.self.now.set.updates c.args.items.now.items) c.add_items.new.set c.add_updates.new.set c.in_ok-add_items.ensures c.in_ok-add_updates.ensures.ok))
 
 pub returns-clause-left : goal.returns-clause-left
 returns-clause-left g c = omega (arith, c.hear.ensures.left, ap length c.in_ok-push.ensures.ok, length-append c.args.self.now.replies.items (c.args.reply ∷ []))

@@ -8,7 +8,7 @@ use Rattle.sto_type.specs.Joined.{joined, all_joined}
 use Rattle.sto_objects.specs.declared.objects.Objects.{Objects}
 use Rattle.sto_store.specs.Stores.{mean_of, means}
 use Rattle.sto_store.specs.StoresLaw.{means_is}
-use Rattle.sto_open.specs.Shaped.{AreOf}
+use Rattle.sto_store.specs.ObjectShapes.{AreOf}
 
 -- what the objects mean
 abbrev pub meaning_of : Objects → Meaning
