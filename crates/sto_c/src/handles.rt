@@ -2,8 +2,22 @@
 ghost use Rattle.std.specs.Prelude.{◌≡◌, OnOk, OnErr, length};
 ghost use Rattle.sto_c.specs.declared.held.Held.TheVariants.{Nothing};
 ghost use Rattle.sto_c.specs.Held.{IsFull};
-ghost use Rattle.sto_c.specs.Steps.{held, OfWorker, Fills, IsStoreOf, IsHiredOf, KeepsStore, HasFreed, HasBegun, HasAsked, HasCommitted, HasCancelled, HasRun,
-    HasLooked, HasToldLeft};
+ghost use Rattle.sto_c.specs.Steps.{
+  held,
+  OfWorker,
+  Fills,
+  IsStoreOf,
+  IsHiredOf,
+  KeepsStore,
+  HasFreed,
+  HasBegun,
+  HasAsked,
+  HasCommitted,
+  HasCancelled,
+  HasRun,
+  HasLooked,
+  HasToldLeft,
+};
 
 use crate::crossing::{CallIn, PairOut, ReplyOut, ShapeIn};
 use crate::handle::Handle;

@@ -2,8 +2,18 @@
 ghost use Rattle.std.specs.Prelude.{◌≡◌, IfOk, OnErr};
 ghost use Rattle.sto_c.specs.declared.held.Held.TheVariants.{Worker};
 ghost use Rattle.sto_c.specs.Held.{IsFull, IsWorker};
-ghost use Rattle.sto_c.specs.Steps.{OfWorker, HasBegun, HasAsked, HasCommitted, HasCancelled, HasRun, HasLooked, HasToldLeft,
-    IsHiredOf, KeepsStore};
+ghost use Rattle.sto_c.specs.Steps.{
+  OfWorker,
+  HasBegun,
+  HasAsked,
+  HasCommitted,
+  HasCancelled,
+  HasRun,
+  HasLooked,
+  HasToldLeft,
+  IsHiredOf,
+  KeepsStore,
+};
 
 use crate::crossing::{CallIn, PairOut, ReplyOut};
 use crate::held::{Held, HeldWorker};

@@ -5,8 +5,22 @@
 
 ghost use Rattle.std.specs.Prelude.{◌≡◌, OnErr, length};
 ghost use Rattle.sto_c.specs.Statuses.{Answers};
-ghost use Rattle.sto_c.specs.Steps.{held, OfWorker, Fills, IsStoreOf, IsHiredOf, KeepsStore, HasFreed, HasBegun, HasAsked, HasCommitted,
-    HasCancelled, HasRun, HasLooked, HasToldLeft};
+ghost use Rattle.sto_c.specs.Steps.{
+  held,
+  OfWorker,
+  Fills,
+  IsStoreOf,
+  IsHiredOf,
+  KeepsStore,
+  HasFreed,
+  HasBegun,
+  HasAsked,
+  HasCommitted,
+  HasCancelled,
+  HasRun,
+  HasLooked,
+  HasToldLeft,
+};
 
 mod calls;
 mod crossing;
@@ -69,7 +83,8 @@ pub extern "C" fn sto_ask(
     call: &CallIn,
     reply: &mut ReplyOut,
 ) -> u32
-    ensures { Answers result (λ done. OfWorker (HasAsked call.now) (held worker.old) done (held worker.new) × OnErr done (reply.new ≡ reply.old)) }
+    ensures { Answers result (λ done. OfWorker (HasAsked call.now) (held worker.old) done (held worker.new)
+        × OnErr done (reply.new ≡ reply.old)) }
 {
     number_of(handles::ask(alloc, worker, call, reply))
 }
@@ -90,7 +105,8 @@ pub extern "C" fn sto_pairs(
 /// Commits the transaction.
 #[unsafe(no_mangle)]
 pub extern "C" fn sto_commit(alloc: Global, worker: &mut Handle, place: &mut u64) -> u32
-    ensures { Answers result (λ done. OfWorker (HasCommitted place.new) (held worker.old) done (held worker.new) × OnErr done (place.new ≡ place.old)) }
+    ensures { Answers result (λ done. OfWorker (HasCommitted place.new) (held worker.old) done (held worker.new)
+        × OnErr done (place.new ≡ place.old)) }
 {
     number_of(handles::commit(alloc, worker, place))
 }
@@ -120,7 +136,8 @@ pub extern "C" fn sto_run(
 /// How many more transactions a worker may begin.
 #[unsafe(no_mangle)]
 pub extern "C" fn sto_tickets(alloc: Global, worker: &mut Handle, left: &mut u64) -> u32
-    ensures { Answers result (λ done. OfWorker (HasToldLeft left.new) (held worker.old) done (held worker.new) × OnErr done (left.new ≡ left.old)) }
+    ensures { Answers result (λ done. OfWorker (HasToldLeft left.new) (held worker.old) done (held worker.new)
+        × OnErr done (left.new ≡ left.old)) }
 {
     number_of(handles::tickets(alloc, worker, left))
 }

@@ -49,7 +49,8 @@ pub(crate) fn hire(alloc: Global, store: &mut HeldStore) -> Result<HeldWorker, S
     requires { IsStore store.old }
     ensures store { IsStore store.new }
     ensures worker { IfOk result IsWorker }
-    ensures hired { IfOk result (λ k. (arc_value k.worker.store ≡ arc_value store.old.store.store) × (k.objects ≡ store.old.objects)) }
+    ensures hired { IfOk result (λ k. (arc_value k.worker.store ≡ arc_value store.old.store.store)
+        × (k.objects ≡ store.old.objects)) }
     ensures kept { (store.new.store.store ≡ store.old.store.store) × (store.new.objects ≡ store.old.objects) }
 {
     match store.store.hire(alloc) {

@@ -10,6 +10,7 @@ use Rattle.sto_c.proofs.calls.answer.Goals as goal
 pub returns-in-Ok-clause-asked : goal.returns-in-Ok-clause-asked
 returns-in-Ok-clause-asked c =
     let h = c.args.held.now in
-    let s = arc_value h.worker.store in
-    ((c.ask.ensures.store, refl),
-    subst (λ (x : Call). Leads (λ y z. session.HasAsked objects s.ty s.shared y x (Ok tt) z) h.worker.session c.ask.new.self.session) c.in-Some.ensures.some c.in-Ok.ensures.asked)
+    let s = arc_value h.worker.store in (
+      (c.ask.ensures.store, refl),
+      subst (λ (x : Call). Leads (λ y z. session.HasAsked objects s.ty s.shared y x (Ok tt) z) h.worker.session c.ask.new.self.session) c.in-Some.ensures.some c.in-Ok.ensures.asked,
+    )
