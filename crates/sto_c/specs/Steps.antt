@@ -111,8 +111,8 @@ Fills P x done y = (done ≡ Err status.Taken) × (y ≡ x)
 
 -- a store of so many objects
 abbrev pub IsStoreOf : ℕ → Held → Type 0
-IsStoreOf objects (Store h) = h.objects ≡ objects
-IsStoreOf objects _ = ⊥
+IsStoreOf count (Store h) = h.objects ≡ count
+IsStoreOf count _ = ⊥
 
 -- a worker of the same store
 abbrev pub IsHiredOf : Held → Held → Type 0

@@ -5,6 +5,6 @@ use Rattle.sto_c.proofs.calls.ask_all.Given as goal
 
 abbrev pub invariant-loop-at : goal.invariant-loop-at
 invariant-loop-at l = record {
-  worker = IsWorker l.held;
-  store = IsOfSameStore l.fn.held l.held;
+  worker : IsWorker l.held;
+  store : IsOfSameStore l.fn.held l.held;
 }

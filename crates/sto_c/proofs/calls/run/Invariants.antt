@@ -5,6 +5,6 @@ use Rattle.sto_c.proofs.calls.run.Given as goal
 
 abbrev pub invariant-loop : goal.invariant-loop
 invariant-loop l = record {
-  worker = IsWorker l.held;
-  store = IsOfSameStore l.fn.held l.held;
+  worker : IsWorker l.held;
+  store : IsOfSameStore l.fn.held l.held;
 }
