@@ -161,10 +161,16 @@ opened n order is = record {
   buckets = λ c l. let all = count_is (owns_in (pos c)) n order is ∙ bucket_total c l in omega (arith, all);
 }
 
+left_at_end : (n : ℕ) (order : List Place) → IsOrder (file_of n) order → (last : ℕ → ℕ) × IsSoFar last [] (final_state (file_of n) order)
+left_at_end n order is = all_more n (λ _. 1) order (opening_state (file_of n)) (opened n order is)
+
+-- it leaves rows of four objects
+pub four_objects : (n : ℕ) (order : List Place) → IsOrder (file_of n) order → length (final_state (file_of n) order) ≡ 4
+four_objects n order is = ap (λ (st : State). length st) (left_at_end n order is).1.left.is
+
 pub totals : (n : ℕ) (order : List Place) → IsOrder (file_of n) order → HasTotals (final_state (file_of n) order)
 totals n order is =
-    let whole = all_more n (λ _. 1) order (opening_state (file_of n)) (opened n order is) in
-    let h = whole.1 in
+    let h = (left_at_end n order is).1 in
     record {
       accounts = ap (λ (st : State). total_of (rows_named st (codes "acct"))) h.left.is ∙ total_is h.left.balances ∙ ap pos h.left.sum;
       log = ap (λ (st : State). length (rows_named st (codes "log"))) h.left.is ∙ (let all = h.log_count in omega (arith, all));
