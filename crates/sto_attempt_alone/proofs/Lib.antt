@@ -1,0 +1,3 @@
+mod History
+mod Whole
+mod Records
