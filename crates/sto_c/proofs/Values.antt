@@ -30,9 +30,9 @@ use Rattle.sto_c.specs.contracts.loose.Loose as loose
 use Rattle.std.proofs.Common.{◌≢◌, sym}
 use Rattle.std.specs.declared.alloc.Global.{Global}
 use Rattle.std.specs.contracts.impls.GlobalAllocator.TheImpl.{ghosts}
-use Rattle.sto_c.specs.declared.held.Held.{Held}
-use Rattle.sto_c.specs.declared.held.Held.TheVariants as H
-use Rattle.sto_c.specs.contracts.held.Held.{the_row as HeldRow}
+use Rattle.sto_c.specs.declared.held.HandleContent.{HandleContent}
+use Rattle.sto_c.specs.declared.held.HandleContent.TheVariants as H
+use Rattle.sto_c.specs.contracts.held.HandleContent.{the_row as HeldRow}
 use Rattle.sto_c.specs.contracts.handle.Raw as raw_handle
 use Rattle.sto_c.specs.Raw.{raw_owns}
 use Rattle.sto_c.specs.Held.{IsHeld}
@@ -72,7 +72,7 @@ module _ (R Z : RattleType) (L : Laws Z) (g : Ghosts Z.Denot) where
         fpack t (Valss (RawPtr ∷ Z ∷ [])) (within (shape (loose.the_type R Z g)) (block_ptr b o, (a, tt)) (v ∷ [])) (vptr b o ∷ [], (h ∷ [], tt)) $ fjoin t $ s)
 
 -- what a full one owns
-pub owns_box : (p : Ptr) (x : Held) → x ≢ H.Nothing → raw_owns p x ≡ fex (IsHeld x × Global) (λ h. box_owns (ghosts.dealloc_token h.1) HeldRow p x)
+pub owns_box : (p : Ptr) (x : HandleContent) → x ≢ H.Nothing → raw_owns p x ≡ fex (IsHeld x × Global) (λ h. box_owns (ghosts.dealloc_token h.1) HeldRow p x)
 owns_box p H.Nothing full = absurd (full refl)
 owns_box p (H.Store x) full = refl
 owns_box p (H.Worker x) full = refl
@@ -84,7 +84,7 @@ abbrev pub alone : Val → Val
 alone v = vstruct (vcons v vnil)
 
 module _ {M : Type 1} {𝓤 : Ura M} {𝓛 : Logic 𝓤} {K : Type 0} {Γ : List (Item 𝓤)} {G : Goal 𝓤 𝓛.H} where
-  pub raw_in : K → (w : Val) (p : Ptr) (x : Held) → ptr_val p ≡ w
+  pub raw_in : K → (w : Val) (p : Ptr) (x : HandleContent) → ptr_val p ≡ w
       → Step K 𝓛 (‵ (Raw.own_val (record { at = p; value = x }) (alone w ∷ [])) ∷ Γ) G (‵ (raw_owns p x) ∷ Γ) G
   raw_in t w p x is = step (λ s. let v : Val = alone w in
       nothing t $ feq_i t (List Val) (w ∷ []) (ptr_val p ∷ []) (λ i. sym is i ∷ []) $ fjoin t $ feq_i t (List Val) (v ∷ []) (v ∷ []) refl $ fjoin t $

@@ -4,11 +4,11 @@ use denote.RawPtr.{Ptr}
 use Rattle.std.specs.declared.alloc.Global.{Global}
 use Rattle.std.specs.contracts.impls.GlobalAllocator.TheImpl.{ghosts}
 use Rattle.std.specs.Box.Ownership.{box_owns}
-use Rattle.sto_c.specs.declared.held.Held.{Held}
-use Rattle.sto_c.specs.declared.held.Held.TheVariants.{Nothing}
-use Rattle.sto_c.specs.contracts.held.Held.{the_row}
+use Rattle.sto_c.specs.declared.held.HandleContent.{HandleContent}
+use Rattle.sto_c.specs.declared.held.HandleContent.TheVariants.{Nothing}
+use Rattle.sto_c.specs.contracts.held.HandleContent.{the_row}
 use Rattle.sto_c.specs.Held.{IsHeld}
 
-abbrev pub raw_owns : Ptr → Held → Fml
+abbrev pub raw_owns : Ptr → HandleContent → Fml
 raw_owns p Nothing = ftrue
 raw_owns p x = fex (IsHeld x × Global) (λ h. box_owns (ghosts.dealloc_token h.1) the_row p x)

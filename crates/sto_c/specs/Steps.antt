@@ -12,8 +12,8 @@ use Rattle.sto_session.specs.Steps as session
 use Rattle.sto_owned.specs.Owned.{Leads}
 use Rattle.sto_c.specs.declared.crossing.CallIn.{CallIn}
 use Rattle.sto_c.specs.declared.handle.Handle.{Handle}
-use Rattle.sto_c.specs.declared.held.Held.{Held}
-use Rattle.sto_c.specs.declared.held.Held.TheVariants.{Nothing, Store, Worker}
+use Rattle.sto_c.specs.declared.held.HandleContent.{HandleContent}
+use Rattle.sto_c.specs.declared.held.HandleContent.TheVariants.{Nothing, Store, Worker}
 use Rattle.sto_c.specs.declared.held.HeldStore.{HeldStore}
 use Rattle.sto_c.specs.declared.held.HeldWorker.{HeldWorker}
 use Rattle.sto_c.specs.declared.status.Status.{Status}
@@ -21,7 +21,7 @@ use Rattle.sto_c.specs.declared.status.Status.TheVariants as status
 use Rattle.sto_c.specs.Held.{objects}
 
 -- what a handle holds
-abbrev pub held : Handle → Held
+abbrev pub held : Handle → HandleContent
 held handle = handle.raw.value
 
 -- the call that C asks by these numbers
@@ -97,34 +97,34 @@ abbrev pub HasRun : HeldWorker → Result (Unit {0}) Status → HeldWorker → T
 HasRun h done k = IsOfSameStore h k
 
 -- a call of a worker; where a handle holds something else, nothing changes
-abbrev pub OfWorker : (HeldWorker → Result (Unit {0}) Status → HeldWorker → Type 0) → Held → Result (Unit {0}) Status → Held → Type 0
+abbrev pub OfWorker : (HeldWorker → Result (Unit {0}) Status → HeldWorker → Type 0) → HandleContent → Result (Unit {0}) Status → HandleContent → Type 0
 OfWorker to Nothing done y = (done ≡ Err status.Empty) × (y ≡ Nothing)
 OfWorker to (Store h) done y = (done ≡ Err status.OtherHandle) × (y ≡ Store h)
 OfWorker to (Worker h) done (Worker k) = to h done k
 OfWorker to (Worker h) done _ = ⊥
 
 -- a handle that held nothing was filled with this, or holds nothing; where it held something, nothing changes
-abbrev pub Fills : (Held → Type 0) → Held → Result (Unit {0}) Status → Held → Type 0
+abbrev pub Fills : (HandleContent → Type 0) → HandleContent → Result (Unit {0}) Status → HandleContent → Type 0
 Fills P Nothing (Ok done) y = P y
 Fills P Nothing (Err why) y = y ≡ Nothing
 Fills P x done y = (done ≡ Err status.Taken) × (y ≡ x)
 
 -- a store of so many objects
-abbrev pub IsStoreOf : ℕ → Held → Type 0
+abbrev pub IsStoreOf : ℕ → HandleContent → Type 0
 IsStoreOf count (Store h) = h.objects ≡ count
 IsStoreOf count _ = ⊥
 
 -- a worker of the same store
-abbrev pub IsHiredOf : Held → Held → Type 0
+abbrev pub IsHiredOf : HandleContent → HandleContent → Type 0
 IsHiredOf (Store h) (Worker k) = (arc_value k.worker.store ≡ arc_value h.store.store) × (k.objects ≡ h.objects)
 IsHiredOf _ _ = ⊥
 
 -- it is the same store still; what is none is as it was
-abbrev pub KeepsStore : Held → Held → Type 0
+abbrev pub KeepsStore : HandleContent → HandleContent → Type 0
 KeepsStore (Store h) (Store k) = (k.store.store ≡ h.store.store) × (k.objects ≡ h.objects)
 KeepsStore x y = y ≡ x
 
 -- what was held was freed
-abbrev pub HasFreed : Held → Result (Unit {0}) Status → Held → Type 0
+abbrev pub HasFreed : HandleContent → Result (Unit {0}) Status → HandleContent → Type 0
 HasFreed Nothing done y = (done ≡ Err status.Empty) × (y ≡ Nothing)
 HasFreed _ done y = (done ≡ Ok tt) × (y ≡ Nothing)

@@ -1,11 +1,11 @@
 //! Values that C holds by a pointer.
 ghost use Rattle.std.specs.Prelude.{◌≡◌, ◌≢◌, ◌↔◌, IfSome, IfNone};
-ghost use Rattle.sto_c.specs.declared.held.Held.{Held};
-ghost use Rattle.sto_c.specs.declared.held.Held.TheVariants.{Nothing};
-ghost use Rattle.sto_c.specs.contracts.held.Held.{the_row};
+ghost use Rattle.sto_c.specs.declared.held.HandleContent.{HandleContent};
+ghost use Rattle.sto_c.specs.declared.held.HandleContent.TheVariants.{Nothing};
+ghost use Rattle.sto_c.specs.contracts.held.HandleContent.{the_row};
 ghost use Rattle.sto_c.specs.Held.{IsHeld, IsFull, IfFull};
 
-use crate::held::Held;
+use crate::held::HandleContent;
 use crate::loose::Loose;
 use std::alloc::Global;
 use std::marker::Model;
@@ -15,7 +15,7 @@ use std::{mem, ptr};
 #[repr(C)]
 pub struct Raw {
     at: *mut u8,
-    pub ghost value: { Held } by { the_row.coded },
+    pub ghost value: { HandleContent } by { the_row.coded },
 }
 
 impl Model for Raw {
@@ -39,7 +39,7 @@ impl Raw {
         }
     }
 
-    fn of(loose: Loose<Held, Global>) -> Raw
+    fn of(loose: Loose<HandleContent, Global>) -> Raw
         requires { IsFull loose.value }
         ensures { result.value ≡ loose.value }
     {
@@ -49,13 +49,13 @@ impl Raw {
         }
     }
 
-    fn into_loose(self, alloc: Global) -> Loose<Held, Global>
+    fn into_loose(self, alloc: Global) -> Loose<HandleContent, Global>
         requires { self.value ≢ Nothing }
         ensures { (result.value ≡ self.value) × IsHeld self.value }
     {
         let Raw { at } = self;
         Loose {
-            at: at.cast::<Held>(),
+            at: at.cast::<HandleContent>(),
             alloc,
         }
     }
@@ -88,7 +88,7 @@ impl Handle {
     }
 
     /// Puts a value in.
-    pub(crate) fn put(&mut self, value: Box<Held>)
+    pub(crate) fn put(&mut self, value: Box<HandleContent>)
         requires { IsFull value.value }
         ensures { self.new.raw.value ≡ value.value }
     {
@@ -103,7 +103,7 @@ impl Handle {
     }
 
     /// Takes the value out.
-    pub(crate) fn take(&mut self, alloc: Global) -> Option<Box<Held>>
+    pub(crate) fn take(&mut self, alloc: Global) -> Option<Box<HandleContent>>
         ensures some { IfSome result (λ b. (b.value ≡ self.old.raw.value) × IsFull b.value) }
         ensures none { IfNone result (self.old.raw.value ≡ Nothing) }
         ensures empty { self.new.raw.value ≡ Nothing }

@@ -1,6 +1,6 @@
 //! Calls on handles. What a handle holds is taken out for a call, and put back after it.
 ghost use Rattle.std.specs.Prelude.{◌≡◌, OnOk, OnErr, length};
-ghost use Rattle.sto_c.specs.declared.held.Held.TheVariants.{Nothing};
+ghost use Rattle.sto_c.specs.declared.held.HandleContent.TheVariants.{Nothing};
 ghost use Rattle.sto_c.specs.Held.{IsFull};
 ghost use Rattle.sto_c.specs.Steps.{
   held,
@@ -21,13 +21,13 @@ ghost use Rattle.sto_c.specs.Steps.{
 
 use crate::crossing::{CallIn, PairOut, ReplyOut, ShapeIn};
 use crate::handle::Handle;
-use crate::held::Held;
+use crate::held::HandleContent;
 use crate::status::Status;
 use crate::{holding, opening};
 use std::alloc::Global;
 
 // Puts a store or a worker into a handle that holds nothing.
-fn keep(alloc: Global, handle: &mut Handle, value: Held) -> Result<(), Status>
+fn keep(alloc: Global, handle: &mut Handle, value: HandleContent) -> Result<(), Status>
     requires full { IsFull value }
     requires empty { held handle.old ≡ Nothing }
     ensures ok { OnOk result (held handle.new ≡ value) }
@@ -62,7 +62,7 @@ pub(crate) fn open(
         return Err(Status::Taken);
     }
     let opened = opening::open(alloc, shapes, workers)?;
-    keep(alloc, store, Held::Store(opened))
+    keep(alloc, store, HandleContent::Store(opened))
 }
 
 /// Takes a worker of a store.
@@ -79,7 +79,7 @@ pub(crate) fn hire(alloc: Global, store: &mut Handle, worker: &mut Handle) -> Re
     let mut value = value;
     let hired = holding::hire(alloc, &mut *value);
     store.put(value);
-    keep(alloc, worker, Held::Worker(hired?))
+    keep(alloc, worker, HandleContent::Worker(hired?))
 }
 
 /// Frees what a handle holds.

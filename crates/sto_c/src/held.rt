@@ -18,7 +18,7 @@ pub struct HeldWorker {
 
 /// What a handle holds.
 #[derive(Drop)]
-pub enum Held {
+pub enum HandleContent {
     Nothing,
     Store(HeldStore),
     Worker(HeldWorker),

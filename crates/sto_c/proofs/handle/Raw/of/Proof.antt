@@ -22,8 +22,8 @@ use Rattle.std.proofs.raw_atomic.Walks.{proved_at, leaves}
 use Rattle.std.specs.contracts.alloc.Global as heap
 use Rattle.std.proofs.alloc.Global.TheLaws as heap_laws
 use Rattle.std.specs.contracts.impls.GlobalAllocator.TheImpl.{ghosts}
-use Rattle.sto_c.specs.declared.held.Held.TheVariants.{Nothing}
-use Rattle.sto_c.specs.contracts.held.Held.{the_row as HeldRow}
+use Rattle.sto_c.specs.declared.held.HandleContent.TheVariants.{Nothing}
+use Rattle.sto_c.specs.contracts.held.HandleContent.{the_row as HeldRow}
 use Rattle.std.specs.Box.Ownership.{box_owns}
 use Rattle.std.specs.declared.alloc.Global.{Global}
 use Rattle.sto_c.specs.Held.{IsHeld, IsFull}
