@@ -154,10 +154,10 @@ fn run_bank<R: Threads + Sync>(rt: &R, alloc: Global) -> Option<([i64; 2], [i64;
 }
 
 fn main(rt: HostRuntime) -> io::Result<()> {
-    match run_bank(&rt, rt.alloc()) {
-        Some(([x, y], [a, b, c])) => println!(rt;
-            "audits told {x} and {y}; the accounts have {a}, {b}, {c}"
-        ),
-        None => println!(rt; "no memory"),
-    }
+    let Some((told, left)) = run_bank(&rt, rt.alloc()) else {
+        return println!(rt; "no memory");
+    };
+    let [x, y] = told;
+    let [a, b, c] = left;
+    println!(rt; "audits told {x} and {y}; the accounts have {a}, {b}, {c}")
 }

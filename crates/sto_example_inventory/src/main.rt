@@ -123,8 +123,8 @@ fn run_sales<R: Threads>(rt: &R, alloc: Global) -> Option<(i64, i64)> {
 }
 
 fn main(rt: HostRuntime) -> io::Result<()> {
-    match run_sales(&rt, rt.alloc()) {
-        Some((left, sold)) => println!(rt; "sold {sold}, left {left}"),
-        None => println!(rt; "no memory"),
-    }
+    let Some((left, sold)) = run_sales(&rt, rt.alloc()) else {
+        return println!(rt; "no memory");
+    };
+    println!(rt; "sold {sold}, left {left}")
 }
