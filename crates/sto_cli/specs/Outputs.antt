@@ -15,7 +15,7 @@ use Rattle.sto_report_spec.specs.Lawful.{IsLawfulIn}
 use Rattle.sto_run.specs.Meanings.{updating_by}
 use Rattle.sto_run.specs.Stores.{means}
 use Rattle.sto_journal.specs.declared.journal.Journal.{Journal}
-use Rattle.sto_summary.specs.Summary.{summary_of}
+use Rattle.sto_summary.specs.Summary.{summary_of, HasTotals}
 use Rattle.sto_run.specs.Lawful.{IsLawfulJournal}
 use Rattle.sto_args.specs.declared.command.Command.{Command}
 use Rattle.sto_args.specs.declared.command.Command.TheVariants.{Run, Step, Upgrade, Gen, Bench}
@@ -42,9 +42,11 @@ IsReport tries json alone bytes text =
     (file : File) × (file_of bytes ≡ Ok file) × IsLawfulIn (form_for json) (updating_by means) file tries text
     × (alone file → aborts_told (form_for json) file.names text ≡ [])
 
--- the summary of a lawful journal of the file that the number generates, for 64 tries
+-- the summary of a lawful journal of the file that the number generates, for 64 tries: it tells of all 3,200 transactions, and
+-- of what they leave in whatever order: accounts that hold 64,000 together, 160 pairs in the log and 128 in the table of owners
 abbrev pub IsSummary : ℕ → List ℕ → Type 0
-IsSummary number text = (journal : Journal) × IsLawfulJournal (updating_by means) (generated number) 64 journal × (text ≡ summary_of number (length journal.lines.items) journal.state.items)
+IsSummary number text =
+    (journal : Journal) × IsLawfulJournal (updating_by means) (generated number) 64 journal × (text ≡ summary_of number 3200 journal.state.items) × HasTotals journal.state.items
 
 -- `run` and `step` print a lawful report, in which nothing is aborted where one worker runs the file, or where `step` has at most one
 -- script thread; `upgrade` prints the canonical text of the file that the bytes are with its version

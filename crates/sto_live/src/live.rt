@@ -100,6 +100,14 @@ impl<'t, T: TxType> Live<'t, T> {
         }
     }
 
+    /// Gives back the memory that it was lent, where it has ended by an abort or for want of memory.
+    pub fn into_memory(self) -> Memory {
+        let Live { attempt, .. } = self;
+        let (heard, memory) = attempt.end();
+        mem::drop(heard);
+        memory
+    }
+
     // Gives the body one more call.
     fn add(&mut self, alloc: Global, call: Call) -> Result<(), NoMemory>
         requires { (ty : T) × (calls : List Call) × (rs : List Told) × (begun : View) × (v : View)

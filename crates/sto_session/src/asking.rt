@@ -92,11 +92,11 @@ fn ask<T: TxType>(
             Err(Unanswered::Untaken),
         ),
         Err(Stopped::Aborted(_)) => (
-            Session::new(pass.rest(), left, memory),
+            Session::new(pass.rest(), left, live.into_memory()),
             Err(Unanswered::Aborted),
         ),
         Err(Stopped::NoMemory) => (
-            Session::new(pass.rest(), left, memory),
+            Session::new(pass.rest(), left, live.into_memory()),
             Err(Unanswered::NoMemory),
         ),
     }

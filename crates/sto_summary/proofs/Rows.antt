@@ -1,7 +1,5 @@
 -- The rows of a generated file's objects.
-use Rattle.std.proofs.Common.{◌≡◌, ℕ, ◌≤◌, ◌<◌, List, [], ◌∷◌, length, map, ap, arith, Option, Some, None, unwrap_or, slice_get}
-use Rattle.std.specs.List.{All}
-use Rattle.std.specs.Option.{option_map}
+use Rattle.std.proofs.Common.{◌≡◌, ℕ, ◌≤◌, ◌<◌, List, [], ◌∷◌, length, map, ap, arith, Option, Some, unwrap_or, slice_get}
 use Rattle.std.proofs.lemmas.List.Elements.{All-head, All-tail}
 use Rattle.sto_model.specs.Rows.{Row}
 use Rattle.sto_model.specs.Run.{State}

@@ -1,5 +1,5 @@
 -- The summary of a run of a generated file: its number, how many transactions were run, and what the objects hold at the end.
-use Rattle.std.specs.Prelude.{ℕ, ℤ, pos, ◌+ℤ◌, List, ◌++◌, length, fold, codes, decimal, Option, None, Some}
+use Rattle.std.specs.Prelude.{◌≡◌, ℕ, ℤ, pos, ◌+ℤ◌, List, ◌++◌, length, fold, codes, decimal, Option, None, Some}
 use Rattle.std.specs.Fmt.{signed_decimal}
 use Rattle.sto_model.specs.Rows.{Row}
 use Rattle.sto_model.specs.Run.{State}
@@ -33,3 +33,9 @@ summary_of number transactions state =
     ++ (line_of (codes "acct") (signed_decimal (total_of (rows_named state (codes "acct"))))
     ++ (line_of (codes "log") (decimal (length (rows_named state (codes "log"))))
     ++ line_of (codes "owner") (decimal (length (rows_named state (codes "owner")))))))
+
+-- the accounts hold 64,000 together, the log has 160 pairs, and the table of owners has 128
+pub record HasTotals (state : State) : Type 0 where
+  pub accounts : total_of (rows_named state (codes "acct")) ≡ pos 64000
+  pub log : length (rows_named state (codes "log")) ≡ 160
+  pub owners : length (rows_named state (codes "owner")) ≡ 128

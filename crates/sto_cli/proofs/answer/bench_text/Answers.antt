@@ -1,22 +1,25 @@
-use Rattle.std.proofs.Common.{◌≡◌, ap, ◌∙◌, length, [], arith}
-use Rattle.std.proofs.lemmas.Result.{IfOk-weaker}
-use Rattle.sto_args.specs.declared.command.Command.TheVariants as commands
+use Rattle.std.proofs.Common.{◌≡◌, ℕ, ap, sym, ◌∙◌, subst, length, map, arith}
+use Rattle.std.proofs.lemmas.List.{length-map}
 use Rattle.sto_model.specs.Run.{State}
-use Rattle.sto_gen.specs.Generated.{file_of as generated}
-use Rattle.sto_journal.specs.Journals.{places}
-use Rattle.sto_summary.specs.Summary.{summary_of}
-use Rattle.sto_run.proofs.Printed.{length-final}
-use Rattle.sto_cli.specs.Outputs.{IsOutput}
+use Rattle.sto_report_spec.specs.Replay.{Entry}
+use Rattle.sto_journal.specs.Journals.{entry, places}
+use Rattle.sto_summary.specs.Summary.{summary_of, HasTotals}
+use Rattle.sto_summary.proofs.Orders.{order_long}
+use Rattle.sto_summary.proofs.Totals.{four_objects, totals}
 use Rattle.sto_cli.proofs.answer.bench_text.Goals as goal
 
 pub summary-requires : goal.summary-requires
 summary-requires g c =
     let journal = c.in_ok-journal.journal in
-    let rows = ap (λ (st : State). length st) c.in_ok-journal.ensures.final ∙ length-final (generated c.args.number) (places journal.lines.items) in
+    let rows = ap (λ (st : State). length st) c.in_ok-journal.ensures.final ∙ four_objects c.args.number (places journal.lines.items) c.in_ok-journal.ensures.order in
     omega (arith, rows)
 
 pub returns : goal.returns
 returns g c =
     let journal = c.in_ok-journal.journal in
-    let text = c.in_ok-text.text in
-    (journal, c.in_ok-journal.ensures, c.in_ok-text.ensures)
+    let lines = journal.lines.items in
+    let order = places lines in
+    let placed : length order ≡ length lines = length-map (map entry lines) (λ (e : Entry). e.place) ∙ length-map lines entry in
+    let all : length lines ≡ 3200 = sym placed ∙ order_long c.args.number order c.in_ok-journal.ensures.order in
+    let held = subst HasTotals (sym c.in_ok-journal.ensures.final) (totals c.args.number order c.in_ok-journal.ensures.order) in
+    (journal, c.in_ok-journal.ensures, c.in_ok-text.ensures ∙ ap (λ (count : ℕ). summary_of c.args.number count journal.state.items) all, held)

@@ -1,6 +1,5 @@
 use Rattle.std.proofs.Common.{◌≡◌, ◌≤◌, length, refl, sym, subst, ap}
 use Rattle.std.proofs.lemmas.Result.{IfOk-weaker}
-use Rattle.sto_lang.specs.declared.file.File as whole
 use Rattle.sto_lang.specs.Views.{file as view}
 use Rattle.sto_run_threads.specs.declared.workload.LentFile.{LentFile}
 use Rattle.sto_run.proofs.Draws.{few_threads}
@@ -10,22 +9,22 @@ use Rattle.sto_run.proofs.RunJournals.{lawful_run}
 use Rattle.sto_run.proofs.step.step_file.Goals as goal
 
 pub step_threads-requires-clause-ty : goal.step_threads-requires-clause-ty
-step_threads-requires-clause-ty g c = (refl, c.in_ok-run.ensures.opened)
+step_threads-requires-clause-ty c = (refl, c.in_ok-run.ensures.opened)
 
 pub step_threads-requires-clause-few : goal.step_threads-requires-clause-few
-step_threads-requires-clause-few g c = c.in_ok-run.ensures.few
+step_threads-requires-clause-few c = c.in_ok-run.ensures.few
 
 pub step_threads-requires-clause-threads : goal.step_threads-requires-clause-threads
-step_threads-requires-clause-threads g c = few_threads (view c.in_ok-run.run'.work.workload.file.now) c.in_ok-run.ensures.sound
+step_threads-requires-clause-threads c = few_threads (view c.in_ok-run.run'.work.workload.file.now) c.in_ok-run.ensures.sound
 
 pub turns_of-requires : goal.turns_of-requires
-turns_of-requires g c = c.in_ok-run.ensures.sound.scheduled
+turns_of-requires c = c.in_ok-run.ensures.sound.scheduled
 
 pub returns-clause-alone : goal.returns-clause-alone
-returns-clause-alone g c = λ few. c.journal.ensures.alone (c.in_ok-finished.ensures.alone (subst (λ (f : LentFile). length (view f.file.now).threads ≤ 1) (sym c.in_ok-run.ensures.of.0) few))
+returns-clause-alone c = λ few. c.journal.ensures.alone (c.in_ok-finished.ensures.alone (subst (λ (f : LentFile). length (view f.file.now).threads ≤ 1) (sym c.in_ok-run.ensures.of.0) few))
 
 pub returns-clause-lawful : goal.returns-clause-lawful
-returns-clause-lawful g c =
+returns-clause-lawful c =
     let same = c.in_ok-run.ensures.of in
     IfOk-weaker c.journal.result _ _
     (λ j h. lawful_run c.in_ok-objects.objects c.in_ok-run.run'.work.ty.now (view c.in_ok-run.run'.work.workload.file.now) (view c.args.file.now) _ c.args.tries j

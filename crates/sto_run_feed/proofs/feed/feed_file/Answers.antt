@@ -1,5 +1,4 @@
 use Rattle.std.proofs.Common.{◌≡◌, ap}
-use Rattle.sto_lang.specs.declared.file.File as whole
 use Rattle.sto_lang.specs.Views.{file as view}
 use Rattle.sto_run_threads.specs.declared.workload.LentFile.{LentFile}
 use Rattle.std.proofs.lemmas.Result.{IfOk-weaker}

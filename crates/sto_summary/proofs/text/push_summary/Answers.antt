@@ -1,4 +1,4 @@
-use Rattle.std.proofs.Common.{◌≡◌, ◌∙◌, ap, ◌++◌, ℤ, ℕ, List, length, codes, decimal, string_bytes}
+use Rattle.std.proofs.Common.{◌∙◌, ap, ◌++◌, ℤ, ℕ, List, length, codes, decimal, string_bytes}
 use Rattle.std.specs.Fmt.{signed_decimal}
 use Rattle.std.proofs.Common.{rules}
 use Rattle.std.proofs.lemmas.Int.{to_z-of_z}

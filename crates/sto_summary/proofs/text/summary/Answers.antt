@@ -1,5 +1,4 @@
-use Rattle.std.proofs.Common.{length, sym, ◌∙◌, ap, subst, ◌++◌, List, ℕ}
-use Rattle.std.specs.Str.{IsAscii}
+use Rattle.std.proofs.Common.{length}
 use Rattle.sto_summary.proofs.Texts.{summary_ascii}
 use Rattle.sto_summary.proofs.text.summary.Goals as goal
 

@@ -1,0 +1,101 @@
+/* Wrong calls: each gets its status, and nothing is lost by it. */
+#include "common.h"
+
+static unsigned wrong, calls;
+
+static void expect(uint32_t got, uint32_t want, const char *what)
+{
+    calls++;
+    if (got != want) {
+        wrong++;
+        printf("%s: status %u, not %u\n", what, got, want);
+    }
+}
+
+int main(void)
+{
+    sto_shape shapes[] = {{.kind = STO_BOX, .value = 5}, {.kind = STO_COUNTER}, {.kind = STO_HASH, .size = 1, .places = 1}, {.kind = STO_TREE, .size = 4}, {.kind = STO_VECTOR, .size = 2}};
+    sto_handle store = STO_NONE, worker = STO_NONE, other = STO_NONE;
+    sto_reply reply = {0, 0, 0};
+    sto_pair pairs[4];
+    uint64_t number = 0;
+    size_t count = 0;
+
+    /* handles that hold nothing */
+    expect(sto_begin(&worker), STO_EMPTY, "begin of no worker");
+    expect(sto_get(&worker, 0, &reply), STO_EMPTY, "get of no worker");
+    expect(sto_commit(&worker, &number), STO_EMPTY, "commit of no worker");
+    expect(sto_worker(&store, &worker), STO_EMPTY, "worker of no store");
+    expect(sto_free(&store), STO_EMPTY, "free of nothing");
+
+    /* stores that cannot be */
+    sto_shape bad[] = {{.kind = 6}};
+    expect(sto_open(&store, bad, 1, 1), STO_BAD_KIND, "kind 6");
+    sto_shape order[] = {{.kind = STO_COUNTER}, {.kind = STO_BOX}};
+    expect(sto_open(&store, order, 2, 1), STO_BAD_ORDER, "a box behind a counter");
+    sto_shape size[] = {{.kind = STO_HASH, .size = 0, .places = 4}};
+    expect(sto_open(&store, size, 1, 1), STO_BAD_SIZE, "no buckets");
+    sto_shape large[] = {{.kind = STO_ARRAY, .size = UINT32_MAX}, {.kind = STO_ARRAY, .size = UINT32_MAX}};
+    expect(sto_open(&store, large, 2, 1), STO_TOO_MANY, "too many parts");
+    expect(sto_open(&store, shapes, 5, 0), STO_BAD_WORKERS, "no workers");
+    expect(sto_open(&store, shapes, 5, 65537), STO_BAD_WORKERS, "too many workers");
+
+    need(sto_open(&store, shapes, 5, 1), "sto_open");
+    expect(sto_open(&store, shapes, 5, 1), STO_TAKEN, "open into a store");
+    expect(sto_begin(&store), STO_OTHER_HANDLE, "begin of a store");
+    need(sto_worker(&store, &worker), "sto_worker");
+    expect(sto_worker(&store, &worker), STO_TAKEN, "worker into a worker");
+    expect(sto_worker(&store, &other), STO_NO_WORKER, "a second worker of one");
+    expect(sto_worker(&worker, &other), STO_OTHER_HANDLE, "worker of a worker");
+
+    /* calls outside a transaction */
+    expect(sto_get(&worker, 0, &reply), STO_NO_TRANSACTION, "get outside");
+    expect(sto_commit(&worker, &number), STO_NO_TRANSACTION, "commit outside");
+    expect(sto_cancel(&worker), STO_NO_TRANSACTION, "cancel outside");
+    expect(sto_pairs(&worker, pairs, 4, &count), STO_NO_TRANSACTION, "pairs outside");
+
+    /* within one: the transaction goes on */
+    need(sto_begin(&worker), "sto_begin");
+    expect(sto_begin(&worker), STO_IN_TRANSACTION, "begin within");
+    need(sto_set(&worker, 0, 6, &reply), "sto_set");
+    expect(sto_get(&worker, 5, &reply), STO_NO_OBJECT, "an object that is not there");
+    expect(sto_get(&worker, UINT32_MAX, &reply), STO_NO_OBJECT, "object 2^32 - 1");
+    expect(sto_push(&worker, 0, 1, &reply), STO_NO_CALL, "push of a box");
+    expect(sto_set(&worker, 1, 1, &reply), STO_NO_CALL, "set of a counter");
+    expect(sto_test(&worker, 1, (sto_comparison)9, 1, &reply), STO_NO_CALL, "comparison 9");
+    expect(sto_call_of(&worker, 0, 14, 0, 0, &reply), STO_NO_CALL, "operation 14");
+    expect(sto_call_of(&worker, 0, 256, 0, 0, &reply), STO_NO_CALL, "operation 256");
+    need(sto_put(&worker, 3, 1, 10, &reply), "sto_put");
+    need(sto_put(&worker, 3, 2, 20, &reply), "sto_put");
+    need(sto_scan(&worker, 3, 0, 9, &reply), "sto_scan");
+    expect(sto_pairs(&worker, pairs, 1, &count), STO_NO_ROOM, "room for one pair of two");
+    need(sto_pairs(&worker, pairs, 4, &count), "sto_pairs");
+    need(sto_commit(&worker, &number), "sto_commit");
+    if (count != 2 || pairs[1].value != 20) {
+        wrong++;
+        printf("the pairs are not those of the tree\n");
+    }
+
+    /* whole transactions: where a call is not taken nothing takes effect */
+    sto_call list[] = {{.object = 0, .operation = STO_SET, .a = 99}, {.object = 9, .operation = STO_GET}};
+    sto_reply replies[2];
+    expect(sto_run(&worker, list, 2, replies, 2, &number), STO_NO_OBJECT, "a run with an object that is not there");
+    list[1] = (sto_call){.object = 0, .operation = STO_PUSH};
+    expect(sto_run(&worker, list, 2, replies, 2, &number), STO_NO_CALL, "a run with a call that is not taken");
+    expect(sto_run(&worker, list, 2, replies, 1, &number), STO_NO_ROOM, "a run with room for one reply of two");
+    list[0] = (sto_call){.object = 0, .operation = STO_GET};
+    need(sto_run(&worker, list, 1, replies, 2, &number), "sto_run");
+    if (replies[0].answer != STO_VALUE || replies[0].value != 6) {
+        wrong++;
+        printf("the box does not hold 6\n");
+    }
+
+    /* a store lives as long as its workers */
+    need(sto_free(&store), "sto_free");
+    need(sto_run(&worker, list, 1, replies, 2, &number), "sto_run after the store was freed");
+    need(sto_begin(&worker), "sto_begin");
+    need(sto_free(&worker), "sto_free within a transaction");
+    expect(sto_free(&worker), STO_EMPTY, "free again");
+    printf("wrong: %u calls, %u with another status\n", calls, wrong);
+    return wrong ? 1 : 0;
+}

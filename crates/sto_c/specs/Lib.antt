@@ -1,0 +1,4 @@
+pub mod Held
+pub mod Raw
+pub mod Statuses
+pub mod Steps

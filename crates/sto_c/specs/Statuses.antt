@@ -1,0 +1,35 @@
+-- The number of each status, as include/sto.h has it.
+use Rattle.std.specs.Prelude.{◌≡◌, ℕ, Result, Ok, Err}
+use Rattle.sto_c.specs.declared.status.Status.{Status}
+use Rattle.sto_c.specs.declared.status.Status.TheVariants as status
+
+abbrev pub number : Status → ℕ
+number status.NoMemory = 1
+number status.Empty = 2
+number status.Taken = 3
+number status.OtherHandle = 4
+number status.NoObject = 5
+number status.NoCall = 6
+number status.InTransaction = 7
+number status.NoTransaction = 8
+number status.Aborted = 9
+number status.Busy = 10
+number status.NoTickets = 11
+number status.NoWorker = 12
+number status.BadWorkers = 13
+number status.BadKind = 14
+number status.BadOrder = 15
+number status.BadSize = 16
+number status.TooMany = 17
+number status.NoRoom = 18
+
+-- 0 is that of a call that was done
+abbrev pub number_of : Result (Unit {0}) Status → ℕ
+number_of (Ok done) = 0
+number_of (Err why) = number why
+
+-- a function answers the number of what a call led to, of which this is so
+pub record Answers (answer : ℕ) (P : Result (Unit {0}) Status → Type 0) : Type 0 where
+  pub done : Result (Unit {0}) Status
+  pub number : answer ≡ number_of done
+  pub so : P done

@@ -1,0 +1,221 @@
+//! What a worker is asked.
+ghost use Rattle.std.specs.Prelude.{◌≡◌, OnErr};
+ghost use Rattle.sto_c.specs.Held.{IsWorker};
+ghost use Rattle.sto_c.specs.Steps.{IsOfSameStore, HasBegun, HasAsked, HasCommitted, HasCancelled};
+
+use crate::crossing::{CallIn, PairOut, ReplyOut};
+use crate::held::HeldWorker;
+use crate::status::Status;
+use crossbeam_utils::Backoff;
+use std::alloc::Global;
+use sto_model::Reply;
+use sto_session::{Unanswered, Unbegun, Uncommitted};
+
+// How often a whole transaction is tried before it is busy.
+const TRIES: u32 = 8;
+
+/// Begins a transaction.
+pub(crate) fn begin(alloc: Global, held: &mut HeldWorker) -> Result<(), Status>
+    requires { IsWorker held.old }
+    ensures worker { IsWorker held.new }
+    ensures store { IsOfSameStore held.old held.new }
+    ensures begun { HasBegun held.old result held.new }
+{
+    match held.worker.begin(alloc) {
+        Ok(()) => Ok(()),
+        Err(Unbegun::InTransaction) => Err(Status::InTransaction),
+        Err(Unbegun::Worn) => Err(Status::NoTickets),
+        Err(Unbegun::NoMemory) => Err(Status::NoMemory),
+    }
+}
+
+// The last reply of the transaction that it is in.
+fn last_reply(held: &HeldWorker) -> Option<&Reply> {
+    match held.worker.replies() {
+        Some(replies) if 0 < replies.len() => Some(replies.get(replies.len() - 1)),
+        _ => None,
+    }
+}
+
+// Writes the last reply of the transaction that it is in.
+fn tell_last(held: &HeldWorker, reply: &mut ReplyOut) {
+    if let Some(last) = last_reply(held) {
+        *reply = ReplyOut::of(last);
+    }
+}
+
+// Asks a call of the transaction that it is in: of an object that is there, and by an operation that is one.
+fn answer(alloc: Global, held: &mut HeldWorker, given: &CallIn) -> Result<(), Status>
+    requires { IsWorker held.old }
+    ensures worker { IsWorker held.new }
+    ensures store { IsOfSameStore held.old held.new }
+    ensures asked { HasAsked given.now held.old result held.new }
+{
+    if held.objects <= given.object {
+        return Err(Status::NoObject);
+    }
+    let Some(call) = given.call() else {
+        return Err(Status::NoCall);
+    };
+    match held.worker.ask(alloc, call) {
+        Ok(()) => Ok(()),
+        Err(Unanswered::NoTransaction) => Err(Status::NoTransaction),
+        Err(Unanswered::Untaken) => Err(Status::NoCall),
+        Err(Unanswered::Aborted) => Err(Status::Aborted),
+        Err(Unanswered::NoMemory) => Err(Status::NoMemory),
+    }
+}
+
+/// Asks a call of the transaction that it is in, and tells the reply.
+pub(crate) fn ask(
+    alloc: Global,
+    held: &mut HeldWorker,
+    given: &CallIn,
+    reply: &mut ReplyOut,
+) -> Result<(), Status>
+    requires { IsWorker held.old }
+    ensures worker { IsWorker held.new }
+    ensures store { IsOfSameStore held.old held.new }
+    ensures asked { HasAsked given.now held.old result held.new }
+    ensures kept { OnErr result (reply.new ≡ reply.old) }
+{
+    match answer(alloc, held, given) {
+        Ok(()) => {
+            tell_last(held, reply);
+            Ok(())
+        }
+        Err(status) => Err(status),
+    }
+}
+
+/// Commits the transaction that it is in.
+pub(crate) fn commit(alloc: Global, held: &mut HeldWorker, place: &mut u64) -> Result<(), Status>
+    requires { IsWorker held.old }
+    ensures worker { IsWorker held.new }
+    ensures store { IsOfSameStore held.old held.new }
+    ensures committed { HasCommitted place.new held.old result held.new }
+    ensures kept { OnErr result (place.new ≡ place.old) }
+{
+    match held.worker.commit(alloc) {
+        Ok(number) => {
+            *place = number;
+            Ok(())
+        }
+        Err(Uncommitted::NoTransaction) => Err(Status::NoTransaction),
+        Err(Uncommitted::Aborted) => Err(Status::Aborted),
+        Err(Uncommitted::NoMemory) => Err(Status::NoMemory),
+    }
+}
+
+/// Gives the transaction up that it is in.
+pub(crate) fn cancel(alloc: Global, held: &mut HeldWorker) -> Result<(), Status>
+    requires { IsWorker held.old }
+    ensures worker { IsWorker held.new }
+    ensures store { IsOfSameStore held.old held.new }
+    ensures cancelled { HasCancelled held.old result held.new }
+{
+    match held.worker.cancel(alloc) {
+        Ok(_) => Ok(()),
+        Err(Uncommitted::NoTransaction) => Err(Status::NoTransaction),
+        Err(Uncommitted::Aborted) => Err(Status::Aborted),
+        Err(Uncommitted::NoMemory) => Err(Status::NoMemory),
+    }
+}
+
+/// Copies the pairs of the last reply, where they have room.
+pub(crate) fn pairs(
+    held: &HeldWorker,
+    out: &mut [PairOut],
+    count: &mut usize,
+) -> Result<(), Status> {
+    let Some(last) = last_reply(held) else {
+        return Err(Status::NoTransaction);
+    };
+    *count = 0;
+    let Reply::Pairs(found) = last else {
+        return Ok(());
+    };
+    let many = found.len() as usize;
+    *count = many;
+    if out.len() < many {
+        return Err(Status::NoRoom);
+    }
+    for at in 0..many {
+        let (key, value) = *found.get(at as u32);
+        out[at] = PairOut { key, value };
+    }
+    Ok(())
+}
+
+// Asks the calls of a whole transaction, which was begun.
+fn ask_all(
+    alloc: Global,
+    held: &mut HeldWorker,
+    calls: &[CallIn],
+    replies: &mut [ReplyOut],
+) -> Result<(), Status>
+    requires { IsWorker held.old }
+    ensures worker { IsWorker held.new }
+    ensures store { IsOfSameStore held.old held.new }
+{
+    for at in 0..calls.len() {
+        let mut reply = ReplyOut {
+            answer: 0,
+            unused: 0,
+            value: 0,
+        };
+        ask(alloc, held, &calls[at], &mut reply)?;
+        if at < replies.len() {
+            replies[at] = reply;
+        }
+    }
+    Ok(())
+}
+
+// Tries a whole transaction once. Whatever comes, it is in no transaction then.
+fn try_once(
+    alloc: Global,
+    held: &mut HeldWorker,
+    calls: &[CallIn],
+    replies: &mut [ReplyOut],
+    place: &mut u64,
+) -> Result<(), Status>
+    requires { IsWorker held.old }
+    ensures worker { IsWorker held.new }
+    ensures store { IsOfSameStore held.old held.new }
+{
+    begin(alloc, held)?;
+    match ask_all(alloc, held, calls, replies) {
+        Ok(()) => commit(alloc, held, place),
+        Err(status) => {
+            // it may have ended by itself
+            let _given_up = cancel(alloc, held);
+            Err(status)
+        }
+    }
+}
+
+/// Runs a whole transaction.
+pub(crate) fn run(
+    alloc: Global,
+    held: &mut HeldWorker,
+    calls: &[CallIn],
+    replies: &mut [ReplyOut],
+    place: &mut u64,
+) -> Result<(), Status>
+    requires { IsWorker held.old }
+    ensures worker { IsWorker held.new }
+    ensures store { IsOfSameStore held.old held.new }
+{
+    if replies.len() < calls.len() {
+        return Err(Status::NoRoom);
+    }
+    let mut backoff = Backoff::new();
+    for _ in 0..TRIES {
+        match try_once(alloc, held, calls, replies, place) {
+            Err(Status::Aborted) => backoff.spin(),
+            ended => return ended,
+        }
+    }
+    Err(Status::Busy)
+}

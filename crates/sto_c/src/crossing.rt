@@ -1,0 +1,108 @@
+//! What crosses between C and the library: the structs of include/sto.h.
+ghost use Rattle.std.specs.Prelude.{◌≡◌, ◌≤◌, IfSome, IfNone};
+ghost use Rattle.sto_c.specs.Steps.{call_in};
+
+use sto_model::{Call, Reply, Shape};
+
+/// What an object is to be.
+#[repr(C)]
+#[derive(Clone, Copy)]
+pub struct ShapeIn {
+    pub kind: u32,
+    pub size: u32,
+    pub places: u32,
+    pub unused: u32,
+    pub value: i64,
+}
+
+impl ShapeIn {
+    /// The shape; none where its kind is no kind.
+    pub(crate) fn shape(&self) -> Option<Shape> {
+        match self.kind {
+            0 => Some(Shape::Single(self.value)),
+            1 => Some(Shape::Counter(self.value)),
+            2 => Some(Shape::Array {
+                len: self.size,
+                value: self.value,
+            }),
+            3 => Some(Shape::Hash {
+                buckets: self.size,
+                places: self.places,
+            }),
+            4 => Some(Shape::Tree { leaves: self.size }),
+            5 => Some(Shape::Vector {
+                capacity: self.size,
+            }),
+            _ => None,
+        }
+    }
+}
+
+/// A call.
+#[repr(C)]
+#[derive(Clone, Copy)]
+pub struct CallIn {
+    pub object: u32,
+    pub operation: u32,
+    pub a: i64,
+    pub b: i64,
+}
+
+// How many operations there are.
+const OPERATIONS: u32 = 14;
+
+impl CallIn {
+    /// The call; none where its operation is no operation.
+    pub(crate) fn call(&self) -> Option<Call>
+        ensures some { IfSome result (λ call. call ≡ call_in self.now) }
+        ensures none { IfNone result (14 ≤ self.now.operation) }
+    {
+        if OPERATIONS <= self.operation {
+            return None;
+        }
+        Some(Call {
+            object: self.object,
+            code: self.operation as u8,
+            a: self.a,
+            b: self.b,
+        })
+    }
+}
+
+/// What a call answered.
+#[repr(C)]
+#[derive(Clone, Copy)]
+pub struct ReplyOut {
+    pub answer: u32,
+    pub unused: u32,
+    pub value: i64,
+}
+
+impl ReplyOut {
+    /// What a reply is to C. Of pairs it tells how many they are.
+    pub(crate) fn of(reply: &Reply) -> ReplyOut {
+        let (answer, value) = match reply {
+            Reply::Done => (0, 0),
+            Reply::Value(value) => (1, *value),
+            Reply::Flag(true) => (2, 1),
+            Reply::Flag(false) => (2, 0),
+            Reply::Absent => (3, 0),
+            Reply::Full => (4, 0),
+            Reply::Range => (5, 0),
+            Reply::Pairs(pairs) => (6, i64::from(pairs.len())),
+        };
+        ReplyOut {
+            answer,
+            unused: 0,
+            value,
+        }
+    }
+}
+
+/// A key with its value.
+#[repr(C)]
+#[derive(Clone, Copy)]
+pub struct PairOut {
+    pub key: i64,
+    pub value: i64,
+}

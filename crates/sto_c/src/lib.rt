@@ -1,0 +1,143 @@
+//! Transactions for programs in C: what include/sto.h declares.
+//!
+//! Each function tests what it is given, and answers a status. docs/c.md is the guide.
+#![tactic(auto)]
+
+ghost use Rattle.std.specs.Prelude.{◌≡◌, OnErr, length};
+ghost use Rattle.sto_c.specs.Statuses.{Answers};
+ghost use Rattle.sto_c.specs.Steps.{
+  held,
+  OfWorker,
+  Fills,
+  IsStoreOf,
+  IsHiredOf,
+  KeepsStore,
+  HasFreed,
+  HasBegun,
+  HasAsked,
+  HasCommitted,
+  HasCancelled,
+  HasRun,
+  HasLooked,
+  HasToldLeft,
+};
+
+mod calls;
+mod crossing;
+mod handle;
+mod handles;
+mod held;
+mod holding;
+mod loose;
+mod opening;
+mod status;
+
+use crossing::{CallIn, PairOut, ReplyOut, ShapeIn};
+use handle::Handle;
+use status::number_of;
+use std::alloc::Global;
+
+/// Opens a store of these objects, for so many workers.
+#[unsafe(no_mangle)]
+pub extern "C" fn sto_open(
+    alloc: Global,
+    store: &mut Handle,
+    shapes: &[ShapeIn],
+    workers: u32,
+) -> u32
+    ensures { Answers result (λ done. Fills (IsStoreOf (length shapes.now)) (held store.old) done (held store.new)) }
+{
+    number_of(handles::open(alloc, store, shapes, workers))
+}
+
+/// Takes a worker of a store.
+#[unsafe(no_mangle)]
+pub extern "C" fn sto_worker(alloc: Global, store: &mut Handle, worker: &mut Handle) -> u32
+    ensures worker { Answers result (λ done. Fills (IsHiredOf (held store.old)) (held worker.old) done (held worker.new)) }
+    ensures store { KeepsStore (held store.old) (held store.new) }
+{
+    number_of(handles::hire(alloc, store, worker))
+}
+
+/// Frees what a handle holds.
+#[unsafe(no_mangle)]
+pub extern "C" fn sto_free(alloc: Global, handle: &mut Handle) -> u32
+    ensures { Answers result (λ done. HasFreed (held handle.old) done (held handle.new)) }
+{
+    number_of(handles::free(alloc, handle))
+}
+
+/// Begins a transaction.
+#[unsafe(no_mangle)]
+pub extern "C" fn sto_begin(alloc: Global, worker: &mut Handle) -> u32
+    ensures { Answers result (λ done. OfWorker HasBegun (held worker.old) done (held worker.new)) }
+{
+    number_of(handles::begin(alloc, worker))
+}
+
+/// Asks a call of the transaction.
+#[unsafe(no_mangle)]
+pub extern "C" fn sto_ask(
+    alloc: Global,
+    worker: &mut Handle,
+    call: &CallIn,
+    reply: &mut ReplyOut,
+) -> u32
+    ensures { Answers result (λ done. OfWorker (HasAsked call.now) (held worker.old) done (held worker.new)
+        × OnErr done (reply.new ≡ reply.old)) }
+{
+    number_of(handles::ask(alloc, worker, call, reply))
+}
+
+/// Copies the pairs of the last reply.
+#[unsafe(no_mangle)]
+pub extern "C" fn sto_pairs(
+    alloc: Global,
+    worker: &mut Handle,
+    pairs: &mut [PairOut],
+    count: &mut usize,
+) -> u32
+    ensures { Answers result (λ done. OfWorker HasLooked (held worker.old) done (held worker.new)) }
+{
+    number_of(handles::pairs(alloc, worker, pairs, count))
+}
+
+/// Commits the transaction.
+#[unsafe(no_mangle)]
+pub extern "C" fn sto_commit(alloc: Global, worker: &mut Handle, place: &mut u64) -> u32
+    ensures { Answers result (λ done. OfWorker (HasCommitted place.new) (held worker.old) done (held worker.new)
+        × OnErr done (place.new ≡ place.old)) }
+{
+    number_of(handles::commit(alloc, worker, place))
+}
+
+/// Gives the transaction up.
+#[unsafe(no_mangle)]
+pub extern "C" fn sto_cancel(alloc: Global, worker: &mut Handle) -> u32
+    ensures { Answers result (λ done. OfWorker HasCancelled (held worker.old) done (held worker.new)) }
+{
+    number_of(handles::cancel(alloc, worker))
+}
+
+/// Runs a whole transaction.
+#[unsafe(no_mangle)]
+pub extern "C" fn sto_run(
+    alloc: Global,
+    worker: &mut Handle,
+    calls: &[CallIn],
+    replies: &mut [ReplyOut],
+    place: &mut u64,
+) -> u32
+    ensures { Answers result (λ done. OfWorker HasRun (held worker.old) done (held worker.new)) }
+{
+    number_of(handles::run(alloc, worker, calls, replies, place))
+}
+
+/// How many more transactions a worker may begin.
+#[unsafe(no_mangle)]
+pub extern "C" fn sto_tickets(alloc: Global, worker: &mut Handle, left: &mut u64) -> u32
+    ensures { Answers result (λ done. OfWorker (HasToldLeft left.new) (held worker.old) done (held worker.new)
+        × OnErr done (left.new ≡ left.old)) }
+{
+    number_of(handles::tickets(alloc, worker, left))
+}

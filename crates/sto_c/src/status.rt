@@ -1,0 +1,86 @@
+//! What a function answers, as include/sto.h has it.
+ghost use Rattle.std.specs.Prelude.{◌≡◌};
+ghost use Rattle.sto_c.specs.Statuses.{number, number_of};
+
+use sto_open::{Unopened, Unplanned};
+
+/// Why a call was not done.
+#[derive(Clone, Copy, PartialEq, Eq, Debug)]
+pub enum Status {
+    NoMemory,
+    Empty,
+    Taken,
+    OtherHandle,
+    NoObject,
+    NoCall,
+    InTransaction,
+    NoTransaction,
+    Aborted,
+    Busy,
+    NoTickets,
+    NoWorker,
+    BadWorkers,
+    BadKind,
+    BadOrder,
+    BadSize,
+    TooMany,
+    NoRoom,
+}
+
+impl Status {
+    /// Its number; 0 is that of a call that was done.
+    pub(crate) fn number(self) -> u32
+        ensures { result ≡ number self }
+    {
+        match self {
+            Status::NoMemory => 1,
+            Status::Empty => 2,
+            Status::Taken => 3,
+            Status::OtherHandle => 4,
+            Status::NoObject => 5,
+            Status::NoCall => 6,
+            Status::InTransaction => 7,
+            Status::NoTransaction => 8,
+            Status::Aborted => 9,
+            Status::Busy => 10,
+            Status::NoTickets => 11,
+            Status::NoWorker => 12,
+            Status::BadWorkers => 13,
+            Status::BadKind => 14,
+            Status::BadOrder => 15,
+            Status::BadSize => 16,
+            Status::TooMany => 17,
+            Status::NoRoom => 18,
+        }
+    }
+}
+
+/// The number of what a call led to.
+pub(crate) fn number_of(done: Result<(), Status>) -> u32
+    ensures { result ≡ number_of done }
+{
+    match done {
+        Ok(()) => 0,
+        Err(status) => status.number(),
+    }
+}
+
+impl From<Unplanned> for Status {
+    fn from(error: Unplanned) -> Status {
+        match error {
+            Unplanned::OutOfOrder => Status::BadOrder,
+            Unplanned::NoRoom => Status::BadSize,
+            Unplanned::TooMany => Status::TooMany,
+            Unplanned::NoMemory => Status::NoMemory,
+        }
+    }
+}
+
+impl From<Unopened> for Status {
+    fn from(error: Unopened) -> Status {
+        match error {
+            Unopened::Workers => Status::BadWorkers,
+            Unopened::NoMemory => Status::NoMemory,
+        }
+    }
+}

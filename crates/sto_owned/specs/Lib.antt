@@ -1,0 +1,4 @@
+pub mod Owned
+pub use Rattle.sto_open.specs.Working
+pub use Rattle.sto_session.specs.Sessions
+pub use Rattle.sto_session.specs.Steps

@@ -1,0 +1,31 @@
+-- What a store and a worker are that own their parts, and a worker before a call and after it.
+use Rattle.std.specs.Prelude.{Option, Some, None}
+use Rattle.std.specs.List.{All}
+use Rattle.std.specs.Arc.{arc_value}
+use Rattle.sto_part.specs.declared.naming.Naming as naming
+use Rattle.sto_type.specs.Traits.{OfType}
+use Rattle.sto_open.specs.declared.store.Store.{Store}
+use Rattle.sto_open.specs.declared.worker.IdleWorker.{IdleWorker}
+use Rattle.sto_open.specs.Working.{IsWorker}
+use Rattle.sto_session.specs.declared.session.Session.{Session}
+use Rattle.sto_session.specs.Sessions.{IsSessionOf}
+use Rattle.sto_owned.specs.declared.store.OwnedStore.{OwnedStore}
+use Rattle.sto_owned.specs.declared.worker.OwnedWorker.{OwnedWorker}
+
+-- both times it has a session, and the first leads to the second
+abbrev pub Leads : {X : Type 0} → (X → X → Type 0) → Option X → Option X → Type 0
+Leads to (Some x) (Some y) = to x y
+Leads to _ _ = ⊥
+
+module _ {T : Type 0} {n : naming.Ghosts T} (t : OfType T) where
+  -- a session on the words of a store, free or in a transaction
+  abbrev pub IsAt : Store T → Option (Session T n) → Type 0
+  IsAt s (Some x) = IsSessionOf t s.ty s.shared x
+  IsAt s None = ⊥
+
+  abbrev pub IsOwnedWorker : OwnedWorker T n → Type 0
+  IsOwnedWorker w = IsAt (arc_value w.store) w.session
+
+  -- all its workers that were not given out are at rest
+  abbrev pub IsOwnedStore : OwnedStore T n → Type 0
+  IsOwnedStore o = All (λ (w : IdleWorker T n). IsWorker (t.meaning (arc_value o.store).ty) (t.sizes (arc_value o.store).ty) (arc_value o.store).shared w.rest.seat) o.idle.items

@@ -1,0 +1,124 @@
+//! A worker of a store.
+ghost use Rattle.std.specs.Prelude.{◌≡◌, ◌≢◌, IfSome, Some, None};
+ghost use Rattle.std.specs.Arc.{arc_value};
+ghost use Rattle.sto_open.specs.Working.{IsWorker};
+ghost use Rattle.sto_session.specs.Sessions.{IsSessionOf};
+ghost use Rattle.sto_session.specs.Steps.{HasBegun, HasAsked, HasEndedBy, HasCommittedAfter, HasCancelledAfter};
+ghost use Rattle.sto_owned.specs.Owned.{Leads, IsOwnedWorker};
+
+use std::alloc::Global;
+use std::mem;
+use std::sync::Arc;
+use sto_attempt::Memory;
+use sto_model::{Call, Replies};
+use sto_open::{IdleWorker, Store};
+use sto_session::{Session, Unanswered, Unbegun, Uncommitted};
+use sto_type::TxType;
+
+/// A worker of a store, which owns a part of it. It may go to another thread.
+#[derive(Drop)]
+pub struct OwnedWorker<T: TxType + Drop> {
+    pub store: Arc<Store<T>, Global>,
+    /// What it is at.
+    pub session: Option<Session<T>>,
+}
+
+impl<T: TxType + Drop> OwnedWorker<T> {
+    /// A worker that was at rest.
+    pub fn new(alloc: Global, store: Arc<Store<T>, Global>, worker: IdleWorker<T>) -> OwnedWorker<T>
+        requires { IsWorker (T.meaning (arc_value store).ty) (T.sizes (arc_value store).ty) (arc_value store).shared worker.rest.seat }
+        ensures store { result.store ≡ store }
+        ensures worker { IsOwnedWorker T.TxType result }
+        ensures free { IfSome result.session (λ x. (x.rest ≡ worker.rest) × (x.left ≡ worker.left) × (x.live ≡ None)) }
+    {
+        let IdleWorker { rest, left } = worker;
+        OwnedWorker {
+            store,
+            session: Some(Session::new(rest, left, Memory::new(alloc))),
+        }
+    }
+
+    /// Begins a transaction.
+    pub fn begin(&mut self, alloc: Global) -> Result<(), Unbegun>
+        requires { IsOwnedWorker T.TxType self.old }
+        ensures worker { IsOwnedWorker T.TxType self.new }
+        ensures store { self.new.store ≡ self.old.store }
+        ensures begun { Leads (λ x y. HasBegun T.TxType (arc_value self.old.store).ty (arc_value self.old.store).shared x result y)
+            self.old.session self.new.session }
+    {
+        let Some(session) = mem::replace(&mut self.session, None) else {
+            unreachable!()
+        };
+        let (session, result) = session.begin(alloc, &self.store.ty, &self.store.shared);
+        self.session = Some(session);
+        result
+    }
+
+    /// Asks the next call of the transaction.
+    pub fn ask(&mut self, alloc: Global, call: Call) -> Result<(), Unanswered>
+        requires { IsOwnedWorker T.TxType self.old }
+        ensures worker { IsOwnedWorker T.TxType self.new }
+        ensures store { self.new.store ≡ self.old.store }
+        ensures asked { Leads (λ x y. HasAsked T.TxType (arc_value self.old.store).ty (arc_value self.old.store).shared x call result y)
+            self.old.session self.new.session }
+    {
+        let Some(session) = mem::replace(&mut self.session, None) else {
+            unreachable!()
+        };
+        let (session, result) = session.ask(alloc, &self.store.ty, &self.store.shared, call);
+        self.session = Some(session);
+        result
+    }
+
+    /// Commits the transaction, and answers its place in the order.
+    pub fn commit(&mut self, alloc: Global) -> Result<u64, Uncommitted>
+        requires { IsOwnedWorker T.TxType self.old }
+        ensures worker { IsOwnedWorker T.TxType self.new }
+        ensures store { self.new.store ≡ self.old.store }
+        ensures committed { Leads (λ x y. HasEndedBy T.TxType (arc_value self.old.store).ty (arc_value self.old.store).shared x result y
+            (HasCommittedAfter T.TxType (arc_value self.old.store).ty (arc_value self.old.store).shared)) self.old.session self.new.session }
+    {
+        let Some(session) = mem::replace(&mut self.session, None) else {
+            unreachable!()
+        };
+        let (session, result) = session.commit(alloc, &self.store.ty, &self.store.shared);
+        self.session = Some(session);
+        result
+    }
+
+    /// Gives the transaction up.
+    pub fn cancel(&mut self, alloc: Global) -> Result<u64, Uncommitted>
+        requires { IsOwnedWorker T.TxType self.old }
+        ensures worker { IsOwnedWorker T.TxType self.new }
+        ensures store { self.new.store ≡ self.old.store }
+        ensures cancelled { Leads (λ x y. HasEndedBy T.TxType (arc_value self.old.store).ty (arc_value self.old.store).shared x result y
+            (HasCancelledAfter T.TxType (arc_value self.old.store).ty (arc_value self.old.store).shared)) self.old.session self.new.session }
+    {
+        let Some(session) = mem::replace(&mut self.session, None) else {
+            unreachable!()
+        };
+        let (session, result) = session.cancel(alloc, &self.store.ty, &self.store.shared);
+        self.session = Some(session);
+        result
+    }
+
+    /// What the calls of the transaction were answered, in order; none where it is in no transaction.
+    pub fn replies(&self) -> Option<&Replies>
+        ensures { IfSome result (λ r. IfSome self.now.session (λ x. IfSome x.live (λ p. r.now ≡ p.attempt.replies))) }
+    {
+        match &self.session {
+            Some(session) => session.replies(),
+            None => None,
+        }
+    }
+
+    /// How many more transactions it may begin.
+    pub fn left(&self) -> u64
+        ensures { IfSome self.now.session (λ x. result ≡ x.left) }
+    {
+        match &self.session {
+            Some(session) => session.left,
+            None => 0,
+        }
+    }
+}

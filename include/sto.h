@@ -1,0 +1,214 @@
+/* Transactions over shared objects, for C programs.
+ *
+ * A program opens a store of objects, gives each of its threads a worker of the store, and each worker runs transactions: calls
+ * on the objects that take effect as a whole, in one order of all transactions, or not at all. docs/c.md is the guide.
+ *
+ * Who owns what. A handle (sto_handle) is memory of the program, and owns what lies behind it. A handle that is all zero
+ * (STO_NONE) holds nothing: it is what sto_open and sto_worker ask for, and what sto_free leaves. Never copy a handle that
+ * holds something, and never write to one. A store lives until it and all its workers were freed, in any order.
+ *
+ * Which thread may call what. Each handle is in at most one call at a time. It may go to another thread, by a lock, a thread's
+ * start or join, or a sequentially consistent atomic. Calls on different handles need no order: workers run side by side.
+ * Nothing here blocks, sleeps or starts a thread. No function may be called from a signal handler, or in a child that a
+ * program with threads has forked.
+ *
+ * Every number that is given is tested: what will not do is answered by a status, and nothing changes. Pointers are not, and
+ * cannot be: each must be one to memory of its type, for its length, and no two that are written through may overlap.
+ */
+#ifndef STO_H
+#define STO_H
+
+#include <stddef.h>
+#include <stdint.h>
+
+#ifdef __cplusplus
+extern "C" {
+#endif
+
+/* What a function answers. */
+typedef enum sto_status {
+    STO_OK = 0,
+    /* Memory was wanting. A transaction that was under way has ended, and nothing of it took effect. */
+    STO_NO_MEMORY = 1,
+    /* The handle holds nothing. */
+    STO_EMPTY = 2,
+    /* The handle holds something: sto_open and sto_worker want one that does not. */
+    STO_TAKEN = 3,
+    /* The handle holds a store where a worker is wanted, or a worker where a store is. */
+    STO_OTHER_HANDLE = 4,
+    /* No object has this number. */
+    STO_NO_OBJECT = 5,
+    /* The object does not take this call: its kind has no such operation, or a number of the call is not in range. The
+     * transaction goes on. */
+    STO_NO_CALL = 6,
+    /* The worker is in a transaction already. */
+    STO_IN_TRANSACTION = 7,
+    /* The worker is in no transaction. */
+    STO_NO_TRANSACTION = 8,
+    /* The transaction met another one: it has ended, and nothing of it took effect. Begin again, after a yield or a pause. */
+    STO_ABORTED = 9,
+    /* sto_run was aborted several times. Nothing took effect. Yield or pause, and call again. */
+    STO_BUSY = 10,
+    /* The worker has begun 2^40 transactions, which is all that it may. */
+    STO_NO_TICKETS = 11,
+    /* The store has no worker left to give out. */
+    STO_NO_WORKER = 12,
+    /* A store has from 1 to 65,536 workers. */
+    STO_BAD_WORKERS = 13,
+    /* sto_shape.kind is no kind. */
+    STO_BAD_KIND = 14,
+    /* An object stands behind one of a later kind: see sto_kind. */
+    STO_BAD_ORDER = 15,
+    /* An object has no room (a hash table without buckets, a tree without leaves), or is too large. */
+    STO_BAD_SIZE = 16,
+    /* The objects have 2^32 parts or more. */
+    STO_TOO_MANY = 17,
+    /* There is less room than is needed for what is answered. */
+    STO_NO_ROOM = 18
+} sto_status;
+
+/* A store or a worker. */
+typedef struct sto_handle {
+    void *at;
+    uint64_t full;
+} sto_handle;
+
+/* A handle that holds nothing. */
+#define STO_NONE {NULL, 0}
+
+/* The kinds of objects. In a list of shapes they stand in this order. */
+typedef enum sto_kind {
+    STO_BOX = 0,     /* one number: value */
+    STO_COUNTER = 1, /* one number, which many add to at once: value */
+    STO_ARRAY = 2,   /* size numbers, each of which begins as value */
+    STO_HASH = 3,    /* keys with values, in size buckets with so many places each */
+    STO_TREE = 4,    /* keys with values in the order of the keys: has room for four keys in each of size leaves, at least */
+    STO_VECTOR = 5   /* up to size numbers, one behind the other */
+} sto_kind;
+
+/* What an object is to be. Fields that its kind does not use count for nothing. */
+typedef struct sto_shape {
+    uint32_t kind;
+    uint32_t size;
+    uint32_t places;
+    uint32_t unused;
+    int64_t value;
+} sto_shape;
+
+/* The operations, each with the kinds that take it, and what it answers. */
+typedef enum sto_operation {
+    STO_GET = 0,    /* box, counter: its value; array, hash, tree, vector at a: the value there, or absent */
+    STO_SET = 1,    /* box to a: done; array at a to b: done, or absent */
+    STO_ADD = 2,    /* counter by a: done; array at a by b: done, or absent */
+    STO_TEST = 3,   /* counter, vector: whether its value or length compares as a (sto_comparison) with b */
+    STO_TAKE = 4,   /* counter: yes, and it falls by a, where it is at least a; else no */
+    STO_PUT = 5,    /* hash, tree: a key a with the value b: done, or full */
+    STO_REMOVE = 6, /* hash, tree: whether the key a was there */
+    STO_HAS = 7,    /* hash: whether the key a is there */
+    STO_LEN = 8,    /* hash, tree, vector: how many keys or values */
+    STO_NEXT = 9,   /* tree: the least key that is at least a, or absent */
+    STO_COUNT = 10, /* tree: how many keys from a to b */
+    STO_SCAN = 11,  /* tree: the keys from a to b with their values: pairs, which sto_pairs copies */
+    STO_PUSH = 12,  /* vector: a comes last: done, or full */
+    STO_POP = 13    /* vector: the last value, which goes, or absent */
+} sto_operation;
+
+typedef enum sto_comparison { STO_EQ = 0, STO_NE = 1, STO_LT = 2, STO_LE = 3, STO_GT = 4, STO_GE = 5 } sto_comparison;
+
+/* A call: an operation of an object, by the object's number (its place in the list of shapes, from 0) and up to two numbers. */
+typedef struct sto_call {
+    uint32_t object;
+    uint32_t operation;
+    int64_t a;
+    int64_t b;
+} sto_call;
+
+/* What a call answered. */
+typedef enum sto_answer {
+    STO_DONE = 0,
+    STO_VALUE = 1,  /* a value, a key or a number of keys: value */
+    STO_FLAG = 2,   /* yes or no: value is 1 or 0 */
+    STO_ABSENT = 3, /* there is no such key or place */
+    STO_FULL = 4,   /* there is no room for a new key or value */
+    STO_RANGE = 5,  /* the result would not be a number of 64 bits, and nothing changed */
+    STO_PAIRS = 6   /* keys with values: value is how many; sto_pairs copies them */
+} sto_answer;
+
+typedef struct sto_reply {
+    uint32_t answer;
+    uint32_t unused;
+    int64_t value;
+} sto_reply;
+
+typedef struct sto_pair {
+    int64_t key;
+    int64_t value;
+} sto_pair;
+
+/* Opens a store of these objects, for so many workers, and puts it into a handle that holds nothing. */
+uint32_t sto_open(sto_handle *store, const sto_shape *shapes, size_t count, uint32_t workers);
+
+/* Takes a worker of a store, and puts it into a handle that holds nothing: the two handles are different ones. */
+uint32_t sto_worker(sto_handle *store, sto_handle *worker);
+
+/* Frees what a handle holds, and leaves it holding nothing. A transaction that a worker is in is given up. A worker that was
+ * freed is not given out again. */
+uint32_t sto_free(sto_handle *handle);
+
+/* Begins a transaction. */
+uint32_t sto_begin(sto_handle *worker);
+
+/* Asks a call of the transaction that the worker is in, and writes what it answered. The answers so far are those of one state
+ * of the objects, also where the transaction is aborted later. */
+uint32_t sto_ask(sto_handle *worker, const sto_call *call, sto_reply *reply);
+
+/* Copies the pairs of the last reply of the transaction that the worker is in, and writes how many they are. Where there is
+ * less room it copies none, and answers STO_NO_ROOM. A last reply of another form has none. */
+uint32_t sto_pairs(sto_handle *worker, sto_pair *pairs, size_t room, size_t *count);
+
+/* Commits the transaction, and writes its place in the order: its ticket, or the number as of which it read where it wrote
+ * nothing. Whatever the answer, the worker is then in no transaction. */
+uint32_t sto_commit(sto_handle *worker, uint64_t *place);
+
+/* Gives the transaction up: nothing of it takes effect. */
+uint32_t sto_cancel(sto_handle *worker);
+
+/* Runs a whole transaction of calls that do not depend on one another's replies, tries it a few times where it is aborted, and
+ * writes the replies: there is to be room for as many as there are calls. Of pairs it writes only how many they are. Where a
+ * call is not taken nothing takes effect. */
+uint32_t sto_run(sto_handle *worker, const sto_call *calls, size_t count, sto_reply *replies, size_t room, uint64_t *place);
+
+/* How many more transactions a worker may begin. */
+uint32_t sto_tickets(sto_handle *worker, uint64_t *left);
+
+#ifdef __cplusplus
+}
+#endif
+
+/* A function for each operation, within a transaction. */
+
+static inline uint32_t sto_call_of(sto_handle *w, uint32_t object, uint32_t operation, int64_t a, int64_t b, sto_reply *reply)
+{
+    sto_call call = {object, operation, a, b};
+    return sto_ask(w, &call, reply);
+}
+
+static inline uint32_t sto_get(sto_handle *w, uint32_t object, sto_reply *r) { return sto_call_of(w, object, STO_GET, 0, 0, r); }
+static inline uint32_t sto_get_at(sto_handle *w, uint32_t object, int64_t at, sto_reply *r) { return sto_call_of(w, object, STO_GET, at, 0, r); }
+static inline uint32_t sto_set(sto_handle *w, uint32_t object, int64_t v, sto_reply *r) { return sto_call_of(w, object, STO_SET, v, 0, r); }
+static inline uint32_t sto_set_at(sto_handle *w, uint32_t object, int64_t at, int64_t v, sto_reply *r) { return sto_call_of(w, object, STO_SET, at, v, r); }
+static inline uint32_t sto_add(sto_handle *w, uint32_t object, int64_t d, sto_reply *r) { return sto_call_of(w, object, STO_ADD, d, 0, r); }
+static inline uint32_t sto_add_at(sto_handle *w, uint32_t object, int64_t at, int64_t d, sto_reply *r) { return sto_call_of(w, object, STO_ADD, at, d, r); }
+static inline uint32_t sto_test(sto_handle *w, uint32_t object, sto_comparison how, int64_t k, sto_reply *r) { return sto_call_of(w, object, STO_TEST, how, k, r); }
+static inline uint32_t sto_take(sto_handle *w, uint32_t object, int64_t d, sto_reply *r) { return sto_call_of(w, object, STO_TAKE, d, 0, r); }
+static inline uint32_t sto_put(sto_handle *w, uint32_t object, int64_t k, int64_t v, sto_reply *r) { return sto_call_of(w, object, STO_PUT, k, v, r); }
+static inline uint32_t sto_remove(sto_handle *w, uint32_t object, int64_t k, sto_reply *r) { return sto_call_of(w, object, STO_REMOVE, k, 0, r); }
+static inline uint32_t sto_has(sto_handle *w, uint32_t object, int64_t k, sto_reply *r) { return sto_call_of(w, object, STO_HAS, k, 0, r); }
+static inline uint32_t sto_len(sto_handle *w, uint32_t object, sto_reply *r) { return sto_call_of(w, object, STO_LEN, 0, 0, r); }
+static inline uint32_t sto_next(sto_handle *w, uint32_t object, int64_t k, sto_reply *r) { return sto_call_of(w, object, STO_NEXT, k, 0, r); }
+static inline uint32_t sto_count(sto_handle *w, uint32_t object, int64_t from, int64_t to, sto_reply *r) { return sto_call_of(w, object, STO_COUNT, from, to, r); }
+static inline uint32_t sto_scan(sto_handle *w, uint32_t object, int64_t from, int64_t to, sto_reply *r) { return sto_call_of(w, object, STO_SCAN, from, to, r); }
+static inline uint32_t sto_push(sto_handle *w, uint32_t object, int64_t v, sto_reply *r) { return sto_call_of(w, object, STO_PUSH, v, 0, r); }
+static inline uint32_t sto_pop(sto_handle *w, uint32_t object, sto_reply *r) { return sto_call_of(w, object, STO_POP, 0, 0, r); }
+
+#endif
