@@ -123,41 +123,55 @@ fn value_of(rows: &State, account: BoxId) -> Option<i64> {
 }
 
 /// A day of the bank: what both audits told, and what each account has at the end.
-fn run_bank<R: Threads + Sync>(rt: &R, alloc: Global) -> Option<([i64; 2], [i64; 3])> {
+#[derive(Clone, Copy)]
+struct Day {
+    first: i64,
+    other: i64,
+    a: i64,
+    b: i64,
+    c: i64,
+}
+
+/// A day of the bank, with two tellers and two auditors.
+fn run_bank<R: Threads + Sync>(rt: &R, alloc: Global) -> Option<Day> {
     let (mut store, [a, b, c]) = open_bank(alloc)?;
-    let first = Transfer {
+    let one = Transfer {
         from: a,
         to: b,
         amount: 3,
     };
-    let other = Transfer {
+    let two = Transfer {
         from: b,
         to: c,
         amount: 2,
     };
     let audit = Audit { a, b, c };
-    let (_, _, x, y) = store
-        .run_four(rt, alloc, &first, &other, &audit, &audit)
-        .ok()?;
-    let (Ok(Done::Gave(x)), Ok(Done::Gave(y))) = (x, y) else {
+    let (_, _, x, y) = store.run_four(rt, alloc, &one, &two, &audit, &audit).ok()?;
+    let (Ok(Done::Gave(first)), Ok(Done::Gave(other))) = (x, y) else {
         return None;
     };
     let rows = store.close(alloc).ok()?;
-    Some((
-        [x, y],
-        [
-            value_of(&rows, a)?,
-            value_of(&rows, b)?,
-            value_of(&rows, c)?,
-        ],
-    ))
+    Some(Day {
+        first,
+        other,
+        a: value_of(&rows, a)?,
+        b: value_of(&rows, b)?,
+        c: value_of(&rows, c)?,
+    })
 }
 
 fn main(rt: HostRuntime) -> io::Result<()> {
-    let Some((told, left)) = run_bank(&rt, rt.alloc()) else {
+    let Some(
+        Day {
+            first,
+            other,
+            a,
+            b,
+            c,
+        },
+    ) = run_bank(&rt, rt.alloc())
+    else {
         return println!(rt; "no memory");
     };
-    let [x, y] = told;
-    let [a, b, c] = left;
-    println!(rt; "audits told {x} and {y}; the accounts have {a}, {b}, {c}")
+    println!(rt; "audits told {first} and {other}; the accounts have {a}, {b}, {c}")
 }

@@ -107,13 +107,19 @@ fn open_stock(alloc: Global) -> Option<(SharedStore<Objects>, CounterId, HashId)
 /// What is left and what was sold after two sellers wanted 60 pieces each, 3 at a time.
 fn run_sales<R: Threads>(rt: &R, alloc: Global) -> Option<(i64, i64)> {
     let (mut store, stock, book) = open_stock(alloc)?;
-    let sale = |customer: i64| Sale {
+    let one = Sale {
         stock,
         book,
-        customer,
+        customer: 1,
         pieces: 3,
     };
-    let _told = store.run_both(rt, alloc, &sale(1), &sale(2)).ok()?;
+    let two = Sale {
+        stock,
+        book,
+        customer: 2,
+        pieces: 3,
+    };
+    let _told = store.run_both(rt, alloc, &one, &two).ok()?;
     let idle = store.hire()?;
     let mut worker = store.worker(alloc, idle);
     match worker.run(&Count { stock, book }) {
