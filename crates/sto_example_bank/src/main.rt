@@ -1,0 +1,177 @@
+//! A bank: two tellers move money, and two auditors look at the same time whether all of it is there.
+#![tactic(auto)]
+
+ghost use Rattle.std.specs.Prelude.{◌≡◌};
+ghost use Rattle.sto_library.specs.Tasks.{IsOutcome};
+ghost use Rattle.sto_example_bank.specs.Accounts.{transfer, audit};
+
+use std::alloc::Global;
+use std::io;
+use std::thread::Threads;
+use sto_library::{
+    BoxId, Code, Done, Objects, Schema, SharedStore, State, Stop, StoreWorker, Task, Tx, TxType,
+    Unrun, wrapping_difference, wrapping_sum,
+};
+
+/// Takes an amount from one account, where it is there, and adds it to another. It gives what was there.
+#[derive(Clone, Copy)]
+struct Transfer {
+    from: BoxId,
+    to: BoxId,
+    amount: i64,
+}
+
+impl Code for Transfer {
+    type Out = i64;
+
+    ghost does = { λ t. transfer t.from t.to t.amount };
+
+    ghost most = { λ _. 4 };
+
+    fn most(&self) -> u32 {
+        4
+    }
+
+    fn run(&self, tx: &mut Tx<'_>) -> Result<i64, Stop> {
+        let x = self.from.get(tx)?;
+        if x < self.amount {
+            return tx.cancel();
+        }
+        self.from.set(tx, wrapping_difference(x, self.amount))?;
+        let y = self.to.get(tx)?;
+        self.to.set(tx, wrapping_sum(y, self.amount))?;
+        Ok(x)
+    }
+}
+
+/// Gives what three accounts have together.
+#[derive(Clone, Copy)]
+struct Audit {
+    a: BoxId,
+    b: BoxId,
+    c: BoxId,
+}
+
+impl Code for Audit {
+    type Out = i64;
+
+    ghost does = { λ x. audit x.a x.b x.c };
+
+    ghost most = { λ _. 3 };
+
+    fn most(&self) -> u32 {
+        3
+    }
+
+    fn run(&self, tx: &mut Tx<'_>) -> Result<i64, Stop> {
+        let x = self.a.get(tx)?;
+        let y = self.b.get(tx)?;
+        let z = self.c.get(tx)?;
+        Ok(wrapping_sum(wrapping_sum(x, y), z))
+    }
+}
+
+/// A teller makes the same transfer 20 times. It gives how the last one went.
+impl<T: TxType> Task<T> for Transfer {
+    type Out = Result<Done<i64>, Unrun>;
+
+    ghost gives = { λ t worker _ told. IsOutcome T.TxType worker 4 (transfer t.from t.to t.amount) told };
+
+    fn work(&self, worker: &mut StoreWorker<'_, T>) -> Result<Done<i64>, Unrun> {
+        for _ in 1..20 {
+            let _told = worker.run(self);
+        }
+        worker.run(self)
+    }
+}
+
+/// An auditor audits 20 times. It gives how the last audit went, or the first one that tells something else than 300.
+impl<T: TxType> Task<T> for Audit {
+    type Out = Result<Done<i64>, Unrun>;
+
+    ghost gives = { λ x worker _ told. IsOutcome T.TxType worker 3 (audit x.a x.b x.c) told };
+
+    fn work(&self, worker: &mut StoreWorker<'_, T>) -> Result<Done<i64>, Unrun> {
+        for _ in 1..20 {
+            let told = worker.run(self);
+            if !matches!(told, Ok(Done::Gave(300))) {
+                return told;
+            }
+        }
+        worker.run(self)
+    }
+}
+
+/// A store of three accounts with 100 each, for four workers; and the accounts.
+fn open_bank(alloc: Global) -> Option<(SharedStore<Objects>, [BoxId; 3])> {
+    let mut schema = Schema::new(alloc);
+    let a = schema.boxed(100).ok()?;
+    let b = schema.boxed(100).ok()?;
+    let c = schema.boxed(100).ok()?;
+    Some((schema.open(alloc, 4).ok()?, [a, b, c]))
+}
+
+/// What an account has at the end.
+fn value_of(rows: &State, account: BoxId) -> Option<i64> {
+    if account.number >= rows.len() {
+        return None;
+    }
+    match rows.get(account.number).as_slice() {
+        [(_, value)] => Some(*value),
+        _ => None,
+    }
+}
+
+/// A day of the bank: what both audits told, and what each account has at the end.
+#[derive(Clone, Copy)]
+struct Day {
+    first: i64,
+    other: i64,
+    a: i64,
+    b: i64,
+    c: i64,
+}
+
+/// A day of the bank, with two tellers and two auditors.
+fn run_bank<R: Threads + Sync>(rt: &R, alloc: Global) -> Option<Day> {
+    let (mut store, [a, b, c]) = open_bank(alloc)?;
+    let one = Transfer {
+        from: a,
+        to: b,
+        amount: 3,
+    };
+    let two = Transfer {
+        from: b,
+        to: c,
+        amount: 2,
+    };
+    let audit = Audit { a, b, c };
+    let (_, _, x, y) = store.run_four(rt, alloc, &one, &two, &audit, &audit).ok()?;
+    let (Ok(Done::Gave(first)), Ok(Done::Gave(other))) = (x, y) else {
+        return None;
+    };
+    let rows = store.close(alloc).ok()?;
+    Some(Day {
+        first,
+        other,
+        a: value_of(&rows, a)?,
+        b: value_of(&rows, b)?,
+        c: value_of(&rows, c)?,
+    })
+}
+
+fn main(rt: HostRuntime) -> io::Result<()> {
+    let Some(
+        Day {
+            first,
+            other,
+            a,
+            b,
+            c,
+        },
+    ) = run_bank(&rt, rt.alloc())
+    else {
+        return println!(rt; "no memory");
+    };
+    println!(rt; "audits told {first} and {other}; the accounts have {a}, {b}, {c}")
+}
