@@ -2,9 +2,8 @@
 ghost use Rattle.std.specs.Prelude.{◌≡◌, ◌<◌, ◌≤◌, ◌==◌, ◌%◌, [], pos, if◌then◌else◌};
 ghost use Rattle.sto_part.specs.Preds.{compares};
 ghost use Rattle.sto_part.specs.declared.pred.Test.TheVariants.{Ge};
-ghost use Rattle.sto_model.specs.Told.{told};
 ghost use Rattle.sto_model.specs.declared.call.Call.{Call};
-ghost use Rattle.sto_script.specs.Meaning.{Values, meaning_of, taken, doing, committing};
+ghost use Rattle.sto_script.specs.Meaning.{Values, meaning_of, doing, committing};
 ghost use Rattle.sto_script.specs.Asks.{Asks};
 ghost use Rattle.sto_gen.specs.Generated.{transaction, owner_note};
 ghost use Rattle.sto_bench.specs.Stages.{notes};
@@ -13,6 +12,7 @@ ghost use Rattle.sto_bench.specs.declared.body.TransferStage.TheVariants.{Out, L
 use sto_gen::{ACCT, ADD, DONE, GET, LOG, OWNER, PUT, Transfer};
 use sto_model::{Body, Call, Next, Reply};
 use sto_part::{Test, compare};
+use sto_script::taken;
 
 /// How far a transaction is.
 #[derive(Clone, Copy, PartialEq, Eq, Debug)]
@@ -194,17 +194,5 @@ impl Body for GeneratedBody {
             TransferStage::Owner => 1,
             TransferStage::End => 0,
         }
-    }
-}
-
-// What a variable takes from a reply.
-fn taken(reply: &Reply) -> i64
-    ensures { result ≡ taken (told reply.now) }
-{
-    match reply {
-        Reply::Done | Reply::Flag(true) => 1,
-        Reply::Flag(false) | Reply::Absent | Reply::Full | Reply::Range => 0,
-        Reply::Value(value) => *value,
-        Reply::Pairs(pairs) => i64::from(pairs.len()),
     }
 }
