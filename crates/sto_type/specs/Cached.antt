@@ -1,16 +1,16 @@
--- How a cache holds what it knows: a few parts in a list, and the others in a map.
-use Rattle.std.specs.Prelude.{◌≡◌, ◌<◌, ℕ, ℤ, None, List, ◌++◌, length, map, take, slice_index_or}
+-- How a cache holds what it knows: parts in slots, of which the first ones count.
+use Rattle.std.specs.Prelude.{ℕ, ℤ, suc, nat_eq, if◌then◌else◌, Option, Some, None, List, [], ◌∷◌, map, take}
 use Rattle.sto_part.specs.Listed.{Listed}
-use Rattle.sto_type.specs.Known.{known}
 
 -- a part and its words as plain data
 abbrev pub plain_part : ℕ × Listed ℤ → ℕ × List ℤ
 plain_part k = (k.0, k.1.items)
 
--- the parts of the list, and behind them those of the map
-abbrev pub all_parts : List (ℕ × Listed ℤ) → List (ℕ × Listed ℤ) → List (ℕ × List ℤ)
-all_parts few many = map plain_part few ++ map plain_part many
+-- the parts of the first so many slots
+abbrev pub parts_in : ℕ → List (ℕ × Listed ℤ) → List (ℕ × List ℤ)
+parts_in used slots = take used (map plain_part slots)
 
--- part p stands at place i, and nowhere before
-abbrev pub IsPlaceOf : List (ℕ × Listed ℤ) → ℕ → ℕ → Type 0
-IsPlaceOf few p i = (i < length few) × ((d : ℕ × Listed ℤ) → (slice_index_or few i d).0 ≡ p) × (known (map plain_part (take i few)) p ≡ None)
+-- the place of the first of a part, where they are counted from k on
+abbrev pub place_in : ℕ → List (ℕ × List ℤ) → ℕ → Option ℕ
+place_in k [] p = None
+place_in k (s ∷ ss) p = if nat_eq s.0 p then Some k else place_in (suc k) ss p
