@@ -14,8 +14,9 @@ use crate::wide::Wide;
 use std::alloc::Global;
 use sto_box::TBox;
 use sto_counter::TCounter;
+use sto_item::Item;
 use sto_model::{Call, State};
-use sto_part::{Contents, List, Naming, NoMemory};
+use sto_part::{Contents, List, Naming, NoMemory, Pred};
 use sto_type::{Answer, Both, Home, KnownParts, TxType};
 
 type Store = Both<Boxes, Both<Counters, Wide>>;
@@ -96,5 +97,13 @@ impl TxType for Objects {
 
     fn plan(&self, alloc: Global, call: &Call, cache: &KnownParts<'_>) -> Result<Answer, NoMemory> {
         self.store.plan(alloc, call, cache)
+    }
+
+    fn guard(&self, item: &Item) -> u32 {
+        self.store.guard(item)
+    }
+
+    fn check(&self, pred: &Pred, value: i64) -> bool {
+        self.store.check(pred, value)
     }
 }

@@ -10,8 +10,9 @@ use crate::kinds::{Arrays, Hashes, Sized, Trees, Vectors};
 use std::alloc::Global;
 use sto_array::TArray;
 use sto_hash::THash;
+use sto_item::Item;
 use sto_model::{Call, State};
-use sto_part::{Contents, Naming, NoMemory};
+use sto_part::{Contents, Naming, NoMemory, Pred};
 use sto_tree::TTree;
 use sto_type::{Answer, Both, Home, KnownParts, TxType};
 use sto_vector::TVector;
@@ -86,5 +87,13 @@ impl TxType for Wide {
 
     fn plan(&self, alloc: Global, call: &Call, cache: &KnownParts<'_>) -> Result<Answer, NoMemory> {
         self.kinds.plan(alloc, call, cache)
+    }
+
+    fn guard(&self, item: &Item) -> u32 {
+        self.kinds.guard(item)
+    }
+
+    fn check(&self, pred: &Pred, value: i64) -> bool {
+        self.kinds.check(pred, value)
     }
 }
