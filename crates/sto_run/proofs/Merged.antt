@@ -22,7 +22,7 @@ use Rattle.sto_serializability.specs.Merged.{line_of, aborts_from}
 use Rattle.sto_serializability.specs.Meanings.{updating_by, IsTypeOf}
 use Rattle.sto_serializability.proofs.AbortLines.{aborts_lawful}
 use Rattle.sto_serializability.proofs.Journal as journal
-use Rattle.sto_serializability.proofs.Standing as standing
+use Rattle.sto_history.proofs.Standing as standing
 use Rattle.sto_serializability.proofs.Journal.{IsClosed}
 use Rattle.sto_serializability.proofs.Replaying.{places_of}
 use Rattle.sto_serializability.proofs.Usable.{sound_usable}

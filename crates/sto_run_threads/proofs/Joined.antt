@@ -16,7 +16,8 @@ use Rattle.sto_attempt_facts.specs.Counted.{finished_places, aborted_times}
 use Rattle.sto_serializability.proofs.Chains.{Every, every}
 use Rattle.sto_serializability.proofs.Pairs.{every_weaker}
 use Rattle.sto_serializability.proofs.Working.{none_aborted, aborted_append}
-use Rattle.sto_serializability.proofs.Gathering.{first_grows, second_grows, gathered_so_far, none_so_far}
+use Rattle.sto_history.proofs.Growing.{first_grows, second_grows}
+use Rattle.sto_serializability.proofs.Gathering.{gathered_so_far, none_so_far}
 use Rattle.sto_run_threads.specs.Running.{ended_of, IsUpTo, IsUnderWay, AreUnderWay, HasNone}
 use Rattle.sto_run_threads.specs.Worked.{HasWorked, AreOf, IsFresh, AddsTo, AbortsNone}
 use Rattle.sto_run_threads.proofs.Found.{found_both}

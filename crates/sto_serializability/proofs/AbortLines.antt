@@ -25,9 +25,10 @@ use Rattle.sto_serializability.specs.Finished.{IsRecord, AreFinished}
 use Rattle.sto_attempt_facts.specs.Counted.{Follows, InThreads, aborted_times}
 use Rattle.sto_serializability.specs.Merged.{AreMerged, lines_of_abort, aborts_of_thread, aborts_from}
 use Rattle.sto_serializability.specs.Meanings.{updating_by, IsTypeOf, IsUsable}
-use Rattle.sto_serializability.proofs.Counts.{writers_rise}
+use Rattle.sto_history.proofs.Counts.{writers_rise}
 use Rattle.sto_serializability.proofs.Chains.{Every, every}
-use Rattle.sto_serializability.proofs.Histories.{StandsAt, Stands}
+use Rattle.sto_history.proofs.Histories.{StandsAt}
+use Rattle.sto_serializability.proofs.Stands.{Stands}
 use Rattle.sto_serializability.proofs.Pairs.{all_of, every_weaker, every_both, every_append, Later, later_append}
 use Rattle.sto_serializability.proofs.Replaying.{places_of}
 use Rattle.sto_serializability.proofs.Journal as journal

@@ -37,9 +37,10 @@ use Rattle.sto_serializability.specs.Merged.{ending_of, line_of, part_named, Are
 use Rattle.sto_serializability.specs.Meanings.{updating_by, IsHomeAt, IsTypeOf, IsNamedObject, IsUsable}
 use Rattle.sto_serializability.proofs.Bodies.{few_replies}
 use Rattle.sto_serializability.proofs.Runs.{front_at}
-use Rattle.sto_serializability.proofs.Counts.{writers_rise, times_ordered}
+use Rattle.sto_history.proofs.Counts.{writers_rise, times_ordered}
 use Rattle.sto_serializability.proofs.Chains.{Every, every}
-use Rattle.sto_serializability.proofs.Histories.{AbortedAt, ChangedAt, StandsAt, Stands, rank_rises}
+use Rattle.sto_history.proofs.Histories.{AbortedAt, ChangedAt, StandsAt, rank_rises}
+use Rattle.sto_serializability.proofs.Stands.{Stands}
 use Rattle.sto_serializability.proofs.Pairs.{all_of, every_weaker, every_both, Later, all_pairs}
 use Rattle.sto_serializability.proofs.Replaying.{places_of}
 use Rattle.sto_serializability.proofs.Ordering.{finished_ended}

@@ -1,21 +1,16 @@
 -- Records of passes that are gathered, and of words that are opened and reopened.
-use Rattle.sto_attempt_facts.proofs.Among.{among_first, among_second}
-use Rattle.std.specs.Prelude.{◌⊎◌, max}
-use Rattle.std.specs.List.{All, flat_map}
-use Rattle.std.proofs.Common.{◌≡◌, ℕ, zero, suc, ◌+◌, ◌<◌, ◌≤◌, List, [], ◌∷◌, ◌++◌, map, length, refl, sym, ap, ◌∙◌, subst, arith, Bool, true, false, inl, inr}
-use mathlib.Core.Option.{some, some-ne-none}
-use lib.ListN.{get_elem?}
+use Rattle.std.specs.Prelude.{◌⊎◌}
+use Rattle.std.specs.List.{All}
+use Rattle.std.proofs.Common.{◌≡◌, ℕ, ◌+◌, List, [], ◌∷◌, ◌++◌, ap, arith, inl, inr}
 use Rattle.std.proofs.lemmas.List.Elements.{All-append, All-weaker}
-use Rattle.sto_lang.specs.Scripts.{Script, File}
+use Rattle.sto_lang.specs.Scripts.{File}
 use Rattle.sto_script.specs.Meaning.{meaning_of}
 use Rattle.sto_type.specs.Meaning.{Meaning}
-use Rattle.sto_core.specs.declared.view.Entry.{Entry}
 use Rattle.sto_core.specs.declared.view.View.{View}
-use Rattle.sto_core.specs.Lists.{Among}
 use Rattle.sto_core.specs.History.{Contents}
 use Rattle.sto_core.specs.Gathered.{gathered_into}
 use Rattle.sto_core.specs.Opened.{opened_view}
-use Rattle.sto_core.specs.Reopened.{greatest_at, reopened_view}
+use Rattle.sto_core.specs.Reopened.{reopened_view}
 use Rattle.sto_report_spec.specs.Orders.{Place, IsOrder}
 use Rattle.sto_attempt_facts.specs.Records.{Record, times_written}
 use Rattle.sto_serializability.specs.Finished.{IsRecord, AreFinished}
@@ -23,28 +18,9 @@ use Rattle.sto_attempt_facts.specs.Counted.{times_committed, Follows, InThreads,
 use Rattle.sto_attempt_facts.specs.Added.{Grows}
 use Rattle.sto_serializability.proofs.Chains.{Every}
 use Rattle.sto_serializability.proofs.Pairs.{every_weaker}
-use Rattle.sto_serializability.proofs.Working.{AreSoFar, times_append, aborted_append, in_threads_append}
+use Rattle.sto_serializability.proofs.Working.{AreSoFar, aborted_append, in_threads_append}
 use Rattle.sto_attempt_facts.proofs.Later.{told_later}
-
--- an item of one of two lists is one of both together
--- a gathered pass knows what both knew
-pub first_grows : (v u : View) → Grows v (gathered_into v u)
-first_grows v u = record {
-  at = omega arith;
-  entries = λ e h c. among_first v.entries u.entries e h;
-  claims = λ c h. among_first v.claims u.claims c h;
-  wrote = λ c h. among_first v.wrote u.wrote c h;
-  findings = λ f h. among_first v.findings u.findings f h;
-}
-
-pub second_grows : (v u : View) → Grows u (gathered_into v u)
-second_grows v u = record {
-  at = omega arith;
-  entries = λ e h c. among_second v.entries u.entries e h;
-  claims = λ c h. among_second v.claims u.claims c h;
-  wrote = λ c h. among_second v.wrote u.wrote c h;
-  findings = λ f h. among_second v.findings u.findings f h;
-}
+use Rattle.sto_history.proofs.Growing.{first_grows, second_grows, reopened_grows}
 
 -- records that a view is told of stay told
 pub later_record : (m : Meaning) (file : File) (v w : View) → Grows v w → (rs : List Record) → All (IsRecord m file v) rs → All (IsRecord m file w) rs
@@ -78,16 +54,7 @@ none_so_far m file tries v = record {
   each = λ k d l. absurd (omega (arith, l));
 }
 
--- The one pass of reopened words knows what the closed pass knew.
-pub reopened_grows : (sizes : List ℕ) (opening : Contents) (v : View) → Grows v (reopened_view sizes opening (v ∷ []))
-reopened_grows sizes opening v = record {
-  at = omega arith;
-  entries = λ e h c. among_first v.entries [] e h;
-  claims = λ c h. among_first v.claims [] c h;
-  wrote = λ c h. among_first v.wrote [] c h;
-  findings = λ f h. among_first v.findings [] f h;
-}
-
+-- The one pass of reopened words has the records of the closed pass.
 pub reopened_so_far : (m : Meaning) (file : File) (tries : ℕ) (sizes : List ℕ) (opening : Contents) (v : View) (rs : List Record)
     → AreSoFar m file tries v rs → AreSoFar m file tries (reopened_view sizes opening (v ∷ [])) rs
 reopened_so_far m file tries sizes opening v rs h = record {

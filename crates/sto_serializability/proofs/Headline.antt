@@ -39,7 +39,8 @@ use Rattle.sto_serializability.specs.Merged.{line_of, AreMerged, part_named, lin
 use Rattle.sto_serializability.specs.Meanings.{updating_by, IsHomeAt, IsTypeOf, IsNamedObject, IsUsable}
 use Rattle.sto_serializability.specs.Headline.{IsShortRecord, AreShortRecords}
 use Rattle.sto_serializability.proofs.Chains.{Every, every}
-use Rattle.sto_serializability.proofs.Histories.{StandsAt, Stands}
+use Rattle.sto_history.proofs.Histories.{StandsAt}
+use Rattle.sto_serializability.proofs.Stands.{Stands}
 use Rattle.sto_serializability.proofs.Pairs.{every_both}
 use Rattle.sto_serializability.proofs.Replaying.{places_of}
 use Rattle.sto_serializability.proofs.Journal as journal

@@ -1,12 +1,10 @@
 pub mod Bodies
 pub mod Runs
-pub mod Counts
 pub mod Chains
-pub mod Histories
+pub mod Stands
 pub mod Replaying
 pub mod Updating
 pub mod Writing
-pub mod Standing
 pub mod Pairs
 pub mod Ordering
 pub mod Journal

@@ -21,8 +21,9 @@ use Rattle.sto_attempt_facts.specs.Records.{Verdict, Wrote, Read, Cancelled, Loc
 use Rattle.sto_serializability.specs.Merged.{ending_of, line_of}
 use Rattle.sto_serializability.proofs.Bodies.{few_replies}
 use Rattle.sto_serializability.proofs.Runs.{after_is, replies_are, writer_is, entry_is}
-use Rattle.sto_serializability.proofs.Counts.{writers_next, same_to, writers_rise}
-use Rattle.sto_serializability.proofs.Histories.{IsHistory, WroteAt, ReadAt, CancelledAt, StandsAt, Stands, contents_still, same_contents, rank_rises}
+use Rattle.sto_history.proofs.Counts.{writers_next, same_to, writers_rise}
+use Rattle.sto_history.proofs.Histories.{IsHistory, WroteAt, ReadAt, CancelledAt, StandsAt, contents_still, same_contents, rank_rises}
+use Rattle.sto_serializability.proofs.Stands.{Stands}
 use Rattle.sto_serializability.proofs.Chains.{Every, IsChain, chain_above}
 
 -- the transactions of records

@@ -9,8 +9,6 @@ use Rattle.sto_part.specs.Parts.{part_of}
 use Rattle.sto_item.specs.Pending.{Entry as Update, applied_updates}
 use Rattle.sto_model.specs.Told.{Told}
 use Rattle.sto_model.specs.Run.{Script as Steps}
-use Rattle.sto_lang.specs.Scripts.{Script, File}
-use Rattle.sto_script.specs.Meaning.{meaning_of}
 use Rattle.sto_type.specs.Known.{Parts}
 use Rattle.sto_type.specs.Meaning.{Meaning}
 use Rattle.sto_core.specs.declared.view.Entry.{Entry}
@@ -29,9 +27,8 @@ use Rattle.sto_core.proofs.Stated.{claim_in_contents}
 use Rattle.sto_core.proofs.Closing.{closes_whole}
 use Rattle.sto_attempt_facts.specs.Records.{Verdict, Wrote, Read, Cancelled, Locked, Changed, Record, times_written}
 use Rattle.sto_attempt_facts.specs.Told.{HasClaimed, HasWritten, HasRead, HasCancelled, WasAborted, HasWrote, WasChanged, IsTold}
-use Rattle.sto_serializability.specs.Finished.{IsRecord}
 use Rattle.sto_attempt_facts.specs.Counted.{if_won, times_committed}
-use Rattle.sto_serializability.proofs.Histories.{IsHistory, WroteAt, ReadAt, CancelledAt, AbortedAt, ChangedAt, StandsAt, Stands}
+use Rattle.sto_history.proofs.Histories.{IsHistory, WroteAt, ReadAt, CancelledAt, AbortedAt, ChangedAt, StandsAt}
 
 -- committed entries are entries
 won_few : (f : Fate) → if_won f ≤ 1
@@ -175,7 +172,7 @@ module _ {valid : Validity} {sizes : List ℕ} {opening : Contents} {past : Past
       asked = h.asked;
     }
 
-    told_stands : (verdict : Verdict) → IsTold m v f replies verdict → StandsAt m core.clock contents_at wrote_at rs f replies verdict
+    pub told_stands : (verdict : Verdict) → IsTold m v f replies verdict → StandsAt m core.clock contents_at wrote_at rs f replies verdict
     told_stands (Wrote t) h = wrote_stands t h
     told_stands (Read n) h = record {
       within = within_clock n h.known;
@@ -211,10 +208,3 @@ module _ {valid : Validity} {sizes : List ℕ} {opening : Contents} {past : Past
           written = omega (arith, some_committed, same, a, b, o);
           by = by_ticket;
         }
-
-  pub record_stands : (file : File) (r : Record) → IsRecord m file v r → Stands m file core.clock contents_at wrote_at rs r
-  record_stands file r h = record {
-    script = h.script;
-    transaction = h.transaction;
-    at = told_stands (meaning_of h.script) r.replies r.verdict h.told;
-  }

@@ -1,21 +1,18 @@
 -- A history of contents without passes: the contents after each number of writers' tickets, and what each record did there.
-use Rattle.std.proofs.Common.{◌≡◌, ◌⊎◌, ℕ, zero, suc, ◌+◌, ◌<◌, ◌≤◌, List, [], ◌∷◌, refl, sym, ap, ◌∙◌, arith, Bool, true, false, Some, inl, inr}
+use Rattle.std.proofs.Common.{◌≡◌, ◌⊎◌, ℕ, zero, suc, ◌+◌, ◌<◌, ◌≤◌, List, [], ◌∷◌, refl, sym, ap, ◌∙◌, arith, Bool, true, false, inl, inr}
 use Rattle.std.proofs.lemmas.Bool.{cases_lt}
 use Rattle.sto_item.specs.Pending.{Entry, applied_updates}
 use Rattle.sto_model.specs.Told.{Told}
 use Rattle.sto_model.specs.Run.{Script as Steps, State, IsRun}
 use Rattle.sto_model.specs.Serial.{has_written}
 use Rattle.sto_model.specs.declared.body.Next.TheVariants.{Commit, Cancel}
-use Rattle.sto_lang.specs.Scripts.{Script, File}
-use Rattle.sto_script.specs.Meaning.{meaning_of}
 use Rattle.sto_type.specs.Known.{Parts}
 use Rattle.sto_type.specs.Meaning.{Meaning}
 use Rattle.sto_type.specs.Runs.{IsRunOn}
 use Rattle.sto_core.specs.History.{writes}
-use Rattle.sto_report_spec.specs.Orders.{transaction_at}
 use Rattle.sto_attempt_facts.specs.Records.{Verdict, Wrote, Read, Cancelled, Locked, Changed, Record, times_written, writers_up_to}
 use Rattle.sto_attempt_facts.specs.Told.{IsAskedPart}
-use Rattle.sto_serializability.proofs.Counts.{writers_next, same_to, writers_rise}
+use Rattle.sto_history.proofs.Counts.{writers_next, same_to, writers_rise}
 
 -- the contents after each number up to the clock: only the tickets of writers change them, and each is that of one writer
 pub record IsHistory (m : Meaning) (clock : ℕ) (contents : ℕ → Parts) (rs : List Record) : Type 0 where
@@ -67,12 +64,6 @@ module _ (m : Meaning) (clock : ℕ) (contents : ℕ → Parts) (wrote : ℕ →
   StandsAt (Cancelled n) = CancelledAt n
   StandsAt (Locked n part) = AbortedAt n part
   StandsAt (Changed n part ticket) = ChangedAt n part ticket
-
--- a record of a transaction of the file
-pub record Stands (m : Meaning) (file : File) (clock : ℕ) (contents : ℕ → Parts) (wrote : ℕ → ℕ → Bool) (all : List Record) (r : Record) : Type 0 where
-  pub script : Script
-  pub transaction : transaction_at file r.place ≡ Some script
-  pub at : StandsAt m clock contents wrote all (meaning_of script) r.replies r.verdict
 
 module _ {m : Meaning} {clock : ℕ} {contents : ℕ → Parts} {rs : List Record} (h : IsHistory m clock contents rs) where
   -- where nobody wrote between two numbers, the contents and the count of writers are the same
