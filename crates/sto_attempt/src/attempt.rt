@@ -23,7 +23,7 @@ use sto_attempt_log::{
 use sto_core::Cells;
 use sto_model::{Body, Replies};
 use sto_part::{NoMemory, PartWords, Pred, holds};
-use sto_type::{Cache, TxType};
+use sto_type::TxType;
 
 /// An attempt, which makes one event at a time on the pass that it is lent.
 ///
@@ -73,7 +73,7 @@ impl<'t, T: TxType, B: Body> Attempt<'t, T, B> {
                 replies: Replies::new(alloc),
                 set: Observed::new(alloc),
                 base: memory.take_base(),
-                cache: Cache::new(alloc),
+                cache: memory.take_cache(),
             },
             at: 0,
             read_phase: ReadPhase::Unstarted,
@@ -106,9 +106,10 @@ impl<'t, T: TxType, B: Body> Attempt<'t, T, B> {
             body,
             replies,
             base,
+            cache,
             ..
         } = log;
-        memory.keep_base(base);
+        memory.keep_log(base, cache);
         memory.keep_reads(words, extension.fresh);
         (Heard { body, replies }, memory)
     }

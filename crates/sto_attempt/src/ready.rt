@@ -82,9 +82,10 @@ impl<T: TxType, B: Body> Ready<'_, T, B> {
             body,
             replies,
             base,
+            cache,
             ..
         } = log;
-        memory.keep_base(base);
+        memory.keep_log(base, cache);
         memory.keep_lists(lists, loaded_words);
         (Heard { body, replies }, memory)
     }

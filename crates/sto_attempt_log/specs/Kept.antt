@@ -6,6 +6,7 @@ use Rattle.sto_attempt_log.specs.declared.memory.KeptLists.{KeptLists}
 pub record AreEmpty (k : KeptLists) : Type 0 where
   pub base : k.base.items ≡ []
   pub fresh : k.fresh.items ≡ []
+  pub cache : k.cache ≡ []
   pub words : k.words.items ≡ []
   pub seen : k.seen.items ≡ []
   pub loaded : k.loaded.items ≡ []

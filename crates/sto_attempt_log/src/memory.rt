@@ -10,6 +10,7 @@ use std::alloc::Global;
 use std::marker::Model;
 use std::mem;
 use sto_part::{List, PartWords, Parts};
+use sto_type::Cache;
 
 /// The lists of an attempt and of its commit while no attempt uses them: each is empty, and has the room that earlier attempts have made.
 ///
@@ -27,6 +28,7 @@ pub struct Memory {
 pub struct KeptLists {
     base: ReadSet,
     fresh: ReadSet,
+    cache: Cache,
     words: PartWords,
     seen: Parts,
     loaded: Parts,
@@ -56,6 +58,7 @@ impl KeptLists {
         KeptLists {
             base: ReadSet::new(alloc),
             fresh: ReadSet::new(alloc),
+            cache: Cache::new(alloc),
             words: PartWords::new(alloc),
             seen: Parts::new(alloc),
             loaded: Parts::new(alloc),
@@ -105,6 +108,16 @@ impl Memory {
         match &mut self.kept {
             Some(kept) => mem::replace(&mut kept.fresh, ReadSet::new(self.alloc)),
             None => ReadSet::new(self.alloc),
+        }
+    }
+
+    /// A cache that knows no part.
+    pub fn take_cache(&mut self) -> Cache
+        ensures { result ≡ [] }
+    {
+        match &mut self.kept {
+            Some(kept) => mem::replace(&mut kept.cache, Cache::new(self.alloc)),
+            None => Cache::new(self.alloc),
         }
     }
 
@@ -195,13 +208,15 @@ impl Memory {
         }
     }
 
-    /// Keeps the room of what an attempt has read.
-    pub fn keep_base(&mut self, base: ReadSet) {
+    /// Keeps the room of what an attempt has read and knows.
+    pub fn keep_log(&mut self, base: ReadSet, cache: Cache) {
         let Some(mut kept) = self.some_kept() else {
             return;
         };
         kept.base = base;
         kept.base.clear();
+        kept.cache = cache;
+        kept.cache.forget();
         self.kept = Some(kept);
     }
 

@@ -76,7 +76,7 @@ pub fn learn_updated<T: TxType>(
         return cache.learn(part, words);
     }
     let made = updated(alloc, ty, set, part, words)?;
-    cache.learn_own(part, made)
+    cache.learn(part, made.as_slice())
 }
 
 // Makes a part known that was read, or that the pending updates put whole. It answers false where it is neither.
