@@ -22,7 +22,7 @@ use sto_attempt_log::{
 };
 use sto_core::Cells;
 use sto_model::{Body, Replies};
-use sto_part::{NoMemory, PartWords, Pred, holds};
+use sto_part::{NoMemory, PartWords, Pred};
 use sto_type::TxType;
 
 /// An attempt, which makes one event at a time on the pass that it is lent.
@@ -541,7 +541,7 @@ impl<'t, T: TxType, B: Body> Attempt<'t, T, B> {
         }
         let place = self.extension.fresh.len();
         let watch = self.extension.watches.get(place);
-        if !are_true(watch.preds.as_slice(), self.words.as_slice()) {
+        if !are_true(self.log.ty, watch.preds.as_slice(), self.words.as_slice()) {
             self.read_phase = ReadPhase::Over;
             return Ok(Turn::Ended(Verdict::Changed {
                 at: self.at,
@@ -566,28 +566,28 @@ fn make_room(words: &mut PartWords, width: u32)
     let _ = words.reserve(width);
 }
 
-// Whether the predicates are true of the words of their part.
-fn are_true(preds: &[Pred], words: &[i64]) -> bool
+// Whether the type finds the predicates to be true of the words of their part.
+fn are_true<T: TxType>(ty: &T, preds: &[Pred], words: &[i64]) -> bool
     requires { length preds.now < 2 ^ 32 }
     ensures { IsTrue result ↔ AllTrueIn words.now preds.now }
 {
     for place in 0..preds.len() {
-        if !is_true(&preds[place], words) {
+        if !is_true(ty, &preds[place], words) {
             return false;
         }
     }
     true
 }
 
-// Whether the predicate is true of its word.
-fn is_true(pred: &Pred, words: &[i64]) -> bool
+// Whether the type finds the predicate to be true of its word.
+fn is_true<T: TxType>(ty: &T, pred: &Pred, words: &[i64]) -> bool
     ensures { IsTrue result ↔ IsTrueIn words.now pred.now }
 {
     let word = pred.word as usize;
     if word < words.len() {
-        holds(pred, words[word])
+        ty.check(pred, words[word])
     } else {
-        holds(pred, 0)
+        ty.check(pred, 0)
     }
 }
 

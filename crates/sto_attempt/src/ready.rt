@@ -267,11 +267,11 @@ impl<T: TxType, B: Body> Ready<'_, T, B> {
         None
     }
 
-    // Whether the predicates on a part are true of the words that were loaded.
+    // Whether the type finds the predicates on a part to be true of the words that were loaded.
     pub(crate) fn all_so(&self, part: u32) -> bool
         ensures { result ≡ list_all (is_so part self.now.loaded_words.items) self.now.log.set.items }
     {
-        self.log.set.all_so(&self.loaded_words, part)
+        self.log.set.all_so(self.log.ty, &self.loaded_words, part)
     }
 
     // The ticket that the check of a part is to find.

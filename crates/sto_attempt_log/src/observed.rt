@@ -15,7 +15,8 @@ use crate::predicates::Predicates;
 use std::alloc::Global;
 use std::marker::Model;
 use sto_item::{Item, ItemSet, Updates, Watches};
-use sto_part::{Change, NoMemory, Pred, Update, apply_word, holds};
+use sto_part::{Change, NoMemory, Pred, Update, apply_word};
+use sto_type::TxType;
 
 // Up to so many items are gone through for each part, which takes no memory.
 const FEW: usize = 16;
@@ -151,13 +152,13 @@ impl Observed {
         }
     }
 
-    /// Whether the predicates on a part are true of the words that were read.
-    pub fn all_so(&self, loaded_words: &LoadedWords, part: u32) -> bool
+    /// Whether the type finds the predicates on a part to be true of the words that were read.
+    pub fn all_so<T: TxType>(&self, ty: &T, loaded_words: &LoadedWords, part: u32) -> bool
         ensures { result ≡ list_all (is_so part loaded_words.now.items) self.now.items }
     {
         match &self.predicates {
-            Some(predicates) => predicates.are_true(loaded_words, part),
-            None => all_so(self.set.items(), loaded_words, part),
+            Some(predicates) => predicates.are_true(ty, loaded_words, part),
+            None => all_so(ty, self.set.items(), loaded_words, part),
         }
     }
 }
@@ -177,17 +178,19 @@ fn left_of_pred(pred: &Pred, change: Change) -> Option<Item>
 }
 
 // The same by going through the items.
-fn all_so(items: &[Item], loaded_words: &LoadedWords, part: u32) -> bool
+fn all_so<T: TxType>(ty: &T, items: &[Item], loaded_words: &LoadedWords, part: u32) -> bool
     ensures { result ≡ list_all (is_so part loaded_words.now.items) items.now }
 {
-    items.iter().all(|item| is_so(item, loaded_words, part))
+    items.iter().all(|item| is_so(ty, item, loaded_words, part))
 }
 
-fn is_so(item: &Item, loaded_words: &LoadedWords, part: u32) -> bool
+fn is_so<T: TxType>(ty: &T, item: &Item, loaded_words: &LoadedWords, part: u32) -> bool
     ensures { result ≡ is_so part loaded_words.now.items item.now }
 {
     match item {
         Item::Seen(_) => true,
-        Item::Holds(pred) => pred.part != part || holds(pred, loaded_words.value(part, pred.word)),
+        Item::Holds(pred) => {
+            pred.part != part || ty.check(pred, loaded_words.value(part, pred.word))
+        }
     }
 }

@@ -13,7 +13,8 @@ use crate::loaded_words::LoadedWords;
 use std::alloc::{AllocError, Global};
 use std::marker::Model;
 use sto_item::Item;
-use sto_part::{NoMemory, Pred, holds};
+use sto_part::{NoMemory, Pred};
+use sto_type::TxType;
 
 /// Predicates in rising order of their parts, so those on a part are found in logarithmic time.
 #[derive(Drop)]
@@ -44,21 +45,21 @@ impl Predicates {
         }
     }
 
-    /// Whether those on a part are true of the words that were read.
-    pub(crate) fn are_true(&self, loaded_words: &LoadedWords, part: u32) -> bool
+    /// Whether the type finds those on a part to be true of the words that were read.
+    pub(crate) fn are_true<T: TxType>(&self, ty: &T, loaded_words: &LoadedWords, part: u32) -> bool
         ensures { (items : List Item) → ArePredsOf items self.now → result ≡ list_all (is_so part loaded_words.now.items) items }
     {
-        all_true(on_part(self.list.as_slice(), part), loaded_words, part)
+        all_true(ty, on_part(self.list.as_slice(), part), loaded_words, part)
     }
 }
 
-// Whether predicates on a part are true of the words that were read.
-fn all_true(preds: &[Pred], loaded_words: &LoadedWords, part: u32) -> bool
+// Whether the type finds predicates on a part to be true of the words that were read.
+fn all_true<T: TxType>(ty: &T, preds: &[Pred], loaded_words: &LoadedWords, part: u32) -> bool
     ensures { result ≡ list_all (λ q. holds_of q (value_read (reads_of loaded_words.now.items part) q.word)) preds.now }
 {
     preds
         .iter()
-        .all(|pred| holds(pred, loaded_words.value(part, pred.word)))
+        .all(|pred| ty.check(pred, loaded_words.value(part, pred.word)))
 }
 
 // The predicates among items.

@@ -2,7 +2,7 @@
 ghost use Rattle.std.specs.Prelude.{◌≡◌, ◌<◌, ◌+◌, ◌^◌, length, IfOk, IsTrue, IfSome};
 ghost use Rattle.std.specs.List.{All};
 
-mod calls;
+pub(crate) mod calls;
 mod split;
 
 use calls::Calls;
@@ -37,7 +37,7 @@ pub(crate) struct Twice {
     pub(crate) rows: State,
 }
 
-fn are_taken<T: TxType>(ty: &T, calls: &[Call]) -> bool
+pub(crate) fn are_taken<T: TxType>(ty: &T, calls: &[Call]) -> bool
     ensures { IsTrue result → All (T.meaning ty.now).takes calls.now }
 {
     calls.iter().all(|call| ty.takes(call))
@@ -117,7 +117,7 @@ fn are_rows(state: &State, wanted: &[ObjectRows]) -> bool {
     true
 }
 
-fn boxes(alloc: Global, values: &[i64]) -> Result<Many<TBox<i64>>, NoMemory>
+pub(crate) fn boxes(alloc: Global, values: &[i64]) -> Result<Many<TBox<i64>>, NoMemory>
     requires { length values.now < 2 ^ 32 }
 {
     let mut many = Many::new(alloc);
@@ -127,11 +127,11 @@ fn boxes(alloc: Global, values: &[i64]) -> Result<Many<TBox<i64>>, NoMemory>
     Ok(many)
 }
 
-fn get(object: u32) -> Call {
+pub(crate) fn get(object: u32) -> Call {
     call(object, 0, 0, 0)
 }
 
-fn set(object: u32, a: i64, b: i64) -> Call {
+pub(crate) fn set(object: u32, a: i64, b: i64) -> Call {
     call(object, 1, a, b)
 }
 
@@ -236,7 +236,7 @@ fn mixture(alloc: Global) -> Result<Both<Many<TBox<i64>>, Many<Split>>, NoMemory
 }
 
 // Two types side by side, where their sums are in range.
-fn side_by_side<A: TxType + Drop, B: TxType + Drop>(
+pub(crate) fn side_by_side<A: TxType + Drop, B: TxType + Drop>(
     first: A,
     second: B,
 ) -> Result<Both<A, B>, NoMemory> {

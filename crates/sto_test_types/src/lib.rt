@@ -6,6 +6,8 @@ mod alone;
 #[cfg(test)]
 mod boxes;
 #[cfg(test)]
+mod callbacks;
+#[cfg(test)]
 mod counter;
 #[cfg(test)]
 mod store;

@@ -4,4 +4,4 @@ use Rattle.sto_attempt.proofs.attempt.are_true.Given as goal
 
 -- those that were passed over are true
 abbrev pub invariant-loop-place : goal.invariant-loop-place
-invariant-loop-place l = AllTrueIn l.words l.preds ↔ AllTrueIn l.words (drop l.place l.preds)
+invariant-loop-place g l = AllTrueIn l.words l.preds ↔ AllTrueIn l.words (drop l.place l.preds)

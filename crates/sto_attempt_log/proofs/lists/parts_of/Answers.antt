@@ -5,16 +5,16 @@ use Rattle.sto_attempt_log.specs.Gathering.{gathered, seen_part, other_part}
 use Rattle.sto_attempt_log.proofs.lists.parts_of.Goals as goal
 
 pub loaded_of-requires-clause-seen : goal.loaded_of-requires-clause-seen
-loaded_of-requires-clause-seen c = subst (λ (l : List ℕ). Rises l) (sym (c.as_slice.ensures.items ∙ c.in_ok-seen.ensures)) (gathered-rises seen_part [] c.items-items.result.now tt)
+loaded_of-requires-clause-seen g c = subst (λ (l : List ℕ). Rises l) (sym (c.as_slice.ensures.items ∙ c.in_ok-seen.ensures)) (gathered-rises seen_part [] c.items-items.result.now tt)
 
 pub returns-clause-seen : goal.returns-clause-seen
-returns-clause-seen c = c.in_ok-seen.ensures ∙ ap (gathered seen_part []) c.items-items.ensures.items
+returns-clause-seen g c = c.in_ok-seen.ensures ∙ ap (gathered seen_part []) c.items-items.ensures.items
 
 pub returns-clause-loaded : goal.returns-clause-loaded
-returns-clause-loaded c = c.in_ok-loaded.ensures ∙ ap (gathered (other_part c.as_slice.result.now) []) c.items-items.ensures.items ∙ ap (λ l. gathered (other_part l) [] c.args.set.now.items) c.as_slice.ensures.items
+returns-clause-loaded g c = c.in_ok-loaded.ensures ∙ ap (gathered (other_part c.as_slice.result.now) []) c.items-items.ensures.items ∙ ap (λ l. gathered (other_part l) [] c.args.set.now.items) c.as_slice.ensures.items
 
 pub returns-clause-rising : goal.returns-clause-rising
-returns-clause-rising c = (
+returns-clause-rising g c = (
   subst (λ (l : List ℕ). Rises l) (sym c.in_ok-seen.ensures) (gathered-rises seen_part [] c.items-items.result.now tt),
   subst (λ (l : List ℕ). Rises l) (sym c.in_ok-loaded.ensures) (gathered-rises (other_part c.as_slice.result.now) [] c.items-items.result.now tt),
 )

@@ -4,4 +4,4 @@ use Rattle.sto_attempt_log.specs.Gathering.{gathered, seen_part}
 use Rattle.sto_attempt_log.proofs.lists.seen_of.Given as goal
 
 abbrev pub invariant-loop-item : goal.invariant-loop-item
-invariant-loop-item l = (gathered seen_part l.made.items (drop l.item-index l.items) ≡ gathered seen_part [] l.items) × Rises l.made.items
+invariant-loop-item g l = (gathered seen_part l.made.items (drop l.item-index l.items) ≡ gathered seen_part [] l.items) × Rises l.made.items

@@ -8,7 +8,7 @@ use Rattle.sto_attempt_log.proofs.Preds.{is_true_of, preds_so}
 use Rattle.sto_attempt_log.proofs.predicates.Predicates.are_true.Goals as goal
 
 pub returns : goal.returns
-returns c =
+returns g c =
     let p = c.args.part in
     let loaded_words = c.args.loaded_words.now.items in
     λ items same. c.all_true.ensures ∙ sym (c.on_part.ensures (λ (q : Pred). holds_of q (value_read (reads_of loaded_words p) q.word)))
