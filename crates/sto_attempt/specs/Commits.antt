@@ -36,7 +36,7 @@ module _ {T B : Type 0} (t : OfType T) (b : OfBody B) where
     -- fewer events are left
     pub left : commit_left (deal_of r) s.commit_phase < commit_left (deal_of r) commit_phase
     -- a verdict that the commit comes to has its reason
-    pub reason : (x : Verdict) → ComesTo verdict s.commit_phase x → ComesTo None commit_phase x ⊎ HasReason r.log.set.items w x
+    pub reason : (x : Verdict) → ComesTo verdict s.commit_phase x → ComesTo None commit_phase x ⊎ HasReason commit_phase r.log.set.items w x
     -- beside no other pass it is no abort
     pub alone : passes ≡ 1 → IsUndisturbed r.at r.found_tickets.items None commit_phase → IsUndisturbed r.at s.found_tickets.items verdict s.commit_phase
     pub by : EndsBy v.phase verdict

@@ -3,7 +3,7 @@ ghost use Rattle.std.specs.Prelude.{◌≡◌, ◌<◌, ◌≤◌, Some, None, l
 ghost use Rattle.std.specs.List.{list_all};
 ghost use Rattle.sto_attempt_log.specs.declared.commit_phase.CommitPhase.{CommitPhase};
 ghost use Rattle.sto_attempt_log.specs.declared.verdict.Verdict.{Verdict};
-ghost use Rattle.sto_attempt_log.specs.CommitPhases.{IsAim, IsNextCheck, IsNextPut, is_so, expected_of};
+ghost use Rattle.sto_attempt_log.specs.CommitPhases.{IsAim, IsNextCheck, IsNextPut, is_so, goes_on, expected_of};
 ghost use Rattle.sto_core.specs.Allowed.{Rises};
 ghost use Rattle.sto_attempt.specs.Commits.{IsBefore, Advances, HasPrefix};
 
@@ -190,7 +190,7 @@ impl<T: TxType, B: Body> Ready<'_, T, B> {
             };
             return None;
         }
-        if self.all_so(part) {
+        if self.goes_on(part) {
             self.commit_phase = self.aim(place + 1);
             return None;
         }
@@ -265,6 +265,14 @@ impl<T: TxType, B: Body> Ready<'_, T, B> {
         }
         self.commit_phase = self.next_check(place + 1, ticket);
         None
+    }
+
+    // Whether the loading goes on after a part: the part is seen, and its version is for the check to find, or the predicates on it are true.
+    fn goes_on(&self, part: u32) -> bool
+        requires { Rises self.now.seen.items }
+        ensures { result ≡ goes_on self.now.seen.items self.now.log.set.items self.now.loaded_words.items part }
+    {
+        is_seen(self.seen.as_slice(), part) || self.all_so(part)
     }
 
     // Whether the type finds the predicates on a part to be true of the words that were loaded.

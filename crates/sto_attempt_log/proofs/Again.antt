@@ -388,11 +388,15 @@ next_short n old fresh watches seen p next =
     omega (arith, count, ap length next.renewed.all, length-append next.renewed.done (next.next ∷ next.more))
 
 -- and has the predicates of the items on its part, where that was not seen
+pub next_unseen : (n : ℕ) (old : Known) (fresh : List ReadEntry) (watches : List Watched) (p : ℕ) (items : List Item) (o : IsObserved items watches) (next : IsNext n old fresh watches false p) → sees p items ≡ false
+next_unseen n old fresh watches p items o next =
+    let is : next.next ≡ watch_at items p = next_is n old fresh watches false p next items o in
+    sym (ap (λ (w : Watched). w.seen) is) ∙ next.whole
+
 pub next_preds : (n : ℕ) (old : Known) (fresh : List ReadEntry) (watches : List Watched) (p : ℕ) (items : List Item) (o : IsObserved items watches) (next : IsNext n old fresh watches false p) → next.next.preds ≡ preds_on p items
 next_preds n old fresh watches p items o next =
     let is : next.next ≡ watch_at items p = next_is n old fresh watches false p next items o in
-    let unseen : sees p items ≡ false = sym (ap (λ (w : Watched). w.seen) is) ∙ next.whole in
-    ap (λ (w : Watched). w.preds) is ∙ (rw unseen refl)
+    ap (λ (w : Watched). w.preds) is ∙ (rw (next_unseen n old fresh watches p items o next) refl)
 
 -- a part that is rechecked was seen
 pub next_seen : (n : ℕ) (old : Known) (fresh : List ReadEntry) (watches : List Watched) (p : ℕ) (items : List Item) (o : IsObserved items watches) (next : IsNext n old fresh watches true p) → sees p items ≡ true

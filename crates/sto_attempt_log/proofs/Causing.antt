@@ -1,5 +1,5 @@
 -- Why a change ends an attempt, and what its replies are where want of memory ends it.
-use Rattle.std.proofs.Common.{◌≡◌, ◌≤◌, ◌<◌, ℕ, zero, suc, ℤ, pos, Bool, true, List, [], ◌∷◌, ◌++◌, length, length-append, Result, Ok, Err, IfOk, OnErr, refl, ap, sym, ◌∙◌, arith, inl, inr, slice_index_or, append-nil, map, nat_eq, eqb-true, true≢false, ◌⊎◌}
+use Rattle.std.proofs.Common.{◌≡◌, ◌≤◌, ◌<◌, ℕ, zero, suc, ℤ, pos, Bool, true, false, List, [], ◌∷◌, ◌++◌, length, length-append, Result, Ok, Err, IfOk, OnErr, refl, ap, sym, ◌∙◌, arith, inl, inr, slice_index_or, append-nil, map, nat_eq, eqb-true, eq-eqb, true≢false, ◌⊎◌}
 use Rattle.std.specs.List.{Contains}
 use Rattle.std.proofs.lemmas.Bool.{cases_Bool}
 use Rattle.std.proofs.lemmas.List.{length-map}
@@ -12,7 +12,7 @@ use Rattle.sto_item.specs.Observed.{sees, is_sight_of, preds_on, pred_on}
 use Rattle.sto_model.specs.Told.{Told, told}
 use Rattle.sto_model.specs.declared.reply.Reply.{Reply}
 use Rattle.sto_core.specs.declared.view.View.{View}
-use Rattle.sto_core.specs.Event.{Event, Open, Close}
+use Rattle.sto_core.specs.Event.{Event, Open, Close, Recheck}
 use Rattle.sto_attempt_log.specs.declared.extension.Extension.{Extension}
 use Rattle.sto_attempt_log.specs.declared.verdict.Turn.{Turn}
 use Rattle.sto_attempt_log.specs.declared.verdict.Turn.TheVariants.{More, Ready, Ended}
@@ -55,8 +55,16 @@ seen_there p (i ∷ is) e = elim (cases_Bool (is_sight_of p i)) [
     is_seen (Seen q) h = ap (λ (k : ℕ). Seen k) (eqb-true q p h)
     is_seen (Holds q) h = cc
 
-pub by_read_entry : (event : Event) (items : List Item) (v : View) (p t : ℕ) (renewed : Bool) (bound : ℕ) → sees p items ≡ true → IsReason event items v p t renewed bound
-by_read_entry event items v p t renewed bound e = inr (inl (seen_there p items e))
+pub by_read_entry : (items : List Item) (v : View) (p t : ℕ) (renewed : Bool) (bound : ℕ) → sees p items ≡ true → IsReason (Recheck p) items v p t renewed bound
+by_read_entry items v p t renewed bound e = inr (inl (record { seen = seen_there p items e; by = refl }))
+
+there_seen : (p : ℕ) (items : List Item) → Contains items (Seen p) → sees p items ≡ true
+there_seen p [] c = absurd (omega (arith, c.1))
+there_seen p (i ∷ is) (zero, l, e) = rw e (rw (eq-eqb p p refl) refl)
+there_seen p (i ∷ is) (suc k, l, e) = elim (cases_Bool (is_sight_of p i)) [
+  | inl here ↦ rw here refl
+  | inr other ↦ rw other (there_seen p is (k, omega (arith, l), e))
+]
 
 -- a predicate that is false
 record FalsePred (ws : List ℤ) (ps : List Pred) : Type 0 where
@@ -101,11 +109,11 @@ pred_item p (i ∷ is) q c = elim (contains_both (pred_on p i) (preds_on p is) q
         only (zero, l, e) = e
         only (suc k, l, e) = absurd (omega (arith, l))
 
-pub by_predicate : (event : Event) (items : List Item) (v : View) (p t : ℕ) (renewed : Bool) (bound : ℕ) (ws : List ℤ) → (AllTrueIn ws (preds_on p items) → ⊥) → WasReadUnder v p t ws → IsReason event items v p t renewed bound
-by_predicate event items v p t renewed bound ws fails read =
+pub by_predicate : (event : Event) (items : List Item) (v : View) (p t : ℕ) (renewed : Bool) (bound : ℕ) (ws : List ℤ) → sees p items ≡ false → (AllTrueIn ws (preds_on p items) → ⊥) → WasReadUnder v p t ws → IsReason event items v p t renewed bound
+by_predicate event items v p t renewed bound ws unseen fails read =
     let it = false_pred ws (preds_on p items) fails in
     let h = pred_item p items it.pred it.among in
-    inr (inr (inl (record { pred = it.pred; among = h.0; on = h.1; words = ws; were_read = inl read; fails = it.fails })))
+    inr (inr (record { unseen = λ there. true≢false (sym (there_seen p items there) ∙ unseen); pred = it.pred; among = h.0; on = h.1; words = ws; were_read = inl read; fails = it.fails }))
 
 pub err_both : {T E : Type 0} (r : Result T E) (P Q : Type 0) → OnErr r P → OnErr r Q → OnErr r (P × Q)
 err_both (Ok x) P Q a b = tt

@@ -32,7 +32,7 @@ use Rattle.sto_attempt_log.specs.Asked.{IsAsked}
 use Rattle.sto_attempt_log.specs.Answers.{HasFound}
 use Rattle.sto_attempt_log.specs.Log.{IsRead}
 use Rattle.sto_attempt_log.specs.ReadSet.{words_in, ticket_in, AreClaimed, claim_of}
-use Rattle.sto_attempt_log.specs.Reasons.{IsByPredicate, IsByTest}
+use Rattle.sto_attempt_log.specs.Reasons.{IsByTest}
 use Rattle.sto_attempt_log.specs.CommitPhases.{Deal, ticket_from, is_same_part, expected_of, IsExpected, WasFound, IsChecked, FailsWith, IsDropping, IsCheckingAt}
 use Rattle.sto_attempt_log.proofs.Every.{all_contained}
 use Rattle.sto_attempt_log.proofs.Prefix.{prefix}
@@ -41,6 +41,7 @@ use Rattle.sto_attempt_log.proofs.Ticketing.{held_written}
 use Rattle.sto_attempt_log.proofs.Leaving.{Sealed, sealed_still}
 use Rattle.sto_attempt_log.proofs.Locking.{found_still, wrote_kept}
 use Rattle.sto_attempt_log.proofs.Loading.{each_but}
+use Rattle.sto_attempt_log.proofs.Sights.{among_any, any_among, loaded_unseen}
 
 -- the claim of a part that was read
 pub record ClaimAt (v : View) (number p t : ℕ) : Type 0 where
@@ -181,14 +182,14 @@ module _ (d : Deal) (law : IsLawful d.m) (n ticket : ℕ) (found_tickets : Liste
             },
           )
 
-      pub check_reason : ticket_of m ≢ s → Contains d.items (Seen p) ⊎ (IsByPredicate d.items w p (ticket_of m) ⊎ IsByTest w p (ticket_of m))
+      pub check_reason : ticket_of m ≢ s → Contains d.items (Seen p) ⊎ IsByTest d.items w p (ticket_of m)
       check_reason ne = elim expected [
         | inl k ↦ inl (h.planned.of_seen k.0.0 p k.0.1)
         | inr k ↦
             let old : WasFound v p s = subst (λ (y : ℕ). WasFound v p y) (sym k.2) (h.tests p k.0 k.1).known in
             let now = found_still v it refl (λ z a. among_front v.findings _ z a) (wrote_kept v p m) p s old in
-            let is : IsByTest it p (ticket_of m) = record { before = s; found = now.found; other = λ e. ne (sym e) } in
-            inr (inr (subst (λ (y : View). IsByTest y p (ticket_of m)) (sym is_it) is))
+            let is : IsByTest d.items it p (ticket_of m) = record { unseen = loaded_unseen d h.planned p k.0; before = s; found = now.found; other = λ e. ne (sym e) } in
+            inr (subst (λ (y : View). IsByTest d.items y p (ticket_of m)) (sym is_it) is)
       ]
 
       low : s < ticket
@@ -247,21 +248,6 @@ module _ (d : Deal) (law : IsLawful d.m) (n ticket : ℕ) (found_tickets : Liste
             | inl k ↦ absurd (h.planned.apart k.0.0 p k.0.1 a.0 p a.1 refl)
             | inr k ↦ subst (λ (k : ℕ). Among (p, k) it.checked) k.2 here
           ]
-
-pub among_any : (l : List ℕ) (p : ℕ) → list_any (is_same_part p) l ≡ true → Among p l
-among_any [] p e = cc
-among_any (q ∷ l) p e = elim (cases_Bool (nat_eq q p)) [
-  | inl hit ↦ (0, ap (λ (k : ℕ). some k) (eqb-true q p hit))
-  | inr miss ↦ let r = among_any l p (rw miss at e) in (suc r.0, r.1)
-]
-
-pub any_among : (l : List ℕ) (p : ℕ) (j : ℕ) → get_elem? l j ≡ some p → list_any (is_same_part p) l ≡ true
-any_among [] p j e = absurd (some-ne-none p (sym e))
-any_among (q ∷ l) p zero e = let same : q ≡ p = some-injective q p e in rw (eq-eqb q p same) refl
-any_among (q ∷ l) p (suc j) e = elim (cases_Bool (nat_eq q p)) [
-  | inl hit ↦ rw hit refl
-  | inr miss ↦ rw miss (any_among l p j e)
-]
 
 -- the number that the code expects is the one that the check is to find
 module _ (d : Deal) (law : IsLawful d.m) (n ticket : ℕ) (found_tickets : Listed FoundTicket) (loaded_words : List LoadedWord) (v : View) (h : IsCheckingAt d n ticket found_tickets loaded_words v) (p : ℕ) (get : slice_get d.checks n ≡ Some p) where

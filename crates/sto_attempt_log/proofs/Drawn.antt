@@ -36,6 +36,7 @@ use Rattle.sto_attempt_log.proofs.Ticketing.{held_written, may_draw}
 use Rattle.sto_attempt_log.proofs.Leaving.{Sealed, sealed_still}
 use Rattle.sto_attempt_log.proofs.Locking.{found_still}
 use Rattle.sto_attempt_log.proofs.Loading.{each_map, each_but, hold_has}
+use Rattle.sto_attempt_log.proofs.Sights.{loaded_apart}
 
 -- the entry with a ticket above all others
 pub last_entry : (k : ℕ) (es : List Entry) (e : Entry) → Each (λ (y : Entry). y.ticket ≤ k) es → e.ticket ≡ suc k → entry_of (suc k) (es ++ e ∷ []) ≡ e
@@ -98,7 +99,7 @@ module _ (d : Deal) (law : IsLawful d.m) (found_tickets : Listed FoundTicket) (l
   )
 
   covered : AllOf (IsCovered v d.seen d.loaded) d.items
-  covered = covers d.items h.going.planned.named (λ p a. (of_loaded p a).true_on)
+  covered = covers d.items h.going.planned.named (λ p a. (of_loaded p a).true_on (loaded_apart d h.going.planned p a))
 
   read_seen : Each (λ (p : ℕ). IsSome (words_in d.base p)) d.seen
   read_seen = λ j p e. all_contained (IsRead (words_in d.base)) d.items (Seen p) (h.going.planned.of_seen j p e) h.going.sealed.log.read

@@ -46,7 +46,8 @@ use Rattle.sto_attempt_log.proofs.Claimed.{claimed_still, claims_fit, part_of_cl
 use Rattle.sto_attempt_log.proofs.Drawing.{were_true}
 use Rattle.sto_attempt_log.proofs.Observing.{WasTrue}
 use Rattle.sto_attempt_log.specs.Reasons.{WasReadUnder, IsByPredicate, IsByTest}
-use Rattle.sto_attempt_log.proofs.Unheld.{task_asked, task_read_entry, task_read, part_there, part_wide}
+use Rattle.sto_attempt_log.proofs.Sights.{loaded_unseen}
+use Rattle.sto_attempt_log.proofs.Unheld.{task_loaded, task_asked, task_read_entry, task_read, part_there, part_wide}
 
 pub odd_version : (n s : ℕ) → is_free n ≡ false → nat_eq n (2 * s) ≡ false
 odd_version n s e = grind (arith, nat_tests)
@@ -173,11 +174,11 @@ module _ (d : Deal) (law : IsLawful d.m) (n i t : ℕ) (found_tickets : Listed F
           } in
           subst (λ (y : View). IsLeaving d 0 (length d.us) (Changed d.at r (ticket_of m)) y) (sym is_left) is
 
-      pub newer_reason : ticket_of m ≢ t → IsByTest w (task d n) (ticket_of m)
+      pub newer_reason : ticket_of m ≢ t → IsByTest d.items w (task d n) (ticket_of m)
       newer_reason differs =
           let k = found_still v left refl (λ z a. among_front v.findings _ z a) (wrote_kept v r m) r t h.known in
-          let it : IsByTest left (task d n) (ticket_of m) = record { before = t; found = k.found; other = λ e. differs (sym e) } in
-          subst (λ (y : View). IsByTest y (task d n) (ticket_of m)) (sym is_left) it
+          let it : IsByTest d.items left (task d n) (ticket_of m) = record { unseen = loaded_unseen d h.going.planned r (task_loaded d law n v h.going.sealed h.going.planned h.below h.unwritten); before = t; found = k.found; other = λ e. differs (sym e) } in
+          subst (λ (y : View). IsByTest d.items y (task d n) (ticket_of m)) (sym is_left) it
 
     -- it found the version of its beginning
     module _ (again : nat_eq m (2 * t) ≡ true) where
@@ -231,7 +232,7 @@ module _ (d : Deal) (law : IsLawful d.m) (n i t : ℕ) (found_tickets : Listed F
           let this : IsDone d found_tickets.items loaded_words made r = record {
             read = whole;
             tested = λ free. (any_own (is_recent v r) v.claims one recent, ap (λ (c : Claim). c.words) last, ap (λ (c : Claim). c.ticket) last ∙ sym h.ticket, λ s e. subst (λ (k : ℕ). s ≤ k) (sym h.ticket) (h.not_before s e), subst (λ (k : ℕ). WasFound made r k) (sym h.ticket) (known_made r t h.known));
-            true_on = true_all;
+            true_on = λ unseen. true_all;
           } in
           let at : slice_get d.tasks n ≡ Some r = slice_get-get_or d.tasks n 0 h.below in
           let it : IsLoadingAt d (suc n) found_tickets loaded_words made = record {
@@ -277,7 +278,8 @@ module _ (d : Deal) (law : IsLawful d.m) (n i t : ℕ) (found_tickets : Listed F
         pub fails_reason : IsByPredicate d.items w (task d n) t
         fails_reason =
             let claimed : WasReadUnder made r t (words_loaded loaded_words v r) = record { claim = one; among = among_snoc v.claims one; start = refl; on = refl; with_ticket = refl; with_words = refl } in
-            let it : IsByPredicate d.items made r t = record { pred = q; among = there; on = on; words = words_loaded loaded_words v r; were_read = inl claimed; fails = fails } in
+            let it : IsByPredicate d.items made r t =
+            record { unseen = loaded_unseen d h.going.planned r (task_loaded d law n v h.going.sealed h.going.planned h.below h.unwritten); pred = q; among = there; on = on; words = words_loaded loaded_words v r; were_read = inl claimed; fails = fails } in
             subst (λ (y : View). IsByPredicate d.items y (task d n) t) (sym is_made) it
 
         pub end_fails : IsLeaving d 0 (length d.us) (Changed d.at (task d n) t) w

@@ -76,7 +76,7 @@ module _ (d : Deal) (law : IsLawful d.m) (n i : ℕ) (found_tickets : Listed Fou
   read_all : AllRead (reads_of loaded_words' p) (width_in v p)
   read_all = subst (AllRead (reads_of loaded_words' p)) (last ∙ sym (task_wide d law n i found_tickets loaded_words v h)) (words_more d law n i found_tickets loaded_words v h w passes m x t)
 
-  pub load_done : AllOf (IsTrueOn (task d n) (words_loaded loaded_words' v (task d n))) d.items → (next : ℕ) → next ≡ suc n → IsLoadingAt d next found_tickets loaded_words' w
+  pub load_done : ((Among (task d n) d.seen → ⊥) → AllOf (IsTrueOn (task d n) (words_loaded loaded_words' v (task d n))) d.items) → (next : ℕ) → next ≡ suc n → IsLoadingAt d next found_tickets loaded_words' w
   load_done true_all next to =
       let one : IsDone d found_tickets.items loaded_words' read p = record {
         read = read_all;
@@ -98,7 +98,7 @@ module _ (d : Deal) (law : IsLawful d.m) (n i : ℕ) (found_tickets : Listed Fou
       } in
       subst (λ (k : ℕ). IsLoadingAt d k found_tickets loaded_words' w) (sym to) (subst (λ (y : View). IsLoadingAt d (suc n) found_tickets loaded_words' y) (sym is) it)
 
-  module _ (here : (c : Parts) → d.valid v.sizes c → d.m.valid c) (q : Pred) (there : Contains d.items (Holds q)) (on : q.part ≡ task d n) (fails : IsTrueIn (words_loaded loaded_words' v (task d n)) q → ⊥) where
+  module _ (here : (c : Parts) → d.valid v.sizes c → d.m.valid c) (q : Pred) (there : Contains d.items (Holds q)) (on : q.part ≡ task d n) (fails : IsTrueIn (words_loaded loaded_words' v (task d n)) q → ⊥) (unseen : Contains d.items (Seen (task d n)) → ⊥) where
     -- the ticket found is above the number
     not_early : ticket_from 0 found_tickets.items p ≤ d.at → ⊥
     not_early early =
@@ -150,7 +150,8 @@ module _ (d : Deal) (law : IsLawful d.m) (n i : ℕ) (found_tickets : Listed Fou
           with_ticket = s.0 ∙ ap (ticket_from 0 found_tickets.items) s.1;
           with_words = ap (λ (l : Reads). words_read l (width_in v p)) (r.0 ∙ ap (reads_of loaded_words') r.1);
         } in
-        let it : IsByPredicate d.items read p (ticket_from 0 found_tickets.items p) = record { pred = q; among = there; on = on; words = words_loaded loaded_words' v p; were_read = inr under; fails = fails } in
+        let it : IsByPredicate d.items read p (ticket_from 0 found_tickets.items p) =
+        record { unseen = unseen; pred = q; among = there; on = on; words = words_loaded loaded_words' v p; were_read = inr under; fails = fails } in
         subst (λ (y : View). IsByPredicate d.items y (task d n) (ticket_from 0 found_tickets.items (task d n))) (sym is) it
 
     pub load_fails : IsLeaving d 0 (length d.us) (Changed d.at (task d n) (ticket_from 0 found_tickets.items (task d n))) w

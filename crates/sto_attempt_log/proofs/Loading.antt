@@ -214,7 +214,7 @@ module _ (d : Deal) (law : IsLawful d.m) (n i : ℕ) (found_tickets : Listed Fou
             record {
               read = subst (λ (l : Reads). AllRead l (width_in v q)) same was.read;
               tested = λ free. let old = was.tested free in (old.0, old.1 ∙ ap (λ (l : Reads). words_read l (width_in v q)) same, old.2, old.3, found_still v read refl (λ z a. a) (λ z a. a) q (ticket_from 0 found_tickets.items q) old.4);
-              true_on = subst (λ (l : Reads). AllOf (IsTrueOn q (words_read l (width_in v q))) d.items) same was.true_on;
+              true_on = λ unseen. subst (λ (l : Reads). AllOf (IsTrueOn q (words_read l (width_in v q))) d.items) same (was.true_on unseen);
             }
 
     as_before : Each (IsAsBefore d found_tickets.items) loaded_words'

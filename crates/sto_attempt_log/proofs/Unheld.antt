@@ -75,11 +75,11 @@ none_loaded d n (l ∷ loaded_words) b free e = elim (cases_Bool (nat_eq l.part 
 
 -- a part of those to be loaded that is not held
 module _ (d : Deal) (law : IsLawful d.m) (n : ℕ) (v : View) (sealed : Sealed d v) (planned : IsPlanned d) (below : n < length d.tasks) (unwritten : writes d.us (task d n) ≡ false) where
-  there : Among (task d n) d.loaded
-  there = each_at (λ (q : ℕ). writes d.us q ≡ false → Among q d.loaded) d.tasks n 0 planned.from_tasks below unwritten
+  pub task_loaded : Among (task d n) d.loaded
+  task_loaded = each_at (λ (q : ℕ). writes d.us q ≡ false → Among q d.loaded) d.tasks n 0 planned.from_tasks below unwritten
 
   on : (q : Pred) × Contains d.items (Holds q) × (q.part ≡ task d n)
-  on = planned.on_loaded there.0 (task d n) there.1
+  on = planned.on_loaded task_loaded.0 (task d n) task_loaded.1
 
   pub task_asked : IsAsked d.m d.f d.rs (task d n)
   task_asked = subst (IsAsked d.m d.f d.rs) on.2 (all_contained (λ (y : Item). IsAsked d.m d.f d.rs (part_of_item y)) d.items (Holds on.0) on.1 sealed.log.asked_items)
@@ -308,7 +308,7 @@ module _ (d : Deal) (law : IsLawful d.m) (n i t : ℕ) (found_tickets : Listed F
             record {
               read = subst (λ (l : Reads). AllRead l (width_in v q)) same was.read;
               tested = λ free. let old = was.tested free in (old.0, old.1 ∙ ap (λ (l : Reads). words_read l (width_in v q)) same, old.2, old.3, found_still v read refl (λ z a. a) (λ z a. a) q (ticket_from 0 found_tickets.items q) old.4);
-              true_on = subst (λ (l : Reads). AllOf (IsTrueOn q (words_read l (width_in v q))) d.items) same was.true_on;
+              true_on = λ unseen. subst (λ (l : Reads). AllOf (IsTrueOn q (words_read l (width_in v q))) d.items) same (was.true_on unseen);
             }
 
     unheld_r : holds r v.held ≡ false

@@ -1,6 +1,6 @@
 -- How a commit stands to the view of its pass, by its phase.
-use Rattle.std.specs.Prelude.{◌≡◌, ◌≢◌, ◌≤◌, ◌<◌, ◌+◌, ◌^◌, ◌⊎◌, ℕ, suc, ℤ, true, false, Bool, nat_eq, ◌&&◌, if◌then◌else◌, Option, Some, None, List, [], ◌∷◌, map, take, drop, length, slice_index_or}
-use Rattle.std.specs.List.{Contains, list_any}
+use Rattle.std.specs.Prelude.{◌≡◌, ◌≢◌, ◌≤◌, ◌<◌, ◌+◌, ◌^◌, ◌⊎◌, ℕ, suc, ℤ, true, false, Bool, nat_eq, ◌&&◌, ◌||◌, if◌then◌else◌, Option, Some, None, List, [], ◌∷◌, map, take, drop, length, slice_index_or}
+use Rattle.std.specs.List.{Contains, list_any, list_all}
 use Rattle.std.specs.Option.{option_map_or}
 use mathlib.Core.Option.{some}
 use lib.ListN.{get_elem?}
@@ -180,17 +180,25 @@ abbrev pub is_so : ℕ → List LoadedWord → Item → Bool
 is_so p loaded_words (Seen q) = true
 is_so p loaded_words (Holds q) = if nat_eq q.part p then holds_of q (value_read (reads_of loaded_words p) q.word) else true
 
+-- the part is the second
+abbrev pub is_same_part : ℕ → ℕ → Bool
+is_same_part p q = nat_eq q p
+
+-- the loading goes on after the part: it is seen, and its version is for the check to find, or all predicates on it are true of the words that were loaded
+abbrev pub goes_on : List ℕ → List Item → List LoadedWord → ℕ → Bool
+goes_on seen items loaded_words p = list_any (is_same_part p) seen || list_all (is_so p loaded_words) items
+
 -- the words of a part that were loaded
 abbrev pub words_loaded : List LoadedWord → View → ℕ → List ℤ
 words_loaded loaded_words v p = words_read (reads_of loaded_words p) (width_in v p)
 
--- a part is loaded, and its predicates are true of the words: under its hold, or by a test, whose claim is the last one of the part
+-- a part is loaded, and where it is not seen its predicates are true of the words: under its hold, or by a test, whose claim is the last one of the part
 pub record IsDone (d : Deal) (found_tickets : List FoundTicket) (loaded_words : List LoadedWord) (v : View) (p : ℕ) : Type 0 where
   pub read : AllRead (reads_of loaded_words p) (width_in v p)
   pub tested : writes d.us p ≡ false
       → WasClaimed v p × ((last_claim (is_recent v p) no_claim v.claims).words ≡ words_loaded loaded_words v p) × ((last_claim (is_recent v p) no_claim v.claims).ticket ≡ ticket_from 0 found_tickets p)
       × ((s : ℕ) → ticket_in d.base p ≡ Some s → s ≤ ticket_from 0 found_tickets p) × WasFound v p (ticket_from 0 found_tickets p)
-  pub true_on : AllOf (IsTrueOn p (words_loaded loaded_words v p)) d.items
+  pub true_on : (Among p d.seen → ⊥) → AllOf (IsTrueOn p (words_loaded loaded_words v p)) d.items
 
 -- a word that was loaded under a hold is the one that was read before, where the ticket found is not above the number
 pub record IsAsBefore (d : Deal) (found_tickets : List FoundTicket) (l : LoadedWord) : Type 0 where
@@ -234,9 +242,6 @@ abbrev pub IsExpected : Deal → List FoundTicket → ℕ → ℕ → Type 0
 IsExpected d found_tickets p s = (Among p d.seen × (ticket_in d.base p ≡ Some s)) ⊎ (Among p d.loaded × (writes d.us p ≡ false) × (s ≡ ticket_from 0 found_tickets p))
 
 -- the same as a number, by what the commit keeps
-abbrev pub is_same_part : ℕ → ℕ → Bool
-is_same_part p q = nat_eq q p
-
 abbrev pub expected_of : List ReadEntry → List FoundTicket → List ℕ → ℕ → ℕ
 expected_of base found_tickets seen p = if list_any (is_same_part p) seen then option_map_or (λ (t : ℕ). t) (ticket_in base p) 0 else ticket_from 0 found_tickets p
 

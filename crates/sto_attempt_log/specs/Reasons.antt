@@ -1,4 +1,4 @@
--- Why an attempt is aborted by a part that has changed: one of four reasons.
+-- Why an attempt is aborted by a part that has changed. A part that is seen is found changed by its version alone.
 use Rattle.std.specs.Prelude.{◌≡◌, ◌≢◌, ◌<◌, ◌⊎◌, ℕ, ℤ, true, Bool, List}
 use Rattle.std.specs.List.{Contains}
 use Rattle.sto_part.specs.declared.pred.Pred.{Pred}
@@ -10,7 +10,7 @@ use Rattle.sto_core.specs.declared.view.View.{View}
 use Rattle.sto_core.specs.Lists.{Among}
 use Rattle.sto_core.specs.Reads.{words_read}
 use Rattle.sto_core.specs.Views.{width_in}
-use Rattle.sto_core.specs.Event.{Event, Open, Close}
+use Rattle.sto_core.specs.Event.{Event, Open, Close, Recheck}
 use Rattle.sto_attempt_log.specs.ReadSet.{IsTrueIn}
 use Rattle.sto_attempt_log.specs.Answers.{HasFound}
 use Rattle.sto_attempt_log.specs.declared.extension.Extension.{Extension}
@@ -38,8 +38,9 @@ pub record IsReadHeld (v : View) (part ticket : ℕ) (words : List ℤ) : Type 0
   pub with_ticket : hold.ticket ≡ ticket
   pub with_words : words_read hold.reads (width_in v part) ≡ words
 
--- a predicate of the items on the part is false of the words read under the ticket
+-- the part is not seen, and a predicate of the items on it is false of the words read under the ticket
 pub record IsByPredicate (items : List Item) (v : View) (part ticket : ℕ) : Type 0 where
+  pub unseen : Contains items (Seen part) → ⊥
   pub pred : Pred
   pub among : Contains items (Holds pred)
   pub on : pred.part ≡ part
@@ -47,16 +48,22 @@ pub record IsByPredicate (items : List Item) (v : View) (part ticket : ℕ) : Ty
   pub were_read : WasReadUnder v part ticket words ⊎ IsReadHeld v part ticket words
   pub fails : IsTrueIn words pred → ⊥
 
--- the test of the part had found another ticket
-pub record IsByTest (v : View) (part ticket : ℕ) : Type 0 where
+-- the part is not seen, and its test had found another ticket
+pub record IsByTest (items : List Item) (v : View) (part ticket : ℕ) : Type 0 where
+  pub unseen : Contains items (Seen part) → ⊥
   pub before : ℕ
   pub found : HasFound v part before
   pub other : before ≢ ticket
 
--- the four reasons; v is the view at the step that found the ticket
+-- the part is seen, and the ticket was found by its recheck
+pub record IsByRecheck (event : Event) (items : List Item) (part : ℕ) : Type 0 where
+  pub seen : Contains items (Seen part)
+  pub by : event ≡ Recheck part
+
+-- why a read or an extension ends: one of three reasons; v is the view at the step that found the ticket
 abbrev pub IsReason : Event → List Item → View → ℕ → ℕ → Bool → ℕ → Type 0
 IsReason event items v part ticket renewed bound =
-    IsByReading event part ticket renewed bound ⊎ (Contains items (Seen part) ⊎ (IsByPredicate items v part ticket ⊎ IsByTest v part ticket))
+    IsByReading event part ticket renewed bound ⊎ (IsByRecheck event items part ⊎ IsByPredicate items v part ticket)
 
 -- a turn that ends with a change has one of them; the extension is that before the step
 abbrev pub IsCaused : Event → List Item → View → Extension → Turn → Type 0

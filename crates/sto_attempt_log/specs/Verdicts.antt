@@ -19,11 +19,16 @@ ComesTo None (S.Dropping t x) verdict = x ≡ verdict
 ComesTo None (S.Leaving k n x) verdict = x ≡ verdict
 ComesTo None _ verdict = ⊥
 
--- a change has one of three reasons, at the view of the step that found it: the part is seen, a predicate on it is false of the words read under the ticket, or its test
--- had found another ticket
-abbrev pub HasReason : List Item → View → Verdict → Type 0
-HasReason items v (Changed n p t) = Contains items (Seen p) ⊎ (IsByPredicate items v p t ⊎ IsByTest v p t)
-HasReason items v _ = Unit {0}
+-- the next step of the commit is a check
+abbrev pub IsCheck : CommitPhase → Type 0
+IsCheck (S.Checking n t) = Unit {0}
+IsCheck _ = ⊥
+
+-- a change has one of three reasons, at the phase and the view of the step that found it: the part is seen, and it was checked; it is not seen, and a predicate on it is false
+-- of the words read under the ticket, or its test had found another ticket
+abbrev pub HasReason : CommitPhase → List Item → View → Verdict → Type 0
+HasReason commit_phase items v (Changed n p t) = (IsCheck commit_phase × Contains items (Seen p)) ⊎ (IsByPredicate items v p t ⊎ IsByTest items v p t)
+HasReason commit_phase items v _ = Unit {0}
 
 abbrev pub IsWrote : Verdict → Type 0
 IsWrote (Wrote t) = Unit {0}

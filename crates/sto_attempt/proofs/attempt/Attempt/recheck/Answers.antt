@@ -224,7 +224,7 @@ pub returns-then-newer-ticket-clause-reason : goal.returns-then-newer-ticket-cla
 returns-then-newer-ticket-clause-reason g c =
     let a = c.args.self.now in
     let ws = map watched a.extension.watches.items in
-    by_read_entry (Recheck c.args.part) a.log.set.items (g.C.Cells.view c.recheck-found.new.self) c.args.part c.ticket-newer.result a.extension.extended a.extension.bound
+    by_read_entry a.log.set.items (g.C.Cells.view c.recheck-found.new.self) c.args.part c.ticket-newer.result a.extension.extended a.extension.bound
     (next_seen (length (g.T.TxType.meaning a.log.ty.now).widths) (words_in a.log.base.items) a.extension.fresh.items ws c.args.part a.log.set.items c.requires.goes.observed c.requires.goes.stands.1)
 
 pub returns-then-is_locked-clause-left : goal.returns-then-is_locked-clause-left

@@ -16,7 +16,7 @@ use Rattle.sto_attempt_log.specs.ReadSet.{words_in, AllTrueIn}
 use Rattle.sto_attempt_log.specs.Answers.{WasChanged}
 use Rattle.sto_attempt_log.specs.Standing.{IsRenewed, IsNext, Spans, IsLeft}
 use Rattle.sto_attempt_log.proofs.Reading.{always_err}
-use Rattle.sto_attempt_log.proofs.Again.{some_old, some_anew, reclose_allowed, reclosed_left, reclosed_within, reclosed_locked, reclosed_changed, reclosed_false, reclosed_spans, reclosed_renewed, next_place, next_short, next_preds}
+use Rattle.sto_attempt_log.proofs.Again.{some_old, some_anew, reclose_allowed, reclosed_left, reclosed_within, reclosed_locked, reclosed_changed, reclosed_false, reclosed_spans, reclosed_renewed, next_place, next_short, next_preds, next_unseen}
 use Rattle.std.proofs.Common.{◌-◌, ◌+◌, drop, OnOk}
 use Rattle.sto_core.specs.Event.{Close}
 use Rattle.sto_item.specs.Observed.{Watched}
@@ -287,7 +287,8 @@ returns-then-not-are_true-clause-reason g c =
     let same_preds : next.next.preds ≡ preds = ap (λ (x : Watched). x.preds) is_next in
     let are : preds ≡ preds_on c.args.part a.log.set.items = sym same_preds ∙ next_preds (length m.widths) old fresh ws c.args.part a.log.set.items goes.observed next in
     let fails : AllTrueIn a.words.items preds → ⊥ = λ h. true≢false (sym (c.are_true.ensures.1 (subst (λ (l : List ℤ). AllTrueIn l c.as_slice.result.now) (sym c.as_slice-2.ensures.items) (subst (λ (l : List Pred). AllTrueIn a.words.items l) (sym c.as_slice.ensures.items) h))) ∙ c.if-not-are_true.true) in
-    by_predicate (Close c.args.part) a.log.set.items w c.args.part c.args.ticket a.extension.extended a.extension.bound a.words.items (λ h. fails (subst (λ (l : List Pred). AllTrueIn a.words.items l) (sym are) h))
+    by_predicate (Close c.args.part) a.log.set.items w c.args.part c.args.ticket a.extension.extended a.extension.bound a.words.items
+    (next_unseen (length m.widths) old fresh ws c.args.part a.log.set.items goes.observed next) (λ h. fails (subst (λ (l : List Pred). AllTrueIn a.words.items l) (sym are) h))
     (reclosed_read m law g.T.Naming.valid sizes is f a.at a.extension.bound c.args.part false a.log.base.items fresh a.log.set.items ws a.log.set.updates rs v goes.spans goes.observed goes.stands.3 c.requires.before.log.log c.args.ticket a.words.items goes.stands.0 goes.stands.1 c.requires.all w passes n c.close-found.ensures.tells free same)
 
 pub returns-then-is_locked-clause-left : goal.returns-then-is_locked-clause-left

@@ -13,6 +13,7 @@ use Rattle.sto_attempt_log.proofs.Remaining.{check_lowers, refuse_lowers}
 use Rattle.sto_attempt_log.proofs.Space.{space_checks}
 use Rattle.sto_attempt_log.proofs.Checks.{check_reason, check_unheld}
 use Rattle.sto_attempt_log.proofs.Undisturbed.{checks_on, not_busy}
+use Rattle.sto_attempt_log.specs.declared.commit_phase.CommitPhase.TheVariants as S
 use Rattle.sto_attempt_log.specs.Verdicts.{HasReason}
 use Rattle.sto_attempt_log.specs.Reasons.{IsByPredicate, IsByTest}
 use Rattle.std.specs.List.{Contains}
@@ -54,7 +55,7 @@ returns-then-not-is_written-clause-advances g c =
       left =
           let h = c.requires.stands in
           refuse_lowers d k h.0;
-      reason = λ y e. inr (subst (λ z. HasReason a.log.set.items w z) e tt);
+      reason = λ y e. inr (subst (λ z. HasReason (S.Checking c.args.place c.args.ticket) a.log.set.items w z) e tt);
       alone =
           let h = c.requires.stands.1 in
           λ one quiet. absurd (not_busy v p n (c.check-found.ensures.tells.learns.alone one) (check_unheld d law c.args.place c.args.ticket a.found_tickets a.loaded_words.items v h p c.get-part.ensures other) busy);
@@ -95,7 +96,10 @@ returns-then-newer-expected-clause-advances g c =
             | else-is_locked-via-else-is_locked x ↦ own_free d c.args.place c.args.ticket a.found_tickets a.loaded_words.items v h p n (locked_is (is_free n) (sym c.is_locked.ensures ∙ x.if-is_locked.false))
           ] in
           let is = expected_is d law c.args.place c.args.ticket a.found_tickets a.loaded_words.items v h p c.get-part.ensures c.expected.result c.expected.ensures in
-          λ y e. inr (subst (λ z. HasReason a.log.set.items w z) e (subst (λ (t : ℕ). Contains a.log.set.items (Seen p) ⊎ (IsByPredicate a.log.set.items w p t ⊎ IsByTest w p t)) (sym c.ticket-newer.ensures.ticket) (check_reason d law c.args.place c.args.ticket a.found_tickets a.loaded_words.items v h p c.get-part.ensures w _ n _ c.check-found.ensures.tells own c.expected.result is ne)));
+          λ y e. inr (subst (λ z. HasReason (S.Checking c.args.place c.args.ticket) a.log.set.items w z) e (elim (check_reason d law c.args.place c.args.ticket a.found_tickets a.loaded_words.items v h p c.get-part.ensures w _ n _ c.check-found.ensures.tells own c.expected.result is ne) [
+            | inl there ↦ inl (tt, there)
+            | inr by_test ↦ inr (inr (subst (λ (t : ℕ). IsByTest a.log.set.items w p t) (sym c.ticket-newer.ensures.ticket) by_test))
+          ]));
       alone =
           let h = c.requires.stands.1 in
           let own : is_own_or_free v p n ≡ true = elim c.else-is_locked.branch [

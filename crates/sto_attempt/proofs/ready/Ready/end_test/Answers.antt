@@ -17,6 +17,7 @@ use Rattle.sto_attempt_log.proofs.Aiming.{aimed}
 use Rattle.sto_attempt_log.proofs.Remaining.{fail_lowers, tested_lowers}
 use Rattle.sto_attempt_log.proofs.Ending.{end_unheld, fails_reason, newer_reason}
 use Rattle.sto_attempt_log.proofs.Undisturbed.{aimed_on, not_busy}
+use Rattle.sto_attempt_log.specs.declared.commit_phase.CommitPhase.TheVariants as S
 use Rattle.sto_attempt_log.specs.Verdicts.{HasReason}
 use Rattle.sto_attempt_log.specs.Reasons.{IsByPredicate, IsByTest}
 use Rattle.sto_type.specs.Traits.{of_type}
@@ -63,7 +64,7 @@ returns-then-is_locked-clause-advances g c =
       said = subst (λ (q : ℕ). IsLeaving d 0 c.len.result (Locked a.at q) w) at (subst (λ (e : ℕ). IsLeaving d 0 e (Locked a.at (task d n)) w) (sym c.len.ensures) it);
       space = search rules;
       left = fail_lowers d c.len.result c.len.ensures _;
-      reason = λ y e. inr (subst (λ z. HasReason a.log.set.items w z) e tt);
+      reason = λ y e. inr (subst (λ z. HasReason (S.Tested c.args.place c.args.word c.args.ticket) a.log.set.items w z) e tt);
       alone = λ one quiet. absurd (not_busy v (task d n) k (tells.learns.0.alone one) (end_unheld d law n i t a.found_tickets a.loaded_words.items v h all) busy);
       by = search rules;
       kept = refl;
@@ -96,7 +97,7 @@ returns-then-newer-ticket-clause-advances g c =
       said = leaving_as d (length a.updates.items) c.len-then-newer-ticket.result c.len-then-newer-ticket.ensures (task d n) p at (ticket_of k) c.ticket-newer.result found w it;
       space = search rules;
       left = fail_lowers d c.len-then-newer-ticket.result c.len-then-newer-ticket.ensures _;
-      reason = λ y e. inr (subst (λ z. HasReason a.log.set.items w z) e (inr (inr (subst (λ (q : ℕ). IsByTest w q c.ticket-newer.result) at (subst (λ (r : ℕ). IsByTest w (task d n) r) found (newer_reason d law n i t a.found_tickets a.loaded_words.items v h all w _ k _ tells (other_version k t differs) differs))))));
+      reason = λ y e. inr (subst (λ z. HasReason (S.Tested c.args.place c.args.word c.args.ticket) a.log.set.items w z) e (inr (inr (subst (λ (q : ℕ). IsByTest a.log.set.items w q c.ticket-newer.result) at (subst (λ (r : ℕ). IsByTest a.log.set.items w (task d n) r) found (newer_reason d law n i t a.found_tickets a.loaded_words.items v h all w _ k _ tells (other_version k t differs) differs))))));
       alone = λ one quiet. absurd (omega (arith, it.ends.1.later, (tells.learns.0.alone one).1, h.going.sealed.number));
       by = search rules;
       kept = refl;
@@ -171,7 +172,7 @@ returns-clause-advances g c =
       said = leaving_as d (length a.updates.items) c.len-2.result c.len-2.ensures (task d n) p at t t refl w it;
       space = search rules;
       left = fail_lowers d c.len-2.result c.len-2.ensures _;
-      reason = λ y e. inr (subst (λ z. HasReason a.log.set.items w z) e (inr (inl (subst (λ (q : ℕ). IsByPredicate a.log.set.items w q t) at (fails_reason d law n i t a.found_tickets a.loaded_words.items v h all w _ k _ tells again here f.pred f.there f.on f.fails)))));
+      reason = λ y e. inr (subst (λ z. HasReason (S.Tested c.args.place c.args.word c.args.ticket) a.log.set.items w z) e (inr (inl (subst (λ (q : ℕ). IsByPredicate a.log.set.items w q t) at (fails_reason d law n i t a.found_tickets a.loaded_words.items v h all w _ k _ tells again here f.pred f.there f.on f.fails)))));
       alone = λ one quiet. absurd (omega (arith, it.ends.1.later, same, (tells.learns.0.alone one).1, h.going.sealed.number));
       by = search rules;
       kept = refl;

@@ -8,15 +8,16 @@ use Rattle.sto_core.specs.Tells.{Tells}
 use Rattle.sto_core.specs.Views.{width_in}
 use Rattle.sto_core.specs.Allowed.{HasPart, MayRead}
 use Rattle.sto_attempt_log.specs.declared.commit_phase.LoadedWord.{LoadedWord}
-use Rattle.sto_attempt_log.specs.CommitPhases.{task, ticket_from, is_so, IsLoadingWord, Stands}
-use Rattle.std.specs.List.{list_all}
+use Rattle.sto_attempt_log.specs.CommitPhases.{task, ticket_from, goes_on, IsLoadingWord, Stands}
 use Rattle.sto_attempt_log.proofs.Loading.{may_load, load_goes, in_widths, task_wide}
-use Rattle.sto_attempt_log.proofs.Judging.{load_done, load_fails, all_true, one_fails, so_of, leaving_as}
+use Rattle.sto_attempt_log.proofs.Judging.{load_done, load_fails, all_true, one_fails, leaving_as}
+use Rattle.sto_attempt_log.proofs.Sights.{goes_of, goes_true, stops_false, stops_unseen}
 use Rattle.sto_attempt_log.proofs.Space.{space_aimed, space_more}
 use Rattle.sto_attempt_log.proofs.Aiming.{aimed}
 use Rattle.sto_attempt_log.proofs.Remaining.{fail_lowers, load_lowers, loaded_lowers}
 use Rattle.sto_attempt_log.proofs.Judging.{load_reason}
 use Rattle.sto_attempt_log.proofs.Undisturbed.{aimed_on, early_ticket}
+use Rattle.sto_attempt_log.specs.declared.commit_phase.CommitPhase.TheVariants as S
 use Rattle.sto_attempt_log.specs.Verdicts.{HasReason}
 use Rattle.sto_attempt_log.specs.Reasons.{IsByPredicate}
 use Rattle.sto_type.specs.Traits.{of_type}
@@ -97,8 +98,8 @@ returns-then-word-width-clause-advances g c =
       kept = refl;
     }
 
-pub returns-then-all_so-clause-advances : goal.returns-then-all_so-clause-advances
-returns-then-all_so-clause-advances g c =
+pub returns-then-goes_on-clause-advances : goal.returns-then-goes_on-clause-advances
+returns-then-goes_on-clause-advances g c =
     let a = c.args.self.now in
     let m = g.T.TxType.meaning a.log.ty.now in
     let law = g.met.T.TxType.lawful a.log.ty.now in
@@ -122,8 +123,8 @@ returns-then-all_so-clause-advances g c =
     let more : List LoadedWord = a.loaded_words.items ++ record { part = task d n; word = i; value = x } ∷ [] in
     let last : suc i ≡ slice_index_or m.widths (slice_index_or a.tasks.items n 0) 0 = omega (arith, h.within, width, c.if-word-width.false) in
     let wide : width_in v (task d n) ≡ slice_index_or m.widths (task d n) 0 = task_wide d law n i a.found_tickets a.loaded_words.items v h in
-    let good : list_all (is_so (task d n) more) a.log.set.items ≡ true = so_of p (task d n) at loaded_words.items more items a.log.set.items c.all_so.result c.all_so.ensures true c.if-all_so.true in
-    let all = all_true m.widths more v (task d n) wide a.log.set.items h.loading.going.sealed.log.inside good in
+    let good : goes_on a.seen.items a.log.set.items more (task d n) ≡ true = goes_of a.seen.items p (task d n) at loaded_words.items more items a.log.set.items c.goes_on.result c.goes_on.ensures true c.if-goes_on.true in
+    let all = λ apart. all_true m.widths more v (task d n) wide a.log.set.items h.loading.going.sealed.log.inside (goes_true d more (task d n) good apart) in
     let it = load_done d law n i a.found_tickets a.loaded_words.items v h w _ _ x tells last all (n + 1) (omega arith) in
     let k = c.args.place in
     record {
@@ -162,17 +163,18 @@ returns-clause-advances g c =
     let more : List LoadedWord = a.loaded_words.items ++ record { part = task d n; word = i; value = x } ∷ [] in
     let last : suc i ≡ slice_index_or m.widths (slice_index_or a.tasks.items n 0) 0 = omega (arith, h.within, width, c.if-word-width.false) in
     let wide : width_in v (task d n) ≡ slice_index_or m.widths (task d n) 0 = task_wide d law n i a.found_tickets a.loaded_words.items v h in
-    let bad : list_all (is_so (task d n) more) a.log.set.items ≡ false = so_of p (task d n) at loaded_words.items more items a.log.set.items c.all_so.result c.all_so.ensures false c.if-all_so.false in
-    let f = one_fails m.widths more v (task d n) wide a.log.set.items h.loading.going.sealed.log.inside bad in
+    let bad : goes_on a.seen.items a.log.set.items more (task d n) ≡ false = goes_of a.seen.items p (task d n) at loaded_words.items more items a.log.set.items c.goes_on.result c.goes_on.ensures false c.if-goes_on.false in
+    let f = one_fails m.widths more v (task d n) wide a.log.set.items h.loading.going.sealed.log.inside (stops_false d more (task d n) bad) in
+    let unseen = stops_unseen d more (task d n) h.loading.going.planned bad in
     let here : (y : Parts) → valid v.sizes y → m.valid y = λ y k. (g.met.T.TxType.valid_is a.log.ty.now y).1 (subst (λ (l : List ℕ). valid l y) h.loading.going.sealed.own.same_sizes k) in
-    let it = load_fails d law n i a.found_tickets a.loaded_words.items v h w _ _ x tells last here f.pred f.there f.on f.fails in
+    let it = load_fails d law n i a.found_tickets a.loaded_words.items v h w _ _ x tells last here f.pred f.there f.on f.fails unseen in
     let ticket : ticket_from 0 a.found_tickets.items (task d n) ≡ c.ticket-ticket.result = ap (ticket_from 0 a.found_tickets.items) at ∙ sym c.ticket-ticket.ensures in
     record {
       event = search rules;
       said = leaving_as d (length a.updates.items) c.len.result c.len.ensures (task d n) p at (ticket_from 0 a.found_tickets.items (task d n)) c.ticket-ticket.result ticket w it;
       space = search rules;
       left = fail_lowers d c.len.result c.len.ensures _;
-      reason = λ y e. inr (subst (λ z. HasReason a.log.set.items w z) e (inr (inl (subst (λ (q : ℕ). IsByPredicate a.log.set.items w q c.ticket-ticket.result) at (subst (λ (k : ℕ). IsByPredicate a.log.set.items w (task d n) k) ticket (load_reason d law n i a.found_tickets a.loaded_words.items v h w _ _ x tells last here f.pred f.there f.on f.fails))))));
+      reason = λ y e. inr (subst (λ z. HasReason (S.Loading c.args.place c.args.word) a.log.set.items w z) e (inr (inl (subst (λ (q : ℕ). IsByPredicate a.log.set.items w q c.ticket-ticket.result) at (subst (λ (k : ℕ). IsByPredicate a.log.set.items w (task d n) k) ticket (load_reason d law n i a.found_tickets a.loaded_words.items v h w _ _ x tells last here f.pred f.there f.on f.fails unseen))))));
       alone = λ one quiet. let early = early_ticket a.at a.found_tickets.items (task d n) 0 (omega arith) quiet.early in absurd (omega (arith, it.ends.1.later, early));
       by = search rules;
       kept = refl;

@@ -54,7 +54,7 @@ returns-then-is_locked-clause-advances g c =
           (subst (λ (l : Listed LoadedWord). Said d a.found_tickets l.items c.give_up.new.self.commit_phase w c.give_up.result) (sym loaded_words) it);
       space = space_left (g.T.TxType.meaning a.log.ty.now).widths a.tasks.items c.give_up.new.self.loaded_words c.args.place (Locked a.at c.get.result.now.0) c.give_up.new.self.commit_phase c.give_up.result c.give_up.ensures.over c.give_up.ensures.more;
       left = give_lowers d k h.below (Locked a.at c.get.result.now.0) c.give_up.new.self.commit_phase c.give_up.result c.give_up.ensures.over c.give_up.ensures.more;
-      reason = λ y e. inr (subst (λ z. HasReason a.log.set.items w z) (given c.args.place (Locked a.at u.0) c.give_up.new.self.commit_phase c.give_up.result c.give_up.ensures.over c.give_up.ensures.more y e) tt);
+      reason = λ y e. inr (subst (λ z. HasReason (Locking c.args.place) a.log.set.items w z) (given c.args.place (Locked a.at u.0) c.give_up.new.self.commit_phase c.give_up.result c.give_up.ensures.over c.give_up.ensures.more y e) tt);
       alone = λ one quiet. absurd (not_busy v u.0 n (c.lock-found.ensures.tells.learns.alone one) (lock_unheld d law c.args.place a.found_tickets a.loaded_words.items v c.requires.stands u c.get.ensures) busy);
       by = give_by c.args.place a.at c.get.result.now.0 v c.give_up.new.self.commit_phase c.give_up.result c.give_up.ensures.over c.give_up.ensures.more c.requires.stands.phase;
       kept = kept_commit_phase a c.give_up.new.self c.give_up.ensures.kept;

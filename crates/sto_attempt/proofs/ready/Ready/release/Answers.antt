@@ -3,6 +3,7 @@ use Rattle.sto_item.specs.Pending.{plain}
 use Rattle.sto_type.specs.Known.{Parts}
 use Rattle.sto_attempt_log.proofs.Installing.{may_release, release_goes, release_last}
 use Rattle.sto_attempt_log.proofs.Remaining.{release_ends, release_lowers}
+use Rattle.sto_attempt_log.specs.declared.commit_phase.CommitPhase.TheVariants as S
 use Rattle.sto_attempt_log.specs.Verdicts.{HasReason, IsWrote}
 use Rattle.sto_attempt_log.proofs.Aiming.{release_by}
 use Rattle.sto_type.specs.Traits.{of_type}
@@ -56,7 +57,7 @@ returns-clause-advances g c =
       said = (refl, r.0, r.1, r.2);
       space = search rules;
       left = release_ends d k c.args.ticket h.0;
-      reason = λ y e. inr (subst (λ z. HasReason a.log.set.items w z) e tt);
+      reason = λ y e. inr (subst (λ z. HasReason (S.Releasing c.args.place c.args.ticket) a.log.set.items w z) e tt);
       alone = λ one quiet. record { early = quiet.early; unaborted = λ y e. subst IsWrote e tt };
       by = release_by d (length a.places.items) c.args.place c.args.ticket c.requires.stands.1.0 a.loaded_words.items v c.requires.stands.1.1;
       kept = refl;

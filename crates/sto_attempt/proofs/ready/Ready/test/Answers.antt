@@ -15,6 +15,7 @@ use Rattle.sto_attempt_log.proofs.Unheld.{may_test, test_leaves, test_goes}
 use Rattle.sto_attempt_log.proofs.Remaining.{fail_lowers, test_lowers}
 use Rattle.sto_attempt_log.proofs.Undisturbed.{early_more, not_busy}
 use Rattle.sto_attempt_log.proofs.Unheld.{test_unheld}
+use Rattle.sto_attempt_log.specs.declared.commit_phase.CommitPhase.TheVariants as S
 use Rattle.sto_attempt_log.specs.Verdicts.{HasReason}
 use Rattle.sto_type.specs.Traits.{of_type}
 use Rattle.sto_attempt.specs.Commits.{deal_of}
@@ -51,7 +52,7 @@ returns-then-is_locked-clause-advances g c =
       said = subst (λ (q : ℕ). IsLeaving d 0 c.len.result (Locked a.at q) w) at (subst (λ (k : ℕ). IsLeaving d 0 k (Locked a.at (task d n)) w) (sym c.len.ensures) it);
       space = search rules;
       left = fail_lowers d c.len.result c.len.ensures _;
-      reason = λ y e. inr (subst (λ z. HasReason a.log.set.items w z) e tt);
+      reason = λ y e. inr (subst (λ z. HasReason (S.Testing c.args.place) a.log.set.items w z) e tt);
       alone = λ one quiet. absurd (not_busy v (task d n) m (tells.learns.alone one) (test_unheld d law n a.found_tickets a.loaded_words.items v c.requires.stands) busy);
       by = search rules;
       kept = refl;
