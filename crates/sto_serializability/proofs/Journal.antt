@@ -28,12 +28,11 @@ use Rattle.sto_serializability.specs.Meanings.{IsTypeOf, IsUsable}
 use Rattle.sto_history.proofs.Counts.{none_within_zero, times_ordered}
 use Rattle.sto_serializability.proofs.Chains.{Every, every, IsChain, chain_of}
 use Rattle.sto_history.proofs.Histories.{IsHistory}
-use Rattle.sto_serializability.proofs.Stands.{Stands}
+use Rattle.sto_serializability.proofs.Stands.{Stands, record_stands}
 use Rattle.sto_serializability.proofs.Pairs.{all_of, every_both}
 use Rattle.sto_serializability.proofs.Replaying.{places_of, AreWeighed, AreLeft, IsFinal, Replays, replays, shows}
 use Rattle.sto_serializability.proofs.Ordering.{finished_ended, order_is}
 use Rattle.sto_history.proofs.Standing as standing
-use Rattle.sto_serializability.proofs.Stands as stands
 
 -- the words of a closed run: the rule, the view that has gathered all others, and the type that the words were opened with
 pub record IsClosed (valid : Validity) (sizes : List ℕ) (opening : Contents) (past : Past) (core : Core) (v : View) (m : Meaning) : Type 0 where
@@ -68,7 +67,7 @@ module _ {valid : Validity} {sizes : List ℕ} {opening : Contents} {past : Past
   history = standing.history closed.rule closed.seat v closed.there closed.whole m closed.same_valid closed.same_opening rs finished.tickets
 
   pub stands : (r : Record) → IsRecord m file v r → Stands m file core.clock contents wrote rs r
-  stands r h = stands.record_stands closed.rule closed.seat v closed.there closed.whole m closed.same_valid closed.same_opening rs finished.tickets file r h
+  stands r h = record_stands closed.rule closed.seat v closed.there closed.whole m closed.same_valid closed.same_opening rs finished.tickets file r h
 
   Final : Record → Type 0
   Final r = IsFinal m file same weighed core.clock contents wrote rs history r
