@@ -1,4 +1,4 @@
-use Rattle.std.proofs.Common.{inr, ◌⊎◌, ◌≡◌, ◌≢◌, ◌+◌, ◌∙◌, ℕ, true, false, sym, subst, arith, rules, refl}
+use Rattle.std.proofs.Common.{inl, inr, ◌≡◌, ◌≢◌, ◌+◌, ◌∙◌, ℕ, true, false, sym, subst, arith, rules, refl}
 use Rattle.sto_core.specs.Event.{is_own_or_free}
 use Rattle.sto_core.specs.Versions.{ticket_of, is_free}
 use Rattle.sto_core.proofs.Lists.{locked_is, unlocked_is}
@@ -15,9 +15,7 @@ use Rattle.sto_attempt_log.proofs.Checks.{check_reason, check_unheld}
 use Rattle.sto_attempt_log.proofs.Undisturbed.{checks_on, not_busy}
 use Rattle.sto_attempt_log.specs.declared.commit_phase.CommitPhase.TheVariants as S
 use Rattle.sto_attempt_log.specs.Verdicts.{HasReason}
-use Rattle.sto_attempt_log.specs.Reasons.{IsByPredicate, IsByTest}
-use Rattle.std.specs.List.{Contains}
-use Rattle.sto_item.specs.declared.item.Item.TheVariants.{Seen}
+use Rattle.sto_attempt_log.specs.Reasons.{IsByTest}
 use Rattle.sto_attempt.proofs.ready.Ready.check.Goals as goal
 
 pub check-found-requires : goal.check-found-requires

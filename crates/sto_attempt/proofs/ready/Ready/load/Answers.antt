@@ -124,8 +124,8 @@ returns-then-goes_on-clause-advances g c =
     let last : suc i ≡ slice_index_or m.widths (slice_index_or a.tasks.items n 0) 0 = omega (arith, h.within, width, c.if-word-width.false) in
     let wide : width_in v (task d n) ≡ slice_index_or m.widths (task d n) 0 = task_wide d law n i a.found_tickets a.loaded_words.items v h in
     let good : goes_on a.seen.items a.log.set.items more (task d n) ≡ true = goes_of a.seen.items p (task d n) at loaded_words.items more items a.log.set.items c.goes_on.result c.goes_on.ensures true c.if-goes_on.true in
-    let all = λ apart. all_true m.widths more v (task d n) wide a.log.set.items h.loading.going.sealed.log.inside (goes_true d more (task d n) good apart) in
-    let it = load_done d law n i a.found_tickets a.loaded_words.items v h w _ _ x tells last all (n + 1) (omega arith) in
+    let it = load_done d law n i a.found_tickets a.loaded_words.items v h w _ _ x tells last
+    (λ apart. all_true m.widths more v (task d n) wide a.log.set.items h.loading.going.sealed.log.inside (goes_true d more (task d n) good apart)) (n + 1) (omega arith) in
     let k = c.args.place in
     record {
       event = search rules;
