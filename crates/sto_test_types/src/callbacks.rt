@@ -42,7 +42,7 @@ impl Tally {
 }
 
 // What is told of them. A change is also applied where an attempt learns anew what it has changed, so it counts only that there was one.
-#[derive(PartialEq, Eq, Debug)]
+#[derive(Clone, Copy, PartialEq, Eq, Debug)]
 struct Counts {
     guards: u32,
     checks: u32,
