@@ -41,7 +41,7 @@ impl Tally {
     }
 }
 
-// What is told of them. A change is also applied where an attempt learns anew what it has changed, so it counts only that there was one.
+// What is told of them. What has changed a word is also applied where an attempt learns it anew, so it counts only that there was one.
 #[derive(Clone, Copy, PartialEq, Eq, Debug)]
 struct Counts {
     guards: u32,
@@ -125,7 +125,9 @@ impl TxType for Noting<'_> {
     }
 
     fn install(&self, change: Change, old: i64) -> i64 {
-        note(&self.tally.installs);
+        if !matches!(change, Change::Keep) {
+            note(&self.tally.installs);
+        }
         apply_word(change, old)
     }
 }
