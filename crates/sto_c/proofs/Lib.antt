@@ -1,1 +1,4 @@
 pub mod Values
+pub mod Copying
+pub mod Planned
+pub mod Replies

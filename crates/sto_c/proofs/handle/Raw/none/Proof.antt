@@ -22,8 +22,8 @@ use Rattle.std.proofs.raw_atomic.Walks.{proved_at, leaves}
 use Rattle.std.specs.contracts.alloc.Global as heap
 use Rattle.std.proofs.alloc.Global.TheLaws as heap_laws
 use Rattle.std.specs.contracts.impls.GlobalAllocator.TheImpl.{ghosts}
-use Rattle.sto_c.specs.declared.held.HandleContent.TheVariants.{Nothing}
-use Rattle.sto_c.specs.contracts.held.HandleContent.{the_row as HeldRow}
+use Rattle.sto_c.specs.declared.content.HandleContent.TheVariants.{Nothing}
+use Rattle.sto_c.specs.contracts.content.HandleContent.{the_row as ContentRow}
 use Rattle.sto_c.proofs.Values.{both, alone, Loose, Raw, loose_good, loose_out, raw_in, owns_box}
 use Rattle.sto_c.specs.contracts.handle.Raw.none.{ended, clauses}
 use Rattle.sto_c.specs.contracts.handle.Raw.none.Key.{name as #self}
