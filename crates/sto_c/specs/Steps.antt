@@ -1,5 +1,5 @@
 -- What the calls on a worker lead to: from what a handle holds before a call to what it holds after it, by the status.
-use Rattle.std.specs.Prelude.{◌≡◌, ◌≢◌, ◌<◌, ◌≤◌, ◌⊎◌, ◌++◌, ℕ, List, [], length, map, drop, Result, Ok, Err, Option, Some, None, option_map, option_and_then, IfSome, OnOk}
+use Rattle.std.specs.Prelude.{◌≡◌, ◌<◌, ◌≤◌, ◌⊎◌, ◌++◌, ℕ, List, [], length, map, drop, Result, Ok, Err, Option, Some, None, option_map, option_and_then, IfSome, OnOk, MatchOption}
 use Rattle.std.specs.Arc.{arc_value}
 use Rattle.sto_model.specs.declared.call.Call.{Call}
 use Rattle.sto_model.specs.declared.reply.Reply.{Reply}
@@ -108,11 +108,11 @@ HasCopied items old (Ok done) new count = (new ≡ items ++ drop (length items) 
 HasCopied items old (Err status.NoRoom) new count = (new ≡ old) × (count ≡ length items) × (length old < length items)
 HasCopied items old (Err _) new count = ⊥
 
--- nothing changed; the pairs of the last reply were copied
+-- nothing changed; in a transaction the pairs of the last reply were copied
 abbrev pub HasToldPairs : (old new : List PairOut) → (counted count : ℕ) → HeldWorker → Result (Unit {0}) Status → HeldWorker → Type 0
-HasToldPairs old new counted count h (Err status.NoTransaction) k = (k ≡ h) × (replies_of h.worker ≡ None) × (new ≡ old) × (count ≡ counted)
-HasToldPairs old new counted count h done k = (k ≡ h) × (replies_of h.worker ≢ None)
-    × HasCopied (map pair_out (pairs_of (last_reply_of h))) old done new count
+HasToldPairs old new counted count h done k = (k ≡ h)
+    × MatchOption (replies_of h.worker) ((done ≡ Err status.NoTransaction) × (new ≡ old) × (count ≡ counted))
+    (λ rs. HasCopied (map pair_out (pairs_of (last_of rs.items))) old done new count)
 
 -- whatever it led to, it is a worker of the same store
 abbrev pub HasRun : HeldWorker → Result (Unit {0}) Status → HeldWorker → Type 0

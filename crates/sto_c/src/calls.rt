@@ -2,7 +2,7 @@
 ghost use Rattle.std.specs.Prelude.{◌≡◌, OnErr, option_map, unwrap_or};
 ghost use Rattle.sto_c.specs.declared.content.HandleContent.TheVariants.{Worker};
 ghost use Rattle.sto_c.specs.Content.{IsHeld, IsWorker};
-ghost use Rattle.sto_c.specs.Crossing.{reply_out};
+ghost use Rattle.sto_c.specs.Crossing.{reply_out, last_of};
 ghost use Rattle.sto_c.specs.Stores.{HasGivenBack};
 ghost use Rattle.sto_c.specs.Steps.{IsOfSameStore, HasBegun, HasAnswered, HasAsked, HasCommitted, HasCancelled, last_reply_of};
 
@@ -11,7 +11,7 @@ use crate::crossing::{CallIn, ReplyOut};
 use crate::status::Status;
 use crossbeam_utils::Backoff;
 use std::alloc::Global;
-use sto_model::Reply;
+use sto_model::{Replies, Reply};
 use sto_owned::StillOut;
 use sto_session::{Unanswered, Unbegun, Uncommitted};
 
@@ -33,13 +33,10 @@ pub(crate) fn begin(alloc: Global, held: &mut HeldWorker) -> Result<(), Status>
     }
 }
 
-/// The last reply of the transaction that it is in.
-pub(crate) fn last_reply(held: &HeldWorker) -> Option<&Reply>
-    ensures { option_map (λ r. r.now) result ≡ last_reply_of held.now }
+/// The last one of these replies.
+pub(crate) fn last_of(replies: &Replies) -> Option<&Reply>
+    ensures { option_map (λ r. r.now) result ≡ last_of replies.now.items }
 {
-    let Some(replies) = held.worker.replies() else {
-        return None;
-    };
     if replies.is_empty() {
         return None;
     }
@@ -50,7 +47,10 @@ pub(crate) fn last_reply(held: &HeldWorker) -> Option<&Reply>
 fn tell_last(held: &HeldWorker, reply: &mut ReplyOut)
     ensures { reply.new ≡ unwrap_or (option_map reply_out (last_reply_of held.now)) reply.old }
 {
-    if let Some(last) = last_reply(held) {
+    let Some(replies) = held.worker.replies() else {
+        return;
+    };
+    if let Some(last) = last_of(replies) {
         *reply = ReplyOut::of(last);
     }
 }

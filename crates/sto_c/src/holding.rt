@@ -47,8 +47,10 @@ pub(crate) fn give_back(held: &mut HandleContent) -> Result<(), Status>
     ensures given { HasGivenBack held.old result held.new }
 {
     let (content, done) = match mem::replace(held, HandleContent::Nothing) {
+        HandleContent::Nothing => (HandleContent::Nothing, Err(Status::Empty)),
+        HandleContent::Store(store) => (HandleContent::Store(store), Err(Status::OtherHandle)),
+        HandleContent::Closed(rows) => (HandleContent::Closed(rows), Err(Status::OtherHandle)),
         HandleContent::Worker(worker) => calls::give_back(worker),
-        other => (other, Err(Status::OtherHandle)),
     };
     *held = content;
     done
@@ -61,8 +63,10 @@ pub(crate) fn close(alloc: Global, held: &mut HandleContent) -> Result<(), Statu
     ensures closed { HasClosed held.old result held.new }
 {
     let (content, done) = match mem::replace(held, HandleContent::Nothing) {
+        HandleContent::Nothing => (HandleContent::Nothing, Err(Status::Empty)),
+        HandleContent::Worker(worker) => (HandleContent::Worker(worker), Err(Status::OtherHandle)),
+        HandleContent::Closed(rows) => (HandleContent::Closed(rows), Err(Status::OtherHandle)),
         HandleContent::Store(store) => opening::close(alloc, store),
-        other => (other, Err(Status::OtherHandle)),
     };
     *held = content;
     done

@@ -45,6 +45,19 @@ pub(crate) fn open(alloc: Global, shapes: &[ShapeIn], workers: u32) -> Result<He
     }
 }
 
+// Takes in the workers that came back, where none rests in the store.
+fn refill(held: &mut HeldStore) -> Result<(), NoMemory>
+    requires { IsStore held.old }
+    ensures store { IsStore held.new }
+    ensures same { IsSameStore 0 held.old held.new }
+{
+    if held.store.idle.is_empty() {
+        held.store.gather()
+    } else {
+        Ok(())
+    }
+}
+
 /// Gives a worker out that rests in the store, or has come back to it.
 pub(crate) fn hire(alloc: Global, held: &mut HeldStore) -> Result<HeldWorker, Status>
     requires { IsStore held.old }
@@ -55,9 +68,9 @@ pub(crate) fn hire(alloc: Global, held: &mut HeldStore) -> Result<HeldWorker, St
     ensures kept { IsSameStore 1 held.old held.new }
     ensures unhired { IfErr result (λ why. IsUnhiredOf held.old why held.new) }
 {
-    if held.store.gather().is_err() {
+    let Ok(()) = refill(held) else {
         return Err(Status::NoMemory);
-    }
+    };
     match held.store.hire(alloc) {
         Ok(worker) => Ok(HeldWorker {
             worker,

@@ -1,9 +1,10 @@
 //! Rows and pairs that C is told.
-ghost use Rattle.std.specs.Prelude.{◌≡◌, ◌≤◌, ◌++◌, length, map, drop, OnOk, IfOk};
-ghost use Rattle.sto_c.specs.Crossing.{pair_out, row_out, rows_out};
+ghost use Rattle.std.specs.Prelude.{◌≡◌, ◌≢◌, ◌≤◌, ◌++◌, [], length, map, drop, option_map, IfSome, IfNone, OnOk, IfOk, IfErr};
+ghost use Rattle.sto_c.specs.declared.status.Status.TheVariants.{NoRoom};
+ghost use Rattle.sto_c.specs.Crossing.{pair_out, pairs_of, row_out, rows_out};
 ghost use Rattle.sto_c.specs.Steps.{HasCopied, HasToldPairs};
 
-use crate::calls::last_reply;
+use crate::calls::last_of;
 use crate::content::HeldWorker;
 use crate::crossing::{PairOut, RowOut, RowsOut};
 use crate::status::Status;
@@ -21,9 +22,29 @@ fn copy_pairs(pairs: &Pairs, out: &mut [PairOut])
     }
 }
 
+// The pairs of a reply, if it has some.
+fn pairs_of(reply: Option<&Reply>) -> Option<&Pairs>
+    ensures some { IfSome result (λ pairs. pairs.now.items ≡ pairs_of (option_map (λ r. r.now) reply)) }
+    ensures none { IfNone result (pairs_of (option_map (λ r. r.now) reply) ≡ []) }
+{
+    let Some(reply) = reply else {
+        return None;
+    };
+    match reply {
+        Reply::Pairs(pairs) => Some(pairs),
+        Reply::Done
+        | Reply::Value(_)
+        | Reply::Flag(_)
+        | Reply::Absent
+        | Reply::Full
+        | Reply::Range => None,
+    }
+}
+
 // Copies pairs where they have room.
 fn tell_pairs(pairs: &Pairs, out: &mut [PairOut], count: &mut usize) -> Result<(), Status>
-    ensures { HasCopied (map pair_out pairs.now.items) out.old result out.new count.new }
+    ensures copied { HasCopied (map pair_out pairs.now.items) out.old result out.new count.new }
+    ensures room { IfErr result (λ why. why ≡ NoRoom) }
 {
     *count = pairs.len() as usize;
     if out.len() < *count {
@@ -39,23 +60,15 @@ pub(crate) fn last_pairs(
     out: &mut [PairOut],
     count: &mut usize,
 ) -> Result<(), Status>
-    ensures { HasToldPairs out.old out.new count.old count.new held.now result held.now }
+    ensures told { HasToldPairs out.old out.new count.old count.new held.now result held.now }
+    ensures kept { IfErr result (λ why. why ≢ NoRoom → (out.new ≡ out.old) × (count.new ≡ count.old)) }
 {
-    if held.worker.replies().is_none() {
+    let Some(replies) = held.worker.replies() else {
         return Err(Status::NoTransaction);
-    }
-    let Some(last) = last_reply(held) else {
-        *count = 0;
-        return Ok(());
     };
-    match last {
-        Reply::Pairs(pairs) => tell_pairs(pairs, out, count),
-        Reply::Done
-        | Reply::Value(_)
-        | Reply::Flag(_)
-        | Reply::Absent
-        | Reply::Full
-        | Reply::Range => {
+    match pairs_of(last_of(replies)) {
+        Some(pairs) => tell_pairs(pairs, out, count),
+        None => {
             *count = 0;
             Ok(())
         }

@@ -45,6 +45,9 @@ pub(crate) fn give<T: TxType + Drop>(
 pub(crate) fn take<T: TxType + Drop>(slot: &ReturnSlot<T>) -> Option<IdleWorker<T>>
     ensures { IfSome result (λ w. IsWorker (T.meaning slot.now.ty) (T.sizes slot.now.ty) slot.now.shared w.rest.seat) }
 {
+    if slot.load() != WAITS {
+        return None;
+    }
     let (found, claim) = slot.turn(WAITS, WAITS + TAKEN);
     if found != WAITS {
         claim.done();

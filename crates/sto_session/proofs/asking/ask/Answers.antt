@@ -1,12 +1,11 @@
 -- It goes on from where it was, and asks the call.
-use Rattle.std.proofs.Common.{List, [], ◌∷◌, ◌++◌, ap, sym, ◌∙◌, subst}
-use Rattle.sto_model.specs.declared.call.Call.{Call}
+use Rattle.std.proofs.Common.{[], ◌∷◌, ◌++◌, ap, sym, ◌∙◌, subst}
 use Rattle.sto_type.specs.Traits.{of_type}
 use Rattle.sto_core.specs.declared.view.View.{View}
 use Rattle.sto_table.specs.Rests.{IsOf}
 use Rattle.sto_live.specs.declared.live.Stopped.TheVariants.{Aborted, Untaken, NoMemory}
 use Rattle.sto_table.specs.declared.shared.Rest.{Rest}
-use Rattle.sto_session.proofs.Passing.{Pass, same_words, goes_on, more_left, still_left, all_left, free_on, fails, waits_now, waits_still, answered, untaken, aborted, stopped}
+use Rattle.sto_session.proofs.Passing.{Pass, same_words, goes_on, more_left, still_left, all_left, fails, waits_now, waits_still, answered, untaken, aborted, stopped}
 use Rattle.sto_session.proofs.asking.ask.Goals as goal
 
 pub ask-requires : goal.ask-requires

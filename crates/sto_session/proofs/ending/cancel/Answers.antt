@@ -1,5 +1,5 @@
 -- It goes on from where it was, and is given up: its pass stays as it was.
-use Rattle.std.proofs.Common.{ap, sym, ◌∙◌, subst}
+use Rattle.std.proofs.Common.{ap, sym, subst}
 use Rattle.sto_type.specs.Traits.{of_type}
 use Rattle.sto_table.specs.declared.shared.Rest.{Rest}
 use Rattle.sto_session.specs.declared.ending.Uncommitted.{Uncommitted}
