@@ -11,6 +11,8 @@ use Rattle.sto_open.specs.declared.worker.IdleWorker.{IdleWorker}
 use Rattle.sto_open.specs.declared.unplanned.Unplanned.TheVariants as unplanned
 use Rattle.sto_open.specs.Plans.{IsReason}
 use Rattle.sto_open.specs.Working.{IsWorker, AreRowsAfter}
+use Rattle.sto_session.specs.Steps.{IsUnchanged}
+use Rattle.sto_owned.specs.Owned.{Leads}
 use Rattle.sto_c.specs.declared.crossing.ShapeIn.{ShapeIn}
 use Rattle.sto_c.specs.declared.crossing.RowOut.{RowOut}
 use Rattle.sto_c.specs.declared.content.HandleContent.{HandleContent}
@@ -104,7 +106,8 @@ abbrev pub HasGivenBack : HandleContent → Result (Unit {0}) Status → HandleC
 HasGivenBack Nothing done y = (done ≡ Err status.Empty) × (y ≡ Nothing)
 HasGivenBack (Worker h) (Ok done) y = y ≡ Nothing
 HasGivenBack (Worker h) (Err status.InTransaction) y = (y ≡ Worker h) × IfSome h.worker.session (λ x. x.live ≢ None)
-HasGivenBack (Worker h) (Err status.Busy) y = (y ≡ Worker h) × IfSome h.worker.session (λ x. x.live ≡ None)
+HasGivenBack (Worker h) (Err status.Busy) (Worker k) = (k.worker.store ≡ h.worker.store) × (k.objects ≡ h.objects)
+    × Leads IsUnchanged h.worker.session k.worker.session × IfSome h.worker.session (λ x. x.live ≡ None)
 HasGivenBack (Worker h) (Err _) y = ⊥
 HasGivenBack x done y = (done ≡ Err status.OtherHandle) × (y ≡ x)
 

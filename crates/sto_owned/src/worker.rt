@@ -5,7 +5,7 @@ ghost use Rattle.sto_open.specs.Working.{IsWorker};
 ghost use Rattle.sto_session.specs.Sessions.{IsSessionOf};
 ghost use Rattle.sto_session.specs.Steps.{HasBegun, HasAsked, HasEndedBy, HasCommittedAfter, HasCancelledAfter};
 ghost use Rattle.sto_owned.specs.Owned.{Leads, IsOwnedWorker, replies_of};
-ghost use Rattle.sto_owned.specs.Endings.{StaysOut};
+ghost use Rattle.sto_owned.specs.Endings.{StaysOut, worker_of};
 
 use crate::given::{ReturnSlot, give};
 use std::alloc::Global;
@@ -148,7 +148,8 @@ impl<T: TxType + Drop> OwnedWorker<T> {
     /// Gives the worker back to its store, where it waits until `OwnedStore::gather` takes it in.
     pub fn give_back(self) -> Result<(), StillOut<T>>
         requires { IsOwnedWorker T.TxType self }
-        ensures { IfErr result (StaysOut self) }
+        ensures worker { IfErr result (λ why. IsOwnedWorker T.TxType (worker_of why)) }
+        ensures out { IfErr result (StaysOut self) }
     {
         let OwnedWorker {
             store,

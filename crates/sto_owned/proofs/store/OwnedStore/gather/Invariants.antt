@@ -4,8 +4,8 @@ use Rattle.sto_type.specs.Traits.{of_type}
 use Rattle.sto_owned.specs.Owned.{IsOwnedStore}
 use Rattle.sto_owned.proofs.store.OwnedStore.gather.Given as goal
 
-abbrev pub invariant-loop : goal.invariant-loop
-invariant-loop g l = record {
+abbrev pub invariant-loop-place : goal.invariant-loop-place
+invariant-loop-place g l = record {
   owned : IsOwnedStore (of_type g.T.Naming g.T.TxType) l.self;
   store : l.self.store ≡ l.fn.self.store;
   slots : l.place ≤ length l.self.slots.items;
@@ -14,5 +14,5 @@ invariant-loop g l = record {
   idle : length l.fn.self.idle.items ≤ length l.self.idle.items;
 }
 
-abbrev pub decreases-loop : goal.decreases-loop
-decreases-loop g l = l.place
+abbrev pub decreases-loop-place : goal.decreases-loop-place
+decreases-loop-place g l = l.place
