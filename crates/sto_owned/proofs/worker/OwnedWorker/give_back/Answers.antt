@@ -1,8 +1,9 @@
 -- It is in no transaction, and as it was.
-use Rattle.std.proofs.Common.{rules, ◌≡◌, Bool, false, Option, Some, None, refl, sym, ◌∙◌, subst}
+use Rattle.std.proofs.Common.{rules, ◌≡◌, Bool, false, Option, Some, None, refl, sym, ap, ◌∙◌, subst}
 use Rattle.std.specs.Prelude.{is_some, IfSome}
 use Rattle.std.specs.Arc.{arc_value}
 use Rattle.sto_type.specs.Traits.{of_type}
+use Rattle.sto_open.specs.declared.worker.IdleWorker.{IdleWorker}
 use Rattle.sto_session.specs.declared.session.Session.{Session}
 use Rattle.sto_session.specs.Steps.{IsUnchanged}
 use Rattle.sto_session.proofs.Keeping.{unchanged_stands}
@@ -20,8 +21,8 @@ returns-in-Err-clause-worker g c =
     let x = c.in-Some.session in
     let y = c.new.result in
     let free : x.live ≡ None = not_some x.live (search rules) in
-    let rest : y.rest ≡ x.rest = cc in
-    let left : y.left ≡ x.left = cc in
+    let rest : y.rest ≡ x.rest = c.new.ensures.rest ∙ ap (λ (w : IdleWorker g.row.T.Denot g.T.Naming). w.rest) c.in-Err.ensures in
+    let left : y.left ≡ x.left = c.new.ensures.left ∙ ap (λ (w : IdleWorker g.row.T.Denot g.T.Naming). w.left) c.in-Err.ensures in
     let at : IsAt t s (Some x) = subst (λ (o : Option (Session g.row.T.Denot g.T.Naming)). IsAt t s o) c.in-Some.is c.requires.at in
     record {
       at = unchanged_stands t s.ty s.shared x y (rest, left, c.new.ensures.free ∙ sym free) at;
@@ -33,8 +34,8 @@ returns-in-Err-clause-out g c =
     let x = c.in-Some.session in
     let y = c.new.result in
     let free : x.live ≡ None = not_some x.live (search rules) in
-    let rest : y.rest ≡ x.rest = cc in
-    let left : y.left ≡ x.left = cc in (
+    let rest : y.rest ≡ x.rest = c.new.ensures.rest ∙ ap (λ (w : IdleWorker g.row.T.Denot g.T.Naming). w.rest) c.in-Err.ensures in
+    let left : y.left ≡ x.left = c.new.ensures.left ∙ ap (λ (w : IdleWorker g.row.T.Denot g.T.Naming). w.left) c.in-Err.ensures in (
       refl,
       refl,
       subst (λ (o : Option (Session g.row.T.Denot g.T.Naming)). Leads IsUnchanged o (Some y)) (sym c.in-Some.is) (rest, left, c.new.ensures.free ∙ sym free),
