@@ -1,5 +1,5 @@
 -- Why a worker was not given out or given back, and why a store was not closed.
-use Rattle.std.specs.Prelude.{◌≡◌, ◌≢◌, [], IfSome, Some, None}
+use Rattle.std.specs.Prelude.{◌≡◌, ◌≢◌, [], IfSome, None}
 use Rattle.sto_part.specs.declared.naming.Naming as naming
 use Rattle.sto_session.specs.Steps.{IsUnchanged}
 use Rattle.sto_owned.specs.declared.store.OwnedStore.{OwnedStore}

@@ -1,5 +1,5 @@
 -- It is in no transaction, and as it was.
-use Rattle.std.proofs.Common.{rules, ◌≡◌, Bool, false, Option, Some, None, refl, sym, ap, ◌∙◌, subst}
+use Rattle.std.proofs.Common.{rules, ◌≡◌, false, Option, Some, None, refl, sym, ap, ◌∙◌, subst}
 use Rattle.std.specs.Prelude.{is_some, IfSome}
 use Rattle.std.specs.Arc.{arc_value}
 use Rattle.sto_type.specs.Traits.{of_type}
