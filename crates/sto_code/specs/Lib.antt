@@ -2,4 +2,5 @@ pub mod Shortened
 pub mod Progs
 pub mod Calls
 pub mod Steps
+pub mod Alone
 pub use Rattle.sto_model.specs.Told

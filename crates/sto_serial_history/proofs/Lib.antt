@@ -1,0 +1,4 @@
+pub mod Doing
+pub mod Serial
+pub mod Keeping
+pub mod Examples

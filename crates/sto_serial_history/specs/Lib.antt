@@ -1,0 +1,3 @@
+pub mod History
+pub mod Done
+pub mod Keeping
