@@ -1,4 +1,4 @@
--- Records of which the last one is aborted are all aborted, and wrote nothing.
+-- Of the records of a transaction only the last one can have written.
 use Rattle.std.specs.List.{All}
 use Rattle.std.specs.Prelude.{filter, ◌==◌, ◌&&◌, not, if◌then◌else◌}
 use Rattle.std.proofs.Common.{◌≡◌, ◌+◌, ◌<◌, ◌≤◌, ℕ, zero, suc, Bool, true, false, List, [], ◌∷◌, ◌++◌, length, map, refl, sym, ap, ◌∙◌, subst, arith, eq-eqb, true≢false}
@@ -12,7 +12,7 @@ by_test : {P : Type 0} (b : Bool) → (b ≡ true → P) → (b ≡ false → P)
 by_test true f g = f refl
 by_test false f g = g refl
 
-abort_wrote : (t : ℕ) (v : Verdict) → is_abort v ≡ true → wrote_with t v ≡ 0
+pub abort_wrote : (t : ℕ) (v : Verdict) → is_abort v ≡ true → wrote_with t v ≡ 0
 abort_wrote t (Wrote n) h = absurd (true≢false (sym h))
 abort_wrote t (Read n) h = refl
 abort_wrote t (Cancelled n) h = refl
@@ -51,25 +51,14 @@ all_aborted place t (r ∷ rs) h =
     let k = all_aborted place t rs (omega (arith, h, few, rest)) in
     omega (arith, a, k)
 
--- where none is finished, none wrote
-pub none_finished : (t : ℕ) (rs : List Record) → All (λ r. is_abort r.verdict ≡ true) rs → times_written t rs ≡ 0
-none_finished t [] h = refl
-none_finished t (r ∷ rs) h =
-    let P : Record → Type 0 = λ x. is_abort x.verdict ≡ true in
-    let a = abort_wrote t r.verdict (All-head P r rs h) in
-    let k = none_finished t rs (All-tail P r rs h) in omega (arith, a, k)
-
 pub last_item : {X : Type 0} (P : X → Type 0) (xs : List X) (x : X) → All P (xs ++ x ∷ []) → P x
 last_item P [] x h = All-head P x [] h
 last_item P (y ∷ xs) x h = last_item P xs x (All-tail P y (xs ++ x ∷ []) h)
 
-module _ (place : Place) (x : Record) (abort : is_abort x.verdict ≡ true) where
-  -- where the last one at a place is aborted, all are
-  pub all_before : (rs : List Record) → All (λ r. r.place ≡ place) (rs ++ x ∷ []) → InThreads (rs ++ x ∷ []) → All (λ r. is_abort r.verdict ≡ true) (rs ++ x ∷ [])
-  all_before [] at threads = all_one
-    where
-      all_one : All (λ (r : Record). is_abort r.verdict ≡ true) (x ∷ [])
-      all_one = All-cons (λ (r : Record). is_abort r.verdict ≡ true) x [] abort (All-nil (λ (r : Record). is_abort r.verdict ≡ true))
+module _ (place : Place) (x : Record) where
+  -- those before the last one at a place are aborted
+  pub all_before : (rs : List Record) → All (λ r. r.place ≡ place) (rs ++ x ∷ []) → InThreads (rs ++ x ∷ []) → All (λ r. is_abort r.verdict ≡ true) rs
+  all_before [] at threads = All-nil (λ (r : Record). is_abort r.verdict ≡ true)
   all_before (r ∷ rs) at threads =
       let P : Record → Type 0 = λ y. y.place ≡ place in
       let Q : Record → Type 0 = λ y. is_abort y.verdict ≡ true in
@@ -77,11 +66,19 @@ module _ (place : Place) (x : Record) (abort : is_abort x.verdict ≡ true) wher
       let there : x.place ≡ place = last_item P (r ∷ rs) x at in
       let same : r.place ≡ x.place = here ∙ sym there in
       let follows : Follows r x = last_item (λ (s : Record). r.place.0 ≡ s.place.0 → Follows r s) rs x threads.0 (ap (λ (p : Place). p.0) same) in
-      All-cons Q r (rs ++ x ∷ []) (follows.again (ap (λ (p : Place). p.1) same)) (all_before rs (All-tail P r (rs ++ x ∷ []) at) threads.1)
+      All-cons Q r rs (follows.again (ap (λ (p : Place). p.1) same)) (all_before rs (All-tail P r (rs ++ x ∷ []) at) threads.1)
 
-  -- and it is counted
-  pub some_aborted : (rs : List Record) → x.place ≡ place → 0 < aborted_times place (rs ++ x ∷ [])
-  some_aborted [] at =
+  -- so the last one alone wrote
+  pub last_wrote : (t : ℕ) (rs : List Record) → All (λ r. is_abort r.verdict ≡ true) rs → times_written t (rs ++ x ∷ []) ≡ wrote_with t x.verdict
+  last_wrote t [] h = omega arith
+  last_wrote t (r ∷ rs) h =
+      let P : Record → Type 0 = λ y. is_abort y.verdict ≡ true in
+      let a = abort_wrote t r.verdict (All-head P r rs h) in
+      let k = last_wrote t rs (All-tail P r rs h) in omega (arith, a, k)
+
+  -- and an aborted one is counted
+  pub some_aborted : is_abort x.verdict ≡ true → (rs : List Record) → x.place ≡ place → 0 < aborted_times place (rs ++ x ∷ [])
+  some_aborted abort [] at =
       let a : (x.place.0 == place.0) ≡ true = eq-eqb x.place.0 place.0 (ap (λ (p : Place). p.0) at) in
       let b : (x.place.1 == place.1) ≡ true = eq-eqb x.place.1 place.1 (ap (λ (p : Place). p.1) at) in
       let one : counted ((x.place.0 == place.0) && ((x.place.1 == place.1) && is_abort x.verdict)) ≡ 1 =
@@ -89,4 +86,4 @@ module _ (place : Place) (x : Record) (abort : is_abort x.verdict ≡ true) wher
       ∙ ap (λ (c : Bool). counted (true && (c && is_abort x.verdict))) b
       ∙ ap (λ (c : Bool). counted (true && (true && c))) abort in
       omega (arith, one)
-  some_aborted (r ∷ rs) at = let k = some_aborted rs at in omega (arith, k)
+  some_aborted abort (r ∷ rs) at = let k = some_aborted abort rs at in omega (arith, k)

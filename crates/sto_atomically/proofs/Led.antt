@@ -1,5 +1,5 @@
 -- What a transaction led to, by its attempts.
-use Rattle.std.proofs.Common.{◌≡◌, ℕ, List, Result, Ok, Err, ◌∙◌}
+use Rattle.std.proofs.Common.{◌≡◌, ◌+◌, ℕ, List, Result, Ok, Err, ◌∙◌, arith}
 use Rattle.sto_model.specs.declared.shape.Shape.{Shape}
 use Rattle.sto_type.specs.Meaning.{Meaning}
 use Rattle.sto_core.specs.declared.view.View.{View}
@@ -12,14 +12,15 @@ use Rattle.sto_atomically.specs.Atomic.{TakesNoEffect, IsAtomic, HasLed, IsUndis
 use Rattle.sto_atomically.proofs.Tried.{seen_later}
 
 -- the attempts before it saw more and took no effect
-pub atomic_since : {A : Type 0} (m : Meaning) (u v w : View) (shapes : List Shape) (most : ℕ) (p : Prog A) (says : List ShortReply → Type 0) → Grows u v
+pub atomic_since : {A : Type 0} (m : Meaning) (u v w : View) (shapes : List Shape) (most : ℕ) (p : Prog A) (says : List ShortReply → Type 0) → Grows u v → TakesNoEffect u v
     → IsAtomic m v w shapes most p says → IsAtomic m u w shapes most p says
-atomic_since m u v w shapes most p says g h = record {
+atomic_since m u v w shapes most p says g none h = record {
   replies = h.replies;
   verdict = h.verdict;
   ended = h.ended;
   told = h.told;
   since = λ n k. h.since n (seen_later u v g n k);
+  entries = λ t. (let a = h.entries t in let b = none t in omega (arith, a, b));
   said = h.said;
 }
 

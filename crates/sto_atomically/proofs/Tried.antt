@@ -10,7 +10,7 @@ use Rattle.sto_model.specs.Run.{Script as Steps}
 use Rattle.sto_model.specs.declared.shape.Shape.{Shape}
 use Rattle.sto_type.specs.Meaning.{Meaning}
 use Rattle.sto_core.specs.declared.view.View.{View}
-use Rattle.sto_attempt_facts.specs.Records.{Place, Record as Told, is_abort, times_written}
+use Rattle.sto_attempt_facts.specs.Records.{Place, Record as Told, is_abort, wrote_with, times_written}
 use Rattle.sto_attempt_facts.specs.Counted.{InThreads, times_committed, aborted_times, finished_places}
 use Rattle.sto_attempt_facts.specs.Added.{IsAdded, IsKnown, IsOwnTicket, Grows}
 use Rattle.sto_transaction.specs.declared.record.Record.{Record}
@@ -21,7 +21,7 @@ use Rattle.sto_code.specs.declared.short_reply.ShortReply.{ShortReply}
 use Rattle.sto_code.specs.declared.tx.Stop.{Stop}
 use Rattle.sto_code.specs.Progs.{Prog, next_within, Runs}
 use Rattle.sto_atomically.specs.Atomic.{HasSeen, TakesNoEffect, IsAtomic, HasTried}
-use Rattle.sto_atomically.proofs.Counts.{all_aborted, none_finished, all_before, some_aborted, last_item}
+use Rattle.sto_atomically.proofs.Counts.{abort_wrote, all_aborted, all_before, last_wrote, some_aborted, last_item}
 
 seen_known : (v : View) (n : ℕ) → HasSeen v n → IsKnown v n
 seen_known v n (inl h) = inl h
@@ -42,12 +42,16 @@ module _ (m : Meaning) (sizes : List ℕ) (passes : ℕ) (v w : View) (f : Steps
   placed : All (λ (r : Told). r.place ≡ place) (map plain left ++ plain x ∷ [])
   placed = All-weaker (IsAdded m v w f place) (λ (r : Told). r.place ≡ place) (λ r h. h.placed) (map plain left ++ plain x ∷ []) each
 
-  pub aborted_none : is_abort (verdict x.verdict) ≡ true → TakesNoEffect v w
-  aborted_none abort t =
-      let all_abort = all_before place (plain x) abort (map plain left) placed (subst InThreads new_is ran.added.threads) in
-      let none : times_written t (map plain left ++ plain x ∷ []) ≡ 0 = none_finished t (map plain left ++ plain x ∷ []) all_abort in
+  -- it is all that was committed
+  pub last_entries : (t : ℕ) → times_committed t w.entries ≡ times_committed t v.entries + wrote_with t (verdict x.verdict)
+  last_entries t =
+      let before = all_before place (plain x) (map plain left) placed (subst InThreads new_is ran.added.threads) in
+      let last = last_wrote place (plain x) t (map plain left) before in
       let same = ap (times_written t) new_is in
-      let e = ran.added.entries t in omega (arith, none, same, e)
+      let e = ran.added.entries t in omega (arith, last, same, e)
+
+  pub aborted_none : is_abort (verdict x.verdict) ≡ true → TakesNoEffect v w
+  aborted_none abort t = let e = last_entries t in let none = abort_wrote t (verdict x.verdict) abort in omega (arith, e, none)
 
   pub not_alone : is_abort (verdict x.verdict) ≡ true → passes ≡ 1 → ⊥
   not_alone abort one =
@@ -68,18 +72,6 @@ some_record m sizes passes v w f place rs false ran none =
 pub broken_none : (m : Meaning) (sizes : List ℕ) (v w : View) (f : Steps) (place : Place) (before later : List Told) → HasBroken m sizes 1 v w f place before later → TakesNoEffect v w
 broken_none m sizes v w f place before later h t = let a = all_aborted place t h.new h.aborted in let e = h.added.entries t in omega (arith, a, e)
 
-pub grows_itself : (v : View) → Grows v v
-grows_itself v = record { at = le_refl v.at; entries = λ e h c. h; claims = λ c h. h; wrote = λ c h. h; findings = λ f h. h }
-
-pub grows_through : (u v w : View) → Grows u v → Grows v w → Grows u w
-grows_through u v w g h = record {
-  at = (let a = g.at in let b = h.at in omega (arith, a, b));
-  entries = λ e there c. h.entries e (g.entries e there c) c;
-  claims = λ c there. h.claims c (g.claims c there);
-  wrote = λ c there. h.wrote c (g.wrote c there);
-  findings = λ f there. h.findings f (g.findings f there);
-}
-
 -- what was seen stays seen
 pub seen_later : (v w : View) → Grows v w → (n : ℕ) → HasSeen v n → HasSeen w n
 seen_later v w g n (inl h) = inl (let a = g.at in omega (arith, a, h))
@@ -87,14 +79,16 @@ seen_later v w g n (inr (inl h)) = inr (inl (record { entry = h.entry; there = g
 seen_later v w g n (inr (inr h)) = inr (inr (record { claim = h.claim; there = g.wrote h.claim h.there; ticket = h.ticket }))
 
 pub record_atomic : {A : Type 0} (m : Meaning) (v w : View) (shapes : List Shape) (most : ℕ) (p : Prog A) (place : Place) (x : Record) (says : List ShortReply → Type 0)
-    → IsAdded m v w (λ rs. next_within shapes most p (map short_of rs)) place (plain x) → is_abort (verdict x.verdict) ≡ false → says (map short_of (map told x.replies.items))
+    → IsAdded m v w (λ rs. next_within shapes most p (map short_of rs)) place (plain x)
+    → ((t : ℕ) → times_committed t w.entries ≡ times_committed t v.entries + wrote_with t (verdict x.verdict)) → is_abort (verdict x.verdict) ≡ false → says (map short_of (map told x.replies.items))
     → IsAtomic m v w shapes most p says
-record_atomic m v w shapes most p place x says added ended said = record {
+record_atomic m v w shapes most p place x says added entries ended said = record {
   replies = map told x.replies.items;
   verdict = verdict x.verdict;
   ended = ended;
   told = added.told;
   since = λ n h. added.since n (seen_known v n h);
+  entries = entries;
   said = said;
 }
 
@@ -119,7 +113,8 @@ told_tried m sizes passes v w shapes most p place left x rs ended None all ran h
     aborted_none m sizes passes v w (λ rs. next_within shapes most p (map short_of rs)) place left x rs ended all ran h
 told_tried m sizes passes v w shapes most p place left x rs ended (Some said) all ran h =
     record_atomic m v w shapes most p place x (λ hs. Runs p hs said)
-    (last_added m sizes passes v w (λ rs. next_within shapes most p (map short_of rs)) place left x rs ended all ran) h.0 h.1
+    (last_added m sizes passes v w (λ rs. next_within shapes most p (map short_of rs)) place left x rs ended all ran)
+    (last_entries m sizes passes v w (λ rs. next_within shapes most p (map short_of rs)) place left x rs ended all ran) h.0 h.1
 
 pub told_alone : {A : Type 0} (m : Meaning) (sizes : List ℕ) (passes : ℕ) (v w : View) (f : Steps) (place : Place) (left : List Record) (x : Record)
     (rs : List Record) (ended : Bool) (said : Option (Result A Stop)) (Q : Result A Stop → Type 0) → rs ≡ left ++ x ∷ [] → HasRun m sizes 1 passes v w f place [] (map plain rs) ended

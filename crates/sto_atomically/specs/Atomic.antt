@@ -1,14 +1,15 @@
 -- What a transaction that was run atomically tells of its value.
-use Rattle.std.specs.Prelude.{◌≡◌, ◌⊎◌, ◌≤◌, ℕ, List, map, true, false, Option, Some, None, Result, Ok, Err}
+use Rattle.std.specs.Prelude.{◌≡◌, ◌⊎◌, ◌≤◌, ◌+◌, ℕ, List, map, true, false, Option, Some, None, Result, Ok, Err}
 use Rattle.sto_part.specs.declared.NoMemory.{NoMemory}
 use Rattle.sto_model.specs.declared.shape.Shape.{Shape}
 use Rattle.sto_model.specs.Told.{Told}
+use Rattle.sto_model.specs.Run.{Script as Steps}
 use Rattle.sto_type.specs.Meaning.{Meaning}
 use Rattle.sto_core.specs.declared.view.View.{View}
 use Rattle.sto_core.specs.declared.view.Entry.{Entry}
 use Rattle.sto_core.specs.declared.view.Fate.TheVariants.{Committed}
 use Rattle.sto_core.specs.Lists.{Among}
-use Rattle.sto_attempt_facts.specs.Records.{Verdict, IsSince, is_abort}
+use Rattle.sto_attempt_facts.specs.Records.{Verdict, IsSince, is_abort, wrote_with}
 use Rattle.sto_attempt_facts.specs.Counted.{times_committed}
 use Rattle.sto_attempt_facts.specs.Told.{IsTold}
 use Rattle.sto_attempt_facts.specs.Added.{Grows, IsSeenTicket}
@@ -37,14 +38,20 @@ HasSeen v n = (n ≤ v.at) ⊎ IsCommittedTicket v n ⊎ IsSeenTicket v n
 abbrev pub TakesNoEffect : View → View → Type 0
 TakesNoEffect v w = (t : ℕ) → times_committed t w.entries ≡ times_committed t v.entries
 
+-- what code does next after each list of replies, on objects of these shapes, where it may ask so many calls
+abbrev pub steps_of : {A : Type 0} → List Shape → ℕ → Prog A → Steps
+steps_of shapes most p = λ rs. next_within shapes most p (map short_of rs)
+
 -- The code, run alone, hears these replies and then says this. It is run on all valid contents that have what the pass w looked at: for
--- a writer those right before its ticket, for a reader those as of its number (`IsTold`). It stands after all that the pass had seen
+-- a writer those right before its ticket, for a reader those as of its number (`IsTold`). It stands after all that the pass had seen, and
+-- is all that the pass committed from v to w
 pub record IsAtomic {A : Type 0} (m : Meaning) (v w : View) (shapes : List Shape) (most : ℕ) (p : Prog A) (says : List ShortReply → Type 0) : Type 0 where
   pub replies : List Told
   pub verdict : Verdict
   pub ended : is_abort verdict ≡ false
-  pub told : IsTold m w (λ rs. next_within shapes most p (map short_of rs)) replies verdict
+  pub told : IsTold m w (steps_of shapes most p) replies verdict
   pub since : (n : ℕ) → HasSeen v n → IsSince n verdict
+  pub entries : (t : ℕ) → times_committed t w.entries ≡ times_committed t v.entries + wrote_with t verdict
   pub said : says (map short_of replies)
 
 -- what one attempt led to: the code said this at its end; or it was aborted, or memory was wanting

@@ -5,12 +5,12 @@ use Rattle.sto_code.specs.declared.tx.Stop.{Stop}
 use Rattle.sto_atomically.specs.declared.outcome.Done.{Done}
 use Rattle.sto_atomically.specs.declared.outcome.Unrun.{Unrun}
 use Rattle.sto_atomically.specs.Atomic.{HasLed, HasTried}
-use Rattle.sto_atomically.proofs.Tried.{grows_through}
+use Rattle.sto_attempt_facts.proofs.Events.{grows_on}
 use Rattle.sto_atomically.proofs.Led.{atomic_since, none_through, said_led}
 use Rattle.sto_atomically.proofs.atomic.atomically.Goals as goal
 
 pub returns-in-Ok-Some-clause-grows : goal.returns-in-Ok-Some-clause-grows
-returns-in-Ok-Some-clause-grows g c = grows_through _ _ _ c.loop-aborted.invariant.grows c.attempt.ensures.grows
+returns-in-Ok-Some-clause-grows g c = grows_on _ _ _ c.loop-aborted.invariant.grows c.attempt.ensures.grows
 
 pub returns-in-Ok-Some-clause-led : goal.returns-in-Ok-Some-clause-led
 returns-in-Ok-Some-clause-led g c =
@@ -21,10 +21,10 @@ returns-in-Ok-Some-clause-led g c =
     let ss = c.args.shapes.now.items in let most = g.K.Code.most c.args.code.now in let p = g.K.Code.does c.args.code.now in
     let tried = subst (λ (o : Option (Result g.row.K-Out.Denot Stop)). HasTried m v w ss most p (Ok o)) c.in-Ok-Some.field-0-is c.in-Ok-Some.ensures.tried in
     subst (λ (r : Result (Done g.row.K-Out.Denot) Unrun). HasLed m u w ss most p r) (sym c.told.ensures)
-    (said_led m u w ss most p c.in-Ok-Some.said (atomic_since m u v w ss most p _ c.loop-aborted.invariant.grows tried))
+    (said_led m u w ss most p c.in-Ok-Some.said (atomic_since m u v w ss most p _ c.loop-aborted.invariant.grows c.loop-aborted.invariant.none tried))
 
 pub returns-in-Err-clause-grows : goal.returns-in-Err-clause-grows
-returns-in-Err-clause-grows g c = grows_through _ _ _ c.loop-aborted.invariant.grows c.attempt.ensures.grows
+returns-in-Err-clause-grows g c = grows_on _ _ _ c.loop-aborted.invariant.grows c.attempt.ensures.grows
 
 pub loop-aborted-preserved : goal.loop-aborted-preserved
 loop-aborted-preserved g c =
@@ -36,7 +36,7 @@ loop-aborted-preserved g c =
     record {
       rests = c.attempt.ensures.rests;
       left = (let a = c.attempt.ensures.draws in let b = inv.left in let n = c.if-left-eq0.false in omega (arith, a, b, n));
-      grows = grows_through _ _ _ inv.grows c.attempt.ensures.grows;
+      grows = grows_on _ _ _ inv.grows c.attempt.ensures.grows;
       none = none_through (g.C.Cells.view c.args.cells.now) v w inv.none (subst (λ (o : Option (Result g.row.K-Out.Denot Stop)). HasTried m v w ss most p (Ok o)) c.in-Ok-None.field-0-is c.in-Ok-None.ensures.tried);
       alone = λ one.
           let there = subst (λ (o : Option (Result g.row.K-Out.Denot Stop)). IsSome o) c.in-Ok-None.field-0-is
