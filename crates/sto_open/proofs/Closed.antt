@@ -5,6 +5,7 @@ use Rattle.std.proofs.lemmas.Bool.Decides.{nat_tests}
 use Rattle.std.proofs.lemmas.List.{length-map}
 use mathlib.Core.Option.{some}
 use lib.ListN.{get_elem?}
+use Rattle.sto_model.specs.Run.{State}
 use Rattle.sto_type.specs.Known.{Parts}
 use Rattle.sto_type.specs.Meaning.{Meaning, IsLawful}
 use Rattle.sto_core.specs.declared.view.View.{View}
@@ -17,6 +18,12 @@ use Rattle.sto_core.specs.Rule.{Serves, Fits, Settled, world_of}
 use Rattle.sto_core.proofs.Lists.{each_one}
 use Rattle.sto_core.proofs.Valid.{all_valid}
 use Rattle.sto_plain.specs.Kept.{AreUpToDate}
+use Rattle.sto_attempt_facts.proofs.Progress.{committed_append}
+use Rattle.sto_serial_history.specs.History.{Transaction, LeadTo}
+use Rattle.sto_serial_history.specs.Done.{AreAllDone}
+use Rattle.sto_history.proofs.Growing.{reopened_grows}
+use Rattle.sto_serial_history.proofs.Doing.{all_later}
+use Rattle.sto_serial_history.proofs.Serial.{lead_to}
 use Rattle.sto_transaction.specs.Resting.{IsAtRest}
 
 live_is : (v : View) → 0 < v.gathered → live_view (v ∷ []) ≡ v
@@ -53,3 +60,16 @@ module _ (valid : Validity) (m : Meaning) (sizes : List ℕ) (v : View) (rests :
       ((same (contents_as_of now.opening now.past.log c.clock)).1
       (subst (λ (s : List ℕ). valid s (contents_as_of now.opening now.past.log c.clock)) (sym serves.same_sizes ∙ rests.sized)
       (all_valid now.rule c.clock (le_refl c.clock))))
+
+  reopened_done : (ts : List Transaction) → AreAllDone m v ts → AreAllDone m (reopened_view v.sizes v.opening (v ∷ [])) ts
+  reopened_done ts h = record {
+    entries = λ n. (let e = committed_append n v.entries [] in let a = h.entries n in omega (arith, e, a));
+    each = all_later m v (reopened_view v.sizes v.opening (v ∷ [])) (reopened_grows v.sizes v.opening v) ts h.each;
+  }
+
+  -- all that the pass was told of is a serial history, which ends with the rows of the contents
+  pub last_history : IsLawful m → (rows : State) → rows ≡ m.rows contents → (ts : List Transaction) → AreAllDone m v ts → LeadTo m.machines ts rows
+  last_history lawful rows is ts done =
+      lead_to now.rule 0 (reopened_view v.sizes v.opening (v ∷ [])) there (sym pass) m lawful
+      (λ d. subst (λ (s : List ℕ). m.valid d ↔ valid s d) (sym rests.sized ∙ serves.same_sizes) (same d))
+      (sym rests.opened ∙ serves.same_opening) ts (reopened_done ts done) rows (is ∙ ap m.rows now.are)

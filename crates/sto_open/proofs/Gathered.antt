@@ -1,8 +1,12 @@
 -- Passes are gathered one after the other.
-use Rattle.std.proofs.Common.{◌≡◌, ◌+◌, ℕ, List, [], ◌∷◌, ◌++◌, map, length, refl, sym, ap, ◌∙◌, arith, length-append}
+use Rattle.std.proofs.Common.{◌≡◌, ◌+◌, ℕ, List, [], ◌∷◌, ◌++◌, map, length, refl, sym, ap, ◌∙◌, subst, arith, length-append, append-nil}
 use Rattle.std.proofs.lemmas.List.{map-append}
 use Rattle.sto_core.specs.declared.view.View.{View}
 use Rattle.sto_core.specs.Gathered.{gathered_into}
+use Rattle.sto_type.specs.Meaning.{Meaning}
+use Rattle.sto_serial_history.specs.History.{Transaction}
+use Rattle.sto_serial_history.specs.Done.{AreAllDone, AreDoneBy}
+use Rattle.sto_serial_history.proofs.Doing.{gathered_done}
 use Rattle.sto_open.specs.Working.{gathered_onto}
 
 -- the last of them is gathered first
@@ -20,3 +24,10 @@ gathered_next view xs rest x v w all is =
 -- one item more
 pub one_longer : {X : Type 0} (xs ys : List X) (x : X) → xs ≡ ys ++ x ∷ [] → length xs ≡ length ys + 1
 one_longer xs ys x all = let l = ap length all in let e = length-append ys (x ∷ []) in omega (arith, l, e)
+
+-- all that passes have done, the one into which they were gathered has done
+pub gathered_doings : (m : Meaning) (us : List View) (v : View) (ts : List Transaction) → AreDoneBy m (us ++ v ∷ []) ts → AreAllDone m (gathered_onto us v) ts
+gathered_doings m [] v ts h = subst (AreAllDone m v) (sym (append-nil h.0) ∙ ap (λ (l : List Transaction). h.0 ++ l) (sym h.4) ∙ sym h.2) h.3
+gathered_doings m (u ∷ us) v ts h =
+    subst (AreAllDone m (gathered_into (gathered_onto us v) u)) (sym h.2)
+    (gathered_done m (gathered_onto us v) u h.1 h.0 h.3 (gathered_doings m us v h.1 h.4))

@@ -3,6 +3,8 @@ pub mod Refusals
 pub mod Closings
 pub mod Working
 pub use Rattle.sto_core.specs.Allowed
+pub use Rattle.sto_serial_history.specs.Done
+pub use Rattle.sto_serial_history.specs.History
 pub use Rattle.sto_model.specs.Objects
 pub use Rattle.sto_store.specs.StoresLaw
 pub use Rattle.sto_table.specs.Rests

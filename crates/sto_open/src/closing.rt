@@ -1,8 +1,8 @@
 //! A store is closed.
-ghost use Rattle.std.specs.Prelude.{◌≡◌, ◌≢◌, ◌+◌, IfOk, IfErr, length, map};
+ghost use Rattle.std.specs.Prelude.{◌≡◌, ◌≢◌, ◌+◌, List, IfOk, IfErr, length, map};
 ghost use Rattle.std.specs.List.{All};
-ghost use Rattle.sto_table.specs.Rests.{IsOf};
-ghost use Rattle.sto_transaction.specs.Resting.{IsAtRest};
+ghost use Rattle.sto_serial_history.specs.History.{Transaction, LeadTo};
+ghost use Rattle.sto_serial_history.specs.Done.{AreAllDone, HaveHistory};
 ghost use Rattle.sto_open.specs.Working.{gathered_onto, IsWorker, AreLastRows, AreRowsAfter};
 ghost use Rattle.sto_open.specs.Closings.{ComesBack};
 
@@ -46,7 +46,9 @@ fn last_rows<T: TxType>(
 ) -> Result<State, NoMemory>
     requires worker { IsWorker (T.meaning ty.now) (T.sizes ty.now) shared rest.seat }
     requires all { rest.seat.me.0.view.gathered ≡ shared.table.shared.key.passes }
-    ensures { IfOk result (λ rows. AreLastRows T.valid (T.meaning ty.now) rest.seat.me.0.view rows.items) }
+    ensures rows { IfOk result (λ rows. AreLastRows T.valid (T.meaning ty.now) rest.seat.me.0.view rows.items) }
+    ensures history { IfOk result (λ rows. (ts : List Transaction) → AreAllDone (T.meaning ty.now) rest.seat.me.0.view ts
+        → LeadTo (T.meaning ty.now).machines ts rows.items) }
 {
     let closed = close(alloc, shared, rest)?;
     let words = match Plain::reopen(closed) {
@@ -60,11 +62,16 @@ fn last_rows<T: TxType>(
 impl<T: TxType + Drop> Store<T> {
     /// Closes the store, by all its workers, and answers the rows that its objects hold.
     ///
+    /// These are the last state of a serial history (clause `history`): whatever transactions are all that the workers have done, each
+    /// was told of one of them, and is in that history the serial run from the state before its number, or as of the number that it read.
+    ///
     /// Where a worker is missing, the store and the workers come back. Where memory is wanting they are lost.
     pub fn close(self, alloc: Global, workers: IdleWorkers<T>) -> Result<State, Unclosed<T>>
         requires { All (λ w. IsWorker (T.meaning self.ty) (T.sizes self.ty) self.shared w.rest.seat) workers.items }
         ensures rows { IfOk result (λ rows. AreRowsAfter T.valid (T.meaning self.ty)
             (map (λ w. w.rest.seat.me.0.view) workers.items) rows.items) }
+        ensures history { IfOk result (λ rows. HaveHistory (T.meaning self.ty) (map (λ w. w.rest.seat.me.0.view) workers.items)
+            rows.items) }
         ensures all { IfOk result (λ rows. length workers.items ≡ self.shared.table.shared.key.passes) }
         ensures missing { IfErr result (ComesBack self workers) }
     {
