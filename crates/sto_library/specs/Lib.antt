@@ -1,8 +1,14 @@
 pub mod Planned
+pub mod Doings
+pub mod Keeping
+pub mod Vectors
 pub mod Values
 pub mod Closings
 pub mod Tasks
 pub use Rattle.sto_atomically.specs.Atomic
+pub use Rattle.sto_code.specs.Alone
 pub use Rattle.sto_code.specs.Calls
 pub use Rattle.sto_code.specs.Progs
 pub use Rattle.sto_code.specs.Steps
+pub use Rattle.sto_serial_history.specs.Done
+pub use Rattle.sto_serial_history.specs.History

@@ -1,5 +1,5 @@
 -- What tasks give, and why they give nothing.
-use Rattle.std.specs.Prelude.{◌≡◌, ◌<◌, ℕ, List, length, Result}
+use Rattle.std.specs.Prelude.{◌≡◌, ◌<◌, ℕ, List, [], ◌∷◌, ◌++◌, length, Result}
 use Rattle.sto_model.specs.declared.shape.Shape.{Shape}
 use Rattle.sto_type.specs.Traits.{OfType}
 use Rattle.sto_core.specs.declared.view.View.{View}
@@ -12,13 +12,46 @@ use Rattle.sto_library.specs.Values.{Stored, Working}
 use Rattle.sto_library.specs.declared.task.TaskError.{TaskError}
 use Rattle.sto_library.specs.declared.task.TaskError.TheVariants.{Workers, NoMemory}
 
--- a worker of these objects did a task: what it gave is as the task says
-pub record IsDone {T Out : Type 0} (words : Words T) (shapes : List Shape) (gives : Working T → Working T → Out → Type 0) (out : Out) : Type 0 where
+-- a worker of these objects did a task, by which what it knew went from the view v to the view w: what it gave is as the task says
+pub record IsDone {T Out : Type 0} (words : Words T) (shapes : List Shape) (v w : View) (gives : Working T → Working T → Out → Type 0) (out : Out) : Type 0 where
   pub before : Working T
   pub after : Working T
   pub same_words : before.words ≡ words
   pub same_shapes : before.shapes ≡ shapes
+  pub from : before.seat.me.0.view ≡ v
+  pub to : after.seat.me.0.view ≡ w
   pub gave : gives before after out
+
+-- two workers of a store did tasks, and are back
+pub record AreBothDone {T A B : Type 0} (old new : Stored T) (a : Working T → Working T → A → Type 0) (b : Working T → Working T → B → Type 0) (x : A) (y : B) : Type 0 where
+  pub others : List View
+  pub a_from : View
+  pub a_to : View
+  pub b_from : View
+  pub b_to : View
+  pub were : old.views ≡ others ++ b_from ∷ a_from ∷ []
+  pub are : new.views ≡ others ++ a_to ∷ b_to ∷ []
+  pub a_done : IsDone old.words old.shapes a_from a_to a x
+  pub b_done : IsDone old.words old.shapes b_from b_to b y
+
+-- four workers of a store did
+pub record AreFourDone {T A B C D : Type 0} (old new : Stored T) (a : Working T → Working T → A → Type 0) (b : Working T → Working T → B → Type 0)
+    (c : Working T → Working T → C → Type 0) (d : Working T → Working T → D → Type 0) (x : A) (y : B) (z : C) (u : D) : Type 0 where
+  pub others : List View
+  pub a_from : View
+  pub a_to : View
+  pub b_from : View
+  pub b_to : View
+  pub c_from : View
+  pub c_to : View
+  pub d_from : View
+  pub d_to : View
+  pub were : old.views ≡ others ++ d_from ∷ c_from ∷ b_from ∷ a_from ∷ []
+  pub are : new.views ≡ others ++ a_to ∷ b_to ∷ c_to ∷ d_to ∷ []
+  pub a_done : IsDone old.words old.shapes a_from a_to a x
+  pub b_done : IsDone old.words old.shapes b_from b_to b y
+  pub c_done : IsDone old.words old.shapes c_from c_to c z
+  pub d_done : IsDone old.words old.shapes d_from d_to d u
 
 -- at a store where this worker is, a transaction of this code led to this
 pub record IsOutcome {T A : Type 0} (t : OfType T) (worker : Working T) (most : ℕ) (p : Prog A) (outcome : Result (Done A) Unrun) : Type 0 where

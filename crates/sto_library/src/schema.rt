@@ -1,5 +1,6 @@
 //! What a store is to hold.
 ghost use Rattle.std.specs.Prelude.{◌≡◌, [], length, IfOk, IfErr};
+ghost use Rattle.std.specs.List.{All};
 ghost use Rattle.sto_model.specs.declared.shape.Shape.TheVariants.{Single, Counter, Array, Hash, Tree, Vector};
 ghost use Rattle.sto_model.specs.Objects.{machines_of};
 ghost use Rattle.sto_open.specs.Refusals.{IsCause};
@@ -93,6 +94,7 @@ impl Schema {
     pub fn open(self, alloc: Global, workers: u32) -> Result<SharedStore<Objects>, Unopened>
         ensures shapes { IfOk result (λ store. store.shapes ≡ self.objects) }
         ensures machines { IfOk result (λ store. (⟦<Objects as TxType>⟧.meaning store.words.ty).machines ≡ machines_of self.objects) }
+        ensures fresh { IfOk result (λ store. All (λ v. v.entries ≡ []) store.views) }
         ensures workers { IfOk result (λ store. (length store.views ≡ workers) × (store.words.shared.table.shared.key.passes ≡ workers)) }
         ensures cause { IfErr result (λ error. IsCause error workers) }
     {

@@ -1,6 +1,7 @@
 //! A store, in which its workers rest.
 ghost use Rattle.std.specs.Prelude.{◌≡◌, [], ◌∷◌, ◌++◌, map, length, IfOk, IfErr, MatchOption};
 ghost use Rattle.std.specs.List.{All};
+ghost use Rattle.sto_serial_history.specs.Done.{HaveHistory};
 ghost use Rattle.sto_open.specs.Working.{AreRowsAfter};
 ghost use Rattle.sto_library.specs.Values.{Serves, TakeCalls};
 ghost use Rattle.sto_library.specs.Closings.{ComesBack};
@@ -111,8 +112,12 @@ impl<T: TxType> SharedStore<T> {
 
 impl<T: TxType + Drop> SharedStore<T> {
     /// Closes the store, and answers the rows that each of its objects holds. All its workers are to rest in it; else it comes back.
+    ///
+    /// The rows are the last state of a serial history (clause `history`): whatever transactions are all that the workers have done, each
+    /// is in that history its serial run, from the state right before its number, or on the state as of the number that it read.
     pub fn close(self, alloc: Global) -> Result<State, CloseError<T>>
         ensures rows { IfOk result (λ rows. AreRowsAfter T.valid (T.meaning self.words.ty) self.views rows.items) }
+        ensures history { IfOk result (λ rows. HaveHistory (T.meaning self.words.ty) self.views rows.items) }
         ensures all { IfOk result (λ _. length self.views ≡ self.words.shared.table.shared.key.passes) }
         ensures missing { IfErr result (ComesBack self) }
     {

@@ -52,7 +52,8 @@ pub(crate) fn work_alone<T: TxType, K: Task<T>>(
     requires takes { TakeCalls T.TxType words.now shapes.now.items }
     requires serves { Serves T.TxType words.now worker.rest.seat }
     ensures serves { Serves T.TxType words.now result.worker.rest.seat }
-    ensures done { IsDone words.now shapes.now.items (K.gives task.now) result.out }
+    ensures done { IsDone words.now shapes.now.items worker.rest.seat.me.0.view result.worker.rest.seat.me.0.view (K.gives task.now)
+        result.out }
 {
     let mut busy = StoreWorker::new(alloc, words, shapes, worker);
     let out = task.work(&mut busy);

@@ -1,8 +1,8 @@
 //! Tasks side by side, each by a worker on a thread of its own.
-ghost use Rattle.std.specs.Prelude.{◌≡◌, ◌+◌, ◌<◌, length, IfOk, IfErr, IfSome, MatchOption};
+ghost use Rattle.std.specs.Prelude.{◌≡◌, ◌+◌, ◌<◌, [], ◌∷◌, ◌++◌, length, IfOk, IfErr, IfSome, MatchOption};
 ghost use Rattle.std.specs.Thread.{IsSync};
 ghost use Rattle.sto_library.specs.Values.{Serves, TakeCalls};
-ghost use Rattle.sto_library.specs.Tasks.{IsDone, HasFailed};
+ghost use Rattle.sto_library.specs.Tasks.{IsDone, AreBothDone, AreFourDone, HasFailed};
 
 use crate::store::SharedStore;
 use crate::task::{Finished, Task, TaskError, work_alone};
@@ -20,11 +20,12 @@ type Pair<T> = (IdleWorker<T>, IdleWorker<T>);
 type FinishedPair<T, A, B> = (Finished<T, A>, Finished<T, B>);
 
 // Two workers that rest, if so many do.
+#[tactic(auto, using(crate::proofs::Hired::two_hired))]
 fn hire_two<T: TxType>(store: &mut SharedStore<T>) -> Option<Pair<T>>
     ensures same { (store.new.words ≡ store.old.words) × (store.new.shapes ≡ store.old.shapes) }
     ensures serve { IfSome result (λ w. Serves T.TxType store.old.words w.0.rest.seat × Serves T.TxType store.old.words w.1.rest.seat) }
     ensures fewer { MatchOption result ((length store.old.views < 2) × (store.new ≡ store.old))
-        (λ _. length store.old.views ≡ length store.new.views + 2) }
+        (λ w. store.old.views ≡ store.new.views ++ w.1.rest.seat.me.0.view ∷ w.0.rest.seat.me.0.view ∷ []) }
 {
     if store.resting() < 2 {
         return None;
@@ -35,6 +36,7 @@ fn hire_two<T: TxType>(store: &mut SharedStore<T>) -> Option<Pair<T>>
 }
 
 // Four workers that rest, if so many do.
+#[tactic(auto, using(crate::proofs::Hired::four_hired))]
 fn hire_four<T: TxType>(store: &mut SharedStore<T>) -> Option<(Pair<T>, Pair<T>)>
     ensures same { (store.new.words ≡ store.old.words) × (store.new.shapes ≡ store.old.shapes) }
     ensures first { IfSome result (λ w. Serves T.TxType store.old.words w.0.0.rest.seat
@@ -42,7 +44,8 @@ fn hire_four<T: TxType>(store: &mut SharedStore<T>) -> Option<(Pair<T>, Pair<T>)
     ensures other { IfSome result (λ w. Serves T.TxType store.old.words w.1.0.rest.seat
         × Serves T.TxType store.old.words w.1.1.rest.seat) }
     ensures fewer { MatchOption result ((length store.old.views < 4) × (store.new ≡ store.old))
-        (λ _. length store.old.views ≡ length store.new.views + 4) }
+        (λ w. store.old.views ≡ store.new.views ++ w.1.1.rest.seat.me.0.view ∷ w.1.0.rest.seat.me.0.view
+        ∷ w.0.1.rest.seat.me.0.view ∷ w.0.0.rest.seat.me.0.view ∷ []) }
 {
     if store.resting() < 4 {
         return None;
@@ -53,6 +56,7 @@ fn hire_four<T: TxType>(store: &mut SharedStore<T>) -> Option<(Pair<T>, Pair<T>)
 }
 
 // Two workers come back.
+#[tactic(auto, using(crate::proofs::Hired::two_back))]
 fn back_two<T: TxType>(
     store: &mut SharedStore<T>,
     first: IdleWorker<T>,
@@ -61,10 +65,29 @@ fn back_two<T: TxType>(
     requires first { Serves T.TxType store.old.words first.rest.seat }
     requires other { Serves T.TxType store.old.words other.rest.seat }
     ensures same { (store.new.words ≡ store.old.words) × (store.new.shapes ≡ store.old.shapes) }
-    ensures more { IfOk result (λ _. length store.new.views ≡ length store.old.views + 2) }
+    ensures more { IfOk result (λ _. store.new.views ≡ store.old.views ++ first.rest.seat.me.0.view ∷ other.rest.seat.me.0.view ∷ []) }
 {
     store.back(first)?;
     store.back(other)
+}
+
+// Gives four workers back.
+#[tactic(auto, using(crate::proofs::Hired::four_back))]
+fn back_four<T: TxType>(
+    store: &mut SharedStore<T>,
+    first: Pair<T>,
+    other: Pair<T>,
+) -> Result<(), NoMemory>
+    requires a { Serves T.TxType store.old.words first.0.rest.seat }
+    requires b { Serves T.TxType store.old.words first.1.rest.seat }
+    requires c { Serves T.TxType store.old.words other.0.rest.seat }
+    requires d { Serves T.TxType store.old.words other.1.rest.seat }
+    ensures same { (store.new.words ≡ store.old.words) × (store.new.shapes ≡ store.old.shapes) }
+    ensures more { IfOk result (λ _. store.new.views ≡ store.old.views ++ first.0.rest.seat.me.0.view ∷ first.1.rest.seat.me.0.view
+        ∷ other.0.rest.seat.me.0.view ∷ other.1.rest.seat.me.0.view ∷ []) }
+{
+    back_two(store, first.0, first.1)?;
+    back_two(store, other.0, other.1)
 }
 
 // Does two tasks at a time.
@@ -85,8 +108,10 @@ where
     requires b { Serves T.TxType words.now workers.1.rest.seat }
     ensures a_serves { Serves T.TxType words.now result.0.worker.rest.seat }
     ensures b_serves { Serves T.TxType words.now result.1.worker.rest.seat }
-    ensures a { IsDone words.now shapes.now.items (A.gives a.now) result.0.out }
-    ensures b { IsDone words.now shapes.now.items (B.gives b.now) result.1.out }
+    ensures a { IsDone words.now shapes.now.items workers.0.rest.seat.me.0.view result.0.worker.rest.seat.me.0.view
+        (A.gives a.now) result.0.out }
+    ensures b { IsDone words.now shapes.now.items workers.1.rest.seat.me.0.view result.1.worker.rest.seat.me.0.view
+        (B.gives b.now) result.1.out }
 {
     let (first, other) = workers;
     join(
@@ -95,13 +120,15 @@ where
             requires takes { TakeCalls T.TxType words.now shapes.now.items }
             requires serves { Serves T.TxType words.now first.rest.seat }
             ensures serves { Serves T.TxType words.entry.now result.worker.rest.seat }
-            ensures done { IsDone words.entry.now shapes.entry.now.items (A.gives a.entry.now) result.out }
+            ensures done { IsDone words.entry.now shapes.entry.now.items first.rest.seat.me.0.view result.worker.rest.seat.me.0.view
+                (A.gives a.entry.now) result.out }
         { work_alone(alloc, words, shapes, first, a) },
         move || -> Finished<T, B::Out>
             requires takes { TakeCalls T.TxType words.now shapes.now.items }
             requires serves { Serves T.TxType words.now other.rest.seat }
             ensures serves { Serves T.TxType words.entry.now result.worker.rest.seat }
-            ensures done { IsDone words.entry.now shapes.entry.now.items (B.gives b.entry.now) result.out }
+            ensures done { IsDone words.entry.now shapes.entry.now.items other.rest.seat.me.0.view result.worker.rest.seat.me.0.view
+                (B.gives b.entry.now) result.out }
         { work_alone(alloc, words, shapes, other, b) },
     )
 }
@@ -142,10 +169,14 @@ where
     ensures b_serves { Serves T.TxType words.now result.0.1.worker.rest.seat }
     ensures c_serves { Serves T.TxType words.now result.1.0.worker.rest.seat }
     ensures d_serves { Serves T.TxType words.now result.1.1.worker.rest.seat }
-    ensures a { IsDone words.now shapes.now.items (A.gives a.now) result.0.0.out }
-    ensures b { IsDone words.now shapes.now.items (B.gives b.now) result.0.1.out }
-    ensures c { IsDone words.now shapes.now.items (C.gives c.now) result.1.0.out }
-    ensures d { IsDone words.now shapes.now.items (D.gives d.now) result.1.1.out }
+    ensures a { IsDone words.now shapes.now.items workers.0.0.rest.seat.me.0.view result.0.0.worker.rest.seat.me.0.view
+        (A.gives a.now) result.0.0.out }
+    ensures b { IsDone words.now shapes.now.items workers.0.1.rest.seat.me.0.view result.0.1.worker.rest.seat.me.0.view
+        (B.gives b.now) result.0.1.out }
+    ensures c { IsDone words.now shapes.now.items workers.1.0.rest.seat.me.0.view result.1.0.worker.rest.seat.me.0.view
+        (C.gives c.now) result.1.0.out }
+    ensures d { IsDone words.now shapes.now.items workers.1.1.rest.seat.me.0.view result.1.1.worker.rest.seat.me.0.view
+        (D.gives d.now) result.1.1.out }
 {
     let (first, other) = workers;
     join(
@@ -157,8 +188,10 @@ where
             requires b { Serves T.TxType words.now first.1.rest.seat }
             ensures a_serves { Serves T.TxType words.entry.now result.0.worker.rest.seat }
             ensures b_serves { Serves T.TxType words.entry.now result.1.worker.rest.seat }
-            ensures a { IsDone words.entry.now shapes.entry.now.items (A.gives a.entry.now) result.0.out }
-            ensures b { IsDone words.entry.now shapes.entry.now.items (B.gives b.entry.now) result.1.out }
+            ensures a { IsDone words.entry.now shapes.entry.now.items first.0.rest.seat.me.0.view
+                result.0.worker.rest.seat.me.0.view (A.gives a.entry.now) result.0.out }
+            ensures b { IsDone words.entry.now shapes.entry.now.items first.1.rest.seat.me.0.view
+                result.1.worker.rest.seat.me.0.view (B.gives b.entry.now) result.1.out }
         { work_both(rt, alloc, words, shapes, first, a, b) },
         move || -> FinishedPair<T, C::Out, D::Out>
             requires sync { IsSync R.row }
@@ -167,8 +200,10 @@ where
             requires d { Serves T.TxType words.now other.1.rest.seat }
             ensures c_serves { Serves T.TxType words.entry.now result.0.worker.rest.seat }
             ensures d_serves { Serves T.TxType words.entry.now result.1.worker.rest.seat }
-            ensures c { IsDone words.entry.now shapes.entry.now.items (C.gives c.entry.now) result.0.out }
-            ensures d { IsDone words.entry.now shapes.entry.now.items (D.gives d.entry.now) result.1.out }
+            ensures c { IsDone words.entry.now shapes.entry.now.items other.0.rest.seat.me.0.view
+                result.0.worker.rest.seat.me.0.view (C.gives c.entry.now) result.0.out }
+            ensures d { IsDone words.entry.now shapes.entry.now.items other.1.rest.seat.me.0.view
+                result.1.worker.rest.seat.me.0.view (D.gives d.entry.now) result.1.out }
         { work_both(rt, alloc, words, shapes, other, c, d) },
     )
 }
@@ -187,9 +222,7 @@ impl<T: TxType + Drop + Send + Sync> SharedStore<T> {
         A::Out: Send + Drop,
         B::Out: Send + Drop,
         ensures same { (self.new.words ≡ self.old.words) × (self.new.shapes ≡ self.old.shapes) }
-        ensures a { IfOk result (λ r. IsDone self.old.words self.old.shapes (A.gives a.now) r.0) }
-        ensures b { IfOk result (λ r. IsDone self.old.words self.old.shapes (B.gives b.now) r.1) }
-        ensures back { IfOk result (λ _. length self.new.views ≡ length self.old.views) }
+        ensures done { IfOk result (λ r. AreBothDone self.old self.new (A.gives a.now) (B.gives b.now) r.0 r.1) }
         ensures failed { IfErr result (λ error. HasFailed error 2 self.old self.new) }
     {
         let Some(workers) = hire_two(self) else {
@@ -225,11 +258,8 @@ impl<T: TxType + Drop + Send + Sync> SharedStore<T> {
         C::Out: Send + Drop,
         D::Out: Send + Drop,
         ensures same { (self.new.words ≡ self.old.words) × (self.new.shapes ≡ self.old.shapes) }
-        ensures a { IfOk result (λ r. IsDone self.old.words self.old.shapes (A.gives a.now) r.0) }
-        ensures b { IfOk result (λ r. IsDone self.old.words self.old.shapes (B.gives b.now) r.1) }
-        ensures c { IfOk result (λ r. IsDone self.old.words self.old.shapes (C.gives c.now) r.2) }
-        ensures d { IfOk result (λ r. IsDone self.old.words self.old.shapes (D.gives d.now) r.3) }
-        ensures back { IfOk result (λ _. length self.new.views ≡ length self.old.views) }
+        ensures done { IfOk result (λ r. AreFourDone self.old self.new (A.gives a.now) (B.gives b.now) (C.gives c.now) (D.gives d.now)
+            r.0 r.1 r.2 r.3) }
         ensures failed { IfErr result (λ error. HasFailed error 4 self.old self.new) }
     {
         let Some(workers) = hire_four(self) else {
@@ -237,11 +267,9 @@ impl<T: TxType + Drop + Send + Sync> SharedStore<T> {
         };
         let (words, shapes) = self.parts();
         let ((w, x), (y, z)) = work_four(rt, alloc, words, shapes, workers, a, b, c, d);
-        if back_two(self, w.worker, x.worker).is_err()
-            || back_two(self, y.worker, z.worker).is_err()
-        {
-            return Err(TaskError::NoMemory);
+        match back_four(self, (w.worker, x.worker), (y.worker, z.worker)) {
+            Ok(()) => Ok((w.out, x.out, y.out, z.out)),
+            Err(NoMemory) => Err(TaskError::NoMemory),
         }
-        Ok((w.out, x.out, y.out, z.out))
     }
 }

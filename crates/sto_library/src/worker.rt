@@ -3,6 +3,7 @@ ghost use Rattle.std.specs.Prelude.{◌≡◌, ◌≤◌};
 ghost use Rattle.sto_attempt_facts.specs.Added.{Grows};
 ghost use Rattle.sto_atomically.specs.Atomic.{HasLed, IsUndisturbed};
 ghost use Rattle.sto_library.specs.Values.{Serves, TakeCalls};
+ghost use Rattle.sto_library.specs.Doings.{HasGiven};
 
 use crate::waits::Waits;
 use std::alloc::Global;
@@ -68,12 +69,13 @@ impl<'s, T: TxType> StoreWorker<'s, T> {
     ///
     /// The value is that of the code run alone on the contents right before the transaction's ticket, or of a transaction that only
     /// reads, on those of the time as of which it read; after all that this worker had seen. On each error nothing took effect, and the
-    /// worker can go on.
+    /// worker can go on. Whatever happened, the worker ran this code and nothing else (clause `given`).
     pub fn run<K: Code>(&mut self, code: &K) -> Result<Done<K::Out>, Unrun>
     where
         K::Out: Drop,
         ensures led { HasLed (T.meaning self.old.words.ty) self.old.seat.me.0.view self.new.seat.me.0.view self.old.shapes
             (K.most code.now) (K.does code.now) result }
+        ensures given { HasGiven T.TxType self.old self.new (K.most code.now) (K.does code.now) result }
         ensures grows { Grows self.old.seat.me.0.view self.new.seat.me.0.view }
         ensures alone { self.old.words.shared.table.shared.key.passes ≡ 1 → IsUndisturbed result }
         ensures same { (self.new.words ≡ self.old.words) × (self.new.shapes ≡ self.old.shapes) }
@@ -83,6 +85,25 @@ impl<'s, T: TxType> StoreWorker<'s, T> {
 
     /// The same with at most so many attempts, and with something else to do between them.
     pub fn run_with<K: Code, W: AttemptWatch>(
+        &mut self,
+        tries: u32,
+        watch: &mut W,
+        code: &K,
+    ) -> Result<Done<K::Out>, Unrun>
+    where
+        K::Out: Drop,
+        ensures led { HasLed (T.meaning self.old.words.ty) self.old.seat.me.0.view self.new.seat.me.0.view self.old.shapes
+            (K.most code.now) (K.does code.now) result }
+        ensures given { HasGiven T.TxType self.old self.new (K.most code.now) (K.does code.now) result }
+        ensures grows { Grows self.old.seat.me.0.view self.new.seat.me.0.view }
+        ensures alone { self.old.words.shared.table.shared.key.passes ≡ 1 → 1 ≤ tries → IsUndisturbed result }
+        ensures same { (self.new.words ≡ self.old.words) × (self.new.shapes ≡ self.old.shapes) }
+    {
+        self.lead(tries, watch, code)
+    }
+
+    // Runs code as one transaction.
+    fn lead<K: Code, W: AttemptWatch>(
         &mut self,
         tries: u32,
         watch: &mut W,

@@ -1,0 +1,115 @@
+-- What a worker did, one transaction after the other.
+use Rattle.std.specs.List.{All}
+use Rattle.std.proofs.Common.{◌≡◌, ◌+◌, ℕ, List, [], ◌∷◌, ◌++◌, map, refl, sym, ap, ◌∙◌, subst, arith, Result, Ok, Err}
+use Rattle.std.proofs.lemmas.List.Elements.{All-nil, All-cons, All-append, All-weaker}
+use Rattle.sto_model.specs.Run.{Script as Steps}
+use Rattle.sto_model.specs.declared.shape.Shape.{Shape}
+use Rattle.sto_type.specs.Traits.{OfType}
+use Rattle.sto_type.specs.Meaning.{Meaning}
+use Rattle.sto_core.specs.declared.view.View.{View}
+use Rattle.sto_attempt_facts.specs.Records.{wrote_with}
+use Rattle.sto_attempt_facts.specs.Counted.{times_committed}
+use Rattle.sto_attempt_facts.specs.Added.{Grows}
+use Rattle.sto_attempt_facts.proofs.Among.{among_second}
+use Rattle.sto_serial_history.specs.History.{Transaction, times_numbered}
+use Rattle.sto_serial_history.specs.Done.{IsToldOf, HasDone}
+use Rattle.sto_serial_history.proofs.Doing.{done_none, done_more}
+use Rattle.sto_code.specs.declared.short_reply.ShortReply.{ShortReply}
+use Rattle.sto_code.specs.Progs.{Prog, IsGiven, IsCancelled, IsAsked}
+use Rattle.sto_open.specs.declared.store.Store.{Store as Words}
+use Rattle.sto_atomically.specs.declared.outcome.Done.{Done}
+use Rattle.sto_atomically.specs.declared.outcome.Done.TheVariants.{Gave, Cancelled}
+use Rattle.sto_atomically.specs.declared.outcome.Unrun.{Unrun}
+use Rattle.sto_atomically.specs.declared.outcome.Unrun.TheVariants.{Busy, Refused, Worn, NoMemory}
+use Rattle.sto_atomically.specs.Atomic.{steps_of, TakesNoEffect, IsAtomic, HasLed}
+use Rattle.sto_atomically.proofs.Tried.{seen_later}
+use Rattle.sto_library.specs.Values.{Working}
+use Rattle.sto_library.specs.Doings.{HasRepeated, HasHeard, IsLedBy, HasGiven}
+
+module _ {T A : Type 0} (t : OfType T) (before after : Working T) (most : ℕ) (p : Prog A) (words : after.words ≡ before.words) (shapes : after.shapes ≡ before.shapes)
+    (grows : Grows before.seat.me.0.view after.seat.me.0.view) where
+  abbrev m : Meaning
+  m = t.meaning before.words.ty
+
+  -- a transaction that ended
+  ended : (says : List ShortReply → Type 0) → IsAtomic (t.meaning before.words.ty) before.seat.me.0.view after.seat.me.0.view before.shapes most p says
+      → (again : HasRepeated t before after most p) × HasHeard before again.did says
+  ended says h =
+      let x : Transaction = record { steps = steps_of before.shapes most p; replies = h.replies; verdict = h.verdict } in (
+        record {
+          words = words;
+          shapes = shapes;
+          did = x ∷ [];
+          done = record {
+            grows = grows;
+            entries = λ n. (let e = h.entries n in omega (arith, e));
+            each = All-cons (IsToldOf m after.seat.me.0.view) x [] (record { ended = h.ended; told = h.told }) (All-nil (IsToldOf m after.seat.me.0.view));
+          };
+          each = All-cons (λ (y : Transaction). y.steps ≡ steps_of before.shapes most p) x [] refl (All-nil (λ (y : Transaction). y.steps ≡ steps_of before.shapes most p));
+        },
+        record { transaction = x; there = (0, refl); since = h.since; said = h.said },
+      )
+
+  -- one that took no effect
+  none : TakesNoEffect before.seat.me.0.view after.seat.me.0.view → HasRepeated t before after most p
+  none h = record {
+    words = words;
+    shapes = shapes;
+    did = [];
+    done = record { grows = grows; entries = λ n. (let e = h n in omega (arith, e)); each = All-nil (IsToldOf m after.seat.me.0.view) };
+    each = All-nil (λ (y : Transaction). y.steps ≡ steps_of before.shapes most p);
+  }
+
+  pub led_given : (r : Result (Done A) Unrun) → HasLed (t.meaning before.words.ty) before.seat.me.0.view after.seat.me.0.view before.shapes most p r → HasGiven t before after most p r
+  led_given (Ok (Gave value)) h = let e = ended (λ hs. IsGiven p hs value) h in record { repeated = e.0; led = e.1 }
+  led_given (Ok Cancelled) h = let e = ended (λ hs. IsCancelled p hs) h in record { repeated = e.0; led = e.1 }
+  led_given (Err (Refused call)) h = let e = ended (λ hs. IsAsked p hs call) h in record { repeated = e.0; led = e.1 }
+  led_given (Err Busy) h = record { repeated = none h; led = tt }
+  led_given (Err Worn) h = record { repeated = none h; led = tt }
+  led_given (Err NoMemory) h = record { repeated = none h; led = tt }
+
+heard_more : {T : Type 0} (u v : Working T) (did more : List Transaction) (says : List ShortReply → Type 0) → Grows u.seat.me.0.view v.seat.me.0.view → HasHeard v more says → HasHeard u (did ++ more) says
+heard_more u v did more says g h = record {
+  transaction = h.transaction;
+  there = among_second did more h.transaction h.there;
+  since = λ n k. h.since n (seen_later u.seat.me.0.view v.seat.me.0.view g n k);
+  said = h.said;
+}
+
+module _ {T A : Type 0} (t : OfType T) where
+  -- a worker that has done nothing yet
+  pub repeated_none : (w : Working T) (most : ℕ) (p : Prog A) → HasRepeated t w w most p
+  repeated_none w most p = record {
+    words = refl;
+    shapes = refl;
+    did = [];
+    done = done_none (t.meaning w.words.ty) w.seat.me.0.view;
+    each = All-nil (λ (y : Transaction). y.steps ≡ steps_of w.shapes most p);
+  }
+
+  -- one that goes on
+  pub repeated_more : {u v w : Working T} {most : ℕ} {p : Prog A} → HasRepeated t u v most p → HasRepeated t v w most p → HasRepeated t u w most p
+  repeated_more {u} {v} {w} {most} {p} h k = record {
+    words = k.words ∙ h.words;
+    shapes = k.shapes ∙ h.shapes;
+    did = h.did ++ k.did;
+    done = done_more (t.meaning u.words.ty) u.seat.me.0.view v.seat.me.0.view w.seat.me.0.view h.did k.did h.done
+        (subst (λ (x : Words T). HasDone (t.meaning x.ty) v.seat.me.0.view w.seat.me.0.view k.did) h.words k.done);
+    each = All-append (λ (y : Transaction). y.steps ≡ steps_of u.shapes most p) h.did k.did h.each
+        (subst (λ (ss : List Shape). All (λ (y : Transaction). y.steps ≡ steps_of ss most p) k.did) h.shapes k.each);
+  }
+
+  led_more : (u v : Working T) (did more : List Transaction) (p : Prog A) (r : Result (Done A) Unrun) → Grows u.seat.me.0.view v.seat.me.0.view → IsLedBy v more p r → IsLedBy u (did ++ more) p r
+  led_more u v did more p (Ok (Gave value)) g h = heard_more u v did more (λ hs. IsGiven p hs value) g h
+  led_more u v did more p (Ok Cancelled) g h = heard_more u v did more (λ hs. IsCancelled p hs) g h
+  led_more u v did more p (Err (Refused call)) g h = heard_more u v did more (λ hs. IsAsked p hs call) g h
+  led_more u v did more p (Err Busy) g h = tt
+  led_more u v did more p (Err Worn) g h = tt
+  led_more u v did more p (Err NoMemory) g h = tt
+
+  pub given_more : {u v w : Working T} {most : ℕ} {p : Prog A} {r : Result (Done A) Unrun} → HasRepeated t u v most p → HasGiven t v w most p r → HasGiven t u w most p r
+  unfolding repeated_more
+  given_more {u} {v} {w} {most} {p} {r} h k = record {
+    repeated = repeated_more h k.repeated;
+    led = led_more u v h.did k.repeated.did p r h.done.grows k.led;
+  }

@@ -1,0 +1,46 @@
+-- What a worker did at its store: the transactions of one code, and what one of them led to.
+use Rattle.std.specs.Prelude.{◌≡◌, ℕ, List, map, Result, Ok, Err}
+use Rattle.std.specs.List.{All}
+use Rattle.sto_type.specs.Traits.{OfType}
+use Rattle.sto_core.specs.Lists.{Among}
+use Rattle.sto_attempt_facts.specs.Records.{IsSince}
+use Rattle.sto_serial_history.specs.History.{Transaction}
+use Rattle.sto_serial_history.specs.Done.{HasDone}
+use Rattle.sto_code.specs.Shortened.{short_of}
+use Rattle.sto_code.specs.declared.short_reply.ShortReply.{ShortReply}
+use Rattle.sto_code.specs.Progs.{Prog, IsGiven, IsCancelled, IsAsked}
+use Rattle.sto_atomically.specs.declared.outcome.Done.{Done}
+use Rattle.sto_atomically.specs.declared.outcome.Done.TheVariants.{Gave, Cancelled}
+use Rattle.sto_atomically.specs.declared.outcome.Unrun.{Unrun}
+use Rattle.sto_atomically.specs.declared.outcome.Unrun.TheVariants.{Busy, Refused, Worn, NoMemory}
+use Rattle.sto_atomically.specs.Atomic.{steps_of, HasSeen}
+use Rattle.sto_library.specs.Values.{Working}
+
+-- from one time to a later one the worker ran this code, some number of times, and nothing else
+pub record HasRepeated {T A : Type 0} (t : OfType T) (before after : Working T) (most : ℕ) (p : Prog A) : Type 0 where
+  pub words : after.words ≡ before.words
+  pub shapes : after.shapes ≡ before.shapes
+  pub did : List Transaction
+  pub done : HasDone (t.meaning before.words.ty) before.seat.me.0.view after.seat.me.0.view did
+  pub each : All (λ x. x.steps ≡ steps_of before.shapes most p) did
+
+-- one of the transactions, which stands after all that the worker had seen before, heard replies of which this is so
+pub record HasHeard {T : Type 0} (before : Working T) (did : List Transaction) (says : List ShortReply → Type 0) : Type 0 where
+  pub transaction : Transaction
+  pub there : Among transaction did
+  pub since : (n : ℕ) → HasSeen before.seat.me.0.view n → IsSince n transaction.verdict
+  pub said : says (map short_of transaction.replies)
+
+-- one of the transactions, which were of this code, led to this
+abbrev pub IsLedBy : {T A : Type 0} → Working T → List Transaction → Prog A → Result (Done A) Unrun → Type 0
+IsLedBy before did p (Ok (Gave value)) = HasHeard before did (λ hs. IsGiven p hs value)
+IsLedBy before did p (Ok Cancelled) = HasHeard before did (λ hs. IsCancelled p hs)
+IsLedBy before did p (Err (Refused call)) = HasHeard before did (λ hs. IsAsked p hs call)
+IsLedBy before did p (Err Busy) = Unit {0}
+IsLedBy before did p (Err Worn) = Unit {0}
+IsLedBy before did p (Err NoMemory) = Unit {0}
+
+-- the worker ran this code alone, and one of the runs led to this
+pub record HasGiven {T A : Type 0} (t : OfType T) (before after : Working T) (most : ℕ) (p : Prog A) (outcome : Result (Done A) Unrun) : Type 0 where
+  pub repeated : HasRepeated t before after most p
+  pub led : IsLedBy before repeated.did p outcome
