@@ -1,6 +1,10 @@
--- What the transactions of the bank do.
-use Rattle.std.specs.Prelude.{ℤ, int_lt, if◌then◌else◌}
+-- What the transactions of the bank do, and what they keep.
+use Rattle.std.specs.Prelude.{◌≡◌, ℤ, pos, ◌+ℤ◌, ◌≤ℤ◌, int_lt, if◌then◌else◌, List, [], ◌∷◌, Option, Some, None, option_map, slice_get}
 use Rattle.sto_part.specs.Changes.{wrapped_sum, wrapped_difference}
+use Rattle.sto_model.specs.declared.shape.Shape.{Shape}
+use Rattle.sto_model.specs.declared.shape.Shape.TheVariants.{Single}
+use Rattle.sto_model.specs.Rows.{Row}
+use Rattle.sto_model.specs.Run.{State}
 use Rattle.sto_code.specs.declared.handles.BoxId.{BoxId}
 use Rattle.sto_code.specs.Progs.{Prog, Gives, Cancels}
 use Rattle.sto_code.specs.Steps.{box_get, box_set}
@@ -14,3 +18,27 @@ transfer from to amount =
 -- it gives what three accounts have together
 abbrev pub audit : BoxId → BoxId → BoxId → Prog ℤ
 audit a b c = box_get a (λ x. box_get b (λ y. box_get c (λ z. Gives (wrapped_sum (wrapped_sum x y) z))))
+
+-- the three accounts at the opening
+abbrev pub accounts : List Shape
+accounts = Single (pos 100) ∷ Single (pos 100) ∷ Single (pos 100) ∷ []
+
+-- they hold these amounts
+abbrev pub holding : ℤ → ℤ → ℤ → State
+holding x y z = ((pos 0, x) ∷ []) ∷ ((pos 0, y) ∷ []) ∷ ((pos 0, z) ∷ []) ∷ []
+
+-- none of them is below zero, and they hold 300 together
+pub record HoldAll (state : State) : Type 0 where
+  pub x : ℤ
+  pub y : ℤ
+  pub z : ℤ
+  pub are : state ≡ holding x y z
+  pub some_x : pos 0 ≤ℤ x
+  pub some_y : pos 0 ≤ℤ y
+  pub some_z : pos 0 ≤ℤ z
+  pub sum : (x +ℤ y) +ℤ z ≡ pos 300
+
+-- it is what an account has, by its one row
+abbrev pub IsAmount : ℤ → Option (List Row) → Type 0
+IsAmount x (Some rows) = option_map (λ r. r.1) (slice_get rows 0) ≡ Some x
+IsAmount x None = ⊥

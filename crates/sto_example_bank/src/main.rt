@@ -1,9 +1,13 @@
 //! A bank: two tellers move money, and two auditors look at the same time whether all of it is there.
 #![tactic(auto)]
 
-ghost use Rattle.std.specs.Prelude.{◌≡◌};
-ghost use Rattle.sto_library.specs.Tasks.{IsOutcome};
-ghost use Rattle.sto_example_bank.specs.Accounts.{transfer, audit};
+ghost use Rattle.std.specs.Prelude.{◌≡◌, [], pos, IfSome, slice_get};
+ghost use Rattle.std.specs.List.{All};
+ghost use Rattle.sto_model.specs.Objects.{machines_of};
+ghost use Rattle.sto_library.specs.Doings.{HasGiven};
+ghost use Rattle.sto_library.specs.Keeping.{IfGave};
+ghost use Rattle.sto_example_bank.specs.Accounts.{transfer, audit, accounts, IsAmount, HoldAll};
+ghost use Rattle.sto_example_bank.specs.Days.{IsDay};
 
 use std::alloc::Global;
 use std::io;
@@ -75,7 +79,7 @@ impl Code for Audit {
 impl<T: TxType> Task<T> for Transfer {
     type Out = Result<Done<i64>, Unrun>;
 
-    ghost gives = { λ t worker _ told. IsOutcome T.TxType worker 4 (transfer t.from t.to t.amount) told };
+    ghost gives = { λ t before after told. HasGiven T.TxType before after 4 (transfer t.from t.to t.amount) told };
 
     fn work(&self, worker: &mut StoreWorker<'_, T>) -> Result<Done<i64>, Unrun> {
         for _ in 1..20 {
@@ -89,7 +93,7 @@ impl<T: TxType> Task<T> for Transfer {
 impl<T: TxType> Task<T> for Audit {
     type Out = Result<Done<i64>, Unrun>;
 
-    ghost gives = { λ x worker _ told. IsOutcome T.TxType worker 3 (audit x.a x.b x.c) told };
+    ghost gives = { λ x before after told. HasGiven T.TxType before after 3 (audit x.a x.b x.c) told };
 
     fn work(&self, worker: &mut StoreWorker<'_, T>) -> Result<Done<i64>, Unrun> {
         for _ in 1..20 {
@@ -102,24 +106,49 @@ impl<T: TxType> Task<T> for Audit {
     }
 }
 
-/// A store of three accounts with 100 each, for four workers; and the accounts.
-fn open_bank(alloc: Global) -> Option<(SharedStore<Objects>, [BoxId; 3])> {
+/// A bank that was just opened: its store, and the accounts.
+#[derive(Drop)]
+struct Bank {
+    store: SharedStore<Objects>,
+    a: BoxId,
+    b: BoxId,
+    c: BoxId,
+}
+
+/// Opens a bank of three accounts with 100 each, for four workers.
+fn open_bank(alloc: Global) -> Option<Bank>
+    ensures accounts { IfSome result (λ k. (k.a.number ≡ 0) × (k.b.number ≡ 1) × (k.c.number ≡ 2)) }
+    ensures machines { IfSome result (λ k. (⟦<Objects as TxType>⟧.meaning k.store.words.ty).machines ≡ machines_of accounts) }
+    ensures fresh { IfSome result (λ k. All (λ v. v.entries ≡ []) k.store.views) }
+{
     let mut schema = Schema::new(alloc);
-    let a = schema.boxed(100).ok()?;
-    let b = schema.boxed(100).ok()?;
-    let c = schema.boxed(100).ok()?;
-    Some((schema.open(alloc, 4).ok()?, [a, b, c]))
+    let Ok(a) = schema.boxed(100) else {
+        return None;
+    };
+    let Ok(b) = schema.boxed(100) else {
+        return None;
+    };
+    let Ok(c) = schema.boxed(100) else {
+        return None;
+    };
+    match schema.open(alloc, 4) {
+        Ok(store) => Some(Bank { store, a, b, c }),
+        Err(_) => None,
+    }
 }
 
 /// What an account has at the end.
-fn value_of(rows: &State, account: BoxId) -> Option<i64> {
+fn value_of(rows: &State, account: BoxId) -> Option<i64>
+    ensures { IfSome result (λ x. IsAmount x (slice_get rows.now.items account.number)) }
+{
     if account.number >= rows.len() {
         return None;
     }
-    match rows.get(account.number).as_slice() {
-        [(_, value)] => Some(*value),
-        _ => None,
+    let rows = rows.get(account.number);
+    if rows.len() == 0 {
+        return None;
     }
+    Some(rows.get(0).1)
 }
 
 /// A day of the bank: what both audits told, and what each account has at the end.
@@ -132,9 +161,38 @@ struct Day {
     c: i64,
 }
 
-/// A day of the bank, with two tellers and two auditors.
-fn run_bank<R: Threads + Sync>(rt: &R, alloc: Global) -> Option<Day> {
-    let (mut store, [a, b, c]) = open_bank(alloc)?;
+/// What is told of a day, by what both audits led to and by what the accounts have at the end.
+fn day_of(
+    x: Result<Done<i64>, Unrun>,
+    y: Result<Done<i64>, Unrun>,
+    rows: &State,
+    a: BoxId,
+    b: BoxId,
+    c: BoxId,
+) -> Option<Day>
+    requires audits { IfGave (λ sum. sum ≡ pos 300) x × IfGave (λ sum. sum ≡ pos 300) y }
+    requires rows { HoldAll rows.now.items }
+    requires accounts { (a.number ≡ 0) × (b.number ≡ 1) × (c.number ≡ 2) }
+    ensures { IfSome result IsDay }
+{
+    let (Ok(Done::Gave(first)), Ok(Done::Gave(other))) = (x, y) else {
+        return None;
+    };
+    Some(Day {
+        first,
+        other,
+        a: value_of(rows, a)?,
+        b: value_of(rows, b)?,
+        c: value_of(rows, c)?,
+    })
+}
+
+/// A day of the bank, with two tellers and two auditors. Each audit gives 300, and 300 is there at the end.
+fn run_bank<R: Threads + Sync>(rt: &R, alloc: Global) -> Option<Day>
+    ensures { IfSome result IsDay }
+{
+    let Bank { store, a, b, c } = open_bank(alloc)?;
+    let mut store = store;
     let one = Transfer {
         from: a,
         to: b,
@@ -146,18 +204,13 @@ fn run_bank<R: Threads + Sync>(rt: &R, alloc: Global) -> Option<Day> {
         amount: 2,
     };
     let audit = Audit { a, b, c };
-    let (_, _, x, y) = store.run_four(rt, alloc, &one, &two, &audit, &audit).ok()?;
-    let (Ok(Done::Gave(first)), Ok(Done::Gave(other))) = (x, y) else {
+    let Ok((_, _, x, y)) = store.run_four(rt, alloc, &one, &two, &audit, &audit) else {
         return None;
     };
-    let rows = store.close(alloc).ok()?;
-    Some(Day {
-        first,
-        other,
-        a: value_of(&rows, a)?,
-        b: value_of(&rows, b)?,
-        c: value_of(&rows, c)?,
-    })
+    let Ok(rows) = store.close(alloc) else {
+        return None;
+    };
+    day_of(x, y, &rows, a, b, c)
 }
 
 fn main(rt: HostRuntime) -> io::Result<()> {
