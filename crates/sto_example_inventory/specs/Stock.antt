@@ -1,6 +1,10 @@
--- What the transactions of the inventory do.
-use Rattle.std.specs.Prelude.{ℤ, pos, Option, Some, None, if◌then◌else◌}
+-- What the transactions of the inventory do, and what they keep.
+use Rattle.std.specs.Prelude.{◌≡◌, ℤ, pos, ◌≤ℤ◌, List, [], ◌∷◌, Option, Some, None, option_map, slice_get, if◌then◌else◌}
 use Rattle.sto_part.specs.Changes.{wrapped_sum}
+use Rattle.sto_model.specs.declared.shape.Shape.{Shape}
+use Rattle.sto_model.specs.declared.shape.Shape.TheVariants.{Counter, Hash}
+use Rattle.sto_model.specs.Rows.{Row}
+use Rattle.sto_model.specs.Run.{State}
 use Rattle.sto_code.specs.declared.handles.CounterId.{CounterId}
 use Rattle.sto_code.specs.declared.handles.HashId.{HashId}
 use Rattle.sto_code.specs.Progs.{Prog, Gives, Cancels}
@@ -11,14 +15,37 @@ abbrev pub noted : Option ℤ → ℤ
 noted (Some pieces) = pieces
 noted None = pos 0
 
--- it takes pieces from the stock, where they are there, and adds them to the line of a customer; it gives what that line says then
-abbrev pub sale : CounterId → HashId → ℤ → ℤ → Prog ℤ
-sale stock book customer pieces =
-    counter_take stock pieces (λ taken. if taken then
+-- it adds pieces to the line of a customer; it gives what that line says then
+abbrev pub note : HashId → ℤ → ℤ → Prog ℤ
+note book customer pieces =
     hash_get book customer (λ line. hash_put book customer (wrapped_sum (noted line) pieces) (λ put.
-    if put then Gives (wrapped_sum (noted line) pieces) else Cancels)) else Cancels)
+    if put then Gives (wrapped_sum (noted line) pieces) else Cancels))
+
+-- it takes pieces from the stock, where they are there, and notes them
+abbrev pub sale : CounterId → HashId → ℤ → ℤ → Prog ℤ
+sale stock book customer pieces = counter_take stock pieces (λ taken. if taken then note book customer pieces else Cancels)
 
 -- it gives what is in stock, and what two customers have bought
 abbrev pub count : CounterId → HashId → ℤ → ℤ → Prog (ℤ × ℤ)
 count stock book one other =
     counter_get stock (λ left. hash_get book one (λ x. hash_get book other (λ y. Gives (left, wrapped_sum (noted x) (noted y)))))
+
+-- the stock and the book at the opening
+abbrev pub objects : List Shape
+objects = Counter (pos 50) ∷ Hash 4 2 ∷ []
+
+-- what is in stock, and the lines of the book
+abbrev pub holding : ℤ → List Row → State
+holding left lines = ((pos 0, left) ∷ []) ∷ lines ∷ []
+
+-- what is in stock is not below zero
+pub record IsStocked (state : State) : Type 0 where
+  pub left : ℤ
+  pub lines : List Row
+  pub are : state ≡ holding left lines
+  pub some : pos 0 ≤ℤ left
+
+-- it is what is in stock, by its one row
+abbrev pub IsLeft : ℤ → Option (List Row) → Type 0
+IsLeft x (Some rows) = option_map (λ r. r.1) (slice_get rows 0) ≡ Some x
+IsLeft x None = ⊥

@@ -1,16 +1,20 @@
-//! An inventory: two sellers sell from one stock at the same time, and never what is not there.
+//! An inventory: two sellers sell from one stock, never what is not there, and two clerks count at the same time.
 #![tactic(auto)]
 
-ghost use Rattle.std.specs.Prelude.{◌≡◌, pos};
-ghost use Rattle.sto_library.specs.Tasks.{IsOutcome};
-ghost use Rattle.sto_example_inventory.specs.Stock.{noted, sale, count};
+ghost use Rattle.std.specs.Prelude.{◌≡◌, ◌≤ℤ◌, [], pos, IfSome, slice_get};
+ghost use Rattle.std.specs.List.{All};
+ghost use Rattle.sto_model.specs.Objects.{machines_of};
+ghost use Rattle.sto_library.specs.Doings.{HasGiven};
+ghost use Rattle.sto_library.specs.Keeping.{IfGave};
+ghost use Rattle.sto_example_inventory.specs.Stock.{noted, sale, count, objects, IsLeft, IsStocked};
+ghost use Rattle.sto_example_inventory.specs.Days.{IsDay};
 
 use std::alloc::Global;
 use std::io;
 use std::thread::Threads;
 use sto_library::{
-    Code, CounterId, Done, HashId, Objects, Schema, SharedStore, Stop, StoreWorker, Task, Tx,
-    TxType, Unrun, wrapping_sum,
+    Code, CounterId, Done, HashId, Objects, Schema, SharedStore, State, Stop, StoreWorker, Task,
+    Tx, TxType, Unrun, wrapping_sum,
 };
 
 /// How many pieces the book notes, none where it has no line.
@@ -86,7 +90,7 @@ impl Code for Count {
 impl<T: TxType> Task<T> for Sale {
     type Out = Result<Done<i64>, Unrun>;
 
-    ghost gives = { λ s worker _ told. IsOutcome T.TxType worker 3 (sale s.stock s.book s.customer s.pieces) told };
+    ghost gives = { λ s before after told. HasGiven T.TxType before after 3 (sale s.stock s.book s.customer s.pieces) told };
 
     fn work(&self, worker: &mut StoreWorker<'_, T>) -> Result<Done<i64>, Unrun> {
         for _ in 1..20 {
@@ -96,17 +100,109 @@ impl<T: TxType> Task<T> for Sale {
     }
 }
 
-/// A store with a stock of 50 pieces and an empty book, for two workers.
-fn open_stock(alloc: Global) -> Option<(SharedStore<Objects>, CounterId, HashId)> {
-    let mut schema = Schema::new(alloc);
-    let stock = schema.counter(50).ok()?;
-    let book = schema.hash(4, 2).ok()?;
-    Some((schema.open(alloc, 2).ok()?, stock, book))
+/// A clerk counts 20 times. It gives how the last count went.
+impl<T: TxType> Task<T> for Count {
+    type Out = Result<Done<(i64, i64)>, Unrun>;
+
+    ghost gives = { λ x before after told. HasGiven T.TxType before after 3 (count x.stock x.book (pos 1) (pos 2)) told };
+
+    fn work(&self, worker: &mut StoreWorker<'_, T>) -> Result<Done<(i64, i64)>, Unrun> {
+        for _ in 1..20 {
+            let _told = worker.run(self);
+        }
+        worker.run(self)
+    }
 }
 
-/// What is left and what was sold after two sellers wanted 60 pieces each, 3 at a time.
-fn run_sales<R: Threads>(rt: &R, alloc: Global) -> Option<(i64, i64)> {
-    let (mut store, stock, book) = open_stock(alloc)?;
+/// A shop that was just opened: its store, the stock, and the book.
+#[derive(Drop)]
+struct Shop {
+    store: SharedStore<Objects>,
+    stock: CounterId,
+    book: HashId,
+}
+
+/// Opens a shop with a stock of 50 pieces and an empty book, for four workers.
+fn open_shop(alloc: Global) -> Option<Shop>
+    ensures objects { IfSome result (λ s. (s.stock.number ≡ 0) × (s.book.number ≡ 1)) }
+    ensures machines { IfSome result (λ s. (⟦<Objects as TxType>⟧.meaning s.store.words.ty).machines ≡ machines_of objects) }
+    ensures fresh { IfSome result (λ s. All (λ v. v.entries ≡ []) s.store.views) }
+{
+    let mut schema = Schema::new(alloc);
+    let Ok(stock) = schema.counter(50) else {
+        return None;
+    };
+    let Ok(book) = schema.hash(4, 2) else {
+        return None;
+    };
+    match schema.open(alloc, 4) {
+        Ok(store) => Some(Shop { store, stock, book }),
+        Err(_) => None,
+    }
+}
+
+/// What is left in stock at the end.
+fn left_of(rows: &State, stock: CounterId) -> Option<i64>
+    ensures { IfSome result (λ x. IsLeft x (slice_get rows.now.items stock.number)) }
+{
+    if stock.number >= rows.len() {
+        return None;
+    }
+    let rows = rows.get(stock.number);
+    if rows.len() == 0 {
+        return None;
+    }
+    Some(rows.get(0).1)
+}
+
+/// How many pieces the book notes at the end.
+fn sold_of(rows: &State, book: HashId) -> i64 {
+    if book.number >= rows.len() {
+        return 0;
+    }
+    let mut sold = 0;
+    for (_, pieces) in rows.get(book.number).as_slice() {
+        sold = wrapping_sum(sold, *pieces);
+    }
+    sold
+}
+
+/// A day of the shop: what a clerk counted in stock, what is left, and what was sold.
+#[derive(Clone, Copy)]
+struct Day {
+    counted: i64,
+    left: i64,
+    sold: i64,
+}
+
+/// What is told of a day, by what a count led to and by the rows at the end.
+fn day_of(
+    count: Result<Done<(i64, i64)>, Unrun>,
+    rows: &State,
+    stock: CounterId,
+    book: HashId,
+) -> Option<Day>
+    requires count { IfGave (λ c. pos 0 ≤ℤ c.0) count }
+    requires rows { IsStocked rows.now.items }
+    requires stock { stock.number ≡ 0 }
+    ensures { IfSome result IsDay }
+{
+    let Ok(Done::Gave((counted, _))) = count else {
+        return None;
+    };
+    Some(Day {
+        counted,
+        left: left_of(rows, stock)?,
+        sold: sold_of(rows, book),
+    })
+}
+
+/// A day of the shop: two sellers want 60 pieces each, 3 at a time, and two clerks count. The stock is never below zero.
+fn run_sales<R: Threads + Sync>(rt: &R, alloc: Global) -> Option<Day>
+    ensures { IfSome result IsDay }
+{
+    let Shop { store, stock, book } = open_shop(alloc)?;
+    let mut store = store;
     let one = Sale {
         stock,
         book,
@@ -119,17 +215,18 @@ fn run_sales<R: Threads>(rt: &R, alloc: Global) -> Option<(i64, i64)> {
         customer: 2,
         pieces: 3,
     };
-    let _told = store.run_both(rt, alloc, &one, &two).ok()?;
-    let idle = store.hire()?;
-    let mut worker = store.worker(alloc, idle);
-    match worker.run(&Count { stock, book }) {
-        Ok(Done::Gave(counted)) => Some(counted),
-        _ => None,
-    }
+    let clerk = Count { stock, book };
+    let Ok((_, _, counted, _)) = store.run_four(rt, alloc, &one, &two, &clerk, &clerk) else {
+        return None;
+    };
+    let Ok(rows) = store.close(alloc) else {
+        return None;
+    };
+    day_of(counted, &rows, stock, book)
 }
 
 fn main(rt: HostRuntime) -> io::Result<()> {
-    let Some((left, sold)) = run_sales(&rt, rt.alloc()) else {
+    let Some(Day { left, sold, .. }) = run_sales(&rt, rt.alloc()) else {
         return println!(rt; "no memory");
     };
     println!(rt; "sold {sold}, left {left}")

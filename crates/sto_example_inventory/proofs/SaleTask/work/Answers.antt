@@ -1,7 +1,12 @@
-use Rattle.std.proofs.Common.{rules}
+use Rattle.sto_type.specs.Traits.{of_type}
+use Rattle.sto_library.proofs.Doings.{repeated_none, repeated_more, given_more}
 use Rattle.sto_example_inventory.proofs.SaleTask.work.Goals as goal
 
+pub loop-init : goal.loop-init
+loop-init g c = repeated_none (of_type g.T.Naming g.T.TxType) _ _ _
+
+pub loop-preserved : goal.loop-preserved
+loop-preserved g c = repeated_more (of_type g.T.Naming g.T.TxType) c.loop.invariant c.run-told.ensures.given.repeated
+
 pub returns-clause-gives : goal.returns-clause-gives
-returns-clause-gives g c =
-    let w = c.loop.invariant.0 in let s = c.loop.invariant.1 in let l = c.run.ensures.led in
-    record { before = c.loop.worker.seat.me.0.view; after = c.run.new.self.seat.me.0.view; led = search rules }
+returns-clause-gives g c = given_more (of_type g.T.Naming g.T.TxType) c.loop.invariant c.run.ensures.given
