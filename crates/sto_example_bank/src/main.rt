@@ -224,7 +224,7 @@ fn main(rt: HostRuntime) -> io::Result<()> {
         },
     ) = run_bank(&rt, rt.alloc())
     else {
-        return println!(rt; "no memory");
+        return println!(rt; "no answer: memory was wanting, or others were in the way too often");
     };
     println!(rt; "audits told {first} and {other}; the accounts have {a}, {b}, {c}")
 }

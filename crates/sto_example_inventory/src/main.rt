@@ -227,7 +227,7 @@ fn run_sales<R: Threads + Sync>(rt: &R, alloc: Global) -> Option<Day>
 
 fn main(rt: HostRuntime) -> io::Result<()> {
     let Some(Day { left, sold, .. }) = run_sales(&rt, rt.alloc()) else {
-        return println!(rt; "no memory");
+        return println!(rt; "no answer: memory was wanting, or others were in the way too often");
     };
     println!(rt; "sold {sold}, left {left}")
 }

@@ -62,8 +62,8 @@ fn last_rows<T: TxType>(
 impl<T: TxType + Drop> Store<T> {
     /// Closes the store, by all its workers, and answers the rows that its objects hold.
     ///
-    /// These are the last state of a serial history (clause `history`): whatever transactions are all that the workers have done, each
-    /// was told of one of them, and is in that history the serial run from the state before its number, or as of the number that it read.
+    /// The rows are the last state of a serial history (clause `history`): whatever transactions are all that the workers have done, each
+    /// is in that history its serial run, from the state right before its number, or on the state as of the number that it read.
     ///
     /// Where a worker is missing, the store and the workers come back. Where memory is wanting they are lost.
     pub fn close(self, alloc: Global, workers: IdleWorkers<T>) -> Result<State, Unclosed<T>>
