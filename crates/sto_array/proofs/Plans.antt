@@ -10,7 +10,7 @@ use Rattle.sto_type.specs.Plans.{IsSaid, IsPlan, planned}
 use Rattle.sto_type.specs.declared.answer.Answer.{Answer}
 use Rattle.sto_counter.specs.Sums.{add_items, add_updates}
 use Rattle.sto_counter.specs.Replies.{add_reply}
-use Rattle.sto_array.specs.Arrayed.{array_meaning, place_of, asked, array_need}
+use Rattle.sto_array.specs.Arrayed.{array_meaning, place_of, asked}
 use Rattle.sto_type.specs.Known.{word_known}
 use Rattle.sto_type.proofs.FirstWords.{known_word, unknown_word}
 use Rattle.sto_array.specs.ArrayedLaw.{plan_get, plan_add, plan_needs}

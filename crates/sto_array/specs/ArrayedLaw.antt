@@ -1,33 +1,31 @@
 -- An array is lawful.
-use Rattle.std.specs.Prelude.{◌≡◌, ◌<◌, ◌≤◌, ◌+◌, ◌+ℤ◌, ℕ, zero, suc, ℤ, pos, negsuc, Bool, true, false, not, ◌&&◌, if◌then◌else◌, Option, Some, None, List, [], ◌∷◌, map, length, replicate, slice_index_or, slice_get, slice_set, IsSome, IsTrue, is_some, refl}
+use Rattle.std.specs.Prelude.{◌≡◌, ◌<◌, ◌+◌, ◌+ℤ◌, ℕ, zero, suc, ℤ, pos, Bool, true, false, ◌&&◌, if◌then◌else◌, Option, Some, None, List, [], ◌∷◌, length, slice_index_or, slice_get, slice_set, IsTrue, is_some, refl}
 use Rattle.std.specs.Int.{w64}
 use Rattle.std.specs.Int.RustNames.{FitsSigned}
 use Rattle.std.proofs.Common.{ap, sym, ◌∙◌, arith, subst}
 use Rattle.std.proofs.lemmas.Int.{SFits-int_wrap}
 use Rattle.sto_part.specs.Parts.{part_of}
 use Rattle.sto_part.specs.Changes.{wrapped_sum, applied, applied_all}
-use Rattle.sto_part.specs.Preds.{holds_of}
 use Rattle.sto_part.specs.declared.change.Change.{Change}
 use Rattle.sto_part.specs.declared.change.Change.TheVariants as C
-use Rattle.sto_item.specs.declared.item.Item.{Item}
-use Rattle.sto_item.specs.declared.item.Item.TheVariants.{Seen, Holds}
-use Rattle.sto_item.specs.Pending.{Entry, is_keep}
+use Rattle.sto_item.specs.declared.item.Item.TheVariants.{Seen}
+use Rattle.sto_item.specs.Pending.{is_keep}
 use Rattle.sto_item.specs.Agreement.{Agrees, AreTrueOf, word_of}
 use Rattle.sto_model.specs.declared.call.Call.{Call}
 use Rattle.sto_model.specs.declared.operation.Operation.{Operation}
 use Rattle.sto_model.specs.declared.operation.Operation.TheVariants.{Get, Set, Add, Test as TestWord, Take, Put, Remove, Has, Len, Next, Count, Scan, Push, Pop}
 use Rattle.sto_model.specs.declared.shape.Shape.TheVariants.{Array}
-use Rattle.sto_model.specs.Rows.{Row, value_at, has_key, with_row}
+use Rattle.sto_model.specs.Rows.{Row, value_at, with_row}
 use Rattle.sto_model.specs.Told.{Told, is_write}
 use Rattle.sto_model.specs.Told as T
 use Rattle.sto_model.specs.Operations.{operation_of}
-use Rattle.sto_model.specs.Objects.{Effect, effect, effect_by, value_or_absent, added_at, in_range, done_in_range, takes_by}
+use Rattle.sto_model.specs.Objects.{Effect, effect, effect_by, value_or_absent, added_at, in_range, takes_by}
 use Rattle.sto_model.specs.Machine.{reply_to, state_after}
-use Rattle.sto_type.specs.Known.{Parts, Known, IsPartOf, ContentsFit}
-use Rattle.sto_type.specs.Meaning.{Meaning, IsLawful, IsNeed, IsUpdated, IsPartOfObject, EachKnown, EachInside, EachOwner, is_empty}
+use Rattle.sto_type.specs.Known.{Parts, Known, IsPartOf}
+use Rattle.sto_type.specs.Meaning.{Meaning, IsLawful, IsUpdated, IsPartOfObject, EachKnown, EachInside, EachOwner}
 use Rattle.sto_type.specs.Plans.{IsSaid, IsPlan, planned, said_is_plan}
 use Rattle.sto_type.specs.declared.answer.Answer.{Answer}
-use Rattle.sto_counter.specs.Sums.{word_pred_of, grows, add_items, add_updates}
+use Rattle.sto_counter.specs.Sums.{grows, add_items, add_updates}
 use Rattle.sto_counter.specs.SumsLaw.{add_observed, grown, not_grown}
 use Rattle.sto_counter.specs.Replies.{add_reply}
 use Rattle.sto_array.specs.Arrayed.{place_of, asked, array_need, value_known, array_items, array_updates, array_rows, homes_from, IsArray, ArrayTakes, array_meaning}

@@ -15,10 +15,10 @@ ghost use Rattle.sto_array.specs.ArrayedLaw.{array_lawful};
 
 use std::alloc::Global;
 use sto_counter::add_answer;
-use sto_item::{Item, Items, Updates};
+use sto_item::Item;
 use sto_model::{Call, Operation, Reply, Rows, Shape, State, takes_code};
 use sto_part::{Change, Contents, Naming, NoMemory, PartWords};
-use sto_type::{Answer, Home, KnownParts, TxType, one_item, one_update};
+use sto_type::{Answer, AnswerPool, Home, KnownParts, TxType, one_item, one_update};
 
 /// An array of so many numbers. Its contents are a part of one word for each.
 #[derive(Drop)]
@@ -92,20 +92,26 @@ impl TxType for TArray {
         Ok(state)
     }
 
-    fn plan(&self, alloc: Global, call: &Call, cache: &KnownParts<'_>) -> Result<Answer, NoMemory> {
+    fn plan(
+        &self,
+        alloc: Global,
+        pool: &mut AnswerPool,
+        call: &Call,
+        cache: &KnownParts<'_>,
+    ) -> Result<Answer, NoMemory> {
         match place_in(self.len, call.a) {
-            None => outside(alloc),
+            None => outside(pool),
             Some(place) => match Operation::from_code(call.code) {
                 Some(Operation::Get) => match cache.first_word(place) {
                     None => Ok(Answer::Need(place)),
-                    Some(value) => get_answer(alloc, place, value),
+                    Some(value) => get_answer(pool, place, value),
                 },
-                Some(Operation::Set) => set_answer(alloc, place, call.b),
+                Some(Operation::Set) => set_answer(pool, place, call.b),
                 Some(Operation::Add) => match cache.first_word(place) {
                     None => Ok(Answer::Need(place)),
-                    Some(value) => add_answer(alloc, place, call.b, value),
+                    Some(value) => add_answer(pool, place, call.b, value),
                 },
-                _ => outside(alloc),
+                _ => outside(pool),
             },
         }
     }
@@ -123,33 +129,33 @@ pub fn place_in(len: u32, index: i64) -> Option<u32>
 }
 
 // The answer where the index is outside.
-fn outside(alloc: Global) -> Result<Answer, NoMemory>
+fn outside(pool: &mut AnswerPool) -> Result<Answer, NoMemory>
     ensures { IfOk result (IsSaid ToldAbsent [] []) }
 {
     Ok(Answer::Done {
         reply: Reply::Absent,
-        items: Items::new(alloc),
-        updates: Updates::new(alloc),
+        items: pool.items(),
+        updates: pool.updates(),
     })
 }
 
-fn get_answer(alloc: Global, place: u32, value: i64) -> Result<Answer, NoMemory>
+fn get_answer(pool: &mut AnswerPool, place: u32, value: i64) -> Result<Answer, NoMemory>
     ensures { IfOk result (IsSaid (ToldValue value) (Seen place ∷ []) []) }
 {
     Ok(Answer::Done {
         reply: Reply::Value(value),
-        items: one_item(alloc, Item::Seen(place))?,
-        updates: Updates::new(alloc),
+        items: one_item(pool, Item::Seen(place))?,
+        updates: pool.updates(),
     })
 }
 
-pub(crate) fn set_answer(alloc: Global, place: u32, value: i64) -> Result<Answer, NoMemory>
+pub(crate) fn set_answer(pool: &mut AnswerPool, place: u32, value: i64) -> Result<Answer, NoMemory>
     ensures { IfOk result (IsSaid ToldDone [] ((place, Put value ∷ []) ∷ [])) }
 {
     Ok(Answer::Done {
         reply: Reply::Done,
-        items: Items::new(alloc),
-        updates: one_update(alloc, place, Change::Put(value))?,
+        items: pool.items(),
+        updates: one_update(pool, place, Change::Put(value))?,
     })
 }
 

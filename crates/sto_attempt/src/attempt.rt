@@ -18,7 +18,7 @@ ghost use Rattle.sto_attempt.specs.Attempts.{IsLogOf, IsOwnLog, IsUnderWay, Step
 use std::alloc::Global;
 use std::mem;
 use sto_attempt_log::{
-    Extension, Heard, Log, Memory, Observed, ReadPhase, Turn, Verdict, lead, learn_updated,
+    Extension, Heard, Log, Memory, ReadPhase, Turn, Verdict, lead, learn_updated,
 };
 use sto_core::Cells;
 use sto_model::{Body, Replies};
@@ -71,9 +71,10 @@ impl<'t, T: TxType, B: Body> Attempt<'t, T, B> {
                 ty,
                 body,
                 replies: Replies::new(alloc),
-                set: Observed::new(alloc),
+                set: memory.take_set(),
                 base: memory.take_base(),
                 cache: memory.take_cache(),
+                pool: memory.take_pool(),
             },
             at: 0,
             read_phase: ReadPhase::Unstarted,
@@ -105,11 +106,13 @@ impl<'t, T: TxType, B: Body> Attempt<'t, T, B> {
         let Log {
             body,
             replies,
+            set,
             base,
             cache,
+            pool,
             ..
         } = log;
-        memory.keep_log(base, cache);
+        memory.keep_log(set, base, cache, pool);
         memory.keep_reads(words, extension.fresh);
         (Heard { body, replies }, memory)
     }

@@ -6,7 +6,7 @@ use crate::attempt::Attempt;
 use sto_attempt_log::{Extension, Log, Memory, Observed, ReadPhase, ReadSet};
 use sto_model::{Body, Replies};
 use sto_part::PartWords;
-use sto_type::{Cache, TxType};
+use sto_type::{AnswerPool, Cache, TxType};
 
 /// All of an attempt but its type, which it borrows no more.
 #[derive(Drop)]
@@ -16,6 +16,7 @@ pub struct Paused<B: Body> {
     pub(crate) set: Observed,
     pub(crate) base: ReadSet,
     pub(crate) cache: Cache,
+    pub(crate) pool: AnswerPool,
     pub(crate) at: u64,
     pub(crate) read_phase: ReadPhase,
     pub(crate) words: PartWords,
@@ -43,6 +44,7 @@ impl<T: TxType, B: Body> Attempt<'_, T, B> {
             set,
             base,
             cache,
+            pool,
             ..
         } = log;
         Paused {
@@ -51,6 +53,7 @@ impl<T: TxType, B: Body> Attempt<'_, T, B> {
             set,
             base,
             cache,
+            pool,
             at,
             read_phase,
             words,
@@ -71,6 +74,7 @@ impl<B: Body> Paused<B> {
             set,
             base,
             cache,
+            pool,
             at,
             read_phase,
             words,
@@ -85,6 +89,7 @@ impl<B: Body> Paused<B> {
                 set,
                 base,
                 cache,
+                pool,
             },
             at,
             read_phase,

@@ -81,11 +81,13 @@ impl<T: TxType, B: Body> Ready<'_, T, B> {
         let Log {
             body,
             replies,
+            set,
             base,
             cache,
+            pool,
             ..
         } = log;
-        memory.keep_log(base, cache);
+        memory.keep_log(set, base, cache, pool);
         memory.keep_lists(lists, loaded_words);
         (Heard { body, replies }, memory)
     }

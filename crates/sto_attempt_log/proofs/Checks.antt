@@ -1,11 +1,9 @@
 -- The check of a part after the draw, by the phase of the commit.
-use Rattle.std.proofs.Common.{◌≡◌, ◌≢◌, ◌≤◌, ◌<◌, ◌⊎◌, ℕ, zero, suc, ℤ, true, false, Bool, nat_eq, nat_lt, ◌||◌, if◌then◌else◌, Some, List, [], ◌∷◌, ◌++◌, take, refl, ap, sym, ◌∙◌, subst, arith, inl, inr, eqb-true, eq-eqb, slice_get, IsSome}
+use Rattle.std.proofs.Common.{◌≡◌, ◌≢◌, ◌≤◌, ◌<◌, ◌⊎◌, ℕ, zero, suc, ℤ, true, false, Bool, nat_eq, nat_lt, ◌||◌, if◌then◌else◌, Some, List, [], ◌∷◌, ◌++◌, take, refl, ap, sym, ◌∙◌, subst, arith, inl, inr, eqb-true, slice_get, IsSome}
 use Rattle.std.proofs.lemmas.Bool.{cases_Bool}
 use Rattle.std.proofs.lemmas.Bool.Decides.{nat_tests}
 use Rattle.std.specs.List.{Contains, list_any}
 use Rattle.sto_type.proofs.Answering.{take_get}
-use mathlib.Core.Option.{some, some-ne-none, some-injective}
-use lib.ListN.{get_elem?}
 use Rattle.sto_part.specs.Listed.{Listed}
 use Rattle.sto_item.specs.declared.item.Item.{Item}
 use Rattle.sto_item.specs.declared.item.Item.TheVariants.{Seen, Holds}
@@ -41,7 +39,7 @@ use Rattle.sto_attempt_log.proofs.Ticketing.{held_written}
 use Rattle.sto_attempt_log.proofs.Leaving.{Sealed, sealed_still}
 use Rattle.sto_attempt_log.proofs.Locking.{found_still, wrote_kept}
 use Rattle.sto_attempt_log.proofs.Loading.{each_but}
-use Rattle.sto_attempt_log.proofs.Sights.{among_any, any_among, loaded_unseen}
+use Rattle.sto_attempt_log.proofs.SeenParts.{among_any, any_among, loaded_unseen}
 
 -- the claim of a part that was read
 pub record ClaimAt (v : View) (number p t : ℕ) : Type 0 where

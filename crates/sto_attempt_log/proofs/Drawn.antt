@@ -36,7 +36,7 @@ use Rattle.sto_attempt_log.proofs.Ticketing.{held_written, may_draw}
 use Rattle.sto_attempt_log.proofs.Leaving.{Sealed, sealed_still}
 use Rattle.sto_attempt_log.proofs.Locking.{found_still}
 use Rattle.sto_attempt_log.proofs.Loading.{each_map, each_but, hold_has}
-use Rattle.sto_attempt_log.proofs.Sights.{loaded_apart}
+use Rattle.sto_attempt_log.proofs.SeenParts.{loaded_apart}
 
 -- the entry with a ticket above all others
 pub last_entry : (k : ℕ) (es : List Entry) (e : Entry) → Each (λ (y : Entry). y.ticket ≤ k) es → e.ticket ≡ suc k → entry_of (suc k) (es ++ e ∷ []) ≡ e

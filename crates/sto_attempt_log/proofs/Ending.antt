@@ -46,7 +46,7 @@ use Rattle.sto_attempt_log.proofs.Claimed.{claimed_still, claims_fit, part_of_cl
 use Rattle.sto_attempt_log.proofs.Drawing.{were_true}
 use Rattle.sto_attempt_log.proofs.Observing.{WasTrue}
 use Rattle.sto_attempt_log.specs.Reasons.{WasReadUnder, IsByPredicate, IsByTest}
-use Rattle.sto_attempt_log.proofs.Sights.{loaded_unseen}
+use Rattle.sto_attempt_log.proofs.SeenParts.{loaded_unseen}
 use Rattle.sto_attempt_log.proofs.Unheld.{task_loaded, task_asked, task_read_entry, task_read, part_there, part_wide}
 
 pub odd_version : (n s : ℕ) → is_free n ≡ false → nat_eq n (2 * s) ≡ false

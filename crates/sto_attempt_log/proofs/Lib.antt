@@ -33,7 +33,7 @@ pub mod Holding
 pub mod Leaving
 pub mod Locking
 pub mod Loading
-pub mod Sights
+pub mod SeenParts
 pub mod Judging
 pub mod Aiming
 pub mod Unheld

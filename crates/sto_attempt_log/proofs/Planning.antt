@@ -21,7 +21,7 @@ use Rattle.sto_attempt_log.specs.Log.{IsInside}
 use Rattle.sto_attempt_log.specs.CommitPhases.{is_of_part, is_same_part, IsNamed}
 use Rattle.sto_attempt_log.specs.Gathering.{gathered, seen_part, not_in, other_part, is_add, adding_part, unwritten_part}
 use Rattle.sto_attempt_log.proofs.Aiming.{any_writes}
-use Rattle.sto_attempt_log.proofs.Sights.{among_any, any_among}
+use Rattle.sto_attempt_log.proofs.SeenParts.{among_any, any_among}
 use Rattle.sto_attempt_log.proofs.Every.{all_contained}
 use Rattle.sto_attempt_log.proofs.Gathering.{among_first, among_rest, among_none, among_cases, gathered-new, gathered-cases}
 

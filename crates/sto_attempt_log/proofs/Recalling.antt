@@ -1,5 +1,5 @@
 -- Steps of the loops over what is known.
-use Rattle.std.proofs.Common.{true≢false, ◌≡◌, ◌≤◌, ◌<◌, ◌+◌, ℕ, ℤ, pos, true, false, nat_eq, nat_lt, ◌&&◌, Option, Some, List, [], ◌∷◌, ◌++◌, length, take, refl, ap, sym, ◌∙◌, subst, arith, Bool, eqb-true, inl, inr, slice_index_or, IsSome}
+use Rattle.std.proofs.Common.{◌≡◌, ◌≤◌, ◌<◌, ◌+◌, ℕ, ℤ, pos, true, false, nat_eq, nat_lt, ◌&&◌, Option, Some, List, [], ◌∷◌, ◌++◌, length, take, refl, ap, sym, ◌∙◌, subst, arith, Bool, eqb-true, inl, inr, slice_index_or, IsSome}
 use Rattle.std.specs.Prelude.{◌⊎◌}
 use Rattle.std.specs.List.{list_all}
 use Rattle.std.proofs.lemmas.List.{take_more, length-map}
@@ -19,20 +19,6 @@ use Rattle.sto_type.specs.Meaning.{Meaning, IsLawful}
 use Rattle.sto_type.proofs.Learning.{IsPartOf-learnt}
 use Rattle.sto_attempt_log.specs.Log.{IsPending, IsRecalled, IsCache}
 use Rattle.sto_attempt_log.proofs.Moving.{width_of}
-
--- the words of a part that has one
-pub only_word : (ws : List ℤ) → length ws ≡ 1 → ws ≡ slice_index_or ws 0 (pos 0) ∷ []
-only_word [] one = absurd (omega (arith, one))
-only_word (x ∷ []) one = refl
-only_word (x ∷ y ∷ ys) one = absurd (omega (arith, one))
-
--- where no update is pending, the words stay
-pub unupdated : (es : List Entry) (p : ℕ) (ws : List ℤ) → nat_lt 0 (length es) ≡ false → applied_all (changes_of es p) ws ≡ ws
-unupdated [] p ws none = refl
-unupdated (e ∷ es) p ws none =
-    let some : 0 < length (e ∷ es) = omega arith in
-    let more : nat_lt 0 (length (e ∷ es)) ≡ true = grind (arith, nat_tests) in
-    absurd (true≢false (sym more ∙ none))
 
 -- one more word
 pub word_more : (cs : List Change) (ws : List ℤ) (w : ℕ) (made : List ℤ) (x y : ℤ) → length cs ≤ length ws → w < length ws → made ≡ take w (applied_all cs ws) → slice_index_or ws w (pos 0) ≡ y

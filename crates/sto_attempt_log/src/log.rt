@@ -18,7 +18,7 @@ use std::alloc::Global;
 use sto_item::{Items, Updates};
 use sto_model::{Body, Next, Replies, Reply};
 use sto_part::NoMemory;
-use sto_type::{Answer, Cache, TxType};
+use sto_type::{Answer, AnswerPool, Cache, TxType};
 
 /// Where a body has come to.
 #[derive(Clone, Copy)]
@@ -43,6 +43,8 @@ pub struct Log<'t, T: TxType, B: Body> {
     pub base: ReadSet,
     /// What is known with the pending updates applied.
     pub cache: Cache,
+    /// Lists for the answers of the type.
+    pub pool: AnswerPool,
 }
 
 impl<T: TxType, B: Body> Log<'_, T, B> {
@@ -78,13 +80,17 @@ impl<T: TxType, B: Body> Log<'_, T, B> {
                         &self.base,
                         &self.set,
                         &mut self.cache,
+                        &mut self.pool,
                     )? {
                         Answer::Need(part) => return Ok(Reached::Needs(part)),
                         Answer::Done {
                             reply,
                             items,
                             updates,
-                        } => self.take_in(alloc, reply, &items, &updates)?,
+                        } => {
+                            self.take_in(alloc, reply, &items, &updates)?;
+                            self.pool.keep(items, updates);
+                        }
                     }
                 }
                 Next::Commit => return Ok(Reached::Commits),

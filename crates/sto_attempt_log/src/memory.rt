@@ -5,12 +5,14 @@ ghost use Rattle.sto_attempt_log.specs.Kept.{AreEmpty};
 use crate::found_tickets::FoundTickets;
 use crate::lists::Lists;
 use crate::loaded_words::LoadedWords;
+use crate::observed::Observed;
 use crate::read_entry::ReadSet;
 use std::alloc::Global;
 use std::marker::Model;
 use std::mem;
+use sto_item::Updates;
 use sto_part::{List, PartWords, Parts};
-use sto_type::Cache;
+use sto_type::{AnswerPool, Cache};
 
 /// The lists of an attempt and of its commit while no attempt uses them: each is empty, and has the room that earlier attempts have made.
 ///
@@ -26,10 +28,13 @@ pub struct Memory {
 /// The lists that are kept.
 #[derive(Drop)]
 pub struct KeptLists {
+    set: Observed,
     base: ReadSet,
     fresh: ReadSet,
     cache: Cache,
+    pool: AnswerPool,
     words: PartWords,
+    updates: Updates,
     seen: Parts,
     loaded: Parts,
     tasks: Parts,
@@ -56,10 +61,13 @@ impl KeptLists {
         ensures { AreEmpty result }
     {
         KeptLists {
+            set: Observed::new(alloc),
             base: ReadSet::new(alloc),
             fresh: ReadSet::new(alloc),
             cache: Cache::new(alloc),
+            pool: AnswerPool::new(alloc),
             words: PartWords::new(alloc),
+            updates: Updates::new(alloc),
             seen: Parts::new(alloc),
             loaded: Parts::new(alloc),
             tasks: Parts::new(alloc),
@@ -89,6 +97,16 @@ impl Memory {
         ensures { IfSome result (λ b. AreEmpty b.value) }
     {
         mem::replace(&mut self.kept, None)
+    }
+
+    /// A set for the items and the pending updates.
+    pub fn take_set(&mut self) -> Observed
+        ensures { result ≡ record { items = []; updates = [] } }
+    {
+        match &mut self.kept {
+            Some(kept) => mem::replace(&mut kept.set, Observed::new(self.alloc)),
+            None => Observed::new(self.alloc),
+        }
     }
 
     /// A list for the parts that are read.
@@ -121,6 +139,14 @@ impl Memory {
         }
     }
 
+    /// Lists for the answers of a type.
+    pub fn take_pool(&mut self) -> AnswerPool {
+        match &mut self.kept {
+            Some(kept) => mem::replace(&mut kept.pool, AnswerPool::new(self.alloc)),
+            None => AnswerPool::new(self.alloc),
+        }
+    }
+
     /// A list for the words of an open read.
     pub fn take_words(&mut self) -> PartWords
         ensures { result.items ≡ [] }
@@ -128,6 +154,15 @@ impl Memory {
         match &mut self.kept {
             Some(kept) => mem::replace(&mut kept.words, PartWords::new(self.alloc)),
             None => PartWords::new(self.alloc),
+        }
+    }
+
+    pub(crate) fn take_updates(&mut self) -> Updates
+        ensures { result.items ≡ [] }
+    {
+        match &mut self.kept {
+            Some(kept) => mem::replace(&mut kept.updates, Updates::new(self.alloc)),
+            None => Updates::new(self.alloc),
         }
     }
 
@@ -208,15 +243,18 @@ impl Memory {
         }
     }
 
-    /// Keeps the room of what an attempt has read and knows.
-    pub fn keep_log(&mut self, base: ReadSet, cache: Cache) {
+    /// Keeps the room of what an attempt has noted, has read and knows, and of answers.
+    pub fn keep_log(&mut self, set: Observed, base: ReadSet, cache: Cache, pool: AnswerPool) {
         let Some(mut kept) = self.some_kept() else {
             return;
         };
+        kept.set = set;
+        kept.set.clear();
         kept.base = base;
         kept.base.clear();
         kept.cache = cache;
         kept.cache.forget();
+        kept.pool = pool;
         self.kept = Some(kept);
     }
 
@@ -238,14 +276,16 @@ impl Memory {
             return;
         };
         let Lists {
+            updates,
             seen,
             loaded,
             tasks,
             checks,
             places,
             found_tickets,
-            ..
         } = lists;
+        kept.updates = updates;
+        kept.updates.clear();
         kept.seen = seen;
         kept.seen.clear();
         kept.loaded = loaded;

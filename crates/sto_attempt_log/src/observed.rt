@@ -91,6 +91,13 @@ impl Observed {
         self.predicates = predicates;
     }
 
+    /// The pending changes of a part, word by word; none where it has no update.
+    pub(crate) fn changes(&self, part: u32) -> &[Change]
+        ensures { result.now ≡ changes_of self.now.updates part }
+    {
+        self.set.changes(part)
+    }
+
     /// The pending change of a word, or `Keep`.
     pub fn pending(&self, part: u32, word: u32) -> Change
         ensures change { result ≡ change_at self.now.updates part word }
@@ -121,12 +128,20 @@ impl Observed {
         self.set.items()
     }
 
-    /// The pending updates, in a list of its own.
-    pub(crate) fn updates(&self) -> Result<Updates, NoMemory>
+    /// The pending updates, in the room of other ones, which are taken away.
+    pub(crate) fn updates_into(&self, other: Updates) -> Result<Updates, NoMemory>
         ensures updates { IfOk result (λ l. l.items ≡ self.now.updates) }
         ensures ordered { AreUpdates self.now.updates }
     {
-        self.set.updates()
+        self.set.updates_into(other)
+    }
+
+    /// Takes all items and updates away. Their room stays.
+    pub(crate) fn clear(&mut self)
+        ensures { self.new ≡ record { items = []; updates = [] } }
+    {
+        self.predicates = None;
+        self.set.clear();
     }
 
     /// One watch for each observed part.

@@ -1,8 +1,8 @@
 //! What is known of a part without an event, with the pending updates applied.
-ghost use Rattle.std.specs.Prelude.{◌≡◌, ◌<◌, ◌≤◌, ◌^◌, ◌++◌, [], ◌∷◌, ℕ, ℤ, List, None, Some, false, true, length, map, IfOk, OnOk, IfSome, IfNone, MatchOption};
+ghost use Rattle.std.specs.Prelude.{◌≡◌, ◌<◌, ◌≤◌, ◌^◌, ◌++◌, [], ◌∷◌, ℕ, ℤ, List, None, Some, false, true, length, map, slice_index_or, IfOk, OnOk, IfSome, IfNone, MatchOption};
 ghost use Rattle.std.specs.Option.{option_map};
 ghost use Rattle.std.specs.List.{Contains};
-ghost use Rattle.sto_part.specs.Changes.{applied_all};
+ghost use Rattle.sto_part.specs.Changes.{applied, applied_all};
 ghost use Rattle.sto_item.specs.Pending.{changes_of, with_updates, AreUpdates};
 ghost use Rattle.sto_item.specs.Agreement.{HasWidths};
 ghost use Rattle.sto_item.specs.Rebase.{overwrites, rebased, rebased_one};
@@ -18,41 +18,50 @@ use crate::read_entry::ReadSet;
 use std::alloc::Global;
 use sto_item::{Item, Items, Updates};
 use sto_model::Call;
-use sto_part::{NoMemory, PartWords};
-use sto_type::{Answer, Cache, TxType};
+use sto_part::{Change, NoMemory, PartWords};
+use sto_type::{Answer, AnswerPool, Cache, TxType};
 
-// The words with the pending updates of their part applied.
+// The words with these changes applied.
 fn updated<T: TxType>(
     alloc: Global,
     ty: &T,
-    set: &Observed,
-    part: u32,
+    changes: &[Change],
     words: &[i64],
 ) -> Result<PartWords, NoMemory>
     requires few { length words.now < 2 ^ 32 }
-    requires fits { length (changes_of set.now.updates part) ≤ length words.now }
-    ensures { IfOk result (λ made. made.items ≡ applied_all (changes_of set.now.updates part) words.now) }
+    requires fits { length changes.now ≤ length words.now }
+    ensures { IfOk result (λ made. made.items ≡ applied_all changes.now words.now) }
 {
     let mut made = PartWords::new(alloc);
     made.reserve(words.len() as u32)?;
-    for word in 0..words.len() as u32 {
-        made.push(ty.install(set.pending(part, word), words[word as usize]))?;
+    for word in 0..words.len() {
+        made.push(ty.install(change_at(changes, word), words[word]))?;
     }
     Ok(made)
 }
 
-// Makes a part of one word known with the pending update of its part applied. It takes no list for the word.
+// The change of a word, or `Keep` past the last.
+fn change_at(changes: &[Change], word: usize) -> Change
+    ensures { result ≡ slice_index_or changes.now word Change.Keep }
+{
+    if word < changes.len() {
+        changes[word]
+    } else {
+        Change::Keep
+    }
+}
+
+// Makes a part of one word known with a change applied. It takes no list for the word.
 fn learn_word<T: TxType>(
     ty: &T,
-    set: &Observed,
+    change: Change,
     part: u32,
     word: i64,
     cache: &mut Cache,
 ) -> Result<(), NoMemory>
-    requires fits { length (changes_of set.now.updates part) ≤ 1 }
-    ensures { OnOk result (known cache.new ≡ learnt (known cache.old) part (applied_all (changes_of set.now.updates part) (word ∷ []))) }
+    ensures { OnOk result (known cache.new ≡ learnt (known cache.old) part (applied change word ∷ [])) }
 {
-    let now = ty.install(set.pending(part, 0), word);
+    let now = ty.install(change, word);
     cache.learn(part, &[now])
 }
 
@@ -69,13 +78,14 @@ pub fn learn_updated<T: TxType>(
     requires fits { length (changes_of set.now.updates part) ≤ length words.now }
     ensures { OnOk result (known cache.new ≡ learnt (known cache.old) part (applied_all (changes_of set.now.updates part) words.now)) }
 {
-    if words.len() == 1 {
-        return learn_word(ty, set, part, words[0], cache);
-    }
-    if !set.has_updates() {
+    let changes = set.changes(part);
+    if changes.is_empty() {
         return cache.learn(part, words);
     }
-    let made = updated(alloc, ty, set, part, words)?;
+    if words.len() == 1 {
+        return learn_word(ty, changes[0], part, words[0], cache);
+    }
+    let made = updated(alloc, ty, changes, words)?;
     cache.learn(part, made.as_slice())
 }
 
@@ -114,6 +124,7 @@ pub(crate) fn ask<T: TxType>(
     base: &ReadSet,
     set: &Observed,
     cache: &mut Cache,
+    pool: &mut AnswerPool,
 ) -> Result<Answer, NoMemory>
     requires takes { (T.meaning ty.now).takes call.now }
     requires pending { IsPending (T.meaning ty.now) (words_in base.now.items) set.now.updates }
@@ -123,7 +134,7 @@ pub(crate) fn ask<T: TxType>(
     ensures need { IfOk result (λ a. (p : ℕ) → a ≡ Answer.Need p → words_in base.now.items p ≡ None) }
 {
     loop {
-        match ty.plan(alloc, call, &cache.all())? {
+        match ty.plan(alloc, pool, call, &cache.all())? {
             Answer::Need(part) => {
                 if !recall(alloc, ty, base, set, part, cache)? {
                     return Ok(Answer::Need(part));

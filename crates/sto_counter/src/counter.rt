@@ -12,10 +12,10 @@ ghost use Rattle.sto_counter.specs.CountedLaw.{counter_lawful};
 
 use crate::sums::{add_answer, take_answer, word_pred};
 use std::alloc::Global;
-use sto_item::{Item, Items, Updates};
+use sto_item::Item;
 use sto_model::{Call, Operation, Reply, Rows, Shape, State, takes_code, test_at};
 use sto_part::{Contents, Naming, NoMemory, PartWords, Test, compare, negate};
-use sto_type::{Answer, Home, KnownParts, TxType, one_item};
+use sto_type::{Answer, AnswerPool, Home, KnownParts, TxType, one_item};
 
 /// A counter. Its contents are one part of one word.
 #[derive(Drop)]
@@ -87,16 +87,22 @@ impl TxType for TCounter {
         Ok(state)
     }
 
-    fn plan(&self, alloc: Global, call: &Call, cache: &KnownParts<'_>) -> Result<Answer, NoMemory> {
+    fn plan(
+        &self,
+        alloc: Global,
+        pool: &mut AnswerPool,
+        call: &Call,
+        cache: &KnownParts<'_>,
+    ) -> Result<Answer, NoMemory> {
         match cache.get(0) {
             None => Ok(Answer::Need(0)),
-            Some(words) => answer(alloc, call, words[0]),
+            Some(words) => answer(pool, call, words[0]),
         }
     }
 }
 
 // The answer where the value is known.
-fn answer(alloc: Global, call: &Call, value: i64) -> Result<Answer, NoMemory>
+fn answer(pool: &mut AnswerPool, call: &Call, value: i64) -> Result<Answer, NoMemory>
     ensures { IfOk result (IsSaid (effect_by (Counter (pos 0)) (operation_of call.now.code) call.now.a call.now.b (only_row value)).reply
         (counter_items (operation_of call.now.code) call.now.a call.now.b value)
         (counter_updates (operation_of call.now.code) call.now.a value)) }
@@ -104,23 +110,23 @@ fn answer(alloc: Global, call: &Call, value: i64) -> Result<Answer, NoMemory>
     match Operation::from_code(call.code) {
         Some(Operation::Get) => Ok(Answer::Done {
             reply: Reply::Value(value),
-            items: one_item(alloc, Item::Seen(0))?,
-            updates: Updates::new(alloc),
+            items: one_item(pool, Item::Seen(0))?,
+            updates: pool.updates(),
         }),
-        Some(Operation::Add) => add_answer(alloc, 0, call.a, value),
-        Some(Operation::Test) => test_answer(alloc, test_at(call.a), call.b, value),
-        Some(Operation::Take) => take_answer(alloc, 0, call.a, value),
+        Some(Operation::Add) => add_answer(pool, 0, call.a, value),
+        Some(Operation::Test) => test_answer(pool, test_at(call.a), call.b, value),
+        Some(Operation::Take) => take_answer(pool, 0, call.a, value),
         _ => Ok(Answer::Done {
             reply: Reply::Absent,
-            items: Items::new(alloc),
-            updates: Updates::new(alloc),
+            items: pool.items(),
+            updates: pool.updates(),
         }),
     }
 }
 
 /// The answer to a test with a number of the one word of part 0, which has this value.
 pub fn test_answer(
-    alloc: Global,
+    pool: &mut AnswerPool,
     test: Option<Test>,
     bound: i64,
     value: i64,
@@ -133,14 +139,14 @@ pub fn test_answer(
             let seen = if flag { test } else { negate(test) };
             Ok(Answer::Done {
                 reply: Reply::Flag(flag),
-                items: one_item(alloc, Item::Holds(word_pred(0, seen, bound)))?,
-                updates: Updates::new(alloc),
+                items: one_item(pool, Item::Holds(word_pred(0, seen, bound)))?,
+                updates: pool.updates(),
             })
         }
         None => Ok(Answer::Done {
             reply: Reply::Flag(false),
-            items: Items::new(alloc),
-            updates: Updates::new(alloc),
+            items: pool.items(),
+            updates: pool.updates(),
         }),
     }
 }

@@ -5,11 +5,10 @@ ghost use Rattle.sto_type.specs.Plans.{IsSaid};
 ghost use Rattle.sto_counter.specs.Sums.{word_pred_of, grows, falls, add_test, add_bound, add_items, add_updates, enough_items, take_items, take_updates, less};
 ghost use Rattle.sto_counter.specs.Replies.{add_reply, take_reply};
 
-use std::alloc::Global;
-use sto_item::{Item, Items, Updates};
+use sto_item::{Item, Items};
 use sto_model::Reply;
 use sto_part::{Change, NoMemory, Pred, Test, wrapping_difference};
-use sto_type::{Answer, one_item, one_update};
+use sto_type::{Answer, AnswerPool, one_item, one_update};
 
 /// That the one word of a part compares with a bound.
 pub fn word_pred(part: u32, test: Test, bound: i64) -> Pred
@@ -25,22 +24,27 @@ pub fn word_pred(part: u32, test: Test, bound: i64) -> Pred
 }
 
 /// The answer to an add to the one word of a part, which has this value.
-pub fn add_answer(alloc: Global, part: u32, more: i64, value: i64) -> Result<Answer, NoMemory>
+pub fn add_answer(
+    pool: &mut AnswerPool,
+    part: u32,
+    more: i64,
+    value: i64,
+) -> Result<Answer, NoMemory>
     ensures { IfOk result (IsSaid (add_reply more value) (add_items part more value) (add_updates part more value)) }
 {
     let able = can_add(value, more);
-    let items = one_item(alloc, Item::Holds(add_pred(part, more, able)))?;
+    let items = one_item(pool, Item::Holds(add_pred(part, more, able)))?;
     if able {
         Ok(Answer::Done {
             reply: Reply::Done,
             items,
-            updates: one_update(alloc, part, Change::Add(more))?,
+            updates: one_update(pool, part, Change::Add(more))?,
         })
     } else {
         Ok(Answer::Done {
             reply: Reply::Range,
             items,
-            updates: Updates::new(alloc),
+            updates: pool.updates(),
         })
     }
 }
@@ -73,36 +77,41 @@ fn add_pred(part: u32, more: i64, able: bool) -> Pred
 }
 
 /// The answer to a take from the one word of a part, which has this value.
-pub fn take_answer(alloc: Global, part: u32, number: i64, value: i64) -> Result<Answer, NoMemory>
+pub fn take_answer(
+    pool: &mut AnswerPool,
+    part: u32,
+    number: i64,
+    value: i64,
+) -> Result<Answer, NoMemory>
     ensures { IfOk result (IsSaid (take_reply number value) (take_items part number value) (take_updates part number value)) }
 {
     if value < number {
         Ok(Answer::Done {
             reply: Reply::Flag(false),
-            items: one_item(alloc, Item::Holds(word_pred(part, Test::Lt, number)))?,
-            updates: Updates::new(alloc),
+            items: one_item(pool, Item::Holds(word_pred(part, Test::Lt, number)))?,
+            updates: pool.updates(),
         })
     } else if can_take(value, number) {
         Ok(Answer::Done {
             reply: Reply::Flag(true),
-            items: enough(alloc, part, number)?,
-            updates: one_update(alloc, part, Change::Add(wrapping_difference(0, number)))?,
+            items: enough(pool, part, number)?,
+            updates: one_update(pool, part, Change::Add(wrapping_difference(0, number)))?,
         })
     } else {
         let beyond = word_pred(part, Test::Gt, i64::MAX + number);
         Ok(Answer::Done {
             reply: Reply::Range,
-            items: one_item(alloc, Item::Holds(beyond))?,
-            updates: Updates::new(alloc),
+            items: one_item(pool, Item::Holds(beyond))?,
+            updates: pool.updates(),
         })
     }
 }
 
 // That there is enough to take; for a number below 0 also that the difference stays in range.
-fn enough(alloc: Global, part: u32, number: i64) -> Result<Items, NoMemory>
+fn enough(pool: &mut AnswerPool, part: u32, number: i64) -> Result<Items, NoMemory>
     ensures { IfOk result (λ l. l.items ≡ enough_items part number) }
 {
-    let mut items = one_item(alloc, Item::Holds(word_pred(part, Test::Ge, number)))?;
+    let mut items = one_item(pool, Item::Holds(word_pred(part, Test::Ge, number)))?;
     if number < 0 {
         items.push(Item::Holds(word_pred(part, Test::Le, i64::MAX + number)))?;
     }

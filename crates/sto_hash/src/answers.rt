@@ -7,11 +7,10 @@ ghost use Rattle.sto_block.specs.Blocks.{find as find_place, free as free_place}
 ghost use Rattle.sto_block.specs.Replaced.{place_changes};
 ghost use Rattle.sto_hash.specs.Hashed.{word_is, find_items, get_items, value_part, new_updates, put_updates, remove_updates, put_told};
 
-use std::alloc::Global;
 use sto_item::{Item, Items, Updates};
 use sto_model::Reply;
 use sto_part::{Change, NoMemory, Pred, Test, Update};
-use sto_type::{Answer, one_item, one_update};
+use sto_type::{Answer, AnswerPool, one_item, one_update};
 
 // That a word of a part is this number.
 fn word_pred(part: u32, word: u32, number: i64) -> Pred
@@ -27,34 +26,39 @@ fn word_pred(part: u32, word: u32, number: i64) -> Pred
 }
 
 // What a call of a key observes: the place where it is, or the whole key part where it is not.
-fn observe(alloc: Global, part: u32, key: i64, found: Option<u32>) -> Result<Items, NoMemory>
+fn observe(
+    pool: &mut AnswerPool,
+    part: u32,
+    key: i64,
+    found: Option<u32>,
+) -> Result<Items, NoMemory>
     requires { MatchOption found (Unit {0}) (λ i. 2 * i + 1 < 2 ^ 32) }
     ensures { IfOk result (λ l. l.items ≡ find_items part key found) }
 {
     match found {
         Some(place) => {
-            let mut items = one_item(alloc, Item::Holds(word_pred(part, 2 * place, 1)))?;
+            let mut items = one_item(pool, Item::Holds(word_pred(part, 2 * place, 1)))?;
             items.push(Item::Holds(word_pred(part, 2 * place + 1, key)))?;
             Ok(items)
         }
-        None => one_item(alloc, Item::Seen(part)),
+        None => one_item(pool, Item::Seen(part)),
     }
 }
 
 /// A get of a key that is not there.
-pub(crate) fn absent_answer(alloc: Global, part: u32) -> Result<Answer, NoMemory>
+pub(crate) fn absent_answer(pool: &mut AnswerPool, part: u32) -> Result<Answer, NoMemory>
     ensures { IfOk result (IsSaid ToldAbsent (Seen part ∷ []) []) }
 {
     Ok(Answer::Done {
         reply: Reply::Absent,
-        items: one_item(alloc, Item::Seen(part))?,
-        updates: Updates::new(alloc),
+        items: one_item(pool, Item::Seen(part))?,
+        updates: pool.updates(),
     })
 }
 
 /// A get of a key at a place, whose value is this.
 pub(crate) fn present_answer(
-    alloc: Global,
+    pool: &mut AnswerPool,
     part: u32,
     key: i64,
     place: u32,
@@ -64,18 +68,18 @@ pub(crate) fn present_answer(
     requires part { part + 1 + place < 2 ^ 32 }
     ensures { IfOk result (IsSaid (ToldValue value) (get_items part key (Some place)) []) }
 {
-    let mut items = observe(alloc, part, key, Some(place))?;
+    let mut items = observe(pool, part, key, Some(place))?;
     items.push(Item::Seen(part + 1 + place))?;
     Ok(Answer::Done {
         reply: Reply::Value(value),
         items,
-        updates: Updates::new(alloc),
+        updates: pool.updates(),
     })
 }
 
 /// Whether a key is there.
 pub(crate) fn has_answer(
-    alloc: Global,
+    pool: &mut AnswerPool,
     part: u32,
     key: i64,
     found: Option<u32>,
@@ -85,14 +89,14 @@ pub(crate) fn has_answer(
 {
     Ok(Answer::Done {
         reply: Reply::Flag(found.is_some()),
-        items: observe(alloc, part, key, found)?,
-        updates: Updates::new(alloc),
+        items: observe(pool, part, key, found)?,
+        updates: pool.updates(),
     })
 }
 
 // The change of the two words of a place in a key part of so many places.
 fn change_place(
-    alloc: Global,
+    pool: &mut AnswerPool,
     places: u32,
     place: u32,
     present: Change,
@@ -102,7 +106,7 @@ fn change_place(
     requires place { place < places }
     ensures { IfOk result (λ u. u.items ≡ place_changes places place present key) }
 {
-    let mut update = Update::keep(alloc, 2 * places)?;
+    let mut update = pool.unchanged(2 * places)?;
     update.set_change(2 * place, present);
     update.set_change(2 * place + 1, key);
     Ok(update)
@@ -110,7 +114,7 @@ fn change_place(
 
 /// A remove of a key.
 pub(crate) fn remove_answer(
-    alloc: Global,
+    pool: &mut AnswerPool,
     places: u32,
     part: u32,
     key: i64,
@@ -122,20 +126,25 @@ pub(crate) fn remove_answer(
 {
     Ok(Answer::Done {
         reply: Reply::Flag(found.is_some()),
-        items: observe(alloc, part, key, found)?,
-        updates: remove_at(alloc, places, part, found)?,
+        items: observe(pool, part, key, found)?,
+        updates: remove_at(pool, places, part, found)?,
     })
 }
 
 // The updates of a remove.
-fn remove_at(alloc: Global, places: u32, part: u32, found: Option<u32>) -> Result<Updates, NoMemory>
+fn remove_at(
+    pool: &mut AnswerPool,
+    places: u32,
+    part: u32,
+    found: Option<u32>,
+) -> Result<Updates, NoMemory>
     requires few { 2 * places < 2 ^ 32 }
     requires place { MatchOption found (Unit {0}) (λ i. i < places) }
     ensures { IfOk result (λ u. u.items ≡ remove_updates places part found) }
 {
-    let mut updates = Updates::new(alloc);
+    let mut updates = pool.updates();
     if let Some(place) = found {
-        let update = change_place(alloc, places, place, Change::Put(0), Change::Keep)?;
+        let update = change_place(pool, places, place, Change::Put(0), Change::Keep)?;
         updates.push((part, update))?;
     }
     Ok(updates)
@@ -143,7 +152,7 @@ fn remove_at(alloc: Global, places: u32, part: u32, found: Option<u32>) -> Resul
 
 // The updates of a put.
 fn put_at(
-    alloc: Global,
+    pool: &mut AnswerPool,
     places: u32,
     part: u32,
     key: i64,
@@ -158,17 +167,17 @@ fn put_at(
     ensures { IfOk result (λ u. u.items ≡ put_updates places part key value found room) }
 {
     match found {
-        Some(place) => one_update(alloc, part + 1 + place, Change::Put(value)),
+        Some(place) => one_update(pool, part + 1 + place, Change::Put(value)),
         None => match room {
-            Some(place) => put_new(alloc, places, part, key, value, place),
-            None => Ok(Updates::new(alloc)),
+            Some(place) => put_new(pool, places, part, key, value, place),
+            None => Ok(pool.updates()),
         },
     }
 }
 
 // Those of a put of a new key into a free place.
 fn put_new(
-    alloc: Global,
+    pool: &mut AnswerPool,
     places: u32,
     part: u32,
     key: i64,
@@ -180,10 +189,10 @@ fn put_new(
     requires place { place < places }
     ensures { IfOk result (λ u. u.items ≡ new_updates places part key value (Some place)) }
 {
-    let keys = change_place(alloc, places, place, Change::Put(1), Change::Put(key))?;
-    let mut updates = Updates::new(alloc);
+    let keys = change_place(pool, places, place, Change::Put(1), Change::Put(key))?;
+    let mut updates = pool.updates();
     updates.push((part, keys))?;
-    let mut put = Update::new(alloc);
+    let mut put = pool.update();
     put.push(Change::Put(value))?;
     updates.push((part + 1 + place, put))?;
     Ok(updates)
@@ -191,7 +200,7 @@ fn put_new(
 
 /// A put of a key, where its bucket has this room.
 pub(crate) fn put_answer(
-    alloc: Global,
+    pool: &mut AnswerPool,
     places: u32,
     part: u32,
     key: i64,
@@ -205,11 +214,11 @@ pub(crate) fn put_answer(
     requires room { MatchOption room (Unit {0}) (λ i. i < places) }
     ensures { IfOk result (IsSaid (put_told found room) (find_items part key found) (put_updates places part key value found room)) }
 {
-    let items = observe(alloc, part, key, found)?;
+    let items = observe(pool, part, key, found)?;
     Ok(Answer::Done {
         reply: put_reply(found, room),
         items,
-        updates: put_at(alloc, places, part, key, value, found, room)?,
+        updates: put_at(pool, places, part, key, value, found, room)?,
     })
 }
 

@@ -6,16 +6,15 @@ ghost use Rattle.sto_type.specs.Known.{known, IsPartOf};
 ghost use Rattle.sto_type.specs.Plans.{planned, IsPlan, IsSaid};
 ghost use Rattle.sto_hash.specs.Hashed.{hash_meaning, first_asked, all_seen, known_total, HashTakes, IsHash};
 
-use std::alloc::Global;
 use sto_block::count_present;
-use sto_item::{Item, Items, Updates};
+use sto_item::{Item, Items};
 use sto_model::{Call, Operation, Reply};
 use sto_part::NoMemory;
-use sto_type::{Answer, KnownParts};
+use sto_type::{Answer, AnswerPool, KnownParts};
 
 /// The plan of a len.
 pub(crate) fn plan_len(
-    alloc: Global,
+    pool: &mut AnswerPool,
     buckets: u32,
     places: u32,
     call: &Call,
@@ -31,19 +30,24 @@ pub(crate) fn plan_len(
 {
     match count_all(buckets, places, cache) {
         Err(part) => Ok(Answer::Need(part)),
-        Ok(total) => len_answer(alloc, buckets, places, total),
+        Ok(total) => len_answer(pool, buckets, places, total),
     }
 }
 
 // The answer where every key part is known, and so many keys are present.
-fn len_answer(alloc: Global, buckets: u32, places: u32, total: u32) -> Result<Answer, NoMemory>
+fn len_answer(
+    pool: &mut AnswerPool,
+    buckets: u32,
+    places: u32,
+    total: u32,
+) -> Result<Answer, NoMemory>
     requires few { buckets * (1 + places) < 2 ^ 32 }
     ensures { IfOk result (IsSaid (ToldValue (pos total)) (all_seen places 0 buckets) []) }
 {
     Ok(Answer::Done {
         reply: Reply::Value(i64::from(total)),
-        items: see_all(alloc, buckets, places)?,
-        updates: Updates::new(alloc),
+        items: see_all(pool, buckets, places)?,
+        updates: pool.updates(),
     })
 }
 
@@ -67,11 +71,11 @@ fn count_all(buckets: u32, places: u32, cache: &KnownParts<'_>) -> Result<u32, u
 }
 
 // An item of each key part.
-fn see_all(alloc: Global, buckets: u32, places: u32) -> Result<Items, NoMemory>
+fn see_all(pool: &mut AnswerPool, buckets: u32, places: u32) -> Result<Items, NoMemory>
     requires few { buckets * (1 + places) < 2 ^ 32 }
     ensures { IfOk result (λ l. l.items ≡ all_seen places 0 buckets) }
 {
-    let mut items = Items::new(alloc);
+    let mut items = pool.items();
     items.reserve(buckets)?;
     for bucket in 0..buckets {
         items.push_spare(Item::Seen(bucket * (1 + places)));

@@ -6,15 +6,14 @@ ghost use Rattle.sto_type.specs.Plans.{planned, IsPlan};
 ghost use Rattle.sto_hash.specs.Hashed.{key_part, hash_meaning, HashTakes, IsHash};
 
 use crate::answers::{absent_answer, has_answer, present_answer, put_answer, remove_answer};
-use std::alloc::Global;
 use sto_block::{find, free};
 use sto_model::{Call, Operation};
 use sto_part::NoMemory;
-use sto_type::{Answer, KnownParts};
+use sto_type::{Answer, AnswerPool, KnownParts};
 
 /// The plan of a call that asks whether a key is there.
 pub(crate) fn plan_has(
-    alloc: Global,
+    pool: &mut AnswerPool,
     buckets: u32,
     places: u32,
     call: &Call,
@@ -33,14 +32,14 @@ pub(crate) fn plan_has(
         None => Ok(Answer::Need(part)),
         Some(keys) => {
             let found = find(keys, call.a);
-            has_answer(alloc, part, call.a, found)
+            has_answer(pool, part, call.a, found)
         }
     }
 }
 
 /// The plan of a remove.
 pub(crate) fn plan_remove(
-    alloc: Global,
+    pool: &mut AnswerPool,
     buckets: u32,
     places: u32,
     call: &Call,
@@ -59,14 +58,14 @@ pub(crate) fn plan_remove(
         None => Ok(Answer::Need(part)),
         Some(keys) => {
             let found = find(keys, call.a);
-            remove_answer(alloc, places, part, call.a, found)
+            remove_answer(pool, places, part, call.a, found)
         }
     }
 }
 
 /// The plan of a put.
 pub(crate) fn plan_put(
-    alloc: Global,
+    pool: &mut AnswerPool,
     buckets: u32,
     places: u32,
     call: &Call,
@@ -86,14 +85,14 @@ pub(crate) fn plan_put(
         Some(keys) => {
             let found = find(keys, call.a);
             let room = free(keys);
-            put_answer(alloc, places, part, call.a, call.b, found, room)
+            put_answer(pool, places, part, call.a, call.b, found, room)
         }
     }
 }
 
 /// The plan of a get.
 pub(crate) fn plan_get(
-    alloc: Global,
+    pool: &mut AnswerPool,
     buckets: u32,
     places: u32,
     call: &Call,
@@ -113,12 +112,12 @@ pub(crate) fn plan_get(
         Some(keys) => {
             let found = find(keys, call.a);
             match found {
-                None => absent_answer(alloc, part),
+                None => absent_answer(pool, part),
                 Some(place) => {
                     let home = part + 1 + place;
                     match cache.first_word(home) {
                         None => Ok(Answer::Need(home)),
-                        Some(value) => present_answer(alloc, part, call.a, place, value),
+                        Some(value) => present_answer(pool, part, call.a, place, value),
                     }
                 }
             }

@@ -12,7 +12,7 @@ use crate::rows::table_rows;
 use std::alloc::Global;
 use sto_model::{Call, Operation, Shape, State, takes_code};
 use sto_part::{Contents, List, Naming, NoMemory};
-use sto_type::{Answer, Home, KnownParts, TxType};
+use sto_type::{Answer, AnswerPool, Home, KnownParts, TxType};
 
 /// A hash table of so many buckets, each with so many places. The contents of a bucket are a part of two words for each place,
 /// whether it is present and its key, and after it a part of one word for the value of each place.
@@ -95,13 +95,19 @@ impl TxType for THash {
         Ok(state)
     }
 
-    fn plan(&self, alloc: Global, call: &Call, cache: &KnownParts<'_>) -> Result<Answer, NoMemory> {
+    fn plan(
+        &self,
+        alloc: Global,
+        pool: &mut AnswerPool,
+        call: &Call,
+        cache: &KnownParts<'_>,
+    ) -> Result<Answer, NoMemory> {
         match Operation::from_code(call.code) {
-            Some(Operation::Get) => plan_get(alloc, self.buckets, self.places, call, cache),
-            Some(Operation::Put) => plan_put(alloc, self.buckets, self.places, call, cache),
-            Some(Operation::Remove) => plan_remove(alloc, self.buckets, self.places, call, cache),
-            Some(Operation::Has) => plan_has(alloc, self.buckets, self.places, call, cache),
-            Some(Operation::Len) => plan_len(alloc, self.buckets, self.places, call, cache),
+            Some(Operation::Get) => plan_get(pool, self.buckets, self.places, call, cache),
+            Some(Operation::Put) => plan_put(pool, self.buckets, self.places, call, cache),
+            Some(Operation::Remove) => plan_remove(pool, self.buckets, self.places, call, cache),
+            Some(Operation::Has) => plan_has(pool, self.buckets, self.places, call, cache),
+            Some(Operation::Len) => plan_len(pool, self.buckets, self.places, call, cache),
             _ => unreachable!(),
         }
     }

@@ -70,6 +70,14 @@ impl DistinctItems {
         Ok(())
     }
 
+    /// Takes all items away. Their room stays.
+    pub fn clear(&mut self)
+        ensures { self.new ≡ [] }
+    {
+        // what is known of them is made anew before it is asked
+        self.list.clear();
+    }
+
     /// The items as a slice.
     pub fn as_slice(&self) -> &[Item]
         ensures items { result.now ≡ self.now }

@@ -1,6 +1,5 @@
 //! Pending updates, in rising part number.
 ghost use Rattle.std.specs.Prelude.{◌≡◌, ℕ, ◌+◌, ◌-◌, ◌^◌, ◌<◌, ◌≤◌, [], ◌∷◌, ◌++◌, length, map, slice_get, slice_set, Some, IfOk, OnOk, OnErr, IsOk, IfErr, MatchOption, MatchResult};
-ghost use Rattle.std.specs.Option.{option_map_or};
 ghost use Rattle.std.specs.List.{insert, list_all};
 ghost use Rattle.sto_part.specs.Changes.{composed_all};
 ghost use Rattle.sto_item.specs.Pending.{plain, renumbered, is_keep, is_put, changes_of, change_at, with_update, AreUpdates, IsRising, IsWidthOf};
@@ -15,6 +14,8 @@ use sto_part::{Change, List, NoMemory, Update, then};
 #[derive(Drop)]
 pub struct Updates {
     list: List<(u32, Update)>,
+    // Lists of changes that were taken away. Their room alone is of use: to the updates that come.
+    kept: List<Update>,
 }
 
 impl Model for Updates {
@@ -36,6 +37,7 @@ impl Updates {
     {
         Updates {
             list: List::new(alloc),
+            kept: List::new(alloc),
         }
     }
 
@@ -110,9 +112,35 @@ impl Updates {
         ensures copy { IfOk result (λ l. l.items ≡ self.now.items) }
         ensures ordered { AreUpdates self.now.items }
     {
-        Ok(Updates {
-            list: copied_entries(self.list.allocator(), self.list.as_slice())?,
-        })
+        self.copied_into(Updates::new(self.list.allocator()))
+    }
+
+    /// The same updates in the room of other ones, which are taken away.
+    pub fn copied_into(&self, other: Updates) -> Result<Updates, NoMemory>
+        ensures copy { IfOk result (λ l. l.items ≡ self.now.items) }
+        ensures ordered { AreUpdates self.now.items }
+    {
+        let mut other = other;
+        other.clear();
+        let Updates { list, mut kept } = other;
+        let list = copied_entries(list, &mut kept, self.list.as_slice())?;
+        Ok(Updates { list, kept })
+    }
+
+    /// Takes all updates away. Their room stays.
+    pub fn clear(&mut self)
+        ensures { self.new.items ≡ [] }
+    {
+        keep_changes(&mut self.list, &mut self.kept);
+        self.list.clear();
+    }
+
+    /// Takes all updates away, and adds the lists of their changes to others, where there is memory for that. The room of both stays.
+    pub fn take_apart(&mut self, changes: &mut List<Update>)
+        ensures { self.new.items ≡ [] }
+    {
+        keep_changes(&mut self.list, changes);
+        self.list.clear();
     }
 
     /// Gives each update the part number that it has where so many parts stand before.
@@ -132,19 +160,53 @@ impl Updates {
         ensures ordered { AreUpdates self.new.items }
         ensures was_ordered { AreUpdates self.old.items }
     {
-        add(&mut self.list, part, update)
+        add(&mut self.list, &mut self.kept, part, update)
     }
 }
 
-fn copied_entries(alloc: Global, entries: &[(u32, Update)]) -> Result<List<(u32, Update)>, NoMemory>
-    requires { length entries.now < 2 ^ 32 }
+// Adds copies of entries to a list with none.
+fn copied_entries(
+    empty: List<(u32, Update)>,
+    kept: &mut List<Update>,
+    entries: &[(u32, Update)],
+) -> Result<List<(u32, Update)>, NoMemory>
+    requires few { length entries.now < 2 ^ 32 }
+    requires empty { empty.items ≡ [] }
     ensures { IfOk result (λ l. map plain l.items ≡ map plain entries.now) }
 {
-    let mut made = List::new(alloc);
+    let mut made = empty;
     for entry in entries {
-        made.push((entry.0, entry.1.copied()?))?;
+        made.push((entry.0, copied_changes(kept, &entry.1)?))?;
     }
     Ok(made)
+}
+
+// The same changes in a list that was kept, or in one of its own where there is none.
+fn copied_changes(kept: &mut List<Update>, update: &Update) -> Result<Update, NoMemory>
+    ensures { IfOk result (λ l. l.items ≡ update.now.items) }
+{
+    let Some(mut copy) = kept.pop() else {
+        return update.copied();
+    };
+    copy.clear();
+    copy.extend(update.as_slice())?;
+    Ok(copy)
+}
+
+// Moves the changes of entries to the lists that are kept.
+fn keep_changes(entries: &mut List<(u32, Update)>, kept: &mut List<Update>) {
+    for _ in 0..entries.len() {
+        if let Some((_, changes)) = entries.pop() {
+            keep(kept, changes);
+        }
+    }
+}
+
+// Keeps one list more. Where there is no memory for that, it is dropped.
+fn keep(kept: &mut List<Update>, changes: Update) {
+    if kept.len() < u32::MAX {
+        let _ = kept.push(changes);
+    }
 }
 
 /// The pending change of a word, or `Keep`.
@@ -153,9 +215,12 @@ pub(crate) fn change_of(entries: &[(u32, Update)], part: u32, word: u32) -> Chan
     requires rising { IsRising (map plain entries.now) }
     ensures { result ≡ change_at (map plain entries.now) part word }
 {
-    match find(entries, part) {
-        Some(update) if word < update.len() => update.change(word),
-        _ => Change::Keep,
+    let changes = changes_of(entries, part);
+    let word = word as usize;
+    if word < changes.len() {
+        changes[word]
+    } else {
+        Change::Keep
     }
 }
 
@@ -165,21 +230,18 @@ pub(crate) fn overwrites(entries: &[(u32, Update)], part: u32) -> bool
     requires rising { IsRising (map plain entries.now) }
     ensures { result ≡ overwrites (changes_of (map plain entries.now) part) }
 {
-    match find(entries, part) {
-        Some(update) => is_full(update.as_slice()),
-        None => false,
-    }
+    is_full(changes_of(entries, part))
 }
 
-// The update of a part, if it has one.
-fn find(entries: &[(u32, Update)], part: u32) -> Option<&Update>
+/// The pending changes of a part; none where it has no update.
+pub(crate) fn changes_of(entries: &[(u32, Update)], part: u32) -> &[Change]
     requires few { length entries.now < 2 ^ 32 }
     requires rising { IsRising (map plain entries.now) }
-    ensures { changes_of (map plain entries.now) part ≡ option_map_or (λ u. u.now.items) result [] }
+    ensures { result.now ≡ changes_of (map plain entries.now) part }
 {
     match place_of(entries, part) {
-        Ok(place) => Some(&entries[place as usize].1),
-        Err(_) => None,
+        Ok(place) => entries[place as usize].1.as_slice(),
+        Err(_) => &[],
     }
 }
 
@@ -215,7 +277,12 @@ fn is_keep(change: &Change) -> bool
 }
 
 // Adds an update to the pending ones.
-fn add(entries: &mut List<(u32, Update)>, part: u32, update: &Update) -> Result<(), NoMemory>
+fn add(
+    entries: &mut List<(u32, Update)>,
+    kept: &mut List<Update>,
+    part: u32,
+    update: &Update,
+) -> Result<(), NoMemory>
     requires rising { IsRising (map plain entries.old.items) }
     requires width { IsWidthOf (map plain entries.old.items) part update.now.items }
     ensures ok { OnOk result (map plain entries.new.items ≡ with_update (map plain entries.old.items) part update.now.items) }
@@ -229,7 +296,7 @@ fn add(entries: &mut List<(u32, Update)>, part: u32, update: &Update) -> Result<
             put_over(entries, place, update);
             Ok(())
         }
-        Err(place) => put_new(entries, place, part, update),
+        Err(place) => put_new(entries, kept, place, part, update),
     }
 }
 
@@ -286,6 +353,7 @@ fn renumber_one(entries: &mut List<(u32, Update)>, place: u32, first: u32)
 // Puts an update of its own at a place.
 fn put_new(
     entries: &mut List<(u32, Update)>,
+    kept: &mut List<Update>,
     place: u32,
     part: u32,
     update: &Update,
@@ -297,8 +365,8 @@ fn put_new(
     if entries.len() == u32::MAX {
         return Err(NoMemory);
     }
-    let copy = update.copied()?;
     entries.reserve(1)?;
+    let copy = copied_changes(kept, update)?;
     entries.insert_spare(place, (part, copy));
     Ok(())
 }

@@ -17,7 +17,7 @@ use sto_counter::TCounter;
 use sto_item::Item;
 use sto_model::{Call, State};
 use sto_part::{Contents, List, Naming, NoMemory, Pred};
-use sto_type::{Answer, Both, Home, KnownParts, TxType};
+use sto_type::{Answer, AnswerPool, Both, Home, KnownParts, TxType};
 
 type Store = Both<Boxes, Both<Counters, Wide>>;
 
@@ -95,8 +95,14 @@ impl TxType for Objects {
         self.store.rows_at(alloc, contents, first)
     }
 
-    fn plan(&self, alloc: Global, call: &Call, cache: &KnownParts<'_>) -> Result<Answer, NoMemory> {
-        self.store.plan(alloc, call, cache)
+    fn plan(
+        &self,
+        alloc: Global,
+        pool: &mut AnswerPool,
+        call: &Call,
+        cache: &KnownParts<'_>,
+    ) -> Result<Answer, NoMemory> {
+        self.store.plan(alloc, pool, call, cache)
     }
 
     fn guard(&self, item: &Item) -> u32 {

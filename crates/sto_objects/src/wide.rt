@@ -14,7 +14,7 @@ use sto_item::Item;
 use sto_model::{Call, State};
 use sto_part::{Contents, Naming, NoMemory, Pred};
 use sto_tree::TTree;
-use sto_type::{Answer, Both, Home, KnownParts, TxType};
+use sto_type::{Answer, AnswerPool, Both, Home, KnownParts, TxType};
 use sto_vector::TVector;
 
 type Kinds = Both<Arrays, Both<Hashes, Sized>>;
@@ -85,8 +85,14 @@ impl TxType for Wide {
         self.kinds.rows_at(alloc, contents, first)
     }
 
-    fn plan(&self, alloc: Global, call: &Call, cache: &KnownParts<'_>) -> Result<Answer, NoMemory> {
-        self.kinds.plan(alloc, call, cache)
+    fn plan(
+        &self,
+        alloc: Global,
+        pool: &mut AnswerPool,
+        call: &Call,
+        cache: &KnownParts<'_>,
+    ) -> Result<Answer, NoMemory> {
+        self.kinds.plan(alloc, pool, call, cache)
     }
 
     fn guard(&self, item: &Item) -> u32 {

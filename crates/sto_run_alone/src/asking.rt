@@ -9,7 +9,7 @@ use std::alloc::Global;
 use sto_item::{ItemSet, Items, Updates};
 use sto_model::{Call, Reply};
 use sto_part::{Contents, NoMemory, PartWords};
-use sto_type::{Answer, Cache, TxType};
+use sto_type::{Answer, AnswerPool, Cache, TxType};
 
 /// What a call answers, observes and writes.
 #[derive(Drop)]
@@ -34,8 +34,9 @@ pub(crate) fn ask_call<T: TxType>(
     ensures { IfOk result (IsStep (T.meaning ty.now) call.now (applied_updates pending.now.updates contents.now.items)) }
 {
     let mut cache = Cache::new(alloc);
+    let mut pool = AnswerPool::new(alloc);
     loop {
-        match ty.plan(alloc, call, &cache.all())? {
+        match ty.plan(alloc, &mut pool, call, &cache.all())? {
             Answer::Done {
                 reply,
                 items,

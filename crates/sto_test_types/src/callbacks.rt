@@ -13,7 +13,7 @@ use sto_item::Item;
 use sto_model::{Call, End, State};
 use sto_part::{Change, Contents, Naming, NoMemory, Pred, apply_word, holds};
 use sto_plain::Plain;
-use sto_type::{Answer, Home, KnownParts, Many, TxType};
+use sto_type::{Answer, AnswerPool, Home, KnownParts, Many, TxType};
 
 // How often callbacks were called.
 #[derive(Drop)]
@@ -110,8 +110,14 @@ impl TxType for Noting<'_> {
         self.counter.rows_at(alloc, contents, first)
     }
 
-    fn plan(&self, alloc: Global, call: &Call, cache: &KnownParts<'_>) -> Result<Answer, NoMemory> {
-        self.counter.plan(alloc, call, cache)
+    fn plan(
+        &self,
+        alloc: Global,
+        pool: &mut AnswerPool,
+        call: &Call,
+        cache: &KnownParts<'_>,
+    ) -> Result<Answer, NoMemory> {
+        self.counter.plan(alloc, pool, call, cache)
     }
 
     fn guard(&self, item: &Item) -> u32 {

@@ -7,7 +7,7 @@ use sto_model::{Call, Reply, Shape, Shapes};
 use sto_objects::Objects;
 use sto_part::NoMemory;
 use sto_store::build;
-use sto_type::{Answer, Cache, TxType};
+use sto_type::{Answer, AnswerPool, Cache, TxType};
 
 // The codes of two calls.
 const GET: u8 = 0;
@@ -86,7 +86,7 @@ fn value_at_opening<T: TxType>(
         return Ok(None);
     }
     let cache = opened(alloc, ty)?;
-    match ty.plan(alloc, call, &cache.all())? {
+    match ty.plan(alloc, &mut AnswerPool::new(alloc), call, &cache.all())? {
         Answer::Done {
             reply: Reply::Value(value),
             ..

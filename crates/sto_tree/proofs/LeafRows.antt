@@ -1,5 +1,5 @@
 -- The rows of a range, leaf by leaf.
-use Rattle.std.proofs.Common.{◌≡◌, ◌<◌, ◌+◌, ◌*◌, ◌/◌, ◌%◌, ℕ, zero, suc, ℤ, true, false, if◌then◌else◌, Option, Some, None, List, sym, ◌∙◌, ap, arith}
+use Rattle.std.proofs.Common.{◌≡◌, ◌<◌, ◌+◌, ◌*◌, ◌/◌, ◌%◌, ℕ, zero, suc, ℤ, true, false, if◌then◌else◌, Option, Some, None, List, ◌∙◌, ap, arith}
 use Rattle.sto_model.specs.Rows.{Row}
 use Rattle.sto_type.specs.Known.{Known}
 use Rattle.sto_tree_spec.specs.Slots.{Slots, with_slot, gathered}

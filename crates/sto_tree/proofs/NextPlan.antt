@@ -1,5 +1,5 @@
 -- What a next comes to, on what is known.
-use Rattle.std.proofs.Common.{◌≡◌, ◌<◌, ℕ, ℤ, Option, Some, None, List, [], ◌∷◌, length, get_or, refl, sym, ◌∙◌, ap, subst, arith, inl, inr}
+use Rattle.std.proofs.Common.{◌≡◌, ◌<◌, ℕ, ℤ, Option, Some, None, List, [], ◌∷◌, refl, sym, ◌∙◌, ap, subst, arith, inl, inr}
 use Rattle.std.specs.Int.{w64}
 use Rattle.std.specs.Int.RustNames.{FitsSigned}
 use Rattle.sto_item.specs.declared.item.Item.{Item}
@@ -10,7 +10,7 @@ use Rattle.sto_model.specs.Rows.{least_from}
 use Rattle.sto_model.specs.Told.{Told}
 use Rattle.sto_type.specs.Known.{Parts, Known, IsPartOf}
 use Rattle.sto_type.specs.Plans.{Ask, Say, IsPlan}
-use Rattle.sto_type.specs.Reading.{need_of, items_of, updates_at, when_known}
+use Rattle.sto_type.specs.Reading.{need_of, items_of, when_known}
 use Rattle.sto_tree_spec.specs.Layout.{directory, keys, key_part, greatest, tree_rows}
 use Rattle.sto_tree_spec.specs.Valid.{IsTree}
 use Rattle.sto_tree_spec.specs.Meaning.{tree_meaning}
@@ -19,9 +19,8 @@ use Rattle.sto_tree_spec.specs.LeavesBetween.{listed_meets}
 use Rattle.sto_tree_spec.specs.Members.{IsIn}
 use Rattle.sto_tree_spec.specs.Next.{all_between, next_each}
 use Rattle.sto_tree_spec.specs.NextLaw.{found_first, first_in, next_is, next_updates}
-use Rattle.sto_tree_spec.specs.Observing.{a_call}
 use Rattle.sto_tree_spec.specs.Tests.{by_option}
-use Rattle.sto_tree.specs.Walked.{needed_after, next_need, next_found}
+use Rattle.sto_tree.specs.Walked.{next_need, next_found}
 use Rattle.sto_tree.proofs.Parts.{known_part}
 use Rattle.sto_tree.proofs.Leaves.{plan_as}
 use Rattle.sto_tree.proofs.Walks.{next_stops, next_need_past, next_found_past, need_next, items_next, end_of}

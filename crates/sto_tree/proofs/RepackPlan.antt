@@ -1,5 +1,5 @@
 -- What a put that packs all rows anew comes to, on what is known.
-use Rattle.std.proofs.Common.{◌≡◌, ◌<◌, ◌≤◌, ◌≤ℤ◌, ◌+◌, ◌*◌, ◌/◌, ◌%◌, ◌^◌, ◌&&◌, ℕ, zero, suc, ℤ, pos, Bool, true, false, int_le, Option, Some, None, List, [], ◌∷◌, ◌++◌, length, refl, sym, ◌∙◌, ap, subst, arith, inl, inr}
+use Rattle.std.proofs.Common.{◌≡◌, ◌<◌, ◌≤◌, ◌≤ℤ◌, ◌+◌, ◌*◌, ◌/◌, ◌%◌, ◌^◌, ◌&&◌, ℕ, zero, suc, ℤ, pos, true, false, int_le, Some, None, List, [], ◌∷◌, ◌++◌, length, refl, sym, ◌∙◌, ap, subst, arith, inl, inr}
 use Rattle.std.specs.Prelude.{if◌then◌else◌}
 use Rattle.std.specs.Int.{w64}
 use Rattle.std.specs.Int.RustNames.{FitsSigned}
@@ -22,7 +22,7 @@ use Rattle.sto_tree_spec.specs.Said.{has_room}
 use Rattle.sto_tree_spec.specs.Put.{free_leaf}
 use Rattle.sto_tree_spec.specs.Between.{all_seen, meets}
 use Rattle.sto_tree_spec.specs.Repack.{present_values_in, present_values, key_parts, leaves_for, ends, repack_items, rows_read, packed_updates}
-use Rattle.sto_tree_spec.specs.RepackLaw.{rows_are, all_is, all_ordered, all_ends, key_listed, value_listed}
+use Rattle.sto_tree_spec.specs.RepackLaw.{all_is, all_ordered, all_ends, key_listed, value_listed}
 use Rattle.sto_tree_spec.specs.Members.{IsIn}
 use Rattle.sto_tree_spec.specs.Meaning.{tree_meaning}
 use Rattle.sto_tree_spec.specs.Tests.{and_true, true_le, fits_at}

@@ -1,5 +1,5 @@
 -- What a put that splits its leaf comes to, on what is known.
-use Rattle.std.proofs.Common.{◌≡◌, ◌≢◌, ◌<◌, ◌*◌, ◌^◌, ◌⊎◌, nat_eq, ℕ, zero, suc, ℤ, pos, Bool, true, false, int_le, int_lt, Option, Some, None, List, [], ◌∷◌, ◌++◌, length, take, drop, refl, sym, ◌∙◌, ap, subst, arith, inl, inr}
+use Rattle.std.proofs.Common.{◌≡◌, ◌≢◌, ◌<◌, ◌*◌, ◌^◌, ◌⊎◌, nat_eq, ℕ, zero, suc, ℤ, pos, Bool, true, false, int_le, int_lt, Some, None, List, [], ◌∷◌, ◌++◌, length, drop, refl, sym, ◌∙◌, ap, subst, arith, inl, inr}
 use Rattle.std.specs.Prelude.{if◌then◌else◌, unwrap_or, ◌-ℤ◌}
 use Rattle.std.specs.Int.{w64}
 use Rattle.std.specs.Int.RustNames.{FitsSigned}
@@ -15,11 +15,11 @@ use Rattle.sto_model.specs.Told.{Done}
 use Rattle.sto_model.proofs.RowFacts.{by_test}
 use Rattle.sto_type.specs.Known.{Parts, Known, IsPartOf}
 use Rattle.sto_type.specs.Plans.{Ask, Say, IsPlan}
-use Rattle.sto_type.specs.Reading.{Reading, need_of, items_of, updates_at, read_each, Say as Said}
+use Rattle.sto_type.specs.Reading.{Reading, updates_at, read_each, Say as Said}
 use Rattle.sto_tree_spec.specs.Search.{first_below}
 use Rattle.sto_tree_spec.specs.Slots.{gathered}
 use Rattle.sto_tree_spec.specs.SlotFacts.{gathered_same}
-use Rattle.sto_tree_spec.specs.Layout.{parts_of, directory, keys, key, key_part, value_part, word, size, is_present, place_of, free_place, place_slot, slot_of, leaf_of}
+use Rattle.sto_tree_spec.specs.Layout.{parts_of, directory, keys, key, value_part, word, size, is_present, place_of, free_place, place_slot, slot_of, leaf_of}
 use Rattle.sto_tree_spec.specs.Valid.{IsTree}
 use Rattle.sto_tree_spec.specs.Said.{new_row}
 use Rattle.sto_tree_spec.specs.Put.{free_leaf}

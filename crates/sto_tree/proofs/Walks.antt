@@ -1,5 +1,5 @@
 -- The steps of walks over parts and leaves, on what is known.
-use Rattle.std.proofs.Common.{◌≡◌, ◌<◌, ◌++◌, ℕ, ℤ, pos, Bool, Option, Some, None, List, [], ◌∷◌, nat_eq, refl, sym, ◌∙◌, ap, subst, inl, inr}
+use Rattle.std.proofs.Common.{◌≡◌, ◌++◌, ℕ, ℤ, pos, Bool, Option, Some, None, List, [], ◌∷◌, nat_eq, refl, sym, ◌∙◌, ap, subst, inl, inr}
 use Rattle.std.specs.Prelude.{if◌then◌else◌}
 use Rattle.sto_item.specs.declared.item.Item.{Item}
 use Rattle.sto_model.specs.Rows.{least_from}

@@ -1,5 +1,5 @@
 -- Whole contents of a tree, alone and among other parts.
-use Rattle.std.proofs.Common.{◌≡◌, ◌<◌, ◌≤◌, ◌+◌, ◌*◌, ℕ, zero, suc, ℤ, pos, Option, Some, List, [], ◌∷◌, ◌++◌, ◌&&◌, length, replicate, take, drop, slice_get, sym, ◌∙◌, ap, arith}
+use Rattle.std.proofs.Common.{◌≡◌, ◌<◌, ◌≤◌, ◌+◌, ℕ, zero, suc, ℤ, pos, Option, Some, List, [], ◌∷◌, ◌++◌, ◌&&◌, length, replicate, take, drop, slice_get, sym, ◌∙◌, ap, arith}
 use Rattle.std.proofs.lemmas.List.{length-map, length-take, length-drop, get_or-take, get_or-drop}
 use Rattle.sto_part.specs.Parts.{part_of, zeros}
 use Rattle.sto_type.specs.Known.{Parts}

@@ -14,14 +14,14 @@ use crate::listing::listed_leaves;
 use crate::range::known_rows;
 use crate::walk::see_leaves;
 use std::alloc::Global;
-use sto_item::{Items, Updates};
 use sto_model::{Call, Pairs, Reply};
 use sto_part::NoMemory;
-use sto_type::{Answer, KnownParts};
+use sto_type::{Answer, AnswerPool, KnownParts};
 
 /// What a count needs next, or a scan, or what it comes to.
 pub(crate) fn plan_between(
     alloc: Global,
+    pool: &mut AnswerPool,
     leaves: u32,
     call: &Call,
     cache: &KnownParts<'_>,
@@ -36,8 +36,8 @@ pub(crate) fn plan_between(
     if call.a > call.b {
         return Ok(Answer::Done {
             reply: empty_reply(alloc, scans),
-            items: Items::new(alloc),
-            updates: Updates::new(alloc),
+            items: pool.items(),
+            updates: pool.updates(),
         });
     }
     let Some(directory) = cache.get(1) else {
@@ -46,6 +46,7 @@ pub(crate) fn plan_between(
     let listed = listed_leaves(alloc, leaves, directory, call.a, call.b)?;
     let seen = see_leaves(
         alloc,
+        pool,
         leaves,
         directory,
         cache,
@@ -59,7 +60,7 @@ pub(crate) fn plan_between(
         Ok(items) => Ok(Answer::Done {
             reply: reply_of(alloc, leaves, directory, cache, call.a, call.b, scans)?,
             items,
-            updates: Updates::new(alloc),
+            updates: pool.updates(),
         }),
     }
 }

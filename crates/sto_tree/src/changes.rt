@@ -6,22 +6,22 @@ ghost use Rattle.sto_tree_spec.specs.Layout.{value_part as the_value_part};
 ghost use Rattle.sto_tree_spec.specs.Repack.{filled, rows_of_leaf, row_values};
 
 use crate::said::{key_part, value_part};
-use std::alloc::Global;
 use sto_item::Updates;
 use sto_model::Rows;
 use sto_part::{Change, NoMemory, Update};
+use sto_type::AnswerPool;
 
 /// The changes of a key part of which one place changes: its present word, and its key.
 #[tactic(auto, using(sto_tree_spec::specs::Sized::in_pairs_more))]
 pub(crate) fn place_changes(
-    alloc: Global,
+    pool: &mut AnswerPool,
     place: u32,
     present: Change,
     key: Change,
 ) -> Result<Update, NoMemory>
     ensures { IfOk result (λ l. l.items ≡ key_changes (only_at place present key)) }
 {
-    let mut update = Update::new(alloc);
+    let mut update = pool.update();
     for other in 0..8 {
         push_pair(&mut update, pair_at(other, place, present, key))?;
     }
@@ -64,20 +64,24 @@ pub(crate) fn push_three(
 }
 
 /// The one change of a part of one word.
-pub(crate) fn word_change(alloc: Global, change: Change) -> Result<Update, NoMemory>
+pub(crate) fn word_change(pool: &mut AnswerPool, change: Change) -> Result<Update, NoMemory>
     ensures { IfOk result (λ l. l.items ≡ change ∷ []) }
 {
-    let mut update = Update::new(alloc);
+    let mut update = pool.update();
     update.push(change)?;
     Ok(update)
 }
 
 /// The changes of a key part that takes the rows of a leaf, which are at most four, from its first place on.
-pub(crate) fn filled_changes(alloc: Global, rows: &Rows, leaf: u32) -> Result<Update, NoMemory>
+pub(crate) fn filled_changes(
+    pool: &mut AnswerPool,
+    rows: &Rows,
+    leaf: u32,
+) -> Result<Update, NoMemory>
     requires { 4 * leaf + 8 < 2 ^ 32 }
     ensures { IfOk result (λ l. l.items ≡ key_changes (filled (rows_of_leaf rows.now.items leaf))) }
 {
-    let mut update = Update::new(alloc);
+    let mut update = pool.update();
     for place in 0..8 {
         push_pair(&mut update, filled_pair(rows, leaf, place))?;
     }
@@ -111,7 +115,7 @@ pub(crate) fn push_update(updates: &mut Updates, part: u32, update: Update) -> R
 
 /// Adds the values of the rows of a leaf last, from the first place of some leaf on.
 pub(crate) fn push_values(
-    alloc: Global,
+    pool: &mut AnswerPool,
     updates: &mut Updates,
     leaf: u32,
     rows: &Rows,
@@ -125,7 +129,7 @@ pub(crate) fn push_values(
     let first = 4 * chunk;
     for place in 0..4 {
         if first + place < rows.len() {
-            let value = word_change(alloc, Change::Put(rows.get(first + place).1))?;
+            let value = word_change(pool, Change::Put(rows.get(first + place).1))?;
             push_update(updates, value_part(leaf, place), value)?;
         }
     }
@@ -134,7 +138,7 @@ pub(crate) fn push_values(
 
 /// The updates of a row that is put at a free place of a leaf.
 pub(crate) fn new_row(
-    alloc: Global,
+    pool: &mut AnswerPool,
     leaf: u32,
     place: u32,
     key: i64,
@@ -144,13 +148,13 @@ pub(crate) fn new_row(
     requires place { place < 8 }
     ensures { IfOk result (λ l. l.items ≡ the_new_row leaf place key value) }
 {
-    let mut updates = Updates::new(alloc);
-    updates.push((0, word_change(alloc, Change::Add(1))?))?;
-    let places = place_changes(alloc, place, Change::Put(1), Change::Put(key))?;
+    let mut updates = pool.updates();
+    updates.push((0, word_change(pool, Change::Add(1))?))?;
+    let places = place_changes(pool, place, Change::Put(1), Change::Put(key))?;
     updates.push((key_part(leaf), places))?;
     updates.push((
         value_part(leaf, place),
-        word_change(alloc, Change::Put(value))?,
+        word_change(pool, Change::Put(value))?,
     ))?;
     Ok(updates)
 }

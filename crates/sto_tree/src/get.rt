@@ -9,15 +9,13 @@ ghost use Rattle.sto_tree_spec.specs.Meaning.{tree_meaning, TreeTakes};
 use crate::leaf::find_leaf;
 use crate::said::{leaf_items, value_items, value_part};
 use crate::search::place_of;
-use std::alloc::Global;
-use sto_item::Updates;
 use sto_model::{Call, Reply};
 use sto_part::NoMemory;
-use sto_type::{Answer, KnownParts};
+use sto_type::{Answer, AnswerPool, KnownParts};
 
 /// What a get needs next, or what it comes to.
 pub(crate) fn plan_get(
-    alloc: Global,
+    pool: &mut AnswerPool,
     leaves: u32,
     call: &Call,
     cache: &KnownParts<'_>,
@@ -35,8 +33,8 @@ pub(crate) fn plan_get(
     let Some(place) = place_of(found.keys, call.a) else {
         return Ok(Answer::Done {
             reply: Reply::Absent,
-            items: leaf_items(alloc, found.number, call.a)?,
-            updates: Updates::new(alloc),
+            items: leaf_items(pool, found.number, call.a)?,
+            updates: pool.updates(),
         });
     };
     let part = value_part(found.number, place);
@@ -45,8 +43,8 @@ pub(crate) fn plan_get(
     };
     Ok(Answer::Done {
         reply: Reply::Value(only_word(value)),
-        items: value_items(alloc, found.number, place, call.a)?,
-        updates: Updates::new(alloc),
+        items: value_items(pool, found.number, place, call.a)?,
+        updates: pool.updates(),
     })
 }
 

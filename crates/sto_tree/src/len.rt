@@ -6,15 +6,14 @@ ghost use Rattle.sto_type.specs.Known.{IsPartOf, known};
 ghost use Rattle.sto_type.specs.Plans.{IsPlan, planned};
 
 use crate::get::only_word;
-use std::alloc::Global;
-use sto_item::{Item, Updates};
+use sto_item::Item;
 use sto_model::{Call, Reply};
 use sto_part::NoMemory;
-use sto_type::{Answer, KnownParts, one_item};
+use sto_type::{Answer, AnswerPool, KnownParts, one_item};
 
 /// What a len needs, or what it comes to.
 pub(crate) fn plan_len(
-    alloc: Global,
+    pool: &mut AnswerPool,
     leaves: u32,
     call: &Call,
     cache: &KnownParts<'_>,
@@ -29,7 +28,7 @@ pub(crate) fn plan_len(
     };
     Ok(Answer::Done {
         reply: Reply::Value(only_word(size)),
-        items: one_item(alloc, Item::Seen(0))?,
-        updates: Updates::new(alloc),
+        items: one_item(pool, Item::Seen(0))?,
+        updates: pool.updates(),
     })
 }

@@ -12,14 +12,15 @@ use crate::listing::{key_rows, listed_leaves};
 use crate::said::key_part;
 use crate::walk::see_keys;
 use std::alloc::Global;
-use sto_item::{Items, Updates};
+use sto_item::Items;
 use sto_model::{Call, Reply};
 use sto_part::NoMemory;
-use sto_type::{Answer, KnownParts};
+use sto_type::{Answer, AnswerPool, KnownParts};
 
 /// What a next needs next, or what it comes to.
 pub(crate) fn plan_next(
     alloc: Global,
+    pool: &mut AnswerPool,
     leaves: u32,
     call: &Call,
     cache: &KnownParts<'_>,
@@ -38,13 +39,13 @@ pub(crate) fn plan_next(
         Err(part) => Ok(Answer::Need(part)),
         Ok(Some(key)) => Ok(Answer::Done {
             reply: Reply::Value(key),
-            items: all_between(alloc, leaves, directory, call.a, key)?,
-            updates: Updates::new(alloc),
+            items: all_between(alloc, pool, leaves, directory, call.a, key)?,
+            updates: pool.updates(),
         }),
         Ok(None) => Ok(Answer::Done {
             reply: Reply::Absent,
-            items: all_between(alloc, leaves, directory, call.a, i64::MAX)?,
-            updates: Updates::new(alloc),
+            items: all_between(alloc, pool, leaves, directory, call.a, i64::MAX)?,
+            updates: pool.updates(),
         }),
     }
 }
@@ -79,6 +80,7 @@ fn find_next(
 // What a count from one number to another observes.
 fn all_between(
     alloc: Global,
+    pool: &mut AnswerPool,
     leaves: u32,
     directory: &[i64],
     from: i64,
@@ -89,7 +91,7 @@ fn all_between(
     ensures { IfOk result (λ l. l.items ≡ the_all_between leaves directory.now from to) }
 {
     let listed = listed_leaves(alloc, leaves, directory, from, to)?;
-    let mut items = Items::new(alloc);
+    let mut items = pool.items();
     for leaf in listed.as_slice() {
         see_keys(&mut items, directory, *leaf, from, to)?;
     }

@@ -18,14 +18,15 @@ use crate::said::{compares, here_items, leaf_items, value_part};
 use crate::search::{free_place, place_of};
 use crate::split::plan_split;
 use std::alloc::Global;
-use sto_item::{Items, Updates};
+use sto_item::Items;
 use sto_model::{Call, Reply};
 use sto_part::{Change, NoMemory, Test};
-use sto_type::{Answer, KnownParts, one_update};
+use sto_type::{Answer, AnswerPool, KnownParts, one_update};
 
 /// What a put needs next, or what it comes to.
 pub(crate) fn plan_put(
     alloc: Global,
+    pool: &mut AnswerPool,
     leaves: u32,
     call: &Call,
     cache: &KnownParts<'_>,
@@ -40,18 +41,18 @@ pub(crate) fn plan_put(
         Ok(found) => found,
         Err(part) => return Ok(Answer::Need(part)),
     };
-    if let Some(answer) = put_in_leaf(alloc, leaves, call, cache, found)? {
+    if let Some(answer) = put_in_leaf(pool, leaves, call, cache, found)? {
         return Ok(answer);
     }
     match free_leaf(found.directory, leaves) {
-        Some(free) => plan_split(alloc, leaves, call, cache, found, free),
-        None => plan_repack(alloc, leaves, call, cache, found),
+        Some(free) => plan_split(alloc, pool, leaves, call, cache, found, free),
+        None => plan_repack(alloc, pool, leaves, call, cache, found),
     }
 }
 
 // What a put into the leaf of its key needs next, or comes to; none where the leaf has no free place for a new key.
 fn put_in_leaf(
-    alloc: Global,
+    pool: &mut AnswerPool,
     leaves: u32,
     call: &Call,
     cache: &KnownParts<'_>,
@@ -70,8 +71,8 @@ fn put_in_leaf(
     if let Some(place) = place_of(found.keys, call.a) {
         return Ok(Some(Answer::Done {
             reply: Reply::Done,
-            items: here_items(alloc, found.number, place, call.a)?,
-            updates: one_update(alloc, value_part(found.number, place), Change::Put(call.b))?,
+            items: here_items(pool, found.number, place, call.a)?,
+            updates: one_update(pool, value_part(found.number, place), Change::Put(call.b))?,
         }));
     }
     let Some(size) = cache.get(0) else {
@@ -80,8 +81,8 @@ fn put_in_leaf(
     if is_full(size, leaves) {
         return Ok(Some(Answer::Done {
             reply: Reply::Full,
-            items: room_items(alloc, found.number, call.a, Test::Ge, leaves)?,
-            updates: Updates::new(alloc),
+            items: room_items(pool, found.number, call.a, Test::Ge, leaves)?,
+            updates: pool.updates(),
         }));
     }
     let Some(place) = free_place(found.keys) else {
@@ -89,8 +90,8 @@ fn put_in_leaf(
     };
     Ok(Some(Answer::Done {
         reply: Reply::Done,
-        items: room_items(alloc, found.number, call.a, Test::Lt, leaves)?,
-        updates: new_row(alloc, found.number, place, call.a, call.b)?,
+        items: room_items(pool, found.number, call.a, Test::Lt, leaves)?,
+        updates: new_row(pool, found.number, place, call.a, call.b)?,
     }))
 }
 
@@ -105,7 +106,7 @@ fn is_full(size: &[i64], leaves: u32) -> bool
 
 // That a leaf has a key, what its whole key part says, and how the size compares with the most that it may be.
 fn room_items(
-    alloc: Global,
+    pool: &mut AnswerPool,
     leaf: u32,
     key: i64,
     test: Test,
@@ -116,7 +117,7 @@ fn room_items(
     ensures { IfOk result (λ l. l.items ≡ the_cover leaf key key (SeenPart (the_key_part leaf) ∷ compared 0 0 test (pos (4 * leaves))
         ∷ [])) }
 {
-    let mut items = leaf_items(alloc, leaf, key)?;
+    let mut items = leaf_items(pool, leaf, key)?;
     items.push(compares(0, 0, test, (4 * leaves) as i64))?;
     Ok(items)
 }

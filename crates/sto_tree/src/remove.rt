@@ -12,15 +12,14 @@ use crate::changes::{place_changes, word_change};
 use crate::leaf::find_leaf;
 use crate::said::{here_items, key_part, leaf_items};
 use crate::search::place_of;
-use std::alloc::Global;
 use sto_item::Updates;
 use sto_model::{Call, Reply};
 use sto_part::{Change, NoMemory};
-use sto_type::{Answer, KnownParts};
+use sto_type::{Answer, AnswerPool, KnownParts};
 
 /// What a remove needs next, or what it comes to.
 pub(crate) fn plan_remove(
-    alloc: Global,
+    pool: &mut AnswerPool,
     leaves: u32,
     call: &Call,
     cache: &KnownParts<'_>,
@@ -38,27 +37,27 @@ pub(crate) fn plan_remove(
     let Some(place) = place_of(found.keys, call.a) else {
         return Ok(Answer::Done {
             reply: Reply::Flag(false),
-            items: leaf_items(alloc, found.number, call.a)?,
-            updates: Updates::new(alloc),
+            items: leaf_items(pool, found.number, call.a)?,
+            updates: pool.updates(),
         });
     };
     Ok(Answer::Done {
         reply: Reply::Flag(true),
-        items: here_items(alloc, found.number, place, call.a)?,
-        updates: removed(alloc, found.number, place)?,
+        items: here_items(pool, found.number, place, call.a)?,
+        updates: removed(pool, found.number, place)?,
     })
 }
 
 // A place that is present no more, and the size one less.
-fn removed(alloc: Global, leaf: u32, place: u32) -> Result<Updates, NoMemory>
+fn removed(pool: &mut AnswerPool, leaf: u32, place: u32) -> Result<Updates, NoMemory>
     requires part { the_key_part leaf < 2 ^ 32 }
     requires place { place < 8 }
     ensures { IfOk result (λ l. l.items ≡ size_grows (negsuc 0)
         ∷ (the_key_part leaf, key_changes (at_place place (PutWord (pos 0)) KeepWord)) ∷ []) }
 {
-    let mut updates = Updates::new(alloc);
-    updates.push((0, word_change(alloc, Change::Add(-1))?))?;
-    let places = place_changes(alloc, place, Change::Put(0), Change::Keep)?;
+    let mut updates = pool.updates();
+    updates.push((0, word_change(pool, Change::Add(-1))?))?;
+    let places = place_changes(pool, place, Change::Put(0), Change::Keep)?;
     updates.push((key_part(leaf), places))?;
     Ok(updates)
 }

@@ -21,14 +21,15 @@ use crate::said::{compares, key_part, value_part};
 use crate::search::is_present;
 use crate::seen::{add_item, see_parts};
 use std::alloc::Global;
-use sto_item::{Item, Items, Updates};
+use sto_item::{Item, Updates};
 use sto_model::{Call, Reply, Rows};
 use sto_part::{Change, List, NoMemory, Test, Update};
-use sto_type::{Answer, KnownParts};
+use sto_type::{Answer, AnswerPool, KnownParts};
 
 /// What a put needs next where its leaf has no free place and all leaves are live, or what it comes to.
 pub(crate) fn plan_repack(
     alloc: Global,
+    pool: &mut AnswerPool,
     leaves: u32,
     call: &Call,
     cache: &KnownParts<'_>,
@@ -44,7 +45,7 @@ pub(crate) fn plan_repack(
     requires free { the_free_leaf leaves found.directory.now ≡ None }
     ensures { IfOk result (λ a. IsPlan (tree_meaning leaves) call.now (known cache.now) (planned a)) }
 {
-    let mut items = Items::new(alloc);
+    let mut items = pool.items();
     add_item(&mut items, Item::Seen(1))?;
     let keys = key_parts(alloc, leaves)?;
     if let Some(part) = see_parts(&mut items, cache, keys.as_slice())? {
@@ -57,7 +58,7 @@ pub(crate) fn plan_repack(
     add_item(&mut items, compares(0, 0, Test::Lt, (4 * leaves) as i64))?;
     let mut rows = known_rows(alloc, leaves, found.directory, cache, i64::MIN, i64::MAX)?;
     rows.put(call.a, call.b)?;
-    let updates = packed(alloc, leaves, &rows)?;
+    let updates = packed(pool, leaves, &rows)?;
     Ok(Answer::Done {
         reply: Reply::Done,
         items,
@@ -118,24 +119,24 @@ fn add_part(parts: &mut List<u32>, part: u32) -> Result<(), NoMemory>
 }
 
 // The updates that make rows those of the tree, one more than it had.
-fn packed(alloc: Global, leaves: u32, rows: &Rows) -> Result<Updates, NoMemory>
+fn packed(pool: &mut AnswerPool, leaves: u32, rows: &Rows) -> Result<Updates, NoMemory>
     requires few { parts_of leaves < 2 ^ 32 }
     requires ends { (j : ℕ) → j < leaves_for (length rows.now.items) → FitsSigned w64 (ends rows.now.items j) }
     requires ordered { AreUpdates (packed_updates leaves rows.now.items) }
     ensures { IfOk result (λ l. l.items ≡ packed_updates leaves rows.now.items) }
 {
-    let mut updates = Updates::new(alloc);
-    let size = word_change(alloc, Change::Add(1))?;
+    let mut updates = pool.updates();
+    let size = word_change(pool, Change::Add(1))?;
     push_update(&mut updates, 0, size)?;
-    let ranges = packed_directory(alloc, leaves, rows)?;
+    let ranges = packed_directory(pool, leaves, rows)?;
     push_update(&mut updates, 1, ranges)?;
-    push_leaves(alloc, &mut updates, leaves, rows)?;
+    push_leaves(pool, &mut updates, leaves, rows)?;
     Ok(updates)
 }
 
 // Adds the updates of all leaves last.
 fn push_leaves(
-    alloc: Global,
+    pool: &mut AnswerPool,
     updates: &mut Updates,
     leaves: u32,
     rows: &Rows,
@@ -145,20 +146,20 @@ fn push_leaves(
     ensures { OnOk result (updates.new.items ≡ updates.old.items ++ packed_leaves rows.now.items 0 leaves) }
 {
     for leaf in 0..leaves {
-        let keys = filled_changes(alloc, rows, leaf)?;
+        let keys = filled_changes(pool, rows, leaf)?;
         push_update(updates, key_part(leaf), keys)?;
-        push_values(alloc, updates, leaf, rows, leaf)?;
+        push_values(pool, updates, leaf, rows, leaf)?;
     }
     Ok(())
 }
 
 // The directory anew.
-fn packed_directory(alloc: Global, leaves: u32, rows: &Rows) -> Result<Update, NoMemory>
+fn packed_directory(pool: &mut AnswerPool, leaves: u32, rows: &Rows) -> Result<Update, NoMemory>
     requires few { parts_of leaves < 2 ^ 32 }
     requires ends { (j : ℕ) → j < leaves_for (length rows.now.items) → FitsSigned w64 (ends rows.now.items j) }
     ensures { IfOk result (λ l. l.items ≡ in_threes (packed_ranges rows.now.items) 0 leaves) }
 {
-    let mut update = Update::new(alloc);
+    let mut update = pool.update();
     for leaf in 0..leaves {
         push_three(&mut update, range_of(rows, leaf))?;
     }

@@ -34,11 +34,12 @@ use std::alloc::Global;
 use sto_item::{Item, Items, Updates};
 use sto_model::{Call, Reply, Rows};
 use sto_part::{Change, List, NoMemory, Test, Update};
-use sto_type::{Answer, KnownParts};
+use sto_type::{Answer, AnswerPool, KnownParts};
 
 /// What a put needs next where its leaf has no free place and another leaf is not live, or what it comes to.
 pub(crate) fn plan_split(
     alloc: Global,
+    pool: &mut AnswerPool,
     leaves: u32,
     call: &Call,
     cache: &KnownParts<'_>,
@@ -59,15 +60,15 @@ pub(crate) fn plan_split(
 {
     let middle = middle_of(alloc, found.keys)?;
     let moved = moved_parts(alloc, found.keys, found.number, middle)?;
-    let mut items = leaf_items(alloc, found, free, call.a)?;
+    let mut items = leaf_items(pool, found, free, call.a)?;
     if let Some(part) = see_parts(&mut items, cache, moved.as_slice())? {
         return Ok(Answer::Need(part));
     }
     add_item(&mut items, compares(0, 0, Test::Lt, (4 * leaves) as i64))?;
     let rows = moved_rows(alloc, leaves, cache, found, middle)?;
-    let mut updates = move_updates(alloc, leaves, found, free, middle, &rows)?;
+    let mut updates = move_updates(pool, leaves, found, free, middle, &rows)?;
     let (leaf, place) = place_after(found, free, middle, call.a);
-    compose_row(alloc, &mut updates, leaf, place, call.a, call.b)?;
+    compose_row(pool, &mut updates, leaf, place, call.a, call.b)?;
     Ok(Answer::Done {
         reply: Reply::Done,
         items,
@@ -114,7 +115,12 @@ fn moved_parts(alloc: Global, keys: &[i64], leaf: u32, middle: i64) -> Result<Li
 }
 
 // What a split observes of the directory, and of the key part of its leaf.
-fn leaf_items(alloc: Global, found: Leaf<'_>, free: u32, key: i64) -> Result<Items, NoMemory>
+fn leaf_items(
+    pool: &mut AnswerPool,
+    found: Leaf<'_>,
+    free: u32,
+    key: i64,
+) -> Result<Items, NoMemory>
     requires part { the_key_part found.number < 2 ^ 32 }
     requires directory { 3 * found.number + 2 < length found.directory.now }
     requires other { 9 * free < 2 ^ 32 }
@@ -135,7 +141,7 @@ fn leaf_items(alloc: Global, found: Leaf<'_>, free: u32, key: i64) -> Result<Ite
         compares(1, 3 * free, Test::Eq, 0),
         Item::Seen(key_part(leaf)),
     ];
-    items_of(alloc, &items)
+    items_of(pool, &items)
 }
 
 // The rows of the leaf; the values of places that stay count for nothing.
@@ -185,7 +191,7 @@ fn value_moved(leaves: u32, cache: &KnownParts<'_>, found: Leaf<'_>, middle: i64
 
 // The updates that move the upper four rows of a leaf to another one.
 fn move_updates(
-    alloc: Global,
+    pool: &mut AnswerPool,
     leaves: u32,
     found: Leaf<'_>,
     free: u32,
@@ -205,20 +211,20 @@ fn move_updates(
     ensures { IfOk result (λ l. l.items ≡ the_move_updates leaves found.entry.directory.now found.entry.number found.entry.keys.now free
         (rows_of_leaf rows.now.items 1)) }
 {
-    let mut updates = Updates::new(alloc);
-    let ranges = split_directory(alloc, leaves, found, free, middle)?;
+    let mut updates = pool.updates();
+    let ranges = split_directory(pool, leaves, found, free, middle)?;
     push_update(&mut updates, 1, ranges)?;
-    let lower = lower_changes(alloc, found.keys, middle)?;
+    let lower = lower_changes(pool, found.keys, middle)?;
     push_update(&mut updates, key_part(found.number), lower)?;
-    let upper = filled_changes(alloc, rows, 1)?;
+    let upper = filled_changes(pool, rows, 1)?;
     push_update(&mut updates, key_part(free), upper)?;
-    push_values(alloc, &mut updates, free, rows, 1)?;
+    push_values(pool, &mut updates, free, rows, 1)?;
     Ok(updates)
 }
 
 // The changes of the directory.
 fn split_directory(
-    alloc: Global,
+    pool: &mut AnswerPool,
     leaves: u32,
     found: Leaf<'_>,
     free: u32,
@@ -234,7 +240,7 @@ fn split_directory(
 {
     let end = high(found.directory, found.number);
     let below = middle - 1;
-    let mut update = Update::new(alloc);
+    let mut update = pool.update();
     for other in 0..leaves {
         push_three(
             &mut update,
@@ -266,13 +272,13 @@ fn range_after(
 }
 
 // The changes of a key part that loses the places that move.
-fn lower_changes(alloc: Global, keys: &[i64], middle: i64) -> Result<Update, NoMemory>
+fn lower_changes(pool: &mut AnswerPool, keys: &[i64], middle: i64) -> Result<Update, NoMemory>
     requires keys { length keys.now ≡ 16 }
     requires middle { middle ≡ the_middle keys.now }
     ensures { IfOk result (λ l. l.items ≡ key_changes (λ i. if moves_at keys.now i then (PutWord (pos 0), KeepWord) else
         (KeepWord, KeepWord))) }
 {
-    let mut update = Update::new(alloc);
+    let mut update = pool.update();
     for place in 0..8 {
         push_pair(&mut update, lower_pair(moves(keys, middle, place)))?;
     }
@@ -320,7 +326,7 @@ fn first_moved(keys: &[i64], middle: i64) -> Option<u32>
 
 // Composes a new row after updates.
 fn compose_row(
-    alloc: Global,
+    pool: &mut AnswerPool,
     updates: &mut Updates,
     leaf: u32,
     place: u32,
@@ -332,9 +338,9 @@ fn compose_row(
     requires widths { (d : Seq (Seq ℤ)) × HasWidths updates.old.items d × HasWidths (the_new_row leaf place key value) d }
     ensures { OnOk result (updates.new.items ≡ with_updates updates.old.items (the_new_row leaf place key value)) }
 {
-    let size = word_change(alloc, Change::Add(1))?;
-    let keys = place_changes(alloc, place, Change::Put(1), Change::Put(key))?;
-    let word = word_change(alloc, Change::Put(value))?;
+    let size = word_change(pool, Change::Add(1))?;
+    let keys = place_changes(pool, place, Change::Put(1), Change::Put(key))?;
+    let word = word_change(pool, Change::Put(value))?;
     updates.compose(0, &size)?;
     updates.compose(key_part(leaf), &keys)?;
     updates.compose(value_part(leaf, place), &word)?;

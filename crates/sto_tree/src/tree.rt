@@ -15,7 +15,7 @@ use crate::remove::plan_remove;
 use std::alloc::Global;
 use sto_model::{Call, State};
 use sto_part::{Contents, Naming, NoMemory};
-use sto_type::{Answer, Home, KnownParts, TxType};
+use sto_type::{Answer, AnswerPool, Home, KnownParts, TxType};
 
 /// An ordered tree of so many leaves: a directory, and for each leaf 8 places.
 #[derive(Drop)]
@@ -85,16 +85,22 @@ impl TxType for TTree {
         Ok(state)
     }
 
-    fn plan(&self, alloc: Global, call: &Call, cache: &KnownParts<'_>) -> Result<Answer, NoMemory> {
+    fn plan(
+        &self,
+        alloc: Global,
+        pool: &mut AnswerPool,
+        call: &Call,
+        cache: &KnownParts<'_>,
+    ) -> Result<Answer, NoMemory> {
         let leaves = self.leaves;
         match call.code {
-            0 => plan_get(alloc, leaves, call, cache),
-            5 => plan_put(alloc, leaves, call, cache),
-            6 => plan_remove(alloc, leaves, call, cache),
-            8 => plan_len(alloc, leaves, call, cache),
-            9 => plan_next(alloc, leaves, call, cache),
-            10 => plan_between(alloc, leaves, call, cache, false),
-            11 => plan_between(alloc, leaves, call, cache, true),
+            0 => plan_get(pool, leaves, call, cache),
+            5 => plan_put(alloc, pool, leaves, call, cache),
+            6 => plan_remove(pool, leaves, call, cache),
+            8 => plan_len(pool, leaves, call, cache),
+            9 => plan_next(alloc, pool, leaves, call, cache),
+            10 => plan_between(alloc, pool, leaves, call, cache, false),
+            11 => plan_between(alloc, pool, leaves, call, cache, true),
             _ => unreachable!(),
         }
     }

@@ -16,7 +16,7 @@ use std::alloc::Global;
 use sto_item::{Item, Items};
 use sto_model::Pairs;
 use sto_part::{List, NoMemory, Test};
-use sto_type::KnownParts;
+use sto_type::{AnswerPool, KnownParts};
 
 /// Observes the range of a leaf from one number to another, and its key part.
 pub(crate) fn see_keys(
@@ -115,6 +115,7 @@ fn see_leaf(
 /// What a count or a scan observes of leaves one after the other, or the part that it needs first.
 pub(crate) fn see_leaves(
     alloc: Global,
+    pool: &mut AnswerPool,
     leaves: u32,
     directory: &[i64],
     cache: &KnownParts<'_>,
@@ -130,7 +131,7 @@ pub(crate) fn see_leaves(
     ensures { let reading = between_each scans directory.now from to listed.now [] in IfOk result
         (λ r. MatchResult r (λ items. IsSaid reading (known cache.now) items.items) (λ p. need_of reading (known cache.now) ≡ Some p)) }
 {
-    let mut items = Items::new(alloc);
+    let mut items = pool.items();
     for leaf in listed {
         if let Some(part) = see_leaf(alloc, &mut items, directory, cache, *leaf, from, to, scans)? {
             return Ok(Err(part));

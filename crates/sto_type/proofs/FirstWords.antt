@@ -1,5 +1,5 @@
 -- The first word of a part that is known, and whether there are updates at all.
-use Rattle.std.proofs.Common.{◌≡◌, ◌+◌, ℕ, ℤ, pos, Option, Some, None, List, [], ◌∷◌, slice_index_or, refl}
+use Rattle.std.proofs.Common.{◌≡◌, ℤ, pos, Option, Some, None, List, slice_index_or, refl}
 use Rattle.sto_type.specs.Known.{word_known}
 
 pub known_word : (o : Option (List ℤ)) (x : ℤ) → word_known o ≡ Some x → (ws : List ℤ) × (o ≡ Some ws) × (slice_index_or ws 0 (pos 0) ≡ x)

@@ -1,5 +1,5 @@
 -- One call more in a run, for what it observed and wrote.
-use Rattle.std.proofs.Common.{◌≡◌, true, false, not, nat_lt, ℕ, ℤ, pos, Option, Some, None, List, [], ◌∷◌, ◌++◌, length, slice_index_or, refl, ap, sym, ◌∙◌, subst, append_assoc, append-nil}
+use Rattle.std.proofs.Common.{◌≡◌, List, [], ◌∷◌, ◌++◌, refl, ap, sym, ◌∙◌, subst, append_assoc, append-nil}
 use Rattle.sto_item.specs.declared.item.Item.{Item}
 use Rattle.sto_item.specs.Pending.{Entry, with_updates, applied_updates}
 use Rattle.sto_item.specs.Rebase.{rebased}
@@ -7,8 +7,8 @@ use Rattle.sto_item.specs.Recorded.{Recorded, AddsItems}
 use Rattle.sto_item.proofs.Added.{AddsItems-append, AddsItems-beside}
 use Rattle.sto_model.specs.Told.{Told}
 use Rattle.sto_model.specs.Run.{Script}
-use Rattle.sto_type.specs.Known.{Parts, word_known}
-use Rattle.sto_type.specs.Meaning.{Meaning, is_empty}
+use Rattle.sto_type.specs.Known.{Parts}
+use Rattle.sto_type.specs.Meaning.{Meaning}
 use Rattle.sto_type.specs.Runs.{Answered, IsAnswer, AreAnswers, updates_along, items_along, AreFoundIn}
 use Rattle.sto_type.specs.Growing.{HasGrown}
 

@@ -1,5 +1,5 @@
 -- How the items and updates of a set grow with the replies of a run, and in no other way.
-use Rattle.std.specs.Prelude.{◌≡◌, List, [], ◌∷◌, ◌++◌}
+use Rattle.std.specs.Prelude.{◌≡◌, List, ◌++◌}
 use Rattle.sto_item.specs.Recorded.{Recorded, AddsItems}
 use Rattle.sto_model.specs.Told.{Told}
 use Rattle.sto_model.specs.Run.{Script}

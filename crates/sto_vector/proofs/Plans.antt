@@ -1,17 +1,14 @@
 -- The size that is known, and the answers on it.
-use Rattle.std.proofs.Common.{◌≡◌, ◌<◌, ◌+◌, ◌^◌, ℕ, suc, ℤ, pos, Option, Some, None, List, [], ◌∷◌, length, slice_index_or, refl, ap, sym, ◌∙◌, subst, arith}
+use Rattle.std.proofs.Common.{◌≡◌, ◌<◌, ◌+◌, ◌^◌, ℕ, ℤ, pos, Some, None, List, [], ◌∷◌, length, slice_index_or, ap, sym, ◌∙◌, subst, arith}
 use Rattle.std.specs.Option.{option_map}
-use Rattle.sto_part.specs.Parts.{part_of}
-use Rattle.sto_item.specs.Agreement.{word_of}
 use Rattle.sto_model.specs.declared.call.Call.{Call}
 use Rattle.sto_model.specs.Operations.{operation_of}
 use Rattle.sto_type.specs.Known.{Parts, Known, IsPartOf, word_known}
-use Rattle.sto_type.specs.Plans.{IsPlan, planned, Plan}
+use Rattle.sto_type.specs.Plans.{IsPlan, planned}
 use Rattle.sto_type.specs.declared.answer.Answer.{Answer}
 use Rattle.sto_type.proofs.FirstWords.{known_word}
 use Rattle.sto_array.specs.Arrayed.{place_of}
-use Rattle.sto_vector.specs.Vectored.{size_of, size_known, IsSize, IsVector, VectorTakes, vector_meaning}
-use Rattle.sto_vector.specs.VectoredLaw.{sized, apart}
+use Rattle.sto_vector.specs.Vectored.{size_of, IsSize, IsVector, VectorTakes, vector_meaning}
 use Rattle.sto_vector.specs.VectoredPlans.{first_plan, vector_plan, first_is, plan_is}
 
 there : (capacity : ℕ) (d : Parts) → IsVector capacity d → 0 < length d

@@ -1,10 +1,10 @@
 -- The places of a vector among other parts.
-use Rattle.std.proofs.Common.{◌≡◌, ◌<◌, ◌≤◌, ◌+◌, ◌^◌, ℕ, zero, suc, ℤ, pos, negsuc, Some, List, [], ◌∷◌, length, map, replicate, take, drop, slice_get, slice_index_or, refl, ap, sym, ◌∙◌, subst, arith, length-drop}
-use Rattle.std.proofs.lemmas.List.{length-take, get_or-drop}
+use Rattle.std.proofs.Common.{◌≡◌, ◌<◌, ◌≤◌, ◌+◌, ◌^◌, ℕ, zero, suc, ℤ, pos, Some, List, [], ◌∷◌, length, map, replicate, take, drop, slice_get, refl, ap, sym, ◌∙◌, subst, arith}
+use Rattle.std.proofs.lemmas.List.{get_or-drop}
 use Rattle.sto_part.specs.Parts.{part_of}
 use Rattle.sto_type.specs.Known.{Parts, ContentsFit}
-use Rattle.sto_array.specs.Arrayed.{array_rows, IsArray}
-use Rattle.sto_vector.specs.Vectored.{vector_rows, IsSize, IsVector}
+use Rattle.sto_array.specs.Arrayed.{IsArray}
+use Rattle.sto_vector.specs.Vectored.{IsVector}
 use Rattle.sto_vector.specs.VectoredLaw.{sized, apart, small, place_widths}
 
 -- a front of a front

@@ -1,5 +1,5 @@
 -- What a vector means. Part 0 is the size, and part 1 + i the word of place i.
-use Rattle.std.specs.Prelude.{◌≡◌, ◌≤◌, ℕ, zero, suc, ℤ, pos, negsuc, nat_lt, Bool, true, false, if◌then◌else◌, Option, Some, None, unwrap_or, List, [], ◌∷◌, map, length, take, replicate, slice_index_or, IsTrue}
+use Rattle.std.specs.Prelude.{◌≡◌, ◌≤◌, ℕ, zero, suc, ℤ, pos, negsuc, nat_lt, if◌then◌else◌, Option, Some, None, unwrap_or, List, [], ◌∷◌, map, length, take, replicate, slice_index_or, IsTrue}
 use Rattle.std.specs.Option.{option_map}
 use Rattle.std.specs.Int.{w64}
 use Rattle.std.specs.Int.RustNames.{FitsSigned}

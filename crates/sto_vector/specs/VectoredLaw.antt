@@ -1,5 +1,5 @@
 -- A vector is lawful.
-use Rattle.std.specs.Prelude.{◌≡◌, ◌<◌, ◌≤◌, ◌+◌, ◌^◌, ◌+ℤ◌, ℕ, zero, suc, ℤ, pos, negsuc, nat_lt, nat_le, Bool, true, false, not, if◌then◌else◌, Option, Some, None, unwrap_or, List, [], ◌∷◌, map, length, take, replicate, slice_index_or, slice_get, slice_set, IsSome, IsTrue, is_some, refl}
+use Rattle.std.specs.Prelude.{◌≡◌, ◌<◌, ◌≤◌, ◌+◌, ◌^◌, ◌+ℤ◌, ℕ, zero, suc, ℤ, pos, negsuc, nat_lt, nat_le, Bool, true, false, not, if◌then◌else◌, Option, Some, None, unwrap_or, List, [], ◌∷◌, map, length, take, replicate, slice_index_or, slice_set, IsSome, IsTrue, is_some, refl}
 use Rattle.std.specs.Option.{option_map}
 use Rattle.std.specs.Int.{w64, int_wrap}
 use Rattle.std.specs.Int.RustNames.{FitsSigned}
@@ -13,29 +13,27 @@ use Rattle.sto_part.specs.declared.change.Change.TheVariants as C
 use Rattle.sto_part.specs.declared.pred.Test.{Test}
 use Rattle.sto_part.specs.declared.pred.Test.TheVariants.{Eq, Le, Gt, Ge}
 use Rattle.sto_item.specs.declared.item.Item.{Item}
-use Rattle.sto_item.specs.declared.item.Item.TheVariants.{Seen, Holds}
 use Rattle.sto_item.specs.Pending.{Entry}
 use Rattle.sto_item.specs.Agreement.{Agrees, AreTrueOf, word_of}
 use Rattle.sto_model.specs.declared.call.Call.{Call}
-use Rattle.sto_model.specs.declared.operation.Operation.{Operation}
 use Rattle.sto_model.specs.declared.operation.Operation.TheVariants.{Get, Test as TestWord, Len, Push, Pop}
 use Rattle.sto_model.specs.declared.shape.Shape.TheVariants.{Vector}
 use Rattle.sto_model.specs.Rows.{Row, value_at, with_row, without}
 use Rattle.sto_model.specs.Told.{Told, is_write}
 use Rattle.sto_model.specs.Told as T
 use Rattle.sto_model.specs.Operations.{operation_of, test_of}
-use Rattle.sto_model.specs.Objects.{compared, effect_by, value_or_absent, push_effect, popped, pop_effect, takes_by}
+use Rattle.sto_model.specs.Objects.{compared, value_or_absent, push_effect, popped, pop_effect, takes_by}
 use Rattle.sto_model.specs.Machine.{reply_to, state_after}
 use Rattle.sto_model.proofs.RowFacts.{by_test}
-use Rattle.sto_type.specs.Known.{Parts, Known, IsPartOf, ContentsFit, WordsFit, word_known}
-use Rattle.sto_type.specs.Meaning.{Meaning, IsLawful, IsNeed, IsUpdated, IsPartOfObject, EachKnown, EachInside, EachOwner, is_empty}
+use Rattle.sto_type.specs.Known.{Parts, Known, IsPartOf, word_known}
+use Rattle.sto_type.specs.Meaning.{Meaning, IsLawful, IsUpdated, IsPartOfObject, EachKnown, EachInside, EachOwner}
 use Rattle.sto_counter.specs.Sums.{word_pred_of}
 use Rattle.sto_counter.specs.SumsLaw.{holds_plain}
 use Rattle.sto_counter.specs.Counted.{test_items}
 use Rattle.sto_counter.specs.CountedLaw.{test_observed}
 use Rattle.sto_array.specs.Arrayed.{place_of, asked, array_rows, homes_from}
-use Rattle.sto_array.specs.ArrayedRows.{one_at, place_some, length-ones, part_is, widths-set, fits-set, length-homes, home_owner, length-replicate, opened_widths, opened_fits}
-use Rattle.sto_vector.specs.Vectored.{size_of, size_known, place_need, after_size, vector_need, size_holds, get_items, push_items, pop_items, vector_items, push_updates, pop_updates, vector_updates, vector_rows, IsVector, VectorTakes, vector_meaning}
+use Rattle.sto_array.specs.ArrayedRows.{length-ones, part_is, widths-set, fits-set, length-homes, home_owner, length-replicate, opened_widths, opened_fits}
+use Rattle.sto_vector.specs.Vectored.{size_of, size_known, place_need, after_size, vector_need, get_items, push_items, pop_items, vector_items, push_updates, pop_updates, vector_updates, vector_rows, IsVector, VectorTakes, vector_meaning}
 use Rattle.sto_vector.specs.VectoredRows.{count, take_none, with_end, without_end, lt_of, ge_of, value_below, value_in, value_is}
 
 -- the calls of a vector

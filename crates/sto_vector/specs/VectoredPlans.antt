@@ -1,19 +1,17 @@
 -- What a vector answers to a call, and that it is what its meaning says.
-use Rattle.std.specs.Prelude.{◌≡◌, ◌<◌, ◌+◌, ◌≤◌, ◌^◌, ℕ, zero, suc, ℤ, pos, nat_lt, Bool, true, false, if◌then◌else◌, Option, Some, None, unwrap_or, List, [], ◌∷◌, take, slice_index_or, refl}
+use Rattle.std.specs.Prelude.{◌≡◌, ◌<◌, ◌+◌, ◌^◌, ℕ, zero, suc, ℤ, pos, nat_lt, Bool, true, false, if◌then◌else◌, Option, Some, None, unwrap_or, List, [], ◌∷◌, slice_index_or, refl}
 use Rattle.std.specs.Option.{option_map}
 use Rattle.std.proofs.Common.{ap, sym, ◌∙◌, arith, subst}
-use Rattle.sto_item.specs.declared.item.Item.{Item}
 use Rattle.sto_item.specs.declared.item.Item.TheVariants.{Seen}
 use Rattle.sto_item.specs.Pending.{Entry}
 use Rattle.sto_item.specs.Agreement.{word_of}
 use Rattle.sto_model.specs.declared.call.Call.{Call}
 use Rattle.sto_model.specs.declared.operation.Operation.{Operation}
 use Rattle.sto_model.specs.declared.operation.Operation.TheVariants.{Get, Test as TestWord, Len, Push, Pop}
-use Rattle.sto_model.specs.declared.shape.Shape.TheVariants.{Vector}
 use Rattle.sto_model.specs.Told.{Told}
 use Rattle.sto_model.specs.Told as T
 use Rattle.sto_model.specs.Operations.{operation_of, test_of}
-use Rattle.sto_model.specs.Objects.{compared, effect_by, value_or_absent}
+use Rattle.sto_model.specs.Objects.{compared, value_or_absent}
 use Rattle.sto_model.specs.Machine.{reply_to}
 use Rattle.sto_model.proofs.RowFacts.{by_test}
 use Rattle.sto_type.specs.Known.{Parts, Known, IsPartOf, word_known}
@@ -22,7 +20,7 @@ use Rattle.sto_type.specs.Plans.{Plan, Ask, Say, IsPlan}
 use Rattle.sto_counter.specs.Counted.{test_items}
 use Rattle.sto_array.specs.Arrayed.{place_of, asked}
 use Rattle.sto_vector.specs.Vectored.{size_of, size_known, place_need, after_size, get_items, push_items, pop_items, vector_items, push_updates, pop_updates, vector_need, IsVector, VectorTakes, vector_meaning}
-use Rattle.sto_vector.specs.VectoredRows.{value_in, lt_of, ge_of}
+use Rattle.sto_vector.specs.VectoredRows.{value_in, lt_of}
 use Rattle.sto_vector.specs.VectoredLaw.{call_of, by_call, sized, apart, get_replies, test_replies, len_replies, push_replies, pop_replies, push_reply, small, many}
 
 -- where the size is not known: a get of an index that is no place is answered, and all else asks for the size

@@ -1,13 +1,12 @@
 -- The rows of a vector, by its size and its places.
-use Rattle.std.specs.Prelude.{◌≡◌, ◌<◌, ◌≤◌, ◌+◌, ℕ, zero, suc, ℤ, pos, negsuc, nat_lt, nat_le, int_lt, Bool, true, false, if◌then◌else◌, Option, Some, None, List, [], ◌∷◌, map, length, take, replicate, slice_index_or, slice_set, refl}
+use Rattle.std.specs.Prelude.{◌≡◌, ◌<◌, ◌≤◌, ◌+◌, ℕ, zero, suc, ℤ, pos, negsuc, nat_lt, int_lt, true, false, if◌then◌else◌, Option, Some, None, List, [], ◌∷◌, length, take, slice_index_or, slice_set, refl}
 use Rattle.std.specs.Ordering.{int_eq}
-use Rattle.std.proofs.Common.{ap, sym, ◌∙◌, arith, subst}
+use Rattle.std.proofs.Common.{ap, sym, ◌∙◌, arith}
 use Rattle.std.proofs.lemmas.Int.{ints}
 use Rattle.std.proofs.lemmas.List.{length-take, get_or-take}
 use Rattle.std.proofs.lemmas.Bool.Decides.{nat_tests}
-use Rattle.sto_part.specs.Parts.{part_of}
 use Rattle.sto_item.specs.Agreement.{word_of}
-use Rattle.sto_model.specs.Rows.{Row, value_at, with_row, without}
+use Rattle.sto_model.specs.Rows.{value_at, with_row, without}
 use Rattle.sto_model.proofs.RowFacts.{by_test, with_row-below, without-here, without-past}
 use Rattle.sto_type.specs.Known.{Parts}
 use Rattle.sto_array.specs.Arrayed.{array_rows, place_of}

@@ -10,12 +10,11 @@ ghost use Rattle.sto_counter.specs.Counted.{test_items};
 ghost use Rattle.sto_vector.specs.Vectored.{size_holds, push_items, push_updates};
 ghost use Rattle.sto_vector.specs.VectoredPlans.{get_plan, pop_plan};
 
-use std::alloc::Global;
 use sto_counter::{test_answer, word_pred};
-use sto_item::{Item, Items, Updates};
+use sto_item::{Item, Updates};
 use sto_model::{Reply, test_at};
-use sto_part::{Change, NoMemory, Test, Update};
-use sto_type::{Answer, one_item, one_update};
+use sto_part::{Change, NoMemory, Test};
+use sto_type::{Answer, AnswerPool, one_item, one_update};
 
 // That the size compares with a number.
 fn size_holds(test: Test, number: u32) -> Item
@@ -33,30 +32,30 @@ pub(crate) fn place_part(place: u32) -> u32
 }
 
 /// The answer to a get of an index that is no place.
-pub(crate) fn outside(alloc: Global) -> Result<Answer, NoMemory>
+pub(crate) fn outside(pool: &mut AnswerPool) -> Result<Answer, NoMemory>
     ensures { IfOk result (λ a. planned a ≡ Say ToldAbsent [] []) }
 {
     Ok(Answer::Done {
         reply: Reply::Absent,
-        items: Items::new(alloc),
-        updates: Updates::new(alloc),
+        items: pool.items(),
+        updates: pool.updates(),
     })
 }
 
 // The answer that there is no value, by what the size is.
-fn absent(alloc: Global, seen: Item) -> Result<Answer, NoMemory>
+fn absent(pool: &mut AnswerPool, seen: Item) -> Result<Answer, NoMemory>
     ensures { IfOk result (λ a. planned a ≡ Say ToldAbsent (seen ∷ []) []) }
 {
     Ok(Answer::Done {
         reply: Reply::Absent,
-        items: one_item(alloc, seen)?,
-        updates: Updates::new(alloc),
+        items: one_item(pool, seen)?,
+        updates: pool.updates(),
     })
 }
 
 /// The answer to a get of a place, by its word where that is known.
 pub(crate) fn get_answer(
-    alloc: Global,
+    pool: &mut AnswerPool,
     place: u32,
     size: u32,
     word: Option<i64>,
@@ -68,23 +67,23 @@ pub(crate) fn get_answer(
         match word {
             None => Ok(Answer::Need(place_part(place))),
             Some(value) => {
-                let mut items = one_item(alloc, size_holds(Test::Gt, place))?;
+                let mut items = one_item(pool, size_holds(Test::Gt, place))?;
                 items.push(Item::Seen(place_part(place)))?;
                 Ok(Answer::Done {
                     reply: Reply::Value(value),
                     items,
-                    updates: Updates::new(alloc),
+                    updates: pool.updates(),
                 })
             }
         }
     } else {
-        absent(alloc, size_holds(Test::Le, place))
+        absent(pool, size_holds(Test::Le, place))
     }
 }
 
 /// The answer to a test of the size.
 pub(crate) fn size_answer(
-    alloc: Global,
+    pool: &mut AnswerPool,
     test: i64,
     bound: i64,
     size: u32,
@@ -92,23 +91,23 @@ pub(crate) fn size_answer(
     ensures { IfOk result (λ a. planned a ≡ Say (ToldFlag (compared (test_of test) (pos size) bound))
         (test_items (test_of test) bound (pos size)) []) }
 {
-    test_answer(alloc, test_at(test), bound, i64::from(size))
+    test_answer(pool, test_at(test), bound, i64::from(size))
 }
 
 /// The answer to a len.
-pub(crate) fn len_answer(alloc: Global, size: u32) -> Result<Answer, NoMemory>
+pub(crate) fn len_answer(pool: &mut AnswerPool, size: u32) -> Result<Answer, NoMemory>
     ensures { IfOk result (λ a. planned a ≡ Say (ToldValue (pos size)) (Seen 0 ∷ []) []) }
 {
     Ok(Answer::Done {
         reply: Reply::Value(i64::from(size)),
-        items: one_item(alloc, Item::Seen(0))?,
-        updates: Updates::new(alloc),
+        items: one_item(pool, Item::Seen(0))?,
+        updates: pool.updates(),
     })
 }
 
 /// The answer to a push.
 pub(crate) fn push_answer(
-    alloc: Global,
+    pool: &mut AnswerPool,
     capacity: u32,
     size: u32,
     value: i64,
@@ -120,46 +119,50 @@ pub(crate) fn push_answer(
     if size < capacity {
         Ok(Answer::Done {
             reply: Reply::Done,
-            items: one_item(alloc, size_holds(Test::Eq, size))?,
-            updates: pushed(alloc, size, value)?,
+            items: one_item(pool, size_holds(Test::Eq, size))?,
+            updates: pushed(pool, size, value)?,
         })
     } else {
         Ok(Answer::Done {
             reply: Reply::Full,
-            items: one_item(alloc, size_holds(Test::Ge, capacity))?,
-            updates: Updates::new(alloc),
+            items: one_item(pool, size_holds(Test::Ge, capacity))?,
+            updates: pool.updates(),
         })
     }
 }
 
 // One more in the size, and the value behind the last.
-fn pushed(alloc: Global, size: u32, value: i64) -> Result<Updates, NoMemory>
+fn pushed(pool: &mut AnswerPool, size: u32, value: i64) -> Result<Updates, NoMemory>
     requires { 1 + size < 2 ^ 32 }
     ensures { IfOk result (λ l. l.items ≡ (0, Add (pos 1) ∷ []) ∷ (suc size, Put value ∷ []) ∷ []) }
 {
-    let mut place = Update::new(alloc);
+    let mut place = pool.update();
     place.push(Change::Put(value))?;
-    let mut updates = one_update(alloc, 0, Change::Add(1))?;
+    let mut updates = one_update(pool, 0, Change::Add(1))?;
     updates.push((place_part(size), place))?;
     Ok(updates)
 }
 
 /// The answer to a pop, by the word of the last place where that is known.
-pub(crate) fn pop_answer(alloc: Global, size: u32, last: Option<i64>) -> Result<Answer, NoMemory>
+pub(crate) fn pop_answer(
+    pool: &mut AnswerPool,
+    size: u32,
+    last: Option<i64>,
+) -> Result<Answer, NoMemory>
     ensures { IfOk result (λ a. planned a ≡ pop_plan size last) }
 {
     if size == 0 {
-        return absent(alloc, size_holds(Test::Le, 0));
+        return absent(pool, size_holds(Test::Le, 0));
     }
     match last {
         None => Ok(Answer::Need(size)),
         Some(value) => {
-            let mut items = one_item(alloc, size_holds(Test::Eq, size))?;
+            let mut items = one_item(pool, size_holds(Test::Eq, size))?;
             items.push(Item::Seen(size))?;
             Ok(Answer::Done {
                 reply: Reply::Value(value),
                 items,
-                updates: one_update(alloc, 0, Change::Add(-1))?,
+                updates: one_update(pool, 0, Change::Add(-1))?,
             })
         }
     }

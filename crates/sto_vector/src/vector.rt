@@ -15,7 +15,7 @@ use std::alloc::Global;
 use sto_array::{array_rows_at, place_in};
 use sto_model::{Call, Operation, Shape, State, takes_code};
 use sto_part::{Contents, Naming, NoMemory, PartWords};
-use sto_type::{Answer, Home, KnownParts, TxType};
+use sto_type::{Answer, AnswerPool, Home, KnownParts, TxType};
 
 /// A vector without values. Its contents are a part of one word for the size, and one for each place.
 #[derive(Drop)]
@@ -89,11 +89,17 @@ impl TxType for TVector {
         Ok(state)
     }
 
-    fn plan(&self, alloc: Global, call: &Call, cache: &KnownParts<'_>) -> Result<Answer, NoMemory> {
+    fn plan(
+        &self,
+        alloc: Global,
+        pool: &mut AnswerPool,
+        call: &Call,
+        cache: &KnownParts<'_>,
+    ) -> Result<Answer, NoMemory> {
         match cache.first_word(0) {
-            None => first_answer(alloc, self.capacity, call),
+            None => first_answer(pool, self.capacity, call),
             Some(word) => answer(
-                alloc,
+                pool,
                 self.capacity,
                 call,
                 size_in(self.capacity, word),
@@ -121,18 +127,18 @@ fn size_in(capacity: u32, word: i64) -> u32
 }
 
 // The answer where the size is not known.
-fn first_answer(alloc: Global, capacity: u32, call: &Call) -> Result<Answer, NoMemory>
+fn first_answer(pool: &mut AnswerPool, capacity: u32, call: &Call) -> Result<Answer, NoMemory>
     ensures { IfOk result (λ a. planned a ≡ first_plan (operation_of call.now.code) (place_of capacity call.now.a)) }
 {
     match (Operation::from_code(call.code), place_in(capacity, call.a)) {
-        (Some(Operation::Get), None) => outside(alloc),
+        (Some(Operation::Get), None) => outside(pool),
         _ => Ok(Answer::Need(0)),
     }
 }
 
 // The answer with this size.
 fn answer(
-    alloc: Global,
+    pool: &mut AnswerPool,
     capacity: u32,
     call: &Call,
     size: u32,
@@ -145,13 +151,13 @@ fn answer(
 {
     match Operation::from_code(call.code) {
         Some(Operation::Get) => match place_in(capacity, call.a) {
-            None => outside(alloc),
-            Some(place) => get_answer(alloc, place, size, cache.first_word(place_part(place))),
+            None => outside(pool),
+            Some(place) => get_answer(pool, place, size, cache.first_word(place_part(place))),
         },
-        Some(Operation::Test) => size_answer(alloc, call.a, call.b, size),
-        Some(Operation::Len) => len_answer(alloc, size),
-        Some(Operation::Push) => push_answer(alloc, capacity, size, call.a),
-        Some(Operation::Pop) => pop_answer(alloc, size, cache.first_word(size)),
-        _ => outside(alloc),
+        Some(Operation::Test) => size_answer(pool, call.a, call.b, size),
+        Some(Operation::Len) => len_answer(pool, size),
+        Some(Operation::Push) => push_answer(pool, capacity, size, call.a),
+        Some(Operation::Pop) => pop_answer(pool, size, cache.first_word(size)),
+        _ => outside(pool),
     }
 }

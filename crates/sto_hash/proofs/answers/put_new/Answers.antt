@@ -6,5 +6,5 @@ use Rattle.sto_hash.proofs.answers.put_new.Goals as goal
 
 pub push-requires-clause-ordered : goal.push-requires-clause-ordered
 push-requires-clause-ordered c =
-    one_update_rises c.new-updates.result.items c.args.part c.in_ok-keys.keys.items (ap (λ u. u.items) c.new-updates.ensures)
+    one_update_rises c.updates-updates.result.items c.args.part c.in_ok-keys.keys.items c.updates-updates.ensures
     (ap (list_all is_keep) c.in_ok-keys.ensures ∙ place_changes-change c.args.places c.args.place _ _ c.requires.place refl)

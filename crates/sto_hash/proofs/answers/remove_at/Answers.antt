@@ -9,5 +9,5 @@ use Rattle.sto_hash.proofs.answers.remove_at.Goals as goal
 pub push-requires-clause-ordered : goal.push-requires-clause-ordered
 push-requires-clause-ordered c =
     let l : c.in-Some.place < c.args.places = rw c.in-Some.is at c.requires.place in
-    one_update_rises c.new-updates.result.items c.args.part c.in_ok-update.update.items (ap (λ u. u.items) c.new-updates.ensures)
+    one_update_rises c.updates-updates.result.items c.args.part c.in_ok-update.update.items c.updates-updates.ensures
     (ap (list_all is_keep) c.in_ok-update.ensures ∙ place_changes-change c.args.places c.in-Some.place (Put (pos 0)) Keep l refl)

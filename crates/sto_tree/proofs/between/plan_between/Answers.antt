@@ -1,4 +1,4 @@
-use Rattle.std.proofs.Common.{◌≡◌, ◌<◌, ℕ, ℤ, int_le, int_lt, true, false, Some, List, [], length, ap, sym, ◌∙◌, subst, arith, w64}
+use Rattle.std.proofs.Common.{◌≡◌, ◌<◌, ℕ, ℤ, int_le, int_lt, true, false, Some, List, [], length, sym, ◌∙◌, subst, arith, w64}
 use Rattle.std.specs.Prelude.{slice_index}
 use Rattle.std.proofs.lemmas.Int.{ints}
 use Rattle.std.specs.Int.RustNames.{FitsSigned}
@@ -26,8 +26,8 @@ returns-then-call c =
     let fb : FitsSigned w64 c.args.call.now.b = c.requires.takes.fits_too in
     let above = simp to_z-of_z at c.if-call.true in
     let none : int_le call.a call.b ≡ false = above_false call.a call.b above in
-    says_empty c.args.leaves k c.args.scans call c.requires.takes.object c.requires.code fa fb _ c.new.result.items c.new-then-call.result.items none
-    c.empty_reply.ensures (ap (λ l. l.items) c.new.ensures) (ap (λ l. l.items) c.new-then-call.ensures)
+    says_empty c.args.leaves k c.args.scans call c.requires.takes.object c.requires.code fa fb _ c.items.result.items c.updates.result.items none
+    c.empty_reply.ensures c.items.ensures c.updates.ensures
 
 pub listed_leaves-requires : goal.listed_leaves-requires
 listed_leaves-requires c = directory_wide c.args.leaves (known c.args.cache.now) c.in-Some.directory.now c.requires.part c.in-Some.ensures
@@ -73,7 +73,7 @@ returns c =
     let range : IsSaid (between_each c.args.scans dir call.a call.b (leaves_between c.args.leaves dir call.a call.b) []) k c.in-Ok.items.items =
     subst (λ (xs : List ℕ). IsSaid (between_each c.args.scans dir call.a call.b xs []) k c.in-Ok.items.items) all said in
     let told = simp to_z-of_z at c.in_ok-reply_of-in-Ok.ensures in
-    says_range c.args.leaves k c.args.scans call c.requires.takes.object c.requires.code fa fb some dir c.in-Some.ensures _ c.in-Ok.items.items c.new-in-Ok.result.items
+    says_range c.args.leaves k c.args.scans call c.requires.takes.object c.requires.code fa fb some dir c.in-Some.ensures _ c.in-Ok.items.items c.updates-in-Ok.result.items
     range
     (told ∙ known_is_told c.args.leaves k c.args.scans call.a call.b fa fb dir c.in-Some.ensures range.0 c.requires.part.0 c.requires.part.1 c.requires.part.2)
-    (ap (λ l. l.items) c.new-in-Ok.ensures)
+    c.updates-in-Ok.ensures

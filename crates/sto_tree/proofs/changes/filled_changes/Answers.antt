@@ -1,7 +1,5 @@
-use Rattle.std.proofs.Common.{◌≡◌, ◌+◌, ℕ, pos, Bool, [], ◌∷◌, ◌++◌, length, refl, ap, sym, ◌∙◌, subst, arith, length-append}
-use Rattle.std.specs.Prelude.{if◌then◌else◌}
+use Rattle.std.proofs.Common.{◌≡◌, ◌+◌, ℕ, [], ◌∷◌, ◌++◌, length, refl, ap, sym, ◌∙◌, arith, length-append}
 use Rattle.sto_part.specs.declared.change.Change.{Change}
-use Rattle.sto_part.specs.declared.change.Change.TheVariants.{Put, Keep}
 use Rattle.sto_tree_spec.specs.Said.{in_pairs}
 use Rattle.sto_tree_spec.specs.Sized.{in_pairs_more}
 use Rattle.sto_tree_spec.specs.Repack.{filled, rows_of_leaf}

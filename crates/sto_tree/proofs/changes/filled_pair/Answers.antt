@@ -1,4 +1,4 @@
-use Rattle.std.proofs.Common.{◌≡◌, ◌<◌, ◌+◌, ◌*◌, ℤ, pos, length, ap, sym, ◌∙◌, arith, rules, w64}
+use Rattle.std.proofs.Common.{◌<◌, ◌+◌, ◌*◌, ℤ, pos, length, ap, sym, ◌∙◌, arith, rules, w64}
 use Rattle.std.specs.Int.RustNames.{FitsSigned}
 use Rattle.std.proofs.lemmas.Int.{to_z-of_z}
 use Rattle.sto_part.specs.declared.change.Change.{Change}

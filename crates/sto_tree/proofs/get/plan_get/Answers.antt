@@ -1,4 +1,4 @@
-use Rattle.std.proofs.Common.{◌≡◌, ◌<◌, ℕ, ℤ, Some, ap, sym, ◌∙◌, subst, arith, rules, w64, to_z, of_z}
+use Rattle.std.proofs.Common.{◌≡◌, ◌<◌, ℕ, ℤ, Some, sym, ◌∙◌, subst, arith, rules, w64, to_z, of_z}
 use Rattle.std.specs.Int.RustNames.{FitsSigned}
 use Rattle.std.proofs.lemmas.Int.{to_z-of_z}
 use Rattle.sto_type.specs.Known.{known}
@@ -21,7 +21,7 @@ returns-in_default c =
     let none = simp to_z-of_z at (sym c.place_of.ensures ∙ c.in_default.is) in
     let items = simp to_z-of_z at c.in_ok-leaf_items.ensures in
     says_absent c.args.leaves (known c.args.cache.now) c.args.call.now c.requires.takes.object c.requires.get c.in-Ok.found.directory.now c.in-Ok.found.number c.in-Ok.found.keys.now at
-    c.in_ok-leaf_items.field-0.items c.new.result.items none items (ap (λ l. l.items) c.new.ensures)
+    c.in_ok-leaf_items.field-0.items c.updates.result.items none items c.updates.ensures
 
 pub value_part-part-requires : goal.value_part-part-requires
 value_part-part-requires c =
@@ -46,5 +46,5 @@ returns c =
     let g : FitsSigned w64 c.only_word.result = search rules in
     let value : known c.args.cache.now (value_part c.in-Ok.found.number c.in-Some.place) ≡ Some c.in-Some-get.value.now = subst (λ (p : ℕ). known c.args.cache.now p ≡ Some c.in-Some-get.value.now) c.value_part-part.ensures c.in-Some-get.ensures in
     says_value c.args.leaves (known c.args.cache.now) c.args.call.now c.requires.takes.object c.requires.get c.in-Ok.found.directory.now c.in-Ok.found.number c.in-Ok.found.keys.now at
-    c.in_ok-value_items.field-0.items c.new-2.result.items c.in-Some.place c.in-Some-get.value.now (to_z w64 (of_z w64 c.only_word.result)) (to_z-of_z w64 c.only_word.result g ∙ c.only_word.ensures)
-    some value items (ap (λ l. l.items) c.new-2.ensures)
+    c.in_ok-value_items.field-0.items c.updates-2.result.items c.in-Some.place c.in-Some-get.value.now (to_z w64 (of_z w64 c.only_word.result)) (to_z-of_z w64 c.only_word.result g ∙ c.only_word.ensures)
+    some value items c.updates-2.ensures

@@ -1,4 +1,4 @@
-use Rattle.std.proofs.Common.{◌≡◌, ℕ, ℤ, List, ap, sym, ◌∙◌, subst, rules, w64, to_z, of_z, []}
+use Rattle.std.proofs.Common.{◌≡◌, ℕ, ℤ, List, sym, ◌∙◌, subst, rules, w64, to_z, of_z, []}
 use Rattle.std.specs.Int.RustNames.{FitsSigned}
 use Rattle.std.proofs.lemmas.Int.{to_z-of_z}
 use Rattle.sto_item.specs.Pending.{Entry}
@@ -27,4 +27,4 @@ returns c =
     (says_size n k call.a call.b c.in_ok-one_item.field-0.items c.in-Some.size.now c.in-Some.ensures c.in_ok-one_item.ensures) in
     let spoken : IsPlan (tree_meaning n) call k (Say (Value (to_z w64 (of_z w64 c.only_word.result))) c.in_ok-one_item.field-0.items []) =
     subst (λ (x : ℤ). IsPlan (tree_meaning n) call k (Say (Value x) c.in_ok-one_item.field-0.items [])) said base in
-    subst (λ (es : List Entry). IsPlan (tree_meaning n) call k (Say (Value (to_z w64 (of_z w64 c.only_word.result))) c.in_ok-one_item.field-0.items es)) (sym (ap (λ l. l.items) c.new.ensures)) spoken
+    subst (λ (es : List Entry). IsPlan (tree_meaning n) call k (Say (Value (to_z w64 (of_z w64 c.only_word.result))) c.in_ok-one_item.field-0.items es)) (sym c.updates.ensures) spoken

@@ -1,4 +1,4 @@
-use Rattle.std.proofs.Common.{◌≡◌, ℕ, ℤ, Option, Some, None, List, refl, ap, sym, ◌∙◌, subst, rules, w64, to_z, of_z}
+use Rattle.std.proofs.Common.{◌≡◌, ℕ, ℤ, Some, None, List, refl, ap, sym, ◌∙◌, subst, rules, w64, to_z, of_z}
 use Rattle.std.specs.Int.RustNames.{FitsSigned}
 use Rattle.std.proofs.lemmas.Int.{to_z-of_z}
 use Rattle.sto_model.specs.declared.call.Call.{Call}
@@ -42,10 +42,10 @@ returns-in-Ok-Some c =
     let said = simp to_z-of_z at raw in
     let g : FitsSigned w64 c.in-Ok-Some.key = search rules in
     let items = simp to_z-of_z at c.in_ok-all_between-in-Ok-Some.ensures in
-    says_next c.args.leaves k call c.requires.takes.object c.requires.next fa dir c.in-Some.ensures (Some c.in-Ok-Some.key) (Value (to_z w64 (of_z w64 c.in-Ok-Some.key))) c.in_ok-all_between-in-Ok-Some.field-0.items c.new.result.items
+    says_next c.args.leaves k call c.requires.takes.object c.requires.next fa dir c.in-Some.ensures (Some c.in-Ok-Some.key) (Value (to_z w64 (of_z w64 c.in-Ok-Some.key))) c.in_ok-all_between-in-Ok-Some.field-0.items c.updates.result.items
     (subst (λ (xs : List ℕ). next_need k call.a xs ≡ None) all said.0)
     (subst (λ (xs : List ℕ). Some c.in-Ok-Some.key ≡ next_found k call.a xs) all (sym c.in-Ok-Some.field-0-is ∙ said.1))
-    (ap Value (to_z-of_z w64 c.in-Ok-Some.key g)) items (ap (λ l. l.items) c.new.ensures)
+    (ap Value (to_z-of_z w64 c.in-Ok-Some.key g)) items c.updates.ensures
 
 pub all_between-requires-in-Ok-None-clause-width : goal.all_between-requires-in-Ok-None-clause-width
 all_between-requires-in-Ok-None-clause-width c = directory_wide c.args.leaves (known c.args.cache.now) c.in-Some.directory.now c.requires.part c.in-Some.ensures
@@ -61,7 +61,7 @@ returns c =
     let raw = rw c.in-Ok-None.is at c.in_ok-part.ensures in
     let said = simp to_z-of_z at raw in
     let items = simp to_z-of_z at c.in_ok-all_between-in-Ok-None.ensures in
-    says_next c.args.leaves k call c.requires.takes.object c.requires.next fa dir c.in-Some.ensures None Absent c.in_ok-all_between-in-Ok-None.field-0.items c.new-in-Ok-None.result.items
+    says_next c.args.leaves k call c.requires.takes.object c.requires.next fa dir c.in-Some.ensures None Absent c.in_ok-all_between-in-Ok-None.field-0.items c.updates-in-Ok-None.result.items
     (subst (λ (xs : List ℕ). next_need k call.a xs ≡ None) all said.0)
     (subst (λ (xs : List ℕ). None ≡ next_found k call.a xs) all (sym c.in-Ok-None.field-0-is ∙ said.1))
-    refl items (ap (λ l. l.items) c.new-in-Ok-None.ensures)
+    refl items c.updates-in-Ok-None.ensures

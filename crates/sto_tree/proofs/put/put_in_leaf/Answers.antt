@@ -1,4 +1,4 @@
-use Rattle.std.proofs.Common.{◌≡◌, ◌<◌, ◌*◌, ℕ, ℤ, pos, int_le, true, false, List, [], ◌∷◌, ap, sym, ◌∙◌, subst, arith, w64}
+use Rattle.std.proofs.Common.{◌≡◌, ◌<◌, ◌*◌, ℕ, pos, int_le, true, false, List, [], ◌∷◌, ap, sym, ◌∙◌, arith, w64}
 use Rattle.std.specs.Int.RustNames.{FitsSigned}
 use Rattle.std.proofs.lemmas.Int.{to_z-of_z}
 use Rattle.sto_part.specs.declared.change.Change.TheVariants.{Put}
@@ -41,7 +41,7 @@ returns-then-is_full c =
     let full : int_le (pos (4 * c.args.leaves)) (word c.in-Some-get.size.now 0) ≡ true = sym c.is_full.ensures ∙ c.if-is_full.true in
     let items = simp to_z-of_z at c.in_ok-room_items.ensures in
     says_full c.args.leaves (known c.args.cache.now) c.args.call.now c.requires.takes.object c.requires.put c.args.found.directory.now c.args.found.number c.args.found.keys.now at none c.in-Some-get.size.now c.in-Some-get.ensures
-    c.in_ok-room_items.field-0.items c.new.result.items full items (ap (λ l. l.items) c.new.ensures)
+    c.in_ok-room_items.field-0.items c.updates.result.items full items c.updates.ensures
 
 pub returns-in_default-free_place : goal.returns-in_default-free_place
 returns-in_default-free_place c =

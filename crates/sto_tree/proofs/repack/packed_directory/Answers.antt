@@ -1,7 +1,5 @@
-use Rattle.std.proofs.Common.{◌≡◌, ◌+◌, ℕ, ℤ, pos, [], ◌∷◌, ◌++◌, length, nat_eq, refl, ap, sym, ◌∙◌, subst, arith, length-append, w64}
-use Rattle.std.specs.Prelude.{if◌then◌else◌}
+use Rattle.std.proofs.Common.{◌≡◌, ◌+◌, ℕ, [], ◌∷◌, ◌++◌, length, refl, ap, sym, ◌∙◌, arith, length-append}
 use Rattle.sto_part.specs.declared.change.Change.{Change}
-use Rattle.sto_part.specs.declared.change.Change.TheVariants.{Put, Keep}
 use Rattle.sto_tree_spec.specs.Split.{in_threes}
 use Rattle.sto_tree.proofs.Adding.{in_threes_more}
 use Rattle.sto_tree_spec.specs.Repack.{packed_ranges}

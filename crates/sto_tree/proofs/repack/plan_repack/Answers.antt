@@ -1,4 +1,4 @@
-use Rattle.std.proofs.Common.{◌≡◌, ◌<◌, ◌*◌, ◌^◌, ℕ, ℤ, pos, Some, None, List, [], ◌∷◌, ◌++◌, length, ap, sym, ◌∙◌, subst, append_assoc, arith, w64}
+use Rattle.std.proofs.Common.{◌≡◌, ◌<◌, ◌*◌, ◌^◌, ℕ, pos, None, List, [], ◌∷◌, ◌++◌, length, ap, sym, ◌∙◌, subst, append_assoc, arith, w64}
 use Rattle.std.specs.Int.RustNames.{FitsSigned}
 use Rattle.std.proofs.lemmas.Int.{to_z-of_z, to_z_pos}
 use Rattle.sto_part.specs.declared.pred.Test.TheVariants.{Lt}
@@ -65,7 +65,7 @@ returns c =
     let rows : c.put.new.self.items ≡ all_rows c.args.leaves c.requires.few (known c.args.cache.now) c.args.call.now c.requires.takes.object c.requires.put c.requires.takes.fits c.requires.takes.fits_too c.args.found.directory.now c.args.found.number c.args.found.keys.now c.requires.at c.requires.crowded c.requires.free = put ∙ ap (λ (xs : List Row). with_row xs c.args.call.now.a c.args.call.now.b) c.in_ok-rows.ensures in
     let KS : List Item = all_seen (key_parts c.args.leaves) in
     let VS : List Item = all_seen (present_values (known_words (known c.args.cache.now)) c.args.leaves) in
-    let first : c.add_item.new.items.items ≡ Seen 1 ∷ [] = c.in_ok-add_item.ensures ∙ ap (λ (is : List Item). is ++ Seen 1 ∷ []) (ap (λ l. l.items) c.new-items.ensures) in
+    let first : c.add_item.new.items.items ≡ Seen 1 ∷ [] = c.in_ok-add_item.ensures ∙ ap (λ (is : List Item). is ++ Seen 1 ∷ []) c.items-items.ensures in
     let second : c.see_parts.new.items.items ≡ Seen 1 ∷ KS = c.in_ok-part.ensures.items c.in_default.is ∙ ap (λ (is : List Item). is ++ all_seen c.as_slice.result.now) first ∙ ap (λ (ps : List ℕ). Seen 1 ∷ all_seen ps) keys in
     let third : c.see_parts-2.new.items.items ≡ (Seen 1 ∷ KS) ++ VS = c.in_ok-part-2.ensures.items c.in_default-2.is ∙ ap (λ (is : List Item). is ++ all_seen c.as_slice-2.result.now) second ∙ ap (λ (ps : List ℕ). (Seen 1 ∷ KS) ++ all_seen ps) values in
     let small : 4 * c.args.leaves < 2 ^ 63 = omega (arith, c.requires.few) in

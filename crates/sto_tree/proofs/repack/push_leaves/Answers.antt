@@ -1,4 +1,4 @@
-use Rattle.std.proofs.Common.{◌≡◌, ◌<◌, ◌+◌, ℕ, List, [], ◌∷◌, ◌++◌, ap, sym, ◌∙◌, subst, arith, append_assoc}
+use Rattle.std.proofs.Common.{◌≡◌, ◌<◌, ℕ, List, [], ◌∷◌, ◌++◌, ap, sym, ◌∙◌, subst, arith, append_assoc}
 use Rattle.sto_item.specs.Pending.{Entry, AreUpdates}
 use Rattle.sto_model.specs.Rows.{Row}
 use Rattle.sto_tree_spec.specs.Repack.{rows_of_leaf, row_values, packed_leaves}

@@ -1,9 +1,9 @@
-use Rattle.std.proofs.Common.{◌≡◌, ◌<◌, ℕ, ℤ, List, length, ap, sym, ◌∙◌, subst, w64}
+use Rattle.std.proofs.Common.{◌≡◌, ◌<◌, ℕ, List, length, ap, sym, ◌∙◌, subst, w64}
 use Rattle.std.specs.Int.RustNames.{FitsSigned}
 use Rattle.std.proofs.lemmas.Int.{to_z-of_z}
 use Rattle.sto_part.specs.Parts.{part_of}
 use Rattle.sto_item.specs.Agreement.{HasWidths}
-use Rattle.sto_item.specs.Pending.{Entry, with_update}
+use Rattle.sto_item.specs.Pending.{Entry}
 use Rattle.sto_item.proofs.Widths.{IsWidthOf-fits, HasWidths-with_update}
 use Rattle.sto_tree.proofs.split.compose_row.Goals as goal
 

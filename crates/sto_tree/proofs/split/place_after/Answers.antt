@@ -1,4 +1,4 @@
-use Rattle.std.proofs.Common.{◌≡◌, ℕ, ℤ, Bool, true, false, int_lt, ap, sym, ◌∙◌, subst, w64}
+use Rattle.std.proofs.Common.{◌≡◌, ℕ, Bool, true, false, int_lt, ap, sym, ◌∙◌, w64}
 use Rattle.std.specs.Prelude.{if◌then◌else◌, unwrap_or}
 use Rattle.std.specs.Int.RustNames.{FitsSigned}
 use Rattle.std.proofs.lemmas.Int.{to_z-of_z}

@@ -1,10 +1,9 @@
-use Rattle.std.proofs.Common.{◌≡◌, ◌+◌, ◌*◌, ℤ, pos, List, [], ◌∷◌, ◌++◌, ap, sym, ◌∙◌, rules, w64}
+use Rattle.std.proofs.Common.{◌≡◌, ◌+◌, ◌*◌, pos, List, [], ◌∷◌, ◌++◌, ap, ◌∙◌, rules, w64}
 use Rattle.std.specs.Int.RustNames.{FitsSigned}
 use Rattle.std.proofs.lemmas.Int.{to_z-of_z}
 use Rattle.sto_part.specs.declared.pred.Test.TheVariants.{Eq, Le, Ge}
 use Rattle.sto_item.specs.declared.item.Item.{Item}
 use Rattle.sto_item.specs.declared.item.Item.TheVariants.{Seen}
-use Rattle.sto_tree_spec.specs.Layout.{key_part}
 use Rattle.sto_tree_spec.specs.Said.{compared}
 use Rattle.sto_tree_spec.specs.Between.{from_in, to_in}
 use Rattle.sto_tree_spec.specs.Next.{leaf_seen}

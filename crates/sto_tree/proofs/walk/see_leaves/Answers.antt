@@ -1,4 +1,4 @@
-use Rattle.std.proofs.Common.{◌≡◌, ◌+◌, ◌<◌, ℕ, ℤ, Some, None, List, [], ◌++◌, ◌≤◌, length, drop, get_or, ap, sym, ◌∙◌, arith, w64, to_z, of_z}
+use Rattle.std.proofs.Common.{◌≡◌, ◌+◌, ◌<◌, ℕ, ℤ, None, List, ◌++◌, ◌≤◌, length, drop, get_or, ap, sym, ◌∙◌, arith, w64, to_z, of_z}
 use Rattle.std.specs.Int.RustNames.{FitsSigned}
 use Rattle.std.proofs.lemmas.Int.{to_z-of_z}
 use Rattle.std.proofs.lemmas.List.{at_drop_more, at_drop_all}

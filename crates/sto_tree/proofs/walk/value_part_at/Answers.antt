@@ -1,4 +1,4 @@
-use Rattle.std.proofs.Common.{◌≡◌, ◌<◌, ℕ, ap, sym, ◌∙◌, arith, w64}
+use Rattle.std.proofs.Common.{◌<◌, ap, sym, ◌∙◌, arith, w64}
 use Rattle.std.specs.Prelude.{unwrap_or}
 use Rattle.std.specs.Int.RustNames.{FitsSigned}
 use Rattle.std.proofs.lemmas.Int.{to_z-of_z}

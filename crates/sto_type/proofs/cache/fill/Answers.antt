@@ -1,4 +1,4 @@
-use Rattle.std.proofs.Common.{◌≡◌, ◌∙◌, ap, List, ℤ, map, slice_set}
+use Rattle.std.proofs.Common.{◌∙◌, ap, List, ℤ, map, slice_set}
 use Rattle.sto_type.specs.Cached.{plain_part}
 use Rattle.sto_type.proofs.Slotted.{set_plain, set_same, on_err}
 use Rattle.sto_type.proofs.cache.fill.Goals as goal

@@ -1,10 +1,10 @@
-use Rattle.std.proofs.Common.{◌≡◌, Some, None, sym, ap, ◌∙◌, rules, FitsSigned}
+use Rattle.std.proofs.Common.{Some, sym, ap, ◌∙◌, rules, FitsSigned}
 use Rattle.std.specs.Int.{w64}
 use Rattle.std.proofs.lemmas.Int.{to_z-of_z}
 use Rattle.std.proofs.lemmas.Result.{IfOk-weaker}
 use Rattle.sto_type.specs.Known.{known}
 use Rattle.sto_array.specs.ArrayedLaw.{plan_outside, plan_set}
-use Rattle.sto_array.proofs.Plans.{get_on, add_on, get_needs, add_needs}
+use Rattle.sto_array.proofs.Plans.{get_on, add_on}
 use Rattle.sto_array.proofs.array.TArrayTxType.plan.Goals as goal
 
 pub returns-in-None : goal.returns-in-None

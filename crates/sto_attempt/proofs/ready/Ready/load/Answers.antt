@@ -11,7 +11,7 @@ use Rattle.sto_attempt_log.specs.declared.commit_phase.LoadedWord.{LoadedWord}
 use Rattle.sto_attempt_log.specs.CommitPhases.{task, ticket_from, goes_on, IsLoadingWord, Stands}
 use Rattle.sto_attempt_log.proofs.Loading.{may_load, load_goes, in_widths, task_wide}
 use Rattle.sto_attempt_log.proofs.Judging.{load_done, load_fails, all_true, one_fails, leaving_as}
-use Rattle.sto_attempt_log.proofs.Sights.{goes_of, goes_true, stops_false, stops_unseen}
+use Rattle.sto_attempt_log.proofs.SeenParts.{goes_of, goes_true, stops_false, stops_unseen}
 use Rattle.sto_attempt_log.proofs.Space.{space_aimed, space_more}
 use Rattle.sto_attempt_log.proofs.Aiming.{aimed}
 use Rattle.sto_attempt_log.proofs.Remaining.{fail_lowers, load_lowers, loaded_lowers}

@@ -1,4 +1,4 @@
-use Rattle.std.proofs.Common.{◌≡◌, ◌+◌, ℕ, ℤ, List, [], ◌∷◌, pos, suc, replicate, ap, ◌∙◌, arith}
+use Rattle.std.proofs.Common.{◌≡◌, ℕ, ℤ, List, [], ◌∷◌, pos, suc, replicate, ap, ◌∙◌, arith}
 use Rattle.sto_vector.proofs.vector.TVectorTxType.opening.Goals as goal
 
 pub returns : goal.returns

@@ -1,4 +1,4 @@
-use Rattle.std.proofs.Common.{suc, sym, arith}
+use Rattle.std.proofs.Common.{suc, arith}
 use Rattle.sto_array.specs.ArrayedRows.{length-replicate}
 use Rattle.sto_vector.proofs.vector.TVectorTxType.parts.Goals as goal
 

@@ -1,4 +1,4 @@
-use Rattle.std.proofs.Common.{◌≡◌, ℕ, suc, take, drop, subst, rules, FitsSigned}
+use Rattle.std.proofs.Common.{ℕ, suc, take, drop, subst, rules, FitsSigned}
 use Rattle.std.specs.Int.{w64}
 use Rattle.std.proofs.lemmas.Int.{to_z-of_z}
 use Rattle.sto_array.specs.ArrayedRows.{length-replicate}

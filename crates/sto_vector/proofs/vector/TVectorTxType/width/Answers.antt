@@ -1,4 +1,4 @@
-use Rattle.std.proofs.Common.{◌<◌, suc, arith}
+use Rattle.std.proofs.Common.{suc, arith}
 use Rattle.sto_array.specs.ArrayedRows.{length-replicate, one_there}
 use Rattle.sto_vector.proofs.vector.TVectorTxType.width.Goals as goal
 

@@ -1,5 +1,5 @@
 -- Which parts are seen, by the lists of a commit and by the items.
-use Rattle.std.proofs.Common.{◌≡◌, ℕ, zero, suc, Bool, true, false, nat_eq, ◌||◌, List, [], ◌∷◌, refl, ap, sym, ◌∙◌, inl, inr, eqb-true, eq-eqb, true≢false}
+use Rattle.std.proofs.Common.{◌≡◌, ℕ, zero, suc, Bool, true, false, nat_eq, List, [], ◌∷◌, refl, ap, sym, ◌∙◌, inl, inr, eqb-true, eq-eqb, true≢false}
 use Rattle.std.proofs.lemmas.Bool.{cases_Bool}
 use Rattle.std.specs.List.{Contains, list_any, list_all}
 use mathlib.Core.Option.{some, some-ne-none, some-injective}
