@@ -1,4 +1,4 @@
-use Rattle.std.proofs.Common.{arith, ap, sym, ◌∙◌, List, take}
+use Rattle.std.proofs.Common.{ap, sym, ◌∙◌, List, take}
 use Rattle.sto_item.specs.Pending.{Entry, plain, with_update, with_updates}
 use Rattle.sto_item.proofs.Widths.{IsWidthOf-fits, HasWidths-with_update}
 use Rattle.sto_run_alone.proofs.Entries.{with_updates-more, one_more, fits}

@@ -3,8 +3,8 @@ use Rattle.sto_item.specs.Pending.{applied_updates}
 use Rattle.sto_type.specs.Known.{known, unknown, IsPartOf}
 use Rattle.sto_run_alone.proofs.asking.ask_call.Given as goal
 
-abbrev pub invariant-loop-cache : goal.invariant-loop-cache
-invariant-loop-cache g l = IsPartOf (known l.cache) (applied_updates l.pending.updates l.contents.items)
+abbrev pub invariant-loop-pool : goal.invariant-loop-pool
+invariant-loop-pool g l = IsPartOf (known l.cache) (applied_updates l.pending.updates l.contents.items)
 
-abbrev pub decreases-loop-cache : goal.decreases-loop-cache
-decreases-loop-cache g l = unknown (length (g.T.TxType.meaning l.ty).widths) (known l.cache)
+abbrev pub decreases-loop-pool : goal.decreases-loop-pool
+decreases-loop-pool g l = unknown (length (g.T.TxType.meaning l.ty).widths) (known l.cache)
