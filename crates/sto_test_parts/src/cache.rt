@@ -2,7 +2,7 @@
 use std::alloc::Global;
 use sto_item::Item;
 use sto_part::{Change, NoMemory};
-use sto_type::{Cache, KnownParts, one_item, one_update};
+use sto_type::{AnswerPool, Cache, KnownParts, one_item, one_update};
 
 // A part and its words; none where they are not known.
 type Known = (u32, Option<&'static [i64]>);
@@ -84,13 +84,24 @@ fn are_known(known: &KnownParts<'_>, parts: &[Known]) -> bool {
 
 const ITEM: &[Item] = &[Item::Seen(2)];
 
+// A pool that was given back the lists of another answer.
+fn used_pool(alloc: Global) -> Result<AnswerPool, NoMemory> {
+    let mut pool = AnswerPool::new(alloc);
+    let items = one_item(&mut pool, Item::Seen(3))?;
+    let updates = one_update(&mut pool, 5, Change::Put(7))?;
+    pool.keep(items, updates);
+    Ok(pool)
+}
+
 fn has_one_item(alloc: Global) -> Result<bool, NoMemory> {
-    Ok(one_item(alloc, Item::Seen(2))?.as_slice() == ITEM)
+    let mut pool = used_pool(alloc)?;
+    Ok(one_item(&mut pool, Item::Seen(2))?.as_slice() == ITEM)
 }
 
 const CHANGE: &[Change] = &[Change::Add(-1)];
 
 fn has_one_update(alloc: Global) -> Result<bool, NoMemory> {
-    let updates = one_update(alloc, 4, Change::Add(-1))?;
+    let mut pool = used_pool(alloc)?;
+    let updates = one_update(&mut pool, 4, Change::Add(-1))?;
     Ok(updates.len() == 1 && updates.get(0).0 == 4 && updates.get(0).1.as_slice() == CHANGE)
 }

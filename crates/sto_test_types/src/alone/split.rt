@@ -12,7 +12,7 @@ use std::alloc::Global;
 use sto_item::{Item, Items, Updates};
 use sto_model::{Call, Pairs, Reply, Rows, State};
 use sto_part::{Change, Contents, Naming, NoMemory, Update};
-use sto_type::{Answer, Home, KnownParts, TxType};
+use sto_type::{Answer, AnswerPool, Home, KnownParts, TxType};
 
 #[derive(Drop)]
 pub(crate) struct Split {
@@ -81,7 +81,13 @@ impl TxType for Split {
         Ok(state)
     }
 
-    fn plan(&self, alloc: Global, call: &Call, cache: &KnownParts<'_>) -> Result<Answer, NoMemory> {
+    fn plan(
+        &self,
+        alloc: Global,
+        pool: &mut AnswerPool,
+        call: &Call,
+        cache: &KnownParts<'_>,
+    ) -> Result<Answer, NoMemory> {
         if call.code == 0 {
             let Some(first) = cache.get(0) else {
                 return Ok(Answer::Need(0));
