@@ -4,16 +4,17 @@
  * on the objects that take effect as a whole, in one order of all transactions, or not at all. docs/c.md is the guide.
  *
  * Who owns what. A handle (sto_handle) is memory of the program, and owns what lies behind it. A handle that is all zero
- * (STO_NONE) holds nothing: it is what sto_open and sto_worker ask for, and what sto_free leaves. Never copy a handle that
- * holds something, and never write to one. A store lives until it and all its workers were freed, in any order.
+ * (STO_NONE) holds nothing: it is what sto_open and sto_worker ask for, and what sto_free and sto_give_back leave. Never copy
+ * a handle that holds something, and never write to one. A store lives until it and all its workers were freed or given back,
+ * in any order.
  *
  * Which thread may call what. Each handle is in at most one call at a time. It may go to another thread, by a lock, a thread's
  * start or join, or a sequentially consistent atomic. Calls on different handles need no order: workers run side by side.
  * Nothing here blocks, sleeps or starts a thread. No function may be called from a signal handler, or in a child that a
  * program with threads has forked.
  *
- * Every number that is given is tested: what will not do is answered by a status, and nothing changes. Pointers are not, and
- * cannot be: each must be one to memory of its type, for its length, and no two that are written through may overlap.
+ * Every number that is given is tested: what will not do is answered by a status. Pointers are not, and cannot be: each must be
+ * one to memory of its type, for its length, and no two that are written through may overlap.
  */
 #ifndef STO_H
 #define STO_H
@@ -28,13 +29,14 @@ extern "C" {
 /* What a function answers. */
 typedef enum sto_status {
     STO_OK = 0,
-    /* Memory was wanting. A transaction that was under way has ended, and nothing of it took effect. */
+    /* Memory was wanting. A transaction that was under way has ended, and nothing of it took effect. A handle that was to be
+     * filled holds nothing. */
     STO_NO_MEMORY = 1,
     /* The handle holds nothing. */
     STO_EMPTY = 2,
     /* The handle holds something: sto_open and sto_worker want one that does not. */
     STO_TAKEN = 3,
-    /* The handle holds a store where a worker is wanted, or a worker where a store is. */
+    /* The handle holds something else than is wanted: a store, a worker, or the rows of a store that was closed. */
     STO_OTHER_HANDLE = 4,
     /* No object has this number. */
     STO_NO_OBJECT = 5,
@@ -47,11 +49,12 @@ typedef enum sto_status {
     STO_NO_TRANSACTION = 8,
     /* The transaction met another one: it has ended, and nothing of it took effect. Begin again, after a yield or a pause. */
     STO_ABORTED = 9,
-    /* sto_run was aborted several times. Nothing took effect. Yield or pause, and call again. */
+    /* sto_run was aborted several times, and nothing took effect; or another thread is at the place where the worker is to be
+     * given back. Yield or pause, and call again. */
     STO_BUSY = 10,
-    /* The worker has begun 2^40 transactions, which is all that it may. */
+    /* The worker has begun 2^40 transactions, which is all that it may. One that fails for want of memory counts. */
     STO_NO_TICKETS = 11,
-    /* The store has no worker left to give out. */
+    /* No worker rests in the store: all were given out, and none was given back. */
     STO_NO_WORKER = 12,
     /* A store has from 1 to 65,536 workers. */
     STO_BAD_WORKERS = 13,
@@ -64,10 +67,12 @@ typedef enum sto_status {
     /* The objects have 2^32 parts or more. */
     STO_TOO_MANY = 17,
     /* There is less room than is needed for what is answered. */
-    STO_NO_ROOM = 18
+    STO_NO_ROOM = 18,
+    /* Not all workers of the store rest in it. */
+    STO_WORKERS_OUT = 19
 } sto_status;
 
-/* A store or a worker. */
+/* A store, a worker, or the rows of a store that was closed. */
 typedef struct sto_handle {
     void *at;
     uint64_t full;
@@ -145,14 +150,35 @@ typedef struct sto_pair {
     int64_t value;
 } sto_pair;
 
+/* A row of an object: a key with its value. A box and a counter have one row, with the key 0; an array and a vector have one for
+ * each place, by its number. */
+typedef struct sto_row {
+    uint32_t object;
+    uint32_t unused;
+    int64_t key;
+    int64_t value;
+} sto_row;
+
 /* Opens a store of these objects, for so many workers, and puts it into a handle that holds nothing. */
 uint32_t sto_open(sto_handle *store, const sto_shape *shapes, size_t count, uint32_t workers);
 
-/* Takes a worker of a store, and puts it into a handle that holds nothing: the two handles are different ones. */
+/* Takes a worker that rests in a store, and puts it into a handle that holds nothing: the two handles are different ones. */
 uint32_t sto_worker(sto_handle *store, sto_handle *worker);
 
+/* Gives a worker that is in no transaction back to its store, and leaves the handle holding nothing. It can be taken again. */
+uint32_t sto_give_back(sto_handle *worker);
+
+/* Closes a store in which all its workers rest: its handle then holds the rows of its objects, as the last commit left them.
+ * Where not all were given back the store stays open. Where memory is wanting it stays open or, at the end, is lost: then the
+ * handle holds nothing. */
+uint32_t sto_close(sto_handle *store);
+
+/* Copies the rows of a store that was closed, by object and key, and writes how many they are. Where there is less room it copies
+ * none, and answers STO_NO_ROOM. */
+uint32_t sto_rows(sto_handle *closed, sto_row *rows, size_t room, size_t *count);
+
 /* Frees what a handle holds, and leaves it holding nothing. A transaction that a worker is in is given up. A worker that was
- * freed is not given out again. */
+ * freed does not come back to its store, which can then not be closed. */
 uint32_t sto_free(sto_handle *handle);
 
 /* Begins a transaction. */
@@ -163,11 +189,12 @@ uint32_t sto_begin(sto_handle *worker);
 uint32_t sto_ask(sto_handle *worker, const sto_call *call, sto_reply *reply);
 
 /* Copies the pairs of the last reply of the transaction that the worker is in, and writes how many they are. Where there is
- * less room it copies none, and answers STO_NO_ROOM. A last reply of another form has none. */
+ * less room it copies none, and answers STO_NO_ROOM. A last reply of another form has none, and so has a transaction without
+ * calls. */
 uint32_t sto_pairs(sto_handle *worker, sto_pair *pairs, size_t room, size_t *count);
 
 /* Commits the transaction, and writes its place in the order: its ticket, or the number as of which it read where it wrote
- * nothing. Whatever the answer, the worker is then in no transaction. */
+ * nothing. Whatever becomes of it, the worker is in no transaction then. */
 uint32_t sto_commit(sto_handle *worker, uint64_t *place);
 
 /* Gives the transaction up: nothing of it takes effect. */
@@ -175,7 +202,8 @@ uint32_t sto_cancel(sto_handle *worker);
 
 /* Runs a whole transaction of calls that do not depend on one another's replies, tries it a few times where it is aborted, and
  * writes the replies: there is to be room for as many as there are calls. Of pairs it writes only how many they are. Where a
- * call is not taken nothing takes effect. */
+ * call is not taken nothing takes effect. A worker that is in a transaction already stays in it: STO_IN_TRANSACTION. Where the
+ * answer is not STO_OK, some replies may have been written, and they count for nothing. */
 uint32_t sto_run(sto_handle *worker, const sto_call *calls, size_t count, sto_reply *replies, size_t room, uint64_t *place);
 
 /* How many more transactions a worker may begin. */

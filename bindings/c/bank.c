@@ -71,6 +71,21 @@ static int64_t audit(sto_handle *w)
     return sum;
 }
 
+/* The sum of all accounts as the last commit left them: closes the store, and frees what is left of it. */
+static int64_t closed_sum(sto_handle *store)
+{
+    sto_row rows[ACCOUNTS];
+    size_t count = 0;
+    need(sto_close(store), "sto_close");
+    need(sto_rows(store, rows, ACCOUNTS, &count), "sto_rows");
+    int64_t sum = 0;
+    for (size_t i = 0; i < count; i++) {
+        sum += rows[i].value;
+    }
+    need(sto_free(store), "sto_free");
+    return count == ACCOUNTS ? sum : -1;
+}
+
 static void *work(void *given)
 {
     task *t = given;
@@ -126,11 +141,11 @@ int main(int argc, char **argv)
             fprintf(stderr, "tickets were not counted\n");
             return 1;
         }
-        need(sto_free(&tasks[i].worker), "sto_free");
+        need(sto_give_back(&tasks[i].worker), "sto_give_back");
     }
-    need(sto_free(&last), "sto_free");
-    need(sto_free(&store), "sto_free");
+    need(sto_give_back(&last), "sto_give_back");
+    int same = sum == closed_sum(&store);
     fprintf(stderr, "aborted %llu\n", (unsigned long long)aborted);
     printf("bank: threads %u, transfers %llu, sum %lld\n", threads, (unsigned long long)(moved + refused), (long long)sum);
-    return sum == ACCOUNTS * BEGINS_WITH ? 0 : 1;
+    return same && sum == ACCOUNTS * BEGINS_WITH ? 0 : 1;
 }

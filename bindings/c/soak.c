@@ -9,7 +9,7 @@
 
 #include "common.h"
 
-enum { ACCOUNTS = 256, BEGINS_WITH = 100, LOOKS = 10, ROOM_KIB = 2048 };
+enum { ACCOUNTS = 256, BEGINS_WITH = 100, LOOKS = 10, GROWTH_KIB = 2048 };
 
 static atomic_bool ends;
 
@@ -85,7 +85,8 @@ static int64_t audit(sto_handle *w)
     return sum;
 }
 
-/* Looks ten times at what the process holds and at the sum. Answers whether the sum held, and memory did not grow after the first. */
+/* Looks ten times at what the process holds and at the sum. Answers whether the sum held, and memory was at the last look at most
+ * 2 MiB more than at the first. */
 static int look_on(sto_handle *w, unsigned seconds)
 {
     long first = 0, now = 0;
@@ -101,7 +102,7 @@ static int look_on(sto_handle *w, unsigned seconds)
             return 0;
         }
     }
-    return now <= first + ROOM_KIB;
+    return now <= first + GROWTH_KIB;
 }
 
 int main(int argc, char **argv)
@@ -131,9 +132,10 @@ int main(int argc, char **argv)
         printf("thread %u: transfers %llu, aborted %llu, tickets left %llu\n", i, (unsigned long long)tasks[i].done,
             (unsigned long long)tasks[i].aborted, (unsigned long long)left);
         right = right && left == ((uint64_t)1 << 40) - tasks[i].done - tasks[i].aborted;
-        need(sto_free(&tasks[i].worker), "sto_free");
+        need(sto_give_back(&tasks[i].worker), "sto_give_back");
     }
-    need(sto_free(&auditor), "sto_free");
+    need(sto_give_back(&auditor), "sto_give_back");
+    need(sto_close(&store), "sto_close");
     need(sto_free(&store), "sto_free");
     printf("soak: %s\n", right ? "right" : "WRONG");
     return right ? 0 : 1;

@@ -18,6 +18,7 @@ int main(void)
     sto_handle store = STO_NONE, worker = STO_NONE, other = STO_NONE;
     sto_reply reply = {0, 0, 0};
     sto_pair pairs[4];
+    sto_row rows[8];
     uint64_t number = 0;
     size_t count = 0;
 
@@ -27,6 +28,9 @@ int main(void)
     expect(sto_commit(&worker, &number), STO_EMPTY, "commit of no worker");
     expect(sto_worker(&store, &worker), STO_EMPTY, "worker of no store");
     expect(sto_free(&store), STO_EMPTY, "free of nothing");
+    expect(sto_give_back(&worker), STO_EMPTY, "give back of no worker");
+    expect(sto_close(&store), STO_EMPTY, "close of no store");
+    expect(sto_rows(&store, rows, 8, &count), STO_EMPTY, "rows of nothing");
 
     /* stores that cannot be */
     sto_shape bad[] = {{.kind = 6}};
@@ -47,6 +51,13 @@ int main(void)
     expect(sto_worker(&store, &worker), STO_TAKEN, "worker into a worker");
     expect(sto_worker(&store, &other), STO_NO_WORKER, "a second worker of one");
     expect(sto_worker(&worker, &other), STO_OTHER_HANDLE, "worker of a worker");
+    expect(sto_give_back(&store), STO_OTHER_HANDLE, "give back of a store");
+    expect(sto_close(&worker), STO_OTHER_HANDLE, "close of a worker");
+    expect(sto_rows(&store, rows, 8, &count), STO_OTHER_HANDLE, "rows of a store that is open");
+    expect(sto_close(&store), STO_WORKERS_OUT, "close with a worker out");
+    need(sto_give_back(&worker), "sto_give_back");
+    expect(sto_give_back(&worker), STO_EMPTY, "give back again");
+    need(sto_worker(&store, &worker), "sto_worker of one that came back");
 
     /* calls outside a transaction */
     expect(sto_get(&worker, 0, &reply), STO_NO_TRANSACTION, "get outside");
@@ -57,6 +68,13 @@ int main(void)
     /* within one: the transaction goes on */
     need(sto_begin(&worker), "sto_begin");
     expect(sto_begin(&worker), STO_IN_TRANSACTION, "begin within");
+    expect(sto_give_back(&worker), STO_IN_TRANSACTION, "give back within");
+    count = 9;
+    need(sto_pairs(&worker, pairs, 4, &count), "sto_pairs before the first call");
+    if (count != 0) {
+        wrong++;
+        printf("there are pairs before the first call\n");
+    }
     need(sto_set(&worker, 0, 6, &reply), "sto_set");
     expect(sto_get(&worker, 5, &reply), STO_NO_OBJECT, "an object that is not there");
     expect(sto_get(&worker, UINT32_MAX, &reply), STO_NO_OBJECT, "object 2^32 - 1");
@@ -90,12 +108,39 @@ int main(void)
         printf("the box does not hold 6\n");
     }
 
+    need(sto_begin(&worker), "sto_begin");
+    expect(sto_run(&worker, list, 1, replies, 2, &number), STO_IN_TRANSACTION, "a run within a transaction");
+    need(sto_cancel(&worker), "sto_cancel");
+
+    /* a store that is closed holds its rows: box, counter, and the two keys of the tree */
+    need(sto_give_back(&worker), "sto_give_back");
+    need(sto_close(&store), "sto_close");
+    expect(sto_close(&store), STO_OTHER_HANDLE, "close again");
+    expect(sto_worker(&store, &worker), STO_OTHER_HANDLE, "worker of a closed store");
+    expect(sto_rows(&store, rows, 3, &count), STO_NO_ROOM, "room for three rows of four");
+    need(sto_rows(&store, rows, 8, &count), "sto_rows");
+    if (count != 4 || rows[0].value != 6 || rows[3].object != 3 || rows[3].key != 2 || rows[3].value != 20) {
+        wrong++;
+        printf("the rows are not those of the objects\n");
+    }
+    need(sto_free(&store), "sto_free");
+
     /* a store lives as long as its workers */
+    need(sto_open(&store, shapes, 5, 2), "sto_open");
+    need(sto_worker(&store, &worker), "sto_worker");
     need(sto_free(&store), "sto_free");
     need(sto_run(&worker, list, 1, replies, 2, &number), "sto_run after the store was freed");
     need(sto_begin(&worker), "sto_begin");
     need(sto_free(&worker), "sto_free within a transaction");
     expect(sto_free(&worker), STO_EMPTY, "free again");
+
+    /* a worker that was freed does not come back */
+    need(sto_open(&store, shapes, 5, 1), "sto_open");
+    need(sto_worker(&store, &worker), "sto_worker");
+    need(sto_free(&worker), "sto_free");
+    expect(sto_worker(&store, &worker), STO_NO_WORKER, "a worker that was freed");
+    expect(sto_close(&store), STO_WORKERS_OUT, "close without a worker that was freed");
+    need(sto_free(&store), "sto_free");
     printf("wrong: %u calls, %u with another status\n", calls, wrong);
     return wrong ? 1 : 0;
 }

@@ -27,6 +27,7 @@ def work(worker, number, rounds):
         target = source if i % 16 == 0 else numbers.randrange(ACCOUNTS)
         amount = numbers.randrange(1, 10)
         worker.atomically(lambda tx: transfer(tx, source, target, amount))
+    worker.give_back()
 
 
 def main():
@@ -37,9 +38,12 @@ def main():
         it.start()
     for it in running:
         it.join()
-    total = store.worker().atomically(lambda tx: sum(tx.get(i) for i in range(ACCOUNTS)))
+    auditor = store.worker()
+    total = auditor.atomically(lambda tx: sum(tx.get(i) for i in range(ACCOUNTS)))
+    auditor.give_back()
+    left = sum(value for _, _, value in store.close())
     print(f"bank in Python: threads {threads}, transfers {threads * rounds}, sum {total}")
-    return 0 if total == ACCOUNTS * BEGINS_WITH else 1
+    return 0 if total == left == ACCOUNTS * BEGINS_WITH else 1
 
 
 sys.exit(main())

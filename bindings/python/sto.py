@@ -13,7 +13,7 @@ import ctypes
 import time
 
 (OK, NO_MEMORY, EMPTY, TAKEN, OTHER_HANDLE, NO_OBJECT, NO_CALL, IN_TRANSACTION, NO_TRANSACTION, ABORTED, BUSY, NO_TICKETS,
- NO_WORKER, BAD_WORKERS, BAD_KIND, BAD_ORDER, BAD_SIZE, TOO_MANY, NO_ROOM) = range(19)
+ NO_WORKER, BAD_WORKERS, BAD_KIND, BAD_ORDER, BAD_SIZE, TOO_MANY, NO_ROOM, WORKERS_OUT) = range(20)
 
 DONE, VALUE, FLAG, ABSENT, FULL, RANGE, PAIRS = range(7)
 
@@ -36,6 +36,10 @@ class Reply(ctypes.Structure):
 
 class Pair(ctypes.Structure):
     _fields_ = [("key", ctypes.c_int64), ("value", ctypes.c_int64)]
+
+
+class Row(ctypes.Structure):
+    _fields_ = [("object", ctypes.c_uint32), ("unused", ctypes.c_uint32), ("key", ctypes.c_int64), ("value", ctypes.c_int64)]
 
 
 def box(value):
@@ -85,14 +89,26 @@ class Store:
     def __init__(self, path, shapes, workers):
         self.library = ctypes.CDLL(path)
         self.library.sto_pairs.argtypes = [ctypes.c_void_p, ctypes.c_void_p, ctypes.c_size_t, ctypes.c_void_p]
+        self.library.sto_rows.argtypes = [ctypes.c_void_p, ctypes.c_void_p, ctypes.c_size_t, ctypes.c_void_p]
         self.library.sto_open.argtypes = [ctypes.c_void_p, ctypes.c_void_p, ctypes.c_size_t, ctypes.c_uint32]
-        for name in ("worker", "free", "begin", "ask", "commit", "cancel", "tickets"):
+        for name in ("worker", "give_back", "close", "free", "begin", "ask", "commit", "cancel", "tickets"):
             getattr(self.library, f"sto_{name}").argtypes = [ctypes.c_void_p] * {"worker": 2, "ask": 3, "commit": 2, "tickets": 2}.get(name, 1)
         self.handle = Handle()
         need(self.library.sto_open(ctypes.byref(self.handle), (Shape * len(shapes))(*shapes), len(shapes), workers))
 
     def worker(self):
         return Worker(self)
+
+    def close(self):
+        """Closes the store, to which all workers were given back, and answers its rows: (object, key, value)."""
+        need(self.library.sto_close(ctypes.byref(self.handle)))
+        count = ctypes.c_size_t()
+        status = self.library.sto_rows(ctypes.byref(self.handle), (Row * 1)(), 0, ctypes.byref(count))
+        rows = (Row * max(1, count.value))()
+        if status == NO_ROOM:
+            status = self.library.sto_rows(ctypes.byref(self.handle), rows, count.value, ctypes.byref(count))
+        need(status)
+        return [(row.object, row.key, row.value) for row in rows[: count.value]]
 
     def __del__(self):
         if self.handle.full:
@@ -104,6 +120,10 @@ class Worker:
         self.library = store.library
         self.handle = Handle()
         need(self.library.sto_worker(ctypes.byref(store.handle), ctypes.byref(self.handle)))
+
+    def give_back(self):
+        """Gives the worker back to its store, which can give it out again. It is not used after that."""
+        need(self.library.sto_give_back(ctypes.byref(self.handle)))
 
     def transaction(self):
         return Transaction(self)

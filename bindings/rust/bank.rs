@@ -32,7 +32,7 @@ fn work(mut worker: Worker, number: u32, rounds: u32) -> Result<(), Error> {
         let amount = i64::from(1 + next() % 9);
         worker.atomically(|tx| transfer(tx, from, to, amount))?;
     }
-    Ok(())
+    worker.give_back()
 }
 
 fn main() -> Result<(), Error> {
@@ -47,14 +47,18 @@ fn main() -> Result<(), Error> {
     for it in running {
         it.join().expect("a thread")?;
     }
-    let sum = store.worker()?.atomically(|tx| {
+    let mut auditor = store.worker()?;
+    let sum = auditor.atomically(|tx| {
         let mut sum = 0;
         for account in 0..ACCOUNTS {
             sum += tx.get(account)?;
         }
         Ok(sum)
     })?;
+    auditor.give_back()?;
+    let left: i64 = store.close()?.iter().map(|row| row.2).sum();
     println!("bank in Rust: threads {threads}, transfers {}, sum {sum}", u64::from(threads) * u64::from(rounds));
     assert_eq!(sum, i64::from(ACCOUNTS) * BEGINS_WITH);
+    assert_eq!(left, sum);
     Ok(())
 }

@@ -77,10 +77,22 @@ struct CPair {
     value: i64,
 }
 
+#[repr(C)]
+#[derive(Clone, Copy)]
+struct CRow {
+    object: u32,
+    unused: u32,
+    key: i64,
+    value: i64,
+}
+
 #[link(name = "sto", kind = "static")]
 unsafe extern "C" {
     fn sto_open(store: *mut Handle, shapes: *const Shape, count: usize, workers: u32) -> u32;
     fn sto_worker(store: *mut Handle, worker: *mut Handle) -> u32;
+    fn sto_give_back(worker: *mut Handle) -> u32;
+    fn sto_close(store: *mut Handle) -> u32;
+    fn sto_rows(closed: *mut Handle, rows: *mut CRow, room: usize, count: *mut usize) -> u32;
     fn sto_free(handle: *mut Handle) -> u32;
     fn sto_begin(worker: *mut Handle) -> u32;
     fn sto_ask(worker: *mut Handle, call: *const CCall, reply: *mut CReply) -> u32;
@@ -99,10 +111,14 @@ pub enum Error {
     Aborted,
     NoTickets,
     NoWorker,
+    WorkersOut,
     BadWorkers,
     BadShape,
+    NoRoom,
     Other(u32),
 }
+
+const NO_ROOM: u32 = 18;
 
 fn done(status: u32) -> Result<(), Error> {
     match status {
@@ -115,6 +131,8 @@ fn done(status: u32) -> Result<(), Error> {
         12 => Err(Error::NoWorker),
         13 => Err(Error::BadWorkers),
         14..=17 => Err(Error::BadShape),
+        NO_ROOM => Err(Error::NoRoom),
+        19 => Err(Error::WorkersOut),
         other => Err(Error::Other(other)),
     }
 }
@@ -191,6 +209,22 @@ impl Store {
     }
 }
 
+/// A row of an object: its number, a key and a value.
+pub type Row = (u32, i64, i64);
+
+impl Store {
+    /// Closes the store, to which all workers were given back, and answers the rows of its objects.
+    pub fn close(mut self) -> Result<Vec<Row>, Error> {
+        done(unsafe { sto_close(&mut self.handle) })?;
+        let mut rows = vec![CRow { object: 0, unused: 0, key: 0, value: 0 }; 1];
+        let mut count = 0;
+        while unsafe { sto_rows(&mut self.handle, rows.as_mut_ptr(), rows.len(), &mut count) } == NO_ROOM {
+            rows.resize(count, rows[0]);
+        }
+        Ok(rows[..count].iter().map(|row| (row.object, row.key, row.value)).collect())
+    }
+}
+
 impl Drop for Store {
     fn drop(&mut self) {
         unsafe { sto_free(&mut self.handle) };
@@ -211,6 +245,11 @@ impl Worker {
         let mut left = 0;
         done(unsafe { sto_tickets(&mut self.handle, &mut left) })?;
         Ok(left)
+    }
+
+    /// Gives the worker back to its store, which can give it out again.
+    pub fn give_back(mut self) -> Result<(), Error> {
+        done(unsafe { sto_give_back(&mut self.handle) })
     }
 
     /// Runs the code until it commits, and answers what it gave. Where the code answers an error other than `Aborted`, the

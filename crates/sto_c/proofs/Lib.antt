@@ -1,1 +1,5 @@
 pub mod Values
+pub mod Copying
+pub mod Planned
+pub mod Replies
+pub mod Sending

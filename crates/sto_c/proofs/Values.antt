@@ -3,39 +3,37 @@ use Rattle.std.proofs.Common.{◌≡◌, ℕ, List, [], ◌∷◌, ◌++◌, ref
 use mathlib.Core.Bool.{Bool, true, false, ◌&&◌}
 use lib.Dec.{T}
 use seplogic.Ra.Ura.{Ura}
-use mir.Syntax.{Ty, impl, tnil, dnil}
+use mir.Syntax.{impl, tnil, dnil}
 use mir.Raw.{raw as bare}
 use mir.Val.{Val, vptr, vstruct, vcons, vnil, of_list, has_ty, WT}
 use base.Logic.{never, fst∗}
 use base.Fml.{Fml, fex}
 use types.Logic.{Logic, sem}
-use types.Kit.{Item, Goal, Seq, Step, step, ‵, ◌$◌, move, drop, fsplit, fsplit3, fjoin, fjoin3, fpick, fpack, rewrite, feq_i, feq_l}
+use types.Kit.{Item, Goal, Seq, Step, step, ‵, ◌$◌, move, drop, fsplit, fjoin, fpick, fpack, rewrite, feq_i, feq_l}
 use denote.RattleType.{RattleType, Valss}
 use denote.Builtin.{RawPtr}
-use denote.Laws.{Is, Lawful, Typed, shows}
 use denote.Memory.{lone}
 use denote.RawPtr.{Ptr, block_ptr, null_ptr, ptr_val, in_a_block}
-use denote.Steps.{nothing, peeks}
+use denote.Steps.{nothing}
 use denote.Param.{layout}
 use denote.Param.Laws.{Laws}
-use denote.Struct.Struct.{Struct, within}
+use denote.Struct.Struct.{within}
 use denote.Struct.Owning.{shape}
-use denote.Struct.Tuple.{Tuple}
 use Rattle.std.specs.declared.alloc.Allocator.{Ghosts}
 use Rattle.std.proofs.alloc.Calls.{Al, handle_tells}
-use Rattle.std.proofs.cell.Inside.{Good, one}
+use Rattle.std.proofs.cell.Inside.{Good}
 use Rattle.std.specs.Box.Ownership.{box_owns}
 use Rattle.std.proofs.ResultValues.{and_tt}
 use Rattle.sto_c.specs.contracts.loose.Loose as loose
 use Rattle.std.proofs.Common.{◌≢◌, sym}
 use Rattle.std.specs.declared.alloc.Global.{Global}
 use Rattle.std.specs.contracts.impls.GlobalAllocator.TheImpl.{ghosts}
-use Rattle.sto_c.specs.declared.held.HandleContent.{HandleContent}
-use Rattle.sto_c.specs.declared.held.HandleContent.TheVariants as H
-use Rattle.sto_c.specs.contracts.held.HandleContent.{the_row as HeldRow}
+use Rattle.sto_c.specs.declared.content.HandleContent.{HandleContent}
+use Rattle.sto_c.specs.declared.content.HandleContent.TheVariants as H
+use Rattle.sto_c.specs.contracts.content.HandleContent.{the_row as ContentRow}
 use Rattle.sto_c.specs.contracts.handle.Raw as raw_handle
 use Rattle.sto_c.specs.Raw.{raw_owns}
-use Rattle.sto_c.specs.Held.{IsHeld}
+use Rattle.sto_c.specs.Content.{IsHeld}
 
 abbrev pub both : Val → Val → Val
 both v w = vstruct (vcons v (vcons w vnil))
@@ -72,10 +70,11 @@ module _ (R Z : RattleType) (L : Laws Z) (g : Ghosts Z.Denot) where
         fpack t (Valss (RawPtr ∷ Z ∷ [])) (within (shape (loose.the_type R Z g)) (block_ptr b o, (a, tt)) (v ∷ [])) (vptr b o ∷ [], (h ∷ [], tt)) $ fjoin t $ s)
 
 -- what a full one owns
-pub owns_box : (p : Ptr) (x : HandleContent) → x ≢ H.Nothing → raw_owns p x ≡ fex (IsHeld x × Global) (λ h. box_owns (ghosts.dealloc_token h.1) HeldRow p x)
+pub owns_box : (p : Ptr) (x : HandleContent) → x ≢ H.Nothing → raw_owns p x ≡ fex (IsHeld x × Global) (λ h. box_owns (ghosts.dealloc_token h.1) ContentRow p x)
 owns_box p H.Nothing full = absurd (full refl)
 owns_box p (H.Store x) full = refl
 owns_box p (H.Worker x) full = refl
+owns_box p (H.Closed x) full = refl
 
 abbrev pub Raw : RattleType
 Raw = raw_handle.the_row
@@ -91,9 +90,9 @@ module _ {M : Type 1} {𝓤 : Ura M} {𝓛 : Logic 𝓤} {K : Type 0} {Γ : List
       fpack t (Valss (RawPtr ∷ [])) (within (shape raw_handle.the_type) (p, tt) (v ∷ [])) (w ∷ [], tt) $ fjoin t $ s)
 
   pub raw_out : K → (a : Global) (d : Raw.Denot) (vs : List Val) → d.value ≢ H.Nothing
-      → (IsHeld d.value → (b o : ℕ) → d.at ≡ block_ptr b o → vs ≡ alone (vptr b o) ∷ [] → Seq K 𝓛 (‵ (box_owns (ghosts.dealloc_token a) HeldRow (block_ptr b o) d.value) ∷ Γ) G)
+      → (IsHeld d.value → (b o : ℕ) → d.at ≡ block_ptr b o → vs ≡ alone (vptr b o) ∷ [] → Seq K 𝓛 (‵ (box_owns (ghosts.dealloc_token a) ContentRow (block_ptr b o) d.value) ∷ Γ) G)
       → Seq K 𝓛 (‵ (Raw.own_val d vs) ∷ Γ) G
   raw_out t a d vs full k =
       fsplit t $ fpick t (λ vss. fsplit t $ feq_l t (λ ev. fsplit t $ feq_l t (λ ep. drop t $ rewrite t 0 (λ (f : Fml). ‵ f) (owns_box d.at d.value full) refl $ fpick t (λ held.
-      in_a_block t d.at (λ p. box_owns (ghosts.dealloc_token a) HeldRow p d.value) (fst∗ 𝓤 (never 𝓤) (sem 𝓛 (ghosts.dealloc_token a (bare (lone HeldRow.mir)) null_ptr))) (λ b o e. k held.0 b o e
+      in_a_block t d.at (λ p. box_owns (ghosts.dealloc_token a) ContentRow p d.value) (fst∗ 𝓤 (never 𝓤) (sem 𝓛 (ghosts.dealloc_token a (bare (lone ContentRow.mir)) null_ptr))) (λ b o e. k held.0 b o e
       (subst (λ (p : Ptr). vs ≡ vstruct (of_list (ptr_val p ∷ [])) ∷ []) e (subst (λ (ps : List Val). vs ≡ vstruct (of_list (ps ++ [])) ∷ []) ep ev)))))))

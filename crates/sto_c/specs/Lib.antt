@@ -1,4 +1,6 @@
-pub mod Held
+pub mod Content
+pub mod Crossing
 pub mod Raw
 pub mod Statuses
 pub mod Steps
+pub mod Stores

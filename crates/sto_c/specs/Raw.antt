@@ -4,10 +4,10 @@ use denote.RawPtr.{Ptr}
 use Rattle.std.specs.declared.alloc.Global.{Global}
 use Rattle.std.specs.contracts.impls.GlobalAllocator.TheImpl.{ghosts}
 use Rattle.std.specs.Box.Ownership.{box_owns}
-use Rattle.sto_c.specs.declared.held.HandleContent.{HandleContent}
-use Rattle.sto_c.specs.declared.held.HandleContent.TheVariants.{Nothing}
-use Rattle.sto_c.specs.contracts.held.HandleContent.{the_row}
-use Rattle.sto_c.specs.Held.{IsHeld}
+use Rattle.sto_c.specs.declared.content.HandleContent.{HandleContent}
+use Rattle.sto_c.specs.declared.content.HandleContent.TheVariants.{Nothing}
+use Rattle.sto_c.specs.contracts.content.HandleContent.{the_row}
+use Rattle.sto_c.specs.Content.{IsHeld}
 
 abbrev pub raw_owns : Ptr → HandleContent → Fml
 raw_owns p Nothing = ftrue

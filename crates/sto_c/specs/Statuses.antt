@@ -1,5 +1,9 @@
 -- The number of each status, as include/sto.h has it.
 use Rattle.std.specs.Prelude.{◌≡◌, ℕ, Result, Ok, Err}
+use Rattle.sto_open.specs.declared.unplanned.Unplanned.{Unplanned}
+use Rattle.sto_open.specs.declared.unplanned.Unplanned.TheVariants as unplanned
+use Rattle.sto_open.specs.declared.unopened.Unopened.{Unopened}
+use Rattle.sto_open.specs.declared.unopened.Unopened.TheVariants as unopened
 use Rattle.sto_c.specs.declared.status.Status.{Status}
 use Rattle.sto_c.specs.declared.status.Status.TheVariants as status
 
@@ -22,6 +26,7 @@ number status.BadOrder = 15
 number status.BadSize = 16
 number status.TooMany = 17
 number status.NoRoom = 18
+number status.WorkersOut = 19
 
 -- 0 is that of a call that was done
 abbrev pub number_of : Result (Unit {0}) Status → ℕ
@@ -33,3 +38,14 @@ pub record Answers (answer : ℕ) (P : Result (Unit {0}) Status → Type 0) : Ty
   pub done : Result (Unit {0}) Status
   pub number : answer ≡ number_of done
   pub so : P done
+
+-- what tells why an object could not be planned, and why a store was not opened
+abbrev pub of_unplanned : Unplanned → Status
+of_unplanned unplanned.OutOfOrder = status.BadOrder
+of_unplanned unplanned.NoRoom = status.BadSize
+of_unplanned unplanned.TooMany = status.TooMany
+of_unplanned unplanned.NoMemory = status.NoMemory
+
+abbrev pub of_unopened : Unopened → Status
+of_unopened unopened.Workers = status.BadWorkers
+of_unopened unopened.NoMemory = status.NoMemory

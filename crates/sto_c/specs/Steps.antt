@@ -1,7 +1,9 @@
--- What the calls lead to: from what a handle holds before a call to what it holds after it, by the status.
-use Rattle.std.specs.Prelude.{◌≡◌, ◌≤◌, ◌⊎◌, ℕ, Result, Ok, Err, IfSome, length}
+-- What the calls on a worker lead to: from what a handle holds before a call to what it holds after it, by the status.
+use Rattle.std.specs.Prelude.{◌≡◌, ◌<◌, ◌≤◌, ◌⊎◌, ◌++◌, ℕ, List, length, map, drop, Result, Ok, Err, Option, Some, None, option_map, option_and_then, IfSome, OnOk, MatchOption}
 use Rattle.std.specs.Arc.{arc_value}
 use Rattle.sto_model.specs.declared.call.Call.{Call}
+use Rattle.sto_model.specs.declared.reply.Reply.{Reply}
+use Rattle.sto_model.specs.Operations.{operation_of}
 use Rattle.sto_session.specs.declared.starting.Unbegun.{Unbegun}
 use Rattle.sto_session.specs.declared.starting.Unbegun.TheVariants as unbegun
 use Rattle.sto_session.specs.declared.asking.Unanswered.{Unanswered}
@@ -9,24 +11,23 @@ use Rattle.sto_session.specs.declared.asking.Unanswered.TheVariants as unanswere
 use Rattle.sto_session.specs.declared.ending.Uncommitted.{Uncommitted}
 use Rattle.sto_session.specs.declared.ending.Uncommitted.TheVariants as uncommitted
 use Rattle.sto_session.specs.Steps as session
-use Rattle.sto_owned.specs.Owned.{Leads}
+use Rattle.sto_owned.specs.Owned.{Leads, replies_of}
 use Rattle.sto_c.specs.declared.crossing.CallIn.{CallIn}
+use Rattle.sto_c.specs.declared.crossing.PairOut.{PairOut}
+use Rattle.sto_c.specs.declared.crossing.ReplyOut.{ReplyOut}
+use Rattle.sto_c.specs.declared.crossing.RowOut.{RowOut}
 use Rattle.sto_c.specs.declared.handle.Handle.{Handle}
-use Rattle.sto_c.specs.declared.held.HandleContent.{HandleContent}
-use Rattle.sto_c.specs.declared.held.HandleContent.TheVariants.{Nothing, Store, Worker}
-use Rattle.sto_c.specs.declared.held.HeldStore.{HeldStore}
-use Rattle.sto_c.specs.declared.held.HeldWorker.{HeldWorker}
+use Rattle.sto_c.specs.declared.content.HandleContent.{HandleContent}
+use Rattle.sto_c.specs.declared.content.HandleContent.TheVariants.{Nothing, Store, Worker, Closed}
+use Rattle.sto_c.specs.declared.content.HeldWorker.{HeldWorker}
 use Rattle.sto_c.specs.declared.status.Status.{Status}
 use Rattle.sto_c.specs.declared.status.Status.TheVariants as status
-use Rattle.sto_c.specs.Held.{objects}
+use Rattle.sto_c.specs.Content.{objects}
+use Rattle.sto_c.specs.Crossing.{call_in, reply_out, pair_out, last_of, pairs_of}
 
 -- what a handle holds
 abbrev pub held : Handle → HandleContent
 held handle = handle.raw.value
-
--- the call that C asks by these numbers
-abbrev pub call_in : CallIn → Call
-call_in given = record { object = given.object; code = given.operation; a = given.a; b = given.b }
 
 -- from the worker h to the worker k
 module _ (h k : HeldWorker) where
@@ -57,15 +58,28 @@ HasBegun h (Err status.NoTickets) k = Begins h k (Err unbegun.Worn)
 HasBegun h (Err status.NoMemory) k = Begins h k (Err unbegun.NoMemory)
 HasBegun h (Err _) k = ⊥
 
+-- the last reply of its transaction, if there is one
+abbrev pub last_reply_of : HeldWorker → Option Reply
+last_reply_of h = option_and_then (λ rs. last_of rs.items) (replies_of h.worker)
+
+-- this is what C is told of the last reply of its transaction
+abbrev pub HasHeard : ReplyOut → HeldWorker → Type 0
+HasHeard reply k = option_map reply_out (last_reply_of k) ≡ Some reply
+
 -- a call was asked, or why it was not
-abbrev pub HasAsked : CallIn → HeldWorker → Result (Unit {0}) Status → HeldWorker → Type 0
-HasAsked given h (Ok done) k = Asks h k (call_in given) (Ok done)
-HasAsked given h (Err status.NoObject) k = (h.objects ≤ given.object) × (k ≡ h)
-HasAsked given h (Err status.NoCall) k = ((14 ≤ given.operation) × (k ≡ h)) ⊎ Asks h k (call_in given) (Err unanswered.Untaken)
-HasAsked given h (Err status.NoTransaction) k = Asks h k (call_in given) (Err unanswered.NoTransaction)
-HasAsked given h (Err status.Aborted) k = Asks h k (call_in given) (Err unanswered.Aborted)
-HasAsked given h (Err status.NoMemory) k = Asks h k (call_in given) (Err unanswered.NoMemory)
-HasAsked given h (Err _) k = ⊥
+abbrev pub HasAnswered : CallIn → HeldWorker → Result (Unit {0}) Status → HeldWorker → Type 0
+HasAnswered given h (Ok done) k = (given.object < h.objects) × Asks h k (call_in given) (Ok done)
+HasAnswered given h (Err status.NoObject) k = (h.objects ≤ given.object) × (k ≡ h)
+HasAnswered given h (Err status.NoCall) k = (given.object < h.objects)
+    × (((operation_of given.operation ≡ None) × (k ≡ h)) ⊎ Asks h k (call_in given) (Err unanswered.Untaken))
+HasAnswered given h (Err status.NoTransaction) k = (given.object < h.objects) × Asks h k (call_in given) (Err unanswered.NoTransaction)
+HasAnswered given h (Err status.Aborted) k = (given.object < h.objects) × Asks h k (call_in given) (Err unanswered.Aborted)
+HasAnswered given h (Err status.NoMemory) k = (given.object < h.objects) × Asks h k (call_in given) (Err unanswered.NoMemory)
+HasAnswered given h (Err _) k = ⊥
+
+-- the reply was told where it was answered
+abbrev pub HasAsked : CallIn → ReplyOut → HeldWorker → Result (Unit {0}) Status → HeldWorker → Type 0
+HasAsked given reply h done k = HasAnswered given h done k × OnOk done (HasHeard reply k)
 
 -- the transaction was committed at this place in the order, or why it was not
 abbrev pub HasCommitted : ℕ → HeldWorker → Result (Unit {0}) Status → HeldWorker → Type 0
@@ -88,9 +102,17 @@ abbrev pub HasToldLeft : ℕ → HeldWorker → Result (Unit {0}) Status → Hel
 HasToldLeft left h (Ok done) k = (k ≡ h) × IfSome h.worker.session (λ x. left ≡ x.left)
 HasToldLeft left h (Err _) k = ⊥
 
--- nothing changed
-abbrev pub HasLooked : HeldWorker → Result (Unit {0}) Status → HeldWorker → Type 0
-HasLooked h done k = k ≡ h
+-- items were copied to the front of what there was before, and this is how many, or there is room for less; what lies behind is as it was
+abbrev pub HasCopied : {X : Type 0} → List X → List X → Result (Unit {0}) Status → List X → ℕ → Type 0
+HasCopied items old (Ok done) new count = (new ≡ items ++ drop (length items) old) × (count ≡ length items)
+HasCopied items old (Err status.NoRoom) new count = (new ≡ old) × (count ≡ length items) × (length old < length items)
+HasCopied items old (Err _) new count = ⊥
+
+-- nothing changed; in a transaction the pairs of the last reply were copied
+abbrev pub HasToldPairs : (old new : List PairOut) → (counted count : ℕ) → HeldWorker → Result (Unit {0}) Status → HeldWorker → Type 0
+HasToldPairs old new counted count h done k = (k ≡ h)
+    × MatchOption (replies_of h.worker) ((done ≡ Err status.NoTransaction) × (new ≡ old) × (count ≡ counted))
+    (λ rs. HasCopied (map pair_out (pairs_of (last_of rs.items))) old done new count)
 
 -- whatever it led to, it is a worker of the same store
 abbrev pub HasRun : HeldWorker → Result (Unit {0}) Status → HeldWorker → Type 0
@@ -100,31 +122,12 @@ HasRun h done k = IsOfSameStore h k
 abbrev pub OfWorker : (HeldWorker → Result (Unit {0}) Status → HeldWorker → Type 0) → HandleContent → Result (Unit {0}) Status → HandleContent → Type 0
 OfWorker to Nothing done y = (done ≡ Err status.Empty) × (y ≡ Nothing)
 OfWorker to (Store h) done y = (done ≡ Err status.OtherHandle) × (y ≡ Store h)
+OfWorker to (Closed rows) done y = (done ≡ Err status.OtherHandle) × (y ≡ Closed rows)
 OfWorker to (Worker h) done (Worker k) = to h done k
 OfWorker to (Worker h) done _ = ⊥
 
--- a handle that held nothing was filled with this, or holds nothing; where it held something, nothing changes
-abbrev pub Fills : (HandleContent → Type 0) → HandleContent → Result (Unit {0}) Status → HandleContent → Type 0
-Fills P Nothing (Ok done) y = P y
-Fills P Nothing (Err why) y = y ≡ Nothing
-Fills P x done y = (done ≡ Err status.Taken) × (y ≡ x)
-
--- a store of so many objects
-abbrev pub IsStoreOf : ℕ → HandleContent → Type 0
-IsStoreOf count (Store h) = h.objects ≡ count
-IsStoreOf count _ = ⊥
-
--- a worker of the same store
-abbrev pub IsHiredOf : HandleContent → HandleContent → Type 0
-IsHiredOf (Store h) (Worker k) = (arc_value k.worker.store ≡ arc_value h.store.store) × (k.objects ≡ h.objects)
-IsHiredOf _ _ = ⊥
-
--- it is the same store still; what is none is as it was
-abbrev pub KeepsStore : HandleContent → HandleContent → Type 0
-KeepsStore (Store h) (Store k) = (k.store.store ≡ h.store.store) × (k.objects ≡ h.objects)
-KeepsStore x y = y ≡ x
-
--- what was held was freed
-abbrev pub HasFreed : HandleContent → Result (Unit {0}) Status → HandleContent → Type 0
-HasFreed Nothing done y = (done ≡ Err status.Empty) × (y ≡ Nothing)
-HasFreed _ done y = (done ≡ Ok tt) × (y ≡ Nothing)
+-- nothing changed; the rows that a closed store held were copied
+abbrev pub HasToldRows : (old new : List RowOut) → (counted count : ℕ) → HandleContent → Result (Unit {0}) Status → HandleContent → Type 0
+HasToldRows old new counted count Nothing done y = (done ≡ Err status.Empty) × (y ≡ Nothing) × (new ≡ old) × (count ≡ counted)
+HasToldRows old new counted count (Closed rows) done y = (y ≡ Closed rows) × HasCopied rows.items old done new count
+HasToldRows old new counted count x done y = (done ≡ Err status.OtherHandle) × (y ≡ x) × (new ≡ old) × (count ≡ counted)

@@ -1,14 +1,18 @@
 //! What a worker is asked.
-ghost use Rattle.std.specs.Prelude.{◌≡◌, OnErr};
-ghost use Rattle.sto_c.specs.Held.{IsWorker};
-ghost use Rattle.sto_c.specs.Steps.{IsOfSameStore, HasBegun, HasAsked, HasCommitted, HasCancelled};
+ghost use Rattle.std.specs.Prelude.{◌≡◌, OnErr, option_map, unwrap_or};
+ghost use Rattle.sto_c.specs.declared.content.HandleContent.TheVariants.{Worker};
+ghost use Rattle.sto_c.specs.Content.{IsHeld, IsWorker};
+ghost use Rattle.sto_c.specs.Crossing.{reply_out, last_of};
+ghost use Rattle.sto_c.specs.Stores.{HasGivenBack};
+ghost use Rattle.sto_c.specs.Steps.{IsOfSameStore, HasBegun, HasAnswered, HasAsked, HasCommitted, HasCancelled, last_reply_of};
 
-use crate::crossing::{CallIn, PairOut, ReplyOut};
-use crate::held::HeldWorker;
+use crate::content::{HandleContent, HeldWorker};
+use crate::crossing::{CallIn, ReplyOut};
 use crate::status::Status;
 use crossbeam_utils::Backoff;
 use std::alloc::Global;
-use sto_model::Reply;
+use sto_model::{Replies, Reply};
+use sto_owned::StillOut;
 use sto_session::{Unanswered, Unbegun, Uncommitted};
 
 // How often a whole transaction is tried before it is busy.
@@ -29,17 +33,24 @@ pub(crate) fn begin(alloc: Global, held: &mut HeldWorker) -> Result<(), Status>
     }
 }
 
-// The last reply of the transaction that it is in.
-fn last_reply(held: &HeldWorker) -> Option<&Reply> {
-    match held.worker.replies() {
-        Some(replies) if 0 < replies.len() => Some(replies.get(replies.len() - 1)),
-        _ => None,
+/// The last one of these replies.
+pub(crate) fn last_of(replies: &Replies) -> Option<&Reply>
+    ensures { option_map (λ r. r.now) result ≡ last_of replies.now.items }
+{
+    if replies.is_empty() {
+        return None;
     }
+    Some(replies.get(replies.len() - 1))
 }
 
-// Writes the last reply of the transaction that it is in.
-fn tell_last(held: &HeldWorker, reply: &mut ReplyOut) {
-    if let Some(last) = last_reply(held) {
+// Writes the last reply of the transaction that it is in, if there is one.
+fn tell_last(held: &HeldWorker, reply: &mut ReplyOut)
+    ensures { reply.new ≡ unwrap_or (option_map reply_out (last_reply_of held.now)) reply.old }
+{
+    let Some(replies) = held.worker.replies() else {
+        return;
+    };
+    if let Some(last) = last_of(replies) {
         *reply = ReplyOut::of(last);
     }
 }
@@ -49,7 +60,7 @@ fn answer(alloc: Global, held: &mut HeldWorker, given: &CallIn) -> Result<(), St
     requires { IsWorker held.old }
     ensures worker { IsWorker held.new }
     ensures store { IsOfSameStore held.old held.new }
-    ensures asked { HasAsked given.now held.old result held.new }
+    ensures asked { HasAnswered given.now held.old result held.new }
 {
     if held.objects <= given.object {
         return Err(Status::NoObject);
@@ -76,7 +87,7 @@ pub(crate) fn ask(
     requires { IsWorker held.old }
     ensures worker { IsWorker held.new }
     ensures store { IsOfSameStore held.old held.new }
-    ensures asked { HasAsked given.now held.old result held.new }
+    ensures asked { HasAsked given.now reply.new held.old result held.new }
     ensures kept { OnErr result (reply.new ≡ reply.old) }
 {
     match answer(alloc, held, given) {
@@ -122,29 +133,24 @@ pub(crate) fn cancel(alloc: Global, held: &mut HeldWorker) -> Result<(), Status>
     }
 }
 
-/// Copies the pairs of the last reply, where they have room.
-pub(crate) fn pairs(
-    held: &HeldWorker,
-    out: &mut [PairOut],
-    count: &mut usize,
-) -> Result<(), Status> {
-    let Some(last) = last_reply(held) else {
-        return Err(Status::NoTransaction);
-    };
-    *count = 0;
-    let Reply::Pairs(found) = last else {
-        return Ok(());
-    };
-    let many = found.len() as usize;
-    *count = many;
-    if out.len() < many {
-        return Err(Status::NoRoom);
+/// Gives the worker back to its store, and answers what is left of it.
+pub(crate) fn give_back(held: HeldWorker) -> (HandleContent, Result<(), Status>)
+    requires { IsWorker held }
+    ensures held { IsHeld result.0 }
+    ensures given { HasGivenBack (Worker held) result.1 result.0 }
+{
+    let HeldWorker { worker, objects } = held;
+    match worker.give_back() {
+        Ok(()) => (HandleContent::Nothing, Ok(())),
+        Err(StillOut::InTransaction(worker)) => (
+            HandleContent::Worker(HeldWorker { worker, objects }),
+            Err(Status::InTransaction),
+        ),
+        Err(StillOut::Busy(worker)) => (
+            HandleContent::Worker(HeldWorker { worker, objects }),
+            Err(Status::Busy),
+        ),
     }
-    for at in 0..many {
-        let (key, value) = *found.get(at as u32);
-        out[at] = PairOut { key, value };
-    }
-    Ok(())
 }
 
 // Asks the calls of a whole transaction, which was begun.
@@ -172,7 +178,7 @@ fn ask_all(
     Ok(())
 }
 
-// Tries a whole transaction once. Whatever comes, it is in no transaction then.
+// Tries a whole transaction once, where it is in none. Whatever comes, it is in none then.
 fn try_once(
     alloc: Global,
     held: &mut HeldWorker,

@@ -1,8 +1,10 @@
 //! What crosses between C and the library: the structs of include/sto.h.
-ghost use Rattle.std.specs.Prelude.{◌≡◌, ◌≤◌, IfSome, IfNone};
-ghost use Rattle.sto_c.specs.Steps.{call_in};
+ghost use Rattle.std.specs.Prelude.{◌≡◌, None, IfSome, IfNone};
+ghost use Rattle.sto_model.specs.Operations.{operation_of};
+ghost use Rattle.sto_c.specs.Crossing.{shape_in, call_in, reply_out, pair_out, row_out};
 
-use sto_model::{Call, Reply, Shape};
+use sto_model::{Call, Operation, Reply, Shape};
+use sto_part::List;
 
 /// What an object is to be.
 #[repr(C)]
@@ -17,7 +19,9 @@ pub struct ShapeIn {
 
 impl ShapeIn {
     /// The shape; none where its kind is no kind.
-    pub(crate) fn shape(&self) -> Option<Shape> {
+    pub(crate) fn shape(&self) -> Option<Shape>
+        ensures { result ≡ shape_in self.now }
+    {
         match self.kind {
             0 => Some(Shape::Single(self.value)),
             1 => Some(Shape::Counter(self.value)),
@@ -48,24 +52,24 @@ pub struct CallIn {
     pub b: i64,
 }
 
-// How many operations there are.
-const OPERATIONS: u32 = 14;
-
 impl CallIn {
     /// The call; none where its operation is no operation.
     pub(crate) fn call(&self) -> Option<Call>
         ensures some { IfSome result (λ call. call ≡ call_in self.now) }
-        ensures none { IfNone result (14 ≤ self.now.operation) }
+        ensures none { IfNone result (operation_of self.now.operation ≡ None) }
     {
-        if OPERATIONS <= self.operation {
+        let Ok(code) = u8::try_from(self.operation) else {
             return None;
+        };
+        match Operation::from_code(code) {
+            Some(_) => Some(Call {
+                object: self.object,
+                code,
+                a: self.a,
+                b: self.b,
+            }),
+            None => None,
         }
-        Some(Call {
-            object: self.object,
-            code: self.operation as u8,
-            a: self.a,
-            b: self.b,
-        })
     }
 }
 
@@ -80,7 +84,9 @@ pub struct ReplyOut {
 
 impl ReplyOut {
     /// What a reply is to C. Of pairs it tells how many they are.
-    pub(crate) fn of(reply: &Reply) -> ReplyOut {
+    pub(crate) fn of(reply: &Reply) -> ReplyOut
+        ensures { result ≡ reply_out reply.now }
+    {
         let (answer, value) = match reply {
             Reply::Done => (0, 0),
             Reply::Value(value) => (1, *value),
@@ -105,4 +111,43 @@ impl ReplyOut {
 pub struct PairOut {
     pub key: i64,
     pub value: i64,
+}
+
+impl PairOut {
+    /// What a pair is to C.
+    pub(crate) fn of(pair: &(i64, i64)) -> PairOut
+        ensures { result ≡ pair_out pair.now }
+    {
+        PairOut {
+            key: pair.0,
+            value: pair.1,
+        }
+    }
+}
+
+/// A row of an object.
+#[repr(C)]
+#[derive(Clone, Copy)]
+pub struct RowOut {
+    pub object: u32,
+    pub unused: u32,
+    pub key: i64,
+    pub value: i64,
+}
+
+/// Rows of objects.
+pub type RowsOut = List<RowOut>;
+
+impl RowOut {
+    /// What a row of an object is to C.
+    pub(crate) fn of(object: u32, row: &(i64, i64)) -> RowOut
+        ensures { result ≡ row_out object row.now }
+    {
+        RowOut {
+            object,
+            unused: 0,
+            key: row.0,
+            value: row.1,
+        }
+    }
 }

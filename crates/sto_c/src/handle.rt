@@ -1,11 +1,12 @@
 //! Values that C holds by a pointer.
 ghost use Rattle.std.specs.Prelude.{◌≡◌, ◌≢◌, ◌↔◌, IfSome, IfNone};
-ghost use Rattle.sto_c.specs.declared.held.HandleContent.{HandleContent};
-ghost use Rattle.sto_c.specs.declared.held.HandleContent.TheVariants.{Nothing};
-ghost use Rattle.sto_c.specs.contracts.held.HandleContent.{the_row};
-ghost use Rattle.sto_c.specs.Held.{IsHeld, IsFull, IfFull};
+ghost use Rattle.std.specs.Bool.{MatchBool};
+ghost use Rattle.sto_c.specs.declared.content.HandleContent.{HandleContent};
+ghost use Rattle.sto_c.specs.declared.content.HandleContent.TheVariants.{Nothing};
+ghost use Rattle.sto_c.specs.contracts.content.HandleContent.{the_row};
+ghost use Rattle.sto_c.specs.Content.{IsHeld, IsFull};
 
-use crate::held::HandleContent;
+use crate::content::HandleContent;
 use crate::loose::Loose;
 use std::alloc::Global;
 use std::marker::Model;
@@ -82,7 +83,7 @@ impl Handle {
 
     /// Whether it holds something.
     pub(crate) fn is_full(&self) -> bool
-        ensures { IfFull result self.now.raw.value }
+        ensures { MatchBool result (self.now.raw.value ≢ Nothing) (self.now.raw.value ≡ Nothing) }
     {
         self.full == 1
     }

@@ -1,52 +1,56 @@
 //! Calls on handles. What a handle holds is taken out for a call, and put back after it.
-ghost use Rattle.std.specs.Prelude.{◌≡◌, OnOk, OnErr, length};
-ghost use Rattle.sto_c.specs.declared.held.HandleContent.TheVariants.{Nothing};
-ghost use Rattle.sto_c.specs.Held.{IsFull};
+ghost use Rattle.std.specs.Prelude.{◌≡◌, ◌≢◌, IfOk, IfErr, OnErr};
+ghost use Rattle.sto_c.specs.declared.content.HandleContent.TheVariants.{Nothing};
+ghost use Rattle.sto_c.specs.declared.status.Status.TheVariants.{NoRoom};
+ghost use Rattle.sto_c.specs.Content.{IsHeld, IsFull};
+ghost use Rattle.sto_c.specs.Stores.{
+  Fills,
+  IsStoreOf,
+  IsUnopened,
+  IsHiredOf,
+  IsUnhired,
+  KeepsStore,
+  HasFreed,
+  HasGivenBack,
+  HasClosed,
+};
 ghost use Rattle.sto_c.specs.Steps.{
   held,
   OfWorker,
-  Fills,
-  IsStoreOf,
-  IsHiredOf,
-  KeepsStore,
-  HasFreed,
   HasBegun,
   HasAsked,
   HasCommitted,
   HasCancelled,
   HasRun,
-  HasLooked,
+  HasToldPairs,
   HasToldLeft,
+  HasToldRows,
 };
 
-use crate::crossing::{CallIn, PairOut, ReplyOut, ShapeIn};
+use crate::content::HandleContent;
+use crate::crossing::{CallIn, PairOut, ReplyOut, RowOut, ShapeIn};
 use crate::handle::Handle;
-use crate::held::HandleContent;
 use crate::status::Status;
 use crate::{holding, opening};
 use std::alloc::Global;
-
-// Puts a store or a worker into a handle that holds nothing.
-fn keep(alloc: Global, handle: &mut Handle, value: HandleContent) -> Result<(), Status>
-    requires full { IsFull value }
-    requires empty { held handle.old ≡ Nothing }
-    ensures ok { OnOk result (held handle.new ≡ value) }
-    ensures err { OnErr result (held handle.new ≡ Nothing) }
-{
-    match Box::new(alloc, sent(value)) {
-        Ok(value) => {
-            handle.put(value);
-            Ok(())
-        }
-        Err(_) => Err(Status::NoMemory),
-    }
-}
 
 // What a handle holds may go to another thread: the bound has the check ask for the proof.
 fn sent<T: Send>(value: T) -> T
     ensures { result ≡ value }
 {
     value
+}
+
+// Puts back what was taken out of a handle, where something is left of it.
+fn put_back(handle: &mut Handle, value: Box<HandleContent>)
+    requires held { IsHeld value.value }
+    requires empty { held handle.old ≡ Nothing }
+    ensures { held handle.new ≡ value.value }
+{
+    match &*value {
+        HandleContent::Nothing => {}
+        _ => handle.put(value),
+    }
 }
 
 /// Opens a store of these objects, for so many workers.
@@ -56,18 +60,44 @@ pub(crate) fn open(
     shapes: &[ShapeIn],
     workers: u32,
 ) -> Result<(), Status>
-    ensures { Fills (IsStoreOf (length shapes.now)) (held store.old) result (held store.new) }
+    ensures { Fills (IsStoreOf shapes.now) (IsUnopened shapes.now workers) (held store.old) result (held store.new) }
 {
     if store.is_full() {
         return Err(Status::Taken);
     }
     let opened = opening::open(alloc, shapes, workers)?;
-    keep(alloc, store, HandleContent::Store(opened))
+    match Box::new(alloc, sent(HandleContent::Store(opened))) {
+        Ok(value) => {
+            store.put(value);
+            Ok(())
+        }
+        Err(_) => Err(Status::NoMemory),
+    }
+}
+
+// A worker of a store, in a box. The box comes first, so that no worker is lost where there is none.
+fn boxed_worker(alloc: Global, held: &mut HandleContent) -> Result<Box<HandleContent>, Status>
+    requires { IsFull held.old }
+    ensures full { IsFull held.new }
+    ensures hired { IfOk result (λ b. IsFull b.value × IsHiredOf held.old b.value) }
+    ensures unhired { IfErr result (IsUnhired held.old held.new) }
+    ensures store { KeepsStore held.old held.new }
+{
+    if !matches!(held, HandleContent::Store(_)) {
+        return Err(Status::OtherHandle);
+    }
+    let Ok(room) = Box::new(alloc, HandleContent::Nothing) else {
+        return Err(Status::NoMemory);
+    };
+    let mut room = room;
+    *room = sent(HandleContent::Worker(holding::hire(alloc, held)?));
+    Ok(room)
 }
 
 /// Takes a worker of a store.
 pub(crate) fn hire(alloc: Global, store: &mut Handle, worker: &mut Handle) -> Result<(), Status>
-    ensures worker { Fills (IsHiredOf (held store.old)) (held worker.old) result (held worker.new) }
+    ensures worker { Fills (IsHiredOf (held store.old)) (IsUnhired (held store.old) (held store.new)) (held worker.old) result
+        (held worker.new) }
     ensures store { KeepsStore (held store.old) (held store.new) }
 {
     if worker.is_full() {
@@ -77,9 +107,53 @@ pub(crate) fn hire(alloc: Global, store: &mut Handle, worker: &mut Handle) -> Re
         return Err(Status::Empty);
     };
     let mut value = value;
-    let hired = holding::hire(alloc, &mut *value);
+    let hired = boxed_worker(alloc, &mut *value);
     store.put(value);
-    keep(alloc, worker, HandleContent::Worker(hired?))
+    worker.put(hired?);
+    Ok(())
+}
+
+/// Gives a worker back to its store.
+pub(crate) fn give_back(alloc: Global, worker: &mut Handle) -> Result<(), Status>
+    ensures { HasGivenBack (held worker.old) result (held worker.new) }
+{
+    let Some(value) = worker.take(alloc) else {
+        return Err(Status::Empty);
+    };
+    let mut value = value;
+    let done = holding::give_back(&mut *value);
+    put_back(worker, value);
+    done
+}
+
+/// Closes a store.
+pub(crate) fn close(alloc: Global, store: &mut Handle) -> Result<(), Status>
+    ensures { HasClosed (held store.old) result (held store.new) }
+{
+    let Some(value) = store.take(alloc) else {
+        return Err(Status::Empty);
+    };
+    let mut value = value;
+    let done = holding::close(alloc, &mut *value);
+    put_back(store, value);
+    done
+}
+
+/// Copies the rows of a closed store.
+pub(crate) fn rows(
+    alloc: Global,
+    closed: &mut Handle,
+    rows: &mut [RowOut],
+    count: &mut usize,
+) -> Result<(), Status>
+    ensures { HasToldRows rows.old rows.new count.old count.new (held closed.old) result (held closed.new) }
+{
+    let Some(value) = closed.take(alloc) else {
+        return Err(Status::Empty);
+    };
+    let done = holding::rows(&*value, rows, count);
+    closed.put(value);
+    done
 }
 
 /// Frees what a handle holds.
@@ -112,7 +186,7 @@ pub(crate) fn ask(
     call: &CallIn,
     reply: &mut ReplyOut,
 ) -> Result<(), Status>
-    ensures asked { OfWorker (HasAsked call.now) (held worker.old) result (held worker.new) }
+    ensures asked { OfWorker (HasAsked call.now reply.new) (held worker.old) result (held worker.new) }
     ensures kept { OnErr result (reply.new ≡ reply.old) }
 {
     let Some(value) = worker.take(alloc) else {
@@ -131,7 +205,8 @@ pub(crate) fn pairs(
     pairs: &mut [PairOut],
     count: &mut usize,
 ) -> Result<(), Status>
-    ensures { OfWorker HasLooked (held worker.old) result (held worker.new) }
+    ensures told { OfWorker (HasToldPairs pairs.old pairs.new count.old count.new) (held worker.old) result (held worker.new) }
+    ensures kept { IfErr result (λ why. why ≢ NoRoom → (pairs.new ≡ pairs.old) × (count.new ≡ count.old)) }
 {
     let Some(value) = worker.take(alloc) else {
         return Err(Status::Empty);

@@ -1,7 +1,9 @@
 //! Calls on what a handle holds, whatever that is.
-ghost use Rattle.std.specs.Prelude.{◌≡◌, IfOk, OnErr};
-ghost use Rattle.sto_c.specs.declared.held.HandleContent.TheVariants.{Worker};
-ghost use Rattle.sto_c.specs.Held.{IsFull, IsWorker};
+ghost use Rattle.std.specs.Prelude.{◌≡◌, ◌≢◌, IfOk, IfErr, OnErr};
+ghost use Rattle.sto_c.specs.declared.content.HandleContent.TheVariants.{Worker};
+ghost use Rattle.sto_c.specs.declared.status.Status.TheVariants.{NoRoom};
+ghost use Rattle.sto_c.specs.Content.{IsFull, IsHeld, IsWorker};
+ghost use Rattle.sto_c.specs.Stores.{IsHiredOf, IsUnhired, KeepsStore, HasGivenBack, HasClosed};
 ghost use Rattle.sto_c.specs.Steps.{
   OfWorker,
   HasBegun,
@@ -9,17 +11,17 @@ ghost use Rattle.sto_c.specs.Steps.{
   HasCommitted,
   HasCancelled,
   HasRun,
-  HasLooked,
+  HasToldPairs,
   HasToldLeft,
-  IsHiredOf,
-  KeepsStore,
+  HasToldRows,
 };
 
-use crate::crossing::{CallIn, PairOut, ReplyOut};
-use crate::held::{HandleContent, HeldWorker};
+use crate::content::{HandleContent, HeldWorker};
+use crate::crossing::{CallIn, PairOut, ReplyOut, RowOut};
 use crate::status::Status;
-use crate::{calls, opening};
+use crate::{calls, opening, telling};
 use std::alloc::Global;
+use std::mem;
 
 /// Gives a worker out of a store.
 pub(crate) fn hire(alloc: Global, held: &mut HandleContent) -> Result<HeldWorker, Status>
@@ -27,11 +29,61 @@ pub(crate) fn hire(alloc: Global, held: &mut HandleContent) -> Result<HeldWorker
     ensures full { IsFull held.new }
     ensures worker { IfOk result IsWorker }
     ensures hired { IfOk result (λ k. IsHiredOf held.old (Worker k)) }
+    ensures unhired { IfErr result (IsUnhired held.old held.new) }
     ensures store { KeepsStore held.old held.new }
 {
     match held {
         HandleContent::Store(store) => opening::hire(alloc, store),
-        HandleContent::Nothing | HandleContent::Worker(_) => Err(Status::OtherHandle),
+        HandleContent::Nothing | HandleContent::Worker(_) | HandleContent::Closed(_) => {
+            Err(Status::OtherHandle)
+        }
+    }
+}
+
+/// Gives a worker back to its store. Nothing is left of it then.
+pub(crate) fn give_back(held: &mut HandleContent) -> Result<(), Status>
+    requires { IsFull held.old }
+    ensures held { IsHeld held.new }
+    ensures given { HasGivenBack held.old result held.new }
+{
+    let (content, done) = match mem::replace(held, HandleContent::Nothing) {
+        HandleContent::Nothing => (HandleContent::Nothing, Err(Status::Empty)),
+        HandleContent::Store(store) => (HandleContent::Store(store), Err(Status::OtherHandle)),
+        HandleContent::Closed(rows) => (HandleContent::Closed(rows), Err(Status::OtherHandle)),
+        HandleContent::Worker(worker) => calls::give_back(worker),
+    };
+    *held = content;
+    done
+}
+
+/// Closes a store.
+pub(crate) fn close(alloc: Global, held: &mut HandleContent) -> Result<(), Status>
+    requires { IsFull held.old }
+    ensures held { IsHeld held.new }
+    ensures closed { HasClosed held.old result held.new }
+{
+    let (content, done) = match mem::replace(held, HandleContent::Nothing) {
+        HandleContent::Nothing => (HandleContent::Nothing, Err(Status::Empty)),
+        HandleContent::Worker(worker) => (HandleContent::Worker(worker), Err(Status::OtherHandle)),
+        HandleContent::Closed(rows) => (HandleContent::Closed(rows), Err(Status::OtherHandle)),
+        HandleContent::Store(store) => opening::close(alloc, store),
+    };
+    *held = content;
+    done
+}
+
+/// Copies the rows of a closed store.
+pub(crate) fn rows(
+    held: &HandleContent,
+    out: &mut [RowOut],
+    count: &mut usize,
+) -> Result<(), Status>
+    ensures { HasToldRows out.old out.new count.old count.new held.now result held.now }
+{
+    match held {
+        HandleContent::Nothing => Err(Status::Empty),
+        HandleContent::Store(_) | HandleContent::Worker(_) => Err(Status::OtherHandle),
+        HandleContent::Closed(rows) => telling::tell_rows(rows, out, count),
     }
 }
 
@@ -43,7 +95,7 @@ pub(crate) fn begin(alloc: Global, held: &mut HandleContent) -> Result<(), Statu
 {
     match held {
         HandleContent::Nothing => Err(Status::Empty),
-        HandleContent::Store(_) => Err(Status::OtherHandle),
+        HandleContent::Store(_) | HandleContent::Closed(_) => Err(Status::OtherHandle),
         HandleContent::Worker(worker) => calls::begin(alloc, worker),
     }
 }
@@ -57,12 +109,12 @@ pub(crate) fn ask(
 ) -> Result<(), Status>
     requires { IsFull held.old }
     ensures full { IsFull held.new }
-    ensures asked { OfWorker (HasAsked call.now) held.old result held.new }
+    ensures asked { OfWorker (HasAsked call.now reply.new) held.old result held.new }
     ensures kept { OnErr result (reply.new ≡ reply.old) }
 {
     match held {
         HandleContent::Nothing => Err(Status::Empty),
-        HandleContent::Store(_) => Err(Status::OtherHandle),
+        HandleContent::Store(_) | HandleContent::Closed(_) => Err(Status::OtherHandle),
         HandleContent::Worker(worker) => calls::ask(alloc, worker, call, reply),
     }
 }
@@ -73,12 +125,13 @@ pub(crate) fn pairs(
     out: &mut [PairOut],
     count: &mut usize,
 ) -> Result<(), Status>
-    ensures { OfWorker HasLooked held.now result held.now }
+    ensures told { OfWorker (HasToldPairs out.old out.new count.old count.new) held.now result held.now }
+    ensures kept { IfErr result (λ why. why ≢ NoRoom → (out.new ≡ out.old) × (count.new ≡ count.old)) }
 {
     match held {
         HandleContent::Nothing => Err(Status::Empty),
-        HandleContent::Store(_) => Err(Status::OtherHandle),
-        HandleContent::Worker(worker) => calls::pairs(worker, out, count),
+        HandleContent::Store(_) | HandleContent::Closed(_) => Err(Status::OtherHandle),
+        HandleContent::Worker(worker) => telling::last_pairs(worker, out, count),
     }
 }
 
@@ -91,7 +144,7 @@ pub(crate) fn commit(alloc: Global, held: &mut HandleContent, place: &mut u64) -
 {
     match held {
         HandleContent::Nothing => Err(Status::Empty),
-        HandleContent::Store(_) => Err(Status::OtherHandle),
+        HandleContent::Store(_) | HandleContent::Closed(_) => Err(Status::OtherHandle),
         HandleContent::Worker(worker) => calls::commit(alloc, worker, place),
     }
 }
@@ -104,7 +157,7 @@ pub(crate) fn cancel(alloc: Global, held: &mut HandleContent) -> Result<(), Stat
 {
     match held {
         HandleContent::Nothing => Err(Status::Empty),
-        HandleContent::Store(_) => Err(Status::OtherHandle),
+        HandleContent::Store(_) | HandleContent::Closed(_) => Err(Status::OtherHandle),
         HandleContent::Worker(worker) => calls::cancel(alloc, worker),
     }
 }
@@ -123,7 +176,7 @@ pub(crate) fn run(
 {
     match held {
         HandleContent::Nothing => Err(Status::Empty),
-        HandleContent::Store(_) => Err(Status::OtherHandle),
+        HandleContent::Store(_) | HandleContent::Closed(_) => Err(Status::OtherHandle),
         HandleContent::Worker(worker) => calls::run(alloc, worker, calls, replies, place),
     }
 }
@@ -135,7 +188,7 @@ pub(crate) fn tickets(held: &HandleContent, left: &mut u64) -> Result<(), Status
 {
     match held {
         HandleContent::Nothing => Err(Status::Empty),
-        HandleContent::Store(_) => Err(Status::OtherHandle),
+        HandleContent::Store(_) | HandleContent::Closed(_) => Err(Status::OtherHandle),
         HandleContent::Worker(worker) => {
             *left = worker.worker.left();
             Ok(())

@@ -3,36 +3,45 @@
 //! Each function tests what it is given, and answers a status. docs/c.md is the guide.
 #![tactic(auto)]
 
-ghost use Rattle.std.specs.Prelude.{◌≡◌, OnErr, length};
+ghost use Rattle.std.specs.Prelude.{◌≡◌, ◌≢◌, IfErr, OnErr};
+ghost use Rattle.sto_c.specs.declared.status.Status.TheVariants.{NoRoom};
 ghost use Rattle.sto_c.specs.Statuses.{Answers};
+ghost use Rattle.sto_c.specs.Stores.{
+  Fills,
+  IsStoreOf,
+  IsUnopened,
+  IsHiredOf,
+  IsUnhired,
+  KeepsStore,
+  HasFreed,
+  HasGivenBack,
+  HasClosed,
+};
 ghost use Rattle.sto_c.specs.Steps.{
   held,
   OfWorker,
-  Fills,
-  IsStoreOf,
-  IsHiredOf,
-  KeepsStore,
-  HasFreed,
   HasBegun,
   HasAsked,
   HasCommitted,
   HasCancelled,
   HasRun,
-  HasLooked,
+  HasToldPairs,
   HasToldLeft,
+  HasToldRows,
 };
 
 mod calls;
+mod content;
 mod crossing;
 mod handle;
 mod handles;
-mod held;
 mod holding;
 mod loose;
 mod opening;
 mod status;
+mod telling;
 
-use crossing::{CallIn, PairOut, ReplyOut, ShapeIn};
+use crossing::{CallIn, PairOut, ReplyOut, RowOut, ShapeIn};
 use handle::Handle;
 use status::number_of;
 use std::alloc::Global;
@@ -45,7 +54,8 @@ pub extern "C" fn sto_open(
     shapes: &[ShapeIn],
     workers: u32,
 ) -> u32
-    ensures { Answers result (λ done. Fills (IsStoreOf (length shapes.now)) (held store.old) done (held store.new)) }
+    ensures { Answers result (λ done. Fills (IsStoreOf shapes.now) (IsUnopened shapes.now workers) (held store.old) done
+        (held store.new)) }
 {
     number_of(handles::open(alloc, store, shapes, workers))
 }
@@ -53,7 +63,8 @@ pub extern "C" fn sto_open(
 /// Takes a worker of a store.
 #[unsafe(no_mangle)]
 pub extern "C" fn sto_worker(alloc: Global, store: &mut Handle, worker: &mut Handle) -> u32
-    ensures worker { Answers result (λ done. Fills (IsHiredOf (held store.old)) (held worker.old) done (held worker.new)) }
+    ensures worker { Answers result (λ done. Fills (IsHiredOf (held store.old)) (IsUnhired (held store.old) (held store.new))
+        (held worker.old) done (held worker.new)) }
     ensures store { KeepsStore (held store.old) (held store.new) }
 {
     number_of(handles::hire(alloc, store, worker))
@@ -65,6 +76,35 @@ pub extern "C" fn sto_free(alloc: Global, handle: &mut Handle) -> u32
     ensures { Answers result (λ done. HasFreed (held handle.old) done (held handle.new)) }
 {
     number_of(handles::free(alloc, handle))
+}
+
+/// Gives a worker back to its store.
+#[unsafe(no_mangle)]
+pub extern "C" fn sto_give_back(alloc: Global, worker: &mut Handle) -> u32
+    ensures { Answers result (λ done. HasGivenBack (held worker.old) done (held worker.new)) }
+{
+    number_of(handles::give_back(alloc, worker))
+}
+
+/// Closes a store.
+#[unsafe(no_mangle)]
+pub extern "C" fn sto_close(alloc: Global, store: &mut Handle) -> u32
+    ensures { Answers result (λ done. HasClosed (held store.old) done (held store.new)) }
+{
+    number_of(handles::close(alloc, store))
+}
+
+/// Copies the rows of a closed store.
+#[unsafe(no_mangle)]
+pub extern "C" fn sto_rows(
+    alloc: Global,
+    closed: &mut Handle,
+    rows: &mut [RowOut],
+    count: &mut usize,
+) -> u32
+    ensures { Answers result (λ done. HasToldRows rows.old rows.new count.old count.new (held closed.old) done (held closed.new)) }
+{
+    number_of(handles::rows(alloc, closed, rows, count))
 }
 
 /// Begins a transaction.
@@ -83,7 +123,7 @@ pub extern "C" fn sto_ask(
     call: &CallIn,
     reply: &mut ReplyOut,
 ) -> u32
-    ensures { Answers result (λ done. OfWorker (HasAsked call.now) (held worker.old) done (held worker.new)
+    ensures { Answers result (λ done. OfWorker (HasAsked call.now reply.new) (held worker.old) done (held worker.new)
         × OnErr done (reply.new ≡ reply.old)) }
 {
     number_of(handles::ask(alloc, worker, call, reply))
@@ -97,7 +137,8 @@ pub extern "C" fn sto_pairs(
     pairs: &mut [PairOut],
     count: &mut usize,
 ) -> u32
-    ensures { Answers result (λ done. OfWorker HasLooked (held worker.old) done (held worker.new)) }
+    ensures { Answers result (λ done. OfWorker (HasToldPairs pairs.old pairs.new count.old count.new) (held worker.old) done
+        (held worker.new) × IfErr done (λ why. why ≢ NoRoom → (pairs.new ≡ pairs.old) × (count.new ≡ count.old))) }
 {
     number_of(handles::pairs(alloc, worker, pairs, count))
 }

@@ -1,29 +1,31 @@
-//! A store is opened, and its workers are given out.
-ghost use Rattle.std.specs.Prelude.{◌≡◌, IfOk, length};
+//! A store is opened and closed, and its workers are given out.
+ghost use Rattle.std.specs.Prelude.{◌≡◌, Some, map, IfOk, IfErr};
 ghost use Rattle.std.specs.Arc.{arc_value};
-ghost use Rattle.sto_c.specs.Held.{IsStore, IsWorker};
+ghost use Rattle.sto_c.specs.declared.content.HandleContent.TheVariants.{Store};
+ghost use Rattle.sto_c.specs.Content.{IsHeld, IsStore, IsWorker};
+ghost use Rattle.sto_c.specs.Crossing.{shape_in};
+ghost use Rattle.sto_c.specs.Stores.{HasShapes, IsUnplanned, IsUnopened, IsSameStore, IsUnhiredOf, HasClosedStore};
 
+use crate::content::{HandleContent, HeldStore, HeldWorker};
 use crate::crossing::ShapeIn;
-use crate::held::{HeldStore, HeldWorker};
 use crate::status::Status;
+use crate::telling::all_rows;
 use std::alloc::Global;
 use sto_open::Plan;
-use sto_owned::{OwnedStore, Unhired};
+use sto_owned::{OwnedStore, StillOpen, Unhired};
 use sto_part::NoMemory;
 
 // The plan of these objects.
 fn plan_of(alloc: Global, shapes: &[ShapeIn]) -> Result<Plan, Status>
-    ensures { IfOk result (λ plan. length plan ≡ length shapes.now) }
+    ensures plan { IfOk result (λ plan. map shape_in shapes.now ≡ map Some plan) }
+    ensures refused { IfErr result (λ why. IsUnplanned shapes.now why) }
 {
     let mut plan = Plan::new(alloc);
     for given in shapes {
         let Some(shape) = given.shape() else {
             return Err(Status::BadKind);
         };
-        match plan.add(shape) {
-            Ok(_) => {}
-            Err(error) => return Err(Status::from(error)),
-        }
+        plan.add(shape)?;
     }
     Ok(plan)
 }
@@ -31,34 +33,77 @@ fn plan_of(alloc: Global, shapes: &[ShapeIn]) -> Result<Plan, Status>
 /// Opens a store of these objects, for so many workers.
 pub(crate) fn open(alloc: Global, shapes: &[ShapeIn], workers: u32) -> Result<HeldStore, Status>
     ensures store { IfOk result IsStore }
-    ensures objects { IfOk result (λ h. h.objects ≡ length shapes.now) }
+    ensures shapes { IfOk result (HasShapes shapes.now) }
+    ensures unopened { IfErr result (IsUnopened shapes.now workers) }
 {
     let plan = plan_of(alloc, shapes)?;
     let objects = plan.len();
-    match plan.open(alloc, workers) {
-        Ok(opened) => match OwnedStore::new(alloc, opened) {
-            Ok(store) => Ok(HeldStore { store, objects }),
-            Err(NoMemory) => Err(Status::NoMemory),
-        },
-        Err(error) => Err(Status::from(error)),
+    let opened = plan.open(alloc, workers)?;
+    match OwnedStore::new(alloc, opened) {
+        Ok(store) => Ok(HeldStore { store, objects }),
+        Err(NoMemory) => Err(Status::NoMemory),
     }
 }
 
-/// Gives a worker out.
-pub(crate) fn hire(alloc: Global, store: &mut HeldStore) -> Result<HeldWorker, Status>
-    requires { IsStore store.old }
-    ensures store { IsStore store.new }
-    ensures worker { IfOk result IsWorker }
-    ensures hired { IfOk result (λ k. (arc_value k.worker.store ≡ arc_value store.old.store.store)
-        × (k.objects ≡ store.old.objects)) }
-    ensures kept { (store.new.store.store ≡ store.old.store.store) × (store.new.objects ≡ store.old.objects) }
+// Takes in the workers that came back, where none rests in the store.
+fn refill(held: &mut HeldStore) -> Result<(), NoMemory>
+    requires { IsStore held.old }
+    ensures store { IsStore held.new }
+    ensures same { IsSameStore 0 held.old held.new }
 {
-    match store.store.hire(alloc) {
+    if held.store.idle.is_empty() {
+        held.store.gather()
+    } else {
+        Ok(())
+    }
+}
+
+/// Gives a worker out that rests in the store, or has come back to it.
+pub(crate) fn hire(alloc: Global, held: &mut HeldStore) -> Result<HeldWorker, Status>
+    requires { IsStore held.old }
+    ensures store { IsStore held.new }
+    ensures worker { IfOk result IsWorker }
+    ensures hired { IfOk result (λ k. (arc_value k.worker.store ≡ arc_value held.old.store.store)
+        × (k.objects ≡ held.old.objects)) }
+    ensures kept { IsSameStore 1 held.old held.new }
+    ensures unhired { IfErr result (λ why. IsUnhiredOf held.old why held.new) }
+{
+    let Ok(()) = refill(held) else {
+        return Err(Status::NoMemory);
+    };
+    match held.store.hire(alloc) {
         Ok(worker) => Ok(HeldWorker {
             worker,
-            objects: store.objects,
+            objects: held.objects,
         }),
         Err(Unhired::NoneLeft) => Err(Status::NoWorker),
         Err(Unhired::NoMemory) => Err(Status::NoMemory),
+    }
+}
+
+/// Closes a store, and answers what is left of it.
+pub(crate) fn close(alloc: Global, held: HeldStore) -> (HandleContent, Result<(), Status>)
+    requires { IsStore held }
+    ensures held { IsHeld result.0 }
+    ensures closed { HasClosedStore held result.1 result.0 }
+{
+    let HeldStore { store, objects } = held;
+    let mut store = store;
+    if store.gather().is_err() {
+        return (
+            HandleContent::Store(HeldStore { store, objects }),
+            Err(Status::NoMemory),
+        );
+    }
+    match store.close(alloc) {
+        Ok(state) => match all_rows(alloc, &state) {
+            Ok(rows) => (HandleContent::Closed(rows), Ok(())),
+            Err(NoMemory) => (HandleContent::Nothing, Err(Status::NoMemory)),
+        },
+        Err(StillOpen::Missing(store)) => (
+            HandleContent::Store(HeldStore { store, objects }),
+            Err(Status::WorkersOut),
+        ),
+        Err(StillOpen::NoMemory) => (HandleContent::Nothing, Err(Status::NoMemory)),
     }
 }

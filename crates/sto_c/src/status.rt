@@ -1,6 +1,6 @@
 //! What a function answers, as include/sto.h has it.
 ghost use Rattle.std.specs.Prelude.{◌≡◌};
-ghost use Rattle.sto_c.specs.Statuses.{number, number_of};
+ghost use Rattle.sto_c.specs.Statuses.{number, number_of, of_unplanned, of_unopened};
 
 use sto_open::{Unopened, Unplanned};
 
@@ -25,6 +25,7 @@ pub enum Status {
     BadSize,
     TooMany,
     NoRoom,
+    WorkersOut,
 }
 
 impl Status {
@@ -51,6 +52,7 @@ impl Status {
             Status::BadSize => 16,
             Status::TooMany => 17,
             Status::NoRoom => 18,
+            Status::WorkersOut => 19,
         }
     }
 }
@@ -66,6 +68,8 @@ pub(crate) fn number_of(done: Result<(), Status>) -> u32
 }
 
 impl From<Unplanned> for Status {
+    ghost from_gives = { λ error status. status ≡ of_unplanned error };
+
     fn from(error: Unplanned) -> Status {
         match error {
             Unplanned::OutOfOrder => Status::BadOrder,
@@ -77,6 +81,8 @@ impl From<Unplanned> for Status {
 }
 
 impl From<Unopened> for Status {
+    ghost from_gives = { λ error status. status ≡ of_unopened error };
+
     fn from(error: Unopened) -> Status {
         match error {
             Unopened::Workers => Status::BadWorkers,

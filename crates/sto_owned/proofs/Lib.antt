@@ -1,1 +1,4 @@
 pub mod Same
+pub mod Lists
+pub mod Answered
+pub mod Sending

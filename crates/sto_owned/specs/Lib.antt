@@ -1,4 +1,5 @@
 pub mod Owned
+pub mod Endings
 pub use Rattle.sto_open.specs.Working
 pub use Rattle.sto_session.specs.Sessions
 pub use Rattle.sto_session.specs.Steps

@@ -1,31 +1,47 @@
 //! A store, and the workers of it that were not given out.
-ghost use Rattle.std.specs.Prelude.{◌≡◌, ◌+◌, IfOk, OnErr, [], length};
+ghost use Rattle.std.specs.Prelude.{◌≡◌, ◌+◌, ◌≤◌, ◌<◌, ◌^◌, [], length, map, IfOk, IfErr, OnErr};
 ghost use Rattle.std.specs.List.{All};
 ghost use Rattle.std.specs.Arc.{arc_value};
-ghost use Rattle.sto_open.specs.Working.{IsWorker};
+ghost use Rattle.sto_serial_history.specs.Done.{HaveHistory};
+ghost use Rattle.sto_open.specs.Working.{IsWorker, AreRowsAfter};
 ghost use Rattle.sto_owned.specs.Owned.{IsOwnedStore, IsOwnedWorker};
+ghost use Rattle.sto_owned.specs.Endings.{IsUnhired, StaysOpen};
 
+use crate::given::{ReturnSlot, take};
 use crate::worker::OwnedWorker;
+use counted_slot::Counted;
 use std::alloc::Global;
 use std::sync::Arc;
-use sto_open::{IdleWorker, IdleWorkers, OpenedStore, Store};
-use sto_part::NoMemory;
+use sto_model::State;
+use sto_open::{IdleWorker, IdleWorkers, OpenedStore, Store, Unclosed};
+use sto_part::{List, NoMemory};
 use sto_session::Session;
 use sto_type::TxType;
 
-/// A store, and the workers of it that were not given out. The store lives until this and all its workers are dropped.
+/// A store, and the workers of it that rest in it. The store lives until this and all its workers are dropped.
 #[derive(Drop)]
 pub struct OwnedStore<T: TxType + Drop> {
     pub store: Arc<Store<T>, Global>,
     pub idle: IdleWorkers<T>,
+    /// Where the workers that were given out come back, each in a slot of its own.
+    pub slots: List<Arc<ReturnSlot<T>, Global>>,
 }
 
 /// Why no worker was given out.
 #[derive(Clone, Copy, PartialEq, Eq, Debug)]
 pub enum Unhired {
-    /// All were given out.
+    /// None rests in the store.
     NoneLeft,
-    /// There are as many owners of the store as can be counted.
+    /// Memory was wanting, or there are as many owners of the store as can be counted.
+    NoMemory,
+}
+
+/// Why a store was not closed.
+#[derive(Drop)]
+pub enum StillOpen<T: TxType + Drop> {
+    /// Not all its workers rest in it. Here it is.
+    Missing(OwnedStore<T>),
+    /// Memory was wanting. The store is lost.
     NoMemory,
 }
 
@@ -43,27 +59,122 @@ impl<T: TxType + Drop> OwnedStore<T> {
             Ok(store) => Ok(OwnedStore {
                 store,
                 idle: workers,
+                slots: List::new(alloc),
             }),
             Err(_) => Err(NoMemory),
         }
     }
 
-    /// Gives a worker out.
+    // A new slot for a worker, which the store keeps too.
+    fn lend_slot(&mut self, alloc: Global) -> Result<Arc<ReturnSlot<T>, Global>, NoMemory>
+        requires { IsOwnedStore T.TxType self.old }
+        ensures slot { IfOk result (λ slot. arc_value slot ≡ arc_value self.old.store) }
+        ensures owned { IsOwnedStore T.TxType self.new }
+        ensures kept { (self.new.store ≡ self.old.store) × (self.new.idle ≡ self.old.idle) }
+        ensures err { OnErr result (self.new ≡ self.old) }
+    {
+        if self.slots.len() == u32::MAX {
+            return Err(NoMemory);
+        }
+        let Ok(slot) = Arc::new(alloc, Counted::new(None, &*self.store)) else {
+            return Err(NoMemory);
+        };
+        let Ok(kept) = Arc::try_clone(&slot) else {
+            return Err(NoMemory);
+        };
+        match self.slots.push(kept) {
+            Ok(()) => Ok(slot),
+            Err(_) => Err(NoMemory),
+        }
+    }
+
+    /// Gives a worker out that rests here.
     pub fn hire(&mut self, alloc: Global) -> Result<OwnedWorker<T>, Unhired>
         requires { IsOwnedStore T.TxType self.old }
         ensures store { self.new.store ≡ self.old.store }
         ensures same { IfOk result (λ w. arc_value w.store ≡ arc_value self.old.store) }
-        ensures one { IfOk result (λ w. length self.new.idle.items + 1 ≡ length self.old.idle.items) }
+        ensures one { IfOk result (λ _. length self.new.idle.items + 1 ≡ length self.old.idle.items) }
         ensures owned { IsOwnedStore T.TxType self.new }
         ensures worker { IfOk result (IsOwnedWorker T.TxType) }
-        ensures none { OnErr result (self.new.idle ≡ self.old.idle) }
+        ensures unhired { IfErr result (λ why. IsUnhired why self.old self.new) }
     {
+        if self.idle.is_empty() {
+            return Err(Unhired::NoneLeft);
+        }
         let Ok(store) = Arc::try_clone(&self.store) else {
             return Err(Unhired::NoMemory);
         };
+        let Ok(slot) = self.lend_slot(alloc) else {
+            return Err(Unhired::NoMemory);
+        };
         match self.idle.pop() {
-            Some(worker) => Ok(OwnedWorker::new(alloc, store, worker)),
-            None => Err(Unhired::NoneLeft),
+            Some(worker) => Ok(OwnedWorker::new(alloc, store, slot, worker)),
+            None => unreachable!(),
+        }
+    }
+
+    // Takes in the worker that waits in a slot, if there is one.
+    fn take_in(&mut self, place: u32)
+        requires owned { IsOwnedStore T.TxType self.old }
+        requires place { place < length self.old.slots.items }
+        requires room { 1 ≤ self.old.idle.spare }
+        requires few { length self.old.idle.items + 1 < 2 ^ 32 }
+        ensures owned { IsOwnedStore T.TxType self.new }
+        ensures store { self.new.store ≡ self.old.store }
+        ensures slots { place ≤ length self.new.slots.items }
+        ensures room { self.old.idle.spare ≤ self.new.idle.spare + 1 }
+        ensures idle { length self.old.idle.items ≤ length self.new.idle.items }
+        ensures one { length self.new.idle.items ≤ length self.old.idle.items + 1 }
+    {
+        if let Some(worker) = take(&**self.slots.get(place)) {
+            self.slots.remove(place);
+            self.idle.push_spare(worker);
+        }
+    }
+
+    /// Takes in the workers that were given back. Where memory is wanting they wait.
+    pub fn gather(&mut self) -> Result<(), NoMemory>
+        requires { IsOwnedStore T.TxType self.old }
+        ensures owned { IsOwnedStore T.TxType self.new }
+        ensures store { self.new.store ≡ self.old.store }
+        ensures idle { length self.old.idle.items ≤ length self.new.idle.items }
+        ensures err { OnErr result ((self.new.idle ≡ self.old.idle) × (self.new.slots ≡ self.old.slots)) }
+    {
+        let many = self.slots.len();
+        if u32::MAX - self.idle.len() <= many {
+            return Err(NoMemory);
+        }
+        self.idle.reserve(many)?;
+        let mut place = many;
+        while 0 < place {
+            place -= 1;
+            self.take_in(place);
+        }
+        Ok(())
+    }
+
+    /// Closes the store, in which all its workers rest, and answers the rows that its objects hold: the last state of a serial
+    /// history of all that its workers have done.
+    pub fn close(self, alloc: Global) -> Result<State, StillOpen<T>>
+        requires { IsOwnedStore T.TxType self }
+        ensures rows { IfOk result (λ rows. AreRowsAfter T.valid (T.meaning (arc_value self.store).ty)
+            (map (λ w. w.rest.seat.me.0.view) self.idle.items) rows.items) }
+        ensures history { IfOk result (λ rows. HaveHistory (T.meaning (arc_value self.store).ty)
+            (map (λ w. w.rest.seat.me.0.view) self.idle.items) rows.items) }
+        ensures all { IfOk result (λ _. length self.idle.items ≡ (arc_value self.store).shared.table.shared.key.passes) }
+        ensures missing { IfErr result (StaysOpen self) }
+    {
+        if self.idle.len() != self.store.passes {
+            return Err(StillOpen::Missing(self));
+        }
+        let OwnedStore { store, idle, slots } = self;
+        match Arc::try_unwrap(store) {
+            Ok(store) => match store.close(alloc, idle) {
+                Ok(rows) => Ok(rows),
+                Err(Unclosed::Missing(_, _)) => unreachable!(),
+                Err(Unclosed::NoMemory) => Err(StillOpen::NoMemory),
+            },
+            Err(store) => Err(StillOpen::Missing(OwnedStore { store, idle, slots })),
         }
     }
 }

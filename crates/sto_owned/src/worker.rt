@@ -1,11 +1,13 @@
 //! A worker of a store.
-ghost use Rattle.std.specs.Prelude.{◌≡◌, ◌≢◌, IfSome, Some, None};
+ghost use Rattle.std.specs.Prelude.{◌≡◌, IfSome, IfErr, None, option_map};
 ghost use Rattle.std.specs.Arc.{arc_value};
 ghost use Rattle.sto_open.specs.Working.{IsWorker};
 ghost use Rattle.sto_session.specs.Sessions.{IsSessionOf};
 ghost use Rattle.sto_session.specs.Steps.{HasBegun, HasAsked, HasEndedBy, HasCommittedAfter, HasCancelledAfter};
-ghost use Rattle.sto_owned.specs.Owned.{Leads, IsOwnedWorker};
+ghost use Rattle.sto_owned.specs.Owned.{Leads, IsOwnedWorker, replies_of};
+ghost use Rattle.sto_owned.specs.Endings.{StaysOut, worker_of};
 
+use crate::given::{ReturnSlot, give};
 use std::alloc::Global;
 use std::mem;
 use std::sync::Arc;
@@ -19,21 +21,40 @@ use sto_type::TxType;
 #[derive(Drop)]
 pub struct OwnedWorker<T: TxType + Drop> {
     pub store: Arc<Store<T>, Global>,
+    /// Where it waits when it is given back.
+    pub slot: Arc<ReturnSlot<T>, Global>,
     /// What it is at.
     pub session: Option<Session<T>>,
 }
 
+/// Why a worker was not given back. Here it is.
+#[derive(Drop)]
+pub enum StillOut<T: TxType + Drop> {
+    /// It is in a transaction.
+    InTransaction(OwnedWorker<T>),
+    /// Another call is at its slot.
+    Busy(OwnedWorker<T>),
+}
+
 impl<T: TxType + Drop> OwnedWorker<T> {
     /// A worker that was at rest.
-    pub fn new(alloc: Global, store: Arc<Store<T>, Global>, worker: IdleWorker<T>) -> OwnedWorker<T>
-        requires { IsWorker (T.meaning (arc_value store).ty) (T.sizes (arc_value store).ty) (arc_value store).shared worker.rest.seat }
-        ensures store { result.store ≡ store }
+    pub(crate) fn new(
+        alloc: Global,
+        store: Arc<Store<T>, Global>,
+        slot: Arc<ReturnSlot<T>, Global>,
+        worker: IdleWorker<T>,
+    ) -> OwnedWorker<T>
+        requires rests { IsWorker (T.meaning (arc_value store).ty) (T.sizes (arc_value store).ty) (arc_value store).shared
+            worker.rest.seat }
+        requires same { arc_value slot ≡ arc_value store }
+        ensures store { (result.store ≡ store) × (result.slot ≡ slot) }
         ensures worker { IsOwnedWorker T.TxType result }
         ensures free { IfSome result.session (λ x. (x.rest ≡ worker.rest) × (x.left ≡ worker.left) × (x.live ≡ None)) }
     {
         let IdleWorker { rest, left } = worker;
         OwnedWorker {
             store,
+            slot,
             session: Some(Session::new(rest, left, Memory::new(alloc))),
         }
     }
@@ -42,7 +63,7 @@ impl<T: TxType + Drop> OwnedWorker<T> {
     pub fn begin(&mut self, alloc: Global) -> Result<(), Unbegun>
         requires { IsOwnedWorker T.TxType self.old }
         ensures worker { IsOwnedWorker T.TxType self.new }
-        ensures store { self.new.store ≡ self.old.store }
+        ensures store { (self.new.store ≡ self.old.store) × (self.new.slot ≡ self.old.slot) }
         ensures begun { Leads (λ x y. HasBegun T.TxType (arc_value self.old.store).ty (arc_value self.old.store).shared x result y)
             self.old.session self.new.session }
     {
@@ -58,9 +79,9 @@ impl<T: TxType + Drop> OwnedWorker<T> {
     pub fn ask(&mut self, alloc: Global, call: Call) -> Result<(), Unanswered>
         requires { IsOwnedWorker T.TxType self.old }
         ensures worker { IsOwnedWorker T.TxType self.new }
-        ensures store { self.new.store ≡ self.old.store }
-        ensures asked { Leads (λ x y. HasAsked T.TxType (arc_value self.old.store).ty (arc_value self.old.store).shared x call result y)
-            self.old.session self.new.session }
+        ensures store { (self.new.store ≡ self.old.store) × (self.new.slot ≡ self.old.slot) }
+        ensures asked { Leads (λ x y. HasAsked T.TxType (arc_value self.old.store).ty (arc_value self.old.store).shared x call
+            result y) self.old.session self.new.session }
     {
         let Some(session) = mem::replace(&mut self.session, None) else {
             unreachable!()
@@ -74,9 +95,10 @@ impl<T: TxType + Drop> OwnedWorker<T> {
     pub fn commit(&mut self, alloc: Global) -> Result<u64, Uncommitted>
         requires { IsOwnedWorker T.TxType self.old }
         ensures worker { IsOwnedWorker T.TxType self.new }
-        ensures store { self.new.store ≡ self.old.store }
-        ensures committed { Leads (λ x y. HasEndedBy T.TxType (arc_value self.old.store).ty (arc_value self.old.store).shared x result y
-            (HasCommittedAfter T.TxType (arc_value self.old.store).ty (arc_value self.old.store).shared)) self.old.session self.new.session }
+        ensures store { (self.new.store ≡ self.old.store) × (self.new.slot ≡ self.old.slot) }
+        ensures committed { Leads (λ x y. HasEndedBy T.TxType (arc_value self.old.store).ty (arc_value self.old.store).shared x
+            result y (HasCommittedAfter T.TxType (arc_value self.old.store).ty (arc_value self.old.store).shared))
+            self.old.session self.new.session }
     {
         let Some(session) = mem::replace(&mut self.session, None) else {
             unreachable!()
@@ -90,9 +112,10 @@ impl<T: TxType + Drop> OwnedWorker<T> {
     pub fn cancel(&mut self, alloc: Global) -> Result<u64, Uncommitted>
         requires { IsOwnedWorker T.TxType self.old }
         ensures worker { IsOwnedWorker T.TxType self.new }
-        ensures store { self.new.store ≡ self.old.store }
-        ensures cancelled { Leads (λ x y. HasEndedBy T.TxType (arc_value self.old.store).ty (arc_value self.old.store).shared x result y
-            (HasCancelledAfter T.TxType (arc_value self.old.store).ty (arc_value self.old.store).shared)) self.old.session self.new.session }
+        ensures store { (self.new.store ≡ self.old.store) × (self.new.slot ≡ self.old.slot) }
+        ensures cancelled { Leads (λ x y. HasEndedBy T.TxType (arc_value self.old.store).ty (arc_value self.old.store).shared x
+            result y (HasCancelledAfter T.TxType (arc_value self.old.store).ty (arc_value self.old.store).shared))
+            self.old.session self.new.session }
     {
         let Some(session) = mem::replace(&mut self.session, None) else {
             unreachable!()
@@ -104,7 +127,7 @@ impl<T: TxType + Drop> OwnedWorker<T> {
 
     /// What the calls of the transaction were answered, in order; none where it is in no transaction.
     pub fn replies(&self) -> Option<&Replies>
-        ensures { IfSome result (λ r. IfSome self.now.session (λ x. IfSome x.live (λ p. r.now ≡ p.attempt.replies))) }
+        ensures { option_map (λ r. r.now) result ≡ replies_of self.now }
     {
         match &self.session {
             Some(session) => session.replies(),
@@ -119,6 +142,43 @@ impl<T: TxType + Drop> OwnedWorker<T> {
         match &self.session {
             Some(session) => session.left,
             None => 0,
+        }
+    }
+
+    /// Gives the worker back to its store, where it waits until `OwnedStore::gather` takes it in.
+    pub fn give_back(self) -> Result<(), StillOut<T>>
+        requires { IsOwnedWorker T.TxType self }
+        ensures worker { IfErr result (λ why. IsOwnedWorker T.TxType (worker_of why)) }
+        ensures out { IfErr result (StaysOut self) }
+    {
+        let OwnedWorker {
+            store,
+            slot,
+            session,
+        } = self;
+        let Some(session) = session else {
+            unreachable!()
+        };
+        if session.live.is_some() {
+            return Err(StillOut::InTransaction(OwnedWorker {
+                store,
+                slot,
+                session: Some(session),
+            }));
+        }
+        let Session {
+            rest,
+            left,
+            memory,
+            ..
+        } = session;
+        match give(&*slot, IdleWorker { rest, left }) {
+            Ok(()) => Ok(()),
+            Err(IdleWorker { rest, left }) => Err(StillOut::Busy(OwnedWorker {
+                store,
+                slot,
+                session: Some(Session::new(rest, left, memory)),
+            })),
         }
     }
 }

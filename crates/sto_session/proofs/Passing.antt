@@ -1,5 +1,5 @@
 -- A session's pass, before a call and after it.
-use Rattle.std.proofs.Common.{◌≡◌, ◌<◌, ◌≤◌, ◌+◌, ℕ, true, List, [], ◌∷◌, ◌++◌, Option, Some, None, Ok, Err, refl, sym, ap, ◌∙◌, subst, arith}
+use Rattle.std.proofs.Common.{◌≡◌, ◌<◌, ◌≤◌, ◌+◌, ℕ, true, List, [], ◌∷◌, ◌++◌, Option, Some, None, Err, refl, sym, ap, ◌∙◌, subst, arith}
 use Rattle.atomic_table.specs.declared.shared.Seat.{Seat}
 use Rattle.sto_part.specs.declared.naming.Naming as naming
 use Rattle.sto_model.specs.declared.call.Call.{Call}
@@ -33,7 +33,7 @@ use Rattle.sto_live.specs.Lives as lives
 use Rattle.sto_live.specs.Pausing.{IsPaused}
 use Rattle.sto_session.specs.declared.session.Session.{Session}
 use Rattle.sto_session.specs.Sessions.{Rests, Waits, IsFree, IsAsking, view_of}
-use Rattle.sto_session.specs.Steps.{place_of, HasCommittedAfter, HasCancelledAfter, HasTakenPlace, HasFailed, IsAnswered, WasAborted, WasGivenUp, passes_of}
+use Rattle.sto_session.specs.Steps.{place_of, HasCommittedAfter, HasCancelledAfter, HasFailed, IsAnswered, WasAborted, passes_of}
 
 abbrev pub Pass : Type 0
 Pass = Seat (Unit {0}) Stance

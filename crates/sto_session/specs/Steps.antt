@@ -1,5 +1,5 @@
 -- What the calls of a session lead to: from the session x to the session y, or from a view of its pass.
-use Rattle.std.specs.Prelude.{◌≡◌, ◌≢◌, ℕ, true, false, List, [], ◌∷◌, ◌++◌, None, Result, Ok, Err}
+use Rattle.std.specs.Prelude.{◌≡◌, ◌≢◌, ◌+◌, ℕ, true, List, [], ◌∷◌, ◌++◌, None, Result, Ok, Err}
 use Rattle.sto_part.specs.declared.naming.Naming as naming
 use Rattle.sto_model.specs.declared.call.Call.{Call}
 use Rattle.sto_model.specs.declared.run.End.TheVariants.{Commit}
@@ -56,11 +56,12 @@ module _ {T : Type 0} {n : naming.Ghosts T} (t : OfType T) (ty : T) (s : Shared 
   HasStarted begun left (Err unbegun.Worn) y = ⊥
   HasStarted begun left (Err unbegun.NoMemory) y = HasFailed begun y × (y.left ≡ left)
 
+  -- one ticket less is left where it was begun, and where memory was wanting
   abbrev pub HasBegun : Session T n → Result (Unit {0}) Unbegun → Session T n → Type 0
-  HasBegun x (Ok started) y = (x.live ≡ None) × IsAsking t ty s [] [] y (view_of x)
+  HasBegun x (Ok started) y = (x.live ≡ None) × IsAsking t ty s [] [] y (view_of x) × (y.left + 1 ≡ x.left)
   HasBegun x (Err unbegun.InTransaction) y = (x.live ≢ None) × IsUnchanged x y
   HasBegun x (Err unbegun.Worn) y = (x.live ≡ None) × (x.left ≡ 0) × IsUnchanged x y
-  HasBegun x (Err unbegun.NoMemory) y = (x.live ≡ None) × HasFailed (view_of x) y
+  HasBegun x (Err unbegun.NoMemory) y = (x.live ≡ None) × HasFailed (view_of x) y × (y.left + 1 ≡ x.left)
 
   -- a call was answered: it and its reply come last. On all valid contents that have the claims of the pass as of a number of the clock,
   -- the calls, run one after the other, answer exactly these replies
@@ -88,6 +89,7 @@ module _ {T : Type 0} {n : naming.Ghosts T} (t : OfType T) (ty : T) (s : Shared 
   pub record HasAsked (x : Session T n) (call : Call) (result : Result (Unit {0}) Unanswered) (y : Session T n) : Type 0 where
     pub free : x.live ≡ None → (result ≡ Err unanswered.NoTransaction) × IsUnchanged x y
     pub asking : (calls : List Call) (rs : List Told) (begun : View) → IsAsking t ty s calls rs x begun → HasAskedAfter calls rs begun call result y
+    pub left : y.left ≡ x.left
 
   -- its record tells of these calls and of exactly these replies, and it stands in the order at this place
   pub record HasTakenPlace (calls : List Call) (rs : List Told) (place : ℕ) (y : Session T n) (begun : View) : Type 0 where
@@ -117,3 +119,4 @@ module _ {T : Type 0} {n : naming.Ghosts T} (t : OfType T) (ty : T) (s : Shared 
   pub record HasEndedBy (x : Session T n) (result : Result ℕ Uncommitted) (y : Session T n) (ends : List Call → List Told → View → Result ℕ Uncommitted → Session T n → Type 0) : Type 0 where
     pub free : x.live ≡ None → (result ≡ Err uncommitted.NoTransaction) × IsUnchanged x y
     pub asking : (calls : List Call) (rs : List Told) (begun : View) → IsAsking t ty s calls rs x begun → ends calls rs begun result y
+    pub left : y.left ≡ x.left

@@ -1,5 +1,5 @@
 //! A call of a transaction is asked.
-ghost use Rattle.std.specs.Prelude.{◌≡◌, ◌≤◌, ◌<◌, IfSome, IfNone, Some, None, List};
+ghost use Rattle.std.specs.Prelude.{◌≡◌, ◌≤◌, ◌<◌, Some, None, List, option_map};
 ghost use Rattle.sto_model.specs.declared.call.Call.{Call};
 ghost use Rattle.sto_model.specs.Told.{Told};
 ghost use Rattle.sto_core.specs.declared.view.View.{View};
@@ -54,10 +54,9 @@ impl<T: TxType> Session<T> {
         }
     }
 
-    /// What the calls of the transaction were answered, in order.
+    /// What the calls of the transaction were answered, in order; none where it is in no transaction.
     pub fn replies(&self) -> Option<&Replies>
-        ensures some { IfSome result (λ r. IfSome self.now.live (λ p. r.now ≡ p.attempt.replies)) }
-        ensures none { IfNone result (self.now.live ≡ None) }
+        ensures { option_map (λ r. r.now) result ≡ option_map (λ p. p.attempt.replies) self.now.live }
     {
         match &self.live {
             Some(live) => Some(live.replies()),
@@ -80,7 +79,9 @@ fn ask<T: TxType>(
     requires waits { (calls : List Call) × (rs : List Told) × (begun : View)
         × Waits T.TxType ty.now shared.now calls rs live begun rest.seat left }
     requires one { rest.seat.me.0.view.gathered ≡ 1 }
-    ensures { (calls : List Call) (rs : List Told) (begun : View) → Waits T.TxType ty.now shared.now calls rs live begun rest.seat left
+    ensures left { result.0.left ≡ left }
+    ensures asked { (calls : List Call) (rs : List Told) (begun : View)
+        → Waits T.TxType ty.now shared.now calls rs live begun rest.seat left
         → HasAskedAfter T.TxType ty.now shared.now calls rs begun call result.1 result.0 }
 {
     let mut pass = shared.pass(rest);

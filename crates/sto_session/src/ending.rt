@@ -93,7 +93,9 @@ fn commit<T: TxType>(
     requires waits { (calls : List Call) × (rs : List Told) × (begun : View)
         × Waits T.TxType ty.now shared.now calls rs live begun rest.seat left }
     requires one { rest.seat.me.0.view.gathered ≡ 1 }
-    ensures { (calls : List Call) (rs : List Told) (begun : View) → Waits T.TxType ty.now shared.now calls rs live begun rest.seat left
+    ensures left { result.0.left ≡ left }
+    ensures committed { (calls : List Call) (rs : List Told) (begun : View)
+        → Waits T.TxType ty.now shared.now calls rs live begun rest.seat left
         → HasCommittedAfter T.TxType ty.now shared.now calls rs begun result.1 result.0 }
 {
     let mut pass = shared.pass(rest);
@@ -124,7 +126,9 @@ fn cancel<T: TxType>(
     requires waits { (calls : List Call) × (rs : List Told) × (begun : View)
         × Waits T.TxType ty.now shared.now calls rs live begun rest.seat left }
     requires one { rest.seat.me.0.view.gathered ≡ 1 }
-    ensures { (calls : List Call) (rs : List Told) (begun : View) → Waits T.TxType ty.now shared.now calls rs live begun rest.seat left
+    ensures left { result.0.left ≡ left }
+    ensures cancelled { (calls : List Call) (rs : List Told) (begun : View)
+        → Waits T.TxType ty.now shared.now calls rs live begun rest.seat left
         → HasCancelledAfter T.TxType ty.now shared.now calls rs begun result.1 result.0 }
 {
     let live = live.go_on(ty);

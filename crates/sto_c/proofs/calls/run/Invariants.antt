@@ -1,5 +1,5 @@
 -- It stays a worker of its store.
-use Rattle.sto_c.specs.Held.{IsWorker}
+use Rattle.sto_c.specs.Content.{IsWorker}
 use Rattle.sto_c.specs.Steps.{IsOfSameStore}
 use Rattle.sto_c.proofs.calls.run.Given as goal
 

@@ -1,6 +1,7 @@
--- As many are planned as were taken.
-use Rattle.std.proofs.Common.{◌≡◌, length}
+-- All that were taken are planned.
+use Rattle.std.proofs.Common.{◌≡◌, map, take, Some}
+use Rattle.sto_c.specs.Crossing.{shape_in}
 use Rattle.sto_c.proofs.opening.plan_of.Given as goal
 
 abbrev pub invariant-loop-given : goal.invariant-loop-given
-invariant-loop-given l = length l.plan ≡ l.given-index
+invariant-loop-given l = map shape_in (take l.given-index l.shapes) ≡ map Some l.plan

@@ -1,12 +1,11 @@
 -- It goes on from where it was, and asks the call.
-use Rattle.std.proofs.Common.{List, [], ◌∷◌, ◌++◌, ap, sym, ◌∙◌, subst}
-use Rattle.sto_model.specs.declared.call.Call.{Call}
+use Rattle.std.proofs.Common.{[], ◌∷◌, ◌++◌, ap, sym, ◌∙◌, subst}
 use Rattle.sto_type.specs.Traits.{of_type}
 use Rattle.sto_core.specs.declared.view.View.{View}
 use Rattle.sto_table.specs.Rests.{IsOf}
 use Rattle.sto_live.specs.declared.live.Stopped.TheVariants.{Aborted, Untaken, NoMemory}
 use Rattle.sto_table.specs.declared.shared.Rest.{Rest}
-use Rattle.sto_session.proofs.Passing.{Pass, same_words, goes_on, more_left, still_left, all_left, free_on, fails, waits_now, waits_still, answered, untaken, aborted, stopped}
+use Rattle.sto_session.proofs.Passing.{Pass, same_words, goes_on, more_left, still_left, all_left, fails, waits_now, waits_still, answered, untaken, aborted, stopped}
 use Rattle.sto_session.proofs.asking.ask.Goals as goal
 
 pub ask-requires : goal.ask-requires
@@ -117,8 +116,8 @@ new-requires-in-Err-NoMemory-clause-enough g c =
     let h = (stopped t c.pass-pass.result.shared.now.table.shared.key.passes ty w.0 w.1 c.args.call c.go_on-live.result c.ask.new.self w.2 b.me.0.view c.ask.new.cells.seat.me.0.view c.in-Err-NoMemory.field-0 NoMemory c.in-Err-NoMemory.field-0-is (c.in-Err-NoMemory.ensures.asked ty w.0 w.1 w.2 on)) in
     all_left t ty s w.2 c.ask.new.cells.seat c.rest-in-Err-NoMemory.result.seat c.args.left less h.draws c.rest-in-Err-NoMemory.ensures
 
-pub returns-in-Ok : goal.returns-in-Ok
-returns-in-Ok g c calls rs begun w =
+pub returns-in-Ok-clause-asked : goal.returns-in-Ok-clause-asked
+returns-in-Ok-clause-asked g c calls rs begun w =
     let t = of_type g.T.Naming g.T.TxType in
     let ty = c.args.ty.now in
     let s = c.args.shared.now in
@@ -131,8 +130,8 @@ returns-in-Ok g c calls rs begun w =
     let less = more_left t ty s calls rs c.args.live c.go_on-live.result begun a b c.args.left w on c.pass-pass.ensures.seat in
     answered t ty s calls rs c.args.call begun c.waiting.result c.pause.result c.ask.new.self d c.args.left c.waiting.ensures.live same c.waiting.ensures.left of less c.pause.ensures.paused (c.in-Ok.ensures.asked ty calls rs begun on)
 
-pub returns-in-Err-Untaken : goal.returns-in-Err-Untaken
-returns-in-Err-Untaken g c calls rs begun w =
+pub returns-in-Err-Untaken-clause-asked : goal.returns-in-Err-Untaken-clause-asked
+returns-in-Err-Untaken-clause-asked g c calls rs begun w =
     let t = of_type g.T.Naming g.T.TxType in
     let ty = c.args.ty.now in
     let s = c.args.shared.now in
@@ -146,8 +145,8 @@ returns-in-Err-Untaken g c calls rs begun w =
     let h = (stopped t c.pass-pass.result.shared.now.table.shared.key.passes ty calls rs c.args.call c.go_on-live.result c.ask.new.self begun b.me.0.view c.ask.new.cells.seat.me.0.view c.in-Err-Untaken.field-0 Untaken c.in-Err-Untaken.field-0-is (c.in-Err-Untaken.ensures.asked ty calls rs begun on)) in
     (untaken t ty s calls rs begun c.waiting-in-Err-Untaken.result c.pause-in-Err-Untaken.result c.go_on-live.result c.ask.new.self b d c.args.left c.waiting-in-Err-Untaken.ensures.live same c.waiting-in-Err-Untaken.ensures.left of less c.pause-in-Err-Untaken.ensures.paused on h.0 h.1, h.2)
 
-pub returns-in-Err-Aborted : goal.returns-in-Err-Aborted
-returns-in-Err-Aborted g c calls rs begun w =
+pub returns-in-Err-Aborted-clause-asked : goal.returns-in-Err-Aborted-clause-asked
+returns-in-Err-Aborted-clause-asked g c calls rs begun w =
     let t = of_type g.T.Naming g.T.TxType in
     let ty = c.args.ty.now in
     let s = c.args.shared.now in
@@ -160,8 +159,8 @@ returns-in-Err-Aborted g c calls rs begun w =
     let h = (stopped t c.pass-pass.result.shared.now.table.shared.key.passes ty calls rs c.args.call c.go_on-live.result c.ask.new.self begun b.me.0.view c.ask.new.cells.seat.me.0.view c.in-Err-Aborted.field-0 (Aborted c.in-Err-Aborted.field-0-0) c.in-Err-Aborted.field-0-is (c.in-Err-Aborted.ensures.asked ty calls rs begun on)) in
     aborted t ty s (calls ++ c.args.call ∷ []) begun c.new.result d (record { body = c.ask.new.self.attempt.log.body; replies = c.ask.new.self.attempt.log.replies; verdict = c.in-Err-Aborted.field-0-0 }) c.pass-pass.result.shared.now.table.shared.key.passes c.pass-pass.ensures.passes c.new.ensures.free same of h.0 h.1
 
-pub returns-in-Err-NoMemory : goal.returns-in-Err-NoMemory
-returns-in-Err-NoMemory g c calls rs begun w =
+pub returns-in-Err-NoMemory-clause-asked : goal.returns-in-Err-NoMemory-clause-asked
+returns-in-Err-NoMemory-clause-asked g c calls rs begun w =
     let t = of_type g.T.Naming g.T.TxType in
     let ty = c.args.ty.now in
     let s = c.args.shared.now in

@@ -1,5 +1,5 @@
 -- It goes on from where it was, and is given up: its pass stays as it was.
-use Rattle.std.proofs.Common.{ap, sym, ◌∙◌, subst}
+use Rattle.std.proofs.Common.{ap, sym, subst}
 use Rattle.sto_type.specs.Traits.{of_type}
 use Rattle.sto_table.specs.declared.shared.Rest.{Rest}
 use Rattle.sto_session.specs.declared.ending.Uncommitted.{Uncommitted}
@@ -19,8 +19,8 @@ cancel-requires g c =
       c.go_on-live.ensures.live w.0 w.1 w.2 c.args.rest.seat.me.0.view w.3.paused,
     )
 
-pub returns-in-Ok : goal.returns-in-Ok
-returns-in-Ok g c calls rs begun w =
+pub returns-in-Ok-clause-cancelled : goal.returns-in-Ok-clause-cancelled
+returns-in-Ok-clause-cancelled g c calls rs begun w =
     let t = of_type g.T.Naming g.T.TxType in
     let ty = c.args.ty.now in
     let s = c.args.shared.now in
@@ -29,8 +29,8 @@ returns-in-Ok g c calls rs begun w =
     subst (λ (r : Result ℕ Uncommitted). HasCancelledAfter t ty s calls rs begun r c.new.result) (sym c.place_of.ensures)
     (cancels t ty s calls rs begun c.new.result a c.in-Ok.ended c.new.ensures.free (ap (λ (r : Rest g.row.T.Denot g.T.Naming). r.seat) c.new.ensures.rest) w.of (c.in-Ok.ensures.cancelled (passes_of s) ty calls rs begun a.me.0.view on))
 
-pub returns-in-Err : goal.returns-in-Err
-returns-in-Err g c calls rs begun w =
+pub returns-in-Err-clause-cancelled : goal.returns-in-Err-clause-cancelled
+returns-in-Err-clause-cancelled g c calls rs begun w =
     let t = of_type g.T.Naming g.T.TxType in
     let a = c.args.rest.seat in
     let on = c.go_on-live.ensures.live calls rs begun a.me.0.view w.paused in

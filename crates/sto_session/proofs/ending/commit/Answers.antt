@@ -47,8 +47,8 @@ new-requires-in-Err-clause-enough g c =
     let less = more_left t c.args.ty.now c.args.shared.now w.0 w.1 c.args.live c.go_on-live.result w.2 c.args.rest.seat c.pass-pass.result.seat c.args.left w.3 on c.pass-pass.ensures.seat in
     all_left t c.args.ty.now c.args.shared.now w.2 c.commit.new.cells.seat c.rest-in-Err.result.seat c.args.left less (c.in-Err.ensures.err c.args.ty.now w.0 w.1 w.2 on).draws c.rest-in-Err.ensures
 
-pub returns-in-Ok : goal.returns-in-Ok
-returns-in-Ok g c calls rs begun w =
+pub returns-in-Ok-clause-committed : goal.returns-in-Ok-clause-committed
+returns-in-Ok-clause-committed g c calls rs begun w =
     let t = of_type g.T.Naming g.T.TxType in
     let ty = c.args.ty.now in
     let s = c.args.shared.now in
@@ -61,8 +61,8 @@ returns-in-Ok g c calls rs begun w =
     subst (λ (r : Result ℕ Uncommitted). HasCommittedAfter t ty s calls rs begun r y) (sym c.place_of.ensures)
     (commits t ty s calls rs begun y d c.in-Ok.ended c.pass-pass.result.shared.now.table.shared.key.passes c.pass-pass.ensures.passes c.new.ensures.free same of (c.in-Ok.ensures.committed ty calls rs begun on))
 
-pub returns-in-Err : goal.returns-in-Err
-returns-in-Err g c calls rs begun w =
+pub returns-in-Err-clause-committed : goal.returns-in-Err-clause-committed
+returns-in-Err-clause-committed g c calls rs begun w =
     let t = of_type g.T.Naming g.T.TxType in
     let ty = c.args.ty.now in
     let s = c.args.shared.now in

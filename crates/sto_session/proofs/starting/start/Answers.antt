@@ -1,7 +1,6 @@
 -- It is live, and is paused at once.
-use Rattle.std.proofs.Common.{[], refl, sym, ◌∙◌, subst}
+use Rattle.std.proofs.Common.{[], refl, sym, subst}
 use Rattle.sto_type.specs.Traits.{of_type}
-use Rattle.sto_core.specs.declared.view.View.{View}
 use Rattle.sto_table.specs.Rests.{IsOf}
 use Rattle.sto_live.specs.Lives.{IsLive}
 use Rattle.sto_session.proofs.Passing.{Pass, same_words, asking_on}

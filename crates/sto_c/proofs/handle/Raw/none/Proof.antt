@@ -1,30 +1,23 @@
 -- The null pointer, which owns nothing.
-use Rattle.std.proofs.Common.{◌≡◌, ◌≢◌, lit<, List, [], ◌∷◌, ◌++◌, refl, sym, subst, ap, ◌∙◌}
-use mir.Val.{Val, vptr, vint, vstruct, vcons, vnil}
+use Rattle.std.proofs.Common.{◌≡◌, lit<, [], ◌∷◌, refl}
+use mir.Val.{Val, vint}
 use mir.Syntax.{w64}
-use base.Logic.{SProp, ent, emp, id⊢}
+use base.Logic.{SProp, emp}
 use base.Fml.{ftrue}
-use prog.Wp.{WpFn}
-use types.Kit.{‵, raw, ◌⊛◌, ◌$◌, ◌∵◌, !, qed, by, move, keep, drop, split, join, fsplit, fjoin, suffices, use0, rewrite}
-use types.Run.{stop, fld, lit, of_opd, no_more, and_then, returns, enter}
-use types.ByLocal.{alloc_all, pass_all, free_all, look_at, get, get_in, sets}
-use types.Part.{agg, sub, whole}
+use types.Kit.{‵, raw, ◌⊛◌, ◌$◌, ◌∵◌, !, qed, by, keep, split, use0}
+use types.Run.{lit, no_more, and_then, returns, enter}
+use types.ByLocal.{alloc_all, pass_all, free_all, look_at, sets}
+use types.Part.{agg}
 use contract.Monad.{fact, fact_i}
 use contract.Running.{tables}
-use denote.Exit.{yes, no}
-use denote.RattleType.{RattleType, owns}
-use denote.Signature.{types_at, plain}
-use denote.RawPtr.{Ptr, block_ptr, null_ptr, ptr_val}
-use denote.Steps.{nothing, heard}
-use denote.Triple.Walked.{Stays, stay_dropped, walk_of, Goes-dropped}
-use Rattle.std.proofs.alloc.Calls.{Goes-blank}
+use denote.RattleType.{owns}
+use denote.Signature.{types_at}
+use denote.RawPtr.{null_ptr}
+use denote.Steps.{nothing}
+use denote.Triple.Walked.{Stays, walk_of}
 use Rattle.std.proofs.raw_atomic.Walks.{proved_at, leaves}
-use Rattle.std.specs.contracts.alloc.Global as heap
-use Rattle.std.proofs.alloc.Global.TheLaws as heap_laws
-use Rattle.std.specs.contracts.impls.GlobalAllocator.TheImpl.{ghosts}
-use Rattle.sto_c.specs.declared.held.HandleContent.TheVariants.{Nothing}
-use Rattle.sto_c.specs.contracts.held.HandleContent.{the_row as HeldRow}
-use Rattle.sto_c.proofs.Values.{both, alone, Loose, Raw, loose_good, loose_out, raw_in, owns_box}
+use Rattle.sto_c.specs.declared.content.HandleContent.TheVariants.{Nothing}
+use Rattle.sto_c.proofs.Values.{alone, raw_in}
 use Rattle.sto_c.specs.contracts.handle.Raw.none.{ended, clauses}
 use Rattle.sto_c.specs.contracts.handle.Raw.none.Key.{name as #self}
 use Rattle.sto_c.proofs.handle.Raw.none.Statement.{statement}

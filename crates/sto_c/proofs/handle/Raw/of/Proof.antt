@@ -1,33 +1,31 @@
 -- The pointer alone; what it owns is the same.
-use Rattle.std.proofs.Common.{◌≡◌, ◌≢◌, lit<, List, [], ◌∷◌, ◌++◌, refl, sym, subst, ap, ◌∙◌}
-use mir.Val.{Val, vptr, vint, vstruct, vcons, vnil}
-use mir.Syntax.{w64}
+use Rattle.std.proofs.Common.{◌≡◌, List, [], ◌∷◌, ◌++◌, refl, sym, subst}
+use mir.Val.{Val, vptr}
 use base.Logic.{SProp, ent, emp, id⊢}
 use base.Fml.{Fml, ftrue}
 use prog.Wp.{WpFn}
-use types.Kit.{‵, raw, ◌⊛◌, ◌$◌, ◌∵◌, !, qed, by, move, keep, drop, split, join, fsplit, fjoin, fpack, suffices, use0, rewrite}
-use types.Run.{stop, fld, lit, of_opd, no_more, and_then, returns, enter}
+use types.Kit.{‵, raw, ◌⊛◌, ◌$◌, ◌∵◌, !, qed, by, move, keep, split, fsplit, fjoin, fpack, suffices, use0, rewrite}
+use types.Run.{stop, fld, of_opd, no_more, and_then, returns, enter}
 use types.ByLocal.{alloc_all, pass_all, free_all, look_at, get, get_in, sets}
 use types.Part.{agg, sub, whole}
 use contract.Monad.{fact, fact_i}
 use contract.Running.{tables}
-use denote.Exit.{yes, no}
+use denote.Exit.{yes}
 use denote.RattleType.{RattleType, owns}
 use denote.Signature.{types_at, plain}
-use denote.RawPtr.{Ptr, block_ptr, null_ptr, ptr_val}
+use denote.RawPtr.{block_ptr}
 use denote.Steps.{nothing, heard}
-use denote.Triple.Walked.{Stays, stay_dropped, walk_of, Goes-dropped}
+use denote.Triple.Walked.{Stays, stay_dropped, walk_of}
 use Rattle.std.proofs.alloc.Calls.{Goes-blank}
 use Rattle.std.proofs.raw_atomic.Walks.{proved_at, leaves}
 use Rattle.std.specs.contracts.alloc.Global as heap
 use Rattle.std.proofs.alloc.Global.TheLaws as heap_laws
 use Rattle.std.specs.contracts.impls.GlobalAllocator.TheImpl.{ghosts}
-use Rattle.sto_c.specs.declared.held.HandleContent.TheVariants.{Nothing}
-use Rattle.sto_c.specs.contracts.held.HandleContent.{the_row as HeldRow}
+use Rattle.sto_c.specs.contracts.content.HandleContent.{the_row as ContentRow}
 use Rattle.std.specs.Box.Ownership.{box_owns}
 use Rattle.std.specs.declared.alloc.Global.{Global}
-use Rattle.sto_c.specs.Held.{IsHeld, IsFull}
-use Rattle.sto_c.proofs.Values.{both, alone, Loose, Raw, loose_good, loose_out, raw_in, owns_box}
+use Rattle.sto_c.specs.Content.{IsHeld, IsFull}
+use Rattle.sto_c.proofs.Values.{both, alone, Loose, loose_good, loose_out, raw_in, owns_box}
 use Rattle.sto_c.specs.contracts.handle.Raw.of.{ended, clauses}
 use Rattle.sto_c.specs.contracts.handle.Raw.of.Key.{name as #self}
 use Rattle.sto_c.proofs.handle.Raw.of.Statement.{statement}
@@ -36,14 +34,14 @@ use Rattle.sto_c.proofs.handle.Raw.of.Code as code
 pub of_spec : {M : Type 1} → statement M
 of_spec 𝓤 𝓛 𝓜 𝓡 wired =
     let H = 𝓛.H in let 𝓣 = tables 𝓤 H 𝓜 𝓡 𝓡.env in let c = clauses 𝓛 𝓜.mem 𝓡.returns in
-    let Z : RattleType = heap.the_row in let LZ = heap_laws.the_row_laws in let Lo : RattleType = Loose HeldRow Z LZ ghosts in let hs : Stays ended.signature.params ended.kept = (stay_dropped (plain (λ _. Lo)) yes, tt) in
+    let Z : RattleType = heap.the_row in let LZ = heap_laws.the_row_laws in let Lo : RattleType = Loose ContentRow Z LZ ghosts in let hs : Stays ended.signature.params ended.kept = (stay_dropped (plain (λ _. Lo)) yes, tt) in
     proved_at 𝓛 ended hs c 𝓜 𝓡 (Goes-blank 𝓛 0 (plain (λ _. Lo)) yes (λ κs x f. tt), tt) #self code.function (code.unfolded 𝓤 H 𝓜 𝓡 wired) (λ z are.
     let κs = z.0.0 in let v = z.0.3.0 in let a = v.alloc in let Post : Val → SProp 𝓤 = (walk_of 𝓛 ended hs c).post z in let Run : List Val → SProp 𝓤 = λ ws. WpFn 𝓤 H 𝓣.C 𝓣.Λ code.function ws Post in
-    qed 𝓛 ((‵ ftrue ⊛ ‵ (owns (types_at ended.signature.params κs) z.0.3 z.0.4)) ∷ raw ((c κs z.0.3).requires z.1) ∷ []) ∵ split ! $ move ! (1 ∷ []) $ fsplit ! $ loose_out HeldRow Z LZ ghosts ! v z.0.4.0 (λ b o h e ws fits.
-    let w : Val = both (vptr b o) h in let typed = loose_good HeldRow Z LZ ghosts b o h fits in
+    qed 𝓛 ((‵ ftrue ⊛ ‵ (owns (types_at ended.signature.params κs) z.0.3 z.0.4)) ∷ raw ((c κs z.0.3).requires z.1) ∷ []) ∵ split ! $ move ! (1 ∷ []) $ fsplit ! $ loose_out ContentRow Z LZ ghosts ! v z.0.4.0 (λ b o h e ws fits.
+    let w : Val = both (vptr b o) h in let typed = loose_good ContentRow Z LZ ghosts b o h fits in
     suffices ! (Run (w ∷ [])) (subst (λ (us : List Val). ent 𝓤 (Run (w ∷ [])) (Run us)) (sym (λ i. ws i ++ [])) (id⊢ 𝓤 (Run (w ∷ [])))) $
     enter ! 𝓣.C 𝓣.Λ code.function (w ∷ []) Post $ alloc_all ! (λ l. pass_all ! refl (typed, tt) $
     sets ! (of_opd ! (get_in ! (fld ! refl (stop !)) (sub ! 0 refl (whole !)))) refl (tt, tt) $ sets ! (agg ! (and_then ! (get ! refl) (no_more !))) refl (tt, (tt, tt)) $
-    move ! (4 ∷ []) $ heard ! (IsFull v.value) (λ full. fpack ! (IsHeld v.value × Global) (λ h. box_owns (ghosts.dealloc_token h.1) HeldRow (block_ptr b o) v.value) (full.1, a) $ rewrite ! 0 (λ (f : Fml). ‵ f) (sym (owns_box (block_ptr b o) v.value full.0)) refl $ raw_in ! (vptr b o) (block_ptr b o) v.value refl $
+    move ! (4 ∷ []) $ heard ! (IsFull v.value) (λ full. fpack ! (IsHeld v.value × Global) (λ h. box_owns (ghosts.dealloc_token h.1) ContentRow (block_ptr b o) v.value) (full.1, a) $ rewrite ! 0 (λ (f : Fml). ‵ f) (sym (owns_box (block_ptr b o) v.value full.0)) refl $ raw_in ! (vptr b o) (block_ptr b o) v.value refl $
     use0 𝓛 (raw (fact 𝓤 (v.value ≡ v.value))) (fact_i 𝓤 (v.value ≡ v.value) (emp 𝓤) refl) $ nothing ! $ nothing ! $ fjoin ! $
     returns ! (look_at ! 0 refl) $ free_all ! refl $ keep ! (5 ∷ 0 ∷ 2 ∷ 1 ∷ []) $ by ! (leaves 𝓛 ended hs c z (alone (vptr b o)) (record { at = block_ptr b o; value = v.value }) (tt, tt) (tt, tt))))))

@@ -15,6 +15,9 @@ returns-clause-worker g c =
     let t = of_type g.T.Naming g.T.TxType in
     let s = arc_value c.args.self.now.store in
     let x = c.in-Some.session in
-    let before = subst (λ (o : Option (Session g.row.T.Denot g.T.Naming)). IsAt t s o) (sym c.replace.ensures.value ∙ c.in-Some.is) c.requires in
-    asked_stands t s.ty s.shared x c.ask-session.result.0 c.args.call c.ask-session.result.1 before
-    (of_one (λ (y : g.row.T.Denot) (z : Shared g.row.T.Denot). HasAsked t y z x c.args.call c.ask-session.result.1 c.ask-session.result.0) c.deref.result.now c.deref-2.result.now s c.deref.ensures c.deref-2.ensures c.ask-session.ensures)
+    let before = subst (λ (o : Option (Session g.row.T.Denot g.T.Naming)). IsAt t s o) (sym c.replace.ensures.value ∙ c.in-Some.is) c.requires.at in
+    record {
+      at = asked_stands t s.ty s.shared x c.ask-session.result.0 c.args.call c.ask-session.result.1 before
+          (of_one (λ (y : g.row.T.Denot) (z : Shared g.row.T.Denot). HasAsked t y z x c.args.call c.ask-session.result.1 c.ask-session.result.0) c.deref.result.now c.deref-2.result.now s c.deref.ensures c.deref-2.ensures c.ask-session.ensures);
+      home = c.requires.home;
+    }

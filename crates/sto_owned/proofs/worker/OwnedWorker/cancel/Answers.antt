@@ -15,6 +15,9 @@ returns-clause-worker g c =
     let t = of_type g.T.Naming g.T.TxType in
     let s = arc_value c.args.self.now.store in
     let x = c.in-Some.session in
-    let before = subst (λ (o : Option (Session g.row.T.Denot g.T.Naming)). IsAt t s o) (sym c.replace.ensures.value ∙ c.in-Some.is) c.requires in
-    cancelled_stands t s.ty s.shared x c.cancel-session.result.0 c.cancel-session.result.1 before
-    (of_one (λ (y : g.row.T.Denot) (z : Shared g.row.T.Denot). HasEndedBy t y z x c.cancel-session.result.1 c.cancel-session.result.0 (HasCancelledAfter t y z)) c.deref.result.now c.deref-2.result.now s c.deref.ensures c.deref-2.ensures c.cancel-session.ensures)
+    let before = subst (λ (o : Option (Session g.row.T.Denot g.T.Naming)). IsAt t s o) (sym c.replace.ensures.value ∙ c.in-Some.is) c.requires.at in
+    record {
+      at = cancelled_stands t s.ty s.shared x c.cancel-session.result.0 c.cancel-session.result.1 before
+          (of_one (λ (y : g.row.T.Denot) (z : Shared g.row.T.Denot). HasEndedBy t y z x c.cancel-session.result.1 c.cancel-session.result.0 (HasCancelledAfter t y z)) c.deref.result.now c.deref-2.result.now s c.deref.ensures c.deref-2.ensures c.cancel-session.ensures);
+      home = c.requires.home;
+    }

@@ -7,4 +7,5 @@ pub returns-in-None : goal.returns-in-None
 returns-in-None g c = record {
   free = λ none. (refl, (c.new.ensures.rest, c.new.ensures.left, c.new.ensures.free ∙ sym none));
   asking = λ calls rs begun h. absurd (never_both c.args.self.live h.paused c.in-None.is h.live);
+  left = c.new.ensures.left;
 }

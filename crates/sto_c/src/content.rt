@@ -1,4 +1,5 @@
 //! What a handle of C holds.
+use crate::crossing::RowsOut;
 use sto_objects::Objects;
 use sto_owned::{OwnedStore, OwnedWorker};
 
@@ -22,4 +23,6 @@ pub enum HandleContent {
     Nothing,
     Store(HeldStore),
     Worker(HeldWorker),
+    /// The rows of a store that was closed.
+    Closed(RowsOut),
 }

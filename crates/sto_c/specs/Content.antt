@@ -1,14 +1,14 @@
 -- What a handle may hold.
-use Rattle.std.specs.Prelude.{◌≡◌, ◌≢◌, Bool, true, false}
+use Rattle.std.specs.Prelude.{◌≢◌}
 use Rattle.sto_type.specs.Traits.{OfType, of_type}
 use Rattle.sto_objects.specs.declared.objects.Objects.{Objects}
 use Rattle.sto_objects.specs.contracts.objects.ObjectsNaming.TheImpl.{ghosts as naming_ghosts}
 use Rattle.sto_objects.specs.contracts.objects.ObjectsTxType.TheImpl.{ghosts as type_ghosts}
 use Rattle.sto_owned.specs.Owned.{IsOwnedStore, IsOwnedWorker}
-use Rattle.sto_c.specs.declared.held.HandleContent.{HandleContent}
-use Rattle.sto_c.specs.declared.held.HandleContent.TheVariants.{Nothing, Store, Worker}
-use Rattle.sto_c.specs.declared.held.HeldStore.{HeldStore}
-use Rattle.sto_c.specs.declared.held.HeldWorker.{HeldWorker}
+use Rattle.sto_c.specs.declared.content.HandleContent.{HandleContent}
+use Rattle.sto_c.specs.declared.content.HandleContent.TheVariants.{Nothing, Store, Worker, Closed}
+use Rattle.sto_c.specs.declared.content.HeldStore.{HeldStore}
+use Rattle.sto_c.specs.declared.content.HeldWorker.{HeldWorker}
 
 -- what the traits say of objects
 abbrev pub objects : OfType Objects
@@ -20,17 +20,13 @@ IsStore h = IsOwnedStore objects h.store
 abbrev pub IsWorker : HeldWorker → Type 0
 IsWorker h = IsOwnedWorker objects h.worker
 
--- a store whose workers are at rest, or a worker of its store
+-- a store whose workers are at rest, a worker of its store, or the rows of a store that was closed
 abbrev pub IsHeld : HandleContent → Type 0
 IsHeld Nothing = Unit {0}
 IsHeld (Store h) = IsStore h
 IsHeld (Worker h) = IsWorker h
+IsHeld (Closed rows) = Unit {0}
 
 -- it is not nothing
 abbrev pub IsFull : HandleContent → Type 0
 IsFull x = (x ≢ Nothing) × IsHeld x
-
--- whether it is not nothing
-abbrev pub IfFull : Bool → HandleContent → Type 0
-IfFull true x = x ≢ Nothing
-IfFull false x = x ≡ Nothing

@@ -1,0 +1,67 @@
+-- What was planned of the shapes that were given, and why a shape was not.
+use Rattle.std.proofs.Common.{◌≡◌, ◌+◌, ◌≤◌, ℕ, suc, List, [], ◌∷◌, ◌++◌, length, map, take, drop, slice_get, Option, Some, sym, ap, ◌∙◌, subst, arith}
+use Rattle.std.proofs.lemmas.List.{take-append-drop, take_all, map-append}
+use Rattle.sto_model.specs.declared.shape.Shape.{Shape}
+use Rattle.sto_open.specs.declared.unplanned.Unplanned.{Unplanned}
+use Rattle.sto_open.specs.declared.unplanned.Unplanned.TheVariants as unplanned
+use Rattle.sto_open.specs.declared.unopened.Unopened.{Unopened}
+use Rattle.sto_open.specs.declared.unopened.Unopened.TheVariants as unopened
+use Rattle.sto_open.specs.Plans.{IsReason}
+use Rattle.sto_open.specs.Refusals.{IsCause}
+use Rattle.sto_c.specs.declared.crossing.ShapeIn.{ShapeIn}
+use Rattle.sto_c.specs.declared.status.Status.{Status}
+use Rattle.sto_c.specs.declared.status.Status.TheVariants as status
+use Rattle.sto_c.specs.Crossing.{shape_in}
+use Rattle.sto_c.specs.Statuses.{of_unplanned, of_unopened}
+use Rattle.sto_c.specs.Stores.{IsUnfit, IsRefused, IsUnplanned, IsUnopened}
+use Rattle.sto_c.proofs.Copying.{drop_next, take_next}
+
+-- the shape at the place i cannot stand behind those before it
+pub refused_at : (shapes : List ShapeIn) (given : ShapeIn) (planned : List Shape) (i : ℕ) (why : Status) → slice_get shapes i ≡ Some given
+    → map shape_in (take i shapes) ≡ map Some planned → IsUnfit why planned (shape_in given) → IsRefused shapes why
+refused_at shapes given planned i why here fit reason = record {
+  before = take i shapes;
+  given = given;
+  after = drop (suc i) shapes;
+  planned = planned;
+  all = sym (take-append-drop i shapes) ∙ ap (λ (d : List ShapeIn). take i shapes ++ d) (drop_next shapes given i here);
+  fit = fit;
+  reason = reason;
+}
+
+-- the same by what the plan answered
+pub unplanned_at : (shapes : List ShapeIn) (given : ShapeIn) (planned : List Shape) (shape : Shape) (i : ℕ) (error : Unplanned) → slice_get shapes i ≡ Some given
+    → map shape_in (take i shapes) ≡ map Some planned → Some shape ≡ shape_in given → IsReason error planned shape → IsUnplanned shapes (of_unplanned error)
+unplanned_at shapes given planned shape i unplanned.OutOfOrder here fit is reason =
+    refused_at shapes given planned i status.BadOrder here fit (subst (λ (o : Option Shape). IsUnfit status.BadOrder planned o) is reason)
+unplanned_at shapes given planned shape i unplanned.NoRoom here fit is reason =
+    refused_at shapes given planned i status.BadSize here fit (subst (λ (o : Option Shape). IsUnfit status.BadSize planned o) is reason)
+unplanned_at shapes given planned shape i unplanned.TooMany here fit is reason =
+    refused_at shapes given planned i status.TooMany here fit (subst (λ (o : Option Shape). IsUnfit status.TooMany planned o) is reason)
+unplanned_at shapes given planned shape i unplanned.NoMemory here fit is reason = tt
+
+-- one more is planned
+pub planned_next : (shapes : List ShapeIn) (given : ShapeIn) (planned new : List Shape) (shape : Shape) (i : ℕ) → slice_get shapes i ≡ Some given
+    → map shape_in (take i shapes) ≡ map Some planned → Some shape ≡ shape_in given → new ≡ planned ++ shape ∷ [] → map shape_in (take (i + 1) shapes) ≡ map Some new
+planned_next shapes given planned new shape i here fit is more =
+    let next : i + 1 ≡ suc i = omega arith in
+    ap (λ (k : ℕ). map shape_in (take k shapes)) next
+    ∙ take_next shape_in shapes given i here
+    ∙ ap (λ (os : List (Option Shape)). os ++ shape_in given ∷ []) fit
+    ∙ ap (λ (o : Option Shape). map Some planned ++ o ∷ []) (sym is)
+    ∙ sym (map-append Some planned (shape ∷ []))
+    ∙ ap (λ (ss : List Shape). map Some ss) (sym more)
+
+-- all are planned
+pub all_planned : (shapes : List ShapeIn) (planned : List Shape) (i : ℕ) → length shapes ≤ i → map shape_in (take i shapes) ≡ map Some planned → map shape_in shapes ≡ map Some planned
+all_planned shapes planned i end fit = ap (λ (gs : List ShapeIn). map shape_in gs) (sym (take_all i shapes end)) ∙ fit
+
+-- a store that was not planned was not opened
+pub unplanned_unopened : (shapes : List ShapeIn) (workers : ℕ) (why : Status) → IsUnplanned shapes why → IsUnopened shapes workers why
+unplanned_unopened shapes workers status.BadWorkers h = absurd h.reason
+unplanned_unopened shapes workers why h = h
+
+-- the same by what opening answered
+pub caused_unopened : (shapes : List ShapeIn) (workers : ℕ) (error : Unopened) → IsCause error workers → IsUnopened shapes workers (of_unopened error)
+caused_unopened shapes workers unopened.Workers cause = cause
+caused_unopened shapes workers unopened.NoMemory cause = tt

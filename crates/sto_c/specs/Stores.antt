@@ -1,0 +1,137 @@
+-- What becomes of stores: how they are opened, give workers out and take them back, and are closed.
+use Rattle.std.specs.Prelude.{◌≡◌, ◌≢◌, ◌<◌, ◌≤◌, ◌+◌, ◌⊎◌, ℕ, Result, Ok, Err, Option, Some, None, IfSome, List, [], ◌∷◌, ◌++◌, length, map}
+use Rattle.std.specs.Arc.{arc_value}
+use Rattle.std.specs.List.{All}
+use Rattle.sto_model.specs.declared.shape.Shape.{Shape}
+use Rattle.sto_model.specs.Objects.{machines_of}
+use Rattle.sto_model.specs.Rows.{Row}
+use Rattle.sto_objects.specs.declared.objects.Objects.{Objects}
+use Rattle.sto_objects.specs.contracts.objects.ObjectsNaming.TheImpl.{ghosts as naming_ghosts}
+use Rattle.sto_open.specs.declared.worker.IdleWorker.{IdleWorker}
+use Rattle.sto_open.specs.declared.unplanned.Unplanned.TheVariants as unplanned
+use Rattle.sto_open.specs.Plans.{IsReason}
+use Rattle.sto_serial_history.specs.Done.{HaveHistory}
+use Rattle.sto_open.specs.Working.{IsWorker, AreRowsAfter}
+use Rattle.sto_session.specs.Steps.{IsUnchanged}
+use Rattle.sto_owned.specs.Owned.{Leads}
+use Rattle.sto_c.specs.declared.crossing.ShapeIn.{ShapeIn}
+use Rattle.sto_c.specs.declared.crossing.RowOut.{RowOut}
+use Rattle.sto_c.specs.declared.content.HandleContent.{HandleContent}
+use Rattle.sto_c.specs.declared.content.HandleContent.TheVariants.{Nothing, Store, Worker, Closed}
+use Rattle.sto_c.specs.declared.content.HeldStore.{HeldStore}
+use Rattle.sto_c.specs.declared.status.Status.{Status}
+use Rattle.sto_c.specs.declared.status.Status.TheVariants as status
+use Rattle.sto_c.specs.Content.{objects}
+use Rattle.sto_c.specs.Crossing.{shape_in, rows_out}
+
+-- a handle that held nothing was filled with this, or holds nothing, for this reason; where it held something, nothing changes
+abbrev pub Fills : (HandleContent → Type 0) → (Status → Type 0) → HandleContent → Result (Unit {0}) Status → HandleContent → Type 0
+Fills P Q Nothing (Ok done) y = P y
+Fills P Q Nothing (Err why) y = (y ≡ Nothing) × Q why
+Fills P Q x done y = (done ≡ Err status.Taken) × (y ≡ x)
+
+-- a store of objects of these shapes
+pub record HasShapes (shapes : List ShapeIn) (h : HeldStore) : Type 0 where
+  pub planned : List Shape
+  pub all : map shape_in shapes ≡ map Some planned
+  pub machines : (objects.meaning (arc_value h.store.store).ty).machines ≡ machines_of planned
+  pub count : h.objects ≡ length shapes
+
+abbrev pub IsStoreOf : List ShapeIn → HandleContent → Type 0
+IsStoreOf shapes (Store h) = HasShapes shapes h
+IsStoreOf shapes _ = ⊥
+
+-- why a shape cannot stand behind these
+abbrev pub IsUnfit : Status → List Shape → Option Shape → Type 0
+IsUnfit status.BadKind planned shape = shape ≡ None
+IsUnfit status.BadOrder planned (Some shape) = IsReason unplanned.OutOfOrder planned shape
+IsUnfit status.BadSize planned (Some shape) = IsReason unplanned.NoRoom planned shape
+IsUnfit status.TooMany planned (Some shape) = IsReason unplanned.TooMany planned shape
+IsUnfit _ planned shape = ⊥
+
+-- one of the shapes cannot stand behind those before it
+pub record IsRefused (shapes : List ShapeIn) (why : Status) : Type 0 where
+  pub before : List ShapeIn
+  pub given : ShapeIn
+  pub after : List ShapeIn
+  pub planned : List Shape
+  pub all : shapes ≡ before ++ given ∷ after
+  pub fit : map shape_in before ≡ map Some planned
+  pub reason : IsUnfit why planned (shape_in given)
+
+-- why objects of these shapes were not planned
+abbrev pub IsUnplanned : List ShapeIn → Status → Type 0
+IsUnplanned shapes status.NoMemory = Unit {0}
+IsUnplanned shapes why = IsRefused shapes why
+
+-- why a store of these shapes was not opened for so many workers
+abbrev pub IsUnopened : List ShapeIn → ℕ → Status → Type 0
+IsUnopened shapes workers status.BadWorkers = (workers ≡ 0) ⊎ (65536 < workers)
+IsUnopened shapes workers why = IsUnplanned shapes why
+
+-- the same store, in which at least as many workers rest but so many
+abbrev pub IsSameStore : ℕ → HeldStore → HeldStore → Type 0
+IsSameStore out h k = (k.store.store ≡ h.store.store) × (k.objects ≡ h.objects) × (length h.store.idle.items ≤ length k.store.idle.items + out)
+
+-- a worker was given out of the store: it is of the same store
+abbrev pub IsHiredOf : HandleContent → HandleContent → Type 0
+IsHiredOf (Store h) (Worker k) = (arc_value k.worker.store ≡ arc_value h.store.store) × (k.objects ≡ h.objects)
+IsHiredOf _ _ = ⊥
+
+-- why no worker was given out of the store h, which is k then: none rests in it, or memory was wanting
+abbrev pub IsUnhiredOf : HeldStore → Status → HeldStore → Type 0
+IsUnhiredOf h status.NoWorker k = (h.store.idle.items ≡ []) × (k.store.idle.items ≡ [])
+IsUnhiredOf h status.NoMemory k = IsSameStore 0 h k
+IsUnhiredOf h _ k = ⊥
+
+-- the same of what handles hold
+abbrev pub IsUnhired : HandleContent → HandleContent → Status → Type 0
+IsUnhired Nothing y why = why ≡ status.Empty
+IsUnhired (Store h) (Store k) why = IsUnhiredOf h why k
+IsUnhired (Store h) _ why = ⊥
+IsUnhired (Worker h) y why = why ≡ status.OtherHandle
+IsUnhired (Closed rows) y why = why ≡ status.OtherHandle
+
+-- it is the same store still, in which all rest that did, but one perhaps; what is none is as it was
+abbrev pub KeepsStore : HandleContent → HandleContent → Type 0
+KeepsStore (Store h) (Store k) = IsSameStore 1 h k
+KeepsStore x y = y ≡ x
+
+-- what was held was freed
+abbrev pub HasFreed : HandleContent → Result (Unit {0}) Status → HandleContent → Type 0
+HasFreed Nothing done y = (done ≡ Err status.Empty) × (y ≡ Nothing)
+HasFreed _ done y = (done ≡ Ok tt) × (y ≡ Nothing)
+
+-- a worker was given back to its store, or why it was not: then it is as it was
+abbrev pub HasGivenBack : HandleContent → Result (Unit {0}) Status → HandleContent → Type 0
+HasGivenBack Nothing done y = (done ≡ Err status.Empty) × (y ≡ Nothing)
+HasGivenBack (Worker h) (Ok done) y = y ≡ Nothing
+HasGivenBack (Worker h) (Err status.InTransaction) y = (y ≡ Worker h) × IfSome h.worker.session (λ x. x.live ≢ None)
+HasGivenBack (Worker h) (Err status.Busy) (Worker k) = (k.worker.store ≡ h.worker.store) × (k.objects ≡ h.objects)
+    × Leads IsUnchanged h.worker.session k.worker.session × IfSome h.worker.session (λ x. x.live ≡ None)
+HasGivenBack (Worker h) (Err _) y = ⊥
+HasGivenBack x done y = (done ≡ Err status.OtherHandle) × (y ≡ x)
+
+-- these are the rows of the contents after all commits of the workers of a store, who all came back to it, and the last state of a
+-- serial history of all that they have done
+pub record AreClosedRows (h : HeldStore) (rows : List RowOut) : Type 0 where
+  pub state : List (List Row)
+  pub workers : List (IdleWorker Objects naming_ghosts)
+  pub own : All (λ (w : IdleWorker Objects naming_ghosts). IsWorker (objects.meaning (arc_value h.store.store).ty) (objects.sizes (arc_value h.store.store).ty) (arc_value h.store.store).shared w.rest.seat) workers
+  pub all : length workers ≡ (arc_value h.store.store).shared.table.shared.key.passes
+  pub leave : AreRowsAfter objects.valid (objects.meaning (arc_value h.store.store).ty) (map (λ w. w.rest.seat.me.0.view) workers) state
+  pub history : HaveHistory (objects.meaning (arc_value h.store.store).ty) (map (λ w. w.rest.seat.me.0.view) workers) state
+  pub told : rows ≡ rows_out 0 state
+
+-- a store was closed, or why it was not; where memory was wanting it may be lost
+abbrev pub HasClosedStore : HeldStore → Result (Unit {0}) Status → HandleContent → Type 0
+HasClosedStore h (Ok done) (Closed rows) = AreClosedRows h rows.items
+HasClosedStore h (Err status.WorkersOut) (Store k) = IsSameStore 0 h k
+HasClosedStore h (Err status.NoMemory) (Store k) = IsSameStore 0 h k
+HasClosedStore h (Err status.NoMemory) Nothing = Unit {0}
+HasClosedStore h done y = ⊥
+
+abbrev pub HasClosed : HandleContent → Result (Unit {0}) Status → HandleContent → Type 0
+HasClosed Nothing done y = (done ≡ Err status.Empty) × (y ≡ Nothing)
+HasClosed (Store h) done y = HasClosedStore h done y
+HasClosed x done y = (done ≡ Err status.OtherHandle) × (y ≡ x)
