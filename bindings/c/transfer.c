@@ -1,4 +1,4 @@
-/* What one transfer costs: two gets and two sets of boxes, by one call for the whole and by calls one by one.
+/* What one transfer costs: a begin, two gets and two sets of boxes, and a commit.
  *
  *     transfer BOXES THREADS ROUNDS
  */
