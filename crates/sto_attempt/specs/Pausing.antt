@@ -6,7 +6,7 @@ use Rattle.sto_attempt.specs.declared.pause.Paused.{Paused}
 -- the attempt that it is on a type
 abbrev pub with_type : {T B : Type 0} → Bor T → Paused B → Attempt T B
 with_type ty p = record {
-  log = record { ty = ty; body = p.body; replies = p.replies; set = p.set; base = p.base; cache = p.cache; pool = p.pool };
+  log = record { ty = ty; body = p.body; replies = p.replies; set = p.set; base = p.base; cache = p.cache; scratch = p.scratch; pool = p.pool };
   at = p.at;
   read_phase = p.read_phase;
   words = p.words;

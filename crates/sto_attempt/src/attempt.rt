@@ -70,10 +70,11 @@ impl<'t, T: TxType, B: Body> Attempt<'t, T, B> {
             log: Log {
                 ty,
                 body,
-                replies: Replies::new(alloc),
+                replies: memory.take_replies(),
                 set: memory.take_set(),
                 base: memory.take_base(),
                 cache: memory.take_cache(),
+                scratch: memory.take_scratch(),
                 pool: memory.take_pool(),
             },
             at: 0,
@@ -109,10 +110,11 @@ impl<'t, T: TxType, B: Body> Attempt<'t, T, B> {
             set,
             base,
             cache,
+            scratch,
             pool,
             ..
         } = log;
-        memory.keep_log(set, base, cache, pool);
+        memory.keep_log(set, base, cache, scratch, pool);
         memory.keep_reads(words, extension.fresh);
         (Heard { body, replies }, memory)
     }
@@ -313,7 +315,14 @@ impl<'t, T: TxType, B: Body> Attempt<'t, T, B> {
         let log = &mut self.log;
         log.base.push(part, ticket, words)?;
         // What was just read is known at once, so that the call is not planned once more only to ask for it.
-        learn_updated(alloc, log.ty, &log.set, part, words, &mut log.cache)?;
+        learn_updated(
+            log.ty,
+            &log.set,
+            part,
+            words,
+            &mut log.scratch,
+            &mut log.cache,
+        )?;
         let heard = log.replies.len();
         let reached = log.go_on(alloc)?;
         let (read_phase, turn) = lead(&self.log.set, self.at, reached);

@@ -84,10 +84,11 @@ impl<T: TxType, B: Body> Ready<'_, T, B> {
             set,
             base,
             cache,
+            scratch,
             pool,
             ..
         } = log;
-        memory.keep_log(set, base, cache, pool);
+        memory.keep_log(set, base, cache, scratch, pool);
         memory.keep_lists(lists, loaded_words);
         (Heard { body, replies }, memory)
     }

@@ -1,5 +1,5 @@
 -- The next of a list, and updates as the code holds them.
-use Rattle.std.proofs.Common.{◌≡◌, ◌<◌, ◌≤◌, ◌+◌, ℕ, zero, suc, List, [], ◌∷◌, ◌++◌, length, take, drop, map, refl, ap, sym, ◌∙◌, subst, arith, slice_index_or}
+use Rattle.std.proofs.Common.{◌≡◌, ◌<◌, ◌+◌, ℕ, zero, suc, List, [], ◌∷◌, ◌++◌, length, take, drop, map, refl, ap, sym, ◌∙◌, subst, arith, slice_index_or}
 use Rattle.std.proofs.lemmas.List.{take_more, length-map, get_or-map}
 use Rattle.sto_part.specs.Listed.{Listed}
 use Rattle.sto_part.specs.Parts.{part_of}
@@ -10,11 +10,6 @@ use Rattle.sto_type.specs.Known.{Parts}
 
 pub take_next : {A : Type 0} (xs : List A) (i : ℕ) (x : A) → i < length xs → x ≡ slice_index_or xs i x → take (i + 1) xs ≡ take i xs ++ x ∷ []
 take_next xs i x h is = take_more xs i x h ∙ ap (λ y. take i xs ++ y ∷ []) (sym is)
-
-pub take_short : {A : Type 0} (w : ℕ) (l : List A) → length (take w l) ≤ w
-take_short zero l = omega arith
-take_short (suc w) [] = omega arith
-take_short (suc w) (x ∷ l) = omega (arith, take_short w l)
 
 pub drop_next : {A : Type 0} (xs : List A) (i : ℕ) (x : A) → i < length xs → x ≡ slice_index_or xs i x → drop i xs ≡ x ∷ drop (suc i) xs
 drop_next [] i x h is = absurd (omega (arith, h))

@@ -1,8 +1,8 @@
 -- Steps of the loops over what is known.
-use Rattle.std.proofs.Common.{◌≡◌, ◌≤◌, ◌<◌, ◌+◌, ℕ, ℤ, pos, true, false, nat_eq, nat_lt, ◌&&◌, Option, Some, List, [], ◌∷◌, ◌++◌, length, take, refl, ap, sym, ◌∙◌, subst, arith, Bool, eqb-true, inl, inr, slice_index_or, IsSome}
+use Rattle.std.proofs.Common.{◌≡◌, ◌≤◌, ◌<◌, ◌+◌, ℕ, zero, suc, ℤ, pos, true, false, nat_eq, nat_lt, ◌&&◌, Option, Some, List, [], ◌∷◌, length, take, refl, ap, sym, ◌∙◌, subst, arith, Bool, eqb-true, inl, inr, slice_index_or, slice_set, IsSome}
 use Rattle.std.specs.Prelude.{◌⊎◌}
 use Rattle.std.specs.List.{list_all}
-use Rattle.std.proofs.lemmas.List.{take_more, length-map}
+use Rattle.std.proofs.lemmas.List.{length-map}
 use Rattle.std.proofs.lemmas.Bool.{cases_Bool}
 use Rattle.std.proofs.lemmas.Bool.Decides.{nat_tests}
 use Rattle.sto_part.specs.Parts.{part_of}
@@ -12,21 +12,26 @@ use Rattle.sto_part.specs.declared.change.Change.TheVariants.{Keep}
 use Rattle.sto_item.specs.Pending.{Entry, changes_of, applied_updates, is_put}
 use Rattle.sto_item.specs.Rebase.{overwrites}
 use Rattle.sto_item.specs.Agreement.{HasWidths}
-use Rattle.sto_item.proofs.Applied.{part_of-applied, length-changes_of, same_width, get_or-applied_all, applied_all-puts}
-use Rattle.sto_item.proofs.Widths.{length-applied_all}
+use Rattle.sto_item.proofs.Applied.{part_of-applied, length-changes_of, same_width, applied_all-puts}
 use Rattle.sto_type.specs.Known.{Parts, Known, IsPartOf, learnt}
 use Rattle.sto_type.specs.Meaning.{Meaning, IsLawful}
 use Rattle.sto_type.proofs.Learning.{IsPartOf-learnt}
 use Rattle.sto_attempt_log.specs.Log.{IsPending, IsRecalled, IsCache}
 use Rattle.sto_attempt_log.proofs.Moving.{width_of}
 
--- one more word
-pub word_more : (cs : List Change) (ws : List ℤ) (w : ℕ) (made : List ℤ) (x y : ℤ) → length cs ≤ length ws → w < length ws → made ≡ take w (applied_all cs ws) → slice_index_or ws w (pos 0) ≡ y
-    → x ≡ applied (slice_index_or cs w Keep) y → made ++ x ∷ [] ≡ take (w + 1) (applied_all cs ws)
-word_more cs ws w made x y l h m e f =
-    let long : w < length (applied_all cs ws) = omega (arith, h, length-applied_all cs ws) in
-    let word : slice_index_or (applied_all cs ws) w (pos 0) ≡ x = get_or-applied_all cs ws w l ∙ ap (applied (slice_index_or cs w Keep)) e ∙ sym f in
-    ap (λ k. made ++ k ∷ []) (sym word) ∙ rw m (sym (take_more (applied_all cs ws) w (pos 0) long))
+-- one more change is applied in its place
+set_applied : (cs : List Change) (ws : List ℤ) (i : ℕ) → i < length cs → length cs ≤ length ws
+    → slice_set (applied_all (take i cs) ws) i (applied (slice_index_or cs i Keep) (slice_index_or (applied_all (take i cs) ws) i (pos 0))) ≡ applied_all (take (suc i) cs) ws
+set_applied [] ws i h l = absurd (omega (arith, h))
+set_applied (c ∷ cs) [] i h l = absurd (omega (arith, l))
+set_applied (c ∷ cs) (x ∷ ws) zero h l = refl
+set_applied (c ∷ cs) (x ∷ ws) (suc i) h l = ap (λ ys. applied c x ∷ ys) (set_applied cs ws i (omega (arith, h)) (omega (arith, l)))
+
+pub change_more : (cs : List Change) (ws made : List ℤ) (i : ℕ) (y : ℤ) → i < length cs → length cs ≤ length ws → made ≡ applied_all (take i cs) ws
+    → y ≡ applied (slice_index_or cs i Keep) (slice_index_or made i (pos 0)) → slice_set made i y ≡ applied_all (take (i + 1) cs) ws
+change_more cs ws made i y h l m e =
+    let next : suc i ≡ i + 1 = omega arith in
+    rw (e, m) (subst (λ n. slice_set (applied_all (take i cs) ws) i (applied (slice_index_or cs i Keep) (slice_index_or (applied_all (take i cs) ws) i (pos 0))) ≡ applied_all (take n cs) ws) next (set_applied cs ws i h l))
 
 and_right : (a b : Bool) → (a && b) ≡ true → b ≡ true
 and_right true b h = h

@@ -4,10 +4,12 @@ use Rattle.sto_attempt_log.specs.declared.memory.KeptLists.{KeptLists}
 
 -- they have no item
 pub record AreEmpty (k : KeptLists) : Type 0 where
+  pub replies : k.replies.items ≡ []
   pub set : k.set ≡ record { items = []; updates = [] }
   pub base : k.base.items ≡ []
   pub fresh : k.fresh.items ≡ []
   pub cache : k.cache ≡ []
+  pub scratch : k.scratch.items ≡ []
   pub words : k.words.items ≡ []
   pub updates : k.updates.items ≡ []
   pub seen : k.seen.items ≡ []

@@ -17,7 +17,7 @@ use crate::recall::{add_items, add_updates, ask, refresh};
 use std::alloc::Global;
 use sto_item::{Items, Updates};
 use sto_model::{Body, Next, Replies, Reply};
-use sto_part::NoMemory;
+use sto_part::{NoMemory, PartWords};
 use sto_type::{Answer, AnswerPool, Cache, TxType};
 
 /// Where a body has come to.
@@ -43,6 +43,8 @@ pub struct Log<'t, T: TxType, B: Body> {
     pub base: ReadSet,
     /// What is known with the pending updates applied.
     pub cache: Cache,
+    /// A list for the words of a part to which updates are applied. What stands in it is used no more.
+    pub scratch: PartWords,
     /// Lists for the answers of the type.
     pub pool: AnswerPool,
 }
@@ -79,6 +81,7 @@ impl<T: TxType, B: Body> Log<'_, T, B> {
                         &call,
                         &self.base,
                         &self.set,
+                        &mut self.scratch,
                         &mut self.cache,
                         &mut self.pool,
                     )? {
@@ -88,7 +91,7 @@ impl<T: TxType, B: Body> Log<'_, T, B> {
                             items,
                             updates,
                         } => {
-                            self.take_in(alloc, reply, &items, &updates)?;
+                            self.take_in(reply, &items, &updates)?;
                             self.pool.keep(items, updates);
                         }
                     }
@@ -100,13 +103,7 @@ impl<T: TxType, B: Body> Log<'_, T, B> {
     }
 
     // Takes in what the type says of the next call: the body hears the reply, and the items and updates are noted.
-    fn take_in(
-        &mut self,
-        alloc: Global,
-        reply: Reply,
-        items: &Items,
-        updates: &Updates,
-    ) -> Result<(), NoMemory>
+    fn take_in(&mut self, reply: Reply, items: &Items, updates: &Updates) -> Result<(), NoMemory>
         requires some { (d : List (List ℤ)) × (T.meaning self.old.ty.now).valid d × IsPartOf (words_in self.old.base.items) d }
         requires log { IsOnLog (T.meaning self.old.ty.now) (B.then self.old.body) (B.script self.old.body) (B.left self.old.body)
             (B.may_ask self.old.body) self.old.base.items self.old.set self.old.cache self.old.replies.items }
@@ -130,11 +127,11 @@ impl<T: TxType, B: Body> Log<'_, T, B> {
         add_items(&mut self.set, items)?;
         add_updates(&mut self.set, updates)?;
         refresh(
-            alloc,
             self.ty,
             &self.base,
             &self.set,
             updates,
+            &mut self.scratch,
             &mut self.cache,
         )?;
         self.body.hear(&reply);

@@ -11,6 +11,7 @@ use std::alloc::Global;
 use std::marker::Model;
 use std::mem;
 use sto_item::Updates;
+use sto_model::Replies;
 use sto_part::{List, PartWords, Parts};
 use sto_type::{AnswerPool, Cache};
 
@@ -28,10 +29,12 @@ pub struct Memory {
 /// The lists that are kept.
 #[derive(Drop)]
 pub struct KeptLists {
+    replies: Replies,
     set: Observed,
     base: ReadSet,
     fresh: ReadSet,
     cache: Cache,
+    scratch: PartWords,
     pool: AnswerPool,
     words: PartWords,
     updates: Updates,
@@ -61,10 +64,12 @@ impl KeptLists {
         ensures { AreEmpty result }
     {
         KeptLists {
+            replies: Replies::new(alloc),
             set: Observed::new(alloc),
             base: ReadSet::new(alloc),
             fresh: ReadSet::new(alloc),
             cache: Cache::new(alloc),
+            scratch: PartWords::new(alloc),
             pool: AnswerPool::new(alloc),
             words: PartWords::new(alloc),
             updates: Updates::new(alloc),
@@ -97,6 +102,16 @@ impl Memory {
         ensures { IfSome result (λ b. AreEmpty b.value) }
     {
         mem::replace(&mut self.kept, None)
+    }
+
+    /// A list for the replies.
+    pub fn take_replies(&mut self) -> Replies
+        ensures { result.items ≡ [] }
+    {
+        match &mut self.kept {
+            Some(kept) => mem::replace(&mut kept.replies, Replies::new(self.alloc)),
+            None => Replies::new(self.alloc),
+        }
     }
 
     /// A set for the items and the pending updates.
@@ -136,6 +151,16 @@ impl Memory {
         match &mut self.kept {
             Some(kept) => mem::replace(&mut kept.cache, Cache::new(self.alloc)),
             None => Cache::new(self.alloc),
+        }
+    }
+
+    /// A list for the words of a part to which updates are applied.
+    pub fn take_scratch(&mut self) -> PartWords
+        ensures { result.items ≡ [] }
+    {
+        match &mut self.kept {
+            Some(kept) => mem::replace(&mut kept.scratch, PartWords::new(self.alloc)),
+            None => PartWords::new(self.alloc),
         }
     }
 
@@ -243,8 +268,27 @@ impl Memory {
         }
     }
 
+    /// Keeps the room of replies that nobody needs any more.
+    ///
+    /// An attempt hands its replies out at its end. Who keeps them in a record gives nothing back, and the next attempt makes a list.
+    pub fn keep_replies(&mut self, replies: Replies) {
+        let Some(mut kept) = self.some_kept() else {
+            return;
+        };
+        kept.replies = replies;
+        kept.replies.clear();
+        self.kept = Some(kept);
+    }
+
     /// Keeps the room of what an attempt has noted, has read and knows, and of answers.
-    pub fn keep_log(&mut self, set: Observed, base: ReadSet, cache: Cache, pool: AnswerPool) {
+    pub fn keep_log(
+        &mut self,
+        set: Observed,
+        base: ReadSet,
+        cache: Cache,
+        scratch: PartWords,
+        pool: AnswerPool,
+    ) {
         let Some(mut kept) = self.some_kept() else {
             return;
         };
@@ -254,6 +298,8 @@ impl Memory {
         kept.base.clear();
         kept.cache = cache;
         kept.cache.forget();
+        kept.scratch = scratch;
+        kept.scratch.clear();
         kept.pool = pool;
         self.kept = Some(kept);
     }

@@ -1,5 +1,5 @@
 //! What is known of a part without an event, with the pending updates applied.
-ghost use Rattle.std.specs.Prelude.{◌≡◌, ◌<◌, ◌≤◌, ◌^◌, ◌++◌, [], ◌∷◌, ℕ, ℤ, List, None, Some, false, true, length, map, slice_index_or, IfOk, OnOk, IfSome, IfNone, MatchOption};
+ghost use Rattle.std.specs.Prelude.{◌≡◌, ◌<◌, ◌≤◌, ◌^◌, ◌++◌, [], ◌∷◌, ℕ, ℤ, List, None, Some, false, true, length, map, pos, replicate, IfOk, OnOk, IfSome, IfNone, MatchOption};
 ghost use Rattle.std.specs.Option.{option_map};
 ghost use Rattle.std.specs.List.{Contains};
 ghost use Rattle.sto_part.specs.Changes.{applied, applied_all};
@@ -21,33 +21,37 @@ use sto_model::Call;
 use sto_part::{Change, NoMemory, PartWords};
 use sto_type::{Answer, AnswerPool, Cache, TxType};
 
-// The words with these changes applied.
-fn updated<T: TxType>(
-    alloc: Global,
-    ty: &T,
-    changes: &[Change],
-    words: &[i64],
-) -> Result<PartWords, NoMemory>
-    requires few { length words.now < 2 ^ 32 }
-    requires fits { length changes.now ≤ length words.now }
-    ensures { IfOk result (λ made. made.items ≡ applied_all changes.now words.now) }
+// Puts these words into a list, in place of what stands there.
+fn fill(words: &[i64], scratch: &mut PartWords) -> Result<(), NoMemory>
+    requires { length words.now < 2 ^ 32 }
+    ensures { OnOk result (scratch.new.items ≡ words.now) }
 {
-    let mut made = PartWords::new(alloc);
-    made.reserve(words.len() as u32)?;
-    for word in 0..words.len() {
-        made.push(ty.install(change_at(changes, word), words[word]))?;
-    }
-    Ok(made)
+    scratch.clear();
+    scratch.extend(words)
 }
 
-// The change of a word, or `Keep` past the last.
-fn change_at(changes: &[Change], word: usize) -> Change
-    ensures { result ≡ slice_index_or changes.now word Change.Keep }
+// Puts so many zeros into a list, in place of what stands there.
+fn fill_zeros(width: u32, scratch: &mut PartWords) -> Result<(), NoMemory>
+    ensures { OnOk result (scratch.new.items ≡ replicate width (pos 0)) }
 {
-    if word < changes.len() {
-        changes[word]
-    } else {
-        Change::Keep
+    scratch.clear();
+    scratch.reserve(width)?;
+    for _ in 0..width {
+        scratch.push_spare(0);
+    }
+    Ok(())
+}
+
+// Applies changes to words, each to the one in its place.
+fn install_all<T: TxType>(ty: &T, changes: &[Change], words: &mut PartWords)
+    requires few { length changes.now < 2 ^ 32 }
+    requires fits { length changes.now ≤ length words.old.items }
+    ensures { words.new.items ≡ applied_all changes.now words.old.items }
+{
+    for place in 0..changes.len() {
+        let word = place as u32;
+        let now = ty.install(changes[place], *words.get(word));
+        words.set(word, now);
     }
 }
 
@@ -65,13 +69,15 @@ fn learn_word<T: TxType>(
     cache.learn(part, &[now])
 }
 
-/// Makes a part known: these words, with the pending update of the part applied. It takes a list only where it has to.
+/// Makes a part known: these words, with the pending update of the part applied.
+///
+/// Where there is one, the words of a wide part are put together in `scratch`.
 pub fn learn_updated<T: TxType>(
-    alloc: Global,
     ty: &T,
     set: &Observed,
     part: u32,
     words: &[i64],
+    scratch: &mut PartWords,
     cache: &mut Cache,
 ) -> Result<(), NoMemory>
     requires few { length words.now < 2 ^ 32 }
@@ -85,17 +91,36 @@ pub fn learn_updated<T: TxType>(
     if words.len() == 1 {
         return learn_word(ty, changes[0], part, words[0], cache);
     }
-    let made = updated(alloc, ty, changes, words)?;
-    cache.learn(part, made.as_slice())
+    fill(words, scratch)?;
+    install_all(ty, changes, scratch);
+    cache.learn(part, scratch.as_slice())
+}
+
+// Makes a part known that the pending updates put whole. They are applied to zeros, of which none is left.
+fn learn_put<T: TxType>(
+    ty: &T,
+    set: &Observed,
+    part: u32,
+    width: u32,
+    scratch: &mut PartWords,
+    cache: &mut Cache,
+) -> Result<(), NoMemory>
+    requires { length (changes_of set.now.updates part) ≤ width }
+    ensures { OnOk result (known cache.new
+        ≡ learnt (known cache.old) part (applied_all (changes_of set.now.updates part) (replicate width (pos 0)))) }
+{
+    fill_zeros(width, scratch)?;
+    install_all(ty, set.changes(part), scratch);
+    cache.learn(part, scratch.as_slice())
 }
 
 // Makes a part known that was read, or that the pending updates put whole. It answers false where it is neither.
 fn recall<T: TxType>(
-    alloc: Global,
     ty: &T,
     base: &ReadSet,
     set: &Observed,
     part: u32,
+    scratch: &mut PartWords,
     cache: &mut Cache,
 ) -> Result<bool, NoMemory>
     requires range { part < length (T.meaning ty.now).widths }
@@ -105,12 +130,11 @@ fn recall<T: TxType>(
     ensures other { IfOk result (λ is. is ≡ false → (cache.new ≡ cache.old) × (words_in base.now.items part ≡ None)) }
 {
     if let Some(read_entry) = base.find(part) {
-        learn_updated(alloc, ty, set, part, read_entry.words, cache)?;
+        learn_updated(ty, set, part, read_entry.words, scratch, cache)?;
         return Ok(true);
     }
     if set.overwrites(part) {
-        let zeros = PartWords::filled(alloc, 0, ty.width(part))?;
-        learn_updated(alloc, ty, set, part, zeros.as_slice(), cache)?;
+        learn_put(ty, set, part, ty.width(part), scratch, cache)?;
         return Ok(true);
     }
     Ok(false)
@@ -123,6 +147,7 @@ pub(crate) fn ask<T: TxType>(
     call: &Call,
     base: &ReadSet,
     set: &Observed,
+    scratch: &mut PartWords,
     cache: &mut Cache,
     pool: &mut AnswerPool,
 ) -> Result<Answer, NoMemory>
@@ -136,7 +161,7 @@ pub(crate) fn ask<T: TxType>(
     loop {
         match ty.plan(alloc, pool, call, &cache.all())? {
             Answer::Need(part) => {
-                if !recall(alloc, ty, base, set, part, cache)? {
+                if !recall(ty, base, set, part, scratch, cache)? {
                     return Ok(Answer::Need(part));
                 }
             }
@@ -147,11 +172,11 @@ pub(crate) fn ask<T: TxType>(
 
 // Recalls a part anew; where it is neither read nor put whole, all becomes unknown.
 fn learn_anew<T: TxType>(
-    alloc: Global,
     ty: &T,
     base: &ReadSet,
     set: &Observed,
     part: u32,
+    scratch: &mut PartWords,
     cache: &mut Cache,
 ) -> Result<(), NoMemory>
     requires range { part < length (T.meaning ty.now).widths }
@@ -159,7 +184,7 @@ fn learn_anew<T: TxType>(
     ensures { OnOk result (IsLearntAnew (T.meaning ty.now) (words_in base.now.items) set.now.updates part (known cache.old)
         (known cache.new)) }
 {
-    if recall(alloc, ty, base, set, part, cache)? {
+    if recall(ty, base, set, part, scratch, cache)? {
         return Ok(());
     }
     cache.forget();
@@ -168,11 +193,11 @@ fn learn_anew<T: TxType>(
 
 /// Brings what is known up to date after the updates of a call: the parts that they name are recalled anew, all others stay.
 pub(crate) fn refresh<T: TxType>(
-    alloc: Global,
     ty: &T,
     base: &ReadSet,
     set: &Observed,
     updates: &Updates,
+    scratch: &mut PartWords,
     cache: &mut Cache,
 ) -> Result<(), NoMemory>
     requires widths { (d : List (List ℤ)) × (T.meaning ty.now).valid d × HasWidths updates.now.items d }
@@ -181,7 +206,7 @@ pub(crate) fn refresh<T: TxType>(
     ensures { OnOk result (IsCache (T.meaning ty.now) (words_in base.now.items) set.now.updates (known cache.new)) }
 {
     for entry in updates.as_slice() {
-        learn_anew(alloc, ty, base, set, entry.0, cache)?;
+        learn_anew(ty, base, set, entry.0, scratch, cache)?;
     }
     Ok(())
 }

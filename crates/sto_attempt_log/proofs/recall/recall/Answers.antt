@@ -1,4 +1,4 @@
-use Rattle.std.proofs.Common.{ap, sym, ◌∙◌, ◌≡◌, ◌≤◌, pos, length, slice_index_or}
+use Rattle.std.proofs.Common.{sym, ◌∙◌, ◌≡◌, ◌≤◌, pos, length, replicate, slice_index_or}
 use Rattle.std.proofs.lemmas.List.{length-replicate}
 use Rattle.std.proofs.lemmas.Option.{get_or_from_slice_get}
 use Rattle.sto_part.specs.Changes.{applied_all}
@@ -26,15 +26,14 @@ returns-in-Some-clause-known g c is =
     let cs = changes_of es c.args.part in
     (applied_all cs ws, recalled_read m law base es c.requires.pending c.args.part ws c.requires.range c.in-Some.ensures.words, c.in_ok-learn_updated.ensures)
 
-pub learn_updated-requires-then-overwrites-clause-fits : goal.learn_updated-requires-then-overwrites-clause-fits
-learn_updated-requires-then-overwrites-clause-fits g c =
+pub learn_put-requires : goal.learn_put-requires
+learn_put-requires g c =
     let m = g.T.TxType.meaning c.args.ty.now in
     let law = g.met.T.TxType.lawful c.args.ty.now in
-    let ws = c.as_slice.result.now in
-    let width : slice_index_or m.widths c.args.part 0 ≡ c.width.result = get_or_from_slice_get m.widths c.args.part c.width.result 0 c.width.ensures in
-    let long : length ws ≡ slice_index_or m.widths c.args.part 0 =
-    ap length (c.as_slice.ensures.items ∙ c.in_ok-zeros.ensures) ∙ length-replicate c.width.result (pos 0) ∙ sym width in
-    fits_whole m law (words_in c.args.base.now.items) c.args.set.now.updates c.requires.pending c.args.part ws long
+    let w = c.width.result in
+    let width : slice_index_or m.widths c.args.part 0 ≡ w = get_or_from_slice_get m.widths c.args.part w 0 c.width.ensures in
+    let all = length-replicate w (pos 0) in
+    rw all at (fits_whole m law (words_in c.args.base.now.items) c.args.set.now.updates c.requires.pending c.args.part (replicate w (pos 0)) (all ∙ sym width))
 
 pub returns-then-overwrites-clause-known : goal.returns-then-overwrites-clause-known
 returns-then-overwrites-clause-known g c is =
@@ -42,11 +41,10 @@ returns-then-overwrites-clause-known g c is =
     let law = g.met.T.TxType.lawful c.args.ty.now in
     let base = words_in c.args.base.now.items in
     let es = c.args.set.now.updates in
-    let ws = c.as_slice.result.now in
-    let width : slice_index_or m.widths c.args.part 0 ≡ c.width.result = get_or_from_slice_get m.widths c.args.part c.width.result 0 c.width.ensures in
-    let long : length ws ≡ slice_index_or m.widths c.args.part 0 =
-    ap length (c.as_slice.ensures.items ∙ c.in_ok-zeros.ensures) ∙ length-replicate c.width.result (pos 0) ∙ sym width in (
+    let w = c.width.result in
+    let ws = replicate w (pos 0) in
+    let width : slice_index_or m.widths c.args.part 0 ≡ w = get_or_from_slice_get m.widths c.args.part w 0 c.width.ensures in (
       applied_all (changes_of es c.args.part) ws,
-      recalled_whole m law base es c.requires.pending c.args.part ws long (sym c.overwrites.ensures ∙ c.if-overwrites.true),
-      c.in_ok-learn_updated-2.ensures,
+      recalled_whole m law base es c.requires.pending c.args.part ws (length-replicate w (pos 0) ∙ sym width) (sym c.overwrites.ensures ∙ c.if-overwrites.true),
+      c.in_ok-learn_put.ensures,
     )
