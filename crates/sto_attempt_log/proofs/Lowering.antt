@@ -45,7 +45,7 @@ began_fewer at es reached read_phase turn led before calls widths words extensio
     (λ p e. first_left before calls widths extension.extended (words_in base) (subst (λ (r : Reached). IsByCall calls r) e by) l)
 
 -- an open
-module _ (m : Meaning) (law : IsLawful m) (f : Script) (rs : List Told) (p : ℕ) (base : List ReadEntry) (needed : IsNeeded m (f rs) (words_in base) p) where
+module _ (m : Meaning) (law : IsLawful m) (f : Script) (rs : List Told) (p : ℕ) (base : List ReadEntry) (pending : List Update) (needed : IsNeeded m (f rs) (words_in base) pending p) where
   range : p < length m.widths
   range = omega (arith, asked_range m f rs p (asked_next m f rs p needed.of_next), law.homes)
 

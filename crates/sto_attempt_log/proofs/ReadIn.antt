@@ -17,7 +17,7 @@ use Rattle.sto_attempt_log.proofs.Reading.{log_wider, cache_wider}
 use Rattle.sto_attempt_log.proofs.Recalling.{cache_learnt, fits_read, recalled_read}
 
 module _ (m : Meaning) (law : IsLawful m) (f : Script) (base : List ReadEntry) (x : ReadEntry) (items : List Item) (es : List Entry) (rs : List Told)
-    (was : IsLog m f (words_in base) items es rs) (awaits : IsNeeded m (f rs) (words_in base) x.part)
+    (was : IsLog m f (words_in base) items es rs) (awaits : IsNeeded m (f rs) (words_in base) es x.part)
     (some : (d : Parts) × m.valid d × IsPartOf (words_in (base ++ x ∷ [])) d) where
   pending : IsPending m (words_in (base ++ x ∷ [])) es
   pending = pending_of m f (words_in (base ++ x ∷ [])) items es rs (log_wider m f base x items es rs was) some

@@ -129,7 +129,7 @@ module _ (m : Meaning) (valid : Validity) (sizes : List ℕ) (f : Script) (at : 
   may_go_on =
       (record { own = rest.own; unheld = rest.unheld; decided = rest.decided; draws = rest.draws; number = rest.number; claimed = claimed; only = only; below = below; fit = rest.fit; stands = idle_reading v rest.phase; awaits = tt }, rest.phase)
 
-  pub turned : (reached : Reached) (read_phase : ReadPhase) (turn : Turn) → IsReached m f base rs reached → IsLed at es reached read_phase turn → To read_phase turn
+  pub turned : (reached : Reached) (read_phase : ReadPhase) (turn : Turn) → IsReached m f base es rs reached → IsLed at es reached read_phase turn → To read_phase turn
   turned (Needs p) read_phase turn r l =
       moved_to read_phase (S.Opening p) turn More l.0 l.1
       (record { own = rest.own; unheld = rest.unheld; decided = rest.decided; draws = rest.draws; number = rest.number; claimed = claimed; only = only; below = below; fit = rest.fit; stands = rest.phase; awaits = r }, as_of)

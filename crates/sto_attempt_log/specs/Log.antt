@@ -1,5 +1,5 @@
 -- What an attempt has found out, with no word of views: parts that it has read, items, pending updates, replies, and the cache that its type plans on.
-use Rattle.std.specs.Prelude.{◌≡◌, ◌⊎◌, ◌<◌, ◌+◌, ◌^◌, ℕ, ℤ, true, not, None, List, ◌++◌, length, map, IsSome, slice_index_or}
+use Rattle.std.specs.Prelude.{◌≡◌, ◌⊎◌, ◌<◌, ◌+◌, ◌^◌, ℕ, ℤ, true, not, None, List, ◌++◌, length, map, IsSome, slice_index_or, false}
 use Rattle.sto_item.specs.declared.item.Item.{Item}
 use Rattle.sto_item.specs.declared.item.Item.TheVariants.{Seen, Holds}
 use Rattle.sto_item.specs.Pending.{Entry, AreUpdates, changes_of, applied_updates}
@@ -64,7 +64,8 @@ pub record IsOnLog (m : Meaning) (next : List Told → Next) (f : Script) (left 
   pub log : IsLog m f (words_in base) set.items set.updates (map told replies)
   pub known_above : IsCache m (words_in base) set.updates (known cache)
 
--- the part is needed by the call that is next, and was not read
-pub record IsNeeded (m : Meaning) (next : Next) (base : Known) (p : ℕ) : Type 0 where
+-- the part is needed by the call that is next, was not read, and is not put whole by the pending updates
+pub record IsNeeded (m : Meaning) (next : Next) (base : Known) (es : List Entry) (p : ℕ) : Type 0 where
   pub unread : base p ≡ None
+  pub unput : overwrites (changes_of es p) ≡ false
   pub of_next : IsOfNext m next p

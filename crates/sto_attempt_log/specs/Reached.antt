@@ -1,6 +1,7 @@
 -- Where a body has come to.
 use Rattle.std.specs.Prelude.{◌≡◌, ◌<◌, ℕ, List}
 use Rattle.sto_model.specs.declared.body.Next.TheVariants.{Commit, Cancel}
+use Rattle.sto_item.specs.Pending.{Entry}
 use Rattle.sto_model.specs.Told.{Told}
 use Rattle.sto_model.specs.Run.{Script}
 use Rattle.sto_type.specs.Meaning.{Meaning}
@@ -10,10 +11,10 @@ use Rattle.sto_attempt_log.specs.declared.log.Reached.TheVariants.{Needs, Commit
 use Rattle.sto_attempt_log.specs.ReadSet.{words_in}
 use Rattle.sto_attempt_log.specs.Log.{IsNeeded}
 
-abbrev pub IsReached : Meaning → Script → List ReadEntry → List Told → Reached → Type 0
-IsReached m f base rs (Needs p) = IsNeeded m (f rs) (words_in base) p
-IsReached m f base rs Commits = f rs ≡ Commit
-IsReached m f base rs Cancels = f rs ≡ Cancel
+abbrev pub IsReached : Meaning → Script → List ReadEntry → List Entry → List Told → Reached → Type 0
+IsReached m f base es rs (Needs p) = IsNeeded m (f rs) (words_in base) es p
+IsReached m f base es rs Commits = f rs ≡ Commit
+IsReached m f base es rs Cancels = f rs ≡ Cancel
 
 -- a part is needed by a call, so there is one that may be asked
 abbrev pub IsByCall : ℕ → Reached → Type 0

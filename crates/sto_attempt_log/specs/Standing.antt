@@ -62,9 +62,9 @@ InReadPhase m at Over ws v = IsIdle v.phase
 
 -- what the body waits for
 abbrev pub Awaits : Meaning → Script → List ReadEntry → List Update → List Told → ReadPhase → Type 0
-Awaits m f base es rs (Opening p) = IsNeeded m (f rs) (words_in base) p
-Awaits m f base es rs (Reading p t) = IsNeeded m (f rs) (words_in base) p
-Awaits m f base es rs (Renewing p t) = IsNeeded m (f rs) (words_in base) p
+Awaits m f base es rs (Opening p) = IsNeeded m (f rs) (words_in base) es p
+Awaits m f base es rs (Reading p t) = IsNeeded m (f rs) (words_in base) es p
+Awaits m f base es rs (Renewing p t) = IsNeeded m (f rs) (words_in base) es p
 Awaits m f base es rs (Rechecking p) = ⊥
 Awaits m f base es rs (Reopening p) = ⊥
 Awaits m f base es rs (Rereading p t) = ⊥

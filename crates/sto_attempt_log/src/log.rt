@@ -58,7 +58,7 @@ impl<T: TxType, B: Body> Log<'_, T, B> {
         ensures log { OnOk result (IsOnLog (T.meaning self.old.ty.now) (B.then self.new.body) (B.script self.old.body)
             (B.left self.new.body) (B.may_ask self.new.body) self.old.base.items self.new.set self.new.cache self.new.replies.items) }
         ensures reached { IfOk result (λ r. IsReached (T.meaning self.old.ty.now) (B.script self.old.body) self.old.base.items
-            (map told self.new.replies.items) r) }
+            self.new.set.updates (map told self.new.replies.items) r) }
         ensures grown { OnOk result (HasHeard (T.meaning self.old.ty.now) (B.script self.old.body) (words_in self.old.base.items)
             (map told self.old.replies.items) self.old.set (map told self.new.replies.items) self.new.set) }
         ensures runs { (d : List (List ℤ)) → (T.meaning self.old.ty.now).valid d → IsPartOf (words_in self.old.base.items) d

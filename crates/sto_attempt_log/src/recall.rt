@@ -127,7 +127,8 @@ fn recall<T: TxType>(
     requires pending { IsPending (T.meaning ty.now) (words_in base.now.items) set.now.updates }
     ensures known { IfOk result (λ is. is ≡ true → IsLearnt (T.meaning ty.now) (words_in base.now.items) set.now.updates part
         (known cache.old) (known cache.new)) }
-    ensures other { IfOk result (λ is. is ≡ false → (cache.new ≡ cache.old) × (words_in base.now.items part ≡ None)) }
+    ensures other { IfOk result (λ is. is ≡ false → (cache.new ≡ cache.old) × (words_in base.now.items part ≡ None)
+        × (overwrites (changes_of set.now.updates part) ≡ false)) }
 {
     if let Some(read_entry) = base.find(part) {
         learn_updated(ty, set, part, read_entry.words, scratch, cache)?;
@@ -156,7 +157,8 @@ pub(crate) fn ask<T: TxType>(
     requires cache { IsCache (T.meaning ty.now) (words_in base.now.items) set.now.updates (known cache.old) }
     ensures plan { IfOk result (λ a. IsPlan (T.meaning ty.now) call.now (known cache.new) (planned a)) }
     ensures cache { OnOk result (IsCache (T.meaning ty.now) (words_in base.now.items) set.now.updates (known cache.new)) }
-    ensures need { IfOk result (λ a. (p : ℕ) → a ≡ Answer.Need p → words_in base.now.items p ≡ None) }
+    ensures need { IfOk result (λ a. (p : ℕ) → a ≡ Answer.Need p → (words_in base.now.items p ≡ None)
+        × (overwrites (changes_of set.now.updates p) ≡ false)) }
 {
     loop {
         match ty.plan(alloc, pool, call, &cache.all())? {

@@ -294,7 +294,7 @@ returns-then-is_locked-clause-left g c =
     let base = a.log.base.items in
     let v = g.C.Cells.view c.args.cells.now in
     let passes = g.C.Cells.passes c.args.cells.now in
-    close_over m law f rs c.args.part base c.requires.before.goes.0.awaits (length a.words.items) c.requires.all (g.B.Body.left a.log.body - 1) a.extension.extended
+    close_over m law f rs c.args.part base a.log.set.updates c.requires.before.goes.0.awaits (length a.words.items) c.requires.all (g.B.Body.left a.log.body - 1) a.extension.extended
 
 pub returns-then-newer-ticket-clause-left : goal.returns-then-newer-ticket-clause-left
 returns-then-newer-ticket-clause-left g c =
@@ -308,7 +308,7 @@ returns-then-newer-ticket-clause-left g c =
     let base = a.log.base.items in
     let v = g.C.Cells.view c.args.cells.now in
     let passes = g.C.Cells.passes c.args.cells.now in
-    close_over m law f rs c.args.part base c.requires.before.goes.0.awaits (length a.words.items) c.requires.all (g.B.Body.left a.log.body - 1) a.extension.extended
+    close_over m law f rs c.args.part base a.log.set.updates c.requires.before.goes.0.awaits (length a.words.items) c.requires.all (g.B.Body.left a.log.body - 1) a.extension.extended
 
 pub returns-clause-left : goal.returns-clause-left
 returns-clause-left g c =
@@ -341,7 +341,7 @@ returns-clause-left g c =
     ((λ e. let h = c.still-self.ensures.0 e in (h.0, omega (arith, h.1, heard_is, now_is))), (λ h. c.still-self.ensures.1 (h.0, omega (arith, h.1, heard_is, now_is)))) in
     let kept : c.go_on.new.self.base.items ≡ base ++ x ∷ [] = ap (λ (l : Listed ReadEntry). l.items) c.in_ok-reached.ensures.base ∙ made in
     subst (λ (b : List ReadEntry). events_left calls m.widths c.lead-read_phase.result.0 a.words.items extension b < left_opening (before - 1) m.widths a.extension.extended (words_in base) - (1 + length a.words.items)) (sym kept)
-    (close_fewer m law f rs c.args.part base c.requires.before.goes.0.awaits (length a.words.items) c.requires.all a.at c.go_on.new.self.set.updates c.in_ok-reached.reached c.lead-read_phase.result.0 c.lead-read_phase.result.1 c.lead-read_phase.ensures
+    (close_fewer m law f rs c.args.part base a.log.set.updates c.requires.before.goes.0.awaits (length a.words.items) c.requires.all a.at c.go_on.new.self.set.updates c.in_ok-reached.reached c.lead-read_phase.result.0 c.lead-read_phase.result.1 c.lead-read_phase.ensures
     before calls heard now a.extension.extended c.still-self.result a.words.items extension x refl refl c.in_ok-reached.ensures.left on c.in_ok-reached.ensures.asks iff)
 
 pub returns-then-is_locked-clause-grown : goal.returns-then-is_locked-clause-grown

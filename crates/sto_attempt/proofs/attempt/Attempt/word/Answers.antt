@@ -60,7 +60,7 @@ returns-clause-left g c =
     let most = left_opening (calls - 1) m.widths a.extension.extended (words_in base) in
     subst (λ (s : ReadPhase). events_left calls m.widths s c.push.new.self.items a.extension base < most - (1 + length a.words.items)) (sym c.requires.read_phase)
     (subst (λ (k : ℕ). most - (1 + k) < most - (1 + length a.words.items)) (sym longer)
-    (word_fewer m law f rs c.args.part base c.requires.before.goes.0.awaits (calls - 1) a.extension.extended (length a.words.items) c.requires.more))
+    (word_fewer m law f rs c.args.part base a.log.set.updates c.requires.before.goes.0.awaits (calls - 1) a.extension.extended (length a.words.items) c.requires.more))
 
 pub returns-in_err-push-clause-err : goal.returns-in_err-push-clause-err
 returns-in_err-push-clause-err g c =
