@@ -14,7 +14,7 @@ use Rattle.sto_attempt_facts.specs.Told.{IsTold, HasFound, IsFound}
 use Rattle.sto_attempt_facts.specs.Counted.{times_committed, Follows, InThreads}
 use Rattle.sto_attempt_facts.specs.Added.{Grows, IsKnown, IsAdded}
 use Rattle.sto_attempt_facts.specs.Tried.{HasTried}
-use Rattle.sto_attempt_facts.specs.Trying.{HasFinding, HasMade, AreAborted}
+use Rattle.sto_attempt_facts.specs.Trying.{AreFound, HasMade, AreAborted}
 use Rattle.sto_attempt_facts.proofs.Events.{grows_on}
 use Rattle.sto_attempt_facts.proofs.Later.{told_later, told_known}
 
@@ -43,6 +43,16 @@ found_later v w start (Cancelled n) g h = tt
 found_later v w start (Locked n p) g h = finding_later v w start p _ g h
 found_later v w start (Changed n p t) g h = finding_later v w start p _ g h
 
+-- the same of all records
+pub are_found_later : (v w : View) (start : ℕ) (rs : List Record) → Grows v w → AreFound v start rs → AreFound w start rs
+are_found_later v w start [] g h = tt
+are_found_later v w start (r ∷ rs) g h = (found_later v w start r.verdict g h.0, are_found_later v w (start + 1) rs g h.1)
+
+-- one more record, of the start after theirs
+are_found_more : (w : View) (start : ℕ) (rs : List Record) (r : Record) → AreFound w start rs → IsFound w (start + length rs) r.verdict → AreFound w start (rs ++ r ∷ [])
+are_found_more w start [] r h found = (subst (λ (k : ℕ). IsFound w k r.verdict) (omega arith) found, tt)
+are_found_more w start (x ∷ rs) r h found = (h.0, are_found_more w (start + 1) rs r h.1 (subst (λ (k : ℕ). IsFound w k r.verdict) (omega arith) found))
+
 -- Before the first attempt.
 pub none_made : (m : Meaning) (v : View) (f : Steps) (place : Place) → HasMade m v v f place []
 none_made m v f place = record {
@@ -53,7 +63,8 @@ none_made m v f place = record {
   threads = tt;
   starts = omega arith;
   draws = omega arith;
-  found = All-nil (HasFinding v v);
+  found = tt;
+  kept = λ e h. h;
 }
 
 -- each of these is followed by the next one
@@ -83,7 +94,7 @@ one_more m b v w f place rs r aborted h t = record {
   threads = all_followed m b v w f place rs r t h.each aborted h.threads;
   starts = (let a = h.starts in let c = t.starts in let d = longer rs r in omega (arith, a, c, d));
   draws = (let a = h.draws in let c = t.draws in let d = longer rs r in omega (arith, a, c, d));
-  found = All-append (HasFinding b w) rs (r ∷ [])
-      (All-weaker (HasFinding b v) (HasFinding b w) (λ x a. record { start = a.start; later = a.later; within = (let c = a.within in let d = t.starts in omega (arith, c, d)); found = found_later v w a.start x.verdict t.grows a.found }) rs h.found)
-      (All-cons (HasFinding b w) r [] (record { start = w.starts; later = (let a = h.starts in let c = t.starts in omega (arith, a, c)); within = omega arith; found = t.found }) (All-nil _));
+  found = are_found_more w (b.starts + 1) rs r (are_found_later v w (b.starts + 1) rs t.grows h.found)
+      (subst (λ (k : ℕ). IsFound w k r.verdict) (let a = h.starts in let c = t.starts in omega (arith, a, c)) t.found);
+  kept = λ e a. t.kept e (h.kept e a);
 }

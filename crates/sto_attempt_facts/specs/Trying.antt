@@ -1,20 +1,21 @@
 -- What the attempts of one transaction so far, all aborted but perhaps the last one, have added to what their pass knows.
-use Rattle.std.specs.Prelude.{◌≡◌, ◌≤◌, ◌+◌, ℕ, List, length, true}
+use Rattle.std.specs.Prelude.{◌≡◌, ◌≤◌, ◌+◌, ℕ, List, [], ◌∷◌, length, true}
 use Rattle.std.specs.List.{All}
 use Rattle.sto_model.specs.Run.{Script as Steps}
 use Rattle.sto_type.specs.Meaning.{Meaning}
+use Rattle.sto_core.specs.declared.view.Entry.{Entry}
 use Rattle.sto_core.specs.declared.view.View.{View}
+use Rattle.sto_core.specs.Lists.{Among}
 use Rattle.sto_attempt_facts.specs.Records.{Place, Record, times_written, is_abort}
 use Rattle.sto_attempt_facts.specs.Told.{IsFound}
 use Rattle.sto_attempt_facts.specs.Counted.{InThreads, times_committed}
 use Rattle.sto_attempt_facts.specs.Added.{Grows, IsKnown, IsAdded}
 
--- an aborted attempt has its finding, under the number of its own start
-pub record HasFinding (v w : View) (r : Record) : Type 0 where
-  pub start : ℕ
-  pub later : v.starts + 1 ≤ start
-  pub within : start ≤ w.starts
-  pub found : IsFound w start r.verdict
+-- these are the records of one start after the other, the first one of this number: each aborted attempt has its finding, under the
+-- number of its own start
+abbrev pub AreFound : View → ℕ → List Record → Type 0
+AreFound w start [] = Unit {0}
+AreFound w start (r ∷ rs) = IsFound w start r.verdict × AreFound w (start + 1) rs
 
 -- these records were added between the views v and w
 pub record HasMade (m : Meaning) (v w : View) (f : Steps) (place : Place) (new : List Record) : Type 0 where
@@ -25,7 +26,8 @@ pub record HasMade (m : Meaning) (v w : View) (f : Steps) (place : Place) (new :
   pub threads : InThreads new
   pub starts : w.starts ≡ v.starts + length new
   pub draws : v.draws ≤ w.draws + length new
-  pub found : All (HasFinding v w) new
+  pub found : AreFound w (v.starts + 1) new
+  pub kept : (e : Entry) → Among e v.entries → Among e w.entries
 
 -- all of them are aborted
 abbrev pub AreAborted : List Record → Type 0

@@ -1,6 +1,5 @@
 -- The record of an attempt that has ended is added to those of its thread.
 use Rattle.std.specs.Prelude.{◌&&◌, if◌then◌else◌, ◌==◌, not}
-use Rattle.std.specs.List.{All}
 use Rattle.std.proofs.Common.{◌≡◌, ℕ, suc, ◌+◌, ◌-◌, ◌<◌, ◌≤◌, List, [], ◌∷◌, ◌++◌, map, length, refl, sym, ap, ◌∙◌, subst, arith, Bool, true, false, true≢false, cond, eq-eqb}
 use Rattle.std.proofs.lemmas.List.Elements.{All-cons, All-nil}
 use Rattle.sto_model.specs.Run.{Script as Steps}
@@ -13,7 +12,8 @@ use Rattle.sto_attempt_facts.specs.Records.{Record, is_abort}
 use Rattle.sto_attempt_facts.specs.Counted.{aborted_times, finished_places}
 use Rattle.sto_attempt_facts.specs.Added.{IsAdded, HasAdded}
 use Rattle.sto_attempt_facts.specs.Tried.{HasTried}
-use Rattle.sto_attempt_facts.specs.Trying.{HasFinding}
+use Rattle.sto_attempt_facts.specs.Trying.{AreFound}
+use Rattle.sto_attempt_facts.specs.Told.{IsFound}
 use Rattle.sto_serializability.proofs.Working.{times_append, aborted_append}
 use Rattle.sto_run_threads.specs.Running.{ended_of}
 use Rattle.sto_run_threads.specs.Worked.{IsNext}
@@ -53,14 +53,8 @@ one_added m tries v w f place r few t = record {
   few = few;
 }
 
-one_found : (m : Meaning) (v w : View) (f : Steps) (place : Place) (r : Record) → HasTried m v w f place r → All (HasFinding v w) (r ∷ [])
-one_found m v w f place r t =
-    All-cons (HasFinding v w) r [] (record {
-      start = w.starts;
-      later = (let a = t.starts in omega (arith, a));
-      within = omega arith;
-      found = t.found;
-    }) (All-nil (HasFinding v w))
+one_found : (m : Meaning) (v w : View) (f : Steps) (place : Place) (r : Record) → HasTried m v w f place r → AreFound w (v.starts + 1) (r ∷ [])
+one_found m v w f place r t = (subst (λ (k : ℕ). IsFound w k r.verdict) t.starts t.found, tt)
 
 finished_by : (b : Bool) (r : Record) → is_abort r.verdict ≡ b → finished_places (r ∷ []) ≡ (if not b then r.place ∷ [] else [])
 finished_by b r is = ap (λ (c : Bool). map (λ (x : Record). x.place) (cond (not c) (r ∷ []) [])) is ∙ by b

@@ -12,7 +12,7 @@ use Rattle.sto_report_spec.specs.Orders.{Place, transaction_at, positions_of, nu
 use Rattle.sto_attempt_facts.specs.Records.{Record, is_abort}
 use Rattle.sto_attempt_facts.specs.Counted.{finished_places, aborted_times}
 use Rattle.sto_attempt_facts.specs.Added.{IsAdded, HasAdded}
-use Rattle.sto_attempt_facts.specs.Trying.{HasFinding}
+use Rattle.sto_attempt_facts.specs.Trying.{AreFound}
 use Rattle.sto_serializability.specs.Working.{AreSoFar}
 use Rattle.sto_serializability.proofs.Chains.{Every, every}
 use Rattle.sto_serializability.proofs.Pairs.{all_of, every_weaker, every_append}
@@ -110,7 +110,7 @@ other_same file rs new place thread other h placed = (
 -- Attempts of the next transaction of a thread add their records.
 pub next_more : (m : Meaning) (file : File) (tries : ℕ) (v w : View) (thread : ℕ) (rs new : List Record) (script : Script) (ended : Bool)
     → HasWorked m file tries v rs → suc (ended_of thread rs) ≤ count_in file.threads thread → transaction_at file (thread, suc (ended_of thread rs)) ≡ Some script
-    → HasAdded m tries v w (meaning_of script) (thread, suc (ended_of thread rs)) new → All (HasFinding v w) new
+    → HasAdded m tries v w (meaning_of script) (thread, suc (ended_of thread rs)) new → AreFound w (v.starts + 1) new
     → aborted_times (thread, suc (ended_of thread rs)) rs + aborted_times (thread, suc (ended_of thread rs)) new ≤ tries
     → finished_places new ≡ (if ended then (thread, suc (ended_of thread rs)) ∷ [] else []) → IsNext m file tries w thread rs (rs ++ new) ended
 next_more m file tries v w thread rs new script ended h there at added finding few ends = by ended ends
@@ -123,7 +123,7 @@ next_more m file tries v w thread rs new script ended h there at added finding f
         (every (IsUpTo thread (ended_of thread rs)) rs (h.under_way thread).comes) h.so_far added few
 
     found : All (WasFound w) (rs ++ new)
-    found = found_more v w rs new added.grows h.found finding
+    found = found_more v w rs new (v.starts + 1) added.grows h.found finding
 
     all : IsUnderWay file (rs ++ new) thread → AreUnderWay file (rs ++ new)
     all here u = elim (cases_eq thread u) [

@@ -1,18 +1,19 @@
 -- The attempts of one transaction, one after the other.
 use Rattle.std.specs.List.{All}
-use Rattle.std.proofs.Common.{◌≡◌, ◌≤◌, ◌<◌, ◌+◌, ℕ, List, [], ◌∷◌, ◌++◌, length, true, false, true≢false, refl, sym, ap, ◌∙◌, arith, append_assoc, append-nil, inl, inr}
+use Rattle.std.proofs.Common.{◌≡◌, ◌≤◌, ◌<◌, ◌+◌, ℕ, List, [], ◌∷◌, ◌++◌, length, true, false, true≢false, refl, sym, ap, ◌∙◌, arith, subst, append_assoc, append-nil, inl, inr}
 use Rattle.std.proofs.lemmas.List.Elements.{All-append, All-weaker, All-cons, All-nil}
 use Rattle.sto_model.specs.Run.{Script}
 use Rattle.sto_type.specs.Meaning.{Meaning}
 use Rattle.sto_core.specs.declared.view.View.{View}
+use Rattle.sto_core.specs.Lists.{Among}
 use Rattle.sto_attempt_facts.specs.Records.{Place, Record, is_abort}
 use Rattle.sto_attempt_facts.specs.Counted.{aborted_times, times_committed}
 use Rattle.sto_attempt_facts.specs.Added.{HasAdded, IsAdded}
 use Rattle.sto_attempt_facts.specs.Tried.{HasTried}
-use Rattle.sto_attempt_facts.specs.Trying.{HasFinding, HasMade, AreAborted}
+use Rattle.sto_attempt_facts.specs.Trying.{HasMade, AreAborted}
 use Rattle.sto_attempt_facts.proofs.Events.{grows_on}
 use Rattle.sto_attempt_facts.proofs.Later.{told_later}
-use Rattle.sto_attempt_facts.proofs.Tries.{none_made, one_more, longer, found_later}
+use Rattle.sto_attempt_facts.proofs.Tries.{none_made, one_more, longer, are_found_later}
 use Rattle.sto_transaction.specs.Ran.{HasRun, HasBroken}
 use Rattle.sto_transaction.specs.Resting.{IsAtRest}
 use Rattle.sto_transaction.specs.Machines.{HasStopped}
@@ -67,6 +68,7 @@ module _ (m : Meaning) (sizes : List ℕ) (tries passes made : ℕ) (v u w : Vie
         added = record { grows = all.grows; entries = all.entries; each = all.each; threads = all.threads; few = (let b = h.count in omega (arith, count, b, few)) };
         starts = all.starts;
         found = all.found;
+        kept = all.kept;
         ends = last_finished h.new r h.aborted ended ∙ ap (λ (p : Place). p ∷ []) is;
         used = λ other. absurd (true≢false other);
         rests = rest;
@@ -92,8 +94,8 @@ module _ (m : Meaning) (sizes : List ℕ) (tries passes made : ℕ) (v u w : Vie
     added = added_stopped s (omega (arith, few));
     aborted = all_aborted place h.new h.aborted (placed m v u f place h.new h.added.each);
     starts = inr (let a = h.added.starts in let b = s.starts in omega (arith, a, b));
-    found = All-weaker (HasFinding v u) (HasFinding v w)
-        (λ r a. record { start = a.start; later = a.later; within = (let b = a.within in let c = s.starts in omega (arith, b, c)); found = found_later u w a.start r.verdict s.grows a.found }) h.new h.added.found;
+    found = are_found_later u w (v.starts + 1) h.new s.grows h.added.found;
+    kept = λ e a. subst (Among e) (sym s.entries) (h.added.kept e a);
     rests = s.rests;
     draws = (let a = h.added.draws in let b = h.count in let c = s.draws in omega (arith, a, b, c, few));
   }
@@ -114,6 +116,7 @@ module _ (m : Meaning) (sizes : List ℕ) (tries passes made : ℕ) (v w : View)
     added = added (omega (arith, all));
     starts = h.added.starts;
     found = h.added.found;
+    kept = h.added.kept;
     ends = none_finished h.new h.aborted;
     used = λ no. (let a = count in let b = h.count in omega (arith, a, b, all));
     rests = h.rests;
@@ -130,6 +133,7 @@ module _ (m : Meaning) (sizes : List ℕ) (tries passes made : ℕ) (v w : View)
     aborted = count;
     starts = inl h.added.starts;
     found = h.added.found;
+    kept = h.added.kept;
     rests = h.rests;
     draws = (let a = h.added.draws in let b = h.count in omega (arith, a, b, few));
   }

@@ -1,13 +1,14 @@
 -- What a run of one transaction on an idle pass ensures.
 use Rattle.std.specs.Prelude.{◌≡◌, ◌≤◌, ◌⊎◌, ℕ, ◌+◌, List, [], ◌∷◌, ◌++◌, length, Bool, true, false, if◌then◌else◌}
-use Rattle.std.specs.List.{All}
 use Rattle.sto_model.specs.Run.{Script as Steps}
 use Rattle.sto_type.specs.Meaning.{Meaning}
+use Rattle.sto_core.specs.declared.view.Entry.{Entry}
 use Rattle.sto_core.specs.declared.view.View.{View}
+use Rattle.sto_core.specs.Lists.{Among}
 use Rattle.sto_attempt_facts.specs.Records.{Place, Record}
 use Rattle.sto_attempt_facts.specs.Counted.{aborted_times, finished_places}
 use Rattle.sto_attempt_facts.specs.Added.{HasAdded}
-use Rattle.sto_attempt_facts.specs.Trying.{HasFinding}
+use Rattle.sto_attempt_facts.specs.Trying.{AreFound}
 use Rattle.sto_transaction.specs.Resting.{IsAtRest}
 
 -- from the view v to the view w, on words with so many passes, a transaction that does f was run with so many tries. It has
@@ -16,9 +17,10 @@ pub record HasRun (m : Meaning) (sizes : List ℕ) (tries passes : ℕ) (v w : V
   pub new : List Record
   pub whole : later ≡ before ++ new
   pub added : HasAdded m tries v w f place new
-  -- as many records as starts, each aborted one with its finding
+  -- a record for each start, in their order, each aborted one with its finding under the number of its start
   pub starts : w.starts ≡ v.starts + length new
-  pub found : All (HasFinding v w) new
+  pub found : AreFound w (v.starts + 1) new
+  pub kept : (e : Entry) → Among e v.entries → Among e w.entries
   -- the last record is not aborted, or all are
   pub ends : finished_places new ≡ (if ended then place ∷ [] else [])
   pub used : ended ≡ false → aborted_times place new ≡ tries
@@ -35,6 +37,7 @@ pub record HasBroken (m : Meaning) (sizes : List ℕ) (tries : ℕ) (v w : View)
   pub added : HasAdded m tries v w f place new
   pub aborted : aborted_times place new ≡ length new
   pub starts : (w.starts ≡ v.starts + length new) ⊎ (w.starts ≡ v.starts + length new + 1)
-  pub found : All (HasFinding v w) new
+  pub found : AreFound w (v.starts + 1) new
+  pub kept : (e : Entry) → Among e v.entries → Among e w.entries
   pub rests : IsAtRest m sizes w
   pub draws : v.draws ≤ w.draws + tries
