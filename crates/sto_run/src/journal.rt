@@ -20,7 +20,8 @@ use sto_transaction::Record;
 use sto_type::TxType;
 
 /// The journal of the records of one finished run of a file, whose words have one pass left, which knows all that the
-/// passes of the run knew. Its report in either form is lawful for the file and the number of tries of the run.
+/// passes of the run knew. Its report in either form is lawful for the file and the number of tries of the run, and its state is the rows
+/// of the contents that the words hold.
 /// After `NoMemory` the records are given up.
 pub fn journal_of<F: Workload, T: TxType>(
     alloc: Global,
@@ -35,9 +36,11 @@ pub fn journal_of<F: Workload, T: TxType>(
     requires rests { IsAtRest (T.meaning ty.now) (T.sizes ty.now) (view_of words.now 0) }
     requires finished { (tries : ℕ) × (tries ≤ 64) × AreFinished (T.meaning ty.now) (F.file file.now) tries (view_of words.now 0)
         (map plain records.items) }
-    ensures { IfOk result (λ journal. (tries : ℕ) → AreFinished (T.meaning ty.now) (F.file file.now) tries (view_of words.now 0)
+    ensures lawful { IfOk result (λ journal. (tries : ℕ) → AreFinished (T.meaning ty.now) (F.file file.now) tries (view_of words.now 0)
         (map plain records.items)
         → IsLawfulJournal (updating_by (λ _. T.meaning ty.now)) (F.file file.now) tries journal) }
+    ensures state { IfOk result (λ journal. journal.state.items
+        ≡ (T.meaning ty.now).rows (map (λ part. part.words) words.now.parts)) }
 {
     let homes = homes_of(alloc, ty)?;
     let contents = words.contents()?;

@@ -43,8 +43,13 @@ merge-requires-clause-few g c =
     let all = c.requires.sound.few_transactions in
     omega (arith, few, same, all)
 
-pub returns : goal.returns
-returns g c = λ tries finished.
+pub returns-clause-state : goal.returns-clause-state
+returns-clause-state g c =
+    ap (λ (s : State). s.items) c.in_ok-merge.ensures.state ∙ c.in_ok-state.ensures
+    ∙ ap (g.T.TxType.meaning c.args.ty.now).rows c.in_ok-contents.ensures.words
+
+pub returns-clause-lawful : goal.returns-clause-lawful
+returns-clause-lawful g c = λ tries finished.
     let m : Meaning = g.T.TxType.meaning c.args.ty.now in
     let file : File = g.F.Workload.file c.args.file.now in
     let rs : List plainly.Record = map plain c.args.records.items in

@@ -10,7 +10,7 @@ pub journal_of-requires-clause-finished : goal.journal_of-requires-clause-finish
 journal_of-requires-clause-finished g c = λ κs within. (c.args.self.now.work.tries, c.requires.tries, c.requires.finished)
 
 pub returns-clause-lawful : goal.returns-clause-lawful
-returns-clause-lawful g c = IfOk-weaker c.journal_of.result _ _ (λ j h. h c.args.self.now.work.tries c.requires.finished) c.journal_of.ensures
+returns-clause-lawful g c = IfOk-weaker c.journal_of.result _ _ (λ j h. h c.args.self.now.work.tries c.requires.finished) c.journal_of.ensures.lawful
 
 pub returns-clause-alone : goal.returns-clause-alone
 returns-clause-alone g c = λ none.
@@ -18,4 +18,4 @@ returns-clause-alone g c = λ none.
     let file : File = g.F.Workload.file c.args.self.now.work.workload in
     IfOk-weaker c.journal_of.result _ _
     (λ j h. no_aborts (updating_by (λ shapes. m)) file j (h 0 (never_aborted m file c.args.self.now.work.tries _ _ c.requires.finished none)))
-    c.journal_of.ensures
+    c.journal_of.ensures.lawful
