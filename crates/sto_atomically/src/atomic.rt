@@ -7,17 +7,18 @@ ghost use Rattle.sto_code.specs.Progs.{IsTakenCall};
 ghost use Rattle.sto_atomically.specs.Atomic.{HasLed, IsUndisturbed, told_by};
 
 use crate::attempt::attempt;
+use crate::memory::CodeMemory;
 use crate::outcome::{Done, Unrun};
 use std::alloc::Global;
 use sto_code::{Code, Stop};
 use sto_core::Cells;
 use sto_model::Shapes;
 use sto_part::NoMemory;
-use sto_transaction::{AttemptWatch, Memory};
+use sto_transaction::AttemptWatch;
 use sto_type::TxType;
 
 /// Runs code as one transaction on a pass that is at rest, on objects of these shapes: attempts are made until one is not aborted, or
-/// so many were. Each takes one off the tickets that are left.
+/// so many were. Each takes one off the tickets that are left. The memory is lent to each in turn.
 pub fn atomically<T: TxType, K: Code, C: Cells<T>, W: AttemptWatch>(
     alloc: Global,
     ty: &T,
@@ -26,7 +27,7 @@ pub fn atomically<T: TxType, K: Code, C: Cells<T>, W: AttemptWatch>(
     left: &mut u64,
     tries: u32,
     watch: &mut W,
-    memory: &mut Memory,
+    memory: &mut CodeMemory,
     code: &K,
 ) -> Result<Done<K::Out>, Unrun>
 where

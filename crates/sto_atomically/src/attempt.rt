@@ -10,13 +10,14 @@ ghost use Rattle.sto_code.specs.Shortened.{short_of};
 ghost use Rattle.sto_code.specs.Progs.{Runs, IsTakenCall};
 ghost use Rattle.sto_atomically.specs.Atomic.{HasTried};
 
+use crate::memory::CodeMemory;
 use std::alloc::Global;
 use sto_attempt::Verdict;
 use sto_code::{Code, CodeBody, Stop, Tx};
 use sto_core::Cells;
 use sto_model::Shapes;
 use sto_part::NoMemory;
-use sto_transaction::{AttemptWatch, Memory, Record, Transaction};
+use sto_transaction::{AttemptWatch, Record, Transaction};
 use sto_type::TxType;
 
 /// Makes one attempt of code, which may draw one ticket. It answers what the code said at its end, or none where it was aborted.
@@ -26,7 +27,7 @@ pub(crate) fn attempt<T: TxType, K: Code, C: Cells<T>, W: AttemptWatch>(
     shapes: &Shapes,
     cells: &mut C,
     watch: &mut W,
-    memory: &mut Memory,
+    memory: &mut CodeMemory,
     code: &K,
 ) -> Result<Option<Result<K::Out, Stop>>, NoMemory>
 where
@@ -42,8 +43,8 @@ where
     ensures alone { C.passes cells.old ≡ 1 → IfOk result IsSome }
     ensures same { C.same cells.old cells.new }
 {
-    let body = CodeBody::new(alloc, code, shapes)?;
-    let mut records = Vec::new(alloc);
+    let body = CodeBody::new(memory.take_heard(), code, shapes)?;
+    let mut records = memory.take_records();
     let transaction = Transaction {
         ty,
         body,
@@ -51,12 +52,17 @@ where
         position: 1,
         tries: 1,
     };
-    match transaction.run(alloc, cells, watch, memory, &mut records) {
-        Ok(_transacted) => {}
+    let transacted = match transaction.run(alloc, cells, watch, &mut memory.attempts, &mut records)
+    {
+        Ok(transacted) => transacted,
         Err(NoMemory) => return Err(NoMemory),
-    }
+    };
     match records.pop() {
-        Some(last) => Ok(said_by(code, &last)),
+        Some(last) => {
+            let said = said_by(code, &last);
+            memory.keep(last.replies, records, transacted.body.heard);
+            Ok(said)
+        }
         None => unreachable!(),
     }
 }

@@ -3,7 +3,9 @@
 
 mod atomic;
 mod attempt;
+mod memory;
 mod outcome;
 
 pub use atomic::atomically;
+pub use memory::CodeMemory;
 pub use outcome::{Done, Unrun};

@@ -6,7 +6,6 @@ ghost use Rattle.sto_code.specs.Progs.{is_taken, next_by as by_run, IsTakenCall}
 use crate::code::Code;
 use crate::short_reply::{ShortReply, shortened};
 use crate::tx::{Stop, Tx};
-use std::alloc::Global;
 use sto_model::{Body, Call, Next, Reply, Shapes, takes_code};
 use sto_part::{List, NoMemory};
 
@@ -27,12 +26,17 @@ pub struct CodeBody<'c, K> {
 impl<'c, K: Code> CodeBody<'c, K> {
     ghost use Rattle.std.specs.Prelude.{IfOk};
 
-    /// The code, at its beginning.
-    pub fn new(alloc: Global, code: &'c K, shapes: &'c Shapes) -> Result<CodeBody<'c, K>, NoMemory>
+    /// The code, at its beginning. What it hears goes into this list, which is cleared; where memory is wanting its room is lost.
+    pub fn new(
+        heard: List<ShortReply>,
+        code: &'c K,
+        shapes: &'c Shapes,
+    ) -> Result<CodeBody<'c, K>, NoMemory>
         ensures { IfOk result (λ b. (b.code.now ≡ code.entry.now) × (b.shapes.now ≡ shapes.entry.now) × (b.most ≡ K.most code.entry.now)) }
     {
         let most = code.most();
-        let mut heard = List::new(alloc);
+        let mut heard = heard;
+        heard.clear();
         heard.reserve(most)?;
         Ok(CodeBody {
             code,

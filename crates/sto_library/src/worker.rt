@@ -8,11 +8,11 @@ ghost use Rattle.sto_library.specs.Doings.{HasGiven};
 use crate::waits::Waits;
 use std::alloc::Global;
 use std::marker::Model;
-use sto_atomically::{Done, Unrun, atomically};
+use sto_atomically::{CodeMemory, Done, Unrun, atomically};
 use sto_code::Code;
 use sto_model::Shapes;
 use sto_open::{BusyWorker, IdleWorker};
-use sto_transaction::{AttemptWatch, Memory};
+use sto_transaction::AttemptWatch;
 use sto_type::TxType;
 
 // How many attempts of a transaction are made.
@@ -25,7 +25,7 @@ pub struct StoreWorker<'s, T: TxType> {
     words: &'s sto_open::Store<T>,
     shapes: &'s Shapes,
     busy: BusyWorker<'s, T>,
-    memory: Memory,
+    memory: CodeMemory,
 }
 
 impl<'s, T: TxType> Model for StoreWorker<'s, T> {
@@ -61,7 +61,7 @@ impl<'s, T: TxType> StoreWorker<'s, T> {
             words,
             shapes,
             busy: words.resume(idle),
-            memory: Memory::new(alloc),
+            memory: CodeMemory::new(alloc),
         }
     }
 

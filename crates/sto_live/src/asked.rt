@@ -32,6 +32,20 @@ impl Asked {
         }
     }
 
+    /// The same, in a list that has no call.
+    pub(crate) fn over(calls: List<Call>) -> Asked
+        requires { calls.items ≡ [] }
+        ensures calls { result.calls.items ≡ [] }
+        ensures heard { result.heard ≡ 0 }
+        ensures end { result.end ≡ End.Commit }
+    {
+        Asked {
+            calls,
+            heard: 0,
+            end: End::Commit,
+        }
+    }
+
     /// Adds a call.
     pub fn add(&mut self, call: Call) -> Result<(), NoMemory>
         ensures calls { OnOk result (self.new.calls.items ≡ self.old.calls.items ++ call ∷ []) }

@@ -3,9 +3,11 @@
 
 mod asked;
 mod live;
+mod memory;
 mod pause;
 mod run_on;
 
 pub use asked::Asked;
 pub use live::{Live, Stopped};
+pub use memory::LiveMemory;
 pub use pause::PausedLive;

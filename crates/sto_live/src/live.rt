@@ -13,10 +13,11 @@ ghost use Rattle.sto_live.specs.Waiting.{IsWaiting, abort_of};
 ghost use Rattle.sto_live.specs.Lives.{IsLive, HasAsked, HasCommitted, HasCancelled};
 
 use crate::asked::Asked;
+use crate::memory::LiveMemory;
 use crate::run_on::{finish, run_on};
 use std::alloc::Global;
 use std::mem;
-use sto_attempt::{Attempt, Memory, Turn, Verdict};
+use sto_attempt::{Attempt, Turn, Verdict};
 use sto_core::Cells;
 use sto_model::{Call, Replies};
 use sto_part::NoMemory;
@@ -49,7 +50,7 @@ impl<'t, T: TxType> Live<'t, T> {
         alloc: Global,
         ty: &'t T,
         cells: &mut C,
-        memory: &mut Memory,
+        memory: &mut LiveMemory,
     ) -> Result<Live<'t, T>, NoMemory>
         requires rests { IsAtRest (T.meaning ty.now) (T.sizes ty.now) (C.view cells.old) }
         requires draws { 0 < (C.view cells.old).draws }
@@ -57,7 +58,8 @@ impl<'t, T: TxType> Live<'t, T> {
         ensures err { OnErr result (HasStopped (T.meaning ty.now) (T.sizes ty.now) (C.view cells.old) (C.view cells.new)) }
         ensures same { C.same cells.old cells.new }
     {
-        let mut attempt = Attempt::new(alloc, ty, Asked::new(alloc), memory.take());
+        let body = Asked::over(memory.take_calls());
+        let mut attempt = Attempt::new(alloc, ty, body, memory.attempts.take());
         attempt.begin(alloc, cells)?;
         Ok(Live { ty, attempt })
     }
@@ -101,11 +103,10 @@ impl<'t, T: TxType> Live<'t, T> {
     }
 
     /// Gives back the memory that it was lent, where it has ended by an abort or for want of memory.
-    pub fn into_memory(self) -> Memory {
+    pub fn into_memory(self) -> LiveMemory {
         let Live { attempt, .. } = self;
         let (heard, memory) = attempt.end();
-        mem::drop(heard);
-        memory
+        LiveMemory::of_ended(memory, heard)
     }
 
     // Gives the body one more call.
@@ -124,14 +125,14 @@ impl<'t, T: TxType> Live<'t, T> {
         added
     }
 
-    /// Commits. The replies of what is left of it are those that were answered.
+    /// Commits. The replies of what is left of it are those that were answered. `LiveMemory::keep` keeps their room.
     ///
     /// After `NoMemory` nothing of it took effect.
     pub fn commit<C: Cells<T>>(
         self,
         alloc: Global,
         cells: &mut C,
-        memory: &mut Memory,
+        memory: &mut LiveMemory,
     ) -> Result<Ended<Asked>, NoMemory>
         requires { (ty : T) × (calls : List Call) × (rs : List Told) × (begun : View)
             × IsLive T.TxType ty calls rs self begun (C.view cells.old) }
@@ -147,7 +148,7 @@ impl<'t, T: TxType> Live<'t, T> {
         let mut attempt = attempt;
         match attempt.resume(alloc)? {
             Turn::Ready => match attempt.seal(alloc) {
-                Ok(ready) => Ok(finish(ready, cells, memory)),
+                Ok(ready) => Ok(finish(ready, cells, &mut memory.attempts)),
                 Err((attempt, error)) => {
                     mem::drop(attempt);
                     Err(error)
@@ -155,7 +156,7 @@ impl<'t, T: TxType> Live<'t, T> {
             },
             Turn::Ended(verdict) => {
                 let (heard, lent) = attempt.end();
-                *memory = lent;
+                memory.attempts = lent;
                 Ok(Ended {
                     body: heard.body,
                     replies: heard.replies,
@@ -167,7 +168,11 @@ impl<'t, T: TxType> Live<'t, T> {
     }
 
     /// Gives it up. It makes no event: the pass is left as it is, at rest.
-    pub fn cancel(self, alloc: Global, memory: &mut Memory) -> Result<Ended<Asked>, NoMemory>
+    pub fn cancel(
+        self,
+        alloc: Global,
+        memory: &mut LiveMemory,
+    ) -> Result<Ended<Asked>, NoMemory>
         requires { (ty : T) × (calls : List Call) × (rs : List Told) × (begun : View) × (v : View)
             × IsLive T.TxType ty calls rs self begun v }
         ensures cancelled { (passes : ℕ) (ty : T) (calls : List Call) (rs : List Told) (begun v : View)
@@ -184,7 +189,7 @@ impl<'t, T: TxType> Live<'t, T> {
         match attempt.resume(alloc)? {
             Turn::Ended(verdict) => {
                 let (heard, lent) = attempt.end();
-                *memory = lent;
+                memory.attempts = lent;
                 Ok(Ended {
                     body: heard.body,
                     replies: heard.replies,

@@ -11,7 +11,7 @@ use crate::given::{ReturnSlot, give};
 use std::alloc::Global;
 use std::mem;
 use std::sync::Arc;
-use sto_attempt::Memory;
+use sto_live::LiveMemory;
 use sto_model::{Call, Replies};
 use sto_open::{IdleWorker, Store};
 use sto_session::{Session, Unanswered, Unbegun, Uncommitted};
@@ -55,7 +55,7 @@ impl<T: TxType + Drop> OwnedWorker<T> {
         OwnedWorker {
             store,
             slot,
-            session: Some(Session::new(rest, left, Memory::new(alloc))),
+            session: Some(Session::new(rest, left, LiveMemory::new(alloc))),
         }
     }
 

@@ -8,8 +8,7 @@ ghost use Rattle.sto_session.specs.Steps.{HasAsked, HasAskedAfter};
 
 use crate::session::Session;
 use std::alloc::Global;
-use sto_attempt::Memory;
-use sto_live::{PausedLive, Stopped};
+use sto_live::{LiveMemory, PausedLive, Stopped};
 use sto_model::{Call, Replies};
 use sto_table::{Rest, Shared};
 use sto_type::TxType;
@@ -73,7 +72,7 @@ fn ask<T: TxType>(
     rest: Rest<T>,
     left: u64,
     live: PausedLive,
-    memory: Memory,
+    memory: LiveMemory,
     call: Call,
 ) -> (Session<T>, Result<(), Unanswered>)
     requires waits { (calls : List Call) × (rs : List Told) × (begun : View)
@@ -104,7 +103,7 @@ fn ask<T: TxType>(
 }
 
 // A session in a transaction.
-fn waiting<T: TxType>(rest: Rest<T>, left: u64, live: PausedLive, memory: Memory) -> Session<T>
+fn waiting<T: TxType>(rest: Rest<T>, left: u64, live: PausedLive, memory: LiveMemory) -> Session<T>
     requires enough { left ≤ rest.seat.me.0.view.draws }
     requires one { rest.seat.me.0.view.gathered ≡ 1 }
     ensures rest { result.rest ≡ rest }

@@ -8,8 +8,8 @@ ghost use Rattle.sto_session.specs.Steps.{place_of, HasEndedBy, HasCommittedAfte
 
 use crate::session::Session;
 use std::alloc::Global;
-use sto_attempt::{Memory, Verdict};
-use sto_live::PausedLive;
+use sto_attempt::Verdict;
+use sto_live::{LiveMemory, PausedLive};
 use sto_part::NoMemory;
 use sto_table::{Rest, Shared};
 use sto_type::TxType;
@@ -88,7 +88,7 @@ fn commit<T: TxType>(
     rest: Rest<T>,
     left: u64,
     live: PausedLive,
-    memory: Memory,
+    memory: LiveMemory,
 ) -> (Session<T>, Result<u64, Uncommitted>)
     requires waits { (calls : List Call) × (rs : List Told) × (begun : View)
         × Waits T.TxType ty.now shared.now calls rs live begun rest.seat left }
@@ -102,10 +102,11 @@ fn commit<T: TxType>(
     let live = live.go_on(ty);
     let mut memory = memory;
     match live.commit(alloc, &mut pass, &mut memory) {
-        Ok(ended) => (
-            Session::new(pass.rest(), left, memory),
-            place_of(ended.verdict),
-        ),
+        Ok(ended) => {
+            let place = place_of(ended.verdict);
+            memory.keep(ended);
+            (Session::new(pass.rest(), left, memory), place)
+        }
         Err(NoMemory) => (
             Session::new(pass.rest(), left, memory),
             Err(Uncommitted::NoMemory),
@@ -121,7 +122,7 @@ fn cancel<T: TxType>(
     rest: Rest<T>,
     left: u64,
     live: PausedLive,
-    memory: Memory,
+    memory: LiveMemory,
 ) -> (Session<T>, Result<u64, Uncommitted>)
     requires waits { (calls : List Call) × (rs : List Told) × (begun : View)
         × Waits T.TxType ty.now shared.now calls rs live begun rest.seat left }
@@ -134,7 +135,11 @@ fn cancel<T: TxType>(
     let live = live.go_on(ty);
     let mut memory = memory;
     match live.cancel(alloc, &mut memory) {
-        Ok(ended) => (Session::new(rest, left, memory), place_of(ended.verdict)),
+        Ok(ended) => {
+            let place = place_of(ended.verdict);
+            memory.keep(ended);
+            (Session::new(rest, left, memory), place)
+        }
         Err(NoMemory) => (Session::new(rest, left, memory), Err(Uncommitted::NoMemory)),
     }
 }

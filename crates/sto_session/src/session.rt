@@ -1,8 +1,7 @@
 //! A pass and the transaction that it is in.
 ghost use Rattle.std.specs.Prelude.{◌≡◌, ◌≢◌, ◌≤◌, IfOk, IfErr, Some, None};
 
-use sto_attempt::Memory;
-use sto_live::PausedLive;
+use sto_live::{LiveMemory, PausedLive};
 use sto_part::Naming;
 use sto_table::Rest;
 
@@ -16,14 +15,14 @@ pub struct Session<T: Naming> {
     /// The transaction.
     pub live: Option<PausedLive>,
     /// What its transactions are lent, each in turn.
-    pub memory: Memory,
+    pub memory: LiveMemory,
     ghost enough: { left ≤ rest.seat.me.0.view.draws },
     ghost one: { rest.seat.me.0.view.gathered ≡ 1 },
 }
 
 impl<T: Naming> Session<T> {
     /// A free one, of a pass that was gathered with no other and may draw so many tickets.
-    pub fn new(rest: Rest<T>, left: u64, memory: Memory) -> Session<T>
+    pub fn new(rest: Rest<T>, left: u64, memory: LiveMemory) -> Session<T>
         requires enough { left ≤ rest.seat.me.0.view.draws }
         requires one { rest.seat.me.0.view.gathered ≡ 1 }
         ensures rest { result.rest ≡ rest }

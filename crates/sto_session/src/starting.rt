@@ -7,8 +7,7 @@ ghost use Rattle.sto_session.specs.Steps.{HasBegun, HasStarted};
 
 use crate::session::Session;
 use std::alloc::Global;
-use sto_attempt::Memory;
-use sto_live::Live;
+use sto_live::{Live, LiveMemory};
 use sto_part::NoMemory;
 use sto_table::{Rest, Shared};
 use sto_type::TxType;
@@ -58,7 +57,7 @@ fn start<T: TxType>(
     shared: &Shared<T>,
     rest: Rest<T>,
     left: u64,
-    memory: Memory,
+    memory: LiveMemory,
 ) -> (Session<T>, Result<(), Unbegun>)
     requires of { IsOf shared.now rest.seat }
     requires rests { IsAtRest (T.meaning ty.now) (T.sizes ty.now) rest.seat.me.0.view }

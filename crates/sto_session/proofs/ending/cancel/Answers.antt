@@ -26,7 +26,7 @@ returns-in-Ok-clause-cancelled g c calls rs begun w =
     let s = c.args.shared.now in
     let a = c.args.rest.seat in
     let on = c.go_on-live.ensures.live calls rs begun a.me.0.view w.paused in
-    subst (λ (r : Result ℕ Uncommitted). HasCancelledAfter t ty s calls rs begun r c.new.result) (sym c.place_of.ensures)
+    subst (λ (r : Result ℕ Uncommitted). HasCancelledAfter t ty s calls rs begun r c.new.result) (sym c.place_of-place.ensures)
     (cancels t ty s calls rs begun c.new.result a c.in-Ok.ended c.new.ensures.free (ap (λ (r : Rest g.row.T.Denot g.T.Naming). r.seat) c.new.ensures.rest) w.of (c.in-Ok.ensures.cancelled (passes_of s) ty calls rs begun a.me.0.view on))
 
 pub returns-in-Err-clause-cancelled : goal.returns-in-Err-clause-cancelled
