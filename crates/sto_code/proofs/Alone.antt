@@ -1,5 +1,5 @@
 -- A serial run by replies is the run that is computed.
-use Rattle.std.specs.Prelude.{if◌then◌else◌, Option, Some}
+use Rattle.std.specs.Prelude.{if◌then◌else◌, Some}
 use Rattle.std.proofs.Common.{◌≡◌, ℕ, zero, suc, List, [], ◌∷◌, map, Bool, true, false, sym, ap, ◌∙◌, refl}
 use Rattle.sto_model.specs.Told.{Told}
 use Rattle.sto_model.specs.Machine.{Machine, reply_to, state_after}
