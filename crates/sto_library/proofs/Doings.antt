@@ -24,7 +24,15 @@ use Rattle.sto_atomically.specs.declared.outcome.Unrun.TheVariants.{Busy, Refuse
 use Rattle.sto_atomically.specs.Atomic.{steps_of, TakesNoEffect, IsAtomic, HasLed}
 use Rattle.sto_atomically.proofs.Tried.{seen_later}
 use Rattle.sto_library.specs.Values.{Working}
-use Rattle.sto_library.specs.Doings.{HasRepeated, HasHeard, IsLedBy, HasGiven}
+use Rattle.sto_library.specs.Doings.{HasRun, HasRepeated, HasHeard, IsLedBy, HasGiven}
+
+-- the steps are those of code of this family
+abbrev pub RanSome : {I A : Type 0} → List Shape → ℕ → (I → Prog A) → Transaction → Type 0
+RanSome {I} shapes most p x = (i : I) × (x.steps ≡ steps_of shapes most (p i))
+
+-- the steps are those of this code
+abbrev Ran : {A : Type 0} → List Shape → ℕ → Prog A → Transaction → Type 0
+Ran shapes most p = RanSome shapes most (λ (once : Unit {0}). p)
 
 module _ {T A : Type 0} (t : OfType T) (before after : Working T) (most : ℕ) (p : Prog A) (words : after.words ≡ before.words) (shapes : after.shapes ≡ before.shapes)
     (grows : Grows before.seat.me.0.view after.seat.me.0.view) where
@@ -45,7 +53,7 @@ module _ {T A : Type 0} (t : OfType T) (before after : Working T) (most : ℕ) (
             entries = λ n. (let e = h.entries n in omega (arith, e));
             each = All-cons (IsToldOf m after.seat.me.0.view) x [] (record { ended = h.ended; told = h.told }) (All-nil (IsToldOf m after.seat.me.0.view));
           };
-          each = All-cons (λ (y : Transaction). y.steps ≡ steps_of before.shapes most p) x [] refl (All-nil (λ (y : Transaction). y.steps ≡ steps_of before.shapes most p));
+          each = All-cons (Ran before.shapes most p) x [] (tt, refl) (All-nil (Ran before.shapes most p));
         },
         record { transaction = x; there = (0, refl); since = h.since; said = h.said },
       )
@@ -57,7 +65,7 @@ module _ {T A : Type 0} (t : OfType T) (before after : Working T) (most : ℕ) (
     shapes = shapes;
     did = [];
     done = record { grows = grows; entries = λ n. (let e = h n in omega (arith, e)); each = All-nil (IsToldOf m after.seat.me.0.view) };
-    each = All-nil (λ (y : Transaction). y.steps ≡ steps_of before.shapes most p);
+    each = All-nil (Ran before.shapes most p);
   }
 
   pub led_given : (r : Result (Done A) Unrun) → HasLed (t.meaning before.words.ty) before.seat.me.0.view after.seat.me.0.view before.shapes most p r → HasGiven t before after most p r
@@ -76,29 +84,42 @@ heard_more u v did more says g h = record {
   said = h.said;
 }
 
-module _ {T A : Type 0} (t : OfType T) where
+module _ {T I A : Type 0} (t : OfType T) where
   -- a worker that has done nothing yet
-  pub repeated_none : (w : Working T) (most : ℕ) (p : Prog A) → HasRepeated t w w most p
-  repeated_none w most p = record {
+  pub run_none : (w : Working T) (most : ℕ) (p : I → Prog A) → HasRun t w w most p
+  run_none w most p = record {
     words = refl;
     shapes = refl;
     did = [];
     done = done_none (t.meaning w.words.ty) w.seat.me.0.view;
-    each = All-nil (λ (y : Transaction). y.steps ≡ steps_of w.shapes most p);
+    each = All-nil (RanSome w.shapes most p);
   }
 
   -- one that goes on
-  pub repeated_more : {u v w : Working T} {most : ℕ} {p : Prog A} → HasRepeated t u v most p → HasRepeated t v w most p → HasRepeated t u w most p
-  repeated_more {u} {v} {w} {most} {p} h k = record {
+  pub run_on : {u v w : Working T} {most : ℕ} {p : I → Prog A} → HasRun t u v most p → HasRun t v w most p → HasRun t u w most p
+  run_on {u} {v} {w} {most} {p} h k = record {
     words = k.words ∙ h.words;
     shapes = k.shapes ∙ h.shapes;
     did = h.did ++ k.did;
     done = done_more (t.meaning u.words.ty) u.seat.me.0.view v.seat.me.0.view w.seat.me.0.view h.did k.did h.done
         (subst (λ (x : Words T). HasDone (t.meaning x.ty) v.seat.me.0.view w.seat.me.0.view k.did) h.words k.done);
-    each = All-append (λ (y : Transaction). y.steps ≡ steps_of u.shapes most p) h.did k.did h.each
-        (subst (λ (ss : List Shape). All (λ (y : Transaction). y.steps ≡ steps_of ss most p) k.did) h.shapes k.each);
+    each = All-append (RanSome u.shapes most p) h.did k.did h.each (subst (λ (ss : List Shape). All (RanSome ss most p) k.did) h.shapes k.each);
   }
 
+  -- one that runs the code of the family that has this index
+  run_one : {v w : Working T} {most : ℕ} {p : I → Prog A} (i : I) → HasRepeated t v w most (p i) → HasRun t v w most p
+  run_one {v} {w} {most} {p} i h = record {
+    words = h.words;
+    shapes = h.shapes;
+    did = h.did;
+    done = h.done;
+    each = All-weaker (Ran v.shapes most (p i)) (RanSome v.shapes most p) (λ x is. (i, is.1)) h.did h.each;
+  }
+
+  pub run_more : {u v w : Working T} {most : ℕ} {p : I → Prog A} (i : I) → HasRun t u v most p → HasRepeated t v w most (p i) → HasRun t u w most p
+  run_more {p = p} i h k = run_on h (run_one {p = p} i k)
+
+module _ {T A : Type 0} (t : OfType T) where
   led_more : (u v : Working T) (did more : List Transaction) (p : Prog A) (r : Result (Done A) Unrun) → Grows u.seat.me.0.view v.seat.me.0.view → IsLedBy v more p r → IsLedBy u (did ++ more) p r
   led_more u v did more p (Ok (Gave value)) g h = heard_more u v did more (λ hs. IsGiven p hs value) g h
   led_more u v did more p (Ok Cancelled) g h = heard_more u v did more (λ hs. IsCancelled p hs) g h
@@ -108,8 +129,8 @@ module _ {T A : Type 0} (t : OfType T) where
   led_more u v did more p (Err NoMemory) g h = tt
 
   pub given_more : {u v w : Working T} {most : ℕ} {p : Prog A} {r : Result (Done A) Unrun} → HasRepeated t u v most p → HasGiven t v w most p r → HasGiven t u w most p r
-  unfolding repeated_more
+  unfolding run_on
   given_more {u} {v} {w} {most} {p} {r} h k = record {
-    repeated = repeated_more h k.repeated;
+    repeated = run_on t h k.repeated;
     led = led_more u v h.did k.repeated.did p r h.done.grows k.led;
   }

@@ -25,9 +25,10 @@ use Rattle.sto_atomically.specs.declared.outcome.Done.TheVariants.{Gave, Cancell
 use Rattle.sto_atomically.specs.declared.outcome.Unrun.{Unrun}
 use Rattle.sto_atomically.specs.Atomic.{steps_of}
 use Rattle.sto_library.specs.Values.{Working, Stored}
-use Rattle.sto_library.specs.Tasks.{IsDone, AreBothDone, AreFourDone}
-use Rattle.sto_library.specs.Doings.{HasHeard, IsLedBy, HasGiven}
+use Rattle.sto_library.specs.Tasks.{IsDone, AreFourDone}
+use Rattle.sto_library.specs.Doings.{HasRun, HasHeard, IsLedBy, HasGiven}
 use Rattle.sto_library.specs.Keeping.{Keeps, IfGave}
+use Rattle.sto_library.proofs.Doings.{RanSome}
 
 -- one of a list of which all are so
 all_among : {X : Type 0} (P : X → Type 0) (xs : List X) (x : X) → Among x xs → All P xs → P x
@@ -53,6 +54,17 @@ module _ {A : Type 0} (ms : List Machine) (Inv : State → Type 0) (Good : A →
   pub code_good : (t : Transaction) → t.steps ≡ steps_of shapes most p → (a : A) → RanWithin ms Inv t → IsGiven p (map short_of t.replies) a → Good a
   code_good t is a ran gave = (gives_on t is ran.state a ran.holds ran.runs gave).0
 
+-- objects by their numbers
+pub at_two : (P : ℕ → ℕ → Type 0) {m n i j : ℕ} → (m ≡ i) × (n ≡ j) → P i j → P m n
+at_two P {m} {n} {i} {j} (e, f) here = subst (λ (k : ℕ). P k n) (sym e) (subst (P i) (sym f) here)
+
+pub at_three : (P : ℕ → ℕ → ℕ → Type 0) {l m n i j k : ℕ} → (l ≡ i) × (m ≡ j) × (n ≡ k) → P i j k → P l m n
+at_three P {l} {m} {n} {i} {j} {k} (e, f, g) here = subst (λ (o : ℕ). P o m n) (sym e) (at_two (P i) (f, g) here)
+
+-- a state as it is known
+pub on_state : {A : Type 0} (ms : List Machine) (p : Prog A) (Q : A × State → Type 0) {st now : State} → st ≡ now → IfSome (run_of ms p now) Q → IfSome (run_of ms p st) Q
+on_state ms p Q same here = subst (λ (s : State). IfSome (run_of ms p s) Q) (sym same) here
+
 -- code that may be given up first
 pub unless : {A : Type 0} (ms : List Machine) (p : Prog A) (st : State) (Q : A × State → Type 0) (b : Bool) → (b ≡ false → IfSome (run_of ms p st) Q) → IfSome (run_of ms (if b then Cancels else p) st) Q
 unless ms p st Q true h = tt
@@ -63,40 +75,49 @@ pub where_so : {A : Type 0} (ms : List Machine) (p : Prog A) (st : State) (Q : A
 where_so ms p st Q true h = h refl
 where_so ms p st Q false h = tt
 
--- a task that ran code which keeps the invariant, and gave what one of the runs led to
-module _ {T A : Type 0} (t : OfType T) (Inv : State → Type 0) (Good : A → Type 0) (words : Words T) (shapes : List Shape) (v w : View) (most : ℕ) (p : Prog A) (out : Result (Done A) Unrun)
-    (law : Keeps (t.meaning words.ty).machines Inv Good p) (h : IsDone words shapes v w (λ before after o. HasGiven t before after most p o) out) where
+-- a worker that ran code of a family which keeps the invariant, as a task by which what it knew went from the view v to the view w
+module _ {T I A : Type 0} (t : OfType T) (Inv : State → Type 0) (Good : A → Type 0) (words : Words T) (v w : View) (most : ℕ) (p : I → Prog A)
+    (law : (i : I) → Keeps (t.meaning words.ty).machines Inv Good (p i)) (before after : Working T) (same : before.words ≡ words) (from : before.seat.me.0.view ≡ v)
+    (to : after.seat.me.0.view ≡ w) (ran : HasRun t before after most p) where
   abbrev own : List Machine
   own = (t.meaning words.ty).machines
 
-  abbrev did : List Transaction
-  did = h.gave.repeated.did
+  done_between : HasDone (t.meaning words.ty) v w ran.did
+  done_between =
+      subst (λ (x : View). HasDone (t.meaning words.ty) v x ran.did) to
+      (subst (λ (x : View). HasDone (t.meaning words.ty) x after.seat.me.0.view ran.did) from
+      (subst (λ (x : Words T). HasDone (t.meaning x.ty) before.seat.me.0.view after.seat.me.0.view ran.did) same ran.done))
 
-  abbrev Runs : Transaction → Type 0
-  Runs x = x.steps ≡ steps_of h.before.shapes most p
+  all_keep : All (KeepsState (t.meaning words.ty).machines Inv) ran.did
+  all_keep = All-weaker (RanSome before.shapes most p) (KeepsState own Inv) (λ x is. code_keeps own Inv Good before.shapes most (p is.0) (law is.0) x is.1) ran.did ran.each
 
-  shown : (o : Result (Done A) Unrun) → IsLedBy h.before h.gave.repeated.did p o → All (RanWithin (t.meaning words.ty).machines Inv) h.gave.repeated.did → IfGave Good o
-  shown (Ok (Gave value)) k ran =
-      code_good own Inv Good h.before.shapes most p law k.transaction (all_among Runs did k.transaction k.there h.gave.repeated.each) value
-      (all_among (RanWithin own Inv) did k.transaction k.there ran) k.said
-  shown (Ok Cancelled) k ran = tt
-  shown (Err error) k ran = tt
+  is_keeping : {P : Type 0} → (All (RanWithin (t.meaning words.ty).machines Inv) ran.did → P) → IsKeeping (t.meaning words.ty) Inv v w P
+  is_keeping shows = record { did = ran.did; done = done_between; keeps = all_keep; shows = shows }
 
-  is_keeping : IsKeeping (t.meaning words.ty) Inv v w (IfGave Good out)
-  is_keeping = record {
-    did = did;
-    done = subst (λ (x : View). HasDone (t.meaning words.ty) v x did) h.to
-        (subst (λ (x : View). HasDone (t.meaning words.ty) x h.after.seat.me.0.view did) h.from
-        (subst (λ (x : Words T). HasDone (t.meaning x.ty) h.before.seat.me.0.view h.after.seat.me.0.view did) h.same_words h.gave.repeated.done));
-    keeps = All-weaker Runs (KeepsState own Inv) (λ x is. code_keeps own Inv Good h.before.shapes most p law x is) did h.gave.repeated.each;
-    shows = λ ran. shown out h.gave.led ran;
-  }
+-- a task that did so
+pub run_keeping : {T I A Out : Type 0} {t : OfType T} {Inv : State → Type 0} (Good : A → Type 0) {words : Words T} {shapes : List Shape} {v w : View} {most : ℕ} {p : I → Prog A} {out : Out} {ms : List Machine}
+    → (t.meaning words.ty).machines ≡ ms → ((i : I) → Keeps ms Inv Good (p i)) → IsDone words shapes v w (λ before after o. HasRun t before after most p) out
+    → IsKeeping (t.meaning words.ty) Inv v w (Unit {0})
+run_keeping {t = t} {Inv = Inv} Good {words = words} {v = v} {w = w} {most = most} {p = p} same law h =
+    is_keeping t Inv Good words v w most p (λ i. subst (λ (l : List Machine). Keeps l Inv Good (p i)) (sym same) (law i)) h.before h.after h.same_words h.from h.to h.gave (λ ran. tt)
 
+-- what one of the transactions gave, which were of this code
+given_good : {T A : Type 0} (ms : List Machine) (Inv : State → Type 0) (Good : A → Type 0) (most : ℕ) (p : Prog A) (before : Working T) (did : List Transaction) → Keeps ms Inv Good p
+    → All (RanSome before.shapes most (λ (once : Unit {0}). p)) did → (o : Result (Done A) Unrun) → IsLedBy before did p o → All (RanWithin ms Inv) did → IfGave Good o
+given_good ms Inv Good most p before did law each (Ok (Gave value)) k ran =
+    code_good ms Inv Good before.shapes most p law k.transaction (all_among (RanSome before.shapes most (λ (once : Unit {0}). p)) did k.transaction k.there each).1 value
+    (all_among (RanWithin ms Inv) did k.transaction k.there ran) k.said
+given_good ms Inv Good most p before did law each (Ok Cancelled) k ran = tt
+given_good ms Inv Good most p before did law each (Err error) k ran = tt
+
+-- a task that ran code which keeps the invariant, and gave what one of the runs led to
 pub given_keeping : {T A : Type 0} {t : OfType T} {Inv : State → Type 0} (Good : A → Type 0) {words : Words T} {shapes : List Shape} {v w : View} {most : ℕ} {p : Prog A} {out : Result (Done A) Unrun} {ms : List Machine}
     → (t.meaning words.ty).machines ≡ ms → Keeps ms Inv Good p → IsDone words shapes v w (λ before after o. HasGiven t before after most p o) out
     → IsKeeping (t.meaning words.ty) Inv v w (IfGave Good out)
-given_keeping {T} {A} {t} {Inv} Good {words} {shapes} {v} {w} {most} {p} {out} {ms} same law h =
-    is_keeping t Inv Good words shapes v w most p out (subst (λ (l : List Machine). Keeps l Inv Good p) (sym same) law) h
+given_keeping {t = t} {Inv = Inv} Good {words = words} {v = v} {w = w} {most = most} {p = p} {out = out} same law h =
+    let own = subst (λ (l : List Machine). Keeps l Inv Good p) (sym same) law in
+    is_keeping t Inv Good words v w most (λ (once : Unit {0}). p) (λ once. own) h.before h.after h.same_words h.from h.to h.gave.repeated
+    (given_good (t.meaning words.ty).machines Inv Good most p h.before h.gave.repeated.did own h.gave.repeated.each out h.gave.led)
 
 module _ {T : Type 0} (t : OfType T) (Inv : State → Type 0) (old new : Stored T) where
   abbrev m : Meaning
@@ -105,23 +126,7 @@ module _ {T : Type 0} (t : OfType T) (Inv : State → Type 0) (old new : Stored 
   abbrev Kept : View → Type 0
   Kept v = HasKept (t.meaning old.words.ty) Inv v (Unit {0})
 
-  -- two tasks that keep the invariant, of workers that kept it before
-  pub both_kept : {A B : Type 0} {a : Working T → Working T → A → Type 0} {b : Working T → Working T → B → Type 0} {x : A} {y : B} {P Q : Type 0}
-      → (h : AreBothDone old new a b x y) → All (λ v. HasKept (t.meaning old.words.ty) Inv v (Unit {0})) old.views
-      → IsKeeping (t.meaning old.words.ty) Inv h.a_from h.a_to P → IsKeeping (t.meaning old.words.ty) Inv h.b_from h.b_to Q
-      → HaveKept (t.meaning old.words.ty) Inv new.views (P × Q)
-  both_kept {P = P} {Q = Q} h before p q =
-      let all = subst (All Kept) h.were before in
-      let two = second_all Kept h.others (h.b_from ∷ h.a_from ∷ []) all in
-      let b_was = All-head Kept h.b_from (h.a_from ∷ []) two in
-      let a_was = All-head Kept h.a_from [] (All-tail Kept h.b_from (h.a_from ∷ []) two) in
-      let one = one_kept m Inv h.b_to [] (Unit {0} × Q) (Unit {0}) (kept_on m Inv h.b_from h.b_to (Unit {0}) Q b_was q) (none_kept m Inv) in
-      let both = one_kept m Inv h.a_to (h.b_to ∷ []) (Unit {0} × P) ((Unit {0} × Q) × Unit {0}) (kept_on m Inv h.a_from h.a_to (Unit {0}) P a_was p) one in
-      let every = others_kept m Inv h.others (h.a_to ∷ h.b_to ∷ []) ((Unit {0} × P) × ((Unit {0} × Q) × Unit {0})) (first_all Kept h.others (h.b_from ∷ h.a_from ∷ []) all) both in
-      subst (λ (views : List View). HaveKept m Inv views (P × Q)) (sym h.are)
-      (record { did = every.did; done = every.done; keeps = every.keeps; shows = λ ran. (let s = every.shows ran in (s.0.1, s.1.0.1)) })
-
-  -- four of them
+  -- four tasks that keep the invariant, of workers that kept it before
   pub four_kept : {A B C D : Type 0} {a : Working T → Working T → A → Type 0} {b : Working T → Working T → B → Type 0} {c : Working T → Working T → C → Type 0}
       {d : Working T → Working T → D → Type 0} {x : A} {y : B} {z : C} {u : D} {P Q R S : Type 0}
       → (h : AreFourDone old new a b c d x y z u) → All (λ v. HasKept (t.meaning old.words.ty) Inv v (Unit {0})) old.views
@@ -159,3 +164,30 @@ kept_to_rows {T} {P} t Inv ms old new rows same words kept history opening =
 -- the workers of a store that was just opened
 pub all_kept : (m : Meaning) (Inv : State → Type 0) (views : List View) → All (λ v. v.entries ≡ []) views → All (λ v. HasKept m Inv v (Unit {0})) views
 all_kept m Inv views new = All-weaker (λ (v : View). v.entries ≡ []) (λ (v : View). HasKept m Inv v (Unit {0})) (λ v none. new_kept m Inv v none) views new
+
+-- Code that four workers of a store ran that was just opened, each its own, and that keeps an invariant: it holds of the rows at the end, and what was given is good
+pub four_keep : {T A B C D : Type 0} {t : OfType T} {Inv : State → Type 0} {ms : List Machine} {old new : Stored T} {rows : State} {a_most b_most c_most d_most : ℕ} {a : Prog A} {b : Prog B} {c : Prog C} {d : Prog D}
+    {x : Result (Done A) Unrun} {y : Result (Done B) Unrun} {z : Result (Done C) Unrun} {u : Result (Done D) Unrun}
+    (GoodA : A → Type 0) (GoodB : B → Type 0) (GoodC : C → Type 0) (GoodD : D → Type 0)
+    → (t.meaning old.words.ty).machines ≡ ms → All (λ v. v.entries ≡ []) old.views → new.words ≡ old.words
+    → AreFourDone old new (λ p q o. HasGiven t p q a_most a o) (λ p q o. HasGiven t p q b_most b o) (λ p q o. HasGiven t p q c_most c o) (λ p q o. HasGiven t p q d_most d o) x y z u
+    → HaveHistory (t.meaning new.words.ty) new.views rows → Inv (opening_of ms) → Keeps ms Inv GoodA a → Keeps ms Inv GoodB b → Keeps ms Inv GoodC c → Keeps ms Inv GoodD d
+    → Inv rows × (IfGave GoodA x × IfGave GoodB y × IfGave GoodC z × IfGave GoodD u)
+four_keep {t = t} {Inv = Inv} {ms = ms} {old = old} {new = new} {rows = rows} GoodA GoodB GoodC GoodD machines fresh same h history opening a b c d =
+    kept_to_rows t Inv ms old new rows machines same
+    (four_kept t Inv old new h (all_kept (t.meaning old.words.ty) Inv old.views fresh) (given_keeping GoodA machines a h.a_done) (given_keeping GoodB machines b h.b_done)
+    (given_keeping GoodC machines c h.c_done) (given_keeping GoodD machines d h.d_done))
+    history opening
+
+-- the same of workers that ran code of a family each
+pub four_run : {T I A X Y Z U : Type 0} {t : OfType T} {Inv : State → Type 0} {ms : List Machine} {old new : Stored T} {rows : State} {a_most b_most c_most d_most : ℕ} {a b c d : I → Prog A}
+    {x : X} {y : Y} {z : Z} {u : U} (Good : A → Type 0)
+    → (t.meaning old.words.ty).machines ≡ ms → All (λ v. v.entries ≡ []) old.views → new.words ≡ old.words
+    → AreFourDone old new (λ p q o. HasRun t p q a_most a) (λ p q o. HasRun t p q b_most b) (λ p q o. HasRun t p q c_most c) (λ p q o. HasRun t p q d_most d) x y z u
+    → HaveHistory (t.meaning new.words.ty) new.views rows → Inv (opening_of ms)
+    → ((i : I) → Keeps ms Inv Good (a i)) → ((i : I) → Keeps ms Inv Good (b i)) → ((i : I) → Keeps ms Inv Good (c i)) → ((i : I) → Keeps ms Inv Good (d i)) → Inv rows
+four_run {t = t} {Inv = Inv} {ms = ms} {old = old} {new = new} {rows = rows} Good machines fresh same h history opening a b c d =
+    (kept_to_rows t Inv ms old new rows machines same
+    (four_kept t Inv old new h (all_kept (t.meaning old.words.ty) Inv old.views fresh) (run_keeping Good machines a h.a_done) (run_keeping Good machines b h.b_done)
+    (run_keeping Good machines c h.c_done) (run_keeping Good machines d h.d_done))
+    history opening).0

@@ -2,7 +2,9 @@ pub mod Doings
 pub mod Hired
 pub mod SideBySide
 pub mod Opened
+pub mod Planned
 pub mod Wrapping
 pub mod Keeping
 pub mod Counters
 pub mod Vectors
+pub mod Totals

@@ -1,4 +1,4 @@
--- What a worker did at its store: the transactions of one code, and what one of them led to.
+-- What a worker did at its store: the transactions of one code or of a family, and what one of them led to.
 use Rattle.std.specs.Prelude.{◌≡◌, ℕ, List, map, Result, Ok, Err}
 use Rattle.std.specs.List.{All}
 use Rattle.sto_type.specs.Traits.{OfType}
@@ -16,13 +16,17 @@ use Rattle.sto_atomically.specs.declared.outcome.Unrun.TheVariants.{Busy, Refuse
 use Rattle.sto_atomically.specs.Atomic.{steps_of, HasSeen}
 use Rattle.sto_library.specs.Values.{Working}
 
--- from one time to a later one the worker ran this code, some number of times, and nothing else
-pub record HasRepeated {T A : Type 0} (t : OfType T) (before after : Working T) (most : ℕ) (p : Prog A) : Type 0 where
+-- from one time to a later one the worker ran code of this family again and again, each time another one, and nothing else
+pub record HasRun {T I A : Type 0} (t : OfType T) (before after : Working T) (most : ℕ) (p : I → Prog A) : Type 0 where
   pub words : after.words ≡ before.words
   pub shapes : after.shapes ≡ before.shapes
   pub did : List Transaction
   pub done : HasDone (t.meaning before.words.ty) before.seat.me.0.view after.seat.me.0.view did
-  pub each : All (λ x. x.steps ≡ steps_of before.shapes most p) did
+  pub each : All (λ x. (i : I) × (x.steps ≡ steps_of before.shapes most (p i))) did
+
+-- it ran this code, some number of times, and nothing else
+abbrev pub HasRepeated : {T A : Type 0} → OfType T → (before after : Working T) → ℕ → Prog A → Type 0
+HasRepeated t before after most p = HasRun t before after most (λ (once : Unit {0}). p)
 
 -- one of the transactions, which stands after all that the worker had seen before, heard replies of which this is so
 pub record HasHeard {T : Type 0} (before : Working T) (did : List Transaction) (says : List ShortReply → Type 0) : Type 0 where

@@ -1,13 +1,8 @@
 -- What tasks give, and why they give nothing.
-use Rattle.std.specs.Prelude.{◌≡◌, ◌<◌, ℕ, List, [], ◌∷◌, ◌++◌, length, Result}
+use Rattle.std.specs.Prelude.{◌≡◌, ◌<◌, ℕ, List, [], ◌∷◌, ◌++◌, length}
 use Rattle.sto_model.specs.declared.shape.Shape.{Shape}
-use Rattle.sto_type.specs.Traits.{OfType}
 use Rattle.sto_core.specs.declared.view.View.{View}
-use Rattle.sto_code.specs.Progs.{Prog}
 use Rattle.sto_open.specs.declared.store.Store.{Store as Words}
-use Rattle.sto_atomically.specs.declared.outcome.Done.{Done}
-use Rattle.sto_atomically.specs.declared.outcome.Unrun.{Unrun}
-use Rattle.sto_atomically.specs.Atomic.{HasLed}
 use Rattle.sto_library.specs.Values.{Stored, Working}
 use Rattle.sto_library.specs.declared.task.TaskError.{TaskError}
 use Rattle.sto_library.specs.declared.task.TaskError.TheVariants.{Workers, NoMemory}
@@ -52,12 +47,6 @@ pub record AreFourDone {T A B C D : Type 0} (old new : Stored T) (a : Working T 
   pub b_done : IsDone old.words old.shapes b_from b_to b y
   pub c_done : IsDone old.words old.shapes c_from c_to c z
   pub d_done : IsDone old.words old.shapes d_from d_to d u
-
--- at a store where this worker is, a transaction of this code led to this
-pub record IsOutcome {T A : Type 0} (t : OfType T) (worker : Working T) (most : ℕ) (p : Prog A) (outcome : Result (Done A) Unrun) : Type 0 where
-  pub before : View
-  pub after : View
-  pub led : HasLed (t.meaning worker.words.ty) before after worker.shapes most p outcome
 
 -- why so many tasks gave nothing: there were too few workers, and the store is as it was; or memory was wanting
 abbrev pub HasFailed : {T : Type 0} → TaskError → ℕ → (old new : Stored T) → Type 0

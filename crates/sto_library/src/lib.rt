@@ -1,19 +1,24 @@
 //! Shared transactional objects, as programs use them: a plan of objects, a store, its workers, and code that they run as transactions.
 #![tactic(auto)]
 
+mod contents;
+mod error;
 mod schema;
 mod store;
 mod task;
+mod times;
 mod together;
 mod waits;
 mod worker;
 
+pub use contents::{total_of, value_of};
+pub use error::StoreError;
 pub use schema::Schema;
 pub use sto_atomically::{Done, Unrun};
 pub use sto_code::{
     ArrayId, BoxId, Code, CounterId, HashId, ShortReply, Stop, TreeId, Tx, VectorId,
 };
-pub use sto_model::{Call, State};
+pub use sto_model::{Call, Rows, State};
 pub use sto_objects::Objects;
 pub use sto_open::{IdleWorker, Unopened, Unplanned};
 pub use sto_part::{NoMemory, Test, wrapping_difference, wrapping_sum};
@@ -21,5 +26,6 @@ pub use sto_transaction::AttemptWatch;
 pub use sto_type::TxType;
 pub use store::{CloseError, SharedStore};
 pub use task::{Task, TaskError};
+pub use times::Times;
 pub use waits::Waits;
 pub use worker::StoreWorker;

@@ -133,7 +133,61 @@ where
     )
 }
 
-// Does four tasks at a time.
+// Does two tasks, one after the other.
+fn work_in_turn<T: TxType, A: Task<T>, B: Task<T>>(
+    alloc: Global,
+    words: &sto_open::Store<T>,
+    shapes: &Shapes,
+    workers: Pair<T>,
+    a: &A,
+    b: &B,
+) -> FinishedPair<T, A::Out, B::Out>
+    requires takes { TakeCalls T.TxType words.now shapes.now.items }
+    requires a { Serves T.TxType words.now workers.0.rest.seat }
+    requires b { Serves T.TxType words.now workers.1.rest.seat }
+    ensures a_serves { Serves T.TxType words.now result.0.worker.rest.seat }
+    ensures b_serves { Serves T.TxType words.now result.1.worker.rest.seat }
+    ensures a { IsDone words.now shapes.now.items workers.0.rest.seat.me.0.view result.0.worker.rest.seat.me.0.view
+        (A.gives a.now) result.0.out }
+    ensures b { IsDone words.now shapes.now.items workers.1.rest.seat.me.0.view result.1.worker.rest.seat.me.0.view
+        (B.gives b.now) result.1.out }
+{
+    let (first, other) = workers;
+    let done = work_alone(alloc, words, shapes, first, a);
+    (done, work_alone(alloc, words, shapes, other, b))
+}
+
+// Does two tasks on at most so many threads.
+fn work_two<R: Threads, T: TxType + Drop + Send + Sync, A: Task<T> + Sync, B: Task<T> + Sync>(
+    rt: &R,
+    alloc: Global,
+    words: &sto_open::Store<T>,
+    shapes: &Shapes,
+    threads: u32,
+    workers: Pair<T>,
+    a: &A,
+    b: &B,
+) -> FinishedPair<T, A::Out, B::Out>
+where
+    A::Out: Send + Drop,
+    B::Out: Send + Drop,
+    requires takes { TakeCalls T.TxType words.now shapes.now.items }
+    requires a { Serves T.TxType words.now workers.0.rest.seat }
+    requires b { Serves T.TxType words.now workers.1.rest.seat }
+    ensures a_serves { Serves T.TxType words.now result.0.worker.rest.seat }
+    ensures b_serves { Serves T.TxType words.now result.1.worker.rest.seat }
+    ensures a { IsDone words.now shapes.now.items workers.0.rest.seat.me.0.view result.0.worker.rest.seat.me.0.view
+        (A.gives a.now) result.0.out }
+    ensures b { IsDone words.now shapes.now.items workers.1.rest.seat.me.0.view result.1.worker.rest.seat.me.0.view
+        (B.gives b.now) result.1.out }
+{
+    if threads < 2 {
+        return work_in_turn(alloc, words, shapes, workers, a, b);
+    }
+    work_both(rt, alloc, words, shapes, workers, a, b)
+}
+
+// Does four tasks on at most so many threads.
 fn work_four<
     R: Threads + Sync,
     T: TxType + Drop + Send + Sync,
@@ -146,6 +200,7 @@ fn work_four<
     alloc: Global,
     words: &sto_open::Store<T>,
     shapes: &Shapes,
+    threads: u32,
     workers: (Pair<T>, Pair<T>),
     a: &A,
     b: &B,
@@ -179,6 +234,11 @@ where
         (D.gives d.now) result.1.1.out }
 {
     let (first, other) = workers;
+    if threads < 2 {
+        let done = work_in_turn(alloc, words, shapes, first, a, b);
+        return (done, work_in_turn(alloc, words, shapes, other, c, d));
+    }
+    let each = threads / 2;
     join(
         rt,
         move || -> FinishedPair<T, A::Out, B::Out>
@@ -192,7 +252,7 @@ where
                 result.0.worker.rest.seat.me.0.view (A.gives a.entry.now) result.0.out }
             ensures b { IsDone words.entry.now shapes.entry.now.items first.1.rest.seat.me.0.view
                 result.1.worker.rest.seat.me.0.view (B.gives b.entry.now) result.1.out }
-        { work_both(rt, alloc, words, shapes, first, a, b) },
+        { work_two(rt, alloc, words, shapes, each, first, a, b) },
         move || -> FinishedPair<T, C::Out, D::Out>
             requires sync { IsSync R.row }
             requires takes { TakeCalls T.TxType words.now shapes.now.items }
@@ -204,7 +264,7 @@ where
                 result.0.worker.rest.seat.me.0.view (C.gives c.entry.now) result.0.out }
             ensures d { IsDone words.entry.now shapes.entry.now.items other.1.rest.seat.me.0.view
                 result.1.worker.rest.seat.me.0.view (D.gives d.entry.now) result.1.out }
-        { work_both(rt, alloc, words, shapes, other, c, d) },
+        { work_two(rt, alloc, words, shapes, each, other, c, d) },
     )
 }
 
@@ -236,7 +296,9 @@ impl<T: TxType + Drop + Send + Sync> SharedStore<T> {
         }
     }
 
-    /// Does four tasks side by side, as `run_both` does two.
+    /// Does four tasks, each by a worker that rests here, as `run_both` does two, on at most so many threads: from four on each has one of its
+    /// own, with two or three the first two share one and the others another, and with one or none all four are done on this one. Tasks that
+    /// share a thread are done one after the other, and what is promised is the same for each number.
     pub fn run_four<
         R: Threads + Sync,
         A: Task<T> + Sync,
@@ -247,6 +309,7 @@ impl<T: TxType + Drop + Send + Sync> SharedStore<T> {
         &mut self,
         rt: &R,
         alloc: Global,
+        threads: u32,
         a: &A,
         b: &B,
         c: &C,
@@ -266,7 +329,7 @@ impl<T: TxType + Drop + Send + Sync> SharedStore<T> {
             return Err(TaskError::Workers);
         };
         let (words, shapes) = self.parts();
-        let ((w, x), (y, z)) = work_four(rt, alloc, words, shapes, workers, a, b, c, d);
+        let ((w, x), (y, z)) = work_four(rt, alloc, words, shapes, threads, workers, a, b, c, d);
         match back_four(self, (w.worker, x.worker), (y.worker, z.worker)) {
             Ok(()) => Ok((w.out, x.out, y.out, z.out)),
             Err(NoMemory) => Err(TaskError::NoMemory),

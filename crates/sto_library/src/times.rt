@@ -1,0 +1,28 @@
+//! A task that runs one code again and again.
+ghost use Rattle.sto_library.specs.Doings.{HasGiven};
+
+use crate::task::Task;
+use crate::worker::StoreWorker;
+use sto_atomically::{Done, Unrun};
+use sto_code::Code;
+use sto_type::TxType;
+
+/// So many times the same code, once at least: `Times(20, code)`. It gives how the last time went, or the first error.
+#[derive(Clone, Copy)]
+pub struct Times<K>(pub u32, pub K);
+
+impl<T: TxType, K: Code> Task<T> for Times<K>
+where
+    K::Out: Drop,
+{
+    type Out = Result<Done<K::Out>, Unrun>;
+
+    ghost gives = { λ r before after told. HasGiven T.TxType before after (K.most r.1) (K.does r.1) told };
+
+    fn work(&self, worker: &mut StoreWorker<'_, T>) -> Result<Done<K::Out>, Unrun> {
+        for _ in 1..self.0 {
+            worker.run(&self.1)?;
+        }
+        worker.run(&self.1)
+    }
+}
