@@ -1,6 +1,7 @@
 -- What the transactions of the bank do, and what they keep.
-use Rattle.std.specs.Prelude.{◌≡◌, ℤ, pos, ◌+ℤ◌, ◌≤ℤ◌, int_lt, if◌then◌else◌, List, [], ◌∷◌, Option, Some, None, option_map, slice_get}
+use Rattle.std.specs.Prelude.{◌≡◌, ℤ, pos, ◌+ℤ◌, ◌≤ℤ◌, int_lt, if◌then◌else◌, List, [], ◌∷◌, Result}
 use Rattle.sto_part.specs.Changes.{wrapped_sum, wrapped_difference}
+use Rattle.sto_part.specs.Listed.{Listed}
 use Rattle.sto_model.specs.declared.shape.Shape.{Shape}
 use Rattle.sto_model.specs.declared.shape.Shape.TheVariants.{Single}
 use Rattle.sto_model.specs.Rows.{Row}
@@ -8,6 +9,9 @@ use Rattle.sto_model.specs.Run.{State}
 use Rattle.sto_code.specs.declared.handles.BoxId.{BoxId}
 use Rattle.sto_code.specs.Progs.{Prog, Gives, Cancels}
 use Rattle.sto_code.specs.Steps.{box_get, box_set}
+use Rattle.sto_atomically.specs.declared.outcome.Done.{Done}
+use Rattle.sto_atomically.specs.declared.outcome.Unrun.{Unrun}
+use Rattle.sto_library.specs.Keeping.{IfGave}
 
 -- it takes an amount from one account, where it is there, and adds it to another; it gives what was there
 abbrev pub transfer : BoxId → BoxId → ℤ → Prog ℤ
@@ -38,7 +42,6 @@ pub record HoldAll (state : State) : Type 0 where
   pub some_z : pos 0 ≤ℤ z
   pub sum : (x +ℤ y) +ℤ z ≡ pos 300
 
--- it is what an account has, by its one row
-abbrev pub IsAmount : ℤ → Option (List Row) → Type 0
-IsAmount x (Some rows) = option_map (λ r. r.1) (slice_get rows 0) ≡ Some x
-IsAmount x None = ⊥
+-- what both audits gave is 300, and the accounts are so at the end
+abbrev pub IsDay : Result (Done ℤ) Unrun × Result (Done ℤ) Unrun × Listed (List Row) → Type 0
+IsDay (first, other, rows) = IfGave (λ sum. sum ≡ pos 300) first × IfGave (λ sum. sum ≡ pos 300) other × HoldAll rows.items

@@ -1,17 +1,15 @@
 //! A calendar: four guests book one room for three days at a time, and no two bookings overlap.
 #![tactic(auto)]
 
-ghost use Rattle.std.specs.Prelude.{◌≡◌, [], pos, IfSome};
-ghost use Rattle.std.specs.List.{All};
-ghost use Rattle.sto_model.specs.Objects.{machines_of};
-ghost use Rattle.sto_example_calendar.specs.Bookings.{book, objects, IsBooked};
-ghost use Rattle.sto_example_calendar.specs.Runs.{HasRun};
+ghost use Rattle.std.specs.Prelude.{pos, IfOk};
+ghost use Rattle.sto_library.specs.Doings.{HasRun};
+ghost use Rattle.sto_example_calendar.specs.Bookings.{book, IsBooked};
 
 use std::alloc::Global;
 use std::io;
 use std::thread::Threads;
 use sto_library::{
-    Code, Objects, Schema, SharedStore, State, Stop, StoreWorker, Task, TreeId, Tx, TxType,
+    Code, Schema, State, Stop, StoreError, StoreWorker, Task, TreeId, Tx, TxType,
     wrapping_difference,
 };
 
@@ -59,49 +57,26 @@ impl<T: TxType> Task<T> for Guest {
     ghost gives = { λ g before after _. HasRun T.TxType before after 2 (λ day. book g.room (pos day) (pos g.guest)) };
 
     fn work(&self, worker: &mut StoreWorker<'_, T>) {
+        let Guest { room, guest } = *self;
         for day in 0..20 {
-            let _told = worker.run(&Booking {
-                room: self.room,
-                day,
-                guest: self.guest,
-            });
+            let _told = worker.run(&Booking { room, day, guest });
         }
     }
 }
 
-/// Opens a calendar of one room with room for 64 bookings, for four workers.
-fn open_calendar(alloc: Global) -> Option<(SharedStore<Objects>, TreeId)>
-    ensures room { IfSome result (λ c. c.1.number ≡ 0) }
-    ensures machines { IfSome result (λ c. (⟦<Objects as TxType>⟧.meaning c.0.words.ty).machines ≡ machines_of objects) }
-    ensures fresh { IfSome result (λ c. All (λ v. v.entries ≡ []) c.0.views) }
+/// All bookings of four guests, on so many threads, of which no two overlap.
+fn run_calendar<R: Threads + Sync>(rt: &R, alloc: Global, threads: u32) -> Result<State, StoreError>
+    ensures { IfOk result (λ rows. IsBooked rows.items) }
 {
     let mut schema = Schema::new(alloc);
-    let Ok(room) = schema.tree(16) else {
-        return None;
-    };
-    match schema.open(alloc, 4) {
-        Ok(store) => Some((store, room)),
-        Err(_) => None,
-    }
-}
-
-/// All bookings of four guests, of which no two overlap.
-fn run_calendar<R: Threads + Sync>(rt: &R, alloc: Global) -> Option<State>
-    ensures { IfSome result (λ rows. IsBooked rows.items) }
-{
-    let (store, room) = open_calendar(alloc)?;
-    let mut store = store;
+    let room = schema.tree(16)?;
+    let mut store = schema.open(alloc, 4)?;
     let one = Guest { room, guest: 1 };
-    let two = Guest { guest: 2, ..one };
-    let three = Guest { guest: 3, ..one };
-    let four = Guest { guest: 4, ..one };
-    let Ok(_told) = store.run_four(rt, alloc, &one, &two, &three, &four) else {
-        return None;
-    };
-    let Ok(rows) = store.close(alloc) else {
-        return None;
-    };
-    Some(rows)
+    let two = Guest { room, guest: 2 };
+    let three = Guest { room, guest: 3 };
+    let four = Guest { room, guest: 4 };
+    let _told = store.run_four(rt, alloc, threads, &one, &two, &three, &four)?;
+    Ok(store.close(alloc)?)
 }
 
 /// Whether each booking begins three days after the one before it, or later.
@@ -119,9 +94,12 @@ fn are_apart(rows: &State) -> bool {
 }
 
 fn main(rt: HostRuntime) -> io::Result<()> {
-    let Some(rows) = run_calendar(&rt, rt.alloc()) else {
-        return println!(rt; "no memory");
-    };
-    let apart = are_apart(&rows);
-    println!(rt; "bookings are apart: {apart}")
+    for threads in [1, 2, 4] {
+        let Ok(rows) = run_calendar(&rt, rt.alloc(), threads) else {
+            return println!(rt; "no answer: memory was wanting");
+        };
+        let apart = are_apart(&rows);
+        println!(rt; "threads {threads}: bookings are apart: {apart}")?;
+    }
+    Ok(())
 }

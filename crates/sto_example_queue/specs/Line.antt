@@ -2,12 +2,12 @@
 use Rattle.std.specs.Prelude.{◌≡◌, ℤ, pos, ◌+ℤ◌, List, [], ◌∷◌, Option, Some, None, if◌then◌else◌}
 use Rattle.sto_model.specs.declared.shape.Shape.{Shape}
 use Rattle.sto_model.specs.declared.shape.Shape.TheVariants.{Counter, Vector}
-use Rattle.sto_model.specs.Rows.{Row}
 use Rattle.sto_model.specs.Run.{State}
 use Rattle.sto_code.specs.declared.handles.CounterId.{CounterId}
 use Rattle.sto_code.specs.declared.handles.VectorId.{VectorId}
 use Rattle.sto_code.specs.Progs.{Prog, Gives, Cancels}
 use Rattle.sto_code.specs.Steps.{counter_add, vector_push, vector_pop}
+use Rattle.sto_library.specs.Contents.{total}
 use Rattle.sto_library.specs.Vectors.{placed}
 
 -- it adds an amount to what was counted, and gives it
@@ -30,11 +30,6 @@ take received line = vector_pop line (λ popped. receive received popped)
 -- the objects at the opening
 abbrev pub objects : List Shape
 objects = Counter (pos 0) ∷ Counter (pos 0) ∷ Vector 64 ∷ []
-
--- what the values of rows are together
-abbrev pub total : List Row → ℤ
-total [] = pos 0
-total (row ∷ rows) = row.1 +ℤ total rows
 
 -- what was sent is what was received and what waits in the line, in sum
 pub record IsServed (state : State) : Type 0 where

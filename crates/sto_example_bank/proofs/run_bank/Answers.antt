@@ -1,12 +1,18 @@
-use Rattle.sto_example_bank.proofs.Sums.{day_kept}
+use Rattle.std.proofs.Common.{pos, ap, ◌∙◌, arith}
+use Rattle.std.proofs.lemmas.Int.{ints}
+use Rattle.sto_model.specs.Objects.{machines_of}
+use Rattle.sto_library.proofs.Keeping.{four_keep}
+use Rattle.sto_library.proofs.Planned.{planned}
+use Rattle.sto_example_bank.proofs.Sums.{first_moves, second_moves, gives_all, opened}
 use Rattle.sto_example_bank.proofs.run_bank.Goals as goal
 
-pub day_of-requires-clause-audits : goal.day_of-requires-clause-audits
-day_of-requires-clause-audits g c =
-    let kept = day_kept c.in_ok-store.ensures.accounts c.in_ok-store.ensures.machines c.in_ok-store.ensures.fresh c.in-Ok.ensures.same.0 c.in-Ok.ensures.done c.in-Ok-close.ensures.history in
-    (kept.1.2, kept.1.3)
-
-pub day_of-requires-clause-rows : goal.day_of-requires-clause-rows
-day_of-requires-clause-rows g c =
-    let kept = day_kept c.in_ok-store.ensures.accounts c.in_ok-store.ensures.machines c.in_ok-store.ensures.fresh c.in-Ok.ensures.same.0 c.in-Ok.ensures.done c.in-Ok-close.ensures.history in
-    kept.0
+pub returns : goal.returns
+returns g c =
+    let a = planned _ c.new-schema.ensures c.in_ok-a.ensures in
+    let b = planned _ a.1 c.in_ok-b.ensures in
+    let k = planned _ b.1 c.in_ok-c.ensures in
+    let o = c.in_ok-store.ensures in
+    let day = c.in_ok-first.ensures in
+    let kept = four_keep _ _ _ _ (o.machines ∙ ap machines_of k.1) o.fresh day.same.0 day.done c.in_ok-close.ensures.history opened (first_moves (pos 3) (a.0, b.0) (grind (arith, ints)))
+    (second_moves (pos 2) (b.0, k.0) (grind (arith, ints))) (gives_all (a.0, b.0, k.0)) (gives_all (a.0, b.0, k.0)) in
+    (kept.1.2, kept.1.3, kept.0)

@@ -1,5 +1,5 @@
 use Rattle.sto_type.specs.Traits.{of_type}
-use Rattle.sto_example_calendar.proofs.Runs.{run_none, run_more}
+use Rattle.sto_library.proofs.Doings.{run_none, run_more}
 use Rattle.sto_example_calendar.proofs.GuestTask.work.Goals as goal
 
 pub loop-day-init : goal.loop-day-init

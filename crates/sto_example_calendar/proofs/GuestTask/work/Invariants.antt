@@ -1,7 +1,7 @@
 use Rattle.std.proofs.Common.{ℕ, pos}
 use Rattle.sto_type.specs.Traits.{of_type}
+use Rattle.sto_library.specs.Doings.{HasRun}
 use Rattle.sto_example_calendar.specs.Bookings.{book}
-use Rattle.sto_example_calendar.specs.Runs.{HasRun}
 use Rattle.sto_example_calendar.proofs.GuestTask.work.Given as goal
 
 abbrev pub invariant-loop-day : goal.invariant-loop-day

@@ -1,8 +1,0 @@
-use Rattle.std.proofs.Common.{pos}
-use Rattle.sto_type.specs.Traits.{of_type}
-use Rattle.sto_library.specs.Doings.{HasRepeated}
-use Rattle.sto_example_inventory.specs.Stock.{count}
-use Rattle.sto_example_inventory.proofs.CountTask.work.Given as goal
-
-abbrev pub invariant-loop : goal.invariant-loop
-invariant-loop g l = HasRepeated (of_type g.T.Naming g.T.TxType) l.fn.worker l.worker 3 (count l.fn.self.stock l.fn.self.book (pos 1) (pos 2))
