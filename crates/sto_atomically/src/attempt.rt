@@ -52,8 +52,13 @@ where
         position: 1,
         tries: 1,
     };
-    let transacted = match transaction.run(alloc, cells, watch, &mut memory.attempts, &mut records)
-    {
+    let transacted = match transaction.run(
+        alloc,
+        cells,
+        watch,
+        &mut memory.attempts,
+        &mut records,
+    ) {
         Ok(transacted) => transacted,
         Err(NoMemory) => return Err(NoMemory),
     };

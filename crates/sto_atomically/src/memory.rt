@@ -55,12 +55,7 @@ impl CodeMemory {
     }
 
     /// Keeps the room of what an attempt was answered, of its record, and of what its code heard.
-    pub(crate) fn keep(
-        &mut self,
-        replies: Replies,
-        records: Vec<Record>,
-        heard: List<ShortReply>,
-    ) {
+    pub(crate) fn keep(&mut self, replies: Replies, records: Vec<Record>, heard: List<ShortReply>) {
         self.attempts.keep_replies(replies);
         let mut records = records;
         records.clear();

@@ -6,6 +6,7 @@ pub mod Vectors
 pub mod Values
 pub mod Closings
 pub mod Tasks
+pub mod Looks
 pub use Rattle.sto_atomically.specs.Atomic
 pub use Rattle.sto_code.specs.Alone
 pub use Rattle.sto_code.specs.Calls

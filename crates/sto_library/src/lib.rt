@@ -16,7 +16,7 @@ pub use error::StoreError;
 pub use schema::Schema;
 pub use sto_atomically::{Done, Unrun};
 pub use sto_code::{
-    ArrayId, BoxId, Code, CounterId, HashId, ShortReply, Stop, TreeId, Tx, VectorId,
+    ArrayId, BoxId, Code, CounterId, HashId, Held, ShortReply, Snapshot, Stop, TreeId, Tx, VectorId,
 };
 pub use sto_model::{Call, Rows, State};
 pub use sto_objects::Objects;
@@ -24,7 +24,7 @@ pub use sto_open::{IdleWorker, Unopened, Unplanned};
 pub use sto_part::{NoMemory, Test, wrapping_difference, wrapping_sum};
 pub use sto_transaction::AttemptWatch;
 pub use sto_type::TxType;
-pub use store::{CloseError, SharedStore};
+pub use store::{CloseError, LookError, SharedStore};
 pub use task::{Task, TaskError};
 pub use times::Times;
 pub use waits::Waits;

@@ -5,10 +5,15 @@ ghost use Rattle.sto_serial_history.specs.Done.{HaveHistory};
 ghost use Rattle.sto_open.specs.Working.{AreRowsAfter};
 ghost use Rattle.sto_library.specs.Values.{Serves, TakeCalls};
 ghost use Rattle.sto_library.specs.Closings.{ComesBack};
+ghost use Rattle.sto_library.specs.Doings.{HasGiven};
+ghost use Rattle.sto_library.specs.Tasks.{IsDone};
+ghost use Rattle.sto_library.specs.Looks.{HasLooked};
 
 use crate::worker::StoreWorker;
 use std::alloc::Global;
 use std::marker::Model;
+use sto_atomically::{Done, Unrun};
+use sto_code::Code;
 use sto_model::{Shapes, State};
 use sto_open::{IdleWorker, IdleWorkers};
 use sto_part::NoMemory;
@@ -48,6 +53,39 @@ pub enum CloseError<T: TxType> {
     NoMemory,
 }
 
+/// Why a look at a store gave nothing. The store goes on.
+#[derive(Clone, Copy)]
+pub enum LookError {
+    /// No worker rests in it.
+    Workers,
+    /// The transaction was not run to its end.
+    Unrun(Unrun),
+}
+
+// What a worker gave of which a look was asked, which rests again.
+type Looked<T, O> = (IdleWorker<T>, Result<Done<O>, Unrun>);
+
+// Has a worker run code as one transaction.
+fn look_by<T: TxType, K: Code>(
+    alloc: Global,
+    words: &sto_open::Store<T>,
+    shapes: &Shapes,
+    worker: IdleWorker<T>,
+    code: &K,
+) -> Looked<T, K::Out>
+where
+    K::Out: Drop,
+    requires takes { TakeCalls T.TxType words.now shapes.now.items }
+    requires serves { Serves T.TxType words.now worker.rest.seat }
+    ensures serves { Serves T.TxType words.now result.0.rest.seat }
+    ensures done { IsDone words.now shapes.now.items worker.rest.seat.me.0.view result.0.rest.seat.me.0.view
+        (λ before after o. HasGiven T.TxType before after (K.most code.now) (K.does code.now) o) result.1 }
+{
+    let mut busy = StoreWorker::new(alloc, words, shapes, worker);
+    let told = busy.run(code);
+    (busy.rest(), told)
+}
+
 impl<T: TxType> SharedStore<T> {
     /// A store of objects of these shapes, with its workers.
     pub fn new(words: sto_open::Store<T>, shapes: Shapes, idle: IdleWorkers<T>) -> SharedStore<T>
@@ -82,6 +120,28 @@ impl<T: TxType> SharedStore<T> {
         }
         self.idle.push(worker)?;
         Ok(())
+    }
+
+    /// Looks at the objects without closing the store: a worker that rests here runs code as one transaction, in this thread, and rests
+    /// again.
+    ///
+    /// What it gives is told as of `StoreWorker::run`: it is that of one state of all objects, after all that this worker had seen.
+    /// `Snapshot` is such code. Code that writes is taken, too.
+    pub fn look<K: Code>(&mut self, alloc: Global, code: &K) -> Result<Done<K::Out>, LookError>
+    where
+        K::Out: Drop,
+        ensures words { (self.new.words ≡ self.old.words) × (self.new.shapes ≡ self.old.shapes) }
+        ensures looked { HasLooked T.TxType self.old self.new (K.most code.now) (K.does code.now) result }
+    {
+        let Some(worker) = self.idle.pop() else {
+            return Err(LookError::Workers);
+        };
+        let (worker, told) = look_by(alloc, &self.words, &self.shapes, worker, code);
+        self.idle.push_spare(worker);
+        match told {
+            Ok(done) => Ok(done),
+            Err(error) => Err(LookError::Unrun(error)),
+        }
     }
 
     /// How many workers rest here.

@@ -168,11 +168,7 @@ impl<'t, T: TxType> Live<'t, T> {
     }
 
     /// Gives it up. It makes no event: the pass is left as it is, at rest.
-    pub fn cancel(
-        self,
-        alloc: Global,
-        memory: &mut LiveMemory,
-    ) -> Result<Ended<Asked>, NoMemory>
+    pub fn cancel(self, alloc: Global, memory: &mut LiveMemory) -> Result<Ended<Asked>, NoMemory>
         requires { (ty : T) × (calls : List Call) × (rs : List Told) × (begun : View) × (v : View)
             × IsLive T.TxType ty calls rs self begun v }
         ensures cancelled { (passes : ℕ) (ty : T) (calls : List Call) (rs : List Told) (begun v : View)
