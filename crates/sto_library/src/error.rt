@@ -2,7 +2,7 @@
 ghost use Rattle.std.specs.Prelude.{◌≡◌};
 ghost use Rattle.sto_library.specs.declared.error.StoreError.TheVariants as why;
 
-use crate::store::CloseError;
+use crate::store::{CloseError, LookError};
 use crate::task::TaskError;
 use sto_atomically::Unrun;
 use sto_open::{Unopened, Unplanned};
@@ -19,6 +19,8 @@ pub enum StoreError {
     Task(TaskError),
     /// A transaction was not run to its end.
     Unrun(Unrun),
+    /// A look at the store gave nothing.
+    Look(LookError),
     /// The store was not closed.
     Unclosed,
 }
@@ -52,6 +54,14 @@ impl From<Unrun> for StoreError {
 
     fn from(error: Unrun) -> StoreError {
         StoreError::Unrun(error)
+    }
+}
+
+impl From<LookError> for StoreError {
+    ghost from_gives = { λ error e. e ≡ why.Look error };
+
+    fn from(error: LookError) -> StoreError {
+        StoreError::Look(error)
     }
 }
 
