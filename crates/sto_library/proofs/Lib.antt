@@ -8,3 +8,4 @@ pub mod Keeping
 pub mod Counters
 pub mod Vectors
 pub mod Totals
+pub mod Trees
