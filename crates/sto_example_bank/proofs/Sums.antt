@@ -1,6 +1,6 @@
 -- Each transaction of the bank keeps what the accounts hold together, and an audit gives it.
 use Rattle.std.specs.Prelude.{int_lt}
-use Rattle.std.proofs.Common.{◌≡◌, ℕ, ℤ, pos, ◌+ℤ◌, ◌≤ℤ◌, false, refl, ap, ◌∙◌, subst, arith}
+use Rattle.std.proofs.Common.{◌≡◌, ℕ, ℤ, pos, ◌+ℤ◌, ◌≤ℤ◌, refl, ap, ◌∙◌, subst, arith}
 use Rattle.std.proofs.lemmas.Int.{ints}
 use Rattle.sto_part.specs.Changes.{wrapped_sum, wrapped_difference}
 use Rattle.sto_model.specs.Objects.{machines_of}
@@ -8,24 +8,11 @@ use Rattle.sto_model.proofs.RowFacts.{not_below_of}
 use Rattle.sto_code.specs.declared.handles.BoxId.{BoxId}
 use Rattle.sto_library.specs.Keeping.{Keeps}
 use Rattle.sto_library.proofs.Keeping.{at_two, at_three, on_state, unless}
-use Rattle.sto_library.proofs.Wrapping.{sum_fits, difference_fits}
+use Rattle.sto_library.proofs.Wrapping.{sum_fits, moved}
 use Rattle.sto_example_bank.specs.Accounts.{transfer, audit, accounts, holding, HoldAll}
 
 abbrev box : ℕ → BoxId
 box n = record { number = n }
-
--- an amount n that is there goes from x to y, beside z
-record AreMoved (x y z n : ℤ) : Type 0 where
-  some_x : pos 0 ≤ℤ wrapped_difference x n
-  some_y : pos 0 ≤ℤ wrapped_sum y n
-  sum : (wrapped_difference x n +ℤ wrapped_sum y n) +ℤ z ≡ pos 300
-
-moved : (x y z n : ℤ) → pos 0 ≤ℤ n → int_lt x n ≡ false → pos 0 ≤ℤ y → pos 0 ≤ℤ z → (x +ℤ y) +ℤ z ≡ pos 300 → AreMoved x y z n
-moved x y z n some enough some_y some_z sum =
-    let there = not_below_of x n enough in
-    let less = difference_fits x n some there (grind (arith, ints, sum, some_y, some_z)) in
-    let more = sum_fits y n some_y some (grind (arith, ints, sum, there, some_z)) in
-    record { some_x = grind (arith, ints, less, there); some_y = grind (arith, ints, more, some_y, some); sum = grind (arith, ints, less, more, sum) }
 
 -- whatever a transfer gives
 abbrev Any : ℤ → Type 0
@@ -34,14 +21,14 @@ Any x = Unit {0}
 pub first_moves : {a b : BoxId} (n : ℤ) → (a.number ≡ 0) × (b.number ≡ 1) → pos 0 ≤ℤ n → Keeps (machines_of accounts) HoldAll Any (transfer a b n)
 first_moves n e some = at_two (λ i j. Keeps (machines_of accounts) HoldAll Any (transfer (box i) (box j) n)) e (λ st h.
     on_state (machines_of accounts) (transfer (box 0) (box 1) n) _ h.are (unless (machines_of accounts) _ _ _ (int_lt h.x n) (λ enough.
-    let m = moved h.x h.y h.z n some enough h.some_y h.some_z h.sum in
-    (tt, record { x = wrapped_difference h.x n; y = wrapped_sum h.y n; z = h.z; are = refl; some_x = m.some_x; some_y = m.some_y; some_z = h.some_z; sum = m.sum }))))
+    let m = moved h.x h.y n some (not_below_of h.x n enough) h.some_y (grind (arith, ints, h.sum, h.some_z)) in
+    (tt, record { x = wrapped_difference h.x n; y = wrapped_sum h.y n; z = h.z; are = refl; some_x = m.some_x; some_y = m.some_y; some_z = h.some_z; sum = grind (arith, ints, m.sum, h.sum) }))))
 
 pub second_moves : {b c : BoxId} (n : ℤ) → (b.number ≡ 1) × (c.number ≡ 2) → pos 0 ≤ℤ n → Keeps (machines_of accounts) HoldAll Any (transfer b c n)
 second_moves n e some = at_two (λ i j. Keeps (machines_of accounts) HoldAll Any (transfer (box i) (box j) n)) e (λ st h.
     on_state (machines_of accounts) (transfer (box 1) (box 2) n) _ h.are (unless (machines_of accounts) _ _ _ (int_lt h.y n) (λ enough.
-    let m = moved h.y h.z h.x n some enough h.some_z h.some_x (grind (arith, ints, h.sum)) in
-    (tt, record { x = h.x; y = wrapped_difference h.y n; z = wrapped_sum h.z n; are = refl; some_x = h.some_x; some_y = m.some_x; some_z = m.some_y; sum = grind (arith, ints, m.sum) }))))
+    let m = moved h.y h.z n some (not_below_of h.y n enough) h.some_z (grind (arith, ints, h.sum, h.some_x)) in
+    (tt, record { x = h.x; y = wrapped_difference h.y n; z = wrapped_sum h.z n; are = refl; some_x = h.some_x; some_y = m.some_x; some_z = m.some_y; sum = grind (arith, ints, m.sum, h.sum) }))))
 
 -- an audit gives the sum
 pub gives_all : {a b c : BoxId} → (a.number ≡ 0) × (b.number ≡ 1) × (c.number ≡ 2) → Keeps (machines_of accounts) HoldAll (λ (sum : ℤ). sum ≡ pos 300) (audit a b c)

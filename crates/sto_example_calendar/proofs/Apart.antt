@@ -1,48 +1,18 @@
 -- A booking that finds its days free overlaps no other one.
 use Rattle.std.specs.List.{All}
 use Rattle.std.specs.Ordering.{int_eq}
-use Rattle.std.specs.Prelude.{int_le, int_lt, if◌then◌else◌}
-use Rattle.std.proofs.Common.{◌≡◌, ℤ, pos, ◌+ℤ◌, ◌-ℤ◌, ◌<ℤ◌, List, [], ◌∷◌, length, Bool, true, false, not, ◌&&◌, ◌⊎◌, inl, inr, refl, sym, ap, subst, arith, true≢false, unsigned_abs}
+use Rattle.std.specs.Prelude.{int_lt}
+use Rattle.std.proofs.Common.{◌≡◌, ℤ, pos, ◌+ℤ◌, ◌-ℤ◌, List, [], ◌∷◌, length, true, inl, inr, sym, ap, subst, arith, unsigned_abs}
 use Rattle.std.proofs.lemmas.Int.{ints}
-use Rattle.std.proofs.lemmas.List.Elements.{All-nil, All-cons, All-head, All-tail, All-weaker}
-use Rattle.sto_model.specs.Rows.{Row, with_row, rows_between, has_key}
-use Rattle.sto_model.specs.Objects.{effect, put_effect}
-use Rattle.sto_model.specs.Told.{Done, Full}
+use Rattle.std.proofs.lemmas.List.Elements.{All-nil, All-head, All-tail, All-weaker}
+use Rattle.sto_model.specs.Rows.{Row, with_row, rows_between}
 use Rattle.sto_model.proofs.RowFacts.{by_test, same_of, with_row-below, with_row-same, with_row-above}
-use Rattle.sto_code.specs.Shortened.{short_of}
-use Rattle.sto_code.specs.Calls.{is_done}
+use Rattle.sto_library.proofs.Trees.{IsOutside, none_between, all_with}
 use Rattle.sto_example_calendar.specs.Bookings.{AreApart, NoneOverlap}
-
--- a booking that begins before the first day or after the last one
-abbrev IsOutside : ℤ → ℤ → Row → Type 0
-IsOutside a b r = (r.0 <ℤ a) ⊎ (b <ℤ r.0)
-
-outside_by : (a b : ℤ) (r : Row) (x y : Bool) → int_le a r.0 ≡ x → int_le r.0 b ≡ y → (x && y) ≡ false → IsOutside a b r
-outside_by a b r false y e f h = inl (grind (arith, ints, e))
-outside_by a b r true false e f h = inr (grind (arith, ints, f))
-outside_by a b r true true e f h = absurd (true≢false h)
-
-between_by : (r : Row) (rows : List Row) (a b : ℤ) (c : Bool) → (int_le a r.0 && int_le r.0 b) ≡ c
-    → length (if c then r ∷ rows_between rows a b else rows_between rows a b) ≡ 0 → (length (rows_between rows a b) ≡ 0 → All (IsOutside a b) rows) → All (IsOutside a b) (r ∷ rows)
-between_by r rows a b true e h rest = absurd (omega (arith, h))
-between_by r rows a b false e h rest = All-cons (IsOutside a b) r rows (outside_by a b r (int_le a r.0) (int_le r.0 b) refl refl e) (rest h)
-
-none_between : (rows : List Row) (a b : ℤ) → length (rows_between rows a b) ≡ 0 → All (IsOutside a b) rows
-none_between [] a b h = All-nil (IsOutside a b)
-none_between (r ∷ rows) a b h = between_by r rows a b (int_le a r.0 && int_le r.0 b) refl h (λ k. none_between rows a b k)
 
 apart : (day guest : ℤ) (r : Row) → IsOutside (day -ℤ pos 2) (day +ℤ pos 2) r → AreApart r (day, guest) × AreApart (day, guest) r
 apart day guest r (inl h) = (inl (grind (arith, ints, h)), inr (grind (arith, ints, h)))
 apart day guest r (inr h) = (inr (grind (arith, ints, h)), inl (grind (arith, ints, h)))
-
--- the rows with one more
-all_with : (P : Row → Type 0) (rows : List Row) (k v : ℤ) → All P rows → P (k, v) → All P (with_row rows k v)
-all_with P [] k v all here = All-cons P (k, v) [] here all
-all_with P (r ∷ rows) k v all here =
-    let tail = All-tail P r rows all in
-    by_test (int_lt r.0 k) (λ e. subst (All P) (sym (with_row-below r rows k v e)) (All-cons P r (with_row rows k v) (All-head P r rows all) (all_with P rows k v tail here)))
-    (λ e. by_test (int_eq r.0 k) (λ f. subst (All P) (sym (with_row-same r rows k v e f)) (All-cons P (k, v) rows here tail))
-    (λ f. subst (All P) (sym (with_row-above r rows k v e f)) (All-cons P (k, v) (r ∷ rows) here all)))
 
 none_with : (rows : List Row) (k v : ℤ) → All (λ r. AreApart r (k, v) × AreApart (k, v) r) rows → NoneOverlap rows → NoneOverlap (with_row rows k v)
 none_with [] k v all none = (All-nil (AreApart (k, v)), tt)
@@ -53,14 +23,6 @@ none_with (r ∷ rows) k v all none =
     by_test (int_lt r.0 k) (λ e. subst NoneOverlap (sym (with_row-below r rows k v e)) (all_with (AreApart r) rows k v none.0 here.0, none_with rows k v tail none.1))
     (λ e. by_test (int_eq r.0 k) (λ f. subst NoneOverlap (sym (with_row-same r rows k v e f)) (All-weaker Near (AreApart (k, v)) (λ s h. h.1) rows tail, none.1))
     (λ f. subst NoneOverlap (sym (with_row-above r rows k v e f)) (All-weaker Near (AreApart (k, v)) (λ s h. h.1) (r ∷ rows) all, none)))
-
--- a put that is done
-put_by : (b : Bool) (rows more : List Row) → is_done (short_of (if b then effect Full rows else effect Done more).reply) ≡ true → (if b then effect Full rows else effect Done more).after ≡ more
-put_by true rows more told = absurd (true≢false (sym told))
-put_by false rows more told = refl
-
-pub put_leaves : (full : Bool) (k v : ℤ) (rows : List Row) → is_done (short_of (put_effect full k v rows).reply) ≡ true → (put_effect full k v rows).after ≡ with_row rows k v
-put_leaves full k v rows told = put_by (not (has_key rows k) && full) rows (with_row rows k v) told
 
 -- a booking whose days are free leaves no two that overlap
 pub booked : (day guest : ℤ) (rows : List Row) → int_eq (pos (length (rows_between rows (day -ℤ pos 2) (day +ℤ pos 2)))) (pos 0) ≡ true → NoneOverlap rows

@@ -8,8 +8,9 @@ use Rattle.sto_code.specs.declared.handles.TreeId.{TreeId}
 use Rattle.sto_code.specs.Progs.{Gives}
 use Rattle.sto_library.specs.Keeping.{Keeps}
 use Rattle.sto_library.proofs.Keeping.{on_state, where_so}
+use Rattle.sto_library.proofs.Trees.{put_leaves}
 use Rattle.sto_example_calendar.specs.Bookings.{note, book, objects, NoneOverlap, IsBooked}
-use Rattle.sto_example_calendar.proofs.Apart.{put_leaves, booked}
+use Rattle.sto_example_calendar.proofs.Apart.{booked}
 
 abbrev tree : ℕ → TreeId
 tree n = record { number = n }

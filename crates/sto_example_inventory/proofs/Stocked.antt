@@ -28,16 +28,19 @@ stocked rows more left some are = record { left = left; lines = more; are = ap (
 abbrev Kept : ℤ × State → Type 0
 Kept r = Unit {0} × IsStocked r.1
 
-some_left : (x y : ℤ) → y ≤ℤ x → pos 0 ≤ℤ (x -ℤ y)
-some_left x y h = omega (arith, ints, h)
-
 pub sells : {stock : CounterId} {book : HashId} (customer pieces : ℤ) → (stock.number ≡ 0) × (book.number ≡ 1) → Keeps (machines_of objects) IsStocked (λ (x : ℤ). Unit {0}) (sale stock book customer pieces)
 sells customer pieces e = at_two (λ i j. Keeps (machines_of objects) IsStocked (λ (x : ℤ). Unit {0}) (sale (counter i) (lines j) customer pieces)) e (λ st h.
     let line = unwrap_or (perhaps (short_of (value_or_absent (value_at h.lines customer)))) (pos 0) in
     on_state (machines_of objects) (sale (counter 0) (lines 1) customer pieces) Kept h.are (where_so (machines_of objects) (note (lines 1) customer pieces) _ Kept _ (λ taken.
     let t = take_leaves h.left pieces taken in
-    where_so (machines_of objects) (Gives (wrapped_sum line pieces)) _ Kept _ (λ put. (tt, stocked _ _ (h.left -ℤ pieces) (some_left h.left pieces t.0) t.1)))))
+    let there = t.0 in
+    let some : pos 0 ≤ℤ (h.left -ℤ pieces) = omega (arith, ints, there) in
+    where_so (machines_of objects) (Gives (wrapped_sum line pieces)) _ Kept _ (λ put. (tt, stocked _ _ (h.left -ℤ pieces) some t.1)))))
 
-pub counts : {stock : CounterId} {book : HashId} (one other : ℤ) → (stock.number ≡ 0) × (book.number ≡ 1) → Keeps (machines_of objects) IsStocked (λ (x : ℤ × ℤ). pos 0 ≤ℤ x.0) (count stock book one other)
-counts one other e = at_two (λ i j. Keeps (machines_of objects) IsStocked (λ (x : ℤ × ℤ). pos 0 ≤ℤ x.0) (count (counter i) (lines j) one other)) e (λ st h.
-    on_state (machines_of objects) (count (counter 0) (lines 1) one other) (λ r. (pos 0 ≤ℤ r.0.0) × IsStocked r.1) h.are (h.some, subst IsStocked h.are h))
+-- what was counted in stock is not below zero
+abbrev pub IsCount : ℤ × ℤ → Type 0
+IsCount x = pos 0 ≤ℤ x.0
+
+pub counts : {stock : CounterId} {book : HashId} (one other : ℤ) → (stock.number ≡ 0) × (book.number ≡ 1) → Keeps (machines_of objects) IsStocked IsCount (count stock book one other)
+counts one other e = at_two (λ i j. Keeps (machines_of objects) IsStocked IsCount (count (counter i) (lines j) one other)) e (λ st h.
+    on_state (machines_of objects) (count (counter 0) (lines 1) one other) (λ r. IsCount r.0 × IsStocked r.1) h.are (h.some, subst IsStocked h.are h))

@@ -38,20 +38,11 @@ served x y z sent received waiting e f g all = record {
   all = all;
 }
 
-total_more : (x : ℤ) (waiting : List ℤ) → total (placed (x ∷ waiting)) ≡ total (placed waiting) +ℤ x
-total_more x waiting = total_last (placed waiting) (pos (length waiting), x)
-
-more_sent : (s r x : ℤ) (waiting : List ℤ) → s ≡ r +ℤ total (placed waiting) → s +ℤ x ≡ r +ℤ total (placed (x ∷ waiting))
-more_sent s r x waiting h = let e = total_more x waiting in omega (arith, ints, h, e)
-
-more_received : (s r x : ℤ) (waiting : List ℤ) → s ≡ r +ℤ total (placed (x ∷ waiting)) → s ≡ (r +ℤ x) +ℤ total (placed waiting)
-more_received s r x waiting h = let e = total_more x waiting in omega (arith, ints, h, e)
-
 pub puts : {sent : CounterId} {line : VectorId} (amount : ℤ) → (sent.number ≡ 0) × (line.number ≡ 2) → Keeps (machines_of objects) IsServed (λ (x : ℤ). Unit {0}) (put sent line amount)
 puts amount e = at_two (λ i j. Keeps (machines_of objects) IsServed (λ (x : ℤ). Unit {0}) (put (counter i) (queue j) amount)) e (λ st h.
     on_state (machines_of objects) (put (counter 0) (queue 2) amount) Kept h.are (where_so (machines_of objects) (note (counter 0) amount) _ Kept _ (λ pushed.
     where_so (machines_of objects) (Gives amount) _ Kept _ (λ added.
-    (tt, served _ _ _ (h.sent +ℤ amount) h.received (amount ∷ h.waiting) (add_leaves h.sent amount added) refl (push_leaves 64 h.waiting amount pushed) (more_sent h.sent h.received amount h.waiting h.all))))))
+    (tt, served _ _ _ (h.sent +ℤ amount) h.received (amount ∷ h.waiting) (add_leaves h.sent amount added) refl (push_leaves 64 h.waiting amount pushed) (let e = total_last (placed h.waiting) (pos (length h.waiting), amount) in let all = h.all in omega (arith, ints, all, e)))))))
 
 -- of what waits, the last one is taken
 takes_by : (sent received : ℤ) (waiting : List ℤ) → sent ≡ received +ℤ total (placed waiting)
@@ -60,7 +51,7 @@ takes_by sent received [] all = tt
 takes_by sent received (x ∷ xs) all =
     subst (λ (e : Effect). IfSome (run_of (machines_of objects) (receive (counter 1) (perhaps (short_of e.reply))) (((pos 0, sent) ∷ []) ∷ ((pos 0, received) ∷ []) ∷ e.after ∷ [])) Kept) (sym (pop_leaves 64 x xs))
     (where_so (machines_of objects) (Gives x) _ Kept _ (λ added.
-    (tt, served _ _ _ sent (received +ℤ x) xs refl (add_leaves received x added) refl (more_received sent received x xs all))))
+    (tt, served _ _ _ sent (received +ℤ x) xs refl (add_leaves received x added) refl (let e = total_last (placed xs) (pos (length xs), x) in omega (arith, ints, all, e)))))
 
 pub takes : {received : CounterId} {line : VectorId} → (received.number ≡ 1) × (line.number ≡ 2) → Keeps (machines_of objects) IsServed (λ (x : ℤ). Unit {0}) (take received line)
 takes e = at_two (λ i j. Keeps (machines_of objects) IsServed (λ (x : ℤ). Unit {0}) (take (counter i) (queue j))) e (λ st h.
