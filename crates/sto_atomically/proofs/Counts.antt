@@ -1,12 +1,10 @@
 -- Of the records of a transaction only the last one can have written.
 use Rattle.std.specs.List.{All}
-use Rattle.std.specs.Prelude.{filter, ◌==◌, ◌&&◌, not, if◌then◌else◌}
-use Rattle.std.proofs.Common.{◌≡◌, ◌+◌, ◌<◌, ◌≤◌, ℕ, zero, suc, Bool, true, false, List, [], ◌∷◌, ◌++◌, length, map, refl, sym, ap, ◌∙◌, subst, arith, eq-eqb, true≢false}
-use Rattle.std.proofs.lemmas.Bool.{cases_Bool}
-use Rattle.std.proofs.lemmas.Bool.Decides.{nat_tests}
+use Rattle.std.specs.Prelude.{◌==◌, ◌&&◌, if◌then◌else◌}
+use Rattle.std.proofs.Common.{◌≡◌, ◌<◌, ◌≤◌, ℕ, Bool, true, false, List, [], ◌∷◌, ◌++◌, length, refl, sym, ap, ◌∙◌, arith, eq-eqb, true≢false}
 use Rattle.std.proofs.lemmas.List.Elements.{All-nil, All-cons, All-head, All-tail}
-use Rattle.sto_attempt_facts.specs.Records.{Place, Record, Verdict, Wrote, Read, Cancelled, Locked, Changed, is_abort, is_finished, wrote_with, times_written}
-use Rattle.sto_attempt_facts.specs.Counted.{Follows, InThreads, aborted_times, finished_places}
+use Rattle.sto_attempt_facts.specs.Records.{Place, Record, Verdict, Wrote, Read, Cancelled, Locked, Changed, is_abort, wrote_with, times_written}
+use Rattle.sto_attempt_facts.specs.Counted.{Follows, InThreads, aborted_times}
 
 by_test : {P : Type 0} (b : Bool) → (b ≡ true → P) → (b ≡ false → P) → P
 by_test true f g = f refl

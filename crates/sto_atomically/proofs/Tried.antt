@@ -1,7 +1,7 @@
 -- What one attempt led to, by its record.
 use Rattle.std.specs.List.{All}
-use Rattle.std.proofs.Common.{◌≡◌, ◌⊎◌, ◌≤◌, ◌<◌, ◌+◌, ℕ, List, [], ◌∷◌, ◌++◌, map, length, Bool, true, false, refl, sym, ap, ◌∙◌, subst, arith, inl, inr, le_refl}
-use Rattle.std.specs.Prelude.{if◌then◌else◌, Option, Some, None, Result, Ok, MatchOption, IsSome}
+use Rattle.std.proofs.Common.{◌≡◌, ◌<◌, ◌+◌, ℕ, List, [], ◌∷◌, ◌++◌, map, length, Bool, true, false, refl, sym, ap, ◌∙◌, subst, arith, inl, inr}
+use Rattle.std.specs.Prelude.{Option, Some, None, Result, Ok, MatchOption, IsSome}
 use Rattle.sto_part.specs.Listed.{Listed}
 use Rattle.std.proofs.lemmas.List.{map-append}
 use Rattle.std.proofs.lemmas.List.Elements.{All-weaker}
@@ -12,7 +12,7 @@ use Rattle.sto_type.specs.Meaning.{Meaning}
 use Rattle.sto_core.specs.declared.view.View.{View}
 use Rattle.sto_attempt_facts.specs.Records.{Place, Record as Told, is_abort, wrote_with, times_written}
 use Rattle.sto_attempt_facts.specs.Counted.{InThreads, times_committed, aborted_times, finished_places}
-use Rattle.sto_attempt_facts.specs.Added.{IsAdded, IsKnown, IsOwnTicket, Grows}
+use Rattle.sto_attempt_facts.specs.Added.{IsAdded, IsKnown, Grows}
 use Rattle.sto_transaction.specs.declared.record.Record.{Record}
 use Rattle.sto_transaction.specs.Plain.{plain, verdict}
 use Rattle.sto_transaction.specs.Ran.{HasRun, HasBroken}

@@ -1,5 +1,5 @@
 -- What a transaction that was run atomically tells of its value.
-use Rattle.std.specs.Prelude.{◌≡◌, ◌⊎◌, ◌≤◌, ◌+◌, ℕ, List, map, true, false, Option, Some, None, Result, Ok, Err}
+use Rattle.std.specs.Prelude.{◌≡◌, ◌⊎◌, ◌≤◌, ◌+◌, ℕ, List, map, false, Option, Some, None, Result, Ok, Err}
 use Rattle.sto_part.specs.declared.NoMemory.{NoMemory}
 use Rattle.sto_model.specs.declared.shape.Shape.{Shape}
 use Rattle.sto_model.specs.Told.{Told}
@@ -12,7 +12,7 @@ use Rattle.sto_core.specs.Lists.{Among}
 use Rattle.sto_attempt_facts.specs.Records.{Verdict, IsSince, is_abort, wrote_with}
 use Rattle.sto_attempt_facts.specs.Counted.{times_committed}
 use Rattle.sto_attempt_facts.specs.Told.{IsTold}
-use Rattle.sto_attempt_facts.specs.Added.{Grows, IsSeenTicket}
+use Rattle.sto_attempt_facts.specs.Added.{IsSeenTicket}
 use Rattle.sto_code.specs.Shortened.{short_of}
 use Rattle.sto_code.specs.declared.short_reply.ShortReply.{ShortReply}
 use Rattle.sto_code.specs.declared.tx.Stop.{Stop}

@@ -1,5 +1,5 @@
 -- Aborted attempts saw more and took no effect; the last one tells what the transaction led to.
-use Rattle.std.proofs.Common.{◌≡◌, ◌≤◌, ◌+◌, ◌-◌, ℕ, Result, sym, ap, ◌∙◌, subst, arith, true≢false}
+use Rattle.std.proofs.Common.{Result, sym, ◌∙◌, subst, arith, true≢false}
 use Rattle.std.specs.Prelude.{Option, Ok, IsSome}
 use Rattle.sto_code.specs.declared.tx.Stop.{Stop}
 use Rattle.sto_atomically.specs.declared.outcome.Done.{Done}

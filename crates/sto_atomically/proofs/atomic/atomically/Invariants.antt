@@ -1,4 +1,4 @@
-use Rattle.std.proofs.Common.{◌≡◌, ◌≤◌, ℕ}
+use Rattle.std.proofs.Common.{◌≡◌, ◌≤◌}
 use Rattle.sto_attempt_facts.specs.Added.{Grows}
 use Rattle.sto_transaction.specs.Resting.{IsAtRest}
 use Rattle.sto_atomically.specs.Atomic.{TakesNoEffect}

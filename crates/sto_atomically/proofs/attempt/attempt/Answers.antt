@@ -1,6 +1,5 @@
 -- One attempt adds one record, and that tells what the code said.
-use Rattle.std.proofs.Common.{rules, ◌≡◌, List, [], ◌∷◌, ◌++◌}
-use Rattle.sto_transaction.specs.declared.record.Record.{Record}
+use Rattle.std.proofs.Common.{rules, ◌≡◌, [], ◌∷◌, ◌++◌}
 use Rattle.sto_atomically.proofs.Tried.{broken_none, same_run, told_tried, told_alone}
 use Rattle.sto_atomically.proofs.attempt.attempt.Goals as goal
 
@@ -19,7 +18,7 @@ returns-clause-tried g c =
     body.code.now c.args.code.now body.shapes.now c.args.shapes.now body.most (g.K.Code.most c.args.code.now) same.0 same.1 same.2 c.take_records-records.ensures c.in-Ok.ensures.ran in
     let all : c.run.new.records.items ≡ c.pop.new.self.items ++ c.in-Some.last ∷ [] = search rules in
     told_tried m sizes passes v w c.args.shapes.now.items (g.K.Code.most c.args.code.now) (g.K.Code.does c.args.code.now) (0, 1) c.pop.new.self.items c.in-Some.last c.run.new.records.items ended
-    c.said_by.result all ran c.said_by.ensures
+    c.said_by-said.result all ran c.said_by-said.ensures
 
 pub returns-clause-alone : goal.returns-clause-alone
 returns-clause-alone g c =
@@ -31,4 +30,4 @@ returns-clause-alone g c =
     let ran = same_run g.K.Code.does m sizes passes v w (0, 1) c.take_records-records.result.items c.run.new.records.items ended
     body.code.now c.args.code.now body.shapes.now c.args.shapes.now body.most (g.K.Code.most c.args.code.now) same.0 same.1 same.2 c.take_records-records.ensures c.in-Ok.ensures.ran in
     let all : c.run.new.records.items ≡ c.pop.new.self.items ++ c.in-Some.last ∷ [] = search rules in
-    told_alone m sizes passes v w _ (0, 1) c.pop.new.self.items c.in-Some.last c.run.new.records.items ended c.said_by.result _ all ran c.said_by.ensures
+    told_alone m sizes passes v w _ (0, 1) c.pop.new.self.items c.in-Some.last c.run.new.records.items ended c.said_by-said.result _ all ran c.said_by-said.ensures
