@@ -1,15 +1,16 @@
 -- Each transaction of the bank keeps what the accounts hold together, and an audit gives it.
 use Rattle.std.specs.Prelude.{int_lt}
-use Rattle.std.proofs.Common.{◌≡◌, ℕ, ℤ, pos, ◌+ℤ◌, ◌≤ℤ◌, refl, ap, ◌∙◌, subst, arith}
+use Rattle.std.proofs.Common.{◌≡◌, ℕ, ℤ, pos, ◌≤ℤ◌, [], ◌∷◌, refl, subst, arith}
 use Rattle.std.proofs.lemmas.Int.{ints}
 use Rattle.sto_part.specs.Changes.{wrapped_sum, wrapped_difference}
 use Rattle.sto_model.specs.Objects.{machines_of}
 use Rattle.sto_model.proofs.RowFacts.{not_below_of}
 use Rattle.sto_code.specs.declared.handles.BoxId.{BoxId}
+use Rattle.sto_code.specs.Snapshots.{snapshot}
 use Rattle.sto_library.specs.Keeping.{Keeps}
 use Rattle.sto_library.proofs.Keeping.{at_two, at_three, on_state, unless}
-use Rattle.sto_library.proofs.Wrapping.{sum_fits, moved}
-use Rattle.sto_example_bank.specs.Accounts.{transfer, audit, accounts, holding, HoldAll}
+use Rattle.sto_library.proofs.Wrapping.{moved}
+use Rattle.sto_example_bank.specs.Accounts.{transfer, accounts, holding, HoldAll, IsAll}
 
 abbrev box : ℕ → BoxId
 box n = record { number = n }
@@ -30,14 +31,10 @@ second_moves n e some = at_two (λ i j. Keeps (machines_of accounts) HoldAll Any
     let m = moved h.y h.z n some (not_below_of h.y n enough) h.some_z (grind (arith, ints, h.sum, h.some_x)) in
     (tt, record { x = h.x; y = wrapped_difference h.y n; z = wrapped_sum h.z n; are = refl; some_x = h.some_x; some_y = m.some_x; some_z = m.some_y; sum = grind (arith, ints, m.sum, h.sum) }))))
 
--- an audit gives the sum
-pub gives_all : {a b c : BoxId} → (a.number ≡ 0) × (b.number ≡ 1) × (c.number ≡ 2) → Keeps (machines_of accounts) HoldAll (λ (sum : ℤ). sum ≡ pos 300) (audit a b c)
-gives_all e = at_three (λ i j k. Keeps (machines_of accounts) HoldAll (λ (sum : ℤ). sum ≡ pos 300) (audit (box i) (box j) (box k))) e (λ st h.
-    on_state (machines_of accounts) (audit (box 0) (box 1) (box 2)) (λ r. (r.0 ≡ pos 300) × HoldAll r.1) h.are (
-      ap (λ (i : ℤ). wrapped_sum i h.z) (sum_fits h.x h.y h.some_x h.some_y (grind (arith, ints, h.sum, h.some_z)))
-          ∙ sum_fits (h.x +ℤ h.y) h.z (grind (arith, ints, h.some_x, h.some_y)) h.some_z (grind (arith, ints, h.sum)) ∙ h.sum,
-      subst HoldAll h.are h,
-    ))
+-- an audit sees the sum
+pub sees_all : {a b c : BoxId} → (a.number ≡ 0) × (b.number ≡ 1) × (c.number ≡ 2) → Keeps (machines_of accounts) HoldAll IsAll (snapshot (a ∷ b ∷ c ∷ []) [])
+sees_all e = at_three (λ i j k. Keeps (machines_of accounts) HoldAll IsAll (snapshot (box i ∷ box j ∷ box k ∷ []) [])) e (λ st h.
+    on_state (machines_of accounts) (snapshot (box 0 ∷ box 1 ∷ box 2 ∷ []) []) (λ r. IsAll r.0 × HoldAll r.1) h.are (grind (arith, ints, h.sum), subst HoldAll h.are h))
 
 -- at the opening
 pub opened : HoldAll (holding (pos 100) (pos 100) (pos 100))

@@ -1,5 +1,5 @@
 -- What the transactions of the bank do, and what they keep.
-use Rattle.std.specs.Prelude.{◌≡◌, ℤ, pos, ◌+ℤ◌, ◌≤ℤ◌, int_lt, if◌then◌else◌, List, [], ◌∷◌, Result}
+use Rattle.std.specs.Prelude.{◌≡◌, ℤ, pos, ◌+ℤ◌, ◌≤ℤ◌, int_lt, if◌then◌else◌, List, [], ◌∷◌, fold, Result}
 use Rattle.sto_part.specs.Changes.{wrapped_sum, wrapped_difference}
 use Rattle.sto_part.specs.Listed.{Listed}
 use Rattle.sto_model.specs.declared.shape.Shape.{Shape}
@@ -7,6 +7,7 @@ use Rattle.sto_model.specs.declared.shape.Shape.TheVariants.{Single}
 use Rattle.sto_model.specs.Rows.{Row}
 use Rattle.sto_model.specs.Run.{State}
 use Rattle.sto_code.specs.declared.handles.BoxId.{BoxId}
+use Rattle.sto_code.specs.declared.snapshot.Held.{Held}
 use Rattle.sto_code.specs.Progs.{Prog, Gives, Cancels}
 use Rattle.sto_code.specs.Steps.{box_get, box_set}
 use Rattle.sto_atomically.specs.declared.outcome.Done.{Done}
@@ -18,10 +19,6 @@ abbrev pub transfer : BoxId → BoxId → ℤ → Prog ℤ
 transfer from to amount =
     box_get from (λ x. if int_lt x amount then Cancels else
     box_set from (wrapped_difference x amount) (box_get to (λ y. box_set to (wrapped_sum y amount) (Gives x))))
-
--- it gives what three accounts have together
-abbrev pub audit : BoxId → BoxId → BoxId → Prog ℤ
-audit a b c = box_get a (λ x. box_get b (λ y. box_get c (λ z. Gives (wrapped_sum (wrapped_sum x y) z))))
 
 -- the three accounts at the opening
 abbrev pub accounts : List Shape
@@ -42,6 +39,10 @@ pub record HoldAll (state : State) : Type 0 where
   pub some_z : pos 0 ≤ℤ z
   pub sum : (x +ℤ y) +ℤ z ≡ pos 300
 
--- what both audits gave is 300, and the accounts are so at the end
-abbrev pub IsDay : Result (Done ℤ) Unrun × Result (Done ℤ) Unrun × Listed (List Row) → Type 0
-IsDay (first, other, rows) = IfGave (λ sum. sum ≡ pos 300) first × IfGave (λ sum. sum ≡ pos 300) other × HoldAll rows.items
+-- an audit saw three accounts with 300 together, at one time
+abbrev pub IsAll : Held 3 0 → Type 0
+IsAll held = fold (λ (sum x : ℤ). sum +ℤ x) (pos 0) held.boxes ≡ pos 300
+
+-- both audits saw all, and the accounts are so at the end
+abbrev pub IsDay : Result (Done (Held 3 0)) Unrun × Result (Done (Held 3 0)) Unrun × Listed (List Row) → Type 0
+IsDay (first, other, rows) = IfGave IsAll first × IfGave IsAll other × HoldAll rows.items

@@ -2,13 +2,13 @@
 #![tactic(auto)]
 
 ghost use Rattle.std.specs.Prelude.{IfOk};
-ghost use Rattle.sto_example_bank.specs.Accounts.{transfer, audit, IsDay};
+ghost use Rattle.sto_example_bank.specs.Accounts.{transfer, IsDay};
 
 use std::alloc::Global;
 use std::io;
 use std::thread::Threads;
 use sto_library::{
-    BoxId, Code, Done, Schema, State, Stop, StoreError, Times, Tx, Unrun, value_of,
+    BoxId, Code, Done, Held, Schema, Snapshot, State, Stop, StoreError, Times, Tx, Unrun, value_of,
     wrapping_difference, wrapping_sum,
 };
 
@@ -43,37 +43,13 @@ impl Code for Transfer {
     }
 }
 
-/// Gives what three accounts have together.
-#[derive(Clone, Copy)]
-struct Audit {
-    a: BoxId,
-    b: BoxId,
-    c: BoxId,
-}
+/// What an audit led to: what all accounts have at one time.
+type Audited = Result<Done<Held<3, 0>>, Unrun>;
 
-impl Code for Audit {
-    type Out = i64;
+/// What both auditors' last audits led to, and the rows at the end.
+type Day = (Audited, Audited, State);
 
-    ghost does = { λ x. audit x.a x.b x.c };
-
-    ghost most = { λ _. 3 };
-
-    fn most(&self) -> u32 {
-        3
-    }
-
-    fn run(&self, tx: &mut Tx<'_>) -> Result<i64, Stop> {
-        let x = self.a.get(tx)?;
-        let y = self.b.get(tx)?;
-        let z = self.c.get(tx)?;
-        Ok(wrapping_sum(wrapping_sum(x, y), z))
-    }
-}
-
-/// What both audits led to, and what all accounts hold at the end.
-type Day = (Result<Done<i64>, Unrun>, Result<Done<i64>, Unrun>, State);
-
-/// A day of the bank on so many threads, with three accounts of 100 each. Each audit gives 300, and 300 is there at the end.
+/// A day of the bank on so many threads, with three accounts of 100 each. Each audit sees 300, and 300 is there at the end.
 fn run_bank<R: Threads + Sync>(rt: &R, alloc: Global, threads: u32) -> Result<Day, StoreError>
     ensures { IfOk result IsDay }
 {
@@ -92,9 +68,18 @@ fn run_bank<R: Threads + Sync>(rt: &R, alloc: Global, threads: u32) -> Result<Da
         to: c,
         amount: 2,
     };
-    let (one, two, audit) = (Times(20, one), Times(20, two), Times(20, Audit { a, b, c }));
+    let audit = Snapshot {
+        boxes: [a, b, c],
+        counters: [],
+    };
+    let (one, two, audit) = (Times(20, one), Times(20, two), Times(20, audit));
     let (_, _, first, other) = store.run_four(rt, alloc, threads, &one, &two, &audit, &audit)?;
     Ok((first, other, store.close(alloc)?))
+}
+
+/// What three accounts have together.
+fn together(accounts: &[i64; 3]) -> i64 {
+    wrapping_sum(wrapping_sum(accounts[0], accounts[1]), accounts[2])
 }
 
 fn main(rt: HostRuntime) -> io::Result<()> {
@@ -103,6 +88,7 @@ fn main(rt: HostRuntime) -> io::Result<()> {
         else {
             return println!(rt; "no answer: memory was wanting, or others were in the way");
         };
+        let (x, y) = (together(&x.boxes), together(&y.boxes));
         let a = value_of(&rows, 0).unwrap_or(0);
         let b = value_of(&rows, 1).unwrap_or(0);
         let c = value_of(&rows, 2).unwrap_or(0);
