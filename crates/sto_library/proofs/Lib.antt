@@ -1,5 +1,6 @@
 pub mod Doings
 pub mod Hired
+pub mod Looks
 pub mod SideBySide
 pub mod Opened
 pub mod Planned

@@ -30,3 +30,8 @@ module _ {T A : Type 0} (t : OfType T) (old new : Stored T) (most : ℕ) (p : Pr
   HasLooked (Ok done) = IsLookOf (Ok done)
   HasLooked (Err (unlooked.Unrun error)) = IsLookOf (Err error)
   HasLooked (Err unlooked.Workers) = (old.views ≡ []) × (new ≡ old)
+
+-- what a look answers by what its transaction led to
+abbrev pub looked_by : {A : Type 0} → Result (Done A) Unrun → Result (Done A) LookError
+looked_by (Ok done) = Ok done
+looked_by (Err error) = Err (unlooked.Unrun error)

@@ -7,7 +7,7 @@ ghost use Rattle.sto_library.specs.Values.{Serves, TakeCalls};
 ghost use Rattle.sto_library.specs.Closings.{ComesBack};
 ghost use Rattle.sto_library.specs.Doings.{HasGiven};
 ghost use Rattle.sto_library.specs.Tasks.{IsDone};
-ghost use Rattle.sto_library.specs.Looks.{HasLooked};
+ghost use Rattle.sto_library.specs.Looks.{HasLooked, looked_by};
 
 use crate::worker::StoreWorker;
 use std::alloc::Global;
@@ -86,6 +86,16 @@ where
     (busy.rest(), told)
 }
 
+// What a look answers by what its transaction led to.
+fn looked<O: Drop>(told: Result<Done<O>, Unrun>) -> Result<Done<O>, LookError>
+    ensures { result ≡ looked_by told }
+{
+    match told {
+        Ok(done) => Ok(done),
+        Err(error) => Err(LookError::Unrun(error)),
+    }
+}
+
 impl<T: TxType> SharedStore<T> {
     /// A store of objects of these shapes, with its workers.
     pub fn new(words: sto_open::Store<T>, shapes: Shapes, idle: IdleWorkers<T>) -> SharedStore<T>
@@ -133,15 +143,14 @@ impl<T: TxType> SharedStore<T> {
         ensures words { (self.new.words ≡ self.old.words) × (self.new.shapes ≡ self.old.shapes) }
         ensures looked { HasLooked T.TxType self.old self.new (K.most code.now) (K.does code.now) result }
     {
+        // so many fit the list
+        let _resting = self.idle.len();
         let Some(worker) = self.idle.pop() else {
             return Err(LookError::Workers);
         };
         let (worker, told) = look_by(alloc, &self.words, &self.shapes, worker, code);
         self.idle.push_spare(worker);
-        match told {
-            Ok(done) => Ok(done),
-            Err(error) => Err(LookError::Unrun(error)),
-        }
+        looked(told)
     }
 
     /// How many workers rest here.
