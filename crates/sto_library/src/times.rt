@@ -21,7 +21,10 @@ where
 
     fn work(&self, worker: &mut StoreWorker<'_, T>) -> Result<Done<K::Out>, Unrun> {
         for _ in 1..self.0 {
-            worker.run(&self.1)?;
+            let told = worker.run(&self.1);
+            if told.is_err() {
+                return told;
+            }
         }
         worker.run(&self.1)
     }

@@ -6,7 +6,10 @@ pub loop-init : goal.loop-init
 loop-init g c = run_none (of_type g.T.Naming g.T.TxType) _ _ _
 
 pub loop-preserved : goal.loop-preserved
-loop-preserved g c = run_on (of_type g.T.Naming g.T.TxType) c.loop.invariant c.run-in-loop.ensures.given.repeated
+loop-preserved g c = run_on (of_type g.T.Naming g.T.TxType) c.loop.invariant c.run-told.ensures.given.repeated
+
+pub returns-then-is_err-clause-gives : goal.returns-then-is_err-clause-gives
+returns-then-is_err-clause-gives g c = given_more (of_type g.T.Naming g.T.TxType) c.loop.invariant c.run-told.ensures.given
 
 pub returns-clause-gives : goal.returns-clause-gives
 returns-clause-gives g c = given_more (of_type g.T.Naming g.T.TxType) c.loop.invariant c.run.ensures.given
