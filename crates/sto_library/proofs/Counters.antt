@@ -1,6 +1,6 @@
 -- What a take and an add leave of a counter, by what they answer.
 use Rattle.std.specs.Prelude.{int_le, if◌then◌else◌}
-use Rattle.std.proofs.Common.{◌≡◌, ℤ, pos, ◌+ℤ◌, ◌-ℤ◌, ◌≤ℤ◌, List, [], ◌∷◌, Bool, true, false, Option, Some, None, refl, sym, ap, ◌&&◌, arith, true≢false}
+use Rattle.std.proofs.Common.{◌≡◌, ℤ, pos, ◌+ℤ◌, ◌-ℤ◌, ◌≤ℤ◌, [], ◌∷◌, Bool, true, false, Option, Some, None, refl, sym, ap, ◌&&◌, arith, true≢false}
 use Rattle.std.proofs.lemmas.Int.{ints}
 use Rattle.sto_model.specs.Objects.{in_range, least, greatest, done_in_range, effect, with_only, counter_effect}
 use Rattle.sto_model.specs.Told.{Done, Flag}

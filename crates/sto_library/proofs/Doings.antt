@@ -1,17 +1,13 @@
 -- What a worker did, one transaction after the other.
 use Rattle.std.specs.List.{All}
-use Rattle.std.proofs.Common.{◌≡◌, ◌+◌, ℕ, List, [], ◌∷◌, ◌++◌, map, refl, sym, ap, ◌∙◌, subst, arith, Result, Ok, Err}
+use Rattle.std.proofs.Common.{◌≡◌, ℕ, List, [], ◌∷◌, ◌++◌, refl, ◌∙◌, subst, arith, Result, Ok, Err}
 use Rattle.std.proofs.lemmas.List.Elements.{All-nil, All-cons, All-append, All-weaker}
-use Rattle.sto_model.specs.Run.{Script as Steps}
 use Rattle.sto_model.specs.declared.shape.Shape.{Shape}
 use Rattle.sto_type.specs.Traits.{OfType}
 use Rattle.sto_type.specs.Meaning.{Meaning}
-use Rattle.sto_core.specs.declared.view.View.{View}
-use Rattle.sto_attempt_facts.specs.Records.{wrote_with}
-use Rattle.sto_attempt_facts.specs.Counted.{times_committed}
 use Rattle.sto_attempt_facts.specs.Added.{Grows}
 use Rattle.sto_attempt_facts.proofs.Among.{among_second}
-use Rattle.sto_serial_history.specs.History.{Transaction, times_numbered}
+use Rattle.sto_serial_history.specs.History.{Transaction}
 use Rattle.sto_serial_history.specs.Done.{IsToldOf, HasDone}
 use Rattle.sto_serial_history.proofs.Doing.{done_none, done_more}
 use Rattle.sto_code.specs.declared.short_reply.ShortReply.{ShortReply}

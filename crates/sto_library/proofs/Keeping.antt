@@ -1,7 +1,7 @@
 -- Tasks whose code keeps an invariant, up to the rows at the end.
 use Rattle.std.specs.List.{All}
-use Rattle.std.specs.Prelude.{Option, Some, IfSome, if◌then◌else◌}
-use Rattle.std.proofs.Common.{◌≡◌, ℕ, zero, suc, List, [], ◌∷◌, ◌++◌, map, sym, ap, ◌∙◌, subst, Result, Ok, Err, Bool, true, false, refl}
+use Rattle.std.specs.Prelude.{Option, IfSome, if◌then◌else◌}
+use Rattle.std.proofs.Common.{◌≡◌, ℕ, zero, suc, List, [], ◌∷◌, map, sym, ap, ◌∙◌, subst, Result, Ok, Err, Bool, true, false, refl}
 use mathlib.Core.Option.{some-injective, some-ne-none}
 use Rattle.std.proofs.lemmas.List.Elements.{All-head, All-tail, All-weaker}
 use Rattle.sto_model.specs.Machine.{Machine, opening_of}
@@ -26,7 +26,7 @@ use Rattle.sto_atomically.specs.declared.outcome.Unrun.{Unrun}
 use Rattle.sto_atomically.specs.Atomic.{steps_of}
 use Rattle.sto_library.specs.Values.{Working, Stored}
 use Rattle.sto_library.specs.Tasks.{IsDone, AreFourDone}
-use Rattle.sto_library.specs.Doings.{HasRun, HasHeard, IsLedBy, HasGiven}
+use Rattle.sto_library.specs.Doings.{HasRun, IsLedBy, HasGiven}
 use Rattle.sto_library.specs.Keeping.{Keeps, IfGave}
 use Rattle.sto_library.proofs.Doings.{RanSome}
 

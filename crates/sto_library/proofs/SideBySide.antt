@@ -1,5 +1,5 @@
 -- Tasks that were done side by side.
-use Rattle.std.proofs.Common.{◌≡◌, List, [], ◌∷◌, ◌++◌, ap, ◌∙◌, append_assoc, subst}
+use Rattle.std.proofs.Common.{◌≡◌, List, [], ◌∷◌, ◌++◌, ap, ◌∙◌, append_assoc}
 use Rattle.sto_model.specs.declared.shape.Shape.{Shape}
 use Rattle.sto_core.specs.declared.view.View.{View}
 use Rattle.sto_open.specs.declared.store.Store.{Store as Words}

@@ -1,6 +1,5 @@
 -- Sums and differences that no word is too short for.
-use Rattle.std.specs.Prelude.{◌^◌}
-use Rattle.std.specs.Int.{w64, int_wrap}
+use Rattle.std.specs.Int.{w64}
 use Rattle.std.proofs.Common.{◌≡◌, ℤ, pos, ◌+ℤ◌, ◌-ℤ◌, ◌≤ℤ◌, arith}
 use Rattle.std.proofs.lemmas.Int.{ints, int_wrap_fits}
 use Rattle.sto_part.specs.Changes.{wrapped_sum, wrapped_difference}

@@ -1,5 +1,5 @@
 -- Code that keeps an invariant of the objects' state.
-use Rattle.std.specs.Prelude.{List, Option, IfSome, Result, Ok, Err}
+use Rattle.std.specs.Prelude.{List, IfSome, Result, Ok, Err}
 use Rattle.sto_model.specs.Machine.{Machine}
 use Rattle.sto_model.specs.Run.{State}
 use Rattle.sto_code.specs.Progs.{Prog}

@@ -1,5 +1,5 @@
 -- A store and a worker, as contracts see them.
-use Rattle.std.specs.Prelude.{◌≡◌, ℕ, List}
+use Rattle.std.specs.Prelude.{ℕ, List}
 use Rattle.atomic_table.specs.declared.shared.Seat.{Seat}
 use Rattle.sto_model.specs.declared.shape.Shape.{Shape}
 use Rattle.sto_model.specs.declared.call.Call.{Call}

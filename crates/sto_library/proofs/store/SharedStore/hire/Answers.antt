@@ -1,5 +1,5 @@
 use Rattle.std.specs.Prelude.{MatchOption}
-use Rattle.std.proofs.Common.{◌≡◌, List, [], ◌∷◌, ◌++◌, map, subst}
+use Rattle.std.proofs.Common.{◌≡◌, [], ◌∷◌, ◌++◌, map, subst}
 use Rattle.sto_core.specs.declared.view.View.{View}
 use Rattle.sto_type.specs.Traits.{of_type}
 use Rattle.sto_open.specs.declared.worker.IdleWorker.{IdleWorker}
