@@ -9,6 +9,8 @@ pub use Rattle.sto_lang.specs.Sound
 pub use Rattle.sto_lang.specs.Views
 pub use Rattle.sto_serializability.specs.Finished
 pub use Rattle.sto_serializability.specs.Meanings
-pub use Rattle.sto_run_threads.specs.Counts
+pub use Rattle.sto_run_threads.specs.Plans
+pub use Rattle.sto_run_threads.specs.Told
 pub use Rattle.sto_run_threads.specs.Taken
 pub use Rattle.sto_run_threads.specs.Worked
+pub use Rattle.sto_run_threads.specs.Runs

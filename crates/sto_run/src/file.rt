@@ -1,13 +1,12 @@
 //! Runs of whole files on threads.
-ghost use Rattle.std.specs.Prelude.{◌≡◌, ◌<◌, ◌≤◌, ◌+◌, ◌*◌, ◌^◌, [], IfOk};
-ghost use Rattle.sto_lang.specs.Objects.{shapes_of};
+ghost use Rattle.std.specs.Prelude.{◌≡◌, [], IfOk};
 ghost use Rattle.sto_lang.specs.Sound.{IsSound, IsFromTo};
 ghost use Rattle.sto_lang.specs.Views.{file as view};
-ghost use Rattle.sto_serializability.specs.Meanings.{updating_by, IsTypeOf};
+ghost use Rattle.sto_serializability.specs.Meanings.{updating_by};
 ghost use Rattle.sto_store.specs.Stores.{means};
-ghost use Rattle.sto_run_threads.specs.Counts.{scripts_from};
-ghost use Rattle.sto_run_threads.specs.Taken.{IsTaken};
+ghost use Rattle.sto_run_threads.specs.Plans.{plan_of};
 ghost use Rattle.sto_run.specs.Lawful.{IsLawfulJournal};
+ghost use Rattle.sto_run.specs.Runnable.{IsRunnable};
 
 use crate::opened::OpenedRun;
 use crate::stored::objects_of;
@@ -69,14 +68,8 @@ fn run_opened<
     T: TxType + Send + Sync,
     G: Gate,
 >(rt: &R, alloc: Global, run: &OpenedRun<'_, F, T, G>, workers: u32) -> Result<Journal, NoMemory>
-    requires sound { IsSound (F.file run.now.work.workload) }
-    requires type_of { IsTypeOf (shapes_of (F.file run.now.work.workload).declarations) (T.meaning run.now.work.ty.now) }
-    requires ready { IsTaken (F.file run.now.work.workload) (T.meaning run.now.work.ty.now) × (0 < run.now.work.tries) }
-    requires tries { run.now.work.tries ≤ 64 }
-    requires opened { run.now.opening.items ≡ (T.meaning run.now.work.ty.now).opened }
-    requires valid { T.valid (T.sizes run.now.work.ty.now) run.now.opening.items }
-    requires few { run.now.work.tries * scripts_from (F.file run.now.work.workload).threads 0
-        + run.now.work.tries * scripts_from (F.file run.now.work.workload).threads 0 ≤ 2 ^ 40 }
+    requires runnable { IsRunnable (plan_of T.TxType run.now.work.ty.now (F.file run.now.work.workload) run.now.work.tries) T.valid
+        run.now.opening.items }
     requires workers { IsFromTo 1 16 workers }
     ensures lawful { IfOk result (IsLawfulJournal (updating_by (λ _. T.meaning run.now.work.ty.now)) (F.file run.now.work.workload)
         run.now.work.tries) }

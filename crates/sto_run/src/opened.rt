@@ -1,16 +1,15 @@
 //! A run of a file, from its opening to its journal.
-ghost use Rattle.std.specs.Prelude.{◌≡◌, ◌<◌, ◌≤◌, ◌+◌, ◌*◌, ◌^◌, [], length, map, IfOk};
+ghost use Rattle.std.specs.Prelude.{◌≡◌, ◌≤◌, [], IfOk};
 ghost use Rattle.sto_lang.specs.Objects.{shapes_of};
 ghost use Rattle.sto_lang.specs.Sound.{IsSound, IsFromTo};
-ghost use Rattle.sto_plain.specs.Passes.{view_of};
-ghost use Rattle.sto_serializability.specs.Finished.{AreFinished};
 ghost use Rattle.sto_serializability.specs.Meanings.{updating_by, IsTypeOf};
-ghost use Rattle.sto_transaction.specs.Plain.{plain};
-ghost use Rattle.sto_transaction.specs.Resting.{IsAtRest};
-ghost use Rattle.sto_run_threads.specs.Counts.{scripts_from};
+ghost use Rattle.sto_run_threads.specs.Plans.{plan_of};
+ghost use Rattle.sto_run_threads.specs.Told.{told_in};
 ghost use Rattle.sto_run_threads.specs.Taken.{IsTaken};
 ghost use Rattle.sto_run_threads.specs.Worked.{AbortsNone};
+ghost use Rattle.sto_run_threads.specs.Runs.{IsFinished};
 ghost use Rattle.sto_run.specs.Lawful.{IsLawfulJournal};
+ghost use Rattle.sto_run.specs.Runnable.{IsRunnable};
 
 use crate::journal::journal_of;
 use crate::whole::opening_of;
@@ -45,14 +44,8 @@ impl<'f, F: Workload + Drop, T: TxType, G: Gate> OpenedRun<'f, F, T, G> {
         requires taken { IsTaken (F.file file) (T.meaning ty.now) }
         requires tries { IsFromTo 1 64 tries }
         ensures of { IfOk result (λ r. (r.work.workload ≡ file) × (r.work.ty.now ≡ ty.entry.now) × (r.work.tries ≡ tries)) }
-        ensures sound { IfOk result (λ r. IsSound (F.file r.work.workload)) }
-        ensures type_of { IfOk result (λ r. IsTypeOf (shapes_of (F.file r.work.workload).declarations) (T.meaning r.work.ty.now)) }
-        ensures ready { IfOk result (λ r. IsTaken (F.file r.work.workload) (T.meaning r.work.ty.now) × (0 < r.work.tries)) }
-        ensures tries { IfOk result (λ r. r.work.tries ≤ 64) }
-        ensures opened { IfOk result (λ r. r.opening.items ≡ (T.meaning r.work.ty.now).opened) }
-        ensures valid { IfOk result (λ r. T.valid (T.sizes r.work.ty.now) r.opening.items) }
-        ensures few { IfOk result (λ r. r.work.tries * scripts_from (F.file r.work.workload).threads 0
-            + r.work.tries * scripts_from (F.file r.work.workload).threads 0 ≤ 2 ^ 40) }
+        ensures runnable { IfOk result (λ r. IsRunnable (plan_of T.TxType r.work.ty.now (F.file r.work.workload) r.work.tries) T.valid
+            r.opening.items) }
     {
         let opening = opening_of(alloc, ty)?;
         let work = FileWork {
@@ -71,13 +64,11 @@ impl<'f, F: Workload + Drop, T: TxType, G: Gate> OpenedRun<'f, F, T, G> {
         requires sound { IsSound (F.file self.now.work.workload) }
         requires type_of { IsTypeOf (shapes_of (F.file self.now.work.workload).declarations) (T.meaning self.now.work.ty.now) }
         requires tries { self.now.work.tries ≤ 64 }
-        requires one { (length finished.words.views ≡ 1) × (length finished.words.statuses ≡ 1) }
-        requires rests { IsAtRest (T.meaning self.now.work.ty.now) (T.sizes self.now.work.ty.now) (view_of finished.words 0) }
-        requires finished { AreFinished (T.meaning self.now.work.ty.now) (F.file self.now.work.workload) self.now.work.tries
-            (view_of finished.words 0) (map plain finished.records.items) }
+        requires finished { IsFinished (plan_of T.TxType self.now.work.ty.now (F.file self.now.work.workload) self.now.work.tries)
+            finished }
         ensures lawful { IfOk result (IsLawfulJournal (updating_by (λ _. T.meaning self.now.work.ty.now)) (F.file self.now.work.workload)
             self.now.work.tries) }
-        ensures alone { AbortsNone [] (map plain finished.records.items) → IfOk result (λ journal. journal.aborts.items ≡ []) }
+        ensures alone { AbortsNone [] (told_in finished.records) → IfOk result (λ journal. journal.aborts.items ≡ []) }
     {
         let FinishedRun { records, words } = finished;
         journal_of(alloc, &self.work.workload, self.work.ty, &words, records)

@@ -1,20 +1,16 @@
 -- A worker takes job after job.
-use Rattle.std.specs.Prelude.{◌⊎◌, ◌%◌, if◌then◌else◌, Option, Some, None, slice_get, option_and_then}
+use Rattle.std.specs.Prelude.{◌%◌, if◌then◌else◌, Option, Some, slice_get, option_and_then}
 use Rattle.std.specs.List.{All}
-use Rattle.std.proofs.Common.{◌≡◌, ℕ, zero, suc, ◌+◌, ◌<◌, ◌≤◌, List, [], ◌∷◌, ◌++◌, map, take, drop, length, get_or, refl, sym, ap, ◌∙◌, subst, arith, append-nil, Bool, true, false, true≢false, inl, inr}
+use Rattle.std.proofs.Common.{◌≡◌, ℕ, zero, suc, ◌+◌, ◌<◌, ◌≤◌, List, [], ◌∷◌, ◌++◌, take, drop, length, get_or, refl, sym, ap, ◌∙◌, subst, arith, append-nil, Bool, true, false, true≢false, inl, inr}
 use Rattle.std.proofs.lemmas.Bool.{cases_eq}
-use Rattle.std.proofs.lemmas.List.{length-append, take-append-drop, take_more, take_all, drop_more}
+use Rattle.std.proofs.lemmas.List.{length-append, take-append-drop, take_more, drop_more}
 use Rattle.std.proofs.lemmas.List.Elements.{All-head, All-tail}
-use Rattle.std.proofs.lemmas.Option.{slice_get_within, get_or_from_slice_get, same_Some, none-some}
+use Rattle.std.proofs.lemmas.Option.{slice_get_within, get_or_from_slice_get, none-some}
 use Rattle.sto_queue.specs.declared.job.Job.{Job}
 use Rattle.sto_queue.specs.declared.job.Job.TheVariants.{Run, Last}
-use Rattle.sto_queue.specs.declared.pass.JobQueue.{JobQueue}
-use Rattle.sto_queue.specs.declared.pass.JobPass.{JobPass}
 use Rattle.sto_queue.specs.Queues.{IsRun, EndsWithLast}
 use Rattle.sto_run_threads.specs.Scripts.{Script, File}
-use Rattle.sto_run_threads.specs.Meaning.{Meaning}
 use Rattle.sto_core.specs.declared.view.View.{View}
-use Rattle.sto_core.specs.Lists.{weight}
 use Rattle.sto_claims.specs.Taken.{times}
 use Rattle.sto_run_threads.specs.Orders.{Place, at_position, transaction_at, positions_of, numbers_from, count_in}
 use Rattle.sto_run_threads.specs.Records.{Record}
@@ -23,14 +19,15 @@ use Rattle.sto_serializability.proofs.Working.{positions_append, finished_append
 use Rattle.sto_run_threads.specs.Counts.{scripts_from}
 use Rattle.sto_run_threads.specs.Ran.{IsTransaction, HasRunAt}
 use Rattle.sto_run_threads.specs.Running.{ended_of, HasNone}
-use Rattle.sto_run_threads.specs.Worked.{HasWorked, AddsTo, AbortsNone, IsOneMore}
+use Rattle.sto_run_threads.specs.Worked.{HasWorked, IsOneMore}
 use Rattle.sto_run_threads.proofs.Threads.{one_of_own, length_numbers}
-use Rattle.sto_run_threads.proofs.Joined.{times_append, once_self}
+use Rattle.sto_run_threads.proofs.Joined.{once_self}
 use Rattle.sto_run_threads.proofs.Runs.{one_more}
 use Rattle.sto_run_threads.proofs.Scripts.{transaction_there, adds_none}
 use Rattle.sto_run_queues.specs.Jobs.{places_of, AreJobs}
 use Rattle.sto_run_queues.specs.Served.{HasServed, HaveServed, AreFrom, IsJobRun}
 use Rattle.sto_run_queues.proofs.Going.{few_places}
+use Rattle.sto_run_threads.specs.Plans.{Plan}
 
 -- a thread has the transaction at a place
 within_by : (found : Option (List Script)) (threads : List (List Script)) (thread position : ℕ) (s : Script) → slice_get threads thread ≡ found
@@ -44,11 +41,11 @@ pub transaction_within : (file : File) (thread position : ℕ) (s : Script) → 
 transaction_within file thread position s at = within_by (slice_get file.threads thread) file.threads thread position s refl at
 
 -- The run of the transaction at a place that is its thread's next one.
-pub job_run : (m : Meaning) (sizes : List ℕ) (file : File) (tries passes : ℕ) (v w : View) (thread position : ℕ) (rs later : List Record) (on : Bool)
-    → HasWorked m file tries v rs → suc (ended_of thread rs) ≡ position → aborted_times (thread, position) rs ≡ 0
-    → HasRunAt m sizes file tries passes v w (thread, position) rs later on → IsJobRun m file tries passes w (thread, position) rs later true on
-job_run m sizes file tries passes v w thread position rs later on h next fresh run =
-    subst (λ (p : ℕ). IsJobRun m file tries passes w (thread, p) rs later true on) next (record {
+pub job_run : (plan : Plan) (passes : ℕ) (v w : View) (thread position : ℕ) (rs later : List Record) (on : Bool)
+    → HasWorked plan v rs → suc (ended_of thread rs) ≡ position → aborted_times (thread, position) rs ≡ 0
+    → HasRunAt plan passes v w (thread, position) rs later on → IsJobRun plan passes w (thread, position) rs later true on
+job_run plan passes v w thread position rs later on h next fresh run =
+    subst (λ (p : ℕ). IsJobRun plan passes w (thread, p) rs later true on) next (record {
       worked = k.next.worked;
       adds = k.next.adds;
       ended = λ e. (refl, finished ∙ ap (λ (b : Bool). finished_places rs ++ (if b then place ∷ [] else [])) e, (k.next.more e).1);
@@ -63,20 +60,20 @@ job_run m sizes file tries passes v w thread position rs later on h next fresh r
     place : Place
     place = (thread, suc (ended_of thread rs))
 
-    own : HasRunAt m sizes file tries passes v w place rs later on
-    own = subst (λ (p : ℕ). HasRunAt m sizes file tries passes v w (thread, p) rs later on) (sym next) run
+    own : HasRunAt plan passes v w place rs later on
+    own = subst (λ (p : ℕ). HasRunAt plan passes v w (thread, p) rs later on) (sym next) run
 
-    k : IsOneMore m file tries passes w thread rs later on
-    k = one_more m sizes file tries passes v w thread rs later on h
-        (transaction_within file thread (ended_of thread rs) own.script own.there)
+    k : IsOneMore plan passes w thread rs later on
+    k = one_more plan passes v w thread rs later on h
+        (transaction_within plan.file thread (ended_of thread rs) own.script own.there)
         (inr (subst (λ (p : ℕ). aborted_times (thread, p) rs ≡ 0) (sym next) fresh)) own
 
     finished : finished_places later ≡ finished_places rs ++ (if on then place ∷ [] else [])
     finished = ap finished_places own.ran.whole ∙ finished_append rs own.ran.new ∙ ap (λ (l : List Place). finished_places rs ++ l) own.ran.ends
 
 -- it is handed back
-pub job_left : (m : Meaning) (file : File) (tries passes : ℕ) (v : View) (place : Place) (rs : List Record) → HasWorked m file tries v rs → IsJobRun m file tries passes v place rs rs false false
-job_left m file tries passes v place rs h = record {
+pub job_left : (plan : Plan) (passes : ℕ) (v : View) (place : Place) (rs : List Record) → HasWorked plan v rs → IsJobRun plan passes v place rs rs false false
+job_left plan passes v place rs h = record {
   worked = h;
   adds = adds_none place.0 rs;
   ended = λ e. absurd (true≢false (sym e));
@@ -182,10 +179,10 @@ serving_none tries queues number places = record {
 }
 
 -- the next transaction is the next one of its thread, and was not tried yet
-pub comes_next : (file : File) (tries queues number : ℕ) (places : List Place) (taken thread position : ℕ) (rs : List Record) (runs : Bool)
-    → IsServing tries queues number places taken rs runs → IsNextPlace file queues number (take taken places) (thread, position) → runs ≡ true
+pub comes_next : (plan : Plan) (queues number : ℕ) (places : List Place) (taken thread position : ℕ) (rs : List Record) (runs : Bool)
+    → IsServing plan.tries queues number places taken rs runs → IsNextPlace plan.file queues number (take taken places) (thread, position) → runs ≡ true
     → (suc (ended_of thread rs) ≡ position) × (aborted_times (thread, position) rs ≡ 0)
-comes_next file tries queues number places taken thread position rs runs h next on =
+comes_next plan queues number places taken thread position rs runs h next on =
     let fine = h.fine on in
     let same : ended_of thread rs ≡ length (positions_of thread (take taken places)) = ap (λ (l : List Place). length (positions_of thread l)) fine.0 in
     let e : suc (ended_of thread rs) ≡ position = ap suc same ∙ sym next.position in
@@ -195,10 +192,10 @@ take_one : (ps : List Place) (k : ℕ) (p : Place) → slice_get ps k ≡ Some p
 take_one ps k p at =
     sym (take_more ps k p (slice_get_within ps k p at) ∙ ap (λ (x : Place). take k ps ++ x ∷ []) (get_or_from_slice_get ps k p p at))
 
-pub serving_more : (m : Meaning) (file : File) (tries passes queues number : ℕ) (w : View) (places : List Place) (taken : ℕ) (place : Place) (rs later : List Record) (runs on : Bool)
-    → slice_get places taken ≡ Some place → place.0 % queues ≡ number → IsServing tries queues number places taken rs runs
-    → IsJobRun m file tries passes w place rs later runs on → IsServing tries queues number places (taken + 1) later on
-serving_more m file tries passes queues number w places taken place rs later runs on at goes h run = record {
+pub serving_more : (plan : Plan) (passes queues number : ℕ) (w : View) (places : List Place) (taken : ℕ) (place : Place) (rs later : List Record) (runs on : Bool)
+    → slice_get places taken ≡ Some place → place.0 % queues ≡ number → IsServing plan.tries queues number places taken rs runs
+    → IsJobRun plan passes w place rs later runs on → IsServing plan.tries queues number places (taken + 1) later on
+serving_more plan passes queues number w places taken place rs later runs on at goes h run = record {
   fine = λ e. fine (run.ended e);
   back = λ e. by runs e run.used run.still h.back h.fine;
   own = λ thread other. run.adds.apart thread (λ is. other (sym (ap (λ (n : ℕ). n % queues) is) ∙ goes)) (h.own thread other);
@@ -214,11 +211,11 @@ serving_more m file tries passes queues number w places taken place rs later run
       ],
     )
 
-    by : (b : Bool) → on ≡ false → (on ≡ false → b ≡ true → (finished_places later ≡ finished_places rs) × (aborted_times place later ≡ tries))
+    by : (b : Bool) → on ≡ false → (on ≡ false → b ≡ true → (finished_places later ≡ finished_places rs) × (aborted_times place later ≡ plan.tries))
         → (b ≡ false → (on ≡ false) × (later ≡ rs))
-        → (b ≡ false → (ran : ℕ) × (p : Place) × (ran < taken) × (finished_places rs ≡ take ran places) × (slice_get places ran ≡ Some p) × (aborted_times p rs ≡ tries))
+        → (b ≡ false → (ran : ℕ) × (p : Place) × (ran < taken) × (finished_places rs ≡ take ran places) × (slice_get places ran ≡ Some p) × (aborted_times p rs ≡ plan.tries))
         → (b ≡ true → (finished_places rs ≡ take taken places) × ((u : ℕ) → aborted_times (u, suc (ended_of u rs)) rs ≡ 0))
-        → (ran : ℕ) × (p : Place) × (ran < taken + 1) × (finished_places later ≡ take ran places) × (slice_get places ran ≡ Some p) × (aborted_times p later ≡ tries)
+        → (ran : ℕ) × (p : Place) × (ran < taken + 1) × (finished_places later ≡ take ran places) × (slice_get places ran ≡ Some p) × (aborted_times p later ≡ plan.tries)
     by true off used still back fine = (taken, place, omega arith, (used off refl).0 ∙ (fine refl).0, at, (used off refl).1)
     by false off used still back fine =
         let k = back refl in let same = (still refl).1 in let l = k.2 in

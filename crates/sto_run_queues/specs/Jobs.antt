@@ -1,5 +1,5 @@
 -- Which jobs go to which queue.
-use Rattle.std.specs.Prelude.{◌≡◌, ◌≤◌, ℕ, ◌%◌, List, [], ◌∷◌, ◌++◌, length, map, filter, Bool, nat_eq}
+use Rattle.std.specs.Prelude.{◌≡◌, ℕ, ◌%◌, List, [], ◌∷◌, ◌++◌, map, filter, Bool, nat_eq}
 use Rattle.sto_queue.specs.declared.job.Job.{Job}
 use Rattle.sto_queue.specs.declared.job.Job.TheVariants.{Run, Last}
 use Rattle.sto_queue.specs.Queues.{EndsWithLast}
@@ -21,6 +21,10 @@ going_to queues number order = filter (goes_to queues number) order
 -- the jobs of the queue: the transactions of an order that go to it, and the end mark
 abbrev pub jobs_for : ℕ → ℕ → List Place → List Job
 jobs_for queues number order = map run_of (going_to queues number order) ++ Last ∷ []
+
+-- those of each of so many queues
+abbrev pub all_jobs : ℕ → List Place → List (List Job)
+all_jobs queues order = map (λ number. jobs_for queues number order) (numbers_from 0 queues)
 
 -- the transactions that jobs name
 abbrev pub places_of : List Job → List Place

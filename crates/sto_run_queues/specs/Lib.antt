@@ -17,3 +17,6 @@ pub use Rattle.sto_run_threads.specs.Teams
 pub use Rattle.sto_run_threads.specs.Ran
 pub use Rattle.sto_run_threads.specs.Running
 pub use Rattle.sto_run_threads.specs.Worked
+pub use Rattle.sto_run_threads.specs.Plans
+pub use Rattle.sto_run_threads.specs.Told
+pub use Rattle.sto_run_threads.specs.Runs

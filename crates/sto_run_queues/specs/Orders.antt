@@ -1,13 +1,16 @@
 -- The order in which a feeder sends the transactions of a file.
-use Rattle.std.specs.Prelude.{◌≡◌, ◌⊎◌, ◌<◌, List}
+use Rattle.std.specs.Prelude.{◌≡◌, ◌⊎◌, ◌<◌, List, map}
 use Rattle.std.specs.List.{AllPairs}
 use Rattle.sto_run_threads.specs.Scripts.{File}
 use Rattle.sto_run_threads.specs.Orders.{Place, IsOrder}
 use Rattle.sto_run_queues.specs.declared.order.TransactionPlace as code
 
--- the transaction that a place of the code names
+-- the transaction that a place of the code names, and all of an order
 abbrev pub place_of : code.TransactionPlace → Place
 place_of p = (p.thread, p.position)
+
+abbrev pub places_in : List code.TransactionPlace → List Place
+places_in order = map place_of order
 
 -- a lower position, or the same one of a lower thread
 abbrev pub Precedes : Place → Place → Type 0

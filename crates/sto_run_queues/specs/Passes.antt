@@ -6,6 +6,8 @@ use Rattle.sto_queue.specs.declared.pass.JobQueue.{JobQueue}
 use Rattle.sto_queue.specs.declared.pass.JobPass.{JobPass}
 use Rattle.sto_queue.specs.Queues.{feeding, working}
 use Rattle.sto_queue.specs.Passes.{IsPass}
+use Rattle.sto_run_threads.specs.Orders.{Place}
+use Rattle.sto_run_queues.specs.Jobs.{jobs_for}
 
 -- all of the jobs were sent; all of them were taken
 abbrev pub all_sent : List Job → Known
@@ -23,6 +25,13 @@ pub record IsAt (queues : List JobQueue) (number : ℕ) (pass : JobPass) (v : Kn
 pub record AreAt (queues : List JobQueue) (passes : List JobPass) (v : ℕ → Known) : Type 0 where
   pub many : length passes ≡ length queues
   pub each : (number : ℕ) (p : JobPass) → number < length queues → IsAt queues number (slice_index_or passes number p) (v number)
+
+-- passes to send the transactions of an order with, to so many queues: none was sent yet, and all were
+abbrev pub AreUnsent : ℕ → List JobQueue → List JobPass → List Place → Type 0
+AreUnsent count queues feeders order = AreAt queues feeders (λ number. feeding (jobs_for count number order) 0)
+
+abbrev pub AreSent : ℕ → List JobQueue → List JobPass → List Place → Type 0
+AreSent count queues feeders order = AreAt queues feeders (λ number. all_sent (jobs_for count number order))
 
 -- passes of the queues with these numbers, which have taken all of these jobs
 abbrev pub HaveTaken : List JobQueue → List ℕ → List (List Job) → List JobPass → Type 0

@@ -1,28 +1,29 @@
 -- What workers have done that took jobs from queues.
-use Rattle.std.specs.Prelude.{◌≡◌, ◌⊎◌, ◌≤◌, ◌<◌, ℕ, ◌%◌, suc, List, [], ◌∷◌, ◌++◌, length, take, Bool, true, false, Some, slice_get}
+use Rattle.std.specs.Prelude.{◌≡◌, ◌⊎◌, ◌≤◌, ℕ, ◌%◌, suc, List, [], ◌∷◌, ◌++◌, length, map, take, Bool, true, false, Some, slice_get}
 use Rattle.std.specs.List.{All}
-use Rattle.atomic_table.specs.declared.shared.Seat.{Seat}
-use Rattle.sto_run_threads.specs.Scripts.{File}
-use Rattle.sto_run_threads.specs.Meaning.{Meaning}
+use Rattle.sto_part.specs.declared.naming.Naming as naming
 use Rattle.sto_core.specs.declared.view.View.{View}
+use Rattle.sto_core.specs.Gathered.{gathered_into}
 use Rattle.sto_claims.specs.Taken.{times}
 use Rattle.sto_run_threads.specs.Orders.{Place}
 use Rattle.sto_queue.specs.declared.job.Job.{Job}
 use Rattle.sto_queue.specs.declared.pass.JobQueue.{JobQueue}
-use Rattle.sto_queue.specs.declared.pass.JobPass.{JobPass}
 use Rattle.sto_queue.specs.Queues.{working}
 use Rattle.sto_queue.specs.Passes.{known}
-use Rattle.sto_table.specs.declared.stance.Stance.{Stance}
 use Rattle.sto_table.specs.declared.shared.Shared.{Shared}
 use Rattle.sto_table.specs.Rests.{IsOf}
 use Rattle.sto_run_threads.specs.Records.{Record}
 use Rattle.sto_run_threads.specs.Counted.{aborted_times, finished_places}
-use Rattle.sto_transaction.specs.Resting.{IsAtRest}
 use Rattle.sto_run_threads.specs.Running.{ended_of, HasNone}
 use Rattle.sto_run_threads.specs.Worked.{HasWorked, AddsTo, AbortsNone}
-use Rattle.sto_run_threads.specs.Teams.{IsReady}
+use Rattle.sto_run_threads.specs.Accounts.{HasGathered}
+use Rattle.sto_run_threads.specs.Plans.{Plan, draws_of}
+use Rattle.sto_run_threads.specs.Told.{told_in}
+use Rattle.sto_run_threads.specs.Teams.{IsReady, HasMade, view_at}
 use Rattle.sto_run_queues.specs.Jobs.{places_of, AreJobs}
 use Rattle.sto_run_queues.specs.Passes.{IsAt, HaveTaken}
+use Rattle.sto_run_queues.specs.declared.server.Server.{Server}
+use Rattle.sto_run_queues.specs.declared.server.ServingTeam.{ServingTeam}
 
 -- The records are those of a worker that took all of the jobs: the first so many transactions were run to their end, in the order of
 -- the jobs, and no other. Either these are all, or the next one used up its tries, and it and all later ones were handed back.
@@ -41,28 +42,57 @@ HaveServed tries (jobs ∷ all) rs = (first : List Record) × (later : List Reco
 abbrev pub AreFrom : ℕ → List ℕ → List Record → Type 0
 AreFrom queues numbers rs = (thread : ℕ) → times (thread % queues) numbers ≡ 0 → HasNone thread rs
 
--- a pass at rest, beside a pass of the queue with the number, of so many, that has taken nothing yet
-pub record IsPosted {T : Type 0} (s : Shared T) (queues : List JobQueue) (count : ℕ) (m : Meaning) (sizes : List ℕ) (file : File) (tries number : ℕ) (worker : JobPass) (seat : Seat (Unit {0}) Stance) : Type 0 where
-  pub ready : IsReady s m sizes file tries seat
-  pub at : IsAt queues number worker (working (known worker).jobs 0)
-  pub own : AreJobs file count number (known worker).jobs
+module _ {T : Type 0} {n : naming.Ghosts T} where
+  -- the numbers of the workers' queues, the jobs that are in them, and what the workers' passes know
+  abbrev pub numbers_of : List (Server T n) → List ℕ
+  numbers_of servers = map (λ w. w.number) servers
 
--- what workers of the queues with these numbers have done, who took these jobs
-pub record IsServed {T : Type 0} (s : Shared T) (queues : List JobQueue) (m : Meaning) (sizes : List ℕ) (file : File) (tries : ℕ) (numbers : List ℕ) (jobs : List (List Job)) (workers : List JobPass) (seat : Seat (Unit {0}) Stance) (rs : List Record) : Type 0 where
-  pub of : IsOf s seat
-  pub rests : IsAtRest m sizes seat.me.0.view
-  pub worked : HasWorked m file tries seat.me.0.view rs
-  pub own : AreFrom (length queues) numbers rs
-  -- beside no other pass no attempt was aborted
-  pub alone : s.table.shared.key.passes ≡ 1 → AbortsNone [] rs
-  pub taken : HaveTaken queues numbers jobs workers
-  pub served : HaveServed tries jobs rs
+  abbrev pub jobs_in : List (Server T n) → List (List Job)
+  jobs_in servers = map (λ w. (known w.worker).jobs) servers
+
+  abbrev pub views_of : List (Server T n) → List View
+  views_of servers = map (λ w. view_at w.rest) servers
+
+  -- no two workers take from one queue
+  abbrev pub AreApart : List (Server T n) → Type 0
+  AreApart servers = (number : ℕ) → times number (numbers_of servers) ≤ 1
+
+  -- a pass at rest, beside a pass of its queue, of so many, that has taken nothing yet
+  pub record IsPosted (s : Shared T) (queues : List JobQueue) (count : ℕ) (plan : Plan) (w : Server T n) : Type 0 where
+    pub ready : IsReady s plan w.rest
+    pub at : IsAt queues w.number w.worker (working (known w.worker).jobs 0)
+    pub own : AreJobs plan.file count w.number (known w.worker).jobs
+
+  -- that of each
+  abbrev pub ArePosted : Shared T → List JobQueue → Plan → List (Server T n) → Type 0
+  ArePosted s queues plan servers = All (IsPosted s queues (length queues) plan) servers
+
+  -- what workers of the queues with these numbers have done, who took these jobs
+  pub record IsServed (s : Shared T) (queues : List JobQueue) (plan : Plan) (numbers : List ℕ) (jobs : List (List Job)) (team : ServingTeam T n) : Type 0 where
+    pub made : HasMade s plan team.rest (told_in team.records)
+    pub own : AreFrom (length queues) numbers (told_in team.records)
+    -- beside no other pass no attempt was aborted
+    pub alone : s.table.shared.key.passes ≡ 1 → AbortsNone [] (told_in team.records)
+    pub taken : HaveTaken queues numbers jobs team.workers.items
+    pub served : HaveServed plan.tries jobs (told_in team.records)
+
+  -- two teams were gathered into one
+  pub record IsOfBoth (s : Shared T) (first other team : ServingTeam T n) : Type 0 where
+    pub of : IsOf s team.rest.seat
+    pub view : view_at team.rest ≡ gathered_into (view_at first.rest) (view_at other.rest)
+    pub records : told_in team.records ≡ told_in first.records ++ told_in other.records
+    pub workers : team.workers.items ≡ first.workers.items ++ other.workers.items
+
+  -- these workers have served their queues, and were gathered into the team
+  pub record IsTeamOf (s : Shared T) (queues : List JobQueue) (plan : Plan) (servers : List (Server T n)) (team : ServingTeam T n) : Type 0 where
+    pub served : IsServed s queues plan (numbers_of servers) (jobs_in servers) team
+    pub gathered : HasGathered (draws_of plan) (views_of servers) (view_at team.rest) (told_in team.records)
 
 -- a transaction was run, or is handed back since an earlier one was
-pub record IsJobRun (m : Meaning) (file : File) (tries passes : ℕ) (w : View) (place : Place) (rs later : List Record) (runs on : Bool) : Type 0 where
-  pub worked : HasWorked m file tries w later
+pub record IsJobRun (plan : Plan) (passes : ℕ) (w : View) (place : Place) (rs later : List Record) (runs on : Bool) : Type 0 where
+  pub worked : HasWorked plan w later
   pub adds : AddsTo place.0 rs later
   pub ended : on ≡ true → (runs ≡ true) × (finished_places later ≡ finished_places rs ++ place ∷ []) × (aborted_times (place.0, suc (ended_of place.0 later)) later ≡ 0)
-  pub used : on ≡ false → runs ≡ true → (finished_places later ≡ finished_places rs) × (aborted_times place later ≡ tries)
+  pub used : on ≡ false → runs ≡ true → (finished_places later ≡ finished_places rs) × (aborted_times place later ≡ plan.tries)
   pub still : runs ≡ false → (on ≡ false) × (later ≡ rs)
   pub alone : passes ≡ 1 → AbortsNone rs later

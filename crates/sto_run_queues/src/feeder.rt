@@ -1,9 +1,9 @@
 //! The feeder.
-ghost use Rattle.std.specs.Prelude.{◌≡◌, ◌≤◌, length, map};
+ghost use Rattle.std.specs.Prelude.{◌≤◌, length};
 ghost use Rattle.sto_queue.specs.Queues.{feeding};
-ghost use Rattle.sto_run_queues.specs.Orders.{place_of};
+ghost use Rattle.sto_run_queues.specs.Orders.{places_in};
 ghost use Rattle.sto_run_queues.specs.Jobs.{going_to, jobs_for};
-ghost use Rattle.sto_run_queues.specs.Passes.{AreAt, all_sent};
+ghost use Rattle.sto_run_queues.specs.Passes.{AreAt, AreUnsent, AreSent};
 
 use crate::jobs::queue_of;
 use crate::order::TransactionPlace;
@@ -18,9 +18,9 @@ fn send_runs<R: Wait>(
     order: &[TransactionPlace],
 )
     requires some { 1 ≤ length queues.now }
-    requires none { AreAt queues.now feeders.old.items (λ n. feeding (jobs_for (length queues.now) n (map place_of order.now)) 0) }
-    ensures { AreAt queues.now feeders.new.items (λ n. feeding (jobs_for (length queues.now) n (map place_of order.now))
-        (length (going_to (length queues.now) n (map place_of order.now)))) }
+    requires none { AreUnsent (length queues.now) queues.now feeders.old.items (places_in order.now) }
+    ensures { AreAt queues.now feeders.new.items (λ n. feeding (jobs_for (length queues.now) n (places_in order.now))
+        (length (going_to (length queues.now) n (places_in order.now)))) }
 {
     for place in order {
         let TransactionPlace { thread, position } = *place;
@@ -38,8 +38,8 @@ pub fn feed<R: Wait>(
     order: &[TransactionPlace],
 ) -> Vec<JobPass>
     requires some { 1 ≤ length queues.now }
-    requires none { AreAt queues.now feeders.items (λ n. feeding (jobs_for (length queues.now) n (map place_of order.now)) 0) }
-    ensures { AreAt queues.now result.items (λ n. all_sent (jobs_for (length queues.now) n (map place_of order.now))) }
+    requires none { AreUnsent (length queues.now) queues.now feeders.items (places_in order.now) }
+    ensures { AreSent (length queues.now) queues.now result.items (places_in order.now) }
 {
     let mut feeders = feeders;
     send_runs(rt, queues, &mut feeders, order);

@@ -1,12 +1,9 @@
 //! A whole file.
-ghost use Rattle.std.specs.Prelude.{◌≡◌, ◌≤◌, ◌+◌, ◌*◌, ◌^◌, [], map, length, IfOk};
-ghost use Rattle.std.specs.List.{All};
-ghost use Rattle.sto_run_threads.specs.Passes.{view_of};
-ghost use Rattle.sto_serializability.specs.Finished.{AreFinished};
-ghost use Rattle.sto_transaction.specs.Plain.{plain};
-ghost use Rattle.sto_transaction.specs.Resting.{IsAtRest};
-ghost use Rattle.sto_run_threads.specs.Counts.{scripts_from};
-ghost use Rattle.sto_run_threads.specs.Worked.{WasFound, AbortsNone};
+ghost use Rattle.std.specs.Prelude.{◌≡◌, ◌≤◌, [], IfOk};
+ghost use Rattle.sto_run_threads.specs.Plans.{Opens};
+ghost use Rattle.sto_run_threads.specs.Told.{told_in};
+ghost use Rattle.sto_run_threads.specs.Worked.{AbortsNone};
+ghost use Rattle.sto_run_threads.specs.Runs.{IsFinished, IsAccounted};
 
 use crate::all::serve_all;
 use crate::order::in_turn;
@@ -27,18 +24,12 @@ pub fn feed_threads<R: Threads + Wait + Sync, T: Naming + Send + Sync, W: Work<T
     workers: u32,
 ) -> Result<FinishedRun<T>, NoMemory>
     requires ready { W.ready work.now }
-    requires ty { (T.sizes ty.now ≡ W.sizes work.now) × (contents.now.items ≡ (W.meaning work.now).opened) }
-    requires valid { T.valid (T.sizes ty.now) contents.now.items }
+    requires opens { Opens (W.plan work.now) T.valid (T.sizes ty.now) contents.now.items }
     requires workers { (1 ≤ workers) × (workers ≤ 65536) }
-    requires few { W.tries work.now * scripts_from (W.file work.now).threads 0 + W.tries work.now * scripts_from (W.file work.now).threads 0
-        ≤ 2 ^ 40 }
-    ensures one { IfOk result (λ e. (length e.words.views ≡ 1) × (length e.words.statuses ≡ 1)) }
-    ensures rests { IfOk result (λ e. IsAtRest (W.meaning work.now) (W.sizes work.now) (view_of e.words 0)) }
-    ensures starts { IfOk result (λ e. (view_of e.words 0).starts ≡ length e.records.items) }
-    ensures found { IfOk result (λ e. All (WasFound (view_of e.words 0)) (map plain e.records.items)) }
-    ensures alone { IfOk result (λ e. workers ≡ 1 → AbortsNone [] (map plain e.records.items)) }
-    ensures finished { IfOk result (λ e. AreFinished (W.meaning work.now) (W.file work.now) (W.tries work.now) (view_of e.words 0)
-        (map plain e.records.items)) }
+    ensures finished { IfOk result (IsFinished (W.plan work.now)) }
+    ensures accounted { IfOk result IsAccounted }
+    // With one worker no attempt is aborted.
+    ensures alone { IfOk result (λ run. workers ≡ 1 → AbortsNone [] (told_in run.records)) }
 {
     let order = in_turn(work, alloc)?;
     let Opened { shared, rests } = open(alloc, ty, contents, workers)?;

@@ -1,6 +1,6 @@
 //! The jobs of a queue.
-ghost use Rattle.std.specs.Prelude.{◌≡◌, ◌<◌, ◌%◌, ◌++◌, [], ◌∷◌, map, IfOk, OnOk};
-ghost use Rattle.sto_run_queues.specs.Orders.{place_of};
+ghost use Rattle.std.specs.Prelude.{◌≡◌, ◌<◌, ◌%◌, ◌++◌, [], ◌∷◌, IfOk, OnOk};
+ghost use Rattle.sto_run_queues.specs.Orders.{places_in};
 ghost use Rattle.sto_run_queues.specs.Jobs.{jobs_for};
 
 use crate::order::TransactionPlace;
@@ -35,7 +35,7 @@ pub fn jobs_of(
     number: usize,
 ) -> Result<Jobs, NoMemory>
     requires { 0 < queues }
-    ensures { IfOk result (λ jobs. jobs.items ≡ jobs_for queues number (map place_of order.now)) }
+    ensures { IfOk result (λ jobs. jobs.items ≡ jobs_for queues number (places_in order.now)) }
 {
     let mut jobs = Vec::new(alloc);
     for place in order {

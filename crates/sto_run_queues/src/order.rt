@@ -1,8 +1,9 @@
 //! The order in which a feeder sends the transactions of a file.
-ghost use Rattle.std.specs.Prelude.{◌≡◌, ◌≤◌, ◌<◌, ◌++◌, ℕ, [], ◌∷◌, if◌then◌else◌, nat_le, map, IfOk, OnOk};
+ghost use Rattle.std.specs.Prelude.{◌≡◌, ◌≤◌, ◌<◌, ◌++◌, ℕ, [], ◌∷◌, if◌then◌else◌, nat_le, IfOk, OnOk};
 ghost use Rattle.std.specs.List.{All, AllPairs};
-ghost use Rattle.sto_run_threads.specs.Orders.{count_in, positions_of};
-ghost use Rattle.sto_run_queues.specs.Orders.{place_of, Precedes, AreInTurn};
+ghost use Rattle.sto_run_threads.specs.Orders.{positions_of};
+ghost use Rattle.sto_run_queues.specs.Orders.{places_in, Precedes, AreInTurn};
+ghost use Rattle.sto_run_threads.specs.Plans.{transaction_count};
 
 use std::alloc::Global;
 use sto_part::{Naming, NoMemory};
@@ -17,7 +18,7 @@ pub struct TransactionPlace {
 
 // How many transactions a thread has at most.
 fn longest<T: Naming, W: Work<T>>(work: &W) -> u32
-    ensures { (thread : ℕ) → count_in (W.file work.now).threads thread ≤ result }
+    ensures { (thread : ℕ) → transaction_count (W.plan work.now) thread ≤ result }
 {
     let mut longest = 0;
     for thread in 0..work.threads() {
@@ -34,12 +35,12 @@ fn add_round<T: Naming, W: Work<T>>(
 ) -> Result<(), NoMemory>
     requires some { 1 ≤ position }
     requires earlier { All (λ p. p.position < position) order.old.items }
-    requires rising { AllPairs Precedes (map place_of order.old.items) }
+    requires rising { AllPairs Precedes (places_in order.old.items) }
     ensures later { OnOk result (All (λ p. p.position ≤ position) order.new.items) }
-    ensures rising { OnOk result (AllPairs Precedes (map place_of order.new.items)) }
-    ensures each { OnOk result ((thread : ℕ) → positions_of thread (map place_of order.new.items)
-        ≡ positions_of thread (map place_of order.old.items)
-        ++ (if nat_le position (count_in (W.file work.now).threads thread) then position ∷ [] else [])) }
+    ensures rising { OnOk result (AllPairs Precedes (places_in order.new.items)) }
+    ensures each { OnOk result ((thread : ℕ) → positions_of thread (places_in order.new.items)
+        ≡ positions_of thread (places_in order.old.items)
+        ++ (if nat_le position (transaction_count (W.plan work.now) thread) then position ∷ [] else [])) }
 {
     for thread in 0..work.threads() {
         if position <= work.count(thread) {
@@ -57,7 +58,7 @@ pub fn in_turn<T: Naming, W: Work<T>>(
     work: &W,
     alloc: Global,
 ) -> Result<Vec<TransactionPlace>, NoMemory>
-    ensures { IfOk result (λ order. AreInTurn (W.file work.now) (map place_of order.items)) }
+    ensures { IfOk result (λ order. AreInTurn (W.plan work.now).file (places_in order.items)) }
 {
     let mut order = Vec::new(alloc);
     for earlier in 0..longest(work) {

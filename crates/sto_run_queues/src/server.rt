@@ -1,16 +1,15 @@
 //! A worker: one pass, and one queue to take from.
-ghost use Rattle.std.specs.Prelude.{◌≡◌, ◌≤◌, ◌+◌, ◌*◌, [], ◌∷◌, length, true, suc, Some, slice_get, map, IfOk, OnOk};
+ghost use Rattle.std.specs.Prelude.{◌≡◌, ◌+◌, [], ◌∷◌, length, true, suc, Some, slice_get, IfOk, OnOk};
 ghost use Rattle.sto_queue.specs.Passes.{IsPass, known};
 ghost use Rattle.sto_queue.specs.Queues.{working};
 ghost use Rattle.sto_run_threads.specs.Counted.{aborted_times};
-ghost use Rattle.sto_transaction.specs.Plain.{plain};
-ghost use Rattle.sto_transaction.specs.Resting.{IsAtRest};
-ghost use Rattle.sto_run_threads.specs.Accounts.{AddsUp, HasGathered};
-ghost use Rattle.sto_run_threads.specs.Counts.{scripts_from};
+ghost use Rattle.sto_run_threads.specs.Plans.{MayDraw};
+ghost use Rattle.sto_run_threads.specs.Told.{told_in};
+ghost use Rattle.sto_run_threads.specs.Accounts.{Leads};
 ghost use Rattle.sto_run_threads.specs.Ran.{IsTransaction};
 ghost use Rattle.sto_run_threads.specs.Running.{ended_of};
 ghost use Rattle.sto_run_threads.specs.Worked.{HasWorked};
-ghost use Rattle.sto_run_queues.specs.Served.{IsPosted, IsServed, IsJobRun};
+ghost use Rattle.sto_run_queues.specs.Served.{IsPosted, IsTeamOf, IsJobRun};
 
 use crossbeam_utils::Backoff;
 use std::alloc::Global;
@@ -70,19 +69,16 @@ fn serve_one<T: Naming, W: Work<T>, C: Cells<T>>(
     runs: bool,
 ) -> Result<bool, NoMemory>
     requires ready { W.ready work.now }
-    requires there { IsTransaction (W.file work.now) (thread, position) }
-    requires next { runs ≡ true → (suc (ended_of thread (map plain records.old.items)) ≡ position)
-        × (aborted_times (thread, position) (map plain records.old.items) ≡ 0) }
-    requires rests { IsAtRest (W.meaning work.now) (W.sizes work.now) (C.view cells.old) }
-    requires draws { W.tries work.now ≤ (C.view cells.old).draws }
-    requires worked { HasWorked (W.meaning work.now) (W.file work.now) (W.tries work.now) (C.view cells.old) (map plain records.old.items) }
+    requires there { IsTransaction (W.plan work.now).file (thread, position) }
+    requires next { runs ≡ true → (suc (ended_of thread (told_in records.old)) ≡ position)
+        × (aborted_times (thread, position) (told_in records.old) ≡ 0) }
+    requires free { MayDraw (W.plan work.now) (W.plan work.now).tries (C.view cells.old) }
+    requires worked { HasWorked (W.plan work.now) (C.view cells.old) (told_in records.old) }
     ensures same { C.same cells.old cells.new }
-    ensures rests { OnOk result (IsAtRest (W.meaning work.now) (W.sizes work.now) (C.view cells.new)) }
-    ensures draws { OnOk result ((C.view cells.old).draws ≤ (C.view cells.new).draws + W.tries work.now) }
-    ensures adds_up { OnOk result (AddsUp (C.view cells.old) (C.view cells.new) (map plain records.old.items)
-        (map plain records.new.items)) }
-    ensures ran { IfOk result (λ on. IsJobRun (W.meaning work.now) (W.file work.now) (W.tries work.now) (C.passes cells.old)
-        (C.view cells.new) (thread, position) (map plain records.old.items) (map plain records.new.items) runs on) }
+    ensures leads { OnOk result (Leads (W.plan work.now) (W.plan work.now).tries (C.view cells.old) (C.view cells.new)
+        (told_in records.old) (told_in records.new)) }
+    ensures ran { IfOk result (IsJobRun (W.plan work.now) (C.passes cells.old) (C.view cells.new)
+        (thread, position) (told_in records.old) (told_in records.new) runs) }
 {
     if runs {
         work.run_one(alloc, cells, thread, position, memory, records)
@@ -102,12 +98,8 @@ pub fn serve<R: Wait, T: Naming, W: Work<T>>(
     server: Server<T>,
 ) -> Result<ServingTeam<T>, NoMemory>
     requires ready { W.ready work.now }
-    requires posted { IsPosted shared.now queues.now (length queues.now) (W.meaning work.now) (W.sizes work.now) (W.file work.now)
-        (W.tries work.now) server.number server.worker server.rest.seat }
-    ensures served { IfOk result (λ c. IsServed shared.now queues.now (W.meaning work.now) (W.sizes work.now) (W.file work.now)
-        (W.tries work.now) (server.number ∷ []) ((known server.worker).jobs ∷ []) c.workers.items c.rest.seat (map plain c.records.items)) }
-    ensures gathered { IfOk result (λ c. HasGathered (W.tries work.now * scripts_from (W.file work.now).threads 0)
-        (server.rest.seat.me.0.view ∷ []) c.rest.seat.me.0.view (map plain c.records.items)) }
+    requires posted { IsPosted shared.now queues.now (length queues.now) (W.plan work.now) server }
+    ensures team { IfOk result (IsTeamOf shared.now queues.now (W.plan work.now) (server ∷ [])) }
 {
     let Server {
         number,

@@ -1,16 +1,13 @@
 //! Queues with the workers that take from them.
 ghost use Rattle.std.specs.Prelude.{◌≡◌, ◌++◌, [], ◌∷◌, length, map, IfOk, OnOk};
 ghost use Rattle.std.specs.List.{All};
-ghost use Rattle.sto_run_threads.specs.Scripts.{File};
 ghost use Rattle.sto_run_threads.specs.Orders.{IsOrder, numbers_from};
-ghost use Rattle.sto_queue.specs.Passes.{known};
-ghost use Rattle.sto_queue.specs.Queues.{feeding};
-ghost use Rattle.sto_run_threads.specs.Accounts.{HasGathered};
-ghost use Rattle.sto_run_threads.specs.Teams.{IsReady};
-ghost use Rattle.sto_run_queues.specs.Orders.{place_of};
-ghost use Rattle.sto_run_queues.specs.Jobs.{jobs_for};
-ghost use Rattle.sto_run_queues.specs.Passes.{AreAt};
-ghost use Rattle.sto_run_queues.specs.Served.{IsPosted};
+ghost use Rattle.sto_run_threads.specs.Accounts.{Gathers};
+ghost use Rattle.sto_run_threads.specs.Teams.{IsReady, view_at};
+ghost use Rattle.sto_run_queues.specs.Orders.{places_in};
+ghost use Rattle.sto_run_queues.specs.Jobs.{all_jobs};
+ghost use Rattle.sto_run_queues.specs.Passes.{AreUnsent};
+ghost use Rattle.sto_run_queues.specs.Served.{ArePosted, numbers_of, jobs_in, views_of};
 
 use crate::jobs::jobs_of;
 use crate::order::TransactionPlace;
@@ -37,20 +34,14 @@ pub fn open_stations<T: Naming, W: Work<T>>(
     order: &[TransactionPlace],
     rests: Rests<T>,
 ) -> Result<Stations<T>, NoMemory>
-    requires order { IsOrder (W.file work.now) (map place_of order.now) }
-    requires ready { All (λ r. IsReady shared.now (W.meaning work.now) (W.sizes work.now) (W.file work.now) (W.tries work.now) r.seat)
-        rests.items }
+    requires order { IsOrder (W.plan work.now).file (places_in order.now) }
+    requires ready { All (IsReady shared.now (W.plan work.now)) rests.items }
     ensures queues { IfOk result (λ s. length s.queues.items ≡ length rests.items) }
-    ensures feeders { IfOk result (λ s. AreAt s.queues.items s.feeders.items
-        (λ n. feeding (jobs_for (length rests.items) n (map place_of order.now)) 0)) }
-    ensures posted { IfOk result (λ s. All (λ w. IsPosted shared.now s.queues.items (length s.queues.items) (W.meaning work.now)
-        (W.sizes work.now) (W.file work.now) (W.tries work.now) w.number w.worker w.rest.seat) s.servers.items) }
-    ensures numbers { IfOk result (λ s. map (λ w. w.number) s.servers.items ≡ numbers_from 0 (length rests.items)) }
-    ensures jobs { IfOk result (λ s. map (λ w. (known w.worker).jobs) s.servers.items
-        ≡ map (λ n. jobs_for (length rests.items) n (map place_of order.now)) (numbers_from 0 (length rests.items))) }
-    ensures gathered { IfOk result (λ s. (need : _) (v : _) (rs : _)
-        → HasGathered need (map (λ w. w.rest.seat.me.0.view) s.servers.items) v rs
-        → HasGathered need (map (λ r. r.seat.me.0.view) rests.items) v rs) }
+    ensures feeders { IfOk result (λ s. AreUnsent (length rests.items) s.queues.items s.feeders.items (places_in order.now)) }
+    ensures posted { IfOk result (λ s. ArePosted shared.now s.queues.items (W.plan work.now) s.servers.items) }
+    ensures numbers { IfOk result (λ s. numbers_of s.servers.items ≡ numbers_from 0 (length rests.items)) }
+    ensures jobs { IfOk result (λ s. jobs_in s.servers.items ≡ all_jobs (length rests.items) (places_in order.now)) }
+    ensures gathered { IfOk result (λ s. Gathers (views_of s.servers.items) (map view_at rests.items)) }
 {
     let mut rests = rests;
     let count = rests.len() as usize;

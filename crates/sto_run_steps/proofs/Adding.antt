@@ -3,7 +3,6 @@ use Rattle.std.specs.Prelude.{◌&&◌, if◌then◌else◌, ◌==◌, not}
 use Rattle.std.proofs.Common.{◌≡◌, ℕ, suc, ◌+◌, ◌-◌, ◌<◌, ◌≤◌, List, [], ◌∷◌, ◌++◌, map, length, refl, sym, ap, ◌∙◌, subst, arith, Bool, true, false, true≢false, cond, eq-eqb}
 use Rattle.std.proofs.lemmas.List.Elements.{All-cons, All-nil}
 use Rattle.sto_model.specs.Run.{Script as Steps}
-use Rattle.sto_lang.specs.Scripts.{File}
 use Rattle.sto_script.specs.Meaning.{meaning_of}
 use Rattle.sto_type.specs.Meaning.{Meaning}
 use Rattle.sto_core.specs.declared.view.View.{View}
@@ -22,6 +21,7 @@ use Rattle.sto_run_threads.proofs.Runs.{next_more}
 use Rattle.sto_run_steps.specs.Stepped.{HasMadeOne}
 use Rattle.sto_run_steps.specs.Seated.{IsBetween}
 use Rattle.sto_run_steps.proofs.Counting.{fewer_tries, fewer_transactions}
+use Rattle.sto_run_threads.specs.Plans.{Plan}
 
 counted : (a b c : Bool) → a ≡ true → b ≡ true → c ≡ true → ◌≡◌ {A = ℕ} ((if a && (b && c) then 1 else 0) + 0) 1
 counted true true true p q r = refl
@@ -63,25 +63,25 @@ finished_by b r is = ap (λ (c : Bool). map (λ (x : Record). x.place) (cond (no
     by true = refl
     by false = refl
 
-module _ (m : Meaning) (sizes : List ℕ) (file : File) (tries passes thread ended left : ℕ) (v w : View) (rs : List Record) (r : Record)
-    (h : IsBetween m sizes file tries passes thread ended left rs v) (next : ended < count_in file.threads thread) (again : 1 ≤ left)
-    (made : HasMadeOne m sizes file passes (thread, ended + 1) v w r) where
+module _ (plan : Plan) (passes thread ended left : ℕ) (v w : View) (rs : List Record) (r : Record)
+    (h : IsBetween plan passes thread ended left rs v) (next : ended < count_in plan.file.threads thread) (again : 1 ≤ left)
+    (made : HasMadeOne plan passes (thread, ended + 1) v w r) where
   -- at the position after those that have ended
-  here : HasMadeOne m sizes file passes (thread, suc (ended_of thread rs)) v w r
-  here = subst (λ (p : ℕ). HasMadeOne m sizes file passes (thread, p) v w r) (let e = h.so_many in omega (arith, e)) made
+  here : HasMadeOne plan passes (thread, suc (ended_of thread rs)) v w r
+  here = subst (λ (p : ℕ). HasMadeOne plan passes (thread, p) v w r) (let e = h.so_many in omega (arith, e)) made
 
   few : (b : Bool) → is_abort r.verdict ≡ b → aborted_times (thread, suc (ended_of thread rs)) (r ∷ []) ≤ 1
   few true is = let a = aborted_one (thread, suc (ended_of thread rs)) r here.tried.added.placed is in omega (arith, a)
   few false is = let a = ended_one (thread, suc (ended_of thread rs)) r is in omega (arith, a)
 
-  tried : aborted_times (thread, suc (ended_of thread rs)) rs + left ≡ tries
-  tried = subst (λ (n : ℕ). aborted_times (thread, suc n) rs + left ≡ tries) (sym h.so_many) h.tried
+  tried : aborted_times (thread, suc (ended_of thread rs)) rs + left ≡ plan.tries
+  tried = subst (λ (n : ℕ). aborted_times (thread, suc n) rs + left ≡ plan.tries) (sym h.so_many) h.tried
 
-  longer : (b : Bool) → is_abort r.verdict ≡ b → IsNext m file tries w thread rs (rs ++ r ∷ []) (not b)
+  longer : (b : Bool) → is_abort r.verdict ≡ b → IsNext plan w thread rs (rs ++ r ∷ []) (not b)
   longer b is =
-      next_more m file tries v w thread rs (r ∷ []) here.script (not b) h.worked (let e = h.so_many in omega (arith, e, next)) here.there
-      (one_added m tries v w (meaning_of here.script) (thread, suc (ended_of thread rs)) r (let a = few b is in let t = tried in omega (arith, a, t, again)) here.tried)
-      (one_found m v w (meaning_of here.script) (thread, suc (ended_of thread rs)) r here.tried)
+      next_more plan v w thread rs (r ∷ []) here.script (not b) h.worked (let e = h.so_many in omega (arith, e, next)) here.there
+      (one_added plan.meaning plan.tries v w (meaning_of here.script) (thread, suc (ended_of thread rs)) r (let a = few b is in let t = tried in omega (arith, a, t, again)) here.tried)
+      (one_found plan.meaning v w (meaning_of here.script) (thread, suc (ended_of thread rs)) r here.tried)
       (let a = few b is in let t = tried in omega (arith, a, t, again))
       (finished_by b r is ∙ at_place b)
     where
@@ -93,7 +93,7 @@ module _ (m : Meaning) (sizes : List ℕ) (file : File) (tries passes thread end
   one_start = let a = h.starts in let b = here.tried.starts in let c = snoc_length rs r in omega (arith, a, b, c)
 
   -- the attempt was aborted
-  pub kept_aborted : (later : ℕ) → is_abort r.verdict ≡ true → later + 1 ≡ left → IsBetween m sizes file tries passes thread ended later (rs ++ r ∷ []) w
+  pub kept_aborted : (later : ℕ) → is_abort r.verdict ≡ true → later + 1 ≡ left → IsBetween plan passes thread ended later (rs ++ r ∷ []) w
   kept_aborted later is used =
       let k = longer true is in record {
         rests = here.rests;
@@ -106,12 +106,12 @@ module _ (m : Meaning) (sizes : List ℕ) (file : File) (tries passes thread end
             let b = aborted_one (thread, suc ended) r (here.tried.added.placed ∙ ap (λ (n : ℕ). (thread, suc n)) h.so_many) is in
             let c = h.tried in omega (arith, a, b, c, used));
         draws = (let a = h.draws in let b = here.tried.draws in
-            let c = fewer_tries tries left later (count_in file.threads thread - ended) (omega (arith, next)) used in omega (arith, a, b, c));
+            let c = fewer_tries plan.tries left later (count_in plan.file.threads thread - ended) (omega (arith, next)) used in omega (arith, a, b, c));
         alone = λ one. absurd (true≢false (sym is ∙ here.alone one));
       }
 
   -- the transaction has ended
-  pub kept_ended : is_abort r.verdict ≡ false → IsBetween m sizes file tries passes thread (ended + 1) tries (rs ++ r ∷ []) w
+  pub kept_ended : is_abort r.verdict ≡ false → IsBetween plan passes thread (ended + 1) plan.tries (rs ++ r ∷ []) w
   kept_ended is =
       let k = longer false is in record {
         rests = here.rests;
@@ -123,6 +123,6 @@ module _ (m : Meaning) (sizes : List ℕ) (file : File) (tries passes thread end
         tried = (let a = subst (λ (n : ℕ). aborted_times (thread, suc n) (rs ++ r ∷ []) ≡ 0)
             (let a = (k.more refl).0 in let b = h.so_many in let e : ended_of thread (rs ++ r ∷ []) ≡ ended + 1 = omega (arith, a, b) in e) (k.more refl).1 in omega (arith, a));
         draws = (let a = h.draws in let b = here.tried.draws in
-            let c = fewer_transactions tries left (count_in file.threads thread) ended next in omega (arith, a, b, c, again));
+            let c = fewer_transactions plan.tries left (count_in plan.file.threads thread) ended next in omega (arith, a, b, c, again));
         alone = λ one place. (let a = aborted_append place rs (r ∷ []) in let b = ended_one place r is in let c = h.alone one place in omega (arith, a, b, c));
       }

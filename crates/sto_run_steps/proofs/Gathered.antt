@@ -4,8 +4,6 @@ use Rattle.std.specs.List.{flat_map}
 use Rattle.std.proofs.Common.{◌≡◌, ℕ, zero, suc, ◌+◌, ◌<◌, ◌≤◌, List, [], ◌∷◌, ◌++◌, length, refl, ap, subst, arith, inl, inr, ne_eqb}
 use Rattle.std.proofs.lemmas.Bool.{cases_eq}
 use mathlib.Core.Option.{some-injective}
-use Rattle.sto_lang.specs.Scripts.{File}
-use Rattle.sto_type.specs.Meaning.{Meaning}
 use Rattle.sto_core.specs.declared.view.Entry.{Entry}
 use Rattle.sto_core.specs.declared.view.Fate.TheVariants.{Pending}
 use Rattle.sto_core.specs.declared.view.View.{View}
@@ -21,33 +19,33 @@ use Rattle.sto_attempt_facts.specs.Records.{Record, times_written}
 use Rattle.sto_attempt_facts.specs.Counted.{times_committed}
 use Rattle.sto_attempt_facts.specs.Added.{Grows}
 use Rattle.sto_attempt_facts.proofs.Progress.{committed_append}
-use Rattle.sto_transaction.specs.Resting.{IsAtRest}
 use Rattle.sto_serializability.proofs.Working.{times_append, aborted_append}
 use Rattle.sto_serializability.proofs.Gathering.{later_record}
 use Rattle.sto_run_threads.specs.Running.{HasNone}
 use Rattle.sto_run_threads.specs.Worked.{HasWorked, AreOf, AbortsNone}
 use Rattle.sto_run_threads.proofs.Found.{all_found_later}
 use Rattle.sto_run_threads.proofs.Joined.{once_self, nothing_of, none_worked, gathered_worked, gathered_of}
+use Rattle.sto_run_threads.specs.Plans.{Plan, Rests}
 
 -- a pass at rest has made these records, all of the thread
-pub record HasRested (m : Meaning) (sizes : List ℕ) (file : File) (tries passes need thread : ℕ) (v : View) (rs : List Record) : Type 0 where
-  pub rests : IsAtRest m sizes v
-  pub worked : HasWorked m file tries v rs
+pub record HasRested (plan : Plan) (passes need thread : ℕ) (v : View) (rs : List Record) : Type 0 where
+  pub rests : Rests plan v
+  pub worked : HasWorked plan v rs
   pub tickets : (t : ℕ) → times_written t rs ≡ times_committed t v.entries
   pub own : (u : ℕ) → (thread ≡ u → ⊥) → HasNone u rs
   pub draws : need ≤ v.draws
   pub alone : passes ≡ 1 → AbortsNone [] rs
 
 -- each of these passes has; their threads are numbered from the first on
-abbrev pub HaveRested : {X : Type 0} → (X → List Record) → Meaning → List ℕ → File → (tries passes need : ℕ) → ℕ → List View → List X → Type 0
-HaveRested R m sizes file tries passes need first [] [] = Unit {0}
-HaveRested R m sizes file tries passes need first [] (x ∷ xs) = ⊥
-HaveRested R m sizes file tries passes need first (v ∷ vs) [] = ⊥
-HaveRested R m sizes file tries passes need first (v ∷ vs) (x ∷ xs) = HasRested m sizes file tries passes need first v (R x) × HaveRested R m sizes file tries passes need (suc first) vs xs
+abbrev pub HaveRested : {X : Type 0} → (X → List Record) → Plan → (passes need first : ℕ) → List View → List X → Type 0
+HaveRested R plan passes need first [] [] = Unit {0}
+HaveRested R plan passes need first [] (x ∷ xs) = ⊥
+HaveRested R plan passes need first (v ∷ vs) [] = ⊥
+HaveRested R plan passes need first (v ∷ vs) (x ∷ xs) = HasRested plan passes need first v (R x) × HaveRested R plan passes need (suc first) vs xs
 
 -- what the one view knows that has gathered them
-pub record AreGathered (m : Meaning) (file : File) (tries passes need first : ℕ) (w : View) (views : List View) (rs : List Record) : Type 0 where
-  pub worked : HasWorked m file tries w rs
+pub record AreGathered (plan : Plan) (passes need first : ℕ) (w : View) (views : List View) (rs : List Record) : Type 0 where
+  pub worked : HasWorked plan w rs
   pub tickets : (t : ℕ) → times_written t rs ≡ times_committed t w.entries
   pub own : AreOf (numbers_from first (length views)) rs
   pub settled : Each (λ (e : Entry). e.fate ≡ Pending → ⊥) w.entries
@@ -83,9 +81,9 @@ apart_from first n x = elim (cases_eq x first) [
     ]
 
 -- a view that knows what another knows
-worked_later : (m : Meaning) (file : File) (tries : ℕ) (v w : View) (rs : List Record) → Grows v w → HasWorked m file tries v rs → HasWorked m file tries w rs
-worked_later m file tries v w rs g h = record {
-  so_far = record { threads = h.so_far.threads; few = h.so_far.few; each = later_record m file v w g rs h.so_far.each };
+worked_later : (plan : Plan) (v w : View) (rs : List Record) → Grows v w → HasWorked plan v rs → HasWorked plan w rs
+worked_later plan v w rs g h = record {
+  so_far = record { threads = h.so_far.threads; few = h.so_far.few; each = later_record plan.meaning plan.file v w g rs h.so_far.each };
   found = all_found_later v w rs g h.found;
   under_way = h.under_way;
 }
@@ -107,11 +105,11 @@ each_more P x xs p h (suc j) y at = h j y at
 of_one : (first : ℕ) (rs : List Record) → ((u : ℕ) → (first ≡ u → ⊥) → HasNone u rs) → AreOf (first ∷ []) rs
 of_one first rs own u none = own u (λ same. absurd (let e = ap (λ (x : ℕ). times u (x ∷ [])) same in let o = once_self u in omega (arith, none, e, o)))
 
-module _ {X : Type 0} (R : X → List Record) (m : Meaning) (sizes : List ℕ) (file : File) (tries passes need : ℕ) where
-  pub gathered : (of_sizes : List ℕ) (opening : Contents) (first : ℕ) (views : List View) (xs : List X) → HaveRested R m sizes file tries passes need first views xs
-      → AreGathered m file tries passes need first (reopened_view of_sizes opening views) views (flat_map R xs)
+module _ {X : Type 0} (R : X → List Record) (plan : Plan) (passes need : ℕ) where
+  pub gathered : (of_sizes : List ℕ) (opening : Contents) (first : ℕ) (views : List View) (xs : List X) → HaveRested R plan passes need first views xs
+      → AreGathered plan passes need first (reopened_view of_sizes opening views) views (flat_map R xs)
   gathered of_sizes opening first [] [] h = record {
-    worked = none_worked m file tries (reopened_view of_sizes opening []) [] refl;
+    worked = none_worked plan (reopened_view of_sizes opening []) [] refl;
     tickets = λ t. refl;
     own = nothing_of [] refl;
     settled = each_nothing (λ (e : Entry). e.fate ≡ Pending → ⊥);
@@ -123,9 +121,9 @@ module _ {X : Type 0} (R : X → List Record) (m : Meaning) (sizes : List ℕ) (
   gathered of_sizes opening first (v ∷ vs) (x ∷ xs) h =
       let k = gathered of_sizes opening (suc first) vs xs h.1 in
       let own = of_one first (R x) h.0.own in record {
-        worked = worked_later m file tries (gathered_into v (reopened_view of_sizes opening vs)) (reopened_view of_sizes opening (v ∷ vs)) (R x ++ flat_map R xs)
+        worked = worked_later plan (gathered_into v (reopened_view of_sizes opening vs)) (reopened_view of_sizes opening (v ∷ vs)) (R x ++ flat_map R xs)
             (reopened_more of_sizes opening v vs)
-            (gathered_worked m file tries v (reopened_view of_sizes opening vs) (first ∷ []) (numbers_from (suc first) (length vs)) (R x) (flat_map R xs)
+            (gathered_worked plan v (reopened_view of_sizes opening vs) (first ∷ []) (numbers_from (suc first) (length vs)) (R x) (flat_map R xs)
             (apart_from first (length vs)) own k.own h.0.worked k.worked);
         tickets = λ t. (let a = times_append t (R x) (flat_map R xs) in let b = committed_append t v.entries (reopened_view of_sizes opening vs).entries in
             let c = h.0.tickets t in let d = k.tickets t in omega (arith, a, b, c, d));
@@ -136,7 +134,7 @@ module _ {X : Type 0} (R : X → List Record) (m : Meaning) (sizes : List ℕ) (
       }
 
   -- all are idle
-  pub all_idle : (first : ℕ) (views : List View) (xs : List X) → HaveRested R m sizes file tries passes need first views xs → Each (λ (v : View). IsIdle v.phase) views
+  pub all_idle : (first : ℕ) (views : List View) (xs : List X) → HaveRested R plan passes need first views xs → Each (λ (v : View). IsIdle v.phase) views
   all_idle first [] [] h = each_nothing (λ (v : View). IsIdle v.phase)
   all_idle first [] (x ∷ xs) h = absurd h
   all_idle first (v ∷ vs) [] h = absurd h

@@ -1,13 +1,11 @@
 -- Threads that are all over: their words are closed and reopened.
 use Rattle.std.specs.Prelude.{nat_lt, if◌then◌else◌, slice_get, Some, None, Option}
 use Rattle.std.specs.List.{flat_map}
-use Rattle.std.proofs.Common.{◌≡◌, ℕ, suc, ◌+◌, ◌*◌, ◌<◌, ◌≤◌, List, [], ◌∷◌, ◌++◌, map, length, refl, sym, ap, ◌∙◌, subst, arith, Bool, true, false, inl, inr}
+use Rattle.std.proofs.Common.{◌≡◌, ℕ, suc, ◌+◌, ◌<◌, ◌≤◌, List, [], ◌∷◌, ◌++◌, map, length, refl, sym, ap, ◌∙◌, subst, arith, Bool, true, false, inl, inr}
 use Rattle.std.proofs.lemmas.Bool.{cases_eq}
 use Rattle.std.proofs.lemmas.Bool.Decides.{nat_tests}
 use Rattle.std.proofs.lemmas.List.{map-append}
 use Rattle.std.proofs.lemmas.Option.{slice_get_within}
-use Rattle.sto_lang.specs.Scripts.{File}
-use Rattle.sto_type.specs.Meaning.{Meaning}
 use Rattle.sto_core.specs.declared.view.View.{View}
 use Rattle.sto_core.specs.Allowed.{IsIdle}
 use Rattle.sto_core.specs.Closed.{ClosedWords, closed_core, live_view, reopened_from, AreClosed}
@@ -20,29 +18,28 @@ use Rattle.sto_run_threads.specs.Orders.{Place}
 use Rattle.sto_attempt_facts.specs.Records.{Record, times_written}
 use Rattle.sto_attempt_facts.specs.Counted.{times_committed}
 use Rattle.sto_transaction.specs.Plain.{plain}
-use Rattle.sto_transaction.specs.Resting.{IsAtRest}
-use Rattle.sto_run_threads.specs.Counts.{scripts_from}
 use Rattle.sto_run_threads.specs.Worked.{HasWorked, AbortsNone}
-use Rattle.sto_run_steps.specs.Seated.{IsBetween, IsWithin, IsAt, IsSeated, IsOver, AreSeated, AreOver, records_of}
+use Rattle.sto_run_steps.specs.Seated.{IsBetween, IsAt, IsSeated, IsOver, AreSeated, AreOver, records_of, WithinAt, BetweenAt}
 use Rattle.sto_run_steps.specs.declared.seat.Seat.{Seat}
 use Rattle.sto_run_steps.proofs.Gathered.{HasRested, HaveRested, gathered, all_idle}
+use Rattle.sto_run_threads.specs.Plans.{Plan, Rests, draws_of}
 
 -- a thread that is over runs no attempt
-over_between : {M : Type 0} (m : Meaning) (sizes : List ℕ) (file : File) (tries passes : ℕ) (fits : Place → M → View → View → Type 0) (thread : ℕ) (v : View) (s : Seat M)
-    → IsSeated m sizes file tries passes fits thread v s → IsOver s → IsBetween m sizes file tries passes thread s.ended s.left (records_of s) v
-over_between {M} m sizes file tries passes fits thread v s h over = by s.trial h.at
+over_between : {M : Type 0} (plan : Plan) (fits : ℕ → Place → M → View → View → Type 0) (passes thread : ℕ) (v : View) (s : Seat M)
+    → IsSeated plan fits passes thread v s → IsOver s → BetweenAt plan passes thread s v
+over_between {M} plan fits passes thread v s h over = by s.trial h.at
   where
-    by : (o : Option M) → IsAt (IsBetween m sizes file tries passes thread s.ended s.left (records_of s)) (IsWithin m sizes file tries passes thread s.ended s.left (records_of s) (fits (thread, s.ended + 1))) o v
-        → IsBetween m sizes file tries passes thread s.ended s.left (records_of s) v
+    by : (o : Option M) → IsAt (BetweenAt plan passes thread s) (WithinAt plan fits passes thread s) o v
+        → BetweenAt plan passes thread s v
     by None k = k
     by (Some trial) k = absurd (elim over [
       | inl all ↦ (let a = h.counted in let b = k.next in omega (arith, all, a, b))
       | inr none ↦ (let b = k.again in omega (arith, none, b))
     ])
 
-rested : (m : Meaning) (sizes : List ℕ) (file : File) (tries passes thread ended left : ℕ) (rs : List Record) (v : View)
-    → IsBetween m sizes file tries passes thread ended left rs v → HasRested m sizes file tries passes (tries * scripts_from file.threads 0) thread v rs
-rested m sizes file tries passes thread ended left rs v h = record {
+rested : (plan : Plan) (passes thread ended left : ℕ) (rs : List Record) (v : View)
+    → IsBetween plan passes thread ended left rs v → HasRested plan passes (draws_of plan) thread v rs
+rested plan passes thread ended left rs v h = record {
   rests = h.rests;
   worked = h.worked;
   tickets = h.tickets;
@@ -52,30 +49,30 @@ rested m sizes file tries passes thread ended left rs v h = record {
 }
 
 -- what holds at each place holds of all
-all_rested : {X : Type 0} (R : X → List Record) (m : Meaning) (sizes : List ℕ) (file : File) (tries passes need first : ℕ) (views : List View) (xs : List X) → length views ≡ length xs
-    → ((i : ℕ) (x : X) → slice_get xs i ≡ Some x → HasRested m sizes file tries passes need (first + i) (view_at views i) (R x)) → HaveRested R m sizes file tries passes need first views xs
-all_rested R m sizes file tries passes need first [] [] long h = tt
-all_rested R m sizes file tries passes need first [] (x ∷ xs) long h = absurd (omega (arith, long))
-all_rested R m sizes file tries passes need first (v ∷ vs) [] long h = absurd (omega (arith, long))
-all_rested {X} R m sizes file tries passes need first (v ∷ vs) (x ∷ xs) long h = (
-  subst (λ (n : ℕ). HasRested m sizes file tries passes need n v (R x)) (omega arith) (h 0 x refl),
-  all_rested R m sizes file tries passes need (suc first) vs xs (omega (arith, long)) rest,
+all_rested : {X : Type 0} (R : X → List Record) (plan : Plan) (passes need first : ℕ) (views : List View) (xs : List X) → length views ≡ length xs
+    → ((i : ℕ) (x : X) → slice_get xs i ≡ Some x → HasRested plan passes need (first + i) (view_at views i) (R x)) → HaveRested R plan passes need first views xs
+all_rested R plan passes need first [] [] long h = tt
+all_rested R plan passes need first [] (x ∷ xs) long h = absurd (omega (arith, long))
+all_rested R plan passes need first (v ∷ vs) [] long h = absurd (omega (arith, long))
+all_rested {X} R plan passes need first (v ∷ vs) (x ∷ xs) long h = (
+  subst (λ (n : ℕ). HasRested plan passes need n v (R x)) (omega arith) (h 0 x refl),
+  all_rested R plan passes need (suc first) vs xs (omega (arith, long)) rest,
 )
   where
-    rest : (i : ℕ) (y : X) → slice_get xs i ≡ Some y → HasRested m sizes file tries passes need (suc first + i) (view_at vs i) (R y)
-    rest i y at = let e : first + suc i ≡ suc first + i = omega arith in subst (λ (n : ℕ). HasRested m sizes file tries passes need n (view_at vs i) (R y)) e (h (suc i) y at)
+    rest : (i : ℕ) (y : X) → slice_get xs i ≡ Some y → HasRested plan passes need (suc first + i) (view_at vs i) (R y)
+    rest i y at = let e : first + suc i ≡ suc first + i = omega arith in subst (λ (n : ℕ). HasRested plan passes need n (view_at vs i) (R y)) e (h (suc i) y at)
 
 -- a view that stands for some pass is one of these
-live_is : {X : Type 0} (R : X → List Record) (m : Meaning) (sizes : List ℕ) (file : File) (tries passes need first : ℕ) (views : List View) (xs : List X)
-    → HaveRested R m sizes file tries passes need first views xs → 0 < total (λ (v : View). v.gathered) views
-    → ((live_view views).sizes ≡ sizes) × ((live_view views).opening ≡ m.opened) × (1 ≤ length views)
-live_is R m sizes file tries passes need first [] [] h some = absurd (omega (arith, some))
-live_is R m sizes file tries passes need first [] (x ∷ xs) h some = absurd h
-live_is R m sizes file tries passes need first (v ∷ vs) [] h some = absurd h
-live_is R m sizes file tries passes need first (v ∷ vs) (x ∷ xs) h some = elim (cases_eq v.gathered 0) [
+live_is : {X : Type 0} (R : X → List Record) (plan : Plan) (passes need first : ℕ) (views : List View) (xs : List X)
+    → HaveRested R plan passes need first views xs → 0 < total (λ (v : View). v.gathered) views
+    → ((live_view views).sizes ≡ plan.sizes) × ((live_view views).opening ≡ plan.meaning.opened) × (1 ≤ length views)
+live_is R plan passes need first [] [] h some = absurd (omega (arith, some))
+live_is R plan passes need first [] (x ∷ xs) h some = absurd h
+live_is R plan passes need first (v ∷ vs) [] h some = absurd h
+live_is R plan passes need first (v ∷ vs) (x ∷ xs) h some = elim (cases_eq v.gathered 0) [
   | inl none ↦
       let e : nat_lt 0 v.gathered ≡ false = grind (arith, nat_tests, none) in
-      let k = live_is R m sizes file tries passes need (suc first) vs xs h.1 (omega (arith, none, some)) in
+      let k = live_is R plan passes need (suc first) vs xs h.1 (omega (arith, none, some)) in
       let is : live_view (v ∷ vs) ≡ live_view vs = ap (λ (b : Bool). if b then v else live_view vs) e in (ap (λ (u : View). u.sizes) is ∙ k.0, ap (λ (u : View). u.opening) is ∙ k.1, omega arith)
   | inr live ↦
       let e : nat_lt 0 v.gathered ≡ true = grind (arith, nat_tests, live) in
@@ -84,41 +81,41 @@ live_is R m sizes file tries passes need first (v ∷ vs) (x ∷ xs) h some = el
 ]
 
 -- what the pass of the reopened words knows
-pub record IsReopened (m : Meaning) (sizes : List ℕ) (file : File) (tries passes : ℕ) (rs : List Record) (v : View) : Type 0 where
-  pub rests : IsAtRest m sizes v
-  pub worked : HasWorked m file tries v rs
+pub record IsReopened (plan : Plan) (passes : ℕ) (rs : List Record) (v : View) : Type 0 where
+  pub rests : Rests plan v
+  pub worked : HasWorked plan v rs
   pub tickets : (t : ℕ) → times_written t rs ≡ times_committed t v.entries
-  pub draws : tries * scripts_from file.threads 0 ≤ v.draws
+  pub draws : draws_of plan ≤ v.draws
   pub alone : passes ≡ 1 → AbortsNone [] rs
 
-module _ {M : Type 0} (m : Meaning) (sizes : List ℕ) (file : File) (tries : ℕ) (fits : ℕ → Place → M → View → View → Type 0) (c : Core) (seats : List (Seat M))
-    (h : AreSeated m sizes file tries fits c seats) (over : AreOver (length seats) seats) where
-  have_rested : HaveRested records_of m sizes file tries (length c.statuses) (tries * scripts_from file.threads 0) 0 c.views seats
-  have_rested = all_rested records_of m sizes file tries (length c.statuses) (tries * scripts_from file.threads 0) 0 c.views seats h.views (λ i s at.
+module _ {M : Type 0} (plan : Plan) (fits : ℕ → Place → M → View → View → Type 0) (c : Core) (seats : List (Seat M))
+    (h : AreSeated plan fits c seats) (over : AreOver (length seats) seats) where
+  have_rested : HaveRested records_of plan (length c.statuses) (draws_of plan) 0 c.views seats
+  have_rested = all_rested records_of plan (length c.statuses) (draws_of plan) 0 c.views seats h.views (λ i s at.
       let e : i ≡ 0 + i = omega arith in
-      subst (λ (n : ℕ). HasRested m sizes file tries (length c.statuses) (tries * scripts_from file.threads 0) n (view_at c.views i) (records_of s)) e
-      (rested m sizes file tries (length c.statuses) i s.ended s.left (records_of s) (view_at c.views i)
-      (over_between m sizes file tries (length c.statuses) (fits (length c.statuses)) i (view_at c.views i) s (h.each i s at) (over i (slice_get_within seats i s at) s at))))
+      subst (λ (n : ℕ). HasRested plan (length c.statuses) (draws_of plan) n (view_at c.views i) (records_of s)) e
+      (rested plan (length c.statuses) i s.ended s.left (records_of s) (view_at c.views i)
+      (over_between plan fits (length c.statuses) i (view_at c.views i) s (h.each i s at) (over i (slice_get_within seats i s at) s at))))
 
   -- each thread has a record for each start of its pass
   pub over_made : (thread : ℕ) (s : Seat M) → slice_get seats thread ≡ Some s → length (records_of s) ≡ (view_of c thread).starts
   over_made thread s at =
-      let between = over_between m sizes file tries (length c.statuses) (fits (length c.statuses)) thread (view_at c.views thread) s (h.each thread s at) (over thread (slice_get_within seats thread s at) s at) in
+      let between = over_between plan fits (length c.statuses) thread (view_at c.views thread) s (h.each thread s at) (over thread (slice_get_within seats thread s at) s at) in
       sym between.starts
 
   pub over_idle : Each (λ (v : View). IsIdle v.phase) c.views
-  over_idle = all_idle records_of m sizes file tries (length c.statuses) (tries * scripts_from file.threads 0) 0 c.views seats have_rested
+  over_idle = all_idle records_of plan (length c.statuses) (draws_of plan) 0 c.views seats have_rested
 
   pub over_reopened : (valid : Validity) (w : ClosedWords) (p : Core) → closed_core w c.statuses ≡ c → AreClosed valid w → p ≡ reopened_from w
-      → IsReopened m sizes file tries (length c.statuses) (flat_map records_of seats) (view_of p 0)
+      → IsReopened plan (length c.statuses) (flat_map records_of seats) (view_of p 0)
   over_reopened valid w p words closed is =
       let same : w.views ≡ c.views = ap (λ (d : Core). d.views) words in
-      let rest = subst (λ (vs : List View). HaveRested records_of m sizes file tries (length c.statuses) (tries * scripts_from file.threads 0) 0 vs seats) (sym same) have_rested in
+      let rest = subst (λ (vs : List View). HaveRested records_of plan (length c.statuses) (draws_of plan) 0 vs seats) (sym same) have_rested in
       let many = closed.rule.1.gathered in
       let some' = closed.some_pass in
-      let live = live_is records_of m sizes file tries (length c.statuses) (tries * scripts_from file.threads 0) 0 w.views seats rest (omega (arith, many, some')) in
-      let all = gathered records_of m sizes file tries (length c.statuses) (tries * scripts_from file.threads 0) (live_view w.views).sizes (live_view w.views).opening 0 w.views seats rest in
-      subst (λ (d : Core). IsReopened m sizes file tries (length c.statuses) (flat_map records_of seats) (view_of d 0)) (sym is) (record {
+      let live = live_is records_of plan (length c.statuses) (draws_of plan) 0 w.views seats rest (omega (arith, many, some')) in
+      let all = gathered records_of plan (length c.statuses) (draws_of plan) (live_view w.views).sizes (live_view w.views).opening 0 w.views seats rest in
+      subst (λ (d : Core). IsReopened plan (length c.statuses) (flat_map records_of seats) (view_of d 0)) (sym is) (record {
         rests = record { idle = tt; held = refl; settled = all.settled; sized = live.0; opened = live.1 };
         worked = all.worked;
         tickets = all.tickets;

@@ -13,5 +13,8 @@ pub use Rattle.sto_lang.specs.Drafts
 pub use Rattle.sto_lang.specs.Views
 pub use Rattle.sto_report_spec.specs.Orders
 pub use Rattle.sto_serializability.specs.Finished
+pub use Rattle.sto_run_threads.specs.Plans
+pub use Rattle.sto_run_threads.specs.Told
 pub use Rattle.sto_run_threads.specs.Ran
 pub use Rattle.sto_run_threads.specs.Worked
+pub use Rattle.sto_run_threads.specs.Runs

@@ -1,23 +1,22 @@
 -- Attempts of the transactions of a file.
-use Rattle.std.specs.Prelude.{◌≡◌, ℕ, List, Some}
+use Rattle.std.specs.Prelude.{◌≡◌, ℕ, Some}
 use Rattle.sto_lang.specs.Scripts.{Script, File}
 use Rattle.sto_script.specs.Meaning.{meaning_of}
 use Rattle.sto_script.specs.Bodies.{then_of, script_of, left_of, MayAskOf}
 use Rattle.sto_script.specs.declared.body.ScriptBody.{ScriptBody}
-use Rattle.sto_type.specs.Meaning.{Meaning}
+use Rattle.sto_type.specs.Traits.{OfType}
 use Rattle.sto_core.specs.declared.view.View.{View}
-use Rattle.sto_core.specs.History.{Validity}
 use Rattle.sto_run_threads.specs.Orders.{Place, transaction_at}
 use Rattle.sto_transaction.specs.declared.machine.Machine.{Machine}
 use Rattle.sto_transaction.specs.Machines.{Proceeds, machine_left}
 
 -- on words with so many passes, the attempt is one of the transaction of the file at a place, on a type, and has led from the view
 -- `begun` to the view v
-pub record ProceedsAt {T : Type 0} (meaning : T → Meaning) (valid : Validity) (sizes : T → List ℕ) (file : File) (ty : T) (passes : ℕ) (place : Place) (trial : Machine T ScriptBody) (begun v : View) : Type 0 where
+pub record ProceedsAt {T : Type 0} (t : OfType T) (file : File) (ty : T) (passes : ℕ) (place : Place) (trial : Machine T ScriptBody) (begun v : View) : Type 0 where
   pub script : Script
   pub there : transaction_at file place ≡ Some script
-  pub proceeds : Proceeds meaning valid sizes script_of then_of left_of MayAskOf passes ty (meaning_of script) trial begun v
+  pub proceeds : Proceeds t.meaning t.valid t.sizes script_of then_of left_of MayAskOf passes ty (meaning_of script) trial begun v
 
 -- how many events it has left at most
-abbrev pub script_left : {T : Type 0} → (T → Meaning) → Validity → (T → List ℕ) → Machine T ScriptBody → ℕ
-script_left meaning valid sizes trial = machine_left meaning valid sizes script_of then_of left_of MayAskOf trial
+abbrev pub script_left : {T : Type 0} → OfType T → Machine T ScriptBody → ℕ
+script_left t trial = machine_left t.meaning t.valid t.sizes script_of then_of left_of MayAskOf trial

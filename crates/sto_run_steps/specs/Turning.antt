@@ -1,17 +1,17 @@
 -- Turns of script threads: which thread makes the next event.
 use Rattle.std.specs.Prelude.{◌≡◌, ◌⊎◌, ℕ, zero, suc, List, [], ◌∷◌, ◌++◌, length, replicate, slice_get, slice_set, Some}
 use Rattle.std.specs.List.{flat_map}
-use Rattle.sto_lang.specs.Scripts.{Script}
 use Rattle.sto_lang.specs.declared.file.Turns.{Turns}
 use Rattle.sto_core.specs.declared.view.View.{View}
 use Rattle.sto_core.specs.Core.{Core}
 use Rattle.sto_core.specs.History.{Validity}
 use Rattle.sto_plain.specs.Passes.{view_of, IsSame}
-use Rattle.sto_run_threads.specs.Orders.{numbers_from}
+use Rattle.sto_run_threads.specs.Orders.{Place, numbers_from}
 use Rattle.sto_attempt_facts.specs.Records.{Record}
 use Rattle.sto_transaction.specs.Answers.{OneEvent}
+use Rattle.sto_run_threads.specs.Plans.{Plan}
 use Rattle.sto_run_threads.specs.Worked.{AbortsNone}
-use Rattle.sto_run_steps.specs.Seated.{AreNew, AreOver, IsOverAt, records_of}
+use Rattle.sto_run_steps.specs.Seated.{AreNew, AreSeated, AreOver, IsOverAt, records_of}
 use Rattle.sto_run_steps.specs.declared.seat.Seat.{Seat}
 
 -- exactly one event leads from a view of a pass to the next
@@ -36,6 +36,12 @@ HaveTurns valid [] c seats d later = (d ≡ c) × (later ≡ seats)
 HaveTurns {M} valid (thread ∷ threads) c seats d later =
     (e : Core) × (middle : List (Seat M)) × HasTurn valid thread c seats e middle × HaveTurns valid threads e middle d later
 
+-- the same, where all threads were at their seats and still are
+pub record TakeTurns {M : Type 0} (plan : Plan) (fits : ℕ → Place → M → View → View → Type 0) (valid : Validity) (threads : List ℕ) (c : Core) (seats : List (Seat M)) (d : Core) (later : List (Seat M)) : Type 0 where
+  pub turns : HaveTurns valid threads c seats d later
+  pub seated : AreSeated plan fits d later
+  pub many : length later ≡ length seats
+
 -- the turns of an entry of a schedule
 abbrev pub entry_turns : Turns → List ℕ
 entry_turns entry = replicate entry.steps entry.thread
@@ -47,9 +53,9 @@ round_turns threads (suc rounds) = round_turns threads rounds ++ numbers_from 0 
 
 -- from these words on, the threads of a file, of which none had begun, had the turns of a schedule, and then rounds of turns until all
 -- were over. Each thread made a record for each start of its pass, and the aborted ones of all are those among these records
-pub record WereStepped (M : Type 0) (valid : Validity) (threads : List (List Script)) (tries : ℕ) (schedule : List Turns) (opened : Core) (rs : List Record) : Type 0 where
+pub record WereStepped (M : Type 0) (plan : Plan) (valid : Validity) (schedule : List Turns) (opened : Core) (rs : List Record) : Type 0 where
   pub seats : List (Seat M)
-  pub new : AreNew threads tries seats
+  pub new : AreNew plan seats
   pub rounds : ℕ
   pub stepped : Core
   pub later : List (Seat M)

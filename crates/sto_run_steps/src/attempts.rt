@@ -1,11 +1,11 @@
 //! Attempts of transactions that are made event by event.
 ghost use Rattle.std.specs.Prelude.{◌≡◌, ◌≤◌, ℕ, IfOk};
 ghost use Rattle.sto_core.specs.declared.view.View.{View};
-ghost use Rattle.sto_transaction.specs.Answers.{OneEvent};
 ghost use Rattle.sto_run_threads.specs.Orders.{Place};
-ghost use Rattle.sto_transaction.specs.Resting.{IsAtRest};
+ghost use Rattle.sto_run_threads.specs.Plans.{MayDraw};
 ghost use Rattle.sto_run_threads.specs.Ran.{IsTransaction};
-ghost use Rattle.sto_run_steps.specs.Stepped.{HasMadeOne, HasStepped};
+ghost use Rattle.sto_run_steps.specs.Stepped.{HasStepped};
+ghost use Rattle.sto_run_steps.specs.Turning.{AnEvent};
 
 use std::alloc::Global;
 use sto_attempt::Verdict;
@@ -39,7 +39,7 @@ pub trait Attempts<T: Naming, M>: Work<T> {
 
     /// How many attempts of a transaction may be aborted.
     fn most_tries(&self) -> u32
-        ensures { result ≡ Self.tries self.now };
+        ensures { result ≡ (Self.plan self.now).tries };
 
     /// An attempt of the transaction at a place, which has made no event yet. It takes the memory.
     fn begin(
@@ -50,9 +50,9 @@ pub trait Attempts<T: Naming, M>: Work<T> {
         memory: &mut Memory,
     ) -> Result<M, NoMemory>
         requires ready { Self.ready self.now }
-        requires there { IsTransaction (Self.file self.now) (thread, position) }
-        ensures fits { IfOk result (λ trial. (passes : ℕ) (v : View) → IsAtRest (Self.meaning self.now) (Self.sizes self.now) v → 1
-            ≤ v.draws → fits self.now passes (thread, position) trial v v) }
+        requires there { IsTransaction (Self.plan self.now).file (thread, position) }
+        ensures fits { IfOk result (λ trial. (passes : ℕ) (v : View) → MayDraw (Self.plan self.now) 1 v
+            → fits self.now passes (thread, position) trial v v) }
         ensures left { IfOk result (λ trial. left self.now trial ≤ most self.now) };
 
     /// Makes the next event of an attempt of the transaction at a place, on the pass of the events before, with its view as they left it.
@@ -68,9 +68,8 @@ pub trait Attempts<T: Naming, M>: Work<T> {
     ) -> Result<Stepped, NoMemory>
         requires { (begun : View) × fits self.now (C.passes cells.old) (thread, position) trial.old begun (C.view cells.old) }
         ensures same { C.same cells.old cells.new }
-        ensures event { OneEvent (λ _. Unit {0}) T.valid (C.passes cells.old) (C.view cells.old) (C.view cells.new) }
+        ensures event { AnEvent T.valid (C.passes cells.old) (C.view cells.old) (C.view cells.new) }
         ensures stepped { (begun : View) → fits self.now (C.passes cells.old) (thread, position) trial.old begun (C.view cells.old)
-            → IfOk result (HasStepped (fits self.now (C.passes cells.old) (thread, position)) (left self.now)
-            (HasMadeOne (Self.meaning self.now) (Self.sizes self.now) (Self.file self.now) (C.passes cells.old) (thread, position))
-            (thread, position) (left self.now trial.old) trial.new begun (C.view cells.new)) };
+            → IfOk result (HasStepped (Self.plan self.now) (fits self.now) (left self.now) (C.passes cells.old) (thread, position)
+            (left self.now trial.old) trial.new begun (C.view cells.new)) };
 }

@@ -1,14 +1,11 @@
 //! A whole file, stepped.
-ghost use Rattle.std.specs.Prelude.{◌≡◌, ◌≤◌, ◌<◌, ◌+◌, ◌*◌, ◌^◌, [], map, max, length, IfOk};
+ghost use Rattle.std.specs.Prelude.{◌≡◌, ◌≤◌, ◌<◌, [], max, length, IfOk};
 ghost use Rattle.std.specs.List.{All, flat_map};
 ghost use Rattle.sto_core.specs.Opened.{opened_core};
-ghost use Rattle.sto_run_threads.specs.Orders.{count_in};
-ghost use Rattle.sto_transaction.specs.Plain.{plain};
-ghost use Rattle.sto_transaction.specs.Resting.{IsAtRest};
-ghost use Rattle.sto_serializability.specs.Finished.{AreFinished};
-ghost use Rattle.sto_plain.specs.Passes.{view_of};
-ghost use Rattle.sto_run_threads.specs.Counts.{scripts_from};
+ghost use Rattle.sto_run_threads.specs.Plans.{Opens, thread_count, transaction_count};
+ghost use Rattle.sto_run_threads.specs.Told.{told_in};
 ghost use Rattle.sto_run_threads.specs.Worked.{AbortsNone};
+ghost use Rattle.sto_run_threads.specs.Runs.{IsFinished};
 ghost use Rattle.sto_run_steps.specs.Seated.{AreNew, AreSeated};
 ghost use Rattle.sto_run_steps.specs.Turning.{WereStepped};
 
@@ -24,7 +21,7 @@ use sto_transaction::Record;
 
 // How many passes there are: one for each script thread, and one where there is none.
 fn passes_of<T: Naming, W: Work<T>>(work: &W) -> u32
-    ensures { result ≡ max 1 (length (W.file work.now).threads) }
+    ensures { result ≡ max 1 (thread_count (W.plan work.now)) }
 {
     match work.threads() {
         0 => 1,
@@ -35,7 +32,7 @@ fn passes_of<T: Naming, W: Work<T>>(work: &W) -> u32
 // How many transactions the thread of a pass has.
 #[tactic(auto, using(crate::proofs::Opening::none_past))]
 fn count_of<T: Naming, W: Work<T>>(work: &W, thread: u32) -> u32
-    ensures { result ≡ count_in (W.file work.now).threads thread }
+    ensures { result ≡ transaction_count (W.plan work.now) thread }
 {
     if thread < work.threads() {
         work.count(thread)
@@ -49,8 +46,8 @@ fn seats_of<T: Naming, M: Drop, W: Attempts<T, M>>(
     work: &W,
     alloc: Global,
 ) -> Result<Vec<Seat<M>>, NoMemory>
-    ensures many { IfOk result (λ seats. length seats.items ≡ max 1 (length (W.file work.now).threads)) }
-    ensures begun { IfOk result (λ seats. AreNew (W.file work.now).threads (W.tries work.now) seats.items) }
+    ensures many { IfOk result (λ seats. length seats.items ≡ max 1 (thread_count (W.plan work.now))) }
+    ensures begun { IfOk result (λ seats. AreNew (W.plan work.now) seats.items) }
 {
     let tries = work.most_tries();
     let mut seats = Vec::new(alloc);
@@ -70,16 +67,12 @@ fn open<T: Naming, M: Drop, W: Attempts<T, M>>(
     ty: &T,
     contents: &Contents,
 ) -> Result<Stage<T, M>, NoMemory>
-    requires ty { (T.sizes ty.now ≡ W.sizes work.now) × (contents.now.items ≡ (W.meaning work.now).opened) }
-    requires valid { T.valid (T.sizes ty.now) contents.now.items }
-    requires threads { length (W.file work.now).threads ≤ 65536 }
-    requires few { W.tries work.now * scripts_from (W.file work.now).threads 0 + W.tries work.now * scripts_from (W.file work.now).threads 0
-        ≤ 2 ^ 40 }
-    ensures many { IfOk result (λ s. length s.seats.items ≡ max 1 (length (W.file work.now).threads)) }
+    requires opens { Opens (W.plan work.now) T.valid (T.sizes ty.now) contents.now.items }
+    requires threads { thread_count (W.plan work.now) ≤ 65536 }
+    ensures many { IfOk result (λ s. length s.seats.items ≡ max 1 (thread_count (W.plan work.now))) }
     ensures opened { IfOk result (λ s. s.words ≡ opened_core (T.sizes ty.now) contents.now.items (length s.seats.items)) }
-    ensures begun { IfOk result (λ s. AreNew (W.file work.now).threads (W.tries work.now) s.seats.items) }
-    ensures seated { IfOk result (λ s. AreSeated (W.meaning work.now) (W.sizes work.now) (W.file work.now) (W.tries work.now)
-        (W.fits work.now) s.words s.seats.items) }
+    ensures begun { IfOk result (λ s. AreNew (W.plan work.now) s.seats.items) }
+    ensures seated { IfOk result (λ s. AreSeated (W.plan work.now) (W.fits work.now) s.words s.seats.items) }
 {
     let seats = seats_of(work, alloc)?;
     let words = Plain::open(alloc, ty, contents, seats.len() as u32)?;
@@ -113,23 +106,17 @@ pub fn step_threads<T: Naming, M: Drop, W: Attempts<T, M>>(
     schedule: &[Turns],
 ) -> Result<FinishedRun<T>, NoMemory>
     requires ready { W.ready work.now }
-    requires ty { (T.sizes ty.now ≡ W.sizes work.now) × (contents.now.items ≡ (W.meaning work.now).opened) }
-    requires valid { T.valid (T.sizes ty.now) contents.now.items }
-    requires schedule { All (λ turns. turns.thread < length (W.file work.now).threads) schedule.now }
-    requires threads { length (W.file work.now).threads ≤ 65536 }
-    requires few { W.tries work.now * scripts_from (W.file work.now).threads 0 + W.tries work.now * scripts_from (W.file work.now).threads 0
-        ≤ 2 ^ 40 }
-    ensures one { IfOk result (λ e. (length e.words.views ≡ 1) × (length e.words.statuses ≡ 1)) }
-    ensures rests { IfOk result (λ e. IsAtRest (W.meaning work.now) (W.sizes work.now) (view_of e.words 0)) }
-    ensures finished { IfOk result (λ e. AreFinished (W.meaning work.now) (W.file work.now) (W.tries work.now) (view_of e.words 0)
-        (map plain e.records.items)) }
+    requires opens { Opens (W.plan work.now) T.valid (T.sizes ty.now) contents.now.items }
+    requires threads { thread_count (W.plan work.now) ≤ 65536 }
+    requires schedule { All (λ turns. turns.thread < thread_count (W.plan work.now)) schedule.now }
+    ensures finished { IfOk result (IsFinished (W.plan work.now)) }
 
     // Each event is made in the turn of its thread.
-    ensures stepped { IfOk result (λ e. WereStepped M T.valid (W.file work.now).threads (W.tries work.now) schedule.now
-        (opened_core (T.sizes ty.now) contents.now.items (max 1 (length (W.file work.now).threads))) (map plain e.records.items)) }
+    ensures stepped { IfOk result (λ run. WereStepped M (W.plan work.now) T.valid schedule.now
+        (opened_core (T.sizes ty.now) contents.now.items (max 1 (thread_count (W.plan work.now)))) (told_in run.records)) }
 
     // With one thread no attempt is aborted.
-    ensures alone { length (W.file work.now).threads ≤ 1 → IfOk result (λ e. AbortsNone [] (map plain e.records.items)) }
+    ensures alone { thread_count (W.plan work.now) ≤ 1 → IfOk result (λ run. AbortsNone [] (told_in run.records)) }
 {
     let stage = open(work, alloc, ty, contents)?;
     let stage = stage.follow(work, alloc, schedule)?;

@@ -1,6 +1,7 @@
 //! A script thread, as far as it has come.
-ghost use Rattle.std.specs.Prelude.{◌≡◌, ◌≤◌, ◌<◌, ◌+◌, ◌-◌, ◌↔◌, ℕ, map, IsTrue, IfOk, OnOk, OnErr};
+ghost use Rattle.std.specs.Prelude.{◌≡◌, ◌≤◌, ◌<◌, ◌↔◌, ℕ, IsTrue, OnOk, OnErr};
 ghost use Rattle.sto_core.specs.declared.view.View.{View};
+ghost use Rattle.sto_run_threads.specs.Plans.{transaction_count};
 
 use crate::attempts::{Attempts, Stepped};
 use std::alloc::Global;
@@ -29,10 +30,8 @@ pub(crate) struct Seat<M> {
 }
 
 impl<M: Drop> Seat<M> {
-    ghost use Rattle.sto_run_threads.specs.Orders.{count_in};
     ghost use Rattle.sto_transaction.specs.Plain.{plain};
-    ghost use Rattle.sto_run_steps.specs.Counts.{attempts_left, events_left};
-    ghost use Rattle.sto_run_steps.specs.Seated.{IsNew, IsSeated, IsWithin, IsIn, IsOver, HasKept, events_of};
+    ghost use Rattle.sto_run_steps.specs.Seated.{IsNew, IsSeated, WithinAt, IsIn, IsOver, HasKept, events_with, events_of};
     ghost use Rattle.sto_run_steps.specs.Turning.{AnEvent};
 
     /// A thread with so many transactions, of which none has begun.
@@ -74,13 +73,12 @@ impl<M: Drop> Seat<M> {
         cells: &mut C,
     ) -> Result<(), NoMemory>
         requires ready { W.ready work.now }
-        requires seated { IsSeated (W.meaning work.now) (W.sizes work.now) (W.file work.now) (W.tries work.now) (C.passes cells.old)
-            (W.fits work.now (C.passes cells.old)) thread (C.view cells.old) self.old }
+        requires seated { IsSeated (W.plan work.now) (W.fits work.now) (C.passes cells.old) thread (C.view cells.old) self.old }
         requires going { IsOver self.old → ⊥ }
         ensures same { C.same cells.old cells.new }
         ensures event { OnOk result (AnEvent T.valid (C.passes cells.old) (C.view cells.old) (C.view cells.new)) }
-        ensures seated { OnOk result (IsSeated (W.meaning work.now) (W.sizes work.now) (W.file work.now) (W.tries work.now)
-            (C.passes cells.old) (W.fits work.now (C.passes cells.old)) thread (C.view cells.new) self.new) }
+        ensures seated { OnOk result (IsSeated (W.plan work.now) (W.fits work.now) (C.passes cells.old) thread (C.view cells.new)
+            self.new) }
         ensures left { OnOk result (events_of (W.left work.now) (W.most work.now) self.new
             < events_of (W.left work.now) (W.most work.now) self.old) }
         ensures unmade { OnErr result (self.new.records.items ≡ self.old.records.items) }
@@ -112,17 +110,13 @@ impl<M: Drop> Seat<M> {
         thread: u32,
     ) -> Result<(), NoMemory>
         requires ready { W.ready work.now }
-        requires counted { self.old.count ≡ count_in (W.file work.now).threads thread }
+        requires counted { self.old.count ≡ transaction_count (W.plan work.now) thread }
         requires within { self.old.ended ≤ self.old.count }
         requires going { IsOver self.old → ⊥ }
         ensures kept { self.new ≡ record self.old { trial = self.new.trial } }
-        ensures within { OnOk result ((passes : ℕ) (v : View)
-            → IsSeated (W.meaning work.now) (W.sizes work.now) (W.file work.now) (W.tries work.now) passes (W.fits work.now passes) thread v
-            self.old → IsIn (IsWithin (W.meaning work.now) (W.sizes work.now) (W.file work.now) (W.tries work.now) passes thread
-            self.old.ended self.old.left (map plain self.old.records.items) (W.fits work.now passes (thread, self.old.ended + 1)))
-            self.new.trial v) }
-        ensures left { OnOk result (events_left (W.left work.now) (W.most work.now)
-            (attempts_left self.old.tries self.old.left (self.old.count - self.old.ended)) self.new.trial
+        ensures within { OnOk result ((passes : ℕ) (v : View) → IsSeated (W.plan work.now) (W.fits work.now) passes thread v self.old
+            → IsIn (WithinAt (W.plan work.now) (W.fits work.now) passes thread self.old) self.new.trial v) }
+        ensures left { OnOk result (events_with (W.left work.now) (W.most work.now) self.old self.new.trial
             ≤ events_of (W.left work.now) (W.most work.now) self.old) }
     {
         if self.trial.is_none() {

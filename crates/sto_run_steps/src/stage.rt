@@ -18,8 +18,8 @@ pub(crate) struct Stage<T: Naming, M> {
 }
 
 impl<T: Naming, M: Drop> Stage<T, M> {
-    ghost use Rattle.sto_run_steps.specs.Seated.{AreSeated, IsOverAt, AreOver, events_of_all};
-    ghost use Rattle.sto_run_steps.specs.Turning.{HasTurn, HaveTurns, entry_turns, round_turns};
+    ghost use Rattle.sto_run_steps.specs.Seated.{AreSeated, IsOverAt, AreOver, HaveFewer};
+    ghost use Rattle.sto_run_steps.specs.Turning.{HasTurn, TakeTurns, entry_turns, round_turns};
 
     // Makes an event of the thread, where it is not over. It answers whether it did.
     fn turn<W: Attempts<T, M>>(
@@ -29,15 +29,12 @@ impl<T: Naming, M: Drop> Stage<T, M> {
         thread: u32,
     ) -> Result<(Stage<T, M>, bool), NoMemory>
         requires ready { W.ready work.now }
-        requires seated { AreSeated (W.meaning work.now) (W.sizes work.now) (W.file work.now) (W.tries work.now) (W.fits work.now)
-            self.words self.seats.items }
+        requires seated { AreSeated (W.plan work.now) (W.fits work.now) self.words self.seats.items }
         requires inside { thread < length self.seats.items }
         ensures turn { IfOk result (λ s. HasTurn T.valid thread self.words self.seats.items s.0.words s.0.seats.items) }
-        ensures seated { IfOk result (λ s. AreSeated (W.meaning work.now) (W.sizes work.now) (W.file work.now) (W.tries work.now)
-            (W.fits work.now) s.0.words s.0.seats.items) }
+        ensures seated { IfOk result (λ s. AreSeated (W.plan work.now) (W.fits work.now) s.0.words s.0.seats.items) }
         ensures many { IfOk result (λ s. length s.0.seats.items ≡ length self.seats.items) }
-        ensures made { IfOk result (λ s. s.1 ≡ true → events_of_all (W.left work.now) (W.most work.now) s.0.seats.items
-            < events_of_all (W.left work.now) (W.most work.now) self.seats.items) }
+        ensures made { IfOk result (λ s. s.1 ≡ true → HaveFewer (W.left work.now) (W.most work.now) self.seats.items s.0.seats.items) }
         ensures over { IfOk result (λ s. s.1 ≡ false → (s.0.seats.items ≡ self.seats.items) × IsOverAt thread self.seats.items) }
     {
         let Stage { words, mut seats } = self;
@@ -58,13 +55,10 @@ impl<T: Naming, M: Drop> Stage<T, M> {
         turns: &Turns,
     ) -> Result<Stage<T, M>, NoMemory>
         requires ready { W.ready work.now }
-        requires seated { AreSeated (W.meaning work.now) (W.sizes work.now) (W.file work.now) (W.tries work.now) (W.fits work.now)
-            self.words self.seats.items }
+        requires seated { AreSeated (W.plan work.now) (W.fits work.now) self.words self.seats.items }
         requires inside { turns.now.thread < length self.seats.items }
-        ensures turns { IfOk result (λ s. HaveTurns T.valid (entry_turns turns.now) self.words self.seats.items s.words s.seats.items) }
-        ensures seated { IfOk result (λ s. AreSeated (W.meaning work.now) (W.sizes work.now) (W.file work.now) (W.tries work.now)
-            (W.fits work.now) s.words s.seats.items) }
-        ensures many { IfOk result (λ s. length s.seats.items ≡ length self.seats.items) }
+        ensures turns { IfOk result (λ s. TakeTurns (W.plan work.now) (W.fits work.now) T.valid (entry_turns turns.now)
+            self.words self.seats.items s.words s.seats.items) }
     {
         let mut stage = self;
         for _ in 0..turns.steps {
@@ -85,14 +79,10 @@ impl<T: Naming, M: Drop> Stage<T, M> {
         schedule: &[Turns],
     ) -> Result<Stage<T, M>, NoMemory>
         requires ready { W.ready work.now }
-        requires seated { AreSeated (W.meaning work.now) (W.sizes work.now) (W.file work.now) (W.tries work.now) (W.fits work.now)
-            self.words self.seats.items }
+        requires seated { AreSeated (W.plan work.now) (W.fits work.now) self.words self.seats.items }
         requires inside { All (λ turns. turns.thread < length self.seats.items) schedule.now }
-        ensures turns { IfOk result (λ s. HaveTurns T.valid (flat_map entry_turns schedule.now) self.words self.seats.items s.words
-            s.seats.items) }
-        ensures seated { IfOk result (λ s. AreSeated (W.meaning work.now) (W.sizes work.now) (W.file work.now) (W.tries work.now)
-            (W.fits work.now) s.words s.seats.items) }
-        ensures many { IfOk result (λ s. length s.seats.items ≡ length self.seats.items) }
+        ensures turns { IfOk result (λ s. TakeTurns (W.plan work.now) (W.fits work.now) T.valid (flat_map entry_turns schedule.now)
+            self.words self.seats.items s.words s.seats.items) }
     {
         let mut stage = self;
         for turns in schedule {
@@ -108,15 +98,10 @@ impl<T: Naming, M: Drop> Stage<T, M> {
         alloc: Global,
     ) -> Result<(Stage<T, M>, bool), NoMemory>
         requires ready { W.ready work.now }
-        requires seated { AreSeated (W.meaning work.now) (W.sizes work.now) (W.file work.now) (W.tries work.now) (W.fits work.now)
-            self.words self.seats.items }
-        ensures turns { IfOk result (λ s. HaveTurns T.valid (numbers_from 0 (length self.seats.items)) self.words self.seats.items s.0.words
-            s.0.seats.items) }
-        ensures seated { IfOk result (λ s. AreSeated (W.meaning work.now) (W.sizes work.now) (W.file work.now) (W.tries work.now)
-            (W.fits work.now) s.0.words s.0.seats.items) }
-        ensures many { IfOk result (λ s. length s.0.seats.items ≡ length self.seats.items) }
-        ensures moved { IfOk result (λ s. s.1 ≡ true → events_of_all (W.left work.now) (W.most work.now) s.0.seats.items
-            < events_of_all (W.left work.now) (W.most work.now) self.seats.items) }
+        requires seated { AreSeated (W.plan work.now) (W.fits work.now) self.words self.seats.items }
+        ensures turns { IfOk result (λ s. TakeTurns (W.plan work.now) (W.fits work.now) T.valid (numbers_from 0 (length self.seats.items))
+            self.words self.seats.items s.0.words s.0.seats.items) }
+        ensures moved { IfOk result (λ s. s.1 ≡ true → HaveFewer (W.left work.now) (W.most work.now) self.seats.items s.0.seats.items) }
         ensures over { IfOk result (λ s. s.1 ≡ false → AreOver (length s.0.seats.items) s.0.seats.items) }
     {
         let mut stage = self;
@@ -137,13 +122,9 @@ impl<T: Naming, M: Drop> Stage<T, M> {
         alloc: Global,
     ) -> Result<Stage<T, M>, NoMemory>
         requires ready { W.ready work.now }
-        requires seated { AreSeated (W.meaning work.now) (W.sizes work.now) (W.file work.now) (W.tries work.now) (W.fits work.now)
-            self.words self.seats.items }
-        ensures turns { IfOk result (λ s. (rounds : ℕ) × HaveTurns T.valid (round_turns (length self.seats.items) rounds) self.words
-            self.seats.items s.words s.seats.items) }
-        ensures seated { IfOk result (λ s. AreSeated (W.meaning work.now) (W.sizes work.now) (W.file work.now) (W.tries work.now)
-            (W.fits work.now) s.words s.seats.items) }
-        ensures many { IfOk result (λ s. length s.seats.items ≡ length self.seats.items) }
+        requires seated { AreSeated (W.plan work.now) (W.fits work.now) self.words self.seats.items }
+        ensures turns { IfOk result (λ s. (rounds : ℕ) × TakeTurns (W.plan work.now) (W.fits work.now) T.valid
+            (round_turns (length self.seats.items) rounds) self.words self.seats.items s.words s.seats.items) }
         ensures over { IfOk result (λ s. AreOver (length s.seats.items) s.seats.items) }
     {
         let mut stage = self;

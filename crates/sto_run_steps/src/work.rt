@@ -3,6 +3,7 @@ ghost use Rattle.std.specs.Prelude.{◌<◌, length};
 ghost use Rattle.sto_lang.specs.Drafts.{weight_total};
 ghost use Rattle.sto_lang.specs.Views.{file as view};
 ghost use Rattle.sto_transaction.specs.Bounds.{bound, words_of};
+ghost use Rattle.sto_run_threads.specs.Plans.{plan_of};
 ghost use Rattle.sto_run_threads.specs.Taken.{IsTaken};
 ghost use Rattle.sto_run_steps.specs.Proceeding.{ProceedsAt, script_left};
 
@@ -22,13 +23,7 @@ pub struct SteppedWork<'w, T: TxType, G: Gate> {
 }
 
 impl<T: TxType, G: Gate> Work<T> for SteppedWork<'_, T, G> {
-    ghost file = { λ w. view w.work.now.workload.file.now };
-
-    ghost meaning = { λ w. T.meaning w.work.now.ty.now };
-
-    ghost sizes = { λ w. T.sizes w.work.now.ty.now };
-
-    ghost tries = { λ w. w.work.now.tries };
+    ghost plan = { λ w. plan_of T.TxType w.work.now.ty.now (view w.work.now.workload.file.now) w.work.now.tries };
 
     ghost ready = { λ w. IsTaken (view w.work.now.workload.file.now) (T.meaning w.work.now.ty.now) × (0 < w.work.now.tries) };
 
@@ -55,9 +50,9 @@ impl<T: TxType, G: Gate> Work<T> for SteppedWork<'_, T, G> {
 }
 
 impl<'w, T: TxType, G: Gate> Attempts<T, Machine<'w, T, ScriptBody<'w>>> for SteppedWork<'w, T, G> {
-    ghost fits = { λ w. ProceedsAt T.meaning T.valid T.sizes (view w.work.now.workload.file.now) w.work.now.ty.now };
+    ghost fits = { λ w. ProceedsAt T.TxType (view w.work.now.workload.file.now) w.work.now.ty.now };
 
-    ghost left = { λ w. script_left T.meaning T.valid T.sizes };
+    ghost left = { λ w. script_left T.TxType };
 
     ghost most = { λ w. bound (weight_total (view w.work.now.workload.file.now).threads) (length (T.meaning w.work.now.ty.now).widths)
         (words_of (T.meaning w.work.now.ty.now).widths) };

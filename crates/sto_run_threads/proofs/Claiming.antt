@@ -8,7 +8,6 @@ use Rattle.std.specs.List.{All}
 use Rattle.std.proofs.Common.{Bool, true, false, ne_eqb}
 use Rattle.std.proofs.lemmas.Bool.{cases_eq}
 use Rattle.std.proofs.lemmas.List.Sums.{sum_by-cons}
-use Rattle.sto_type.specs.Meaning.{Meaning}
 use Rattle.sto_core.specs.declared.view.View.{View}
 use Rattle.sto_core.specs.Lists.{weight}
 use Rattle.sto_claims.specs.Taken.{times, past, once_below}
@@ -29,6 +28,7 @@ use Rattle.sto_run_threads.specs.Worked.{AreOf, AreDone, IsDone, IsScriptRun}
 use Rattle.sto_run_threads.proofs.Threads.{ended_append}
 use Rattle.sto_run_threads.proofs.Joined.{times_append, either_list, none_has_ended, none_was_aborted}
 use Rattle.sto_run_threads.specs.Counts.{scripts_from, next_after}
+use Rattle.sto_run_threads.specs.Plans.{Plan}
 
 -- the transactions of a thread, and those after it, are of those from an earlier one on
 pub thread_within : (threads : List (List Script)) (thread n : ℕ) → n ≤ thread → count_in threads thread + scripts_from threads (suc thread) ≤ scripts_from threads n
@@ -47,26 +47,26 @@ next_more [] n h = omega arith
 next_more (x ∷ xs) n h = let l : x < n = h 0 x refl in let k = next_more xs n (λ j y at. h (suc j) y at) in omega (arith, l, k)
 
 -- what is done stays done where the counts of the thread stay
-done_still : (file : File) (tries u : ℕ) (rs later : List Record) → ended_of u later ≡ ended_of u rs
-    → ((position : ℕ) → aborted_times (u, position) later ≡ aborted_times (u, position) rs) → IsDone file tries rs u → IsDone file tries later u
-done_still file tries u rs later ended aborts (inl all) = inl (ended ∙ all)
-done_still file tries u rs later ended aborts (inr used) = inr (aborts (suc (ended_of u later)) ∙ ap (λ (n : ℕ). aborted_times (u, suc n) rs) ended ∙ used)
+done_still : (plan : Plan) (u : ℕ) (rs later : List Record) → ended_of u later ≡ ended_of u rs
+    → ((position : ℕ) → aborted_times (u, position) later ≡ aborted_times (u, position) rs) → IsDone plan rs u → IsDone plan later u
+done_still plan u rs later ended aborts (inl all) = inl (ended ∙ all)
+done_still plan u rs later ended aborts (inr used) = inr (aborts (suc (ended_of u later)) ∙ ap (λ (n : ℕ). aborted_times (u, suc n) rs) ended ∙ used)
 
-script_done : (m : Meaning) (file : File) (tries passes : ℕ) (w : View) (n : ℕ) (rs later : List Record) (b : Bool) → IsScriptRun m file tries passes w n rs later b → IsDone file tries later n
-script_done m file tries passes w n rs later true h = inl (h.all refl)
-script_done m file tries passes w n rs later false h = inr (h.left refl)
+script_done : (plan : Plan) (passes : ℕ) (w : View) (n : ℕ) (rs later : List Record) (b : Bool) → IsScriptRun plan passes w n rs later b → IsDone plan later n
+script_done plan passes w n rs later true h = inl (h.all refl)
+script_done plan passes w n rs later false h = inr (h.left refl)
 
 not_hit : (u n : ℕ) → (n ≡ u → ⊥) → times u (n ∷ []) ≡ 0
 not_hit u n other = let e : weight (nat_eq u n) ≡ 0 = ap weight (ne_eqb u n (λ is. other (sym is))) in omega (arith, e)
 
 -- a claimed thread was run
-pub done_more : (m : Meaning) (file : File) (tries passes : ℕ) (w : View) (threads : List ℕ) (n : ℕ) (rs later : List Record) (b : Bool)
-    → IsScriptRun m file tries passes w n rs later b → AreDone file tries threads rs → AreDone file tries (threads ++ n ∷ []) later
-done_more m file tries passes w threads n rs later b h done u low = elim (cases_eq n u) [
-  | inl same ↦ inr (subst (IsDone file tries later) same (script_done m file tries passes w n rs later b h))
+pub done_more : (plan : Plan) (passes : ℕ) (w : View) (threads : List ℕ) (n : ℕ) (rs later : List Record) (b : Bool)
+    → IsScriptRun plan passes w n rs later b → AreDone plan threads rs → AreDone plan (threads ++ n ∷ []) later
+done_more plan passes w threads n rs later b h done u low = elim (cases_eq n u) [
+  | inl same ↦ inr (subst (IsDone plan later) same (script_done plan passes w n rs later b h))
   | inr other ↦ elim (done u low) [
     | inl none ↦ inl (let a = times_append u threads (n ∷ []) in let k = not_hit u n other in omega (arith, a, k, none))
-    | inr is ↦ inr (done_still file tries u rs later (h.adds.others u other) (λ position. h.adds.aborts (u, position) other) is)
+    | inr is ↦ inr (done_still plan u rs later (h.adds.others u other) (λ position. h.adds.aborts (u, position) other) is)
   ]
 ]
 
@@ -74,25 +74,25 @@ done_more m file tries passes w threads n rs later b h done u low = elim (cases_
 pub of_past : (threads : List ℕ) (n : ℕ) (rs : List Record) → AreOf threads rs → AreOf (threads ++ n ∷ []) rs
 of_past threads n rs h u none = h u (let a = times_append u threads (n ∷ []) in omega (arith, a, none))
 
-pub done_past : (file : File) (tries : ℕ) (threads : List ℕ) (n : ℕ) (rs : List Record) → length file.threads ≤ n → AreDone file tries threads rs → AreDone file tries (threads ++ n ∷ []) rs
-done_past file tries threads n rs far done u low = elim (done u low) [
+pub done_past : (plan : Plan) (threads : List ℕ) (n : ℕ) (rs : List Record) → length plan.file.threads ≤ n → AreDone plan threads rs → AreDone plan (threads ++ n ∷ []) rs
+done_past plan threads n rs far done u low = elim (done u low) [
   | inl none ↦ inl (let a = times_append u threads (n ∷ []) in let k = not_hit u n (λ is. absurd (omega (arith, is, low, far))) in omega (arith, a, k, none))
   | inr is ↦ inr is
 ]
 
 -- two passes are gathered
-pub done_both : (file : File) (tries : ℕ) (xs ys : List ℕ) (rs ss : List Record) → ((x : ℕ) → times x xs + times x ys ≤ 1) → AreOf xs rs → AreOf ys ss
-    → AreDone file tries xs rs → AreDone file tries ys ss → AreDone file tries (xs ++ ys) (rs ++ ss)
-done_both file tries xs ys rs ss apart own other h k u low = elim (either_list xs ys apart u) [
+pub done_both : (plan : Plan) (xs ys : List ℕ) (rs ss : List Record) → ((x : ℕ) → times x xs + times x ys ≤ 1) → AreOf xs rs → AreOf ys ss
+    → AreDone plan xs rs → AreDone plan ys ss → AreDone plan (xs ++ ys) (rs ++ ss)
+done_both plan xs ys rs ss apart own other h k u low = elim (either_list xs ys apart u) [
   | inl none ↦ elim (k u low) [
     | inl too ↦ inl (let a = times_append u xs ys in omega (arith, a, none, too))
-    | inr is ↦ inr (done_still file tries u ss (rs ++ ss)
+    | inr is ↦ inr (done_still plan u ss (rs ++ ss)
         (let a = ended_append u rs ss in let z = none_has_ended u rs (own u none) in omega (arith, a, z))
         (λ position. (let a = aborted_append (u, position) rs ss in let z = none_was_aborted (u, position) rs (own u none) in omega (arith, a, z))) is)
   ]
   | inr none ↦ elim (h u low) [
     | inl too ↦ inl (let a = times_append u xs ys in omega (arith, a, none, too))
-    | inr is ↦ inr (done_still file tries u rs (rs ++ ss)
+    | inr is ↦ inr (done_still plan u rs (rs ++ ss)
         (let a = ended_append u rs ss in let z = none_has_ended u ss (other u none) in omega (arith, a, z))
         (λ position. (let a = aborted_append (u, position) rs ss in let z = none_was_aborted (u, position) ss (other u none) in omega (arith, a, z))) is)
   ]

@@ -5,7 +5,6 @@ use Rattle.std.proofs.Common.{◌≡◌, ℕ, suc, ◌+◌, ◌<◌, ◌≤◌, 
 use Rattle.std.proofs.lemmas.Bool.{cases_eq}
 use Rattle.std.proofs.lemmas.List.Elements.{All-append, All-weaker}
 use Rattle.sto_lang.specs.Scripts.{File}
-use Rattle.sto_type.specs.Meaning.{Meaning}
 use Rattle.sto_core.specs.declared.view.View.{View}
 use Rattle.sto_core.specs.Lists.{Each, weight}
 use Rattle.sto_core.specs.Gathered.{gathered_into}
@@ -22,6 +21,7 @@ use Rattle.sto_run_threads.specs.Running.{ended_of, IsUpTo, IsUnderWay, AreUnder
 use Rattle.sto_run_threads.specs.Worked.{HasWorked, AreOf, IsFresh, AddsTo, AbortsNone}
 use Rattle.sto_run_threads.proofs.Found.{found_both}
 use Rattle.sto_run_threads.proofs.Threads.{positions_in, none_ended}
+use Rattle.sto_run_threads.specs.Plans.{Plan}
 
 pub times_append : (x : ℕ) (xs ys : List ℕ) → times x (xs ++ ys) ≡ times x xs + times x ys
 times_append x [] ys = omega arith
@@ -63,9 +63,9 @@ pub nothing_of : (rs : List Record) → rs ≡ [] → AreOf [] rs
 nothing_of rs is thread none = subst (HasNone thread) (sym is) (λ k d l. absurd (omega (arith, l)))
 
 -- nothing was run
-pub none_worked : (m : Meaning) (file : File) (tries : ℕ) (v : View) (rs : List Record) → rs ≡ [] → HasWorked m file tries v rs
-none_worked m file tries v rs is = subst (HasWorked m file tries v) (sym is) (record {
-  so_far = none_so_far m file tries v;
+pub none_worked : (plan : Plan) (v : View) (rs : List Record) → rs ≡ [] → HasWorked plan v rs
+none_worked plan v rs is = subst (HasWorked plan v) (sym is) (record {
+  so_far = none_so_far plan.meaning plan.file plan.tries v;
   found = λ k d l. absurd (omega (arith, l));
   under_way = λ thread. record { order = refl; comes = λ k d l. absurd (omega (arith, l)); within = omega arith };
 })
@@ -109,14 +109,14 @@ either_list xs ys apart x = elim (cases_eq (times x xs) 0) [
 ]
 
 -- The records of two passes, of which each thread has none in one, are those of the pass that gathers both.
-pub gathered_apart : (m : Meaning) (file : File) (tries : ℕ) (v u : View) (rs ss : List Record) → ((thread : ℕ) → HasNone thread rs ⊎ HasNone thread ss)
-    → HasWorked m file tries v rs → HasWorked m file tries u ss → HasWorked m file tries (gathered_into v u) (rs ++ ss)
-gathered_apart m file tries v u rs ss apart h k = record {
-  so_far = gathered_so_far m file tries v u rs ss pairs each h.so_far k.so_far;
+pub gathered_apart : (plan : Plan) (v u : View) (rs ss : List Record) → ((thread : ℕ) → HasNone thread rs ⊎ HasNone thread ss)
+    → HasWorked plan v rs → HasWorked plan u ss → HasWorked plan (gathered_into v u) (rs ++ ss)
+gathered_apart plan v u rs ss apart h k = record {
+  so_far = gathered_so_far plan.meaning plan.file plan.tries v u rs ss pairs each h.so_far k.so_far;
   found = found_both v u (gathered_into v u) rs ss (first_grows v u) (second_grows v u) h.found k.found;
   under_way = λ thread. elim (apart thread) [
-    | inl none ↦ in_second file rs ss thread none (k.under_way thread)
-    | inr none ↦ in_first file rs ss thread none (h.under_way thread)
+    | inl none ↦ in_second plan.file rs ss thread none (k.under_way thread)
+    | inr none ↦ in_first plan.file rs ss thread none (h.under_way thread)
   ];
 }
   where
@@ -143,10 +143,10 @@ gathered_apart m file tries v u rs ss apart h k = record {
     pairs = owned rs (λ thread. elim (apart thread) [ inl none ↦ inl (none_of thread rs none) | inr none ↦ inr none ])
 
 -- The same where they claimed different threads.
-pub gathered_worked : (m : Meaning) (file : File) (tries : ℕ) (v u : View) (xs ys : List ℕ) (rs ss : List Record) → ((x : ℕ) → times x xs + times x ys ≤ 1)
-    → AreOf xs rs → AreOf ys ss → HasWorked m file tries v rs → HasWorked m file tries u ss → HasWorked m file tries (gathered_into v u) (rs ++ ss)
-gathered_worked m file tries v u xs ys rs ss apart own other =
-    gathered_apart m file tries v u rs ss
+pub gathered_worked : (plan : Plan) (v u : View) (xs ys : List ℕ) (rs ss : List Record) → ((x : ℕ) → times x xs + times x ys ≤ 1)
+    → AreOf xs rs → AreOf ys ss → HasWorked plan v rs → HasWorked plan u ss → HasWorked plan (gathered_into v u) (rs ++ ss)
+gathered_worked plan v u xs ys rs ss apart own other =
+    gathered_apart plan v u rs ss
     (λ thread. elim (either_list xs ys apart thread) [ inl none ↦ inl (own thread none) | inr none ↦ inr (other thread none) ])
 
 pub gathered_of : (xs ys : List ℕ) (rs ss : List Record) → AreOf xs rs → AreOf ys ss → AreOf (xs ++ ys) (rs ++ ss)

@@ -2,8 +2,6 @@
 use Rattle.std.specs.Prelude.{nat_lt, if◌then◌else◌}
 use Rattle.std.proofs.Common.{◌≡◌, ℕ, ◌<◌, List, [], ◌∷◌, sym, ap, ◌∙◌, subst, arith, Bool, true}
 use Rattle.std.proofs.lemmas.Bool.Decides.{nat_tests}
-use Rattle.sto_lang.specs.Scripts.{File}
-use Rattle.sto_type.specs.Meaning.{Meaning}
 use Rattle.sto_core.specs.declared.view.View.{View}
 use Rattle.sto_core.specs.Core.{Core}
 use Rattle.sto_core.specs.Closed.{ClosedWords, live_view, reopened_from}
@@ -12,12 +10,12 @@ use Rattle.sto_plain.specs.Passes.{view_of}
 use Rattle.sto_attempt_facts.specs.Records.{Record}
 use Rattle.sto_history.proofs.Growing.{reopened_grows}
 use Rattle.sto_serializability.proofs.Gathering.{reopened_so_far}
-use Rattle.sto_transaction.specs.Resting.{IsAtRest}
 use Rattle.sto_run_threads.specs.Worked.{HasWorked}
 use Rattle.sto_run_threads.proofs.Found.{all_found_later}
 use Rattle.sto_run_threads.specs.Accounts.{HasAll}
 use Rattle.sto_run_threads.proofs.Accounts.{reopened_all}
 use Rattle.sto_transaction.proofs.Resting.{reopened_rests}
+use Rattle.sto_run_threads.specs.Plans.{Plan, Rests}
 
 live_is : (v : View) → 0 < v.gathered → live_view (v ∷ []) ≡ v
 live_is v l = let e : nat_lt 0 v.gathered ≡ true = grind (arith, nat_tests, l) in ap (λ (b : Bool). if b then v else live_view []) e
@@ -29,19 +27,19 @@ reopened_pass w v is live =
     ∙ ap (λ (u : View). reopened_view u.sizes u.opening (v ∷ [])) (live_is v live)
 
 -- what was told of the pass that was closed
-pub record IsReopened (m : Meaning) (sizes : List ℕ) (file : File) (tries need : ℕ) (u : View) (rs : List Record) : Type 0 where
-  pub rests : IsAtRest m sizes u
-  pub worked : HasWorked m file tries u rs
+pub record IsReopened (plan : Plan) (need : ℕ) (u : View) (rs : List Record) : Type 0 where
+  pub rests : Rests plan u
+  pub worked : HasWorked plan u rs
   pub all : HasAll need 1 u rs
 
-pub reopened_whole : (m : Meaning) (sizes : List ℕ) (file : File) (tries need passes : ℕ) (w : ClosedWords) (v : View) (rs : List Record) (p : Core)
-    → p ≡ reopened_from w → w.views ≡ v ∷ [] → 0 < v.gathered → IsAtRest m sizes v → HasWorked m file tries v rs → HasAll need passes v rs
-    → IsReopened m sizes file tries need (view_of p 0) rs
-reopened_whole m sizes file tries need passes w v rs p of is live rests worked all =
-    subst (λ (u : View). IsReopened m sizes file tries need u rs) (sym (ap (λ (c : Core). view_of c 0) of ∙ reopened_pass w v is live)) (record {
-      rests = reopened_rests m sizes v rests;
+pub reopened_whole : (plan : Plan) (need passes : ℕ) (w : ClosedWords) (v : View) (rs : List Record) (p : Core)
+    → p ≡ reopened_from w → w.views ≡ v ∷ [] → 0 < v.gathered → Rests plan v → HasWorked plan v rs → HasAll need passes v rs
+    → IsReopened plan need (view_of p 0) rs
+reopened_whole plan need passes w v rs p of is live rests worked all =
+    subst (λ (u : View). IsReopened plan need u rs) (sym (ap (λ (c : Core). view_of c 0) of ∙ reopened_pass w v is live)) (record {
+      rests = reopened_rests plan.meaning plan.sizes v rests;
       worked = record {
-        so_far = reopened_so_far m file tries v.sizes v.opening v rs worked.so_far;
+        so_far = reopened_so_far plan.meaning plan.file plan.tries v.sizes v.opening v rs worked.so_far;
         found = all_found_later v (reopened_view v.sizes v.opening (v ∷ [])) rs (reopened_grows v.sizes v.opening v) worked.found;
         under_way = worked.under_way;
       };

@@ -22,6 +22,7 @@ use Rattle.sto_run_threads.specs.Ran.{HasRunAt}
 use Rattle.sto_run_threads.specs.Worked.{HasWorked, WasFound, IsFresh, AddsTo, AbortsNone, IsNext, IsOneMore}
 use Rattle.sto_run_threads.proofs.Found.{found_more}
 use Rattle.sto_run_threads.proofs.Threads.{length_numbers, positions_in, none_ended, all_aborted}
+use Rattle.sto_run_threads.specs.Plans.{Plan}
 
 -- the new records are of the thread, and of the position after those that ended
 placed_up : (thread ended : ℕ) (r : Record) → r.place ≡ (thread, suc ended) → IsUpTo thread (suc ended) r
@@ -108,27 +109,27 @@ other_same file rs new place thread other h placed = (
     count = ap length same
 
 -- Attempts of the next transaction of a thread add their records.
-pub next_more : (m : Meaning) (file : File) (tries : ℕ) (v w : View) (thread : ℕ) (rs new : List Record) (script : Script) (ended : Bool)
-    → HasWorked m file tries v rs → suc (ended_of thread rs) ≤ count_in file.threads thread → transaction_at file (thread, suc (ended_of thread rs)) ≡ Some script
-    → HasAdded m tries v w (meaning_of script) (thread, suc (ended_of thread rs)) new → AreFound w (v.starts + 1) new
-    → aborted_times (thread, suc (ended_of thread rs)) rs + aborted_times (thread, suc (ended_of thread rs)) new ≤ tries
-    → finished_places new ≡ (if ended then (thread, suc (ended_of thread rs)) ∷ [] else []) → IsNext m file tries w thread rs (rs ++ new) ended
-next_more m file tries v w thread rs new script ended h there at added finding few ends = by ended ends
+pub next_more : (plan : Plan) (v w : View) (thread : ℕ) (rs new : List Record) (script : Script) (ended : Bool)
+    → HasWorked plan v rs → suc (ended_of thread rs) ≤ count_in plan.file.threads thread → transaction_at plan.file (thread, suc (ended_of thread rs)) ≡ Some script
+    → HasAdded plan.meaning plan.tries v w (meaning_of script) (thread, suc (ended_of thread rs)) new → AreFound w (v.starts + 1) new
+    → aborted_times (thread, suc (ended_of thread rs)) rs + aborted_times (thread, suc (ended_of thread rs)) new ≤ plan.tries
+    → finished_places new ≡ (if ended then (thread, suc (ended_of thread rs)) ∷ [] else []) → IsNext plan w thread rs (rs ++ new) ended
+next_more plan v w thread rs new script ended h there at added finding few ends = by ended ends
   where
     placed : Every (λ (r : Record). r.place ≡ (thread, suc (ended_of thread rs))) new
-    placed = placed_all m v w script (thread, suc (ended_of thread rs)) new added.each
+    placed = placed_all plan.meaning v w script (thread, suc (ended_of thread rs)) new added.each
 
-    so_far : AreSoFar m file tries w (rs ++ new)
-    so_far = more_so_far m file tries v w rs new (thread, suc (ended_of thread rs)) script at
+    so_far : AreSoFar plan.meaning plan.file plan.tries w (rs ++ new)
+    so_far = more_so_far plan.meaning plan.file plan.tries v w rs new (thread, suc (ended_of thread rs)) script at
         (every (IsUpTo thread (ended_of thread rs)) rs (h.under_way thread).comes) h.so_far added few
 
     found : All (WasFound w) (rs ++ new)
     found = found_more v w rs new (v.starts + 1) added.grows h.found finding
 
-    all : IsUnderWay file (rs ++ new) thread → AreUnderWay file (rs ++ new)
+    all : IsUnderWay plan.file (rs ++ new) thread → AreUnderWay plan.file (rs ++ new)
     all here u = elim (cases_eq thread u) [
-      | inl same ↦ subst (IsUnderWay file (rs ++ new)) same here
-      | inr other ↦ (other_same file rs new (thread, suc (ended_of thread rs)) u other (h.under_way u) placed).1
+      | inl same ↦ subst (IsUnderWay plan.file (rs ++ new)) same here
+      | inr other ↦ (other_same plan.file rs new (thread, suc (ended_of thread rs)) u other (h.under_way u) placed).1
     ]
 
     adds : AddsTo thread rs (rs ++ new)
@@ -137,7 +138,7 @@ next_more m file tries v w thread rs new script ended h there at added finding f
           (all_of (λ (r : Record). r.place.0 ≡ u → ⊥) new
           (every_weaker (λ (r : Record). r.place ≡ (thread, suc (ended_of thread rs))) (λ (r : Record). r.place.0 ≡ u → ⊥)
           (λ r is e. other (sym (ap (λ (x : Place). x.0) is) ∙ e)) new placed));
-      others = λ u other. (other_same file rs new (thread, suc (ended_of thread rs)) u other (h.under_way u) placed).0;
+      others = λ u other. (other_same plan.file rs new (thread, suc (ended_of thread rs)) u other (h.under_way u) placed).0;
       aborts = λ place other.
           (let a = aborted_append place rs new in
           let n = none_aborted place new (every_weaker (λ (r : Record). r.place ≡ (thread, suc (ended_of thread rs))) (λ (r : Record). r.place.0 ≡ place.0 → r.place.1 ≡ place.1 → ⊥)
@@ -152,16 +153,16 @@ next_more m file tries v w thread rs new script ended h there at added finding f
         (every_weaker (λ (r : Record). r.place ≡ (thread, suc (ended_of thread rs))) (λ (r : Record). r.place.0 ≡ thread → r.place.1 ≡ suc (suc (ended_of thread rs)) → ⊥)
         (λ r is e g. (let p = ap (λ (x : Place). x.1) is in omega (arith, p, g))) new placed))
 
-    by : (b : Bool) → finished_places new ≡ (if b then (thread, suc (ended_of thread rs)) ∷ [] else []) → IsNext m file tries w thread rs (rs ++ new) b
+    by : (b : Bool) → finished_places new ≡ (if b then (thread, suc (ended_of thread rs)) ∷ [] else []) → IsNext plan w thread rs (rs ++ new) b
     by true last =
-        let k = own_ended file rs new thread (h.under_way thread) there placed last in record {
+        let k = own_ended plan.file rs new thread (h.under_way thread) there placed last in record {
           worked = record { so_far = so_far; found = found; under_way = all k.1 };
           adds = adds;
           more = λ e. (k.0, subst (λ (n : ℕ). aborted_times (thread, suc n) (rs ++ new) ≡ 0) (sym k.0) untried);
           left = λ e. absurd (true≢false e);
         }
     by false last =
-        let k = own_left file rs new thread (h.under_way thread) placed last in record {
+        let k = own_left plan.file rs new thread (h.under_way thread) placed last in record {
           worked = record { so_far = so_far; found = found; under_way = all k.1 };
           adds = adds;
           more = λ e. absurd (true≢false (sym e));
@@ -185,28 +186,28 @@ none_else thread position rs new adds placed none place = elim (cases_eq thread 
 ]
 
 -- A run of the next transaction adds its records.
-pub one_more : (m : Meaning) (sizes : List ℕ) (file : File) (tries passes : ℕ) (v w : View) (thread : ℕ) (rs later : List Record) (ended : Bool)
-    → HasWorked m file tries v rs → suc (ended_of thread rs) ≤ count_in file.threads thread → IsFresh passes thread rs
-    → HasRunAt m sizes file tries passes v w (thread, suc (ended_of thread rs)) rs later ended → IsOneMore m file tries passes w thread rs later ended
-one_more m sizes file tries passes v w thread rs later ended h there fresh run =
-    subst (λ (l : List Record). IsOneMore m file tries passes w thread rs l ended) (sym run.ran.whole) (record {
+pub one_more : (plan : Plan) (passes : ℕ) (v w : View) (thread : ℕ) (rs later : List Record) (ended : Bool)
+    → HasWorked plan v rs → suc (ended_of thread rs) ≤ count_in plan.file.threads thread → IsFresh passes thread rs
+    → HasRunAt plan passes v w (thread, suc (ended_of thread rs)) rs later ended → IsOneMore plan passes w thread rs later ended
+one_more plan passes v w thread rs later ended h there fresh run =
+    subst (λ (l : List Record). IsOneMore plan passes w thread rs l ended) (sym run.ran.whole) (record {
       next = next;
       fresh = λ on. inr (next.more on).1;
-      used = λ off. subst (λ (n : ℕ). aborted_times (thread, suc n) (rs ++ run.ran.new) ≡ tries) (sym (next.left off))
+      used = λ off. subst (λ (n : ℕ). aborted_times (thread, suc n) (rs ++ run.ran.new) ≡ plan.tries) (sym (next.left off))
           (let a = aborted_append (thread, suc (ended_of thread rs)) rs run.ran.new in let u = run.ran.used off in
           let f = next.worked.so_far.few (thread, suc (ended_of thread rs)) in omega (arith, a, u, f));
       alone = λ one. (
         (run.ran.alone one).0,
         none_else thread (suc (ended_of thread rs)) rs run.ran.new next.adds
-            (placed_all m v w run.script (thread, suc (ended_of thread rs)) run.ran.new run.ran.added.each) (run.ran.alone one).1,
+            (placed_all plan.meaning v w run.script (thread, suc (ended_of thread rs)) run.ran.new run.ran.added.each) (run.ran.alone one).1,
       );
     })
   where
-    few : aborted_times (thread, suc (ended_of thread rs)) rs + aborted_times (thread, suc (ended_of thread rs)) run.ran.new ≤ tries
+    few : aborted_times (thread, suc (ended_of thread rs)) rs + aborted_times (thread, suc (ended_of thread rs)) run.ran.new ≤ plan.tries
     few = elim fresh [
       | inl one ↦ (let a = (run.ran.alone one).1 in let b = h.so_far.few (thread, suc (ended_of thread rs)) in omega (arith, a, b))
       | inr none ↦ (let b = run.ran.added.few in omega (arith, none, b))
     ]
 
-    next : IsNext m file tries w thread rs (rs ++ run.ran.new) ended
-    next = next_more m file tries v w thread rs run.ran.new run.script ended h there run.there run.ran.added run.ran.found few run.ran.ends
+    next : IsNext plan w thread rs (rs ++ run.ran.new) ended
+    next = next_more plan v w thread rs run.ran.new run.script ended h there run.there run.ran.added run.ran.found few run.ran.ends

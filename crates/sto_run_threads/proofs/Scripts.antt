@@ -14,6 +14,7 @@ use Rattle.sto_transaction.specs.Resting.{IsAtRest}
 use Rattle.sto_transaction.specs.Ran.{HasBroken}
 use Rattle.sto_transaction.proofs.Tries.{none_retried, broken_before}
 use Rattle.sto_run_threads.proofs.Runs.{one_more}
+use Rattle.sto_run_threads.specs.Plans.{Plan}
 
 -- one of so many items is there
 item_there : (scripts : List Script) (n : ℕ) → n < length scripts → (s : Script) × (slice_get scripts n ≡ Some s)
@@ -47,21 +48,21 @@ pub aborts_none_through : (rs ss ts : List Record) → AbortsNone rs ss → Abor
 aborts_none_through rs ss ts h k place = k place ∙ h place
 
 -- the run of the next transaction, where so many have ended
-pub script_step : (m : Meaning) (sizes : List ℕ) (file : File) (tries passes now : ℕ) (v w : View) (thread position : ℕ) (rs later : List Record) (ended : Bool)
-    → now ≡ passes → ended_of thread rs ≡ position → position < count_in file.threads thread → IsFresh passes thread rs → HasWorked m file tries v rs
-    → HasRunAt m sizes file tries now v w (thread, position + 1) rs later ended → IsOneMore m file tries passes w thread rs later ended
-script_step m sizes file tries passes now v w thread position rs later ended same is there fresh h ran =
+pub script_step : (plan : Plan) (passes now : ℕ) (v w : View) (thread position : ℕ) (rs later : List Record) (ended : Bool)
+    → now ≡ passes → ended_of thread rs ≡ position → position < count_in plan.file.threads thread → IsFresh passes thread rs → HasWorked plan v rs
+    → HasRunAt plan now v w (thread, position + 1) rs later ended → IsOneMore plan passes w thread rs later ended
+script_step plan passes now v w thread position rs later ended same is there fresh h ran =
     let e : position + 1 ≡ suc (ended_of thread rs) = omega (arith, is) in
-    one_more m sizes file tries passes v w thread rs later ended h (omega (arith, is, there)) fresh
-    (subst (λ (n : ℕ). HasRunAt m sizes file tries n v w (thread, suc (ended_of thread rs)) rs later ended) same
-    (subst (λ (p : ℕ). HasRunAt m sizes file tries now v w (thread, p) rs later ended) e ran))
+    one_more plan passes v w thread rs later ended h (omega (arith, is, there)) fresh
+    (subst (λ (n : ℕ). HasRunAt plan n v w (thread, suc (ended_of thread rs)) rs later ended) same
+    (subst (λ (p : ℕ). HasRunAt plan now v w (thread, p) rs later ended) e ran))
 
 -- it is handed back
-pub script_left : (m : Meaning) (sizes : List ℕ) (file : File) (tries passes now : ℕ) (v w : View) (thread position : ℕ) (first rs later : List Record) (ended : Bool)
-    → now ≡ passes → ended_of thread rs ≡ position → position < count_in file.threads thread → IsFresh passes thread rs → HasWorked m file tries v rs
-    → HasRunAt m sizes file tries now v w (thread, position + 1) rs later ended → ended ≡ false → AddsTo thread first rs → IsScriptRun m file tries passes w thread first later false
-script_left m sizes file tries passes now v w thread position first rs later ended same is there fresh h ran off adds =
-    let k = script_step m sizes file tries passes now v w thread position rs later ended same is there fresh h ran in record {
+pub script_left : (plan : Plan) (passes now : ℕ) (v w : View) (thread position : ℕ) (first rs later : List Record) (ended : Bool)
+    → now ≡ passes → ended_of thread rs ≡ position → position < count_in plan.file.threads thread → IsFresh passes thread rs → HasWorked plan v rs
+    → HasRunAt plan now v w (thread, position + 1) rs later ended → ended ≡ false → AddsTo thread first rs → IsScriptRun plan passes w thread first later false
+script_left plan passes now v w thread position first rs later ended same is there fresh h ran off adds =
+    let k = script_step plan passes now v w thread position rs later ended same is there fresh h ran in record {
       worked = k.next.worked;
       adds = adds_through thread first rs later adds k.next.adds;
       all = λ e. absurd (true≢false (sym e));

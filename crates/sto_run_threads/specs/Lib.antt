@@ -1,9 +1,12 @@
 pub mod Counts
+pub mod Plans
+pub mod Told
 pub mod Running
 pub mod Ran
 pub mod Worked
 pub mod Accounts
 pub mod Teams
+pub mod Runs
 pub mod Taken
 pub use Rattle.sto_core.specs.Gathered
 pub use Rattle.sto_plain.specs.Passes

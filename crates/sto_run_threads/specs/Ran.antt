@@ -5,11 +5,11 @@ use Rattle.sto_model.specs.Run.{Script as Steps}
 use Rattle.sto_lang.specs.Scripts.{Script, File}
 use Rattle.sto_script.specs.Meaning.{meaning_of}
 use Rattle.sto_script.specs.Asks.{Asks}
-use Rattle.sto_type.specs.Meaning.{Meaning}
 use Rattle.sto_core.specs.declared.view.View.{View}
 use Rattle.sto_report_spec.specs.Orders.{Place, transaction_at}
 use Rattle.sto_attempt_facts.specs.Records.{Record}
 use Rattle.sto_transaction.specs.Ran.{HasRun, HasBroken}
+use Rattle.sto_run_threads.specs.Plans.{Plan}
 
 -- the file has a transaction at the place
 pub record IsTransaction (file : File) (place : Place) : Type 0 where
@@ -23,15 +23,15 @@ pub record IsBodyAt (file : File) (place : Place) (steps : Steps) (MayAsk : Call
   pub does : steps ≡ meaning_of script
   pub asks : (call : Call) → MayAsk call → Asks script.body call
 
--- from the view v to the view w, on words with so many passes, that transaction was run with so many tries. It has ended, or is
+-- from the view v to the view w, on words with so many passes, that transaction was run with the tries of the plan. It has ended, or is
 -- handed back
-pub record HasRunAt (m : Meaning) (sizes : List ℕ) (file : File) (tries passes : ℕ) (v w : View) (place : Place) (before later : List Record) (ended : Bool) : Type 0 where
+pub record HasRunAt (plan : Plan) (passes : ℕ) (v w : View) (place : Place) (before later : List Record) (ended : Bool) : Type 0 where
   pub script : Script
-  pub there : transaction_at file place ≡ Some script
-  pub ran : HasRun m sizes tries passes v w (meaning_of script) place before later ended
+  pub there : transaction_at plan.file place ≡ Some script
+  pub ran : HasRun plan.meaning plan.sizes plan.tries passes v w (meaning_of script) place before later ended
 
 -- memory was wanting in a run of that transaction
-pub record HasBrokenAt (m : Meaning) (sizes : List ℕ) (file : File) (tries : ℕ) (v w : View) (place : Place) (before later : List Record) : Type 0 where
+pub record HasBrokenAt (plan : Plan) (v w : View) (place : Place) (before later : List Record) : Type 0 where
   pub script : Script
-  pub there : transaction_at file place ≡ Some script
-  pub broken : HasBroken m sizes tries v w (meaning_of script) place before later
+  pub there : transaction_at plan.file place ≡ Some script
+  pub broken : HasBroken plan.meaning plan.sizes plan.tries v w (meaning_of script) place before later

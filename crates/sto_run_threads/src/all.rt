@@ -1,15 +1,12 @@
 //! All workers of a table.
-ghost use Rattle.std.specs.Prelude.{◌≡◌, ◌≤◌, ◌<◌, ◌*◌, ◌^◌, ℕ, [], length, map, sum_by, IfOk};
+ghost use Rattle.std.specs.Prelude.{◌≡◌, ◌≤◌, ◌<◌, ℕ, length, map, IfOk};
 ghost use Rattle.std.specs.List.{All};
 ghost use Rattle.std.specs.Vec.{vec_len};
-ghost use Rattle.sto_transaction.specs.Plain.{plain};
-ghost use Rattle.sto_claims.specs.Taken.{taken};
-ghost use Rattle.sto_table.specs.Rests.{IsOf};
-ghost use Rattle.sto_run_threads.specs.Accounts.{HasGathered};
-ghost use Rattle.sto_run_threads.specs.Counts.{scripts_from};
-ghost use Rattle.sto_transaction.specs.Resting.{IsAtRest};
-ghost use Rattle.sto_run_threads.specs.Worked.{HasWorked, IsDone, AbortsNone};
-ghost use Rattle.sto_run_threads.specs.Teams.{IsReady, IsHired};
+ghost use Rattle.sto_run_threads.specs.Accounts.{Gathers};
+ghost use Rattle.sto_run_threads.specs.Told.{told_in};
+ghost use Rattle.sto_run_threads.specs.Worked.{IsDone};
+ghost use Rattle.sto_run_threads.specs.Teams.{IsReady, IsNew, IsHired, HaveWorked, view_at, views_of, seats_of};
+ghost use Rattle.sto_run_threads.specs.Plans.{thread_count};
 
 use crate::halves::work_halves;
 use crate::one::Work;
@@ -38,15 +35,12 @@ fn hire<T: Naming, W: Work<T>>(
     claimers: List<Claimer>,
 ) -> Result<Vec<Worker<T>>, NoMemory>
     requires many { length rests.items ≡ length claimers.items }
-    requires ready { All (λ r. IsReady shared.now (W.meaning work.now) (W.sizes work.now) (W.file work.now) (W.tries work.now) r.seat)
-        rests.items }
-    requires fresh { All (λ c. (c.seat.table_id ≡ claims.now.table.shared.table_id) × (c.seat.me.0 ≡ taken [] 1)) claimers.items }
-    ensures hired { IfOk result (λ v. All (λ w. IsHired shared.now claims.now (W.meaning work.now) (W.sizes work.now) (W.file work.now)
-        (W.tries work.now) w.rest.seat w.claimer.seat) v.items) }
-    ensures many { IfOk result (λ v. vec_len v ≡ length rests.items) }
-    ensures gathered { IfOk result (λ v. (need : _) (w : _) (rs : _) → HasGathered need (map (λ w. w.rest.seat.me.0.view) v.items) w rs
-        → HasGathered need (map (λ r. r.seat.me.0.view) rests.items) w rs) }
-    ensures seats { IfOk result (λ v. sum_by (λ w. w.claimer.seat.me.0.seats) v.items ≡ length claimers.items) }
+    requires ready { All (IsReady shared.now (W.plan work.now)) rests.items }
+    requires new { All (IsNew claims.now) claimers.items }
+    ensures hired { IfOk result (λ workers. All (IsHired shared.now claims.now (W.plan work.now)) workers.items) }
+    ensures many { IfOk result (λ workers. vec_len workers ≡ length rests.items) }
+    ensures gathered { IfOk result (λ workers. Gathers (views_of workers.items) (map view_at rests.items)) }
+    ensures seats { IfOk result (λ workers. seats_of workers.items ≡ length claimers.items) }
 {
     let mut rests = rests;
     let mut claimers = claimers;
@@ -73,17 +67,10 @@ pub fn work_all<R: Threads + Sync, T: Naming + Send + Sync, W: Work<T> + Sync>(
 ) -> Result<Worked<T>, NoMemory>
     requires ready { W.ready work.now }
     requires some { 1 ≤ length rests.items }
-    requires rests { All (λ r. IsReady shared.now (W.meaning work.now) (W.sizes work.now) (W.file work.now) (W.tries work.now) r.seat)
-        rests.items }
-    ensures of { IfOk result (λ d. IsOf shared.now d.rest.seat) }
-    ensures rests { IfOk result (λ d. IsAtRest (W.meaning work.now) (W.sizes work.now) d.rest.seat.me.0.view) }
-    ensures worked { IfOk result (λ d. HasWorked (W.meaning work.now) (W.file work.now) (W.tries work.now) d.rest.seat.me.0.view
-        (map plain d.records.items)) }
-    ensures done { IfOk result (λ d. (thread : ℕ) → thread < length (W.file work.now).threads
-        → IsDone (W.file work.now) (W.tries work.now) (map plain d.records.items) thread) }
-    ensures alone { IfOk result (λ d. shared.now.table.shared.key.passes ≡ 1 → AbortsNone [] (map plain d.records.items)) }
-    ensures gathered { IfOk result (λ d. HasGathered (W.tries work.now * scripts_from (W.file work.now).threads 0)
-        (map (λ r. r.seat.me.0.view) rests.items) d.rest.seat.me.0.view (map plain d.records.items)) }
+    requires rests { All (IsReady shared.now (W.plan work.now)) rests.items }
+    ensures worked { IfOk result (HaveWorked shared.now (W.plan work.now) (map view_at rests.items)) }
+    ensures done { IfOk result (λ all. (thread : ℕ) → thread < thread_count (W.plan work.now)
+        → IsDone (W.plan work.now) (told_in all.records) thread) }
 {
     let OpenedClaims { claims, claimers } = open_claims(alloc, work.threads(), rests.len())?;
     let workers = hire(work, alloc, shared, &claims, rests, claimers)?;

@@ -1,14 +1,11 @@
 //! A whole file.
-ghost use Rattle.std.specs.Prelude.{◌≡◌, ◌≤◌, ◌+◌, ◌*◌, ◌^◌, [], map, length, IfOk};
-ghost use Rattle.sto_transaction.specs.Plain.{plain};
-ghost use Rattle.sto_serializability.specs.Finished.{AreFinished};
-ghost use Rattle.sto_plain.specs.Passes.{view_of};
-ghost use Rattle.sto_table.specs.Rests.{IsOf};
-ghost use Rattle.std.specs.List.{All};
-ghost use Rattle.sto_run_threads.specs.Counts.{scripts_from};
+ghost use Rattle.std.specs.Prelude.{◌≡◌, ◌≤◌, [], IfOk};
+ghost use Rattle.sto_run_threads.specs.Plans.{Opens, draws_of};
+ghost use Rattle.sto_run_threads.specs.Told.{told_in};
 ghost use Rattle.sto_run_threads.specs.Accounts.{HasAll};
-ghost use Rattle.sto_run_threads.specs.Worked.{HasWorked, WasFound, AbortsNone};
-ghost use Rattle.sto_transaction.specs.Resting.{IsAtRest};
+ghost use Rattle.sto_run_threads.specs.Worked.{AbortsNone};
+ghost use Rattle.sto_run_threads.specs.Teams.{HasMade, view_at};
+ghost use Rattle.sto_run_threads.specs.Runs.{IsFinished, IsAccounted};
 
 use crate::all::{Worked, work_all};
 use crate::left::run_left;
@@ -35,19 +32,11 @@ pub fn run_rest<T: Naming, W: Work<T>>(
     worked: Worked<T>,
 ) -> Result<FinishedRun<T>, NoMemory>
     requires ready { W.ready work.now }
-    requires of { IsOf shared worked.rest.seat }
-    requires rests { IsAtRest (W.meaning work.now) (W.sizes work.now) worked.rest.seat.me.0.view }
-    requires worked { HasWorked (W.meaning work.now) (W.file work.now) (W.tries work.now) worked.rest.seat.me.0.view
-        (map plain worked.records.items) }
-    requires all { HasAll (W.tries work.now * scripts_from (W.file work.now).threads 0) shared.table.shared.key.passes
-        worked.rest.seat.me.0.view (map plain worked.records.items) }
-    ensures one { IfOk result (λ e. (length e.words.views ≡ 1) × (length e.words.statuses ≡ 1)) }
-    ensures rests { IfOk result (λ e. IsAtRest (W.meaning work.now) (W.sizes work.now) (view_of e.words 0)) }
-    ensures starts { IfOk result (λ e. (view_of e.words 0).starts ≡ length e.records.items) }
-    ensures found { IfOk result (λ e. All (WasFound (view_of e.words 0)) (map plain e.records.items)) }
-    ensures none { IfOk result (λ e. AbortsNone (map plain worked.records.items) (map plain e.records.items)) }
-    ensures finished { IfOk result (λ e. AreFinished (W.meaning work.now) (W.file work.now) (W.tries work.now) (view_of e.words 0)
-        (map plain e.records.items)) }
+    requires made { HasMade shared (W.plan work.now) worked.rest (told_in worked.records) }
+    requires all { HasAll (draws_of (W.plan work.now)) shared.table.shared.key.passes (view_at worked.rest) (told_in worked.records) }
+    ensures finished { IfOk result (IsFinished (W.plan work.now)) }
+    ensures accounted { IfOk result IsAccounted }
+    ensures none { IfOk result (λ run. AbortsNone (told_in worked.records) (told_in run.records)) }
 {
     let Worked { mut records, rest } = worked;
     let closed = close(alloc, shared, rest)?;
@@ -73,18 +62,12 @@ pub fn run_threads<R: Threads + Sync, T: Naming + Send + Sync, W: Work<T> + Sync
     workers: u32,
 ) -> Result<FinishedRun<T>, NoMemory>
     requires ready { W.ready work.now }
-    requires ty { (T.sizes ty.now ≡ W.sizes work.now) × (contents.now.items ≡ (W.meaning work.now).opened) }
-    requires valid { T.valid (T.sizes ty.now) contents.now.items }
+    requires opens { Opens (W.plan work.now) T.valid (T.sizes ty.now) contents.now.items }
     requires workers { (1 ≤ workers) × (workers ≤ 65536) }
-    requires few { W.tries work.now * scripts_from (W.file work.now).threads 0 + W.tries work.now * scripts_from (W.file work.now).threads 0
-        ≤ 2 ^ 40 }
-    ensures one { IfOk result (λ e. (length e.words.views ≡ 1) × (length e.words.statuses ≡ 1)) }
-    ensures rests { IfOk result (λ e. IsAtRest (W.meaning work.now) (W.sizes work.now) (view_of e.words 0)) }
-    ensures starts { IfOk result (λ e. (view_of e.words 0).starts ≡ length e.records.items) }
-    ensures found { IfOk result (λ e. All (WasFound (view_of e.words 0)) (map plain e.records.items)) }
-    ensures alone { IfOk result (λ e. workers ≡ 1 → AbortsNone [] (map plain e.records.items)) }
-    ensures finished { IfOk result (λ e. AreFinished (W.meaning work.now) (W.file work.now) (W.tries work.now) (view_of e.words 0)
-        (map plain e.records.items)) }
+    ensures finished { IfOk result (IsFinished (W.plan work.now)) }
+    ensures accounted { IfOk result IsAccounted }
+    // With one worker no attempt is aborted.
+    ensures alone { IfOk result (λ run. workers ≡ 1 → AbortsNone [] (told_in run.records)) }
 {
     let Opened { shared, rests } = open(alloc, ty, contents, workers)?;
     let worked = work_all(rt, work, alloc, &shared, rests)?;

@@ -1,13 +1,10 @@
 //! Workers on threads.
-ghost use Rattle.std.specs.Prelude.{◌≡◌, ◌≤◌, ◌+◌, ◌*◌, ◌++◌, length, map, sum_by, IfOk};
+ghost use Rattle.std.specs.Prelude.{◌≡◌, ◌≤◌, IfOk};
 ghost use Rattle.std.specs.List.{All};
 ghost use Rattle.std.specs.Thread.{IsSync};
 ghost use Rattle.std.specs.Vec.{vec_len};
-ghost use Rattle.sto_transaction.specs.Plain.{plain};
-ghost use Rattle.sto_core.specs.Gathered.{gathered_into};
-ghost use Rattle.sto_run_threads.specs.Accounts.{HasGathered};
-ghost use Rattle.sto_run_threads.specs.Counts.{scripts_from};
-ghost use Rattle.sto_run_threads.specs.Teams.{IsHired, HasFinished};
+ghost use Rattle.sto_run_threads.specs.Teams.{IsHired, HasFinished, IsOfBoth, IsTeamOf};
+ghost use Rattle.sto_run_threads.specs.Plans.{thread_count};
 
 use crate::one::Work;
 use crate::worker::{Team, Worker, work_alone};
@@ -25,15 +22,9 @@ pub fn gather<T: Naming, W: Work<T>>(
     first: Team<T>,
     other: Team<T>,
 ) -> Result<Team<T>, NoMemory>
-    requires first { HasFinished shared.now claims.now (W.meaning work.now) (W.sizes work.now) (W.file work.now) (W.tries work.now)
-        first.rest.seat first.claimer.seat (map plain first.records.items) }
-    requires other { HasFinished shared.now claims.now (W.meaning work.now) (W.sizes work.now) (W.file work.now) (W.tries work.now)
-        other.rest.seat other.claimer.seat (map plain other.records.items) }
-    ensures finished { IfOk result (λ c. HasFinished shared.now claims.now (W.meaning work.now) (W.sizes work.now) (W.file work.now)
-        (W.tries work.now) c.rest.seat c.claimer.seat (map plain c.records.items)) }
-    ensures both { IfOk result (λ c. (c.rest.seat.me.0.view ≡ gathered_into first.rest.seat.me.0.view other.rest.seat.me.0.view)
-        × (map plain c.records.items ≡ map plain first.records.items ++ map plain other.records.items)) }
-    ensures seats { IfOk result (λ c. c.claimer.seat.me.0.seats ≡ first.claimer.seat.me.0.seats + other.claimer.seat.me.0.seats) }
+    requires first { HasFinished shared.now claims.now (W.plan work.now) first }
+    requires other { HasFinished shared.now claims.now (W.plan work.now) other }
+    ensures both { IfOk result (IsOfBoth shared.now claims.now (W.plan work.now) first other) }
 {
     let Team {
         rest,
@@ -66,15 +57,10 @@ pub fn work_halves<R: Threads + Sync, T: Naming + Send + Sync, W: Work<T> + Sync
     workers: Vec<Worker<T>>,
 ) -> Result<Team<T>, NoMemory>
     requires ready { W.ready work.now }
-    requires count { claims.now.table.shared.key.count ≡ length (W.file work.now).threads }
+    requires count { claims.now.table.shared.key.count ≡ thread_count (W.plan work.now) }
     requires some { 1 ≤ vec_len workers }
-    requires hired { All (λ w. IsHired shared.now claims.now (W.meaning work.now) (W.sizes work.now) (W.file work.now) (W.tries work.now)
-        w.rest.seat w.claimer.seat) workers.items }
-    ensures finished { IfOk result (λ c. HasFinished shared.now claims.now (W.meaning work.now) (W.sizes work.now) (W.file work.now)
-        (W.tries work.now) c.rest.seat c.claimer.seat (map plain c.records.items)) }
-    ensures gathered { IfOk result (λ c. HasGathered (W.tries work.now * scripts_from (W.file work.now).threads 0)
-        (map (λ w. w.rest.seat.me.0.view) workers.items) c.rest.seat.me.0.view (map plain c.records.items)) }
-    ensures seats { IfOk result (λ c. c.claimer.seat.me.0.seats ≡ sum_by (λ w. w.claimer.seat.me.0.seats) workers.items) }
+    requires hired { All (IsHired shared.now claims.now (W.plan work.now)) workers.items }
+    ensures team { IfOk result (IsTeamOf shared.now claims.now (W.plan work.now) workers.items) }
 {
     let mut workers = workers;
     let half = workers.len() / 2;
@@ -93,30 +79,18 @@ pub fn work_halves<R: Threads + Sync, T: Naming + Send + Sync, W: Work<T> + Sync
         move || -> Result<Team<T>, NoMemory>
             requires sync { IsSync R.row }
             requires ready { W.ready work.now }
-            requires count { claims.now.table.shared.key.count ≡ length (W.file work.now).threads }
+            requires count { claims.now.table.shared.key.count ≡ thread_count (W.plan work.now) }
             requires some { 1 ≤ vec_len workers }
-            requires hired { All (λ w. IsHired shared.now claims.now (W.meaning work.now) (W.sizes work.now) (W.file work.now)
-                (W.tries work.now) w.rest.seat w.claimer.seat) workers.items }
-            ensures finished { IfOk result (λ c. HasFinished shared.entry.now claims.entry.now (W.meaning work.entry.now)
-                (W.sizes work.entry.now) (W.file work.entry.now) (W.tries work.entry.now) c.rest.seat c.claimer.seat
-                (map plain c.records.items)) }
-            ensures gathered { IfOk result (λ c. HasGathered (W.tries work.entry.now * scripts_from (W.file work.entry.now).threads 0)
-                (map (λ w. w.rest.seat.me.0.view) workers.items) c.rest.seat.me.0.view (map plain c.records.items)) }
-            ensures seats { IfOk result (λ c. c.claimer.seat.me.0.seats ≡ sum_by (λ w. w.claimer.seat.me.0.seats) workers.items) }
+            requires hired { All (IsHired shared.now claims.now (W.plan work.now)) workers.items }
+            ensures team { IfOk result (IsTeamOf shared.entry.now claims.entry.now (W.plan work.entry.now) workers.items) }
         { work_halves(rt, work, alloc, shared, claims, workers) },
         move || -> Result<Team<T>, NoMemory>
             requires sync { IsSync R.row }
             requires ready { W.ready work.now }
-            requires count { claims.now.table.shared.key.count ≡ length (W.file work.now).threads }
+            requires count { claims.now.table.shared.key.count ≡ thread_count (W.plan work.now) }
             requires some { 1 ≤ vec_len others }
-            requires hired { All (λ w. IsHired shared.now claims.now (W.meaning work.now) (W.sizes work.now) (W.file work.now)
-                (W.tries work.now) w.rest.seat w.claimer.seat) others.items }
-            ensures finished { IfOk result (λ c. HasFinished shared.entry.now claims.entry.now (W.meaning work.entry.now)
-                (W.sizes work.entry.now) (W.file work.entry.now) (W.tries work.entry.now) c.rest.seat c.claimer.seat
-                (map plain c.records.items)) }
-            ensures gathered { IfOk result (λ c. HasGathered (W.tries work.entry.now * scripts_from (W.file work.entry.now).threads 0)
-                (map (λ w. w.rest.seat.me.0.view) others.items) c.rest.seat.me.0.view (map plain c.records.items)) }
-            ensures seats { IfOk result (λ c. c.claimer.seat.me.0.seats ≡ sum_by (λ w. w.claimer.seat.me.0.seats) others.items) }
+            requires hired { All (IsHired shared.now claims.now (W.plan work.now)) others.items }
+            ensures team { IfOk result (IsTeamOf shared.entry.now claims.entry.now (W.plan work.entry.now) others.items) }
         { work_halves(rt, work, alloc, shared, claims, others) },
     );
     let first = first?;

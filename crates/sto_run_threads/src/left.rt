@@ -1,15 +1,14 @@
 //! What was handed back, on one pass.
-ghost use Rattle.std.specs.Prelude.{◌≡◌, ◌≤◌, ◌<◌, ◌*◌, ◌^◌, ℕ, [], ◌∷◌, if◌then◌else◌, map, OnOk};
+ghost use Rattle.std.specs.Prelude.{◌≡◌, ◌<◌, ◌^◌, ℕ, [], ◌∷◌, if◌then◌else◌, map, OnOk};
 ghost use Rattle.std.specs.List.{All};
 ghost use Rattle.sto_transaction.specs.Plain.{plain};
 ghost use Rattle.sto_attempt_facts.specs.Records.{times_written};
 ghost use Rattle.sto_attempt_facts.specs.Counted.{times_committed};
-ghost use Rattle.sto_serializability.specs.Finished.{AreFinished};
 ghost use Rattle.sto_run_threads.specs.Accounts.{AddsUp};
-ghost use Rattle.sto_run_threads.specs.Counts.{scripts_from};
-ghost use Rattle.sto_transaction.specs.Resting.{IsAtRest};
+ghost use Rattle.sto_run_threads.specs.Plans.{Rests, MayDraw, draws_of};
+ghost use Rattle.sto_run_threads.specs.Told.{told_in};
 ghost use Rattle.sto_run_threads.specs.Running.{ended_of};
-ghost use Rattle.sto_run_threads.specs.Worked.{HasWorked, WasFound, AbortsNone};
+ghost use Rattle.sto_run_threads.specs.Worked.{HasWorked, AreWhole, WasFound, AbortsNone};
 
 use crate::one::Work;
 use crate::script::run_script;
@@ -54,18 +53,15 @@ pub fn run_left<T: Naming, W: Work<T>, C: Cells<T>>(
 ) -> Result<(), NoMemory>
     requires ready { W.ready work.now }
     requires alone { C.passes cells.old ≡ 1 }
-    requires rests { IsAtRest (W.meaning work.now) (W.sizes work.now) (C.view cells.old) }
-    requires draws { W.tries work.now * scripts_from (W.file work.now).threads 0 ≤ (C.view cells.old).draws }
-    requires worked { HasWorked (W.meaning work.now) (W.file work.now) (W.tries work.now) (C.view cells.old) (map plain records.old.items) }
-    requires tickets { (t : ℕ) → times_written t (map plain records.old.items) ≡ times_committed t (C.view cells.old).entries }
+    requires free { MayDraw (W.plan work.now) (draws_of (W.plan work.now)) (C.view cells.old) }
+    requires worked { HasWorked (W.plan work.now) (C.view cells.old) (told_in records.old) }
+    requires tickets { (t : ℕ) → times_written t (told_in records.old) ≡ times_committed t (C.view cells.old).entries }
     ensures same { C.same cells.old cells.new }
-    ensures rests { OnOk result (IsAtRest (W.meaning work.now) (W.sizes work.now) (C.view cells.new)) }
-    ensures adds_up { OnOk result (AddsUp (C.view cells.old) (C.view cells.new) (map plain records.old.items)
-        (map plain records.new.items)) }
-    ensures none { OnOk result (AbortsNone (map plain records.old.items) (map plain records.new.items)) }
-    ensures found { OnOk result (All (WasFound (C.view cells.new)) (map plain records.new.items)) }
-    ensures finished { OnOk result (AreFinished (W.meaning work.now) (W.file work.now) (W.tries work.now) (C.view cells.new)
-        (map plain records.new.items)) }
+    ensures rests { OnOk result (Rests (W.plan work.now) (C.view cells.new)) }
+    ensures adds_up { OnOk result (AddsUp (C.view cells.old) (C.view cells.new) (told_in records.old) (told_in records.new)) }
+    ensures none { OnOk result (AbortsNone (told_in records.old) (told_in records.new)) }
+    ensures found { OnOk result (All (WasFound (C.view cells.new)) (told_in records.new)) }
+    ensures finished { OnOk result (AreWhole (W.plan work.now) (C.view cells.new) (told_in records.new)) }
 {
     let mut memory = Memory::new(alloc);
     for thread in 0..work.threads() {

@@ -1,10 +1,7 @@
 //! A run of one transaction.
-ghost use Rattle.std.specs.Prelude.{◌≡◌, ◌≤◌, ◌<◌, ◌^◌, ℕ, List, map, length, IfOk, OnErr};
-ghost use Rattle.sto_lang.specs.Scripts.{File};
-ghost use Rattle.sto_report_spec.specs.Orders.{count_in};
-ghost use Rattle.sto_type.specs.Meaning.{Meaning};
-ghost use Rattle.sto_transaction.specs.Plain.{plain};
-ghost use Rattle.sto_transaction.specs.Resting.{IsAtRest};
+ghost use Rattle.std.specs.Prelude.{◌≡◌, ◌<◌, IfOk, OnErr};
+ghost use Rattle.sto_run_threads.specs.Plans.{Plan, MayDraw, thread_count, transaction_count};
+ghost use Rattle.sto_run_threads.specs.Told.{told_in};
 ghost use Rattle.sto_run_threads.specs.Ran.{IsTransaction, HasRunAt, HasBrokenAt};
 
 use std::alloc::Global;
@@ -14,29 +11,20 @@ use sto_transaction::{Memory, Record};
 
 /// What runs transactions of a file, by attempts.
 pub trait Work<T: Naming> {
-    /// The file.
-    ghost file: { Self → File };
-
-    /// What the type of its objects means.
-    ghost meaning: { Self → Meaning };
-
-    /// The sizes of that type.
-    ghost sizes: { Self → List ℕ };
-
-    /// How many attempts of a transaction may be aborted.
-    ghost tries: { Self → ℕ };
+    /// The file, what the type of its objects means, its sizes, and how many attempts of a transaction may be aborted.
+    ghost plan: { Self → Plan };
 
     /// What a run of a transaction asks of it.
     ghost ready: { Self → Type 0 };
 
     /// How many script threads the file has.
     fn threads(&self) -> u32
-        ensures { result ≡ length (file self.now).threads };
+        ensures { result ≡ thread_count (plan self.now) };
 
     /// How many transactions a script thread has.
     fn count(&self, thread: u32) -> u32
-        requires { thread < length (file self.now).threads }
-        ensures { result ≡ count_in (file self.now).threads thread };
+        requires { thread < thread_count (plan self.now) }
+        ensures { result ≡ transaction_count (plan self.now) thread };
 
     /// Runs the transaction at a place on an idle pass, and adds a record for each attempt. It answers whether the
     /// transaction has ended, or used up its tries. After `NoMemory` the pass is idle again, and the records of the attempts before
@@ -51,13 +39,11 @@ pub trait Work<T: Naming> {
         records: &mut Vec<Record>,
     ) -> Result<bool, NoMemory>
         requires ready { ready self.now }
-        requires there { IsTransaction (file self.now) (thread, position) }
-        requires rests { IsAtRest (meaning self.now) (sizes self.now) (C.view cells.old) }
-        requires draws { tries self.now ≤ (C.view cells.old).draws }
+        requires there { IsTransaction (plan self.now).file (thread, position) }
+        requires free { MayDraw (plan self.now) (plan self.now).tries (C.view cells.old) }
         ensures same { C.same cells.old cells.new }
-        ensures ran { IfOk result (λ ended. HasRunAt (meaning self.now) (sizes self.now) (file self.now) (tries self.now)
-            (C.passes cells.old) (C.view cells.old) (C.view cells.new) (thread, position) (map plain records.old.items)
-            (map plain records.new.items) ended) }
-        ensures err { OnErr result (HasBrokenAt (meaning self.now) (sizes self.now) (file self.now) (tries self.now) (C.view cells.old)
-            (C.view cells.new) (thread, position) (map plain records.old.items) (map plain records.new.items)) };
+        ensures ran { IfOk result (HasRunAt (plan self.now) (C.passes cells.old) (C.view cells.old) (C.view cells.new)
+            (thread, position) (told_in records.old) (told_in records.new)) }
+        ensures err { OnErr result (HasBrokenAt (plan self.now) (C.view cells.old) (C.view cells.new)
+            (thread, position) (told_in records.old) (told_in records.new)) };
 }

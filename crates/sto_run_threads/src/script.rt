@@ -1,9 +1,8 @@
 //! A script thread on one pass.
-ghost use Rattle.std.specs.Prelude.{◌≡◌, ◌≤◌, ◌+◌, ◌-◌, ◌*◌, map, IfOk, OnOk};
-ghost use Rattle.sto_report_spec.specs.Orders.{count_in};
-ghost use Rattle.sto_transaction.specs.Plain.{plain};
-ghost use Rattle.sto_transaction.specs.Resting.{IsAtRest};
-ghost use Rattle.sto_run_threads.specs.Accounts.{AddsUp};
+ghost use Rattle.std.specs.Prelude.{◌≡◌, ◌≤◌, ◌-◌, ◌*◌, IfOk, OnOk};
+ghost use Rattle.sto_run_threads.specs.Plans.{MayDraw, transaction_count};
+ghost use Rattle.sto_run_threads.specs.Told.{told_in};
+ghost use Rattle.sto_run_threads.specs.Accounts.{Leads};
 ghost use Rattle.sto_run_threads.specs.Running.{ended_of};
 ghost use Rattle.sto_run_threads.specs.Worked.{HasWorked, IsFresh, IsScriptRun};
 
@@ -26,19 +25,16 @@ pub fn run_script<T: Naming, W: Work<T>, C: Cells<T>>(
     records: &mut Vec<Record>,
 ) -> Result<bool, NoMemory>
     requires ready { W.ready work.now }
-    requires count { (count ≡ count_in (W.file work.now).threads thread) × (ended ≤ count) }
-    requires ended { ended_of thread (map plain records.old.items) ≡ ended }
-    requires fresh { IsFresh (C.passes cells.old) thread (map plain records.old.items) }
-    requires rests { IsAtRest (W.meaning work.now) (W.sizes work.now) (C.view cells.old) }
-    requires draws { W.tries work.now * (count - ended) ≤ (C.view cells.old).draws }
-    requires worked { HasWorked (W.meaning work.now) (W.file work.now) (W.tries work.now) (C.view cells.old) (map plain records.old.items) }
+    requires count { (count ≡ transaction_count (W.plan work.now) thread) × (ended ≤ count) }
+    requires ended { ended_of thread (told_in records.old) ≡ ended }
+    requires fresh { IsFresh (C.passes cells.old) thread (told_in records.old) }
+    requires free { MayDraw (W.plan work.now) ((W.plan work.now).tries * (count - ended)) (C.view cells.old) }
+    requires worked { HasWorked (W.plan work.now) (C.view cells.old) (told_in records.old) }
     ensures same { C.same cells.old cells.new }
-    ensures rests { OnOk result (IsAtRest (W.meaning work.now) (W.sizes work.now) (C.view cells.new)) }
-    ensures draws { OnOk result ((C.view cells.old).draws ≤ (C.view cells.new).draws + W.tries work.now * (count - ended)) }
-    ensures adds_up { OnOk result (AddsUp (C.view cells.old) (C.view cells.new) (map plain records.old.items)
-        (map plain records.new.items)) }
-    ensures ran { IfOk result (λ all. IsScriptRun (W.meaning work.now) (W.file work.now) (W.tries work.now) (C.passes cells.old)
-        (C.view cells.new) thread (map plain records.old.items) (map plain records.new.items) all) }
+    ensures leads { OnOk result (Leads (W.plan work.now) ((W.plan work.now).tries * (count - ended)) (C.view cells.old) (C.view cells.new)
+        (told_in records.old) (told_in records.new)) }
+    ensures ran { IfOk result (IsScriptRun (W.plan work.now) (C.passes cells.old) (C.view cells.new)
+        thread (told_in records.old) (told_in records.new)) }
 {
     for position in ended..count {
         if !work.run_one(alloc, cells, thread, position + 1, memory, records)? {

@@ -1,5 +1,6 @@
 //! The transactions of a file as work.
 ghost use Rattle.std.specs.Prelude.{◌<◌};
+ghost use Rattle.sto_run_threads.specs.Plans.{plan_of};
 ghost use Rattle.sto_run_threads.specs.Taken.{IsTaken};
 
 use crate::gate::Gate;
@@ -71,13 +72,7 @@ pub struct FileWork<'f, F: Workload + Drop, T: TxType, G: Gate> {
 }
 
 impl<F: Workload + Drop, T: TxType, G: Gate> Work<T> for FileWork<'_, F, T, G> {
-    ghost file = { λ w. F.file w.workload };
-
-    ghost meaning = { λ w. T.meaning w.ty.now };
-
-    ghost sizes = { λ w. T.sizes w.ty.now };
-
-    ghost tries = { λ w. w.tries };
+    ghost plan = { λ w. plan_of T.TxType w.ty.now (F.file w.workload) w.tries };
 
     ghost ready = { λ w. IsTaken (F.file w.workload) (T.meaning w.ty.now) × (0 < w.tries) };
 

@@ -1,9 +1,7 @@
 //! A worker: one pass and one claimer.
-ghost use Rattle.std.specs.Prelude.{◌≡◌, ◌*◌, [], ◌∷◌, length, map, IfOk};
-ghost use Rattle.sto_transaction.specs.Plain.{plain};
-ghost use Rattle.sto_run_threads.specs.Accounts.{HasGathered};
-ghost use Rattle.sto_run_threads.specs.Counts.{scripts_from};
-ghost use Rattle.sto_run_threads.specs.Teams.{IsHired, HasFinished};
+ghost use Rattle.std.specs.Prelude.{◌≡◌, [], ◌∷◌, IfOk};
+ghost use Rattle.sto_run_threads.specs.Teams.{IsHired, IsTeamOf};
+ghost use Rattle.sto_run_threads.specs.Plans.{thread_count};
 
 use crate::one::Work;
 use crate::script::run_script;
@@ -37,14 +35,9 @@ pub fn work_alone<T: Naming, W: Work<T>>(
     worker: Worker<T>,
 ) -> Result<Team<T>, NoMemory>
     requires ready { W.ready work.now }
-    requires count { claims.now.table.shared.key.count ≡ length (W.file work.now).threads }
-    requires hired { IsHired shared.now claims.now (W.meaning work.now) (W.sizes work.now) (W.file work.now) (W.tries work.now)
-        worker.rest.seat worker.claimer.seat }
-    ensures finished { IfOk result (λ c. HasFinished shared.now claims.now (W.meaning work.now) (W.sizes work.now) (W.file work.now)
-        (W.tries work.now) c.rest.seat c.claimer.seat (map plain c.records.items)) }
-    ensures gathered { IfOk result (λ c. HasGathered (W.tries work.now * scripts_from (W.file work.now).threads 0)
-        (worker.rest.seat.me.0.view ∷ []) c.rest.seat.me.0.view (map plain c.records.items)) }
-    ensures seats { IfOk result (λ c. c.claimer.seat.me.0.seats ≡ worker.claimer.seat.me.0.seats) }
+    requires count { claims.now.table.shared.key.count ≡ thread_count (W.plan work.now) }
+    requires hired { IsHired shared.now claims.now (W.plan work.now) worker }
+    ensures team { IfOk result (IsTeamOf shared.now claims.now (W.plan work.now) (worker ∷ [])) }
 {
     let Worker { rest, mut claimer } = worker;
     let mut pass = shared.pass(rest);

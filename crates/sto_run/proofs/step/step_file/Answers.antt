@@ -1,4 +1,4 @@
-use Rattle.std.proofs.Common.{◌≡◌, ◌≤◌, length, refl, sym, subst, ap}
+use Rattle.std.proofs.Common.{◌≡◌, ◌≤◌, length, sym, subst, ap, arith}
 use Rattle.std.proofs.lemmas.Result.{IfOk-weaker}
 use Rattle.sto_lang.specs.Views.{file as view}
 use Rattle.sto_run_threads.specs.declared.workload.LentFile.{LentFile}
@@ -8,17 +8,26 @@ use Rattle.sto_store.proofs.ObjectMeanings.{objects_mean}
 use Rattle.sto_run.proofs.RunJournals.{lawful_run}
 use Rattle.sto_run.proofs.step.step_file.Goals as goal
 
-pub step_threads-requires-clause-ty : goal.step_threads-requires-clause-ty
-step_threads-requires-clause-ty c = (refl, c.in_ok-run.ensures.opened)
+pub step_threads-requires-clause-ready : goal.step_threads-requires-clause-ready
+step_threads-requires-clause-ready c = (c.in_ok-run.ensures.runnable.taken, let some = c.in_ok-run.ensures.runnable.tries.0 in omega (arith, some))
 
-pub step_threads-requires-clause-few : goal.step_threads-requires-clause-few
-step_threads-requires-clause-few c = c.in_ok-run.ensures.few
+pub step_threads-requires-clause-opens : goal.step_threads-requires-clause-opens
+step_threads-requires-clause-opens c = c.in_ok-run.ensures.runnable.opens
 
 pub step_threads-requires-clause-threads : goal.step_threads-requires-clause-threads
-step_threads-requires-clause-threads c = few_threads (view c.in_ok-run.run'.work.workload.file.now) c.in_ok-run.ensures.sound
+step_threads-requires-clause-threads c = few_threads (view c.in_ok-run.run'.work.workload.file.now) c.in_ok-run.ensures.runnable.sound
+
+pub journal-requires-clause-sound : goal.journal-requires-clause-sound
+journal-requires-clause-sound c = c.in_ok-run.ensures.runnable.sound
+
+pub journal-requires-clause-type_of : goal.journal-requires-clause-type_of
+journal-requires-clause-type_of c = c.in_ok-run.ensures.runnable.type_of
+
+pub journal-requires-clause-tries : goal.journal-requires-clause-tries
+journal-requires-clause-tries c = c.in_ok-run.ensures.runnable.tries.1
 
 pub turns_of-requires : goal.turns_of-requires
-turns_of-requires c = c.in_ok-run.ensures.sound.scheduled
+turns_of-requires c = c.in_ok-run.ensures.runnable.sound.scheduled
 
 pub returns-clause-alone : goal.returns-clause-alone
 returns-clause-alone c = λ few. c.journal.ensures.alone (c.in_ok-finished.ensures.alone (subst (λ (f : LentFile). length (view f.file.now).threads ≤ 1) (sym c.in_ok-run.ensures.of.0) few))

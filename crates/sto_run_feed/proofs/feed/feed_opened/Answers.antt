@@ -1,11 +1,20 @@
-use Rattle.std.proofs.Common.{◌≡◌, refl}
+use Rattle.std.proofs.Common.{arith}
 use Rattle.sto_run_feed.proofs.feed.feed_opened.Goals as goal
 
-pub feed_threads-requires-clause-ty : goal.feed_threads-requires-clause-ty
-feed_threads-requires-clause-ty g c = λ κs within. (refl, c.requires.opened)
+pub feed_threads-requires-clause-ready : goal.feed_threads-requires-clause-ready
+feed_threads-requires-clause-ready g c = λ κs within. (c.requires.runnable.taken, let some = c.requires.runnable.tries.0 in omega (arith, some))
 
-pub feed_threads-requires-clause-few : goal.feed_threads-requires-clause-few
-feed_threads-requires-clause-few g c = λ κs within. c.requires.few
+pub feed_threads-requires-clause-opens : goal.feed_threads-requires-clause-opens
+feed_threads-requires-clause-opens g c = λ κs within. c.requires.runnable.opens
+
+pub journal-requires-clause-sound : goal.journal-requires-clause-sound
+journal-requires-clause-sound g c = c.requires.runnable.sound
+
+pub journal-requires-clause-type_of : goal.journal-requires-clause-type_of
+journal-requires-clause-type_of g c = c.requires.runnable.type_of
+
+pub journal-requires-clause-tries : goal.journal-requires-clause-tries
+journal-requires-clause-tries g c = c.requires.runnable.tries.1
 
 pub returns-clause-alone : goal.returns-clause-alone
 returns-clause-alone g c = λ one. c.journal.ensures.alone (c.in_ok-finished.ensures.alone one)

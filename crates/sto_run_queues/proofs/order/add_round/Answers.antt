@@ -1,4 +1,4 @@
-use Rattle.std.proofs.Common.{◌≡◌, ◌≤◌, ◌<◌, ◌+◌, ◌++◌, ℕ, List, [], ◌∷◌, map, sym, ap, ◌∙◌, subst, arith, inl, inr}
+use Rattle.std.proofs.Common.{◌≡◌, ◌+◌, ◌++◌, ℕ, List, [], ◌∷◌, sym, ap, ◌∙◌, subst, arith, inl, inr}
 use Rattle.sto_run_threads.specs.Orders.{count_in}
 use Rattle.sto_run_threads.proofs.Claiming.{count_case}
 use Rattle.sto_run_queues.specs.declared.order.TransactionPlace as code
@@ -8,7 +8,7 @@ use Rattle.sto_run_queues.proofs.order.add_round.Goals.{then-position-count+in-O
 
 pub loop-thread-preserved : goal.loop-thread-preserved
 loop-thread-preserved g c =
-    let count : ℕ → ℕ = count_in (g.W.Work.file c.args.work.now).threads in
+    let count : ℕ → ℕ = count_in (g.W.Work.plan c.args.work.now).file.threads in
     let first = c.args.order.now.items in let items = c.loop-thread.order.items in let thread = c.loop-thread.thread in
     let p : code.TransactionPlace = record { thread = thread; position = c.args.position } in
     elim c.if-position-count.branch [
@@ -24,7 +24,7 @@ loop-thread-preserved g c =
 
 pub returns-clause-each : goal.returns-clause-each
 returns-clause-each g c =
-    let threads = (g.W.Work.file c.args.work.now).threads in
+    let threads = (g.W.Work.plan c.args.work.now).file.threads in
     let end = c.threads-thread-end.ensures in let far = c.loop-thread-test.false in
     round_each c.args.order.now.items c.loop-thread.order.items c.args.position c.loop-thread.thread (count_in threads) c.loop-thread.invariant.come c.requires.some
     (λ u l. elim (count_case threads u) [

@@ -1,4 +1,4 @@
-use Rattle.std.proofs.Common.{◌≡◌, ◌≤◌, ◌<◌, ◌+◌, ◌++◌, ℕ, List, ap, ◌∙◌, arith}
+use Rattle.std.proofs.Common.{◌≤◌, ◌<◌, ◌+◌, ◌++◌, ℕ, List, ap, ◌∙◌, arith}
 use Rattle.std.proofs.lemmas.List.Elements.{All-weaker}
 use Rattle.sto_run_threads.specs.Orders.{count_in}
 use Rattle.sto_run_queues.specs.declared.order.TransactionPlace as code
@@ -7,7 +7,7 @@ use Rattle.sto_run_queues.proofs.order.in_turn.Goals as goal
 
 pub loop-earlier-preserved : goal.loop-earlier-preserved
 loop-earlier-preserved g c =
-    let count : ℕ → ℕ = count_in (g.W.Work.file c.args.work.now).threads in
+    let count : ℕ → ℕ = count_in (g.W.Work.plan c.args.work.now).file.threads in
     let earlier = c.loop-earlier.earlier in
     record {
       rising = c.in_ok-add_round.ensures.rising;

@@ -10,5 +10,5 @@ abbrev pub invariant-loop-earlier : goal.invariant-loop-earlier
 invariant-loop-earlier g l = record {
   rising : AllPairs Precedes (map place_of l.order.items);
   before : All (λ (p : code.TransactionPlace). p.position < l.earlier + 1) l.order.items;
-  each : (u : ℕ) → positions_of u (map place_of l.order.items) ≡ numbers_from 1 (min (count_in (g.W.Work.file l.work).threads u) l.earlier);
+  each : (u : ℕ) → positions_of u (map place_of l.order.items) ≡ numbers_from 1 (min (count_in (g.W.Work.plan l.work).file.threads u) l.earlier);
 }

@@ -1,7 +1,6 @@
-use Rattle.std.proofs.Common.{◌≡◌, ◌≤◌, ◌<◌, ◌+◌, ◌-◌, ◌*◌, ℕ, suc, List, [], ◌∷◌, ◌++◌, length, map, true, refl, sym, ap, ◌∙◌, subst, arith}
+use Rattle.std.proofs.Common.{◌≡◌, ◌+◌, ◌-◌, ◌*◌, ℕ, List, [], ◌∷◌, ◌++◌, length, map, true, refl, sym, ap, ◌∙◌, subst, arith}
 use Rattle.std.proofs.lemmas.Option.{slice_get_within}
 use Rattle.atomic_table.specs.declared.shared.Seat.{Seat}
-use Rattle.sto_run_threads.specs.Orders.{Place}
 use Rattle.sto_queue.specs.declared.job.Job.TheVariants.{Run, Last}
 use Rattle.sto_queue.specs.declared.pass.JobPass.{JobPass}
 use Rattle.sto_queue.specs.Queues.{working}
@@ -11,20 +10,22 @@ use Rattle.sto_table.specs.declared.stance.Stance.{Stance}
 use Rattle.sto_table.specs.Rests.{IsOf}
 use Rattle.sto_run_threads.specs.Records.{Record}
 use Rattle.sto_transaction.specs.Plain.{plain}
-use Rattle.sto_transaction.specs.Resting.{IsAtRest}
 use Rattle.sto_run_threads.specs.Accounts.{AddsUp, HasGathered}
 use Rattle.sto_run_threads.specs.Counts.{scripts_from}
 use Rattle.sto_run_threads.specs.Worked.{AbortsNone}
 use Rattle.sto_run_threads.proofs.Accounts.{adds_up_none, adds_up_through, one_gathered}
 use Rattle.sto_run_threads.proofs.Claiming.{times_le}
+use Rattle.sto_run_threads.proofs.Gathered.{made_at}
 use Rattle.sto_run_threads.proofs.Joined.{none_worked}
 use Rattle.sto_run_threads.proofs.Scripts.{aborts_none_through}
 use Rattle.sto_run_queues.specs.Jobs.{places_of}
 use Rattle.sto_run_queues.specs.Passes.{IsAt, HaveTaken, all_taken}
-use Rattle.sto_run_queues.specs.Served.{IsServed}
 use Rattle.sto_run_queues.proofs.Passes.{none_taken}
 use Rattle.sto_run_queues.proofs.Taking.{may_take, takes_next}
 use Rattle.sto_run_queues.proofs.Serving.{run_at, last_at, next_place, place_there, few_jobs, comes_next, serving_none, serving_more, serving_ends, served_one, from_one, IsServing}
+use Rattle.sto_run_threads.specs.Plans.{Rests, draws_of}
+use Rattle.sto_run_threads.specs.Told.{told_in}
+use Rattle.sto_run_threads.specs.Teams.{view_at}
 use Rattle.sto_run_queues.proofs.server.serve.Goals as goal
 
 pub next_job-requires : goal.next_job-requires
@@ -36,7 +37,7 @@ next_job-requires g c =
 
 pub serve_one-requires-clause-there : goal.serve_one-requires-clause-there
 serve_one-requires-clause-there g c =
-    let file = g.W.Work.file c.args.work.now in
+    let file = (g.W.Work.plan c.args.work.now).file in
     let own = c.requires.posted.own in let inv = c.loop-thread.invariant in
     let count : ℕ = length c.args.queues.now in let number = c.args.server.number in
     let jobs = (known c.args.server.worker).jobs in let taken : ℕ = (known c.loop-thread.worker).taken in
@@ -48,30 +49,30 @@ serve_one-requires-clause-there g c =
 
 pub serve_one-requires-clause-next : goal.serve_one-requires-clause-next
 serve_one-requires-clause-next g c =
-    let file = g.W.Work.file c.args.work.now in let tries = g.W.Work.tries c.args.work.now in
+    let plan = g.W.Work.plan c.args.work.now in
     let own = c.requires.posted.own in let inv = c.loop-thread.invariant in
     let count : ℕ = length c.args.queues.now in let number = c.args.server.number in
     let jobs = (known c.args.server.worker).jobs in let taken : ℕ = (known c.loop-thread.worker).taken in
-    let rs = map plain c.loop-thread.records.items in
+    let rs = told_in c.loop-thread.records in
     let took = takes_next c.args.queues.now number c.index-queues-number.result c.loop-thread.worker c.next_job.new.worker jobs (Run c.in-Run.thread c.in-Run.position)
     inv.at c.index-queues-number.is c.in-Run.ensures.next c.in-Run.ensures.taken in
     let at = run_at jobs own.last taken c.in-Run.thread c.in-Run.position took.next in
-    let next = next_place file count number jobs own taken (c.in-Run.thread, c.in-Run.position) at in
-    comes_next file tries count number (places_of jobs) taken c.in-Run.thread c.in-Run.position rs c.loop-thread.runs inv.serving next
+    let next = next_place plan.file count number jobs own taken (c.in-Run.thread, c.in-Run.position) at in
+    comes_next plan count number (places_of jobs) taken c.in-Run.thread c.in-Run.position rs c.loop-thread.runs inv.serving next
 
-pub serve_one-requires-clause-draws : goal.serve_one-requires-clause-draws
-serve_one-requires-clause-draws g c =
-    let file = g.W.Work.file c.args.work.now in let tries = g.W.Work.tries c.args.work.now in
+pub serve_one-requires-clause-free : goal.serve_one-requires-clause-free
+serve_one-requires-clause-free g c =
+    let plan = g.W.Work.plan c.args.work.now in
     let own = c.requires.posted.own in let inv = c.loop-thread.invariant in
     let count : ℕ = length c.args.queues.now in let number = c.args.server.number in
     let jobs = (known c.args.server.worker).jobs in let taken : ℕ = (known c.loop-thread.worker).taken in
     let took = takes_next c.args.queues.now number c.index-queues-number.result c.loop-thread.worker c.next_job.new.worker jobs (Run c.in-Run.thread c.in-Run.position)
     inv.at c.index-queues-number.is c.in-Run.ensures.next c.in-Run.ensures.taken in
     let at = run_at jobs own.last taken c.in-Run.thread c.in-Run.position took.next in
-    let few = few_jobs file count number jobs own in let low = slice_get_within (places_of jobs) taken (c.in-Run.thread, c.in-Run.position) at in
-    let t = times_le tries taken (scripts_from file.threads 0) 1 (omega (arith, few, low)) in
-    let first = c.requires.posted.ready.draws in let d = inv.draws in let one : tries * 1 ≡ tries = omega arith in
-    omega (arith, t, first, d, one)
+    let few = few_jobs plan.file count number jobs own in let low = slice_get_within (places_of jobs) taken (c.in-Run.thread, c.in-Run.position) at in
+    let t = times_le plan.tries taken (scripts_from plan.file.threads 0) 1 (omega (arith, few, low)) in
+    let first = c.requires.posted.ready.free.draws in let d = inv.draws in let one : plan.tries * 1 ≡ plan.tries = omega arith in
+    record { rests = inv.rests; draws = omega (arith, t, first, d, one) }
 
 pub loop-thread-smaller : goal.loop-thread-smaller
 loop-thread-smaller g c =
@@ -85,14 +86,13 @@ loop-thread-smaller g c =
 
 pub loop-thread-init : goal.loop-thread-init
 loop-thread-init g c =
-    let m = g.W.Work.meaning c.args.work.now in let sizes = g.W.Work.sizes c.args.work.now in
-    let file = g.W.Work.file c.args.work.now in let tries = g.W.Work.tries c.args.work.now in
+    let plan = g.W.Work.plan c.args.work.now in
     let ready = c.requires.posted.ready in let seat = c.pass-pass.ensures.seat in
     let count : ℕ = length c.args.queues.now in let number = c.args.server.number in
     let places = places_of (known c.args.server.worker).jobs in
-    let v : View = c.args.server.rest.seat.me.0.view in let w : View = c.pass-pass.result.seat.me.0.view in
+    let v : View = view_at c.args.server.rest in let w : View = c.pass-pass.result.seat.me.0.view in
     let view : w ≡ v = ap (λ (s : Seat (Unit {0}) Stance). s.me.0.view) seat in
-    let none : map plain c.new-records.result.items ≡ [] = ap (map plain) c.new-records.ensures.items in
+    let none : told_in c.new-records.result ≡ [] = ap (map plain) c.new-records.ensures.items in
     let first = none_taken c.args.queues.now number c.args.server.worker (known c.args.server.worker).jobs c.requires.posted.at in
     let zero = first.0 in
     record {
@@ -101,29 +101,28 @@ loop-thread-init g c =
       gathered = ap (λ (u : View). u.gathered) view;
       at = first.1;
       within = omega (arith, zero);
-      rests = subst (IsAtRest m sizes) (sym view) ready.rests;
+      rests = subst (Rests plan) (sym view) ready.free.rests;
       draws = (let d = ap (λ (u : View). u.draws) view in omega (arith, d));
-      worked = none_worked m file tries w (map plain c.new-records.result.items) none;
+      worked = none_worked plan w (told_in c.new-records.result) none;
       adds_up = subst (AddsUp v w []) (sym none) (subst (λ (u : View). AddsUp v u [] []) (sym view) (adds_up_none v []));
       alone = λ one. subst (AbortsNone []) (sym none) (λ place. refl);
-      serving = subst (λ (n : ℕ). IsServing tries count number places n (map plain c.new-records.result.items) true) (sym zero)
-          (subst (λ (l : List Record). IsServing tries count number places 0 l true) (sym none) (serving_none tries count number places));
+      serving = subst (λ (n : ℕ). IsServing plan.tries count number places n (told_in c.new-records.result) true) (sym zero)
+          (subst (λ (l : List Record). IsServing plan.tries count number places 0 l true) (sym none) (serving_none plan.tries count number places));
     }
 
 pub loop-thread-preserved : goal.loop-thread-preserved
 loop-thread-preserved g c =
-    let file = g.W.Work.file c.args.work.now in let tries = g.W.Work.tries c.args.work.now in
+    let plan = g.W.Work.plan c.args.work.now in
     let own = c.requires.posted.own in let inv = c.loop-thread.invariant in
     let count : ℕ = length c.args.queues.now in let number = c.args.server.number in
     let jobs = (known c.args.server.worker).jobs in let taken : ℕ = (known c.loop-thread.worker).taken in
-    let rs = map plain c.loop-thread.records.items in
+    let rs = told_in c.loop-thread.records in
     let took = takes_next c.args.queues.now number c.index-queues-number.result c.loop-thread.worker c.next_job.new.worker jobs (Run c.in-Run.thread c.in-Run.position)
     inv.at c.index-queues-number.is c.in-Run.ensures.next c.in-Run.ensures.taken in
     let at = run_at jobs own.last taken c.in-Run.thread c.in-Run.position took.next in
-    let next = next_place file count number jobs own taken (c.in-Run.thread, c.in-Run.position) at in
-    let m = g.W.Work.meaning c.args.work.now in
-    let ran = c.in_ok-runs.ensures.ran in let same = c.serve_one.ensures.same in
-    let later = map plain c.serve_one.new.records.items in
+    let next = next_place plan.file count number jobs own taken (c.in-Run.thread, c.in-Run.position) at in
+    let ran = c.in_ok-runs.ensures.ran in let leads = c.in_ok-runs.ensures.leads in let same = c.serve_one.ensures.same in
+    let later = told_in c.serve_one.new.records in
     let w = c.serve_one.new.cells.seat.me.0.view in
     let one = took.one in
     let low = slice_get_within (places_of jobs) taken (c.in-Run.thread, c.in-Run.position) at in
@@ -133,50 +132,42 @@ loop-thread-preserved g c =
       gathered = same.5 ∙ inv.gathered;
       at = took.at;
       within = omega (arith, low, one);
-      rests = c.in_ok-runs.ensures.rests;
+      rests = leads.rests;
       draws =
-          (let d = inv.draws in let e = c.in_ok-runs.ensures.draws in
-          let t : tries * (known c.next_job.new.worker).taken ≡ tries * taken + tries = ap (λ (n : ℕ). tries * n) one ∙ omega arith in omega (arith, d, e, t));
+          (let d = inv.draws in let e = leads.draws in
+          let t : plan.tries * (known c.next_job.new.worker).taken ≡ plan.tries * taken + plan.tries = ap (λ (n : ℕ). plan.tries * n) one ∙ omega arith in omega (arith, d, e, t));
       worked = ran.worked;
-      adds_up = adds_up_through c.args.server.rest.seat.me.0.view c.loop-thread.pass.seat.me.0.view w [] rs later inv.adds_up c.in_ok-runs.ensures.adds_up;
+      adds_up = adds_up_through (view_at c.args.server.rest) c.loop-thread.pass.seat.me.0.view w [] rs later inv.adds_up leads.adds_up;
       alone = λ alone. aborts_none_through [] rs later (inv.alone alone) (ran.alone (inv.passes ∙ alone));
-      serving = subst (λ (n : ℕ). IsServing tries count number (places_of jobs) n later c.in_ok-runs.runs) (sym one)
-          (serving_more m file tries c.loop-thread.pass.shared.now.table.shared.key.passes count number w (places_of jobs) taken (c.in-Run.thread, c.in-Run.position) rs later c.loop-thread.runs c.in_ok-runs.runs at next.own inv.serving ran);
+      serving = subst (λ (n : ℕ). IsServing plan.tries count number (places_of jobs) n later c.in_ok-runs.runs) (sym one)
+          (serving_more plan c.loop-thread.pass.shared.now.table.shared.key.passes count number w (places_of jobs) taken (c.in-Run.thread, c.in-Run.position) rs later c.loop-thread.runs c.in_ok-runs.runs at next.own inv.serving ran);
     }
 
-pub returns-clause-served : goal.returns-clause-served
-returns-clause-served g c =
-    let file = g.W.Work.file c.args.work.now in let tries = g.W.Work.tries c.args.work.now in
+pub returns : goal.returns
+returns g c =
+    let plan = g.W.Work.plan c.args.work.now in
     let own = c.requires.posted.own in let inv = c.loop-thread.invariant in
     let count : ℕ = length c.args.queues.now in let number = c.args.server.number in
     let jobs = (known c.args.server.worker).jobs in let taken : ℕ = (known c.loop-thread.worker).taken in
-    let rs = map plain c.loop-thread.records.items in
-    let m = g.W.Work.meaning c.args.work.now in let sizes = g.W.Work.sizes c.args.work.now in
+    let rs = told_in c.loop-thread.records in let v = view_at c.args.server.rest in
     let took = takes_next c.args.queues.now number c.index-queues-number.result c.loop-thread.worker c.next_job.new.worker jobs Last
     inv.at c.index-queues-number.is c.in_default.ensures.next c.in_default.ensures.taken in
     let ends = last_at jobs own.last taken took.next in
     let all : IsAt c.args.queues.now number c.next_job.new.worker (all_taken jobs) =
     subst (λ (n : ℕ). IsAt c.args.queues.now number c.next_job.new.worker (working jobs n)) (took.one ∙ sym ends.1) took.at in
     let one : c.push.new.self.items ≡ c.next_job.new.worker ∷ [] = c.in-Ok.ensures.items ∙ ap (λ (l : List JobPass). l ++ c.next_job.new.worker ∷ []) c.new-workers.ensures.items in
-    subst (λ (s : Seat (Unit {0}) Stance). IsServed c.args.shared.now c.args.queues.now m sizes file tries (number ∷ []) (jobs ∷ []) c.push.new.self.items s rs) (sym c.rest.ensures) (record {
-      of = inv.of;
-      rests = inv.rests;
-      worked = inv.worked;
-      own = from_one tries count number (places_of jobs) taken rs c.loop-thread.runs inv.serving;
-      alone = inv.alone;
-      taken = subst (λ (l : List JobPass). HaveTaken c.args.queues.now (number ∷ []) (jobs ∷ []) l) (sym one) (all, tt);
-      served = served_one tries jobs rs (serving_ends tries count number jobs taken rs c.loop-thread.runs ends.0 inv.serving);
-    })
-
-pub returns-clause-gathered : goal.returns-clause-gathered
-returns-clause-gathered g c =
-    let file = g.W.Work.file c.args.work.now in let tries = g.W.Work.tries c.args.work.now in
-    let own = c.requires.posted.own in let inv = c.loop-thread.invariant in
-    let count : ℕ = length c.args.queues.now in let number = c.args.server.number in
-    let jobs = (known c.args.server.worker).jobs in let taken : ℕ = (known c.loop-thread.worker).taken in
-    let rs = map plain c.loop-thread.records.items in
-    let v = c.args.server.rest.seat.me.0.view in
-    let few = few_jobs file count number jobs own in let within = inv.within in
-    let t = times_le tries taken (scripts_from file.threads 0) 0 (omega (arith, few, within)) in
-    subst (λ (s : Seat (Unit {0}) Stance). HasGathered (tries * scripts_from file.threads 0) (v ∷ []) s.me.0.view rs) (sym c.rest.ensures)
-    (one_gathered (tries * scripts_from file.threads 0) v c.loop-thread.pass.seat.me.0.view rs inv.adds_up inv.gathered (let d = inv.draws in omega (arith, d, t)))
+    let few = few_jobs plan.file count number jobs own in let within = inv.within in
+    let t = times_le plan.tries taken (scripts_from plan.file.threads 0) 0 (omega (arith, few, within)) in
+    record {
+      team = record {
+        served = record {
+          made = made_at c.args.shared.now plan c.rest.result c.loop-thread.pass.seat rs c.rest.ensures inv.of inv.rests inv.worked;
+          own = from_one plan.tries count number (places_of jobs) taken rs c.loop-thread.runs inv.serving;
+          alone = inv.alone;
+          taken = subst (λ (l : List JobPass). HaveTaken c.args.queues.now (number ∷ []) (jobs ∷ []) l) (sym one) (all, tt);
+          served = served_one plan.tries jobs rs (serving_ends plan.tries count number jobs taken rs c.loop-thread.runs ends.0 inv.serving);
+        };
+        gathered = subst (λ (s : Seat (Unit {0}) Stance). HasGathered (draws_of plan) (v ∷ []) s.me.0.view rs) (sym c.rest.ensures)
+            (one_gathered (draws_of plan) v c.loop-thread.pass.seat.me.0.view rs inv.adds_up inv.gathered (let d = inv.draws in omega (arith, d, t)));
+      };
+    }

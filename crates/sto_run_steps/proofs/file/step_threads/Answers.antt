@@ -1,74 +1,61 @@
 use Rattle.std.specs.List.{flat_map}
-use Rattle.std.proofs.Common.{◌≡◌, ◌*◌, ◌≤◌, ℕ, List, ◌++◌, map, length, sym, ap, ◌∙◌, subst, arith}
+use Rattle.std.proofs.Common.{rules, ◌≡◌, ℕ, List, ◌++◌, map, length, sym, ap, ◌∙◌, subst, arith}
 use Rattle.sto_transaction.specs.Plain.{plain}
-use Rattle.sto_transaction.specs.Resting.{IsAtRest}
 use Rattle.sto_attempt_facts.specs.Records.{Record, times_written}
 use Rattle.sto_attempt_facts.specs.Counted.{times_committed, aborted_times}
 use Rattle.sto_core.specs.Core.{Core}
 use Rattle.sto_core.specs.Opened.{opened_core}
 use Rattle.sto_plain.specs.Passes.{view_of}
-use Rattle.sto_run_threads.specs.Counts.{scripts_from}
 use Rattle.sto_run_threads.specs.Worked.{HasWorked}
 use Rattle.sto_run_steps.specs.Seated.{AreOver, records_of}
 use Rattle.sto_run_steps.specs.Turning.{HaveTurns, entry_turns, round_turns}
 use Rattle.sto_run_steps.proofs.Reopened.{over_idle, over_made, over_reopened, all_records}
 use Rattle.sto_run_steps.proofs.Turns.{turns_append}
+use Rattle.sto_run_threads.specs.Plans.{MayDraw, draws_of}
 use Rattle.sto_run_steps.proofs.file.step_threads.Goals as goal
 
 pub close-requires : goal.close-requires
 close-requires g c =
     let s = c.in_ok-words.field-0 in
-    over_idle (g.W.Work.meaning c.args.work.now) (g.W.Work.sizes c.args.work.now) (g.W.Work.file c.args.work.now) (g.W.Work.tries c.args.work.now) (g.W.Attempts.fits c.args.work.now)
-    s.words s.seats.items c.in_ok-words.ensures.seated c.in_ok-words.ensures.over
+    over_idle (g.W.Work.plan c.args.work.now) (g.W.Attempts.fits c.args.work.now)
+    s.words s.seats.items c.in_ok-words.ensures.turns.1.seated c.in_ok-words.ensures.over
 
-pub run_left-requires-clause-rests : goal.run_left-requires-clause-rests
-run_left-requires-clause-rests g c =
-    let m = g.W.Work.meaning c.args.work.now in let sizes = g.W.Work.sizes c.args.work.now in
-    let s = c.in_ok-words.field-0 in
-    let k = over_reopened m sizes (g.W.Work.file c.args.work.now) (g.W.Work.tries c.args.work.now) (g.W.Attempts.fits c.args.work.now)
-    s.words s.seats.items c.in_ok-words.ensures.seated c.in_ok-words.ensures.over g.T.Naming.valid c.close.result c.at-pass.result.plain
-    c.close.ensures.words c.close.ensures.closed (c.at-pass.ensures.plain ∙ c.in-Ok.ensures.ok) in
-    subst (λ (n : ℕ). IsAtRest m sizes (view_of c.at-pass.result.plain n)) (sym c.at-pass.ensures.pass) k.rests
-
-pub run_left-requires-clause-draws : goal.run_left-requires-clause-draws
-run_left-requires-clause-draws g c =
-    let file = g.W.Work.file c.args.work.now in let tries = g.W.Work.tries c.args.work.now in
-    let s = c.in_ok-words.field-0 in
-    let k = over_reopened (g.W.Work.meaning c.args.work.now) (g.W.Work.sizes c.args.work.now) file tries (g.W.Attempts.fits c.args.work.now)
-    s.words s.seats.items c.in_ok-words.ensures.seated c.in_ok-words.ensures.over g.T.Naming.valid c.close.result c.at-pass.result.plain
-    c.close.ensures.words c.close.ensures.closed (c.at-pass.ensures.plain ∙ c.in-Ok.ensures.ok) in
-    subst (λ (n : ℕ). tries * scripts_from file.threads 0 ≤ (view_of c.at-pass.result.plain n).draws) (sym c.at-pass.ensures.pass) k.draws
+pub run_left-requires-clause-free : goal.run_left-requires-clause-free
+run_left-requires-clause-free g c =
+    let plan = g.W.Work.plan c.args.work.now in let s = c.in_ok-words.field-0 in
+    let k = over_reopened plan (g.W.Attempts.fits c.args.work.now) s.words s.seats.items c.in_ok-words.ensures.turns.1.seated c.in_ok-words.ensures.over
+    g.T.Naming.valid c.close.result c.at-pass.result.plain c.close.ensures.words c.close.ensures.closed (c.at-pass.ensures.plain ∙ c.in-Ok.ensures.ok) in
+    subst (λ (n : ℕ). MayDraw plan (draws_of plan) (view_of c.at-pass.result.plain n)) (sym c.at-pass.ensures.pass) (record { rests = k.rests; draws = k.draws })
 
 pub run_left-requires-clause-worked : goal.run_left-requires-clause-worked
 run_left-requires-clause-worked g c =
-    let m = g.W.Work.meaning c.args.work.now in let file = g.W.Work.file c.args.work.now in let tries = g.W.Work.tries c.args.work.now in
-    let s = c.in_ok-words.field-0 in
-    let k = over_reopened m (g.W.Work.sizes c.args.work.now) file tries (g.W.Attempts.fits c.args.work.now)
-    s.words s.seats.items c.in_ok-words.ensures.seated c.in_ok-words.ensures.over g.T.Naming.valid c.close.result c.at-pass.result.plain
-    c.close.ensures.words c.close.ensures.closed (c.at-pass.ensures.plain ∙ c.in-Ok.ensures.ok) in
+    let plan = g.W.Work.plan c.args.work.now in let s = c.in_ok-words.field-0 in
+    let k = over_reopened plan (g.W.Attempts.fits c.args.work.now) s.words s.seats.items c.in_ok-words.ensures.turns.1.seated c.in_ok-words.ensures.over
+    g.T.Naming.valid c.close.result c.at-pass.result.plain c.close.ensures.words c.close.ensures.closed (c.at-pass.ensures.plain ∙ c.in-Ok.ensures.ok) in
     let whole = ap (map plain) c.in_ok-records.ensures ∙ all_records s.seats.items in
-    subst (λ (l : List Record). HasWorked m file tries (view_of c.at-pass.result.plain c.at-pass.result.pass) l) (sym whole)
-    (subst (λ (n : ℕ). HasWorked m file tries (view_of c.at-pass.result.plain n) (flat_map records_of s.seats.items)) (sym c.at-pass.ensures.pass) k.worked)
+    subst (λ (l : List Record). HasWorked plan (view_of c.at-pass.result.plain c.at-pass.result.pass) l) (sym whole)
+    (subst (λ (n : ℕ). HasWorked plan (view_of c.at-pass.result.plain n) (flat_map records_of s.seats.items)) (sym c.at-pass.ensures.pass) k.worked)
 
 pub run_left-requires-clause-tickets : goal.run_left-requires-clause-tickets
 run_left-requires-clause-tickets g c =
-    let s = c.in_ok-words.field-0 in
-    let k = over_reopened (g.W.Work.meaning c.args.work.now) (g.W.Work.sizes c.args.work.now) (g.W.Work.file c.args.work.now) (g.W.Work.tries c.args.work.now) (g.W.Attempts.fits c.args.work.now)
-    s.words s.seats.items c.in_ok-words.ensures.seated c.in_ok-words.ensures.over g.T.Naming.valid c.close.result c.at-pass.result.plain
-    c.close.ensures.words c.close.ensures.closed (c.at-pass.ensures.plain ∙ c.in-Ok.ensures.ok) in
+    let plan = g.W.Work.plan c.args.work.now in let s = c.in_ok-words.field-0 in
+    let k = over_reopened plan (g.W.Attempts.fits c.args.work.now) s.words s.seats.items c.in_ok-words.ensures.turns.1.seated c.in_ok-words.ensures.over
+    g.T.Naming.valid c.close.result c.at-pass.result.plain c.close.ensures.words c.close.ensures.closed (c.at-pass.ensures.plain ∙ c.in-Ok.ensures.ok) in
     let whole = ap (map plain) c.in_ok-records.ensures ∙ all_records s.seats.items in
     subst (λ (l : List Record). (t : ℕ) → times_written t l ≡ times_committed t (view_of c.at-pass.result.plain c.at-pass.result.pass).entries) (sym whole)
     (subst (λ (n : ℕ). (t : ℕ) → times_written t (flat_map records_of s.seats.items) ≡ times_committed t (view_of c.at-pass.result.plain n).entries) (sym c.at-pass.ensures.pass) k.tickets)
 
+pub returns-clause-finished : goal.returns-clause-finished
+returns-clause-finished g c = record { one = search rules; rests = search rules; finished = search rules }
+
 pub returns-clause-alone : goal.returns-clause-alone
 returns-clause-alone g c = λ one place.
-    let s = c.in_ok-words.field-0 in
-    let k = over_reopened (g.W.Work.meaning c.args.work.now) (g.W.Work.sizes c.args.work.now) (g.W.Work.file c.args.work.now) (g.W.Work.tries c.args.work.now) (g.W.Attempts.fits c.args.work.now)
-    s.words s.seats.items c.in_ok-words.ensures.seated c.in_ok-words.ensures.over g.T.Naming.valid c.close.result c.at-pass.result.plain
-    c.close.ensures.words c.close.ensures.closed (c.at-pass.ensures.plain ∙ c.in-Ok.ensures.ok) in
+    let plan = g.W.Work.plan c.args.work.now in let s = c.in_ok-words.field-0 in
+    let k = over_reopened plan (g.W.Attempts.fits c.args.work.now) s.words s.seats.items c.in_ok-words.ensures.turns.1.seated c.in_ok-words.ensures.over
+    g.T.Naming.valid c.close.result c.at-pass.result.plain c.close.ensures.words c.close.ensures.closed (c.at-pass.ensures.plain ∙ c.in-Ok.ensures.ok) in
     let whole = ap (map plain) c.in_ok-records.ensures ∙ all_records s.seats.items in
-    let seated = c.in_ok-words.ensures.seated.statuses in
-    let a = c.in_ok-words.ensures.many in let b = c.in_ok-stage-2.ensures.many in let d = c.in_ok-stage.ensures.many in
+    let seated = c.in_ok-words.ensures.turns.1.seated.statuses in
+    let a = c.in_ok-words.ensures.turns.1.many in let b = c.in_ok-stage-2.ensures.turns.many in let d = c.in_ok-stage.ensures.many in
     let passes : length s.words.statuses ≡ 1 = omega (arith, one, seated, a, b, d) in
     let none = k.alone passes place in
     let later = c.in_ok-run_left.ensures.none place in
@@ -81,7 +68,7 @@ returns-clause-stepped g c =
     let turns = flat_map entry_turns c.args.schedule.now in
     let rounds = c.in_ok-words.ensures.turns.0 in
     let opened = c.in_ok-stage.ensures.opened ∙ ap (opened_core (g.T.Naming.sizes c.args.ty.now) c.args.contents.now.items) c.in_ok-stage.ensures.many in
-    let many = c.in_ok-stage-2.ensures.many in
+    let many = c.in_ok-stage-2.ensures.turns.many in
     let whole = ap (map plain) c.in_ok-records.ensures ∙ all_records last.seats.items in
     record {
       seats = first.seats.items;
@@ -91,10 +78,10 @@ returns-clause-stepped g c =
       later = last.seats.items;
       turns =
           subst (λ (d : Core). HaveTurns valid (turns ++ round_turns (length first.seats.items) rounds) d first.seats.items last.words last.seats.items) opened
-          (turns_append valid turns (round_turns (length first.seats.items) rounds) first.words followed.words last.words first.seats.items followed.seats.items last.seats.items c.in_ok-stage-2.ensures.turns
-          (subst (λ (n : ℕ). HaveTurns valid (round_turns n rounds) followed.words followed.seats.items last.words last.seats.items) many c.in_ok-words.ensures.turns.1));
-      over = subst (λ (n : ℕ). AreOver n last.seats.items) (c.in_ok-words.ensures.many ∙ many) c.in_ok-words.ensures.over;
-      made = over_made (g.W.Work.meaning c.args.work.now) (g.W.Work.sizes c.args.work.now) (g.W.Work.file c.args.work.now) (g.W.Work.tries c.args.work.now) (g.W.Attempts.fits c.args.work.now)
-          last.words last.seats.items c.in_ok-words.ensures.seated c.in_ok-words.ensures.over;
+          (turns_append valid turns (round_turns (length first.seats.items) rounds) first.words followed.words last.words first.seats.items followed.seats.items last.seats.items c.in_ok-stage-2.ensures.turns.turns
+          (subst (λ (n : ℕ). HaveTurns valid (round_turns n rounds) followed.words followed.seats.items last.words last.seats.items) many c.in_ok-words.ensures.turns.1.turns));
+      over = subst (λ (n : ℕ). AreOver n last.seats.items) (c.in_ok-words.ensures.turns.1.many ∙ many) c.in_ok-words.ensures.over;
+      made = over_made (g.W.Work.plan c.args.work.now) (g.W.Attempts.fits c.args.work.now)
+          last.words last.seats.items c.in_ok-words.ensures.turns.1.seated c.in_ok-words.ensures.over;
       aborts = λ place. c.in_ok-run_left.ensures.none place ∙ ap (aborted_times place) whole;
     }

@@ -8,4 +8,4 @@ begin-requires-clause-there g c =
     let s = c.args.self.now in
     let next = (goes_on s.ended s.count s.left c.requires.going c.requires.within).0 in
     let counted = c.requires.counted in
-    transaction_there (g.W.Work.file c.args.work.now) c.args.thread s.ended (omega (arith, next, counted))
+    transaction_there (g.W.Work.plan c.args.work.now).file c.args.thread s.ended (omega (arith, next, counted))

@@ -3,11 +3,7 @@ use Rattle.sto_run_steps.proofs.Turns.{rounds_more}
 use Rattle.sto_run_steps.proofs.stage.Stage.finish.Goals as goal
 
 pub loop-next-init : goal.loop-next-init
-loop-next-init g c = record {
-  seated = c.requires.seated;
-  many = refl;
-  turns = (zero, (refl, refl));
-}
+loop-next-init g c = record { turns = (zero, record { turns = (refl, refl); seated = c.requires.seated; many = refl }) }
 
 pub returns-then-not-moved-clause-over : goal.returns-then-not-moved-clause-over
 returns-then-not-moved-clause-over g c =
@@ -16,21 +12,27 @@ returns-then-not-moved-clause-over g c =
 
 pub loop-next-preserved : goal.loop-next-preserved
 loop-next-preserved g c =
-    let inv = c.loop-next.invariant in
+    let was = c.loop-next.invariant.turns in let now = c.in_ok-next.ensures.turns in
     let first = c.args.self.seats.items in let stage = c.loop-next.stage in let next = c.in_ok-next.next in
     record {
-      seated = c.in_ok-next.ensures.seated;
-      many = c.in_ok-next.ensures.many ∙ inv.many;
       turns = (
-        suc inv.turns.0,
-        rounds_more g.T.Naming.valid (length first) (length stage.seats.items) inv.turns.0 c.args.self.words stage.words next.words first stage.seats.items next.seats.items inv.many inv.turns.1 c.in_ok-next.ensures.turns,
+        suc was.0,
+        record {
+          turns = rounds_more g.T.Naming.valid (length first) (length stage.seats.items) was.0 c.args.self.words stage.words next.words first stage.seats.items next.seats.items was.1.many was.1.turns now.turns;
+          seated = now.seated;
+          many = now.many ∙ was.1.many;
+        },
       );
     }
 
 pub returns-then-not-moved-clause-turns : goal.returns-then-not-moved-clause-turns
 returns-then-not-moved-clause-turns g c =
-    let inv = c.loop-next.invariant in
+    let was = c.loop-next.invariant.turns in let now = c.in_ok-next.ensures.turns in
     let first = c.args.self.seats.items in let stage = c.loop-next.stage in let next = c.in_ok-next.next in (
-      suc inv.turns.0,
-      rounds_more g.T.Naming.valid (length first) (length stage.seats.items) inv.turns.0 c.args.self.words stage.words next.words first stage.seats.items next.seats.items inv.many inv.turns.1 c.in_ok-next.ensures.turns,
+      suc was.0,
+      record {
+        turns = rounds_more g.T.Naming.valid (length first) (length stage.seats.items) was.0 c.args.self.words stage.words next.words first stage.seats.items next.seats.items was.1.many was.1.turns now.turns;
+        seated = now.seated;
+        many = now.many ∙ was.1.many;
+      },
     )

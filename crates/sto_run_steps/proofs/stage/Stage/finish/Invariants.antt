@@ -1,13 +1,11 @@
-use Rattle.std.proofs.Common.{◌≡◌, ℕ, length}
-use Rattle.sto_run_steps.specs.Seated.{AreSeated, events_of_all}
-use Rattle.sto_run_steps.specs.Turning.{HaveTurns, round_turns}
+use Rattle.std.proofs.Common.{ℕ, length}
+use Rattle.sto_run_steps.specs.Seated.{events_of_all}
+use Rattle.sto_run_steps.specs.Turning.{TakeTurns, round_turns}
 use Rattle.sto_run_steps.proofs.stage.Stage.finish.Given as goal
 
 abbrev pub invariant-loop-next : goal.invariant-loop-next
 invariant-loop-next g l = record {
-  seated : AreSeated (g.W.Work.meaning l.work) (g.W.Work.sizes l.work) (g.W.Work.file l.work) (g.W.Work.tries l.work) (g.W.Attempts.fits l.work) l.stage.words l.stage.seats.items;
-  many : length l.stage.seats.items ≡ length l.fn.self.seats.items;
-  turns : (rounds : ℕ) × HaveTurns g.T.Naming.valid (round_turns (length l.fn.self.seats.items) rounds) l.fn.self.words l.fn.self.seats.items l.stage.words l.stage.seats.items;
+  turns : (rounds : ℕ) × TakeTurns (g.W.Work.plan l.work) (g.W.Attempts.fits l.work) g.T.Naming.valid (round_turns (length l.fn.self.seats.items) rounds) l.fn.self.words l.fn.self.seats.items l.stage.words l.stage.seats.items;
 }
 
 abbrev pub decreases-loop-next : goal.decreases-loop-next

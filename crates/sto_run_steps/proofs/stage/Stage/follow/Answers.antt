@@ -1,14 +1,33 @@
-use Rattle.std.proofs.Common.{◌∙◌}
+use Rattle.std.specs.List.{flat_map}
+use Rattle.std.proofs.Common.{List, refl, ◌∙◌, subst, arith}
+use Rattle.std.proofs.lemmas.List.{take_all}
+use Rattle.sto_lang.specs.declared.file.Turns.{Turns}
+use Rattle.sto_run_steps.specs.Turning.{HaveTurns, entry_turns}
 use Rattle.sto_run_steps.proofs.Turns.{schedule_more}
 use Rattle.sto_run_steps.proofs.stage.Stage.follow.Goals as goal
 
 pub loop-turns-preserved : goal.loop-turns-preserved
 loop-turns-preserved g c =
-    let inv = c.loop-turns.invariant in
-    let next = c.in_ok-stage in
+    let was = c.loop-turns.invariant.turns in let now = c.in_ok-stage.ensures.turns in let next = c.in_ok-stage in
     record {
-      seated = next.ensures.seated;
-      many = next.ensures.many ∙ inv.many;
-      turns = schedule_more g.T.Naming.valid c.args.schedule.now c.loop-turns.turns-index (record { thread = 0; steps = 0 }) c.args.self.words c.loop-turns.stage.words next.stage.words c.args.self.seats.items c.loop-turns.stage.seats.items next.stage.seats.items
-          c.loop-turns-test.true inv.turns next.ensures.turns;
+      turns = record {
+        turns = schedule_more g.T.Naming.valid c.args.schedule.now c.loop-turns.turns-index (record { thread = 0; steps = 0 }) c.args.self.words c.loop-turns.stage.words next.stage.words c.args.self.seats.items c.loop-turns.stage.seats.items next.stage.seats.items
+            c.loop-turns-test.true was.turns now.turns;
+        seated = now.seated;
+        many = now.many ∙ was.many;
+      };
+    }
+
+pub loop-turns-init : goal.loop-turns-init
+loop-turns-init g c = record { turns = record { turns = (refl, refl); seated = c.requires.seated; many = refl } }
+
+pub returns : goal.returns
+returns g c =
+    let was = c.loop-turns.invariant.turns in record {
+      turns = record {
+        turns = subst (λ (l : List Turns). HaveTurns g.T.Naming.valid (flat_map entry_turns l) c.args.self.words c.args.self.seats.items c.loop-turns.stage.words c.loop-turns.stage.seats.items)
+            (take_all c.loop-turns.turns-index c.args.schedule.now (omega (arith, c.loop-turns-test.false))) was.turns;
+        seated = was.seated;
+        many = was.many;
+      };
     }

@@ -1,5 +1,5 @@
 use Rattle.std.specs.Prelude.{◌⊎◌}
-use Rattle.std.proofs.Common.{◌≡◌, true, false, ◌∙◌, ap, arith, length, inl, inr}
+use Rattle.std.proofs.Common.{rules, refl, ◌≡◌, true, false, ◌∙◌, ap, arith, length, inl, inr}
 use Rattle.sto_run_steps.specs.Seated.{events_of_all}
 use Rattle.sto_run_steps.proofs.Seats.{round_more}
 use Rattle.sto_run_steps.proofs.Turns.{round_turn}
@@ -17,10 +17,12 @@ loop-thread-preserved g c =
     let k = round_more (events_of_all (g.W.Attempts.left c.args.work.now) (g.W.Attempts.most c.args.work.now)) c.if-moved.moved c.loop-thread.moved c.in_ok-next.made
     c.args.self.seats.items c.loop-thread.stage.seats.items c.in_ok-next.next.seats.items c.loop-thread.thread inv.fewer inv.rest c.in_ok-next.ensures.made c.in_ok-next.ensures.over how in
     record {
-      seated = c.in_ok-next.ensures.seated;
-      many = c.in_ok-next.ensures.many ∙ inv.many;
-      turns = round_turn g.T.Naming.valid c.loop-thread.thread c.args.self.words c.loop-thread.stage.words c.in_ok-next.next.words c.args.self.seats.items c.loop-thread.stage.seats.items c.in_ok-next.next.seats.items
-          inv.turns c.in_ok-next.ensures.turn;
+      turns = record {
+        turns = round_turn g.T.Naming.valid c.loop-thread.thread c.args.self.words c.loop-thread.stage.words c.in_ok-next.next.words c.args.self.seats.items c.loop-thread.stage.seats.items c.in_ok-next.next.seats.items
+            inv.turns.turns c.in_ok-next.ensures.turn;
+        seated = c.in_ok-next.ensures.seated;
+        many = c.in_ok-next.ensures.many ∙ inv.turns.many;
+      };
       end = inv.end;
       fewer = k.0;
       rest = k.1;
@@ -32,3 +34,19 @@ returns-clause-over g c = λ still thread below s there.
     let rest = inv.rest still in
     let many = ap (λ l. length l) rest.0 in
     rest.1 thread (omega (arith, below, many, inv.end, c.loop-thread-test.false)) s (rw rest.0 at there)
+
+pub loop-thread-init : goal.loop-thread-init
+loop-thread-init g c = record {
+  turns = record { turns = (refl, refl); seated = c.requires.seated; many = refl };
+  end = search rules;
+  fewer = search rules;
+  rest = search rules;
+}
+
+pub returns-clause-turns : goal.returns-clause-turns
+returns-clause-turns g c =
+    let was = c.loop-thread.invariant.turns in record {
+      turns = search rules;
+      seated = was.seated;
+      many = was.many;
+    }

@@ -1,4 +1,4 @@
-use Rattle.std.proofs.Common.{rules, ◌≡◌, ◌+◌, ℕ, List, false, replicate, sym, ◌∙◌, subst, arith}
+use Rattle.std.proofs.Common.{refl, rules, ◌≡◌, ◌+◌, ℕ, List, false, replicate, sym, ◌∙◌, subst, arith}
 use Rattle.sto_run_steps.specs.Seated.{IsOverAt}
 use Rattle.sto_run_steps.specs.Turning.{HaveTurns}
 use Rattle.sto_run_steps.specs.declared.seat.Seat.{Seat}
@@ -7,25 +7,43 @@ use Rattle.sto_run_steps.proofs.stage.Stage.take_turns.Goals as goal
 
 pub loop-preserved : goal.loop-preserved
 loop-preserved g c =
-    let inv = c.loop.invariant in
+    let was = c.loop.invariant.turns in let next = c.in_ok-next in
     record {
-      seated = c.in_ok-next.ensures.seated;
-      many = c.in_ok-next.ensures.many ∙ inv.many;
-      turns = entry_more g.T.Naming.valid c.loop.counter c.args.turns.now.thread c.args.self.words c.loop.stage.words c.in_ok-next.next.words c.args.self.seats.items c.loop.stage.seats.items c.in_ok-next.next.seats.items
-          inv.turns c.in_ok-next.ensures.turn;
+      turns = record {
+        turns = entry_more g.T.Naming.valid c.loop.counter c.args.turns.now.thread c.args.self.words c.loop.stage.words next.next.words c.args.self.seats.items c.loop.stage.seats.items next.next.seats.items
+            was.turns next.ensures.turn;
+        seated = next.ensures.seated;
+        many = next.ensures.many ∙ was.many;
+      };
     }
 
-pub returns-then-not-made-clause-turns : goal.returns-then-not-made-clause-turns
-returns-then-not-made-clause-turns g c =
+pub returns-then-not-made : goal.returns-then-not-made
+returns-then-not-made g c =
     let off : c.in_ok-next.made ≡ false = search rules in
-    let over = c.in_ok-next.ensures.over off in
+    let was = c.loop.invariant.turns in let next = c.in_ok-next in
+    let over = next.ensures.over off in
     let thread = c.args.turns.now.thread in
     let within = c.loop-test.true in
-    entry_over g.T.Naming.valid (c.loop.counter + 1) c.args.turns.now.steps thread c.args.self.words c.in_ok-next.next.words c.args.self.seats.items c.in_ok-next.next.seats.items (omega (arith, within))
-    (entry_more g.T.Naming.valid c.loop.counter thread c.args.self.words c.loop.stage.words c.in_ok-next.next.words c.args.self.seats.items c.loop.stage.seats.items c.in_ok-next.next.seats.items c.loop.invariant.turns c.in_ok-next.ensures.turn)
-    (subst (λ (l : List (Seat g.row.M.Denot)). IsOverAt thread l) (sym over.0) over.1)
+    record {
+      turns = record {
+        turns = entry_over g.T.Naming.valid (c.loop.counter + 1) c.args.turns.now.steps thread c.args.self.words next.next.words c.args.self.seats.items next.next.seats.items (omega (arith, within))
+            (entry_more g.T.Naming.valid c.loop.counter thread c.args.self.words c.loop.stage.words next.next.words c.args.self.seats.items c.loop.stage.seats.items next.next.seats.items was.turns next.ensures.turn)
+            (subst (λ (l : List (Seat g.row.M.Denot)). IsOverAt thread l) (sym over.0) over.1);
+        seated = next.ensures.seated;
+        many = next.ensures.many ∙ was.many;
+      };
+    }
 
-pub returns-clause-turns : goal.returns-clause-turns
-returns-clause-turns g c =
+pub returns : goal.returns
+returns g c =
     let all : c.loop.counter ≡ c.args.turns.now.steps = omega arith in
-    subst (λ (n : ℕ). HaveTurns g.T.Naming.valid (replicate n c.args.turns.now.thread) c.args.self.words c.args.self.seats.items c.loop.stage.words c.loop.stage.seats.items) all c.loop.invariant.turns
+    let was = c.loop.invariant.turns in record {
+      turns = record {
+        turns = subst (λ (n : ℕ). HaveTurns g.T.Naming.valid (replicate n c.args.turns.now.thread) c.args.self.words c.args.self.seats.items c.loop.stage.words c.loop.stage.seats.items) all was.turns;
+        seated = was.seated;
+        many = was.many;
+      };
+    }
+
+pub loop-init : goal.loop-init
+loop-init g c = record { turns = record { turns = (refl, refl); seated = c.requires.seated; many = refl } }

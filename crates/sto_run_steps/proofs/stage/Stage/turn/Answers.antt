@@ -21,13 +21,11 @@ returns-then-is_over-clause-turn g c =
 
 pub step-requires-clause-seated : goal.step-requires-clause-seated
 step-requires-clause-seated g c =
-    let m = g.W.Work.meaning c.args.work.now in let sizes = g.W.Work.sizes c.args.work.now in
-    let file = g.W.Work.file c.args.work.now in let tries = g.W.Work.tries c.args.work.now in
-    let fits = g.W.Attempts.fits c.args.work.now in
+    let plan = g.W.Work.plan c.args.work.now in let fits = g.W.Attempts.fits c.args.work.now in
     let seats = c.args.self.seats.items in
     let at = slice_get_read seats (length seats) c.args.thread c.index_mut.result.now refl c.requires.inside c.index_mut.ensures.value in
-    subst (λ (d : Core). IsSeated m sizes file tries (length d.statuses) (fits (length d.statuses)) c.args.thread (view_of d c.at-pass.result.pass) c.index_mut.result.now) (sym c.at-pass.ensures.plain)
-    (subst (λ (n : ℕ). IsSeated m sizes file tries (length c.args.self.words.statuses) (fits (length c.args.self.words.statuses)) c.args.thread (view_of c.args.self.words n) c.index_mut.result.now) (sym c.at-pass.ensures.pass)
+    subst (λ (d : Core). IsSeated plan fits (length d.statuses) c.args.thread (view_of d c.at-pass.result.pass) c.index_mut.result.now) (sym c.at-pass.ensures.plain)
+    (subst (λ (n : ℕ). IsSeated plan fits (length c.args.self.words.statuses) c.args.thread (view_of c.args.self.words n) c.index_mut.result.now) (sym c.at-pass.ensures.pass)
     (c.requires.seated.each c.args.thread c.index_mut.result.now at))
 
 pub step-requires-clause-going : goal.step-requires-clause-going
@@ -39,7 +37,7 @@ step-requires-clause-going g c =
 
 pub returns-clause-seated : goal.returns-clause-seated
 returns-clause-seated g c =
-    turned (g.W.Work.meaning c.args.work.now) (g.W.Work.sizes c.args.work.now) (g.W.Work.file c.args.work.now) (g.W.Work.tries c.args.work.now) (g.W.Attempts.fits c.args.work.now)
+    turned (g.W.Work.plan c.args.work.now) (g.W.Attempts.fits c.args.work.now)
     c.args.self.words c.back-words.result c.at-pass.result.plain c.step.new.cells.plain c.at-pass.result.pass c.step.new.cells.pass c.args.self.seats.items c.args.thread c.step.new.self
     c.at-pass.ensures.plain c.at-pass.ensures.pass c.back-words.ensures c.requires.seated c.step.ensures.same c.in_ok-step.ensures.seated
 

@@ -1,13 +1,15 @@
-use Rattle.std.proofs.Common.{map, subst, sym}
+use Rattle.std.proofs.Common.{subst}
 use Rattle.sto_model.specs.Run.{Script as Steps}
 use Rattle.sto_script.specs.Meaning.{meaning_of}
 use Rattle.sto_report_spec.specs.Orders.{Place}
 use Rattle.sto_attempt_log.proofs.Reading.{always_err}
-use Rattle.sto_transaction.specs.Plain.{plain}
 use Rattle.sto_transaction.specs.Ran.{HasRun, HasBroken}
+use Rattle.sto_type.specs.Traits.{of_type}
+use Rattle.sto_run_threads.specs.Plans.{plan_of}
 use Rattle.sto_run_threads.specs.Ran.{HasBrokenAt}
 use Rattle.sto_run_threads.proofs.Results.{at_ok, at_err}
 use Rattle.sto_run_threads.proofs.Scripts.{not_begun}
+use Rattle.sto_run_threads.specs.Told.{told_in}
 use Rattle.sto_run_threads.proofs.work.FileWorkWork.run_one.Goals as goal
 
 pub transaction-body-requires-clause-weighed : goal.transaction-body-requires-clause-weighed
@@ -18,6 +20,12 @@ run-ran-requires-clause-takes g c = λ call may.
     let made = at_ok _ c.in_ok-body.was c.transaction-body.ensures.made in
     c.requires.ready.0.takes (c.args.thread, c.args.position) made.script made.there call (made.asks call may)
 
+pub run-ran-requires-clause-rests : goal.run-ran-requires-clause-rests
+run-ran-requires-clause-rests g c = c.requires.free.rests
+
+pub run-ran-requires-clause-draws : goal.run-ran-requires-clause-draws
+run-ran-requires-clause-draws g c = c.requires.free.draws
+
 -- none was begun
 pub returns-then-is_stopped-clause-err : goal.returns-then-is_stopped-clause-err
 returns-then-is_stopped-clause-err g c =
@@ -26,7 +34,7 @@ returns-then-is_stopped-clause-err g c =
     record {
       script = c.requires.there.script;
       there = c.requires.there.there;
-      broken = not_begun m sizes c.args.self.now.tries (g.C.Cells.view c.args.cells.now) (meaning_of c.requires.there.script) place (map plain c.args.records.now.items) c.requires.rests;
+      broken = not_begun m sizes c.args.self.now.tries (g.C.Cells.view c.args.cells.now) (meaning_of c.requires.there.script) place (told_in c.args.records.now) c.requires.free.rests;
     }
 
 -- before the first attempt
@@ -34,9 +42,9 @@ pub returns-in_err-body-clause-err : goal.returns-in_err-body-clause-err
 returns-in_err-body-clause-err g c =
     let m = g.T.TxType.meaning c.args.self.now.ty.now in let sizes = g.T.Naming.sizes c.args.self.now.ty.now in let v = g.C.Cells.view c.args.cells.now in
     let place : Place = (c.args.thread, c.args.position) in
-    let text = c.requires.there.script in let rs = map plain c.args.records.now.items in
-    always_err c.from_residual.result (HasBrokenAt m sizes (g.F.Workload.file c.args.self.now.workload) c.args.self.now.tries v v place rs rs)
-    (record { script = text; there = c.requires.there.there; broken = not_begun m sizes c.args.self.now.tries v (meaning_of text) place rs c.requires.rests })
+    let text = c.requires.there.script in let rs = told_in c.args.records.now in
+    always_err c.from_residual.result (HasBrokenAt (plan_of (of_type g.T.Naming g.T.TxType) c.args.self.now.ty.now (g.F.Workload.file c.args.self.now.workload) c.args.self.now.tries) v v place rs rs)
+    (record { script = text; there = c.requires.there.there; broken = not_begun m sizes c.args.self.now.tries v (meaning_of text) place rs c.requires.free.rests })
 
 pub returns-in_err-ended-clause-err : goal.returns-in_err-ended-clause-err
 returns-in_err-ended-clause-err g c =
@@ -44,8 +52,8 @@ returns-in_err-ended-clause-err g c =
     let v = g.C.Cells.view c.args.cells.now in let w = g.C.Cells.view c.run-ran.new.cells in
     let place : Place = (c.args.thread, c.args.position) in
     let made = at_ok _ c.in_ok-body.was c.transaction-body.ensures.made in
-    let rs = map plain c.args.records.now.items in let later = map plain c.run-ran.new.records.items in
-    always_err c.from_residual-in_err-ended.result (HasBrokenAt m sizes (g.F.Workload.file c.args.self.now.workload) c.args.self.now.tries v w place rs later)
+    let rs = told_in c.args.records.now in let later = told_in c.run-ran.new.records in
+    always_err c.from_residual-in_err-ended.result (HasBrokenAt (plan_of (of_type g.T.Naming g.T.TxType) c.args.self.now.ty.now (g.F.Workload.file c.args.self.now.workload) c.args.self.now.tries) v w place rs later)
     (record { script = made.script; there = made.there; broken = subst (λ (f : Steps). HasBroken m sizes c.args.self.now.tries v w f place rs later) made.does (at_err c.in_err-ended.was c.run-ran.ensures.err) })
 
 pub returns-then-ended-clause-ran : goal.returns-then-ended-clause-ran
@@ -54,7 +62,7 @@ returns-then-ended-clause-ran g c =
     let v = g.C.Cells.view c.args.cells.now in let w = g.C.Cells.view c.run-ran.new.cells in
     let place : Place = (c.args.thread, c.args.position) in
     let made = at_ok _ c.in_ok-body.was c.transaction-body.ensures.made in
-    let rs = map plain c.args.records.now.items in let later = map plain c.run-ran.new.records.items in
+    let rs = told_in c.args.records.now in let later = told_in c.run-ran.new.records in
     record {
       script = made.script;
       there = made.there;
@@ -67,7 +75,7 @@ returns-else-ended-clause-ran g c =
     let v = g.C.Cells.view c.args.cells.now in let w = g.C.Cells.view c.run-ran.new.cells in
     let place : Place = (c.args.thread, c.args.position) in
     let made = at_ok _ c.in_ok-body.was c.transaction-body.ensures.made in
-    let rs = map plain c.args.records.now.items in let later = map plain c.run-ran.new.records.items in
+    let rs = told_in c.args.records.now in let later = told_in c.run-ran.new.records in
     record {
       script = made.script;
       there = made.there;
