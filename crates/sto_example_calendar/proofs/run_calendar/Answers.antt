@@ -9,5 +9,5 @@ pub returns : goal.returns
 returns g c =
     let r = planned _ c.new-schema.ensures c.in_ok-room.ensures in
     let o = c.in_ok-store.ensures in
-    let day = c.in_ok-told.ensures in
+    let day = c.in_ok-_told.ensures in
     four_run _ (o.machines ∙ ap machines_of r.1) o.fresh day.same.0 day.done c.in_ok-close.ensures.history (record { rows = []; are = refl; apart = tt }) (books _ r.0) (books _ r.0) (books _ r.0) (books _ r.0)
