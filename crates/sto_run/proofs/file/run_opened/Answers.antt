@@ -8,13 +8,13 @@ pub run_threads-requires-clause-opens : goal.run_threads-requires-clause-opens
 run_threads-requires-clause-opens g c = λ κs within. c.requires.runnable.opens
 
 pub journal-requires-clause-sound : goal.journal-requires-clause-sound
-journal-requires-clause-sound g c = c.requires.runnable.sound
+journal-requires-clause-sound g c = λ κs within. c.requires.runnable.sound
 
 pub journal-requires-clause-type_of : goal.journal-requires-clause-type_of
-journal-requires-clause-type_of g c = c.requires.runnable.type_of
+journal-requires-clause-type_of g c = λ κs within. c.requires.runnable.type_of
 
 pub journal-requires-clause-tries : goal.journal-requires-clause-tries
-journal-requires-clause-tries g c = c.requires.runnable.tries.1
+journal-requires-clause-tries g c = λ κs within. c.requires.runnable.tries.1
 
 pub returns-clause-alone : goal.returns-clause-alone
 returns-clause-alone g c = λ one. c.journal.ensures.alone (c.in_ok-finished.ensures.alone one)

@@ -18,13 +18,13 @@ pub step_threads-requires-clause-threads : goal.step_threads-requires-clause-thr
 step_threads-requires-clause-threads c = few_threads (view c.in_ok-run.run'.work.workload.file.now) c.in_ok-run.ensures.runnable.sound
 
 pub journal-requires-clause-sound : goal.journal-requires-clause-sound
-journal-requires-clause-sound c = c.in_ok-run.ensures.runnable.sound
+journal-requires-clause-sound c = λ κs within. c.in_ok-run.ensures.runnable.sound
 
 pub journal-requires-clause-type_of : goal.journal-requires-clause-type_of
-journal-requires-clause-type_of c = c.in_ok-run.ensures.runnable.type_of
+journal-requires-clause-type_of c = λ κs within. c.in_ok-run.ensures.runnable.type_of
 
 pub journal-requires-clause-tries : goal.journal-requires-clause-tries
-journal-requires-clause-tries c = c.in_ok-run.ensures.runnable.tries.1
+journal-requires-clause-tries c = λ κs within. c.in_ok-run.ensures.runnable.tries.1
 
 pub turns_of-requires : goal.turns_of-requires
 turns_of-requires c = c.in_ok-run.ensures.runnable.sound.scheduled
