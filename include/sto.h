@@ -50,7 +50,7 @@ typedef enum sto_status {
     /* The transaction met another one: it has ended, and nothing of it took effect. Begin again, after a yield or a pause. */
     STO_ABORTED = 9,
     /* sto_run was aborted several times, and nothing took effect; or another thread is at the place where the worker is to be
-     * given back. Yield or pause, and call again. */
+     * given back, or in the call that gives the last one back of a store that is to be closed. Yield or pause, and call again. */
     STO_BUSY = 10,
     /* The worker has begun 2^40 transactions, which is all that it may. One that fails for want of memory counts. */
     STO_NO_TICKETS = 11,
@@ -68,7 +68,7 @@ typedef enum sto_status {
     STO_TOO_MANY = 17,
     /* There is less room than is needed for what is answered. */
     STO_NO_ROOM = 18,
-    /* Not all workers of the store rest in it. */
+    /* Fewer workers rest in the store than it was opened for. */
     STO_WORKERS_OUT = 19
 } sto_status;
 
@@ -169,8 +169,8 @@ uint32_t sto_worker(sto_handle *store, sto_handle *worker);
 uint32_t sto_give_back(sto_handle *worker);
 
 /* Closes a store in which all its workers rest: its handle then holds the rows of its objects, as the last commit left them.
- * Where not all were given back the store stays open. Where memory is wanting it stays open or, at the end, is lost: then the
- * handle holds nothing. */
+ * Where not all were given back the store stays open (STO_WORKERS_OUT), and where a call that gave one back has not returned yet
+ * (STO_BUSY). Where memory is wanting it stays open or, at the end, is lost: then the handle holds nothing. */
 uint32_t sto_close(sto_handle *store);
 
 /* Copies the rows of a store that was closed, by object and key, and writes how many they are. Where there is less room it copies

@@ -3,3 +3,4 @@ pub mod Copying
 pub mod Planned
 pub mod Replies
 pub mod Sending
+pub mod Whole

@@ -4,3 +4,4 @@ pub mod Raw
 pub mod Statuses
 pub mod Steps
 pub mod Stores
+pub mod Whole

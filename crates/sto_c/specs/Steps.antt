@@ -114,10 +114,6 @@ HasToldPairs old new counted count h done k = (k ≡ h)
     × MatchOption (replies_of h.worker) ((done ≡ Err status.NoTransaction) × (new ≡ old) × (count ≡ counted))
     (λ rs. HasCopied (map pair_out (pairs_of (last_of rs.items))) old done new count)
 
--- whatever it led to, it is a worker of the same store
-abbrev pub HasRun : HeldWorker → Result (Unit {0}) Status → HeldWorker → Type 0
-HasRun h done k = IsOfSameStore h k
-
 -- a call of a worker; where a handle holds something else, nothing changes
 abbrev pub OfWorker : (HeldWorker → Result (Unit {0}) Status → HeldWorker → Type 0) → HandleContent → Result (Unit {0}) Status → HandleContent → Type 0
 OfWorker to Nothing done y = (done ≡ Err status.Empty) × (y ≡ Nothing)

@@ -14,6 +14,7 @@ use Rattle.sto_serial_history.specs.Done.{HaveHistory}
 use Rattle.sto_open.specs.Working.{IsWorker, AreRowsAfter}
 use Rattle.sto_session.specs.Steps.{IsUnchanged}
 use Rattle.sto_owned.specs.Owned.{Leads}
+use Rattle.sto_owned.specs.Endings.{AllRest}
 use Rattle.sto_c.specs.declared.crossing.ShapeIn.{ShapeIn}
 use Rattle.sto_c.specs.declared.crossing.RowOut.{RowOut}
 use Rattle.sto_c.specs.declared.content.HandleContent.{HandleContent}
@@ -123,10 +124,12 @@ pub record AreClosedRows (h : HeldStore) (rows : List RowOut) : Type 0 where
   pub history : HaveHistory (objects.meaning (arc_value h.store.store).ty) (map (λ w. w.rest.seat.me.0.view) workers) state
   pub told : rows ≡ rows_out 0 state
 
--- a store was closed, or why it was not; where memory was wanting it may be lost
+-- a store was closed, or why it was not: fewer workers rest in it than it was opened for, or all do and another call has not let it go
+-- yet; where memory was wanting it may be lost
 abbrev pub HasClosedStore : HeldStore → Result (Unit {0}) Status → HandleContent → Type 0
 HasClosedStore h (Ok done) (Closed rows) = AreClosedRows h rows.items
-HasClosedStore h (Err status.WorkersOut) (Store k) = IsSameStore 0 h k
+HasClosedStore h (Err status.WorkersOut) (Store k) = IsSameStore 0 h k × (AllRest k.store → ⊥)
+HasClosedStore h (Err status.Busy) (Store k) = IsSameStore 0 h k × AllRest k.store
 HasClosedStore h (Err status.NoMemory) (Store k) = IsSameStore 0 h k
 HasClosedStore h (Err status.NoMemory) Nothing = Unit {0}
 HasClosedStore h done y = ⊥

@@ -1,10 +1,11 @@
 //! What a worker is asked.
-ghost use Rattle.std.specs.Prelude.{◌≡◌, OnErr, option_map, unwrap_or};
+ghost use Rattle.std.specs.Prelude.{◌≡◌, ◌≤◌, OnErr, IfOk, IfErr, option_map, unwrap_or, length, drop};
 ghost use Rattle.sto_c.specs.declared.content.HandleContent.TheVariants.{Worker};
 ghost use Rattle.sto_c.specs.Content.{IsHeld, IsWorker};
 ghost use Rattle.sto_c.specs.Crossing.{reply_out, last_of};
 ghost use Rattle.sto_c.specs.Stores.{HasGivenBack};
 ghost use Rattle.sto_c.specs.Steps.{IsOfSameStore, HasBegun, HasAnswered, HasAsked, HasCommitted, HasCancelled, last_reply_of};
+ghost use Rattle.sto_c.specs.Whole.{HaveAsked, HasNotAnswered, HasTriedWhole, HasRunWhole};
 
 use crate::content::{HandleContent, HeldWorker};
 use crate::crossing::{CallIn, ReplyOut};
@@ -160,25 +161,24 @@ fn ask_all(
     calls: &[CallIn],
     replies: &mut [ReplyOut],
 ) -> Result<(), Status>
-    requires { IsWorker held.old }
+    requires worker { IsWorker held.old }
+    requires room { length calls.now ≤ length replies.old }
     ensures worker { IsWorker held.new }
     ensures store { IsOfSameStore held.old held.new }
+    ensures asked { IfOk result (λ _. HaveAsked calls.now replies.new held.old held.new) }
+    ensures unanswered { IfErr result (λ why. HasNotAnswered calls.now held.old why held.new) }
+    ensures behind { drop (length calls.now) replies.new ≡ drop (length calls.now) replies.old }
 {
     for at in 0..calls.len() {
-        let mut reply = ReplyOut {
-            answer: 0,
-            unused: 0,
-            value: 0,
-        };
-        ask(alloc, held, &calls[at], &mut reply)?;
-        if at < replies.len() {
-            replies[at] = reply;
+        match ask(alloc, held, &calls[at], &mut replies[at]) {
+            Ok(()) => {}
+            Err(status) => return Err(status),
         }
     }
     Ok(())
 }
 
-// Tries a whole transaction once, where it is in none. Whatever comes, it is in none then.
+// Tries a whole transaction once. Where it was in none, it is in none then.
 fn try_once(
     alloc: Global,
     held: &mut HeldWorker,
@@ -186,11 +186,18 @@ fn try_once(
     replies: &mut [ReplyOut],
     place: &mut u64,
 ) -> Result<(), Status>
-    requires { IsWorker held.old }
+    requires worker { IsWorker held.old }
+    requires room { length calls.now ≤ length replies.old }
     ensures worker { IsWorker held.new }
     ensures store { IsOfSameStore held.old held.new }
+    ensures tried { HasTriedWhole calls.now replies.new place.new held.old result held.new }
+    ensures behind { drop (length calls.now) replies.new ≡ drop (length calls.now) replies.old }
+    ensures kept { OnErr result (place.new ≡ place.old) }
 {
-    begin(alloc, held)?;
+    match begin(alloc, held) {
+        Ok(()) => {}
+        Err(status) => return Err(status),
+    }
     match ask_all(alloc, held, calls, replies) {
         Ok(()) => commit(alloc, held, place),
         Err(status) => {
@@ -212,14 +219,20 @@ pub(crate) fn run(
     requires { IsWorker held.old }
     ensures worker { IsWorker held.new }
     ensures store { IsOfSameStore held.old held.new }
+    ensures ran { HasRunWhole calls.now (length replies.old) replies.new place.new held.old result held.new }
+    ensures behind { drop (length calls.now) replies.new ≡ drop (length calls.now) replies.old }
+    ensures kept { OnErr result (place.new ≡ place.old) }
 {
     if replies.len() < calls.len() {
         return Err(Status::NoRoom);
     }
     let mut backoff = Backoff::new();
-    for _ in 0..TRIES {
+    for aborted in 0..TRIES {
+        if aborted > 0 {
+            backoff.spin();
+        }
         match try_once(alloc, held, calls, replies, place) {
-            Err(Status::Aborted) => backoff.spin(),
+            Err(Status::Aborted) => {}
             ended => return ended,
         }
     }

@@ -1,5 +1,5 @@
 //! Calls on handles. What a handle holds is taken out for a call, and put back after it.
-ghost use Rattle.std.specs.Prelude.{◌≡◌, ◌≢◌, IfOk, IfErr, OnErr};
+ghost use Rattle.std.specs.Prelude.{◌≡◌, ◌≢◌, IfOk, IfErr, OnErr, length, drop};
 ghost use Rattle.sto_c.specs.declared.content.HandleContent.TheVariants.{Nothing};
 ghost use Rattle.sto_c.specs.declared.status.Status.TheVariants.{NoRoom};
 ghost use Rattle.sto_c.specs.Content.{IsHeld, IsFull};
@@ -21,11 +21,11 @@ ghost use Rattle.sto_c.specs.Steps.{
   HasAsked,
   HasCommitted,
   HasCancelled,
-  HasRun,
   HasToldPairs,
   HasToldLeft,
   HasToldRows,
 };
+ghost use Rattle.sto_c.specs.Whole.{HasRunWhole};
 
 use crate::content::HandleContent;
 use crate::crossing::{CallIn, PairOut, ReplyOut, RowOut, ShapeIn};
@@ -251,7 +251,9 @@ pub(crate) fn run(
     replies: &mut [ReplyOut],
     place: &mut u64,
 ) -> Result<(), Status>
-    ensures { OfWorker HasRun (held worker.old) result (held worker.new) }
+    ensures ran { OfWorker (HasRunWhole calls.now (length replies.old) replies.new place.new) (held worker.old) result (held worker.new) }
+    ensures behind { drop (length calls.now) replies.new ≡ drop (length calls.now) replies.old }
+    ensures kept { OnErr result (place.new ≡ place.old) }
 {
     let Some(value) = worker.take(alloc) else {
         return Err(Status::Empty);

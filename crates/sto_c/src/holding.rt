@@ -1,5 +1,5 @@
 //! Calls on what a handle holds, whatever that is.
-ghost use Rattle.std.specs.Prelude.{◌≡◌, ◌≢◌, IfOk, IfErr, OnErr};
+ghost use Rattle.std.specs.Prelude.{◌≡◌, ◌≢◌, IfOk, IfErr, OnErr, length, drop};
 ghost use Rattle.sto_c.specs.declared.content.HandleContent.TheVariants.{Worker};
 ghost use Rattle.sto_c.specs.declared.status.Status.TheVariants.{NoRoom};
 ghost use Rattle.sto_c.specs.Content.{IsFull, IsHeld, IsWorker};
@@ -10,11 +10,11 @@ ghost use Rattle.sto_c.specs.Steps.{
   HasAsked,
   HasCommitted,
   HasCancelled,
-  HasRun,
   HasToldPairs,
   HasToldLeft,
   HasToldRows,
 };
+ghost use Rattle.sto_c.specs.Whole.{HasRunWhole};
 
 use crate::content::{HandleContent, HeldWorker};
 use crate::crossing::{CallIn, PairOut, ReplyOut, RowOut};
@@ -172,7 +172,9 @@ pub(crate) fn run(
 ) -> Result<(), Status>
     requires { IsFull held.old }
     ensures full { IsFull held.new }
-    ensures ran { OfWorker HasRun held.old result held.new }
+    ensures ran { OfWorker (HasRunWhole calls.now (length replies.old) replies.new place.new) held.old result held.new }
+    ensures behind { drop (length calls.now) replies.new ≡ drop (length calls.now) replies.old }
+    ensures kept { OnErr result (place.new ≡ place.old) }
 {
     match held {
         HandleContent::Nothing => Err(Status::Empty),

@@ -3,7 +3,7 @@
 //! Each function tests what it is given, and answers a status. docs/c.md is the guide.
 #![tactic(auto)]
 
-ghost use Rattle.std.specs.Prelude.{◌≡◌, ◌≢◌, IfErr, OnErr};
+ghost use Rattle.std.specs.Prelude.{◌≡◌, ◌≢◌, IfErr, OnErr, length, drop};
 ghost use Rattle.sto_c.specs.declared.status.Status.TheVariants.{NoRoom};
 ghost use Rattle.sto_c.specs.Statuses.{Answers};
 ghost use Rattle.sto_c.specs.Stores.{
@@ -24,11 +24,11 @@ ghost use Rattle.sto_c.specs.Steps.{
   HasAsked,
   HasCommitted,
   HasCancelled,
-  HasRun,
   HasToldPairs,
   HasToldLeft,
   HasToldRows,
 };
+ghost use Rattle.sto_c.specs.Whole.{HasRunWhole};
 
 mod calls;
 mod content;
@@ -169,7 +169,9 @@ pub extern "C" fn sto_run(
     replies: &mut [ReplyOut],
     place: &mut u64,
 ) -> u32
-    ensures { Answers result (λ done. OfWorker HasRun (held worker.old) done (held worker.new)) }
+    ensures ran { Answers result (λ done. OfWorker (HasRunWhole calls.now (length replies.old) replies.new place.new) (held worker.old) done
+        (held worker.new) × OnErr done (place.new ≡ place.old)) }
+    ensures behind { drop (length calls.now) replies.new ≡ drop (length calls.now) replies.old }
 {
     number_of(handles::run(alloc, worker, calls, replies, place))
 }

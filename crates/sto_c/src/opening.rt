@@ -104,6 +104,10 @@ pub(crate) fn close(alloc: Global, held: HeldStore) -> (HandleContent, Result<()
             HandleContent::Store(HeldStore { store, objects }),
             Err(Status::WorkersOut),
         ),
+        Err(StillOpen::Busy(store)) => (
+            HandleContent::Store(HeldStore { store, objects }),
+            Err(Status::Busy),
+        ),
         Err(StillOpen::NoMemory) => (HandleContent::Nothing, Err(Status::NoMemory)),
     }
 }

@@ -1,5 +1,6 @@
 -- Why a worker was not given out or given back, and why a store was not closed.
-use Rattle.std.specs.Prelude.{◌≡◌, ◌≢◌, [], IfSome, None}
+use Rattle.std.specs.Prelude.{◌≡◌, ◌≢◌, [], IfSome, None, length}
+use Rattle.std.specs.Arc.{arc_value}
 use Rattle.sto_part.specs.declared.naming.Naming as naming
 use Rattle.sto_session.specs.Steps.{IsUnchanged}
 use Rattle.sto_owned.specs.declared.store.OwnedStore.{OwnedStore}
@@ -18,9 +19,14 @@ module _ {T : Type 0} {n : naming.Ghosts T} where
   IsUnhired unhired.NoneLeft x y = (x.idle.items ≡ []) × (y ≡ x)
   IsUnhired unhired.NoMemory x y = (x.idle.items ≢ []) × (y ≡ x)
 
-  -- the store comes back, unless memory was wanting
+  -- as many workers rest in it as it was opened for
+  abbrev pub AllRest : OwnedStore T n → Type 0
+  AllRest x = length x.idle.items ≡ (arc_value x.store).passes
+
+  -- the store comes back as it was, unless memory was wanting: not all its workers rest in it, or all do
   abbrev pub StaysOpen : OwnedStore T n → StillOpen T n → Type 0
-  StaysOpen x (open_still.Missing y) = y ≡ x
+  StaysOpen x (open_still.Missing y) = (y ≡ x) × (AllRest x → ⊥)
+  StaysOpen x (open_still.Busy y) = (y ≡ x) × AllRest x
   StaysOpen x open_still.NoMemory = Unit {0}
 
   -- the worker that comes back

@@ -41,6 +41,8 @@ pub enum Unhired {
 pub enum StillOpen<T: TxType + Drop> {
     /// Not all its workers rest in it. Here it is.
     Missing(OwnedStore<T>),
+    /// All its workers rest in it, and a call that gave one back has not let the store go yet. Here it is.
+    Busy(OwnedStore<T>),
     /// Memory was wanting. The store is lost.
     NoMemory,
 }
@@ -154,7 +156,7 @@ impl<T: TxType + Drop> OwnedStore<T> {
     }
 
     /// Closes the store, in which all its workers rest, and answers the rows that its objects hold: the last state of a serial
-    /// history of all that its workers have done.
+    /// history of all that its workers have done. Where not all rest in it, or one is just being given back, it comes back as it was.
     pub fn close(self, alloc: Global) -> Result<State, StillOpen<T>>
         requires { IsOwnedStore T.TxType self }
         ensures rows { IfOk result (λ rows. AreRowsAfter T.valid (T.meaning (arc_value self.store).ty)
@@ -162,7 +164,7 @@ impl<T: TxType + Drop> OwnedStore<T> {
         ensures history { IfOk result (λ rows. HaveHistory (T.meaning (arc_value self.store).ty)
             (map (λ w. w.rest.seat.me.0.view) self.idle.items) rows.items) }
         ensures all { IfOk result (λ _. length self.idle.items ≡ (arc_value self.store).shared.table.shared.key.passes) }
-        ensures missing { IfErr result (StaysOpen self) }
+        ensures stays { IfErr result (StaysOpen self) }
     {
         if self.idle.len() != self.store.passes {
             return Err(StillOpen::Missing(self));
@@ -174,7 +176,7 @@ impl<T: TxType + Drop> OwnedStore<T> {
                 Err(Unclosed::Missing(_, _)) => unreachable!(),
                 Err(Unclosed::NoMemory) => Err(StillOpen::NoMemory),
             },
-            Err(store) => Err(StillOpen::Missing(OwnedStore { store, idle, slots })),
+            Err(store) => Err(StillOpen::Busy(OwnedStore { store, idle, slots })),
         }
     }
 }

@@ -1,5 +1,5 @@
 //! A worker of a store.
-ghost use Rattle.std.specs.Prelude.{◌≡◌, IfSome, IfErr, None, option_map};
+ghost use Rattle.std.specs.Prelude.{◌≡◌, IfSome, IfErr, None, is_some, option_map};
 ghost use Rattle.std.specs.Arc.{arc_value};
 ghost use Rattle.sto_open.specs.Working.{IsWorker};
 ghost use Rattle.sto_session.specs.Sessions.{IsSessionOf};
@@ -145,12 +145,25 @@ impl<T: TxType + Drop> OwnedWorker<T> {
         }
     }
 
+    // Whether it is in a transaction.
+    fn is_in_transaction(&self) -> bool
+        ensures { IfSome self.now.session (λ x. result ≡ is_some x.live) }
+    {
+        match &self.session {
+            Some(session) => session.live.is_some(),
+            None => false,
+        }
+    }
+
     /// Gives the worker back to its store, where it waits until `OwnedStore::gather` takes it in.
     pub fn give_back(self) -> Result<(), StillOut<T>>
         requires { IsOwnedWorker T.TxType self }
         ensures worker { IfErr result (λ why. IsOwnedWorker T.TxType (worker_of why)) }
         ensures out { IfErr result (StaysOut self) }
     {
+        if self.is_in_transaction() {
+            return Err(StillOut::InTransaction(self));
+        }
         let OwnedWorker {
             store,
             slot,
@@ -159,13 +172,6 @@ impl<T: TxType + Drop> OwnedWorker<T> {
         let Some(session) = session else {
             unreachable!()
         };
-        if session.live.is_some() {
-            return Err(StillOut::InTransaction(OwnedWorker {
-                store,
-                slot,
-                session: Some(session),
-            }));
-        }
         let Session {
             rest,
             left,
