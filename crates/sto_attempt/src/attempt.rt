@@ -47,6 +47,7 @@ impl<'t, T: TxType, B: Body> Attempt<'t, T, B> {
     /// An attempt of a body, which it resets. It has made no event yet.
     ///
     /// The type is to take every call that the body may ask. The memory is given back at the end.
+    #[inline(always)]
     pub fn new(alloc: Global, ty: &'t T, body: B, memory: Memory) -> Attempt<'t, T, B>
         requires { (call : Call) → B.may_ask body call → (T.meaning ty.now).takes call }
         ensures ty { result.log.ty.now ≡ ty.now }
@@ -93,6 +94,7 @@ impl<'t, T: TxType, B: Body> Attempt<'t, T, B> {
     }
 
     /// The body and what it heard, of an attempt that has ended or is given up before its commit, and the memory that it was lent.
+    #[inline(always)]
     pub fn end(self) -> (Heard<B>, Memory)
         ensures body { result.0.body ≡ self.entry.log.body }
         ensures replies { result.0.replies ≡ self.entry.log.replies }

@@ -52,6 +52,7 @@ impl<T: TxType, B: Body> Ready<'_, T, B> {
     }
 
     /// The body and what it heard, and the memory that the attempt was lent.
+    #[inline(always)]
     pub fn end(self) -> (Heard<B>, Memory)
         ensures body { result.0.body ≡ self.entry.log.body }
         ensures replies { result.0.replies ≡ self.entry.log.replies }

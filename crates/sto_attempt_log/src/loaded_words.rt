@@ -70,6 +70,7 @@ impl LoadedWords {
     }
 
     /// The word that was read first at a place, or 0.
+    #[inline(always)]
     pub fn value(&self, part: u32, word: u32) -> i64
         ensures { result ≡ value_read (reads_of self.now.items part) word }
     {

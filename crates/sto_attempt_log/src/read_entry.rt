@@ -103,6 +103,7 @@ impl ReadSet {
     }
 
     /// Adds a part last.
+    #[inline(always)]
     pub fn push(&mut self, part: u32, ticket: u64, words: &[i64]) -> Result<(), NoMemory>
         requires { length self.old.items + 1 < 2 ^ 32 }
         ensures ok { OnOk result (self.new.items ≡ self.old.items ++ entry_with part ticket words.now ∷ []) }

@@ -142,6 +142,7 @@ fn recall<T: TxType>(
 }
 
 /// What the type answers to a call, where no part that is known without an event is left to be needed.
+#[inline(always)]
 pub(crate) fn ask<T: TxType>(
     alloc: Global,
     ty: &T,

@@ -153,6 +153,7 @@ impl Updates {
     }
 
     /// Composes an update after the pending one of its part, word by word. One that keeps every word adds nothing.
+    #[inline(always)]
     pub fn compose(&mut self, part: u32, update: &Update) -> Result<(), NoMemory>
         requires { IsWidthOf self.old.items part update.now.items }
         ensures ok { OnOk result (self.new.items ≡ with_update self.old.items part update.now.items) }
@@ -182,6 +183,7 @@ fn copied_entries(
 }
 
 // The same changes in a list that was kept, or in one of its own where there is none.
+#[inline(always)]
 fn copied_changes(kept: &mut List<Update>, update: &Update) -> Result<Update, NoMemory>
     ensures { IfOk result (λ l. l.items ≡ update.now.items) }
 {
@@ -317,6 +319,7 @@ fn place_of(entries: &[(u32, Update)], part: u32) -> Result<u32, u32>
 }
 
 // Composes an update after the one that stands at a place.
+#[inline(always)]
 fn put_over(entries: &mut List<(u32, Update)>, place: u32, update: &Update)
     requires place { place < length entries.old.items }
     requires width { length (entry_at (map plain entries.old.items) place).1 ≡ length update.now.items }
@@ -351,6 +354,7 @@ fn renumber_one(entries: &mut List<(u32, Update)>, place: u32, first: u32)
 }
 
 // Puts an update of its own at a place.
+#[inline(always)]
 fn put_new(
     entries: &mut List<(u32, Update)>,
     kept: &mut List<Update>,
@@ -372,6 +376,7 @@ fn put_new(
 }
 
 // Makes each change of the first what both do, one after the other.
+#[inline(always)]
 fn compose(first: &mut Update, second: &Update)
     requires { length first.old.items ≡ length second.now.items }
     ensures { first.new.items ≡ composed_all first.old.items second.now.items }

@@ -42,6 +42,7 @@ impl<'t, T: TxType, B: Body + Drop> Machine<'t, T, B> {
     /// An attempt of a body, which it resets, on a pass that is at rest and has a draw left. It has made no event yet.
     ///
     /// The type is to take every call that the body may ask. The memory is lent to the attempt, which gives it back at its end.
+    #[inline(always)]
     pub fn new(alloc: Global, ty: &'t T, body: B, memory: Memory) -> Machine<'t, T, B>
         requires { (call : Call) → B.may_ask body call → (T.meaning ty.now).takes call }
         ensures proceeds { (passes : ℕ) (v : View) → IsAtRest (T.meaning ty.now) (T.sizes ty.now) v → 0 < v.draws
@@ -132,6 +133,7 @@ impl<'t, T: TxType, B: Body + Drop> Machine<'t, T, B> {
     }
 
     // Goes on from a body that is ready to its commit.
+    #[inline(always)]
     fn seal(&mut self, alloc: Global) -> Result<(), NoMemory>
         requires { (ty : T) × (f : Script) × (begun : View) × (v : View)
             × IsAtSeal T.meaning T.valid T.sizes B.script B.then B.left B.may_ask ty f self.old begun v }
@@ -157,6 +159,7 @@ impl<'t, T: TxType, B: Body + Drop> Machine<'t, T, B> {
     }
 
     // Takes what is left of an attempt that has ended, and puts back the memory that it was lent.
+    #[inline(always)]
     pub(crate) fn end(&mut self, verdict: Verdict, memory: &mut Memory) -> Ended<B>
         requires { (passes : ℕ) × (ty : T) × (f : Script) × (begun : View) × (w : View)
             × IsAtEnd T.meaning T.valid T.sizes B.script B.then B.left B.may_ask passes ty f self.old verdict begun w }
