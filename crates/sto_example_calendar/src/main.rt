@@ -2,7 +2,7 @@
 #![tactic(auto)]
 
 ghost use Rattle.std.specs.Prelude.{pos, IfOk};
-ghost use Rattle.sto_library.specs.Doings.{HasRun};
+ghost use Rattle.sto_library.specs.Doings.{HasRunOnly};
 ghost use Rattle.sto_example_calendar.specs.Bookings.{book, IsBooked};
 
 use std::alloc::Global;
@@ -54,7 +54,7 @@ struct Guest {
 impl<T: TxType> Task<T> for Guest {
     type Out = ();
 
-    ghost gives = { λ g before after _. HasRun T.TxType before after 2 (λ day. book g.room (pos day) (pos g.guest)) };
+    ghost gives = { λ g before after _. HasRunOnly T.TxType before after 2 (λ day. book g.room (pos day) (pos g.guest)) };
 
     fn work(&self, worker: &mut StoreWorker<'_, T>) {
         let Guest { room, guest } = *self;

@@ -1,6 +1,7 @@
 -- What a worker did, one transaction after the other.
 use Rattle.std.specs.List.{All}
-use Rattle.std.proofs.Common.{◌≡◌, ℕ, List, [], ◌∷◌, ◌++◌, refl, ◌∙◌, subst, arith, Result, Ok, Err}
+use Rattle.std.specs.Prelude.{OnOk, is_err}
+use Rattle.std.proofs.Common.{◌≡◌, ◌+◌, ◌≤◌, ℕ, List, [], ◌∷◌, ◌++◌, length, length-append, refl, ◌∙◌, subst, arith, Result, Ok, Err, true, false, true≢false, sym}
 use Rattle.std.proofs.lemmas.List.Elements.{All-nil, All-cons, All-append, All-weaker}
 use Rattle.sto_model.specs.declared.shape.Shape.{Shape}
 use Rattle.sto_type.specs.Traits.{OfType}
@@ -20,7 +21,7 @@ use Rattle.sto_atomically.specs.declared.outcome.Unrun.TheVariants.{Busy, Refuse
 use Rattle.sto_atomically.specs.Atomic.{steps_of, TakesNoEffect, IsAtomic, HasLed}
 use Rattle.sto_atomically.proofs.Tried.{seen_later}
 use Rattle.sto_library.specs.Values.{Working}
-use Rattle.sto_library.specs.Doings.{HasRun, HasRepeated, HasHeard, IsLedBy, HasGiven}
+use Rattle.sto_library.specs.Doings.{HasRunOnly, HasRepeated, HasHeard, IsLedBy, HasGiven}
 
 -- the steps are those of code of this family
 abbrev pub RanSome : {I A : Type 0} → List Shape → ℕ → (I → Prog A) → Transaction → Type 0
@@ -37,7 +38,7 @@ module _ {T A : Type 0} (t : OfType T) (before after : Working T) (most : ℕ) (
 
   -- a transaction that ended
   ended : (says : List ShortReply → Type 0) → IsAtomic (t.meaning before.words.ty) before.seat.me.0.view after.seat.me.0.view before.shapes most p says
-      → (again : HasRepeated t before after most p) × HasHeard before again.did says
+      → (again : HasRepeated t before after most p) × ((length again.did ≡ 1) × HasHeard before again.did says)
   ended says h =
       let x : Transaction = record { steps = steps_of before.shapes most p; replies = h.replies; verdict = h.verdict } in (
         record {
@@ -51,7 +52,7 @@ module _ {T A : Type 0} (t : OfType T) (before after : Working T) (most : ℕ) (
           };
           each = All-cons (Ran before.shapes most p) x [] (tt, refl) (All-nil (Ran before.shapes most p));
         },
-        record { transaction = x; there = (0, refl); since = h.since; said = h.said },
+        (refl, record { transaction = x; there = (0, refl); since = h.since; said = h.said }),
       )
 
   -- one that took no effect
@@ -64,13 +65,14 @@ module _ {T A : Type 0} (t : OfType T) (before after : Working T) (most : ℕ) (
     each = All-nil (Ran before.shapes most p);
   }
 
-  pub led_given : (r : Result (Done A) Unrun) → HasLed (t.meaning before.words.ty) before.seat.me.0.view after.seat.me.0.view before.shapes most p r → HasGiven t before after most p r
-  led_given (Ok (Gave value)) h = let e = ended (λ hs. IsGiven p hs value) h in record { repeated = e.0; led = e.1 }
-  led_given (Ok Cancelled) h = let e = ended (λ hs. IsCancelled p hs) h in record { repeated = e.0; led = e.1 }
-  led_given (Err (Refused call)) h = let e = ended (λ hs. IsAsked p hs call) h in record { repeated = e.0; led = e.1 }
-  led_given (Err Busy) h = record { repeated = none h; led = tt }
-  led_given (Err Worn) h = record { repeated = none h; led = tt }
-  led_given (Err NoMemory) h = record { repeated = none h; led = tt }
+  pub led_given : (r : Result (Done A) Unrun) → HasLed (t.meaning before.words.ty) before.seat.me.0.view after.seat.me.0.view before.shapes most p r → HasGiven t before after 1 most p r
+  unfolding none
+  led_given (Ok (Gave value)) h = let e = ended (λ hs. IsGiven p hs value) h in let one : length e.0.did ≡ 1 = e.1.0 in record { repeated = e.0; at_most = omega (arith, one); each_time = omega (arith, one); led = e.1.1 }
+  led_given (Ok Cancelled) h = let e = ended (λ hs. IsCancelled p hs) h in let one : length e.0.did ≡ 1 = e.1.0 in record { repeated = e.0; at_most = omega (arith, one); each_time = omega (arith, one); led = e.1.1 }
+  led_given (Err (Refused call)) h = let e = ended (λ hs. IsAsked p hs call) h in let one : length e.0.did ≡ 1 = e.1.0 in record { repeated = e.0; at_most = omega (arith, one); each_time = tt; led = e.1.1 }
+  led_given (Err Busy) h = record { repeated = none h; at_most = omega (arith); each_time = tt; led = tt }
+  led_given (Err Worn) h = record { repeated = none h; at_most = omega (arith); each_time = tt; led = tt }
+  led_given (Err NoMemory) h = record { repeated = none h; at_most = omega (arith); each_time = tt; led = tt }
 
 heard_more : {T : Type 0} (u v : Working T) (did more : List Transaction) (says : List ShortReply → Type 0) → Grows u.seat.me.0.view v.seat.me.0.view → HasHeard v more says → HasHeard u (did ++ more) says
 heard_more u v did more says g h = record {
@@ -82,7 +84,7 @@ heard_more u v did more says g h = record {
 
 module _ {T I A : Type 0} (t : OfType T) where
   -- a worker that has done nothing yet
-  pub run_none : (w : Working T) (most : ℕ) (p : I → Prog A) → HasRun t w w most p
+  pub run_none : (w : Working T) (most : ℕ) (p : I → Prog A) → HasRunOnly t w w most p
   run_none w most p = record {
     words = refl;
     shapes = refl;
@@ -92,7 +94,7 @@ module _ {T I A : Type 0} (t : OfType T) where
   }
 
   -- one that goes on
-  pub run_on : {u v w : Working T} {most : ℕ} {p : I → Prog A} → HasRun t u v most p → HasRun t v w most p → HasRun t u w most p
+  pub run_on : {u v w : Working T} {most : ℕ} {p : I → Prog A} → HasRunOnly t u v most p → HasRunOnly t v w most p → HasRunOnly t u w most p
   run_on {u} {v} {w} {most} {p} h k = record {
     words = k.words ∙ h.words;
     shapes = k.shapes ∙ h.shapes;
@@ -103,7 +105,7 @@ module _ {T I A : Type 0} (t : OfType T) where
   }
 
   -- one that runs the code of the family that has this index
-  run_one : {v w : Working T} {most : ℕ} {p : I → Prog A} (i : I) → HasRepeated t v w most (p i) → HasRun t v w most p
+  run_one : {v w : Working T} {most : ℕ} {p : I → Prog A} (i : I) → HasRepeated t v w most (p i) → HasRunOnly t v w most p
   run_one {v} {w} {most} {p} i h = record {
     words = h.words;
     shapes = h.shapes;
@@ -112,7 +114,7 @@ module _ {T I A : Type 0} (t : OfType T) where
     each = All-weaker (Ran v.shapes most (p i)) (RanSome v.shapes most p) (λ x is. (i, is.1)) h.did h.each;
   }
 
-  pub run_more : {u v w : Working T} {most : ℕ} {p : I → Prog A} (i : I) → HasRun t u v most p → HasRepeated t v w most (p i) → HasRun t u w most p
+  pub run_more : {u v w : Working T} {most : ℕ} {p : I → Prog A} (i : I) → HasRunOnly t u v most p → HasRepeated t v w most (p i) → HasRunOnly t u w most p
   run_more {p = p} i h k = run_on h (run_one {p = p} i k)
 
 module _ {T A : Type 0} (t : OfType T) where
@@ -124,9 +126,40 @@ module _ {T A : Type 0} (t : OfType T) where
   led_more u v did more p (Err Worn) g h = tt
   led_more u v did more p (Err NoMemory) g h = tt
 
-  pub given_more : {u v w : Working T} {most : ℕ} {p : Prog A} {r : Result (Done A) Unrun} → HasRepeated t u v most p → HasGiven t v w most p r → HasGiven t u w most p r
+  -- some runs, and then one that led to this
+  pub given_more : {u v w : Working T} {before most : ℕ} {p : Prog A} {r : Result (Done A) Unrun} → (h : HasRepeated t u v most p) → length h.did ≡ before → HasGiven t v w 1 most p r
+      → HasGiven t u w (before + 1) most p r
   unfolding run_on
-  given_more {u} {v} {w} {most} {p} {r} h k = record {
-    repeated = run_on t h k.repeated;
-    led = led_more u v h.did k.repeated.did p r h.done.grows k.led;
-  }
+  given_more {u} {v} {w} {before} {most} {p} {r} h many k =
+      let all = length-append h.did k.repeated.did in
+      let few = k.at_most in record {
+        repeated = run_on t h k.repeated;
+        at_most = omega (arith, all, few, many);
+        each_time = each_more r k.each_time;
+        led = led_more u v h.did k.repeated.did p r h.done.grows k.led;
+      }
+    where
+      each_more : (o : Result (Done A) Unrun) → OnOk o (1 ≤ length k.repeated.did) → OnOk o (before + 1 ≤ length (h.did ++ k.repeated.did))
+      each_more (Ok done) one = let all = length-append h.did k.repeated.did in omega (arith, all, one, many)
+      each_more (Err error) one = tt
+
+  -- a worker that ran the code so many times
+  abbrev pub RanTimes : (before after : Working T) → (times most : ℕ) → Prog A → Type 0
+  RanTimes before after times most p = (ran : HasRepeated t before after most p) × (length ran.did ≡ times)
+
+  pub ran_none : (w : Working T) (most : ℕ) (p : Prog A) → RanTimes w w 0 most p
+  unfolding run_none
+  ran_none w most p = (run_none t w most (λ (once : Unit {0}). p), refl)
+
+  -- once more, not in vain
+  pub ran_once_more : {u v w : Working T} {times most : ℕ} {p : Prog A} {r : Result (Done A) Unrun} → RanTimes u v times most p → is_err r ≡ false → HasGiven t v w 1 most p r → RanTimes u w (times + 1) most p
+  unfolding run_on
+  ran_once_more {times = times} {r = Ok done} h fine k =
+      let all = length-append h.0.did k.repeated.did in
+      let few = k.at_most in let one = k.each_time in let many = h.1 in (run_on t h.0 k.repeated, omega (arith, all, few, one, many))
+  ran_once_more {r = Err error} h fine k = absurd (true≢false fine)
+
+  -- a run in vain ended it before so many times
+  pub given_in_vain : {u w : Working T} {times more most : ℕ} {p : Prog A} {r : Result (Done A) Unrun} → times ≤ more → is_err r ≡ true → HasGiven t u w times most p r → HasGiven t u w more most p r
+  given_in_vain {r = Ok done} few vain k = absurd (true≢false (sym vain))
+  given_in_vain {r = Err error} few vain k = let most = k.at_most in record { repeated = k.repeated; at_most = omega (arith, few, most); each_time = tt; led = k.led }

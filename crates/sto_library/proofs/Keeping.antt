@@ -26,7 +26,7 @@ use Rattle.sto_atomically.specs.declared.outcome.Unrun.{Unrun}
 use Rattle.sto_atomically.specs.Atomic.{steps_of}
 use Rattle.sto_library.specs.Values.{Working, Stored}
 use Rattle.sto_library.specs.Tasks.{IsDone, AreFourDone}
-use Rattle.sto_library.specs.Doings.{HasRun, IsLedBy, HasGiven}
+use Rattle.sto_library.specs.Doings.{HasRunOnly, IsLedBy, HasGiven}
 use Rattle.sto_library.specs.Keeping.{Keeps, IfGave}
 use Rattle.sto_library.proofs.Doings.{RanSome}
 
@@ -78,7 +78,7 @@ where_so ms p st Q false h = tt
 -- a worker that ran code of a family which keeps the invariant, as a task by which what it knew went from the view v to the view w
 module _ {T I A : Type 0} (t : OfType T) (Inv : State → Type 0) (Good : A → Type 0) (words : Words T) (v w : View) (most : ℕ) (p : I → Prog A)
     (law : (i : I) → Keeps (t.meaning words.ty).machines Inv Good (p i)) (before after : Working T) (same : before.words ≡ words) (from : before.seat.me.0.view ≡ v)
-    (to : after.seat.me.0.view ≡ w) (ran : HasRun t before after most p) where
+    (to : after.seat.me.0.view ≡ w) (ran : HasRunOnly t before after most p) where
   abbrev own : List Machine
   own = (t.meaning words.ty).machines
 
@@ -96,7 +96,7 @@ module _ {T I A : Type 0} (t : OfType T) (Inv : State → Type 0) (Good : A → 
 
 -- a task that did so
 pub run_keeping : {T I A Out : Type 0} {t : OfType T} {Inv : State → Type 0} (Good : A → Type 0) {words : Words T} {shapes : List Shape} {v w : View} {most : ℕ} {p : I → Prog A} {out : Out} {ms : List Machine}
-    → (t.meaning words.ty).machines ≡ ms → ((i : I) → Keeps ms Inv Good (p i)) → IsDone words shapes v w (λ before after o. HasRun t before after most p) out
+    → (t.meaning words.ty).machines ≡ ms → ((i : I) → Keeps ms Inv Good (p i)) → IsDone words shapes v w (λ before after o. HasRunOnly t before after most p) out
     → IsKeeping (t.meaning words.ty) Inv v w (Unit {0})
 run_keeping {t = t} {Inv = Inv} Good {words = words} {v = v} {w = w} {most = most} {p = p} same law h =
     is_keeping t Inv Good words v w most p (λ i. subst (λ (l : List Machine). Keeps l Inv Good (p i)) (sym same) (law i)) h.before h.after h.same_words h.from h.to h.gave (λ ran. tt)
@@ -111,8 +111,8 @@ given_good ms Inv Good most p before did law each (Ok Cancelled) k ran = tt
 given_good ms Inv Good most p before did law each (Err error) k ran = tt
 
 -- a task that ran code which keeps the invariant, and gave what one of the runs led to
-pub given_keeping : {T A : Type 0} {t : OfType T} {Inv : State → Type 0} (Good : A → Type 0) {words : Words T} {shapes : List Shape} {v w : View} {most : ℕ} {p : Prog A} {out : Result (Done A) Unrun} {ms : List Machine}
-    → (t.meaning words.ty).machines ≡ ms → Keeps ms Inv Good p → IsDone words shapes v w (λ before after o. HasGiven t before after most p o) out
+pub given_keeping : {T A : Type 0} {t : OfType T} {Inv : State → Type 0} (Good : A → Type 0) {words : Words T} {shapes : List Shape} {v w : View} {times most : ℕ} {p : Prog A} {out : Result (Done A) Unrun} {ms : List Machine}
+    → (t.meaning words.ty).machines ≡ ms → Keeps ms Inv Good p → IsDone words shapes v w (λ before after o. HasGiven t before after times most p o) out
     → IsKeeping (t.meaning words.ty) Inv v w (IfGave Good out)
 given_keeping {t = t} {Inv = Inv} Good {words = words} {v = v} {w = w} {most = most} {p = p} {out = out} same law h =
     let own = subst (λ (l : List Machine). Keeps l Inv Good p) (sym same) law in
@@ -166,11 +166,12 @@ pub all_kept : (m : Meaning) (Inv : State → Type 0) (views : List View) → Al
 all_kept m Inv views new = All-weaker (λ (v : View). v.entries ≡ []) (λ (v : View). HasKept m Inv v (Unit {0})) (λ v none. new_kept m Inv v none) views new
 
 -- Code that four workers of a store ran that was just opened, each its own, and that keeps an invariant: it holds of the rows at the end, and what was given is good
-pub four_keep : {T A B C D : Type 0} {t : OfType T} {Inv : State → Type 0} {ms : List Machine} {old new : Stored T} {rows : State} {a_most b_most c_most d_most : ℕ} {a : Prog A} {b : Prog B} {c : Prog C} {d : Prog D}
+pub four_keep : {T A B C D : Type 0} {t : OfType T} {Inv : State → Type 0} {ms : List Machine} {old new : Stored T} {rows : State} {a_times a_most b_times b_most c_times c_most d_times d_most : ℕ}
+    {a : Prog A} {b : Prog B} {c : Prog C} {d : Prog D}
     {x : Result (Done A) Unrun} {y : Result (Done B) Unrun} {z : Result (Done C) Unrun} {u : Result (Done D) Unrun}
     (GoodA : A → Type 0) (GoodB : B → Type 0) (GoodC : C → Type 0) (GoodD : D → Type 0)
     → (t.meaning old.words.ty).machines ≡ ms → All (λ v. v.entries ≡ []) old.views → new.words ≡ old.words
-    → AreFourDone old new (λ p q o. HasGiven t p q a_most a o) (λ p q o. HasGiven t p q b_most b o) (λ p q o. HasGiven t p q c_most c o) (λ p q o. HasGiven t p q d_most d o) x y z u
+    → AreFourDone old new (λ p q o. HasGiven t p q a_times a_most a o) (λ p q o. HasGiven t p q b_times b_most b o) (λ p q o. HasGiven t p q c_times c_most c o) (λ p q o. HasGiven t p q d_times d_most d o) x y z u
     → HaveHistory (t.meaning new.words.ty) new.views rows → Inv (opening_of ms) → Keeps ms Inv GoodA a → Keeps ms Inv GoodB b → Keeps ms Inv GoodC c → Keeps ms Inv GoodD d
     → Inv rows × (IfGave GoodA x × IfGave GoodB y × IfGave GoodC z × IfGave GoodD u)
 four_keep {t = t} {Inv = Inv} {ms = ms} {old = old} {new = new} {rows = rows} GoodA GoodB GoodC GoodD machines fresh same h history opening a b c d =
@@ -183,7 +184,7 @@ four_keep {t = t} {Inv = Inv} {ms = ms} {old = old} {new = new} {rows = rows} Go
 pub four_run : {T I A X Y Z U : Type 0} {t : OfType T} {Inv : State → Type 0} {ms : List Machine} {old new : Stored T} {rows : State} {a_most b_most c_most d_most : ℕ} {a b c d : I → Prog A}
     {x : X} {y : Y} {z : Z} {u : U} (Good : A → Type 0)
     → (t.meaning old.words.ty).machines ≡ ms → All (λ v. v.entries ≡ []) old.views → new.words ≡ old.words
-    → AreFourDone old new (λ p q o. HasRun t p q a_most a) (λ p q o. HasRun t p q b_most b) (λ p q o. HasRun t p q c_most c) (λ p q o. HasRun t p q d_most d) x y z u
+    → AreFourDone old new (λ p q o. HasRunOnly t p q a_most a) (λ p q o. HasRunOnly t p q b_most b) (λ p q o. HasRunOnly t p q c_most c) (λ p q o. HasRunOnly t p q d_most d) x y z u
     → HaveHistory (t.meaning new.words.ty) new.views rows → Inv (opening_of ms)
     → ((i : I) → Keeps ms Inv Good (a i)) → ((i : I) → Keeps ms Inv Good (b i)) → ((i : I) → Keeps ms Inv Good (c i)) → ((i : I) → Keeps ms Inv Good (d i)) → Inv rows
 four_run {t = t} {Inv = Inv} {ms = ms} {old = old} {new = new} {rows = rows} Good machines fresh same h history opening a b c d =

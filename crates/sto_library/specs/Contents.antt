@@ -1,5 +1,6 @@
 -- What the rows of a store say.
-use Rattle.std.specs.Prelude.{ℕ, ℤ, pos, ◌+ℤ◌, List, [], ◌∷◌, Option, Some, None, option_map, slice_get}
+use Rattle.std.specs.Prelude.{◌≡◌, ◌≤◌, ℕ, ℤ, pos, ◌+ℤ◌, List, [], ◌∷◌, length, take, Option, Some, None, option_map, slice_get}
+use Rattle.sto_model.specs.Objects.{in_range}
 use Rattle.sto_model.specs.Rows.{Row}
 use Rattle.sto_model.specs.Run.{State}
 
@@ -20,3 +21,14 @@ total (row ∷ rows) = row.1 +ℤ total rows
 -- what the values of the object of this number are together
 abbrev pub total_of : State → ℕ → Option ℤ
 total_of state number = option_map total (slice_get state number)
+
+-- the sum of these values, from the first on, does not stay within a word: that of so many of them is not in its range
+pub record Overflows (rows : List Row) : Type 0 where
+  pub many : ℕ
+  pub within : many ≤ length rows
+  pub beyond : in_range (total (take many rows)) ≡ None
+
+-- why the values of the object of this number have no sum in a word: there is no such object, or their sum leaves the range of a word
+abbrev pub HasNoTotal : Option (List Row) → Type 0
+HasNoTotal None = Unit {0}
+HasNoTotal (Some rows) = Overflows rows

@@ -1,5 +1,5 @@
 -- What a worker did at its store: the transactions of one code or of a family, and what one of them led to.
-use Rattle.std.specs.Prelude.{◌≡◌, ℕ, List, map, Result, Ok, Err}
+use Rattle.std.specs.Prelude.{◌≡◌, ◌≤◌, ℕ, List, length, map, Result, Ok, Err, OnOk}
 use Rattle.std.specs.List.{All}
 use Rattle.sto_type.specs.Traits.{OfType}
 use Rattle.sto_core.specs.Lists.{Among}
@@ -17,7 +17,7 @@ use Rattle.sto_atomically.specs.Atomic.{steps_of, HasSeen}
 use Rattle.sto_library.specs.Values.{Working}
 
 -- from one time to a later one the worker ran code of this family again and again, each time another one, and nothing else
-pub record HasRun {T I A : Type 0} (t : OfType T) (before after : Working T) (most : ℕ) (p : I → Prog A) : Type 0 where
+pub record HasRunOnly {T I A : Type 0} (t : OfType T) (before after : Working T) (most : ℕ) (p : I → Prog A) : Type 0 where
   pub words : after.words ≡ before.words
   pub shapes : after.shapes ≡ before.shapes
   pub did : List Transaction
@@ -26,7 +26,7 @@ pub record HasRun {T I A : Type 0} (t : OfType T) (before after : Working T) (mo
 
 -- it ran this code, some number of times, and nothing else
 abbrev pub HasRepeated : {T A : Type 0} → OfType T → (before after : Working T) → ℕ → Prog A → Type 0
-HasRepeated t before after most p = HasRun t before after most (λ (once : Unit {0}). p)
+HasRepeated t before after most p = HasRunOnly t before after most (λ (once : Unit {0}). p)
 
 -- one of the transactions, which stands after all that the worker had seen before, heard replies of which this is so
 pub record HasHeard {T : Type 0} (before : Working T) (did : List Transaction) (says : List ShortReply → Type 0) : Type 0 where
@@ -44,7 +44,9 @@ IsLedBy before did p (Err Busy) = Unit {0}
 IsLedBy before did p (Err Worn) = Unit {0}
 IsLedBy before did p (Err NoMemory) = Unit {0}
 
--- the worker ran this code alone, and one of the runs led to this
-pub record HasGiven {T A : Type 0} (t : OfType T) (before after : Working T) (most : ℕ) (p : Prog A) (outcome : Result (Done A) Unrun) : Type 0 where
+-- the worker ran this code alone, at most so many times, and so many where none of them was in vain; and one of the runs led to this
+pub record HasGiven {T A : Type 0} (t : OfType T) (before after : Working T) (times most : ℕ) (p : Prog A) (outcome : Result (Done A) Unrun) : Type 0 where
   pub repeated : HasRepeated t before after most p
+  pub at_most : length repeated.did ≤ times
+  pub each_time : OnOk outcome (times ≤ length repeated.did)
   pub led : IsLedBy before repeated.did p outcome

@@ -1,9 +1,13 @@
 -- What tasks give, and why they give nothing.
 use Rattle.std.specs.Prelude.{◌≡◌, ◌<◌, ℕ, List, [], ◌∷◌, ◌++◌, length}
 use Rattle.sto_model.specs.declared.shape.Shape.{Shape}
+use Rattle.sto_part.specs.declared.naming.Naming as naming
+use Rattle.sto_type.specs.Traits.{OfType}
 use Rattle.sto_core.specs.declared.view.View.{View}
 use Rattle.sto_open.specs.declared.store.Store.{Store as Words}
-use Rattle.sto_library.specs.Values.{Stored, Working}
+use Rattle.sto_open.specs.declared.worker.IdleWorker.{IdleWorker}
+use Rattle.sto_library.specs.Values.{Stored, Working, Serves}
+use Rattle.sto_library.specs.declared.task.Finished.{Finished}
 use Rattle.sto_library.specs.declared.task.TaskError.{TaskError}
 use Rattle.sto_library.specs.declared.task.TaskError.TheVariants.{Workers, NoMemory}
 
@@ -16,6 +20,21 @@ pub record IsDone {T Out : Type 0} (words : Words T) (shapes : List Shape) (v w 
   pub from : before.seat.me.0.view ≡ v
   pub to : after.seat.me.0.view ≡ w
   pub gave : gives before after out
+
+module _ {T : Type 0} {n : naming.Ghosts T} (t : OfType T) (words : Words T) where
+  -- both workers of a pair are the store's
+  abbrev pub ServeBoth : IdleWorker T n × IdleWorker T n → Type 0
+  ServeBoth pair = Serves t words pair.0.rest.seat × Serves t words pair.1.rest.seat
+
+  -- a worker did a task, and is the store's still
+  abbrev pub HasServed : {Out : Type 0} → List Shape → IdleWorker T n → (Working T → Working T → Out → Type 0) → Finished T Out n → Type 0
+  HasServed shapes worker gives done =
+      Serves t words done.worker.rest.seat × IsDone words shapes worker.rest.seat.me.0.view done.worker.rest.seat.me.0.view gives done.out
+
+  -- a pair of workers did two tasks, each one of them
+  abbrev pub HaveServed : {A B : Type 0} → List Shape → IdleWorker T n × IdleWorker T n → (Working T → Working T → A → Type 0) → (Working T → Working T → B → Type 0)
+      → Finished T A n × Finished T B n → Type 0
+  HaveServed shapes pair a b done = HasServed shapes pair.0 a done.0 × HasServed shapes pair.1 b done.1
 
 -- two workers of a store did tasks, and are back
 pub record AreBothDone {T A B : Type 0} (old new : Stored T) (a : Working T → Working T → A → Type 0) (b : Working T → Working T → B → Type 0) (x : A) (y : B) : Type 0 where

@@ -1,4 +1,5 @@
 //! A task that runs one code again and again.
+ghost use Rattle.std.specs.Prelude.{max};
 ghost use Rattle.sto_library.specs.Doings.{HasGiven};
 
 use crate::task::Task;
@@ -7,7 +8,8 @@ use sto_atomically::{Done, Unrun};
 use sto_code::Code;
 use sto_type::TxType;
 
-/// So many times the same code, once at least: `Times(20, code)`. It gives how the last time went, or the first error.
+/// So many times the same code, once at least: `Times(20, code)`. It gives how the last time went, or the first error, after which it
+/// runs the code no more.
 #[derive(Clone, Copy)]
 pub struct Times<K>(pub u32, pub K);
 
@@ -17,10 +19,10 @@ where
 {
     type Out = Result<Done<K::Out>, Unrun>;
 
-    ghost gives = { λ r before after told. HasGiven T.TxType before after (K.most r.1) (K.does r.1) told };
+    ghost gives = { λ r before after told. HasGiven T.TxType before after (max r.0 1) (K.most r.1) (K.does r.1) told };
 
     fn work(&self, worker: &mut StoreWorker<'_, T>) -> Result<Done<K::Out>, Unrun> {
-        for _ in 1..self.0 {
+        for _turn in 1..self.0 {
             let told = worker.run(&self.1);
             if told.is_err() {
                 return told;

@@ -2,7 +2,7 @@
 ghost use Rattle.std.specs.Prelude.{◌≡◌, ◌+◌, ◌<◌, [], ◌∷◌, ◌++◌, length, IfOk, IfErr, IfSome, MatchOption};
 ghost use Rattle.std.specs.Thread.{IsSync};
 ghost use Rattle.sto_library.specs.Values.{Serves, TakeCalls};
-ghost use Rattle.sto_library.specs.Tasks.{IsDone, AreBothDone, AreFourDone, HasFailed};
+ghost use Rattle.sto_library.specs.Tasks.{ServeBoth, HasServed, HaveServed, AreBothDone, AreFourDone, HasFailed};
 
 use crate::store::SharedStore;
 use crate::task::{Finished, Task, TaskError, work_alone};
@@ -23,7 +23,7 @@ type FinishedPair<T, A, B> = (Finished<T, A>, Finished<T, B>);
 #[tactic(auto, using(crate::proofs::Hired::two_hired))]
 fn hire_two<T: TxType>(store: &mut SharedStore<T>) -> Option<Pair<T>>
     ensures same { (store.new.words ≡ store.old.words) × (store.new.shapes ≡ store.old.shapes) }
-    ensures serve { IfSome result (λ w. Serves T.TxType store.old.words w.0.rest.seat × Serves T.TxType store.old.words w.1.rest.seat) }
+    ensures serve { IfSome result (λ pair. ServeBoth T.TxType store.old.words pair) }
     ensures fewer { MatchOption result ((length store.old.views < 2) × (store.new ≡ store.old))
         (λ w. store.old.views ≡ store.new.views ++ w.1.rest.seat.me.0.view ∷ w.0.rest.seat.me.0.view ∷ []) }
 {
@@ -39,10 +39,8 @@ fn hire_two<T: TxType>(store: &mut SharedStore<T>) -> Option<Pair<T>>
 #[tactic(auto, using(crate::proofs::Hired::four_hired))]
 fn hire_four<T: TxType>(store: &mut SharedStore<T>) -> Option<(Pair<T>, Pair<T>)>
     ensures same { (store.new.words ≡ store.old.words) × (store.new.shapes ≡ store.old.shapes) }
-    ensures first { IfSome result (λ w. Serves T.TxType store.old.words w.0.0.rest.seat
-        × Serves T.TxType store.old.words w.0.1.rest.seat) }
-    ensures other { IfSome result (λ w. Serves T.TxType store.old.words w.1.0.rest.seat
-        × Serves T.TxType store.old.words w.1.1.rest.seat) }
+    ensures first { IfSome result (λ pairs. ServeBoth T.TxType store.old.words pairs.0) }
+    ensures other { IfSome result (λ pairs. ServeBoth T.TxType store.old.words pairs.1) }
     ensures fewer { MatchOption result ((length store.old.views < 4) × (store.new ≡ store.old))
         (λ w. store.old.views ≡ store.new.views ++ w.1.1.rest.seat.me.0.view ∷ w.1.0.rest.seat.me.0.view
         ∷ w.0.1.rest.seat.me.0.view ∷ w.0.0.rest.seat.me.0.view ∷ []) }
@@ -78,10 +76,8 @@ fn back_four<T: TxType>(
     first: Pair<T>,
     other: Pair<T>,
 ) -> Result<(), NoMemory>
-    requires a { Serves T.TxType store.old.words first.0.rest.seat }
-    requires b { Serves T.TxType store.old.words first.1.rest.seat }
-    requires c { Serves T.TxType store.old.words other.0.rest.seat }
-    requires d { Serves T.TxType store.old.words other.1.rest.seat }
+    requires first { ServeBoth T.TxType store.old.words first }
+    requires other { ServeBoth T.TxType store.old.words other }
     ensures same { (store.new.words ≡ store.old.words) × (store.new.shapes ≡ store.old.shapes) }
     ensures more { IfOk result (λ _. store.new.views ≡ store.old.views ++ first.0.rest.seat.me.0.view ∷ first.1.rest.seat.me.0.view
         ∷ other.0.rest.seat.me.0.view ∷ other.1.rest.seat.me.0.view ∷ []) }
@@ -104,14 +100,8 @@ where
     A::Out: Send + Drop,
     B::Out: Send + Drop,
     requires takes { TakeCalls T.TxType words.now shapes.now.items }
-    requires a { Serves T.TxType words.now workers.0.rest.seat }
-    requires b { Serves T.TxType words.now workers.1.rest.seat }
-    ensures a_serves { Serves T.TxType words.now result.0.worker.rest.seat }
-    ensures b_serves { Serves T.TxType words.now result.1.worker.rest.seat }
-    ensures a { IsDone words.now shapes.now.items workers.0.rest.seat.me.0.view result.0.worker.rest.seat.me.0.view
-        (A.gives a.now) result.0.out }
-    ensures b { IsDone words.now shapes.now.items workers.1.rest.seat.me.0.view result.1.worker.rest.seat.me.0.view
-        (B.gives b.now) result.1.out }
+    requires serve { ServeBoth T.TxType words.now workers }
+    ensures { HaveServed T.TxType words.now shapes.now.items workers (A.gives a.now) (B.gives b.now) result }
 {
     let (first, other) = workers;
     join(
@@ -119,16 +109,12 @@ where
         move || -> Finished<T, A::Out>
             requires takes { TakeCalls T.TxType words.now shapes.now.items }
             requires serves { Serves T.TxType words.now first.rest.seat }
-            ensures serves { Serves T.TxType words.entry.now result.worker.rest.seat }
-            ensures done { IsDone words.entry.now shapes.entry.now.items first.rest.seat.me.0.view result.worker.rest.seat.me.0.view
-                (A.gives a.entry.now) result.out }
+            ensures { HasServed T.TxType words.entry.now shapes.entry.now.items first (A.gives a.entry.now) result }
         { work_alone(alloc, words, shapes, first, a) },
         move || -> Finished<T, B::Out>
             requires takes { TakeCalls T.TxType words.now shapes.now.items }
             requires serves { Serves T.TxType words.now other.rest.seat }
-            ensures serves { Serves T.TxType words.entry.now result.worker.rest.seat }
-            ensures done { IsDone words.entry.now shapes.entry.now.items other.rest.seat.me.0.view result.worker.rest.seat.me.0.view
-                (B.gives b.entry.now) result.out }
+            ensures { HasServed T.TxType words.entry.now shapes.entry.now.items other (B.gives b.entry.now) result }
         { work_alone(alloc, words, shapes, other, b) },
     )
 }
@@ -143,14 +129,8 @@ fn work_in_turn<T: TxType, A: Task<T>, B: Task<T>>(
     b: &B,
 ) -> FinishedPair<T, A::Out, B::Out>
     requires takes { TakeCalls T.TxType words.now shapes.now.items }
-    requires a { Serves T.TxType words.now workers.0.rest.seat }
-    requires b { Serves T.TxType words.now workers.1.rest.seat }
-    ensures a_serves { Serves T.TxType words.now result.0.worker.rest.seat }
-    ensures b_serves { Serves T.TxType words.now result.1.worker.rest.seat }
-    ensures a { IsDone words.now shapes.now.items workers.0.rest.seat.me.0.view result.0.worker.rest.seat.me.0.view
-        (A.gives a.now) result.0.out }
-    ensures b { IsDone words.now shapes.now.items workers.1.rest.seat.me.0.view result.1.worker.rest.seat.me.0.view
-        (B.gives b.now) result.1.out }
+    requires serve { ServeBoth T.TxType words.now workers }
+    ensures { HaveServed T.TxType words.now shapes.now.items workers (A.gives a.now) (B.gives b.now) result }
 {
     let (first, other) = workers;
     let done = work_alone(alloc, words, shapes, first, a);
@@ -172,14 +152,8 @@ where
     A::Out: Send + Drop,
     B::Out: Send + Drop,
     requires takes { TakeCalls T.TxType words.now shapes.now.items }
-    requires a { Serves T.TxType words.now workers.0.rest.seat }
-    requires b { Serves T.TxType words.now workers.1.rest.seat }
-    ensures a_serves { Serves T.TxType words.now result.0.worker.rest.seat }
-    ensures b_serves { Serves T.TxType words.now result.1.worker.rest.seat }
-    ensures a { IsDone words.now shapes.now.items workers.0.rest.seat.me.0.view result.0.worker.rest.seat.me.0.view
-        (A.gives a.now) result.0.out }
-    ensures b { IsDone words.now shapes.now.items workers.1.rest.seat.me.0.view result.1.worker.rest.seat.me.0.view
-        (B.gives b.now) result.1.out }
+    requires serve { ServeBoth T.TxType words.now workers }
+    ensures { HaveServed T.TxType words.now shapes.now.items workers (A.gives a.now) (B.gives b.now) result }
 {
     if threads < 2 {
         return work_in_turn(alloc, words, shapes, workers, a, b);
@@ -216,22 +190,10 @@ where
     C::Out: Send + Drop,
     D::Out: Send + Drop,
     requires takes { TakeCalls T.TxType words.now shapes.now.items }
-    requires a { Serves T.TxType words.now workers.0.0.rest.seat }
-    requires b { Serves T.TxType words.now workers.0.1.rest.seat }
-    requires c { Serves T.TxType words.now workers.1.0.rest.seat }
-    requires d { Serves T.TxType words.now workers.1.1.rest.seat }
-    ensures a_serves { Serves T.TxType words.now result.0.0.worker.rest.seat }
-    ensures b_serves { Serves T.TxType words.now result.0.1.worker.rest.seat }
-    ensures c_serves { Serves T.TxType words.now result.1.0.worker.rest.seat }
-    ensures d_serves { Serves T.TxType words.now result.1.1.worker.rest.seat }
-    ensures a { IsDone words.now shapes.now.items workers.0.0.rest.seat.me.0.view result.0.0.worker.rest.seat.me.0.view
-        (A.gives a.now) result.0.0.out }
-    ensures b { IsDone words.now shapes.now.items workers.0.1.rest.seat.me.0.view result.0.1.worker.rest.seat.me.0.view
-        (B.gives b.now) result.0.1.out }
-    ensures c { IsDone words.now shapes.now.items workers.1.0.rest.seat.me.0.view result.1.0.worker.rest.seat.me.0.view
-        (C.gives c.now) result.1.0.out }
-    ensures d { IsDone words.now shapes.now.items workers.1.1.rest.seat.me.0.view result.1.1.worker.rest.seat.me.0.view
-        (D.gives d.now) result.1.1.out }
+    requires first { ServeBoth T.TxType words.now workers.0 }
+    requires other { ServeBoth T.TxType words.now workers.1 }
+    ensures first { HaveServed T.TxType words.now shapes.now.items workers.0 (A.gives a.now) (B.gives b.now) result.0 }
+    ensures other { HaveServed T.TxType words.now shapes.now.items workers.1 (C.gives c.now) (D.gives d.now) result.1 }
 {
     let (first, other) = workers;
     if threads < 2 {
@@ -244,26 +206,14 @@ where
         move || -> FinishedPair<T, A::Out, B::Out>
             requires sync { IsSync R.row }
             requires takes { TakeCalls T.TxType words.now shapes.now.items }
-            requires a { Serves T.TxType words.now first.0.rest.seat }
-            requires b { Serves T.TxType words.now first.1.rest.seat }
-            ensures a_serves { Serves T.TxType words.entry.now result.0.worker.rest.seat }
-            ensures b_serves { Serves T.TxType words.entry.now result.1.worker.rest.seat }
-            ensures a { IsDone words.entry.now shapes.entry.now.items first.0.rest.seat.me.0.view
-                result.0.worker.rest.seat.me.0.view (A.gives a.entry.now) result.0.out }
-            ensures b { IsDone words.entry.now shapes.entry.now.items first.1.rest.seat.me.0.view
-                result.1.worker.rest.seat.me.0.view (B.gives b.entry.now) result.1.out }
+            requires serve { ServeBoth T.TxType words.now first }
+            ensures { HaveServed T.TxType words.entry.now shapes.entry.now.items first (A.gives a.entry.now) (B.gives b.entry.now) result }
         { work_two(rt, alloc, words, shapes, each, first, a, b) },
         move || -> FinishedPair<T, C::Out, D::Out>
             requires sync { IsSync R.row }
             requires takes { TakeCalls T.TxType words.now shapes.now.items }
-            requires c { Serves T.TxType words.now other.0.rest.seat }
-            requires d { Serves T.TxType words.now other.1.rest.seat }
-            ensures c_serves { Serves T.TxType words.entry.now result.0.worker.rest.seat }
-            ensures d_serves { Serves T.TxType words.entry.now result.1.worker.rest.seat }
-            ensures c { IsDone words.entry.now shapes.entry.now.items other.0.rest.seat.me.0.view
-                result.0.worker.rest.seat.me.0.view (C.gives c.entry.now) result.0.out }
-            ensures d { IsDone words.entry.now shapes.entry.now.items other.1.rest.seat.me.0.view
-                result.1.worker.rest.seat.me.0.view (D.gives d.entry.now) result.1.out }
+            requires serve { ServeBoth T.TxType words.now other }
+            ensures { HaveServed T.TxType words.entry.now shapes.entry.now.items other (C.gives c.entry.now) (D.gives d.entry.now) result }
         { work_two(rt, alloc, words, shapes, each, other, c, d) },
     )
 }

@@ -75,7 +75,7 @@ impl<'s, T: TxType> StoreWorker<'s, T> {
         K::Out: Drop,
         ensures led { HasLed (T.meaning self.old.words.ty) self.old.seat.me.0.view self.new.seat.me.0.view self.old.shapes
             (K.most code.now) (K.does code.now) result }
-        ensures given { HasGiven T.TxType self.old self.new (K.most code.now) (K.does code.now) result }
+        ensures given { HasGiven T.TxType self.old self.new 1 (K.most code.now) (K.does code.now) result }
         ensures grows { Grows self.old.seat.me.0.view self.new.seat.me.0.view }
         ensures alone { self.old.words.shared.table.shared.key.passes ≡ 1 → IsUndisturbed result }
         ensures same { (self.new.words ≡ self.old.words) × (self.new.shapes ≡ self.old.shapes) }
@@ -94,7 +94,7 @@ impl<'s, T: TxType> StoreWorker<'s, T> {
         K::Out: Drop,
         ensures led { HasLed (T.meaning self.old.words.ty) self.old.seat.me.0.view self.new.seat.me.0.view self.old.shapes
             (K.most code.now) (K.does code.now) result }
-        ensures given { HasGiven T.TxType self.old self.new (K.most code.now) (K.does code.now) result }
+        ensures given { HasGiven T.TxType self.old self.new 1 (K.most code.now) (K.does code.now) result }
         ensures grows { Grows self.old.seat.me.0.view self.new.seat.me.0.view }
         ensures alone { self.old.words.shared.table.shared.key.passes ≡ 1 → 1 ≤ tries → IsUndisturbed result }
         ensures same { (self.new.words ≡ self.old.words) × (self.new.shapes ≡ self.old.shapes) }

@@ -10,3 +10,4 @@ pub mod Scripts
 pub mod Gathered
 pub mod Opened
 pub mod Reopened
+pub mod Ordered

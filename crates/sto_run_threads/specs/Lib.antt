@@ -3,6 +3,7 @@ pub mod Plans
 pub mod Told
 pub mod Running
 pub mod Ran
+pub mod Ordered
 pub mod Worked
 pub mod Accounts
 pub mod Teams

@@ -1,7 +1,8 @@
 //! A whole file.
 ghost use Rattle.std.specs.Prelude.{◌≡◌, ◌≤◌, [], IfOk};
-ghost use Rattle.sto_run_threads.specs.Plans.{Opens, draws_of};
+ghost use Rattle.sto_run_threads.specs.Plans.{Opens, draws_of, thread_count};
 ghost use Rattle.sto_run_threads.specs.Told.{told_in};
+ghost use Rattle.sto_run_threads.specs.Ordered.{RunsInOrder};
 ghost use Rattle.sto_run_threads.specs.Accounts.{HasAll};
 ghost use Rattle.sto_run_threads.specs.Worked.{AbortsNone};
 ghost use Rattle.sto_run_threads.specs.Teams.{HasMade, view_at};
@@ -36,7 +37,10 @@ pub fn run_rest<T: Naming, W: Work<T>>(
     requires all { HasAll (draws_of (W.plan work.now)) shared.table.shared.key.passes (view_at worked.rest) (told_in worked.records) }
     ensures finished { IfOk result (IsFinished (W.plan work.now)) }
     ensures accounted { IfOk result IsAccounted }
+    // What was handed back is run in rising thread and then position, and none of it is aborted.
     ensures none { IfOk result (λ run. AbortsNone (told_in worked.records) (told_in run.records)) }
+    ensures in_order { IfOk result (λ run.
+        RunsInOrder (0, 0) (thread_count (W.plan work.now), 0) (told_in worked.records) (told_in run.records)) }
 {
     let Worked { mut records, rest } = worked;
     let closed = close(alloc, shared, rest)?;

@@ -1,8 +1,9 @@
 //! A script thread on one pass.
-ghost use Rattle.std.specs.Prelude.{◌≡◌, ◌≤◌, ◌-◌, ◌*◌, IfOk, OnOk};
+ghost use Rattle.std.specs.Prelude.{◌≡◌, ◌≤◌, ◌+◌, ◌-◌, ◌*◌, IfOk, OnOk};
 ghost use Rattle.sto_run_threads.specs.Plans.{MayDraw, transaction_count};
 ghost use Rattle.sto_run_threads.specs.Told.{told_in};
 ghost use Rattle.sto_run_threads.specs.Accounts.{Leads};
+ghost use Rattle.sto_run_threads.specs.Ordered.{RunsInOrder};
 ghost use Rattle.sto_run_threads.specs.Running.{ended_of};
 ghost use Rattle.sto_run_threads.specs.Worked.{HasWorked, IsFresh, IsScriptRun};
 
@@ -35,6 +36,7 @@ pub fn run_script<T: Naming, W: Work<T>, C: Cells<T>>(
         (told_in records.old) (told_in records.new)) }
     ensures ran { IfOk result (IsScriptRun (W.plan work.now) (C.passes cells.old) (C.view cells.new)
         thread (told_in records.old) (told_in records.new)) }
+    ensures in_order { OnOk result (RunsInOrder (thread, ended + 1) (thread, count + 1) (told_in records.old) (told_in records.new)) }
 {
     for position in ended..count {
         if !work.run_one(alloc, cells, thread, position + 1, memory, records)? {

@@ -1,4 +1,4 @@
-use Rattle.std.proofs.Common.{◌≡◌, ◌≤◌, ◌+◌, ◌-◌, ◌*◌, ℕ, suc, true, sym, ◌∙◌, subst, arith, inl, inr}
+use Rattle.std.proofs.Common.{◌≡◌, ◌≤◌, ◌+◌, ◌-◌, ◌*◌, ℕ, suc, true, refl, sym, ◌∙◌, subst, arith, inl, inr}
 use Rattle.std.proofs.lemmas.Bool.{cases_eq}
 use Rattle.sto_report_spec.specs.Orders.{count_in}
 use Rattle.sto_serializability.proofs.Gathering.{finished_run}
@@ -7,7 +7,9 @@ use Rattle.sto_run_threads.specs.Running.{ended_of}
 use Rattle.sto_run_threads.proofs.Joined.{all_have_ended}
 use Rattle.sto_run_threads.proofs.Scripts.{aborts_none_through}
 use Rattle.sto_run_threads.proofs.Accounts.{adds_up_through, all_counted}
+use Rattle.sto_run_threads.proofs.Ordered.{from_first, ordered_on, ordered_wider}
 use Rattle.sto_run_threads.proofs.Claiming.{thread_within, draws_left, counts_of_all}
+use Rattle.sto_run_threads.specs.Plans.{thread_count}
 use Rattle.sto_run_threads.specs.Told.{told_in}
 use Rattle.sto_run_threads.proofs.left.run_left.Goals as goal
 
@@ -40,6 +42,11 @@ loop-thread-preserved g c =
       none = aborts_none_through (told_in c.args.records.now) (told_in c.loop-thread.records) (told_in c.run_script.new.records) inv.none alone.1;
       adds_up = adds_up_through (g.C.Cells.view c.args.cells.now) (g.C.Cells.view c.loop-thread.cells) (g.C.Cells.view c.run_script.new.cells)
           (told_in c.args.records.now) (told_in c.loop-thread.records) (told_in c.run_script.new.records) inv.adds_up leads.adds_up;
+      in_order = ordered_on (0, 0) (c.loop-thread.thread, 0) (c.loop-thread.thread + 1, 0)
+          (told_in c.args.records.now) (told_in c.loop-thread.records) (told_in c.run_script.new.records)
+          (from_first (c.loop-thread.thread, 0)) (inl (omega arith)) inv.in_order
+          (ordered_wider (c.loop-thread.thread, 0) (c.loop-thread.thread, c.count_ended-ended.result + 1) (c.loop-thread.thread, c.count-count.result + 1) (c.loop-thread.thread + 1, 0)
+          (told_in c.loop-thread.records) (told_in c.run_script.new.records) (inr (refl, omega arith)) (inl (omega arith)) c.in_ok-run_script.ensures.in_order);
       all = λ u low. elim (cases_eq c.loop-thread.thread u) [
         | inl same ↦ subst (λ (n : ℕ). ended_of n (told_in c.run_script.new.records) ≡ count_in threads n) same (ran.all on)
         | inr other ↦ ran.adds.others u other ∙ inv.all u (omega (arith, low, other))
@@ -60,3 +67,10 @@ returns-clause-finished g c =
     (all_have_ended plan.file (told_in c.loop-thread.records) inv.worked.under_way
     (counts_of_all plan.file (told_in c.loop-thread.records) inv.worked.under_way (λ u low. inv.all u (omega (arith, low, far, end)))))
     (all_counted (g.C.Cells.view c.args.cells.now) (g.C.Cells.view c.loop-thread.cells) (told_in c.args.records.now) (told_in c.loop-thread.records) inv.adds_up c.requires.tickets)
+
+pub returns-clause-in_order : goal.returns-clause-in_order
+returns-clause-in_order g c =
+    let threads = thread_count (g.W.Work.plan c.args.work.now) in
+    let high = c.loop-thread.auto.thread-end in let far = c.loop-thread-test.false in let end = c.threads-thread-end.ensures in
+    ordered_wider (0, 0) (0, 0) (c.loop-thread.thread, 0) (threads, 0) (told_in c.args.records.now) (told_in c.loop-thread.records)
+    (inr (refl, omega arith)) (inr (omega (arith, high, far, end), omega arith)) c.loop-thread.invariant.in_order

@@ -1,6 +1,7 @@
-use Rattle.std.proofs.Common.{rules, ◌≡◌, ◌+◌, ◌-◌, true, arith}
+use Rattle.std.proofs.Common.{rules, ◌≡◌, ◌+◌, ◌-◌, true, refl, inr, arith}
 use Rattle.sto_run_threads.proofs.Scripts.{transaction_there, adds_through, aborts_none_through, script_step, script_left}
 use Rattle.sto_run_threads.proofs.Accounts.{adds_up_through, run_adds_up}
+use Rattle.sto_run_threads.proofs.Ordered.{ordered_on, ordered_run, ordered_wider}
 use Rattle.sto_run_threads.proofs.Claiming.{less_one, more_one, times_le}
 use Rattle.sto_run_threads.specs.Told.{told_in}
 use Rattle.sto_run_threads.proofs.script.run_script.Goals as goal
@@ -47,6 +48,9 @@ loop-position-preserved g c =
       adds_up = adds_up_through (g.C.Cells.view c.args.cells.now) (g.C.Cells.view c.loop-position.cells) (g.C.Cells.view c.run_one.new.cells)
           (told_in c.args.records.now) (told_in c.loop-position.records) (told_in c.run_one.new.records) c.loop-position.invariant.adds_up
           (run_adds_up _ _ _ _ _ _ _ _ _ _ _ ran.ran);
+      in_order = ordered_on (c.args.thread, c.args.ended + 1) (c.args.thread, c.loop-position.position + 1) (c.args.thread, c.loop-position.position + 1 + 1)
+          (told_in c.args.records.now) (told_in c.loop-position.records) (told_in c.run_one.new.records)
+          (inr (refl, omega (arith, c.loop-position.auto.position))) (inr (refl, omega arith)) c.loop-position.invariant.in_order (ordered_run _ _ _ _ _ _ _ _ _ ran);
       same = g.met.C.Cells.same_through c.args.cells.now c.loop-position.cells c.run_one.new.cells c.loop-position.invariant.same c.run_one.ensures.same;
     }
 
@@ -69,3 +73,19 @@ returns-clause-leads g c =
       draws = search rules;
       adds_up = inv.adds_up;
     }
+
+pub returns-then-not-branch-clause-in_order : goal.returns-then-not-branch-clause-in_order
+returns-then-not-branch-clause-in_order g c =
+    let thread = c.args.thread in let position = c.loop-position.position in
+    let olds = told_in c.args.records.now in let news = told_in c.run_one.new.records in
+    ordered_wider (thread, c.args.ended + 1) (thread, c.args.ended + 1) (thread, position + 1 + 1) (thread, c.args.count + 1) olds news
+    (inr (refl, omega arith)) (inr (refl, omega (arith, c.loop-position-test.true)))
+    (ordered_on (thread, c.args.ended + 1) (thread, position + 1) (thread, position + 1 + 1) olds (told_in c.loop-position.records) news
+    (inr (refl, omega (arith, c.loop-position.auto.position))) (inr (refl, omega arith)) c.loop-position.invariant.in_order
+    (ordered_run _ _ _ _ _ _ _ _ _ c.in_ok-run_one.ensures.ran))
+
+pub returns-clause-in_order : goal.returns-clause-in_order
+returns-clause-in_order g c =
+    let thread = c.args.thread in let high = c.loop-position.auto.position-end c.requires.count.1 in
+    ordered_wider (thread, c.args.ended + 1) (thread, c.args.ended + 1) (thread, c.loop-position.position + 1) (thread, c.args.count + 1)
+    (told_in c.args.records.now) (told_in c.loop-position.records) (inr (refl, omega arith)) (inr (refl, omega (arith, high))) c.loop-position.invariant.in_order

@@ -4,6 +4,7 @@ use Rattle.sto_run_threads.specs.Running.{ended_of}
 use Rattle.sto_run_threads.specs.Worked.{HasWorked, IsFresh, AddsTo, AbortsNone}
 use Rattle.sto_run_threads.specs.Plans.{Rests}
 use Rattle.sto_run_threads.specs.Told.{told_in}
+use Rattle.sto_run_threads.specs.Ordered.{RunsInOrder}
 use Rattle.sto_run_threads.proofs.script.run_script.Given as goal
 
 abbrev pub invariant-loop-position : goal.invariant-loop-position
@@ -16,6 +17,7 @@ invariant-loop-position g l = record {
   worked : HasWorked (g.W.Work.plan l.work) (g.C.Cells.view l.cells) (told_in l.records);
   adds : AddsTo l.thread (told_in l.fn.records) (told_in l.records);
   alone : g.C.Cells.passes l.fn.cells ≡ 1 → AbortsNone (told_in l.fn.records) (told_in l.records);
+  in_order : RunsInOrder (l.thread, l.ended + 1) (l.thread, l.position + 1) (told_in l.fn.records) (told_in l.records);
   adds_up : AddsUp (g.C.Cells.view l.fn.cells) (g.C.Cells.view l.cells) (told_in l.fn.records) (told_in l.records);
   same : g.C.Cells.same l.fn.cells l.cells;
 }
