@@ -8,7 +8,7 @@ ghost use Rattle.sto_gen.specs.Generated.{moves, log_note, owner_note, statement
 
 use crate::draws::Transfer;
 use std::alloc::Global;
-use sto_lang::{Arg, Script, Stmt, Stmts, Text};
+use sto_lang::{Arg, Names, Script, Stmt, Stmts, Text};
 use sto_part::{List, NoMemory, Test};
 
 /// The number of the counter of transfers among the objects of a generated file.
@@ -141,10 +141,10 @@ pub(crate) fn transaction(
     requires amount { transfer.now.amount ≤ 100 }
     ensures { IfOk result (λ s. script s ≡ transaction thread position transfer.now) }
 {
-    let mut vars = List::new(alloc);
-    vars.push(Text::of(alloc, "x")?)?;
+    let mut names = List::new(alloc);
+    names.push(Text::of(alloc, "x")?)?;
     Ok(Script {
-        vars,
+        vars: Names::of(alloc, names)?,
         body: statements(alloc, thread, position, transfer)?,
         weight: 6 + note_weight(position),
     })

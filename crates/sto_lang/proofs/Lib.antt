@@ -1,5 +1,6 @@
 pub mod WrittenLemmas
 pub mod NameTables
+pub mod SharedNames
 pub mod ObjectLemmas
 pub mod OrderLemmas
 pub mod DraftLemmas

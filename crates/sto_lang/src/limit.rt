@@ -9,8 +9,8 @@ ghost use Rattle.sto_lang.specs.DraftViews.{draft_of};
 ghost use Rattle.sto_lang.specs.Weighed.{begun_weight, ended_weight};
 
 use crate::draft::Draft;
-use crate::name_table::NameTable;
 use crate::range::{in_range, is_in_ranges, natural, shape};
+use crate::variables::Variables;
 use sto_syntax::{Declared, Entries, Form, Name, ScheduleEntry, ThreadWord};
 
 #[tactic(auto, using(crate::proofs::LimitLemmas::widest, crate::proofs::LimitLemmas::small_parts, crate::proofs::LimitLemmas::small_words))]
@@ -97,7 +97,7 @@ fn are_turns(threads: u32, entries: Entries<'_>) -> bool
 #[tactic(auto, using(crate::proofs::LimitLemmas::variables_more))]
 /// Whether there are too many variables with the one of this name. It is looked up only where there are
 /// as many as there may be.
-fn are_many_with(variables: &NameTable, name: &Name<'_>) -> bool
+fn are_many_with(variables: &Variables, name: &Name<'_>) -> bool
     ensures { result ≡ nat_lt 64 (length (with_variable variables.now name.now.bytes.now)) }
 {
     let count = variables.len();

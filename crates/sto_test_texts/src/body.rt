@@ -8,7 +8,7 @@ ghost use Rattle.sto_model.specs.declared.shape.Shape.TheVariants.{Single, Tree}
 use std::alloc::Global;
 use sto_lang::{Arg, Names, Script, Stmt, Stmts, Text};
 use sto_model::{Body, Call, End, Next, Outcome, Reply, Shape, Shapes, State, serial_run};
-use sto_part::{NoMemory, Test};
+use sto_part::{List, NoMemory, Test};
 use sto_script::ScriptBody;
 
 const ZERO: Arg = Arg::Num(0);
@@ -51,11 +51,11 @@ fn script_of(alloc: Global, vars: u32, body: Stmts, weight: u32) -> Result<Scrip
 
 // The names of so many variables.
 fn names(alloc: Global, count: u32) -> Result<Names, NoMemory> {
-    let mut names = Names::new(alloc);
+    let mut names = List::new(alloc);
     for _ in 0..count {
         names.push(Text::new(alloc))?;
     }
-    Ok(names)
+    Names::of(alloc, names)
 }
 
 // One object of this shape.
