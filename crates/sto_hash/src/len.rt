@@ -1,10 +1,11 @@
 //! The plan of len: it needs every key part, and counts what is present there.
-ghost use Rattle.std.specs.Prelude.{◌≡◌, ◌+◌, ◌*◌, ◌<◌, ◌^◌, ℤ, List, [], Some, None, pos, IfOk, MatchResult};
+ghost use Rattle.std.specs.Prelude.{◌≡◌, ◌+◌, ◌*◌, ◌<◌, ◌^◌, ℤ, List, [], Some, pos, length, count_by, IfOk};
 ghost use Rattle.sto_model.specs.Operations.{operation_of};
 ghost use Rattle.sto_model.specs.Told.{Value as ToldValue};
 ghost use Rattle.sto_type.specs.Known.{known, IsPartOf};
 ghost use Rattle.sto_type.specs.Plans.{planned, IsPlan, IsSaid};
-ghost use Rattle.sto_hash.specs.Hashed.{hash_meaning, first_asked, all_seen, known_total, HashTakes, IsHash};
+ghost use Rattle.sto_block.specs.Blocks.{is_present, places_of};
+ghost use Rattle.sto_hash.specs.Hashed.{hash_meaning, first_asked, all_seen, known_total, words_known, HashTakes, IsHash};
 
 use sto_block::count_present;
 use sto_item::{Item, Items};
@@ -28,10 +29,11 @@ pub(crate) fn plan_len(
     requires part { (d : List (List ℤ)) × IsHash buckets places d × IsPartOf (known cache.now) d }
     ensures { IfOk result (λ a. IsPlan (hash_meaning buckets places) call.now (known cache.now) (planned a)) }
 {
-    match count_all(buckets, places, cache) {
-        Err(part) => Ok(Answer::Need(part)),
-        Ok(total) => len_answer(pool, buckets, places, total),
+    if let Some(part) = first_unknown(buckets, places, cache) {
+        return Ok(Answer::Need(part));
     }
+    let total = count_all(buckets, places, cache);
+    len_answer(pool, buckets, places, total)
 }
 
 // The answer where every key part is known, and so many keys are present.
@@ -51,23 +53,43 @@ fn len_answer(
     })
 }
 
-// How many keys are present; or the first key part that is not known.
-fn count_all(buckets: u32, places: u32, cache: &KnownParts<'_>) -> Result<u32, u32>
+// The first key part that is not known. A len is planned anew for each of them, so this comes before any words are looked at.
+fn first_unknown(buckets: u32, places: u32, cache: &KnownParts<'_>) -> Option<u32>
+    requires few { buckets * (1 + places) < 2 ^ 32 }
+    ensures { first_asked places (known cache.now) 0 buckets ≡ result }
+{
+    for bucket in 0..buckets {
+        let part = bucket * (1 + places);
+        let Some(_words) = cache.get(part) else {
+            return Some(part);
+        };
+    }
+    None
+}
+
+// How many keys are present in the key parts that are known.
+fn count_all(buckets: u32, places: u32, cache: &KnownParts<'_>) -> u32
     requires few { buckets * (1 + places) < 2 ^ 32 }
     requires words { 2 * places < 2 ^ 32 }
     requires part { (d : List (List ℤ)) × IsHash buckets places d × IsPartOf (known cache.now) d }
-    ensures { MatchResult result (λ total. (first_asked places (known cache.now) 0 buckets ≡ None)
-        × (total ≡ known_total places (known cache.now) 0 buckets)) (λ part. first_asked places (known cache.now) 0 buckets ≡ Some part) }
+    ensures { result ≡ known_total places (known cache.now) 0 buckets }
 {
     let mut total = 0;
     for bucket in 0..buckets {
-        let part = bucket * (1 + places);
-        match cache.get(part) {
-            None => return Err(part),
-            Some(words) => total += count_present(words),
-        }
+        total += count_known(bucket * (1 + places), cache);
     }
-    Ok(total)
+    total
+}
+
+// How many keys are present in a key part; none where it is not known.
+fn count_known(part: u32, cache: &KnownParts<'_>) -> u32
+    requires { length (words_known (known cache.now part)) < 2 ^ 32 }
+    ensures { result ≡ count_by is_present (places_of (words_known (known cache.now part))) }
+{
+    match cache.get(part) {
+        Some(words) => count_present(words),
+        None => 0,
+    }
 }
 
 // An item of each key part.

@@ -6,6 +6,7 @@ pub mod LeafRows
 pub mod KnownRange
 pub mod Counting
 pub mod Leaves
+pub mod ValuesKnown
 pub mod Walks
 pub mod BetweenPlan
 pub mod NextPlan

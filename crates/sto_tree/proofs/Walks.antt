@@ -128,6 +128,12 @@ module _ (k : Known) where
         let u : first_unknown k (leaf_values s dir a b ks l) ≡ Some p = sym (ap (λ o. when_known o (Some (key_part l)) (λ xs. first_unknown k (leaf_values s dir a b xs l))) some) ∙ sym e in
         ap (λ o. when_known o (Some (key_part l)) (λ xs. need_of (more xs) k)) some ∙ need_all_some (leaf_values s dir a b ks l) (rest (is ++ leaf_items s dir a b ks l)) p u)
 
+    pub leaf_none : need_of (between_each s dir a b (l ∷ ls) is) k ≡ None → None ≡ leaf_need k s dir a b l
+    leaf_none e = cut (leaf_need k s dir a b l) refl where
+      cut : (o : Option ℕ) → o ≡ leaf_need k s dir a b l → None ≡ leaf_need k s dir a b l
+      cut None h = h
+      cut (Some p) h = let z : Some p ≡ None = sym (leaf_stops p h) ∙ e in absurd (cc)
+
     module _ (e : None ≡ leaf_need k s dir a b l) where
       leaf_known : (ks : List ℤ) × (k (key_part l) ≡ Some ks) × (first_unknown k (leaf_values s dir a b ks l) ≡ None)
       leaf_known =

@@ -5,7 +5,7 @@ use Rattle.sto_model.specs.Rows.{Row, least_from}
 use Rattle.sto_model.specs.Told.{Told, Value, Pairs}
 use Rattle.sto_type.specs.Known.{Known}
 use Rattle.sto_type.specs.Reading.{Reading, need_of, items_of, when_known}
-use Rattle.sto_tree_spec.specs.Layout.{key_part, value_part}
+use Rattle.sto_tree_spec.specs.Layout.{key_part, value_part, is_present}
 use Rattle.sto_tree_spec.specs.Split.{moves}
 use Rattle.sto_tree.specs.KnownRows.{known_value}
 use Rattle.sto_tree_spec.specs.NextLaw.{found_first}
@@ -22,6 +22,10 @@ leaf_need k scans dir a b l = when_known (k (key_part l)) (Some (key_part l)) (�
 
 abbrev pub leaf_observed : Known → Bool → List ℤ → ℤ → ℤ → ℕ → List Item
 leaf_observed k scans dir a b l = when_known (k (key_part l)) [] (λ ks. leaf_items scans dir a b ks l)
+
+-- the values of the keys in the first n places of leaf l are known
+abbrev pub AreValuesKnown : Known → ℕ → List ℤ → ℕ → Type 0
+AreValuesKnown k l ks n = (i : ℕ) → i < n → is_present ks i ≡ true → (ws : List ℤ) × (k (value_part l i) ≡ Some ws)
 
 -- nothing more is needed, and these are the items
 abbrev pub IsSaid : Reading → Known → List Item → Type 0

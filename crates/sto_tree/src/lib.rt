@@ -9,6 +9,7 @@ mod get;
 mod leaf;
 mod len;
 mod listing;
+mod needs;
 mod next;
 mod put;
 mod range;

@@ -19,6 +19,28 @@ pub(crate) fn add_item(items: &mut Items, item: Item) -> Result<(), NoMemory>
     Ok(())
 }
 
+/// Sees parts one after the other.
+pub(crate) fn see_all(items: &mut Items, parts: &[u32]) -> Result<(), NoMemory>
+    ensures { OnOk result (items.new.items ≡ items.old.items ++ all_seen parts.now) }
+{
+    for part in parts {
+        add_item(items, Item::Seen(*part))?;
+    }
+    Ok(())
+}
+
+/// The first of parts that is not known.
+pub(crate) fn unknown_in(cache: &KnownParts<'_>, parts: &[u32]) -> Option<u32>
+    ensures { first_unknown (known cache.now) parts.now ≡ result }
+{
+    for part in parts {
+        let Some(_words) = cache.get(*part) else {
+            return Some(*part);
+        };
+    }
+    None
+}
+
 /// Sees parts one after the other, and gives the first that is not known.
 pub(crate) fn see_parts(
     items: &mut Items,

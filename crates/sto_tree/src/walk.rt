@@ -1,7 +1,7 @@
 //! Leaves that are seen one after the other.
 ghost use Rattle.std.specs.Prelude.{◌≡◌, ◌<◌, ◌*◌, ◌+◌, ◌^◌, ℕ, ℤ, Some, None, List as Seq, [], ◌++◌, length, map, slice_index, IfOk, OnOk, MatchResult};
 ghost use Rattle.sto_type.specs.Known.{known, IsPartOf};
-ghost use Rattle.sto_type.specs.Reading.{need_of};
+ghost use Rattle.sto_type.specs.Reading.{need_of, items_of};
 ghost use Rattle.sto_tree_spec.specs.Layout.{parts_of, key_part as the_key_part};
 ghost use Rattle.sto_tree_spec.specs.Valid.{IsTree};
 ghost use Rattle.sto_tree_spec.specs.Next.{leaf_seen};
@@ -9,9 +9,10 @@ ghost use Rattle.sto_tree_spec.specs.Between.{value_part_of, values_between as t
 ghost use Rattle.sto_tree.specs.Walked.{IsSaid, leaf_need, leaf_observed};
 
 use crate::listing::{from_in, key_rows, to_in};
+use crate::needs::first_needed;
 use crate::said::{compares, key_part, value_part};
 use crate::search::place_of;
-use crate::seen::{add_item, see_parts};
+use crate::seen::{add_item, see_all};
 use std::alloc::Global;
 use sto_item::{Item, Items};
 use sto_model::Pairs;
@@ -39,8 +40,8 @@ pub(crate) fn see_keys(
     Ok(())
 }
 
-// The value parts of the keys of a leaf from one to another, in rising key.
-fn values_between(
+/// The value parts of the keys of a leaf from one to another, in rising key.
+pub(crate) fn values_between(
     alloc: Global,
     keys: &[i64],
     leaf: u32,
@@ -81,7 +82,7 @@ fn value_part_at(keys: &[i64], leaf: u32, key: i64) -> u32
     }
 }
 
-// Observes a leaf as a count does, or as a scan; or gives the part that is needed first.
+// Observes a leaf as a count does, or as a scan, where nothing more of it is needed.
 fn see_leaf(
     alloc: Global,
     items: &mut Items,
@@ -91,28 +92,55 @@ fn see_leaf(
     from: i64,
     to: i64,
     scans: bool,
-) -> Result<Option<u32>, NoMemory>
+) -> Result<(), NoMemory>
     requires width { 3 * leaf + 2 < length directory.now }
     requires part { the_key_part leaf + 8 < 2 ^ 32 }
     requires keys { (ks : Seq ℤ) → known cache.now (the_key_part leaf) ≡ Some ks → length ks ≡ 16 }
-    ensures need { IfOk result (λ o. o ≡ leaf_need (known cache.now) scans directory.now from to leaf) }
-    ensures items { IfOk result (λ o. o ≡ None → items.new.items ≡ items.old.items
-        ++ leaf_observed (known cache.now) scans directory.now from to leaf) }
+    requires need { leaf_need (known cache.now) scans directory.now from to leaf ≡ None }
+    ensures { OnOk result (items.new.items ≡ items.old.items ++ leaf_observed (known cache.now) scans directory.now from to leaf) }
 {
     let Some(keys) = cache.get(key_part(leaf)) else {
-        return Ok(Some(key_part(leaf)));
+        unreachable!()
     };
     see_keys(items, directory, leaf, from, to)?;
     if !scans {
-        return Ok(None);
+        return Ok(());
     }
     let first = from_in(directory, leaf, from);
     let last = to_in(directory, leaf, to);
     let values = values_between(alloc, keys, leaf, first, last)?;
-    see_parts(items, cache, values.as_slice())
+    see_all(items, values.as_slice())
+}
+
+// What a count or a scan observes of leaves one after the other, where nothing more of them is needed.
+fn observed_in(
+    alloc: Global,
+    pool: &mut AnswerPool,
+    leaves: u32,
+    directory: &[i64],
+    cache: &KnownParts<'_>,
+    listed: &[u32],
+    from: i64,
+    to: i64,
+    scans: bool,
+) -> Result<Items, NoMemory>
+    requires few { parts_of leaves < 2 ^ 32 }
+    requires width { length directory.now ≡ 3 * leaves }
+    requires below { (n : ℕ) → n < length listed.now → slice_index listed.now n < leaves }
+    requires part { (d : Seq (Seq ℤ)) × IsTree leaves d × IsPartOf (known cache.now) d }
+    requires need { need_of (between_each scans directory.now from to listed.now []) (known cache.now) ≡ None }
+    ensures { IfOk result (λ items. items.items ≡ items_of (between_each scans directory.now from to listed.now []) (known cache.now)) }
+{
+    let mut items = pool.items();
+    for leaf in listed {
+        see_leaf(alloc, &mut items, directory, cache, *leaf, from, to, scans)?;
+    }
+    Ok(items)
 }
 
 /// What a count or a scan observes of leaves one after the other, or the part that it needs first.
+///
+/// It is asked anew for each part that is needed, so what is observed is put together only once nothing is needed.
 pub(crate) fn see_leaves(
     alloc: Global,
     pool: &mut AnswerPool,
@@ -131,11 +159,13 @@ pub(crate) fn see_leaves(
     ensures { let reading = between_each scans directory.now from to listed.now [] in IfOk result
         (λ r. MatchResult r (λ items. IsSaid reading (known cache.now) items.items) (λ p. need_of reading (known cache.now) ≡ Some p)) }
 {
-    let mut items = pool.items();
-    for leaf in listed {
-        if let Some(part) = see_leaf(alloc, &mut items, directory, cache, *leaf, from, to, scans)? {
-            return Ok(Err(part));
+    match first_needed(alloc, leaves, directory, cache, listed, from, to, scans)? {
+        Some(part) => Ok(Err(part)),
+        None => {
+            let items = observed_in(
+                alloc, pool, leaves, directory, cache, listed, from, to, scans,
+            )?;
+            Ok(Ok(items))
         }
     }
-    Ok(Ok(items))
 }

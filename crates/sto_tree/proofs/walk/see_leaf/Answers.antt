@@ -13,8 +13,8 @@ use Rattle.sto_tree_spec.specs.Between.{from_in, to_in, all_seen, values_between
 use Rattle.sto_tree.specs.Walked.{leaf_observed}
 use Rattle.sto_tree.proofs.walk.see_leaf.Goals as goal
 
-pub returns-clause-items : goal.returns-clause-items
-returns-clause-items c =
+pub returns : goal.returns
+returns c =
     let k : Known = known c.args.cache.now in
     let dir : List ℤ = c.args.directory.now in
     let l : ℕ = c.args.leaf in
@@ -34,7 +34,7 @@ returns-clause-items c =
     ap (λ (ps : List ℕ). cover l (from_in dir c.args.from l) (to_in dir c.args.to l) (Seen (key_part l) ∷ all_seen ps)) listed
     ∙ sym (ap (λ (o : Option (List ℤ)). when_known {A = List Item} o [] (λ xs. leaf_items c.args.scans dir c.args.from c.args.to xs l)) there ∙ ap (λ (s : Bool). leaf_items s dir c.args.from c.args.to ks l) c.if-not-scans.false)
     in
-    IfOk-weaker c.see_parts.result _ _ (λ o h none.
-    h none ∙ ap (λ (is : List Item). is ++ all_seen c.as_slice.result.now) seen
+    IfOk-weaker c.see_all.result _ _ (λ o h.
+    h ∙ ap (λ (is : List Item). is ++ all_seen c.as_slice.result.now) seen
     ∙ append_assoc c.args.items.now.items (leaf_seen dir c.args.from c.args.to l) (all_seen c.as_slice.result.now)
-    ∙ ap (λ (is : List Item). c.args.items.now.items ++ is) said) c.see_parts.ensures.items
+    ∙ ap (λ (is : List Item). c.args.items.now.items ++ is) said) c.see_all.ensures
