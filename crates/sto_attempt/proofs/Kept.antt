@@ -17,3 +17,6 @@ module _ {T B : Type 0} (a b : Ready T B) where
       e
       ∙ (ap (λ (l : Listed FoundTicket). record a { found_tickets = l; commit_phase = b.commit_phase }) (sym (ap (λ (x : Ready T B). x.found_tickets) e))
       ∙ ap (λ (l : Listed LoadedWord). record a { found_tickets = b.found_tickets; loaded_words = l; commit_phase = b.commit_phase }) (sym (ap (λ (x : Ready T B). x.loaded_words) e)))
+
+  pub kept_but_phase : b ≡ record a { commit_phase = b.commit_phase } → b ≡ record a { found_tickets = b.found_tickets; commit_phase = b.commit_phase }
+  kept_but_phase e = e ∙ ap (λ (l : Listed FoundTicket). record a { found_tickets = l; commit_phase = b.commit_phase }) (sym (ap (λ (x : Ready T B). x.found_tickets) e))

@@ -1,21 +1,35 @@
 -- An attempt that reads, on its pass, before an event and after it. Where two attempts are named, they are the one before and the one after.
-use Rattle.std.specs.Prelude.{◌≡◌, ◌<◌, ◌-◌, ℕ, ℤ, List, length, map, slice_index_or, Result, IfOk, OnOk, OnErr}
+use Rattle.std.specs.Prelude.{◌≡◌, ◌≤◌, ◌<◌, ◌+◌, ◌-◌, ℕ, ℤ, true, false, List, [], length, drop, map, slice_index_or, Option, Result, IfSome, IfOk, OnOk, OnErr}
 use Rattle.sto_part.specs.declared.NoMemory.{NoMemory}
 use Rattle.sto_model.specs.Told.{Told, told}
+use Rattle.sto_model.specs.Run.{Script}
 use Rattle.sto_core.specs.declared.view.View.{View}
-use Rattle.sto_core.specs.Event.{Event}
+use Rattle.sto_core.specs.declared.view.Phase.TheVariants as P
+use Rattle.sto_core.specs.declared.cells.Cells as cells
+use Rattle.sto_core.specs.Event.{Event, Start, Word}
+use Rattle.sto_core.specs.History.{Contents}
+use Rattle.sto_item.specs.Observed.{Watched, IsObserved}
+use Rattle.sto_item.specs.Watched.{watched}
+use Rattle.sto_type.specs.Known.{Known, IsPartOf}
 use Rattle.sto_attempt_log.specs.declared.read_phase.ReadPhase.{ReadPhase}
-use Rattle.sto_attempt_log.specs.declared.read_phase.ReadPhase.TheVariants.{Reading, Rereading}
+use Rattle.sto_attempt_log.specs.declared.read_phase.ReadPhase.TheVariants.{Unstarted, Reading, Rereading}
 use Rattle.sto_attempt_log.specs.declared.verdict.Turn.{Turn}
+use Rattle.sto_attempt_log.specs.declared.verdict.Turn.TheVariants.{More}
 use Rattle.sto_attempt_log.specs.declared.lists.Lists.{Lists}
+use Rattle.sto_attempt_log.specs.declared.commit_phase.LoadedWord.{LoadedWord}
+use Rattle.sto_part.specs.declared.pred.Pred.{Pred}
+use Rattle.sto_part.specs.Listed.{Listed}
+use Rattle.sto_attempt_log.specs.declared.commit_phase.CommitPhase.TheVariants.{Locking}
+use Rattle.sto_attempt_log.specs.Predicates.{ArePredsOf}
+use Rattle.sto_attempt_log.specs.Remaining.{commit_left}
 use Rattle.sto_attempt_log.specs.Answers.{OneEvent, IsPrefix}
-use Rattle.sto_attempt_log.specs.Bounds.{events_left}
+use Rattle.sto_attempt_log.specs.Bounds.{events_left, left_committing, left_extending, bound, words_of}
 use Rattle.sto_attempt_log.specs.Log.{IsOnLog}
 use Rattle.sto_attempt_log.specs.Growing.{HasHeard}
 use Rattle.sto_attempt_log.specs.Reasons.{IsCaused}
 use Rattle.sto_attempt_log.specs.ReadSet.{words_in}
-use Rattle.sto_attempt_log.specs.CommitPhases.{Deal, deal}
-use Rattle.sto_attempt_log.specs.Standing.{Goes, Fits, MayGoOn, Renews, Spans, Turned, IsLeft, IsFirst, IsUnaborted, KeepsExtension, Moves, next_event}
+use Rattle.sto_attempt_log.specs.CommitPhases.{Deal, deal, IsPlanned, HasSpace}
+use Rattle.sto_attempt_log.specs.Standing.{Goes, Fits, MayGoOn, Renews, Spans, Turned, IsLeft, IsFirst, IsUnaborted, IsRenewed, HasBegun, KeepsExtension, Moves, next_event}
 use Rattle.sto_type.specs.Traits.{OfType}
 use Rattle.sto_model.specs.Bodies.{OfBody}
 use Rattle.sto_attempt.specs.declared.attempt.Attempt.{Attempt}
@@ -32,11 +46,14 @@ unread widths _ words = 0
 
 -- t and b are what the traits of the type and of the body say
 module _ {T B : Type 0} (t : OfType T) (b : OfBody B) where
-  -- what an attempt has found out is on the log of the body and the type of the one before
+  -- what an attempt has found out is on the log of a script and a type
+  abbrev pub IsLogBy : T → Script → Attempt T B → Type 0
+  IsLogBy ty f a =
+      IsOnLog (t.meaning ty) (b.then a.log.body) f (b.left a.log.body) (b.may_ask a.log.body) a.log.base.items a.log.set a.log.cache a.log.replies.items
+
+  -- on those of the one before
   abbrev pub IsLogOf : Attempt T B → Attempt T B → Type 0
-  IsLogOf old new =
-      IsOnLog (t.meaning old.log.ty.now) (b.then new.log.body) (b.script old.log.body) (b.left new.log.body) (b.may_ask new.log.body)
-      new.log.base.items new.log.set new.log.cache new.log.replies.items
+  IsLogOf old new = IsLogBy old.log.ty.now (b.script old.log.body) new
 
   abbrev pub IsOwnLog : Attempt T B → Type 0
   IsOwnLog a = IsLogOf a a
@@ -73,9 +90,24 @@ module _ {T B : Type 0} (t : OfType T) (b : OfBody B) where
   HasGrown old new =
       HasHeard (t.meaning old.log.ty.now) (b.script old.log.body) (words_in new.log.base.items) (heard old) old.log.set (heard new) new.log.set
 
-  -- the events left at a read phase, at most, by the widths of the type of the one before
+  -- the events left at a read phase, at most, by the widths of a type
+  abbrev pub left_by : T → ReadPhase → Attempt T B → ℕ
+  left_by ty read_phase a = events_left (b.left a.log.body) (t.meaning ty).widths read_phase a.words.items a.extension a.log.base.items
+
+  -- by those of the type of the one before
   abbrev pub left_of : Attempt T B → ReadPhase → Attempt T B → ℕ
-  left_of old read_phase a = events_left (b.left a.log.body) (t.meaning old.log.ty.now).widths read_phase a.words.items a.extension a.log.base.items
+  left_of old read_phase a = left_by old.log.ty.now read_phase a
+
+  -- an attempt of a body on a type has made no event yet
+  pub record IsNew (on : T) (body : B) (a : Attempt T B) : Type 0 where
+    pub ty : a.log.ty.now ≡ on
+    pub script : b.script a.log.body ≡ b.script body
+    pub left : b.left a.log.body ≡ b.left_at_reset body
+    pub none : a.log.base.items ≡ []
+    pub fresh : a.extension.extended ≡ false
+    pub read_phase : a.read_phase ≡ Unstarted
+    pub events : left_by on a.read_phase a ≤ bound (b.left_at_reset body) (length (t.meaning on).widths) (words_of (t.meaning on).widths)
+    pub log : IsLogBy on (b.script body) a
 
   -- fewer events are left than at the read phase before
   abbrev pub HasFewer : ReadPhase → Attempt T B → Attempt T B → Type 0
@@ -119,8 +151,117 @@ module _ {T B : Type 0} (t : OfType T) (b : OfBody B) where
     pub script : b.script new.log.body ≡ b.script old.log.body
     pub ty : new.log.ty ≡ old.log.ty
 
+  -- it went on where it had waited
+  pub record HasResumed (old new : Attempt T B) (result : Result Turn NoMemory) : Type 0 where
+    pub log : OnOk result (IsLogOf old new)
+    -- it stands to the view of the pass as after a step
+    pub turned : (v : View) → Waits old v → IfOk result (HasTurned old new v)
+    pub grown : OnOk result (HasGrown old new)
+    pub begun : OnOk result (HasBegun new.read_phase)
+    pub alone : IfOk result (λ turn. IsFirst new.read_phase × IsUnaborted turn)
+    pub at : new.at ≡ old.at
+    pub script : b.script new.log.body ≡ b.script old.log.body
+    pub ty : new.log.ty ≡ old.log.ty
+
+  -- how many words the part has
+  abbrev pub part_width : Attempt T B → ℕ → ℕ
+  part_width a part = slice_index_or (t.meaning a.log.ty.now).widths part 0
+
+  -- the watches of the extension
+  abbrev pub watches_of : Attempt T B → List Watched
+  watches_of a = map watched a.extension.watches.items
+
+  -- some valid contents have these parts
+  abbrev pub CanHave : Attempt T B → Known → Type 0
+  CanHave a known = (d : Contents) × (t.meaning a.log.ty.now).valid d × IsPartOf known d
+
+  -- the first of the watches were read anew, and stay so
+  abbrev pub AreRenewed : Attempt T B → Type 0
+  AreRenewed a = (left : List Watched) × IsRenewed (length (t.meaning a.log.ty.now).widths) (words_in a.log.base.items) a.extension.fresh.items (watches_of a) left
+
+  -- what is so before the extension goes on to its next watch
+  pub record IsExtending (a : Attempt T B) : Type 0 where
+    pub log : IsOwnLog a
+    pub observed : IsObserved a.log.set.items (watches_of a)
+    pub extended : a.extension.extended ≡ true
+    pub renewed : AreRenewed a
+    pub bound : a.at ≤ a.extension.bound
+    pub some : CanHave a (words_in a.log.base.items)
+    pub some_new : CanHave a (words_in a.extension.fresh.items)
+
+  -- fewer events are left than before the extension went on
+  abbrev pub HasFewerOn : Attempt T B → Attempt T B → Type 0
+  HasFewerOn old new =
+      left_of old new.read_phase new < 1 + left_extending (b.left old.log.body - 1) (t.meaning old.log.ty.now).widths (drop (length old.extension.fresh.items) (watches_of old))
+
+  -- the extension went on: to its next watch, or where there is none the body was run up to the next event
+  pub record HasGoneOn (old new : Attempt T B) (result : Result Turn NoMemory) : Type 0 where
+    pub log : OnOk result (IsLogOf old new)
+    pub turned : (v : View) → SpansAt old v → v.phase ≡ P.Reading → IfOk result (HasTurned old new v)
+    pub unaborted : IfOk result IsUnaborted
+    pub grown : OnOk result (HasGrown old new)
+    pub renewed : OnOk result ((new.extension.bound ≡ old.extension.bound) × (new.extension.extended ≡ true → heard new ≡ heard old))
+    pub moves : OnOk result (HasBegun new.read_phase × (old.at ≤ new.at))
+    pub left : OnOk result (HasFewerOn old new)
+    pub stopped : (v : View) → SpansAt old v → OnErr result (IsPrefixOf old new v)
+    pub script : b.script new.log.body ≡ b.script old.log.body
+    pub ty : new.log.ty ≡ old.log.ty
+
+  -- c is what the trait of the pass says
+  module _ {C : Type 0} (c : cells.Ghosts C T) where
+    -- the next event was made, and what it tells
+    abbrev pub MakesNext : Attempt T B → Attempt T B → C → C → Result Turn NoMemory → Type 0
+    MakesNext old new here there result = Steps (c.passes here) old.read_phase (event_of old) old new (c.view here) (c.view there) result
+
+    -- the clock was loaded, and the body was run up to the next event
+    pub record HasStarted (old new : Attempt T B) (here there : C) (result : Result Turn NoMemory) : Type 0 where
+      pub event : OneEvent (λ e. e ≡ Start) t.valid (c.passes here) (c.view here) (c.view there)
+      pub log : OnOk result (IsLogOf old new)
+      pub turned : IfOk result (HasTurned old new (c.view there))
+      pub grown : OnOk result (HasGrown old new)
+      pub extension : new.extension ≡ old.extension
+      pub moves : OnOk result (HasBegun new.read_phase × (new.at ≡ (c.view there).at))
+      pub left : OnOk result (HasFewer Unstarted old new)
+      -- it is never aborted
+      pub alone : IfOk result (λ turn. IsFirst new.read_phase × IsUnaborted turn)
+      pub err : OnErr result (HasStopped old new (c.view there))
+      pub script : b.script new.log.body ≡ b.script old.log.body
+      pub ty : new.log.ty ≡ old.log.ty
+      pub same : c.same here there
+
+    -- one event was made at a read phase, and the body was run up to the next one; also after want of memory the replies are a prefix
+    pub record HasStepped (read_phase : ReadPhase) (e : Event) (old new : Attempt T B) (here there : C) (result : Result Turn NoMemory) : Type 0 where
+      pub steps : Steps (c.passes here) read_phase e old new (c.view here) (c.view there) result
+      pub stopped : OnErr result (IsPrefixOf old new (c.view there))
+      pub same : c.same here there
+
+    -- one word more was read of the part that is being read
+    pub record HasReadWord (read_phase : ReadPhase) (part : ℕ) (old new : Attempt T B) (here there : C) (result : Result Turn NoMemory) : Type 0 where
+      pub event : OneEvent (λ e. e ≡ Word part (length old.words.items)) t.valid (c.passes here) (c.view here) (c.view there)
+      pub turned : IfOk result (HasTurned old new (c.view there))
+      pub moves : OnOk result (HasBegun new.read_phase × (new.at ≡ old.at))
+      pub left : OnOk result (HasFewer read_phase old new)
+      pub alone : IfOk result (λ turn. (IsFirst read_phase → IsFirst new.read_phase) × IsUnaborted turn)
+      pub err : OnErr result (HasStopped old new (c.view there))
+      pub one : IfOk result (λ turn. turn ≡ More) × OnOk result (words_left new + 1 ≡ words_left old)
+      pub longer : OnOk result (length new.words.items ≡ length old.words.items + 1)
+      pub log : new.log ≡ old.log
+      pub extension : new.extension ≡ old.extension
+      pub same : c.same here there
+
   -- what the commit of an attempt with these lists is to do
   abbrev pub deal_with : Attempt T B → Lists → Deal
   deal_with a l =
       deal (t.meaning a.log.ty.now) t.valid (t.sizes a.log.ty.now) (b.script a.log.body) a.at a.log.base.items a.log.set.items (heard a)
       l.updates.items l.seen.items l.loaded.items l.tasks.items l.checks.items l.places.items
+
+  -- the lists of its commit, with room for what the commit finds and loads; and the predicates that it tests, where they were sorted
+  pub record IsStocked (a : Attempt T B) (l : Lists) (words : Listed LoadedWord) (sorted : Option (List Pred)) : Type 0 where
+    pub planned : IsPlanned (deal_with a l)
+    pub left : commit_left (deal_with a l) (Locking 0) ≤ left_committing (t.meaning a.log.ty.now).widths
+    pub updates : l.updates.items ≡ a.log.set.updates
+    pub unfound : l.found_tickets.items ≡ []
+    pub room : length l.updates.items + length l.tasks.items ≤ l.found_tickets.spare
+    pub unloaded : words.items ≡ []
+    pub space : HasSpace (t.meaning a.log.ty.now).widths l.tasks.items 0 0 words
+    pub predicates : IfSome sorted (ArePredsOf a.log.set.items)

@@ -1,17 +1,34 @@
 -- A commit on its pass, before an event and after it.
-use Rattle.std.specs.Prelude.{◌≡◌, ◌<◌, ◌⊎◌, ℕ, Option, None, map}
+use Rattle.std.specs.Prelude.{◌≡◌, ◌≤◌, ◌<◌, ◌⊎◌, ℕ, Option, None, map, slice_index_or}
 use Rattle.sto_model.specs.Told.{told}
 use Rattle.sto_core.specs.declared.view.View.{View}
+use Rattle.sto_core.specs.declared.cells.Cells as cells
 use Rattle.sto_attempt_log.specs.declared.commit_phase.CommitPhase.{CommitPhase}
+use Rattle.sto_attempt_log.specs.declared.commit_phase.CommitPhase.TheVariants.{Locking, Loading, Testing, Tested}
 use Rattle.sto_attempt_log.specs.declared.verdict.Verdict.{Verdict}
 use Rattle.sto_type.specs.Traits.{OfType}
 use Rattle.sto_model.specs.Bodies.{OfBody}
+use Rattle.sto_attempt.specs.declared.attempt.Attempt.{Attempt}
 use Rattle.sto_attempt.specs.declared.ready.Ready.{Ready}
+use Rattle.sto_attempt.specs.Attempts.{FitsAt}
+use Rattle.sto_attempt_log.specs.declared.read_phase.ReadPhase.TheVariants.{Committing}
+use Rattle.sto_attempt_log.specs.Bounds.{left_committing}
 use Rattle.sto_attempt_log.specs.Answers.{OneEvent, IsCommitEvent, IsPrefix}
 use Rattle.sto_attempt_log.specs.Remaining.{commit_left}
 use Rattle.sto_attempt_log.specs.Verdicts.{ComesTo, HasReason, IsUndisturbed}
 use Rattle.sto_attempt_log.specs.CommitPhases.{Deal, deal, Stands, Said, EndsBy, SpaceAt}
-use Rattle.sto_attempt.specs.declared.ready.Ready.{Ready}
+
+-- all but the phase is as it was
+abbrev pub MovesOnly : {T B : Type 0} → Ready T B → Ready T B → Type 0
+MovesOnly r s = s ≡ record r { commit_phase = s.commit_phase }
+
+-- what the event of a phase leaves as it was: a lock or a test adds what it found, a load or a test what it has read, and no other event adds to either
+abbrev pub KeepsAt : {T B : Type 0} → CommitPhase → Ready T B → Ready T B → Type 0
+KeepsAt (Locking k) r s = s ≡ record r { found_tickets = s.found_tickets; commit_phase = s.commit_phase }
+KeepsAt (Loading k i) r s = s ≡ record r { loaded_words = s.loaded_words; commit_phase = s.commit_phase }
+KeepsAt (Testing k) r s = s ≡ record r { found_tickets = s.found_tickets; commit_phase = s.commit_phase }
+KeepsAt (Tested k i n) r s = s ≡ record r { loaded_words = s.loaded_words; commit_phase = s.commit_phase }
+KeepsAt _ r s = MovesOnly r s
 
 -- t and b are what the traits of the type and of the body say
 module _ {T B : Type 0} (t : OfType T) (b : OfBody B) where
@@ -42,6 +59,33 @@ module _ {T B : Type 0} (t : OfType T) (b : OfBody B) where
     pub by : EndsBy v.phase verdict
     pub kept : s ≡ record r { found_tickets = s.found_tickets; loaded_words = s.loaded_words; commit_phase = s.commit_phase }
 
+  -- the commit of an attempt, with all memory that it takes
+  pub record IsSealed (a : Attempt T B) (r : Ready T B) : Type 0 where
+    -- it stands to the view of the pass as the attempt does
+    pub before : (v : View) → FitsAt t b Committing a v → IsBefore r.commit_phase r v
+    pub space : SpaceAt (t.meaning r.log.ty.now).widths r.tasks.items r.loaded_words r.commit_phase
+    pub copy : r.log.set.updates ≡ r.updates.items
+    pub log : r.log ≡ a.log
+    pub at : r.at ≡ a.at
+    pub left : commit_left (deal_of r) r.commit_phase ≤ left_committing (t.meaning a.log.ty.now).widths
+    pub undisturbed : IsUndisturbed r.at r.found_tickets.items None r.commit_phase
+
   -- the replies are the first ones of the body's serial run on all valid contents that have the attempt's claims
   abbrev pub HasPrefix : Ready T B → View → Type 0
   HasPrefix r v = IsPrefix (t.meaning r.log.ty.now) (b.script r.log.body) v r.at (map told r.log.replies.items)
+
+  -- how many words the part at a place of the tasks has
+  abbrev pub task_width : Ready T B → ℕ → ℕ
+  task_width r place = slice_index_or (t.meaning r.log.ty.now).widths (slice_index_or r.tasks.items place 0) 0
+
+  -- c is what the trait of the pass says
+  module _ {C : Type 0} (c : cells.Ghosts C T) where
+    -- the next event was made, and what it tells
+    abbrev pub AdvancesNext : Ready T B → Ready T B → C → C → Option Verdict → Type 0
+    AdvancesNext r s here there verdict = Advances (c.passes here) r.commit_phase r s (c.view here) (c.view there) verdict
+
+    -- one event of this phase has led from r and one state of the pass to s and the other, and nothing else was changed
+    pub record HasAdvanced (commit_phase : CommitPhase) (r s : Ready T B) (here there : C) (verdict : Option Verdict) : Type 0 where
+      pub advances : Advances (c.passes here) commit_phase r s (c.view here) (c.view there) verdict
+      pub kept : KeepsAt commit_phase r s
+      pub same : c.same here there

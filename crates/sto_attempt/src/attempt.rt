@@ -1,19 +1,12 @@
 //! One attempt of a transaction.
-ghost use Rattle.std.specs.Prelude.{◌≡◌, ◌<◌, ◌≤◌, ◌+◌, ◌-◌, ◌^◌, length, drop, slice_index_or, [], ℕ, ℤ, List, map, true, false, Ok, OnOk, OnErr, IfOk, IsTrue, ◌↔◌};
+ghost use Rattle.std.specs.Prelude.{◌≡◌, ◌<◌, ◌+◌, ◌^◌, length, [], ℕ, Ok, OnOk, IfOk, IsTrue, ◌↔◌};
 ghost use Rattle.sto_model.specs.declared.call.Call.{Call};
-ghost use Rattle.sto_core.specs.Event.{Start, Open, Word, Close, Renew, Recheck};
+ghost use Rattle.sto_core.specs.Event.{Open, Close, Renew, Recheck};
 ghost use Rattle.sto_core.specs.declared.view.View.{View};
-ghost use Rattle.sto_core.specs.declared.view.Phase.{Phase};
-ghost use Rattle.sto_item.specs.Observed.{Watched, IsObserved};
-ghost use Rattle.sto_item.specs.Watched.{watched};
-ghost use Rattle.sto_type.specs.Known.{IsPartOf};
-ghost use Rattle.sto_attempt_log.specs.ReadSet.{words_in, IsTrueIn, AllTrueIn};
-ghost use Rattle.sto_attempt_log.specs.Log.{IsOnLog};
-ghost use Rattle.sto_attempt_log.specs.Answers.{OneEvent};
-ghost use Rattle.sto_attempt_log.specs.Bounds.{bound, words_of, left_extending, left_renewing, events_left};
-ghost use Rattle.sto_attempt_log.specs.Reasons.{IsCaused};
-ghost use Rattle.sto_attempt_log.specs.Standing.{HasBegun, IsFirst, IsUnaborted, IsRenewed};
-ghost use Rattle.sto_attempt.specs.Attempts.{IsLogOf, IsOwnLog, IsUnderWay, Steps, FitsAt, SpansAt, HasTurned, HasGrown, left_of, HasFewer, event_of, IsPrefixOf, HasStopped, heard, words_left};
+ghost use Rattle.sto_attempt_log.specs.declared.read_phase.ReadPhase.TheVariants.{Unstarted, Opening, Reading, Renewing, Rechecking, Reopening, Rereading};
+ghost use Rattle.sto_attempt_log.specs.declared.verdict.Turn.TheVariants.{More};
+ghost use Rattle.sto_attempt_log.specs.ReadSet.{IsTrueIn, AllTrueIn};
+ghost use Rattle.sto_attempt.specs.Attempts.{IsNew, IsOwnLog, IsUnderWay, IsPrefixOf, FitsAt, IsExtending, HasGoneOn, MakesNext, HasStarted, HasStepped, HasReadWord, part_width, words_left};
 
 use std::alloc::Global;
 use std::mem;
@@ -50,17 +43,7 @@ impl<'t, T: TxType, B: Body> Attempt<'t, T, B> {
     #[inline(always)]
     pub fn new(alloc: Global, ty: &'t T, body: B, memory: Memory) -> Attempt<'t, T, B>
         requires { (call : Call) → B.may_ask body call → (T.meaning ty.now).takes call }
-        ensures ty { result.log.ty.now ≡ ty.now }
-        ensures script { B.script result.log.body ≡ B.script body }
-        ensures left { B.left result.log.body ≡ B.left_at_reset body }
-        ensures none { result.log.base.items ≡ [] }
-        ensures fresh { result.extension.extended ≡ false }
-        ensures read_phase { result.read_phase ≡ ReadPhase.Unstarted }
-        ensures events { events_left (B.left result.log.body) (T.meaning ty.now).widths result.read_phase result.words.items
-            result.extension result.log.base.items ≤ bound (B.left_at_reset body) (length (T.meaning ty.now).widths)
-            (words_of (T.meaning ty.now).widths) }
-        ensures log { IsOnLog (T.meaning ty.now) (B.then result.log.body) (B.script body) (B.left result.log.body)
-            (B.may_ask result.log.body) result.log.base.items result.log.set result.log.cache result.log.replies.items }
+        ensures { IsNew T.TxType B.Body ty.now body result }
     {
         let mut body = body;
         body.reset();
@@ -127,8 +110,7 @@ impl<'t, T: TxType, B: Body> Attempt<'t, T, B> {
     /// steps, with its view as they left it. After `NoMemory` the attempt has ended: the pass holds nothing and may start again.
     pub fn step<C: Cells<T>>(&mut self, alloc: Global, cells: &mut C) -> Result<Turn, NoMemory>
         requires { IsUnderWay T.TxType B.Body self.old.read_phase self.old (C.view cells.old) }
-        ensures steps { Steps T.TxType B.Body (C.passes cells.old) self.old.read_phase (event_of T.TxType B.Body self.old)
-            self.old self.new (C.view cells.old) (C.view cells.new) result }
+        ensures steps { MakesNext T.TxType B.Body C.Cells self.old self.new cells.old cells.new result }
         // The replies are the first ones of the body's serial run on contents that have the claims.
         ensures prefix { IsPrefixOf T.TxType B.Body self.old self.new (C.view cells.new) }
         ensures same { C.same cells.old cells.new }
@@ -175,10 +157,9 @@ impl<'t, T: TxType, B: Body> Attempt<'t, T, B> {
         requires before { IsUnderWay T.TxType B.Body self.old.read_phase self.old (C.view cells.old) }
         requires more { 0 < words_left T.TxType B.Body self.old }
         requires few { length self.old.words.items + 1 < 2 ^ 32 }
-        ensures steps { Steps T.TxType B.Body (C.passes cells.old) self.old.read_phase (event_of T.TxType B.Body self.old)
-            self.old self.new (C.view cells.old) (C.view cells.new) result }
+        ensures steps { MakesNext T.TxType B.Body C.Cells self.old self.new cells.old cells.new result }
         ensures prefix { IsPrefixOf T.TxType B.Body self.old self.new (C.view cells.new) }
-        ensures one { IfOk result (λ turn. turn ≡ Turn.More)
+        ensures one { IfOk result (λ turn. turn ≡ More)
             × OnOk result (words_left T.TxType B.Body self.new + 1 ≡ words_left T.TxType B.Body self.old) }
         ensures longer { OnOk result (length self.new.words.items ≡ length self.old.words.items + 1) }
         ensures same { C.same cells.old cells.new }
@@ -192,19 +173,8 @@ impl<'t, T: TxType, B: Body> Attempt<'t, T, B> {
 
     /// Makes the first event: loads the clock, and runs the body up to the next event. It is never aborted.
     pub fn begin<C: Cells<T>>(&mut self, alloc: Global, cells: &mut C) -> Result<Turn, NoMemory>
-        requires { IsUnderWay T.TxType B.Body ReadPhase.Unstarted self.old (C.view cells.old) }
-        ensures log { OnOk result (IsLogOf T.TxType B.Body self.old self.new) }
-        ensures turned { IfOk result (HasTurned T.TxType B.Body self.old self.new (C.view cells.new)) }
-        ensures grown { OnOk result (HasGrown T.TxType B.Body self.old self.new) }
-        ensures extension { self.new.extension ≡ self.old.extension }
-        ensures moves { OnOk result (HasBegun self.new.read_phase × (self.new.at ≡ (C.view cells.new).at)) }
-        ensures left { OnOk result (HasFewer T.TxType B.Body ReadPhase.Unstarted self.old self.new) }
-        ensures alone { IfOk result (λ turn. IsFirst self.new.read_phase × IsUnaborted turn) }
-        ensures event { OneEvent (λ e. e ≡ Start) T.valid (C.passes cells.old) (C.view cells.old) (C.view cells.new) }
-        ensures err { OnErr result (HasStopped T.TxType B.Body self.old self.new (C.view cells.new)) }
-        ensures script { B.script self.new.log.body ≡ B.script self.old.log.body }
-        ensures ty { self.new.log.ty ≡ self.old.log.ty }
-        ensures same { C.same cells.old cells.new }
+        requires { IsUnderWay T.TxType B.Body Unstarted self.old (C.view cells.old) }
+        ensures { HasStarted T.TxType B.Body C.Cells self.old self.new cells.old cells.new result }
     {
         let at = cells.start();
         self.at = at;
@@ -216,12 +186,10 @@ impl<'t, T: TxType, B: Body> Attempt<'t, T, B> {
 
     // Begins the read of a needed part.
     fn open<C: Cells<T>>(&mut self, alloc: Global, cells: &mut C, part: u32) -> Turn
-        requires { IsUnderWay T.TxType B.Body (ReadPhase.Opening part) self.old (C.view cells.old) }
-        ensures steps { Steps T.TxType B.Body (C.passes cells.old) (ReadPhase.Opening part) (Open part)
-            self.old self.new (C.view cells.old) (C.view cells.new) (Ok result) }
+        requires { IsUnderWay T.TxType B.Body (Opening part) self.old (C.view cells.old) }
+        ensures made { HasStepped T.TxType B.Body C.Cells (Opening part) (Open part) self.old self.new cells.old cells.new (Ok result) }
         ensures log { self.new.log ≡ self.old.log }
         ensures extension { self.new.extension ≡ self.old.extension }
-        ensures same { C.same cells.old cells.new }
     {
         let found = cells.open(part);
         if found.is_locked() {
@@ -248,23 +216,11 @@ impl<'t, T: TxType, B: Body> Attempt<'t, T, B> {
 
     // Reads the next word of the part.
     fn word<C: Cells<T>>(&mut self, cells: &mut C, part: u32, ticket: u64) -> Result<Turn, NoMemory>
-        requires before { IsUnderWay T.TxType B.Body (ReadPhase.Reading part ticket) self.old (C.view cells.old) }
-        requires read_phase { self.old.read_phase ≡ ReadPhase.Reading part ticket }
-        requires more { length self.old.words.items < slice_index_or (T.meaning self.old.log.ty.now).widths part 0 }
+        requires before { IsUnderWay T.TxType B.Body (Reading part ticket) self.old (C.view cells.old) }
+        requires read_phase { self.old.read_phase ≡ Reading part ticket }
+        requires more { length self.old.words.items < part_width T.TxType B.Body self.old part }
         requires few { length self.old.words.items + 1 < 2 ^ 32 }
-        ensures turned { IfOk result (HasTurned T.TxType B.Body self.old self.new (C.view cells.new)) }
-        ensures extension { self.new.extension ≡ self.old.extension }
-        ensures moves { OnOk result (HasBegun self.new.read_phase × (self.new.at ≡ self.old.at)) }
-        ensures left { OnOk result (HasFewer T.TxType B.Body (ReadPhase.Reading part ticket) self.old self.new) }
-        ensures alone { IfOk result (λ turn. IsFirst self.new.read_phase × IsUnaborted turn) }
-        ensures event { OneEvent (λ e. e ≡ Word part (length self.old.words.items)) T.valid (C.passes cells.old) (C.view cells.old)
-            (C.view cells.new) }
-        ensures log { self.new.log ≡ self.old.log }
-        ensures err { OnErr result (HasStopped T.TxType B.Body self.old self.new (C.view cells.new)) }
-        ensures one { IfOk result (λ turn. turn ≡ Turn.More)
-            × OnOk result (words_left T.TxType B.Body self.new + 1 ≡ words_left T.TxType B.Body self.old) }
-        ensures longer { OnOk result (length self.new.words.items ≡ length self.old.words.items + 1) }
-        ensures same { C.same cells.old cells.new }
+        ensures { HasReadWord T.TxType B.Body C.Cells (Reading part ticket) part self.old self.new cells.old cells.new result }
     {
         let value = cells.word(part, self.words.len());
         self.words.push(value)?;
@@ -279,22 +235,10 @@ impl<'t, T: TxType, B: Body> Attempt<'t, T, B> {
         part: u32,
         ticket: u64,
     ) -> Result<Turn, NoMemory>
-        requires before { IsUnderWay T.TxType B.Body (ReadPhase.Reading part ticket) self.old (C.view cells.old) }
-        requires all { length self.old.words.items ≡ slice_index_or (T.meaning self.old.log.ty.now).widths part 0 }
-        ensures log { OnOk result (IsLogOf T.TxType B.Body self.old self.new) }
-        ensures turned { IfOk result (HasTurned T.TxType B.Body self.old self.new (C.view cells.new)) }
-        ensures reason { IfOk result (λ turn. IsCaused (Close part) self.new.log.set.items (C.view cells.new) self.old.extension turn) }
-        ensures grown { OnOk result (HasGrown T.TxType B.Body self.old self.new) }
-        ensures renewed { OnOk result ((self.new.extension.bound ≡ self.old.extension.bound)
-            × (self.new.extension.extended ≡ true → (self.old.extension.extended ≡ true) × (heard self.new ≡ heard self.old))) }
-        ensures moves { OnOk result (HasBegun self.new.read_phase × (self.new.at ≡ self.old.at)) }
-        ensures left { OnOk result (HasFewer T.TxType B.Body (ReadPhase.Reading part ticket) self.old self.new) }
-        ensures alone { C.passes cells.old ≡ 1 → IfOk result (λ turn. IsFirst self.new.read_phase × IsUnaborted turn) }
-        ensures event { OneEvent (λ e. e ≡ Close part) T.valid (C.passes cells.old) (C.view cells.old) (C.view cells.new) }
-        ensures err { OnErr result (HasStopped T.TxType B.Body self.old self.new (C.view cells.new)) }
-        ensures script { B.script self.new.log.body ≡ B.script self.old.log.body }
-        ensures ty { self.new.log.ty ≡ self.old.log.ty }
-        ensures same { C.same cells.old cells.new }
+        requires before { IsUnderWay T.TxType B.Body (Reading part ticket) self.old (C.view cells.old) }
+        requires all { length self.old.words.items ≡ part_width T.TxType B.Body self.old part }
+        ensures made { HasStepped T.TxType B.Body C.Cells (Reading part ticket) (Close part) self.old self.new cells.old cells.new result }
+        ensures at { OnOk result (self.new.at ≡ self.old.at) }
     {
         let found = cells.close(part);
         if found.is_locked() {
@@ -335,29 +279,8 @@ impl<'t, T: TxType, B: Body> Attempt<'t, T, B> {
 
     // To the next part that is read anew; where there is none, the needed call is planned on these parts.
     fn advance(&mut self, alloc: Global) -> Result<Turn, NoMemory>
-        requires log { IsOwnLog T.TxType B.Body self.old }
-        requires observed { IsObserved self.old.log.set.items (map watched self.old.extension.watches.items) }
-        requires extended { self.old.extension.extended ≡ true }
-        requires renewed { (left : List Watched) × IsRenewed (length (T.meaning self.old.log.ty.now).widths)
-            (words_in self.old.log.base.items) self.old.extension.fresh.items (map watched self.old.extension.watches.items) left }
-        requires bound { self.old.at ≤ self.old.extension.bound }
-        requires some { (d : List (List ℤ)) × (T.meaning self.old.log.ty.now).valid d × IsPartOf (words_in self.old.log.base.items) d }
-        requires some_new { (d : List (List ℤ)) × (T.meaning self.old.log.ty.now).valid d
-            × IsPartOf (words_in self.old.extension.fresh.items) d }
-        ensures log { OnOk result (IsLogOf T.TxType B.Body self.old self.new) }
-        ensures turned { (v : View) → SpansAt T.TxType B.Body self.old v → v.phase ≡ Phase.Reading
-            → IfOk result (HasTurned T.TxType B.Body self.old self.new v) }
-        ensures unaborted { IfOk result IsUnaborted }
-        ensures grown { OnOk result (HasGrown T.TxType B.Body self.old self.new) }
-        ensures renewed { OnOk result ((self.new.extension.bound ≡ self.old.extension.bound)
-            × (self.new.extension.extended ≡ true → heard self.new ≡ heard self.old)) }
-        ensures moves { OnOk result (HasBegun self.new.read_phase × (self.old.at ≤ self.new.at)) }
-        ensures left { OnOk result (left_of T.TxType B.Body self.old self.new.read_phase self.new
-            < 1 + left_extending (B.left self.old.log.body - 1) (T.meaning self.old.log.ty.now).widths
-            (drop (length self.old.extension.fresh.items) (map watched self.old.extension.watches.items))) }
-        ensures stopped { (v : View) → SpansAt T.TxType B.Body self.old v → OnErr result (IsPrefixOf T.TxType B.Body self.old self.new v) }
-        ensures script { B.script self.new.log.body ≡ B.script self.old.log.body }
-        ensures ty { self.new.log.ty ≡ self.old.log.ty }
+        requires { IsExtending T.TxType B.Body self.old }
+        ensures { HasGoneOn T.TxType B.Body self.old self.new result }
     {
         let place = self.extension.fresh.len();
         if place < self.extension.watches.len() {
@@ -384,22 +307,10 @@ impl<'t, T: TxType, B: Body> Attempt<'t, T, B> {
 
     // Loads the clock again, and begins to read anew what was observed.
     fn renew<C: Cells<T>>(&mut self, alloc: Global, cells: &mut C) -> Result<Turn, NoMemory>
-        requires fits { (p : ℕ) × (t : ℕ) × FitsAt T.TxType B.Body (ReadPhase.Renewing p t) self.old (C.view cells.old) }
+        requires fits { (p : ℕ) × (t : ℕ) × FitsAt T.TxType B.Body (Renewing p t) self.old (C.view cells.old) }
         requires log { IsOwnLog T.TxType B.Body self.old }
-        ensures log { OnOk result (IsLogOf T.TxType B.Body self.old self.new) }
-        ensures turned { IfOk result (HasTurned T.TxType B.Body self.old self.new (C.view cells.new)) }
-        ensures unaborted { IfOk result IsUnaborted }
-        ensures grown { OnOk result (HasGrown T.TxType B.Body self.old self.new) }
-        ensures renewed { OnOk result ((self.new.extension.bound ≡ (C.view cells.new).at)
-            × (self.new.extension.extended ≡ true → heard self.new ≡ heard self.old)) }
-        ensures moves { OnOk result (HasBegun self.new.read_phase × (self.old.at ≤ self.new.at)) }
-        ensures left { OnOk result (left_of T.TxType B.Body self.old self.new.read_phase self.new
-            < left_renewing (B.left self.old.log.body - 1) (T.meaning self.old.log.ty.now).widths) }
-        ensures event { OneEvent (λ e. e ≡ Renew) T.valid (C.passes cells.old) (C.view cells.old) (C.view cells.new) }
-        ensures err { OnErr result (HasStopped T.TxType B.Body self.old self.new (C.view cells.new)) }
-        ensures script { B.script self.new.log.body ≡ B.script self.old.log.body }
-        ensures ty { self.new.log.ty ≡ self.old.log.ty }
-        ensures same { C.same cells.old cells.new }
+        // (whichever part it is for)
+        ensures { HasStepped T.TxType B.Body C.Cells (Renewing 0 0) Renew self.old self.new cells.old cells.new result }
     {
         let bound = cells.renew();
         let watches = self.log.set.observed()?;
@@ -417,20 +328,8 @@ impl<'t, T: TxType, B: Body> Attempt<'t, T, B> {
         cells: &mut C,
         part: u32,
     ) -> Result<Turn, NoMemory>
-        requires { IsUnderWay T.TxType B.Body (ReadPhase.Rechecking part) self.old (C.view cells.old) }
-        ensures log { OnOk result (IsLogOf T.TxType B.Body self.old self.new) }
-        ensures turned { IfOk result (HasTurned T.TxType B.Body self.old self.new (C.view cells.new)) }
-        ensures reason { IfOk result (λ turn. IsCaused (Recheck part) self.new.log.set.items (C.view cells.new) self.old.extension turn) }
-        ensures grown { OnOk result (HasGrown T.TxType B.Body self.old self.new) }
-        ensures renewed { OnOk result ((self.new.extension.bound ≡ self.old.extension.bound)
-            × (self.new.extension.extended ≡ true → (self.old.extension.extended ≡ true) × (heard self.new ≡ heard self.old))) }
-        ensures moves { OnOk result (HasBegun self.new.read_phase × (self.old.at ≤ self.new.at)) }
-        ensures left { OnOk result (HasFewer T.TxType B.Body (ReadPhase.Rechecking part) self.old self.new) }
-        ensures event { OneEvent (λ e. e ≡ Recheck part) T.valid (C.passes cells.old) (C.view cells.old) (C.view cells.new) }
-        ensures err { OnErr result (HasStopped T.TxType B.Body self.old self.new (C.view cells.new)) }
-        ensures script { B.script self.new.log.body ≡ B.script self.old.log.body }
-        ensures ty { self.new.log.ty ≡ self.old.log.ty }
-        ensures same { C.same cells.old cells.new }
+        requires { IsUnderWay T.TxType B.Body (Rechecking part) self.old (C.view cells.old) }
+        ensures { HasStepped T.TxType B.Body C.Cells (Rechecking part) (Recheck part) self.old self.new cells.old cells.new result }
     {
         let Some(read_entry) = self.log.base.find(part) else {
             unreachable!()
@@ -459,12 +358,10 @@ impl<'t, T: TxType, B: Body> Attempt<'t, T, B> {
 
     // Begins the new read of a part that has predicates only.
     fn reopen<C: Cells<T>>(&mut self, alloc: Global, cells: &mut C, part: u32) -> Turn
-        requires { IsUnderWay T.TxType B.Body (ReadPhase.Reopening part) self.old (C.view cells.old) }
-        ensures steps { Steps T.TxType B.Body (C.passes cells.old) (ReadPhase.Reopening part) (Open part)
-            self.old self.new (C.view cells.old) (C.view cells.new) (Ok result) }
+        requires { IsUnderWay T.TxType B.Body (Reopening part) self.old (C.view cells.old) }
+        ensures made { HasStepped T.TxType B.Body C.Cells (Reopening part) (Open part) self.old self.new cells.old cells.new (Ok result) }
         ensures log { self.new.log ≡ self.old.log }
         ensures extension { self.new.extension ≡ self.old.extension }
-        ensures same { C.same cells.old cells.new }
     {
         let found = cells.open(part);
         if found.is_locked() {
@@ -492,23 +389,11 @@ impl<'t, T: TxType, B: Body> Attempt<'t, T, B> {
         part: u32,
         ticket: u64,
     ) -> Result<Turn, NoMemory>
-        requires before { IsUnderWay T.TxType B.Body (ReadPhase.Rereading part ticket) self.old (C.view cells.old) }
-        requires read_phase { self.old.read_phase ≡ ReadPhase.Rereading part ticket }
-        requires more { length self.old.words.items < slice_index_or (T.meaning self.old.log.ty.now).widths part 0 }
+        requires before { IsUnderWay T.TxType B.Body (Rereading part ticket) self.old (C.view cells.old) }
+        requires read_phase { self.old.read_phase ≡ Rereading part ticket }
+        requires more { length self.old.words.items < part_width T.TxType B.Body self.old part }
         requires few { length self.old.words.items + 1 < 2 ^ 32 }
-        ensures turned { IfOk result (HasTurned T.TxType B.Body self.old self.new (C.view cells.new)) }
-        ensures unaborted { IfOk result IsUnaborted }
-        ensures extension { self.new.extension ≡ self.old.extension }
-        ensures moves { OnOk result (HasBegun self.new.read_phase × (self.old.at ≤ self.new.at)) }
-        ensures left { OnOk result (HasFewer T.TxType B.Body (ReadPhase.Rereading part ticket) self.old self.new) }
-        ensures event { OneEvent (λ e. e ≡ Word part (length self.old.words.items)) T.valid (C.passes cells.old) (C.view cells.old)
-            (C.view cells.new) }
-        ensures log { self.new.log ≡ self.old.log }
-        ensures err { OnErr result (HasStopped T.TxType B.Body self.old self.new (C.view cells.new)) }
-        ensures one { IfOk result (λ turn. turn ≡ Turn.More)
-            × OnOk result (words_left T.TxType B.Body self.new + 1 ≡ words_left T.TxType B.Body self.old) }
-        ensures longer { OnOk result (length self.new.words.items ≡ length self.old.words.items + 1) }
-        ensures same { C.same cells.old cells.new }
+        ensures { HasReadWord T.TxType B.Body C.Cells (Rereading part ticket) part self.old self.new cells.old cells.new result }
     {
         let value = cells.word(part, self.words.len());
         self.words.push(value)?;
@@ -523,21 +408,9 @@ impl<'t, T: TxType, B: Body> Attempt<'t, T, B> {
         part: u32,
         ticket: u64,
     ) -> Result<Turn, NoMemory>
-        requires before { IsUnderWay T.TxType B.Body (ReadPhase.Rereading part ticket) self.old (C.view cells.old) }
-        requires all { length self.old.words.items ≡ slice_index_or (T.meaning self.old.log.ty.now).widths part 0 }
-        ensures log { OnOk result (IsLogOf T.TxType B.Body self.old self.new) }
-        ensures turned { IfOk result (HasTurned T.TxType B.Body self.old self.new (C.view cells.new)) }
-        ensures reason { IfOk result (λ turn. IsCaused (Close part) self.new.log.set.items (C.view cells.new) self.old.extension turn) }
-        ensures grown { OnOk result (HasGrown T.TxType B.Body self.old self.new) }
-        ensures renewed { OnOk result ((self.new.extension.bound ≡ self.old.extension.bound)
-            × (self.new.extension.extended ≡ true → (self.old.extension.extended ≡ true) × (heard self.new ≡ heard self.old))) }
-        ensures moves { OnOk result (HasBegun self.new.read_phase × (self.old.at ≤ self.new.at)) }
-        ensures left { OnOk result (HasFewer T.TxType B.Body (ReadPhase.Rereading part ticket) self.old self.new) }
-        ensures event { OneEvent (λ e. e ≡ Close part) T.valid (C.passes cells.old) (C.view cells.old) (C.view cells.new) }
-        ensures err { OnErr result (HasStopped T.TxType B.Body self.old self.new (C.view cells.new)) }
-        ensures script { B.script self.new.log.body ≡ B.script self.old.log.body }
-        ensures ty { self.new.log.ty ≡ self.old.log.ty }
-        ensures same { C.same cells.old cells.new }
+        requires before { IsUnderWay T.TxType B.Body (Rereading part ticket) self.old (C.view cells.old) }
+        requires all { length self.old.words.items ≡ part_width T.TxType B.Body self.old part }
+        ensures { HasStepped T.TxType B.Body C.Cells (Rereading part ticket) (Close part) self.old self.new cells.old cells.new result }
     {
         let found = cells.close(part);
         if found.is_locked() {

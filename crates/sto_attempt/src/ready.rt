@@ -1,11 +1,10 @@
 //! The commit of an attempt.
 ghost use Rattle.std.specs.Prelude.{◌≡◌, ◌<◌, ◌≤◌, Some, None, length};
 ghost use Rattle.std.specs.List.{list_all};
-ghost use Rattle.sto_attempt_log.specs.declared.commit_phase.CommitPhase.{CommitPhase};
-ghost use Rattle.sto_attempt_log.specs.declared.verdict.Verdict.{Verdict};
+ghost use Rattle.sto_attempt_log.specs.declared.commit_phase.CommitPhase.TheVariants.{Locking, Loading, Drawing, Checking, Deciding, Putting, Releasing, Dropping, Leaving, Over};
 ghost use Rattle.sto_attempt_log.specs.CommitPhases.{IsAim, IsNextCheck, IsNextPut, is_so, goes_on, expected_of};
 ghost use Rattle.sto_core.specs.Allowed.{Rises};
-ghost use Rattle.sto_attempt.specs.Commits.{IsBefore, Advances, HasPrefix};
+ghost use Rattle.sto_attempt.specs.Commits.{MovesOnly, IsBefore, AdvancesNext, HasAdvanced, HasPrefix};
 
 use sto_attempt_log::{
     CommitPhase, FoundTicket, FoundTickets, Heard, Lists, LoadedWord, LoadedWords, Log, Memory,
@@ -99,8 +98,7 @@ impl<T: TxType, B: Body> Ready<'_, T, B> {
     /// It takes no memory. The pass is that of the earlier steps, with its view as they left it, and no verdict was given yet.
     pub fn step<C: Cells<T>>(&mut self, cells: &mut C) -> Option<Verdict>
         requires { IsBefore T.TxType B.Body self.old.commit_phase self.old (C.view cells.old) }
-        ensures advances { Advances T.TxType B.Body (C.passes cells.old) self.old.commit_phase
-            self.old self.new (C.view cells.old) (C.view cells.new) result }
+        ensures advances { AdvancesNext T.TxType B.Body C.Cells self.old self.new cells.old cells.new result }
         // The replies are still the first ones of the body's serial run on contents that have the claims.
         ensures prefix { HasPrefix T.TxType B.Body self.old (C.view cells.new) }
         ensures same { C.same cells.old cells.new }
@@ -131,11 +129,8 @@ impl<T: TxType, B: Body> Ready<'_, T, B> {
 
     // Locks a written part.
     pub(crate) fn lock<C: Cells<T>>(&mut self, cells: &mut C, place: u32) -> Option<Verdict>
-        requires { IsBefore T.TxType B.Body (CommitPhase.Locking place) self.old (C.view cells.old) }
-        ensures advances { Advances T.TxType B.Body (C.passes cells.old) (CommitPhase.Locking place)
-            self.old self.new (C.view cells.old) (C.view cells.new) result }
-        ensures kept { self.new ≡ record self.old { found_tickets = self.new.found_tickets; commit_phase = self.new.commit_phase } }
-        ensures same { C.same cells.old cells.new }
+        requires { IsBefore T.TxType B.Body (Locking place) self.old (C.view cells.old) }
+        ensures { HasAdvanced T.TxType B.Body C.Cells (Locking place) self.old self.new cells.old cells.new result }
     {
         let part = self.updates.get(place).0;
         let found = cells.lock(part);
@@ -176,11 +171,8 @@ impl<T: TxType, B: Body> Ready<'_, T, B> {
         place: u32,
         word: u32,
     ) -> Option<Verdict>
-        requires { IsBefore T.TxType B.Body (CommitPhase.Loading place word) self.old (C.view cells.old) }
-        ensures advances { Advances T.TxType B.Body (C.passes cells.old) (CommitPhase.Loading place word)
-            self.old self.new (C.view cells.old) (C.view cells.new) result }
-        ensures kept { self.new ≡ record self.old { loaded_words = self.new.loaded_words; commit_phase = self.new.commit_phase } }
-        ensures same { C.same cells.old cells.new }
+        requires { IsBefore T.TxType B.Body (Loading place word) self.old (C.view cells.old) }
+        ensures { HasAdvanced T.TxType B.Body C.Cells (Loading place word) self.old self.new cells.old cells.new result }
     {
         let part = *self.tasks.get(place);
         let width = self.log.ty.width(part);
@@ -214,11 +206,8 @@ impl<T: TxType, B: Body> Ready<'_, T, B> {
 
     // Draws the ticket.
     pub(crate) fn draw<C: Cells<T>>(&mut self, cells: &mut C) -> Option<Verdict>
-        requires { IsBefore T.TxType B.Body CommitPhase.Drawing self.old (C.view cells.old) }
-        ensures advances { Advances T.TxType B.Body (C.passes cells.old) CommitPhase.Drawing
-            self.old self.new (C.view cells.old) (C.view cells.new) result }
-        ensures kept { self.new ≡ record self.old { commit_phase = self.new.commit_phase } }
-        ensures same { C.same cells.old cells.new }
+        requires { IsBefore T.TxType B.Body Drawing self.old (C.view cells.old) }
+        ensures { HasAdvanced T.TxType B.Body C.Cells Drawing self.old self.new cells.old cells.new result }
     {
         let ticket = cells.draw(&self.updates, &self.seen, &self.loaded);
         self.commit_phase = self.next_check(0, ticket);
@@ -244,11 +233,8 @@ impl<T: TxType, B: Body> Ready<'_, T, B> {
         place: u32,
         ticket: u64,
     ) -> Option<Verdict>
-        requires { IsBefore T.TxType B.Body (CommitPhase.Checking place ticket) self.old (C.view cells.old) }
-        ensures advances { Advances T.TxType B.Body (C.passes cells.old) (CommitPhase.Checking place ticket)
-            self.old self.new (C.view cells.old) (C.view cells.new) result }
-        ensures kept { self.new ≡ record self.old { commit_phase = self.new.commit_phase } }
-        ensures same { C.same cells.old cells.new }
+        requires { IsBefore T.TxType B.Body (Checking place ticket) self.old (C.view cells.old) }
+        ensures { HasAdvanced T.TxType B.Body C.Cells (Checking place ticket) self.old self.new cells.old cells.new result }
     {
         let part = *self.checks.get(place);
         let found = cells.check(part);
@@ -305,11 +291,8 @@ impl<T: TxType, B: Body> Ready<'_, T, B> {
         ticket: u64,
         verdict: Verdict,
     ) -> Option<Verdict>
-        requires { IsBefore T.TxType B.Body (CommitPhase.Dropping ticket verdict) self.old (C.view cells.old) }
-        ensures advances { Advances T.TxType B.Body (C.passes cells.old) (CommitPhase.Dropping ticket verdict)
-            self.old self.new (C.view cells.old) (C.view cells.new) result }
-        ensures kept { self.new ≡ record self.old { commit_phase = self.new.commit_phase } }
-        ensures same { C.same cells.old cells.new }
+        requires { IsBefore T.TxType B.Body (Dropping ticket verdict) self.old (C.view cells.old) }
+        ensures { HasAdvanced T.TxType B.Body C.Cells (Dropping ticket verdict) self.old self.new cells.old cells.new result }
     {
         cells.decide(false);
         self.commit_phase = CommitPhase::Leaving {
@@ -322,11 +305,8 @@ impl<T: TxType, B: Body> Ready<'_, T, B> {
 
     // Commits the entry.
     pub(crate) fn commit<C: Cells<T>>(&mut self, cells: &mut C, ticket: u64) -> Option<Verdict>
-        requires { IsBefore T.TxType B.Body (CommitPhase.Deciding ticket) self.old (C.view cells.old) }
-        ensures advances { Advances T.TxType B.Body (C.passes cells.old) (CommitPhase.Deciding ticket)
-            self.old self.new (C.view cells.old) (C.view cells.new) result }
-        ensures kept { self.new ≡ record self.old { commit_phase = self.new.commit_phase } }
-        ensures same { C.same cells.old cells.new }
+        requires { IsBefore T.TxType B.Body (Deciding ticket) self.old (C.view cells.old) }
+        ensures { HasAdvanced T.TxType B.Body C.Cells (Deciding ticket) self.old self.new cells.old cells.new result }
     {
         cells.decide(true);
         self.commit_phase = self.next_put(0, ticket);
@@ -352,11 +332,8 @@ impl<T: TxType, B: Body> Ready<'_, T, B> {
         place: u32,
         ticket: u64,
     ) -> Option<Verdict>
-        requires { IsBefore T.TxType B.Body (CommitPhase.Putting place ticket) self.old (C.view cells.old) }
-        ensures advances { Advances T.TxType B.Body (C.passes cells.old) (CommitPhase.Putting place ticket)
-            self.old self.new (C.view cells.old) (C.view cells.new) result }
-        ensures kept { self.new ≡ record self.old { commit_phase = self.new.commit_phase } }
-        ensures same { C.same cells.old cells.new }
+        requires { IsBefore T.TxType B.Body (Putting place ticket) self.old (C.view cells.old) }
+        ensures { HasAdvanced T.TxType B.Body C.Cells (Putting place ticket) self.old self.new cells.old cells.new result }
     {
         let (part, word) = *self.places.get(place);
         let change = self.log.set.pending(part, word);
@@ -376,11 +353,8 @@ impl<T: TxType, B: Body> Ready<'_, T, B> {
         place: u32,
         ticket: u64,
     ) -> Option<Verdict>
-        requires { IsBefore T.TxType B.Body (CommitPhase.Releasing place ticket) self.old (C.view cells.old) }
-        ensures advances { Advances T.TxType B.Body (C.passes cells.old) (CommitPhase.Releasing place ticket)
-            self.old self.new (C.view cells.old) (C.view cells.new) result }
-        ensures kept { self.new ≡ record self.old { commit_phase = self.new.commit_phase } }
-        ensures same { C.same cells.old cells.new }
+        requires { IsBefore T.TxType B.Body (Releasing place ticket) self.old (C.view cells.old) }
+        ensures { HasAdvanced T.TxType B.Body C.Cells (Releasing place ticket) self.old self.new cells.old cells.new result }
     {
         let part = self.updates.get(place).0;
         cells.release(part);
@@ -398,9 +372,9 @@ impl<T: TxType, B: Body> Ready<'_, T, B> {
 
     // Gives up before the draw, with so many parts locked.
     fn give_up(&mut self, held: u32, verdict: Verdict) -> Option<Verdict>
-        ensures over { held ≡ 0 → (result ≡ Some verdict) × (self.new.commit_phase ≡ CommitPhase.Over) }
-        ensures more { 0 < held → (result ≡ None) × (self.new.commit_phase ≡ CommitPhase.Leaving 0 held verdict) }
-        ensures kept { self.new ≡ record self.old { commit_phase = self.new.commit_phase } }
+        ensures over { held ≡ 0 → (result ≡ Some verdict) × (self.new.commit_phase ≡ Over) }
+        ensures more { 0 < held → (result ≡ None) × (self.new.commit_phase ≡ Leaving 0 held verdict) }
+        ensures kept { MovesOnly self.old self.new }
     {
         if held == 0 {
             self.commit_phase = CommitPhase::Over;
@@ -422,11 +396,8 @@ impl<T: TxType, B: Body> Ready<'_, T, B> {
         end: u32,
         verdict: Verdict,
     ) -> Option<Verdict>
-        requires { IsBefore T.TxType B.Body (CommitPhase.Leaving place end verdict) self.old (C.view cells.old) }
-        ensures advances { Advances T.TxType B.Body (C.passes cells.old) (CommitPhase.Leaving place end verdict)
-            self.old self.new (C.view cells.old) (C.view cells.new) result }
-        ensures kept { self.new ≡ record self.old { commit_phase = self.new.commit_phase } }
-        ensures same { C.same cells.old cells.new }
+        requires { IsBefore T.TxType B.Body (Leaving place end verdict) self.old (C.view cells.old) }
+        ensures { HasAdvanced T.TxType B.Body C.Cells (Leaving place end verdict) self.old self.new cells.old cells.new result }
     {
         let part = self.updates.get(place).0;
         cells.unlock(part);

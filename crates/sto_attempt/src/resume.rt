@@ -1,8 +1,7 @@
 //! An attempt that waits: its body was at its end, and is given more to do.
-ghost use Rattle.std.specs.Prelude.{◌≡◌, OnOk, IfOk};
+ghost use Rattle.std.specs.Prelude.{◌≡◌};
 ghost use Rattle.sto_core.specs.declared.view.View.{View};
-ghost use Rattle.sto_attempt_log.specs.Standing.{HasBegun, IsFirst, IsUnaborted};
-ghost use Rattle.sto_attempt.specs.Attempts.{IsOwnLog, IsLogOf, Waits, HasTurned, HasGrown};
+ghost use Rattle.sto_attempt.specs.Attempts.{IsOwnLog, Waits, HasResumed};
 
 use crate::attempt::Attempt;
 use std::alloc::Global;
@@ -27,15 +26,7 @@ impl<T: TxType, B: Body> Attempt<'_, T, B> {
     pub fn resume(&mut self, alloc: Global) -> Result<Turn, NoMemory>
         requires log { IsOwnLog T.TxType B.Body self.old }
         requires waits { (v : View) × Waits T.TxType B.Body self.old v }
-        ensures log { OnOk result (IsLogOf T.TxType B.Body self.old self.new) }
-        // It stands to the view of the pass as after a step.
-        ensures turned { (v : View) → Waits T.TxType B.Body self.old v → IfOk result (HasTurned T.TxType B.Body self.old self.new v) }
-        ensures grown { OnOk result (HasGrown T.TxType B.Body self.old self.new) }
-        ensures begun { OnOk result (HasBegun self.new.read_phase) }
-        ensures alone { IfOk result (λ turn. IsFirst self.new.read_phase × IsUnaborted turn) }
-        ensures at { self.new.at ≡ self.old.at }
-        ensures script { B.script self.new.log.body ≡ B.script self.old.log.body }
-        ensures ty { self.new.log.ty ≡ self.old.log.ty }
+        ensures { HasResumed T.TxType B.Body self.old self.new result }
     {
         self.extension.extended = false;
         let reached = self.log.go_on(alloc)?;

@@ -1,8 +1,7 @@
 //! The test of a part that a commit loads and does not hold.
-ghost use Rattle.std.specs.Prelude.{◌≡◌, None, ◌<◌, ◌≤◌, slice_index_or};
-ghost use Rattle.sto_attempt_log.specs.declared.commit_phase.CommitPhase.{CommitPhase};
-ghost use Rattle.sto_attempt_log.specs.declared.verdict.Verdict.{Verdict};
-ghost use Rattle.sto_attempt.specs.Commits.{IsBefore, Advances};
+ghost use Rattle.std.specs.Prelude.{◌≡◌, ◌<◌, ◌≤◌};
+ghost use Rattle.sto_attempt_log.specs.declared.commit_phase.CommitPhase.TheVariants.{Testing, Tested};
+ghost use Rattle.sto_attempt.specs.Commits.{IsBefore, HasAdvanced, task_width};
 
 use crate::ready::Ready;
 use sto_attempt_log::{CommitPhase, FoundTicket, LoadedWord, Verdict};
@@ -13,11 +12,8 @@ use sto_type::TxType;
 impl<T: TxType, B: Body> Ready<'_, T, B> {
     // Begins the test of a part.
     pub(crate) fn test<C: Cells<T>>(&mut self, cells: &mut C, place: u32) -> Option<Verdict>
-        requires { IsBefore T.TxType B.Body (CommitPhase.Testing place) self.old (C.view cells.old) }
-        ensures advances { Advances T.TxType B.Body (C.passes cells.old) (CommitPhase.Testing place)
-            self.old self.new (C.view cells.old) (C.view cells.new) result }
-        ensures kept { self.new ≡ record self.old { found_tickets = self.new.found_tickets; commit_phase = self.new.commit_phase } }
-        ensures same { C.same cells.old cells.new }
+        requires { IsBefore T.TxType B.Body (Testing place) self.old (C.view cells.old) }
+        ensures { HasAdvanced T.TxType B.Body C.Cells (Testing place) self.old self.new cells.old cells.new result }
     {
         let part = *self.tasks.get(place);
         let found = cells.test(part);
@@ -48,11 +44,8 @@ impl<T: TxType, B: Body> Ready<'_, T, B> {
         word: u32,
         ticket: u64,
     ) -> Option<Verdict>
-        requires { IsBefore T.TxType B.Body (CommitPhase.Tested place word ticket) self.old (C.view cells.old) }
-        ensures advances { Advances T.TxType B.Body (C.passes cells.old) (CommitPhase.Tested place word ticket)
-            self.old self.new (C.view cells.old) (C.view cells.new) result }
-        ensures kept { self.new ≡ record self.old { loaded_words = self.new.loaded_words; commit_phase = self.new.commit_phase } }
-        ensures same { C.same cells.old cells.new }
+        requires { IsBefore T.TxType B.Body (Tested place word ticket) self.old (C.view cells.old) }
+        ensures { HasAdvanced T.TxType B.Body C.Cells (Tested place word ticket) self.old self.new cells.old cells.new result }
     {
         let width = self.log.ty.width(*self.tasks.get(place));
         if word < width {
@@ -71,13 +64,10 @@ impl<T: TxType, B: Body> Ready<'_, T, B> {
         ticket: u64,
         width: u32,
     ) -> Option<Verdict>
-        requires before { IsBefore T.TxType B.Body (CommitPhase.Tested place word ticket) self.old (C.view cells.old) }
-        requires width { slice_index_or (T.meaning self.old.log.ty.now).widths (slice_index_or self.old.tasks.items place 0) 0 ≡ width }
+        requires before { IsBefore T.TxType B.Body (Tested place word ticket) self.old (C.view cells.old) }
+        requires width { task_width T.TxType B.Body self.old place ≡ width }
         requires more { word < width }
-        ensures advances { Advances T.TxType B.Body (C.passes cells.old) (CommitPhase.Tested place word ticket)
-            self.old self.new (C.view cells.old) (C.view cells.new) result }
-        ensures kept { self.new ≡ record self.old { loaded_words = self.new.loaded_words; commit_phase = self.new.commit_phase } }
-        ensures same { C.same cells.old cells.new }
+        ensures { HasAdvanced T.TxType B.Body C.Cells (Tested place word ticket) self.old self.new cells.old cells.new result }
     {
         let part = *self.tasks.get(place);
         let value = cells.word(part, word);
@@ -99,12 +89,10 @@ impl<T: TxType, B: Body> Ready<'_, T, B> {
         word: u32,
         ticket: u64,
     ) -> Option<Verdict>
-        requires before { IsBefore T.TxType B.Body (CommitPhase.Tested place word ticket) self.old (C.view cells.old) }
-        requires all { slice_index_or (T.meaning self.old.log.ty.now).widths (slice_index_or self.old.tasks.items place 0) 0 ≤ word }
-        ensures advances { Advances T.TxType B.Body (C.passes cells.old) (CommitPhase.Tested place word ticket)
-            self.old self.new (C.view cells.old) (C.view cells.new) result }
-        ensures kept { self.new ≡ record self.old { commit_phase = self.new.commit_phase } }
-        ensures same { C.same cells.old cells.new }
+        requires before { IsBefore T.TxType B.Body (Tested place word ticket) self.old (C.view cells.old) }
+        requires all { task_width T.TxType B.Body self.old place ≤ word }
+        ensures advanced { HasAdvanced T.TxType B.Body C.Cells (Tested place word ticket) self.old self.new cells.old cells.new result }
+        ensures loads { self.new.loaded_words ≡ self.old.loaded_words }
     {
         let part = *self.tasks.get(place);
         let found = cells.close(part);

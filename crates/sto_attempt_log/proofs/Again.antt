@@ -216,7 +216,7 @@ module _ (m : Meaning) (law : IsLawful m) (valid : Validity) (sizes : List ℕ) 
         → Spans m valid sizes at bound base fresh w × (w.phase ≡ P.Looking (record { part = p; ticket = s; reads = numbered 0 (ws ++ x ∷ []) }))
     reread_goes w passes n x t =
         let next_phase : Phase = P.Looking (with_read the_read (length ws) x) in
-        let there : View = record v { phase = next_phase } in
+        let there : View = record v { steps = v.steps + 1; phase = next_phase } in
         let to : w ≡ there = t.after ∙ ap (λ h. read_by h v p (length ws) x) phase in
         let zero_first : 0 + length ws ≡ length ws = omega arith in
         let reads : numbered 0 ws ++ (length ws, x) ∷ [] ≡ numbered 0 (ws ++ x ∷ []) = sym (numbered_more 0 ws x ∙ ap (λ (k : ℕ). numbered 0 ws ++ (k, x) ∷ []) zero_first) in
@@ -251,7 +251,7 @@ module _ (m : Meaning) (law : IsLawful m) (valid : Validity) (sizes : List ℕ) 
         new_claim = record { start = v.starts; number = v.at; part = p; ticket = s; words = words_read (numbered 0 ws) (width_in v p) }
 
         abbrev claimed_view : View
-        claimed_view = record v { findings = (found v p n).findings; wrote = (found v p n).wrote; claims = v.claims ++ new_claim ∷ []; phase = P.Reading }
+        claimed_view = record (found v p n) { claims = v.claims ++ new_claim ∷ []; phase = P.Reading }
 
         to_unclaimed : nat_eq n (2 * s) ≡ false → w ≡ unclaimed
         to_unclaimed e = to_ended ∙ (rw e refl)
@@ -359,8 +359,8 @@ module _ (m : Meaning) (law : IsLawful m) (valid : Validity) (sizes : List ℕ) 
 
             pub reclosed_spans : Spans m valid sizes at bound base (fresh ++ y ∷ []) w × (w.phase ≡ P.Reading)
             reclosed_spans =
-                let there : View = record v { findings = (found v p n).findings; wrote = (found v p n).wrote; claims = v.claims ++ claim_of v bound y ∷ []; phase = P.Reading } in
-                let to : w ≡ there = to_claimed again ∙ ap (λ (c : Claim). record v { findings = (found v p n).findings; wrote = (found v p n).wrote; claims = v.claims ++ c ∷ []; phase = P.Reading }) own_claim in
+                let there : View = record (found v p n) { claims = v.claims ++ claim_of v bound y ∷ []; phase = P.Reading } in
+                let to : w ≡ there = to_claimed again ∙ ap (λ (c : Claim). record (found v p n) { claims = v.claims ++ c ∷ []; phase = P.Reading }) own_claim in
                 let h : Spans m valid sizes at bound base (fresh ++ y ∷ []) there =
                 spans_more m valid sizes at bound base fresh v (found v p n).findings (found v p n).wrote P.Reading y (subst (ClaimsFit valid) to t.fit) (omega (arith, ticket, early)) unread_again spans in
                 let rest : there.phase ≡ P.Reading = refl in

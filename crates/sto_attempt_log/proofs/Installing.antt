@@ -1,5 +1,5 @@
 -- The decision for the commit, and what follows it.
-use Rattle.std.proofs.Common.{◌≡◌, ◌≤◌, ◌<◌, ℕ, zero, suc, ℤ, true, false, Bool, nat_eq, ◌&&◌, ◌||◌, Some, List, [], ◌∷◌, ◌++◌, length, take, drop, map, refl, ap, sym, ◌∙◌, subst, arith, inl, inr, eq-eqb, eqb-true, slice_get, slice_index_or}
+use Rattle.std.proofs.Common.{◌≡◌, ◌+◌, ◌≤◌, ◌<◌, ℕ, zero, suc, ℤ, true, false, Bool, nat_eq, ◌&&◌, ◌||◌, Some, List, [], ◌∷◌, ◌++◌, length, take, drop, map, refl, ap, sym, ◌∙◌, subst, arith, inl, inr, eq-eqb, eqb-true, slice_get, slice_index_or}
 use Rattle.std.proofs.lemmas.Bool.{cases_Bool}
 use Rattle.std.proofs.lemmas.Option.{slice_get-get_or, slice_get_within}
 use Rattle.std.proofs.Math.Seq.{take-length}
@@ -69,10 +69,10 @@ among_settled es x a = (a.0, at es a.0 a.1)
 module _ (d : Deal) (ticket : ℕ) (found_tickets : Listed FoundTicket) (loaded_words : List LoadedWord) (v : View) (n : ℕ) (h : IsCheckingAt d n ticket found_tickets loaded_words v)
     (w : View) (passes found : ℕ) (x : ℤ) (t : Tells d.valid passes (Decide true) v found x w) where
   abbrev won : View
-  won = record v { phase = P.Won ticket []; entries = map (settle_entry true) v.entries }
+  won = record v { steps = v.steps + 1; phase = P.Won ticket []; entries = map (settle_entry true) v.entries }
 
   is_won : w ≡ won
-  is_won = t.after ∙ ap (λ (y : Phase). record v { phase = decided true (own_ticket y); entries = map (settle_entry true) v.entries }) h.phase
+  is_won = t.after ∙ ap (λ (y : Phase). record v { steps = v.steps + 1; phase = decided true (own_ticket y); entries = map (settle_entry true) v.entries }) h.phase
 
   ticket_is : own_ticket v.phase ≡ ticket
   ticket_is = ap own_ticket h.phase
@@ -180,10 +180,10 @@ module _ (d : Deal) (law : IsLawful d.m) (n k ticket : ℕ) (puts : List (ℕ ×
       more = puts ++ (y.0, y.1) ∷ []
 
       abbrev put : View
-      put = record v { phase = P.Won ticket more }
+      put = record v { steps = v.steps + 1; phase = P.Won ticket more }
 
       is_put : w ≡ put
-      is_put = t.after ∙ ap (λ (z : Phase). record v { phase = put_by z y.0 y.1 }) h.phase
+      is_put = t.after ∙ ap (λ (z : Phase). record v { steps = v.steps + 1; phase = put_by z y.0 y.1 }) h.phase
 
       own_put : own_entry put ≡ own_entry v
       own_put = own_same put refl refl

@@ -1,5 +1,5 @@
 -- A commit that gives up.
-use Rattle.std.proofs.Common.{◌≡◌, ◌≢◌, Bool, ◌≤◌, ◌<◌, ℕ, zero, suc, ℤ, true, false, Some, List, [], ◌∷◌, length, take, drop, map, refl, ap, sym, ◌∙◌, subst, arith, inl, inr, slice_get}
+use Rattle.std.proofs.Common.{◌≡◌, ◌+◌, ◌≢◌, Bool, ◌≤◌, ◌<◌, ℕ, zero, suc, ℤ, true, false, Some, List, [], ◌∷◌, length, take, drop, map, refl, ap, sym, ◌∙◌, subst, arith, inl, inr, slice_get}
 use Rattle.std.proofs.lemmas.Option.{slice_get-get_or}
 use mathlib.Core.Option.{some, some-ne-none, some-injective}
 use lib.ListN.{get_elem?}
@@ -179,10 +179,10 @@ module _ (d : Deal) (ticket : ℕ) (verdict : Verdict) (v : View) (h : IsDroppin
 
   module _ (w : View) (passes found : ℕ) (x : ℤ) (t : Tells d.valid passes (Decide false) v found x w) where
     abbrev lost : View
-    lost = record v { phase = P.Lost ticket; entries = map (settle_entry false) v.entries }
+    lost = record v { steps = v.steps + 1; phase = P.Lost ticket; entries = map (settle_entry false) v.entries }
 
     is_lost : w ≡ lost
-    is_lost = t.after ∙ ap (λ (y : Phase). record v { phase = decided false (own_ticket y); entries = map (settle_entry false) v.entries }) h.phase
+    is_lost = t.after ∙ ap (λ (y : Phase). record v { steps = v.steps + 1; phase = decided false (own_ticket y); entries = map (settle_entry false) v.entries }) h.phase
 
     pub drop_goes : IsLeaving d 0 (length d.us) verdict w
     drop_goes =

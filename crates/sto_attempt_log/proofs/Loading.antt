@@ -1,5 +1,5 @@
 -- The loading of a held part.
-use Rattle.std.proofs.Common.{◌≡◌, ◌≤◌, ◌<◌, ℕ, zero, suc, ℤ, true, false, Bool, nat_eq, ◌||◌, Some, List, [], ◌∷◌, ◌++◌, length, take, map, refl, ap, sym, ◌∙◌, subst, arith, inl, inr, slice_index_or, eq-eqb, eqb-true}
+use Rattle.std.proofs.Common.{◌≡◌, ◌+◌, ◌≤◌, ◌<◌, ℕ, zero, suc, ℤ, true, false, Bool, nat_eq, ◌||◌, Some, List, [], ◌∷◌, ◌++◌, length, take, map, refl, ap, sym, ◌∙◌, subst, arith, inl, inr, slice_index_or, eq-eqb, eqb-true}
 use Rattle.std.proofs.lemmas.Bool.{cases_Bool}
 use Rattle.std.proofs.lemmas.Bool.Decides.{nat_tests}
 use Rattle.std.proofs.lemmas.List.{length-map}
@@ -155,7 +155,7 @@ module _ (d : Deal) (law : IsLawful d.m) (n i : ℕ) (found_tickets : Listed Fou
     loaded_words' = loaded_words ++ new ∷ []
 
     abbrev pub read_view : View
-    read_view = record v { held = map (with_held_read (task d n) i x) v.held }
+    read_view = record v { steps = v.steps + 1; held = map (with_held_read (task d n) i x) v.held }
 
     abbrev read : View
     read = read_view

@@ -140,7 +140,7 @@ module _ (d : Deal) (law : IsLawful d.m) (n : ℕ) (found_tickets : Listed Found
       new = record { part = u.0; ticket = ticket_of m }
 
       abbrev won : View
-      won = record v { findings = (found v u.0 m).findings; wrote = (found v u.0 m).wrote; phase = P.Locking; held = v.held ++ one ∷ [] }
+      won = record (found v u.0 m) { phase = P.Locking; held = v.held ++ one ∷ [] }
 
       is_won : w ≡ won
       is_won = t.after ∙ ap (λ (b : Bool). locked_by b (found v u.0 m) u.0 m) free

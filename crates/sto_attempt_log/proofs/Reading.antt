@@ -267,7 +267,7 @@ module _ (m : Meaning) (valid : Validity) (sizes : List ℕ) (f : Script) (at p 
 
   module _ (w : View) (passes n : ℕ) (x : ℤ) (t : Tells valid passes (Word p (length ws)) v n x w) (l : length ws < slice_index_or m.widths p 0) where
     abbrev with_word : View
-    with_word = record v { phase = P.Looking (with_read the_read (length ws) x) }
+    with_word = record v { steps = v.steps + 1; phase = P.Looking (with_read the_read (length ws) x) }
 
     pub word_goes : Fits m valid sizes f at (S.Reading p s) (ws ++ x ∷ []) base es rs w
     word_goes =
@@ -329,9 +329,7 @@ module _ (m : Meaning) (valid : Validity) (sizes : List ℕ) (f : Script) (at p 
     left_unclaimed e = subst IsLeft (sym (is_unclaimed e)) (record { idle = tt; unheld = fits.unheld; decided = fits.decided })
 
     abbrev claimed_now : View
-    claimed_now = record v {
-      findings = (found v p n).findings;
-      wrote = (found v p n).wrote;
+    claimed_now = record (found v p n) {
       claims = v.claims ++ record { start = v.starts; number = v.at; part = p; ticket = s; words = words_read (numbered 0 ws) (width_in v p) } ∷ [];
       phase = P.Reading;
     }
@@ -402,7 +400,7 @@ module _ (m : Meaning) (valid : Validity) (sizes : List ℕ) (f : Script) (at p 
       new_claim = record { start = v.starts; number = v.at; part = p; ticket = s; words = words_read (numbered 0 ws) (width_in v p) }
 
       abbrev claimed_view : View
-      claimed_view = record v { findings = (found v p n).findings; wrote = (found v p n).wrote; claims = v.claims ++ new_claim ∷ []; phase = P.Reading }
+      claimed_view = record (found v p n) { claims = v.claims ++ new_claim ∷ []; phase = P.Reading }
 
       is_claimed : w ≡ claimed_view
       is_claimed = is_ended ∙ (rw again refl)

@@ -58,11 +58,11 @@ module _ (m : Meaning) (valid : Validity) (sizes : List ℕ) (f : Script) (at no
         (subst (λ (y : View). AtRest m valid sizes now y) (sym is) here, subst (λ (y : View). IsClaimed y now s) (sym is) one)
 
     pub recheck_words : is_free n ≡ true → ticket_of n ≡ s.ticket
-        → w ≡ record v { findings = plain_view.findings; wrote = plain_view.wrote; claims = v.claims ++ claim_of v now s ∷ []; phase = v.phase }
+        → w ≡ record plain_view { claims = v.claims ++ claim_of v now s ∷ []; phase = v.phase }
     recheck_words e same =
         let words : words_claimed v s.part n ≡ s.words.items = t.learns.1 (still e same) claim.among.0 (claim_of v at s) claim.among.1 refl (subst (λ (k : ℕ). k ≤ at) (sym same) claim.early) in
         t.after ∙ ap (λ (b : Bool). rechecked_by b plain_view s.part n) (still e same)
-        ∙ (λ i. record v { findings = plain_view.findings; wrote = plain_view.wrote; claims = v.claims ++ record { start = v.starts; number = rest.number i; part = s.part; ticket = same i; words = words i } ∷ []; phase = v.phase })
+        ∙ (λ i. record plain_view { claims = v.claims ++ record { start = v.starts; number = rest.number i; part = s.part; ticket = same i; words = words i } ∷ []; phase = v.phase })
 
     pub recheck_left : IsLeft w
     recheck_left = elim (cases_Bool (is_claimed_still v s.part n)) [

@@ -1,5 +1,5 @@
 -- The events of an extension, by what they tell, with the two numbers that the pass then has.
-use Rattle.std.proofs.Common.{◌≡◌, ◌≤◌, ◌<◌, ℕ, ℤ, true, Some, None, List, [], ◌∷◌, ◌++◌, refl, sym, subst, arith}
+use Rattle.std.proofs.Common.{◌≡◌, ◌+◌, ◌≤◌, ◌<◌, ℕ, ℤ, true, Some, None, List, [], ◌∷◌, ◌++◌, refl, sym, subst, arith}
 use Rattle.sto_item.specs.Pending.{Entry as Update}
 use Rattle.sto_model.specs.Told.{Told}
 use Rattle.sto_model.specs.Run.{Script}
@@ -27,9 +27,9 @@ use Rattle.sto_attempt_log.proofs.Renewing.{was_claimed, recheck_words}
 
 -- what an event leaves that claims nothing
 pub spans_quiet : (m : Meaning) (valid : Validity) (sizes : List ℕ) (at bound : ℕ) (base fresh : List ReadEntry) (v : View) (found : List Finding) (wrote : List Wrote) (phase : Phase)
-    → ClaimsFit valid (record v { findings = found; wrote = wrote; phase = phase }) → Spans m valid sizes at bound base fresh v → Spans m valid sizes at bound base fresh (record v { findings = found; wrote = wrote; phase = phase })
+    → ClaimsFit valid (record v { steps = v.steps + 1; findings = found; wrote = wrote; phase = phase }) → Spans m valid sizes at bound base fresh v → Spans m valid sizes at bound base fresh (record v { steps = v.steps + 1; findings = found; wrote = wrote; phase = phase })
 spans_quiet m valid sizes at bound base fresh v found wrote phase fit h =
-    let w : View = record v { findings = found; wrote = wrote; phase = phase } in
+    let w : View = record v { steps = v.steps + 1; findings = found; wrote = wrote; phase = phase } in
     let old : AreClaimed w at base = claimed_still v w at base refl (λ c h. h) h.claimed in
     let new : AreClaimed w bound fresh = claimed_still v w bound fresh refl (λ c h. h) h.renewed in
     record {
@@ -48,11 +48,11 @@ spans_quiet m valid sizes at bound base fresh v found wrote phase fit h =
 
 -- what one leaves that claims one more part as of the new number
 pub spans_more : (m : Meaning) (valid : Validity) (sizes : List ℕ) (at bound : ℕ) (base fresh : List ReadEntry) (v : View) (found : List Finding) (wrote : List Wrote) (phase : Phase) (x : ReadEntry)
-    → ClaimsFit valid (record v { findings = found; wrote = wrote; claims = v.claims ++ claim_of v bound x ∷ []; phase = phase }) → x.ticket ≤ bound → words_in fresh x.part ≡ None
-    → Spans m valid sizes at bound base fresh v → Spans m valid sizes at bound base (fresh ++ x ∷ []) (record v { findings = found; wrote = wrote; claims = v.claims ++ claim_of v bound x ∷ []; phase = phase })
+    → ClaimsFit valid (record v { steps = v.steps + 1; findings = found; wrote = wrote; claims = v.claims ++ claim_of v bound x ∷ []; phase = phase }) → x.ticket ≤ bound → words_in fresh x.part ≡ None
+    → Spans m valid sizes at bound base fresh v → Spans m valid sizes at bound base (fresh ++ x ∷ []) (record v { steps = v.steps + 1; findings = found; wrote = wrote; claims = v.claims ++ claim_of v bound x ∷ []; phase = phase })
 spans_more m valid sizes at bound base fresh v found wrote phase x fit early unread h =
     let c : Claim = claim_of v bound x in
-    let w : View = record v { findings = found; wrote = wrote; claims = v.claims ++ c ∷ []; phase = phase } in
+    let w : View = record v { steps = v.steps + 1; findings = found; wrote = wrote; claims = v.claims ++ c ∷ []; phase = phase } in
     let old : AreClaimed w at base = claimed_still v w at base refl (λ d h. among_front v.claims c d h) h.claimed in
     let new : AreClaimed w bound fresh = claimed_still v w bound fresh refl (λ d h. among_front v.claims c d h) h.renewed in
     let there : Among (claim_of w bound x) w.claims = among_snoc v.claims c in
@@ -77,7 +77,7 @@ spans_more m valid sizes at bound base fresh v found wrote phase x fit early unr
 pub renew_spans : (m : Meaning) (valid : Validity) (sizes : List ℕ) (f : Script) (at p s : ℕ) (ws : List ℤ) (base : List ReadEntry) (es : List Update) (rs : List Told) (v w : View) (passes n : ℕ) (x : ℤ)
     → Fits m valid sizes f at (S.Renewing p s) ws base es rs v → Tells valid passes Renew v n x w → Spans m valid sizes at n base [] w × (w.phase ≡ P.Reading)
 renew_spans m valid sizes f at p s ws base es rs v w passes n x fits t =
-    let u : View = record v { at = n } in
+    let u : View = record v { steps = v.steps + 1; at = n } in
     let wrote : Among (record { start = v.starts; ticket = s; part = p }) v.wrote = fits.stands.2 in
     let covers : s ≤ n = t.learns.wrote wrote.0 (record { start = v.starts; ticket = s; part = p }) wrote.1 in
     let above : at < n = omega (arith, covers, fits.stands.1) in
@@ -117,7 +117,7 @@ module _ (m : Meaning) (valid : Validity) (sizes : List ℕ) (at bound : ℕ) (b
       pub recheck_spans : is_free n ≡ true → ticket_of n ≡ s.ticket → words_in fresh s.part ≡ None → Spans m valid sizes at bound base (fresh ++ s ∷ []) w × (w.phase ≡ P.Reading)
       recheck_spans free same unread =
           let told = recheck_words m valid sizes f at bound rs v (rests e) s claim passes n x w t free same in
-          let there : View = record v { findings = (found v s.part n).findings; wrote = (found v s.part n).wrote; claims = v.claims ++ claim_of v bound s ∷ []; phase = v.phase } in
+          let there : View = record (found v s.part n) { claims = v.claims ++ claim_of v bound s ∷ [] } in
           let is : w ≡ there = told in
           let early : s.ticket ≤ bound = omega (arith, claim.early, spans.above) in
           let h : Spans m valid sizes at bound base (fresh ++ s ∷ []) there =

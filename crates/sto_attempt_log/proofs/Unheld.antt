@@ -286,7 +286,7 @@ module _ (d : Deal) (law : IsLawful d.m) (n i t : ℕ) (found_tickets : Listed F
     loaded_words' = loaded_words ++ word ∷ []
 
     abbrev read : View
-    read = record v { phase = P.Testing (record { part = r; ticket = t; reads = reads_of loaded_words r ++ (i, x) ∷ [] }) }
+    read = record v { steps = v.steps + 1; phase = P.Testing (record { part = r; ticket = t; reads = reads_of loaded_words r ++ (i, x) ∷ [] }) }
 
     is_read : w ≡ read
     is_read = tells.after ∙ ap (λ (k : Phase). read_by k v r i x) h.phase

@@ -110,10 +110,12 @@ Learns valid passes (Put p i y) v n x w = Unit {0}
 Learns valid passes (Release p) v n x w = Unit {0}
 Learns valid passes (Unlock p) v n x w = Unit {0}
 
--- all that an event tells: that it was allowed, the view after it, the first fact, and the others
+-- all that an event tells: that it was allowed, the view after it, that it is one step, the first fact, and
+-- the others
 pub record Tells (valid : Validity) (passes : ℕ) (e : Event) (v : View) (n : ℕ) (x : ℤ)
     (w : View) : Type 0 where
   pub allowed : Allowed valid e v
   pub after : w ≡ after e v n x
+  pub counts : w.steps ≡ v.steps + 1
   pub fit : ClaimsFit valid w
   pub learns : Learns valid passes e v n x w

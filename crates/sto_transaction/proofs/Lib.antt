@@ -5,3 +5,4 @@ pub mod Ends
 pub mod Steps
 pub mod Counting
 pub mod Tries
+pub mod SomeLeft

@@ -1,5 +1,6 @@
 pub mod Plain
 pub mod Resting
+pub mod Pace
 pub mod Ran
 pub mod Going
 pub mod Machines

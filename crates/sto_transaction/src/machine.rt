@@ -95,6 +95,7 @@ impl<'t, T: TxType, B: Body + Drop> Machine<'t, T, B> {
             → Proceeds T.meaning T.valid T.sizes B.script B.then B.left B.may_ask (C.passes cells.old) ty f self.old begun
             (C.view cells.old) → HasAdvanced T.meaning T.valid T.sizes B.script B.then B.left B.may_ask (C.passes cells.old) ty f result
             self.new begun (C.view cells.new) }
+        ensures some { 0 < machine_left T.meaning T.valid T.sizes B.script B.then B.left B.may_ask self.old }
         ensures left { OnOk result (machine_left T.meaning T.valid T.sizes B.script B.then B.left B.may_ask self.new
             < machine_left T.meaning T.valid T.sizes B.script B.then B.left B.may_ask self.old) }
         ensures same { C.same cells.old cells.new }
@@ -118,6 +119,7 @@ impl<'t, T: TxType, B: Body + Drop> Machine<'t, T, B> {
             → Proceeds T.meaning T.valid T.sizes B.script B.then B.left B.may_ask (C.passes cells.old) ty f self.old begun
             (C.view cells.old) → HasTurned T.meaning T.valid T.sizes B.script B.then B.left B.may_ask (C.passes cells.old) ty f result
             self.new begun (C.view cells.new) }
+        ensures some { 0 < machine_left T.meaning T.valid T.sizes B.script B.then B.left B.may_ask self.old }
         ensures left { OnOk result (machine_left T.meaning T.valid T.sizes B.script B.then B.left B.may_ask self.new
             < machine_left T.meaning T.valid T.sizes B.script B.then B.left B.may_ask self.old) }
         ensures same { C.same cells.old cells.new }

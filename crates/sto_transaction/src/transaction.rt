@@ -1,11 +1,12 @@
 //! One transaction: attempts of a body until one is not aborted.
-ghost use Rattle.std.specs.Prelude.{◌≡◌, ◌<◌, ◌≤◌, map, true, IfOk, OnOk, OnErr};
+ghost use Rattle.std.specs.Prelude.{◌≡◌, ◌<◌, ◌≤◌, ◌+◌, map, true, IfOk, OnOk, OnErr};
 ghost use Rattle.sto_model.specs.declared.call.Call.{Call};
 ghost use Rattle.sto_model.specs.Run.{Script};
 ghost use Rattle.sto_core.specs.declared.view.View.{View};
 ghost use Rattle.sto_attempt_facts.specs.Records.{is_abort};
 ghost use Rattle.sto_transaction.specs.Plain.{plain, verdict};
 ghost use Rattle.sto_transaction.specs.Ran.{HasRun, HasBroken};
+ghost use Rattle.sto_transaction.specs.Pace.{most_steps};
 ghost use Rattle.sto_transaction.specs.Resting.{IsAtRest};
 ghost use Rattle.sto_transaction.specs.Machines.{Proceeds, HasEnded, HasFinished, HasStopped, machine_left};
 
@@ -124,6 +125,7 @@ fn run_attempt<T: TxType, B: Body + Drop, C: Cells<T>, W: AttemptWatch>(
     ensures ended { IfOk result (λ e. HasEnded T.meaning T.valid T.sizes B.script B.then B.left B.may_ask (C.passes cells.old) ty.now
         (B.script body) e (C.view cells.old) (C.view cells.new)) }
     ensures err { OnErr result (HasStopped (T.meaning ty.now) (T.sizes ty.now) (C.view cells.old) (C.view cells.new)) }
+    ensures steps { (C.view cells.new).steps ≤ (C.view cells.old).steps + most_steps (T.meaning ty.now) (B.left_at_reset body) }
     ensures same { C.same cells.old cells.new }
 {
     let mut machine = Machine::new(alloc, ty, body, memory.take());
@@ -145,6 +147,10 @@ fn finish<T: TxType, B: Body + Drop, C: Cells<T>, W: AttemptWatch>(
     ensures ended { (ty : T) (f : Script) (begun : View) → Proceeds T.meaning T.valid T.sizes B.script B.then B.left B.may_ask
         (C.passes cells.old) ty f machine.old begun (C.view cells.old)
         → HasFinished T.meaning T.valid T.sizes B.script B.then B.left B.may_ask (C.passes cells.old) ty f result begun (C.view cells.new) }
+
+    // Its events are no more than were left.
+    ensures steps { (C.view cells.new).steps ≤ (C.view cells.old).steps
+        + machine_left T.meaning T.valid T.sizes B.script B.then B.left B.may_ask machine.old }
     ensures same { C.same cells.old cells.new }
 {
     let mut events: u64 = 0;
@@ -175,6 +181,10 @@ fn read_part<T: TxType, B: Body + Drop, C: Cells<T>, W: AttemptWatch>(
         → OnErr result (HasStopped (T.meaning ty) (T.sizes ty) begun (C.view cells.new)) }
     ensures left { OnOk result (machine_left T.meaning T.valid T.sizes B.script B.then B.left B.may_ask machine.new
         ≤ machine_left T.meaning T.valid T.sizes B.script B.then B.left B.may_ask machine.old) }
+    ensures taken { OnOk result ((C.view cells.new).steps + machine_left T.meaning T.valid T.sizes B.script B.then B.left B.may_ask machine.new
+        ≤ (C.view cells.old).steps + machine_left T.meaning T.valid T.sizes B.script B.then B.left B.may_ask machine.old) }
+    ensures steps { (C.view cells.new).steps ≤ (C.view cells.old).steps
+        + machine_left T.meaning T.valid T.sizes B.script B.then B.left B.may_ask machine.old }
     ensures same { C.same cells.old cells.new }
 {
     match machine {
@@ -201,6 +211,11 @@ fn read_words<T: TxType, B: Body + Drop, C: Cells<T>, W: AttemptWatch>(
         → OnErr result (HasStopped (T.meaning ty) (T.sizes ty) begun (C.view cells.new)) }
     ensures left { OnOk result (machine_left T.meaning T.valid T.sizes B.script B.then B.left B.may_ask (Machine.Running attempt.new)
         ≤ machine_left T.meaning T.valid T.sizes B.script B.then B.left B.may_ask (Machine.Running attempt.old)) }
+    ensures taken { OnOk result ((C.view cells.new).steps
+        + machine_left T.meaning T.valid T.sizes B.script B.then B.left B.may_ask (Machine.Running attempt.new)
+        ≤ (C.view cells.old).steps + machine_left T.meaning T.valid T.sizes B.script B.then B.left B.may_ask (Machine.Running attempt.old)) }
+    ensures steps { (C.view cells.new).steps ≤ (C.view cells.old).steps
+        + machine_left T.meaning T.valid T.sizes B.script B.then B.left B.may_ask (Machine.Running attempt.old) }
     ensures same { C.same cells.old cells.new }
 {
     let mut events = events;

@@ -66,5 +66,6 @@ loop-machine-preserved g c =
           let there = subst (λ (n : ℕ). Proceeds g.T.TxType.meaning g.T.Naming.valid g.T.Naming.sizes g.B.Body.script g.B.Body.then g.B.Body.left g.B.Body.may_ask n ty f c.advance.new.self begun (g.C.Cells.view later)) (sym passes)
           (subst (λ (x : Result (Option Verdict) NoMemory). HasAdvanced g.T.TxType.meaning g.T.Naming.valid g.T.Naming.sizes g.B.Body.script g.B.Body.then g.B.Body.left g.B.Body.may_ask (g.C.Cells.passes here) ty f x c.advance.new.self begun (g.C.Cells.view later)) (c.in_ok-advance.was ∙ ap (λ (p : Option Verdict). Ok p) c.in-None.is) it) in
           subst (λ (n : ℕ). Proceeds g.T.TxType.meaning g.T.Naming.valid g.T.Naming.sizes g.B.Body.script g.B.Body.then g.B.Body.left g.B.Body.may_ask n ty f c.read_part.new.machine begun (g.C.Cells.view last)) (sym kept) (c.in_ok-events-in-None.ensures.proceeds ty f begun there);
+      steps = omega (arith, c.advance.ensures.event.tells.counts, c.in_ok-advance.ensures.left, c.in_ok-events-in-None.ensures.taken, c.loop-machine.invariant.steps);
       same = g.met.C.Cells.same_through first here last c.loop-machine.invariant.same (g.met.C.Cells.same_through here later last c.advance.ensures.same c.read_part.ensures.same);
     }

@@ -66,6 +66,7 @@ loop-preserved g c =
           subst (λ (n : ℕ). Proceeds g.T.TxType.meaning g.T.Naming.valid g.T.Naming.sizes g.B.Body.script g.B.Body.then g.B.Body.left g.B.Body.may_ask n ty f (Running b) begun (g.C.Cells.view later)) (sym passes)
           (read_more g.T.TxType.meaning g.T.Naming.valid g.T.Naming.sizes g.B.Body.script g.B.Body.then g.B.Body.left g.B.Body.may_ask (g.C.Cells.passes here) ty f c.read_word.result (Running b) begun (g.C.Cells.view later) _ c.in_ok-read_word.was c.read_word.ensures.one.0 (turned ty f begun h));
       left = omega (arith, fewer, c.loop.invariant.left);
+      steps = omega (arith, fewer, k.event.tells.counts, c.loop.invariant.steps);
       words = omega (arith, c.in_ok-read_word.ensures.one.1, c.loop.invariant.words);
       long = omega (arith, c.in_ok-read_word.ensures.longer, c.loop.invariant.long);
       same = g.met.C.Cells.same_through first here later c.loop.invariant.same c.read_word.ensures.same;

@@ -15,6 +15,9 @@ invariant-loop g l = record {
       → Proceeds g.T.TxType.meaning g.T.Naming.valid g.T.Naming.sizes g.B.Body.script g.B.Body.then g.B.Body.left g.B.Body.may_ask (g.C.Cells.passes l.fn.cells) ty f (Running l.fn.attempt) begun (g.C.Cells.view l.fn.cells)
       → Proceeds g.T.TxType.meaning g.T.Naming.valid g.T.Naming.sizes g.B.Body.script g.B.Body.then g.B.Body.left g.B.Body.may_ask (g.C.Cells.passes l.cells) ty f (Running l.attempt) begun (g.C.Cells.view l.cells);
   left : machine_left g.T.TxType.meaning g.T.Naming.valid g.T.Naming.sizes g.B.Body.script g.B.Body.then g.B.Body.left g.B.Body.may_ask (Running l.attempt) ≤ machine_left g.T.TxType.meaning g.T.Naming.valid g.T.Naming.sizes g.B.Body.script g.B.Body.then g.B.Body.left g.B.Body.may_ask (Running l.fn.attempt);
+  steps :
+      (g.C.Cells.view l.cells).steps + machine_left g.T.TxType.meaning g.T.Naming.valid g.T.Naming.sizes g.B.Body.script g.B.Body.then g.B.Body.left g.B.Body.may_ask (Running l.attempt)
+      ≤ (g.C.Cells.view l.fn.cells).steps + machine_left g.T.TxType.meaning g.T.Naming.valid g.T.Naming.sizes g.B.Body.script g.B.Body.then g.B.Body.left g.B.Body.may_ask (Running l.fn.attempt);
   words : words_left (of_type g.T.Naming g.T.TxType) g.B.Body l.attempt + l.counter ≡ words_left (of_type g.T.Naming g.T.TxType) g.B.Body l.fn.attempt;
   long : length l.attempt.words.items ≡ length l.fn.attempt.words.items + l.counter;
   same : g.C.Cells.same l.fn.cells l.cells;

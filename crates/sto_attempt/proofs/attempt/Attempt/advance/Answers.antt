@@ -1,4 +1,4 @@
-use Rattle.std.proofs.Common.{◌≡◌, ◌≤◌, Bool, Some, List, ℤ, ℕ, [], ap, sym, ◌∙◌, subst, map, length, arith, refl}
+use Rattle.std.proofs.Common.{◌≡◌, ◌≤◌, Bool, Some, List, ℤ, ℕ, [], ap, sym, ◌∙◌, subst, map, length, arith, refl, rules}
 use Rattle.std.specs.List.{slice_get}
 use Rattle.std.specs.Option.{option_map}
 use Rattle.std.proofs.lemmas.Option.{slice_get-map}
@@ -27,32 +27,6 @@ use Rattle.sto_attempt_log.proofs.Causing.{replies_on, replies_same}
 use Rattle.sto_attempt_log.proofs.Stepping.{led_begun}
 use Rattle.sto_attempt.proofs.attempt.Attempt.advance.Goals as goal
 
-pub returns-then-watch-clause-turned : goal.returns-then-watch-clause-turned
-returns-then-watch-clause-turned g c v spans phase =
-    let a = c.args.self.now in
-    let m = g.T.TxType.meaning a.log.ty.now in
-    let old = words_in a.log.base.items in
-    let fresh = a.extension.fresh.items in
-    let ws = a.extension.watches.items in
-    let w = c.get-watch.result.now in
-    let e : slice_get (map watched ws) (length fresh) ≡ Some (watched w) =
-    slice_get-map watched ws (length fresh) ∙ ap (option_map watched) (ap (slice_get ws) (sym c.len-place.ensures) ∙ c.get-watch.ensures) in
-    let next : IsNext (length m.widths) old fresh (map watched ws) w.seen w.part = ahead (length m.widths) old fresh (map watched ws) c.requires.renewed.0 c.requires.renewed.1 (watched w) e in
-    record { spans = spans; observed = c.requires.observed; extended = c.requires.extended; stands = (phase, subst (λ (b : Bool). IsNext (length m.widths) old fresh (map watched ws) b w.part) c.if-watch.true next) }
-
-pub returns-else-watch-clause-turned : goal.returns-else-watch-clause-turned
-returns-else-watch-clause-turned g c v spans phase =
-    let a = c.args.self.now in
-    let m = g.T.TxType.meaning a.log.ty.now in
-    let old = words_in a.log.base.items in
-    let fresh = a.extension.fresh.items in
-    let ws = a.extension.watches.items in
-    let w = c.get-watch.result.now in
-    let e : slice_get (map watched ws) (length fresh) ≡ Some (watched w) =
-    slice_get-map watched ws (length fresh) ∙ ap (option_map watched) (ap (slice_get ws) (sym c.len-place.ensures) ∙ c.get-watch.ensures) in
-    let next : IsNext (length m.widths) old fresh (map watched ws) w.seen w.part = ahead (length m.widths) old fresh (map watched ws) c.requires.renewed.0 c.requires.renewed.1 (watched w) e in
-    record { spans = spans; observed = c.requires.observed; extended = c.requires.extended; stands = (phase, subst (λ (b : Bool). IsNext (length m.widths) old fresh (map watched ws) b w.part) c.if-watch.false next) }
-
 pub go_on-requires-clause-log : goal.go_on-requires-clause-log
 go_on-requires-clause-log g c =
     let a = c.args.self.now in
@@ -76,69 +50,61 @@ go_on-requires-clause-log g c =
     subst (λ (b : Listed ReadEntry). IsOnLog m (g.B.Body.then a.log.body) f (g.B.Body.left a.log.body) (g.B.Body.may_ask a.log.body) b.items a.log.set c.forget.new.self a.log.replies.items) (sym c.swap.ensures.x_after)
     (subst (λ (k : List (ℕ × List ℤ)). IsOnLog m (g.B.Body.then a.log.body) f (g.B.Body.left a.log.body) (g.B.Body.may_ask a.log.body) fresh a.log.set k a.log.replies.items) (sym c.forget.ensures) h)
 
-pub returns-clause-turned : goal.returns-clause-turned
-returns-clause-turned g c v spans phase =
+pub returns-then-watch : goal.returns-then-watch
+returns-then-watch g c =
     let a = c.args.self.now in
-    let m = g.T.TxType.meaning a.log.ty.now in
-    let sizes = g.T.Naming.sizes a.log.ty.now in
-    let f = g.B.Body.script a.log.body in
-    let bound = a.extension.bound in
-    let made = c.swap.new.x.items in
-    let same : made ≡ a.extension.fresh.items = ap (λ (l : Listed ReadEntry). l.items) c.swap.ensures.x_after in
-    let now : Extension = record { bound = a.extension.bound; extended = c.still-self.result; fresh = c.clear.new.self; watches = a.extension.watches } in
-    let rest = rests m g.T.Naming.valid sizes a.at bound a.log.base.items a.extension.fresh.items f (map told a.log.replies.items) v spans phase in
-    let claimed : AreClaimed v bound made = subst (λ (l : List ReadEntry). AreClaimed v bound l) (sym same) spans.renewed in
-    let only : AreOnly v bound made = subst (λ (l : List ReadEntry). AreOnly v bound l) (sym same) spans.only in
-    let kept : c.go_on.new.self.base.items ≡ made = ap (λ (l : Listed ReadEntry). l.items) c.in_ok-reached.ensures.base in
-    subst (λ (b : List ReadEntry). Turned m g.T.Naming.valid sizes f bound c.lead-read_phase.result.0 a.words.items now b c.go_on.new.self.set.items c.go_on.new.self.set.updates (map told c.go_on.new.self.replies.items) v c.lead-read_phase.result.1) (sym kept)
-    (turned m g.T.Naming.valid sizes f bound a.words.items made c.go_on.new.self.set.items c.go_on.new.self.set.updates (map told c.go_on.new.self.replies.items) v rest claimed only spans.below now (λ e. refl) c.in_ok-reached.ensures.log.log
-    c.in_ok-reached.reached c.lead-read_phase.result.0 c.lead-read_phase.result.1 c.in_ok-reached.ensures.reached c.lead-read_phase.ensures)
+    record {
+      log = search rules;
+      turned = λ v spans phase. (let a = c.args.self.now in
+          let m = g.T.TxType.meaning a.log.ty.now in
+          let old = words_in a.log.base.items in
+          let fresh = a.extension.fresh.items in
+          let ws = a.extension.watches.items in
+          let w = c.get-watch.result.now in
+          let e : slice_get (map watched ws) (length fresh) ≡ Some (watched w) =
+          slice_get-map watched ws (length fresh) ∙ ap (option_map watched) (ap (slice_get ws) (sym c.len-place.ensures) ∙ c.get-watch.ensures) in
+          let next : IsNext (length m.widths) old fresh (map watched ws) w.seen w.part = ahead (length m.widths) old fresh (map watched ws) c.requires.renewed.0 c.requires.renewed.1 (watched w) e in
+          record { spans = spans; observed = c.requires.observed; extended = c.requires.extended; stands = (phase, subst (λ (b : Bool). IsNext (length m.widths) old fresh (map watched ws) b w.part) c.if-watch.true next) });
+      unaborted = search rules;
+      grown = heard_none (g.T.TxType.meaning a.log.ty.now) (g.B.Body.script a.log.body) (words_in a.log.base.items) (map told a.log.replies.items) a.log.set;
+      renewed = search rules;
+      moves = search rules;
+      left = less_next (left_extending (g.B.Body.left a.log.body - 1) (g.T.TxType.meaning a.log.ty.now).widths (drop (length a.extension.fresh.items) (map watched a.extension.watches.items)));
+      stopped = search rules;
+      script = search rules;
+      ty = search rules;
+    }
 
-pub returns-clause-unaborted : goal.returns-clause-unaborted
-returns-clause-unaborted g c = (led_alone c.args.self.now.extension.bound c.go_on.new.self.set.updates c.in_ok-reached.reached c.lead-read_phase.result.0 c.lead-read_phase.result.1 c.lead-read_phase.ensures).1
-
-pub returns-then-watch-clause-left : goal.returns-then-watch-clause-left
-returns-then-watch-clause-left g c =
+pub returns-else-watch : goal.returns-else-watch
+returns-else-watch g c =
     let a = c.args.self.now in
-    less_next (left_extending (g.B.Body.left a.log.body - 1) (g.T.TxType.meaning a.log.ty.now).widths (drop (length a.extension.fresh.items) (map watched a.extension.watches.items)))
+    record {
+      log = search rules;
+      turned = λ v spans phase. (let a = c.args.self.now in
+          let m = g.T.TxType.meaning a.log.ty.now in
+          let old = words_in a.log.base.items in
+          let fresh = a.extension.fresh.items in
+          let ws = a.extension.watches.items in
+          let w = c.get-watch.result.now in
+          let e : slice_get (map watched ws) (length fresh) ≡ Some (watched w) =
+          slice_get-map watched ws (length fresh) ∙ ap (option_map watched) (ap (slice_get ws) (sym c.len-place.ensures) ∙ c.get-watch.ensures) in
+          let next : IsNext (length m.widths) old fresh (map watched ws) w.seen w.part = ahead (length m.widths) old fresh (map watched ws) c.requires.renewed.0 c.requires.renewed.1 (watched w) e in
+          record { spans = spans; observed = c.requires.observed; extended = c.requires.extended; stands = (phase, subst (λ (b : Bool). IsNext (length m.widths) old fresh (map watched ws) b w.part) c.if-watch.false next) });
+      unaborted = search rules;
+      grown = heard_none (g.T.TxType.meaning a.log.ty.now) (g.B.Body.script a.log.body) (words_in a.log.base.items) (map told a.log.replies.items) a.log.set;
+      renewed = search rules;
+      moves = search rules;
+      left = less_next (left_extending (g.B.Body.left a.log.body - 1) (g.T.TxType.meaning a.log.ty.now).widths (drop (length a.extension.fresh.items) (map watched a.extension.watches.items)));
+      stopped = search rules;
+      script = search rules;
+      ty = search rules;
+    }
 
-pub returns-else-watch-clause-left : goal.returns-else-watch-clause-left
-returns-else-watch-clause-left g c =
+pub returns : goal.returns
+returns g c =
     let a = c.args.self.now in
-    less_next (left_extending (g.B.Body.left a.log.body - 1) (g.T.TxType.meaning a.log.ty.now).widths (drop (length a.extension.fresh.items) (map watched a.extension.watches.items)))
-
-pub returns-then-watch-clause-grown : goal.returns-then-watch-clause-grown
-returns-then-watch-clause-grown g c =
-    let a = c.args.self.now in
-    heard_none (g.T.TxType.meaning a.log.ty.now) (g.B.Body.script a.log.body) (words_in a.log.base.items) (map told a.log.replies.items) a.log.set
-
-pub returns-else-watch-clause-grown : goal.returns-else-watch-clause-grown
-returns-else-watch-clause-grown g c =
-    let a = c.args.self.now in
-    heard_none (g.T.TxType.meaning a.log.ty.now) (g.B.Body.script a.log.body) (words_in a.log.base.items) (map told a.log.replies.items) a.log.set
-
-pub returns-clause-renewed : goal.returns-clause-renewed
-returns-clause-renewed g c =
-    let a = c.args.self.now in
-    let grown = c.in_ok-reached.ensures.grown.grown in (
-      refl,
-      λ e.
-          let h = c.still-self.ensures.0 e in
-          let same : length c.go_on.new.self.replies.items ≡ length a.log.replies.items = omega (arith, h.1, c.len-heard.ensures, c.len-2.ensures) in
-          replies_same a.log.replies.items c.go_on.new.self.replies.items grown.more grown.replies same,
-    )
-
-pub returns-clause-left : goal.returns-clause-left
-returns-clause-left g c =
-    let a = c.args.self.now in
-    let m = g.T.TxType.meaning a.log.ty.now in
-    let law = g.met.T.TxType.lawful a.log.ty.now in
-    let sizes = g.T.Naming.sizes a.log.ty.now in
-    let valid = g.T.Naming.valid in
-    let f = g.B.Body.script a.log.body in
-    let rs = map told a.log.replies.items in
-    let base = a.log.base.items in
     let grown = c.in_ok-reached.ensures.grown.grown in
+    let m = g.T.TxType.meaning a.log.ty.now in
     let heard = length a.log.replies.items in
     let now = length c.go_on.new.self.replies.items in
     let on : heard ≤ now = replies_on a.log.replies.items c.go_on.new.self.replies.items grown.more grown.replies in
@@ -149,22 +115,61 @@ returns-clause-left g c =
     let now_is : c.len-2.result ≡ now = c.len-2.ensures in
     let iff : IsTrue c.still-self.result ↔ (IsTrue a.extension.extended × (now ≡ heard)) =
     ((λ e. let h = c.still-self.ensures.0 e in (h.0, omega (arith, h.1, heard_is, now_is))), (λ h. c.still-self.ensures.1 (h.0, omega (arith, h.1, heard_is, now_is)))) in
-    advance_fewer m.widths a.extension.bound c.go_on.new.self.set.updates c.in_ok-reached.reached c.lead-read_phase.result.0 c.lead-read_phase.result.1 c.lead-read_phase.ensures before calls heard now a.extension.extended c.still-self.result a.words.items extension
-    c.go_on.new.self.base.items (drop (length a.extension.fresh.items) (map watched a.extension.watches.items)) refl c.requires.extended c.in_ok-reached.ensures.left on c.in_ok-reached.ensures.asks iff
+    record {
+      log = search rules;
+      turned = λ v spans phase. (let a = c.args.self.now in
+          let m = g.T.TxType.meaning a.log.ty.now in
+          let sizes = g.T.Naming.sizes a.log.ty.now in
+          let f = g.B.Body.script a.log.body in
+          let bound = a.extension.bound in
+          let made = c.swap.new.x.items in
+          let same : made ≡ a.extension.fresh.items = ap (λ (l : Listed ReadEntry). l.items) c.swap.ensures.x_after in
+          let now : Extension = record { bound = a.extension.bound; extended = c.still-self.result; fresh = c.clear.new.self; watches = a.extension.watches } in
+          let rest = rests m g.T.Naming.valid sizes a.at bound a.log.base.items a.extension.fresh.items f (map told a.log.replies.items) v spans phase in
+          let claimed : AreClaimed v bound made = subst (λ (l : List ReadEntry). AreClaimed v bound l) (sym same) spans.renewed in
+          let only : AreOnly v bound made = subst (λ (l : List ReadEntry). AreOnly v bound l) (sym same) spans.only in
+          let kept : c.go_on.new.self.base.items ≡ made = ap (λ (l : Listed ReadEntry). l.items) c.in_ok-reached.ensures.base in
+          subst (λ (b : List ReadEntry). Turned m g.T.Naming.valid sizes f bound c.lead-read_phase.result.0 a.words.items now b c.go_on.new.self.set.items c.go_on.new.self.set.updates (map told c.go_on.new.self.replies.items) v c.lead-read_phase.result.1) (sym kept)
+          (turned m g.T.Naming.valid sizes f bound a.words.items made c.go_on.new.self.set.items c.go_on.new.self.set.updates (map told c.go_on.new.self.replies.items) v rest claimed only spans.below now (λ e. refl) c.in_ok-reached.ensures.log.log
+          c.in_ok-reached.reached c.lead-read_phase.result.0 c.lead-read_phase.result.1 c.in_ok-reached.ensures.reached c.lead-read_phase.ensures));
+      unaborted = (led_alone c.args.self.now.extension.bound c.go_on.new.self.set.updates c.in_ok-reached.reached c.lead-read_phase.result.0 c.lead-read_phase.result.1 c.lead-read_phase.ensures).1;
+      grown = search rules;
+      renewed = (
+        refl,
+        λ e.
+            let h = c.still-self.ensures.0 e in
+            let same : length c.go_on.new.self.replies.items ≡ length a.log.replies.items = omega (arith, h.1, c.len-heard.ensures, c.len-2.ensures) in
+            replies_same a.log.replies.items c.go_on.new.self.replies.items grown.more grown.replies same,
+      );
+      moves = (
+        led_begun c.args.self.now.extension.bound c.go_on.new.self.set.updates c.in_ok-reached.reached c.lead-read_phase.result.0 c.lead-read_phase.result.1 c.lead-read_phase.ensures,
+        c.requires.bound,
+      );
+      left = advance_fewer m.widths a.extension.bound c.go_on.new.self.set.updates c.in_ok-reached.reached c.lead-read_phase.result.0 c.lead-read_phase.result.1 c.lead-read_phase.ensures before calls heard now a.extension.extended c.still-self.result a.words.items extension
+          c.go_on.new.self.base.items (drop (length a.extension.fresh.items) (map watched a.extension.watches.items)) refl c.requires.extended c.in_ok-reached.ensures.left on c.in_ok-reached.ensures.asks iff;
+      stopped = search rules;
+      script = search rules;
+      ty = search rules;
+    }
 
-pub returns-in_err-reached-clause-stopped : goal.returns-in_err-reached-clause-stopped
-returns-in_err-reached-clause-stopped g c v spans =
-    let a = c.args.self.now in
-    let m = g.T.TxType.meaning a.log.ty.now in
-    let f = g.B.Body.script a.log.body in
-    let now = map told c.go_on.new.self.replies.items in
-    let made = c.swap.new.x.items in
-    let same : made ≡ a.extension.fresh.items = ap (λ (l : Listed ReadEntry). l.items) c.swap.ensures.x_after in
-    let claimed : AreClaimed v a.extension.bound made = subst (λ (l : List ReadEntry). AreClaimed v a.extension.bound l) (sym same) spans.renewed in
-    always_err c.from_residual.result (IsPrefix m f v a.extension.bound now) (prefix_of m f v a.extension.bound made now c.go_on.ensures.runs claimed)
-
-pub returns-clause-moves : goal.returns-clause-moves
-returns-clause-moves g c = (
-  led_begun c.args.self.now.extension.bound c.go_on.new.self.set.updates c.in_ok-reached.reached c.lead-read_phase.result.0 c.lead-read_phase.result.1 c.lead-read_phase.ensures,
-  c.requires.bound,
-)
+pub returns-in_err-reached : goal.returns-in_err-reached
+returns-in_err-reached g c =
+    record {
+      log = search rules;
+      turned = search rules;
+      unaborted = search rules;
+      grown = search rules;
+      renewed = search rules;
+      moves = search rules;
+      left = search rules;
+      stopped = λ v spans. (let a = c.args.self.now in
+          let m = g.T.TxType.meaning a.log.ty.now in
+          let f = g.B.Body.script a.log.body in
+          let now = map told c.go_on.new.self.replies.items in
+          let made = c.swap.new.x.items in
+          let same : made ≡ a.extension.fresh.items = ap (λ (l : Listed ReadEntry). l.items) c.swap.ensures.x_after in
+          let claimed : AreClaimed v a.extension.bound made = subst (λ (l : List ReadEntry). AreClaimed v a.extension.bound l) (sym same) spans.renewed in
+          always_err c.from_residual.result (IsPrefix m f v a.extension.bound now) (prefix_of m f v a.extension.bound made now c.go_on.ensures.runs claimed));
+      script = search rules;
+      ty = search rules;
+    }

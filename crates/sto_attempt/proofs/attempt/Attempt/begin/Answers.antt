@@ -1,4 +1,4 @@
-use Rattle.std.proofs.Common.{◌≡◌, List, ap, sym, subst, map}
+use Rattle.std.proofs.Common.{◌≡◌, List, ap, sym, subst, map, rules, refl}
 use Rattle.sto_part.specs.Listed.{Listed}
 use Rattle.sto_model.specs.Told.{told}
 use Rattle.sto_attempt_log.specs.declared.read_entry.ReadEntry.{ReadEntry}
@@ -13,9 +13,8 @@ use Rattle.sto_attempt_log.proofs.Stepping.{led_begun}
 use Rattle.sto_core.specs.declared.view.View.{View}
 use Rattle.sto_attempt.proofs.attempt.Attempt.begin.Goals as goal
 
-pub returns-clause-turned : goal.returns-clause-turned
-returns-clause-turned g c =
-    let m = g.T.TxType.meaning c.args.self.now.log.ty.now in
+pub returns : goal.returns
+returns g c =
     let sizes = g.T.Naming.sizes c.args.self.now.log.ty.now in
     let f = g.B.Body.script c.args.self.now.log.body in
     let at = c.start-at.result in
@@ -23,35 +22,33 @@ returns-clause-turned g c =
     let es = c.go_on.new.self.set.updates in
     let rs = map told c.go_on.new.self.replies.items in
     let w = g.C.Cells.view c.start-at.new.self in
-    let rest = start_rests m g.T.Naming.valid sizes (λ d h. (g.met.T.TxType.valid_is c.args.self.now.log.ty.now d).1 h) (g.C.Cells.passes c.args.cells.now) (g.C.Cells.view c.args.cells.now) w at c.requires.goes.1 c.requires.goes.2 c.start-at.ensures.tells in
     let claimed : AreClaimed w at base = subst (λ (b : List ReadEntry). AreClaimed w at b) (sym c.requires.goes.3) tt in
     let only : AreOnly w at base = subst (λ (b : List ReadEntry). AreOnly w at b) (sym c.requires.goes.3) (start_only g.T.Naming.valid (g.C.Cells.passes c.args.cells.now) (g.C.Cells.view c.args.cells.now) w at c.start-at.ensures.tells) in
     let same : c.go_on.new.self.base.items ≡ base = ap (λ (l : Listed ReadEntry). l.items) c.in_ok-reached.ensures.base in
-    subst (λ (b : List ReadEntry). Turned m g.T.Naming.valid sizes f at c.lead-read_phase.result.0 c.args.self.now.words.items c.args.self.now.extension b c.go_on.new.self.set.items es rs w c.lead-read_phase.result.1) (sym same)
-    (turned m g.T.Naming.valid sizes f at c.args.self.now.words.items base c.go_on.new.self.set.items es rs w rest claimed only (start_below g.T.Naming.valid (g.C.Cells.passes c.args.cells.now) (g.C.Cells.view c.args.cells.now) w at c.start-at.ensures.tells) c.args.self.now.extension (λ e. let no_renew = sym c.requires.goes.4 ∙ e in cc) c.in_ok-reached.ensures.log.log c.in_ok-reached.reached c.lead-read_phase.result.0 c.lead-read_phase.result.1
-    c.in_ok-reached.ensures.reached c.lead-read_phase.ensures)
-
-pub returns-clause-alone : goal.returns-clause-alone
-returns-clause-alone g c = led_alone c.start-at.result c.go_on.new.self.set.updates c.in_ok-reached.reached c.lead-read_phase.result.0 c.lead-read_phase.result.1 c.lead-read_phase.ensures
-
-pub returns-clause-left : goal.returns-clause-left
-returns-clause-left g c =
     let a = c.args.self.now in
-    let m = g.T.TxType.meaning a.log.ty.now in
-    let law = g.met.T.TxType.lawful a.log.ty.now in
-    let sizes = g.T.Naming.sizes a.log.ty.now in
-    let valid = g.T.Naming.valid in
-    let f = g.B.Body.script a.log.body in
-    let rs = map told a.log.replies.items in
-    let base = a.log.base.items in
-    let v = g.C.Cells.view c.args.cells.now in
-    let passes = g.C.Cells.passes c.args.cells.now in
     let on : length a.log.replies.items ≤ length c.go_on.new.self.replies.items = replies_on a.log.replies.items c.go_on.new.self.replies.items c.in_ok-reached.ensures.grown.grown.more c.in_ok-reached.ensures.grown.grown.replies in
-    began_fewer c.start-at.result c.go_on.new.self.set.updates c.in_ok-reached.reached c.lead-read_phase.result.0 c.lead-read_phase.result.1 c.lead-read_phase.ensures (g.B.Body.left a.log.body) (g.B.Body.left c.go_on.new.self.body) m.widths
-    a.words.items a.extension c.go_on.new.self.base.items (omega (arith, c.in_ok-reached.ensures.left, on)) c.in_ok-reached.ensures.asks
-
-pub returns-clause-moves : goal.returns-clause-moves
-returns-clause-moves g c = (
-  led_begun c.start-at.result c.go_on.new.self.set.updates c.in_ok-reached.reached c.lead-read_phase.result.0 c.lead-read_phase.result.1 c.lead-read_phase.ensures,
-  sym (ap (λ (u : View). u.at) c.start-at.ensures.tells.after),
-)
+    record {
+      event = search rules;
+      log = search rules;
+      turned =
+          let m = g.T.TxType.meaning c.args.self.now.log.ty.now in
+          let rest = start_rests m g.T.Naming.valid sizes (λ d h. (g.met.T.TxType.valid_is c.args.self.now.log.ty.now d).1 h) (g.C.Cells.passes c.args.cells.now) (g.C.Cells.view c.args.cells.now) w at c.requires.goes.1 c.requires.goes.2 c.start-at.ensures.tells in
+          subst (λ (b : List ReadEntry). Turned m g.T.Naming.valid sizes f at c.lead-read_phase.result.0 c.args.self.now.words.items c.args.self.now.extension b c.go_on.new.self.set.items es rs w c.lead-read_phase.result.1) (sym same)
+          (turned m g.T.Naming.valid sizes f at c.args.self.now.words.items base c.go_on.new.self.set.items es rs w rest claimed only (start_below g.T.Naming.valid (g.C.Cells.passes c.args.cells.now) (g.C.Cells.view c.args.cells.now) w at c.start-at.ensures.tells) c.args.self.now.extension (λ e. let no_renew = sym c.requires.goes.4 ∙ e in cc) c.in_ok-reached.ensures.log.log c.in_ok-reached.reached c.lead-read_phase.result.0 c.lead-read_phase.result.1
+          c.in_ok-reached.ensures.reached c.lead-read_phase.ensures);
+      grown = search rules;
+      extension = refl;
+      moves = (
+        led_begun c.start-at.result c.go_on.new.self.set.updates c.in_ok-reached.reached c.lead-read_phase.result.0 c.lead-read_phase.result.1 c.lead-read_phase.ensures,
+        sym (ap (λ (u : View). u.at) c.start-at.ensures.tells.after),
+      );
+      left =
+          let m = g.T.TxType.meaning a.log.ty.now in
+          began_fewer c.start-at.result c.go_on.new.self.set.updates c.in_ok-reached.reached c.lead-read_phase.result.0 c.lead-read_phase.result.1 c.lead-read_phase.ensures (g.B.Body.left a.log.body) (g.B.Body.left c.go_on.new.self.body) m.widths
+          a.words.items a.extension c.go_on.new.self.base.items (omega (arith, c.in_ok-reached.ensures.left, on)) c.in_ok-reached.ensures.asks;
+      alone = led_alone c.start-at.result c.go_on.new.self.set.updates c.in_ok-reached.reached c.lead-read_phase.result.0 c.lead-read_phase.result.1 c.lead-read_phase.ensures;
+      err = tt;
+      script = search rules;
+      ty = search rules;
+      same = c.start-at.ensures.same;
+    }

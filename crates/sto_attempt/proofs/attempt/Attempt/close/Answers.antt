@@ -1,4 +1,4 @@
-use Rattle.std.proofs.Common.{◌≡◌, ◌≤◌, ◌<◌, true, false, List, ℕ, [], ◌∷◌, ◌++◌, ap, sym, ◌∙◌, subst, map, arith, refl}
+use Rattle.std.proofs.Common.{◌≡◌, ◌≤◌, ◌<◌, true, false, List, ℕ, [], ◌∷◌, ◌++◌, ap, sym, ◌∙◌, subst, map, arith, refl, rules}
 use Rattle.sto_part.specs.Listed.{Listed}
 use Rattle.sto_model.specs.Told.{told}
 use Rattle.sto_core.specs.Versions.{ticket_of, is_free}
@@ -41,67 +41,6 @@ close-found-requires g c =
     let v = g.C.Cells.view c.args.cells.now in
     may_close m g.T.Naming.valid sizes f a.at c.args.part c.args.ticket a.words.items a.log.base.items a.log.set.items a.log.set.updates rs v c.requires.before.goes.0 law c.requires.all
 
-pub returns-then-is_locked-clause-turned : goal.returns-then-is_locked-clause-turned
-returns-then-is_locked-clause-turned g c =
-    let a = c.args.self.now in
-    let m = g.T.TxType.meaning a.log.ty.now in
-    let law = g.met.T.TxType.lawful a.log.ty.now in
-    let sizes = g.T.Naming.sizes a.log.ty.now in
-    let f = g.B.Body.script a.log.body in
-    let rs = map told a.log.replies.items in
-    let v = g.C.Cells.view c.args.cells.now in
-    let w = g.C.Cells.view c.close-found.new.self in
-    let passes = g.C.Cells.passes c.args.cells.now in
-    let n = c.close-found.result.0 in
-    let locked : is_free n ≡ false = unlocked_is (is_free n) (sym c.is_locked.ensures ∙ c.if-is_locked.true) in
-    let h = close_locked m g.T.Naming.valid sizes f a.at c.args.part c.args.ticket a.words.items a.log.base.items a.log.set.items a.log.set.updates rs v c.requires.before.goes.0 w passes n c.close-found.ensures.tells c.requires.before.log.log locked in
-    (refl, h.0, close_within m g.T.Naming.valid sizes f a.at c.args.part c.args.ticket a.words.items a.log.base.items a.log.set.items a.log.set.updates rs v c.requires.before.goes.0 w passes n c.close-found.ensures.tells c.requires.before.log.log, (refl, h.1))
-
-pub returns-then-newer-ticket-clause-turned : goal.returns-then-newer-ticket-clause-turned
-returns-then-newer-ticket-clause-turned g c =
-    let a = c.args.self.now in
-    let m = g.T.TxType.meaning a.log.ty.now in
-    let law = g.met.T.TxType.lawful a.log.ty.now in
-    let sizes = g.T.Naming.sizes a.log.ty.now in
-    let f = g.B.Body.script a.log.body in
-    let rs = map told a.log.replies.items in
-    let v = g.C.Cells.view c.args.cells.now in
-    let w = g.C.Cells.view c.close-found.new.self in
-    let passes = g.C.Cells.passes c.args.cells.now in
-    let n = c.close-found.result.0 in
-    let free : is_free n ≡ true = locked_is (is_free n) (sym c.is_locked.ensures ∙ c.if-is_locked.false) in
-    let ne : ticket_of n ≡ c.args.ticket → ⊥ = λ h. c.if-newer-ticket.true (c.ticket-newer.ensures.ticket ∙ h) in
-    let h = close_changed m g.T.Naming.valid sizes f a.at c.args.part c.args.ticket a.words.items a.log.base.items a.log.set.items a.log.set.updates rs v c.requires.before.goes.0 w passes n c.close-found.ensures.tells c.requires.before.log.log free ne in
-    (refl, h.0, close_within m g.T.Naming.valid sizes f a.at c.args.part c.args.ticket a.words.items a.log.base.items a.log.set.items a.log.set.updates rs v c.requires.before.goes.0 w passes n c.close-found.ensures.tells c.requires.before.log.log, (refl, subst (λ (s : ℕ). WasChanged m f w a.at c.args.part s rs) (sym c.ticket-newer.ensures.ticket) h.1))
-
-pub returns-then-len-clause-err : goal.returns-then-len-clause-err
-returns-then-len-clause-err g c =
-    let a = c.args.self.now in
-    let m = g.T.TxType.meaning a.log.ty.now in
-    let law = g.met.T.TxType.lawful a.log.ty.now in
-    let sizes = g.T.Naming.sizes a.log.ty.now in
-    let f = g.B.Body.script a.log.body in
-    let rs = map told a.log.replies.items in
-    let v = g.C.Cells.view c.args.cells.now in
-    let w = g.C.Cells.view c.close-found.new.self in
-    let passes = g.C.Cells.passes c.args.cells.now in
-    let n = c.close-found.result.0 in
-    close_stops m g.T.Naming.valid sizes f a.at c.args.part c.args.ticket a.words.items a.log.base.items a.log.set.items a.log.set.updates rs v c.requires.before.goes.0 w passes n c.close-found.ensures.tells c.requires.before.log.log
-
-pub returns-in_err-push-clause-err : goal.returns-in_err-push-clause-err
-returns-in_err-push-clause-err g c =
-    let a = c.args.self.now in
-    let m = g.T.TxType.meaning a.log.ty.now in
-    let law = g.met.T.TxType.lawful a.log.ty.now in
-    let sizes = g.T.Naming.sizes a.log.ty.now in
-    let f = g.B.Body.script a.log.body in
-    let rs = map told a.log.replies.items in
-    let v = g.C.Cells.view c.args.cells.now in
-    let w = g.C.Cells.view c.close-found.new.self in
-    let passes = g.C.Cells.passes c.args.cells.now in
-    let n = c.close-found.result.0 in
-    always_err c.from_residual.result (IsLeft w × IsPrefix m f w a.at rs) (close_stops m g.T.Naming.valid sizes f a.at c.args.part c.args.ticket a.words.items a.log.base.items a.log.set.items a.log.set.updates rs v c.requires.before.goes.0 w passes n c.close-found.ensures.tells c.requires.before.log.log)
-
 pub learn_updated-requires-clause-fits : goal.learn_updated-requires-clause-fits
 learn_updated-requires-clause-fits g c =
     let a = c.args.self.now in
@@ -122,20 +61,6 @@ learn_updated-requires-clause-fits g c =
     let is : (d : Parts) → g.T.Naming.valid w.sizes d → m.valid d = λ d h. (g.met.T.TxType.valid_is a.log.ty.now d).1 (subst (λ (l : List ℕ). g.T.Naming.valid l d) rest.own.same_sizes h) in
     let some = some_contents m g.T.Naming.valid w a.at (a.log.base.items ++ x ∷ []) is c.close-found.ensures.tells.fit claims in
     fits_new m law f a.log.base.items x a.log.set.items a.log.set.updates rs c.requires.before.log.log c.requires.before.goes.0.awaits some
-
-pub returns-in_err-learn_updated-clause-err : goal.returns-in_err-learn_updated-clause-err
-returns-in_err-learn_updated-clause-err g c =
-    let a = c.args.self.now in
-    let m = g.T.TxType.meaning a.log.ty.now in
-    let law = g.met.T.TxType.lawful a.log.ty.now in
-    let sizes = g.T.Naming.sizes a.log.ty.now in
-    let f = g.B.Body.script a.log.body in
-    let rs = map told a.log.replies.items in
-    let v = g.C.Cells.view c.args.cells.now in
-    let w = g.C.Cells.view c.close-found.new.self in
-    let passes = g.C.Cells.passes c.args.cells.now in
-    let n = c.close-found.result.0 in
-    always_err c.from_residual-in_err-learn_updated.result (IsLeft w × IsPrefix m f w a.at rs) (close_stops m g.T.Naming.valid sizes f a.at c.args.part c.args.ticket a.words.items a.log.base.items a.log.set.items a.log.set.updates rs v c.requires.before.goes.0 w passes n c.close-found.ensures.tells c.requires.before.log.log)
 
 pub go_on-requires-clause-some : goal.go_on-requires-clause-some
 go_on-requires-clause-some g c =
@@ -189,13 +114,182 @@ go_on-requires-clause-log g c =
     } in
     subst (λ (b : List ReadEntry). IsOnLog m (g.B.Body.then a.log.body) f (g.B.Body.left a.log.body) (g.B.Body.may_ask a.log.body) b a.log.set c.learn_updated.new.cache a.log.replies.items) (sym c.in_ok-push.ensures.ok) h
 
-pub returns-in_err-reached-clause-err : goal.returns-in_err-reached-clause-err
-returns-in_err-reached-clause-err g c =
+pub returns-then-is_locked-clause-made : goal.returns-then-is_locked-clause-made
+returns-then-is_locked-clause-made g c =
+    let a = c.args.self.now in
+    let m = g.T.TxType.meaning a.log.ty.now in
+    let sizes = g.T.Naming.sizes a.log.ty.now in
+    let f = g.B.Body.script a.log.body in
+    let rs = map told a.log.replies.items in
+    let v = g.C.Cells.view c.args.cells.now in
+    let w = g.C.Cells.view c.close-found.new.self in
+    let passes = g.C.Cells.passes c.args.cells.now in
+    let n = c.close-found.result.0 in
+    let locked : is_free n ≡ false = unlocked_is (is_free n) (sym c.is_locked.ensures ∙ c.if-is_locked.true) in
+    let h = close_locked m g.T.Naming.valid sizes f a.at c.args.part c.args.ticket a.words.items a.log.base.items a.log.set.items a.log.set.updates rs v c.requires.before.goes.0 w passes n c.close-found.ensures.tells c.requires.before.log.log locked in
+    let law = g.met.T.TxType.lawful a.log.ty.now in
+    let base = a.log.base.items in
+    record {
+      steps = record {
+        event = search rules;
+        log = c.requires.before.log;
+        turned = (refl, h.0, close_within m g.T.Naming.valid sizes f a.at c.args.part c.args.ticket a.words.items a.log.base.items a.log.set.items a.log.set.updates rs v c.requires.before.goes.0 w passes n c.close-found.ensures.tells c.requires.before.log.log, (refl, h.1));
+        grown = heard_none (g.T.TxType.meaning a.log.ty.now) (g.B.Body.script a.log.body) (words_in a.log.base.items) (map told a.log.replies.items) a.log.set;
+        alone = λ one first. (let a = c.args.self.now in
+            let v = g.C.Cells.view c.args.cells.now in
+            let n = c.close-found.result.0 in
+            let h = close_alone g.T.Naming.valid (g.C.Cells.passes c.args.cells.now) v (g.C.Cells.view c.close-found.new.self) c.args.part n (pos 0) (record { part = c.args.part; ticket = c.args.ticket; reads = numbered 0 a.words.items }) c.requires.before.goes.0.unheld c.requires.before.goes.0.stands.0 c.close-found.ensures.tells one in
+            absurd (true≢false (sym h.0 ∙ unlocked_is (is_free n) (sym c.is_locked.ensures ∙ c.if-is_locked.true))));
+        reason = tt;
+        renewed = (refl, λ e. (e, refl));
+        moves = (tt, omega arith);
+        left = close_over m law f rs c.args.part base a.log.set.updates c.requires.before.goes.0.awaits (length a.words.items) c.requires.all (g.B.Body.left a.log.body - 1) a.extension.extended;
+        err = tt;
+        script = refl;
+        ty = refl;
+      };
+      stopped = tt;
+      same = c.close-found.ensures.same;
+    }
+
+pub returns-then-newer-ticket-clause-made : goal.returns-then-newer-ticket-clause-made
+returns-then-newer-ticket-clause-made g c =
+    let a = c.args.self.now in
+    let m = g.T.TxType.meaning a.log.ty.now in
+    let sizes = g.T.Naming.sizes a.log.ty.now in
+    let f = g.B.Body.script a.log.body in
+    let rs = map told a.log.replies.items in
+    let v = g.C.Cells.view c.args.cells.now in
+    let w = g.C.Cells.view c.close-found.new.self in
+    let passes = g.C.Cells.passes c.args.cells.now in
+    let n = c.close-found.result.0 in
+    let free : is_free n ≡ true = locked_is (is_free n) (sym c.is_locked.ensures ∙ c.if-is_locked.false) in
+    let law = g.met.T.TxType.lawful a.log.ty.now in
+    let base = a.log.base.items in
+    let ne : ticket_of n ≡ c.args.ticket → ⊥ = λ h. c.if-newer-ticket.true (c.ticket-newer.ensures.ticket ∙ h) in
+    let h = close_changed m g.T.Naming.valid sizes f a.at c.args.part c.args.ticket a.words.items a.log.base.items a.log.set.items a.log.set.updates rs v c.requires.before.goes.0 w passes n c.close-found.ensures.tells c.requires.before.log.log free ne in
+    record {
+      steps = record {
+        event = search rules;
+        log = c.requires.before.log;
+        turned = (refl, h.0, close_within m g.T.Naming.valid sizes f a.at c.args.part c.args.ticket a.words.items a.log.base.items a.log.set.items a.log.set.updates rs v c.requires.before.goes.0 w passes n c.close-found.ensures.tells c.requires.before.log.log, (refl, subst (λ (s : ℕ). WasChanged m f w a.at c.args.part s rs) (sym c.ticket-newer.ensures.ticket) h.1));
+        grown = heard_none (g.T.TxType.meaning a.log.ty.now) (g.B.Body.script a.log.body) (words_in a.log.base.items) (map told a.log.replies.items) a.log.set;
+        alone = λ one first. (let a = c.args.self.now in
+            let v = g.C.Cells.view c.args.cells.now in
+            let n = c.close-found.result.0 in
+            let h = close_alone g.T.Naming.valid (g.C.Cells.passes c.args.cells.now) v (g.C.Cells.view c.close-found.new.self) c.args.part n (pos 0) (record { part = c.args.part; ticket = c.args.ticket; reads = numbered 0 a.words.items }) c.requires.before.goes.0.unheld c.requires.before.goes.0.stands.0 c.close-found.ensures.tells one in
+            absurd (c.if-newer-ticket.true (c.ticket-newer.ensures.ticket ∙ h.1)));
+        reason = by_close a.log.set.items (g.C.Cells.view c.close-found.new.self) c.args.part c.ticket-newer.result a.extension.extended a.extension.bound;
+        renewed = (refl, λ e. (e, refl));
+        moves = (tt, omega arith);
+        left = close_over m law f rs c.args.part base a.log.set.updates c.requires.before.goes.0.awaits (length a.words.items) c.requires.all (g.B.Body.left a.log.body - 1) a.extension.extended;
+        err = tt;
+        script = refl;
+        ty = refl;
+      };
+      stopped = tt;
+      same = c.close-found.ensures.same;
+    }
+
+pub returns-then-len-clause-made : goal.returns-then-len-clause-made
+returns-then-len-clause-made g c =
+    let a = c.args.self.now in
+    let m = g.T.TxType.meaning a.log.ty.now in
+    let sizes = g.T.Naming.sizes a.log.ty.now in
+    let f = g.B.Body.script a.log.body in
+    let rs = map told a.log.replies.items in
+    let v = g.C.Cells.view c.args.cells.now in
+    let w = g.C.Cells.view c.close-found.new.self in
+    let passes = g.C.Cells.passes c.args.cells.now in
+    let n = c.close-found.result.0 in
+    let stops : IsLeft w × IsPrefix m f w a.at rs = close_stops m g.T.Naming.valid sizes f a.at c.args.part c.args.ticket a.words.items a.log.base.items a.log.set.items a.log.set.updates rs v c.requires.before.goes.0 w passes n c.close-found.ensures.tells c.requires.before.log.log in
+    record {
+      steps = record {
+        event = search rules;
+        log = tt;
+        turned = tt;
+        grown = tt;
+        alone = λ one first. tt;
+        reason = tt;
+        renewed = tt;
+        moves = tt;
+        left = tt;
+        err = stops.0;
+        script = refl;
+        ty = refl;
+      };
+      stopped = stops.1;
+      same = c.close-found.ensures.same;
+    }
+
+pub returns-in_err-push-clause-made : goal.returns-in_err-push-clause-made
+returns-in_err-push-clause-made g c =
+    let a = c.args.self.now in
+    let m = g.T.TxType.meaning a.log.ty.now in
+    let sizes = g.T.Naming.sizes a.log.ty.now in
+    let f = g.B.Body.script a.log.body in
+    let rs = map told a.log.replies.items in
+    let v = g.C.Cells.view c.args.cells.now in
+    let w = g.C.Cells.view c.close-found.new.self in
+    let passes = g.C.Cells.passes c.args.cells.now in
+    let n = c.close-found.result.0 in
+    let stops : IsLeft w × IsPrefix m f w a.at rs = (close_stops m g.T.Naming.valid sizes f a.at c.args.part c.args.ticket a.words.items a.log.base.items a.log.set.items a.log.set.updates rs v c.requires.before.goes.0 w passes n c.close-found.ensures.tells c.requires.before.log.log) in
+    record {
+      steps = record {
+        event = search rules;
+        log = search rules;
+        turned = search rules;
+        grown = search rules;
+        alone = λ one first. search rules;
+        reason = search rules;
+        renewed = search rules;
+        moves = search rules;
+        left = search rules;
+        err = always_err c.from_residual.result (IsLeft w) stops.0;
+        script = search rules;
+        ty = search rules;
+      };
+      stopped = always_err c.from_residual.result (IsPrefix m f w a.at rs) stops.1;
+      same = c.close-found.ensures.same;
+    }
+
+pub returns-in_err-learn_updated-clause-made : goal.returns-in_err-learn_updated-clause-made
+returns-in_err-learn_updated-clause-made g c =
+    let a = c.args.self.now in
+    let m = g.T.TxType.meaning a.log.ty.now in
+    let sizes = g.T.Naming.sizes a.log.ty.now in
+    let f = g.B.Body.script a.log.body in
+    let rs = map told a.log.replies.items in
+    let v = g.C.Cells.view c.args.cells.now in
+    let w = g.C.Cells.view c.close-found.new.self in
+    let passes = g.C.Cells.passes c.args.cells.now in
+    let n = c.close-found.result.0 in
+    let stops : IsLeft w × IsPrefix m f w a.at rs = (close_stops m g.T.Naming.valid sizes f a.at c.args.part c.args.ticket a.words.items a.log.base.items a.log.set.items a.log.set.updates rs v c.requires.before.goes.0 w passes n c.close-found.ensures.tells c.requires.before.log.log) in
+    record {
+      steps = record {
+        event = search rules;
+        log = search rules;
+        turned = search rules;
+        grown = search rules;
+        alone = λ one first. search rules;
+        reason = search rules;
+        renewed = search rules;
+        moves = search rules;
+        left = search rules;
+        err = always_err c.from_residual-in_err-learn_updated.result (IsLeft w) stops.0;
+        script = search rules;
+        ty = search rules;
+      };
+      stopped = always_err c.from_residual-in_err-learn_updated.result (IsPrefix m f w a.at rs) stops.1;
+      same = c.close-found.ensures.same;
+    }
+
+pub returns-in_err-reached-clause-made : goal.returns-in_err-reached-clause-made
+returns-in_err-reached-clause-made g c =
     let a = c.args.self.now in
     let m = g.T.TxType.meaning a.log.ty.now in
     let law = g.met.T.TxType.lawful a.log.ty.now in
     let sizes = g.T.Naming.sizes a.log.ty.now in
-    let valid = g.T.Naming.valid in
     let f = g.B.Body.script a.log.body in
     let rs = map told a.log.replies.items in
     let base = a.log.base.items in
@@ -210,10 +304,28 @@ returns-in_err-reached-clause-err g c =
     let claims : AreClaimed w a.at c.push.new.self.items = subst (λ (b : List ReadEntry). AreClaimed w a.at b) (sym made) (close_claims m g.T.Naming.valid sizes f a.at c.args.part c.args.ticket a.words.items a.log.base.items a.log.set.items a.log.set.updates rs v c.requires.before.goes.0 w passes n c.close-found.ensures.tells c.requires.before.log.log law free same c.requires.all x refl refl c.as_slice-words.ensures.items) in
     let now = map told c.go_on.new.self.replies.items in
     let left = close_left m g.T.Naming.valid sizes f a.at c.args.part c.args.ticket a.words.items a.log.base.items a.log.set.items a.log.set.updates rs v c.requires.before.goes.0 w passes n c.close-found.ensures.tells c.requires.before.log.log in
-    always_err c.from_residual-in_err-reached.result (IsLeft w × IsPrefix m f w a.at now) (left, prefix_of m f w a.at c.push.new.self.items now c.go_on.ensures.runs claims)
+    let stops : IsLeft w × IsPrefix m f w a.at now = (left, prefix_of m f w a.at c.push.new.self.items now c.go_on.ensures.runs claims) in
+    record {
+      steps = record {
+        event = search rules;
+        log = search rules;
+        turned = search rules;
+        grown = search rules;
+        alone = λ one first. search rules;
+        reason = search rules;
+        renewed = search rules;
+        moves = search rules;
+        left = search rules;
+        err = always_err c.from_residual-in_err-reached.result (IsLeft w) stops.0;
+        script = search rules;
+        ty = search rules;
+      };
+      stopped = always_err c.from_residual-in_err-reached.result (IsPrefix m f w a.at now) stops.1;
+      same = c.close-found.ensures.same;
+    }
 
-pub returns-clause-turned : goal.returns-clause-turned
-returns-clause-turned g c =
+pub returns-clause-made : goal.returns-clause-made
+returns-clause-made g c =
     let a = c.args.self.now in
     let m = g.T.TxType.meaning a.log.ty.now in
     let law = g.met.T.TxType.lawful a.log.ty.now in
@@ -231,128 +343,54 @@ returns-clause-turned g c =
     let claims = close_claims m g.T.Naming.valid sizes f a.at c.args.part c.args.ticket a.words.items a.log.base.items a.log.set.items a.log.set.updates rs v c.requires.before.goes.0 w passes n c.close-found.ensures.tells c.requires.before.log.log law free same c.requires.all x refl refl c.as_slice-words.ensures.items in
     let only_one = close_only m g.T.Naming.valid sizes f a.at c.args.part c.args.ticket a.words.items a.log.base.items a.log.set.items a.log.set.updates rs v c.requires.before.goes.0 w passes n c.close-found.ensures.tells c.requires.before.log.log law free same c.requires.all x refl refl c.as_slice-words.ensures.items in
     let below = close_below m g.T.Naming.valid sizes f a.at c.args.part c.args.ticket a.words.items a.log.base.items a.log.set.items a.log.set.updates rs v c.requires.before.goes.0 w passes n c.close-found.ensures.tells c.requires.before.log.log law free same c.requires.all x refl refl c.as_slice-words.ensures.items in
-    let made : c.push.new.self.items ≡ a.log.base.items ++ x ∷ [] = c.in_ok-push.ensures.ok in
-    let claimed : AreClaimed w a.at c.push.new.self.items = subst (λ (b : List ReadEntry). AreClaimed w a.at b) (sym made) claims in
-    let only : AreOnly w a.at c.push.new.self.items = subst (λ (b : List ReadEntry). AreOnly w a.at b) (sym made) only_one in
-    let kept : c.go_on.new.self.base.items ≡ c.push.new.self.items = ap (λ (l : Listed ReadEntry). l.items) c.in_ok-reached.ensures.base in
-    let now : Extension = record { bound = a.extension.bound; extended = c.still-self.result; fresh = a.extension.fresh; watches = a.extension.watches } in
-    let as_of : IsAsOf a.at now = λ e. c.requires.before.goes.1 (c.still-self.ensures.0 e).0 in
-    subst (λ (b : List ReadEntry). Turned m g.T.Naming.valid sizes f a.at c.lead-read_phase.result.0 a.words.items now b c.go_on.new.self.set.items c.go_on.new.self.set.updates (map told c.go_on.new.self.replies.items) w c.lead-read_phase.result.1) (sym kept)
-    (turned m g.T.Naming.valid sizes f a.at a.words.items c.push.new.self.items c.go_on.new.self.set.items c.go_on.new.self.set.updates (map told c.go_on.new.self.replies.items) w rest claimed only below now as_of c.in_ok-reached.ensures.log.log
-    c.in_ok-reached.reached c.lead-read_phase.result.0 c.lead-read_phase.result.1 c.in_ok-reached.ensures.reached c.lead-read_phase.ensures)
-
-pub returns-then-is_locked-clause-alone : goal.returns-then-is_locked-clause-alone
-returns-then-is_locked-clause-alone g c one =
-    let a = c.args.self.now in
-    let v = g.C.Cells.view c.args.cells.now in
-    let n = c.close-found.result.0 in
-    let h = close_alone g.T.Naming.valid (g.C.Cells.passes c.args.cells.now) v (g.C.Cells.view c.close-found.new.self) c.args.part n (pos 0) (record { part = c.args.part; ticket = c.args.ticket; reads = numbered 0 a.words.items }) c.requires.before.goes.0.unheld c.requires.before.goes.0.stands.0 c.close-found.ensures.tells one in
-    absurd (true≢false (sym h.0 ∙ unlocked_is (is_free n) (sym c.is_locked.ensures ∙ c.if-is_locked.true)))
-
-pub returns-then-newer-ticket-clause-alone : goal.returns-then-newer-ticket-clause-alone
-returns-then-newer-ticket-clause-alone g c one =
-    let a = c.args.self.now in
-    let v = g.C.Cells.view c.args.cells.now in
-    let n = c.close-found.result.0 in
-    let h = close_alone g.T.Naming.valid (g.C.Cells.passes c.args.cells.now) v (g.C.Cells.view c.close-found.new.self) c.args.part n (pos 0) (record { part = c.args.part; ticket = c.args.ticket; reads = numbered 0 a.words.items }) c.requires.before.goes.0.unheld c.requires.before.goes.0.stands.0 c.close-found.ensures.tells one in
-    absurd (c.if-newer-ticket.true (c.ticket-newer.ensures.ticket ∙ h.1))
-
-pub returns-clause-alone : goal.returns-clause-alone
-returns-clause-alone g c one = led_alone c.args.self.now.at c.go_on.new.self.set.updates c.in_ok-reached.reached c.lead-read_phase.result.0 c.lead-read_phase.result.1 c.lead-read_phase.ensures
-
-pub returns-then-newer-ticket-clause-reason : goal.returns-then-newer-ticket-clause-reason
-returns-then-newer-ticket-clause-reason g c =
-    let a = c.args.self.now in
-    by_close a.log.set.items (g.C.Cells.view c.close-found.new.self) c.args.part c.ticket-newer.result a.extension.extended a.extension.bound
-
-pub returns-clause-reason : goal.returns-clause-reason
-returns-clause-reason g c =
-    let a = c.args.self.now in
-    unaborted_caused (Close c.args.part) c.go_on.new.self.set.items (g.C.Cells.view c.close-found.new.self) a.extension c.lead-read_phase.result.1
-    (led_alone a.at c.go_on.new.self.set.updates c.in_ok-reached.reached c.lead-read_phase.result.0 c.lead-read_phase.result.1 c.lead-read_phase.ensures).1
-
-pub returns-clause-renewed : goal.returns-clause-renewed
-returns-clause-renewed g c =
-    let a = c.args.self.now in
-    let grown = c.in_ok-reached.ensures.grown.grown in (
-      refl,
-      λ e.
-          let h = c.still-self.ensures.0 e in
-          let same : length c.go_on.new.self.replies.items ≡ length a.log.replies.items = omega (arith, h.1, c.len-heard.ensures, c.len-2.ensures) in
-          (h.0, replies_same a.log.replies.items c.go_on.new.self.replies.items grown.more grown.replies same),
-    )
-
-pub returns-then-is_locked-clause-left : goal.returns-then-is_locked-clause-left
-returns-then-is_locked-clause-left g c =
-    let a = c.args.self.now in
-    let m = g.T.TxType.meaning a.log.ty.now in
-    let law = g.met.T.TxType.lawful a.log.ty.now in
-    let sizes = g.T.Naming.sizes a.log.ty.now in
-    let valid = g.T.Naming.valid in
-    let f = g.B.Body.script a.log.body in
-    let rs = map told a.log.replies.items in
-    let base = a.log.base.items in
-    let v = g.C.Cells.view c.args.cells.now in
-    let passes = g.C.Cells.passes c.args.cells.now in
-    close_over m law f rs c.args.part base a.log.set.updates c.requires.before.goes.0.awaits (length a.words.items) c.requires.all (g.B.Body.left a.log.body - 1) a.extension.extended
-
-pub returns-then-newer-ticket-clause-left : goal.returns-then-newer-ticket-clause-left
-returns-then-newer-ticket-clause-left g c =
-    let a = c.args.self.now in
-    let m = g.T.TxType.meaning a.log.ty.now in
-    let law = g.met.T.TxType.lawful a.log.ty.now in
-    let sizes = g.T.Naming.sizes a.log.ty.now in
-    let valid = g.T.Naming.valid in
-    let f = g.B.Body.script a.log.body in
-    let rs = map told a.log.replies.items in
-    let base = a.log.base.items in
-    let v = g.C.Cells.view c.args.cells.now in
-    let passes = g.C.Cells.passes c.args.cells.now in
-    close_over m law f rs c.args.part base a.log.set.updates c.requires.before.goes.0.awaits (length a.words.items) c.requires.all (g.B.Body.left a.log.body - 1) a.extension.extended
-
-pub returns-clause-left : goal.returns-clause-left
-returns-clause-left g c =
-    let a = c.args.self.now in
-    let m = g.T.TxType.meaning a.log.ty.now in
-    let law = g.met.T.TxType.lawful a.log.ty.now in
-    let sizes = g.T.Naming.sizes a.log.ty.now in
-    let valid = g.T.Naming.valid in
-    let f = g.B.Body.script a.log.body in
-    let rs = map told a.log.replies.items in
-    let base = a.log.base.items in
-    let v = g.C.Cells.view c.args.cells.now in
-    let passes = g.C.Cells.passes c.args.cells.now in
-    let w = g.C.Cells.view c.close-found.new.self in
-    let n = c.close-found.result.0 in
-    let free : is_free n ≡ true = locked_is (is_free n) (sym c.is_locked.ensures ∙ c.if-is_locked.false) in
-    let same : ticket_of n ≡ c.args.ticket = sym c.ticket-newer.ensures.ticket ∙ c.if-newer-ticket.false in
-    let x : ReadEntry = entry_with c.args.part c.args.ticket c.as_slice-words.result.now in
-    let made : c.push.new.self.items ≡ base ++ x ∷ [] = c.in_ok-push.ensures.ok in
     let grown = c.in_ok-reached.ensures.grown.grown in
+    let base = a.log.base.items in
     let heard = length a.log.replies.items in
-    let now = length c.go_on.new.self.replies.items in
-    let on : heard ≤ now = replies_on a.log.replies.items c.go_on.new.self.replies.items grown.more grown.replies in
     let before = g.B.Body.left a.log.body in
     let calls = g.B.Body.left c.go_on.new.self.body in
     let extension : Extension = record { bound = a.extension.bound; extended = c.still-self.result; fresh = a.extension.fresh; watches = a.extension.watches } in
     let heard_is : c.len-heard.result ≡ heard = c.len-heard.ensures in
-    let now_is : c.len-2.result ≡ now = c.len-2.ensures in
-    let iff : IsTrue c.still-self.result ↔ (IsTrue a.extension.extended × (now ≡ heard)) =
-    ((λ e. let h = c.still-self.ensures.0 e in (h.0, omega (arith, h.1, heard_is, now_is))), (λ h. c.still-self.ensures.1 (h.0, omega (arith, h.1, heard_is, now_is)))) in
-    let kept : c.go_on.new.self.base.items ≡ base ++ x ∷ [] = ap (λ (l : Listed ReadEntry). l.items) c.in_ok-reached.ensures.base ∙ made in
-    subst (λ (b : List ReadEntry). events_left calls m.widths c.lead-read_phase.result.0 a.words.items extension b < left_opening (before - 1) m.widths a.extension.extended (words_in base) - (1 + length a.words.items)) (sym kept)
-    (close_fewer m law f rs c.args.part base a.log.set.updates c.requires.before.goes.0.awaits (length a.words.items) c.requires.all a.at c.go_on.new.self.set.updates c.in_ok-reached.reached c.lead-read_phase.result.0 c.lead-read_phase.result.1 c.lead-read_phase.ensures
-    before calls heard now a.extension.extended c.still-self.result a.words.items extension x refl refl c.in_ok-reached.ensures.left on c.in_ok-reached.ensures.asks iff)
-
-pub returns-then-is_locked-clause-grown : goal.returns-then-is_locked-clause-grown
-returns-then-is_locked-clause-grown g c =
-    let a = c.args.self.now in
-    heard_none (g.T.TxType.meaning a.log.ty.now) (g.B.Body.script a.log.body) (words_in a.log.base.items) (map told a.log.replies.items) a.log.set
-
-pub returns-then-newer-ticket-clause-grown : goal.returns-then-newer-ticket-clause-grown
-returns-then-newer-ticket-clause-grown g c =
-    let a = c.args.self.now in
-    heard_none (g.T.TxType.meaning a.log.ty.now) (g.B.Body.script a.log.body) (words_in a.log.base.items) (map told a.log.replies.items) a.log.set
-
-pub returns-clause-moves : goal.returns-clause-moves
-returns-clause-moves g c = (led_begun c.args.self.now.at c.go_on.new.self.set.updates c.in_ok-reached.reached c.lead-read_phase.result.0 c.lead-read_phase.result.1 c.lead-read_phase.ensures, refl)
+    record {
+      steps = record {
+        event = search rules;
+        log = search rules;
+        turned =
+            let made : c.push.new.self.items ≡ a.log.base.items ++ x ∷ [] = c.in_ok-push.ensures.ok in
+            let claimed : AreClaimed w a.at c.push.new.self.items = subst (λ (b : List ReadEntry). AreClaimed w a.at b) (sym made) claims in
+            let only : AreOnly w a.at c.push.new.self.items = subst (λ (b : List ReadEntry). AreOnly w a.at b) (sym made) only_one in
+            let kept : c.go_on.new.self.base.items ≡ c.push.new.self.items = ap (λ (l : Listed ReadEntry). l.items) c.in_ok-reached.ensures.base in
+            let now : Extension = record { bound = a.extension.bound; extended = c.still-self.result; fresh = a.extension.fresh; watches = a.extension.watches } in
+            let as_of : IsAsOf a.at now = λ e. c.requires.before.goes.1 (c.still-self.ensures.0 e).0 in
+            subst (λ (b : List ReadEntry). Turned m g.T.Naming.valid sizes f a.at c.lead-read_phase.result.0 a.words.items now b c.go_on.new.self.set.items c.go_on.new.self.set.updates (map told c.go_on.new.self.replies.items) w c.lead-read_phase.result.1) (sym kept)
+            (turned m g.T.Naming.valid sizes f a.at a.words.items c.push.new.self.items c.go_on.new.self.set.items c.go_on.new.self.set.updates (map told c.go_on.new.self.replies.items) w rest claimed only below now as_of c.in_ok-reached.ensures.log.log
+            c.in_ok-reached.reached c.lead-read_phase.result.0 c.lead-read_phase.result.1 c.in_ok-reached.ensures.reached c.lead-read_phase.ensures);
+        grown = search rules;
+        alone = λ one first. (led_alone c.args.self.now.at c.go_on.new.self.set.updates c.in_ok-reached.reached c.lead-read_phase.result.0 c.lead-read_phase.result.1 c.lead-read_phase.ensures);
+        reason = unaborted_caused (Close c.args.part) c.go_on.new.self.set.items (g.C.Cells.view c.close-found.new.self) a.extension c.lead-read_phase.result.1
+            (led_alone a.at c.go_on.new.self.set.updates c.in_ok-reached.reached c.lead-read_phase.result.0 c.lead-read_phase.result.1 c.lead-read_phase.ensures).1;
+        renewed = (
+          refl,
+          λ e.
+              let h = c.still-self.ensures.0 e in
+              let same : length c.go_on.new.self.replies.items ≡ length a.log.replies.items = omega (arith, h.1, c.len-heard.ensures, c.len-2.ensures) in
+              (h.0, replies_same a.log.replies.items c.go_on.new.self.replies.items grown.more grown.replies same),
+        );
+        moves = (led_begun c.args.self.now.at c.go_on.new.self.set.updates c.in_ok-reached.reached c.lead-read_phase.result.0 c.lead-read_phase.result.1 c.lead-read_phase.ensures, omega arith);
+        left =
+            let made : c.push.new.self.items ≡ base ++ x ∷ [] = c.in_ok-push.ensures.ok in
+            let now = length c.go_on.new.self.replies.items in
+            let on : heard ≤ now = replies_on a.log.replies.items c.go_on.new.self.replies.items grown.more grown.replies in
+            let now_is : c.len-2.result ≡ now = c.len-2.ensures in
+            let iff : IsTrue c.still-self.result ↔ (IsTrue a.extension.extended × (now ≡ heard)) =
+            ((λ e. let h = c.still-self.ensures.0 e in (h.0, omega (arith, h.1, heard_is, now_is))), (λ h. c.still-self.ensures.1 (h.0, omega (arith, h.1, heard_is, now_is)))) in
+            let kept : c.go_on.new.self.base.items ≡ base ++ x ∷ [] = ap (λ (l : Listed ReadEntry). l.items) c.in_ok-reached.ensures.base ∙ made in
+            subst (λ (b : List ReadEntry). events_left calls m.widths c.lead-read_phase.result.0 a.words.items extension b < left_opening (before - 1) m.widths a.extension.extended (words_in base) - (1 + length a.words.items)) (sym kept)
+            (close_fewer m law f rs c.args.part base a.log.set.updates c.requires.before.goes.0.awaits (length a.words.items) c.requires.all a.at c.go_on.new.self.set.updates c.in_ok-reached.reached c.lead-read_phase.result.0 c.lead-read_phase.result.1 c.lead-read_phase.ensures
+            before calls heard now a.extension.extended c.still-self.result a.words.items extension x refl refl c.in_ok-reached.ensures.left on c.in_ok-reached.ensures.asks iff);
+        err = tt;
+        script = search rules;
+        ty = search rules;
+      };
+      stopped = tt;
+      same = c.close-found.ensures.same;
+    }

@@ -14,8 +14,8 @@ use Rattle.sto_attempt_log.proofs.Causing.{by_open}
 use Rattle.sto_attempt_log.proofs.Onward.{heard_none}
 use Rattle.sto_attempt.proofs.attempt.Attempt.open.Goals as goal
 
-pub returns-then-is_locked-clause-steps : goal.returns-then-is_locked-clause-steps
-returns-then-is_locked-clause-steps g c =
+pub returns-then-is_locked-clause-made : goal.returns-then-is_locked-clause-made
+returns-then-is_locked-clause-made g c =
     let a = c.args.self.now in
     let n = c.open-found.result.0 in
     let locked : is_free n ≡ false = unlocked_is (is_free n) (sym c.is_locked.ensures ∙ c.if-is_locked.true) in
@@ -23,25 +23,29 @@ returns-then-is_locked-clause-steps g c =
     open_locked (g.T.TxType.meaning a.log.ty.now) g.T.Naming.valid (g.T.Naming.sizes a.log.ty.now) (g.B.Body.script a.log.body) a.at c.args.part a.words.items a.log.base.items a.log.set.items a.log.set.updates
     (map told a.log.replies.items) (g.C.Cells.view c.args.cells.now) (g.C.Cells.view c.open-found.new.self) (g.C.Cells.passes c.args.cells.now) n c.requires.goes.0 c.requires.log.log c.open-found.ensures.tells locked in
     record {
-      event = search rules;
-      log = c.requires.log;
-      turned = (refl, h.0, open_within (g.T.TxType.meaning a.log.ty.now) g.T.Naming.valid (g.T.Naming.sizes a.log.ty.now) (g.B.Body.script a.log.body) a.at c.args.part a.words.items a.log.base.items a.log.set.items a.log.set.updates (map told a.log.replies.items) (g.C.Cells.view c.args.cells.now) (g.C.Cells.view c.open-found.new.self) (g.C.Cells.passes c.args.cells.now) n c.requires.goes.0 c.requires.log.log c.open-found.ensures.tells, (refl, h.1));
-      grown = heard_none _ _ _ _ _;
-      alone = λ one first. (let v = g.C.Cells.view c.args.cells.now in
-          let n = c.open-found.result.0 in
-          let h = open_alone g.T.Naming.valid (g.C.Cells.passes c.args.cells.now) v (g.C.Cells.view c.open-found.new.self) c.args.part n (pos 0) c.requires.goes.0.unheld c.open-found.ensures.tells one in
-          absurd (true≢false (sym h.0 ∙ unlocked_is (is_free n) (sym c.is_locked.ensures ∙ c.if-is_locked.true))));
-      reason = search rules;
-      renewed = (refl, λ e. (e, refl));
-      moves = (tt, omega arith);
-      left = search rules;
-      err = tt;
-      script = refl;
-      ty = refl;
+      steps = record {
+        event = search rules;
+        log = c.requires.log;
+        turned = (refl, h.0, open_within (g.T.TxType.meaning a.log.ty.now) g.T.Naming.valid (g.T.Naming.sizes a.log.ty.now) (g.B.Body.script a.log.body) a.at c.args.part a.words.items a.log.base.items a.log.set.items a.log.set.updates (map told a.log.replies.items) (g.C.Cells.view c.args.cells.now) (g.C.Cells.view c.open-found.new.self) (g.C.Cells.passes c.args.cells.now) n c.requires.goes.0 c.requires.log.log c.open-found.ensures.tells, (refl, h.1));
+        grown = heard_none _ _ _ _ _;
+        alone = λ one first. (let v = g.C.Cells.view c.args.cells.now in
+            let n = c.open-found.result.0 in
+            let h = open_alone g.T.Naming.valid (g.C.Cells.passes c.args.cells.now) v (g.C.Cells.view c.open-found.new.self) c.args.part n (pos 0) c.requires.goes.0.unheld c.open-found.ensures.tells one in
+            absurd (true≢false (sym h.0 ∙ unlocked_is (is_free n) (sym c.is_locked.ensures ∙ c.if-is_locked.true))));
+        reason = search rules;
+        renewed = (refl, λ e. (e, refl));
+        moves = (tt, omega arith);
+        left = search rules;
+        err = tt;
+        script = refl;
+        ty = refl;
+      };
+      stopped = tt;
+      same = c.open-found.ensures.same;
     }
 
-pub returns-then-ticket-self-clause-steps : goal.returns-then-ticket-self-clause-steps
-returns-then-ticket-self-clause-steps g c =
+pub returns-then-ticket-self-clause-made : goal.returns-then-ticket-self-clause-made
+returns-then-ticket-self-clause-made g c =
     let a = c.args.self.now in
     let m = g.T.TxType.meaning a.log.ty.now in
     let sizes = g.T.Naming.sizes a.log.ty.now in
@@ -56,26 +60,30 @@ returns-then-ticket-self-clause-steps g c =
     c.requires.log.log c.open-found.ensures.tells free early in
     let none : c.make_room.new.words.items ≡ [] = c.make_room.ensures in
     record {
-      event = search rules;
-      log = c.requires.log;
-      turned = (
-        subst (λ (ws : List ℤ). Fits m g.T.Naming.valid sizes f a.at (Reading c.args.part c.ticket-ticket.result) ws a.log.base.items a.log.set.updates rs w) (sym none)
-            (subst (λ (s : ℕ). Fits m g.T.Naming.valid sizes f a.at (Reading c.args.part s) [] a.log.base.items a.log.set.updates rs w) (sym c.ticket-ticket.ensures.ticket) h),
-        c.requires.goes.1,
-      );
-      grown = heard_none _ _ _ _ _;
-      alone = λ one first. ((tt, tt));
-      reason = search rules;
-      renewed = (refl, λ e. (e, refl));
-      moves = (tt, omega arith);
-      left = search rules;
-      err = tt;
-      script = refl;
-      ty = refl;
+      steps = record {
+        event = search rules;
+        log = c.requires.log;
+        turned = (
+          subst (λ (ws : List ℤ). Fits m g.T.Naming.valid sizes f a.at (Reading c.args.part c.ticket-ticket.result) ws a.log.base.items a.log.set.updates rs w) (sym none)
+              (subst (λ (s : ℕ). Fits m g.T.Naming.valid sizes f a.at (Reading c.args.part s) [] a.log.base.items a.log.set.updates rs w) (sym c.ticket-ticket.ensures.ticket) h),
+          c.requires.goes.1,
+        );
+        grown = heard_none _ _ _ _ _;
+        alone = λ one first. ((tt, tt));
+        reason = search rules;
+        renewed = (refl, λ e. (e, refl));
+        moves = (tt, omega arith);
+        left = search rules;
+        err = tt;
+        script = refl;
+        ty = refl;
+      };
+      stopped = tt;
+      same = c.open-found.ensures.same;
     }
 
-pub returns-then-self-clause-steps : goal.returns-then-self-clause-steps
-returns-then-self-clause-steps g c =
+pub returns-then-self-clause-made : goal.returns-then-self-clause-made
+returns-then-self-clause-made g c =
     let a = c.args.self.now in
     let m = g.T.TxType.meaning a.log.ty.now in
     let f = g.B.Body.script a.log.body in
@@ -88,25 +96,29 @@ returns-then-self-clause-steps g c =
     open_changed m g.T.Naming.valid (g.T.Naming.sizes a.log.ty.now) f a.at c.args.part a.words.items a.log.base.items a.log.set.items a.log.set.updates rs (g.C.Cells.view c.args.cells.now) w
     (g.C.Cells.passes c.args.cells.now) n c.requires.goes.0 c.requires.log.log c.open-found.ensures.tells free later in
     record {
-      event = search rules;
-      log = c.requires.log;
-      turned = (refl, h.0, open_within (g.T.TxType.meaning a.log.ty.now) g.T.Naming.valid (g.T.Naming.sizes a.log.ty.now) (g.B.Body.script a.log.body) a.at c.args.part a.words.items a.log.base.items a.log.set.items a.log.set.updates (map told a.log.replies.items) (g.C.Cells.view c.args.cells.now) (g.C.Cells.view c.open-found.new.self) (g.C.Cells.passes c.args.cells.now) n c.requires.goes.0 c.requires.log.log c.open-found.ensures.tells, (refl, subst (λ (s : ℕ). WasChanged m f w a.at c.args.part s rs) (sym c.ticket-ticket.ensures.ticket) h.1));
-      grown = heard_none _ _ _ _ _;
-      alone = λ one first. (let v = g.C.Cells.view c.args.cells.now in
-          let n = c.open-found.result.0 in
-          let h = open_alone g.T.Naming.valid (g.C.Cells.passes c.args.cells.now) v (g.C.Cells.view c.open-found.new.self) c.args.part n (pos 0) c.requires.goes.0.unheld c.open-found.ensures.tells one in
-          absurd (omega (arith, h.1, c.requires.goes.0.number, c.if-ticket-self.false, c.ticket-ticket.ensures.ticket)));
-      reason = by_open a.log.set.items (g.C.Cells.view c.open-found.new.self) c.args.part c.ticket-ticket.result a.extension.extended a.extension.bound c.if-self.true (omega (arith, c.if-ticket-self.false, c.requires.goes.1 c.if-self.true));
-      renewed = (refl, λ e. (e, refl));
-      moves = (tt, omega arith);
-      left = search rules;
-      err = tt;
-      script = refl;
-      ty = refl;
+      steps = record {
+        event = search rules;
+        log = c.requires.log;
+        turned = (refl, h.0, open_within (g.T.TxType.meaning a.log.ty.now) g.T.Naming.valid (g.T.Naming.sizes a.log.ty.now) (g.B.Body.script a.log.body) a.at c.args.part a.words.items a.log.base.items a.log.set.items a.log.set.updates (map told a.log.replies.items) (g.C.Cells.view c.args.cells.now) (g.C.Cells.view c.open-found.new.self) (g.C.Cells.passes c.args.cells.now) n c.requires.goes.0 c.requires.log.log c.open-found.ensures.tells, (refl, subst (λ (s : ℕ). WasChanged m f w a.at c.args.part s rs) (sym c.ticket-ticket.ensures.ticket) h.1));
+        grown = heard_none _ _ _ _ _;
+        alone = λ one first. (let v = g.C.Cells.view c.args.cells.now in
+            let n = c.open-found.result.0 in
+            let h = open_alone g.T.Naming.valid (g.C.Cells.passes c.args.cells.now) v (g.C.Cells.view c.open-found.new.self) c.args.part n (pos 0) c.requires.goes.0.unheld c.open-found.ensures.tells one in
+            absurd (omega (arith, h.1, c.requires.goes.0.number, c.if-ticket-self.false, c.ticket-ticket.ensures.ticket)));
+        reason = by_open a.log.set.items (g.C.Cells.view c.open-found.new.self) c.args.part c.ticket-ticket.result a.extension.extended a.extension.bound c.if-self.true (omega (arith, c.if-ticket-self.false, c.requires.goes.1 c.if-self.true));
+        renewed = (refl, λ e. (e, refl));
+        moves = (tt, omega arith);
+        left = search rules;
+        err = tt;
+        script = refl;
+        ty = refl;
+      };
+      stopped = tt;
+      same = c.open-found.ensures.same;
     }
 
-pub returns-clause-steps : goal.returns-clause-steps
-returns-clause-steps g c =
+pub returns-clause-made : goal.returns-clause-made
+returns-clause-made g c =
     let a = c.args.self.now in
     let n = c.open-found.result.0 in
     let free : is_free n ≡ true = locked_is (is_free n) (sym c.is_locked.ensures ∙ c.if-is_locked.false) in
@@ -119,21 +131,25 @@ returns-clause-steps g c =
     let law = g.met.T.TxType.lawful a.log.ty.now in
     let base = a.log.base.items in
     record {
-      event = search rules;
-      log = c.requires.log;
-      turned = subst (λ (s : ℕ). Fits m g.T.Naming.valid sizes f a.at (Renewing c.args.part s) a.words.items a.log.base.items a.log.set.updates rs w) (sym c.ticket-ticket.ensures.ticket)
-          (open_renews (g.T.TxType.meaning a.log.ty.now) g.T.Naming.valid (g.T.Naming.sizes a.log.ty.now) (g.B.Body.script a.log.body) a.at c.args.part a.words.items a.log.base.items a.log.set.items a.log.set.updates
-          (map told a.log.replies.items) (g.C.Cells.view c.args.cells.now) (g.C.Cells.view c.open-found.new.self) (g.C.Cells.passes c.args.cells.now) n c.requires.goes.0 c.requires.log.log c.open-found.ensures.tells free later);
-      grown = heard_none _ _ _ _ _;
-      alone = λ one first. (let v = g.C.Cells.view c.args.cells.now in
-          let n = c.open-found.result.0 in
-          let h = open_alone g.T.Naming.valid (g.C.Cells.passes c.args.cells.now) v (g.C.Cells.view c.open-found.new.self) c.args.part n (pos 0) c.requires.goes.0.unheld c.open-found.ensures.tells one in
-          absurd (omega (arith, h.1, c.requires.goes.0.number, c.if-ticket-self.false, c.ticket-ticket.ensures.ticket)));
-      reason = search rules;
-      renewed = (refl, λ e. (e, refl));
-      moves = (tt, omega arith);
-      left = open_renew m law f rs c.args.part base a.log.set.updates c.requires.goes.0.awaits (g.B.Body.left a.log.body - 1) a.extension.extended c.if-self.false;
-      err = tt;
-      script = refl;
-      ty = refl;
+      steps = record {
+        event = search rules;
+        log = c.requires.log;
+        turned = subst (λ (s : ℕ). Fits m g.T.Naming.valid sizes f a.at (Renewing c.args.part s) a.words.items a.log.base.items a.log.set.updates rs w) (sym c.ticket-ticket.ensures.ticket)
+            (open_renews (g.T.TxType.meaning a.log.ty.now) g.T.Naming.valid (g.T.Naming.sizes a.log.ty.now) (g.B.Body.script a.log.body) a.at c.args.part a.words.items a.log.base.items a.log.set.items a.log.set.updates
+            (map told a.log.replies.items) (g.C.Cells.view c.args.cells.now) (g.C.Cells.view c.open-found.new.self) (g.C.Cells.passes c.args.cells.now) n c.requires.goes.0 c.requires.log.log c.open-found.ensures.tells free later);
+        grown = heard_none _ _ _ _ _;
+        alone = λ one first. (let v = g.C.Cells.view c.args.cells.now in
+            let n = c.open-found.result.0 in
+            let h = open_alone g.T.Naming.valid (g.C.Cells.passes c.args.cells.now) v (g.C.Cells.view c.open-found.new.self) c.args.part n (pos 0) c.requires.goes.0.unheld c.open-found.ensures.tells one in
+            absurd (omega (arith, h.1, c.requires.goes.0.number, c.if-ticket-self.false, c.ticket-ticket.ensures.ticket)));
+        reason = search rules;
+        renewed = (refl, λ e. (e, refl));
+        moves = (tt, omega arith);
+        left = open_renew m law f rs c.args.part base a.log.set.updates c.requires.goes.0.awaits (g.B.Body.left a.log.body - 1) a.extension.extended c.if-self.false;
+        err = tt;
+        script = refl;
+        ty = refl;
+      };
+      stopped = tt;
+      same = c.open-found.ensures.same;
     }

@@ -2,6 +2,7 @@ use Rattle.std.proofs.Common.{◌≡◌, ◌<◌, ap, sym, ◌∙◌, subst, map
 use Rattle.sto_model.specs.Told.{told}
 use Rattle.sto_attempt_log.specs.declared.log.Log.{Log}
 use Rattle.sto_attempt_log.specs.declared.read_phase.ReadPhase.{ReadPhase}
+use Rattle.sto_attempt_log.specs.declared.read_phase.ReadPhase.TheVariants.{Reading, Rereading}
 use Rattle.sto_attempt_log.specs.ReadSet.{words_in}
 use Rattle.sto_attempt_log.specs.Log.{IsOnLog, IsLog}
 use Rattle.sto_attempt_log.specs.Standing.{IsLeft}
@@ -16,7 +17,7 @@ use Rattle.sto_attempt_log.specs.Standing.{next_event, KeepsExtension}
 use Rattle.sto_attempt_log.proofs.Onward.{heard_none}
 use Rattle.sto_attempt_log.proofs.Stepping.{word_next}
 use Rattle.sto_attempt_log.specs.Standing.{HasBegun}
-use Rattle.sto_attempt_log.proofs.Stepping.{moves_ok, moves_same}
+use Rattle.sto_attempt_log.proofs.Stepping.{moves_same}
 use Rattle.sto_attempt_log.specs.Answers.{IsPrefix}
 use Rattle.sto_attempt_log.specs.Bounds.{events_left}
 use Rattle.sto_attempt_log.specs.Standing.{IsUnaborted}
@@ -80,8 +81,8 @@ returns-in-Reading-clause-steps g c =
       turned = c.word.ensures.turned;
       grown = ok_always c.word.result (HasHeard m f (words_in k.base.items) rs a.log.set (map told k.replies.items) k.set)
           (subst (λ (h : Log g.row.T.Denot g.row.B.Denot). HasHeard m f (words_in h.base.items) rs a.log.set (map told h.replies.items) h.set) (sym c.word.ensures.log) (heard_none m f (words_in a.log.base.items) rs a.log.set));
-      alone = λ one first. c.word.ensures.alone;
-      reason = if_ok c.word.result (λ turn. IsFirst b.read_phase × IsUnaborted turn) (λ turn. IsCaused (next_event m.widths a.read_phase a.words.items) b.log.set.items w a.extension turn) (λ turn h. unaborted_caused (next_event m.widths a.read_phase a.words.items) b.log.set.items w a.extension turn h.1) c.word.ensures.alone;
+      alone = λ one first. if_ok c.word.result (λ turn. (IsFirst (Reading c.in-Reading.part c.in-Reading.ticket) → IsFirst b.read_phase) × IsUnaborted turn) (λ turn. IsFirst b.read_phase × IsUnaborted turn) (λ turn h. (h.0 tt, h.1)) c.word.ensures.alone;
+      reason = if_ok c.word.result (λ turn. (IsFirst (Reading c.in-Reading.part c.in-Reading.ticket) → IsFirst b.read_phase) × IsUnaborted turn) (λ turn. IsCaused (next_event m.widths a.read_phase a.words.items) b.log.set.items w a.extension turn) (λ turn h. unaborted_caused (next_event m.widths a.read_phase a.words.items) b.log.set.items w a.extension turn h.1) c.word.ensures.alone;
       renewed = ok_always c.word.result (KeepsExtension a.read_phase w a.extension rs b.extension now) (subst (λ (s : ReadPhase). KeepsExtension s w a.extension rs b.extension now) (sym c.in-Reading.is) (keeps_same a.extension b.extension rs now c.word.ensures.extension (ap (λ (k : Log g.row.T.Denot g.row.B.Denot). map told k.replies.items) c.word.ensures.log)));
       moves = moves_same c.word.result a.read_phase (subst HasBegun (sym c.in-Reading.is) tt) a.at b.read_phase b.at w c.word.ensures.moves;
       left = subst (λ (s : ReadPhase). OnOk c.word.result (events_left (g.B.Body.left b.log.body) m.widths b.read_phase b.words.items b.extension b.log.base.items < events_left (g.B.Body.left a.log.body) m.widths s a.words.items a.extension a.log.base.items)) (sym c.in-Reading.is) c.word.ensures.left;
@@ -113,9 +114,9 @@ returns-in-Rereading-clause-steps g c =
       grown = ok_always c.reread.result (HasHeard m f (words_in k.base.items) rs a.log.set (map told k.replies.items) k.set)
           (subst (λ (h : Log g.row.T.Denot g.row.B.Denot). HasHeard m f (words_in h.base.items) rs a.log.set (map told h.replies.items) h.set) (sym c.reread.ensures.log) (heard_none m f (words_in a.log.base.items) rs a.log.set));
       alone = λ one first. absurd (subst IsFirst c.in-Rereading.is first);
-      reason = if_ok c.reread.result IsUnaborted (λ turn. IsCaused (next_event m.widths a.read_phase a.words.items) b.log.set.items w a.extension turn) (λ turn h. unaborted_caused (next_event m.widths a.read_phase a.words.items) b.log.set.items w a.extension turn h) c.reread.ensures.unaborted;
+      reason = if_ok c.reread.result (λ turn. (IsFirst (Rereading c.in-Rereading.part c.in-Rereading.ticket) → IsFirst b.read_phase) × IsUnaborted turn) (λ turn. IsCaused (next_event m.widths a.read_phase a.words.items) b.log.set.items w a.extension turn) (λ turn h. unaborted_caused (next_event m.widths a.read_phase a.words.items) b.log.set.items w a.extension turn h.1) c.reread.ensures.alone;
       renewed = ok_always c.reread.result (KeepsExtension a.read_phase w a.extension rs b.extension now) (subst (λ (s : ReadPhase). KeepsExtension s w a.extension rs b.extension now) (sym c.in-Rereading.is) (keeps_same a.extension b.extension rs now c.reread.ensures.extension (ap (λ (k : Log g.row.T.Denot g.row.B.Denot). map told k.replies.items) c.reread.ensures.log)));
-      moves = moves_ok c.reread.result a.read_phase (subst HasBegun (sym c.in-Rereading.is) tt) a.at b.read_phase b.at w c.reread.ensures.moves;
+      moves = moves_same c.reread.result a.read_phase (subst HasBegun (sym c.in-Rereading.is) tt) a.at b.read_phase b.at w c.reread.ensures.moves;
       left = subst (λ (s : ReadPhase). OnOk c.reread.result (events_left (g.B.Body.left b.log.body) m.widths b.read_phase b.words.items b.extension b.log.base.items < events_left (g.B.Body.left a.log.body) m.widths s a.words.items a.extension a.log.base.items)) (sym c.in-Rereading.is) c.reread.ensures.left;
       err = err_map c.reread.result (IsLeft w × IsPrefix m f w b.at now) (IsLeft w) (λ h. h.0) c.reread.ensures.err;
       script = ap (λ (k : Log g.row.T.Denot g.row.B.Denot). g.B.Body.script k.body) c.reread.ensures.log;

@@ -1,4 +1,4 @@
-use Rattle.std.proofs.Common.{◌≡◌, ◌<◌, true, false, Some, None, List, ℕ, pos, [], ◌∷◌, ◌++◌, ap, sym, ◌∙◌, subst, map, length, refl, arith}
+use Rattle.std.proofs.Common.{◌≡◌, ◌<◌, true, false, Some, None, List, ℕ, pos, [], ◌∷◌, ◌++◌, ap, sym, ◌∙◌, subst, map, length, refl, arith, rules}
 use Rattle.std.specs.List.{Contains}
 use Rattle.sto_item.specs.Watched.{watched}
 use Rattle.sto_item.specs.Observed.{Watched}
@@ -21,7 +21,7 @@ use Rattle.sto_attempt_log.proofs.Onward.{heard_none}
 use Rattle.sto_attempt_log.proofs.Stepping.{ok_map}
 use Rattle.sto_attempt_log.proofs.Bounding.{left_watches}
 use Rattle.sto_attempt_log.proofs.Lowering.{recheck_over, recheck_fewer}
-use Rattle.sto_attempt_log.proofs.Causing.{err_both, unaborted_ok, by_read_entry}
+use Rattle.sto_attempt_log.proofs.Causing.{unaborted_ok, by_read_entry}
 use Rattle.sto_attempt_log.proofs.Again.{rechecked_prefix, next_seen}
 use Rattle.sto_attempt.proofs.attempt.Attempt.recheck.Goals as goal
 
@@ -58,8 +58,8 @@ recheck-found-requires g c =
     let there : Contains a.log.base.items s = c.in-Some.ensures.among in
     recheck_allowed m law g.T.Naming.valid sizes is f a.at a.extension.bound c.args.part true a.log.base.items fresh a.log.set.items ws a.log.set.updates rs v goes.spans goes.observed goes.stands.1 c.requires.log.log goes.stands.0 s there c.in-Some.ensures.part
 
-pub returns-then-is_locked-clause-turned : goal.returns-then-is_locked-clause-turned
-returns-then-is_locked-clause-turned g c =
+pub returns-then-is_locked : goal.returns-then-is_locked
+returns-then-is_locked g c =
     let a = c.args.self.now in
     let m = g.T.TxType.meaning a.log.ty.now in
     let law = g.met.T.TxType.lawful a.log.ty.now in
@@ -77,15 +77,31 @@ returns-then-is_locked-clause-turned g c =
     let passes = g.C.Cells.passes c.args.cells.now in
     let n = c.recheck-found.result.0 in
     let locked : is_free n ≡ false = unlocked_is (is_free n) (sym c.is_locked.ensures ∙ c.if-is_locked.true) in
-    (refl, rechecked_left m law g.T.Naming.valid sizes is f a.at a.extension.bound c.args.part true a.log.base.items fresh a.log.set.items ws a.log.set.updates rs v goes.spans goes.observed goes.stands.1 c.requires.log.log goes.stands.0 s there c.in-Some.ensures.part w passes n (pos 0) c.recheck-found.ensures.tells, rechecked_within m law g.T.Naming.valid sizes is f a.at a.extension.bound c.args.part true a.log.base.items fresh a.log.set.items ws a.log.set.updates rs v goes.spans goes.observed goes.stands.1 c.requires.log.log goes.stands.0 s there c.in-Some.ensures.part w passes n (pos 0) c.recheck-found.ensures.tells, (refl, rechecked_locked m law g.T.Naming.valid sizes is f a.at a.extension.bound c.args.part true a.log.base.items fresh a.log.set.items ws a.log.set.updates rs v goes.spans goes.observed goes.stands.1 c.requires.log.log goes.stands.0 s there c.in-Some.ensures.part w passes n (pos 0) c.recheck-found.ensures.tells locked))
+    record {
+      steps = record {
+        event = search rules;
+        log = c.requires.log;
+        turned = (refl, rechecked_left m law g.T.Naming.valid sizes is f a.at a.extension.bound c.args.part true a.log.base.items fresh a.log.set.items ws a.log.set.updates rs v goes.spans goes.observed goes.stands.1 c.requires.log.log goes.stands.0 s there c.in-Some.ensures.part w passes n (pos 0) c.recheck-found.ensures.tells, rechecked_within m law g.T.Naming.valid sizes is f a.at a.extension.bound c.args.part true a.log.base.items fresh a.log.set.items ws a.log.set.updates rs v goes.spans goes.observed goes.stands.1 c.requires.log.log goes.stands.0 s there c.in-Some.ensures.part w passes n (pos 0) c.recheck-found.ensures.tells, (refl, rechecked_locked m law g.T.Naming.valid sizes is f a.at a.extension.bound c.args.part true a.log.base.items fresh a.log.set.items ws a.log.set.updates rs v goes.spans goes.observed goes.stands.1 c.requires.log.log goes.stands.0 s there c.in-Some.ensures.part w passes n (pos 0) c.recheck-found.ensures.tells locked));
+        grown = heard_none (g.T.TxType.meaning a.log.ty.now) (g.B.Body.script a.log.body) (words_in a.log.base.items) (map told a.log.replies.items) a.log.set;
+        alone = λ one first. absurd first;
+        reason = tt;
+        renewed = (refl, λ e. (e, refl));
+        moves = (tt, omega arith);
+        left = recheck_over m.widths (words_in a.log.base.items) fresh ws c.args.part goes.stands.1 (g.B.Body.left a.log.body - 1);
+        err = tt;
+        script = refl;
+        ty = refl;
+      };
+      stopped = tt;
+      same = c.recheck-found.ensures.same;
+    }
 
-pub returns-then-newer-ticket-clause-turned : goal.returns-then-newer-ticket-clause-turned
-returns-then-newer-ticket-clause-turned g c =
+pub returns-then-newer-ticket : goal.returns-then-newer-ticket
+returns-then-newer-ticket g c =
     let a = c.args.self.now in
     let m = g.T.TxType.meaning a.log.ty.now in
     let law = g.met.T.TxType.lawful a.log.ty.now in
     let sizes = g.T.Naming.sizes a.log.ty.now in
-    let is : (d : Parts) → g.T.Naming.valid sizes d → m.valid d = λ d h. (g.met.T.TxType.valid_is a.log.ty.now d).1 h in
     let f = g.B.Body.script a.log.body in
     let rs = map told a.log.replies.items in
     let v = g.C.Cells.view c.args.cells.now in
@@ -98,17 +114,35 @@ returns-then-newer-ticket-clause-turned g c =
     let passes = g.C.Cells.passes c.args.cells.now in
     let n = c.recheck-found.result.0 in
     let free : is_free n ≡ true = locked_is (is_free n) (sym c.is_locked.ensures ∙ c.if-is_locked.false) in
+    let is : (d : Parts) → g.T.Naming.valid sizes d → m.valid d = λ d h. (g.met.T.TxType.valid_is a.log.ty.now d).1 h in
     let ne : ticket_of n ≡ s.ticket → ⊥ = λ h. c.if-newer-ticket.true (c.ticket-newer.ensures.ticket ∙ h) in
     let h = rechecked_changed m law g.T.Naming.valid sizes is f a.at a.extension.bound c.args.part true a.log.base.items fresh a.log.set.items ws a.log.set.updates rs v goes.spans goes.observed goes.stands.1 c.requires.log.log goes.stands.0 s there c.in-Some.ensures.part w passes n (pos 0) c.recheck-found.ensures.tells free ne in
-    (refl, rechecked_left m law g.T.Naming.valid sizes is f a.at a.extension.bound c.args.part true a.log.base.items fresh a.log.set.items ws a.log.set.updates rs v goes.spans goes.observed goes.stands.1 c.requires.log.log goes.stands.0 s there c.in-Some.ensures.part w passes n (pos 0) c.recheck-found.ensures.tells, rechecked_within m law g.T.Naming.valid sizes is f a.at a.extension.bound c.args.part true a.log.base.items fresh a.log.set.items ws a.log.set.updates rs v goes.spans goes.observed goes.stands.1 c.requires.log.log goes.stands.0 s there c.in-Some.ensures.part w passes n (pos 0) c.recheck-found.ensures.tells, (refl, subst (λ (k : ℕ). WasChanged m f w a.at c.args.part k rs) (sym c.ticket-newer.ensures.ticket) h))
+    record {
+      steps = record {
+        event = search rules;
+        log = c.requires.log;
+        turned = (refl, rechecked_left m law g.T.Naming.valid sizes is f a.at a.extension.bound c.args.part true a.log.base.items fresh a.log.set.items ws a.log.set.updates rs v goes.spans goes.observed goes.stands.1 c.requires.log.log goes.stands.0 s there c.in-Some.ensures.part w passes n (pos 0) c.recheck-found.ensures.tells, rechecked_within m law g.T.Naming.valid sizes is f a.at a.extension.bound c.args.part true a.log.base.items fresh a.log.set.items ws a.log.set.updates rs v goes.spans goes.observed goes.stands.1 c.requires.log.log goes.stands.0 s there c.in-Some.ensures.part w passes n (pos 0) c.recheck-found.ensures.tells, (refl, subst (λ (k : ℕ). WasChanged m f w a.at c.args.part k rs) (sym c.ticket-newer.ensures.ticket) h));
+        grown = heard_none (g.T.TxType.meaning a.log.ty.now) (g.B.Body.script a.log.body) (words_in a.log.base.items) (map told a.log.replies.items) a.log.set;
+        alone = λ one first. absurd first;
+        reason = by_read_entry a.log.set.items (g.C.Cells.view c.recheck-found.new.self) c.args.part c.ticket-newer.result a.extension.extended a.extension.bound
+            (next_seen (length (g.T.TxType.meaning a.log.ty.now).widths) (words_in a.log.base.items) a.extension.fresh.items ws c.args.part a.log.set.items c.requires.goes.observed c.requires.goes.stands.1);
+        renewed = (refl, λ e. (e, refl));
+        moves = (tt, omega arith);
+        left = recheck_over m.widths (words_in a.log.base.items) fresh ws c.args.part goes.stands.1 (g.B.Body.left a.log.body - 1);
+        err = tt;
+        script = refl;
+        ty = refl;
+      };
+      stopped = tt;
+      same = c.recheck-found.ensures.same;
+    }
 
-pub advance-requires-clause-renewed : goal.advance-requires-clause-renewed
-advance-requires-clause-renewed g c =
+pub advance-requires : goal.advance-requires
+advance-requires g c =
     let a = c.args.self.now in
     let m = g.T.TxType.meaning a.log.ty.now in
     let law = g.met.T.TxType.lawful a.log.ty.now in
     let sizes = g.T.Naming.sizes a.log.ty.now in
-    let is : (d : Parts) → g.T.Naming.valid sizes d → m.valid d = λ d h. (g.met.T.TxType.valid_is a.log.ty.now d).1 h in
     let f = g.B.Body.script a.log.body in
     let rs = map told a.log.replies.items in
     let v = g.C.Cells.view c.args.cells.now in
@@ -125,58 +159,31 @@ advance-requires-clause-renewed g c =
     let y : ReadEntry = entry_with c.args.part c.in-Some.read_entry.ticket c.in-Some.read_entry.words.now in
     let known : words_in a.log.base.items c.args.part ≡ Some s.words.items = c.in-Some.ensures.words in
     let made : c.push.new.self.items ≡ fresh ++ y ∷ [] = c.in_ok-push.ensures.ok in
-    let h = rechecked_renewed m law g.T.Naming.valid sizes is f a.at a.extension.bound c.args.part true a.log.base.items fresh a.log.set.items ws a.log.set.updates rs v goes.spans goes.observed goes.stands.1 c.requires.log.log goes.stands.0 s there c.in-Some.ensures.part w passes n (pos 0) c.recheck-found.ensures.tells free same y refl refl refl known refl in
-    (goes.stands.1.more, subst (λ (l : List ReadEntry). IsRenewed (length m.widths) (words_in a.log.base.items) l ws goes.stands.1.more) (sym made) h)
+    record {
+      log = c.requires.log;
+      observed = c.requires.goes.observed;
+      extended = c.requires.goes.extended;
+      renewed =
+          let is : (d : Parts) → g.T.Naming.valid sizes d → m.valid d = λ d h. (g.met.T.TxType.valid_is a.log.ty.now d).1 h in
+          let h = rechecked_renewed m law g.T.Naming.valid sizes is f a.at a.extension.bound c.args.part true a.log.base.items fresh a.log.set.items ws a.log.set.updates rs v goes.spans goes.observed goes.stands.1 c.requires.log.log goes.stands.0 s there c.in-Some.ensures.part w passes n (pos 0) c.recheck-found.ensures.tells free same y refl refl refl known refl in
+          (goes.stands.1.more, subst (λ (l : List ReadEntry). IsRenewed (length m.widths) (words_in a.log.base.items) l ws goes.stands.1.more) (sym made) h);
+      bound = omega (arith, c.requires.goes.spans.above);
+      some =
+          let is : (d : Parts) → g.T.Naming.valid sizes d → m.valid d = λ d h. (g.met.T.TxType.valid_is a.log.ty.now d).1 h in
+          some_old m law g.T.Naming.valid sizes is f a.at a.extension.bound c.args.part true a.log.base.items fresh a.log.set.items ws a.log.set.updates rs v goes.spans goes.observed goes.stands.1 c.requires.log.log;
+      some_new =
+          let is : (d : Parts) → g.T.Naming.valid sizes d → m.valid d = λ d h. (g.met.T.TxType.valid_is a.log.ty.now d).1 h in
+          let h = rechecked_spans m law g.T.Naming.valid sizes is f a.at a.extension.bound c.args.part true a.log.base.items fresh a.log.set.items ws a.log.set.updates rs v goes.spans goes.observed goes.stands.1 c.requires.log.log goes.stands.0 s there c.in-Some.ensures.part w passes n (pos 0) c.recheck-found.ensures.tells free same y refl refl refl known in
+          let d = some_anew m law g.T.Naming.valid sizes is f a.at a.extension.bound c.args.part true a.log.base.items fresh a.log.set.items ws a.log.set.updates rs v goes.spans goes.observed goes.stands.1 c.requires.log.log w (fresh ++ y ∷ []) h.0 in
+          subst (λ (l : List ReadEntry). (d : Parts) × m.valid d × IsPartOf (words_in l) d) (sym made) d;
+    }
 
-pub advance-requires-clause-some : goal.advance-requires-clause-some
-advance-requires-clause-some g c =
+pub returns : goal.returns
+returns g c =
     let a = c.args.self.now in
     let m = g.T.TxType.meaning a.log.ty.now in
     let law = g.met.T.TxType.lawful a.log.ty.now in
     let sizes = g.T.Naming.sizes a.log.ty.now in
-    let is : (d : Parts) → g.T.Naming.valid sizes d → m.valid d = λ d h. (g.met.T.TxType.valid_is a.log.ty.now d).1 h in
-    let f = g.B.Body.script a.log.body in
-    let rs = map told a.log.replies.items in
-    let v = g.C.Cells.view c.args.cells.now in
-    let fresh = a.extension.fresh.items in
-    let ws = map watched a.extension.watches.items in
-    let goes = c.requires.goes in
-    some_old m law g.T.Naming.valid sizes is f a.at a.extension.bound c.args.part true a.log.base.items fresh a.log.set.items ws a.log.set.updates rs v goes.spans goes.observed goes.stands.1 c.requires.log.log
-
-pub advance-requires-clause-some_new : goal.advance-requires-clause-some_new
-advance-requires-clause-some_new g c =
-    let a = c.args.self.now in
-    let m = g.T.TxType.meaning a.log.ty.now in
-    let law = g.met.T.TxType.lawful a.log.ty.now in
-    let sizes = g.T.Naming.sizes a.log.ty.now in
-    let is : (d : Parts) → g.T.Naming.valid sizes d → m.valid d = λ d h. (g.met.T.TxType.valid_is a.log.ty.now d).1 h in
-    let f = g.B.Body.script a.log.body in
-    let rs = map told a.log.replies.items in
-    let v = g.C.Cells.view c.args.cells.now in
-    let fresh = a.extension.fresh.items in
-    let ws = map watched a.extension.watches.items in
-    let goes = c.requires.goes in
-    let s : ReadEntry = entry_with c.in-Some.read_entry.part c.in-Some.read_entry.ticket c.in-Some.read_entry.words.now in
-    let there : Contains a.log.base.items s = c.in-Some.ensures.among in
-    let w = g.C.Cells.view c.recheck-found.new.self in
-    let passes = g.C.Cells.passes c.args.cells.now in
-    let n = c.recheck-found.result.0 in
-    let free : is_free n ≡ true = locked_is (is_free n) (sym c.is_locked.ensures ∙ c.if-is_locked.false) in
-    let same : ticket_of n ≡ s.ticket = sym c.ticket-newer.ensures.ticket ∙ c.if-newer-ticket.false in
-    let y : ReadEntry = entry_with c.args.part c.in-Some.read_entry.ticket c.in-Some.read_entry.words.now in
-    let known : words_in a.log.base.items c.args.part ≡ Some s.words.items = c.in-Some.ensures.words in
-    let made : c.push.new.self.items ≡ fresh ++ y ∷ [] = c.in_ok-push.ensures.ok in
-    let h = rechecked_spans m law g.T.Naming.valid sizes is f a.at a.extension.bound c.args.part true a.log.base.items fresh a.log.set.items ws a.log.set.updates rs v goes.spans goes.observed goes.stands.1 c.requires.log.log goes.stands.0 s there c.in-Some.ensures.part w passes n (pos 0) c.recheck-found.ensures.tells free same y refl refl refl known in
-    let d = some_anew m law g.T.Naming.valid sizes is f a.at a.extension.bound c.args.part true a.log.base.items fresh a.log.set.items ws a.log.set.updates rs v goes.spans goes.observed goes.stands.1 c.requires.log.log w (fresh ++ y ∷ []) h.0 in
-    subst (λ (l : List ReadEntry). (d : Parts) × m.valid d × IsPartOf (words_in l) d) (sym made) d
-
-pub returns-clause-turned : goal.returns-clause-turned
-returns-clause-turned g c =
-    let a = c.args.self.now in
-    let m = g.T.TxType.meaning a.log.ty.now in
-    let law = g.met.T.TxType.lawful a.log.ty.now in
-    let sizes = g.T.Naming.sizes a.log.ty.now in
-    let is : (d : Parts) → g.T.Naming.valid sizes d → m.valid d = λ d h. (g.met.T.TxType.valid_is a.log.ty.now d).1 h in
     let f = g.B.Body.script a.log.body in
     let rs = map told a.log.replies.items in
     let v = g.C.Cells.view c.args.cells.now in
@@ -187,164 +194,6 @@ returns-clause-turned g c =
     let there : Contains a.log.base.items s = c.in-Some.ensures.among in
     let w = g.C.Cells.view c.recheck-found.new.self in
     let passes = g.C.Cells.passes c.args.cells.now in
-    let n = c.recheck-found.result.0 in
-    let free : is_free n ≡ true = locked_is (is_free n) (sym c.is_locked.ensures ∙ c.if-is_locked.false) in
-    let same : ticket_of n ≡ s.ticket = sym c.ticket-newer.ensures.ticket ∙ c.if-newer-ticket.false in
-    let y : ReadEntry = entry_with c.args.part c.in-Some.read_entry.ticket c.in-Some.read_entry.words.now in
-    let known : words_in a.log.base.items c.args.part ≡ Some s.words.items = c.in-Some.ensures.words in
-    let made : c.push.new.self.items ≡ fresh ++ y ∷ [] = c.in_ok-push.ensures.ok in
-    let h = rechecked_spans m law g.T.Naming.valid sizes is f a.at a.extension.bound c.args.part true a.log.base.items fresh a.log.set.items ws a.log.set.updates rs v goes.spans goes.observed goes.stands.1 c.requires.log.log goes.stands.0 s there c.in-Some.ensures.part w passes n (pos 0) c.recheck-found.ensures.tells free same y refl refl refl known in
-    c.advance.ensures.turned w (subst (λ (l : List ReadEntry). Spans m g.T.Naming.valid sizes a.at a.extension.bound a.log.base.items l w) (sym made) h.0) h.1
-
-pub returns-then-is_locked-clause-grown : goal.returns-then-is_locked-clause-grown
-returns-then-is_locked-clause-grown g c =
-    let a = c.args.self.now in
-    heard_none (g.T.TxType.meaning a.log.ty.now) (g.B.Body.script a.log.body) (words_in a.log.base.items) (map told a.log.replies.items) a.log.set
-
-pub returns-then-newer-ticket-clause-grown : goal.returns-then-newer-ticket-clause-grown
-returns-then-newer-ticket-clause-grown g c =
-    let a = c.args.self.now in
-    heard_none (g.T.TxType.meaning a.log.ty.now) (g.B.Body.script a.log.body) (words_in a.log.base.items) (map told a.log.replies.items) a.log.set
-
-pub returns-clause-reason : goal.returns-clause-reason
-returns-clause-reason g c =
-    let a = c.args.self.now in
-    unaborted_ok (Recheck c.args.part) c.advance.new.self.log.set.items (g.C.Cells.view c.recheck-found.new.self) a.extension c.advance.result c.advance.ensures.unaborted
-
-pub returns-clause-renewed : goal.returns-clause-renewed
-returns-clause-renewed g c =
-    let a = c.args.self.now in
-    let b = c.advance.new.self in
-    let rs = map told a.log.replies.items in
-    let now = map told b.log.replies.items in
-    ok_map c.advance.result ((b.extension.bound ≡ a.extension.bound) × (b.extension.extended ≡ true → now ≡ rs)) ((b.extension.bound ≡ a.extension.bound) × (b.extension.extended ≡ true → (a.extension.extended ≡ true) × (now ≡ rs)))
-    (λ h. (h.0, λ e. (c.requires.goes.extended, h.1 e))) c.advance.ensures.renewed
-
-pub returns-then-newer-ticket-clause-reason : goal.returns-then-newer-ticket-clause-reason
-returns-then-newer-ticket-clause-reason g c =
-    let a = c.args.self.now in
-    let ws = map watched a.extension.watches.items in
-    by_read_entry a.log.set.items (g.C.Cells.view c.recheck-found.new.self) c.args.part c.ticket-newer.result a.extension.extended a.extension.bound
-    (next_seen (length (g.T.TxType.meaning a.log.ty.now).widths) (words_in a.log.base.items) a.extension.fresh.items ws c.args.part a.log.set.items c.requires.goes.observed c.requires.goes.stands.1)
-
-pub returns-then-is_locked-clause-left : goal.returns-then-is_locked-clause-left
-returns-then-is_locked-clause-left g c =
-    let a = c.args.self.now in
-    let m = g.T.TxType.meaning a.log.ty.now in
-    let law = g.met.T.TxType.lawful a.log.ty.now in
-    let sizes = g.T.Naming.sizes a.log.ty.now in
-    let is : (d : Parts) → g.T.Naming.valid sizes d → m.valid d = λ d h. (g.met.T.TxType.valid_is a.log.ty.now d).1 h in
-    let f = g.B.Body.script a.log.body in
-    let rs = map told a.log.replies.items in
-    let v = g.C.Cells.view c.args.cells.now in
-    let fresh = a.extension.fresh.items in
-    let ws = map watched a.extension.watches.items in
-    let goes = c.requires.goes in
-    let passes = g.C.Cells.passes c.args.cells.now in
-    recheck_over m.widths (words_in a.log.base.items) fresh ws c.args.part goes.stands.1 (g.B.Body.left a.log.body - 1)
-
-pub returns-then-newer-ticket-clause-left : goal.returns-then-newer-ticket-clause-left
-returns-then-newer-ticket-clause-left g c =
-    let a = c.args.self.now in
-    let m = g.T.TxType.meaning a.log.ty.now in
-    let law = g.met.T.TxType.lawful a.log.ty.now in
-    let sizes = g.T.Naming.sizes a.log.ty.now in
-    let is : (d : Parts) → g.T.Naming.valid sizes d → m.valid d = λ d h. (g.met.T.TxType.valid_is a.log.ty.now d).1 h in
-    let f = g.B.Body.script a.log.body in
-    let rs = map told a.log.replies.items in
-    let v = g.C.Cells.view c.args.cells.now in
-    let fresh = a.extension.fresh.items in
-    let ws = map watched a.extension.watches.items in
-    let goes = c.requires.goes in
-    let passes = g.C.Cells.passes c.args.cells.now in
-    recheck_over m.widths (words_in a.log.base.items) fresh ws c.args.part goes.stands.1 (g.B.Body.left a.log.body - 1)
-
-pub returns-then-len-clause-err : goal.returns-then-len-clause-err
-returns-then-len-clause-err g c =
-    let a = c.args.self.now in
-    let m = g.T.TxType.meaning a.log.ty.now in
-    let law = g.met.T.TxType.lawful a.log.ty.now in
-    let sizes = g.T.Naming.sizes a.log.ty.now in
-    let is : (d : Parts) → g.T.Naming.valid sizes d → m.valid d = λ d h. (g.met.T.TxType.valid_is a.log.ty.now d).1 h in
-    let f = g.B.Body.script a.log.body in
-    let rs = map told a.log.replies.items in
-    let v = g.C.Cells.view c.args.cells.now in
-    let fresh = a.extension.fresh.items in
-    let ws = map watched a.extension.watches.items in
-    let goes = c.requires.goes in
-    let passes = g.C.Cells.passes c.args.cells.now in
-    let s : ReadEntry = entry_with c.in-Some.read_entry.part c.in-Some.read_entry.ticket c.in-Some.read_entry.words.now in
-    let there : Contains a.log.base.items s = c.in-Some.ensures.among in
-    let w = g.C.Cells.view c.recheck-found.new.self in
-    let n = c.recheck-found.result.0 in
-    (rechecked_left m law g.T.Naming.valid sizes is f a.at a.extension.bound c.args.part true a.log.base.items fresh a.log.set.items ws a.log.set.updates rs v goes.spans goes.observed goes.stands.1 c.requires.log.log goes.stands.0 s there c.in-Some.ensures.part w passes n (pos 0) c.recheck-found.ensures.tells, rechecked_prefix m law g.T.Naming.valid sizes is f a.at a.extension.bound c.args.part true a.log.base.items fresh a.log.set.items ws a.log.set.updates rs v goes.spans goes.observed goes.stands.1 c.requires.log.log goes.stands.0 s there c.in-Some.ensures.part w passes n (pos 0) c.recheck-found.ensures.tells)
-
-pub returns-in_err-push-clause-err : goal.returns-in_err-push-clause-err
-returns-in_err-push-clause-err g c =
-    let a = c.args.self.now in
-    let m = g.T.TxType.meaning a.log.ty.now in
-    let law = g.met.T.TxType.lawful a.log.ty.now in
-    let sizes = g.T.Naming.sizes a.log.ty.now in
-    let is : (d : Parts) → g.T.Naming.valid sizes d → m.valid d = λ d h. (g.met.T.TxType.valid_is a.log.ty.now d).1 h in
-    let f = g.B.Body.script a.log.body in
-    let rs = map told a.log.replies.items in
-    let v = g.C.Cells.view c.args.cells.now in
-    let fresh = a.extension.fresh.items in
-    let ws = map watched a.extension.watches.items in
-    let goes = c.requires.goes in
-    let passes = g.C.Cells.passes c.args.cells.now in
-    let s : ReadEntry = entry_with c.in-Some.read_entry.part c.in-Some.read_entry.ticket c.in-Some.read_entry.words.now in
-    let there : Contains a.log.base.items s = c.in-Some.ensures.among in
-    let w = g.C.Cells.view c.recheck-found.new.self in
-    let n = c.recheck-found.result.0 in
-    always_err c.from_residual.result (IsLeft w × IsPrefix m f w a.at rs) (rechecked_left m law g.T.Naming.valid sizes is f a.at a.extension.bound c.args.part true a.log.base.items fresh a.log.set.items ws a.log.set.updates rs v goes.spans goes.observed goes.stands.1 c.requires.log.log goes.stands.0 s there c.in-Some.ensures.part w passes n (pos 0) c.recheck-found.ensures.tells, rechecked_prefix m law g.T.Naming.valid sizes is f a.at a.extension.bound c.args.part true a.log.base.items fresh a.log.set.items ws a.log.set.updates rs v goes.spans goes.observed goes.stands.1 c.requires.log.log goes.stands.0 s there c.in-Some.ensures.part w passes n (pos 0) c.recheck-found.ensures.tells)
-
-pub returns-clause-err : goal.returns-clause-err
-returns-clause-err g c =
-    let a = c.args.self.now in
-    let m = g.T.TxType.meaning a.log.ty.now in
-    let law = g.met.T.TxType.lawful a.log.ty.now in
-    let sizes = g.T.Naming.sizes a.log.ty.now in
-    let is : (d : Parts) → g.T.Naming.valid sizes d → m.valid d = λ d h. (g.met.T.TxType.valid_is a.log.ty.now d).1 h in
-    let f = g.B.Body.script a.log.body in
-    let rs = map told a.log.replies.items in
-    let v = g.C.Cells.view c.args.cells.now in
-    let fresh = a.extension.fresh.items in
-    let ws = map watched a.extension.watches.items in
-    let goes = c.requires.goes in
-    let passes = g.C.Cells.passes c.args.cells.now in
-    let s : ReadEntry = entry_with c.in-Some.read_entry.part c.in-Some.read_entry.ticket c.in-Some.read_entry.words.now in
-    let there : Contains a.log.base.items s = c.in-Some.ensures.among in
-    let w = g.C.Cells.view c.recheck-found.new.self in
-    let n = c.recheck-found.result.0 in
-    let free : is_free n ≡ true = locked_is (is_free n) (sym c.is_locked.ensures ∙ c.if-is_locked.false) in
-    let same : ticket_of n ≡ s.ticket = sym c.ticket-newer.ensures.ticket ∙ c.if-newer-ticket.false in
-    let y : ReadEntry = entry_with c.args.part c.in-Some.read_entry.ticket c.in-Some.read_entry.words.now in
-    let known : words_in a.log.base.items c.args.part ≡ Some s.words.items = c.in-Some.ensures.words in
-    let made : c.push.new.self.items ≡ fresh ++ y ∷ [] = c.in_ok-push.ensures.ok in
-    let h = rechecked_spans m law g.T.Naming.valid sizes is f a.at a.extension.bound c.args.part true a.log.base.items fresh a.log.set.items ws a.log.set.updates rs v goes.spans goes.observed goes.stands.1 c.requires.log.log goes.stands.0 s there c.in-Some.ensures.part w passes n (pos 0) c.recheck-found.ensures.tells free same y refl refl refl known in
-    let now = map told c.advance.new.self.log.replies.items in
-    let left : IsLeft w = rechecked_left m law g.T.Naming.valid sizes is f a.at a.extension.bound c.args.part true a.log.base.items fresh a.log.set.items ws a.log.set.updates rs v goes.spans goes.observed goes.stands.1 c.requires.log.log goes.stands.0 s there c.in-Some.ensures.part w passes n (pos 0) c.recheck-found.ensures.tells in
-    err_both c.advance.result (IsLeft w) (IsPrefix m f w c.advance.new.self.at now) (always_err c.advance.result (IsLeft w) left)
-    (c.advance.ensures.stopped w (subst (λ (l : List ReadEntry). Spans m g.T.Naming.valid sizes a.at a.extension.bound a.log.base.items l w) (sym made) h.0))
-
-pub returns-clause-left : goal.returns-clause-left
-returns-clause-left g c =
-    let a = c.args.self.now in
-    let m = g.T.TxType.meaning a.log.ty.now in
-    let law = g.met.T.TxType.lawful a.log.ty.now in
-    let sizes = g.T.Naming.sizes a.log.ty.now in
-    let is : (d : Parts) → g.T.Naming.valid sizes d → m.valid d = λ d h. (g.met.T.TxType.valid_is a.log.ty.now d).1 h in
-    let f = g.B.Body.script a.log.body in
-    let rs = map told a.log.replies.items in
-    let v = g.C.Cells.view c.args.cells.now in
-    let fresh = a.extension.fresh.items in
-    let ws = map watched a.extension.watches.items in
-    let goes = c.requires.goes in
-    let passes = g.C.Cells.passes c.args.cells.now in
-    let s : ReadEntry = entry_with c.in-Some.read_entry.part c.in-Some.read_entry.ticket c.in-Some.read_entry.words.now in
-    let there : Contains a.log.base.items s = c.in-Some.ensures.among in
-    let w = g.C.Cells.view c.recheck-found.new.self in
     let n = c.recheck-found.result.0 in
     let free : is_free n ≡ true = locked_is (is_free n) (sym c.is_locked.ensures ∙ c.if-is_locked.false) in
     let same : ticket_of n ≡ s.ticket = sym c.ticket-newer.ensures.ticket ∙ c.if-newer-ticket.false in
@@ -354,14 +203,118 @@ returns-clause-left g c =
     let b = c.advance.new.self in
     let old = words_in a.log.base.items in
     let next = goes.stands.1 in
-    let h = rechecked_renewed m law g.T.Naming.valid sizes is f a.at a.extension.bound c.args.part true a.log.base.items fresh a.log.set.items ws a.log.set.updates rs v goes.spans goes.observed goes.stands.1 c.requires.log.log goes.stands.0 s there c.in-Some.ensures.part w passes n (pos 0) c.recheck-found.ensures.tells free same y refl refl refl known refl in
-    let gone : drop (length c.push.new.self.items) ws ≡ next.more = ap (λ (l : List ReadEntry). drop (length l) ws) made ∙ left_watches (length m.widths) old (fresh ++ y ∷ []) ws next.more h in
     let before = g.B.Body.left a.log.body in
-    let now = events_left (g.B.Body.left b.log.body) m.widths b.read_phase b.words.items b.extension b.log.base.items in
-    let fewer : OnOk c.advance.result (now < 1 + left_extending (before - 1) m.widths next.more) =
-    subst (λ (l : List Watched). OnOk c.advance.result (now < 1 + left_extending (before - 1) m.widths l)) gone c.advance.ensures.left in
-    ok_map c.advance.result (now < 1 + left_extending (before - 1) m.widths next.more) (now < left_extending (before - 1) m.widths (drop (length fresh) ws))
-    (recheck_fewer m.widths old fresh ws c.args.part next (before - 1) now) fewer
+    record {
+      steps = record {
+        event = search rules;
+        log = c.advance.ensures.log;
+        turned =
+            let is : (d : Parts) → g.T.Naming.valid sizes d → m.valid d = λ d h. (g.met.T.TxType.valid_is a.log.ty.now d).1 h in
+            let h = rechecked_spans m law g.T.Naming.valid sizes is f a.at a.extension.bound c.args.part true a.log.base.items fresh a.log.set.items ws a.log.set.updates rs v goes.spans goes.observed goes.stands.1 c.requires.log.log goes.stands.0 s there c.in-Some.ensures.part w passes n (pos 0) c.recheck-found.ensures.tells free same y refl refl refl known in
+            c.advance.ensures.turned w (subst (λ (l : List ReadEntry). Spans m g.T.Naming.valid sizes a.at a.extension.bound a.log.base.items l w) (sym made) h.0) h.1;
+        grown = c.advance.ensures.grown;
+        alone = λ one first. absurd first;
+        reason = unaborted_ok (Recheck c.args.part) c.advance.new.self.log.set.items (g.C.Cells.view c.recheck-found.new.self) a.extension c.advance.result c.advance.ensures.unaborted;
+        renewed =
+            let now = map told b.log.replies.items in
+            ok_map c.advance.result ((b.extension.bound ≡ a.extension.bound) × (b.extension.extended ≡ true → now ≡ rs)) ((b.extension.bound ≡ a.extension.bound) × (b.extension.extended ≡ true → (a.extension.extended ≡ true) × (now ≡ rs)))
+            (λ h. (h.0, λ e. (c.requires.goes.extended, h.1 e))) c.advance.ensures.renewed;
+        moves = c.advance.ensures.moves;
+        left =
+            let is : (d : Parts) → g.T.Naming.valid sizes d → m.valid d = λ d h. (g.met.T.TxType.valid_is a.log.ty.now d).1 h in
+            let h = rechecked_renewed m law g.T.Naming.valid sizes is f a.at a.extension.bound c.args.part true a.log.base.items fresh a.log.set.items ws a.log.set.updates rs v goes.spans goes.observed goes.stands.1 c.requires.log.log goes.stands.0 s there c.in-Some.ensures.part w passes n (pos 0) c.recheck-found.ensures.tells free same y refl refl refl known refl in
+            let gone : drop (length c.push.new.self.items) ws ≡ next.more = ap (λ (l : List ReadEntry). drop (length l) ws) made ∙ left_watches (length m.widths) old (fresh ++ y ∷ []) ws next.more h in
+            let now = events_left (g.B.Body.left b.log.body) m.widths b.read_phase b.words.items b.extension b.log.base.items in
+            let fewer : OnOk c.advance.result (now < 1 + left_extending (before - 1) m.widths next.more) =
+            subst (λ (l : List Watched). OnOk c.advance.result (now < 1 + left_extending (before - 1) m.widths l)) gone c.advance.ensures.left in
+            ok_map c.advance.result (now < 1 + left_extending (before - 1) m.widths next.more) (now < left_extending (before - 1) m.widths (drop (length fresh) ws))
+            (recheck_fewer m.widths old fresh ws c.args.part next (before - 1) now) fewer;
+        err =
+            let is : (d : Parts) → g.T.Naming.valid sizes d → m.valid d = λ d h. (g.met.T.TxType.valid_is a.log.ty.now d).1 h in
+            let left : IsLeft w = rechecked_left m law g.T.Naming.valid sizes is f a.at a.extension.bound c.args.part true a.log.base.items fresh a.log.set.items ws a.log.set.updates rs v goes.spans goes.observed goes.stands.1 c.requires.log.log goes.stands.0 s there c.in-Some.ensures.part w passes n (pos 0) c.recheck-found.ensures.tells in
+            always_err c.advance.result (IsLeft w) left;
+        script = c.advance.ensures.script;
+        ty = c.advance.ensures.ty;
+      };
+      stopped =
+          let is : (d : Parts) → g.T.Naming.valid sizes d → m.valid d = λ d h. (g.met.T.TxType.valid_is a.log.ty.now d).1 h in
+          let h = rechecked_spans m law g.T.Naming.valid sizes is f a.at a.extension.bound c.args.part true a.log.base.items fresh a.log.set.items ws a.log.set.updates rs v goes.spans goes.observed goes.stands.1 c.requires.log.log goes.stands.0 s there c.in-Some.ensures.part w passes n (pos 0) c.recheck-found.ensures.tells free same y refl refl refl known in
+          c.advance.ensures.stopped w (subst (λ (l : List ReadEntry). Spans m g.T.Naming.valid sizes a.at a.extension.bound a.log.base.items l w) (sym made) h.0);
+      same = c.recheck-found.ensures.same;
+    }
 
-pub advance-requires-clause-bound : goal.advance-requires-clause-bound
-advance-requires-clause-bound g c = omega (arith, c.requires.goes.spans.above)
+pub returns-then-len : goal.returns-then-len
+returns-then-len g c =
+    let a = c.args.self.now in
+    let m = g.T.TxType.meaning a.log.ty.now in
+    let law = g.met.T.TxType.lawful a.log.ty.now in
+    let sizes = g.T.Naming.sizes a.log.ty.now in
+    let is : (d : Parts) → g.T.Naming.valid sizes d → m.valid d = λ d h. (g.met.T.TxType.valid_is a.log.ty.now d).1 h in
+    let f = g.B.Body.script a.log.body in
+    let rs = map told a.log.replies.items in
+    let v = g.C.Cells.view c.args.cells.now in
+    let fresh = a.extension.fresh.items in
+    let ws = map watched a.extension.watches.items in
+    let goes = c.requires.goes in
+    let passes = g.C.Cells.passes c.args.cells.now in
+    let s : ReadEntry = entry_with c.in-Some.read_entry.part c.in-Some.read_entry.ticket c.in-Some.read_entry.words.now in
+    let there : Contains a.log.base.items s = c.in-Some.ensures.among in
+    let w = g.C.Cells.view c.recheck-found.new.self in
+    let n = c.recheck-found.result.0 in
+    let stops : IsLeft w × IsPrefix m f w a.at rs = (rechecked_left m law g.T.Naming.valid sizes is f a.at a.extension.bound c.args.part true a.log.base.items fresh a.log.set.items ws a.log.set.updates rs v goes.spans goes.observed goes.stands.1 c.requires.log.log goes.stands.0 s there c.in-Some.ensures.part w passes n (pos 0) c.recheck-found.ensures.tells, rechecked_prefix m law g.T.Naming.valid sizes is f a.at a.extension.bound c.args.part true a.log.base.items fresh a.log.set.items ws a.log.set.updates rs v goes.spans goes.observed goes.stands.1 c.requires.log.log goes.stands.0 s there c.in-Some.ensures.part w passes n (pos 0) c.recheck-found.ensures.tells) in
+    record {
+      steps = record {
+        event = search rules;
+        log = tt;
+        turned = tt;
+        grown = tt;
+        alone = λ one first. tt;
+        reason = tt;
+        renewed = tt;
+        moves = tt;
+        left = tt;
+        err = stops.0;
+        script = refl;
+        ty = refl;
+      };
+      stopped = stops.1;
+      same = c.recheck-found.ensures.same;
+    }
+
+pub returns-in_err-push : goal.returns-in_err-push
+returns-in_err-push g c =
+    let a = c.args.self.now in
+    let m = g.T.TxType.meaning a.log.ty.now in
+    let law = g.met.T.TxType.lawful a.log.ty.now in
+    let sizes = g.T.Naming.sizes a.log.ty.now in
+    let is : (d : Parts) → g.T.Naming.valid sizes d → m.valid d = λ d h. (g.met.T.TxType.valid_is a.log.ty.now d).1 h in
+    let f = g.B.Body.script a.log.body in
+    let rs = map told a.log.replies.items in
+    let v = g.C.Cells.view c.args.cells.now in
+    let fresh = a.extension.fresh.items in
+    let ws = map watched a.extension.watches.items in
+    let goes = c.requires.goes in
+    let passes = g.C.Cells.passes c.args.cells.now in
+    let s : ReadEntry = entry_with c.in-Some.read_entry.part c.in-Some.read_entry.ticket c.in-Some.read_entry.words.now in
+    let there : Contains a.log.base.items s = c.in-Some.ensures.among in
+    let w = g.C.Cells.view c.recheck-found.new.self in
+    let n = c.recheck-found.result.0 in
+    let stops : IsLeft w × IsPrefix m f w a.at rs = (rechecked_left m law g.T.Naming.valid sizes is f a.at a.extension.bound c.args.part true a.log.base.items fresh a.log.set.items ws a.log.set.updates rs v goes.spans goes.observed goes.stands.1 c.requires.log.log goes.stands.0 s there c.in-Some.ensures.part w passes n (pos 0) c.recheck-found.ensures.tells, rechecked_prefix m law g.T.Naming.valid sizes is f a.at a.extension.bound c.args.part true a.log.base.items fresh a.log.set.items ws a.log.set.updates rs v goes.spans goes.observed goes.stands.1 c.requires.log.log goes.stands.0 s there c.in-Some.ensures.part w passes n (pos 0) c.recheck-found.ensures.tells) in
+    record {
+      steps = record {
+        event = search rules;
+        log = search rules;
+        turned = search rules;
+        grown = search rules;
+        alone = λ one first. search rules;
+        reason = search rules;
+        renewed = search rules;
+        moves = search rules;
+        left = search rules;
+        err = always_err c.from_residual.result (IsLeft w) stops.0;
+        script = search rules;
+        ty = search rules;
+      };
+      stopped = always_err c.from_residual.result (IsPrefix m f w a.at rs) stops.1;
+      same = c.recheck-found.ensures.same;
+    }

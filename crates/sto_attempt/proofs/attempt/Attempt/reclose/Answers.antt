@@ -1,4 +1,4 @@
-use Rattle.std.proofs.Common.{◌≡◌, ◌<◌, true, false, Some, List, ℤ, ℕ, [], ◌∷◌, ◌++◌, ap, sym, ◌∙◌, subst, map, length, arith, refl, true≢false}
+use Rattle.std.proofs.Common.{◌≡◌, ◌<◌, true, false, Some, List, ℤ, ℕ, [], ◌∷◌, ◌++◌, ap, sym, ◌∙◌, subst, map, length, arith, refl, true≢false, rules}
 use Rattle.std.specs.List.{slice_get}
 use Rattle.std.specs.Option.{option_map}
 use Rattle.std.proofs.lemmas.Option.{slice_get-map}
@@ -26,7 +26,7 @@ use Rattle.sto_attempt_log.proofs.Onward.{heard_none}
 use Rattle.sto_attempt_log.proofs.Stepping.{ok_map}
 use Rattle.sto_attempt_log.proofs.Bounding.{left_watches}
 use Rattle.sto_attempt_log.proofs.Lowering.{reclose_over, reclose_fewer}
-use Rattle.sto_attempt_log.proofs.Causing.{err_both, unaborted_ok, by_close, by_predicate}
+use Rattle.sto_attempt_log.proofs.Causing.{unaborted_ok, by_close, by_predicate}
 use Rattle.sto_attempt_log.proofs.Again.{reclosed_prefix, reclosed_read}
 use Rattle.sto_attempt.proofs.attempt.Attempt.reclose.Goals as goal
 
@@ -48,8 +48,18 @@ close-found-requires g c =
     let goes = c.requires.before.goes in
     reclose_allowed m law g.T.Naming.valid sizes is f a.at a.extension.bound c.args.part false a.log.base.items fresh a.log.set.items ws a.log.set.updates rs v goes.spans goes.observed goes.stands.3 c.requires.before.log.log c.args.ticket a.words.items goes.stands.0 goes.stands.1 c.requires.all
 
-pub returns-then-is_locked-clause-turned : goal.returns-then-is_locked-clause-turned
-returns-then-is_locked-clause-turned g c =
+pub get-watch-requires : goal.get-watch-requires
+get-watch-requires g c =
+    let a = c.args.self.now in
+    let m = g.T.TxType.meaning a.log.ty.now in
+    let fresh = a.extension.fresh.items in
+    let ws = map watched a.extension.watches.items in
+    let goes = c.requires.before.goes in
+    let short = next_short (length m.widths) (words_in a.log.base.items) fresh ws false c.args.part goes.stands.3 in
+    omega (arith, short, length-map a.extension.watches.items watched, c.len-place.ensures)
+
+pub returns-then-is_locked : goal.returns-then-is_locked
+returns-then-is_locked g c =
     let a = c.args.self.now in
     let m = g.T.TxType.meaning a.log.ty.now in
     let law = g.met.T.TxType.lawful a.log.ty.now in
@@ -65,15 +75,31 @@ returns-then-is_locked-clause-turned g c =
     let passes = g.C.Cells.passes c.args.cells.now in
     let n = c.close-found.result.0 in
     let locked : is_free n ≡ false = unlocked_is (is_free n) (sym c.is_locked.ensures ∙ c.if-is_locked.true) in
-    (refl, reclosed_left m law g.T.Naming.valid sizes is f a.at a.extension.bound c.args.part false a.log.base.items fresh a.log.set.items ws a.log.set.updates rs v goes.spans goes.observed goes.stands.3 c.requires.before.log.log c.args.ticket a.words.items goes.stands.0 goes.stands.1 c.requires.all w passes n c.close-found.ensures.tells, reclosed_within m law g.T.Naming.valid sizes is f a.at a.extension.bound c.args.part false a.log.base.items fresh a.log.set.items ws a.log.set.updates rs v goes.spans goes.observed goes.stands.3 c.requires.before.log.log c.args.ticket a.words.items goes.stands.0 goes.stands.1 c.requires.all w passes n c.close-found.ensures.tells, (refl, reclosed_locked m law g.T.Naming.valid sizes is f a.at a.extension.bound c.args.part false a.log.base.items fresh a.log.set.items ws a.log.set.updates rs v goes.spans goes.observed goes.stands.3 c.requires.before.log.log c.args.ticket a.words.items goes.stands.0 goes.stands.1 c.requires.all w passes n c.close-found.ensures.tells locked))
+    record {
+      steps = record {
+        event = search rules;
+        log = c.requires.before.log;
+        turned = (refl, reclosed_left m law g.T.Naming.valid sizes is f a.at a.extension.bound c.args.part false a.log.base.items fresh a.log.set.items ws a.log.set.updates rs v goes.spans goes.observed goes.stands.3 c.requires.before.log.log c.args.ticket a.words.items goes.stands.0 goes.stands.1 c.requires.all w passes n c.close-found.ensures.tells, reclosed_within m law g.T.Naming.valid sizes is f a.at a.extension.bound c.args.part false a.log.base.items fresh a.log.set.items ws a.log.set.updates rs v goes.spans goes.observed goes.stands.3 c.requires.before.log.log c.args.ticket a.words.items goes.stands.0 goes.stands.1 c.requires.all w passes n c.close-found.ensures.tells, (refl, reclosed_locked m law g.T.Naming.valid sizes is f a.at a.extension.bound c.args.part false a.log.base.items fresh a.log.set.items ws a.log.set.updates rs v goes.spans goes.observed goes.stands.3 c.requires.before.log.log c.args.ticket a.words.items goes.stands.0 goes.stands.1 c.requires.all w passes n c.close-found.ensures.tells locked));
+        grown = heard_none (g.T.TxType.meaning a.log.ty.now) (g.B.Body.script a.log.body) (words_in a.log.base.items) (map told a.log.replies.items) a.log.set;
+        alone = λ one first. absurd first;
+        reason = tt;
+        renewed = (refl, λ e. (e, refl));
+        moves = (tt, omega arith);
+        left = reclose_over m.widths (words_in a.log.base.items) fresh ws c.args.part goes.stands.3 (g.B.Body.left a.log.body - 1) (length a.words.items) c.requires.all;
+        err = tt;
+        script = refl;
+        ty = refl;
+      };
+      stopped = tt;
+      same = c.close-found.ensures.same;
+    }
 
-pub returns-then-newer-ticket-clause-turned : goal.returns-then-newer-ticket-clause-turned
-returns-then-newer-ticket-clause-turned g c =
+pub returns-then-newer-ticket : goal.returns-then-newer-ticket
+returns-then-newer-ticket g c =
     let a = c.args.self.now in
     let m = g.T.TxType.meaning a.log.ty.now in
     let law = g.met.T.TxType.lawful a.log.ty.now in
     let sizes = g.T.Naming.sizes a.log.ty.now in
-    let is : (d : Parts) → g.T.Naming.valid sizes d → m.valid d = λ d h. (g.met.T.TxType.valid_is a.log.ty.now d).1 h in
     let f = g.B.Body.script a.log.body in
     let rs = map told a.log.replies.items in
     let v = g.C.Cells.view c.args.cells.now in
@@ -84,184 +110,30 @@ returns-then-newer-ticket-clause-turned g c =
     let passes = g.C.Cells.passes c.args.cells.now in
     let n = c.close-found.result.0 in
     let free : is_free n ≡ true = locked_is (is_free n) (sym c.is_locked.ensures ∙ c.if-is_locked.false) in
+    let is : (d : Parts) → g.T.Naming.valid sizes d → m.valid d = λ d h. (g.met.T.TxType.valid_is a.log.ty.now d).1 h in
     let ne : ticket_of n ≡ c.args.ticket → ⊥ = λ h. c.if-newer-ticket.true (c.ticket-newer.ensures.ticket ∙ h) in
     let h = reclosed_changed m law g.T.Naming.valid sizes is f a.at a.extension.bound c.args.part false a.log.base.items fresh a.log.set.items ws a.log.set.updates rs v goes.spans goes.observed goes.stands.3 c.requires.before.log.log c.args.ticket a.words.items goes.stands.0 goes.stands.1 c.requires.all w passes n c.close-found.ensures.tells free ne in
-    (refl, reclosed_left m law g.T.Naming.valid sizes is f a.at a.extension.bound c.args.part false a.log.base.items fresh a.log.set.items ws a.log.set.updates rs v goes.spans goes.observed goes.stands.3 c.requires.before.log.log c.args.ticket a.words.items goes.stands.0 goes.stands.1 c.requires.all w passes n c.close-found.ensures.tells, reclosed_within m law g.T.Naming.valid sizes is f a.at a.extension.bound c.args.part false a.log.base.items fresh a.log.set.items ws a.log.set.updates rs v goes.spans goes.observed goes.stands.3 c.requires.before.log.log c.args.ticket a.words.items goes.stands.0 goes.stands.1 c.requires.all w passes n c.close-found.ensures.tells, (refl, subst (λ (k : ℕ). WasChanged m f w a.at c.args.part k rs) (sym c.ticket-newer.ensures.ticket) h))
+    record {
+      steps = record {
+        event = search rules;
+        log = c.requires.before.log;
+        turned = (refl, reclosed_left m law g.T.Naming.valid sizes is f a.at a.extension.bound c.args.part false a.log.base.items fresh a.log.set.items ws a.log.set.updates rs v goes.spans goes.observed goes.stands.3 c.requires.before.log.log c.args.ticket a.words.items goes.stands.0 goes.stands.1 c.requires.all w passes n c.close-found.ensures.tells, reclosed_within m law g.T.Naming.valid sizes is f a.at a.extension.bound c.args.part false a.log.base.items fresh a.log.set.items ws a.log.set.updates rs v goes.spans goes.observed goes.stands.3 c.requires.before.log.log c.args.ticket a.words.items goes.stands.0 goes.stands.1 c.requires.all w passes n c.close-found.ensures.tells, (refl, subst (λ (k : ℕ). WasChanged m f w a.at c.args.part k rs) (sym c.ticket-newer.ensures.ticket) h));
+        grown = heard_none (g.T.TxType.meaning a.log.ty.now) (g.B.Body.script a.log.body) (words_in a.log.base.items) (map told a.log.replies.items) a.log.set;
+        alone = λ one first. absurd first;
+        reason = by_close a.log.set.items (g.C.Cells.view c.close-found.new.self) c.args.part c.ticket-newer.result a.extension.extended a.extension.bound;
+        renewed = (refl, λ e. (e, refl));
+        moves = (tt, omega arith);
+        left = reclose_over m.widths (words_in a.log.base.items) fresh ws c.args.part goes.stands.3 (g.B.Body.left a.log.body - 1) (length a.words.items) c.requires.all;
+        err = tt;
+        script = refl;
+        ty = refl;
+      };
+      stopped = tt;
+      same = c.close-found.ensures.same;
+    }
 
-pub get-watch-requires : goal.get-watch-requires
-get-watch-requires g c =
-    let a = c.args.self.now in
-    let m = g.T.TxType.meaning a.log.ty.now in
-    let law = g.met.T.TxType.lawful a.log.ty.now in
-    let sizes = g.T.Naming.sizes a.log.ty.now in
-    let is : (d : Parts) → g.T.Naming.valid sizes d → m.valid d = λ d h. (g.met.T.TxType.valid_is a.log.ty.now d).1 h in
-    let f = g.B.Body.script a.log.body in
-    let rs = map told a.log.replies.items in
-    let v = g.C.Cells.view c.args.cells.now in
-    let fresh = a.extension.fresh.items in
-    let ws = map watched a.extension.watches.items in
-    let goes = c.requires.before.goes in
-    let short = next_short (length m.widths) (words_in a.log.base.items) fresh ws false c.args.part goes.stands.3 in
-    omega (arith, short, length-map a.extension.watches.items watched, c.len-place.ensures)
-
-pub returns-then-not-are_true-clause-turned : goal.returns-then-not-are_true-clause-turned
-returns-then-not-are_true-clause-turned g c =
-    let a = c.args.self.now in
-    let m = g.T.TxType.meaning a.log.ty.now in
-    let law = g.met.T.TxType.lawful a.log.ty.now in
-    let sizes = g.T.Naming.sizes a.log.ty.now in
-    let is : (d : Parts) → g.T.Naming.valid sizes d → m.valid d = λ d h. (g.met.T.TxType.valid_is a.log.ty.now d).1 h in
-    let f = g.B.Body.script a.log.body in
-    let rs = map told a.log.replies.items in
-    let v = g.C.Cells.view c.args.cells.now in
-    let fresh = a.extension.fresh.items in
-    let ws = map watched a.extension.watches.items in
-    let goes = c.requires.before.goes in
-    let w = g.C.Cells.view c.close-found.new.self in
-    let passes = g.C.Cells.passes c.args.cells.now in
-    let n = c.close-found.result.0 in
-    let free : is_free n ≡ true = locked_is (is_free n) (sym c.is_locked.ensures ∙ c.if-is_locked.false) in
-    let same : ticket_of n ≡ c.args.ticket = sym c.ticket-newer.ensures.ticket ∙ c.if-newer-ticket.false in
-    let old = words_in a.log.base.items in
-    let e : slice_get ws (length fresh) ≡ Some (watched c.get-watch.result.now) =
-    slice_get-map watched a.extension.watches.items (length fresh) ∙ ap (option_map watched) (ap (slice_get a.extension.watches.items) (sym c.len-place.ensures) ∙ c.get-watch.ensures) in
-    let next : IsNext (length m.widths) old fresh ws false c.args.part = goes.stands.3 in
-    let is_next : next.next ≡ watched c.get-watch.result.now = some_same next.next (watched c.get-watch.result.now) (sym (next_place (length m.widths) old fresh ws false c.args.part next) ∙ e) in
-    let preds : List Pred = c.get-watch.result.now.preds.items in
-    let same_preds : next.next.preds ≡ preds = ap (λ (x : Watched). x.preds) is_next in
-    let are : preds ≡ preds_on c.args.part a.log.set.items = sym same_preds ∙ next_preds (length m.widths) old fresh ws c.args.part a.log.set.items goes.observed next in
-    let fails : AllTrueIn a.words.items preds → ⊥ = λ h. true≢false (sym (c.are_true.ensures.1 (subst (λ (l : List ℤ). AllTrueIn l c.as_slice.result.now) (sym c.as_slice-2.ensures.items) (subst (λ (l : List Pred). AllTrueIn a.words.items l) (sym c.as_slice.ensures.items) h))) ∙ c.if-not-are_true.true) in
-    (refl, reclosed_left m law g.T.Naming.valid sizes is f a.at a.extension.bound c.args.part false a.log.base.items fresh a.log.set.items ws a.log.set.updates rs v goes.spans goes.observed goes.stands.3 c.requires.before.log.log c.args.ticket a.words.items goes.stands.0 goes.stands.1 c.requires.all w passes n c.close-found.ensures.tells, reclosed_within m law g.T.Naming.valid sizes is f a.at a.extension.bound c.args.part false a.log.base.items fresh a.log.set.items ws a.log.set.updates rs v goes.spans goes.observed goes.stands.3 c.requires.before.log.log c.args.ticket a.words.items goes.stands.0 goes.stands.1 c.requires.all w passes n c.close-found.ensures.tells, (refl, reclosed_false m law g.T.Naming.valid sizes is f a.at a.extension.bound c.args.part false a.log.base.items fresh a.log.set.items ws a.log.set.updates rs v goes.spans goes.observed goes.stands.3 c.requires.before.log.log c.args.ticket a.words.items goes.stands.0 goes.stands.1 c.requires.all w passes n c.close-found.ensures.tells free same preds are fails))
-
-pub advance-requires-clause-renewed : goal.advance-requires-clause-renewed
-advance-requires-clause-renewed g c =
-    let a = c.args.self.now in
-    let m = g.T.TxType.meaning a.log.ty.now in
-    let law = g.met.T.TxType.lawful a.log.ty.now in
-    let sizes = g.T.Naming.sizes a.log.ty.now in
-    let is : (d : Parts) → g.T.Naming.valid sizes d → m.valid d = λ d h. (g.met.T.TxType.valid_is a.log.ty.now d).1 h in
-    let f = g.B.Body.script a.log.body in
-    let rs = map told a.log.replies.items in
-    let v = g.C.Cells.view c.args.cells.now in
-    let fresh = a.extension.fresh.items in
-    let ws = map watched a.extension.watches.items in
-    let goes = c.requires.before.goes in
-    let w = g.C.Cells.view c.close-found.new.self in
-    let passes = g.C.Cells.passes c.args.cells.now in
-    let n = c.close-found.result.0 in
-    let free : is_free n ≡ true = locked_is (is_free n) (sym c.is_locked.ensures ∙ c.if-is_locked.false) in
-    let same : ticket_of n ≡ c.args.ticket = sym c.ticket-newer.ensures.ticket ∙ c.if-newer-ticket.false in
-    let old = words_in a.log.base.items in
-    let e : slice_get ws (length fresh) ≡ Some (watched c.get-watch.result.now) =
-    slice_get-map watched a.extension.watches.items (length fresh) ∙ ap (option_map watched) (ap (slice_get a.extension.watches.items) (sym c.len-place.ensures) ∙ c.get-watch.ensures) in
-    let next : IsNext (length m.widths) old fresh ws false c.args.part = goes.stands.3 in
-    let is_next : next.next ≡ watched c.get-watch.result.now = some_same next.next (watched c.get-watch.result.now) (sym (next_place (length m.widths) old fresh ws false c.args.part next) ∙ e) in
-    let preds : List Pred = c.get-watch.result.now.preds.items in
-    let same_preds : next.next.preds ≡ preds = ap (λ (x : Watched). x.preds) is_next in
-    let y : ReadEntry = entry_with c.args.part c.args.ticket c.as_slice-words.result.now in
-    let made : c.push.new.self.items ≡ fresh ++ y ∷ [] = c.in_ok-push.ensures.ok in
-    let hold : AllTrueIn a.words.items next.next.preds = subst (λ (l : List Pred). AllTrueIn a.words.items l) (c.as_slice.ensures.items ∙ sym same_preds) (subst (λ (l : List ℤ). AllTrueIn l c.as_slice.result.now) c.as_slice-2.ensures.items (c.are_true.ensures.0 c.if-not-are_true.false)) in
-    let h = reclosed_renewed m law g.T.Naming.valid sizes is f a.at a.extension.bound c.args.part false a.log.base.items fresh a.log.set.items ws a.log.set.updates rs v goes.spans goes.observed goes.stands.3 c.requires.before.log.log c.args.ticket a.words.items goes.stands.0 goes.stands.1 c.requires.all w passes n c.close-found.ensures.tells free same y refl refl c.as_slice-words.ensures.items refl hold in
-    (next.more, subst (λ (l : List ReadEntry). IsRenewed (length m.widths) old l ws next.more) (sym made) h)
-
-pub advance-requires-clause-some : goal.advance-requires-clause-some
-advance-requires-clause-some g c =
-    let a = c.args.self.now in
-    let m = g.T.TxType.meaning a.log.ty.now in
-    let law = g.met.T.TxType.lawful a.log.ty.now in
-    let sizes = g.T.Naming.sizes a.log.ty.now in
-    let is : (d : Parts) → g.T.Naming.valid sizes d → m.valid d = λ d h. (g.met.T.TxType.valid_is a.log.ty.now d).1 h in
-    let f = g.B.Body.script a.log.body in
-    let rs = map told a.log.replies.items in
-    let v = g.C.Cells.view c.args.cells.now in
-    let fresh = a.extension.fresh.items in
-    let ws = map watched a.extension.watches.items in
-    let goes = c.requires.before.goes in
-    some_old m law g.T.Naming.valid sizes is f a.at a.extension.bound c.args.part false a.log.base.items fresh a.log.set.items ws a.log.set.updates rs v goes.spans goes.observed goes.stands.3 c.requires.before.log.log
-
-pub advance-requires-clause-some_new : goal.advance-requires-clause-some_new
-advance-requires-clause-some_new g c =
-    let a = c.args.self.now in
-    let m = g.T.TxType.meaning a.log.ty.now in
-    let law = g.met.T.TxType.lawful a.log.ty.now in
-    let sizes = g.T.Naming.sizes a.log.ty.now in
-    let is : (d : Parts) → g.T.Naming.valid sizes d → m.valid d = λ d h. (g.met.T.TxType.valid_is a.log.ty.now d).1 h in
-    let f = g.B.Body.script a.log.body in
-    let rs = map told a.log.replies.items in
-    let v = g.C.Cells.view c.args.cells.now in
-    let fresh = a.extension.fresh.items in
-    let ws = map watched a.extension.watches.items in
-    let goes = c.requires.before.goes in
-    let w = g.C.Cells.view c.close-found.new.self in
-    let passes = g.C.Cells.passes c.args.cells.now in
-    let n = c.close-found.result.0 in
-    let free : is_free n ≡ true = locked_is (is_free n) (sym c.is_locked.ensures ∙ c.if-is_locked.false) in
-    let same : ticket_of n ≡ c.args.ticket = sym c.ticket-newer.ensures.ticket ∙ c.if-newer-ticket.false in
-    let y : ReadEntry = entry_with c.args.part c.args.ticket c.as_slice-words.result.now in
-    let made : c.push.new.self.items ≡ fresh ++ y ∷ [] = c.in_ok-push.ensures.ok in
-    let h = reclosed_spans m law g.T.Naming.valid sizes is f a.at a.extension.bound c.args.part false a.log.base.items fresh a.log.set.items ws a.log.set.updates rs v goes.spans goes.observed goes.stands.3 c.requires.before.log.log c.args.ticket a.words.items goes.stands.0 goes.stands.1 c.requires.all w passes n c.close-found.ensures.tells free same y refl refl c.as_slice-words.ensures.items in
-    let d = some_anew m law g.T.Naming.valid sizes is f a.at a.extension.bound c.args.part false a.log.base.items fresh a.log.set.items ws a.log.set.updates rs v goes.spans goes.observed goes.stands.3 c.requires.before.log.log w (fresh ++ y ∷ []) h.0 in
-    subst (λ (l : List ReadEntry). (d : Parts) × m.valid d × IsPartOf (words_in l) d) (sym made) d
-
-pub returns-clause-turned : goal.returns-clause-turned
-returns-clause-turned g c =
-    let a = c.args.self.now in
-    let m = g.T.TxType.meaning a.log.ty.now in
-    let law = g.met.T.TxType.lawful a.log.ty.now in
-    let sizes = g.T.Naming.sizes a.log.ty.now in
-    let is : (d : Parts) → g.T.Naming.valid sizes d → m.valid d = λ d h. (g.met.T.TxType.valid_is a.log.ty.now d).1 h in
-    let f = g.B.Body.script a.log.body in
-    let rs = map told a.log.replies.items in
-    let v = g.C.Cells.view c.args.cells.now in
-    let fresh = a.extension.fresh.items in
-    let ws = map watched a.extension.watches.items in
-    let goes = c.requires.before.goes in
-    let w = g.C.Cells.view c.close-found.new.self in
-    let passes = g.C.Cells.passes c.args.cells.now in
-    let n = c.close-found.result.0 in
-    let free : is_free n ≡ true = locked_is (is_free n) (sym c.is_locked.ensures ∙ c.if-is_locked.false) in
-    let same : ticket_of n ≡ c.args.ticket = sym c.ticket-newer.ensures.ticket ∙ c.if-newer-ticket.false in
-    let y : ReadEntry = entry_with c.args.part c.args.ticket c.as_slice-words.result.now in
-    let made : c.push.new.self.items ≡ fresh ++ y ∷ [] = c.in_ok-push.ensures.ok in
-    let h = reclosed_spans m law g.T.Naming.valid sizes is f a.at a.extension.bound c.args.part false a.log.base.items fresh a.log.set.items ws a.log.set.updates rs v goes.spans goes.observed goes.stands.3 c.requires.before.log.log c.args.ticket a.words.items goes.stands.0 goes.stands.1 c.requires.all w passes n c.close-found.ensures.tells free same y refl refl c.as_slice-words.ensures.items in
-    c.advance.ensures.turned w (subst (λ (l : List ReadEntry). Spans m g.T.Naming.valid sizes a.at a.extension.bound a.log.base.items l w) (sym made) h.0) h.1
-
-pub returns-then-is_locked-clause-grown : goal.returns-then-is_locked-clause-grown
-returns-then-is_locked-clause-grown g c =
-    let a = c.args.self.now in
-    heard_none (g.T.TxType.meaning a.log.ty.now) (g.B.Body.script a.log.body) (words_in a.log.base.items) (map told a.log.replies.items) a.log.set
-
-pub returns-then-newer-ticket-clause-grown : goal.returns-then-newer-ticket-clause-grown
-returns-then-newer-ticket-clause-grown g c =
-    let a = c.args.self.now in
-    heard_none (g.T.TxType.meaning a.log.ty.now) (g.B.Body.script a.log.body) (words_in a.log.base.items) (map told a.log.replies.items) a.log.set
-
-pub returns-then-not-are_true-clause-grown : goal.returns-then-not-are_true-clause-grown
-returns-then-not-are_true-clause-grown g c =
-    let a = c.args.self.now in
-    heard_none (g.T.TxType.meaning a.log.ty.now) (g.B.Body.script a.log.body) (words_in a.log.base.items) (map told a.log.replies.items) a.log.set
-
-pub returns-clause-reason : goal.returns-clause-reason
-returns-clause-reason g c =
-    let a = c.args.self.now in
-    unaborted_ok (Close c.args.part) c.advance.new.self.log.set.items (g.C.Cells.view c.close-found.new.self) a.extension c.advance.result c.advance.ensures.unaborted
-
-pub returns-clause-renewed : goal.returns-clause-renewed
-returns-clause-renewed g c =
-    let a = c.args.self.now in
-    let b = c.advance.new.self in
-    let rs = map told a.log.replies.items in
-    let now = map told b.log.replies.items in
-    ok_map c.advance.result ((b.extension.bound ≡ a.extension.bound) × (b.extension.extended ≡ true → now ≡ rs)) ((b.extension.bound ≡ a.extension.bound) × (b.extension.extended ≡ true → (a.extension.extended ≡ true) × (now ≡ rs)))
-    (λ h. (h.0, λ e. (c.requires.before.goes.extended, h.1 e))) c.advance.ensures.renewed
-
-pub returns-then-newer-ticket-clause-reason : goal.returns-then-newer-ticket-clause-reason
-returns-then-newer-ticket-clause-reason g c =
-    let a = c.args.self.now in
-    by_close a.log.set.items (g.C.Cells.view c.close-found.new.self) c.args.part c.ticket-newer.result a.extension.extended a.extension.bound
-
-pub returns-then-not-are_true-clause-reason : goal.returns-then-not-are_true-clause-reason
-returns-then-not-are_true-clause-reason g c =
+pub returns-then-not-are_true : goal.returns-then-not-are_true
+returns-then-not-are_true g c =
     let a = c.args.self.now in
     let m = g.T.TxType.meaning a.log.ty.now in
     let law = g.met.T.TxType.lawful a.log.ty.now in
@@ -287,101 +159,33 @@ returns-then-not-are_true-clause-reason g c =
     let same_preds : next.next.preds ≡ preds = ap (λ (x : Watched). x.preds) is_next in
     let are : preds ≡ preds_on c.args.part a.log.set.items = sym same_preds ∙ next_preds (length m.widths) old fresh ws c.args.part a.log.set.items goes.observed next in
     let fails : AllTrueIn a.words.items preds → ⊥ = λ h. true≢false (sym (c.are_true.ensures.1 (subst (λ (l : List ℤ). AllTrueIn l c.as_slice.result.now) (sym c.as_slice-2.ensures.items) (subst (λ (l : List Pred). AllTrueIn a.words.items l) (sym c.as_slice.ensures.items) h))) ∙ c.if-not-are_true.true) in
-    by_predicate (Close c.args.part) a.log.set.items w c.args.part c.args.ticket a.extension.extended a.extension.bound a.words.items
-    (next_unseen (length m.widths) old fresh ws c.args.part a.log.set.items goes.observed next) (λ h. fails (subst (λ (l : List Pred). AllTrueIn a.words.items l) (sym are) h))
-    (reclosed_read m law g.T.Naming.valid sizes is f a.at a.extension.bound c.args.part false a.log.base.items fresh a.log.set.items ws a.log.set.updates rs v goes.spans goes.observed goes.stands.3 c.requires.before.log.log c.args.ticket a.words.items goes.stands.0 goes.stands.1 c.requires.all w passes n c.close-found.ensures.tells free same)
+    record {
+      steps = record {
+        event = search rules;
+        log = c.requires.before.log;
+        turned = (refl, reclosed_left m law g.T.Naming.valid sizes is f a.at a.extension.bound c.args.part false a.log.base.items fresh a.log.set.items ws a.log.set.updates rs v goes.spans goes.observed goes.stands.3 c.requires.before.log.log c.args.ticket a.words.items goes.stands.0 goes.stands.1 c.requires.all w passes n c.close-found.ensures.tells, reclosed_within m law g.T.Naming.valid sizes is f a.at a.extension.bound c.args.part false a.log.base.items fresh a.log.set.items ws a.log.set.updates rs v goes.spans goes.observed goes.stands.3 c.requires.before.log.log c.args.ticket a.words.items goes.stands.0 goes.stands.1 c.requires.all w passes n c.close-found.ensures.tells, (refl, reclosed_false m law g.T.Naming.valid sizes is f a.at a.extension.bound c.args.part false a.log.base.items fresh a.log.set.items ws a.log.set.updates rs v goes.spans goes.observed goes.stands.3 c.requires.before.log.log c.args.ticket a.words.items goes.stands.0 goes.stands.1 c.requires.all w passes n c.close-found.ensures.tells free same preds are fails));
+        grown = heard_none (g.T.TxType.meaning a.log.ty.now) (g.B.Body.script a.log.body) (words_in a.log.base.items) (map told a.log.replies.items) a.log.set;
+        alone = λ one first. absurd first;
+        reason = by_predicate (Close c.args.part) a.log.set.items w c.args.part c.args.ticket a.extension.extended a.extension.bound a.words.items
+            (next_unseen (length m.widths) old fresh ws c.args.part a.log.set.items goes.observed next) (λ h. fails (subst (λ (l : List Pred). AllTrueIn a.words.items l) (sym are) h))
+            (reclosed_read m law g.T.Naming.valid sizes is f a.at a.extension.bound c.args.part false a.log.base.items fresh a.log.set.items ws a.log.set.updates rs v goes.spans goes.observed goes.stands.3 c.requires.before.log.log c.args.ticket a.words.items goes.stands.0 goes.stands.1 c.requires.all w passes n c.close-found.ensures.tells free same);
+        renewed = (refl, λ e. (e, refl));
+        moves = (tt, omega arith);
+        left = reclose_over m.widths (words_in a.log.base.items) fresh ws c.args.part goes.stands.3 (g.B.Body.left a.log.body - 1) (length a.words.items) c.requires.all;
+        err = tt;
+        script = refl;
+        ty = refl;
+      };
+      stopped = tt;
+      same = c.close-found.ensures.same;
+    }
 
-pub returns-then-is_locked-clause-left : goal.returns-then-is_locked-clause-left
-returns-then-is_locked-clause-left g c =
+pub advance-requires : goal.advance-requires
+advance-requires g c =
     let a = c.args.self.now in
     let m = g.T.TxType.meaning a.log.ty.now in
     let law = g.met.T.TxType.lawful a.log.ty.now in
     let sizes = g.T.Naming.sizes a.log.ty.now in
-    let is : (d : Parts) → g.T.Naming.valid sizes d → m.valid d = λ d h. (g.met.T.TxType.valid_is a.log.ty.now d).1 h in
-    let f = g.B.Body.script a.log.body in
-    let rs = map told a.log.replies.items in
-    let v = g.C.Cells.view c.args.cells.now in
-    let fresh = a.extension.fresh.items in
-    let ws = map watched a.extension.watches.items in
-    let goes = c.requires.before.goes in
-    let passes = g.C.Cells.passes c.args.cells.now in
-    reclose_over m.widths (words_in a.log.base.items) fresh ws c.args.part goes.stands.3 (g.B.Body.left a.log.body - 1) (length a.words.items) c.requires.all
-
-pub returns-then-newer-ticket-clause-left : goal.returns-then-newer-ticket-clause-left
-returns-then-newer-ticket-clause-left g c =
-    let a = c.args.self.now in
-    let m = g.T.TxType.meaning a.log.ty.now in
-    let law = g.met.T.TxType.lawful a.log.ty.now in
-    let sizes = g.T.Naming.sizes a.log.ty.now in
-    let is : (d : Parts) → g.T.Naming.valid sizes d → m.valid d = λ d h. (g.met.T.TxType.valid_is a.log.ty.now d).1 h in
-    let f = g.B.Body.script a.log.body in
-    let rs = map told a.log.replies.items in
-    let v = g.C.Cells.view c.args.cells.now in
-    let fresh = a.extension.fresh.items in
-    let ws = map watched a.extension.watches.items in
-    let goes = c.requires.before.goes in
-    let passes = g.C.Cells.passes c.args.cells.now in
-    reclose_over m.widths (words_in a.log.base.items) fresh ws c.args.part goes.stands.3 (g.B.Body.left a.log.body - 1) (length a.words.items) c.requires.all
-
-pub returns-then-not-are_true-clause-left : goal.returns-then-not-are_true-clause-left
-returns-then-not-are_true-clause-left g c =
-    let a = c.args.self.now in
-    let m = g.T.TxType.meaning a.log.ty.now in
-    let law = g.met.T.TxType.lawful a.log.ty.now in
-    let sizes = g.T.Naming.sizes a.log.ty.now in
-    let is : (d : Parts) → g.T.Naming.valid sizes d → m.valid d = λ d h. (g.met.T.TxType.valid_is a.log.ty.now d).1 h in
-    let f = g.B.Body.script a.log.body in
-    let rs = map told a.log.replies.items in
-    let v = g.C.Cells.view c.args.cells.now in
-    let fresh = a.extension.fresh.items in
-    let ws = map watched a.extension.watches.items in
-    let goes = c.requires.before.goes in
-    let passes = g.C.Cells.passes c.args.cells.now in
-    reclose_over m.widths (words_in a.log.base.items) fresh ws c.args.part goes.stands.3 (g.B.Body.left a.log.body - 1) (length a.words.items) c.requires.all
-
-pub returns-then-place-clause-err : goal.returns-then-place-clause-err
-returns-then-place-clause-err g c =
-    let a = c.args.self.now in
-    let m = g.T.TxType.meaning a.log.ty.now in
-    let law = g.met.T.TxType.lawful a.log.ty.now in
-    let sizes = g.T.Naming.sizes a.log.ty.now in
-    let is : (d : Parts) → g.T.Naming.valid sizes d → m.valid d = λ d h. (g.met.T.TxType.valid_is a.log.ty.now d).1 h in
-    let f = g.B.Body.script a.log.body in
-    let rs = map told a.log.replies.items in
-    let v = g.C.Cells.view c.args.cells.now in
-    let fresh = a.extension.fresh.items in
-    let ws = map watched a.extension.watches.items in
-    let goes = c.requires.before.goes in
-    let passes = g.C.Cells.passes c.args.cells.now in
-    let w = g.C.Cells.view c.close-found.new.self in
-    let n = c.close-found.result.0 in
-    (reclosed_left m law g.T.Naming.valid sizes is f a.at a.extension.bound c.args.part false a.log.base.items fresh a.log.set.items ws a.log.set.updates rs v goes.spans goes.observed goes.stands.3 c.requires.before.log.log c.args.ticket a.words.items goes.stands.0 goes.stands.1 c.requires.all w passes n c.close-found.ensures.tells, reclosed_prefix m law g.T.Naming.valid sizes is f a.at a.extension.bound c.args.part false a.log.base.items fresh a.log.set.items ws a.log.set.updates rs v goes.spans goes.observed goes.stands.3 c.requires.before.log.log c.args.ticket a.words.items goes.stands.0 goes.stands.1 c.requires.all w passes n c.close-found.ensures.tells)
-
-pub returns-in_err-push-clause-err : goal.returns-in_err-push-clause-err
-returns-in_err-push-clause-err g c =
-    let a = c.args.self.now in
-    let m = g.T.TxType.meaning a.log.ty.now in
-    let law = g.met.T.TxType.lawful a.log.ty.now in
-    let sizes = g.T.Naming.sizes a.log.ty.now in
-    let is : (d : Parts) → g.T.Naming.valid sizes d → m.valid d = λ d h. (g.met.T.TxType.valid_is a.log.ty.now d).1 h in
-    let f = g.B.Body.script a.log.body in
-    let rs = map told a.log.replies.items in
-    let v = g.C.Cells.view c.args.cells.now in
-    let fresh = a.extension.fresh.items in
-    let ws = map watched a.extension.watches.items in
-    let goes = c.requires.before.goes in
-    let passes = g.C.Cells.passes c.args.cells.now in
-    let w = g.C.Cells.view c.close-found.new.self in
-    let n = c.close-found.result.0 in
-    always_err c.from_residual.result (IsLeft w × IsPrefix m f w a.at rs) (reclosed_left m law g.T.Naming.valid sizes is f a.at a.extension.bound c.args.part false a.log.base.items fresh a.log.set.items ws a.log.set.updates rs v goes.spans goes.observed goes.stands.3 c.requires.before.log.log c.args.ticket a.words.items goes.stands.0 goes.stands.1 c.requires.all w passes n c.close-found.ensures.tells, reclosed_prefix m law g.T.Naming.valid sizes is f a.at a.extension.bound c.args.part false a.log.base.items fresh a.log.set.items ws a.log.set.updates rs v goes.spans goes.observed goes.stands.3 c.requires.before.log.log c.args.ticket a.words.items goes.stands.0 goes.stands.1 c.requires.all w passes n c.close-found.ensures.tells)
-
-pub returns-clause-err : goal.returns-clause-err
-returns-clause-err g c =
-    let a = c.args.self.now in
-    let m = g.T.TxType.meaning a.log.ty.now in
-    let law = g.met.T.TxType.lawful a.log.ty.now in
-    let sizes = g.T.Naming.sizes a.log.ty.now in
-    let is : (d : Parts) → g.T.Naming.valid sizes d → m.valid d = λ d h. (g.met.T.TxType.valid_is a.log.ty.now d).1 h in
     let f = g.B.Body.script a.log.body in
     let rs = map told a.log.replies.items in
     let v = g.C.Cells.view c.args.cells.now in
@@ -403,20 +207,31 @@ returns-clause-err g c =
     let y : ReadEntry = entry_with c.args.part c.args.ticket c.as_slice-words.result.now in
     let made : c.push.new.self.items ≡ fresh ++ y ∷ [] = c.in_ok-push.ensures.ok in
     let hold : AllTrueIn a.words.items next.next.preds = subst (λ (l : List Pred). AllTrueIn a.words.items l) (c.as_slice.ensures.items ∙ sym same_preds) (subst (λ (l : List ℤ). AllTrueIn l c.as_slice.result.now) c.as_slice-2.ensures.items (c.are_true.ensures.0 c.if-not-are_true.false)) in
-    let h = reclosed_renewed m law g.T.Naming.valid sizes is f a.at a.extension.bound c.args.part false a.log.base.items fresh a.log.set.items ws a.log.set.updates rs v goes.spans goes.observed goes.stands.3 c.requires.before.log.log c.args.ticket a.words.items goes.stands.0 goes.stands.1 c.requires.all w passes n c.close-found.ensures.tells free same y refl refl c.as_slice-words.ensures.items refl hold in
-    let spans = reclosed_spans m law g.T.Naming.valid sizes is f a.at a.extension.bound c.args.part false a.log.base.items fresh a.log.set.items ws a.log.set.updates rs v goes.spans goes.observed goes.stands.3 c.requires.before.log.log c.args.ticket a.words.items goes.stands.0 goes.stands.1 c.requires.all w passes n c.close-found.ensures.tells free same y refl refl c.as_slice-words.ensures.items in
-    let now = map told c.advance.new.self.log.replies.items in
-    let left : IsLeft w = reclosed_left m law g.T.Naming.valid sizes is f a.at a.extension.bound c.args.part false a.log.base.items fresh a.log.set.items ws a.log.set.updates rs v goes.spans goes.observed goes.stands.3 c.requires.before.log.log c.args.ticket a.words.items goes.stands.0 goes.stands.1 c.requires.all w passes n c.close-found.ensures.tells in
-    err_both c.advance.result (IsLeft w) (IsPrefix m f w c.advance.new.self.at now) (always_err c.advance.result (IsLeft w) left)
-    (c.advance.ensures.stopped w (subst (λ (l : List ReadEntry). Spans m g.T.Naming.valid sizes a.at a.extension.bound a.log.base.items l w) (sym made) spans.0))
+    record {
+      log = c.requires.before.log;
+      observed = c.requires.before.goes.observed;
+      extended = c.requires.before.goes.extended;
+      renewed =
+          let is : (d : Parts) → g.T.Naming.valid sizes d → m.valid d = λ d h. (g.met.T.TxType.valid_is a.log.ty.now d).1 h in
+          let h = reclosed_renewed m law g.T.Naming.valid sizes is f a.at a.extension.bound c.args.part false a.log.base.items fresh a.log.set.items ws a.log.set.updates rs v goes.spans goes.observed goes.stands.3 c.requires.before.log.log c.args.ticket a.words.items goes.stands.0 goes.stands.1 c.requires.all w passes n c.close-found.ensures.tells free same y refl refl c.as_slice-words.ensures.items refl hold in
+          (next.more, subst (λ (l : List ReadEntry). IsRenewed (length m.widths) old l ws next.more) (sym made) h);
+      bound = omega (arith, c.requires.before.goes.spans.above);
+      some =
+          let is : (d : Parts) → g.T.Naming.valid sizes d → m.valid d = λ d h. (g.met.T.TxType.valid_is a.log.ty.now d).1 h in
+          some_old m law g.T.Naming.valid sizes is f a.at a.extension.bound c.args.part false a.log.base.items fresh a.log.set.items ws a.log.set.updates rs v goes.spans goes.observed goes.stands.3 c.requires.before.log.log;
+      some_new =
+          let is : (d : Parts) → g.T.Naming.valid sizes d → m.valid d = λ d h. (g.met.T.TxType.valid_is a.log.ty.now d).1 h in
+          let h = reclosed_spans m law g.T.Naming.valid sizes is f a.at a.extension.bound c.args.part false a.log.base.items fresh a.log.set.items ws a.log.set.updates rs v goes.spans goes.observed goes.stands.3 c.requires.before.log.log c.args.ticket a.words.items goes.stands.0 goes.stands.1 c.requires.all w passes n c.close-found.ensures.tells free same y refl refl c.as_slice-words.ensures.items in
+          let d = some_anew m law g.T.Naming.valid sizes is f a.at a.extension.bound c.args.part false a.log.base.items fresh a.log.set.items ws a.log.set.updates rs v goes.spans goes.observed goes.stands.3 c.requires.before.log.log w (fresh ++ y ∷ []) h.0 in
+          subst (λ (l : List ReadEntry). (d : Parts) × m.valid d × IsPartOf (words_in l) d) (sym made) d;
+    }
 
-pub returns-clause-left : goal.returns-clause-left
-returns-clause-left g c =
+pub returns : goal.returns
+returns g c =
     let a = c.args.self.now in
     let m = g.T.TxType.meaning a.log.ty.now in
     let law = g.met.T.TxType.lawful a.log.ty.now in
     let sizes = g.T.Naming.sizes a.log.ty.now in
-    let is : (d : Parts) → g.T.Naming.valid sizes d → m.valid d = λ d h. (g.met.T.TxType.valid_is a.log.ty.now d).1 h in
     let f = g.B.Body.script a.log.body in
     let rs = map told a.log.replies.items in
     let v = g.C.Cells.view c.args.cells.now in
@@ -428,25 +243,125 @@ returns-clause-left g c =
     let n = c.close-found.result.0 in
     let free : is_free n ≡ true = locked_is (is_free n) (sym c.is_locked.ensures ∙ c.if-is_locked.false) in
     let same : ticket_of n ≡ c.args.ticket = sym c.ticket-newer.ensures.ticket ∙ c.if-newer-ticket.false in
-    let old = words_in a.log.base.items in
-    let e : slice_get ws (length fresh) ≡ Some (watched c.get-watch.result.now) =
-    slice_get-map watched a.extension.watches.items (length fresh) ∙ ap (option_map watched) (ap (slice_get a.extension.watches.items) (sym c.len-place.ensures) ∙ c.get-watch.ensures) in
-    let next : IsNext (length m.widths) old fresh ws false c.args.part = goes.stands.3 in
-    let is_next : next.next ≡ watched c.get-watch.result.now = some_same next.next (watched c.get-watch.result.now) (sym (next_place (length m.widths) old fresh ws false c.args.part next) ∙ e) in
-    let preds : List Pred = c.get-watch.result.now.preds.items in
-    let same_preds : next.next.preds ≡ preds = ap (λ (x : Watched). x.preds) is_next in
     let y : ReadEntry = entry_with c.args.part c.args.ticket c.as_slice-words.result.now in
     let made : c.push.new.self.items ≡ fresh ++ y ∷ [] = c.in_ok-push.ensures.ok in
-    let hold : AllTrueIn a.words.items next.next.preds = subst (λ (l : List Pred). AllTrueIn a.words.items l) (c.as_slice.ensures.items ∙ sym same_preds) (subst (λ (l : List ℤ). AllTrueIn l c.as_slice.result.now) c.as_slice-2.ensures.items (c.are_true.ensures.0 c.if-not-are_true.false)) in
-    let h = reclosed_renewed m law g.T.Naming.valid sizes is f a.at a.extension.bound c.args.part false a.log.base.items fresh a.log.set.items ws a.log.set.updates rs v goes.spans goes.observed goes.stands.3 c.requires.before.log.log c.args.ticket a.words.items goes.stands.0 goes.stands.1 c.requires.all w passes n c.close-found.ensures.tells free same y refl refl c.as_slice-words.ensures.items refl hold in
     let b = c.advance.new.self in
-    let gone : drop (length c.push.new.self.items) ws ≡ next.more = ap (λ (l : List ReadEntry). drop (length l) ws) made ∙ left_watches (length m.widths) old (fresh ++ y ∷ []) ws next.more h in
+    let old = words_in a.log.base.items in
+    let e : slice_get ws (length fresh) ≡ Some (watched c.get-watch.result.now) =
+    slice_get-map watched a.extension.watches.items (length fresh) ∙ ap (option_map watched) (ap (slice_get a.extension.watches.items) (sym c.len-place.ensures) ∙ c.get-watch.ensures) in
+    let next : IsNext (length m.widths) old fresh ws false c.args.part = goes.stands.3 in
+    let is_next : next.next ≡ watched c.get-watch.result.now = some_same next.next (watched c.get-watch.result.now) (sym (next_place (length m.widths) old fresh ws false c.args.part next) ∙ e) in
+    let preds : List Pred = c.get-watch.result.now.preds.items in
+    let same_preds : next.next.preds ≡ preds = ap (λ (x : Watched). x.preds) is_next in
+    let hold : AllTrueIn a.words.items next.next.preds = subst (λ (l : List Pred). AllTrueIn a.words.items l) (c.as_slice.ensures.items ∙ sym same_preds) (subst (λ (l : List ℤ). AllTrueIn l c.as_slice.result.now) c.as_slice-2.ensures.items (c.are_true.ensures.0 c.if-not-are_true.false)) in
     let before = g.B.Body.left a.log.body in
-    let now = events_left (g.B.Body.left b.log.body) m.widths b.read_phase b.words.items b.extension b.log.base.items in
-    let fewer : OnOk c.advance.result (now < 1 + left_extending (before - 1) m.widths next.more) =
-    subst (λ (l : List Watched). OnOk c.advance.result (now < 1 + left_extending (before - 1) m.widths l)) gone c.advance.ensures.left in
-    ok_map c.advance.result (now < 1 + left_extending (before - 1) m.widths next.more) (now < left_extending (before - 1) m.widths (drop (length fresh) ws) - (1 + length a.words.items))
-    (reclose_fewer m.widths old fresh ws c.args.part next (before - 1) (length a.words.items) now c.requires.all) fewer
+    record {
+      steps = record {
+        event = search rules;
+        log = c.advance.ensures.log;
+        turned =
+            let is : (d : Parts) → g.T.Naming.valid sizes d → m.valid d = λ d h. (g.met.T.TxType.valid_is a.log.ty.now d).1 h in
+            let h = reclosed_spans m law g.T.Naming.valid sizes is f a.at a.extension.bound c.args.part false a.log.base.items fresh a.log.set.items ws a.log.set.updates rs v goes.spans goes.observed goes.stands.3 c.requires.before.log.log c.args.ticket a.words.items goes.stands.0 goes.stands.1 c.requires.all w passes n c.close-found.ensures.tells free same y refl refl c.as_slice-words.ensures.items in
+            c.advance.ensures.turned w (subst (λ (l : List ReadEntry). Spans m g.T.Naming.valid sizes a.at a.extension.bound a.log.base.items l w) (sym made) h.0) h.1;
+        grown = c.advance.ensures.grown;
+        alone = λ one first. absurd first;
+        reason = unaborted_ok (Close c.args.part) c.advance.new.self.log.set.items (g.C.Cells.view c.close-found.new.self) a.extension c.advance.result c.advance.ensures.unaborted;
+        renewed =
+            let now = map told b.log.replies.items in
+            ok_map c.advance.result ((b.extension.bound ≡ a.extension.bound) × (b.extension.extended ≡ true → now ≡ rs)) ((b.extension.bound ≡ a.extension.bound) × (b.extension.extended ≡ true → (a.extension.extended ≡ true) × (now ≡ rs)))
+            (λ h. (h.0, λ e. (c.requires.before.goes.extended, h.1 e))) c.advance.ensures.renewed;
+        moves = c.advance.ensures.moves;
+        left =
+            let is : (d : Parts) → g.T.Naming.valid sizes d → m.valid d = λ d h. (g.met.T.TxType.valid_is a.log.ty.now d).1 h in
+            let h = reclosed_renewed m law g.T.Naming.valid sizes is f a.at a.extension.bound c.args.part false a.log.base.items fresh a.log.set.items ws a.log.set.updates rs v goes.spans goes.observed goes.stands.3 c.requires.before.log.log c.args.ticket a.words.items goes.stands.0 goes.stands.1 c.requires.all w passes n c.close-found.ensures.tells free same y refl refl c.as_slice-words.ensures.items refl hold in
+            let gone : drop (length c.push.new.self.items) ws ≡ next.more = ap (λ (l : List ReadEntry). drop (length l) ws) made ∙ left_watches (length m.widths) old (fresh ++ y ∷ []) ws next.more h in
+            let now = events_left (g.B.Body.left b.log.body) m.widths b.read_phase b.words.items b.extension b.log.base.items in
+            let fewer : OnOk c.advance.result (now < 1 + left_extending (before - 1) m.widths next.more) =
+            subst (λ (l : List Watched). OnOk c.advance.result (now < 1 + left_extending (before - 1) m.widths l)) gone c.advance.ensures.left in
+            ok_map c.advance.result (now < 1 + left_extending (before - 1) m.widths next.more) (now < left_extending (before - 1) m.widths (drop (length fresh) ws) - (1 + length a.words.items))
+            (reclose_fewer m.widths old fresh ws c.args.part next (before - 1) (length a.words.items) now c.requires.all) fewer;
+        err =
+            let is : (d : Parts) → g.T.Naming.valid sizes d → m.valid d = λ d h. (g.met.T.TxType.valid_is a.log.ty.now d).1 h in
+            let left : IsLeft w = reclosed_left m law g.T.Naming.valid sizes is f a.at a.extension.bound c.args.part false a.log.base.items fresh a.log.set.items ws a.log.set.updates rs v goes.spans goes.observed goes.stands.3 c.requires.before.log.log c.args.ticket a.words.items goes.stands.0 goes.stands.1 c.requires.all w passes n c.close-found.ensures.tells in
+            always_err c.advance.result (IsLeft w) left;
+        script = c.advance.ensures.script;
+        ty = c.advance.ensures.ty;
+      };
+      stopped =
+          let is : (d : Parts) → g.T.Naming.valid sizes d → m.valid d = λ d h. (g.met.T.TxType.valid_is a.log.ty.now d).1 h in
+          let spans = reclosed_spans m law g.T.Naming.valid sizes is f a.at a.extension.bound c.args.part false a.log.base.items fresh a.log.set.items ws a.log.set.updates rs v goes.spans goes.observed goes.stands.3 c.requires.before.log.log c.args.ticket a.words.items goes.stands.0 goes.stands.1 c.requires.all w passes n c.close-found.ensures.tells free same y refl refl c.as_slice-words.ensures.items in
+          c.advance.ensures.stopped w (subst (λ (l : List ReadEntry). Spans m g.T.Naming.valid sizes a.at a.extension.bound a.log.base.items l w) (sym made) spans.0);
+      same = c.close-found.ensures.same;
+    }
 
-pub advance-requires-clause-bound : goal.advance-requires-clause-bound
-advance-requires-clause-bound g c = omega (arith, c.requires.before.goes.spans.above)
+pub returns-then-place : goal.returns-then-place
+returns-then-place g c =
+    let a = c.args.self.now in
+    let m = g.T.TxType.meaning a.log.ty.now in
+    let law = g.met.T.TxType.lawful a.log.ty.now in
+    let sizes = g.T.Naming.sizes a.log.ty.now in
+    let is : (d : Parts) → g.T.Naming.valid sizes d → m.valid d = λ d h. (g.met.T.TxType.valid_is a.log.ty.now d).1 h in
+    let f = g.B.Body.script a.log.body in
+    let rs = map told a.log.replies.items in
+    let v = g.C.Cells.view c.args.cells.now in
+    let fresh = a.extension.fresh.items in
+    let ws = map watched a.extension.watches.items in
+    let goes = c.requires.before.goes in
+    let passes = g.C.Cells.passes c.args.cells.now in
+    let w = g.C.Cells.view c.close-found.new.self in
+    let n = c.close-found.result.0 in
+    let stops : IsLeft w × IsPrefix m f w a.at rs = (reclosed_left m law g.T.Naming.valid sizes is f a.at a.extension.bound c.args.part false a.log.base.items fresh a.log.set.items ws a.log.set.updates rs v goes.spans goes.observed goes.stands.3 c.requires.before.log.log c.args.ticket a.words.items goes.stands.0 goes.stands.1 c.requires.all w passes n c.close-found.ensures.tells, reclosed_prefix m law g.T.Naming.valid sizes is f a.at a.extension.bound c.args.part false a.log.base.items fresh a.log.set.items ws a.log.set.updates rs v goes.spans goes.observed goes.stands.3 c.requires.before.log.log c.args.ticket a.words.items goes.stands.0 goes.stands.1 c.requires.all w passes n c.close-found.ensures.tells) in
+    record {
+      steps = record {
+        event = search rules;
+        log = tt;
+        turned = tt;
+        grown = tt;
+        alone = λ one first. tt;
+        reason = tt;
+        renewed = tt;
+        moves = tt;
+        left = tt;
+        err = stops.0;
+        script = refl;
+        ty = refl;
+      };
+      stopped = stops.1;
+      same = c.close-found.ensures.same;
+    }
+
+pub returns-in_err-push : goal.returns-in_err-push
+returns-in_err-push g c =
+    let a = c.args.self.now in
+    let m = g.T.TxType.meaning a.log.ty.now in
+    let law = g.met.T.TxType.lawful a.log.ty.now in
+    let sizes = g.T.Naming.sizes a.log.ty.now in
+    let is : (d : Parts) → g.T.Naming.valid sizes d → m.valid d = λ d h. (g.met.T.TxType.valid_is a.log.ty.now d).1 h in
+    let f = g.B.Body.script a.log.body in
+    let rs = map told a.log.replies.items in
+    let v = g.C.Cells.view c.args.cells.now in
+    let fresh = a.extension.fresh.items in
+    let ws = map watched a.extension.watches.items in
+    let goes = c.requires.before.goes in
+    let passes = g.C.Cells.passes c.args.cells.now in
+    let w = g.C.Cells.view c.close-found.new.self in
+    let n = c.close-found.result.0 in
+    let stops : IsLeft w × IsPrefix m f w a.at rs = (reclosed_left m law g.T.Naming.valid sizes is f a.at a.extension.bound c.args.part false a.log.base.items fresh a.log.set.items ws a.log.set.updates rs v goes.spans goes.observed goes.stands.3 c.requires.before.log.log c.args.ticket a.words.items goes.stands.0 goes.stands.1 c.requires.all w passes n c.close-found.ensures.tells, reclosed_prefix m law g.T.Naming.valid sizes is f a.at a.extension.bound c.args.part false a.log.base.items fresh a.log.set.items ws a.log.set.updates rs v goes.spans goes.observed goes.stands.3 c.requires.before.log.log c.args.ticket a.words.items goes.stands.0 goes.stands.1 c.requires.all w passes n c.close-found.ensures.tells) in
+    record {
+      steps = record {
+        event = search rules;
+        log = search rules;
+        turned = search rules;
+        grown = search rules;
+        alone = λ one first. search rules;
+        reason = search rules;
+        renewed = search rules;
+        moves = search rules;
+        left = search rules;
+        err = always_err c.from_residual.result (IsLeft w) stops.0;
+        script = search rules;
+        ty = search rules;
+      };
+      stopped = always_err c.from_residual.result (IsPrefix m f w a.at rs) stops.1;
+      same = c.close-found.ensures.same;
+    }

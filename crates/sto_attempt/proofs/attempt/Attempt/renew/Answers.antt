@@ -1,4 +1,5 @@
-use Rattle.std.proofs.Common.{◌≡◌, ◌<◌, List, ℕ, pos, [], sym, subst, map, length, refl}
+use Rattle.sto_core.specs.Event.{Renew}
+use Rattle.std.proofs.Common.{◌≡◌, ◌<◌, List, ℕ, pos, [], sym, subst, map, length, refl, rules}
 use Rattle.sto_item.specs.Watched.{watched}
 use Rattle.sto_model.specs.Told.{told}
 use Rattle.sto_type.specs.Known.{Parts}
@@ -17,30 +18,32 @@ use Rattle.sto_attempt_log.proofs.Spanning.{left_idle}
 use Rattle.sto_attempt_log.proofs.Anew.{items_range}
 use Rattle.sto_attempt_log.proofs.Stepping.{ok_map}
 use Rattle.sto_attempt_log.proofs.Lowering.{renew_fewer}
-use Rattle.sto_attempt_log.proofs.Causing.{err_both}
+use Rattle.sto_attempt_log.proofs.Causing.{unaborted_ok}
 use Rattle.std.proofs.Common.{arith}
 use Rattle.sto_attempt.proofs.attempt.Attempt.renew.Goals as goal
 
-pub advance-requires-clause-renewed : goal.advance-requires-clause-renewed
-advance-requires-clause-renewed g c =
+pub advance-requires : goal.advance-requires
+advance-requires g c =
     let a = c.args.self.now in
     let m = g.T.TxType.meaning a.log.ty.now in
     let ws = map watched c.in_ok-watches.watches.items in
     let none : c.clear.new.self.items ≡ [] = c.clear.ensures in
     let h : IsRenewed (length m.widths) (words_in a.log.base.items) [] ws ws = record { done = []; all = refl; parts = refl; stay = tt } in
-    (ws, subst (λ (l : List ReadEntry). IsRenewed (length m.widths) (words_in a.log.base.items) l ws ws) (sym none) h)
-
-pub advance-requires-clause-some : goal.advance-requires-clause-some
-advance-requires-clause-some g c =
-    let a = c.args.self.now in
-    let m = g.T.TxType.meaning a.log.ty.now in
     let v = g.C.Cells.view c.args.cells.now in
     let fits = c.requires.fits.2 in
     let is : (d : Parts) → g.T.Naming.valid v.sizes d → m.valid d = λ d h. (g.met.T.TxType.valid_is a.log.ty.now d).1 (subst (λ (l : List ℕ). g.T.Naming.valid l d) fits.own.same_sizes h) in
-    some_contents m g.T.Naming.valid v a.at a.log.base.items is fits.fit fits.claimed
+    record {
+      log = c.requires.log;
+      observed = c.in_ok-watches.ensures;
+      extended = refl;
+      renewed = (ws, subst (λ (l : List ReadEntry). IsRenewed (length m.widths) (words_in a.log.base.items) l ws ws) (sym none) h);
+      bound = omega (arith, c.renew-bound.ensures.tells.learns.at, c.requires.fits.2.number);
+      some = some_contents m g.T.Naming.valid v a.at a.log.base.items is fits.fit fits.claimed;
+      some_new = search rules;
+    }
 
-pub returns-clause-turned : goal.returns-clause-turned
-returns-clause-turned g c =
+pub returns : goal.returns
+returns g c =
     let a = c.args.self.now in
     let m = g.T.TxType.meaning a.log.ty.now in
     let sizes = g.T.Naming.sizes a.log.ty.now in
@@ -49,74 +52,79 @@ returns-clause-turned g c =
     let v = g.C.Cells.view c.args.cells.now in
     let w = g.C.Cells.view c.renew-bound.new.self in
     let n = c.renew-bound.result in
-    let h = renew_spans m g.T.Naming.valid sizes f a.at c.requires.fits.0 c.requires.fits.1 a.words.items a.log.base.items a.log.set.updates rs v w (g.C.Cells.passes c.args.cells.now) n (pos 0) c.requires.fits.2 c.renew-bound.ensures.tells in
     let none : c.clear.new.self.items ≡ [] = c.clear.ensures in
-    c.advance.ensures.turned w (subst (λ (l : List ReadEntry). Spans m g.T.Naming.valid sizes a.at n a.log.base.items l w) (sym none) h.0) h.1
-
-pub returns-in_err-watches-clause-err : goal.returns-in_err-watches-clause-err
-returns-in_err-watches-clause-err g c =
-    let a = c.args.self.now in
-    let m = g.T.TxType.meaning a.log.ty.now in
     let law = g.met.T.TxType.lawful a.log.ty.now in
-    let sizes = g.T.Naming.sizes a.log.ty.now in
     let valid = g.T.Naming.valid in
-    let f = g.B.Body.script a.log.body in
-    let rs = map told a.log.replies.items in
     let base = a.log.base.items in
-    let v = g.C.Cells.view c.args.cells.now in
-    let passes = g.C.Cells.passes c.args.cells.now in
-    let w = g.C.Cells.view c.renew-bound.new.self in
-    let n = c.renew-bound.result in
-    let fits = c.requires.fits.2 in
-    let h = renew_spans m valid sizes f a.at c.requires.fits.0 c.requires.fits.1 a.words.items base a.log.set.updates rs v w passes n (pos 0) fits c.renew-bound.ensures.tells in
-    always_err c.from_residual.result (IsLeft w × IsPrefix m f w a.at rs)
-    (left_idle m valid sizes a.at n base [] f rs w h.0 (idle_reading w h.1), prefix m f w a.at base a.log.set.items a.log.set.updates rs c.requires.log.log h.0.claimed)
-
-pub returns-clause-err : goal.returns-clause-err
-returns-clause-err g c =
-    let a = c.args.self.now in
-    let m = g.T.TxType.meaning a.log.ty.now in
-    let law = g.met.T.TxType.lawful a.log.ty.now in
-    let sizes = g.T.Naming.sizes a.log.ty.now in
-    let valid = g.T.Naming.valid in
-    let f = g.B.Body.script a.log.body in
-    let rs = map told a.log.replies.items in
-    let base = a.log.base.items in
-    let v = g.C.Cells.view c.args.cells.now in
-    let passes = g.C.Cells.passes c.args.cells.now in
-    let w = g.C.Cells.view c.renew-bound.new.self in
-    let n = c.renew-bound.result in
-    let fits = c.requires.fits.2 in
-    let h = renew_spans m valid sizes f a.at c.requires.fits.0 c.requires.fits.1 a.words.items base a.log.set.updates rs v w passes n (pos 0) fits c.renew-bound.ensures.tells in
-    let none : c.clear.new.self.items ≡ [] = c.clear.ensures in
-    let now = map told c.advance.new.self.log.replies.items in
-    let left : IsLeft w = left_idle m valid sizes a.at n base [] f rs w h.0 (idle_reading w h.1) in
-    err_both c.advance.result (IsLeft w) (IsPrefix m f w c.advance.new.self.at now) (always_err c.advance.result (IsLeft w) left) (c.advance.ensures.stopped w (subst (λ (l : List ReadEntry). Spans m valid sizes a.at n base l w) (sym none) h.0))
-
-pub returns-clause-left : goal.returns-clause-left
-returns-clause-left g c =
-    let a = c.args.self.now in
-    let m = g.T.TxType.meaning a.log.ty.now in
-    let law = g.met.T.TxType.lawful a.log.ty.now in
-    let sizes = g.T.Naming.sizes a.log.ty.now in
-    let valid = g.T.Naming.valid in
-    let f = g.B.Body.script a.log.body in
-    let rs = map told a.log.replies.items in
-    let base = a.log.base.items in
-    let v = g.C.Cells.view c.args.cells.now in
-    let passes = g.C.Cells.passes c.args.cells.now in
     let b = c.advance.new.self in
     let fits = c.requires.fits.2 in
-    let is : (d : Parts) → valid v.sizes d → m.valid d = λ d h. (g.met.T.TxType.valid_is a.log.ty.now d).1 (subst (λ (l : List ℕ). valid l d) fits.own.same_sizes h) in
-    let some = some_contents m valid v a.at base is fits.fit fits.claimed in
-    let none : c.clear.new.self.items ≡ [] = c.clear.ensures in
     let ws = map watched c.in_ok-watches.watches.items in
     let before = g.B.Body.left a.log.body in
     let now = events_left (g.B.Body.left b.log.body) m.widths b.read_phase b.words.items b.extension b.log.base.items in
     let fewer : OnOk c.advance.result (now < 1 + left_extending (before - 1) m.widths ws) =
     subst (λ (l : List ReadEntry). OnOk c.advance.result (now < 1 + left_extending (before - 1) m.widths (drop (length l) ws))) none c.advance.ensures.left in
-    ok_map c.advance.result (now < 1 + left_extending (before - 1) m.widths ws) (now < left_renewing (before - 1) m.widths)
-    (renew_fewer m.widths a.log.set.items ws c.in_ok-watches.ensures (items_range m law f base a.log.set.items a.log.set.updates rs c.requires.log.log some.0 some.1 some.2) (before - 1) now) fewer
+    let passes = g.C.Cells.passes c.args.cells.now in
+    record {
+      steps = record {
+        event = search rules;
+        log = c.advance.ensures.log;
+        turned =
+            let h = renew_spans m g.T.Naming.valid sizes f a.at c.requires.fits.0 c.requires.fits.1 a.words.items a.log.base.items a.log.set.updates rs v w (g.C.Cells.passes c.args.cells.now) n (pos 0) c.requires.fits.2 c.renew-bound.ensures.tells in
+            c.advance.ensures.turned w (subst (λ (l : List ReadEntry). Spans m g.T.Naming.valid sizes a.at n a.log.base.items l w) (sym none) h.0) h.1;
+        grown = c.advance.ensures.grown;
+        alone = λ one first. absurd first;
+        reason = unaborted_ok Renew c.advance.new.self.log.set.items (g.C.Cells.view c.renew-bound.new.self) c.args.self.now.extension c.advance.result c.advance.ensures.unaborted;
+        renewed = search rules;
+        moves = c.advance.ensures.moves;
+        left =
+            let is : (d : Parts) → valid v.sizes d → m.valid d = λ d h. (g.met.T.TxType.valid_is a.log.ty.now d).1 (subst (λ (l : List ℕ). valid l d) fits.own.same_sizes h) in
+            let some = some_contents m valid v a.at base is fits.fit fits.claimed in
+            ok_map c.advance.result (now < 1 + left_extending (before - 1) m.widths ws) (now < left_renewing (before - 1) m.widths)
+            (renew_fewer m.widths a.log.set.items ws c.in_ok-watches.ensures (items_range m law f base a.log.set.items a.log.set.updates rs c.requires.log.log some.0 some.1 some.2) (before - 1) now) fewer;
+        err =
+            let h = renew_spans m valid sizes f a.at c.requires.fits.0 c.requires.fits.1 a.words.items base a.log.set.updates rs v w passes n (pos 0) fits c.renew-bound.ensures.tells in
+            let left : IsLeft w = left_idle m valid sizes a.at n base [] f rs w h.0 (idle_reading w h.1) in
+            always_err c.advance.result (IsLeft w) left;
+        script = c.advance.ensures.script;
+        ty = c.advance.ensures.ty;
+      };
+      stopped =
+          let h = renew_spans m valid sizes f a.at c.requires.fits.0 c.requires.fits.1 a.words.items base a.log.set.updates rs v w passes n (pos 0) fits c.renew-bound.ensures.tells in
+          c.advance.ensures.stopped w (subst (λ (l : List ReadEntry). Spans m valid sizes a.at n base l w) (sym none) h.0);
+      same = c.renew-bound.ensures.same;
+    }
 
-pub advance-requires-clause-bound : goal.advance-requires-clause-bound
-advance-requires-clause-bound g c = omega (arith, c.renew-bound.ensures.tells.learns.at, c.requires.fits.2.number)
+pub returns-in_err-watches : goal.returns-in_err-watches
+returns-in_err-watches g c =
+    let a = c.args.self.now in
+    let m = g.T.TxType.meaning a.log.ty.now in
+    let sizes = g.T.Naming.sizes a.log.ty.now in
+    let valid = g.T.Naming.valid in
+    let f = g.B.Body.script a.log.body in
+    let rs = map told a.log.replies.items in
+    let base = a.log.base.items in
+    let v = g.C.Cells.view c.args.cells.now in
+    let passes = g.C.Cells.passes c.args.cells.now in
+    let w = g.C.Cells.view c.renew-bound.new.self in
+    let n = c.renew-bound.result in
+    let fits = c.requires.fits.2 in
+    let h = renew_spans m valid sizes f a.at c.requires.fits.0 c.requires.fits.1 a.words.items base a.log.set.updates rs v w passes n (pos 0) fits c.renew-bound.ensures.tells in
+    let stops : IsLeft w × IsPrefix m f w a.at rs = (left_idle m valid sizes a.at n base [] f rs w h.0 (idle_reading w h.1), prefix m f w a.at base a.log.set.items a.log.set.updates rs c.requires.log.log h.0.claimed) in
+    record {
+      steps = record {
+        event = search rules;
+        log = search rules;
+        turned = search rules;
+        grown = search rules;
+        alone = λ one first. search rules;
+        reason = search rules;
+        renewed = search rules;
+        moves = search rules;
+        left = search rules;
+        err = always_err c.from_residual.result (IsLeft w) stops.0;
+        script = search rules;
+        ty = search rules;
+      };
+      stopped = always_err c.from_residual.result (IsPrefix m f w a.at rs) stops.1;
+      same = c.renew-bound.ensures.same;
+    }

@@ -31,8 +31,8 @@ open-found-requires g c =
     let goes = c.requires.goes in
     reopen_allowed m law g.T.Naming.valid sizes is f a.at a.extension.bound c.args.part false a.log.base.items fresh a.log.set.items ws a.log.set.updates rs v goes.spans goes.observed goes.stands.1 c.requires.log.log goes.stands.0
 
-pub returns-then-is_locked-clause-steps : goal.returns-then-is_locked-clause-steps
-returns-then-is_locked-clause-steps g c =
+pub returns-then-is_locked-clause-made : goal.returns-then-is_locked-clause-made
+returns-then-is_locked-clause-made g c =
     let a = c.args.self.now in
     let m = g.T.TxType.meaning a.log.ty.now in
     let law = g.met.T.TxType.lawful a.log.ty.now in
@@ -50,22 +50,26 @@ returns-then-is_locked-clause-steps g c =
     let locked : is_free n ≡ false = unlocked_is (is_free n) (sym c.is_locked.ensures ∙ c.if-is_locked.true) in
     let h = reopened_locked m law g.T.Naming.valid sizes is f a.at a.extension.bound c.args.part false a.log.base.items fresh a.log.set.items ws a.log.set.updates rs v goes.spans goes.observed goes.stands.1 c.requires.log.log goes.stands.0 w passes n c.open-found.ensures.tells locked in
     record {
-      event = search rules;
-      log = c.requires.log;
-      turned = (refl, h.0, reopened_within m law g.T.Naming.valid sizes is f a.at a.extension.bound c.args.part false a.log.base.items fresh a.log.set.items ws a.log.set.updates rs v goes.spans goes.observed goes.stands.1 c.requires.log.log goes.stands.0 w passes n c.open-found.ensures.tells, (refl, h.1));
-      grown = heard_none _ _ _ _ _;
-      alone = λ one first. absurd first;
-      reason = search rules;
-      renewed = (refl, λ e. (e, refl));
-      moves = (tt, omega arith);
-      left = reopen_over m.widths (words_in a.log.base.items) fresh ws c.args.part goes.stands.1 (g.B.Body.left a.log.body - 1);
-      err = tt;
-      script = refl;
-      ty = refl;
+      steps = record {
+        event = search rules;
+        log = c.requires.log;
+        turned = (refl, h.0, reopened_within m law g.T.Naming.valid sizes is f a.at a.extension.bound c.args.part false a.log.base.items fresh a.log.set.items ws a.log.set.updates rs v goes.spans goes.observed goes.stands.1 c.requires.log.log goes.stands.0 w passes n c.open-found.ensures.tells, (refl, h.1));
+        grown = heard_none _ _ _ _ _;
+        alone = λ one first. absurd first;
+        reason = search rules;
+        renewed = (refl, λ e. (e, refl));
+        moves = (tt, omega arith);
+        left = reopen_over m.widths (words_in a.log.base.items) fresh ws c.args.part goes.stands.1 (g.B.Body.left a.log.body - 1);
+        err = tt;
+        script = refl;
+        ty = refl;
+      };
+      stopped = tt;
+      same = c.open-found.ensures.same;
     }
 
-pub returns-then-ticket-self-clause-steps : goal.returns-then-ticket-self-clause-steps
-returns-then-ticket-self-clause-steps g c =
+pub returns-then-ticket-self-clause-made : goal.returns-then-ticket-self-clause-made
+returns-then-ticket-self-clause-made g c =
     let a = c.args.self.now in
     let m = g.T.TxType.meaning a.log.ty.now in
     let law = g.met.T.TxType.lawful a.log.ty.now in
@@ -84,22 +88,26 @@ returns-then-ticket-self-clause-steps g c =
     let later : a.extension.bound < ticket_of n = omega (arith, c.if-ticket-self.true, c.ticket-ticket.ensures.ticket) in
     let h = reopened_changed m law g.T.Naming.valid sizes is f a.at a.extension.bound c.args.part false a.log.base.items fresh a.log.set.items ws a.log.set.updates rs v goes.spans goes.observed goes.stands.1 c.requires.log.log goes.stands.0 w passes n c.open-found.ensures.tells free later in
     record {
-      event = search rules;
-      log = c.requires.log;
-      turned = (refl, h.0, reopened_within m law g.T.Naming.valid sizes is f a.at a.extension.bound c.args.part false a.log.base.items fresh a.log.set.items ws a.log.set.updates rs v goes.spans goes.observed goes.stands.1 c.requires.log.log goes.stands.0 w passes n c.open-found.ensures.tells, (refl, subst (λ (k : ℕ). WasChanged m f w a.at c.args.part k rs) (sym c.ticket-ticket.ensures.ticket) h.1));
-      grown = heard_none _ _ _ _ _;
-      alone = λ one first. absurd first;
-      reason = by_open a.log.set.items (g.C.Cells.view c.open-found.new.self) c.args.part c.ticket-ticket.result a.extension.extended a.extension.bound c.requires.goes.extended c.if-ticket-self.true;
-      renewed = (refl, λ e. (e, refl));
-      moves = (tt, omega arith);
-      left = reopen_over m.widths (words_in a.log.base.items) fresh ws c.args.part goes.stands.1 (g.B.Body.left a.log.body - 1);
-      err = tt;
-      script = refl;
-      ty = refl;
+      steps = record {
+        event = search rules;
+        log = c.requires.log;
+        turned = (refl, h.0, reopened_within m law g.T.Naming.valid sizes is f a.at a.extension.bound c.args.part false a.log.base.items fresh a.log.set.items ws a.log.set.updates rs v goes.spans goes.observed goes.stands.1 c.requires.log.log goes.stands.0 w passes n c.open-found.ensures.tells, (refl, subst (λ (k : ℕ). WasChanged m f w a.at c.args.part k rs) (sym c.ticket-ticket.ensures.ticket) h.1));
+        grown = heard_none _ _ _ _ _;
+        alone = λ one first. absurd first;
+        reason = by_open a.log.set.items (g.C.Cells.view c.open-found.new.self) c.args.part c.ticket-ticket.result a.extension.extended a.extension.bound c.requires.goes.extended c.if-ticket-self.true;
+        renewed = (refl, λ e. (e, refl));
+        moves = (tt, omega arith);
+        left = reopen_over m.widths (words_in a.log.base.items) fresh ws c.args.part goes.stands.1 (g.B.Body.left a.log.body - 1);
+        err = tt;
+        script = refl;
+        ty = refl;
+      };
+      stopped = tt;
+      same = c.open-found.ensures.same;
     }
 
-pub returns-clause-steps : goal.returns-clause-steps
-returns-clause-steps g c =
+pub returns-clause-made : goal.returns-clause-made
+returns-clause-made g c =
     let a = c.args.self.now in
     let m = g.T.TxType.meaning a.log.ty.now in
     let law = g.met.T.TxType.lawful a.log.ty.now in
@@ -121,17 +129,21 @@ returns-clause-steps g c =
     let made : Renews m g.T.Naming.valid sizes a.at (Rereading c.args.part (ticket_of n)) [] a.extension a.log.base.items a.log.set.items w = record { spans = h.0; observed = goes.observed; extended = goes.extended; stands = (h.1, early, omega arith, goes.stands.1) } in
     let most = left_extending (g.B.Body.left a.log.body - 1) m.widths (drop (length fresh) ws) in
     record {
-      event = search rules;
-      log = c.requires.log;
-      turned = subst (λ (ks : List ℤ). Renews m g.T.Naming.valid sizes a.at (Rereading c.args.part c.ticket-ticket.result) ks a.extension a.log.base.items a.log.set.items w) (sym none)
-          (subst (λ (k : ℕ). Renews m g.T.Naming.valid sizes a.at (Rereading c.args.part k) [] a.extension a.log.base.items a.log.set.items w) (sym c.ticket-ticket.ensures.ticket) made);
-      grown = heard_none _ _ _ _ _;
-      alone = λ one first. absurd first;
-      reason = search rules;
-      renewed = (refl, λ e. (e, refl));
-      moves = (tt, omega arith);
-      left = subst (λ (l : List ℤ). most - (1 + length l) < most) (sym none) (reopen_fewer m.widths (words_in a.log.base.items) fresh ws c.args.part goes.stands.1 (g.B.Body.left a.log.body - 1));
-      err = tt;
-      script = refl;
-      ty = refl;
+      steps = record {
+        event = search rules;
+        log = c.requires.log;
+        turned = subst (λ (ks : List ℤ). Renews m g.T.Naming.valid sizes a.at (Rereading c.args.part c.ticket-ticket.result) ks a.extension a.log.base.items a.log.set.items w) (sym none)
+            (subst (λ (k : ℕ). Renews m g.T.Naming.valid sizes a.at (Rereading c.args.part k) [] a.extension a.log.base.items a.log.set.items w) (sym c.ticket-ticket.ensures.ticket) made);
+        grown = heard_none _ _ _ _ _;
+        alone = λ one first. absurd first;
+        reason = search rules;
+        renewed = (refl, λ e. (e, refl));
+        moves = (tt, omega arith);
+        left = subst (λ (l : List ℤ). most - (1 + length l) < most) (sym none) (reopen_fewer m.widths (words_in a.log.base.items) fresh ws c.args.part goes.stands.1 (g.B.Body.left a.log.body - 1));
+        err = tt;
+        script = refl;
+        ty = refl;
+      };
+      stopped = tt;
+      same = c.open-found.ensures.same;
     }

@@ -1,5 +1,5 @@
 -- It goes on as after a read: what the view tells was told before.
-use Rattle.std.proofs.Common.{◌≡◌, ℕ, List, ap, sym, subst, map}
+use Rattle.std.proofs.Common.{◌≡◌, ℕ, List, ap, sym, subst, map, rules}
 use Rattle.sto_part.specs.Listed.{Listed}
 use Rattle.sto_model.specs.Told.{told}
 use Rattle.sto_attempt_log.specs.declared.read_entry.ReadEntry.{ReadEntry}
@@ -22,26 +22,29 @@ go_on-requires-clause-some g c =
       part_of_claims v a.at a.log.base.items whole.0 h.claimed whole.2,
     )
 
-pub returns-clause-turned : goal.returns-clause-turned
-returns-clause-turned g c v waits =
-    let a = c.args.self.now in
-    let m = g.T.TxType.meaning a.log.ty.now in
-    let sizes = g.T.Naming.sizes a.log.ty.now in
-    let f = g.B.Body.script a.log.body in
-    let base = a.log.base.items in
-    let es = c.go_on.new.self.set.updates in
-    let rs = map told c.go_on.new.self.replies.items in
-    let h = waits.0 in
-    let fresh : Extension = record a.extension { extended = false } in
-    let same : c.go_on.new.self.base.items ≡ base = ap (λ (l : Listed ReadEntry). l.items) c.in_ok-reached.ensures.base in
-    subst (λ (b : List ReadEntry). Turned m g.T.Naming.valid sizes f a.at c.lead-read_phase.result.0 a.words.items fresh b c.go_on.new.self.set.items es rs v c.lead-read_phase.result.1) (sym same)
-    (turned m g.T.Naming.valid sizes f a.at a.words.items base c.go_on.new.self.set.items es rs v
-    (record { own = h.own; unheld = h.unheld; decided = h.decided; draws = h.draws; number = h.number; fit = h.fit; phase = waits.1 })
-    h.claimed h.only h.below fresh (λ e. cc) c.in_ok-reached.ensures.log.log c.in_ok-reached.reached c.lead-read_phase.result.0 c.lead-read_phase.result.1
-    c.in_ok-reached.ensures.reached c.lead-read_phase.ensures)
-
-pub returns-clause-alone : goal.returns-clause-alone
-returns-clause-alone g c = led_alone c.args.self.now.at c.go_on.new.self.set.updates c.in_ok-reached.reached c.lead-read_phase.result.0 c.lead-read_phase.result.1 c.lead-read_phase.ensures
-
-pub returns-clause-begun : goal.returns-clause-begun
-returns-clause-begun g c = led_begun c.args.self.now.at c.go_on.new.self.set.updates c.in_ok-reached.reached c.lead-read_phase.result.0 c.lead-read_phase.result.1 c.lead-read_phase.ensures
+pub returns : goal.returns
+returns g c =
+    record {
+      log = search rules;
+      turned = λ v waits. (let a = c.args.self.now in
+          let m = g.T.TxType.meaning a.log.ty.now in
+          let sizes = g.T.Naming.sizes a.log.ty.now in
+          let f = g.B.Body.script a.log.body in
+          let base = a.log.base.items in
+          let es = c.go_on.new.self.set.updates in
+          let rs = map told c.go_on.new.self.replies.items in
+          let h = waits.0 in
+          let fresh : Extension = record a.extension { extended = false } in
+          let same : c.go_on.new.self.base.items ≡ base = ap (λ (l : Listed ReadEntry). l.items) c.in_ok-reached.ensures.base in
+          subst (λ (b : List ReadEntry). Turned m g.T.Naming.valid sizes f a.at c.lead-read_phase.result.0 a.words.items fresh b c.go_on.new.self.set.items es rs v c.lead-read_phase.result.1) (sym same)
+          (turned m g.T.Naming.valid sizes f a.at a.words.items base c.go_on.new.self.set.items es rs v
+          (record { own = h.own; unheld = h.unheld; decided = h.decided; draws = h.draws; number = h.number; fit = h.fit; phase = waits.1 })
+          h.claimed h.only h.below fresh (λ e. cc) c.in_ok-reached.ensures.log.log c.in_ok-reached.reached c.lead-read_phase.result.0 c.lead-read_phase.result.1
+          c.in_ok-reached.ensures.reached c.lead-read_phase.ensures));
+      grown = search rules;
+      begun = led_begun c.args.self.now.at c.go_on.new.self.set.updates c.in_ok-reached.reached c.lead-read_phase.result.0 c.lead-read_phase.result.1 c.lead-read_phase.ensures;
+      alone = led_alone c.args.self.now.at c.go_on.new.self.set.updates c.in_ok-reached.reached c.lead-read_phase.result.0 c.lead-read_phase.result.1 c.lead-read_phase.ensures;
+      at = search rules;
+      script = search rules;
+      ty = search rules;
+    }

@@ -1,4 +1,4 @@
-use Rattle.std.proofs.Common.{◌≡◌, ◌≤◌, ◌*◌, List, ap, sym, subst, map, arith, length}
+use Rattle.std.proofs.Common.{◌≡◌, ◌≤◌, ◌*◌, List, ap, sym, subst, map, arith, length, rules}
 use Rattle.sto_item.specs.Pending.{Entry as Update}
 use Rattle.sto_model.specs.Told.{told}
 use Rattle.sto_attempt_log.specs.declared.commit_phase.CommitPhase.TheVariants.{Locking}
@@ -18,18 +18,8 @@ room_for-requires g c =
     let it = gathered_planned (g.T.TxType.meaning a.log.ty.now) law g.T.Naming.valid (g.T.Naming.sizes a.log.ty.now) (g.B.Body.script a.log.body) a.at a.log.base.items a.log.set.items (map told a.log.replies.items) a.log.set.updates c.requires.log c.requires.some l.seen.items l.loaded.items l.tasks.items l.checks.items l.places.items is.gathered is.checks is.places (omega (arith, same, is.few)) in
     it.in_range
 
-pub returns-clause-planned : goal.returns-clause-planned
-returns-clause-planned g c =
-    let a = c.args.self.now in
-    let law = g.met.T.TxType.lawful a.log.ty.now in
-    let l = c.in_ok-lists.lists in
-    let is = c.in_ok-lists.ensures in
-    let same : length l.updates.items ≡ length a.log.set.updates = ap (λ (x : List Update). length x) is.updates in
-    let it = gathered_planned (g.T.TxType.meaning a.log.ty.now) law g.T.Naming.valid (g.T.Naming.sizes a.log.ty.now) (g.B.Body.script a.log.body) a.at a.log.base.items a.log.set.items (map told a.log.replies.items) a.log.set.updates c.requires.log c.requires.some l.seen.items l.loaded.items l.tasks.items l.checks.items l.places.items is.gathered is.checks is.places (omega (arith, same, is.few)) in
-    subst (λ (x : List Update). IsPlanned (deal (g.T.TxType.meaning a.log.ty.now) g.T.Naming.valid (g.T.Naming.sizes a.log.ty.now) (g.B.Body.script a.log.body) a.at a.log.base.items a.log.set.items (map told a.log.replies.items) x l.seen.items l.loaded.items l.tasks.items l.checks.items l.places.items)) (sym is.updates) it
-
-pub returns-clause-left : goal.returns-clause-left
-returns-clause-left g c =
+pub returns-clause-stocked : goal.returns-clause-stocked
+returns-clause-stocked g c =
     let a = c.args.self.now in
     let law = g.met.T.TxType.lawful a.log.ty.now in
     let l = c.in_ok-lists.lists in
@@ -38,4 +28,13 @@ returns-clause-left g c =
     let it = gathered_planned (g.T.TxType.meaning a.log.ty.now) law g.T.Naming.valid (g.T.Naming.sizes a.log.ty.now) (g.B.Body.script a.log.body) a.at a.log.base.items a.log.set.items (map told a.log.replies.items) a.log.set.updates c.requires.log c.requires.some l.seen.items l.loaded.items l.tasks.items l.checks.items l.places.items is.gathered is.checks is.places (omega (arith, same, is.few)) in
     let m = g.T.TxType.meaning a.log.ty.now in
     let few = gathered_bounded m law g.T.Naming.valid (g.T.Naming.sizes a.log.ty.now) (g.B.Body.script a.log.body) a.at a.log.base.items a.log.set.items (map told a.log.replies.items) a.log.set.updates c.requires.log c.requires.some l.seen.items l.loaded.items l.tasks.items l.checks.items l.places.items is.gathered it in
-    subst (λ (x : List Update). commit_left (deal m g.T.Naming.valid (g.T.Naming.sizes a.log.ty.now) (g.B.Body.script a.log.body) a.at a.log.base.items a.log.set.items (map told a.log.replies.items) x l.seen.items l.loaded.items l.tasks.items l.checks.items l.places.items) (Locking 0) ≤ 2 * round (length m.widths) (words_of m.widths)) (sym is.updates) few
+    record {
+      planned = subst (λ (x : List Update). IsPlanned (deal (g.T.TxType.meaning a.log.ty.now) g.T.Naming.valid (g.T.Naming.sizes a.log.ty.now) (g.B.Body.script a.log.body) a.at a.log.base.items a.log.set.items (map told a.log.replies.items) x l.seen.items l.loaded.items l.tasks.items l.checks.items l.places.items)) (sym is.updates) it;
+      left = subst (λ (x : List Update). commit_left (deal m g.T.Naming.valid (g.T.Naming.sizes a.log.ty.now) (g.B.Body.script a.log.body) a.at a.log.base.items a.log.set.items (map told a.log.replies.items) x l.seen.items l.loaded.items l.tasks.items l.checks.items l.places.items) (Locking 0) ≤ 2 * round (length m.widths) (words_of m.widths)) (sym is.updates) few;
+      updates = c.in_ok-lists.ensures.updates;
+      unfound = search rules;
+      room = search rules;
+      unloaded = search rules;
+      space = search rules;
+      predicates = search rules;
+    }

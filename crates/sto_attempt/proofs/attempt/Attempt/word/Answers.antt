@@ -18,8 +18,8 @@ use Rattle.sto_attempt_log.proofs.Reading.{word_stops, always_err}
 use Rattle.sto_attempt_log.specs.Standing.{HasBegun}
 use Rattle.sto_attempt.proofs.attempt.Attempt.word.Goals as goal
 
-pub returns-clause-turned : goal.returns-clause-turned
-returns-clause-turned g c =
+pub returns : goal.returns
+returns g c =
     let a = c.args.self.now in
     let m = g.T.TxType.meaning a.log.ty.now in
     let sizes = g.T.Naming.sizes a.log.ty.now in
@@ -34,39 +34,32 @@ returns-clause-turned g c =
     let tells : Tells g.T.Naming.valid passes (Word c.args.part (length a.words.items)) v 0 x w = subst (λ (i : ℕ). Tells g.T.Naming.valid passes (Word c.args.part i) v 0 x w) c.len.ensures c.word-value.ensures.tells in
     let h =
     word_goes m g.T.Naming.valid sizes f a.at c.args.part c.args.ticket a.words.items a.log.base.items a.log.set.items a.log.set.updates rs v c.requires.before.goes.0 w passes 0 x tells c.requires.more in
-    subst (λ (s : ReadPhase). Goes m g.T.Naming.valid sizes f a.at s c.push.new.self.items a.extension a.log.base.items a.log.set.items a.log.set.updates rs w) (sym c.requires.read_phase)
-    (subst (λ (ws : List ℤ). Fits m g.T.Naming.valid sizes f a.at (Reading c.args.part c.args.ticket) ws a.log.base.items a.log.set.updates rs w) (sym pushed) h, c.requires.before.goes.1)
-
-pub returns-clause-alone : goal.returns-clause-alone
-returns-clause-alone g c = (subst IsFirst (sym c.requires.read_phase) tt, tt)
-
-pub returns-clause-left : goal.returns-clause-left
-returns-clause-left g c =
-    let a = c.args.self.now in
-    let m = g.T.TxType.meaning a.log.ty.now in
     let law = g.met.T.TxType.lawful a.log.ty.now in
-    let sizes = g.T.Naming.sizes a.log.ty.now in
-    let valid = g.T.Naming.valid in
-    let f = g.B.Body.script a.log.body in
-    let rs = map told a.log.replies.items in
     let base = a.log.base.items in
-    let v = g.C.Cells.view c.args.cells.now in
-    let passes = g.C.Cells.passes c.args.cells.now in
-    let x = c.word-value.result in
-    let fit : FitsSigned w64 x = search rules in
-    let pushed : c.push.new.self.items ≡ a.words.items ++ x ∷ [] = simp to_z-of_z at c.in_ok-push.ensures.ok in
     let longer : length c.push.new.self.items ≡ length a.words.items + 1 = ap length pushed ∙ length-append a.words.items (x ∷ []) in
     let calls = g.B.Body.left a.log.body in
     let most = left_opening (calls - 1) m.widths a.extension.extended (words_in base) in
-    subst (λ (s : ReadPhase). events_left calls m.widths s c.push.new.self.items a.extension base < most - (1 + length a.words.items)) (sym c.requires.read_phase)
-    (subst (λ (k : ℕ). most - (1 + k) < most - (1 + length a.words.items)) (sym longer)
-    (word_fewer m law f rs c.args.part base a.log.set.updates c.requires.before.goes.0.awaits (calls - 1) a.extension.extended (length a.words.items) c.requires.more))
+    record {
+      event = search rules;
+      turned = subst (λ (s : ReadPhase). Goes m g.T.Naming.valid sizes f a.at s c.push.new.self.items a.extension a.log.base.items a.log.set.items a.log.set.updates rs w) (sym c.requires.read_phase)
+          (subst (λ (ws : List ℤ). Fits m g.T.Naming.valid sizes f a.at (Reading c.args.part c.args.ticket) ws a.log.base.items a.log.set.updates rs w) (sym pushed) h, c.requires.before.goes.1);
+      moves = (subst HasBegun (sym c.requires.read_phase) tt, refl);
+      left = subst (λ (s : ReadPhase). events_left calls m.widths s c.push.new.self.items a.extension base < most - (1 + length a.words.items)) (sym c.requires.read_phase)
+          (subst (λ (k : ℕ). most - (1 + k) < most - (1 + length a.words.items)) (sym longer)
+          (word_fewer m law f rs c.args.part base a.log.set.updates c.requires.before.goes.0.awaits (calls - 1) a.extension.extended (length a.words.items) c.requires.more));
+      alone = (λ first. subst IsFirst (sym c.requires.read_phase) tt, tt);
+      err = search rules;
+      one = search rules;
+      longer = search rules;
+      log = refl;
+      extension = refl;
+      same = c.word-value.ensures.same;
+    }
 
-pub returns-in_err-push-clause-err : goal.returns-in_err-push-clause-err
-returns-in_err-push-clause-err g c =
+pub returns-in_err-push : goal.returns-in_err-push
+returns-in_err-push g c =
     let a = c.args.self.now in
     let m = g.T.TxType.meaning a.log.ty.now in
-    let law = g.met.T.TxType.lawful a.log.ty.now in
     let sizes = g.T.Naming.sizes a.log.ty.now in
     let valid = g.T.Naming.valid in
     let f = g.B.Body.script a.log.body in
@@ -77,8 +70,17 @@ returns-in_err-push-clause-err g c =
     let w = g.C.Cells.view c.word-value.new.self in
     let x = c.word-value.result in
     let tells : Tells valid passes (Word c.args.part (length a.words.items)) v 0 x w = subst (λ (i : ℕ). Tells valid passes (Word c.args.part i) v 0 x w) c.len.ensures c.word-value.ensures.tells in
-    always_err c.from_residual.result (IsLeft w × IsPrefix m f w a.at rs)
-    (word_stops m valid sizes f a.at c.args.part c.args.ticket a.words.items base a.log.set.items a.log.set.updates rs v c.requires.before.goes.0 w passes 0 x tells c.requires.more c.requires.before.log.log)
-
-pub returns-clause-moves : goal.returns-clause-moves
-returns-clause-moves g c = (subst HasBegun (sym c.requires.read_phase) tt, refl)
+    record {
+      event = search rules;
+      turned = search rules;
+      moves = search rules;
+      left = search rules;
+      alone = search rules;
+      err = always_err c.from_residual.result (IsLeft w × IsPrefix m f w a.at rs)
+          (word_stops m valid sizes f a.at c.args.part c.args.ticket a.words.items base a.log.set.items a.log.set.updates rs v c.requires.before.goes.0 w passes 0 x tells c.requires.more c.requires.before.log.log);
+      one = search rules;
+      longer = search rules;
+      log = refl;
+      extension = refl;
+      same = c.word-value.ensures.same;
+    }

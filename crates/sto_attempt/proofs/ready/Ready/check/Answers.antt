@@ -32,8 +32,8 @@ pub expected-requires : goal.expected-requires
 expected-requires g c =
     c.requires.stands.1.planned.seen_rise
 
-pub returns-then-not-is_written-clause-advances : goal.returns-then-not-is_written-clause-advances
-returns-then-not-is_written-clause-advances g c =
+pub returns-then-not-is_written : goal.returns-then-not-is_written
+returns-then-not-is_written g c =
     let a = c.args.self.now in
     let law = g.met.T.TxType.lawful a.log.ty.now in
     let d = deal_of (of_type g.T.Naming g.T.TxType) g.B.Body a in
@@ -45,24 +45,28 @@ returns-then-not-is_written-clause-advances g c =
     let other = is_in c.as_slice.result.now a.updates.items p c.is_written.result false c.as_slice.ensures.items c.is_written.ensures c.if-not-is_written.true in
     let k = c.args.place in
     record {
-      event = search rules;
-      said =
-          let h = c.requires.stands.1 in
-          check_locked d law c.args.place c.args.ticket a.found_tickets a.loaded_words.items v h p c.get-part.ensures w _ n _ c.check-found.ensures.tells busy other;
-      space = search rules;
-      left =
-          let h = c.requires.stands in
-          refuse_lowers d k h.0;
-      reason = λ y e. inr (subst (λ z. HasReason (S.Checking c.args.place c.args.ticket) a.log.set.items w z) e tt);
-      alone =
-          let h = c.requires.stands.1 in
-          λ one quiet. absurd (not_busy v p n (c.check-found.ensures.tells.learns.alone one) (check_unheld d law c.args.place c.args.ticket a.found_tickets a.loaded_words.items v h p c.get-part.ensures other) busy);
-      by = search rules;
+      advances = record {
+        event = search rules;
+        said =
+            let h = c.requires.stands.1 in
+            check_locked d law c.args.place c.args.ticket a.found_tickets a.loaded_words.items v h p c.get-part.ensures w _ n _ c.check-found.ensures.tells busy other;
+        space = search rules;
+        left =
+            let h = c.requires.stands in
+            refuse_lowers d k h.0;
+        reason = λ y e. inr (subst (λ z. HasReason (S.Checking c.args.place c.args.ticket) a.log.set.items w z) e tt);
+        alone =
+            let h = c.requires.stands.1 in
+            λ one quiet. absurd (not_busy v p n (c.check-found.ensures.tells.learns.alone one) (check_unheld d law c.args.place c.args.ticket a.found_tickets a.loaded_words.items v h p c.get-part.ensures other) busy);
+        by = search rules;
+        kept = refl;
+      };
       kept = refl;
+      same = c.check-found.ensures.same;
     }
 
-pub returns-then-newer-expected-clause-advances : goal.returns-then-newer-expected-clause-advances
-returns-then-newer-expected-clause-advances g c =
+pub returns-then-newer-expected : goal.returns-then-newer-expected
+returns-then-newer-expected g c =
     let a = c.args.self.now in
     let law = g.met.T.TxType.lawful a.log.ty.now in
     let d = deal_of (of_type g.T.Naming g.T.TxType) g.B.Body a in
@@ -73,46 +77,50 @@ returns-then-newer-expected-clause-advances g c =
     let ne : ticket_of n ≢ c.expected.result = λ e. c.if-newer-expected.true (c.ticket-newer.ensures.ticket ∙ e) in
     let k = c.args.place in
     record {
-      event = search rules;
-      said =
-          let h = c.requires.stands.1 in
-          let own : is_own_or_free v p n ≡ true = elim c.else-is_locked.branch [
-            | else-is_locked-via-then-is_locked+else-not-is_written x ↦ own_written d c.args.place c.args.ticket a.found_tickets a.loaded_words.items v h p n (is_in x.as_slice.result.now a.updates.items p x.is_written.result true x.as_slice.ensures.items x.is_written.ensures x.if-not-is_written.false)
-            | else-is_locked-via-else-is_locked x ↦ own_free d c.args.place c.args.ticket a.found_tickets a.loaded_words.items v h p n (locked_is (is_free n) (sym c.is_locked.ensures ∙ x.if-is_locked.false))
-          ] in
-          let is = expected_is d law c.args.place c.args.ticket a.found_tickets a.loaded_words.items v h p c.get-part.ensures c.expected.result c.expected.ensures in
-          let it = check_changed d law c.args.place c.args.ticket a.found_tickets a.loaded_words.items v h p c.get-part.ensures w _ n _ c.check-found.ensures.tells own c.expected.result is ne in
-          subst (λ (t : ℕ). IsDropping d c.args.ticket (Changed a.at p t) w) (sym c.ticket-newer.ensures.ticket) it;
-      space = search rules;
-      left =
-          let h = c.requires.stands in
-          refuse_lowers d k h.0;
-      reason =
-          let h = c.requires.stands.1 in
-          let own : is_own_or_free v p n ≡ true = elim c.else-is_locked.branch [
-            | else-is_locked-via-then-is_locked+else-not-is_written x ↦ own_written d c.args.place c.args.ticket a.found_tickets a.loaded_words.items v h p n (is_in x.as_slice.result.now a.updates.items p x.is_written.result true x.as_slice.ensures.items x.is_written.ensures x.if-not-is_written.false)
-            | else-is_locked-via-else-is_locked x ↦ own_free d c.args.place c.args.ticket a.found_tickets a.loaded_words.items v h p n (locked_is (is_free n) (sym c.is_locked.ensures ∙ x.if-is_locked.false))
-          ] in
-          let is = expected_is d law c.args.place c.args.ticket a.found_tickets a.loaded_words.items v h p c.get-part.ensures c.expected.result c.expected.ensures in
-          λ y e. inr (subst (λ z. HasReason (S.Checking c.args.place c.args.ticket) a.log.set.items w z) e (elim (check_reason d law c.args.place c.args.ticket a.found_tickets a.loaded_words.items v h p c.get-part.ensures w _ n _ c.check-found.ensures.tells own c.expected.result is ne) [
-            | inl there ↦ inl (tt, there)
-            | inr by_test ↦ inr (inr (subst (λ (t : ℕ). IsByTest a.log.set.items w p t) (sym c.ticket-newer.ensures.ticket) by_test))
-          ]));
-      alone =
-          let h = c.requires.stands.1 in
-          let own : is_own_or_free v p n ≡ true = elim c.else-is_locked.branch [
-            | else-is_locked-via-then-is_locked+else-not-is_written x ↦ own_written d c.args.place c.args.ticket a.found_tickets a.loaded_words.items v h p n (is_in x.as_slice.result.now a.updates.items p x.is_written.result true x.as_slice.ensures.items x.is_written.ensures x.if-not-is_written.false)
-            | else-is_locked-via-else-is_locked x ↦ own_free d c.args.place c.args.ticket a.found_tickets a.loaded_words.items v h p n (locked_is (is_free n) (sym c.is_locked.ensures ∙ x.if-is_locked.false))
-          ] in
-          let is = expected_is d law c.args.place c.args.ticket a.found_tickets a.loaded_words.items v h p c.get-part.ensures c.expected.result c.expected.ensures in
-          let it = check_changed d law c.args.place c.args.ticket a.found_tickets a.loaded_words.items v h p c.get-part.ensures w _ n _ c.check-found.ensures.tells own c.expected.result is ne in
-          λ one quiet. absurd (omega (arith, it.ends.1.later, (c.check-found.ensures.tells.learns.alone one).1, h.sealed.number));
-      by = search rules;
+      advances = record {
+        event = search rules;
+        said =
+            let h = c.requires.stands.1 in
+            let own : is_own_or_free v p n ≡ true = elim c.else-is_locked.branch [
+              | else-is_locked-via-then-is_locked+else-not-is_written x ↦ own_written d c.args.place c.args.ticket a.found_tickets a.loaded_words.items v h p n (is_in x.as_slice.result.now a.updates.items p x.is_written.result true x.as_slice.ensures.items x.is_written.ensures x.if-not-is_written.false)
+              | else-is_locked-via-else-is_locked x ↦ own_free d c.args.place c.args.ticket a.found_tickets a.loaded_words.items v h p n (locked_is (is_free n) (sym c.is_locked.ensures ∙ x.if-is_locked.false))
+            ] in
+            let is = expected_is d law c.args.place c.args.ticket a.found_tickets a.loaded_words.items v h p c.get-part.ensures c.expected.result c.expected.ensures in
+            let it = check_changed d law c.args.place c.args.ticket a.found_tickets a.loaded_words.items v h p c.get-part.ensures w _ n _ c.check-found.ensures.tells own c.expected.result is ne in
+            subst (λ (t : ℕ). IsDropping d c.args.ticket (Changed a.at p t) w) (sym c.ticket-newer.ensures.ticket) it;
+        space = search rules;
+        left =
+            let h = c.requires.stands in
+            refuse_lowers d k h.0;
+        reason =
+            let h = c.requires.stands.1 in
+            let own : is_own_or_free v p n ≡ true = elim c.else-is_locked.branch [
+              | else-is_locked-via-then-is_locked+else-not-is_written x ↦ own_written d c.args.place c.args.ticket a.found_tickets a.loaded_words.items v h p n (is_in x.as_slice.result.now a.updates.items p x.is_written.result true x.as_slice.ensures.items x.is_written.ensures x.if-not-is_written.false)
+              | else-is_locked-via-else-is_locked x ↦ own_free d c.args.place c.args.ticket a.found_tickets a.loaded_words.items v h p n (locked_is (is_free n) (sym c.is_locked.ensures ∙ x.if-is_locked.false))
+            ] in
+            let is = expected_is d law c.args.place c.args.ticket a.found_tickets a.loaded_words.items v h p c.get-part.ensures c.expected.result c.expected.ensures in
+            λ y e. inr (subst (λ z. HasReason (S.Checking c.args.place c.args.ticket) a.log.set.items w z) e (elim (check_reason d law c.args.place c.args.ticket a.found_tickets a.loaded_words.items v h p c.get-part.ensures w _ n _ c.check-found.ensures.tells own c.expected.result is ne) [
+              | inl there ↦ inl (tt, there)
+              | inr by_test ↦ inr (inr (subst (λ (t : ℕ). IsByTest a.log.set.items w p t) (sym c.ticket-newer.ensures.ticket) by_test))
+            ]));
+        alone =
+            let h = c.requires.stands.1 in
+            let own : is_own_or_free v p n ≡ true = elim c.else-is_locked.branch [
+              | else-is_locked-via-then-is_locked+else-not-is_written x ↦ own_written d c.args.place c.args.ticket a.found_tickets a.loaded_words.items v h p n (is_in x.as_slice.result.now a.updates.items p x.is_written.result true x.as_slice.ensures.items x.is_written.ensures x.if-not-is_written.false)
+              | else-is_locked-via-else-is_locked x ↦ own_free d c.args.place c.args.ticket a.found_tickets a.loaded_words.items v h p n (locked_is (is_free n) (sym c.is_locked.ensures ∙ x.if-is_locked.false))
+            ] in
+            let is = expected_is d law c.args.place c.args.ticket a.found_tickets a.loaded_words.items v h p c.get-part.ensures c.expected.result c.expected.ensures in
+            let it = check_changed d law c.args.place c.args.ticket a.found_tickets a.loaded_words.items v h p c.get-part.ensures w _ n _ c.check-found.ensures.tells own c.expected.result is ne in
+            λ one quiet. absurd (omega (arith, it.ends.1.later, (c.check-found.ensures.tells.learns.alone one).1, h.sealed.number));
+        by = search rules;
+        kept = refl;
+      };
       kept = refl;
+      same = c.check-found.ensures.same;
     }
 
-pub returns-clause-advances : goal.returns-clause-advances
-returns-clause-advances g c =
+pub returns : goal.returns
+returns g c =
     let a = c.args.self.now in
     let law = g.met.T.TxType.lawful a.log.ty.now in
     let d = deal_of (of_type g.T.Naming g.T.TxType) g.B.Body a in
@@ -123,22 +131,26 @@ returns-clause-advances g c =
     let same : ticket_of n ≡ c.expected.result = sym c.ticket-newer.ensures.ticket ∙ c.if-newer-expected.false in
     let k = c.args.place in
     record {
-      event = search rules;
-      said =
-          let h = c.requires.stands.1 in
-          let own : is_own_or_free v p n ≡ true = elim c.else-is_locked.branch [
-            | else-is_locked-via-then-is_locked+else-not-is_written x ↦ own_written d c.args.place c.args.ticket a.found_tickets a.loaded_words.items v h p n (is_in x.as_slice.result.now a.updates.items p x.is_written.result true x.as_slice.ensures.items x.is_written.ensures x.if-not-is_written.false)
-            | else-is_locked-via-else-is_locked x ↦ own_free d c.args.place c.args.ticket a.found_tickets a.loaded_words.items v h p n (locked_is (is_free n) (sym c.is_locked.ensures ∙ x.if-is_locked.false))
-          ] in
-          let is = expected_is d law c.args.place c.args.ticket a.found_tickets a.loaded_words.items v h p c.get-part.ensures c.expected.result c.expected.ensures in
-          let it = check_goes d law c.args.place c.args.ticket a.found_tickets a.loaded_words.items v h p c.get-part.ensures w _ n _ c.check-found.ensures.tells own c.expected.result is same (c.args.place + 1) (omega arith) in
-          checks_next d (c.args.place + 1) c.args.ticket a.found_tickets a.loaded_words.items w it c.next_check-self.result c.next_check-self.ensures;
-      space = space_checks (g.T.TxType.meaning c.args.self.now.log.ty.now).widths c.args.self.now.tasks.items c.args.self.now.loaded_words c.args.self.now.checks.items (c.args.place + 1) c.args.ticket c.next_check-self.result c.next_check-self.ensures;
-      left =
-          let h = c.requires.stands in
-          check_lowers d k c.args.ticket h.0 (k + 1) (omega arith) c.next_check-self.result c.next_check-self.ensures;
-      reason = λ y e. absurd (checks_on a.checks.items (c.args.place + 1) c.args.ticket c.next_check-self.result c.next_check-self.ensures y e);
-      alone = λ one quiet. record { early = quiet.early; unaborted = λ y e. absurd (checks_on a.checks.items (c.args.place + 1) c.args.ticket c.next_check-self.result c.next_check-self.ensures y e) };
-      by = search rules;
+      advances = record {
+        event = search rules;
+        said =
+            let h = c.requires.stands.1 in
+            let own : is_own_or_free v p n ≡ true = elim c.else-is_locked.branch [
+              | else-is_locked-via-then-is_locked+else-not-is_written x ↦ own_written d c.args.place c.args.ticket a.found_tickets a.loaded_words.items v h p n (is_in x.as_slice.result.now a.updates.items p x.is_written.result true x.as_slice.ensures.items x.is_written.ensures x.if-not-is_written.false)
+              | else-is_locked-via-else-is_locked x ↦ own_free d c.args.place c.args.ticket a.found_tickets a.loaded_words.items v h p n (locked_is (is_free n) (sym c.is_locked.ensures ∙ x.if-is_locked.false))
+            ] in
+            let is = expected_is d law c.args.place c.args.ticket a.found_tickets a.loaded_words.items v h p c.get-part.ensures c.expected.result c.expected.ensures in
+            let it = check_goes d law c.args.place c.args.ticket a.found_tickets a.loaded_words.items v h p c.get-part.ensures w _ n _ c.check-found.ensures.tells own c.expected.result is same (c.args.place + 1) (omega arith) in
+            checks_next d (c.args.place + 1) c.args.ticket a.found_tickets a.loaded_words.items w it c.next_check-self.result c.next_check-self.ensures;
+        space = space_checks (g.T.TxType.meaning c.args.self.now.log.ty.now).widths c.args.self.now.tasks.items c.args.self.now.loaded_words c.args.self.now.checks.items (c.args.place + 1) c.args.ticket c.next_check-self.result c.next_check-self.ensures;
+        left =
+            let h = c.requires.stands in
+            check_lowers d k c.args.ticket h.0 (k + 1) (omega arith) c.next_check-self.result c.next_check-self.ensures;
+        reason = λ y e. absurd (checks_on a.checks.items (c.args.place + 1) c.args.ticket c.next_check-self.result c.next_check-self.ensures y e);
+        alone = λ one quiet. record { early = quiet.early; unaborted = λ y e. absurd (checks_on a.checks.items (c.args.place + 1) c.args.ticket c.next_check-self.result c.next_check-self.ensures y e) };
+        by = search rules;
+        kept = refl;
+      };
       kept = refl;
+      same = c.check-found.ensures.same;
     }

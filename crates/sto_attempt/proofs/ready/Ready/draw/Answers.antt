@@ -21,8 +21,8 @@ draw-ticket-requires g c =
     let there : (x : Parts) → m.valid x → valid v.sizes x = λ x h. subst (λ (l : List ℕ). valid l x) (sym sizes) ((g.met.T.TxType.valid_is a.log.ty.now x).0 h) in
     the_draw d (g.met.T.TxType.lawful a.log.ty.now) a.found_tickets a.loaded_words.items v c.requires.stands here there
 
-pub returns-clause-advances : goal.returns-clause-advances
-returns-clause-advances g c =
+pub returns : goal.returns
+returns g c =
     let a = c.args.self.now in
     let m = g.T.TxType.meaning a.log.ty.now in
     let valid = g.T.Naming.valid in
@@ -35,12 +35,16 @@ returns-clause-advances g c =
     let tells = c.draw-ticket.ensures.tells in
     let it = draw_goes d (g.met.T.TxType.lawful a.log.ty.now) a.found_tickets a.loaded_words.items v c.requires.stands here there w _ tells.0 c.draw-ticket.result tells.1 tells.2 in
     record {
-      event = search rules;
-      said = checks_next d 0 c.draw-ticket.result a.found_tickets a.loaded_words.items w it c.next_check-self.result c.next_check-self.ensures;
-      space = space_checks (g.T.TxType.meaning c.args.self.now.log.ty.now).widths c.args.self.now.tasks.items c.args.self.now.loaded_words c.args.self.now.checks.items 0 c.draw-ticket.result c.next_check-self.result c.next_check-self.ensures;
-      left = draw_lowers d c.draw-ticket.result c.next_check-self.result c.next_check-self.ensures;
-      reason = λ y e. absurd (checks_on a.checks.items 0 c.draw-ticket.result c.next_check-self.result c.next_check-self.ensures y e);
-      alone = λ one quiet. record { early = quiet.early; unaborted = λ y e. absurd (checks_on a.checks.items 0 c.draw-ticket.result c.next_check-self.result c.next_check-self.ensures y e) };
-      by = search rules;
+      advances = record {
+        event = search rules;
+        said = checks_next d 0 c.draw-ticket.result a.found_tickets a.loaded_words.items w it c.next_check-self.result c.next_check-self.ensures;
+        space = space_checks (g.T.TxType.meaning c.args.self.now.log.ty.now).widths c.args.self.now.tasks.items c.args.self.now.loaded_words c.args.self.now.checks.items 0 c.draw-ticket.result c.next_check-self.result c.next_check-self.ensures;
+        left = draw_lowers d c.draw-ticket.result c.next_check-self.result c.next_check-self.ensures;
+        reason = λ y e. absurd (checks_on a.checks.items 0 c.draw-ticket.result c.next_check-self.result c.next_check-self.ensures y e);
+        alone = λ one quiet. record { early = quiet.early; unaborted = λ y e. absurd (checks_on a.checks.items 0 c.draw-ticket.result c.next_check-self.result c.next_check-self.ensures y e) };
+        by = search rules;
+        kept = refl;
+      };
       kept = refl;
+      same = c.draw-ticket.ensures.same;
     }

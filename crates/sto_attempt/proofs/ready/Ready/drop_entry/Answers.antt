@@ -6,19 +6,23 @@ use Rattle.sto_type.specs.Traits.{of_type}
 use Rattle.sto_attempt.specs.Commits.{deal_of}
 use Rattle.sto_attempt.proofs.ready.Ready.drop_entry.Goals as goal
 
-pub returns-clause-advances : goal.returns-clause-advances
-returns-clause-advances g c =
+pub returns : goal.returns
+returns g c =
     let a = c.args.self.now in
     let d = deal_of (of_type g.T.Naming g.T.TxType) g.B.Body a in
     let w = g.C.Cells.view c.decide.new.self in
     let it = drop_goes d c.args.ticket c.args.verdict (g.C.Cells.view c.args.cells.now) c.requires.stands w _ _ _ c.decide.ensures.tells in
     record {
-      event = search rules;
-      said = subst (λ (n : ℕ). IsLeaving d 0 n c.args.verdict w) (sym c.len.ensures) it;
-      space = search rules;
-      left = drop_lowers d c.args.ticket c.len.result c.len.ensures c.args.verdict;
-      reason = λ y e. inl e;
-      alone = λ one quiet. record { early = quiet.early; unaborted = quiet.unaborted };
-      by = search rules;
+      advances = record {
+        event = search rules;
+        said = subst (λ (n : ℕ). IsLeaving d 0 n c.args.verdict w) (sym c.len.ensures) it;
+        space = search rules;
+        left = drop_lowers d c.args.ticket c.len.result c.len.ensures c.args.verdict;
+        reason = λ y e. inl e;
+        alone = λ one quiet. record { early = quiet.early; unaborted = quiet.unaborted };
+        by = search rules;
+        kept = refl;
+      };
       kept = refl;
+      same = c.decide.ensures.same;
     }

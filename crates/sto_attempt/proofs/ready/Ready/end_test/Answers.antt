@@ -39,8 +39,8 @@ close-found-requires g c =
     let at : slice_index_or a.tasks.items n 0 ≡ p = get_or_from_slice_get a.tasks.items n p 0 c.get-part.ensures in
     subst (λ (q : ℕ). MayClose v q v.phase × HasPart v q) at (may_end d law n i t a.found_tickets a.loaded_words.items v h all)
 
-pub returns-then-is_locked-clause-advances : goal.returns-then-is_locked-clause-advances
-returns-then-is_locked-clause-advances g c =
+pub returns-then-is_locked-clause-advanced : goal.returns-then-is_locked-clause-advanced
+returns-then-is_locked-clause-advanced g c =
     let a = c.args.self.now in
     let law = g.met.T.TxType.lawful a.log.ty.now in
     let valid = g.T.Naming.valid in
@@ -60,18 +60,22 @@ returns-then-is_locked-clause-advances g c =
     let busy : is_free k ≡ false = unlocked_is (is_free k) (sym c.is_locked.ensures ∙ c.if-is_locked.true) in
     let it = end_locked d law n i t a.found_tickets a.loaded_words.items v h all w _ k _ tells (odd_version k t busy) busy in
     record {
-      event = search rules;
-      said = subst (λ (q : ℕ). IsLeaving d 0 c.len.result (Locked a.at q) w) at (subst (λ (e : ℕ). IsLeaving d 0 e (Locked a.at (task d n)) w) (sym c.len.ensures) it);
-      space = search rules;
-      left = fail_lowers d c.len.result c.len.ensures _;
-      reason = λ y e. inr (subst (λ z. HasReason (S.Tested c.args.place c.args.word c.args.ticket) a.log.set.items w z) e tt);
-      alone = λ one quiet. absurd (not_busy v (task d n) k (tells.learns.0.alone one) (end_unheld d law n i t a.found_tickets a.loaded_words.items v h all) busy);
-      by = search rules;
+      advances = record {
+        event = search rules;
+        said = subst (λ (q : ℕ). IsLeaving d 0 c.len.result (Locked a.at q) w) at (subst (λ (e : ℕ). IsLeaving d 0 e (Locked a.at (task d n)) w) (sym c.len.ensures) it);
+        space = search rules;
+        left = fail_lowers d c.len.result c.len.ensures _;
+        reason = λ y e. inr (subst (λ z. HasReason (S.Tested c.args.place c.args.word c.args.ticket) a.log.set.items w z) e tt);
+        alone = λ one quiet. absurd (not_busy v (task d n) k (tells.learns.0.alone one) (end_unheld d law n i t a.found_tickets a.loaded_words.items v h all) busy);
+        by = search rules;
+        kept = refl;
+      };
       kept = refl;
+      same = c.close-found.ensures.same;
     }
 
-pub returns-then-newer-ticket-clause-advances : goal.returns-then-newer-ticket-clause-advances
-returns-then-newer-ticket-clause-advances g c =
+pub returns-then-newer-ticket-clause-advanced : goal.returns-then-newer-ticket-clause-advanced
+returns-then-newer-ticket-clause-advanced g c =
     let a = c.args.self.now in
     let law = g.met.T.TxType.lawful a.log.ty.now in
     let valid = g.T.Naming.valid in
@@ -93,18 +97,22 @@ returns-then-newer-ticket-clause-advances g c =
     let differs : ticket_of k ≢ t = λ e. c.if-newer-ticket.true (sym found ∙ e) in
     let it = end_newer d law n i t a.found_tickets a.loaded_words.items v h all w _ k _ tells (other_version k t differs) free differs in
     record {
-      event = search rules;
-      said = leaving_as d (length a.updates.items) c.len-then-newer-ticket.result c.len-then-newer-ticket.ensures (task d n) p at (ticket_of k) c.ticket-newer.result found w it;
-      space = search rules;
-      left = fail_lowers d c.len-then-newer-ticket.result c.len-then-newer-ticket.ensures _;
-      reason = λ y e. inr (subst (λ z. HasReason (S.Tested c.args.place c.args.word c.args.ticket) a.log.set.items w z) e (inr (inr (subst (λ (q : ℕ). IsByTest a.log.set.items w q c.ticket-newer.result) at (subst (λ (r : ℕ). IsByTest a.log.set.items w (task d n) r) found (newer_reason d law n i t a.found_tickets a.loaded_words.items v h all w _ k _ tells (other_version k t differs) differs))))));
-      alone = λ one quiet. absurd (omega (arith, it.ends.1.later, (tells.learns.0.alone one).1, h.going.sealed.number));
-      by = search rules;
+      advances = record {
+        event = search rules;
+        said = leaving_as d (length a.updates.items) c.len-then-newer-ticket.result c.len-then-newer-ticket.ensures (task d n) p at (ticket_of k) c.ticket-newer.result found w it;
+        space = search rules;
+        left = fail_lowers d c.len-then-newer-ticket.result c.len-then-newer-ticket.ensures _;
+        reason = λ y e. inr (subst (λ z. HasReason (S.Tested c.args.place c.args.word c.args.ticket) a.log.set.items w z) e (inr (inr (subst (λ (q : ℕ). IsByTest a.log.set.items w q c.ticket-newer.result) at (subst (λ (r : ℕ). IsByTest a.log.set.items w (task d n) r) found (newer_reason d law n i t a.found_tickets a.loaded_words.items v h all w _ k _ tells (other_version k t differs) differs))))));
+        alone = λ one quiet. absurd (omega (arith, it.ends.1.later, (tells.learns.0.alone one).1, h.going.sealed.number));
+        by = search rules;
+        kept = refl;
+      };
       kept = refl;
+      same = c.close-found.ensures.same;
     }
 
-pub returns-then-all_so-clause-advances : goal.returns-then-all_so-clause-advances
-returns-then-all_so-clause-advances g c =
+pub returns-then-all_so-clause-advanced : goal.returns-then-all_so-clause-advanced
+returns-then-all_so-clause-advanced g c =
     let a = c.args.self.now in
     let m = g.T.TxType.meaning a.log.ty.now in
     let law = g.met.T.TxType.lawful a.log.ty.now in
@@ -130,18 +138,22 @@ returns-then-all_so-clause-advances g c =
     let trues = all_true m.widths a.loaded_words.items v (task d n) wide a.log.set.items h.going.sealed.log.inside good in
     let it = end_done d law n i t a.found_tickets a.loaded_words.items v h all w _ k _ tells again trues (n + 1) (omega arith) in
     record {
-      event = search rules;
-      said = aimed d (n + 1) a.found_tickets a.loaded_words.items w it c.aim-self.result c.aim-self.ensures;
-      space = space_ended m.widths a.tasks.items n i a.loaded_words c.requires.before.space h.below h.within a.updates.items (n + 1) (omega arith) c.aim-self.result c.aim-self.ensures;
-      left = tested_lowers d c.args.place c.args.word h.below c.args.ticket h.within (c.args.place + 1) (omega arith) c.aim-self.result c.aim-self.ensures;
-      reason = λ y e. absurd (aimed_on a.updates.items a.tasks.items (n + 1) c.aim-self.result c.aim-self.ensures y e);
-      alone = λ one quiet. record { early = quiet.early; unaborted = λ y e. absurd (aimed_on a.updates.items a.tasks.items (n + 1) c.aim-self.result c.aim-self.ensures y e) };
-      by = search rules;
+      advances = record {
+        event = search rules;
+        said = aimed d (n + 1) a.found_tickets a.loaded_words.items w it c.aim-self.result c.aim-self.ensures;
+        space = space_ended m.widths a.tasks.items n i a.loaded_words c.requires.before.space h.below h.within a.updates.items (n + 1) (omega arith) c.aim-self.result c.aim-self.ensures;
+        left = tested_lowers d c.args.place c.args.word h.below c.args.ticket h.within (c.args.place + 1) (omega arith) c.aim-self.result c.aim-self.ensures;
+        reason = λ y e. absurd (aimed_on a.updates.items a.tasks.items (n + 1) c.aim-self.result c.aim-self.ensures y e);
+        alone = λ one quiet. record { early = quiet.early; unaborted = λ y e. absurd (aimed_on a.updates.items a.tasks.items (n + 1) c.aim-self.result c.aim-self.ensures y e) };
+        by = search rules;
+        kept = refl;
+      };
       kept = refl;
+      same = c.close-found.ensures.same;
     }
 
-pub returns-clause-advances : goal.returns-clause-advances
-returns-clause-advances g c =
+pub returns-clause-advanced : goal.returns-clause-advanced
+returns-clause-advanced g c =
     let a = c.args.self.now in
     let m = g.T.TxType.meaning a.log.ty.now in
     let law = g.met.T.TxType.lawful a.log.ty.now in
@@ -168,12 +180,16 @@ returns-clause-advances g c =
     let here : (y : Parts) → valid v.sizes y → m.valid y = λ y j. (g.met.T.TxType.valid_is a.log.ty.now y).1 (subst (λ (l : List ℕ). valid l y) h.going.sealed.own.same_sizes j) in
     let it = end_fails d law n i t a.found_tickets a.loaded_words.items v h all w _ k _ tells again here f.pred f.there f.on f.fails in
     record {
-      event = search rules;
-      said = leaving_as d (length a.updates.items) c.len-2.result c.len-2.ensures (task d n) p at t t refl w it;
-      space = search rules;
-      left = fail_lowers d c.len-2.result c.len-2.ensures _;
-      reason = λ y e. inr (subst (λ z. HasReason (S.Tested c.args.place c.args.word c.args.ticket) a.log.set.items w z) e (inr (inl (subst (λ (q : ℕ). IsByPredicate a.log.set.items w q t) at (fails_reason d law n i t a.found_tickets a.loaded_words.items v h all w _ k _ tells again here f.pred f.there f.on f.fails)))));
-      alone = λ one quiet. absurd (omega (arith, it.ends.1.later, same, (tells.learns.0.alone one).1, h.going.sealed.number));
-      by = search rules;
+      advances = record {
+        event = search rules;
+        said = leaving_as d (length a.updates.items) c.len-2.result c.len-2.ensures (task d n) p at t t refl w it;
+        space = search rules;
+        left = fail_lowers d c.len-2.result c.len-2.ensures _;
+        reason = λ y e. inr (subst (λ z. HasReason (S.Tested c.args.place c.args.word c.args.ticket) a.log.set.items w z) e (inr (inl (subst (λ (q : ℕ). IsByPredicate a.log.set.items w q t) at (fails_reason d law n i t a.found_tickets a.loaded_words.items v h all w _ k _ tells again here f.pred f.there f.on f.fails)))));
+        alone = λ one quiet. absurd (omega (arith, it.ends.1.later, same, (tells.learns.0.alone one).1, h.going.sealed.number));
+        by = search rules;
+        kept = refl;
+      };
       kept = refl;
+      same = c.close-found.ensures.same;
     }

@@ -13,26 +13,30 @@ unlock-requires g c =
     let d = deal_of (of_type g.T.Naming g.T.TxType) g.B.Body a in
     may_unlock d (g.met.T.TxType.lawful a.log.ty.now) c.args.place c.args.end c.args.verdict (g.C.Cells.view c.args.cells.now) c.requires.stands (plain c.get.result.now) c.get.ensures
 
-pub returns-then-next-end-clause-advances : goal.returns-then-next-end-clause-advances
-returns-then-next-end-clause-advances g c =
+pub returns-then-next-end : goal.returns-then-next-end
+returns-then-next-end g c =
     let a = c.args.self.now in
     let d = deal_of (of_type g.T.Naming g.T.TxType) g.B.Body a in
     let h = c.requires.stands in
     let k = c.args.place in
     record {
-      event = search rules;
-      said = leave_more d (g.met.T.TxType.lawful a.log.ty.now) c.args.place c.args.end c.args.verdict (g.C.Cells.view c.args.cells.now) c.requires.stands (plain c.get.result.now) c.get.ensures
-          (g.C.Cells.view c.unlock.new.self) _ _ _ c.unlock.ensures.tells (c.args.place + 1) (omega arith) (omega (arith, c.if-next-end.true));
-      space = search rules;
-      left = leave_lowers d k c.args.end c.args.verdict h.below.0 (k + 1) (omega arith);
-      reason = λ y e. inl e;
-      alone = λ one quiet. record { early = quiet.early; unaborted = quiet.unaborted };
-      by = search rules;
+      advances = record {
+        event = search rules;
+        said = leave_more d (g.met.T.TxType.lawful a.log.ty.now) c.args.place c.args.end c.args.verdict (g.C.Cells.view c.args.cells.now) c.requires.stands (plain c.get.result.now) c.get.ensures
+            (g.C.Cells.view c.unlock.new.self) _ _ _ c.unlock.ensures.tells (c.args.place + 1) (omega arith) (omega (arith, c.if-next-end.true));
+        space = search rules;
+        left = leave_lowers d k c.args.end c.args.verdict h.below.0 (k + 1) (omega arith);
+        reason = λ y e. inl e;
+        alone = λ one quiet. record { early = quiet.early; unaborted = quiet.unaborted };
+        by = search rules;
+        kept = refl;
+      };
       kept = refl;
+      same = c.unlock.ensures.same;
     }
 
-pub returns-clause-advances : goal.returns-clause-advances
-returns-clause-advances g c =
+pub returns : goal.returns
+returns g c =
     let a = c.args.self.now in
     let d = deal_of (of_type g.T.Naming g.T.TxType) g.B.Body a in
     let r = leave_last d (g.met.T.TxType.lawful a.log.ty.now) c.args.place c.args.end c.args.verdict (g.C.Cells.view c.args.cells.now) c.requires.stands (plain c.get.result.now) c.get.ensures
@@ -41,12 +45,16 @@ returns-clause-advances g c =
     let k = c.args.place in
     let v = g.C.Cells.view c.args.cells.now in
     record {
-      event = search rules;
-      said = (refl, r.0, r.1, r.2);
-      space = search rules;
-      left = leave_ends d k c.args.end c.args.verdict h.below.0;
-      reason = λ y e. inl e;
-      alone = λ one quiet. record { early = quiet.early; unaborted = quiet.unaborted };
-      by = leave_by d c.args.place c.args.end c.args.verdict v c.requires.stands;
+      advances = record {
+        event = search rules;
+        said = (refl, r.0, r.1, r.2);
+        space = search rules;
+        left = leave_ends d k c.args.end c.args.verdict h.below.0;
+        reason = λ y e. inl e;
+        alone = λ one quiet. record { early = quiet.early; unaborted = quiet.unaborted };
+        by = leave_by d c.args.place c.args.end c.args.verdict v c.requires.stands;
+        kept = refl;
+      };
       kept = refl;
+      same = c.unlock.ensures.same;
     }

@@ -63,8 +63,8 @@ overflow_add-word g c =
     let fit : Fits w32 c.width-width.result = search rules in
     omega (arith, h.within, width, fit)
 
-pub returns-then-word-width-clause-advances : goal.returns-then-word-width-clause-advances
-returns-then-word-width-clause-advances g c =
+pub returns-then-word-width : goal.returns-then-word-width
+returns-then-word-width g c =
     let a = c.args.self.now in
     let m = g.T.TxType.meaning a.log.ty.now in
     let law = g.met.T.TxType.lawful a.log.ty.now in
@@ -88,18 +88,22 @@ returns-then-word-width-clause-advances g c =
     let it = load_goes d law n i a.found_tickets a.loaded_words.items v h w _ _ x tells (i + 1) (omega arith) (omega (arith, c.if-word-width.true, width)) in
     let k = c.args.place in
     record {
-      event = search rules;
-      said = subst (λ (l : List LoadedWord). IsLoadingWord d n (i + 1) a.found_tickets l w) (sym items) it;
-      space = space_more m.widths a.tasks.items n i a.loaded_words c.requires.space h.below h.within _ loaded_words c.push_spare.ensures (i + 1) (omega arith);
-      left = load_lowers d k c.args.word h.below h.within (c.args.word + 1) (omega arith);
-      reason = λ y e. absurd e;
-      alone = λ one quiet. record { early = quiet.early; unaborted = λ y e. absurd e };
-      by = search rules;
+      advances = record {
+        event = search rules;
+        said = subst (λ (l : List LoadedWord). IsLoadingWord d n (i + 1) a.found_tickets l w) (sym items) it;
+        space = space_more m.widths a.tasks.items n i a.loaded_words c.requires.space h.below h.within _ loaded_words c.push_spare.ensures (i + 1) (omega arith);
+        left = load_lowers d k c.args.word h.below h.within (c.args.word + 1) (omega arith);
+        reason = λ y e. absurd e;
+        alone = λ one quiet. record { early = quiet.early; unaborted = λ y e. absurd e };
+        by = search rules;
+        kept = refl;
+      };
       kept = refl;
+      same = c.word-value.ensures.same;
     }
 
-pub returns-then-goes_on-clause-advances : goal.returns-then-goes_on-clause-advances
-returns-then-goes_on-clause-advances g c =
+pub returns-then-goes_on : goal.returns-then-goes_on
+returns-then-goes_on g c =
     let a = c.args.self.now in
     let m = g.T.TxType.meaning a.log.ty.now in
     let law = g.met.T.TxType.lawful a.log.ty.now in
@@ -128,18 +132,22 @@ returns-then-goes_on-clause-advances g c =
     (λ apart. all_true m.widths more v (task d n) wide a.log.set.items h.loading.going.sealed.log.inside (goes_true d more (task d n) good apart)) (n + 1) (omega arith) in
     let k = c.args.place in
     record {
-      event = search rules;
-      said = subst (λ (l : List LoadedWord). Stands d a.found_tickets l c.aim-self.result w) (sym items) (aimed d (n + 1) a.found_tickets more w it c.aim-self.result c.aim-self.ensures);
-      space = space_aimed m.widths a.tasks.items n i a.loaded_words c.requires.space h.below h.within _ c.push_spare.new.self c.push_spare.ensures a.updates.items (n + 1) (omega arith) (omega (arith, width, c.if-word-width.false)) c.aim-self.result c.aim-self.ensures;
-      left = loaded_lowers d k c.args.word h.below h.within (k + 1) (omega arith) c.aim-self.result c.aim-self.ensures;
-      reason = λ y e. absurd (aimed_on a.updates.items a.tasks.items (n + 1) c.aim-self.result c.aim-self.ensures y e);
-      alone = λ one quiet. record { early = quiet.early; unaborted = λ y e. absurd (aimed_on a.updates.items a.tasks.items (n + 1) c.aim-self.result c.aim-self.ensures y e) };
-      by = search rules;
+      advances = record {
+        event = search rules;
+        said = subst (λ (l : List LoadedWord). Stands d a.found_tickets l c.aim-self.result w) (sym items) (aimed d (n + 1) a.found_tickets more w it c.aim-self.result c.aim-self.ensures);
+        space = space_aimed m.widths a.tasks.items n i a.loaded_words c.requires.space h.below h.within _ c.push_spare.new.self c.push_spare.ensures a.updates.items (n + 1) (omega arith) (omega (arith, width, c.if-word-width.false)) c.aim-self.result c.aim-self.ensures;
+        left = loaded_lowers d k c.args.word h.below h.within (k + 1) (omega arith) c.aim-self.result c.aim-self.ensures;
+        reason = λ y e. absurd (aimed_on a.updates.items a.tasks.items (n + 1) c.aim-self.result c.aim-self.ensures y e);
+        alone = λ one quiet. record { early = quiet.early; unaborted = λ y e. absurd (aimed_on a.updates.items a.tasks.items (n + 1) c.aim-self.result c.aim-self.ensures y e) };
+        by = search rules;
+        kept = refl;
+      };
       kept = refl;
+      same = c.word-value.ensures.same;
     }
 
-pub returns-clause-advances : goal.returns-clause-advances
-returns-clause-advances g c =
+pub returns : goal.returns
+returns g c =
     let a = c.args.self.now in
     let m = g.T.TxType.meaning a.log.ty.now in
     let law = g.met.T.TxType.lawful a.log.ty.now in
@@ -170,12 +178,16 @@ returns-clause-advances g c =
     let it = load_fails d law n i a.found_tickets a.loaded_words.items v h w _ _ x tells last here f.pred f.there f.on f.fails unseen in
     let ticket : ticket_from 0 a.found_tickets.items (task d n) ≡ c.ticket-ticket.result = ap (ticket_from 0 a.found_tickets.items) at ∙ sym c.ticket-ticket.ensures in
     record {
-      event = search rules;
-      said = leaving_as d (length a.updates.items) c.len.result c.len.ensures (task d n) p at (ticket_from 0 a.found_tickets.items (task d n)) c.ticket-ticket.result ticket w it;
-      space = search rules;
-      left = fail_lowers d c.len.result c.len.ensures _;
-      reason = λ y e. inr (subst (λ z. HasReason (S.Loading c.args.place c.args.word) a.log.set.items w z) e (inr (inl (subst (λ (q : ℕ). IsByPredicate a.log.set.items w q c.ticket-ticket.result) at (subst (λ (k : ℕ). IsByPredicate a.log.set.items w (task d n) k) ticket (load_reason d law n i a.found_tickets a.loaded_words.items v h w _ _ x tells last here f.pred f.there f.on f.fails unseen))))));
-      alone = λ one quiet. let early = early_ticket a.at a.found_tickets.items (task d n) 0 (omega arith) quiet.early in absurd (omega (arith, it.ends.1.later, early));
-      by = search rules;
+      advances = record {
+        event = search rules;
+        said = leaving_as d (length a.updates.items) c.len.result c.len.ensures (task d n) p at (ticket_from 0 a.found_tickets.items (task d n)) c.ticket-ticket.result ticket w it;
+        space = search rules;
+        left = fail_lowers d c.len.result c.len.ensures _;
+        reason = λ y e. inr (subst (λ z. HasReason (S.Loading c.args.place c.args.word) a.log.set.items w z) e (inr (inl (subst (λ (q : ℕ). IsByPredicate a.log.set.items w q c.ticket-ticket.result) at (subst (λ (k : ℕ). IsByPredicate a.log.set.items w (task d n) k) ticket (load_reason d law n i a.found_tickets a.loaded_words.items v h w _ _ x tells last here f.pred f.there f.on f.fails unseen))))));
+        alone = λ one quiet. let early = early_ticket a.at a.found_tickets.items (task d n) 0 (omega arith) quiet.early in absurd (omega (arith, it.ends.1.later, early));
+        by = search rules;
+        kept = refl;
+      };
       kept = refl;
+      same = c.word-value.ensures.same;
     }

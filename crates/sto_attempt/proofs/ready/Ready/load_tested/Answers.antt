@@ -32,8 +32,8 @@ overflow_add-self g c =
     let fit : Fits w32 c.args.width = search rules in
     omega (arith, c.requires.more, fit)
 
-pub returns-clause-advances : goal.returns-clause-advances
-returns-clause-advances g c =
+pub returns : goal.returns
+returns g c =
     let a = c.args.self.now in
     let d = deal_of (of_type g.T.Naming g.T.TxType) g.B.Body a in
     let law = g.met.T.TxType.lawful a.log.ty.now in
@@ -54,12 +54,16 @@ returns-clause-advances g c =
     let h = c.requires.before.stands in
     let k = c.args.place in
     record {
-      event = search rules;
-      said = subst (λ (l : List LoadedWord). IsTestedWord d n (i + 1) c.args.ticket a.found_tickets l w) (sym items) it;
-      space = space_more (g.T.TxType.meaning a.log.ty.now).widths a.tasks.items c.args.place c.args.word a.loaded_words c.requires.before.space h.below (omega (arith, c.requires.more, c.requires.width)) _ c.push_spare.new.self c.push_spare.ensures (c.args.word + 1) (omega arith);
-      left = word_lowers d k c.args.word h.below c.args.ticket (omega (arith, c.requires.more, c.requires.width)) (c.args.word + 1) (omega arith);
-      reason = λ y e. absurd e;
-      alone = λ one quiet. record { early = quiet.early; unaborted = λ y e. absurd e };
-      by = search rules;
+      advances = record {
+        event = search rules;
+        said = subst (λ (l : List LoadedWord). IsTestedWord d n (i + 1) c.args.ticket a.found_tickets l w) (sym items) it;
+        space = space_more (g.T.TxType.meaning a.log.ty.now).widths a.tasks.items c.args.place c.args.word a.loaded_words c.requires.before.space h.below (omega (arith, c.requires.more, c.requires.width)) _ c.push_spare.new.self c.push_spare.ensures (c.args.word + 1) (omega arith);
+        left = word_lowers d k c.args.word h.below c.args.ticket (omega (arith, c.requires.more, c.requires.width)) (c.args.word + 1) (omega arith);
+        reason = λ y e. absurd e;
+        alone = λ one quiet. record { early = quiet.early; unaborted = λ y e. absurd e };
+        by = search rules;
+        kept = refl;
+      };
       kept = refl;
+      same = c.word-value.ensures.same;
     }

@@ -13,7 +13,7 @@ use Rattle.sto_attempt_log.proofs.Ending.{space_begun, space_left}
 use Rattle.sto_attempt_log.proofs.Aiming.{aimed, gives_up}
 use Rattle.sto_type.specs.Traits.{of_type}
 use Rattle.sto_attempt.specs.Commits.{deal_of}
-use Rattle.sto_attempt.proofs.Kept.{kept_commit_phase}
+use Rattle.sto_attempt.proofs.Kept.{kept_commit_phase, kept_but_phase}
 use Rattle.sto_attempt.proofs.ready.Ready.lock.Goals.{then-next-len, else-next-len}
 use Rattle.sto_attempt_log.proofs.Remaining.{give_lowers, lock_lowers, locked_lowers}
 use Rattle.sto_attempt_log.specs.declared.commit_phase.CommitPhase.TheVariants.{Locking}
@@ -30,8 +30,8 @@ lock-found-requires g c =
     let d = deal_of (of_type g.T.Naming g.T.TxType) g.B.Body a in
     may_lock d (g.met.T.TxType.lawful a.log.ty.now) c.args.place a.found_tickets a.loaded_words.items (g.C.Cells.view c.args.cells.now) c.requires.stands (plain c.get.result.now) c.get.ensures
 
-pub returns-then-is_locked-clause-advances : goal.returns-then-is_locked-clause-advances
-returns-then-is_locked-clause-advances g c =
+pub returns-then-is_locked : goal.returns-then-is_locked
+returns-then-is_locked g c =
     let a = c.args.self.now in
     let d = deal_of (of_type g.T.Naming g.T.TxType) g.B.Body a in
     let law = g.met.T.TxType.lawful a.log.ty.now in
@@ -49,19 +49,23 @@ returns-then-is_locked-clause-advances g c =
     let h = c.requires.stands in
     let k = c.args.place in
     record {
-      event = search rules;
-      said = subst (λ (l : Listed FoundTicket). Said d l c.give_up.new.self.loaded_words.items c.give_up.new.self.commit_phase w c.give_up.result) (sym found_tickets)
-          (subst (λ (l : Listed LoadedWord). Said d a.found_tickets l.items c.give_up.new.self.commit_phase w c.give_up.result) (sym loaded_words) it);
-      space = space_left (g.T.TxType.meaning a.log.ty.now).widths a.tasks.items c.give_up.new.self.loaded_words c.args.place (Locked a.at c.get.result.now.0) c.give_up.new.self.commit_phase c.give_up.result c.give_up.ensures.over c.give_up.ensures.more;
-      left = give_lowers d k h.below (Locked a.at c.get.result.now.0) c.give_up.new.self.commit_phase c.give_up.result c.give_up.ensures.over c.give_up.ensures.more;
-      reason = λ y e. inr (subst (λ z. HasReason (Locking c.args.place) a.log.set.items w z) (given c.args.place (Locked a.at u.0) c.give_up.new.self.commit_phase c.give_up.result c.give_up.ensures.over c.give_up.ensures.more y e) tt);
-      alone = λ one quiet. absurd (not_busy v u.0 n (c.lock-found.ensures.tells.learns.alone one) (lock_unheld d law c.args.place a.found_tickets a.loaded_words.items v c.requires.stands u c.get.ensures) busy);
-      by = give_by c.args.place a.at c.get.result.now.0 v c.give_up.new.self.commit_phase c.give_up.result c.give_up.ensures.over c.give_up.ensures.more c.requires.stands.phase;
-      kept = kept_commit_phase a c.give_up.new.self c.give_up.ensures.kept;
+      advances = record {
+        event = search rules;
+        said = subst (λ (l : Listed FoundTicket). Said d l c.give_up.new.self.loaded_words.items c.give_up.new.self.commit_phase w c.give_up.result) (sym found_tickets)
+            (subst (λ (l : Listed LoadedWord). Said d a.found_tickets l.items c.give_up.new.self.commit_phase w c.give_up.result) (sym loaded_words) it);
+        space = space_left (g.T.TxType.meaning a.log.ty.now).widths a.tasks.items c.give_up.new.self.loaded_words c.args.place (Locked a.at c.get.result.now.0) c.give_up.new.self.commit_phase c.give_up.result c.give_up.ensures.over c.give_up.ensures.more;
+        left = give_lowers d k h.below (Locked a.at c.get.result.now.0) c.give_up.new.self.commit_phase c.give_up.result c.give_up.ensures.over c.give_up.ensures.more;
+        reason = λ y e. inr (subst (λ z. HasReason (Locking c.args.place) a.log.set.items w z) (given c.args.place (Locked a.at u.0) c.give_up.new.self.commit_phase c.give_up.result c.give_up.ensures.over c.give_up.ensures.more y e) tt);
+        alone = λ one quiet. absurd (not_busy v u.0 n (c.lock-found.ensures.tells.learns.alone one) (lock_unheld d law c.args.place a.found_tickets a.loaded_words.items v c.requires.stands u c.get.ensures) busy);
+        by = give_by c.args.place a.at c.get.result.now.0 v c.give_up.new.self.commit_phase c.give_up.result c.give_up.ensures.over c.give_up.ensures.more c.requires.stands.phase;
+        kept = kept_commit_phase a c.give_up.new.self c.give_up.ensures.kept;
+      };
+      kept = kept_but_phase a c.give_up.new.self c.give_up.ensures.kept;
+      same = c.lock-found.ensures.same;
     }
 
-pub returns-clause-advances : goal.returns-clause-advances
-returns-clause-advances g c =
+pub returns : goal.returns
+returns g c =
     let a = c.args.self.now in
     let d = deal_of (of_type g.T.Naming g.T.TxType) g.B.Body a in
     let law = g.met.T.TxType.lawful a.log.ty.now in
@@ -75,34 +79,38 @@ returns-clause-advances g c =
     let h = c.requires.stands in
     let k = c.args.place in
     record {
-      event = search rules;
-      said = elim c.if-next-len.branch [
-        | then-next-len x ↦
-            let it = lock_goes d law c.args.place a.found_tickets a.loaded_words.items v c.requires.stands u c.get.ensures w _ n _ c.lock-found.ensures.tells free c.ticket-ticket.result c.ticket-ticket.ensures.ticket found_tickets c.push_spare.ensures (c.args.place + 1) (omega arith) (omega (arith, x.if-next-len.true, c.len.ensures)) in
-            subst (λ (s : CommitPhase). Stands d found_tickets a.loaded_words.items s w) (sym x.self-is) it
-        | else-next-len x ↦
-            let it = lock_done d law c.args.place a.found_tickets a.loaded_words.items v c.requires.stands u c.get.ensures w _ n _ c.lock-found.ensures.tells free c.ticket-ticket.result c.ticket-ticket.ensures.ticket found_tickets c.push_spare.ensures (omega (arith, x.if-next-len.false, c.len.ensures)) in
-            subst (λ (s : CommitPhase). Stands d found_tickets a.loaded_words.items s w) (sym x.self-is) (aimed d 0 found_tickets a.loaded_words.items w it x.aim-self.result x.aim-self.ensures)
-      ];
-      space = elim c.if-next-len.branch [
-        | then-next-len x ↦ subst (λ (s : CommitPhase). SpaceAt widths a.tasks.items a.loaded_words s) (sym x.self-is) c.requires.space
-        | else-next-len x ↦ subst (λ (s : CommitPhase). SpaceAt widths a.tasks.items a.loaded_words s) (sym x.self-is) (space_begun widths a.tasks.items a.loaded_words c.requires.space a.updates.items x.aim-self.result x.aim-self.ensures)
-      ];
-      left = elim c.if-next-len.branch [
-        | then-next-len x ↦ subst (λ (s : CommitPhase). commit_left d s < commit_left d (Locking k)) (sym x.self-is) (lock_lowers d k h.below (k + 1) (omega arith))
-        | else-next-len x ↦ subst (λ (s : CommitPhase). commit_left d s < commit_left d (Locking k)) (sym x.self-is) (locked_lowers d k h.below x.aim-self.result x.aim-self.ensures)
-      ];
-      reason = elim c.if-next-len.branch [
-        | then-next-len x ↦ λ y e. absurd (subst (λ (s : CommitPhase). ComesTo None s y) x.self-is e)
-        | else-next-len x ↦ λ y e. absurd (aimed_on a.updates.items a.tasks.items 0 x.aim-self.result x.aim-self.ensures y (subst (λ (s : CommitPhase). ComesTo None s y) x.self-is e))
-      ];
-      alone = λ one quiet. record {
-        early = early_more a.at a.found_tickets c.push_spare.new.self (record { part = u.0; ticket = c.ticket-ticket.result }) (ap (λ (l : Listed FoundTicket). l.items) c.push_spare.ensures) quiet.early (omega (arith, (c.lock-found.ensures.tells.learns.alone one).1, c.ticket-ticket.ensures.ticket, c.requires.stands.going.sealed.number));
-        unaborted = elim c.if-next-len.branch [
+      advances = record {
+        event = search rules;
+        said = elim c.if-next-len.branch [
+          | then-next-len x ↦
+              let it = lock_goes d law c.args.place a.found_tickets a.loaded_words.items v c.requires.stands u c.get.ensures w _ n _ c.lock-found.ensures.tells free c.ticket-ticket.result c.ticket-ticket.ensures.ticket found_tickets c.push_spare.ensures (c.args.place + 1) (omega arith) (omega (arith, x.if-next-len.true, c.len.ensures)) in
+              subst (λ (s : CommitPhase). Stands d found_tickets a.loaded_words.items s w) (sym x.self-is) it
+          | else-next-len x ↦
+              let it = lock_done d law c.args.place a.found_tickets a.loaded_words.items v c.requires.stands u c.get.ensures w _ n _ c.lock-found.ensures.tells free c.ticket-ticket.result c.ticket-ticket.ensures.ticket found_tickets c.push_spare.ensures (omega (arith, x.if-next-len.false, c.len.ensures)) in
+              subst (λ (s : CommitPhase). Stands d found_tickets a.loaded_words.items s w) (sym x.self-is) (aimed d 0 found_tickets a.loaded_words.items w it x.aim-self.result x.aim-self.ensures)
+        ];
+        space = elim c.if-next-len.branch [
+          | then-next-len x ↦ subst (λ (s : CommitPhase). SpaceAt widths a.tasks.items a.loaded_words s) (sym x.self-is) c.requires.space
+          | else-next-len x ↦ subst (λ (s : CommitPhase). SpaceAt widths a.tasks.items a.loaded_words s) (sym x.self-is) (space_begun widths a.tasks.items a.loaded_words c.requires.space a.updates.items x.aim-self.result x.aim-self.ensures)
+        ];
+        left = elim c.if-next-len.branch [
+          | then-next-len x ↦ subst (λ (s : CommitPhase). commit_left d s < commit_left d (Locking k)) (sym x.self-is) (lock_lowers d k h.below (k + 1) (omega arith))
+          | else-next-len x ↦ subst (λ (s : CommitPhase). commit_left d s < commit_left d (Locking k)) (sym x.self-is) (locked_lowers d k h.below x.aim-self.result x.aim-self.ensures)
+        ];
+        reason = elim c.if-next-len.branch [
           | then-next-len x ↦ λ y e. absurd (subst (λ (s : CommitPhase). ComesTo None s y) x.self-is e)
           | else-next-len x ↦ λ y e. absurd (aimed_on a.updates.items a.tasks.items 0 x.aim-self.result x.aim-self.ensures y (subst (λ (s : CommitPhase). ComesTo None s y) x.self-is e))
         ];
+        alone = λ one quiet. record {
+          early = early_more a.at a.found_tickets c.push_spare.new.self (record { part = u.0; ticket = c.ticket-ticket.result }) (ap (λ (l : Listed FoundTicket). l.items) c.push_spare.ensures) quiet.early (omega (arith, (c.lock-found.ensures.tells.learns.alone one).1, c.ticket-ticket.ensures.ticket, c.requires.stands.going.sealed.number));
+          unaborted = elim c.if-next-len.branch [
+            | then-next-len x ↦ λ y e. absurd (subst (λ (s : CommitPhase). ComesTo None s y) x.self-is e)
+            | else-next-len x ↦ λ y e. absurd (aimed_on a.updates.items a.tasks.items 0 x.aim-self.result x.aim-self.ensures y (subst (λ (s : CommitPhase). ComesTo None s y) x.self-is e))
+          ];
+        };
+        by = search rules;
+        kept = refl;
       };
-      by = search rules;
       kept = refl;
+      same = c.lock-found.ensures.same;
     }

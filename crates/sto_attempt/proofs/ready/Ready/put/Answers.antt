@@ -31,8 +31,8 @@ pub overflow_add-place : goal.overflow_add-place
 overflow_add-place g c =
     omega (arith, c.requires.stands.0, c.requires.stands.1.1.planned.few_places)
 
-pub returns-clause-advances : goal.returns-clause-advances
-returns-clause-advances g c =
+pub returns : goal.returns
+returns g c =
     let a = c.args.self.now in
     let law = g.met.T.TxType.lawful a.log.ty.now in
     let d = deal_of (of_type g.T.Naming g.T.TxType) g.B.Body a in
@@ -48,18 +48,22 @@ returns-clause-advances g c =
     let w = g.C.Cells.view c.put.new.self in
     let k = c.args.place in
     record {
-      event = search rules;
-      said =
-          let h = c.requires.stands.1.1 in
-          let is = put_is d law c.args.place 0 c.args.ticket puts a.loaded_words.items v h y c.get.ensures a.log.set.updates c.requires.copy c.pending-change.result c.pending-change.ensures.change old (old_same ∙ c.value.ensures) value (same ∙ c.install-value.ensures) in
-          let it = put_goes d law c.args.place 0 c.args.ticket puts a.loaded_words.items v h refl y c.get.ensures value is w _ _ _ c.put.ensures.tells (c.args.place + 1) (omega arith) in
-          puts_next d (c.args.place + 1) c.args.ticket (puts ++ (y.0, y.1) ∷ []) a.found_tickets a.loaded_words.items w it it.sealed.some c.next_put-self.result c.next_put-self.ensures;
-      space = space_puts (g.T.TxType.meaning c.args.self.now.log.ty.now).widths c.args.self.now.tasks.items c.args.self.now.loaded_words c.args.self.now.places.items (c.args.place + 1) c.args.ticket c.next_put-self.result c.next_put-self.ensures;
-      left =
-          let h = c.requires.stands in
-          put_lowers d k c.args.ticket h.0 (k + 1) (omega arith) c.next_put-self.result c.next_put-self.ensures;
-      reason = λ y e. absurd (puts_on a.places.items (c.args.place + 1) c.args.ticket c.next_put-self.result c.next_put-self.ensures y e);
-      alone = λ one quiet. record { early = quiet.early; unaborted = λ y e. absurd (puts_on a.places.items (c.args.place + 1) c.args.ticket c.next_put-self.result c.next_put-self.ensures y e) };
-      by = search rules;
+      advances = record {
+        event = search rules;
+        said =
+            let h = c.requires.stands.1.1 in
+            let is = put_is d law c.args.place 0 c.args.ticket puts a.loaded_words.items v h y c.get.ensures a.log.set.updates c.requires.copy c.pending-change.result c.pending-change.ensures.change old (old_same ∙ c.value.ensures) value (same ∙ c.install-value.ensures) in
+            let it = put_goes d law c.args.place 0 c.args.ticket puts a.loaded_words.items v h refl y c.get.ensures value is w _ _ _ c.put.ensures.tells (c.args.place + 1) (omega arith) in
+            puts_next d (c.args.place + 1) c.args.ticket (puts ++ (y.0, y.1) ∷ []) a.found_tickets a.loaded_words.items w it it.sealed.some c.next_put-self.result c.next_put-self.ensures;
+        space = space_puts (g.T.TxType.meaning c.args.self.now.log.ty.now).widths c.args.self.now.tasks.items c.args.self.now.loaded_words c.args.self.now.places.items (c.args.place + 1) c.args.ticket c.next_put-self.result c.next_put-self.ensures;
+        left =
+            let h = c.requires.stands in
+            put_lowers d k c.args.ticket h.0 (k + 1) (omega arith) c.next_put-self.result c.next_put-self.ensures;
+        reason = λ y e. absurd (puts_on a.places.items (c.args.place + 1) c.args.ticket c.next_put-self.result c.next_put-self.ensures y e);
+        alone = λ one quiet. record { early = quiet.early; unaborted = λ y e. absurd (puts_on a.places.items (c.args.place + 1) c.args.ticket c.next_put-self.result c.next_put-self.ensures y e) };
+        by = search rules;
+        kept = refl;
+      };
       kept = refl;
+      same = c.put.ensures.same;
     }

@@ -18,8 +18,8 @@ release-requires g c =
     let v = g.C.Cells.view c.args.cells.now in
     may_release d law _ c.args.place c.args.ticket c.requires.stands.1.0 a.loaded_words.items v c.requires.stands.1.1 (plain c.get.result.now) c.get.ensures refl
 
-pub returns-then-next-len-clause-advances : goal.returns-then-next-len-clause-advances
-returns-then-next-len-clause-advances g c =
+pub returns-then-next-len : goal.returns-then-next-len
+returns-then-next-len g c =
     let a = c.args.self.now in
     let law = g.met.T.TxType.lawful a.log.ty.now in
     let d = deal_of (of_type g.T.Naming g.T.TxType) g.B.Body a in
@@ -29,18 +29,22 @@ returns-then-next-len-clause-advances g c =
     let h = c.requires.stands in
     let k = c.args.place in
     record {
-      event = search rules;
-      said = (omega (arith, c.if-next-len.true, c.len.ensures), (c.requires.stands.1.0, it));
-      space = search rules;
-      left = release_lowers d k c.args.ticket h.0 (k + 1) (omega arith);
-      reason = λ y e. absurd e;
-      alone = λ one quiet. record { early = quiet.early; unaborted = λ y e. absurd e };
-      by = search rules;
+      advances = record {
+        event = search rules;
+        said = (omega (arith, c.if-next-len.true, c.len.ensures), (c.requires.stands.1.0, it));
+        space = search rules;
+        left = release_lowers d k c.args.ticket h.0 (k + 1) (omega arith);
+        reason = λ y e. absurd e;
+        alone = λ one quiet. record { early = quiet.early; unaborted = λ y e. absurd e };
+        by = search rules;
+        kept = refl;
+      };
       kept = refl;
+      same = c.release.ensures.same;
     }
 
-pub returns-clause-advances : goal.returns-clause-advances
-returns-clause-advances g c =
+pub returns : goal.returns
+returns g c =
     let a = c.args.self.now in
     let m = g.T.TxType.meaning a.log.ty.now in
     let law = g.met.T.TxType.lawful a.log.ty.now in
@@ -53,12 +57,16 @@ returns-clause-advances g c =
     let h = c.requires.stands in
     let k = c.args.place in
     record {
-      event = search rules;
-      said = (refl, r.0, r.1, r.2);
-      space = search rules;
-      left = release_ends d k c.args.ticket h.0;
-      reason = λ y e. inr (subst (λ z. HasReason (S.Releasing c.args.place c.args.ticket) a.log.set.items w z) e tt);
-      alone = λ one quiet. record { early = quiet.early; unaborted = λ y e. subst IsWrote e tt };
-      by = release_by d (length a.places.items) c.args.place c.args.ticket c.requires.stands.1.0 a.loaded_words.items v c.requires.stands.1.1;
+      advances = record {
+        event = search rules;
+        said = (refl, r.0, r.1, r.2);
+        space = search rules;
+        left = release_ends d k c.args.ticket h.0;
+        reason = λ y e. inr (subst (λ z. HasReason (S.Releasing c.args.place c.args.ticket) a.log.set.items w z) e tt);
+        alone = λ one quiet. record { early = quiet.early; unaborted = λ y e. subst IsWrote e tt };
+        by = release_by d (length a.places.items) c.args.place c.args.ticket c.requires.stands.1.0 a.loaded_words.items v c.requires.stands.1.1;
+        kept = refl;
+      };
       kept = refl;
+      same = c.release.ensures.same;
     }

@@ -32,8 +32,8 @@ test-found-requires g c =
     let at : slice_index_or a.tasks.items n 0 ≡ p = get_or_from_slice_get a.tasks.items n p 0 c.get-part.ensures in
     subst (λ (q : ℕ). (v.phase ≡ P.Locking) × HasPart v q × (holds q v.held ≡ false)) at (may_test d law n a.found_tickets a.loaded_words.items v c.requires.stands)
 
-pub returns-then-is_locked-clause-advances : goal.returns-then-is_locked-clause-advances
-returns-then-is_locked-clause-advances g c =
+pub returns-then-is_locked : goal.returns-then-is_locked
+returns-then-is_locked g c =
     let a = c.args.self.now in
     let d = deal_of (of_type g.T.Naming g.T.TxType) g.B.Body a in
     let law = g.met.T.TxType.lawful a.log.ty.now in
@@ -48,18 +48,22 @@ returns-then-is_locked-clause-advances g c =
     let busy : is_free m ≡ false = unlocked_is (is_free m) (sym c.is_locked.ensures ∙ c.if-is_locked.true) in
     let it = test_leaves d law n a.found_tickets a.loaded_words.items v c.requires.stands w _ m _ tells busy in
     record {
-      event = search rules;
-      said = subst (λ (q : ℕ). IsLeaving d 0 c.len.result (Locked a.at q) w) at (subst (λ (k : ℕ). IsLeaving d 0 k (Locked a.at (task d n)) w) (sym c.len.ensures) it);
-      space = search rules;
-      left = fail_lowers d c.len.result c.len.ensures _;
-      reason = λ y e. inr (subst (λ z. HasReason (S.Testing c.args.place) a.log.set.items w z) e tt);
-      alone = λ one quiet. absurd (not_busy v (task d n) m (tells.learns.alone one) (test_unheld d law n a.found_tickets a.loaded_words.items v c.requires.stands) busy);
-      by = search rules;
+      advances = record {
+        event = search rules;
+        said = subst (λ (q : ℕ). IsLeaving d 0 c.len.result (Locked a.at q) w) at (subst (λ (k : ℕ). IsLeaving d 0 k (Locked a.at (task d n)) w) (sym c.len.ensures) it);
+        space = search rules;
+        left = fail_lowers d c.len.result c.len.ensures _;
+        reason = λ y e. inr (subst (λ z. HasReason (S.Testing c.args.place) a.log.set.items w z) e tt);
+        alone = λ one quiet. absurd (not_busy v (task d n) m (tells.learns.alone one) (test_unheld d law n a.found_tickets a.loaded_words.items v c.requires.stands) busy);
+        by = search rules;
+        kept = refl;
+      };
       kept = refl;
+      same = c.test-found.ensures.same;
     }
 
-pub returns-clause-advances : goal.returns-clause-advances
-returns-clause-advances g c =
+pub returns : goal.returns
+returns g c =
     let a = c.args.self.now in
     let d = deal_of (of_type g.T.Naming g.T.TxType) g.B.Body a in
     let law = g.met.T.TxType.lawful a.log.ty.now in
@@ -77,12 +81,16 @@ returns-clause-advances g c =
     let h = c.requires.stands in
     let k = c.args.place in
     record {
-      event = search rules;
-      said = test_goes d law n a.found_tickets a.loaded_words.items v c.requires.stands w _ m _ tells free c.ticket-ticket.result c.ticket-ticket.ensures.ticket c.push_spare.new.self pushed;
-      space = search rules;
-      left = test_lowers d k 0 h.below c.ticket-ticket.result;
-      reason = λ y e. absurd e;
-      alone = λ one quiet. record { early = early_more a.at a.found_tickets c.push_spare.new.self (record { part = task d n; ticket = c.ticket-ticket.result }) (ap (λ (l : Listed FoundTicket). l.items) pushed) quiet.early (omega (arith, (tells.learns.alone one).1, c.ticket-ticket.ensures.ticket, c.requires.stands.loading.going.sealed.number)); unaborted = λ y e. absurd e };
-      by = search rules;
+      advances = record {
+        event = search rules;
+        said = test_goes d law n a.found_tickets a.loaded_words.items v c.requires.stands w _ m _ tells free c.ticket-ticket.result c.ticket-ticket.ensures.ticket c.push_spare.new.self pushed;
+        space = search rules;
+        left = test_lowers d k 0 h.below c.ticket-ticket.result;
+        reason = λ y e. absurd e;
+        alone = λ one quiet. record { early = early_more a.at a.found_tickets c.push_spare.new.self (record { part = task d n; ticket = c.ticket-ticket.result }) (ap (λ (l : Listed FoundTicket). l.items) pushed) quiet.early (omega (arith, (tells.learns.alone one).1, c.ticket-ticket.ensures.ticket, c.requires.stands.loading.going.sealed.number)); unaborted = λ y e. absurd e };
+        by = search rules;
+        kept = refl;
+      };
       kept = refl;
+      same = c.test-found.ensures.same;
     }

@@ -1,9 +1,11 @@
 -- Each way on is one of `proofs/Steps`, at what the step of the attempt or of the commit ensures.
-use Rattle.std.proofs.Common.{Ok, Option, subst}
+use Rattle.std.proofs.Common.{◌≤◌, ◌<◌, Ok, Option, map, sym, ap, subst, arith}
+use Rattle.sto_model.specs.Told.{told}
 use Rattle.sto_attempt_log.specs.declared.verdict.Verdict.{Verdict}
 use Rattle.sto_transaction.specs.declared.machine.Machine.{Machine}
-use Rattle.sto_transaction.specs.declared.machine.Machine.TheVariants.{Committing}
-use Rattle.sto_transaction.specs.Machines.{Proceeds, HasTurned}
+use Rattle.sto_transaction.specs.declared.machine.Machine.TheVariants.{Running, Committing}
+use Rattle.sto_transaction.specs.Machines.{Proceeds, HasTurned, machine_left}
+use Rattle.sto_transaction.proofs.SomeLeft.{some_left}
 use Rattle.sto_transaction.proofs.Steps.{turn_of, reads_on, commits_on}
 use Rattle.sto_transaction.proofs.machine.Machine.turn.Goals as goal
 
@@ -37,3 +39,23 @@ returns-in-Some-clause-turned g c ty f begun h =
     let k = c.step-in-Committing.ensures.advances in
     subst (λ (x : Option Verdict). HasTurned g.T.TxType.meaning g.T.Naming.valid g.T.Naming.sizes g.B.Body.script g.B.Body.then g.B.Body.left g.B.Body.may_ask passes ty f (Ok (turn_of x)) (Committing s) begun w) c.in-Some.is
     (commits_on g.T.TxType.meaning g.T.Naming.valid g.T.Naming.sizes g.B.Body.script g.B.Body.then g.B.Body.left g.B.Body.may_ask passes ty f c.in-Committing.ready s begun v w c.step-in-Committing.result under.0 under.1 k.kept k.event k.said k.space k.alone k.by)
+
+pub returns-in-Running-clause-some : goal.returns-in-Running-clause-some
+returns-in-Running-clause-some g c =
+    let r = c.requires in
+    let v = g.C.Cells.view c.args.cells.now in
+    let passes = g.C.Cells.passes c.args.cells.now in
+    let a = c.in-Running.attempt in
+    let under = subst (λ (t : Machine g.row.T.Denot g.row.B.Denot). Proceeds g.T.TxType.meaning g.T.Naming.valid g.T.Naming.sizes g.B.Body.script g.B.Body.then g.B.Body.left g.B.Body.may_ask passes r.0 r.1 t r.2 v) c.in-Running.is r.3 in
+    subst (λ (t : Machine g.row.T.Denot g.row.B.Denot). 0 < machine_left g.T.TxType.meaning g.T.Naming.valid g.T.Naming.sizes g.B.Body.script g.B.Body.then g.B.Body.left g.B.Body.may_ask t) (sym c.in-Running.is)
+    (some_left (g.T.TxType.meaning a.log.ty.now) (g.met.T.TxType.lawful a.log.ty.now) g.T.Naming.valid (g.T.Naming.sizes a.log.ty.now) (g.B.Body.script a.log.body) a.at (g.B.Body.left a.log.body) a.words.items a.extension a.log.base.items a.log.set.items a.log.set.updates (map told a.log.replies.items) v a.read_phase under.1.goes)
+
+pub returns-in-None-clause-some : goal.returns-in-None-clause-some
+returns-in-None-clause-some g c =
+    let whole = ap (machine_left g.T.TxType.meaning g.T.Naming.valid g.T.Naming.sizes g.B.Body.script g.B.Body.then g.B.Body.left g.B.Body.may_ask) c.in-Committing.is in
+    omega (arith, whole, c.step-in-Committing.ensures.advances.left)
+
+pub returns-in-Some-clause-some : goal.returns-in-Some-clause-some
+returns-in-Some-clause-some g c =
+    let whole = ap (machine_left g.T.TxType.meaning g.T.Naming.valid g.T.Naming.sizes g.B.Body.script g.B.Body.then g.B.Body.left g.B.Body.may_ask) c.in-Committing.is in
+    omega (arith, whole, c.step-in-Committing.ensures.advances.left)
