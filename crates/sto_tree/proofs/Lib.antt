@@ -1,3 +1,4 @@
+pub mod RisingRows
 pub mod Adding
 pub mod Parts
 pub mod Whole

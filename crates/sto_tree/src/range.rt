@@ -6,7 +6,7 @@ ghost use Rattle.sto_tree_spec.specs.Valid.{IsTree};
 ghost use Rattle.sto_tree.specs.KnownRows.{known_value, known_values, with_places, with_part, known_rows as the_known_rows};
 
 use crate::get::only_word;
-use crate::listing::{key_at, meets};
+use crate::listing::{key_at, meets, put_row};
 use crate::said::{key_part, value_part};
 use crate::search::is_present;
 use std::alloc::Global;
@@ -67,7 +67,7 @@ fn add_places(
 {
     for place in 0..8 {
         if let Some((key, value)) = known_row(leaves, cache, leaf, keys, place) {
-            rows.put(key, value)?;
+            put_row(rows, key, value)?;
         }
     }
     Ok(())

@@ -6,7 +6,7 @@ use Rattle.sto_tree_spec.specs.Slots.{Slots, with_slot}
 use Rattle.sto_tree_spec.specs.Layout.{place_slot}
 use Rattle.sto_type.specs.Known.{known}
 use Rattle.sto_tree.specs.KnownRows.{known_values, with_places}
-use Rattle.sto_tree.proofs.range.add_places.Goals.{in-Some+in_ok-put, in_default}
+use Rattle.sto_tree.proofs.range.add_places.Goals.{in-Some+in_ok-put_row, in_default}
 use Rattle.sto_tree.proofs.range.add_places.Goals as goal
 
 pub loop-place-preserved : goal.loop-place-preserved
@@ -18,10 +18,10 @@ loop-place-preserved c =
     let n : ℕ = c.loop-place.place in
     let e : n + 1 ≡ suc n = omega arith in
     elim c.match-known_row.branch [
-      | in-Some+in_ok-put w ↦
+      | in-Some+in_ok-put_row w ↦
           let f : FitsSigned w64 w.in-Some.key = search rules in
           let g : FitsSigned w64 w.in-Some.value = search rules in
-          let put = simp to_z-of_z at w.in_ok-put.ensures.ok in
+          let put = simp to_z-of_z at w.in_ok-put_row.ensures in
           let slot : s n ≡ Some (w.in-Some.key, w.in-Some.value) = sym c.known_row.ensures ∙ w.in-Some.is in
           ap (λ r. r.items) w.rows-is ∙ put ∙ ap (λ l. with_row l w.in-Some.key w.in-Some.value) c.loop-place.invariant
           ∙ ap (λ o. with_slot (with_places old ks v n) o) (sym slot) ∙ ap (λ (x : ℕ). with_places old ks v x) (sym e)
