@@ -38,7 +38,7 @@ steps_as t b passes a c v w r old s is e to h =
 pub renew_steps : {T B : Type 0} (t : OfType T) (b : OfBody B) (passes : ℕ) (a c : Attempt T B) (v w : View) (r : Result Turn NoMemory) (e : Event) (p q n k : ℕ)
     → Steps t b passes (Renewing p q) e a c v w r → Steps t b passes (Renewing n k) e a c v w r
 renew_steps t b passes a c v w r e p q n k h =
-    record { event = h.event; log = h.log; turned = h.turned; grown = h.grown; alone = h.alone; reason = h.reason; renewed = h.renewed; moves = h.moves; left = h.left; err = h.err; script = h.script; ty = h.ty }
+    record { event = h.event; log = h.log; turned = h.turned; grown = h.grown; alone = h.alone; reason = h.reason; renewed = h.renewed; moves = h.moves; left = h.left; err = h.err; script = h.script; left_at_reset = h.left_at_reset; ty = h.ty }
 
 -- after each event the replies are a prefix
 pub stepped_prefix : {T B C : Type 0} (t : OfType T) (b : OfBody B) (c : cells.Ghosts C T) (s : ReadPhase) (e : Event) (a d : Attempt T B) (x y : C) (r : Result Turn NoMemory)

@@ -102,6 +102,7 @@ module _ {T B : Type 0} (t : OfType T) (b : OfBody B) where
   pub record IsNew (on : T) (body : B) (a : Attempt T B) : Type 0 where
     pub ty : a.log.ty.now ≡ on
     pub script : b.script a.log.body ≡ b.script body
+    pub left_at_reset : b.left_at_reset a.log.body ≡ b.left_at_reset body
     pub left : b.left a.log.body ≡ b.left_at_reset body
     pub none : a.log.base.items ≡ []
     pub fresh : a.extension.extended ≡ false
@@ -156,6 +157,7 @@ module _ {T B : Type 0} (t : OfType T) (b : OfBody B) where
     pub left : OnOk result (HasFewer read_phase old new)
     pub err : OnErr result (IsLeft w)
     pub script : b.script new.log.body ≡ b.script old.log.body
+    pub left_at_reset : b.left_at_reset new.log.body ≡ b.left_at_reset old.log.body
     pub ty : new.log.ty ≡ old.log.ty
 
   -- it went on where it had waited
@@ -168,6 +170,7 @@ module _ {T B : Type 0} (t : OfType T) (b : OfBody B) where
     pub alone : IfOk result (λ turn. IsFirst new.read_phase × IsUnaborted turn)
     pub at : new.at ≡ old.at
     pub script : b.script new.log.body ≡ b.script old.log.body
+    pub left_at_reset : b.left_at_reset new.log.body ≡ b.left_at_reset old.log.body
     pub ty : new.log.ty ≡ old.log.ty
 
   -- the items and updates carry the replies
@@ -216,6 +219,7 @@ module _ {T B : Type 0} (t : OfType T) (b : OfBody B) where
     pub left : OnOk result (HasFewerOn old new)
     pub stopped : (v : View) → SpansAt old v → OnErr result (IsPrefixOf old new v)
     pub script : b.script new.log.body ≡ b.script old.log.body
+    pub left_at_reset : b.left_at_reset new.log.body ≡ b.left_at_reset old.log.body
     pub ty : new.log.ty ≡ old.log.ty
 
   -- c is what the trait of the pass says
@@ -245,6 +249,7 @@ module _ {T B : Type 0} (t : OfType T) (b : OfBody B) where
       pub alone : IfOk result (λ turn. IsFirst new.read_phase × IsUnaborted turn)
       pub err : OnErr result (HasStopped old new (c.view there))
       pub script : b.script new.log.body ≡ b.script old.log.body
+      pub left_at_reset : b.left_at_reset new.log.body ≡ b.left_at_reset old.log.body
       pub ty : new.log.ty ≡ old.log.ty
       pub same : c.same here there
 

@@ -6,3 +6,4 @@ pub mod Steps
 pub mod Counting
 pub mod Tries
 pub mod SomeLeft
+pub mod Pace

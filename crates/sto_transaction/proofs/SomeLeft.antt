@@ -1,5 +1,5 @@
 -- Before each event of an attempt that runs its body, there is one left.
-use Rattle.std.proofs.Common.{◌≤◌, ◌<◌, ◌+◌, ◌-◌, ℕ, ℤ, List, length, map, drop, slice_index_or, arith}
+use Rattle.std.proofs.Common.{◌<◌, ◌-◌, ℕ, ℤ, List, map, arith}
 use Rattle.sto_item.specs.declared.item.Item.{Item}
 use Rattle.sto_item.specs.Pending.{Entry as Update}
 use Rattle.sto_item.specs.Watched.{watched}
@@ -27,7 +27,7 @@ module _ (m : Meaning) (law : IsLawful m) (valid : Validity) (sizes : List ℕ) 
   some_left (Rechecking p) h = recheck_over m.widths (words_in base) extension.fresh.items (map watched extension.watches.items) p h.stands.1 (calls - 1)
   some_left (Reopening p) h = reopen_over m.widths (words_in base) extension.fresh.items (map watched extension.watches.items) p h.stands.1 (calls - 1)
   some_left (Rereading p t) h =
-      let costs = reread_costs m.widths (words_in base) extension.fresh.items (map watched extension.watches.items) p h.stands.2.2.1 in
-      omega (arith, costs, h.stands.2.1)
+      let costs = reread_costs m.widths (words_in base) extension.fresh.items (map watched extension.watches.items) p h.stands.3 in
+      omega (arith, costs, h.stands.2)
   some_left Committing h = absurd h
   some_left Over h = absurd h

@@ -40,6 +40,12 @@ pub record HasStopped (m : Meaning) (sizes : List ℕ) (begun w : View) : Type 0
   pub starts : w.starts ≡ begun.starts + 1
   pub draws : w.draws ≡ begun.draws
 
+-- how many calls the body of an attempt may ask from the beginning, by what its trait says
+abbrev pub calls_of : {T B : Type 0} → (B → ℕ) → Machine T B → ℕ
+calls_of at_reset (Running a) = at_reset a.log.body
+calls_of at_reset (Committing r) = at_reset r.log.body
+calls_of at_reset Over = 0
+
 -- what the traits of the type and of the body say: the meaning of a type, which contents are valid, and its sizes; the script of a
 -- body, what it does next, how many calls it may still ask, and which
 module _ {T B : Type 0} (meaning : T → Meaning) (valid : Validity) (sizes : T → List ℕ) (script : B → Script) (next : B → List Told → Next) (left : B → ℕ) (may : B → Call → Type 0) where
@@ -144,6 +150,12 @@ module _ {T B : Type 0} (meaning : T → Meaning) (valid : Validity) (sizes : T 
   machine_left (Running a) = events_left (left a.log.body) (meaning a.log.ty.now).widths a.read_phase a.words.items a.extension a.log.base.items
   machine_left (Committing r) = commit_left (deal_of r) r.commit_phase
   machine_left Over = 0
+
+  -- an attempt went on: its pass made at most as many steps as there are fewer events left, and its body may ask as many calls
+  pub record GoesOn (at_reset : B → ℕ) (old new : Machine T B) (v w : View) : Type 0 where
+    pub fewer : machine_left new ≤ machine_left old
+    pub taken : w.steps + machine_left new ≤ v.steps + machine_left old
+    pub calls : calls_of at_reset new ≡ calls_of at_reset old
 
   abbrev pub left_after : Option (Ended B) → Machine T B → ℕ
   left_after None machine = machine_left machine

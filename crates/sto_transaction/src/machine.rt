@@ -6,7 +6,7 @@ ghost use Rattle.sto_core.specs.declared.view.View.{View};
 ghost use Rattle.sto_attempt_log.specs.Answers.{OneEvent};
 ghost use Rattle.sto_attempt_log.specs.Bounds.{bound, words_of};
 ghost use Rattle.sto_transaction.specs.Resting.{IsAtRest};
-ghost use Rattle.sto_transaction.specs.Machines.{Proceeds, IsAtSeal, IsAtEnd, HasTurned, HasAdvanced, HasStepped, HasEnded, machine_left, left_after};
+ghost use Rattle.sto_transaction.specs.Machines.{Proceeds, IsAtSeal, IsAtEnd, HasTurned, HasAdvanced, HasStepped, HasEnded, machine_left, left_after, calls_of};
 
 use std::alloc::Global;
 use std::mem;
@@ -49,6 +49,7 @@ impl<'t, T: TxType, B: Body + Drop> Machine<'t, T, B> {
             → Proceeds T.meaning T.valid T.sizes B.script B.then B.left B.may_ask passes ty.now (B.script body) result v v }
         ensures left { machine_left T.meaning T.valid T.sizes B.script B.then B.left B.may_ask result
             ≤ bound (B.left_at_reset body) (length (T.meaning ty.now).widths) (words_of (T.meaning ty.now).widths) }
+        ensures calls { calls_of B.left_at_reset result ≡ B.left_at_reset body }
     {
         Machine::Running(Attempt::new(alloc, ty, body, memory))
     }
@@ -91,6 +92,7 @@ impl<'t, T: TxType, B: Body + Drop> Machine<'t, T, B> {
         requires { (ty : T) × (f : Script) × (begun : View) × Proceeds T.meaning T.valid T.sizes B.script B.then B.left B.may_ask
             (C.passes cells.old) ty f self.old begun (C.view cells.old) }
         ensures event { OneEvent (λ _. Unit {0}) T.valid (C.passes cells.old) (C.view cells.old) (C.view cells.new) }
+        ensures calls { OnOk result (calls_of B.left_at_reset self.new ≡ calls_of B.left_at_reset self.old) }
         ensures advanced { (ty : T) (f : Script) (begun : View)
             → Proceeds T.meaning T.valid T.sizes B.script B.then B.left B.may_ask (C.passes cells.old) ty f self.old begun
             (C.view cells.old) → HasAdvanced T.meaning T.valid T.sizes B.script B.then B.left B.may_ask (C.passes cells.old) ty f result
@@ -115,6 +117,7 @@ impl<'t, T: TxType, B: Body + Drop> Machine<'t, T, B> {
         requires { (ty : T) × (f : Script) × (begun : View) × Proceeds T.meaning T.valid T.sizes B.script B.then B.left B.may_ask
             (C.passes cells.old) ty f self.old begun (C.view cells.old) }
         ensures event { OneEvent (λ _. Unit {0}) T.valid (C.passes cells.old) (C.view cells.old) (C.view cells.new) }
+        ensures calls { calls_of B.left_at_reset self.new ≡ calls_of B.left_at_reset self.old }
         ensures turned { (ty : T) (f : Script) (begun : View)
             → Proceeds T.meaning T.valid T.sizes B.script B.then B.left B.may_ask (C.passes cells.old) ty f self.old begun
             (C.view cells.old) → HasTurned T.meaning T.valid T.sizes B.script B.then B.left B.may_ask (C.passes cells.old) ty f result
@@ -144,6 +147,7 @@ impl<'t, T: TxType, B: Body + Drop> Machine<'t, T, B> {
             → Proceeds T.meaning T.valid T.sizes B.script B.then B.left B.may_ask passes ty f self.new begun v) }
         ensures left { OnOk result (machine_left T.meaning T.valid T.sizes B.script B.then B.left B.may_ask self.new
             ≤ machine_left T.meaning T.valid T.sizes B.script B.then B.left B.may_ask self.old) }
+        ensures calls { OnOk result (calls_of B.left_at_reset self.new ≡ calls_of B.left_at_reset self.old) }
     {
         match mem::replace(self, Machine::Over) {
             Machine::Running(attempt) => match attempt.seal(alloc) {
@@ -165,7 +169,8 @@ impl<'t, T: TxType, B: Body + Drop> Machine<'t, T, B> {
     pub(crate) fn end(&mut self, verdict: Verdict, memory: &mut Memory) -> Ended<B>
         requires { (passes : ℕ) × (ty : T) × (f : Script) × (begun : View) × (w : View)
             × IsAtEnd T.meaning T.valid T.sizes B.script B.then B.left B.may_ask passes ty f self.old verdict begun w }
-        ensures { (passes : ℕ) (ty : T) (f : Script) (begun w : View)
+        ensures calls { B.left_at_reset result.body ≡ calls_of B.left_at_reset self.old }
+        ensures ended { (passes : ℕ) (ty : T) (f : Script) (begun w : View)
             → IsAtEnd T.meaning T.valid T.sizes B.script B.then B.left B.may_ask passes ty f self.old verdict begun w
             → HasEnded T.meaning T.valid T.sizes B.script B.then B.left B.may_ask passes ty f result begun w }
     {

@@ -6,9 +6,9 @@ ghost use Rattle.sto_core.specs.declared.view.View.{View};
 ghost use Rattle.sto_attempt_facts.specs.Records.{is_abort};
 ghost use Rattle.sto_transaction.specs.Plain.{plain, verdict};
 ghost use Rattle.sto_transaction.specs.Ran.{HasRun, HasBroken};
-ghost use Rattle.sto_transaction.specs.Pace.{most_steps};
+ghost use Rattle.sto_transaction.specs.Pace.{most_steps, KeepsPace};
 ghost use Rattle.sto_transaction.specs.Resting.{IsAtRest};
-ghost use Rattle.sto_transaction.specs.Machines.{Proceeds, HasEnded, HasFinished, HasStopped, machine_left};
+ghost use Rattle.sto_transaction.specs.Machines.{Proceeds, HasEnded, HasFinished, HasStopped, GoesOn, machine_left, calls_of};
 
 use crate::machine::{Ended, Machine};
 use crate::record::Record;
@@ -77,6 +77,10 @@ impl<T: TxType, B: Body + Drop> Transaction<'_, T, B> {
         ensures err { OnErr result (HasBroken (T.meaning self.entry.ty.now) (T.sizes self.entry.ty.now) self.entry.tries (C.view cells.old)
             (C.view cells.new) (B.script self.entry.body) (self.entry.thread, self.entry.position) (map plain records.old.items)
             (map plain records.new.items)) }
+
+        // Each attempt takes at most `bound` steps: a step is one operation on one word.
+        ensures steps { KeepsPace (most_steps (T.meaning self.entry.ty.now) (B.left_at_reset self.entry.body))
+            (C.view cells.old) (C.view cells.new) }
         ensures same { C.same cells.old cells.new }
     {
         let Transaction {
@@ -125,6 +129,7 @@ fn run_attempt<T: TxType, B: Body + Drop, C: Cells<T>, W: AttemptWatch>(
     ensures ended { IfOk result (λ e. HasEnded T.meaning T.valid T.sizes B.script B.then B.left B.may_ask (C.passes cells.old) ty.now
         (B.script body) e (C.view cells.old) (C.view cells.new)) }
     ensures err { OnErr result (HasStopped (T.meaning ty.now) (T.sizes ty.now) (C.view cells.old) (C.view cells.new)) }
+    ensures calls { IfOk result (λ e. B.left_at_reset e.body ≡ B.left_at_reset body) }
     ensures steps { (C.view cells.new).steps ≤ (C.view cells.old).steps + most_steps (T.meaning ty.now) (B.left_at_reset body) }
     ensures same { C.same cells.old cells.new }
 {
@@ -147,6 +152,8 @@ fn finish<T: TxType, B: Body + Drop, C: Cells<T>, W: AttemptWatch>(
     ensures ended { (ty : T) (f : Script) (begun : View) → Proceeds T.meaning T.valid T.sizes B.script B.then B.left B.may_ask
         (C.passes cells.old) ty f machine.old begun (C.view cells.old)
         → HasFinished T.meaning T.valid T.sizes B.script B.then B.left B.may_ask (C.passes cells.old) ty f result begun (C.view cells.new) }
+
+    ensures calls { IfOk result (λ e. B.left_at_reset e.body ≡ calls_of B.left_at_reset machine.old) }
 
     // Its events are no more than were left.
     ensures steps { (C.view cells.new).steps ≤ (C.view cells.old).steps
@@ -179,10 +186,8 @@ fn read_part<T: TxType, B: Body + Drop, C: Cells<T>, W: AttemptWatch>(
     ensures err { (ty : T) (f : Script) (begun : View) → Proceeds T.meaning T.valid T.sizes B.script B.then B.left B.may_ask
         (C.passes cells.old) ty f machine.old begun (C.view cells.old)
         → OnErr result (HasStopped (T.meaning ty) (T.sizes ty) begun (C.view cells.new)) }
-    ensures left { OnOk result (machine_left T.meaning T.valid T.sizes B.script B.then B.left B.may_ask machine.new
-        ≤ machine_left T.meaning T.valid T.sizes B.script B.then B.left B.may_ask machine.old) }
-    ensures taken { OnOk result ((C.view cells.new).steps + machine_left T.meaning T.valid T.sizes B.script B.then B.left B.may_ask machine.new
-        ≤ (C.view cells.old).steps + machine_left T.meaning T.valid T.sizes B.script B.then B.left B.may_ask machine.old) }
+    ensures goes { OnOk result (GoesOn T.meaning T.valid T.sizes B.script B.then B.left B.may_ask B.left_at_reset machine.old machine.new
+        (C.view cells.old) (C.view cells.new)) }
     ensures steps { (C.view cells.new).steps ≤ (C.view cells.old).steps
         + machine_left T.meaning T.valid T.sizes B.script B.then B.left B.may_ask machine.old }
     ensures same { C.same cells.old cells.new }
@@ -209,11 +214,8 @@ fn read_words<T: TxType, B: Body + Drop, C: Cells<T>, W: AttemptWatch>(
     ensures err { (ty : T) (f : Script) (begun : View) → Proceeds T.meaning T.valid T.sizes B.script B.then B.left B.may_ask
         (C.passes cells.old) ty f (Machine.Running attempt.old) begun (C.view cells.old)
         → OnErr result (HasStopped (T.meaning ty) (T.sizes ty) begun (C.view cells.new)) }
-    ensures left { OnOk result (machine_left T.meaning T.valid T.sizes B.script B.then B.left B.may_ask (Machine.Running attempt.new)
-        ≤ machine_left T.meaning T.valid T.sizes B.script B.then B.left B.may_ask (Machine.Running attempt.old)) }
-    ensures taken { OnOk result ((C.view cells.new).steps
-        + machine_left T.meaning T.valid T.sizes B.script B.then B.left B.may_ask (Machine.Running attempt.new)
-        ≤ (C.view cells.old).steps + machine_left T.meaning T.valid T.sizes B.script B.then B.left B.may_ask (Machine.Running attempt.old)) }
+    ensures goes { OnOk result (GoesOn T.meaning T.valid T.sizes B.script B.then B.left B.may_ask B.left_at_reset
+        (Machine.Running attempt.old) (Machine.Running attempt.new) (C.view cells.old) (C.view cells.new)) }
     ensures steps { (C.view cells.new).steps ≤ (C.view cells.old).steps
         + machine_left T.meaning T.valid T.sizes B.script B.then B.left B.may_ask (Machine.Running attempt.old) }
     ensures same { C.same cells.old cells.new }

@@ -1,5 +1,5 @@
 -- What the event and the words after it lead to, on a pass with as many others as in the beginning.
-use Rattle.std.proofs.Common.{◌≡◌, ℕ, ap, sym, ◌∙◌, subst, Ok, Option, Result}
+use Rattle.std.proofs.Common.{◌≡◌, ℕ, ap, sym, ◌∙◌, subst, Ok, Option, Result, arith}
 use Rattle.sto_part.specs.declared.NoMemory.{NoMemory}
 use Rattle.sto_attempt_log.specs.declared.verdict.Verdict.{Verdict}
 use Rattle.sto_transaction.specs.Machines.{Proceeds, HasAdvanced, HasEnded}
@@ -46,7 +46,7 @@ returns-in-Some-clause-ended g c ty f begun h =
     let passes : g.C.Cells.passes here ≡ g.C.Cells.passes first = g.met.C.Cells.same_passes first here c.loop-machine.invariant.same in
     let it = c.advance.ensures.advanced ty f begun (c.loop-machine.invariant.proceeds ty f begun h) in
     subst (λ (n : ℕ). HasEnded g.T.TxType.meaning g.T.Naming.valid g.T.Naming.sizes g.B.Body.script g.B.Body.then g.B.Body.left g.B.Body.may_ask n ty f c.end.result begun w) passes
-    (c.end.ensures (g.C.Cells.passes here) ty f begun w
+    (c.end.ensures.ended (g.C.Cells.passes here) ty f begun w
     (subst (λ (x : Result (Option Verdict) NoMemory). HasAdvanced g.T.TxType.meaning g.T.Naming.valid g.T.Naming.sizes g.B.Body.script g.B.Body.then g.B.Body.left g.B.Body.may_ask (g.C.Cells.passes here) ty f x c.advance.new.self begun w) (c.in_ok-advance.was ∙ ap (λ (p : Option Verdict). Ok p) c.in-Some.is) it))
 
 pub returns-in-Some-clause-same : goal.returns-in-Some-clause-same
@@ -66,6 +66,20 @@ loop-machine-preserved g c =
           let there = subst (λ (n : ℕ). Proceeds g.T.TxType.meaning g.T.Naming.valid g.T.Naming.sizes g.B.Body.script g.B.Body.then g.B.Body.left g.B.Body.may_ask n ty f c.advance.new.self begun (g.C.Cells.view later)) (sym passes)
           (subst (λ (x : Result (Option Verdict) NoMemory). HasAdvanced g.T.TxType.meaning g.T.Naming.valid g.T.Naming.sizes g.B.Body.script g.B.Body.then g.B.Body.left g.B.Body.may_ask (g.C.Cells.passes here) ty f x c.advance.new.self begun (g.C.Cells.view later)) (c.in_ok-advance.was ∙ ap (λ (p : Option Verdict). Ok p) c.in-None.is) it) in
           subst (λ (n : ℕ). Proceeds g.T.TxType.meaning g.T.Naming.valid g.T.Naming.sizes g.B.Body.script g.B.Body.then g.B.Body.left g.B.Body.may_ask n ty f c.read_part.new.machine begun (g.C.Cells.view last)) (sym kept) (c.in_ok-events-in-None.ensures.proceeds ty f begun there);
-      steps = omega (arith, c.advance.ensures.event.tells.counts, c.in_ok-advance.ensures.left, c.in_ok-events-in-None.ensures.taken, c.loop-machine.invariant.steps);
+      goes =
+          let before = c.loop-machine.invariant.goes in
+          let between = c.in_ok-events-in-None.ensures.goes in
+          let left = c.in_ok-advance.ensures.left in
+          record {
+            fewer = omega (arith, left, before.fewer, between.fewer);
+            taken = omega (arith, c.advance.ensures.event.tells.counts, left, before.taken, between.taken);
+            calls = between.calls ∙ c.in_ok-advance.ensures.calls ∙ before.calls;
+          };
       same = g.met.C.Cells.same_through first here last c.loop-machine.invariant.same (g.met.C.Cells.same_through here later last c.advance.ensures.same c.read_part.ensures.same);
     }
+
+pub returns-in-Some-clause-calls : goal.returns-in-Some-clause-calls
+returns-in-Some-clause-calls g c = c.end.ensures.calls ∙ c.in_ok-advance.ensures.calls ∙ c.loop-machine.invariant.goes.calls
+
+pub returns-in-Some-clause-steps : goal.returns-in-Some-clause-steps
+returns-in-Some-clause-steps g c = omega (arith, c.advance.ensures.event.tells.counts, c.advance.ensures.some, c.loop-machine.invariant.goes.taken)

@@ -1,12 +1,14 @@
 -- Each word is a step of the attempt that reads, by `proofs/Steps`.
-use Rattle.std.proofs.Common.{◌≡◌, ◌<◌, ℕ, Result, sym, subst, arith}
+use Rattle.std.proofs.Common.{◌≡◌, ◌<◌, ℕ, Result, map, sym, ◌∙◌, subst, arith}
 use Rattle.sto_part.specs.declared.NoMemory.{NoMemory}
 use Rattle.sto_model.specs.Run.{Script}
+use Rattle.sto_model.specs.Told.{told}
 use Rattle.sto_core.specs.declared.view.View.{View}
 use Rattle.sto_attempt_log.specs.declared.verdict.Turn.{Turn}
 use Rattle.sto_attempt_log.proofs.Reading.{always_err}
 use Rattle.sto_transaction.specs.declared.machine.Machine.TheVariants.{Running}
 use Rattle.sto_transaction.specs.Machines.{Proceeds, HasStopped, HasTurned}
+use Rattle.sto_transaction.proofs.SomeLeft.{some_left}
 use Rattle.sto_transaction.proofs.Steps.{reads_on, read_more, fewer_left}
 use Rattle.sto_transaction.proofs.transaction.read_words.Goals as goal
 
@@ -65,8 +67,13 @@ loop-preserved g c =
       proceeds = λ ty f begun h.
           subst (λ (n : ℕ). Proceeds g.T.TxType.meaning g.T.Naming.valid g.T.Naming.sizes g.B.Body.script g.B.Body.then g.B.Body.left g.B.Body.may_ask n ty f (Running b) begun (g.C.Cells.view later)) (sym passes)
           (read_more g.T.TxType.meaning g.T.Naming.valid g.T.Naming.sizes g.B.Body.script g.B.Body.then g.B.Body.left g.B.Body.may_ask (g.C.Cells.passes here) ty f c.read_word.result (Running b) begun (g.C.Cells.view later) _ c.in_ok-read_word.was c.read_word.ensures.one.0 (turned ty f begun h));
-      left = omega (arith, fewer, c.loop.invariant.left);
-      steps = omega (arith, fewer, k.event.tells.counts, c.loop.invariant.steps);
+      goes =
+          let before = c.loop.invariant.goes in
+          record {
+            fewer = omega (arith, fewer, before.fewer);
+            taken = omega (arith, fewer, k.event.tells.counts, before.taken);
+            calls = k.left_at_reset ∙ before.calls;
+          };
       words = omega (arith, c.in_ok-read_word.ensures.one.1, c.loop.invariant.words);
       long = omega (arith, c.in_ok-read_word.ensures.longer, c.loop.invariant.long);
       same = g.met.C.Cells.same_through first here later c.loop.invariant.same c.read_word.ensures.same;
@@ -78,3 +85,12 @@ returns-clause-proceeds g c ty f begun h =
     let here = c.loop.cells in
     let passes : g.C.Cells.passes here ≡ g.C.Cells.passes first = g.met.C.Cells.same_passes first here c.loop.invariant.same in
     subst (λ (n : ℕ). Proceeds g.T.TxType.meaning g.T.Naming.valid g.T.Naming.sizes g.B.Body.script g.B.Body.then g.B.Body.left g.B.Body.may_ask n ty f (Running c.loop.attempt) begun (g.C.Cells.view here)) passes (c.loop.invariant.proceeds ty f begun h)
+
+pub returns-in_err-read_word-clause-steps : goal.returns-in_err-read_word-clause-steps
+returns-in_err-read_word-clause-steps g c =
+    let r = c.requires in
+    let a = c.loop.attempt in
+    let v = g.C.Cells.view c.loop.cells in
+    let h = c.loop.invariant.proceeds r.0 r.1 r.2 r.3 in
+    let some = some_left (g.T.TxType.meaning a.log.ty.now) (g.met.T.TxType.lawful a.log.ty.now) g.T.Naming.valid (g.T.Naming.sizes a.log.ty.now) (g.B.Body.script a.log.body) a.at (g.B.Body.left a.log.body) a.words.items a.extension a.log.base.items a.log.set.items a.log.set.updates (map told a.log.replies.items) v a.read_phase h.1.goes in
+    omega (arith, c.read_word.ensures.steps.event.tells.counts, some, c.loop.invariant.goes.taken)

@@ -1,11 +1,11 @@
 -- The attempt proceeds from the view at the beginning, and the words that are left are counted.
-use Rattle.std.proofs.Common.{◌≡◌, ◌≤◌, ◌+◌, length}
+use Rattle.std.proofs.Common.{◌≡◌, ◌+◌, length}
 use Rattle.sto_model.specs.Run.{Script}
 use Rattle.sto_core.specs.declared.view.View.{View}
 use Rattle.sto_type.specs.Traits.{of_type}
 use Rattle.sto_attempt.specs.Attempts.{words_left}
 use Rattle.sto_transaction.specs.declared.machine.Machine.TheVariants.{Running}
-use Rattle.sto_transaction.specs.Machines.{Proceeds, machine_left}
+use Rattle.sto_transaction.specs.Machines.{Proceeds, GoesOn}
 use Rattle.sto_transaction.proofs.transaction.read_words.Given as goal
 
 abbrev pub invariant-loop : goal.invariant-loop
@@ -14,10 +14,7 @@ invariant-loop g l = record {
       (ty : g.row.T.Denot) (f : Script) (begun : View)
       → Proceeds g.T.TxType.meaning g.T.Naming.valid g.T.Naming.sizes g.B.Body.script g.B.Body.then g.B.Body.left g.B.Body.may_ask (g.C.Cells.passes l.fn.cells) ty f (Running l.fn.attempt) begun (g.C.Cells.view l.fn.cells)
       → Proceeds g.T.TxType.meaning g.T.Naming.valid g.T.Naming.sizes g.B.Body.script g.B.Body.then g.B.Body.left g.B.Body.may_ask (g.C.Cells.passes l.cells) ty f (Running l.attempt) begun (g.C.Cells.view l.cells);
-  left : machine_left g.T.TxType.meaning g.T.Naming.valid g.T.Naming.sizes g.B.Body.script g.B.Body.then g.B.Body.left g.B.Body.may_ask (Running l.attempt) ≤ machine_left g.T.TxType.meaning g.T.Naming.valid g.T.Naming.sizes g.B.Body.script g.B.Body.then g.B.Body.left g.B.Body.may_ask (Running l.fn.attempt);
-  steps :
-      (g.C.Cells.view l.cells).steps + machine_left g.T.TxType.meaning g.T.Naming.valid g.T.Naming.sizes g.B.Body.script g.B.Body.then g.B.Body.left g.B.Body.may_ask (Running l.attempt)
-      ≤ (g.C.Cells.view l.fn.cells).steps + machine_left g.T.TxType.meaning g.T.Naming.valid g.T.Naming.sizes g.B.Body.script g.B.Body.then g.B.Body.left g.B.Body.may_ask (Running l.fn.attempt);
+  goes : GoesOn g.T.TxType.meaning g.T.Naming.valid g.T.Naming.sizes g.B.Body.script g.B.Body.then g.B.Body.left g.B.Body.may_ask g.B.Body.left_at_reset (Running l.fn.attempt) (Running l.attempt) (g.C.Cells.view l.fn.cells) (g.C.Cells.view l.cells);
   words : words_left (of_type g.T.Naming g.T.TxType) g.B.Body l.attempt + l.counter ≡ words_left (of_type g.T.Naming g.T.TxType) g.B.Body l.fn.attempt;
   long : length l.attempt.words.items ≡ length l.fn.attempt.words.items + l.counter;
   same : g.C.Cells.same l.fn.cells l.cells;

@@ -72,6 +72,7 @@ returns-then-watch g c =
       left = less_next (left_extending (g.B.Body.left a.log.body - 1) (g.T.TxType.meaning a.log.ty.now).widths (drop (length a.extension.fresh.items) (map watched a.extension.watches.items)));
       stopped = search rules;
       script = search rules;
+      left_at_reset = search rules;
       ty = search rules;
     }
 
@@ -97,6 +98,7 @@ returns-else-watch g c =
       left = less_next (left_extending (g.B.Body.left a.log.body - 1) (g.T.TxType.meaning a.log.ty.now).widths (drop (length a.extension.fresh.items) (map watched a.extension.watches.items)));
       stopped = search rules;
       script = search rules;
+      left_at_reset = search rules;
       ty = search rules;
     }
 
@@ -149,6 +151,7 @@ returns g c =
           c.go_on.new.self.base.items (drop (length a.extension.fresh.items) (map watched a.extension.watches.items)) refl c.requires.extended c.in_ok-reached.ensures.left on c.in_ok-reached.ensures.asks iff;
       stopped = search rules;
       script = search rules;
+      left_at_reset = search rules;
       ty = search rules;
     }
 
@@ -171,5 +174,6 @@ returns-in_err-reached g c =
           let claimed : AreClaimed v a.extension.bound made = subst (λ (l : List ReadEntry). AreClaimed v a.extension.bound l) (sym same) spans.renewed in
           always_err c.from_residual.result (IsPrefix m f v a.extension.bound now) (prefix_of m f v a.extension.bound made now c.go_on.ensures.runs claimed));
       script = search rules;
+      left_at_reset = search rules;
       ty = search rules;
     }

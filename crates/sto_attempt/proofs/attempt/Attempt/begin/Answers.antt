@@ -49,6 +49,7 @@ returns g c =
       alone = led_alone c.start-at.result c.go_on.new.self.set.updates c.in_ok-reached.reached c.lead-read_phase.result.0 c.lead-read_phase.result.1 c.lead-read_phase.ensures;
       err = tt;
       script = search rules;
+      left_at_reset = search rules;
       ty = search rules;
       same = c.start-at.ensures.same;
     }

@@ -146,6 +146,7 @@ returns-then-is_locked-clause-made g c =
         left = close_over m law f rs c.args.part base a.log.set.updates c.requires.before.goes.0.awaits (length a.words.items) c.requires.all (g.B.Body.left a.log.body - 1) a.extension.extended;
         err = tt;
         script = refl;
+        left_at_reset = refl;
         ty = refl;
       };
       stopped = tt;
@@ -185,6 +186,7 @@ returns-then-newer-ticket-clause-made g c =
         left = close_over m law f rs c.args.part base a.log.set.updates c.requires.before.goes.0.awaits (length a.words.items) c.requires.all (g.B.Body.left a.log.body - 1) a.extension.extended;
         err = tt;
         script = refl;
+        left_at_reset = refl;
         ty = refl;
       };
       stopped = tt;
@@ -216,6 +218,7 @@ returns-then-len-clause-made g c =
         left = tt;
         err = stops.0;
         script = refl;
+        left_at_reset = refl;
         ty = refl;
       };
       stopped = stops.1;
@@ -247,6 +250,7 @@ returns-in_err-push-clause-made g c =
         left = search rules;
         err = always_err c.from_residual.result (IsLeft w) stops.0;
         script = search rules;
+        left_at_reset = search rules;
         ty = search rules;
       };
       stopped = always_err c.from_residual.result (IsPrefix m f w a.at rs) stops.1;
@@ -278,6 +282,7 @@ returns-in_err-learn_updated-clause-made g c =
         left = search rules;
         err = always_err c.from_residual-in_err-learn_updated.result (IsLeft w) stops.0;
         script = search rules;
+        left_at_reset = search rules;
         ty = search rules;
       };
       stopped = always_err c.from_residual-in_err-learn_updated.result (IsPrefix m f w a.at rs) stops.1;
@@ -318,6 +323,7 @@ returns-in_err-reached-clause-made g c =
         left = search rules;
         err = always_err c.from_residual-in_err-reached.result (IsLeft w) stops.0;
         script = search rules;
+        left_at_reset = search rules;
         ty = search rules;
       };
       stopped = always_err c.from_residual-in_err-reached.result (IsPrefix m f w a.at now) stops.1;
@@ -389,6 +395,7 @@ returns-clause-made g c =
             before calls heard now a.extension.extended c.still-self.result a.words.items extension x refl refl c.in_ok-reached.ensures.left on c.in_ok-reached.ensures.asks iff);
         err = tt;
         script = search rules;
+        left_at_reset = search rules;
         ty = search rules;
       };
       stopped = tt;

@@ -6,6 +6,7 @@ returns g c =
     record {
       ty = search rules;
       script = search rules;
+      left_at_reset = search rules;
       left = search rules;
       none = search rules;
       fresh = search rules;

@@ -38,6 +38,7 @@ returns-then-is_locked-clause-made g c =
         left = search rules;
         err = tt;
         script = refl;
+        left_at_reset = refl;
         ty = refl;
       };
       stopped = tt;
@@ -76,6 +77,7 @@ returns-then-ticket-self-clause-made g c =
         left = search rules;
         err = tt;
         script = refl;
+        left_at_reset = refl;
         ty = refl;
       };
       stopped = tt;
@@ -111,6 +113,7 @@ returns-then-self-clause-made g c =
         left = search rules;
         err = tt;
         script = refl;
+        left_at_reset = refl;
         ty = refl;
       };
       stopped = tt;
@@ -148,6 +151,7 @@ returns-clause-made g c =
         left = open_renew m law f rs c.args.part base a.log.set.updates c.requires.goes.0.awaits (g.B.Body.left a.log.body - 1) a.extension.extended c.if-self.false;
         err = tt;
         script = refl;
+        left_at_reset = refl;
         ty = refl;
       };
       stopped = tt;

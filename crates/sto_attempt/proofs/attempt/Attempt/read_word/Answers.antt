@@ -83,6 +83,7 @@ returns-in-Reading g c =
         left = subst (λ (s : ReadPhase). OnOk c.word.result (events_left (g.B.Body.left b.log.body) m.widths b.read_phase b.words.items b.extension b.log.base.items < events_left (g.B.Body.left a.log.body) m.widths s a.words.items a.extension a.log.base.items)) (sym c.in-Reading.is) c.word.ensures.left;
         err = err_map c.word.result (IsLeft w × IsPrefix m f w b.at now) (IsLeft w) (λ h. h.0) c.word.ensures.err;
         script = ap (λ (k : Log g.row.T.Denot g.row.B.Denot). g.B.Body.script k.body) c.word.ensures.log;
+        left_at_reset = ap (λ (k : Log g.row.T.Denot g.row.B.Denot). g.B.Body.left_at_reset k.body) c.word.ensures.log;
         ty = ap (λ (k : Log g.row.T.Denot g.row.B.Denot). k.ty) c.word.ensures.log;
       };
       prefix = any_prefix m valid sizes f b.at b.words.items b.extension b.log.base.items b.log.set.items b.log.set.updates now w b.read_phase c.word.result (IsLeft w) c.word.ensures.turned (ok_always c.word.result (IsLog m f (words_in b.log.base.items) b.log.set.items b.log.set.updates now) log) c.word.ensures.err;
@@ -123,6 +124,7 @@ returns-in-Rereading g c =
         left = subst (λ (s : ReadPhase). OnOk c.reread.result (events_left (g.B.Body.left b.log.body) m.widths b.read_phase b.words.items b.extension b.log.base.items < events_left (g.B.Body.left a.log.body) m.widths s a.words.items a.extension a.log.base.items)) (sym c.in-Rereading.is) c.reread.ensures.left;
         err = err_map c.reread.result (IsLeft w × IsPrefix m f w b.at now) (IsLeft w) (λ h. h.0) c.reread.ensures.err;
         script = ap (λ (k : Log g.row.T.Denot g.row.B.Denot). g.B.Body.script k.body) c.reread.ensures.log;
+        left_at_reset = ap (λ (k : Log g.row.T.Denot g.row.B.Denot). g.B.Body.left_at_reset k.body) c.reread.ensures.log;
         ty = ap (λ (k : Log g.row.T.Denot g.row.B.Denot). k.ty) c.reread.ensures.log;
       };
       prefix = any_prefix m valid sizes f b.at b.words.items b.extension b.log.base.items b.log.set.items b.log.set.updates now w b.read_phase c.reread.result (IsLeft w) c.reread.ensures.turned (ok_always c.reread.result (IsLog m f (words_in b.log.base.items) b.log.set.items b.log.set.updates now) log) c.reread.ensures.err;

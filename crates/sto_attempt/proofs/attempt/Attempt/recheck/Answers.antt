@@ -90,6 +90,7 @@ returns-then-is_locked g c =
         left = recheck_over m.widths (words_in a.log.base.items) fresh ws c.args.part goes.stands.1 (g.B.Body.left a.log.body - 1);
         err = tt;
         script = refl;
+        left_at_reset = refl;
         ty = refl;
       };
       stopped = tt;
@@ -131,6 +132,7 @@ returns-then-newer-ticket g c =
         left = recheck_over m.widths (words_in a.log.base.items) fresh ws c.args.part goes.stands.1 (g.B.Body.left a.log.body - 1);
         err = tt;
         script = refl;
+        left_at_reset = refl;
         ty = refl;
       };
       stopped = tt;
@@ -234,6 +236,7 @@ returns g c =
             let left : IsLeft w = rechecked_left m law g.T.Naming.valid sizes is f a.at a.extension.bound c.args.part true a.log.base.items fresh a.log.set.items ws a.log.set.updates rs v goes.spans goes.observed goes.stands.1 c.requires.log.log goes.stands.0 s there c.in-Some.ensures.part w passes n (pos 0) c.recheck-found.ensures.tells in
             always_err c.advance.result (IsLeft w) left;
         script = c.advance.ensures.script;
+        left_at_reset = c.advance.ensures.left_at_reset;
         ty = c.advance.ensures.ty;
       };
       stopped =
@@ -275,6 +278,7 @@ returns-then-len g c =
         left = tt;
         err = stops.0;
         script = refl;
+        left_at_reset = refl;
         ty = refl;
       };
       stopped = stops.1;
@@ -313,6 +317,7 @@ returns-in_err-push g c =
         left = search rules;
         err = always_err c.from_residual.result (IsLeft w) stops.0;
         script = search rules;
+        left_at_reset = search rules;
         ty = search rules;
       };
       stopped = always_err c.from_residual.result (IsPrefix m f w a.at rs) stops.1;

@@ -88,6 +88,7 @@ returns-then-is_locked g c =
         left = reclose_over m.widths (words_in a.log.base.items) fresh ws c.args.part goes.stands.3 (g.B.Body.left a.log.body - 1) (length a.words.items) c.requires.all;
         err = tt;
         script = refl;
+        left_at_reset = refl;
         ty = refl;
       };
       stopped = tt;
@@ -126,6 +127,7 @@ returns-then-newer-ticket g c =
         left = reclose_over m.widths (words_in a.log.base.items) fresh ws c.args.part goes.stands.3 (g.B.Body.left a.log.body - 1) (length a.words.items) c.requires.all;
         err = tt;
         script = refl;
+        left_at_reset = refl;
         ty = refl;
       };
       stopped = tt;
@@ -174,6 +176,7 @@ returns-then-not-are_true g c =
         left = reclose_over m.widths (words_in a.log.base.items) fresh ws c.args.part goes.stands.3 (g.B.Body.left a.log.body - 1) (length a.words.items) c.requires.all;
         err = tt;
         script = refl;
+        left_at_reset = refl;
         ty = refl;
       };
       stopped = tt;
@@ -285,6 +288,7 @@ returns g c =
             let left : IsLeft w = reclosed_left m law g.T.Naming.valid sizes is f a.at a.extension.bound c.args.part false a.log.base.items fresh a.log.set.items ws a.log.set.updates rs v goes.spans goes.observed goes.stands.3 c.requires.before.log.log c.args.ticket a.words.items goes.stands.0 goes.stands.1 c.requires.all w passes n c.close-found.ensures.tells in
             always_err c.advance.result (IsLeft w) left;
         script = c.advance.ensures.script;
+        left_at_reset = c.advance.ensures.left_at_reset;
         ty = c.advance.ensures.ty;
       };
       stopped =
@@ -324,6 +328,7 @@ returns-then-place g c =
         left = tt;
         err = stops.0;
         script = refl;
+        left_at_reset = refl;
         ty = refl;
       };
       stopped = stops.1;
@@ -360,6 +365,7 @@ returns-in_err-push g c =
         left = search rules;
         err = always_err c.from_residual.result (IsLeft w) stops.0;
         script = search rules;
+        left_at_reset = search rules;
         ty = search rules;
       };
       stopped = always_err c.from_residual.result (IsPrefix m f w a.at rs) stops.1;

@@ -86,6 +86,7 @@ returns g c =
             let left : IsLeft w = left_idle m valid sizes a.at n base [] f rs w h.0 (idle_reading w h.1) in
             always_err c.advance.result (IsLeft w) left;
         script = c.advance.ensures.script;
+        left_at_reset = c.advance.ensures.left_at_reset;
         ty = c.advance.ensures.ty;
       };
       stopped =
@@ -123,6 +124,7 @@ returns-in_err-watches g c =
         left = search rules;
         err = always_err c.from_residual.result (IsLeft w) stops.0;
         script = search rules;
+        left_at_reset = search rules;
         ty = search rules;
       };
       stopped = always_err c.from_residual.result (IsPrefix m f w a.at rs) stops.1;

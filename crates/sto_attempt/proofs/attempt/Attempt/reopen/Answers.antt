@@ -62,6 +62,7 @@ returns-then-is_locked-clause-made g c =
         left = reopen_over m.widths (words_in a.log.base.items) fresh ws c.args.part goes.stands.1 (g.B.Body.left a.log.body - 1);
         err = tt;
         script = refl;
+        left_at_reset = refl;
         ty = refl;
       };
       stopped = tt;
@@ -100,6 +101,7 @@ returns-then-ticket-self-clause-made g c =
         left = reopen_over m.widths (words_in a.log.base.items) fresh ws c.args.part goes.stands.1 (g.B.Body.left a.log.body - 1);
         err = tt;
         script = refl;
+        left_at_reset = refl;
         ty = refl;
       };
       stopped = tt;
@@ -142,6 +144,7 @@ returns-clause-made g c =
         left = subst (λ (l : List ℤ). most - (1 + length l) < most) (sym none) (reopen_fewer m.widths (words_in a.log.base.items) fresh ws c.args.part goes.stands.1 (g.B.Body.left a.log.body - 1));
         err = tt;
         script = refl;
+        left_at_reset = refl;
         ty = refl;
       };
       stopped = tt;

@@ -46,5 +46,6 @@ returns g c =
       alone = led_alone c.args.self.now.at c.go_on.new.self.set.updates c.in_ok-reached.reached c.lead-read_phase.result.0 c.lead-read_phase.result.1 c.lead-read_phase.ensures;
       at = search rules;
       script = search rules;
+      left_at_reset = search rules;
       ty = search rules;
     }

@@ -189,6 +189,7 @@ returns-in-Unstarted-clause-steps g c =
       left = subst (λ (s : ReadPhase). OnOk c.begin.result (events_left (g.B.Body.left b.log.body) m.widths b.read_phase b.words.items b.extension b.log.base.items < events_left (g.B.Body.left a.log.body) m.widths s a.words.items a.extension a.log.base.items)) (sym c.in-Unstarted.is) c.begin.ensures.left;
       err = err_map c.begin.result (IsLeft w × IsPrefix m f w b.at now) (IsLeft w) (λ h. h.0) c.begin.ensures.err;
       script = c.begin.ensures.script;
+      left_at_reset = c.begin.ensures.left_at_reset;
       ty = c.begin.ensures.ty;
     }
 

@@ -1,10 +1,11 @@
 -- The commit goes on from the attempt that is sealed.
 use Rattle.std.proofs.Common.{◌≡◌, sym, ap, ◌∙◌, subst, arith}
+use Rattle.sto_attempt_log.specs.declared.log.Log.{Log}
 use Rattle.sto_attempt_log.specs.declared.read_phase.ReadPhase.{ReadPhase}
 use Rattle.sto_attempt_log.specs.Bounds.{events_left}
 use Rattle.sto_transaction.specs.declared.machine.Machine.{Machine}
 use Rattle.sto_transaction.specs.declared.machine.Machine.TheVariants.{Running}
-use Rattle.sto_transaction.specs.Machines.{Proceeds, IsAtSeal, machine_left}
+use Rattle.sto_transaction.specs.Machines.{Proceeds, IsAtSeal, machine_left, calls_of}
 use Rattle.sto_transaction.proofs.Steps.{seals}
 use Rattle.sto_transaction.proofs.machine.Machine.seal.Goals as goal
 
@@ -27,3 +28,10 @@ returns-in-Ok-clause-left g c =
     let fewer = c.in-Ok.ensures.left in
     let now = ap (machine_left g.T.TxType.meaning g.T.Naming.valid g.T.Naming.sizes g.B.Body.script g.B.Body.then g.B.Body.left g.B.Body.may_ask) c.replace-in-Ok.ensures.after in
     omega (arith, whole, committing, fewer, now)
+
+pub returns-in-Ok-clause-calls : goal.returns-in-Ok-clause-calls
+returns-in-Ok-clause-calls g c =
+    let is = sym c.replace.ensures.value ∙ c.in-Running.is in
+    ap (calls_of g.B.Body.left_at_reset) c.replace-in-Ok.ensures.after
+    ∙ ap (λ (l : Log g.row.T.Denot g.row.B.Denot). g.B.Body.left_at_reset l.body) c.in-Ok.ensures.log
+    ∙ sym (ap (calls_of g.B.Body.left_at_reset) is)

@@ -1,10 +1,11 @@
 -- Each way on is one of `proofs/Steps`, at what the step of the attempt or of the commit ensures.
-use Rattle.std.proofs.Common.{◌≤◌, ◌<◌, Ok, Option, map, sym, ap, subst, arith}
+use Rattle.std.proofs.Common.{◌<◌, Ok, Option, map, sym, ap, ◌∙◌, subst, arith}
 use Rattle.sto_model.specs.Told.{told}
 use Rattle.sto_attempt_log.specs.declared.verdict.Verdict.{Verdict}
+use Rattle.sto_attempt.specs.declared.ready.Ready.{Ready}
 use Rattle.sto_transaction.specs.declared.machine.Machine.{Machine}
-use Rattle.sto_transaction.specs.declared.machine.Machine.TheVariants.{Running, Committing}
-use Rattle.sto_transaction.specs.Machines.{Proceeds, HasTurned, machine_left}
+use Rattle.sto_transaction.specs.declared.machine.Machine.TheVariants.{Committing}
+use Rattle.sto_transaction.specs.Machines.{Proceeds, HasTurned, machine_left, calls_of}
 use Rattle.sto_transaction.proofs.SomeLeft.{some_left}
 use Rattle.sto_transaction.proofs.Steps.{turn_of, reads_on, commits_on}
 use Rattle.sto_transaction.proofs.machine.Machine.turn.Goals as goal
@@ -59,3 +60,16 @@ pub returns-in-Some-clause-some : goal.returns-in-Some-clause-some
 returns-in-Some-clause-some g c =
     let whole = ap (machine_left g.T.TxType.meaning g.T.Naming.valid g.T.Naming.sizes g.B.Body.script g.B.Body.then g.B.Body.left g.B.Body.may_ask) c.in-Committing.is in
     omega (arith, whole, c.step-in-Committing.ensures.advances.left)
+
+pub returns-in-Running-clause-calls : goal.returns-in-Running-clause-calls
+returns-in-Running-clause-calls g c = c.step.ensures.steps.left_at_reset ∙ sym (ap (calls_of g.B.Body.left_at_reset) c.in-Running.is)
+
+pub returns-in-None-clause-calls : goal.returns-in-None-clause-calls
+returns-in-None-clause-calls g c =
+    ap (λ (r : Ready g.row.T.Denot g.row.B.Denot). g.B.Body.left_at_reset r.log.body) c.step-in-Committing.ensures.advances.kept
+    ∙ sym (ap (calls_of g.B.Body.left_at_reset) c.in-Committing.is)
+
+pub returns-in-Some-clause-calls : goal.returns-in-Some-clause-calls
+returns-in-Some-clause-calls g c =
+    ap (λ (r : Ready g.row.T.Denot g.row.B.Denot). g.B.Body.left_at_reset r.log.body) c.step-in-Committing.ensures.advances.kept
+    ∙ sym (ap (calls_of g.B.Body.left_at_reset) c.in-Committing.is)

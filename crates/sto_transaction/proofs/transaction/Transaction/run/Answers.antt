@@ -7,8 +7,10 @@ use Rattle.sto_model.specs.Told.{told}
 use Rattle.sto_attempt_log.proofs.Reading.{always_err}
 use Rattle.sto_attempt_facts.specs.Records.{Place, Record as Told, is_abort}
 use Rattle.sto_attempt_facts.specs.Tried.{HasTried}
+use Rattle.sto_transaction.specs.Pace.{most_steps}
 use Rattle.sto_transaction.specs.Plain.{plain, verdict}
 use Rattle.sto_transaction.specs.Ran.{HasRun, HasBroken}
+use Rattle.sto_transaction.proofs.Pace.{pace_none, pace_on}
 use Rattle.sto_transaction.proofs.Tries.{HasRetried, none_retried, retried, has_run, has_broken, has_run_out, broken_before}
 use Rattle.sto_transaction.proofs.transaction.Transaction.run.Goals as goal
 
@@ -23,7 +25,7 @@ loop-aborted-init g c =
     let f = g.B.Body.script self.body in
     let place : Place = (self.thread, self.position) in
     let before = map plain c.args.records.now.items in
-    record { retried = none_retried m sizes passes v f place before c.requires.rests; script = refl; takes = c.requires.takes; same = g.met.C.Cells.same_as_itself first }
+    record { retried = none_retried m sizes passes v f place before c.requires.rests; script = refl; calls = refl; pace = pace_none (most_steps m (g.B.Body.left_at_reset self.body)) v; takes = c.requires.takes; same = g.met.C.Cells.same_as_itself first }
 
 pub returns-in-Err-clause-err : goal.returns-in-Err-clause-err
 returns-in-Err-clause-err g c =
@@ -127,6 +129,8 @@ loop-aborted-preserved g c =
       retried = subst (λ (rs : List Told). HasRetried m sizes passes (made + 1) v w f place before rs) (sym later)
           (retried m sizes self.tries passes made v u w f place before mid h.retried r tried ended.rests alone aborted);
       script = ended.same_script ∙ h.script;
+      calls = c.in_ok-attempt.ensures.calls ∙ h.calls;
+      pace = pace_on m (g.B.Body.left_at_reset self.body) (g.B.Body.left_at_reset c.loop-aborted.body) v u w h.calls h.pace c.run_attempt.ensures.steps tried.starts;
       takes = ended.taken;
       same = g.met.C.Cells.same_through first here c.run_attempt.new.cells h.same c.run_attempt.ensures.same;
     }
@@ -149,3 +153,25 @@ returns-clause-ran g c =
     let h = c.loop-aborted.invariant in
     let all : made ≡ self.tries = omega (arith, c.loop-aborted-test.false, c.loop-aborted.auto.aborted-end) in
     has_run_out m sizes self.tries passes made v u f place before mid h.retried all c.requires.some
+
+pub returns-in-Err-clause-steps : goal.returns-in-Err-clause-steps
+returns-in-Err-clause-steps g c = c.loop-aborted.invariant.pace
+
+pub returns-in_err-attempt-clause-steps : goal.returns-in_err-attempt-clause-steps
+returns-in_err-attempt-clause-steps g c =
+    let self = c.args.self in
+    let h = c.loop-aborted.invariant in
+    pace_on (g.T.TxType.meaning self.ty.now) (g.B.Body.left_at_reset self.body) (g.B.Body.left_at_reset c.loop-aborted.body)
+    (g.C.Cells.view c.args.cells.now) (g.C.Cells.view c.loop-aborted.cells) (g.C.Cells.view c.run_attempt.new.cells) h.calls h.pace c.run_attempt.ensures.steps
+    c.in_err-attempt.ensures.err.starts
+
+pub returns-then-ended-clause-steps : goal.returns-then-ended-clause-steps
+returns-then-ended-clause-steps g c =
+    let self = c.args.self in
+    let h = c.loop-aborted.invariant in
+    pace_on (g.T.TxType.meaning self.ty.now) (g.B.Body.left_at_reset self.body) (g.B.Body.left_at_reset c.loop-aborted.body)
+    (g.C.Cells.view c.args.cells.now) (g.C.Cells.view c.loop-aborted.cells) (g.C.Cells.view c.run_attempt.new.cells) h.calls h.pace c.run_attempt.ensures.steps
+    (c.in_ok-attempt.ensures.ended.tried (self.thread, self.position)).starts
+
+pub returns-clause-steps : goal.returns-clause-steps
+returns-clause-steps g c = c.loop-aborted.invariant.pace
