@@ -19,9 +19,13 @@ use sto_type::TxType;
 const SHORT: u64 = 2_000;
 
 // How often a transaction looks whether the turn is free, before it goes on without it for good.
-const LOOKS: u32 = 60_000;
+const LOOKS: u32 = 200_000;
 
-// Tells a gate how far a transaction is, takes the turn once a long attempt was aborted, and backs off between two others.
+// After how many of its first aborts a transaction of short attempts is soon tried again. Whoever is aborted more often meets others who
+// want the same parts, and leaves the processor to them: attempts in vain, and parts that go from one processor to another, cost more.
+const SOON: u32 = 2;
+
+// Tells a gate how far a transaction is, takes the turn once a long attempt was aborted, and waits a while between two others.
 #[derive(Drop)]
 struct AtGate<'g, G> {
     gate: &'g G,
@@ -33,6 +37,8 @@ struct AtGate<'g, G> {
     held: Option<HeldTurn<'g>>,
     // How often it may still look whether the turn is free.
     looks: u32,
+    // How often it is still tried again soon.
+    soon: u32,
     backoff: Backoff,
 }
 
@@ -44,10 +50,11 @@ impl<G: Gate> AttemptWatch for AtGate<'_, G> {
 
     fn before_retry(&mut self) {
         if self.events < SHORT || self.held.is_some() {
-            if self.backoff.is_completed() {
-                self.gate.pause();
-            } else {
+            if self.soon > 0 {
+                self.soon -= 1;
                 self.backoff.snooze();
+            } else {
+                self.gate.pause();
             }
             return;
         }
@@ -115,6 +122,7 @@ impl<F: Workload + Drop, T: TxType, G: Gate> Work<T> for FileWork<'_, F, T, G> {
             turn: self.turn,
             held: None,
             looks: LOOKS,
+            soon: SOON,
             backoff: Backoff::new(),
         };
         let ran = transaction.run(alloc, cells, &mut watch, memory, records);
