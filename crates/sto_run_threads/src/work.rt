@@ -25,6 +25,30 @@ const LOOKS: u32 = 200_000;
 // want the same parts, and leaves the processor to them: attempts in vain, and parts that go from one processor to another, cost more.
 const SOON: u32 = 2;
 
+// How often the backoff is called then, each time for longer, so that the commits of others end.
+const SNOOZES: u32 = 3;
+
+// The short rests before the tries that are made soon.
+#[derive(Drop)]
+struct Snoozes {
+    left: u32,
+    backoff: Backoff,
+}
+
+impl Snoozes {
+    // Takes a short rest, where one is left.
+    fn take(&mut self) -> bool {
+        if self.left == 0 {
+            return false;
+        }
+        self.left -= 1;
+        for _ in 0..SNOOZES {
+            self.backoff.snooze();
+        }
+        true
+    }
+}
+
 // Tells a gate how far a transaction is, takes the turn once a long attempt was aborted, and waits a while between two others.
 #[derive(Drop)]
 struct AtGate<'g, G> {
@@ -37,9 +61,7 @@ struct AtGate<'g, G> {
     held: Option<HeldTurn<'g>>,
     // How often it may still look whether the turn is free.
     looks: u32,
-    // How often it is still tried again soon.
-    soon: u32,
-    backoff: Backoff,
+    snoozes: Snoozes,
 }
 
 impl<G: Gate> AttemptWatch for AtGate<'_, G> {
@@ -50,10 +72,7 @@ impl<G: Gate> AttemptWatch for AtGate<'_, G> {
 
     fn before_retry(&mut self) {
         if self.events < SHORT || self.held.is_some() {
-            if self.soon > 0 {
-                self.soon -= 1;
-                self.backoff.snooze();
-            } else {
+            if !self.snoozes.take() {
                 self.gate.pause();
             }
             return;
@@ -122,8 +141,10 @@ impl<F: Workload + Drop, T: TxType, G: Gate> Work<T> for FileWork<'_, F, T, G> {
             turn: self.turn,
             held: None,
             looks: LOOKS,
-            soon: SOON,
-            backoff: Backoff::new(),
+            snoozes: Snoozes {
+                left: SOON,
+                backoff: Backoff::new(),
+            },
         };
         let ran = transaction.run(alloc, cells, &mut watch, memory, records);
         // The gate may hold the worker, so the turn is given back first.
