@@ -31,8 +31,8 @@ impl Gate for NoGate {
     fn after(&self, _thread: u32, _position: u32) {}
 }
 
-// For how many milliseconds a worker sleeps between two looks.
-const NAP: u64 = 1;
+// For how many microseconds a worker sleeps between two looks.
+const NAP: u64 = 300;
 
 /// Holds nobody, and lets a worker that waits sleep, so that it takes no processor.
 #[derive(Drop)]
@@ -55,6 +55,6 @@ impl<C: Clock + Sync> Gate for SleepingGate<'_, C> {
     fn after(&self, _thread: u32, _position: u32) {}
 
     fn pause(&self) {
-        thread::sleep(self.clock, Duration::from_millis(NAP));
+        thread::sleep(self.clock, Duration::from_micros(NAP));
     }
 }

@@ -19,9 +19,37 @@ use sto_type::TxType;
 const SHORT: u64 = 2_000;
 
 // How often a transaction looks whether the turn is free, before it goes on without it for good.
-const LOOKS: u32 = 60_000;
+const LOOKS: u32 = 200_000;
 
-// Tells a gate how far a transaction is, takes the turn once a long attempt was aborted, and backs off between two others.
+// After how many of its first aborts a transaction of short attempts is soon tried again. Whoever is aborted more often meets others who
+// want the same parts, and leaves the processor to them: attempts in vain, and parts that go from one processor to another, cost more.
+const SOON: u32 = 2;
+
+// How often the backoff is called then, each time for longer, so that the commits of others end.
+const SNOOZES: u32 = 3;
+
+// The short rests before the tries that are made soon.
+#[derive(Drop)]
+struct Snoozes {
+    left: u32,
+    backoff: Backoff,
+}
+
+impl Snoozes {
+    // Takes a short rest, where one is left.
+    fn take(&mut self) -> bool {
+        if self.left == 0 {
+            return false;
+        }
+        self.left -= 1;
+        for _ in 0..SNOOZES {
+            self.backoff.snooze();
+        }
+        true
+    }
+}
+
+// Tells a gate how far a transaction is, takes the turn once a long attempt was aborted, and waits a while between two others.
 #[derive(Drop)]
 struct AtGate<'g, G> {
     gate: &'g G,
@@ -33,7 +61,7 @@ struct AtGate<'g, G> {
     held: Option<HeldTurn<'g>>,
     // How often it may still look whether the turn is free.
     looks: u32,
-    backoff: Backoff,
+    snoozes: Snoozes,
 }
 
 impl<G: Gate> AttemptWatch for AtGate<'_, G> {
@@ -44,10 +72,8 @@ impl<G: Gate> AttemptWatch for AtGate<'_, G> {
 
     fn before_retry(&mut self) {
         if self.events < SHORT || self.held.is_some() {
-            if self.backoff.is_completed() {
+            if !self.snoozes.take() {
                 self.gate.pause();
-            } else {
-                self.backoff.snooze();
             }
             return;
         }
@@ -115,7 +141,10 @@ impl<F: Workload + Drop, T: TxType, G: Gate> Work<T> for FileWork<'_, F, T, G> {
             turn: self.turn,
             held: None,
             looks: LOOKS,
-            backoff: Backoff::new(),
+            snoozes: Snoozes {
+                left: SOON,
+                backoff: Backoff::new(),
+            },
         };
         let ran = transaction.run(alloc, cells, &mut watch, memory, records);
         // The gate may hold the worker, so the turn is given back first.
