@@ -26,8 +26,14 @@ threads_weight (scripts ∷ threads) zero position s at = omega (arith, at_weigh
 threads_weight (scripts ∷ threads) (suc thread) position s at = omega (arith, threads_weight threads thread position s at)
 
 -- more calls may take more steps
-more_steps : (m : Meaning) (few many : ℕ) → few ≤ many → most_steps m few ≤ most_steps m many
+pub more_steps : (m : Meaning) (few many : ℕ) → few ≤ many → most_steps m few ≤ most_steps m many
 more_steps m few many l = mul-le-mul_right _ (omega (arith, l))
+
+-- one attempt keeps it
+pub one_paced : (most : ℕ) (v w : View) → w.steps ≤ v.steps + most → w.starts ≡ v.starts + 1 → KeepsPace most v w
+one_paced most v w steps starts =
+    let same : w.starts * most ≡ v.starts * most + 1 * most = ap (λ (n : ℕ). n * most) starts ∙ add-mul v.starts 1 most in
+    omega (arith, steps, same)
 
 -- a greater pace is kept too
 keeps_more : (few many : ℕ) (v w : View) → few ≤ many → v.starts ≤ w.starts → KeepsPace few v w → KeepsPace many v w
@@ -39,8 +45,11 @@ keeps_more few many v w l later h =
     let more : made * few ≤ made * many = mul-le-mul_left made l in
     omega (arith, by_few, by_many, more, h)
 
+pub weighs_most : (file : File) (place : Place) (s : Script) → transaction_at file place ≡ Some s → s.weight ≤ heaviest file.threads
+weighs_most file place s at = threads_weight file.threads place.0 place.1 s at
+
 pub paced_by : (m : Meaning) (file : File) (place : Place) (s : Script) → transaction_at file place ≡ Some s → (calls : ℕ) (v w : View) → calls ≤ s.weight → v.starts ≤ w.starts
     → KeepsPace (most_steps m calls) v w → KeepsPace (most_steps m (heaviest file.threads)) v w
 paced_by m file place s at calls v w few later h =
-    let weight = threads_weight file.threads place.0 place.1 s at in
+    let weight = weighs_most file place s at in
     keeps_more (most_steps m calls) (most_steps m (heaviest file.threads)) v w (more_steps m calls (heaviest file.threads) (omega (arith, few, weight))) later h
