@@ -21,7 +21,8 @@ use Rattle.sto_run_threads.specs.Running.{ended_of, IsUpTo, IsUnderWay, AreUnder
 use Rattle.sto_run_threads.specs.Worked.{HasWorked, AreOf, IsFresh, AddsTo, AbortsNone}
 use Rattle.sto_run_threads.proofs.Found.{found_both}
 use Rattle.sto_run_threads.proofs.Threads.{positions_in, none_ended}
-use Rattle.sto_run_threads.specs.Plans.{Plan}
+use Rattle.sto_run_threads.specs.Plans.{Plan, pace_of, IsPaced}
+use Rattle.std.proofs.Math.Nat.{add-mul}
 
 pub times_append : (x : ℕ) (xs ys : List ℕ) → times x (xs ++ ys) ≡ times x xs + times x ys
 times_append x [] ys = omega arith
@@ -63,11 +64,12 @@ pub nothing_of : (rs : List Record) → rs ≡ [] → AreOf [] rs
 nothing_of rs is thread none = subst (HasNone thread) (sym is) (λ k d l. absurd (omega (arith, l)))
 
 -- nothing was run
-pub none_worked : (plan : Plan) (v : View) (rs : List Record) → rs ≡ [] → HasWorked plan v rs
-none_worked plan v rs is = subst (HasWorked plan v) (sym is) (record {
+pub none_worked : (plan : Plan) (v : View) (rs : List Record) → rs ≡ [] → IsPaced plan v → HasWorked plan v rs
+none_worked plan v rs is paced = subst (HasWorked plan v) (sym is) (record {
   so_far = none_so_far plan.meaning plan.file plan.tries v;
   found = λ k d l. absurd (omega (arith, l));
   under_way = λ thread. record { order = refl; comes = λ k d l. absurd (omega (arith, l)); within = omega arith };
+  paced = paced;
 })
 
 -- threads of the first records alone, and of the second
@@ -108,6 +110,10 @@ either_list xs ys apart x = elim (cases_eq (times x xs) 0) [
   | inr some' ↦ inr (let a = apart x in omega (arith, a, some'))
 ]
 
+-- a pass that gathers two
+both_paced : (plan : Plan) (v u : View) → IsPaced plan v → IsPaced plan u → IsPaced plan (gathered_into v u)
+both_paced plan v u h k = let both = add-mul v.starts u.starts (pace_of plan) in omega (arith, h, k, both)
+
 -- The records of two passes, of which each thread has none in one, are those of the pass that gathers both.
 pub gathered_apart : (plan : Plan) (v u : View) (rs ss : List Record) → ((thread : ℕ) → HasNone thread rs ⊎ HasNone thread ss)
     → HasWorked plan v rs → HasWorked plan u ss → HasWorked plan (gathered_into v u) (rs ++ ss)
@@ -118,6 +124,7 @@ gathered_apart plan v u rs ss apart h k = record {
     | inl none ↦ in_second plan.file rs ss thread none (k.under_way thread)
     | inr none ↦ in_first plan.file rs ss thread none (h.under_way thread)
   ];
+  paced = both_paced plan v u h.paced k.paced;
 }
   where
     each : (place : Place) → (aborted_times place rs ≡ 0) ⊎ (aborted_times place ss ≡ 0)

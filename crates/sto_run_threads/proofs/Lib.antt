@@ -7,6 +7,7 @@ pub mod Joined
 mod Results
 pub mod Claiming
 pub mod Scripts
+pub mod Pace
 pub mod Gathered
 pub mod Opened
 pub mod Reopened

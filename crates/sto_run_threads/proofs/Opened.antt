@@ -22,6 +22,7 @@ one_ready s plan opening number rest opened few is of = record {
     rests = subst (Rests plan) (sym is) (opened_rests plan.meaning plan.sizes opening number opened);
     draws = (let d = ap (λ (v : View). v.draws) is in omega (arith, d, few));
   };
+  paced = (let s = ap (λ (v : View). v.steps) is in omega (arith, s));
 }
 
 pub all_ready : {T : Type 0} {n : naming.Ghosts T} (s : Shared T) (plan : Plan) (opening : Contents) (rests : List (Rest T n)) (passes : ℕ)

@@ -1,6 +1,6 @@
 -- Words that are closed by one pass, and reopened.
 use Rattle.std.specs.Prelude.{nat_lt, if◌then◌else◌}
-use Rattle.std.proofs.Common.{◌≡◌, ℕ, ◌<◌, List, [], ◌∷◌, sym, ap, ◌∙◌, subst, arith, Bool, true}
+use Rattle.std.proofs.Common.{◌≡◌, ℕ, ◌+◌, ◌*◌, ◌<◌, List, [], ◌∷◌, sym, ap, ◌∙◌, subst, arith, Bool, true}
 use Rattle.std.proofs.lemmas.Bool.Decides.{nat_tests}
 use Rattle.sto_core.specs.declared.view.View.{View}
 use Rattle.sto_core.specs.Core.{Core}
@@ -15,7 +15,7 @@ use Rattle.sto_run_threads.proofs.Found.{all_found_later}
 use Rattle.sto_run_threads.specs.Accounts.{HasAll}
 use Rattle.sto_run_threads.proofs.Accounts.{reopened_all}
 use Rattle.sto_transaction.proofs.Resting.{reopened_rests}
-use Rattle.sto_run_threads.specs.Plans.{Plan, Rests}
+use Rattle.sto_run_threads.specs.Plans.{Plan, Rests, pace_of}
 
 live_is : (v : View) → 0 < v.gathered → live_view (v ∷ []) ≡ v
 live_is v l = let e : nat_lt 0 v.gathered ≡ true = grind (arith, nat_tests, l) in ap (λ (b : Bool). if b then v else live_view []) e
@@ -25,6 +25,10 @@ pub reopened_pass : (w : ClosedWords) (v : View) → w.views ≡ v ∷ [] → 0 
 reopened_pass w v is live =
     ap (λ (vs : List View). reopened_view (live_view vs).sizes (live_view vs).opening vs) is
     ∙ ap (λ (u : View). reopened_view u.sizes u.opening (v ∷ [])) (live_is v live)
+
+-- the view of the pass that was given back
+pub back_at : (q p : Core) (pass : ℕ) → q ≡ p → pass ≡ 0 → view_of q 0 ≡ view_of p pass
+back_at q p pass same zero = ap (λ (c : Core). view_of c 0) same ∙ ap (λ (n : ℕ). view_of p n) (sym zero)
 
 -- what was told of the pass that was closed
 pub record IsReopened (plan : Plan) (need : ℕ) (u : View) (rs : List Record) : Type 0 where
@@ -42,6 +46,10 @@ reopened_whole plan need passes w v rs p of is live rests worked all =
         so_far = reopened_so_far plan.meaning plan.file plan.tries v.sizes v.opening v rs worked.so_far;
         found = all_found_later v (reopened_view v.sizes v.opening (v ∷ [])) rs (reopened_grows v.sizes v.opening v) worked.found;
         under_way = worked.under_way;
+        paced = (let all = ap (λ (n : ℕ). n * pace_of plan) (nothing v.starts) in let paced = worked.paced in omega (arith, all, paced));
       };
       all = reopened_all need passes v.sizes v.opening v rs all;
     })
+  where
+    nothing : (n : ℕ) → n + 0 ≡ n
+    nothing n = omega arith

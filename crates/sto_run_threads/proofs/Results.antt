@@ -7,6 +7,6 @@ at_ok {T} {E} {r} {x} P e h = subst (λ (s : Result T E). IfOk s P) e h
 pub at_err : {T E : Type 0} {r : Result T E} {x : E} {Q : Type 0} → r ≡ Err x → OnErr r Q → Q
 at_err {T} {E} {r} {x} {Q} e h = subst (λ (s : Result T E). OnErr s Q) e h
 
-pub both_ok : {T E : Type 0} (r : Result T E) (P Q R : T → Type 0) → ((x : T) → P x → Q x → R x) → IfOk r P → IfOk r Q → IfOk r R
-both_ok (Ok x) P Q R f p q = f x p q
-both_ok (Err e) P Q R f p q = tt
+pub all_ok : {T E : Type 0} (r : Result T E) (P Q S R : T → Type 0) → ((x : T) → P x → Q x → S x → R x) → IfOk r P → IfOk r Q → IfOk r S → IfOk r R
+all_ok (Ok x) P Q S R f p q s = f x p q s
+all_ok (Err e) P Q S R f p q s = tt

@@ -18,11 +18,12 @@ use Rattle.sto_serializability.proofs.Chains.{Every, every}
 use Rattle.sto_serializability.proofs.Pairs.{all_of, every_weaker, every_append}
 use Rattle.sto_serializability.proofs.Working.{more_so_far, ended_more, none_aborted, aborted_append}
 use Rattle.sto_run_threads.specs.Running.{ended_of, IsUpTo, IsUnderWay, AreUnderWay}
+use Rattle.sto_transaction.specs.Pace.{KeepsPace}
 use Rattle.sto_run_threads.specs.Ran.{HasRunAt}
 use Rattle.sto_run_threads.specs.Worked.{HasWorked, WasFound, IsFresh, AddsTo, AbortsNone, IsNext, IsOneMore}
 use Rattle.sto_run_threads.proofs.Found.{found_more}
 use Rattle.sto_run_threads.proofs.Threads.{length_numbers, positions_in, none_ended, all_aborted}
-use Rattle.sto_run_threads.specs.Plans.{Plan}
+use Rattle.sto_run_threads.specs.Plans.{Plan, pace_of, IsPaced}
 
 -- the new records are of the thread, and of the position after those that ended
 placed_up : (thread ended : ℕ) (r : Record) → r.place ≡ (thread, suc ended) → IsUpTo thread (suc ended) r
@@ -113,8 +114,8 @@ pub next_more : (plan : Plan) (v w : View) (thread : ℕ) (rs new : List Record)
     → HasWorked plan v rs → suc (ended_of thread rs) ≤ count_in plan.file.threads thread → transaction_at plan.file (thread, suc (ended_of thread rs)) ≡ Some script
     → HasAdded plan.meaning plan.tries v w (meaning_of script) (thread, suc (ended_of thread rs)) new → AreFound w (v.starts + 1) new
     → aborted_times (thread, suc (ended_of thread rs)) rs + aborted_times (thread, suc (ended_of thread rs)) new ≤ plan.tries
-    → finished_places new ≡ (if ended then (thread, suc (ended_of thread rs)) ∷ [] else []) → IsNext plan w thread rs (rs ++ new) ended
-next_more plan v w thread rs new script ended h there at added finding few ends = by ended ends
+    → finished_places new ≡ (if ended then (thread, suc (ended_of thread rs)) ∷ [] else []) → KeepsPace (pace_of plan) v w → IsNext plan w thread rs (rs ++ new) ended
+next_more plan v w thread rs new script ended h there at added finding few ends pace = by ended ends
   where
     placed : Every (λ (r : Record). r.place ≡ (thread, suc (ended_of thread rs))) new
     placed = placed_all plan.meaning v w script (thread, suc (ended_of thread rs)) new added.each
@@ -122,6 +123,9 @@ next_more plan v w thread rs new script ended h there at added finding few ends 
     so_far : AreSoFar plan.meaning plan.file plan.tries w (rs ++ new)
     so_far = more_so_far plan.meaning plan.file plan.tries v w rs new (thread, suc (ended_of thread rs)) script at
         (every (IsUpTo thread (ended_of thread rs)) rs (h.under_way thread).comes) h.so_far added few
+
+    paced : IsPaced plan w
+    paced = omega (arith, h.paced, pace)
 
     found : All (WasFound w) (rs ++ new)
     found = found_more v w rs new (v.starts + 1) added.grows h.found finding
@@ -156,14 +160,14 @@ next_more plan v w thread rs new script ended h there at added finding few ends 
     by : (b : Bool) → finished_places new ≡ (if b then (thread, suc (ended_of thread rs)) ∷ [] else []) → IsNext plan w thread rs (rs ++ new) b
     by true last =
         let k = own_ended plan.file rs new thread (h.under_way thread) there placed last in record {
-          worked = record { so_far = so_far; found = found; under_way = all k.1 };
+          worked = record { so_far = so_far; found = found; under_way = all k.1; paced = paced };
           adds = adds;
           more = λ e. (k.0, subst (λ (n : ℕ). aborted_times (thread, suc n) (rs ++ new) ≡ 0) (sym k.0) untried);
           left = λ e. absurd (true≢false e);
         }
     by false last =
         let k = own_left plan.file rs new thread (h.under_way thread) placed last in record {
-          worked = record { so_far = so_far; found = found; under_way = all k.1 };
+          worked = record { so_far = so_far; found = found; under_way = all k.1; paced = paced };
           adds = adds;
           more = λ e. absurd (true≢false (sym e));
           left = λ e. k.0;
@@ -210,4 +214,4 @@ one_more plan passes v w thread rs later ended h there fresh run =
     ]
 
     next : IsNext plan w thread rs (rs ++ run.ran.new) ended
-    next = next_more plan v w thread rs run.ran.new run.script ended h there run.there run.ran.added run.ran.found few run.ran.ends
+    next = next_more plan v w thread rs run.ran.new run.script ended h there run.there run.ran.added run.ran.found few run.ran.ends run.pace

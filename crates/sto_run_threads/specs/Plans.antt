@@ -6,8 +6,9 @@ use Rattle.sto_type.specs.Traits.{OfType}
 use Rattle.sto_core.specs.declared.view.View.{View}
 use Rattle.sto_core.specs.History.{Contents, Validity}
 use Rattle.sto_report_spec.specs.Orders.{count_in}
+use Rattle.sto_transaction.specs.Pace.{most_steps}
 use Rattle.sto_transaction.specs.Resting.{IsAtRest}
-use Rattle.sto_run_threads.specs.Counts.{scripts_from}
+use Rattle.sto_run_threads.specs.Counts.{scripts_from, heaviest}
 
 -- a file, what the type of its objects means, the sizes of that type, and how many attempts of a transaction may be aborted
 pub record Plan : Type 1 where
@@ -30,6 +31,14 @@ transaction_count plan thread = count_in plan.file.threads thread
 -- a ticket for each try of each transaction
 abbrev pub draws_of : Plan → ℕ
 draws_of plan = plan.tries * scripts_from plan.file.threads 0
+
+-- the most steps of an attempt of one of its transactions
+abbrev pub pace_of : Plan → ℕ
+pace_of plan = most_steps plan.meaning (heaviest plan.file.threads)
+
+-- a pass with this view took at most so many steps for each attempt that it began
+abbrev pub IsPaced : Plan → View → Type 0
+IsPaced plan v = v.steps ≤ v.starts * pace_of plan
 
 -- words of these sizes and contents are those that the plan opens, and each of their passes may draw twice what all transactions may
 pub record Opens (plan : Plan) (valid : Validity) (sizes : List ℕ) (opening : Contents) : Type 0 where

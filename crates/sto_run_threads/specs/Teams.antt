@@ -10,7 +10,7 @@ use Rattle.sto_claims.specs.declared.numbers.Claims.{Claims}
 use Rattle.sto_claims.specs.declared.numbers.Claimer.{Claimer}
 use Rattle.sto_claims.specs.Taken.{taken, times}
 use Rattle.sto_attempt_facts.specs.Records.{Record}
-use Rattle.sto_run_threads.specs.Plans.{Plan, Rests, MayDraw, draws_of}
+use Rattle.sto_run_threads.specs.Plans.{Plan, Rests, MayDraw, draws_of, IsPaced}
 use Rattle.sto_run_threads.specs.Accounts.{HasGathered}
 use Rattle.sto_run_threads.specs.Told.{told_in}
 use Rattle.sto_run_threads.specs.Worked.{HasWorked, AreOf, AreDone, AbortsNone}
@@ -34,10 +34,11 @@ module _ {T : Type 0} {n : naming.Ghosts T} where
   abbrev pub seats_of : List (Worker T n) → ℕ
   seats_of workers = sum_by (λ w. w.claimer.seat.me.0.seats) workers
 
-  -- a pass at rest of these words, which may draw a ticket for each try of each transaction
+  -- a pass at rest of these words, which may draw a ticket for each try of each transaction, and has kept its pace
   pub record IsReady (s : Shared T) (plan : Plan) (rest : Rest T n) : Type 0 where
     pub of : IsOf s rest.seat
     pub free : MayDraw plan (draws_of plan) (view_at rest)
+    pub paced : IsPaced plan (view_at rest)
 
   -- the same, with a claimer of these numbers which has found none yet
   pub record IsHired (s : Shared T) (claims : Claims) (plan : Plan) (w : Worker T n) : Type 0 where

@@ -9,7 +9,7 @@ use Rattle.sto_attempt_facts.specs.Told.{IsFound}
 use Rattle.sto_attempt_facts.specs.Counted.{aborted_times}
 use Rattle.sto_serializability.specs.Working.{AreSoFar}
 use Rattle.sto_serializability.specs.Finished.{AreFinished}
-use Rattle.sto_run_threads.specs.Plans.{Plan}
+use Rattle.sto_run_threads.specs.Plans.{Plan, IsPaced}
 use Rattle.sto_run_threads.specs.Running.{ended_of, AreUnderWay, HasNone}
 
 -- the view has the finding of an aborted attempt, under the number of some start
@@ -17,11 +17,12 @@ pub record WasFound (v : View) (r : Record) : Type 0 where
   pub start : ℕ
   pub found : IsFound v start r.verdict
 
--- the records are told of the view, aborted ones with their findings, and threads are under way
+-- the records are told of the view, aborted ones with their findings, and threads are under way; no attempt took more steps than one may
 pub record HasWorked (plan : Plan) (v : View) (rs : List Record) : Type 0 where
   pub so_far : AreSoFar plan.meaning plan.file plan.tries v rs
   pub found : All (WasFound v) rs
   pub under_way : AreUnderWay plan.file rs
+  pub paced : IsPaced plan v
 
 -- they are those of a finished run
 abbrev pub AreWhole : Plan → View → List Record → Type 0

@@ -5,7 +5,7 @@ ghost use Rattle.sto_transaction.specs.Plain.{plain};
 ghost use Rattle.sto_attempt_facts.specs.Records.{times_written};
 ghost use Rattle.sto_attempt_facts.specs.Counted.{times_committed};
 ghost use Rattle.sto_run_threads.specs.Accounts.{AddsUp};
-ghost use Rattle.sto_run_threads.specs.Plans.{Rests, MayDraw, draws_of, thread_count};
+ghost use Rattle.sto_run_threads.specs.Plans.{Rests, MayDraw, IsPaced, draws_of, thread_count};
 ghost use Rattle.sto_run_threads.specs.Told.{told_in};
 ghost use Rattle.sto_run_threads.specs.Ordered.{RunsInOrder};
 ghost use Rattle.sto_run_threads.specs.Running.{ended_of};
@@ -60,6 +60,7 @@ pub fn run_left<T: Naming, W: Work<T>, C: Cells<T>>(
     ensures same { C.same cells.old cells.new }
     ensures rests { OnOk result (Rests (W.plan work.now) (C.view cells.new)) }
     ensures adds_up { OnOk result (AddsUp (C.view cells.old) (C.view cells.new) (told_in records.old) (told_in records.new)) }
+    ensures paced { OnOk result (IsPaced (W.plan work.now) (C.view cells.new)) }
     ensures none { OnOk result (AbortsNone (told_in records.old) (told_in records.new)) }
     ensures in_order { OnOk result (RunsInOrder (0, 0) (thread_count (W.plan work.now), 0) (told_in records.old) (told_in records.new)) }
     ensures found { OnOk result (All (WasFound (C.view cells.new)) (told_in records.new)) }

@@ -47,7 +47,7 @@ pub trait Workload {
         requires weighed { (script : Script) → transaction_at (file self.now) (thread, position) ≡ Some script
             → calls_of script.body ≤ script.weight }
         ensures made { IfOk result (λ body. IsBodyAt (file self.now) (thread, position) (Self.Transaction.script body)
-            (Self.Transaction.may_ask body)) };
+            (Self.Transaction.left_at_reset body) (Self.Transaction.may_ask body)) };
 }
 
 /// A file that stands in memory, lent to its run.

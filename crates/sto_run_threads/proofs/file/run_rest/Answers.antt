@@ -4,10 +4,12 @@ use Rattle.sto_attempt_facts.specs.Records.{times_written}
 use Rattle.sto_attempt_facts.specs.Counted.{times_committed}
 use Rattle.sto_transaction.specs.Plain.{plain}
 use Rattle.sto_plain.specs.Passes.{view_of}
-use Rattle.sto_run_threads.specs.Worked.{HasWorked}
+use Rattle.std.specs.List.{All}
+use Rattle.sto_core.specs.declared.view.View.{View}
+use Rattle.sto_run_threads.specs.Worked.{HasWorked, WasFound}
 use Rattle.sto_run_threads.proofs.Accounts.{all_started}
-use Rattle.sto_run_threads.proofs.Reopened.{reopened_whole}
-use Rattle.sto_run_threads.specs.Plans.{MayDraw, draws_of}
+use Rattle.sto_run_threads.proofs.Reopened.{reopened_whole, back_at}
+use Rattle.sto_run_threads.specs.Plans.{MayDraw, IsPaced, draws_of}
 use Rattle.sto_run_threads.specs.Told.{told_in}
 use Rattle.sto_run_threads.specs.Teams.{view_at}
 use Rattle.sto_run_threads.proofs.file.run_rest.Goals as goal
@@ -43,7 +45,15 @@ run_left-requires-clause-tickets g c =
     subst (λ (n : ℕ). (t : ℕ) → times_written t rs ≡ times_committed t (view_of c.at-pass.result.plain n).entries) (sym c.at-pass.ensures.pass) k.all.tickets
 
 pub returns-clause-finished : goal.returns-clause-finished
-returns-clause-finished g c = record { one = search rules; rests = search rules; finished = search rules }
+returns-clause-finished g c =
+    let zero : c.run_left.new.cells.pass ≡ 0 = c.run_left.ensures.same.0 ∙ c.at-pass.ensures.pass in
+    let there = back_at c.back.result c.run_left.new.cells.plain c.run_left.new.cells.pass c.back.ensures zero in
+    record {
+      one = search rules;
+      rests = search rules;
+      finished = search rules;
+      paced = subst (IsPaced (g.W.Work.plan c.args.work.now)) (sym there) c.in_ok-run_left.ensures.paced;
+    }
 
 pub returns-clause-accounted : goal.returns-clause-accounted
 returns-clause-accounted g c =
@@ -58,5 +68,7 @@ returns-clause-accounted g c =
     subst (λ (n : ℕ). (view_of c.run_left.new.cells.plain n).starts ≡ length (told_in c.run_left.new.records)) zero last in
     record {
       starts = ap (λ (p : _). (view_of p 0).starts) c.back.ensures ∙ done ∙ length-map c.run_left.new.records.items plain;
-      found = search rules;
+      found =
+          let there = back_at c.back.result c.run_left.new.cells.plain c.run_left.new.cells.pass c.back.ensures zero in
+          subst (λ (u : View). All (WasFound u) (told_in c.run_left.new.records)) (sym there) c.in_ok-run_left.ensures.found;
     }

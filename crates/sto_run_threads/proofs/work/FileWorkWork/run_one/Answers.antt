@@ -1,4 +1,4 @@
-use Rattle.std.proofs.Common.{subst}
+use Rattle.std.proofs.Common.{subst, arith}
 use Rattle.sto_model.specs.Run.{Script as Steps}
 use Rattle.sto_script.specs.Meaning.{meaning_of}
 use Rattle.sto_report_spec.specs.Orders.{Place}
@@ -7,6 +7,7 @@ use Rattle.sto_transaction.specs.Ran.{HasRun, HasBroken}
 use Rattle.sto_type.specs.Traits.{of_type}
 use Rattle.sto_run_threads.specs.Plans.{plan_of}
 use Rattle.sto_run_threads.specs.Ran.{HasBrokenAt}
+use Rattle.sto_run_threads.proofs.Pace.{paced_by}
 use Rattle.sto_run_threads.proofs.Results.{at_ok, at_err}
 use Rattle.sto_run_threads.proofs.Scripts.{not_begun}
 use Rattle.sto_run_threads.specs.Told.{told_in}
@@ -63,10 +64,12 @@ returns-then-ended-clause-ran g c =
     let place : Place = (c.args.thread, c.args.position) in
     let made = at_ok _ c.in_ok-body.was c.transaction-body.ensures.made in
     let rs = told_in c.args.records.now in let later = told_in c.run-ran.new.records in
+    let ran = at_ok _ c.in_ok-ended.was c.run-ran.ensures.ran in
     record {
       script = made.script;
       there = made.there;
-      ran = subst (λ (f : Steps). HasRun m sizes c.args.self.now.tries (g.C.Cells.passes c.args.cells.now) v w f place rs later c.in_ok-ended.field-0.ended) made.does (at_ok _ c.in_ok-ended.was c.run-ran.ensures.ran);
+      ran = subst (λ (f : Steps). HasRun m sizes c.args.self.now.tries (g.C.Cells.passes c.args.cells.now) v w f place rs later c.in_ok-ended.field-0.ended) made.does ran;
+      pace = paced_by m (g.F.Workload.file c.args.self.now.workload) place made.script made.there _ v w made.few (omega (arith, ran.starts)) c.run-ran.ensures.steps;
     }
 
 pub returns-else-ended-clause-ran : goal.returns-else-ended-clause-ran
@@ -76,8 +79,10 @@ returns-else-ended-clause-ran g c =
     let place : Place = (c.args.thread, c.args.position) in
     let made = at_ok _ c.in_ok-body.was c.transaction-body.ensures.made in
     let rs = told_in c.args.records.now in let later = told_in c.run-ran.new.records in
+    let ran = at_ok _ c.in_ok-ended.was c.run-ran.ensures.ran in
     record {
       script = made.script;
       there = made.there;
-      ran = subst (λ (f : Steps). HasRun m sizes c.args.self.now.tries (g.C.Cells.passes c.args.cells.now) v w f place rs later c.in_ok-ended.field-0.ended) made.does (at_ok _ c.in_ok-ended.was c.run-ran.ensures.ran);
+      ran = subst (λ (f : Steps). HasRun m sizes c.args.self.now.tries (g.C.Cells.passes c.args.cells.now) v w f place rs later c.in_ok-ended.field-0.ended) made.does ran;
+      pace = paced_by m (g.F.Workload.file c.args.self.now.workload) place made.script made.there _ v w made.few (omega (arith, ran.starts)) c.run-ran.ensures.steps;
     }

@@ -1,5 +1,5 @@
 use Rattle.std.proofs.Common.{◌-◌, arith}
-use Rattle.sto_run_threads.proofs.Results.{both_ok}
+use Rattle.sto_run_threads.proofs.Results.{all_ok}
 use Rattle.sto_lang.specs.Views.{file as view, script}
 use Rattle.sto_run_threads.proofs.Places.{at_place, position_above}
 use Rattle.sto_run_threads.proofs.workload.LentFileWorkload.transaction.Goals as goal
@@ -16,4 +16,4 @@ returns c =
     let file = c.args.self.now.file.now in
     let at = at_place file c.args.thread c.args.position (c.args.position - 1) c.get.result.now c.get-script.result.now
     (omega (arith, position_above (view file) c.args.thread c.args.position c.requires.there)) c.get.ensures c.get-script.ensures in
-    record { made = both_ok c.new.result _ _ _ (λ body does asks. record { script = script c.get-script.result.now; there = at; does = does; asks = asks }) c.new.ensures.script c.new.ensures.may }
+    record { made = all_ok c.new.result _ _ _ _ (λ body does asks few. record { script = script c.get-script.result.now; there = at; does = does; asks = asks; few = omega (arith, few) }) c.new.ensures.script c.new.ensures.may c.new.ensures.left_at_reset }
