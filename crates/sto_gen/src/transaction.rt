@@ -109,13 +109,9 @@ fn statements(
         a: Arg::Num(transfer.from as i64),
         b: Arg::Num(0),
     })?;
-    body.push(Stmt::Choose {
-        a: Arg::Var(0),
-        test: Test::Ge,
-        b: Arg::Num(transfer.amount as i64),
-        yes: moves(alloc, transfer)?,
-        no: Stmts::new(alloc),
-    })?;
+    let least = Arg::Num(transfer.amount as i64);
+    let moved = moves(alloc, transfer)?;
+    body.push_choice(Arg::Var(0), Test::Ge, least, &moved, &Stmts::new(alloc))?;
     push_log_note(&mut body, thread, position, transfer.amount)?;
     push_owner_note(&mut body, thread, position)?;
     Ok(body)

@@ -16,6 +16,7 @@ mod order;
 mod place;
 mod range;
 mod reader;
+mod room;
 mod stmt;
 mod text;
 mod thread;
@@ -30,6 +31,6 @@ pub use file::{Decl, Decls, File, Schedule, Script, Scripts, Thread, Threads, Tu
 pub use names::Names;
 pub use order::shapes;
 pub use reader::read;
-pub use stmt::{Stmt, Stmts};
+pub use stmt::{Stmt, Stmts, beyond, stretch};
 pub use text::Text;
 pub use thread::numbered_name;

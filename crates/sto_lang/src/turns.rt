@@ -24,7 +24,7 @@ use sto_syntax::{Entries, Form};
 fn own_weight(objects: &DeclaredObjects, begun: &Begun) -> u64
     ensures { result ≡ min (script_of objects.now (begun_of begun.now)).weight 4097 }
 {
-    (1 + weight(objects.in_order(), &begun.statements)).min(4097)
+    (1 + weight(objects.in_order(), begun.statements.as_slice())).min(4097)
 }
 
 /// What the transaction weighs that the lines stand in.

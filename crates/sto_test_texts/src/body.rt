@@ -1,6 +1,5 @@
 // Worked examples, run on the plain state.
 ghost use Rattle.std.specs.Prelude.{◌≡◌, ◌≤◌, length, pos, true, [], ◌∷◌, IfOk};
-ghost use Rattle.sto_lang.specs.Written.{statements_of};
 ghost use Rattle.sto_lang.specs.Sizes.{calls_of};
 ghost use Rattle.sto_lang.specs.Taken.{are_taken};
 ghost use Rattle.sto_model.specs.declared.shape.Shape.TheVariants.{Single, Tree};
@@ -16,26 +15,6 @@ const ZERO: Arg = Arg::Num(0);
 const FIRST: Arg = Arg::Var(0);
 
 const SECOND: Arg = Arg::Var(1);
-
-// These statements in order.
-fn statements<const N: usize>(alloc: Global, items: [Stmt; N]) -> Result<Stmts, NoMemory>
-    ensures { IfOk result (λ s. s ≡ statements_of items.entry) }
-{
-    match Vec::from_array(alloc, items) {
-        Ok(items) => pushed(alloc, items),
-        Err(_) => Err(NoMemory),
-    }
-}
-
-fn pushed(alloc: Global, items: Vec<Stmt>) -> Result<Stmts, NoMemory>
-    ensures { IfOk result (λ s. s ≡ statements_of items.items) }
-{
-    let mut made = Stmts::new(alloc);
-    for item in items {
-        made.push(item)?;
-    }
-    Ok(made)
-}
 
 // A script of these statements, with so many variables.
 fn script_of(alloc: Global, vars: u32, body: Stmts, weight: u32) -> Result<Script, NoMemory>
@@ -122,6 +101,15 @@ macro_rules! ask {
     };
 }
 
+// Statements without branches and bodies, in order.
+macro_rules! list {
+    ($alloc:expr; $($item:expr),*) => {{
+        let mut made = Stmts::new($alloc);
+        $(made.push($item)?;)*
+        made
+    }};
+}
+
 #[test]
 fn worked_examples(rt: HostRuntime) {
     let alloc = rt.alloc();
@@ -135,19 +123,14 @@ fn worked_examples(rt: HostRuntime) {
     assert_eq!(rt; cases, [Ok(true); 5]);
 }
 
-const READ_AND_SET_THE_SUM: [Stmt; 3] = [
-    ask!(Some(0), 0, ZERO, ZERO),
-    Stmt::Sum {
+// `x = get a`, `y = sum y x`, `set a y`, told twice that a is 5: each time y is 0 at first.
+fn example_of_a_body(alloc: Global) -> Result<bool, NoMemory> {
+    let set = Stmt::Sum {
         to: 1,
         a: SECOND,
         b: FIRST,
-    },
-    ask!(None, 1, SECOND, ZERO),
-];
-
-// `x = get a`, `y = sum y x`, `set a y`, told twice that a is 5: each time y is 0 at first.
-fn example_of_a_body(alloc: Global) -> Result<bool, NoMemory> {
-    let body = statements(alloc, READ_AND_SET_THE_SUM)?;
+    };
+    let body = list!(alloc; ask!(Some(0), 0, ZERO, ZERO), set, ask!(None, 1, SECOND, ZERO));
     let script = script_of(alloc, 2, body, 4)?;
     let mut body = ScriptBody::new(alloc, &script)?;
     let first = asks_and_commits(&mut body);
@@ -192,34 +175,27 @@ fn is_told(body: &mut ScriptBody<'_>, wanted: Call, reply: &Reply) -> bool {
     }
 }
 
-const PUT_THE_NEXT: [Stmt; 2] = [
-    Stmt::Sum {
-        to: 0,
-        a: FIRST,
-        b: Arg::Num(1),
-    },
-    ask!(None, 5, FIRST, FIRST),
-];
-
 // `k = sum 0 0`, nine times `k = sum k 1` and `put t k k`, then `put t 8 5` and `n = len t`.
 fn filling(alloc: Global) -> Result<Stmts, NoMemory>
     ensures calls { IfOk result (λ s. calls_of s ≤ 23) }
     ensures taken { IfOk result (λ s. are_taken (Tree 2 ∷ []) s ≡ true) }
 {
-    let body = statements(alloc, PUT_THE_NEXT)?;
-    statements(
-        alloc,
-        [
-            Stmt::Sum {
-                to: 0,
-                a: ZERO,
-                b: ZERO,
-            },
-            Stmt::Repeat { times: 9, body },
-            ask!(None, 5, Arg::Num(8), Arg::Num(5)),
-            ask!(Some(1), 8, ZERO, ZERO),
-        ],
-    )
+    let begin = Stmt::Sum {
+        to: 0,
+        a: ZERO,
+        b: ZERO,
+    };
+    let next = Stmt::Sum {
+        to: 0,
+        a: FIRST,
+        b: Arg::Num(1),
+    };
+    let turn = list!(alloc; next, ask!(None, 5, FIRST, FIRST));
+    let mut all = list!(alloc; begin);
+    all.push_repetition(9, &turn)?;
+    all.push(ask!(None, 5, Arg::Num(8), Arg::Num(5)))?;
+    all.push(ask!(Some(1), 8, ZERO, ZERO))?;
+    Ok(all)
 }
 
 const FILLED: &[(i64, i64)] = &[
@@ -257,25 +233,16 @@ fn are_done(replies: &[Reply]) -> bool {
     replies.iter().all(|reply| matches!(reply, Reply::Done))
 }
 
-const SET_TO_FIVE: [Stmt; 1] = [ask!(None, 1, Arg::Num(5), ZERO)];
-
-const SET_TO_NINE_AND_CANCEL: [Stmt; 2] = [ask!(None, 1, Arg::Num(9), ZERO), Stmt::Cancel];
-
 // `x = get a`, and where x is below 1 `set a 5`, else `set a 9` and `cancel`.
 fn cancelling(alloc: Global) -> Result<Stmts, NoMemory>
     ensures calls { IfOk result (λ s. calls_of s ≤ 6) }
     ensures taken { IfOk result (λ s. are_taken (Single (pos 1) ∷ []) s ≡ true) }
 {
-    let yes = statements(alloc, SET_TO_FIVE)?;
-    let no = statements(alloc, SET_TO_NINE_AND_CANCEL)?;
-    let choice = Stmt::Choose {
-        a: FIRST,
-        test: Test::Lt,
-        b: Arg::Num(1),
-        yes,
-        no,
-    };
-    statements(alloc, [ask!(Some(0), 0, ZERO, ZERO), choice])
+    let first = list!(alloc; ask!(None, 1, Arg::Num(5), ZERO));
+    let second = list!(alloc; ask!(None, 1, Arg::Num(9), ZERO), Stmt::Cancel);
+    let mut all = list!(alloc; ask!(Some(0), 0, ZERO, ZERO));
+    all.push_choice(FIRST, Test::Lt, Arg::Num(1), &first, &second)?;
+    Ok(all)
 }
 
 const ONE: &[(i64, i64)] = &[(0, 1)];
@@ -291,14 +258,13 @@ fn cancels_in_a_branch(alloc: Global) -> Result<bool, NoMemory> {
 }
 
 // `add c 3`, `x = test c ge 5`, `take c 5`, on a counter of 3.
-const ADD_TEST_AND_TAKE: [Stmt; 3] = [
-    ask!(None, 2, Arg::Num(3), ZERO),
-    ask!(Some(0), 3, Arg::Num(5), Arg::Num(5)),
-    ask!(None, 4, Arg::Num(5), ZERO),
-];
-
 fn sees_its_own_writes(alloc: Global) -> Result<bool, NoMemory> {
-    let body = statements(alloc, ADD_TEST_AND_TAKE)?;
+    let body = list!(
+        alloc;
+        ask!(None, 2, Arg::Num(3), ZERO),
+        ask!(Some(0), 3, Arg::Num(5), Arg::Num(5)),
+        ask!(None, 4, Arg::Num(5), ZERO)
+    );
     let script = script_of(alloc, 1, body, 4)?;
     let ran = run_on(alloc, &script, Shape::Counter(3))?;
     let said = matches!(
@@ -308,46 +274,32 @@ fn sees_its_own_writes(alloc: Global) -> Result<bool, NoMemory> {
     Ok(said && has_left(&ran, ONE))
 }
 
-const SET_TO_ONE: [Stmt; 1] = [ask!(None, 1, Arg::Num(1), ZERO)];
-
 // Turns without statements, a repetition that runs no times, and sums and differences that wrap.
 fn wrapping(alloc: Global) -> Result<Stmts, NoMemory>
     ensures calls { IfOk result (λ s. calls_of s ≤ 4010) }
     ensures taken { IfOk result (λ s. are_taken (Single (pos 7) ∷ []) s ≡ true) }
 {
-    let nothing = Stmt::Repeat {
-        times: 4096,
-        body: Stmts::new(alloc),
-    };
-    let empty = statements(alloc, [nothing])?;
-    let never = statements(alloc, SET_TO_ONE)?;
-    statements(
-        alloc,
-        [
-            Stmt::Repeat {
-                times: 4000,
-                body: empty,
-            },
-            Stmt::Repeat {
-                times: 0,
-                body: never,
-            },
-            Stmt::Sum {
-                to: 0,
-                a: Arg::Num(i64::MAX),
-                b: Arg::Num(1),
-            },
-            ask!(None, 1, FIRST, ZERO),
-            ask!(None, 0, ZERO, ZERO),
-            Stmt::Diff {
-                to: 0,
-                a: FIRST,
-                b: Arg::Num(1),
-            },
-            ask!(None, 1, FIRST, ZERO),
-            ask!(None, 0, ZERO, ZERO),
-        ],
-    )
+    let mut empty = Stmts::new(alloc);
+    empty.push_repetition(4096, &Stmts::new(alloc))?;
+    let never = list!(alloc; ask!(None, 1, Arg::Num(1), ZERO));
+    let mut all = Stmts::new(alloc);
+    all.push_repetition(4000, &empty)?;
+    all.push_repetition(0, &never)?;
+    all.push(Stmt::Sum {
+        to: 0,
+        a: Arg::Num(i64::MAX),
+        b: Arg::Num(1),
+    })?;
+    all.push(ask!(None, 1, FIRST, ZERO))?;
+    all.push(ask!(None, 0, ZERO, ZERO))?;
+    all.push(Stmt::Diff {
+        to: 0,
+        a: FIRST,
+        b: Arg::Num(1),
+    })?;
+    all.push(ask!(None, 1, FIRST, ZERO))?;
+    all.push(ask!(None, 0, ZERO, ZERO))?;
+    Ok(all)
 }
 
 fn passes_over_empty_turns(alloc: Global) -> Result<bool, NoMemory> {

@@ -29,9 +29,11 @@ fn first_of(file: &File) -> Option<&[Stmt]> {
 
 fn moves_where_there_are(body: &[Stmt]) -> bool {
     match body {
-        [Stmt::Ask { a, .. }, Stmt::Choose { b, yes, .. }] => {
-            *a == Arg::Num(22) && *b == Arg::Num(97) && are_moves(yes.as_slice())
-        }
+        [
+            Stmt::Ask { a, .. },
+            Stmt::Choose { b, first: 3, .. },
+            moves @ ..,
+        ] => { *a == Arg::Num(22) && *b == Arg::Num(97) && are_moves(moves) }
         _ => false,
     }
 }

@@ -85,7 +85,7 @@ fn push_script(out: &mut Text, decls: &[Decl], script: &Script) -> Result<(), No
         (script_lines (map declaration decls.now) (script_of script.now))) }
 {
     push_alone(out, "begin")?;
-    push_statements(out, decls, &script.vars, &script.body)?;
+    push_statements(out, decls, &script.vars, script.body.as_slice())?;
     push_alone(out, "commit")
 }
 
