@@ -21,7 +21,8 @@ use Rattle.sto_run_threads.proofs.Runs.{next_more}
 use Rattle.sto_run_steps.specs.Stepped.{HasMadeOne}
 use Rattle.sto_run_steps.specs.Seated.{IsBetween}
 use Rattle.sto_run_steps.proofs.Counting.{fewer_tries, fewer_transactions}
-use Rattle.sto_run_threads.specs.Plans.{Plan}
+use Rattle.sto_run_threads.specs.Plans.{Plan, pace_of}
+use Rattle.sto_run_threads.proofs.Pace.{one_paced}
 
 counted : (a b c : Bool) → a ≡ true → b ≡ true → c ≡ true → ◌≡◌ {A = ℕ} ((if a && (b && c) then 1 else 0) + 0) 1
 counted true true true p q r = refl
@@ -84,6 +85,7 @@ module _ (plan : Plan) (passes thread ended left : ℕ) (v w : View) (rs : List 
       (one_found plan.meaning v w (meaning_of here.script) (thread, suc (ended_of thread rs)) r here.tried)
       (let a = few b is in let t = tried in omega (arith, a, t, again))
       (finished_by b r is ∙ at_place b)
+      (one_paced (pace_of plan) v w here.steps here.tried.starts)
     where
       at_place : (c : Bool) → (if not c then r.place ∷ [] else []) ≡ (if not c then (thread, suc (ended_of thread rs)) ∷ [] else [])
       at_place true = refl

@@ -1,7 +1,7 @@
 -- The views of many passes, each of which has run one thread, are gathered into one.
 use Rattle.std.specs.Prelude.{nat_eq}
 use Rattle.std.specs.List.{flat_map}
-use Rattle.std.proofs.Common.{◌≡◌, ℕ, zero, suc, ◌+◌, ◌<◌, ◌≤◌, List, [], ◌∷◌, ◌++◌, length, refl, ap, subst, arith, inl, inr, ne_eqb}
+use Rattle.std.proofs.Common.{◌≡◌, ℕ, zero, suc, ◌+◌, ◌*◌, ◌<◌, ◌≤◌, List, [], ◌∷◌, ◌++◌, length, refl, ap, subst, arith, inl, inr, ne_eqb}
 use Rattle.std.proofs.lemmas.Bool.{cases_eq}
 use mathlib.Core.Option.{some-injective}
 use Rattle.sto_core.specs.declared.view.Entry.{Entry}
@@ -25,7 +25,7 @@ use Rattle.sto_run_threads.specs.Running.{HasNone}
 use Rattle.sto_run_threads.specs.Worked.{HasWorked, AreOf, AbortsNone}
 use Rattle.sto_run_threads.proofs.Found.{all_found_later}
 use Rattle.sto_run_threads.proofs.Joined.{once_self, nothing_of, none_worked, gathered_worked, gathered_of}
-use Rattle.sto_run_threads.specs.Plans.{Plan, Rests}
+use Rattle.sto_run_threads.specs.Plans.{Plan, Rests, pace_of}
 
 -- a pass at rest has made these records, all of the thread
 pub record HasRested (plan : Plan) (passes need thread : ℕ) (v : View) (rs : List Record) : Type 0 where
@@ -81,11 +81,12 @@ apart_from first n x = elim (cases_eq x first) [
     ]
 
 -- a view that knows what another knows
-worked_later : (plan : Plan) (v w : View) (rs : List Record) → Grows v w → HasWorked plan v rs → HasWorked plan w rs
-worked_later plan v w rs g h = record {
+worked_later : (plan : Plan) (v w : View) (rs : List Record) → Grows v w → (w.steps ≡ v.steps) → (w.starts ≡ v.starts) → HasWorked plan v rs → HasWorked plan w rs
+worked_later plan v w rs g steps starts h = record {
   so_far = record { threads = h.so_far.threads; few = h.so_far.few; each = later_record plan.meaning plan.file v w g rs h.so_far.each };
   found = all_found_later v w rs g h.found;
   under_way = h.under_way;
+  paced = (let paced = h.paced in let all = ap (λ (n : ℕ). n * pace_of plan) starts in omega (arith, paced, steps, all));
 }
 
 -- one pass more
@@ -109,7 +110,7 @@ module _ {X : Type 0} (R : X → List Record) (plan : Plan) (passes need : ℕ) 
   pub gathered : (of_sizes : List ℕ) (opening : Contents) (first : ℕ) (views : List View) (xs : List X) → HaveRested R plan passes need first views xs
       → AreGathered plan passes need first (reopened_view of_sizes opening views) views (flat_map R xs)
   gathered of_sizes opening first [] [] h = record {
-    worked = none_worked plan (reopened_view of_sizes opening []) [] refl;
+    worked = none_worked plan (reopened_view of_sizes opening []) [] refl (omega arith);
     tickets = λ t. refl;
     own = nothing_of [] refl;
     settled = each_nothing (λ (e : Entry). e.fate ≡ Pending → ⊥);
@@ -122,7 +123,7 @@ module _ {X : Type 0} (R : X → List Record) (plan : Plan) (passes need : ℕ) 
       let k = gathered of_sizes opening (suc first) vs xs h.1 in
       let own = of_one first (R x) h.0.own in record {
         worked = worked_later plan (gathered_into v (reopened_view of_sizes opening vs)) (reopened_view of_sizes opening (v ∷ vs)) (R x ++ flat_map R xs)
-            (reopened_more of_sizes opening v vs)
+            (reopened_more of_sizes opening v vs) refl refl
             (gathered_worked plan v (reopened_view of_sizes opening vs) (first ∷ []) (numbers_from (suc first) (length vs)) (R x) (flat_map R xs)
             (apart_from first (length vs)) own k.own h.0.worked k.worked);
         tickets = λ t. (let a = times_append t (R x) (flat_map R xs) in let b = committed_append t v.entries (reopened_view of_sizes opening vs).entries in

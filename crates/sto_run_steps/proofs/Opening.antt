@@ -70,7 +70,7 @@ module _ (plan : Plan) (few : draws_of plan + draws_of plan ≤ opening_draws) w
   opened_between : (passes number thread : ℕ) → IsBetween plan passes thread 0 plan.tries [] (opened_view plan.sizes plan.meaning.opened number)
   opened_between passes number thread = record {
     rests = opened_rests plan.meaning plan.sizes plan.meaning.opened number refl;
-    worked = none_worked plan (opened_view plan.sizes plan.meaning.opened number) [] refl;
+    worked = none_worked plan (opened_view plan.sizes plan.meaning.opened number) [] refl (omega arith);
     tickets = λ t. refl;
     own = λ u other. All-nil (λ (r : Record). r.place.0 ≡ u → ⊥);
     starts = refl;

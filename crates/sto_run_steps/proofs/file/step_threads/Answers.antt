@@ -11,7 +11,8 @@ use Rattle.sto_run_steps.specs.Seated.{AreOver, records_of}
 use Rattle.sto_run_steps.specs.Turning.{HaveTurns, entry_turns, round_turns}
 use Rattle.sto_run_steps.proofs.Reopened.{over_idle, over_made, over_reopened, all_records}
 use Rattle.sto_run_steps.proofs.Turns.{turns_append}
-use Rattle.sto_run_threads.specs.Plans.{MayDraw, draws_of}
+use Rattle.sto_run_threads.specs.Plans.{MayDraw, IsPaced, draws_of}
+use Rattle.sto_run_threads.proofs.Reopened.{back_at}
 use Rattle.sto_run_steps.proofs.file.step_threads.Goals as goal
 
 pub close-requires : goal.close-requires
@@ -46,7 +47,15 @@ run_left-requires-clause-tickets g c =
     (subst (λ (n : ℕ). (t : ℕ) → times_written t (flat_map records_of s.seats.items) ≡ times_committed t (view_of c.at-pass.result.plain n).entries) (sym c.at-pass.ensures.pass) k.tickets)
 
 pub returns-clause-finished : goal.returns-clause-finished
-returns-clause-finished g c = record { one = search rules; rests = search rules; finished = search rules }
+returns-clause-finished g c =
+    let zero : c.run_left.new.cells.pass ≡ 0 = c.run_left.ensures.same.0 ∙ c.at-pass.ensures.pass in
+    let there = back_at c.back.result c.run_left.new.cells.plain c.run_left.new.cells.pass c.back.ensures zero in
+    record {
+      one = search rules;
+      rests = search rules;
+      finished = search rules;
+      paced = subst (IsPaced (g.W.Work.plan c.args.work.now)) (sym there) c.in_ok-run_left.ensures.paced;
+    }
 
 pub returns-clause-alone : goal.returns-clause-alone
 returns-clause-alone g c = λ one place.

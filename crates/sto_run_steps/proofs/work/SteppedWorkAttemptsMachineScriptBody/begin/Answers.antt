@@ -6,6 +6,8 @@ use Rattle.sto_script.specs.Bodies.{then_of, script_of, left_of, left_at_reset_o
 use Rattle.sto_run_threads.specs.Orders.{Place}
 use Rattle.sto_transaction.specs.Bounds.{bound, words_of}
 use Rattle.sto_transaction.specs.Machines.{Proceeds}
+use Rattle.sto_run_threads.specs.Counts.{heaviest}
+use Rattle.sto_run_threads.proofs.Pace.{weighs_most, more_steps}
 use Rattle.sto_run_threads.proofs.Places.{at_place, position_above}
 use Rattle.sto_type.specs.Traits.{of_type}
 use Rattle.sto_run_steps.specs.Proceeding.{script_left}
@@ -29,9 +31,12 @@ pub returns-clause-fits : goal.returns-clause-fits
 returns-clause-fits g c = λ passes v free.
     let at = at_place c.args.self.now.work.now.workload.file.now c.args.thread c.args.position (c.args.position - 1) c.get.result.now c.get-script.result.now
     (omega (arith, position_above (view c.args.self.now.work.now.workload.file.now) c.args.thread c.args.position c.requires.there)) c.get.ensures c.get-script.ensures in
+    let weight = weighs_most (view c.args.self.now.work.now.workload.file.now) (c.args.thread, c.args.position) (script c.get-script.result.now) at in
+    let most = more_steps (g.T.TxType.meaning c.args.self.now.work.now.ty.now) (left_at_reset_of c.in_ok-body.body) (heaviest (view c.args.self.now.work.now.workload.file.now).threads) (omega (arith, c.in_ok-body.ensures.left_at_reset, weight)) in
     record {
       script = script c.get-script.result.now;
       there = at;
+      pace = omega (arith, c.new-2.ensures.left, most);
       proceeds = subst (λ (f : Steps). Proceeds g.T.TxType.meaning g.T.Naming.valid g.T.Naming.sizes script_of then_of left_of MayAskOf passes c.args.self.now.work.now.ty.now f c.new-2.result v v)
           c.in_ok-body.ensures.script (c.new-2.ensures.proceeds passes v free.rests free.draws);
     }

@@ -20,6 +20,7 @@ returns-in-Some-clause-stepped g c = λ begun k.
         there = k.there;
         tried = h.tried (c.args._thread, c.args._position);
         rests = h.rests;
+        steps = omega (arith, k.pace, c.step.ensures.event.tells.counts, fewer);
         alone = h.alone;
       },
       omega (arith, fewer),
@@ -31,4 +32,4 @@ returns-in-None-clause-stepped g c = λ begun k.
     c.in-None.is c.in_ok-step.ensures.left in
     let h = subst (λ (r : Result (Option (Ended ScriptBody)) NoMemory). HasStepped g.T.TxType.meaning g.T.Naming.valid g.T.Naming.sizes script_of then_of left_of MayAskOf (g.C.Cells.passes c.args.cells.now) c.args.self.now.work.now.ty.now (meaning_of k.script) r c.step.new.self begun (g.C.Cells.view c.step.new.cells))
     (c.in_ok-step.was ∙ ap Ok c.in-None.is) (c.step.ensures.stepped c.args.self.now.work.now.ty.now (meaning_of k.script) begun k.proceeds) in
-    (record { script = k.script; there = k.there; proceeds = h }, fewer)
+    (record { script = k.script; there = k.there; proceeds = h; pace = omega (arith, k.pace, c.step.ensures.event.tells.counts, fewer) }, fewer)
