@@ -1,5 +1,5 @@
 -- An attempt that reads, on its pass, before an event and after it. Where two attempts are named, they are the one before and the one after.
-use Rattle.std.specs.Prelude.{◌≡◌, ◌≤◌, ◌<◌, ◌+◌, ◌-◌, ℕ, ℤ, true, false, List, [], length, drop, map, slice_index_or, Option, Result, IfSome, IfOk, OnOk, OnErr}
+use Rattle.std.specs.Prelude.{◌≡◌, ◌≤◌, ◌<◌, ◌+◌, ◌-◌, ◌^◌, ℕ, ℤ, true, false, List, [], length, drop, map, slice_index_or, Option, Result, IfSome, IfOk, OnOk, OnErr}
 use Rattle.sto_part.specs.declared.NoMemory.{NoMemory}
 use Rattle.sto_model.specs.Told.{Told, told}
 use Rattle.sto_model.specs.Run.{Script}
@@ -24,7 +24,7 @@ use Rattle.sto_attempt_log.specs.Predicates.{ArePredsOf}
 use Rattle.sto_attempt_log.specs.Remaining.{commit_left}
 use Rattle.sto_attempt_log.specs.Answers.{OneEvent, IsPrefix}
 use Rattle.sto_attempt_log.specs.Bounds.{events_left, left_committing, left_extending, bound, words_of}
-use Rattle.sto_attempt_log.specs.Log.{IsOnLog}
+use Rattle.sto_attempt_log.specs.Log.{IsOnLog, IsLog}
 use Rattle.sto_attempt_log.specs.Growing.{HasHeard}
 use Rattle.sto_attempt_log.specs.Reasons.{IsCaused}
 use Rattle.sto_attempt_log.specs.ReadSet.{words_in}
@@ -134,6 +134,13 @@ module _ {T B : Type 0} (t : OfType T) (b : OfBody B) where
     pub goes : GoesAt read_phase a v
     pub log : IsOwnLog a
 
+  -- what is so before the next word of a part is read
+  pub record IsBeforeWord (s : ReadPhase) (part : ℕ) (a : Attempt T B) (v : View) : Type 0 where
+    pub before : IsUnderWay s a v
+    pub read_phase : a.read_phase ≡ s
+    pub more : length a.words.items < slice_index_or (t.meaning a.log.ty.now).widths part 0
+    pub few : length a.words.items + 1 < 2 ^ 32
+
   -- the event e has led from a read phase of old and v to new and w, and the body was run up to the next event
   pub record Steps (passes : ℕ) (read_phase : ReadPhase) (e : Event) (old new : Attempt T B) (v w : View) (result : Result Turn NoMemory) : Type 0 where
     pub event : OneEvent (λ x. x ≡ e) t.valid passes v w
@@ -165,6 +172,10 @@ module _ {T B : Type 0} (t : OfType T) (b : OfBody B) where
     pub script : b.script new.log.body ≡ b.script old.log.body
     pub left_at_reset : b.left_at_reset new.log.body ≡ b.left_at_reset old.log.body
     pub ty : new.log.ty ≡ old.log.ty
+
+  -- the items and updates carry the replies
+  abbrev pub Carries : Attempt T B → Type 0
+  Carries a = IsLog (t.meaning a.log.ty.now) (b.script a.log.body) (words_in a.log.base.items) a.log.set.items a.log.set.updates (heard a)
 
   -- how many words the part has
   abbrev pub part_width : Attempt T B → ℕ → ℕ
@@ -216,6 +227,14 @@ module _ {T B : Type 0} (t : OfType T) (b : OfBody B) where
     -- the next event was made, and what it tells
     abbrev pub MakesNext : Attempt T B → Attempt T B → C → C → Result Turn NoMemory → Type 0
     MakesNext old new here there result = Steps (c.passes here) old.read_phase (event_of old) old new (c.view here) (c.view there) result
+
+    -- the next word of the part that is being read was read, as a step does
+    pub record HasReadOne (old new : Attempt T B) (here there : C) (result : Result Turn NoMemory) : Type 0 where
+      pub steps : MakesNext old new here there result
+      pub prefix : IsPrefixOf old new (c.view there)
+      pub one : IfOk result (λ turn. turn ≡ More) × OnOk result (words_left new + 1 ≡ words_left old)
+      pub longer : OnOk result (length new.words.items ≡ length old.words.items + 1)
+      pub same : c.same here there
 
     -- the clock was loaded, and the body was run up to the next event
     pub record HasStarted (old new : Attempt T B) (here there : C) (result : Result Turn NoMemory) : Type 0 where

@@ -1,12 +1,11 @@
 //! One attempt of a transaction.
-ghost use Rattle.std.specs.Prelude.{◌≡◌, ◌<◌, ◌+◌, ◌^◌, length, [], ℕ, Ok, OnOk, IfOk, IsTrue, ◌↔◌};
+ghost use Rattle.std.specs.Prelude.{◌≡◌, ◌<◌, ◌+◌, ◌^◌, length, [], ℕ, Ok, OnOk, IsTrue, ◌↔◌};
 ghost use Rattle.sto_model.specs.declared.call.Call.{Call};
 ghost use Rattle.sto_core.specs.Event.{Open, Close, Renew, Recheck};
 ghost use Rattle.sto_core.specs.declared.view.View.{View};
 ghost use Rattle.sto_attempt_log.specs.declared.read_phase.ReadPhase.TheVariants.{Unstarted, Opening, Reading, Renewing, Rechecking, Reopening, Rereading};
-ghost use Rattle.sto_attempt_log.specs.declared.verdict.Turn.TheVariants.{More};
 ghost use Rattle.sto_attempt_log.specs.ReadSet.{IsTrueIn, AllTrueIn};
-ghost use Rattle.sto_attempt.specs.Attempts.{IsNew, IsOwnLog, IsUnderWay, IsPrefixOf, FitsAt, IsExtending, HasGoneOn, MakesNext, HasStarted, HasStepped, HasReadWord, part_width, words_left};
+ghost use Rattle.sto_attempt.specs.Attempts.{IsNew, IsOwnLog, IsUnderWay, IsBeforeWord, IsPrefixOf, FitsAt, IsExtending, HasGoneOn, MakesNext, HasStarted, HasStepped, HasReadOne, HasReadWord, part_width, words_left};
 
 use std::alloc::Global;
 use std::mem;
@@ -157,12 +156,7 @@ impl<'t, T: TxType, B: Body> Attempt<'t, T, B> {
         requires before { IsUnderWay T.TxType B.Body self.old.read_phase self.old (C.view cells.old) }
         requires more { 0 < words_left T.TxType B.Body self.old }
         requires few { length self.old.words.items + 1 < 2 ^ 32 }
-        ensures steps { MakesNext T.TxType B.Body C.Cells self.old self.new cells.old cells.new result }
-        ensures prefix { IsPrefixOf T.TxType B.Body self.old self.new (C.view cells.new) }
-        ensures one { IfOk result (λ turn. turn ≡ More)
-            × OnOk result (words_left T.TxType B.Body self.new + 1 ≡ words_left T.TxType B.Body self.old) }
-        ensures longer { OnOk result (length self.new.words.items ≡ length self.old.words.items + 1) }
-        ensures same { C.same cells.old cells.new }
+        ensures { HasReadOne T.TxType B.Body C.Cells self.old self.new cells.old cells.new result }
     {
         match self.read_phase {
             ReadPhase::Reading { part, ticket } => self.word(cells, part, ticket),
@@ -216,10 +210,7 @@ impl<'t, T: TxType, B: Body> Attempt<'t, T, B> {
 
     // Reads the next word of the part.
     fn word<C: Cells<T>>(&mut self, cells: &mut C, part: u32, ticket: u64) -> Result<Turn, NoMemory>
-        requires before { IsUnderWay T.TxType B.Body (Reading part ticket) self.old (C.view cells.old) }
-        requires read_phase { self.old.read_phase ≡ Reading part ticket }
-        requires more { length self.old.words.items < part_width T.TxType B.Body self.old part }
-        requires few { length self.old.words.items + 1 < 2 ^ 32 }
+        requires { IsBeforeWord T.TxType B.Body (Reading part ticket) part self.old (C.view cells.old) }
         ensures { HasReadWord T.TxType B.Body C.Cells (Reading part ticket) part self.old self.new cells.old cells.new result }
     {
         let value = cells.word(part, self.words.len());
@@ -389,10 +380,7 @@ impl<'t, T: TxType, B: Body> Attempt<'t, T, B> {
         part: u32,
         ticket: u64,
     ) -> Result<Turn, NoMemory>
-        requires before { IsUnderWay T.TxType B.Body (Rereading part ticket) self.old (C.view cells.old) }
-        requires read_phase { self.old.read_phase ≡ Rereading part ticket }
-        requires more { length self.old.words.items < part_width T.TxType B.Body self.old part }
-        requires few { length self.old.words.items + 1 < 2 ^ 32 }
+        requires { IsBeforeWord T.TxType B.Body (Rereading part ticket) part self.old (C.view cells.old) }
         ensures { HasReadWord T.TxType B.Body C.Cells (Rereading part ticket) part self.old self.new cells.old cells.new result }
     {
         let value = cells.word(part, self.words.len());

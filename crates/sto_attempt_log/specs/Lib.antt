@@ -8,6 +8,7 @@ pub mod Refreshed
 pub mod Answers
 pub mod Growing
 pub mod Reached
+pub mod Going
 pub mod Remaining
 pub mod Led
 pub mod Standing
@@ -18,6 +19,7 @@ pub mod Looking
 pub mod Committing
 pub mod CommitPhases
 pub mod Gathering
+pub mod LedBy
 pub mod Verdicts
 pub mod Ordered
 pub mod Predicates

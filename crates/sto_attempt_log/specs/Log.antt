@@ -16,6 +16,7 @@ use Rattle.sto_type.specs.Runs.{IsCarried}
 use Rattle.sto_attempt_log.specs.Asked.{AllOf, IsOfNext, IsAsked}
 use Rattle.sto_attempt_log.specs.ReadSet.{words_in}
 use Rattle.sto_attempt_log.specs.declared.read_entry.ReadEntry.{ReadEntry}
+use Rattle.sto_part.specs.Listed.{Listed}
 use Rattle.sto_part.specs.Parts.{part_of}
 use Rattle.sto_item.specs.Recorded.{Recorded}
 use Rattle.sto_item.specs.Agreement.{HasWidths}
@@ -69,3 +70,15 @@ pub record IsNeeded (m : Meaning) (next : Next) (base : Known) (es : List Entry)
   pub unread : base p ≡ None
   pub unput : overwrites (changes_of es p) ≡ false
   pub of_next : IsOfNext m next p
+
+-- the part was not read, and the pending updates do not put it whole
+abbrev pub IsUnknown : Listed ReadEntry → Recorded → ℕ → Type 0
+IsUnknown base set p = (words_in base.items p ≡ None) × (overwrites (changes_of set.updates p) ≡ false)
+
+-- the same of the parts read and the set of an attempt
+module _ (m : Meaning) (base : Listed ReadEntry) (set : Recorded) where
+  abbrev pub ArePending : Type 0
+  ArePending = IsPending m (words_in base.items) set.updates
+
+  abbrev pub Knows : List (ℕ × List ℤ) → Type 0
+  Knows cache = IsCache m (words_in base.items) set.updates (known cache)

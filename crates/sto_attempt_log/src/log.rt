@@ -1,15 +1,8 @@
 //! The log of an attempt between two events: the body is run on what is known, up to the next part that has to be read, or to its end.
-ghost use Rattle.std.specs.Prelude.{◌≡◌, ◌≤◌, ◌<◌, ◌+◌, [], ℤ, List, map, length, OnOk, OnErr, IfOk};
-ghost use Rattle.sto_model.specs.Told.{Told, told};
-ghost use Rattle.sto_type.specs.Known.{known, IsPartOf};
-ghost use Rattle.sto_attempt_log.specs.ReadSet.{words_in};
-ghost use Rattle.sto_attempt_log.specs.Log.{IsOnLog};
+ghost use Rattle.sto_model.specs.Told.{told};
+ghost use Rattle.sto_type.specs.Known.{known};
 ghost use Rattle.sto_attempt_log.specs.Says.{SaysNext};
-ghost use Rattle.sto_attempt_log.specs.Reached.{IsReached, IsByCall};
-ghost use Rattle.sto_item.specs.Recorded.{Recorded};
-ghost use Rattle.sto_model.specs.Run.{IsRun};
-ghost use Rattle.sto_attempt_log.specs.Growing.{HasHeard};
-ghost use Rattle.sto_model.specs.declared.call.Call.{Call};
+ghost use Rattle.sto_attempt_log.specs.Going.{CanBe, IsInOrder, HasRunOn, HasTakenIn, replies_of};
 
 use crate::observed::Observed;
 use crate::read_entry::ReadSet;
@@ -52,25 +45,9 @@ pub struct Log<'t, T: TxType, B: Body> {
 impl<T: TxType, B: Body> Log<'_, T, B> {
     /// Runs the body on what is known.
     pub fn go_on(&mut self, alloc: Global) -> Result<Reached, NoMemory>
-        requires some { (d : List (List ℤ)) × (T.meaning self.old.ty.now).valid d × IsPartOf (words_in self.old.base.items) d }
-        requires log { IsOnLog (T.meaning self.old.ty.now) (B.then self.old.body) (B.script self.old.body) (B.left self.old.body)
-            (B.may_ask self.old.body) self.old.base.items self.old.set self.old.cache self.old.replies.items }
-        ensures log { OnOk result (IsOnLog (T.meaning self.old.ty.now) (B.then self.new.body) (B.script self.old.body)
-            (B.left self.new.body) (B.may_ask self.new.body) self.old.base.items self.new.set self.new.cache self.new.replies.items) }
-        ensures reached { IfOk result (λ r. IsReached (T.meaning self.old.ty.now) (B.script self.old.body) self.old.base.items
-            self.new.set.updates (map told self.new.replies.items) r) }
-        ensures grown { OnOk result (HasHeard (T.meaning self.old.ty.now) (B.script self.old.body) (words_in self.old.base.items)
-            (map told self.old.replies.items) self.old.set (map told self.new.replies.items) self.new.set) }
-        ensures runs { (d : List (List ℤ)) → (T.meaning self.old.ty.now).valid d → IsPartOf (words_in self.old.base.items) d
-            → IsRun (T.meaning self.old.ty.now).machines (B.script self.old.body) ((T.meaning self.old.ty.now).rows d)
-            (map told self.new.replies.items) }
-        ensures left { length self.new.replies.items + B.left self.new.body ≤ length self.old.replies.items + B.left self.old.body }
-        ensures asks { IfOk result (IsByCall (B.left self.new.body)) }
-        ensures script { B.script self.new.body ≡ B.script self.old.body }
-        ensures left_at_reset { B.left_at_reset self.new.body ≡ B.left_at_reset self.old.body }
-        ensures may { (call : Call) → B.may_ask self.new.body call → B.may_ask self.old.body call }
-        ensures ty { self.new.ty ≡ self.old.ty }
-        ensures base { self.new.base ≡ self.old.base }
+        requires some { CanBe T.TxType B.Body self.old }
+        requires log { IsInOrder T.TxType B.Body self.old self.old }
+        ensures { HasRunOn T.TxType B.Body self.old self.new result }
     {
         loop {
             match self.body.next() {
@@ -104,25 +81,11 @@ impl<T: TxType, B: Body> Log<'_, T, B> {
 
     // Takes in what the type says of the next call: the body hears the reply, and the items and updates are noted.
     fn take_in(&mut self, reply: Reply, items: &Items, updates: &Updates) -> Result<(), NoMemory>
-        requires some { (d : List (List ℤ)) × (T.meaning self.old.ty.now).valid d × IsPartOf (words_in self.old.base.items) d }
-        requires log { IsOnLog (T.meaning self.old.ty.now) (B.then self.old.body) (B.script self.old.body) (B.left self.old.body)
-            (B.may_ask self.old.body) self.old.base.items self.old.set self.old.cache self.old.replies.items }
+        requires some { CanBe T.TxType B.Body self.old }
+        requires log { IsInOrder T.TxType B.Body self.old self.old }
         requires says { SaysNext (T.meaning self.old.ty.now) (B.script self.old.body) (known self.old.cache)
-            (map told self.old.replies.items) (told reply) items.now.items updates.now.items }
-        ensures log { OnOk result (IsOnLog (T.meaning self.old.ty.now) (B.then self.new.body) (B.script self.old.body)
-            (B.left self.new.body) (B.may_ask self.new.body) self.old.base.items self.new.set self.new.cache self.new.replies.items) }
-        ensures grown { OnOk result ((rs : List Told) → (old : Recorded)
-            → HasHeard (T.meaning self.old.ty.now) (B.script self.old.body) (words_in self.old.base.items) rs old
-            (map told self.old.replies.items) self.old.set → HasHeard (T.meaning self.old.ty.now) (B.script self.old.body)
-            (words_in self.old.base.items) rs old (map told self.new.replies.items) self.new.set) }
-        ensures fewer { OnOk result (B.left self.new.body < B.left self.old.body) }
-        ensures kept { OnErr result (self.new.replies ≡ self.old.replies) }
-        ensures left { length self.new.replies.items + B.left self.new.body ≤ length self.old.replies.items + B.left self.old.body }
-        ensures script { B.script self.new.body ≡ B.script self.old.body }
-        ensures left_at_reset { B.left_at_reset self.new.body ≡ B.left_at_reset self.old.body }
-        ensures may { (call : Call) → B.may_ask self.new.body call → B.may_ask self.old.body call }
-        ensures ty { self.new.ty ≡ self.old.ty }
-        ensures base { self.new.base ≡ self.old.base }
+            (replies_of self.old) (told reply) items.now.items updates.now.items }
+        ensures { HasTakenIn T.TxType B.Body self.old self.new result }
     {
         add_items(&mut self.set, items)?;
         add_updates(&mut self.set, updates)?;

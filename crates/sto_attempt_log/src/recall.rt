@@ -9,8 +9,8 @@ ghost use Rattle.sto_item.specs.Rebase.{overwrites, rebased, rebased_one};
 ghost use Rattle.sto_type.specs.Known.{known, learnt};
 ghost use Rattle.sto_type.specs.Plans.{planned, IsPlan};
 ghost use Rattle.sto_attempt_log.specs.ReadSet.{words_in};
-ghost use Rattle.sto_attempt_log.specs.Log.{IsPending, IsCache};
-ghost use Rattle.sto_attempt_log.specs.Refreshed.{outside, IsLearnt, IsLearntAnew};
+ghost use Rattle.sto_attempt_log.specs.Log.{ArePending, IsCache, Knows, IsUnknown};
+ghost use Rattle.sto_attempt_log.specs.Refreshed.{outside, Learns, LearnsAnew, LearnsUpdated};
 ghost use Rattle.sto_item.specs.Recorded.{AddsItems};
 
 use crate::observed::Observed;
@@ -82,7 +82,7 @@ pub fn learn_updated<T: TxType>(
 ) -> Result<(), NoMemory>
     requires few { length words.now < 2 ^ 32 }
     requires fits { length (changes_of set.now.updates part) ≤ length words.now }
-    ensures { OnOk result (known cache.new ≡ learnt (known cache.old) part (applied_all (changes_of set.now.updates part) words.now)) }
+    ensures { OnOk result (LearnsUpdated set.now part words.now cache.old cache.new) }
 {
     let changes = set.changes(part);
     if changes.is_empty() {
@@ -106,8 +106,7 @@ fn learn_put<T: TxType>(
     cache: &mut Cache,
 ) -> Result<(), NoMemory>
     requires { length (changes_of set.now.updates part) ≤ width }
-    ensures { OnOk result (known cache.new
-        ≡ learnt (known cache.old) part (applied_all (changes_of set.now.updates part) (replicate width (pos 0)))) }
+    ensures { OnOk result (LearnsUpdated set.now part (replicate width (pos 0)) cache.old cache.new) }
 {
     fill_zeros(width, scratch)?;
     install_all(ty, set.changes(part), scratch);
@@ -124,11 +123,9 @@ fn recall<T: TxType>(
     cache: &mut Cache,
 ) -> Result<bool, NoMemory>
     requires range { part < length (T.meaning ty.now).widths }
-    requires pending { IsPending (T.meaning ty.now) (words_in base.now.items) set.now.updates }
-    ensures known { IfOk result (λ is. is ≡ true → IsLearnt (T.meaning ty.now) (words_in base.now.items) set.now.updates part
-        (known cache.old) (known cache.new)) }
-    ensures other { IfOk result (λ is. is ≡ false → (cache.new ≡ cache.old) × (words_in base.now.items part ≡ None)
-        × (overwrites (changes_of set.now.updates part) ≡ false)) }
+    requires pending { ArePending (T.meaning ty.now) base.now set.now }
+    ensures known { IfOk result (λ is. is ≡ true → Learns (T.meaning ty.now) base.now set.now part cache.old cache.new) }
+    ensures other { IfOk result (λ is. is ≡ false → (cache.new ≡ cache.old) × IsUnknown base.now set.now part) }
 {
     if let Some(read_entry) = base.find(part) {
         learn_updated(ty, set, part, read_entry.words, scratch, cache)?;
@@ -154,12 +151,11 @@ pub(crate) fn ask<T: TxType>(
     pool: &mut AnswerPool,
 ) -> Result<Answer, NoMemory>
     requires takes { (T.meaning ty.now).takes call.now }
-    requires pending { IsPending (T.meaning ty.now) (words_in base.now.items) set.now.updates }
-    requires cache { IsCache (T.meaning ty.now) (words_in base.now.items) set.now.updates (known cache.old) }
+    requires pending { ArePending (T.meaning ty.now) base.now set.now }
+    requires cache { Knows (T.meaning ty.now) base.now set.now cache.old }
     ensures plan { IfOk result (λ a. IsPlan (T.meaning ty.now) call.now (known cache.new) (planned a)) }
-    ensures cache { OnOk result (IsCache (T.meaning ty.now) (words_in base.now.items) set.now.updates (known cache.new)) }
-    ensures need { IfOk result (λ a. (p : ℕ) → a ≡ Answer.Need p → (words_in base.now.items p ≡ None)
-        × (overwrites (changes_of set.now.updates p) ≡ false)) }
+    ensures cache { OnOk result (Knows (T.meaning ty.now) base.now set.now cache.new) }
+    ensures need { IfOk result (λ a. (p : ℕ) → a ≡ Answer.Need p → IsUnknown base.now set.now p) }
 {
     loop {
         match ty.plan(alloc, pool, call, &cache.all())? {
@@ -183,9 +179,8 @@ fn learn_anew<T: TxType>(
     cache: &mut Cache,
 ) -> Result<(), NoMemory>
     requires range { part < length (T.meaning ty.now).widths }
-    requires pending { IsPending (T.meaning ty.now) (words_in base.now.items) set.now.updates }
-    ensures { OnOk result (IsLearntAnew (T.meaning ty.now) (words_in base.now.items) set.now.updates part (known cache.old)
-        (known cache.new)) }
+    requires pending { ArePending (T.meaning ty.now) base.now set.now }
+    ensures { OnOk result (LearnsAnew (T.meaning ty.now) base.now set.now part cache.old cache.new) }
 {
     if recall(ty, base, set, part, scratch, cache)? {
         return Ok(());
@@ -204,9 +199,9 @@ pub(crate) fn refresh<T: TxType>(
     cache: &mut Cache,
 ) -> Result<(), NoMemory>
     requires widths { (d : List (List ℤ)) × (T.meaning ty.now).valid d × HasWidths updates.now.items d }
-    requires pending { IsPending (T.meaning ty.now) (words_in base.now.items) set.now.updates }
+    requires pending { ArePending (T.meaning ty.now) base.now set.now }
     requires off { IsCache (T.meaning ty.now) (words_in base.now.items) set.now.updates (outside updates.now.items (known cache.old)) }
-    ensures { OnOk result (IsCache (T.meaning ty.now) (words_in base.now.items) set.now.updates (known cache.new)) }
+    ensures { OnOk result (Knows (T.meaning ty.now) base.now set.now cache.new) }
 {
     for entry in updates.as_slice() {
         learn_anew(ty, base, set, entry.0, scratch, cache)?;

@@ -4,6 +4,7 @@ pub mod Pace
 pub mod Ran
 pub mod Going
 pub mod Machines
+pub mod Leading
 pub use Rattle.sto_model.specs.Run
 pub use Rattle.sto_attempt_facts.specs.Records
 pub use Rattle.sto_attempt_log.specs.Answers

@@ -152,7 +152,7 @@ module _ {T B : Type 0} (meaning : T → Meaning) (valid : Validity) (sizes : T 
   machine_left Over = 0
 
   -- an attempt went on: its pass made at most as many steps as there are fewer events left, and its body may ask as many calls
-  pub record GoesOn (at_reset : B → ℕ) (old new : Machine T B) (v w : View) : Type 0 where
+  pub record HasSpent (at_reset : B → ℕ) (old new : Machine T B) (v w : View) : Type 0 where
     pub fewer : machine_left new ≤ machine_left old
     pub taken : w.steps + machine_left new ≤ v.steps + machine_left old
     pub calls : calls_of at_reset new ≡ calls_of at_reset old

@@ -1,12 +1,11 @@
 //! An attempt in all its phases, as one machine.
 ghost use Rattle.std.specs.Prelude.{◌≡◌, ◌<◌, ◌≤◌, ℕ, length, IfOk, OnOk};
 ghost use Rattle.sto_model.specs.declared.call.Call.{Call};
-ghost use Rattle.sto_model.specs.Run.{Script};
 ghost use Rattle.sto_core.specs.declared.view.View.{View};
-ghost use Rattle.sto_attempt_log.specs.Answers.{OneEvent};
 ghost use Rattle.sto_attempt_log.specs.Bounds.{bound, words_of};
 ghost use Rattle.sto_transaction.specs.Resting.{IsAtRest};
-ghost use Rattle.sto_transaction.specs.Machines.{Proceeds, IsAtSeal, IsAtEnd, HasTurned, HasAdvanced, HasStepped, HasEnded, machine_left, left_after, calls_of};
+ghost use Rattle.sto_transaction.specs.Machines.{calls_of};
+ghost use Rattle.sto_transaction.specs.Leading.{IsLedTo, MayGoOn, MakesOne, Turns, Advances, Steps, MaySeal, Seals, MayEnd, Ends, left_of, left_past};
 
 use std::alloc::Global;
 use std::mem;
@@ -46,8 +45,8 @@ impl<'t, T: TxType, B: Body + Drop> Machine<'t, T, B> {
     pub fn new(alloc: Global, ty: &'t T, body: B, memory: Memory) -> Machine<'t, T, B>
         requires { (call : Call) → B.may_ask body call → (T.meaning ty.now).takes call }
         ensures proceeds { (passes : ℕ) (v : View) → IsAtRest (T.meaning ty.now) (T.sizes ty.now) v → 0 < v.draws
-            → Proceeds T.meaning T.valid T.sizes B.script B.then B.left B.may_ask passes ty.now (B.script body) result v v }
-        ensures left { machine_left T.meaning T.valid T.sizes B.script B.then B.left B.may_ask result
+            → IsLedTo T.TxType B.Body passes ty.now (B.script body) result v v }
+        ensures left { left_of T.TxType B.Body result
             ≤ bound (B.left_at_reset body) (length (T.meaning ty.now).widths) (words_of (T.meaning ty.now).widths) }
         ensures calls { calls_of B.left_at_reset result ≡ B.left_at_reset body }
     {
@@ -64,17 +63,11 @@ impl<'t, T: TxType, B: Body + Drop> Machine<'t, T, B> {
         cells: &mut C,
         memory: &mut Memory,
     ) -> Result<Option<Ended<B>>, NoMemory>
-        requires { (ty : T) × (f : Script) × (begun : View) × Proceeds T.meaning T.valid T.sizes B.script B.then B.left B.may_ask
-            (C.passes cells.old) ty f self.old begun (C.view cells.old) }
-        ensures event { OneEvent (λ _. Unit {0}) T.valid (C.passes cells.old) (C.view cells.old) (C.view cells.new) }
-        ensures stepped { (ty : T) (f : Script) (begun : View)
-            → Proceeds T.meaning T.valid T.sizes B.script B.then B.left B.may_ask (C.passes cells.old) ty f self.old begun
-            (C.view cells.old) → HasStepped T.meaning T.valid T.sizes B.script B.then B.left B.may_ask (C.passes cells.old) ty f result
-            self.new begun (C.view cells.new) }
-
+        requires { MayGoOn T.TxType B.Body C.Cells self.old cells.old }
+        ensures event { MakesOne T.TxType B.Body C.Cells cells.old cells.new }
+        ensures stepped { Steps T.TxType B.Body C.Cells self.old self.new cells.old cells.new result }
         // There are fewer events left.
-        ensures left { IfOk result (λ end. left_after T.meaning T.valid T.sizes B.script B.then B.left B.may_ask end self.new
-            < machine_left T.meaning T.valid T.sizes B.script B.then B.left B.may_ask self.old) }
+        ensures left { IfOk result (λ end. left_past T.TxType B.Body end self.new < left_of T.TxType B.Body self.old) }
         ensures same { C.same cells.old cells.new }
     {
         match self.advance(alloc, cells)? {
@@ -89,17 +82,12 @@ impl<'t, T: TxType, B: Body + Drop> Machine<'t, T, B> {
         alloc: Global,
         cells: &mut C,
     ) -> Result<Option<Verdict>, NoMemory>
-        requires { (ty : T) × (f : Script) × (begun : View) × Proceeds T.meaning T.valid T.sizes B.script B.then B.left B.may_ask
-            (C.passes cells.old) ty f self.old begun (C.view cells.old) }
-        ensures event { OneEvent (λ _. Unit {0}) T.valid (C.passes cells.old) (C.view cells.old) (C.view cells.new) }
+        requires { MayGoOn T.TxType B.Body C.Cells self.old cells.old }
+        ensures event { MakesOne T.TxType B.Body C.Cells cells.old cells.new }
         ensures calls { OnOk result (calls_of B.left_at_reset self.new ≡ calls_of B.left_at_reset self.old) }
-        ensures advanced { (ty : T) (f : Script) (begun : View)
-            → Proceeds T.meaning T.valid T.sizes B.script B.then B.left B.may_ask (C.passes cells.old) ty f self.old begun
-            (C.view cells.old) → HasAdvanced T.meaning T.valid T.sizes B.script B.then B.left B.may_ask (C.passes cells.old) ty f result
-            self.new begun (C.view cells.new) }
-        ensures some { 0 < machine_left T.meaning T.valid T.sizes B.script B.then B.left B.may_ask self.old }
-        ensures left { OnOk result (machine_left T.meaning T.valid T.sizes B.script B.then B.left B.may_ask self.new
-            < machine_left T.meaning T.valid T.sizes B.script B.then B.left B.may_ask self.old) }
+        ensures advanced { Advances T.TxType B.Body C.Cells self.old self.new cells.old cells.new result }
+        ensures some { 0 < left_of T.TxType B.Body self.old }
+        ensures left { OnOk result (left_of T.TxType B.Body self.new < left_of T.TxType B.Body self.old) }
         ensures same { C.same cells.old cells.new }
     {
         match self.turn(alloc, cells)? {
@@ -114,17 +102,12 @@ impl<'t, T: TxType, B: Body + Drop> Machine<'t, T, B> {
 
     // Makes one event, and tells what is to be done next.
     fn turn<C: Cells<T>>(&mut self, alloc: Global, cells: &mut C) -> Result<Turn, NoMemory>
-        requires { (ty : T) × (f : Script) × (begun : View) × Proceeds T.meaning T.valid T.sizes B.script B.then B.left B.may_ask
-            (C.passes cells.old) ty f self.old begun (C.view cells.old) }
-        ensures event { OneEvent (λ _. Unit {0}) T.valid (C.passes cells.old) (C.view cells.old) (C.view cells.new) }
+        requires { MayGoOn T.TxType B.Body C.Cells self.old cells.old }
+        ensures event { MakesOne T.TxType B.Body C.Cells cells.old cells.new }
         ensures calls { calls_of B.left_at_reset self.new ≡ calls_of B.left_at_reset self.old }
-        ensures turned { (ty : T) (f : Script) (begun : View)
-            → Proceeds T.meaning T.valid T.sizes B.script B.then B.left B.may_ask (C.passes cells.old) ty f self.old begun
-            (C.view cells.old) → HasTurned T.meaning T.valid T.sizes B.script B.then B.left B.may_ask (C.passes cells.old) ty f result
-            self.new begun (C.view cells.new) }
-        ensures some { 0 < machine_left T.meaning T.valid T.sizes B.script B.then B.left B.may_ask self.old }
-        ensures left { OnOk result (machine_left T.meaning T.valid T.sizes B.script B.then B.left B.may_ask self.new
-            < machine_left T.meaning T.valid T.sizes B.script B.then B.left B.may_ask self.old) }
+        ensures turned { Turns T.TxType B.Body C.Cells self.old self.new cells.old cells.new result }
+        ensures some { 0 < left_of T.TxType B.Body self.old }
+        ensures left { OnOk result (left_of T.TxType B.Body self.new < left_of T.TxType B.Body self.old) }
         ensures same { C.same cells.old cells.new }
     {
         match self {
@@ -140,13 +123,9 @@ impl<'t, T: TxType, B: Body + Drop> Machine<'t, T, B> {
     // Goes on from a body that is ready to its commit.
     #[inline(always)]
     fn seal(&mut self, alloc: Global) -> Result<(), NoMemory>
-        requires { (ty : T) × (f : Script) × (begun : View) × (v : View)
-            × IsAtSeal T.meaning T.valid T.sizes B.script B.then B.left B.may_ask ty f self.old begun v }
-        ensures proceeds { OnOk result ((passes : ℕ) (ty : T) (f : Script) (begun v : View)
-            → IsAtSeal T.meaning T.valid T.sizes B.script B.then B.left B.may_ask ty f self.old begun v
-            → Proceeds T.meaning T.valid T.sizes B.script B.then B.left B.may_ask passes ty f self.new begun v) }
-        ensures left { OnOk result (machine_left T.meaning T.valid T.sizes B.script B.then B.left B.may_ask self.new
-            ≤ machine_left T.meaning T.valid T.sizes B.script B.then B.left B.may_ask self.old) }
+        requires { MaySeal T.TxType B.Body self.old }
+        ensures proceeds { OnOk result (Seals T.TxType B.Body self.old self.new) }
+        ensures left { OnOk result (left_of T.TxType B.Body self.new ≤ left_of T.TxType B.Body self.old) }
         ensures calls { OnOk result (calls_of B.left_at_reset self.new ≡ calls_of B.left_at_reset self.old) }
     {
         match mem::replace(self, Machine::Over) {
@@ -167,12 +146,9 @@ impl<'t, T: TxType, B: Body + Drop> Machine<'t, T, B> {
     // Takes what is left of an attempt that has ended, and puts back the memory that it was lent.
     #[inline(always)]
     pub(crate) fn end(&mut self, verdict: Verdict, memory: &mut Memory) -> Ended<B>
-        requires { (passes : ℕ) × (ty : T) × (f : Script) × (begun : View) × (w : View)
-            × IsAtEnd T.meaning T.valid T.sizes B.script B.then B.left B.may_ask passes ty f self.old verdict begun w }
+        requires { MayEnd T.TxType B.Body self.old verdict }
         ensures calls { B.left_at_reset result.body ≡ calls_of B.left_at_reset self.old }
-        ensures ended { (passes : ℕ) (ty : T) (f : Script) (begun w : View)
-            → IsAtEnd T.meaning T.valid T.sizes B.script B.then B.left B.may_ask passes ty f self.old verdict begun w
-            → HasEnded T.meaning T.valid T.sizes B.script B.then B.left B.may_ask passes ty f result begun w }
+        ensures ended { Ends T.TxType B.Body self.old verdict result }
     {
         let (heard, lent) = match mem::replace(self, Machine::Over) {
             Machine::Running(attempt) => attempt.end(),

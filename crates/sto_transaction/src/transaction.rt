@@ -1,14 +1,13 @@
 //! One transaction: attempts of a body until one is not aborted.
-ghost use Rattle.std.specs.Prelude.{◌≡◌, ◌<◌, ◌≤◌, ◌+◌, map, true, IfOk, OnOk, OnErr};
+ghost use Rattle.std.specs.Prelude.{◌≡◌, ◌<◌, ◌≤◌, ◌+◌, map, IfOk, OnOk, OnErr};
 ghost use Rattle.sto_model.specs.declared.call.Call.{Call};
-ghost use Rattle.sto_model.specs.Run.{Script};
-ghost use Rattle.sto_core.specs.declared.view.View.{View};
 ghost use Rattle.sto_attempt_facts.specs.Records.{is_abort};
-ghost use Rattle.sto_transaction.specs.Plain.{plain, verdict};
-ghost use Rattle.sto_transaction.specs.Ran.{HasRun, HasBroken};
+ghost use Rattle.sto_transaction.specs.declared.machine.Machine.TheVariants.{Running};
 ghost use Rattle.sto_transaction.specs.Pace.{most_steps, KeepsPace};
+ghost use Rattle.sto_transaction.specs.Plain.{plain, verdict};
 ghost use Rattle.sto_transaction.specs.Resting.{IsAtRest};
-ghost use Rattle.sto_transaction.specs.Machines.{Proceeds, HasEnded, HasFinished, HasStopped, GoesOn, machine_left, calls_of};
+ghost use Rattle.sto_transaction.specs.Machines.{HasStopped, calls_of};
+ghost use Rattle.sto_transaction.specs.Leading.{IsEndOf, MayGoOn, GoesOn, Stops, Finishes, Runs, Breaks, Spends, StaysWithin};
 
 use crate::machine::{Ended, Machine};
 use crate::record::Record;
@@ -71,13 +70,10 @@ impl<T: TxType, B: Body + Drop> Transaction<'_, T, B> {
         requires rests { IsAtRest (T.meaning self.ty.now) (T.sizes self.ty.now) (C.view cells.old) }
         requires draws { self.tries ≤ (C.view cells.old).draws }
         requires some { 0 < self.tries }
-        ensures ran { IfOk result (λ r. HasRun (T.meaning self.entry.ty.now) (T.sizes self.entry.ty.now) self.entry.tries
-            (C.passes cells.old) (C.view cells.old) (C.view cells.new) (B.script self.entry.body) (self.entry.thread, self.entry.position)
+        ensures ran { IfOk result (λ r. Runs T.TxType B.Body C.Cells self.entry cells.old cells.new
             (map plain records.old.items) (map plain records.new.items) r.ended) }
-        ensures err { OnErr result (HasBroken (T.meaning self.entry.ty.now) (T.sizes self.entry.ty.now) self.entry.tries (C.view cells.old)
-            (C.view cells.new) (B.script self.entry.body) (self.entry.thread, self.entry.position) (map plain records.old.items)
-            (map plain records.new.items)) }
-
+        ensures err { OnErr result (Breaks T.TxType B.Body C.Cells self.entry cells.old cells.new
+            (map plain records.old.items) (map plain records.new.items)) }
         // Each attempt takes at most `bound` steps: a step is one operation on one word.
         ensures steps { KeepsPace (most_steps (T.meaning self.entry.ty.now) (B.left_at_reset self.entry.body))
             (C.view cells.old) (C.view cells.new) }
@@ -126,8 +122,8 @@ fn run_attempt<T: TxType, B: Body + Drop, C: Cells<T>, W: AttemptWatch>(
     requires takes { (call : Call) → B.may_ask body call → (T.meaning ty.now).takes call }
     requires rests { IsAtRest (T.meaning ty.now) (T.sizes ty.now) (C.view cells.old) }
     requires draws { 0 < (C.view cells.old).draws }
-    ensures ended { IfOk result (λ e. HasEnded T.meaning T.valid T.sizes B.script B.then B.left B.may_ask (C.passes cells.old) ty.now
-        (B.script body) e (C.view cells.old) (C.view cells.new)) }
+    ensures ended { IfOk result (λ e. IsEndOf T.TxType B.Body (C.passes cells.old) ty.now (B.script body) e
+        (C.view cells.old) (C.view cells.new)) }
     ensures err { OnErr result (HasStopped (T.meaning ty.now) (T.sizes ty.now) (C.view cells.old) (C.view cells.new)) }
     ensures calls { IfOk result (λ e. B.left_at_reset e.body ≡ B.left_at_reset body) }
     ensures steps { (C.view cells.new).steps ≤ (C.view cells.old).steps + most_steps (T.meaning ty.now) (B.left_at_reset body) }
@@ -147,17 +143,11 @@ fn finish<T: TxType, B: Body + Drop, C: Cells<T>, W: AttemptWatch>(
     watch: &mut W,
     memory: &mut Memory,
 ) -> Result<Ended<B>, NoMemory>
-    requires { (ty : T) × (f : Script) × (begun : View) × Proceeds T.meaning T.valid T.sizes B.script B.then B.left B.may_ask
-        (C.passes cells.old) ty f machine.old begun (C.view cells.old) }
-    ensures ended { (ty : T) (f : Script) (begun : View) → Proceeds T.meaning T.valid T.sizes B.script B.then B.left B.may_ask
-        (C.passes cells.old) ty f machine.old begun (C.view cells.old)
-        → HasFinished T.meaning T.valid T.sizes B.script B.then B.left B.may_ask (C.passes cells.old) ty f result begun (C.view cells.new) }
-
+    requires { MayGoOn T.TxType B.Body C.Cells machine.old cells.old }
+    ensures ended { Finishes T.TxType B.Body C.Cells machine.old cells.old cells.new result }
     ensures calls { IfOk result (λ e. B.left_at_reset e.body ≡ calls_of B.left_at_reset machine.old) }
-
     // Its events are no more than were left.
-    ensures steps { (C.view cells.new).steps ≤ (C.view cells.old).steps
-        + machine_left T.meaning T.valid T.sizes B.script B.then B.left B.may_ask machine.old }
+    ensures steps { StaysWithin T.TxType B.Body C.Cells machine.old cells.old cells.new }
     ensures same { C.same cells.old cells.new }
 {
     let mut events: u64 = 0;
@@ -177,19 +167,11 @@ fn read_part<T: TxType, B: Body + Drop, C: Cells<T>, W: AttemptWatch>(
     watch: &mut W,
     events: u64,
 ) -> Result<u64, NoMemory>
-    requires { (ty : T) × (f : Script) × (begun : View) × Proceeds T.meaning T.valid T.sizes B.script B.then B.left B.may_ask
-        (C.passes cells.old) ty f machine.old begun (C.view cells.old) }
-    ensures proceeds { (ty : T) (f : Script) (begun : View) → Proceeds T.meaning T.valid T.sizes B.script B.then B.left B.may_ask
-        (C.passes cells.old) ty f machine.old begun (C.view cells.old)
-        → OnOk result (Proceeds T.meaning T.valid T.sizes B.script B.then B.left B.may_ask (C.passes cells.old) ty f machine.new begun
-        (C.view cells.new)) }
-    ensures err { (ty : T) (f : Script) (begun : View) → Proceeds T.meaning T.valid T.sizes B.script B.then B.left B.may_ask
-        (C.passes cells.old) ty f machine.old begun (C.view cells.old)
-        → OnErr result (HasStopped (T.meaning ty) (T.sizes ty) begun (C.view cells.new)) }
-    ensures goes { OnOk result (GoesOn T.meaning T.valid T.sizes B.script B.then B.left B.may_ask B.left_at_reset machine.old machine.new
-        (C.view cells.old) (C.view cells.new)) }
-    ensures steps { (C.view cells.new).steps ≤ (C.view cells.old).steps
-        + machine_left T.meaning T.valid T.sizes B.script B.then B.left B.may_ask machine.old }
+    requires { MayGoOn T.TxType B.Body C.Cells machine.old cells.old }
+    ensures proceeds { GoesOn T.TxType B.Body C.Cells machine.old machine.new cells.old cells.new result }
+    ensures err { Stops T.TxType B.Body C.Cells machine.old cells.old cells.new result }
+    ensures spent { OnOk result (Spends T.TxType B.Body C.Cells machine.old machine.new cells.old cells.new) }
+    ensures steps { StaysWithin T.TxType B.Body C.Cells machine.old cells.old cells.new }
     ensures same { C.same cells.old cells.new }
 {
     match machine {
@@ -205,19 +187,11 @@ fn read_words<T: TxType, B: Body + Drop, C: Cells<T>, W: AttemptWatch>(
     watch: &mut W,
     events: u64,
 ) -> Result<u64, NoMemory>
-    requires { (ty : T) × (f : Script) × (begun : View) × Proceeds T.meaning T.valid T.sizes B.script B.then B.left B.may_ask
-        (C.passes cells.old) ty f (Machine.Running attempt.old) begun (C.view cells.old) }
-    ensures proceeds { (ty : T) (f : Script) (begun : View) → Proceeds T.meaning T.valid T.sizes B.script B.then B.left B.may_ask
-        (C.passes cells.old) ty f (Machine.Running attempt.old) begun (C.view cells.old)
-        → OnOk result (Proceeds T.meaning T.valid T.sizes B.script B.then B.left B.may_ask (C.passes cells.old) ty f
-        (Machine.Running attempt.new) begun (C.view cells.new)) }
-    ensures err { (ty : T) (f : Script) (begun : View) → Proceeds T.meaning T.valid T.sizes B.script B.then B.left B.may_ask
-        (C.passes cells.old) ty f (Machine.Running attempt.old) begun (C.view cells.old)
-        → OnErr result (HasStopped (T.meaning ty) (T.sizes ty) begun (C.view cells.new)) }
-    ensures goes { OnOk result (GoesOn T.meaning T.valid T.sizes B.script B.then B.left B.may_ask B.left_at_reset
-        (Machine.Running attempt.old) (Machine.Running attempt.new) (C.view cells.old) (C.view cells.new)) }
-    ensures steps { (C.view cells.new).steps ≤ (C.view cells.old).steps
-        + machine_left T.meaning T.valid T.sizes B.script B.then B.left B.may_ask (Machine.Running attempt.old) }
+    requires { MayGoOn T.TxType B.Body C.Cells (Running attempt.old) cells.old }
+    ensures proceeds { GoesOn T.TxType B.Body C.Cells (Running attempt.old) (Running attempt.new) cells.old cells.new result }
+    ensures err { Stops T.TxType B.Body C.Cells (Running attempt.old) cells.old cells.new result }
+    ensures spent { OnOk result (Spends T.TxType B.Body C.Cells (Running attempt.old) (Running attempt.new) cells.old cells.new) }
+    ensures steps { StaysWithin T.TxType B.Body C.Cells (Running attempt.old) cells.old cells.new }
     ensures same { C.same cells.old cells.new }
 {
     let mut events = events;

@@ -66,9 +66,9 @@ loop-machine-preserved g c =
           let there = subst (λ (n : ℕ). Proceeds g.T.TxType.meaning g.T.Naming.valid g.T.Naming.sizes g.B.Body.script g.B.Body.then g.B.Body.left g.B.Body.may_ask n ty f c.advance.new.self begun (g.C.Cells.view later)) (sym passes)
           (subst (λ (x : Result (Option Verdict) NoMemory). HasAdvanced g.T.TxType.meaning g.T.Naming.valid g.T.Naming.sizes g.B.Body.script g.B.Body.then g.B.Body.left g.B.Body.may_ask (g.C.Cells.passes here) ty f x c.advance.new.self begun (g.C.Cells.view later)) (c.in_ok-advance.was ∙ ap (λ (p : Option Verdict). Ok p) c.in-None.is) it) in
           subst (λ (n : ℕ). Proceeds g.T.TxType.meaning g.T.Naming.valid g.T.Naming.sizes g.B.Body.script g.B.Body.then g.B.Body.left g.B.Body.may_ask n ty f c.read_part.new.machine begun (g.C.Cells.view last)) (sym kept) (c.in_ok-events-in-None.ensures.proceeds ty f begun there);
-      goes =
-          let before = c.loop-machine.invariant.goes in
-          let between = c.in_ok-events-in-None.ensures.goes in
+      spent =
+          let before = c.loop-machine.invariant.spent in
+          let between = c.in_ok-events-in-None.ensures.spent in
           let left = c.in_ok-advance.ensures.left in
           record {
             fewer = omega (arith, left, before.fewer, between.fewer);
@@ -79,7 +79,7 @@ loop-machine-preserved g c =
     }
 
 pub returns-in-Some-clause-calls : goal.returns-in-Some-clause-calls
-returns-in-Some-clause-calls g c = c.end.ensures.calls ∙ c.in_ok-advance.ensures.calls ∙ c.loop-machine.invariant.goes.calls
+returns-in-Some-clause-calls g c = c.end.ensures.calls ∙ c.in_ok-advance.ensures.calls ∙ c.loop-machine.invariant.spent.calls
 
 pub returns-in-Some-clause-steps : goal.returns-in-Some-clause-steps
-returns-in-Some-clause-steps g c = omega (arith, c.advance.ensures.event.tells.counts, c.advance.ensures.some, c.loop-machine.invariant.goes.taken)
+returns-in-Some-clause-steps g c = omega (arith, c.advance.ensures.event.tells.counts, c.advance.ensures.some, c.loop-machine.invariant.spent.taken)

@@ -67,8 +67,8 @@ loop-preserved g c =
       proceeds = λ ty f begun h.
           subst (λ (n : ℕ). Proceeds g.T.TxType.meaning g.T.Naming.valid g.T.Naming.sizes g.B.Body.script g.B.Body.then g.B.Body.left g.B.Body.may_ask n ty f (Running b) begun (g.C.Cells.view later)) (sym passes)
           (read_more g.T.TxType.meaning g.T.Naming.valid g.T.Naming.sizes g.B.Body.script g.B.Body.then g.B.Body.left g.B.Body.may_ask (g.C.Cells.passes here) ty f c.read_word.result (Running b) begun (g.C.Cells.view later) _ c.in_ok-read_word.was c.read_word.ensures.one.0 (turned ty f begun h));
-      goes =
-          let before = c.loop.invariant.goes in
+      spent =
+          let before = c.loop.invariant.spent in
           record {
             fewer = omega (arith, fewer, before.fewer);
             taken = omega (arith, fewer, k.event.tells.counts, before.taken);
@@ -93,4 +93,4 @@ returns-in_err-read_word-clause-steps g c =
     let v = g.C.Cells.view c.loop.cells in
     let h = c.loop.invariant.proceeds r.0 r.1 r.2 r.3 in
     let some = some_left (g.T.TxType.meaning a.log.ty.now) (g.met.T.TxType.lawful a.log.ty.now) g.T.Naming.valid (g.T.Naming.sizes a.log.ty.now) (g.B.Body.script a.log.body) a.at (g.B.Body.left a.log.body) a.words.items a.extension a.log.base.items a.log.set.items a.log.set.updates (map told a.log.replies.items) v a.read_phase h.1.goes in
-    omega (arith, c.read_word.ensures.steps.event.tells.counts, some, c.loop.invariant.goes.taken)
+    omega (arith, c.read_word.ensures.steps.event.tells.counts, some, c.loop.invariant.spent.taken)

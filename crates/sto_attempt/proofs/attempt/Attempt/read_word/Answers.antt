@@ -27,40 +27,32 @@ use Rattle.sto_attempt.specs.Attempts.{unread}
 use Rattle.sto_attempt.proofs.Attempts.{under_way_at}
 use Rattle.sto_attempt.proofs.attempt.Attempt.read_word.Goals as goal
 
-pub reread-requires-clause-before : goal.reread-requires-clause-before
-reread-requires-clause-before g c =
-    let a = c.args.self.now in
-    under_way_at (of_type g.T.Naming g.T.TxType) g.B.Body a (g.C.Cells.view c.args.cells.now) a.read_phase _ c.in-Rereading.is c.requires.before
-
-pub reread-requires-clause-read_phase : goal.reread-requires-clause-read_phase
-reread-requires-clause-read_phase g c =
-    c.in-Rereading.is
-
-pub reread-requires-clause-more : goal.reread-requires-clause-more
-reread-requires-clause-more g c =
+pub reread-requires : goal.reread-requires
+reread-requires g c =
     let a = c.args.self.now in
     let m = g.T.TxType.meaning a.log.ty.now in
     let more = subst (λ (s : ReadPhase). 0 < unread m.widths s a.words.items) c.in-Rereading.is c.requires.more in
-    omega (arith, more)
+    record {
+      before = under_way_at (of_type g.T.Naming g.T.TxType) g.B.Body a (g.C.Cells.view c.args.cells.now) a.read_phase _ c.in-Rereading.is c.requires.before;
+      read_phase = c.in-Rereading.is;
+      more = omega (arith, more);
+      few = c.requires.few;
+    }
 
-pub word-requires-clause-before : goal.word-requires-clause-before
-word-requires-clause-before g c =
-    let a = c.args.self.now in
-    under_way_at (of_type g.T.Naming g.T.TxType) g.B.Body a (g.C.Cells.view c.args.cells.now) a.read_phase _ c.in-Reading.is c.requires.before
-
-pub word-requires-clause-read_phase : goal.word-requires-clause-read_phase
-word-requires-clause-read_phase g c =
-    c.in-Reading.is
-
-pub word-requires-clause-more : goal.word-requires-clause-more
-word-requires-clause-more g c =
+pub word-requires : goal.word-requires
+word-requires g c =
     let a = c.args.self.now in
     let m = g.T.TxType.meaning a.log.ty.now in
     let more = subst (λ (s : ReadPhase). 0 < unread m.widths s a.words.items) c.in-Reading.is c.requires.more in
-    omega (arith, more)
+    record {
+      before = under_way_at (of_type g.T.Naming g.T.TxType) g.B.Body a (g.C.Cells.view c.args.cells.now) a.read_phase _ c.in-Reading.is c.requires.before;
+      read_phase = c.in-Reading.is;
+      more = omega (arith, more);
+      few = c.requires.few;
+    }
 
-pub returns-in-Reading-clause-steps : goal.returns-in-Reading-clause-steps
-returns-in-Reading-clause-steps g c =
+pub returns-in-Reading : goal.returns-in-Reading
+returns-in-Reading g c =
     let a = c.args.self.now in
     let m = g.T.TxType.meaning a.log.ty.now in
     let v = g.C.Cells.view c.args.cells.now in
@@ -75,25 +67,33 @@ returns-in-Reading-clause-steps g c =
     let k = c.word.new.self.log in
     let w = g.C.Cells.view c.word.new.cells in
     let now = map told b.log.replies.items in
+    let sizes = g.T.Naming.sizes a.log.ty.now in
+    let log : IsLog m f (words_in b.log.base.items) b.log.set.items b.log.set.updates now = subst (λ (k : Log g.row.T.Denot g.row.B.Denot). IsLog m f (words_in k.base.items) k.set.items k.set.updates (map told k.replies.items)) (sym c.word.ensures.log) c.requires.before.log.log in
     record {
-      event = subst (λ (x : Event). OneEvent (λ e. e ≡ x) valid passes v (g.C.Cells.view c.word.new.cells)) (sym to) c.word.ensures.event;
-      log = ok_always c.word.result (IsOnLog m (g.B.Body.then b.log.body) f (g.B.Body.left b.log.body) (g.B.Body.may_ask b.log.body) b.log.base.items b.log.set b.log.cache b.log.replies.items) (subst (λ (k : Log g.row.T.Denot g.row.B.Denot). IsOnLog m (g.B.Body.then k.body) f (g.B.Body.left k.body) (g.B.Body.may_ask k.body) k.base.items k.set k.cache k.replies.items) (sym c.word.ensures.log) c.requires.before.log);
-      turned = c.word.ensures.turned;
-      grown = ok_always c.word.result (HasHeard m f (words_in k.base.items) rs a.log.set (map told k.replies.items) k.set)
-          (subst (λ (h : Log g.row.T.Denot g.row.B.Denot). HasHeard m f (words_in h.base.items) rs a.log.set (map told h.replies.items) h.set) (sym c.word.ensures.log) (heard_none m f (words_in a.log.base.items) rs a.log.set));
-      alone = λ one first. if_ok c.word.result (λ turn. (IsFirst (Reading c.in-Reading.part c.in-Reading.ticket) → IsFirst b.read_phase) × IsUnaborted turn) (λ turn. IsFirst b.read_phase × IsUnaborted turn) (λ turn h. (h.0 tt, h.1)) c.word.ensures.alone;
-      reason = if_ok c.word.result (λ turn. (IsFirst (Reading c.in-Reading.part c.in-Reading.ticket) → IsFirst b.read_phase) × IsUnaborted turn) (λ turn. IsCaused (next_event m.widths a.read_phase a.words.items) b.log.set.items w a.extension turn) (λ turn h. unaborted_caused (next_event m.widths a.read_phase a.words.items) b.log.set.items w a.extension turn h.1) c.word.ensures.alone;
-      renewed = ok_always c.word.result (KeepsExtension a.read_phase w a.extension rs b.extension now) (subst (λ (s : ReadPhase). KeepsExtension s w a.extension rs b.extension now) (sym c.in-Reading.is) (keeps_same a.extension b.extension rs now c.word.ensures.extension (ap (λ (k : Log g.row.T.Denot g.row.B.Denot). map told k.replies.items) c.word.ensures.log)));
-      moves = moves_same c.word.result a.read_phase (subst HasBegun (sym c.in-Reading.is) tt) a.at b.read_phase b.at w c.word.ensures.moves;
-      left = subst (λ (s : ReadPhase). OnOk c.word.result (events_left (g.B.Body.left b.log.body) m.widths b.read_phase b.words.items b.extension b.log.base.items < events_left (g.B.Body.left a.log.body) m.widths s a.words.items a.extension a.log.base.items)) (sym c.in-Reading.is) c.word.ensures.left;
-      err = err_map c.word.result (IsLeft w × IsPrefix m f w b.at now) (IsLeft w) (λ h. h.0) c.word.ensures.err;
-      script = ap (λ (k : Log g.row.T.Denot g.row.B.Denot). g.B.Body.script k.body) c.word.ensures.log;
-      left_at_reset = ap (λ (k : Log g.row.T.Denot g.row.B.Denot). g.B.Body.left_at_reset k.body) c.word.ensures.log;
-      ty = ap (λ (k : Log g.row.T.Denot g.row.B.Denot). k.ty) c.word.ensures.log;
+      steps = record {
+        event = subst (λ (x : Event). OneEvent (λ e. e ≡ x) valid passes v (g.C.Cells.view c.word.new.cells)) (sym to) c.word.ensures.event;
+        log = ok_always c.word.result (IsOnLog m (g.B.Body.then b.log.body) f (g.B.Body.left b.log.body) (g.B.Body.may_ask b.log.body) b.log.base.items b.log.set b.log.cache b.log.replies.items) (subst (λ (k : Log g.row.T.Denot g.row.B.Denot). IsOnLog m (g.B.Body.then k.body) f (g.B.Body.left k.body) (g.B.Body.may_ask k.body) k.base.items k.set k.cache k.replies.items) (sym c.word.ensures.log) c.requires.before.log);
+        turned = c.word.ensures.turned;
+        grown = ok_always c.word.result (HasHeard m f (words_in k.base.items) rs a.log.set (map told k.replies.items) k.set)
+            (subst (λ (h : Log g.row.T.Denot g.row.B.Denot). HasHeard m f (words_in h.base.items) rs a.log.set (map told h.replies.items) h.set) (sym c.word.ensures.log) (heard_none m f (words_in a.log.base.items) rs a.log.set));
+        alone = λ one first. if_ok c.word.result (λ turn. (IsFirst (Reading c.in-Reading.part c.in-Reading.ticket) → IsFirst b.read_phase) × IsUnaborted turn) (λ turn. IsFirst b.read_phase × IsUnaborted turn) (λ turn h. (h.0 tt, h.1)) c.word.ensures.alone;
+        reason = if_ok c.word.result (λ turn. (IsFirst (Reading c.in-Reading.part c.in-Reading.ticket) → IsFirst b.read_phase) × IsUnaborted turn) (λ turn. IsCaused (next_event m.widths a.read_phase a.words.items) b.log.set.items w a.extension turn) (λ turn h. unaborted_caused (next_event m.widths a.read_phase a.words.items) b.log.set.items w a.extension turn h.1) c.word.ensures.alone;
+        renewed = ok_always c.word.result (KeepsExtension a.read_phase w a.extension rs b.extension now) (subst (λ (s : ReadPhase). KeepsExtension s w a.extension rs b.extension now) (sym c.in-Reading.is) (keeps_same a.extension b.extension rs now c.word.ensures.extension (ap (λ (k : Log g.row.T.Denot g.row.B.Denot). map told k.replies.items) c.word.ensures.log)));
+        moves = moves_same c.word.result a.read_phase (subst HasBegun (sym c.in-Reading.is) tt) a.at b.read_phase b.at w c.word.ensures.moves;
+        left = subst (λ (s : ReadPhase). OnOk c.word.result (events_left (g.B.Body.left b.log.body) m.widths b.read_phase b.words.items b.extension b.log.base.items < events_left (g.B.Body.left a.log.body) m.widths s a.words.items a.extension a.log.base.items)) (sym c.in-Reading.is) c.word.ensures.left;
+        err = err_map c.word.result (IsLeft w × IsPrefix m f w b.at now) (IsLeft w) (λ h. h.0) c.word.ensures.err;
+        script = ap (λ (k : Log g.row.T.Denot g.row.B.Denot). g.B.Body.script k.body) c.word.ensures.log;
+        left_at_reset = ap (λ (k : Log g.row.T.Denot g.row.B.Denot). g.B.Body.left_at_reset k.body) c.word.ensures.log;
+        ty = ap (λ (k : Log g.row.T.Denot g.row.B.Denot). k.ty) c.word.ensures.log;
+      };
+      prefix = any_prefix m valid sizes f b.at b.words.items b.extension b.log.base.items b.log.set.items b.log.set.updates now w b.read_phase c.word.result (IsLeft w) c.word.ensures.turned (ok_always c.word.result (IsLog m f (words_in b.log.base.items) b.log.set.items b.log.set.updates now) log) c.word.ensures.err;
+      one = c.word.ensures.one;
+      longer = c.word.ensures.longer;
+      same = c.word.ensures.same;
     }
 
-pub returns-in-Rereading-clause-steps : goal.returns-in-Rereading-clause-steps
-returns-in-Rereading-clause-steps g c =
+pub returns-in-Rereading : goal.returns-in-Rereading
+returns-in-Rereading g c =
     let a = c.args.self.now in
     let m = g.T.TxType.meaning a.log.ty.now in
     let v = g.C.Cells.view c.args.cells.now in
@@ -108,45 +108,27 @@ returns-in-Rereading-clause-steps g c =
     let k = c.reread.new.self.log in
     let w = g.C.Cells.view c.reread.new.cells in
     let now = map told b.log.replies.items in
-    record {
-      event = subst (λ (x : Event). OneEvent (λ e. e ≡ x) valid passes v (g.C.Cells.view c.reread.new.cells)) (sym to) c.reread.ensures.event;
-      log = ok_always c.reread.result (IsOnLog m (g.B.Body.then b.log.body) f (g.B.Body.left b.log.body) (g.B.Body.may_ask b.log.body) b.log.base.items b.log.set b.log.cache b.log.replies.items) (subst (λ (k : Log g.row.T.Denot g.row.B.Denot). IsOnLog m (g.B.Body.then k.body) f (g.B.Body.left k.body) (g.B.Body.may_ask k.body) k.base.items k.set k.cache k.replies.items) (sym c.reread.ensures.log) c.requires.before.log);
-      turned = c.reread.ensures.turned;
-      grown = ok_always c.reread.result (HasHeard m f (words_in k.base.items) rs a.log.set (map told k.replies.items) k.set)
-          (subst (λ (h : Log g.row.T.Denot g.row.B.Denot). HasHeard m f (words_in h.base.items) rs a.log.set (map told h.replies.items) h.set) (sym c.reread.ensures.log) (heard_none m f (words_in a.log.base.items) rs a.log.set));
-      alone = λ one first. absurd (subst IsFirst c.in-Rereading.is first);
-      reason = if_ok c.reread.result (λ turn. (IsFirst (Rereading c.in-Rereading.part c.in-Rereading.ticket) → IsFirst b.read_phase) × IsUnaborted turn) (λ turn. IsCaused (next_event m.widths a.read_phase a.words.items) b.log.set.items w a.extension turn) (λ turn h. unaborted_caused (next_event m.widths a.read_phase a.words.items) b.log.set.items w a.extension turn h.1) c.reread.ensures.alone;
-      renewed = ok_always c.reread.result (KeepsExtension a.read_phase w a.extension rs b.extension now) (subst (λ (s : ReadPhase). KeepsExtension s w a.extension rs b.extension now) (sym c.in-Rereading.is) (keeps_same a.extension b.extension rs now c.reread.ensures.extension (ap (λ (k : Log g.row.T.Denot g.row.B.Denot). map told k.replies.items) c.reread.ensures.log)));
-      moves = moves_same c.reread.result a.read_phase (subst HasBegun (sym c.in-Rereading.is) tt) a.at b.read_phase b.at w c.reread.ensures.moves;
-      left = subst (λ (s : ReadPhase). OnOk c.reread.result (events_left (g.B.Body.left b.log.body) m.widths b.read_phase b.words.items b.extension b.log.base.items < events_left (g.B.Body.left a.log.body) m.widths s a.words.items a.extension a.log.base.items)) (sym c.in-Rereading.is) c.reread.ensures.left;
-      err = err_map c.reread.result (IsLeft w × IsPrefix m f w b.at now) (IsLeft w) (λ h. h.0) c.reread.ensures.err;
-      script = ap (λ (k : Log g.row.T.Denot g.row.B.Denot). g.B.Body.script k.body) c.reread.ensures.log;
-      left_at_reset = ap (λ (k : Log g.row.T.Denot g.row.B.Denot). g.B.Body.left_at_reset k.body) c.reread.ensures.log;
-      ty = ap (λ (k : Log g.row.T.Denot g.row.B.Denot). k.ty) c.reread.ensures.log;
-    }
-
-pub returns-in-Reading-clause-prefix : goal.returns-in-Reading-clause-prefix
-returns-in-Reading-clause-prefix g c =
-    let a = c.args.self.now in
-    let m = g.T.TxType.meaning a.log.ty.now in
     let sizes = g.T.Naming.sizes a.log.ty.now in
-    let valid = g.T.Naming.valid in
-    let f = g.B.Body.script a.log.body in
-    let b = c.word.new.self in
-    let w = g.C.Cells.view c.word.new.cells in
-    let now = map told b.log.replies.items in
-    let log : IsLog m f (words_in b.log.base.items) b.log.set.items b.log.set.updates now = subst (λ (k : Log g.row.T.Denot g.row.B.Denot). IsLog m f (words_in k.base.items) k.set.items k.set.updates (map told k.replies.items)) (sym c.word.ensures.log) c.requires.before.log.log in
-    any_prefix m valid sizes f b.at b.words.items b.extension b.log.base.items b.log.set.items b.log.set.updates now w b.read_phase c.word.result (IsLeft w) c.word.ensures.turned (ok_always c.word.result (IsLog m f (words_in b.log.base.items) b.log.set.items b.log.set.updates now) log) c.word.ensures.err
-
-pub returns-in-Rereading-clause-prefix : goal.returns-in-Rereading-clause-prefix
-returns-in-Rereading-clause-prefix g c =
-    let a = c.args.self.now in
-    let m = g.T.TxType.meaning a.log.ty.now in
-    let sizes = g.T.Naming.sizes a.log.ty.now in
-    let valid = g.T.Naming.valid in
-    let f = g.B.Body.script a.log.body in
-    let b = c.reread.new.self in
-    let w = g.C.Cells.view c.reread.new.cells in
-    let now = map told b.log.replies.items in
     let log : IsLog m f (words_in b.log.base.items) b.log.set.items b.log.set.updates now = subst (λ (k : Log g.row.T.Denot g.row.B.Denot). IsLog m f (words_in k.base.items) k.set.items k.set.updates (map told k.replies.items)) (sym c.reread.ensures.log) c.requires.before.log.log in
-    any_prefix m valid sizes f b.at b.words.items b.extension b.log.base.items b.log.set.items b.log.set.updates now w b.read_phase c.reread.result (IsLeft w) c.reread.ensures.turned (ok_always c.reread.result (IsLog m f (words_in b.log.base.items) b.log.set.items b.log.set.updates now) log) c.reread.ensures.err
+    record {
+      steps = record {
+        event = subst (λ (x : Event). OneEvent (λ e. e ≡ x) valid passes v (g.C.Cells.view c.reread.new.cells)) (sym to) c.reread.ensures.event;
+        log = ok_always c.reread.result (IsOnLog m (g.B.Body.then b.log.body) f (g.B.Body.left b.log.body) (g.B.Body.may_ask b.log.body) b.log.base.items b.log.set b.log.cache b.log.replies.items) (subst (λ (k : Log g.row.T.Denot g.row.B.Denot). IsOnLog m (g.B.Body.then k.body) f (g.B.Body.left k.body) (g.B.Body.may_ask k.body) k.base.items k.set k.cache k.replies.items) (sym c.reread.ensures.log) c.requires.before.log);
+        turned = c.reread.ensures.turned;
+        grown = ok_always c.reread.result (HasHeard m f (words_in k.base.items) rs a.log.set (map told k.replies.items) k.set)
+            (subst (λ (h : Log g.row.T.Denot g.row.B.Denot). HasHeard m f (words_in h.base.items) rs a.log.set (map told h.replies.items) h.set) (sym c.reread.ensures.log) (heard_none m f (words_in a.log.base.items) rs a.log.set));
+        alone = λ one first. absurd (subst IsFirst c.in-Rereading.is first);
+        reason = if_ok c.reread.result (λ turn. (IsFirst (Rereading c.in-Rereading.part c.in-Rereading.ticket) → IsFirst b.read_phase) × IsUnaborted turn) (λ turn. IsCaused (next_event m.widths a.read_phase a.words.items) b.log.set.items w a.extension turn) (λ turn h. unaborted_caused (next_event m.widths a.read_phase a.words.items) b.log.set.items w a.extension turn h.1) c.reread.ensures.alone;
+        renewed = ok_always c.reread.result (KeepsExtension a.read_phase w a.extension rs b.extension now) (subst (λ (s : ReadPhase). KeepsExtension s w a.extension rs b.extension now) (sym c.in-Rereading.is) (keeps_same a.extension b.extension rs now c.reread.ensures.extension (ap (λ (k : Log g.row.T.Denot g.row.B.Denot). map told k.replies.items) c.reread.ensures.log)));
+        moves = moves_same c.reread.result a.read_phase (subst HasBegun (sym c.in-Rereading.is) tt) a.at b.read_phase b.at w c.reread.ensures.moves;
+        left = subst (λ (s : ReadPhase). OnOk c.reread.result (events_left (g.B.Body.left b.log.body) m.widths b.read_phase b.words.items b.extension b.log.base.items < events_left (g.B.Body.left a.log.body) m.widths s a.words.items a.extension a.log.base.items)) (sym c.in-Rereading.is) c.reread.ensures.left;
+        err = err_map c.reread.result (IsLeft w × IsPrefix m f w b.at now) (IsLeft w) (λ h. h.0) c.reread.ensures.err;
+        script = ap (λ (k : Log g.row.T.Denot g.row.B.Denot). g.B.Body.script k.body) c.reread.ensures.log;
+        left_at_reset = ap (λ (k : Log g.row.T.Denot g.row.B.Denot). g.B.Body.left_at_reset k.body) c.reread.ensures.log;
+        ty = ap (λ (k : Log g.row.T.Denot g.row.B.Denot). k.ty) c.reread.ensures.log;
+      };
+      prefix = any_prefix m valid sizes f b.at b.words.items b.extension b.log.base.items b.log.set.items b.log.set.updates now w b.read_phase c.reread.result (IsLeft w) c.reread.ensures.turned (ok_always c.reread.result (IsLog m f (words_in b.log.base.items) b.log.set.items b.log.set.updates now) log) c.reread.ensures.err;
+      one = c.reread.ensures.one;
+      longer = c.reread.ensures.longer;
+      same = c.reread.ensures.same;
+    }

@@ -13,7 +13,7 @@ room_for-requires g c =
     let a = c.args.self.now in
     let law = g.met.T.TxType.lawful a.log.ty.now in
     let l = c.in_ok-lists.lists in
-    let is = c.in_ok-lists.ensures in
+    let is = c.in_ok-lists.ensures.lists in
     let same : length l.updates.items ≡ length a.log.set.updates = ap (λ (x : List Update). length x) is.updates in
     let it = gathered_planned (g.T.TxType.meaning a.log.ty.now) law g.T.Naming.valid (g.T.Naming.sizes a.log.ty.now) (g.B.Body.script a.log.body) a.at a.log.base.items a.log.set.items (map told a.log.replies.items) a.log.set.updates c.requires.log c.requires.some l.seen.items l.loaded.items l.tasks.items l.checks.items l.places.items is.gathered is.checks is.places (omega (arith, same, is.few)) in
     it.in_range
@@ -23,7 +23,7 @@ returns-clause-stocked g c =
     let a = c.args.self.now in
     let law = g.met.T.TxType.lawful a.log.ty.now in
     let l = c.in_ok-lists.lists in
-    let is = c.in_ok-lists.ensures in
+    let is = c.in_ok-lists.ensures.lists in
     let same : length l.updates.items ≡ length a.log.set.updates = ap (λ (x : List Update). length x) is.updates in
     let it = gathered_planned (g.T.TxType.meaning a.log.ty.now) law g.T.Naming.valid (g.T.Naming.sizes a.log.ty.now) (g.B.Body.script a.log.body) a.at a.log.base.items a.log.set.items (map told a.log.replies.items) a.log.set.updates c.requires.log c.requires.some l.seen.items l.loaded.items l.tasks.items l.checks.items l.places.items is.gathered is.checks is.places (omega (arith, same, is.few)) in
     let m = g.T.TxType.meaning a.log.ty.now in
@@ -31,7 +31,7 @@ returns-clause-stocked g c =
     record {
       planned = subst (λ (x : List Update). IsPlanned (deal (g.T.TxType.meaning a.log.ty.now) g.T.Naming.valid (g.T.Naming.sizes a.log.ty.now) (g.B.Body.script a.log.body) a.at a.log.base.items a.log.set.items (map told a.log.replies.items) x l.seen.items l.loaded.items l.tasks.items l.checks.items l.places.items)) (sym is.updates) it;
       left = subst (λ (x : List Update). commit_left (deal m g.T.Naming.valid (g.T.Naming.sizes a.log.ty.now) (g.B.Body.script a.log.body) a.at a.log.base.items a.log.set.items (map told a.log.replies.items) x l.seen.items l.loaded.items l.tasks.items l.checks.items l.places.items) (Locking 0) ≤ 2 * round (length m.widths) (words_of m.widths)) (sym is.updates) few;
-      updates = c.in_ok-lists.ensures.updates;
+      updates = c.in_ok-lists.ensures.lists.updates;
       unfound = search rules;
       room = search rules;
       unloaded = search rules;

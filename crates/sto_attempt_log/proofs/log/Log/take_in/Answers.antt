@@ -1,4 +1,4 @@
-use Rattle.std.proofs.Common.{arith, refl, ap, sym, subst, ◌∙◌, ◌≡◌, ◌++◌, ◌∷◌, [], length, map, append_assoc, append-nil, length-append}
+use Rattle.std.proofs.Common.{arith, refl, ap, sym, subst, ◌∙◌, ◌≡◌, ◌++◌, ◌∷◌, [], length, map, append_assoc, append-nil, length-append, rules}
 use Rattle.std.proofs.lemmas.List.{map-append}
 use Rattle.sto_model.specs.Told.{told}
 use Rattle.sto_model.specs.Run.{IsAsk}
@@ -41,8 +41,8 @@ hear-requires g c =
     let rs = map told c.args.self.now.replies.items in
     subst IsAsk (sym (was.then [] ∙ ap f (append-nil rs) ∙ c.requires.says.asks)) tt
 
-pub returns-clause-log : goal.returns-clause-log
-returns-clause-log g c =
+pub returns : goal.returns
+returns g c =
     let m = g.T.TxType.meaning c.args.self.now.ty.now in
     let law = g.met.T.TxType.lawful c.args.self.now.ty.now in
     let f = g.B.Body.script c.args.self.now.body in
@@ -55,27 +55,23 @@ returns-clause-log g c =
     log_next m law f base c.args.self.now.set rs says.call (known c.args.self.now.cache) was.log was.known_above c.requires.some says.taken says.asks (told c.args.reply) c.args.items.now.items c.args.updates.now.items says.plan c.in_ok-add_updates.ensures.ordered
     (rebased c.args.self.now.set.updates c.args.items.now.items) refl c.add_items.new.set c.add_updates.new.set c.in_ok-add_items.ensures c.in_ok-add_updates.ensures.ok in
     record {
-      then = λ xs. c.hear.ensures.then xs ∙ was.then (told c.args.reply ∷ xs) ∙ ap f (sym (append_assoc rs (told c.args.reply ∷ []) xs) ∙ ap (λ l. l ++ xs) (sym more));
-      taken = λ call h. was.taken call (c.hear.ensures.may call h);
-      few = omega (arith, was.few, c.hear.ensures.left, ap length c.in_ok-push.ensures.ok, length-append c.args.self.now.replies.items (c.args.reply ∷ []));
-      log = rw more next;
-      known_above = c.in_ok-refresh.ensures;
+      log = record {
+        then = λ xs. c.hear.ensures.then xs ∙ was.then (told c.args.reply ∷ xs) ∙ ap f (sym (append_assoc rs (told c.args.reply ∷ []) xs) ∙ ap (λ l. l ++ xs) (sym more));
+        taken = λ call h. was.taken call (c.hear.ensures.may call h);
+        few = omega (arith, was.few, c.hear.ensures.left, ap length c.in_ok-push.ensures.ok, length-append c.args.self.now.replies.items (c.args.reply ∷ []));
+        log = rw more next;
+        known_above = c.in_ok-refresh.ensures;
+      };
+      grown = λ first old heard. rw more (heard_more m f base first old rs c.args.self.now.set (told c.args.reply) (answered m law f base c.args.self.now.set rs says.call (known c.args.self.now.cache) was.log was.known_above c.requires.some says.taken says.asks (told c.args.reply) c.args.items.now.items c.args.updates.now.items says.plan) c.add_updates.new.set heard
+          (answer m law f base c.args.self.now.set rs says.call (known c.args.self.now.cache) was.log was.known_above c.requires.some says.taken says.asks (told c.args.reply) c.args.items.now.items c.args.updates.now.items says.plan) was.known_above
+          (answer_adds m law f base c.args.self.now.set rs says.call (known c.args.self.now.cache) was.log was.known_above c.requires.some says.taken says.asks (told c.args.reply) c.args.items.now.items c.args.updates.now.items says.plan (rebased c.args.self.now.set.updates c.args.items.now.items) refl c.add_items.new.set c.add_updates.new.set c.in_ok-add_items.ensures c.in_ok-add_updates.ensures.ok)
+          (answer_updates m law f base c.args.self.now.set rs says.call (known c.args.self.now.cache) was.log was.known_above c.requires.some says.taken says.asks (told c.args.reply) c.args.items.now.items c.args.updates.now.items says.plan (rebased c.args.self.now.set.updates c.args.items.now.items) c.add_items.new.set c.add_updates.new.set c.in_ok-add_items.ensures c.in_ok-add_updates.ensures.ok));
+      fewer = search rules;
+      kept = search rules;
+      left = omega (arith, c.hear.ensures.left, ap length c.in_ok-push.ensures.ok, length-append c.args.self.now.replies.items (c.args.reply ∷ []));
+      script = search rules;
+      left_at_reset = search rules;
+      may = search rules;
+      ty = search rules;
+      base = search rules;
     }
-
-pub returns-clause-grown : goal.returns-clause-grown
-returns-clause-grown g c =
-    let m = g.T.TxType.meaning c.args.self.now.ty.now in
-    let law = g.met.T.TxType.lawful c.args.self.now.ty.now in
-    let f = g.B.Body.script c.args.self.now.body in
-    let base = words_in c.args.self.now.base.items in
-    let was = c.requires.log in
-    let says = c.requires.says in
-    let rs = map told c.args.self.now.replies.items in
-    let more : map told c.push.new.self.items ≡ rs ++ told c.args.reply ∷ [] = ap (map told) c.in_ok-push.ensures.ok ∙ map-append told c.args.self.now.replies.items (c.args.reply ∷ []) in
-    λ first old heard. rw more (heard_more m f base first old rs c.args.self.now.set (told c.args.reply) (answered m law f base c.args.self.now.set rs says.call (known c.args.self.now.cache) was.log was.known_above c.requires.some says.taken says.asks (told c.args.reply) c.args.items.now.items c.args.updates.now.items says.plan) c.add_updates.new.set heard
-    (answer m law f base c.args.self.now.set rs says.call (known c.args.self.now.cache) was.log was.known_above c.requires.some says.taken says.asks (told c.args.reply) c.args.items.now.items c.args.updates.now.items says.plan) was.known_above
-    (answer_adds m law f base c.args.self.now.set rs says.call (known c.args.self.now.cache) was.log was.known_above c.requires.some says.taken says.asks (told c.args.reply) c.args.items.now.items c.args.updates.now.items says.plan (rebased c.args.self.now.set.updates c.args.items.now.items) refl c.add_items.new.set c.add_updates.new.set c.in_ok-add_items.ensures c.in_ok-add_updates.ensures.ok)
-    (answer_updates m law f base c.args.self.now.set rs says.call (known c.args.self.now.cache) was.log was.known_above c.requires.some says.taken says.asks (told c.args.reply) c.args.items.now.items c.args.updates.now.items says.plan (rebased c.args.self.now.set.updates c.args.items.now.items) c.add_items.new.set c.add_updates.new.set c.in_ok-add_items.ensures c.in_ok-add_updates.ensures.ok))
-
-pub returns-clause-left : goal.returns-clause-left
-returns-clause-left g c = omega (arith, c.hear.ensures.left, ap length c.in_ok-push.ensures.ok, length-append c.args.self.now.replies.items (c.args.reply ∷ []))
