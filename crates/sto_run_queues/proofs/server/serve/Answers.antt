@@ -23,7 +23,7 @@ use Rattle.sto_run_queues.specs.Passes.{IsAt, HaveTaken, all_taken}
 use Rattle.sto_run_queues.proofs.Passes.{none_taken}
 use Rattle.sto_run_queues.proofs.Taking.{may_take, takes_next}
 use Rattle.sto_run_queues.proofs.Serving.{run_at, last_at, next_place, place_there, few_jobs, comes_next, serving_none, serving_more, serving_ends, served_one, from_one, IsServing}
-use Rattle.sto_run_threads.specs.Plans.{Rests, draws_of}
+use Rattle.sto_run_threads.specs.Plans.{Rests, draws_of, IsPaced}
 use Rattle.sto_run_threads.specs.Told.{told_in}
 use Rattle.sto_run_threads.specs.Teams.{view_at}
 use Rattle.sto_run_queues.proofs.server.serve.Goals as goal
@@ -103,7 +103,7 @@ loop-thread-init g c =
       within = omega (arith, zero);
       rests = subst (Rests plan) (sym view) ready.free.rests;
       draws = (let d = ap (λ (u : View). u.draws) view in omega (arith, d));
-      worked = none_worked plan w (told_in c.new-records.result) none;
+      worked = none_worked plan w (told_in c.new-records.result) none (subst (IsPaced plan) (sym view) ready.paced);
       adds_up = subst (AddsUp v w []) (sym none) (subst (λ (u : View). AddsUp v u [] []) (sym view) (adds_up_none v []));
       alone = λ one. subst (AbortsNone []) (sym none) (λ place. refl);
       serving = subst (λ (n : ℕ). IsServing plan.tries count number places n (told_in c.new-records.result) true) (sym zero)

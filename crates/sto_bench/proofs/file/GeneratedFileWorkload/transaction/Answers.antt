@@ -1,4 +1,4 @@
-use Rattle.std.proofs.Common.{◌≡◌, ◌+◌, ◌-◌, ◌*◌, ◌∙◌, ap, sym, arith, length, slice_get, List, Some}
+use Rattle.std.proofs.Common.{◌≡◌, ◌≤◌, ◌+◌, ◌-◌, ◌*◌, ◌∙◌, ap, sym, arith, length, slice_get, List, Some}
 use Rattle.sto_gen.specs.declared.draws.Transfer.{Transfer}
 use Rattle.sto_gen.specs.Draws.{transfer_after, state_after}
 use Rattle.sto_gen.specs.Generated.{transaction}
@@ -43,5 +43,6 @@ returns c =
         there = made_there n thread position w ∙ ap (λ (x : Transfer). Some (transaction thread position x)) (sym drawn);
         does = c.new.ensures.script;
         asks = c.new.ensures.may;
+        few = omega arith;
       };
     }
