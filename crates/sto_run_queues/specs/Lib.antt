@@ -2,6 +2,7 @@ pub mod Orders
 pub mod Jobs
 pub mod Passes
 pub mod Served
+pub mod Stationed
 pub use Rattle.sto_core.specs.Gathered
 pub use Rattle.sto_table.specs.Rests
 pub use Rattle.sto_claims.specs.Taken

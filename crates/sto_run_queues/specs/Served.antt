@@ -1,7 +1,9 @@
 -- What workers have done that took jobs from queues.
-use Rattle.std.specs.Prelude.{◌≡◌, ◌⊎◌, ◌≤◌, ℕ, ◌%◌, suc, List, [], ◌∷◌, ◌++◌, length, map, take, Bool, true, false, Some, slice_get}
+use Rattle.std.specs.Prelude.{◌≡◌, ◌⊎◌, ◌≤◌, ◌+◌, ℕ, ◌%◌, suc, List, [], ◌∷◌, ◌++◌, length, map, take, drop, Vec, Bool, true, false, Some, slice_get}
 use Rattle.std.specs.List.{All}
 use Rattle.sto_part.specs.declared.naming.Naming as naming
+use Rattle.std.specs.Vec.{vec_len}
+use Rattle.sto_core.specs.declared.cells.Cells as cells
 use Rattle.sto_core.specs.declared.view.View.{View}
 use Rattle.sto_core.specs.Gathered.{gathered_into}
 use Rattle.sto_claims.specs.Taken.{times}
@@ -11,16 +13,21 @@ use Rattle.sto_queue.specs.declared.pass.JobQueue.{JobQueue}
 use Rattle.sto_queue.specs.Queues.{working}
 use Rattle.sto_queue.specs.Passes.{known}
 use Rattle.sto_table.specs.declared.shared.Shared.{Shared}
+use Rattle.sto_transaction.specs.declared.record.Record as code
 use Rattle.sto_table.specs.Rests.{IsOf}
 use Rattle.sto_run_threads.specs.Records.{Record}
 use Rattle.sto_run_threads.specs.Counted.{aborted_times, finished_places}
 use Rattle.sto_run_threads.specs.Running.{ended_of, HasNone}
 use Rattle.sto_run_threads.specs.Worked.{HasWorked, AddsTo, AbortsNone}
-use Rattle.sto_run_threads.specs.Accounts.{HasGathered}
+use Rattle.sto_run_threads.specs.declared.all.Worked.{Worked}
+use Rattle.sto_run_threads.specs.declared.one.Work as work
+use Rattle.sto_run_threads.specs.Accounts.{HasGathered, Leads}
 use Rattle.sto_run_threads.specs.Plans.{Plan, draws_of}
 use Rattle.sto_run_threads.specs.Told.{told_in}
 use Rattle.sto_run_threads.specs.Teams.{IsReady, HasMade, view_at}
-use Rattle.sto_run_queues.specs.Jobs.{places_of, AreJobs}
+use Rattle.sto_run_queues.specs.Jobs.{places_of, all_jobs, AreJobs}
+use Rattle.sto_run_queues.specs.Orders.{places_in}
+use Rattle.sto_run_queues.specs.declared.order.TransactionPlace.{TransactionPlace}
 use Rattle.sto_run_queues.specs.Passes.{IsAt, HaveTaken}
 use Rattle.sto_run_queues.specs.declared.server.Server.{Server}
 use Rattle.sto_run_queues.specs.declared.server.ServingTeam.{ServingTeam}
@@ -67,6 +74,22 @@ module _ {T : Type 0} {n : naming.Ghosts T} where
   abbrev pub ArePosted : Shared T → List JobQueue → Plan → List (Server T n) → Type 0
   ArePosted s queues plan servers = All (IsPosted s queues (length queues) plan) servers
 
+  -- they are the first so many of these workers, and all others
+  pub record AreHalves {A : Type 0} (half : ℕ) (servers first others : Vec (Server T n) A) : Type 0 where
+    pub items : first.items ≡ take half servers.items
+    pub len : vec_len first ≡ half
+    pub tail : others.items ≡ drop half servers.items
+    pub tail_len : vec_len others + half ≡ vec_len servers
+    pub apart : AreApart first.items
+    pub tail_apart : AreApart others.items
+
+  -- the work may be run, and there are workers for it, each with its queue
+  pub record CanServe {W A : Type 0} (works : work.Ghosts W T) (w : W) (s : Shared T) (queues : List JobQueue) (servers : Vec (Server T n) A) : Type 0 where
+    pub ready : works.ready w
+    pub some : 1 ≤ vec_len servers
+    pub posted : ArePosted s queues (works.plan w) servers.items
+    pub apart : AreApart servers.items
+
   -- what workers of the queues with these numbers have done, who took these jobs
   pub record IsServed (s : Shared T) (queues : List JobQueue) (plan : Plan) (numbers : List ℕ) (jobs : List (List Job)) (team : ServingTeam T n) : Type 0 where
     pub made : HasMade s plan team.rest (told_in team.records)
@@ -88,6 +111,14 @@ module _ {T : Type 0} {n : naming.Ghosts T} where
     pub served : IsServed s queues plan (numbers_of servers) (jobs_in servers) team
     pub gathered : HasGathered (draws_of plan) (views_of servers) (view_at team.rest) (told_in team.records)
 
+  -- workers have served so many queues, to which the transactions of an order go
+  abbrev pub HaveServedInTurn : Plan → ℕ → List TransactionPlace → Worked T n → Type 0
+  HaveServedInTurn plan queues order all = HaveServed plan.tries (all_jobs queues (places_in order)) (told_in all.records)
+
+-- a transaction is the next one of its thread, and none of its attempts was aborted
+abbrev pub ComesNext : Place → List Record → Type 0
+ComesNext place rs = (suc (ended_of place.0 rs) ≡ place.1) × (aborted_times place rs ≡ 0)
+
 -- a transaction was run, or is handed back since an earlier one was
 pub record IsJobRun (plan : Plan) (passes : ℕ) (w : View) (place : Place) (rs later : List Record) (runs on : Bool) : Type 0 where
   pub worked : HasWorked plan w later
@@ -96,3 +127,11 @@ pub record IsJobRun (plan : Plan) (passes : ℕ) (w : View) (place : Place) (rs 
   pub used : on ≡ false → runs ≡ true → (finished_places later ≡ finished_places rs) × (aborted_times place later ≡ plan.tries)
   pub still : runs ≡ false → (on ≡ false) × (later ≡ rs)
   pub alone : passes ≡ 1 → AbortsNone rs later
+
+-- the same of a pass, by what its trait says
+module _ {C T A : Type 0} (c : cells.Ghosts C T) (plan : Plan) (here there : C) where
+  abbrev pub LeadsOn : Vec code.Record A → Vec code.Record A → Type 0
+  LeadsOn before later = Leads plan plan.tries (c.view here) (c.view there) (told_in before) (told_in later)
+
+  abbrev pub RunsJob : Place → Vec code.Record A → Vec code.Record A → Bool → Bool → Type 0
+  RunsJob place before later runs on = IsJobRun plan (c.passes here) (c.view there) place (told_in before) (told_in later) runs on

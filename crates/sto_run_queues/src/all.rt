@@ -1,16 +1,12 @@
 //! The feeder and all workers of a table.
-ghost use Rattle.std.specs.Prelude.{◌≤◌, ℕ, List, length, map, IfOk};
+ghost use Rattle.std.specs.Prelude.{◌≤◌, length, map, IfOk};
 ghost use Rattle.std.specs.List.{All};
 ghost use Rattle.std.specs.Thread.{IsSync};
-ghost use Rattle.std.specs.Vec.{vec_len};
 ghost use Rattle.sto_run_threads.specs.Orders.{IsOrder};
-ghost use Rattle.sto_queue.specs.declared.job.Job.{Job};
-ghost use Rattle.sto_run_threads.specs.Told.{told_in};
 ghost use Rattle.sto_run_threads.specs.Teams.{IsReady, HaveWorked, view_at};
 ghost use Rattle.sto_run_queues.specs.Orders.{places_in};
-ghost use Rattle.sto_run_queues.specs.Jobs.{all_jobs};
-ghost use Rattle.sto_run_queues.specs.Passes.{AreAt, AreUnsent, AreSent, all_sent, all_taken};
-ghost use Rattle.sto_run_queues.specs.Served.{ArePosted, AreApart, IsTeamOf, HaveServed};
+ghost use Rattle.sto_run_queues.specs.Passes.{MayFeed, HaveFed, MayClose};
+ghost use Rattle.sto_run_queues.specs.Served.{CanServe, IsTeamOf, HaveServedInTurn};
 
 use crate::feeder::feed;
 use crate::halves::serve_halves;
@@ -27,8 +23,7 @@ use sto_table::{Rests, Shared};
 
 // Closes queues whose jobs were all sent and all taken.
 fn close_all(queues: Vec<JobQueue>, feeders: Vec<JobPass>, workers: Vec<JobPass>)
-    requires { (jobs : ℕ → List Job) × AreAt queues.items feeders.items (λ n. all_sent (jobs n))
-        × AreAt queues.items workers.items (λ n. all_taken (jobs n)) }
+    requires { MayClose queues.items feeders.items workers.items }
 {
     let mut queues = queues;
     let mut feeders = feeders;
@@ -52,13 +47,10 @@ fn feed_and_serve<R: Threads + Wait + Sync, T: Naming + Send + Sync, W: Work<T> 
     servers: Vec<Server<T>>,
     order: &[TransactionPlace],
 ) -> Result<(Vec<JobPass>, ServingTeam<T>), NoMemory>
-    requires ready { W.ready work.now }
     requires queues { 1 ≤ length queues.now }
-    requires none { AreUnsent (length queues.now) queues.now feeders.items (places_in order.now) }
-    requires some { 1 ≤ vec_len servers }
-    requires posted { ArePosted shared.now queues.now (W.plan work.now) servers.items }
-    requires apart { AreApart servers.items }
-    ensures fed { IfOk result (λ r. AreSent (length queues.now) queues.now r.0.items (places_in order.now)) }
+    requires none { MayFeed queues.now order.now feeders }
+    requires able { CanServe W.Work work.now shared.now queues.now servers }
+    ensures fed { IfOk result (λ r. HaveFed queues.now order.now r.0) }
     ensures team { IfOk result (λ r. IsTeamOf shared.now queues.now (W.plan work.now) servers.items r.1) }
 {
     // Where no thread can be made, `join` runs the second one first: all queues have room for all jobs, so the feeder waits for nobody.
@@ -66,17 +58,14 @@ fn feed_and_serve<R: Threads + Wait + Sync, T: Naming + Send + Sync, W: Work<T> 
         rt,
         move || -> Result<ServingTeam<T>, NoMemory>
             requires sync { IsSync R.row }
-            requires ready { W.ready work.now }
-            requires some { 1 ≤ vec_len servers }
-            requires posted { ArePosted shared.now queues.now (W.plan work.now) servers.items }
-            requires apart { AreApart servers.items }
+            requires able { CanServe W.Work work.now shared.now queues.now servers }
             ensures team { IfOk result (IsTeamOf shared.entry.now queues.entry.now (W.plan work.entry.now) servers.items) }
         { serve_halves(rt, work, alloc, shared, queues, servers) },
         move || -> Vec<JobPass>
             requires sync { IsSync R.row }
             requires queues { 1 ≤ length queues.now }
-            requires none { AreUnsent (length queues.now) queues.now feeders.items (places_in order.now) }
-            ensures { AreSent (length queues.entry.now) queues.entry.now result.items (places_in order.entry.now) }
+            requires none { MayFeed queues.now order.now feeders }
+            ensures { HaveFed queues.entry.now order.entry.now result }
         { feed(rt, queues, feeders, order) },
     );
     let team = team?;
@@ -99,8 +88,7 @@ pub fn serve_all<R: Threads + Wait + Sync, T: Naming + Send + Sync, W: Work<T> +
     requires rests { All (IsReady shared.now (W.plan work.now)) rests.items }
     requires order { IsOrder (W.plan work.now).file (places_in order.now) }
     ensures worked { IfOk result (HaveWorked shared.now (W.plan work.now) (map view_at rests.items)) }
-    ensures served { IfOk result (λ all. HaveServed (W.plan work.now).tries (all_jobs (length rests.items) (places_in order.now))
-        (told_in all.records)) }
+    ensures served { IfOk result (HaveServedInTurn (W.plan work.now) (length rests.items) order.now) }
 {
     let Stations {
         queues,

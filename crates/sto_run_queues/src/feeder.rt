@@ -1,9 +1,6 @@
 //! The feeder.
 ghost use Rattle.std.specs.Prelude.{◌≤◌, length};
-ghost use Rattle.sto_queue.specs.Queues.{feeding};
-ghost use Rattle.sto_run_queues.specs.Orders.{places_in};
-ghost use Rattle.sto_run_queues.specs.Jobs.{going_to, jobs_for};
-ghost use Rattle.sto_run_queues.specs.Passes.{AreAt, AreUnsent, AreSent};
+ghost use Rattle.sto_run_queues.specs.Passes.{MayFeed, HaveFed, HaveFedRuns};
 
 use crate::jobs::queue_of;
 use crate::order::TransactionPlace;
@@ -18,9 +15,8 @@ fn send_runs<R: Wait>(
     order: &[TransactionPlace],
 )
     requires some { 1 ≤ length queues.now }
-    requires none { AreUnsent (length queues.now) queues.now feeders.old.items (places_in order.now) }
-    ensures { AreAt queues.now feeders.new.items (λ n. feeding (jobs_for (length queues.now) n (places_in order.now))
-        (length (going_to (length queues.now) n (places_in order.now)))) }
+    requires none { MayFeed queues.now order.now feeders.old }
+    ensures { HaveFedRuns queues.now order.now feeders.new }
 {
     for place in order {
         let TransactionPlace { thread, position } = *place;
@@ -38,8 +34,8 @@ pub fn feed<R: Wait>(
     order: &[TransactionPlace],
 ) -> Vec<JobPass>
     requires some { 1 ≤ length queues.now }
-    requires none { AreUnsent (length queues.now) queues.now feeders.items (places_in order.now) }
-    ensures { AreSent (length queues.now) queues.now result.items (places_in order.now) }
+    requires none { MayFeed queues.now order.now feeders }
+    ensures { HaveFed queues.now order.now result }
 {
     let mut feeders = feeders;
     send_runs(rt, queues, &mut feeders, order);

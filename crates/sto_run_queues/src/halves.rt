@@ -1,9 +1,9 @@
 //! Workers on threads.
-ghost use Rattle.std.specs.Prelude.{◌≡◌, ◌≤◌, ◌+◌, take, drop, IfOk, OnOk};
+ghost use Rattle.std.specs.Prelude.{◌≤◌, IfOk};
 ghost use Rattle.std.specs.Thread.{IsSync};
 ghost use Rattle.std.specs.Vec.{vec_len};
 ghost use Rattle.sto_table.specs.Rests.{IsOf};
-ghost use Rattle.sto_run_queues.specs.Served.{ArePosted, AreApart, IsOfBoth, IsTeamOf};
+ghost use Rattle.sto_run_queues.specs.Served.{AreApart, AreHalves, CanServe, IsOfBoth, IsTeamOf};
 
 use crate::server::{Server, ServingTeam, serve};
 use std::alloc::Global;
@@ -53,12 +53,7 @@ fn gather<T: Naming>(
 fn split<T: Naming>(servers: &mut Vec<Server<T>>, half: usize) -> Result<Vec<Server<T>>, NoMemory>
     requires half { half ≤ vec_len servers.old }
     requires apart { AreApart servers.old.items }
-    ensures items { OnOk result (servers.new.items ≡ take half servers.old.items) }
-    ensures len { OnOk result (vec_len servers.new ≡ half) }
-    ensures tail { IfOk result (λ others. others.items ≡ drop half servers.old.items) }
-    ensures tail_len { IfOk result (λ others. vec_len others + half ≡ vec_len servers.old) }
-    ensures apart { OnOk result (AreApart servers.new.items) }
-    ensures tail_apart { IfOk result (λ others. AreApart others.items) }
+    ensures { IfOk result (AreHalves half servers.old servers.new) }
 {
     let others = match servers.split_off(half) {
         Ok(others) => others,
@@ -76,10 +71,7 @@ pub fn serve_halves<R: Threads + Wait + Sync, T: Naming + Send + Sync, W: Work<T
     queues: &[JobQueue],
     servers: Vec<Server<T>>,
 ) -> Result<ServingTeam<T>, NoMemory>
-    requires ready { W.ready work.now }
-    requires some { 1 ≤ vec_len servers }
-    requires posted { ArePosted shared.now queues.now (W.plan work.now) servers.items }
-    requires apart { AreApart servers.items }
+    requires able { CanServe W.Work work.now shared.now queues.now servers }
     ensures team { IfOk result (IsTeamOf shared.now queues.now (W.plan work.now) servers.items) }
 {
     let mut servers = servers;
@@ -95,18 +87,12 @@ pub fn serve_halves<R: Threads + Wait + Sync, T: Naming + Send + Sync, W: Work<T
         rt,
         move || -> Result<ServingTeam<T>, NoMemory>
             requires sync { IsSync R.row }
-            requires ready { W.ready work.now }
-            requires some { 1 ≤ vec_len servers }
-            requires posted { ArePosted shared.now queues.now (W.plan work.now) servers.items }
-            requires apart { AreApart servers.items }
+            requires able { CanServe W.Work work.now shared.now queues.now servers }
             ensures team { IfOk result (IsTeamOf shared.entry.now queues.entry.now (W.plan work.entry.now) servers.items) }
         { serve_halves(rt, work, alloc, shared, queues, servers) },
         move || -> Result<ServingTeam<T>, NoMemory>
             requires sync { IsSync R.row }
-            requires ready { W.ready work.now }
-            requires some { 1 ≤ vec_len others }
-            requires posted { ArePosted shared.now queues.now (W.plan work.now) others.items }
-            requires apart { AreApart others.items }
+            requires able { CanServe W.Work work.now shared.now queues.now others }
             ensures team { IfOk result (IsTeamOf shared.entry.now queues.entry.now (W.plan work.entry.now) others.items) }
         { serve_halves(rt, work, alloc, shared, queues, others) },
     );

@@ -1,8 +1,7 @@
 //! The order in which a feeder sends the transactions of a file.
-ghost use Rattle.std.specs.Prelude.{◌≡◌, ◌≤◌, ◌<◌, ◌++◌, ℕ, [], ◌∷◌, if◌then◌else◌, nat_le, IfOk, OnOk};
+ghost use Rattle.std.specs.Prelude.{◌≤◌, ◌<◌, ℕ, IfOk, OnOk};
 ghost use Rattle.std.specs.List.{All, AllPairs};
-ghost use Rattle.sto_run_threads.specs.Orders.{positions_of};
-ghost use Rattle.sto_run_queues.specs.Orders.{places_in, Precedes, AreInTurn};
+ghost use Rattle.sto_run_queues.specs.Orders.{places_in, Precedes, AreInTurn, HasRound};
 ghost use Rattle.sto_run_threads.specs.Plans.{transaction_count};
 
 use std::alloc::Global;
@@ -36,11 +35,7 @@ fn add_round<T: Naming, W: Work<T>>(
     requires some { 1 ≤ position }
     requires earlier { All (λ p. p.position < position) order.old.items }
     requires rising { AllPairs Precedes (places_in order.old.items) }
-    ensures later { OnOk result (All (λ p. p.position ≤ position) order.new.items) }
-    ensures rising { OnOk result (AllPairs Precedes (places_in order.new.items)) }
-    ensures each { OnOk result ((thread : ℕ) → positions_of thread (places_in order.new.items)
-        ≡ positions_of thread (places_in order.old.items)
-        ++ (if nat_le position (transaction_count (W.plan work.now) thread) then position ∷ [] else [])) }
+    ensures { OnOk result (HasRound (transaction_count (W.plan work.now)) position order.old.items order.new.items) }
 {
     for thread in 0..work.threads() {
         if position <= work.count(thread) {

@@ -1,15 +1,11 @@
 //! A worker: one pass, and one queue to take from.
-ghost use Rattle.std.specs.Prelude.{◌≡◌, ◌+◌, [], ◌∷◌, length, true, suc, Some, slice_get, IfOk, OnOk};
-ghost use Rattle.sto_queue.specs.Passes.{IsPass, known};
-ghost use Rattle.sto_queue.specs.Queues.{working};
-ghost use Rattle.sto_run_threads.specs.Counted.{aborted_times};
+ghost use Rattle.std.specs.Prelude.{◌≡◌, [], ◌∷◌, length, true, IfOk, OnOk};
 ghost use Rattle.sto_run_threads.specs.Plans.{MayDraw};
 ghost use Rattle.sto_run_threads.specs.Told.{told_in};
-ghost use Rattle.sto_run_threads.specs.Accounts.{Leads};
 ghost use Rattle.sto_run_threads.specs.Ran.{IsTransaction};
-ghost use Rattle.sto_run_threads.specs.Running.{ended_of};
 ghost use Rattle.sto_run_threads.specs.Worked.{HasWorked};
-ghost use Rattle.sto_run_queues.specs.Served.{IsPosted, IsTeamOf, IsJobRun};
+ghost use Rattle.sto_run_queues.specs.Passes.{IsWorking, IsNext, TakesOne};
+ghost use Rattle.sto_run_queues.specs.Served.{IsPosted, IsTeamOf, ComesNext, LeadsOn, RunsJob};
 
 use crossbeam_utils::Backoff;
 use std::alloc::Global;
@@ -39,9 +35,9 @@ pub struct ServingTeam<T: Naming> {
 
 // Takes the next job, and tries again where the queue is empty. After some tries it sleeps until a job is sent.
 fn next_job<R: Wait>(rt: &R, queue: &JobQueue, worker: &mut JobPass) -> Job
-    requires of { IsPass queue.now worker.old (working (known worker.old).jobs (known worker.old).taken) }
-    ensures next { slice_get (known worker.old).jobs (known worker.old).taken ≡ Some result }
-    ensures taken { IsPass queue.now worker.new (working (known worker.old).jobs ((known worker.old).taken + 1)) }
+    requires of { IsWorking queue.now worker.old }
+    ensures next { IsNext worker.old result }
+    ensures taken { TakesOne queue.now worker.old worker.new }
 {
     let backoff = Backoff::new();
     for _ in rt.forever() {
@@ -70,15 +66,12 @@ fn serve_one<T: Naming, W: Work<T>, C: Cells<T>>(
 ) -> Result<bool, NoMemory>
     requires ready { W.ready work.now }
     requires there { IsTransaction (W.plan work.now).file (thread, position) }
-    requires next { runs ≡ true → (suc (ended_of thread (told_in records.old)) ≡ position)
-        × (aborted_times (thread, position) (told_in records.old) ≡ 0) }
+    requires next { runs ≡ true → ComesNext (thread, position) (told_in records.old) }
     requires free { MayDraw (W.plan work.now) (W.plan work.now).tries (C.view cells.old) }
     requires worked { HasWorked (W.plan work.now) (C.view cells.old) (told_in records.old) }
     ensures same { C.same cells.old cells.new }
-    ensures leads { OnOk result (Leads (W.plan work.now) (W.plan work.now).tries (C.view cells.old) (C.view cells.new)
-        (told_in records.old) (told_in records.new)) }
-    ensures ran { IfOk result (IsJobRun (W.plan work.now) (C.passes cells.old) (C.view cells.new)
-        (thread, position) (told_in records.old) (told_in records.new) runs) }
+    ensures leads { OnOk result (LeadsOn C.Cells (W.plan work.now) cells.old cells.new records.old records.new) }
+    ensures ran { IfOk result (RunsJob C.Cells (W.plan work.now) cells.old cells.new (thread, position) records.old records.new runs) }
 {
     if runs {
         work.run_one(alloc, cells, thread, position, memory, records)

@@ -1,13 +1,10 @@
 //! Queues with the workers that take from them.
-ghost use Rattle.std.specs.Prelude.{◌≡◌, ◌++◌, [], ◌∷◌, length, map, IfOk, OnOk};
+ghost use Rattle.std.specs.Prelude.{◌≡◌, ◌++◌, [], ◌∷◌, IfOk, OnOk};
 ghost use Rattle.std.specs.List.{All};
-ghost use Rattle.sto_run_threads.specs.Orders.{IsOrder, numbers_from};
-ghost use Rattle.sto_run_threads.specs.Accounts.{Gathers};
-ghost use Rattle.sto_run_threads.specs.Teams.{IsReady, view_at};
+ghost use Rattle.sto_run_threads.specs.Orders.{IsOrder};
+ghost use Rattle.sto_run_threads.specs.Teams.{IsReady};
 ghost use Rattle.sto_run_queues.specs.Orders.{places_in};
-ghost use Rattle.sto_run_queues.specs.Jobs.{all_jobs};
-ghost use Rattle.sto_run_queues.specs.Passes.{AreUnsent};
-ghost use Rattle.sto_run_queues.specs.Served.{ArePosted, numbers_of, jobs_in, views_of};
+ghost use Rattle.sto_run_queues.specs.Stationed.{AreOpened};
 
 use crate::jobs::jobs_of;
 use crate::order::TransactionPlace;
@@ -36,12 +33,7 @@ pub fn open_stations<T: Naming, W: Work<T>>(
 ) -> Result<Stations<T>, NoMemory>
     requires order { IsOrder (W.plan work.now).file (places_in order.now) }
     requires ready { All (IsReady shared.now (W.plan work.now)) rests.items }
-    ensures queues { IfOk result (λ s. length s.queues.items ≡ length rests.items) }
-    ensures feeders { IfOk result (λ s. AreUnsent (length rests.items) s.queues.items s.feeders.items (places_in order.now)) }
-    ensures posted { IfOk result (λ s. ArePosted shared.now s.queues.items (W.plan work.now) s.servers.items) }
-    ensures numbers { IfOk result (λ s. numbers_of s.servers.items ≡ numbers_from 0 (length rests.items)) }
-    ensures jobs { IfOk result (λ s. jobs_in s.servers.items ≡ all_jobs (length rests.items) (places_in order.now)) }
-    ensures gathered { IfOk result (λ s. Gathers (views_of s.servers.items) (map view_at rests.items)) }
+    ensures { IfOk result (AreOpened shared.now (W.plan work.now) order.now rests.items) }
 {
     let mut rests = rests;
     let count = rests.len() as usize;

@@ -12,7 +12,7 @@ use Rattle.sto_run_queues.proofs.Gathered.{numbers_once}
 use Rattle.sto_run_queues.proofs.Passes.{taken_all}
 use Rattle.sto_run_threads.specs.Plans.{draws_of}
 use Rattle.sto_run_threads.specs.Told.{told_in}
-use Rattle.sto_run_queues.specs.Served.{jobs_in, HaveServed}
+use Rattle.sto_run_queues.specs.Served.{jobs_in, ArePosted, CanServe, HaveServed}
 use Rattle.sto_run_queues.specs.Orders.{places_in}
 use Rattle.sto_run_queues.proofs.all.serve_all.Goals as goal
 
@@ -24,19 +24,19 @@ feed_and_serve-requires-clause-none g c =
     let all = subst (λ (l : List JobQueue). AreUnsent (length l) l s.feeders.items order) (sym lent) at in
     λ κs within. all
 
-pub feed_and_serve-requires-clause-some : goal.feed_and_serve-requires-clause-some
-feed_and_serve-requires-clause-some g c =
-    let s = c.in_ok-queues.field-0 in
+pub feed_and_serve-requires-clause-able : goal.feed_and_serve-requires-clause-able
+feed_and_serve-requires-clause-able g c =
+    let s = c.in_ok-queues.field-0 in let count : ℕ = length c.args.rests.items in
     let N : Server g.row.T.Denot g.T.Naming → ℕ = λ w. w.number in
     let n = ap length c.in_ok-queues.ensures.numbers in let m = length-map s.servers.items N in
-    let k = length_numbers 0 (length c.args.rests.items) in let some = c.requires.some in
-    let len = s.servers.ok.0 in let all : 1 ≤ s.servers.len = omega (arith, n, m, k, len, some) in
-    λ κs within. all
-
-pub feed_and_serve-requires-clause-apart : goal.feed_and_serve-requires-clause-apart
-feed_and_serve-requires-clause-apart g c =
-    let count : ℕ = length c.args.rests.items in
-    let all = subst (λ (l : List ℕ). (number : ℕ) → times number l ≤ 1) (sym c.in_ok-queues.ensures.numbers) (λ n. numbers_once n 0 count) in
+    let k = length_numbers 0 count in let some = c.requires.some in let len = s.servers.ok.0 in
+    let lent : c.as_slice.result.now ≡ s.queues.items = search rules in
+    let all : CanServe g.W.Work c.args.work.now c.args.shared.now c.as_slice.result.now s.servers = record {
+      ready = c.requires.ready;
+      some = omega (arith, n, m, k, len, some);
+      posted = subst (λ (l : List JobQueue). ArePosted c.args.shared.now l (g.W.Work.plan c.args.work.now) s.servers.items) (sym lent) c.in_ok-queues.ensures.posted;
+      apart = subst (λ (l : List ℕ). (number : ℕ) → times number l ≤ 1) (sym c.in_ok-queues.ensures.numbers) (λ n. numbers_once n 0 count);
+    } in
     λ κs within. all
 
 pub close_all-requires : goal.close_all-requires

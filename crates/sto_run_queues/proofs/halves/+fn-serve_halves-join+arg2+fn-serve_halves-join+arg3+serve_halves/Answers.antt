@@ -18,7 +18,7 @@ returns g t c =
       team = IfOk-weaker c.gather.result _ _
           (λ r both. record {
             served = halves_served c.args.shared.now c.args.queues.now plan c.args.servers.items half c.split.new.servers.items c.in_ok-others.others.items
-                c.in_ok-first.first c.in_ok-other.other r first others c.requires.apart a.served b.served both;
+                c.in_ok-first.first c.in_ok-other.other r first others c.requires.able.apart a.served b.served both;
             gathered = halves_gathered (draws_of plan) (λ (w : Server g.row.T.Denot g.T.Naming). view_at w.rest) c.args.servers.items half
                 c.split.new.servers.items c.in_ok-others.others.items _ _ _ _ _ _ first others both.view both.records a.gathered b.gathered;
           }) c.gather.ensures.both;

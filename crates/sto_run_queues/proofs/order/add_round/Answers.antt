@@ -1,4 +1,4 @@
-use Rattle.std.proofs.Common.{◌≡◌, ◌+◌, ◌++◌, ℕ, List, [], ◌∷◌, sym, ap, ◌∙◌, subst, arith, inl, inr}
+use Rattle.std.proofs.Common.{rules, ◌≡◌, ◌+◌, ◌++◌, ℕ, List, [], ◌∷◌, sym, ap, ◌∙◌, subst, arith, inl, inr}
 use Rattle.sto_run_threads.specs.Orders.{count_in}
 use Rattle.sto_run_threads.proofs.Claiming.{count_case}
 use Rattle.sto_run_queues.specs.declared.order.TransactionPlace as code
@@ -22,12 +22,16 @@ loop-thread-preserved g c =
           record { come = subst (λ (l : List code.TransactionPlace). HasCome first l c.args.position (thread + 1) count) (sym same) (round_passes first items c.args.position thread count c.loop-thread.invariant.come (omega (arith, past, is))) })
     ]
 
-pub returns-clause-each : goal.returns-clause-each
-returns-clause-each g c =
+pub returns : goal.returns
+returns g c =
     let threads = (g.W.Work.plan c.args.work.now).file.threads in
     let end = c.threads-thread-end.ensures in let far = c.loop-thread-test.false in
-    round_each c.args.order.now.items c.loop-thread.order.items c.args.position c.loop-thread.thread (count_in threads) c.loop-thread.invariant.come c.requires.some
-    (λ u l. elim (count_case threads u) [
-      | inl low ↦ absurd (omega (arith, low, l, end, far))
-      | inr none ↦ none
-    ])
+    record {
+      later = search rules;
+      rising = search rules;
+      each = round_each c.args.order.now.items c.loop-thread.order.items c.args.position c.loop-thread.thread (count_in threads) c.loop-thread.invariant.come c.requires.some
+          (λ u l. elim (count_case threads u) [
+            | inl low ↦ absurd (omega (arith, low, l, end, far))
+            | inr none ↦ none
+          ]);
+    }

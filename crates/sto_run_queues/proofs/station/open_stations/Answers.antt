@@ -14,8 +14,8 @@ use Rattle.sto_run_threads.specs.Teams.{IsReady, view_at}
 use Rattle.sto_run_threads.proofs.Accounts.{gathered_moved}
 use Rattle.sto_run_threads.proofs.Claiming.{snoc_last, snoc_length}
 use Rattle.sto_run_queues.specs.declared.server.Server.{Server}
-use Rattle.sto_run_queues.specs.Jobs.{jobs_for}
-use Rattle.sto_run_queues.specs.Served.{IsPosted}
+use Rattle.sto_run_queues.specs.Jobs.{jobs_for, all_jobs}
+use Rattle.sto_run_queues.specs.Served.{IsPosted, jobs_in}
 use Rattle.sto_run_queues.proofs.Going.{jobs_end}
 use Rattle.sto_run_queues.proofs.Passes.{one_more_at}
 use Rattle.sto_run_queues.proofs.Opened.{jobs_known, posted_last, posted_more, listed_more, numbered_more}
@@ -75,22 +75,22 @@ loop-rest-preserved g c =
           (subst (λ (l : List View). HasGathered need (l ++ map U c.pop.new.self.items) u rs) p h)));
     }
 
-pub returns-clause-feeders : goal.returns-clause-feeders
-returns-clause-feeders g c =
-    subst (λ (k : ℕ). AreUnsent k c.loop-rest.queues.items c.loop-rest.feeders.items (places_in c.args.order.now)) c.loop-rest.invariant.count c.loop-rest.invariant.feeders
-
-pub returns-clause-posted : goal.returns-clause-posted
-returns-clause-posted g c =
-    let plan = g.W.Work.plan c.args.work.now in
-    let none = ap length c.in_default.ensures.0 in let all = c.loop-rest.invariant.all in
+pub returns : goal.returns
+returns g c =
+    let plan = g.W.Work.plan c.args.work.now in let inv = c.loop-rest.invariant in
+    let none = ap length c.in_default.ensures.0 in let all = inv.all in
     let same : c.len-count.result ≡ length c.loop-rest.queues.items = omega (arith, none, all) in
-    subst (λ (k : ℕ). All (IsPosted c.args.shared.now c.loop-rest.queues.items k plan) c.loop-rest.servers.items) same c.loop-rest.invariant.posted
-
-pub returns-clause-gathered : goal.returns-clause-gathered
-returns-clause-gathered g c = λ need w rs h.
     let V : Server g.row.T.Denot g.T.Naming → View = λ v. view_at v.rest in
     let U : Rest g.row.T.Denot g.T.Naming → View = view_at in
-    let none : map U c.loop-rest.rests.items ≡ [] = ap (map U) c.in_default.ensures.0 in
-    c.loop-rest.invariant.gathered need w rs
-    (subst (λ (l : List View). HasGathered need (map V c.loop-rest.servers.items ++ l) w rs) (sym none)
-    (subst (λ (l : List View). HasGathered need l w rs) (sym (append-nil (map V c.loop-rest.servers.items))) h))
+    let left : map U c.loop-rest.rests.items ≡ [] = ap (map U) c.in_default.ensures.0 in
+    record {
+      queues = search rules;
+      feeders = subst (λ (k : ℕ). AreUnsent k c.loop-rest.queues.items c.loop-rest.feeders.items (places_in c.args.order.now)) inv.count inv.feeders;
+      posted = subst (λ (k : ℕ). All (IsPosted c.args.shared.now c.loop-rest.queues.items k plan) c.loop-rest.servers.items) same inv.posted;
+      numbers = search rules;
+      jobs = subst (λ (k : ℕ). jobs_in c.loop-rest.servers.items ≡ all_jobs k (places_in c.args.order.now)) inv.count
+          (inv.jobs ∙ ap (λ (k : ℕ). map (λ n. jobs_for c.len-count.result n (places_in c.args.order.now)) (numbers_from 0 k)) (sym same));
+      gathered = λ need w rs h. inv.gathered need w rs
+          (subst (λ (l : List View). HasGathered need (map V c.loop-rest.servers.items ++ l) w rs) (sym left)
+          (subst (λ (l : List View). HasGathered need l w rs) (sym (append-nil (map V c.loop-rest.servers.items))) h));
+    }
