@@ -3,6 +3,8 @@ pub mod Counts
 pub mod Seated
 pub mod Proceeding
 pub mod Turning
+pub mod Leading
+pub mod Stages
 pub use Rattle.sto_core.specs.Opened
 pub use Rattle.sto_plain.specs.Passes
 pub use Rattle.sto_attempt_log.specs.Answers

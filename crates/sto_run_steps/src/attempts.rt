@@ -4,8 +4,7 @@ ghost use Rattle.sto_core.specs.declared.view.View.{View};
 ghost use Rattle.sto_run_threads.specs.Orders.{Place};
 ghost use Rattle.sto_run_threads.specs.Plans.{MayDraw};
 ghost use Rattle.sto_run_threads.specs.Ran.{IsTransaction};
-ghost use Rattle.sto_run_steps.specs.Stepped.{HasStepped};
-ghost use Rattle.sto_run_steps.specs.Turning.{AnEvent};
+ghost use Rattle.sto_run_steps.specs.Leading.{MayStep, MakesEvent, Steps};
 
 use std::alloc::Global;
 use sto_attempt::Verdict;
@@ -66,10 +65,9 @@ pub trait Attempts<T: Naming, M>: Work<T> {
         cells: &mut C,
         memory: &mut Memory,
     ) -> Result<Stepped, NoMemory>
-        requires { (begun : View) × fits self.now (C.passes cells.old) (thread, position) trial.old begun (C.view cells.old) }
+        requires { MayStep C.Cells (fits self.now) (thread, position) trial.old cells.old }
         ensures same { C.same cells.old cells.new }
-        ensures event { AnEvent T.valid (C.passes cells.old) (C.view cells.old) (C.view cells.new) }
-        ensures stepped { (begun : View) → fits self.now (C.passes cells.old) (thread, position) trial.old begun (C.view cells.old)
-            → IfOk result (HasStepped (Self.plan self.now) (fits self.now) (left self.now) (C.passes cells.old) (thread, position)
-            (left self.now trial.old) trial.new begun (C.view cells.new)) };
+        ensures event { MakesEvent T.Naming C.Cells cells.old cells.new }
+        ensures stepped { Steps C.Cells (fits self.now) (thread, position) (Self.plan self.now) (left self.now)
+            trial.old trial.new cells.old cells.new result };
 }

@@ -1,6 +1,5 @@
 //! A script thread, as far as it has come.
-ghost use Rattle.std.specs.Prelude.{◌≡◌, ◌≤◌, ◌<◌, ◌↔◌, ℕ, IsTrue, OnOk, OnErr};
-ghost use Rattle.sto_core.specs.declared.view.View.{View};
+ghost use Rattle.std.specs.Prelude.{◌≡◌, ◌≤◌, ◌<◌, ◌↔◌, IsTrue, OnOk, OnErr};
 ghost use Rattle.sto_run_threads.specs.Plans.{transaction_count};
 
 use crate::attempts::{Attempts, Stepped};
@@ -31,8 +30,9 @@ pub(crate) struct Seat<M> {
 
 impl<M: Drop> Seat<M> {
     ghost use Rattle.sto_transaction.specs.Plain.{plain};
-    ghost use Rattle.sto_run_steps.specs.Seated.{IsNew, IsSeated, WithinAt, IsIn, IsOver, HasKept, events_with, events_of};
-    ghost use Rattle.sto_run_steps.specs.Turning.{AnEvent};
+    ghost use Rattle.sto_run_steps.specs.Seated.{IsNew, IsSeated, IsOver, HasKept};
+    ghost use Rattle.sto_run_steps.specs.Leading.{MakesEvent};
+    ghost use Rattle.sto_run_steps.specs.Stages.{SitsAt, HasLess, HasNoMore, HasBegun};
 
     /// A thread with so many transactions, of which none has begun.
     pub(crate) fn new(alloc: Global, count: u32, tries: u32) -> Seat<M>
@@ -73,14 +73,13 @@ impl<M: Drop> Seat<M> {
         cells: &mut C,
     ) -> Result<(), NoMemory>
         requires ready { W.ready work.now }
-        requires seated { IsSeated (W.plan work.now) (W.fits work.now) (C.passes cells.old) thread (C.view cells.old) self.old }
+        requires seated { SitsAt W.Attempts C.Cells work.now cells.old thread self.old }
         requires going { IsOver self.old → ⊥ }
         ensures same { C.same cells.old cells.new }
-        ensures event { OnOk result (AnEvent T.valid (C.passes cells.old) (C.view cells.old) (C.view cells.new)) }
+        ensures event { OnOk result (MakesEvent T.Naming C.Cells cells.old cells.new) }
         ensures seated { OnOk result (IsSeated (W.plan work.now) (W.fits work.now) (C.passes cells.old) thread (C.view cells.new)
             self.new) }
-        ensures left { OnOk result (events_of (W.left work.now) (W.most work.now) self.new
-            < events_of (W.left work.now) (W.most work.now) self.old) }
+        ensures left { OnOk result (HasLess W.Attempts work.now self.old self.new) }
         ensures unmade { OnErr result (self.new.records.items ≡ self.old.records.items) }
     {
         let position = self.ended + 1;
@@ -114,10 +113,8 @@ impl<M: Drop> Seat<M> {
         requires within { self.old.ended ≤ self.old.count }
         requires going { IsOver self.old → ⊥ }
         ensures kept { self.new ≡ record self.old { trial = self.new.trial } }
-        ensures within { OnOk result ((passes : ℕ) (v : View) → IsSeated (W.plan work.now) (W.fits work.now) passes thread v self.old
-            → IsIn (WithinAt (W.plan work.now) (W.fits work.now) passes thread self.old) self.new.trial v) }
-        ensures left { OnOk result (events_with (W.left work.now) (W.most work.now) self.old self.new.trial
-            ≤ events_of (W.left work.now) (W.most work.now) self.old) }
+        ensures within { OnOk result (HasBegun W.Attempts work.now thread self.old self.new) }
+        ensures left { OnOk result (HasNoMore W.Attempts work.now self.old self.new) }
     {
         if self.trial.is_none() {
             let trial = work.begin(alloc, thread, self.ended + 1, &mut self.memory)?;

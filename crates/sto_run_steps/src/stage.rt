@@ -1,5 +1,5 @@
 //! All script threads, each at its seat, with the words that their passes share.
-ghost use Rattle.std.specs.Prelude.{◌≡◌, ◌<◌, ℕ, length, true, false, IfOk};
+ghost use Rattle.std.specs.Prelude.{◌≡◌, ◌<◌, length, true, false, IfOk};
 ghost use Rattle.std.specs.List.{All, flat_map};
 ghost use Rattle.sto_run_threads.specs.Orders.{numbers_from};
 
@@ -18,8 +18,9 @@ pub(crate) struct Stage<T: Naming, M> {
 }
 
 impl<T: Naming, M: Drop> Stage<T, M> {
-    ghost use Rattle.sto_run_steps.specs.Seated.{AreSeated, IsOverAt, AreOver, HaveFewer};
-    ghost use Rattle.sto_run_steps.specs.Turning.{HasTurn, TakeTurns, entry_turns, round_turns};
+    ghost use Rattle.sto_run_steps.specs.Seated.{IsOverAt, AreOver};
+    ghost use Rattle.sto_run_steps.specs.Turning.{entry_turns};
+    ghost use Rattle.sto_run_steps.specs.Stages.{AreOn, TakesTurn, HasFewer, GoesOn, GoesRound};
 
     // Makes an event of the thread, where it is not over. It answers whether it did.
     fn turn<W: Attempts<T, M>>(
@@ -29,12 +30,12 @@ impl<T: Naming, M: Drop> Stage<T, M> {
         thread: u32,
     ) -> Result<(Stage<T, M>, bool), NoMemory>
         requires ready { W.ready work.now }
-        requires seated { AreSeated (W.plan work.now) (W.fits work.now) self.words self.seats.items }
+        requires seated { AreOn W.Attempts work.now self }
         requires inside { thread < length self.seats.items }
-        ensures turn { IfOk result (λ s. HasTurn T.valid thread self.words self.seats.items s.0.words s.0.seats.items) }
-        ensures seated { IfOk result (λ s. AreSeated (W.plan work.now) (W.fits work.now) s.0.words s.0.seats.items) }
+        ensures turn { IfOk result (λ s. TakesTurn T.Naming thread self s.0) }
+        ensures seated { IfOk result (λ s. AreOn W.Attempts work.now s.0) }
         ensures many { IfOk result (λ s. length s.0.seats.items ≡ length self.seats.items) }
-        ensures made { IfOk result (λ s. s.1 ≡ true → HaveFewer (W.left work.now) (W.most work.now) self.seats.items s.0.seats.items) }
+        ensures made { IfOk result (λ s. s.1 ≡ true → HasFewer W.Attempts work.now self s.0) }
         ensures over { IfOk result (λ s. s.1 ≡ false → (s.0.seats.items ≡ self.seats.items) × IsOverAt thread self.seats.items) }
     {
         let Stage { words, mut seats } = self;
@@ -55,10 +56,9 @@ impl<T: Naming, M: Drop> Stage<T, M> {
         turns: &Turns,
     ) -> Result<Stage<T, M>, NoMemory>
         requires ready { W.ready work.now }
-        requires seated { AreSeated (W.plan work.now) (W.fits work.now) self.words self.seats.items }
+        requires seated { AreOn W.Attempts work.now self }
         requires inside { turns.now.thread < length self.seats.items }
-        ensures turns { IfOk result (λ s. TakeTurns (W.plan work.now) (W.fits work.now) T.valid (entry_turns turns.now)
-            self.words self.seats.items s.words s.seats.items) }
+        ensures turns { IfOk result (GoesOn T.Naming W.Attempts work.now (entry_turns turns.now) self) }
     {
         let mut stage = self;
         for _ in 0..turns.steps {
@@ -79,10 +79,9 @@ impl<T: Naming, M: Drop> Stage<T, M> {
         schedule: &[Turns],
     ) -> Result<Stage<T, M>, NoMemory>
         requires ready { W.ready work.now }
-        requires seated { AreSeated (W.plan work.now) (W.fits work.now) self.words self.seats.items }
+        requires seated { AreOn W.Attempts work.now self }
         requires inside { All (λ turns. turns.thread < length self.seats.items) schedule.now }
-        ensures turns { IfOk result (λ s. TakeTurns (W.plan work.now) (W.fits work.now) T.valid (flat_map entry_turns schedule.now)
-            self.words self.seats.items s.words s.seats.items) }
+        ensures turns { IfOk result (GoesOn T.Naming W.Attempts work.now (flat_map entry_turns schedule.now) self) }
     {
         let mut stage = self;
         for turns in schedule {
@@ -98,10 +97,9 @@ impl<T: Naming, M: Drop> Stage<T, M> {
         alloc: Global,
     ) -> Result<(Stage<T, M>, bool), NoMemory>
         requires ready { W.ready work.now }
-        requires seated { AreSeated (W.plan work.now) (W.fits work.now) self.words self.seats.items }
-        ensures turns { IfOk result (λ s. TakeTurns (W.plan work.now) (W.fits work.now) T.valid (numbers_from 0 (length self.seats.items))
-            self.words self.seats.items s.0.words s.0.seats.items) }
-        ensures moved { IfOk result (λ s. s.1 ≡ true → HaveFewer (W.left work.now) (W.most work.now) self.seats.items s.0.seats.items) }
+        requires seated { AreOn W.Attempts work.now self }
+        ensures turns { IfOk result (λ s. GoesOn T.Naming W.Attempts work.now (numbers_from 0 (length self.seats.items)) self s.0) }
+        ensures moved { IfOk result (λ s. s.1 ≡ true → HasFewer W.Attempts work.now self s.0) }
         ensures over { IfOk result (λ s. s.1 ≡ false → AreOver (length s.0.seats.items) s.0.seats.items) }
     {
         let mut stage = self;
@@ -122,9 +120,8 @@ impl<T: Naming, M: Drop> Stage<T, M> {
         alloc: Global,
     ) -> Result<Stage<T, M>, NoMemory>
         requires ready { W.ready work.now }
-        requires seated { AreSeated (W.plan work.now) (W.fits work.now) self.words self.seats.items }
-        ensures turns { IfOk result (λ s. (rounds : ℕ) × TakeTurns (W.plan work.now) (W.fits work.now) T.valid
-            (round_turns (length self.seats.items) rounds) self.words self.seats.items s.words s.seats.items) }
+        requires seated { AreOn W.Attempts work.now self }
+        ensures turns { IfOk result (GoesRound T.Naming W.Attempts work.now self) }
         ensures over { IfOk result (λ s. AreOver (length s.seats.items) s.seats.items) }
     {
         let mut stage = self;

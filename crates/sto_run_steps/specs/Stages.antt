@@ -1,0 +1,59 @@
+-- Stages and seats as the code has them: what a step asks and tells, over what the traits of the work and of the pass say.
+use Rattle.std.specs.Prelude.{◌≤◌, ◌<◌, ℕ, List, length}
+use Rattle.sto_part.specs.declared.naming.Naming as naming
+use Rattle.sto_core.specs.declared.cells.Cells as cells
+use Rattle.sto_core.specs.declared.view.View.{View}
+use Rattle.sto_run_threads.specs.Orders.{Place}
+use Rattle.sto_run_threads.specs.Plans.{Plan}
+use Rattle.sto_run_steps.specs.Seated.{AreSeated, HaveFewer, IsSeated, IsIn, WithinAt, events_of, events_with}
+use Rattle.sto_run_steps.specs.Turning.{HasTurn, TakeTurns, round_turns}
+use Rattle.sto_run_steps.specs.declared.seat.Seat.{Seat}
+use Rattle.sto_run_steps.specs.declared.stage.Stage.{Stage}
+
+-- what the trait of the work says, whole, as `W.Attempts` has it in a clause
+abbrev pub OfAttempts : Type 0 → Type 0 → Type 1
+OfAttempts W M = record {
+  plan : W → Plan;
+  ready : W → Type 0;
+  fits : W → ℕ → Place → M → View → View → Type 0;
+  left : W → M → ℕ;
+  most : W → ℕ;
+}
+
+-- n and a are what the traits of the type and of the work say
+module _ {T M W : Type 0} where
+  -- the threads are at their seats
+  abbrev pub AreOn : OfAttempts W M → W → Stage T M → Type 0
+  AreOn a w s = AreSeated (a.plan w) (a.fits w) s.words s.seats.items
+
+  -- all threads together have fewer events left
+  abbrev pub HasFewer : OfAttempts W M → W → Stage T M → Stage T M → Type 0
+  HasFewer a w s later = HaveFewer (a.left w) (a.most w) s.seats.items later.seats.items
+
+  -- these threads had turns, one after the other; and all had, in some rounds
+  abbrev pub GoesOn : naming.Ghosts T → OfAttempts W M → W → List ℕ → Stage T M → Stage T M → Type 0
+  GoesOn n a w threads s later = TakeTurns (a.plan w) (a.fits w) n.valid threads s.words s.seats.items later.words later.seats.items
+
+  abbrev pub GoesRound : naming.Ghosts T → OfAttempts W M → W → Stage T M → Stage T M → Type 0
+  GoesRound n a w s later = (rounds : ℕ) × GoesOn n a w (round_turns (length s.seats.items) rounds) s later
+
+  -- a thread sits where its pass stands
+  abbrev pub SitsAt : {C : Type 0} → OfAttempts W M → cells.Ghosts C T → W → C → ℕ → Seat M → Type 0
+  SitsAt a c w here thread s = IsSeated (a.plan w) (a.fits w) (c.passes here) thread (c.view here) s
+
+module _ {M W : Type 0} where
+  -- it has fewer events left, and no more
+  abbrev pub HasLess : OfAttempts W M → W → Seat M → Seat M → Type 0
+  HasLess a w s later = events_of (a.left w) (a.most w) later < events_of (a.left w) (a.most w) s
+
+  abbrev pub HasNoMore : OfAttempts W M → W → Seat M → Seat M → Type 0
+  HasNoMore a w s later = events_with (a.left w) (a.most w) s later.trial ≤ events_of (a.left w) (a.most w) s
+
+  -- wherever it sat, an attempt of its next transaction runs
+  abbrev pub HasBegun : OfAttempts W M → W → ℕ → Seat M → Seat M → Type 0
+  HasBegun a w thread s later =
+      (passes : ℕ) (v : View) → IsSeated (a.plan w) (a.fits w) passes thread v s → IsIn (WithinAt (a.plan w) (a.fits w) passes thread s) later.trial v
+
+-- a thread had a turn
+abbrev pub TakesTurn : {T M : Type 0} → naming.Ghosts T → ℕ → Stage T M → Stage T M → Type 0
+TakesTurn n thread s later = HasTurn n.valid thread s.words s.seats.items later.words later.seats.items
