@@ -118,13 +118,13 @@ module _ (d : Deal) (passes : ℕ) (begun v w : View) (r : IsRunning begun v) (l
       let h = was_won v.phase u by in
       let before : HasOneMore begun u Committed v.entries v.draws = subst (λ (k : Phase). HasDrawn begun k v.entries v.draws) h.is r.drawn in
       let k = won_keeps d.valid o.event v o.number o.value u h.puts h.is o.tells.allowed in
-      same_more begun u Committed v.entries w.entries v.draws w.draws (ap (λ (z : View). z.entries) o.tells.after ∙ k.0) (ap (λ (z : View). z.draws) o.tells.after ∙ k.1.0) before
+      same_more begun u Committed v.entries w.entries v.draws w.draws (ap (λ (z : View). z.entries) o.tells.after ∙ k.0) (ap (λ (z : View). z.draws) o.tells.after ∙ k.1) before
 
   won_above : (u : ℕ) → EndsIn v.phase (Wrote u) → w.at < u
   won_above u by =
       let h = was_won v.phase u by in
       let k = won_keeps d.valid o.event v o.number o.value u h.puts h.is o.tells.allowed in
-      subst (λ (n : ℕ). n < u) (sym (ap (λ (z : View). z.at) o.tells.after ∙ k.1.1)) (subst (λ (g : Phase). HasDrawnAbove v.at g) h.is r.above)
+      subst (λ (n : ℕ). n < u) (sym (ap (λ (z : View). z.at) o.tells.after ∙ k.2)) (subst (λ (g : Phase). HasDrawnAbove v.at g) h.is r.above)
 
   lost : IsUnwon v.phase → HasNoMore begun w.entries w.draws ⊎ ((u : ℕ) × HasOneMore begun u Dropped w.entries w.draws)
   lost unwon =

@@ -69,6 +69,7 @@ module _ (m : Meaning) (sizes : List ℕ) (tries passes made : ℕ) (v u w : Vie
         found = all.found;
         kept = all.kept;
         ends = last_finished h.new r h.aborted ended ∙ ap (λ (p : Place). p ∷ []) is;
+        spare = λ on. (let b = h.count in omega (arith, count, b, few));
         used = λ other. absurd (true≢false other);
         rests = rest;
         draws = (let a = all.draws in let b = longer h.new r in let c = h.count in omega (arith, a, b, c, few));
@@ -117,6 +118,7 @@ module _ (m : Meaning) (sizes : List ℕ) (tries passes made : ℕ) (v w : View)
     found = h.added.found;
     kept = h.added.kept;
     ends = none_finished h.new h.aborted;
+    spare = λ on. absurd (true≢false (sym on));
     used = λ no. (let a = count in let b = h.count in omega (arith, a, b, all));
     rests = h.rests;
     draws = (let a = h.added.draws in let b = h.count in omega (arith, a, b, all));
