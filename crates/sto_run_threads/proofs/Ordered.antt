@@ -128,13 +128,13 @@ from_first (suc thread, position) = inl (omega arith)
 -- from the beginning of an earlier thread, or of the same one
 pub before_thread : (earlier thread position : ℕ) → earlier ≤ thread → StandsFrom (earlier, 0) (thread, position + 1)
 before_thread earlier thread position l = elim (cases_eq earlier thread) [
-  | inl same ↦ inr (same, omega arith)
+  | inl same ↦ inr (sym same, omega arith)
   | inr other ↦ inl (omega (arith, l, other))
 ]
 
 pub up_to_thread : (earlier thread : ℕ) → earlier ≤ thread → StandsFrom (earlier, 0) (thread, 0)
 up_to_thread earlier thread l = elim (cases_eq earlier thread) [
-  | inl same ↦ inr (same, omega arith)
+  | inl same ↦ inr (sym same, omega arith)
   | inr other ↦ inl (omega (arith, l, other))
 ]
 

@@ -26,7 +26,7 @@ run_script-requires-clause-ended g c =
 pub run_script-requires-clause-fresh : goal.run_script-requires-clause-fresh
 run_script-requires-clause-fresh g c =
     let numbers = c.loop-thread.claimer.seat.me.0.numbers in
-    none_is_fresh c.loop-thread.pass.shared.now.table.shared.key.passes c.in-Some.thread (told_in c.loop-thread.records) (c.loop-thread.invariant.own c.in-Some.thread (above_all c.in-Some.thread numbers c.in-Some.ensures.some.1.above))
+    none_is_fresh (g.W.Work.plan c.args.work.now).tries c.loop-thread.pass.shared.now.table.shared.key.passes c.in-Some.thread (told_in c.loop-thread.records) (c.loop-thread.invariant.own c.in-Some.thread (above_all c.in-Some.thread numbers c.in-Some.ensures.some.1.above))
 
 pub run_script-requires-clause-free : goal.run_script-requires-clause-free
 run_script-requires-clause-free g c =
