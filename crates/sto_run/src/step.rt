@@ -1,11 +1,12 @@
 //! Runs of whole files in one thread.
-ghost use Rattle.std.specs.Prelude.{◌≡◌, ◌<◌, ◌≤◌, [], length, IfOk};
+ghost use Rattle.std.specs.Prelude.{◌≡◌, ◌<◌, ◌≤◌, length, IfOk};
 ghost use Rattle.std.specs.List.{All};
 ghost use Rattle.sto_lang.specs.Sound.{IsSound, IsSchedule, IsFromTo};
 ghost use Rattle.sto_lang.specs.Views.{file as view};
 ghost use Rattle.sto_serializability.specs.Meanings.{updating_by};
 ghost use Rattle.sto_store.specs.Stores.{means};
 ghost use Rattle.sto_run.specs.Lawful.{IsLawfulJournal};
+ghost use Rattle.sto_run.specs.Alone.{RanAlone};
 
 use crate::opened::OpenedRun;
 use crate::stored::objects_of;
@@ -39,7 +40,7 @@ pub fn step_file(alloc: Global, file: &File, tries: u32) -> Result<Journal, NoMe
     requires sound { IsSound (view file.now) }
     requires tries { IsFromTo 1 64 tries }
     ensures lawful { IfOk result (IsLawfulJournal (updating_by means) (view file.now) tries) }
-    ensures alone { length (view file.now).threads ≤ 1 → IfOk result (λ journal. journal.aborts.items ≡ []) }
+    ensures alone { length (view file.now).threads ≤ 1 → IfOk result (RanAlone (view file.now)) }
 {
     let file = LentFile { file };
     let objects = objects_of(alloc, &file)?;

@@ -66,7 +66,7 @@ fn serve_one<T: Naming, W: Work<T>, C: Cells<T>>(
 ) -> Result<bool, NoMemory>
     requires ready { W.ready work.now }
     requires there { IsTransaction (W.plan work.now).file (thread, position) }
-    requires next { runs ≡ true → ComesNext (thread, position) (told_in records.old) }
+    requires next { runs ≡ true → ComesNext (W.plan work.now).tries (thread, position) (told_in records.old) }
     requires free { MayDraw (W.plan work.now) (W.plan work.now).tries (C.view cells.old) }
     requires worked { HasWorked (W.plan work.now) (C.view cells.old) (told_in records.old) }
     ensures same { C.same cells.old cells.new }
