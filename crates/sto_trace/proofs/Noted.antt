@@ -1,6 +1,6 @@
 -- Deeds that lead on, one after the other.
 use Rattle.std.specs.Prelude.{Option, Some}
-use Rattle.std.proofs.Common.{◌≡◌, ℕ, zero, suc, ◌+◌, List, [], ◌∷◌, ◌++◌, length, ℤ, refl, sym, ap, ◌∙◌, subst, arith}
+use Rattle.std.proofs.Common.{◌≡◌, ℕ, ◌+◌, List, [], ◌∷◌, length, ℤ, refl, sym, ap, subst, arith}
 use Rattle.sto_core.specs.declared.view.View.{View}
 use Rattle.sto_core.specs.Event.{Event}
 use Rattle.sto_core.specs.History.{Validity}

@@ -1,4 +1,4 @@
-use Rattle.std.specs.Prelude.{Option, Some, pos}
+use Rattle.std.specs.Prelude.{Some, pos}
 use Rattle.std.proofs.Common.{ℕ, sym, subst}
 use Rattle.sto_core.specs.Event.{Draw}
 use Rattle.sto_trace.specs.Noted.{Notes}

@@ -1,10 +1,6 @@
-use Rattle.std.specs.Prelude.{Some, pos}
-use Rattle.std.proofs.Common.{◌≡◌, ℤ, sym, subst, rules, FitsSigned, w64, to_z, of_z}
-use Rattle.std.proofs.lemmas.Int.{to_z-of_z}
+use Rattle.std.specs.Prelude.{pos}
+use Rattle.std.proofs.Common.{w64, to_z, of_z}
 use Rattle.sto_core.specs.Event.{Put}
-use Rattle.sto_core.specs.Tells.{Tells}
-use Rattle.sto_trace.specs.Noted.{Notes}
-use Rattle.sto_trace.specs.declared.Deed.TheVariants as deeds
 use Rattle.sto_trace.proofs.Noted.{notes_one}
 use Rattle.sto_trace.proofs.noting.NotingCells.put.Goals as goal
 
