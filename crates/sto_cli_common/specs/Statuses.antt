@@ -27,7 +27,7 @@ abbrev pub refusal_line : Refusal → List ℕ
 refusal_line Usage = codes "sto: usage\n"
 refusal_line (Input (Script fault)) = fault_line fault
 refusal_line (Input NoReport) = codes "sto: line 0: no report\n"
-refusal_line (Input LongTrace) = codes "sto: line 0: too many events\n"
+refusal_line (Input LongTrace) = codes "sto: line 0: too many transactions\n"
 refusal_line ReadFault = codes "sto: read fault\n"
 refusal_line WriteFault = codes "sto: write fault\n"
 refusal_line NoMemory = codes "sto: out of memory\n"

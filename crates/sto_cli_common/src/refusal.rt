@@ -13,7 +13,7 @@ pub enum InputFault {
     Script(ScriptFault),
     /// A report must follow the script, and no line is `report`.
     NoReport,
-    /// A trace is asked, and the run of the script makes too many events.
+    /// A trace is asked, and the script has too many transactions for one.
     LongTrace,
 }
 

@@ -1,5 +1,5 @@
 -- The text of a trace: a line for each event.
-use Rattle.std.specs.Prelude.{ℕ, ℤ, suc, List, [], ◌∷◌, ◌++◌, map, true, false, Bool, Option, None, Some, slice_get, codes, decimal}
+use Rattle.std.specs.Prelude.{ℕ, ℤ, suc, List, [], ◌∷◌, ◌++◌, map, true, false, Bool, Option, None, Some, unwrap_or, slice_get, codes, decimal}
 use Rattle.std.specs.List.{flat_map}
 use Rattle.std.specs.Fmt.{signed_decimal}
 use Rattle.sto_version.specs.Versions.{ticket_of, is_free}
@@ -10,25 +10,19 @@ use Rattle.sto_attempt_log.specs.declared.verdict.Verdict.TheVariants.{Wrote, Re
 use Rattle.sto_lang.specs.Objects.{Declaration}
 use Rattle.sto_report_spec.specs.Aborts.{part_by_home}
 use Rattle.sto_report_spec.specs.Report.{name_at, part_text, spaced_reply}
-use Rattle.sto_type.specs.declared.answer.Home.{Home}
 use Rattle.sto_trace.specs.declared.Deed.{Deed}
 use Rattle.sto_trace.specs.declared.Deed.TheVariants.{Start, Renew, Open, Word, Close, Recheck, Lock, Test, Draw, Check, Decide, Put, Release, Unlock}
 use Rattle.sto_trace.specs.declared.Step.{Step}
 
--- the names in a trace: of threads, of objects, and the homes of all parts
+-- the names in a trace: of threads, of objects, and the homes of all parts: an object's number, and the part's number there
 pub record Names : Type 0 where
   pub threads : List (List ℕ)
   pub declarations : List Declaration
-  pub homes : List Home
-
--- the object and the number there of a part; what is no part has none
-abbrev pub home_of : Option Home → ℕ × ℕ
-home_of None = (0, 0)
-home_of (Some h) = (h.object, h.local)
+  pub homes : List (ℕ × ℕ)
 
 -- a part, by the name of its object and its number there
 abbrev pub part_at : Names → ℕ → List ℕ
-part_at names part = part_text (part_by_home names.declarations (home_of (slice_get names.homes part)))
+part_at names part = part_text (part_by_home names.declarations (unwrap_or (slice_get names.homes part) (0, 0)))
 
 -- a word of a part, and its value
 abbrev pub word_text : Names → ℕ → ℕ → ℤ → List ℕ

@@ -1,11 +1,11 @@
 //! The names of threads, objects and parts.
-ghost use Rattle.std.specs.Prelude.{◌≡◌, find, ◌==◌, ◌++◌, OnOk, string_bytes, map, option_copied, slice_get};
+ghost use Rattle.std.specs.Prelude.{◌≡◌, find, ◌==◌, ◌++◌, OnOk, string_bytes, map, option_copied, slice_get, unwrap_or};
 ghost use Rattle.sto_lang.specs.Objects.{with_number};
 ghost use Rattle.sto_lang.specs.Views.{declaration, names_of};
 ghost use Rattle.sto_report_spec.specs.Aborts.{name_of};
 ghost use Rattle.sto_report_spec.specs.Report.{name_at};
-ghost use Rattle.sto_trace_text.specs.Texts.{part_at, home_of};
-ghost use Rattle.sto_trace_text.specs.Named.{named};
+ghost use Rattle.sto_trace_text.specs.Texts.{part_at};
+ghost use Rattle.sto_trace_text.specs.Named.{named, pair_of};
 
 use std::alloc::AllocError;
 use std::fmt::Write;
@@ -50,7 +50,7 @@ fn object_name(decls: &[Decl], number: u32) -> &str
 
 // The object and the number there of a part.
 fn home_at(homes: &[Home], part: u32) -> Home
-    ensures { (result.object, result.local) ≡ home_of (slice_get homes.now part) }
+    ensures { pair_of result ≡ unwrap_or (slice_get (map pair_of homes.now) part) (0, 0) }
 {
     match homes.get(part as usize) {
         Some(home) => *home,
