@@ -81,7 +81,7 @@ pub one_report : (form : ReportForm) (u : Updating) (file : File) (tries : ℕ) 
 one_report form u file tries j text alone lawful order aborts = record {
   order = in_order;
   none = none;
-  text = said form lawful ∙ ap (λ (ps : List Place). made_in form file ps (aborts_told form file.names text)) in_order ∙ ap (made_in form file (all_places file)) none;
+  report = said form lawful ∙ ap (λ (ps : List Place). made_in form file ps (aborts_told form file.names text)) in_order ∙ ap (made_in form file (all_places file)) none;
 }
   where
     in_order : order_told form file.names text ≡ all_places file

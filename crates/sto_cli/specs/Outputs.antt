@@ -47,7 +47,7 @@ order_told Json names text = json_order_named names text
 pub record IsAlone (form : ReportForm) (file : File) (text : List ℕ) : Type 0 where
   pub order : order_told form file.names text ≡ all_places file
   pub none : aborts_told form file.names text ≡ []
-  pub text : text ≡ made_in form file (all_places file) []
+  pub report : text ≡ made_in form file (all_places file) []
 
 -- a lawful report of the file that the bytes are, for so many tries and in the form that is asked for, with what the types of
 -- objects say of updates; where nothing runs beside, it is the one report of such a run
