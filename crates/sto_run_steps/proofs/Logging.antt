@@ -28,8 +28,11 @@ pub logged : {M : Type 0} (valid : Validity) (passes : ℕ) (heard : M → List 
 logged {M} valid passes heard thread v s w later noted deed before step log next steps one notes is same so_far last some added =
     let k = noted_one valid passes v w None noted one notes in
     let did : k.0 ≡ step.deed = same_Some k.0 deed (sym k.2 ∙ is) ∙ sym same in
-    subst (λ (o : Option (Listed Step)). HasLogged (IsStep valid passes heard thread v s w later) (kept o) (kept next)) (sym some)
-    (step, record {
-      done = subst (λ (d : Deed). IsDone valid passes d v w) did k.1;
-      last = subst (λ (n : ℕ). IsLast heard thread (s.ended + 1) n later step) so_far last;
-    }, added)
+    subst (λ (o : Option (Listed Step)). HasLogged (IsStep valid passes heard thread v s w later) (kept o) (kept next)) (sym some) (
+      step,
+      record {
+        done = subst (λ (d : Deed). IsDone valid passes d v w) did k.1;
+        last = subst (λ (n : ℕ). IsLast heard thread (s.ended + 1) n later step) so_far last;
+      },
+      added,
+    )

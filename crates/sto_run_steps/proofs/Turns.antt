@@ -114,5 +114,5 @@ module _ {M : Type 0} (valid : Validity) (heard : M → List Told) where
   pub none_kept : (threads : List ℕ) (c d : Core) (seats later : List (Seat M)) (next : Log) → HaveTurns valid heard threads c seats None d later next → next ≡ None
   none_kept [] c d seats later next h = h.2
   none_kept (thread ∷ threads) c d seats later next h =
-      let e : h.2 ≡ None = elim h.3 [ | inl one ↦ one.logged | inr over ↦ over.3 ] in
+      let e : h.2 ≡ None = elim h.3 [ inl one ↦ one.logged | inr over ↦ over.3 ] in
       none_kept threads h.0 d h.1 later next (subst (λ (o : Log). HaveTurns valid heard threads h.0 h.1 o d later next) e h.4)
