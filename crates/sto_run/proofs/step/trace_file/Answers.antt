@@ -45,3 +45,6 @@ returns-clause-lawful c =
     let same = c.in_ok-run.ensures.of in
     lawful_run c.in_ok-objects.objects c.in_ok-run.run'.work.ty.now (view c.in_ok-run.run'.work.workload.file.now) (view c.args.file.now) _ c.args.tries c.in_ok-journal.journal
     (objects_mean c.in_ok-objects.objects (shapes_of (view c.args.file.now).declarations) c.in_ok-objects.ensures.kinds) (ap (λ (f : LentFile). view f.file.now) same.0, same.1, same.2) c.in_ok-journal.ensures.lawful
+
+pub returns-clause-traced : goal.returns-clause-traced
+returns-clause-traced c = ?
