@@ -1,0 +1,4 @@
+pub mod Schedules
+pub mod Legs
+pub mod Explored
+pub mod Branches
