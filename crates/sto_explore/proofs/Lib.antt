@@ -1,1 +1,5 @@
 pub mod Offers
+pub mod Following
+pub mod Among
+pub mod Reaching
+pub mod Offering

@@ -1,5 +1,6 @@
 -- Runs that are still to be made, as the code has them.
-use Rattle.std.specs.Prelude.{◌-◌, ℕ, zero, suc, List, [], ◌∷◌, ◌++◌, map, drop, false}
+use Rattle.std.specs.Prelude.{◌-◌, ◌&&◌, ℕ, zero, suc, List, [], ◌∷◌, ◌++◌, map, drop, Bool, true, false, nat_eq}
+use Rattle.sto_explore.specs.Legs.{schedule_of}
 use Rattle.sto_explore.specs.declared.leg.Leg.{Leg}
 use Rattle.sto_explore.specs.declared.branch.Branch.{Branch}
 
@@ -36,3 +37,13 @@ offered legs left [] further = []
 offered legs left (thread ∷ others) [] = []
 offered legs left (thread ∷ others) (leg ∷ further) =
     switches_in legs left others leg ++ (offers_to (legs ++ leg ∷ []) left (drop 1 others) ++ offered (legs ++ leg ∷ []) left others further)
+
+-- whether a schedule begins so
+abbrev pub begins : List ℕ → List ℕ → Bool
+begins [] schedule = true
+begins (thread ∷ threads) [] = false
+begins (thread ∷ threads) (other ∷ schedule) = nat_eq thread other && begins threads schedule
+
+-- the schedules of the runs with which an offer can be taken up begin so
+abbrev pub path_of : Offer → List ℕ
+path_of o = schedule_of o.legs ++ o.next ∷ []

@@ -2,3 +2,4 @@ pub mod Schedules
 pub mod Legs
 pub mod Explored
 pub mod Branches
+pub mod Exploring

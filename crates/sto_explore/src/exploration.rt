@@ -1,5 +1,6 @@
 //! One run by each schedule.
 ghost use Rattle.std.specs.Prelude.{◌≡◌, [], OnOk, List};
+ghost use Rattle.sto_explore.specs.declared.exploration.Stopped.TheVariants.{NoMemory};
 ghost use Rattle.sto_explore.specs.Explored.{Found, AreExplored, start_of};
 
 use crate::branch::{Branch, offer_all, offer_others, order_of};
