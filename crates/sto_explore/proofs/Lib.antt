@@ -3,3 +3,5 @@ pub mod Following
 pub mod Among
 pub mod Reaching
 pub mod Offering
+pub mod Ordering
+pub mod Visiting

@@ -79,7 +79,7 @@ module _ (start : Place) (tells : List ℕ → Bool → Type 0) where
     told : AreTold tells (schedule_of before) (turns_with leg.thread leg.over leg.turns)
 
   -- offers after a leg, or a part of it, are taken up where the threads may go on
-  offers_good : (legs : List Leg) (left : ℕ) (others : List ℕ) → Begun legs → ((u : ℕ) → IsAmong others u → GoesOn (after_all start (turns_of legs)) left u)
+  pub offers_good : (legs : List Leg) (left : ℕ) (others : List ℕ) → Begun legs → ((u : ℕ) → IsAmong others u → GoesOn (after_all start (turns_of legs)) left u)
       → AllByRecursion (IsOffer start tells) (offers_to legs left others)
   offers_good legs left [] b goes = tt
   offers_good legs left (u ∷ others) b goes =

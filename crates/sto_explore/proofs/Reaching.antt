@@ -121,15 +121,15 @@ whole_leg t leg a b some =
     (λ i. turns_with (a i) (b i) (c i))
 
 -- the run follows the schedule, or an offer can be taken up by it
-abbrev Reaches : Place → List Leg → ℕ → List ℕ → List Leg → List ℕ → Type 0
+abbrev pub Reaches : Place → List Leg → ℕ → List ℕ → List Leg → List ℕ → Type 0
 Reaches p before left order legs schedule =
     (follows p (turns_of legs) schedule ≡ true) ⊎ (list_any (λ (o : Offer). begins (path_of o) (schedule_of before ++ schedule)) (offered before left order legs) ≡ true)
 
 -- all threads that can go on are in the order
-abbrev AreIn : Place → List ℕ → Type 0
+abbrev pub AreIn : Place → List ℕ → Type 0
 AreIn p order = (u : ℕ) → IsAmong p.going u → IsAmong order u
 
-going_of : (p : Place) (u : ℕ) → may p u ≡ true → IsAmong p.going u
+pub going_of : (p : Place) (u : ℕ) → may p u ≡ true → IsAmong p.going u
 going_of p u h = (and_parts (list_any (nat_eq u) p.going) (not (is_switch p.last u) || nat_lt 0 p.left) h).0
 
 -- a switch is made only where one is left
@@ -168,7 +168,7 @@ within_offers p before (suc left) t others leg further rest thread some left_is 
     among : IsAmong others l.other
     among = among_others l.other t others (inside l.other (going_of (within_leg p t) l.other l.may_go)) l.another
 
-follows_nil : (p : Place) (ts : List Turn) → follows p ts [] ≡ true
+pub follows_nil : (p : Place) (ts : List Turn) → follows p ts [] ≡ true
 follows_nil p [] = refl
 follows_nil p (t ∷ ts) = refl
 

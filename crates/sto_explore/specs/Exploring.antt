@@ -54,12 +54,22 @@ module _ (start : Place) (tells : List ℕ → Bool → Type 0) where
     pub apart : AreApart order
     pub first : FirstGoesOn (after_all start (turns_of legs)) left order
 
-  -- One more run was found, and these offers were made: a schedule that goes on with the first thread is followed by the run, or one of
-  -- the offers can be taken up by it.
-  pub record HasVisited {P : Type 0} (reports : List ℕ → P → Type 0) (holds held : List (Found P) → Type 0) (legs : List Leg) (order : List ℕ) (offers : List Offer) : Type 0 where
+  -- One more run was found, and offers were added: a schedule that goes on with the first thread is followed by the run, or one of the
+  -- offers can be taken up by it.
+  pub record HasVisited {P : Type 0} (reports : List ℕ → P → Type 0) (holds held : List (Found P) → Type 0) (legs : List Leg) (order : List ℕ) (was now : List Offer) : Type 0 where
     pub x : Found P
     pub found : IsFound start tells reports x
     pub holds_then : (xs : List (Found P)) → holds xs → held (xs ++ x ∷ [])
+    pub offers : List Offer
+    pub added : now ≡ was ++ offers
     pub each : AllByRecursion IsOffer offers
     pub reaches : (schedule : List ℕ) → HasFirst order schedule
         → (follows start (turns_of x.legs) (schedule_of legs ++ schedule) ≡ true) ⊎ (list_any (λ o. begins (path_of o) (schedule_of legs ++ schedule)) offers ≡ true)
+
+  -- What an exploration knows between two runs: those found so far, of which one follows each schedule by which no offer can be taken up.
+  pub record IsUnderWay {P : Type 0} (reports : List ℕ → P → Type 0) (held : List (Found P) → Type 0) (todo : List Offer) : Type 0 where
+    pub xs : List (Found P)
+    pub holds : held xs
+    pub each : AllByRecursion (IsFound start tells reports) xs
+    pub offers : AllByRecursion IsOffer todo
+    pub complete : (schedule : List ℕ) → (list_any (λ x. follows start (turns_of x.legs) schedule) xs ≡ true) ⊎ (list_any (λ o. begins (path_of o) schedule) todo ≡ true)

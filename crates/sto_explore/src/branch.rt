@@ -1,6 +1,7 @@
 //! Runs that are still to be made.
-ghost use Rattle.std.specs.Prelude.{◌≡◌, ◌++◌, [], ◌∷◌, length, map, drop, OnOk, IfOk};
+ghost use Rattle.std.specs.Prelude.{◌≡◌, ◌++◌, ◌&&◌, [], ◌∷◌, length, map, drop, not, nat_eq, OnOk, IfOk};
 ghost use Rattle.sto_explore.specs.Branches.{offer_of, offers_to, switches_in, offered};
+ghost use Rattle.sto_explore.specs.Exploring.{ended, order_after};
 use crate::leg::Leg;
 use std::alloc::Global;
 use sto_part::NoMemory;
@@ -20,22 +21,38 @@ pub(crate) fn order_of(
     threads: &[u32],
     decided: &[Leg],
     next: u32,
-) -> Result<Vec<u32>, NoMemory> {
+) -> Result<Vec<u32>, NoMemory>
+    ensures { IfOk result (λ order. order.items ≡ order_after threads.now decided.now next) }
+{
     let mut order = Vec::new(alloc);
     if order.push(next).is_err() {
         return Err(NoMemory);
     }
     for thread in threads {
-        if *thread != next && !is_over(decided, *thread) && order.push(*thread).is_err() {
+        if goes_on(decided, next, *thread) && order.push(*thread).is_err() {
             return Err(NoMemory);
         }
     }
     Ok(order)
 }
 
+// Whether a thread can go on after these legs beside the next one.
+fn goes_on(decided: &[Leg], next: u32, thread: u32) -> bool
+    ensures { result ≡ (not (nat_eq thread next) && not (ended decided.now thread)) }
+{
+    thread != next && !is_over(decided, thread)
+}
+
 // Whether one of these legs led the thread to its end.
-fn is_over(legs: &[Leg], thread: u32) -> bool {
-    legs.iter().any(|leg| leg.over && leg.thread == thread)
+fn is_over(legs: &[Leg], thread: u32) -> bool
+    ensures { result ≡ ended legs.now thread }
+{
+    for leg in legs {
+        if leg.over && leg.thread == thread {
+            return true;
+        }
+    }
+    false
 }
 
 // Adds a branch for each of these threads.

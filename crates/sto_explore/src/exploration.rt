@@ -1,6 +1,11 @@
 //! One run by each schedule.
-ghost use Rattle.std.specs.Prelude.{◌≡◌, [], OnOk, List};
+ghost use Rattle.std.specs.Prelude.{◌≡◌, [], OnOk, IfOk, List, map};
+ghost use Rattle.std.specs.List.{AllByRecursion};
 ghost use Rattle.sto_explore.specs.declared.exploration.Stopped.TheVariants.{NoMemory};
+ghost use Rattle.sto_explore.specs.Schedules.{Place};
+ghost use Rattle.sto_explore.specs.Legs.{IsAmong};
+ghost use Rattle.sto_explore.specs.Branches.{offer_of};
+ghost use Rattle.sto_explore.specs.Exploring.{IsOffer, IsOrdered, HasVisited, IsUnderWay, order_after};
 ghost use Rattle.sto_explore.specs.Explored.{Found, AreExplored, start_of};
 
 use crate::branch::{Branch, offer_all, offer_others, order_of};
@@ -34,13 +39,69 @@ fn visit<P: Drop, R: Runs<P>, G: Gathers<P>>(
     decided: Vec<Leg>,
     left: u32,
     order: &[u32],
-) -> Result<(), NoMemory> {
-    let Ran { legs, report } = runs.run(alloc, decided.as_slice(), order)?;
-    let decided = offer_all(alloc, todo, decided, left, order, legs.as_slice())?;
-    found.add(alloc, decided, report)
+) -> Result<(), NoMemory>
+    requires decided { AllByRecursion (λ leg. IsAmong (R.threads runs.now) leg.thread) decided.items }
+    requires order { AllByRecursion (IsAmong (R.threads runs.now)) order.now }
+    ensures { OnOk result ((start : Place) → IsOrdered start (R.tells runs.now) decided.items left order.now
+        → HasVisited start (R.tells runs.now) (R.reports runs.now) (G.holds found.old) (G.holds found.new) decided.items order.now
+            (map offer_of todo.old.items) (map offer_of todo.new.items)) }
+{
+    let first = decided.as_slice();
+    let ran = runs.run(alloc, first, order)?;
+    let Ran { legs, report } = ran;
+    let made = legs.as_slice();
+    let all = offer_all(alloc, todo, decided, left, order, made)?;
+    found.add(alloc, all, report)?;
+    Ok(())
 }
 
-/// Makes one run by each schedule with at most so many switches, of which there are no more than the limit, and hands each on.
+// Makes the run of a branch.
+fn take_up<P: Drop, R: Runs<P>, G: Gathers<P>>(
+    runs: &R,
+    alloc: Global,
+    todo: &mut Vec<Branch>,
+    found: &mut G,
+    branch: Branch,
+) -> Result<(), NoMemory>
+    requires { (start : Place) × (start.going ≡ R.threads runs.now) × IsOffer start (R.tells runs.now) (offer_of branch) }
+    ensures { OnOk result ((start : Place) → start.going ≡ R.threads runs.now → IsOffer start (R.tells runs.now) (offer_of branch)
+        → HasVisited start (R.tells runs.now) (R.reports runs.now) (G.holds found.old) (G.holds found.new) branch.decided.items
+            (order_after (R.threads runs.now) branch.decided.items branch.next) (map offer_of todo.old.items) (map offer_of todo.new.items)) }
+{
+    let Branch {
+        decided,
+        next,
+        left,
+    } = branch;
+    let all = runs.threads();
+    let legs = decided.as_slice();
+    let order = order_of(alloc, all, legs, next)?;
+    let ordered = order.as_slice();
+    visit(runs, alloc, todo, found, decided, left, ordered)?;
+    Ok(())
+}
+
+// Makes the first run, each thread from its beginning to its end.
+fn begin<P: Drop, R: Runs<P>, G: Gathers<P>>(
+    runs: &R,
+    alloc: Global,
+    switches: u32,
+    found: &mut G,
+) -> Result<Vec<Branch>, NoMemory>
+    requires { G.holds found.old [] }
+    ensures { IfOk result (λ todo. IsUnderWay (start_of switches (R.threads runs.now)) (R.tells runs.now) (R.reports runs.now)
+        (G.holds found.new) (map offer_of todo.items)) }
+{
+    let mut todo = Vec::new(alloc);
+    let none = Vec::new(alloc);
+    let all = runs.threads();
+    offer_others(alloc, &mut todo, none.as_slice(), switches, all)?;
+    visit(runs, alloc, &mut todo, found, none, switches, all)?;
+    Ok(todo)
+}
+
+/// Makes one run by each schedule with at most so many switches away from a thread that could go on, and hands each on. Where there are
+/// more schedules than the limit, which is at least 1, the rest is given up.
 pub fn explore<P: Drop, R: Runs<P>, G: Gathers<P>>(
     runs: &R,
     alloc: Global,
@@ -52,21 +113,12 @@ pub fn explore<P: Drop, R: Runs<P>, G: Gathers<P>>(
     ensures { OnOk result ((xs : List (Found P)) × G.holds found.new xs
         × AreExplored (start_of switches (R.threads runs.now)) (R.tells runs.now) (R.reports runs.now) xs) }
 {
-    let mut todo = Vec::new(alloc);
-    let threads = runs.threads();
-    offer_others(alloc, &mut todo, &[], switches, threads)?;
-    visit(runs, alloc, &mut todo, found, Vec::new(alloc), switches, threads)?;
+    let mut todo = begin(runs, alloc, switches, found)?;
     for _ in 1..limit {
-        let Some(branch) = todo.pop() else {
-            return Ok(());
-        };
-        let Branch {
-            decided,
-            next,
-            left,
-        } = branch;
-        let order = order_of(alloc, threads, decided.as_slice(), next)?;
-        visit(runs, alloc, &mut todo, found, decided, left, order.as_slice())?;
+        match todo.pop() {
+            Some(branch) => take_up(runs, alloc, &mut todo, found, branch)?,
+            None => return Ok(()),
+        }
     }
     if todo.is_empty() {
         Ok(())
