@@ -1,5 +1,5 @@
 -- The threads that can go on after some legs.
-use Rattle.std.specs.Prelude.{◌⊎◌, None, Some}
+use Rattle.std.specs.Prelude.{◌⊎◌, None, Some, if◌then◌else◌}
 use Rattle.std.specs.List.{AllByRecursion, list_any, filter}
 use Rattle.std.proofs.Common.{◌≡◌, ◌≤◌, ◌<◌, ◌+◌, ◌-◌, ℕ, zero, suc, List, [], ◌∷◌, ◌++◌, refl, sym, ap, ◌∙◌, subst, arith, Bool, true, false, not, ◌&&◌, ◌||◌, inl, inr, nat_eq}
 use Rattle.std.proofs.lemmas.Bool.{cases_Bool, and_parts, and_from, or_parts, or_from, or_cases, or_left, or_right, cond-true, cond-false, not_from_true, not_from_false, not-true, eqb-true, eq-eqb, both_ways, false≢true, false_from_ne_true, and_left}

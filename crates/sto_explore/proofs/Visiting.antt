@@ -82,7 +82,7 @@ module _ {P : Type 0} (start : Place) (tells : List ℕ → Bool → Type 0) (re
         | inr is_not ↦ cond-false (nat_eq u turn.thread) (follows (after start turn) turns s) (not (may start u)) is_not ∙ not_from_false (may start u) none
       ]
 
-  followed : List (Found P) → List ℕ → Bool
+  abbrev followed : List (Found P) → List ℕ → Bool
   followed xs s = list_any (λ (x : Found P). follows start (turns_of x.legs) s) xs
 
   -- one run more
@@ -113,11 +113,11 @@ module _ {P : Type 0} (start : Place) (tells : List ℕ → Bool → Type 0) (re
 
       taken : (s s' : List ℕ) → s ≡ path_of o ++ s' → Goal s
       taken s s' is =
-          let as : s ≡ schedule_of o.legs ++ o.next ∷ s' = is ∙ append_assoc (schedule_of o.legs) (o.next ∷ []) s' in
+          let split : s ≡ schedule_of o.legs ++ o.next ∷ s' = is ∙ append_assoc (schedule_of o.legs) (o.next ∷ []) s' in
           elim (v.reaches (o.next ∷ s') refl) [
             | inl h ↦ inl (any_right (λ (x : Found P). follows start (turns_of x.legs) s) was.xs (v.x ∷ [])
-                (or_left (follows start (turns_of v.x.legs) s) false (ap (follows start (turns_of v.x.legs)) as ∙ h)))
-            | inr h ↦ in_now s (any_right (Q s) rest v.offers (subst (λ (l : List ℕ). list_any (Q l) v.offers ≡ true) (sym as) h))
+                (or_left (follows start (turns_of v.x.legs) s) false (ap (follows start (turns_of v.x.legs)) split ∙ h)))
+            | inr h ↦ in_now s (any_right (Q s) rest v.offers (subst (λ (l : List ℕ). list_any (Q l) v.offers ≡ true) (sym split) h))
           ]
 
       begins_split : (a s : List ℕ) → begins a s ≡ true → (s' : List ℕ) × (s ≡ a ++ s')
