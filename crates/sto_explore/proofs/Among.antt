@@ -53,9 +53,9 @@ without_out u t (v ∷ vs) h = by (nat_eq v t) refl (λ there. without_out u t v
         further (rec (subst (λ (l : List ℕ). IsAmong l u) (cond-false (not (nat_eq v t)) (v ∷ without t vs) (without t vs) (not_from_true (nat_eq v t) is)) h))
     by false is rec = elim (or_cases (nat_eq u v) (list_any (nat_eq u) (without t vs))
         (subst (λ (l : List ℕ). IsAmong l u) (cond-true (not (nat_eq v t)) (v ∷ without t vs) (without t vs) (not_from_false (nat_eq v t) is)) h)) [
-      | inl here ↦ (or_left (nat_eq u v) (list_any (nat_eq u) vs) here, here_is is here)
-      | inr there ↦ further (rec there)
-    ]
+          | inl here ↦ (or_left (nat_eq u v) (list_any (nat_eq u) vs) here, here_is is here)
+          | inr there ↦ further (rec there)
+        ]
 
 -- one of these threads that is not the first
 pub among_others : (u t : ℕ) (others : List ℕ) → IsAmong (t ∷ others) u → nat_eq u t ≡ false → IsAmong others u

@@ -82,9 +82,10 @@ module _ (start : Place) (tells : List ℕ → Bool → Type 0) where
   pub offers_good : (legs : List Leg) (left : ℕ) (others : List ℕ) → Begun legs → ((u : ℕ) → IsAmong others u → GoesOn (after_all start (turns_of legs)) left u)
       → AllByRecursion (IsOffer start tells) (offers_to legs left others)
   offers_good legs left [] b goes = tt
-  offers_good legs left (u ∷ others) b goes =
-      (record { begun = b; goes_on = goes u (or_left (nat_eq u u) (list_any (nat_eq u) others) (same u)) },
-       offers_good legs left others b (λ v h. goes v (or_right (nat_eq v u) (list_any (nat_eq v) others) h)))
+  offers_good legs left (u ∷ others) b goes = (
+    record { begun = b; goes_on = goes u (or_left (nat_eq u u) (list_any (nat_eq u) others) (same u)) },
+    offers_good legs left others b (λ v h. goes v (or_right (nat_eq v u) (list_any (nat_eq v) others) h)),
+  )
 
   -- a part of the leg
   part_begun : (before : List Leg) (p : Place) (left t : ℕ) (others : List ℕ) (leg : Leg) (e : ℕ) → Stands before p left t others leg → suc e < leg.turns
@@ -93,14 +94,15 @@ module _ (start : Place) (tells : List ℕ → Bool → Type 0) where
       let n = leg.turns - 2 in
       let many : leg.turns ≡ suc (suc n) = omega (arith, less) in
       let told : AreTold tells (schedule_of before) (turns_with leg.thread leg.over (suc (suc n))) =
-          subst (λ (k : ℕ). AreTold tells (schedule_of before) (turns_with leg.thread leg.over k)) many s.told in
-      (begun_with before (part_of leg.thread (suc e)) s.begun
-        (subst (λ (q : Place). is_within q (turns_with leg.thread false (suc e)) ≡ true) (sym s.here)
-          (within_with p leg.thread false e (subst (λ (k : ℕ). may p k ≡ true) (sym s.thread) s.goes.0)))
-        (told_part tells (schedule_of before) leg.thread leg.over e n (omega (arith, less)) told)
-        (omega arith, s.known leg.thread (s.can leg.thread (subst (λ (k : ℕ). IsAmong (t ∷ others) k) (sym s.thread) (or_left (nat_eq t t) (list_any (nat_eq t) others) (same t))))),
-       place_with before (part_of leg.thread (suc e)) ∙ ap (λ (q : Place). after_all q (turns_with leg.thread false (suc e))) s.here
-        ∙ after_part p leg.thread e ∙ ap (within_leg p) s.thread)
+      subst (λ (k : ℕ). AreTold tells (schedule_of before) (turns_with leg.thread leg.over k)) many s.told in (
+        begun_with before (part_of leg.thread (suc e)) s.begun
+            (subst (λ (q : Place). is_within q (turns_with leg.thread false (suc e)) ≡ true) (sym s.here)
+            (within_with p leg.thread false e (subst (λ (k : ℕ). may p k ≡ true) (sym s.thread) s.goes.0)))
+            (told_part tells (schedule_of before) leg.thread leg.over e n (omega (arith, less)) told)
+            (omega arith, s.known leg.thread (s.can leg.thread (subst (λ (k : ℕ). IsAmong (t ∷ others) k) (sym s.thread) (or_left (nat_eq t t) (list_any (nat_eq t) others) (same t))))),
+        place_with before (part_of leg.thread (suc e)) ∙ ap (λ (q : Place). after_all q (turns_with leg.thread false (suc e))) s.here
+            ∙ after_part p leg.thread e ∙ ap (within_leg p) s.thread,
+      )
 
   within_good : (before : List Leg) (p : Place) (left t : ℕ) (others : List ℕ) (leg : Leg) (n : ℕ) → Stands before p (suc left) t others leg → n + 1 ≤ leg.turns
       → AllByRecursion (IsOffer start tells) (offers_within before left others leg.thread n)
@@ -110,16 +112,17 @@ module _ (start : Place) (tells : List ℕ → Bool → Type 0) where
       all_append (IsOffer start tells) (offers_within before left others leg.thread n) (offers_to (before ++ part_of leg.thread (suc n) ∷ []) left others)
       (within_good before p left t others leg n s (omega (arith, less)))
       (offers_good (before ++ part_of leg.thread (suc n) ∷ []) left others k.0
-        (λ u h. subst (λ (q : Place). GoesOn q left u) (sym k.1) (goes u h)))
+      (λ u h. subst (λ (q : Place). GoesOn q left u) (sym k.1) (goes u h)))
     where
       left_is : (within_leg p t).left ≡ suc left
       left_is = s.goes.1
 
       goes : (u : ℕ) → IsAmong others u → GoesOn (within_leg p t) left u
       goes u h =
-          let other = others_are u t others s.apart.0 h in
-          (may_switch p t u (s.can u (or_right (nat_eq u t) (list_any (nat_eq u) others) h)) (omega (arith, left_is)),
-           cond-true (is_switch (Some t) u) ((within_leg p t).left - 1) (within_leg p t).left (not_from_false (nat_eq t u) (differ t u other)) ∙ omega (arith, left_is))
+          let other = others_are u t others s.apart.0 h in (
+            may_switch p t u (s.can u (or_right (nat_eq u t) (list_any (nat_eq u) others) h)) (omega (arith, left_is)),
+            cond-true (is_switch (Some t) u) ((within_leg p t).left - 1) (within_leg p t).left (not_from_false (nat_eq t u) (differ t u other)) ∙ omega (arith, left_is),
+          )
 
   switches_good : (before : List Leg) (p : Place) (left t : ℕ) (others : List ℕ) (leg : Leg) → Stands before p left t others leg
       → AllByRecursion (IsOffer start tells) (switches_in before left others leg)
@@ -130,13 +133,14 @@ module _ (start : Place) (tells : List ℕ → Bool → Type 0) where
   leg_begun : (before : List Leg) (p : Place) (left t : ℕ) (others : List ℕ) (leg : Leg) → Stands before p left t others leg
       → Begun (before ++ leg ∷ []) × (after_all start (turns_of (before ++ leg ∷ [])) ≡ after_leg p t)
   leg_begun before p left t others leg s =
-      let whole = whole_leg t leg s.thread s.over s.some in
-      (begun_with before leg s.begun
-        (subst (λ (q : Place). is_within q (turns_with leg.thread leg.over leg.turns) ≡ true) (sym s.here)
-          (subst (λ (l : List Turn). is_within p l ≡ true) (sym whole) (within_with p t true (leg.turns - 1) s.goes.0)))
-        s.told
-        (s.some, s.known leg.thread (s.can leg.thread (subst (λ (k : ℕ). IsAmong (t ∷ others) k) (sym s.thread) (or_left (nat_eq t t) (list_any (nat_eq t) others) (same t))))),
-       place_with before leg ∙ (λ i. after_all (s.here i) (whole i)) ∙ after_whole p t (leg.turns - 1))
+      let whole = whole_leg t leg s.thread s.over s.some in (
+        begun_with before leg s.begun
+            (subst (λ (q : Place). is_within q (turns_with leg.thread leg.over leg.turns) ≡ true) (sym s.here)
+            (subst (λ (l : List Turn). is_within p l ≡ true) (sym whole) (within_with p t true (leg.turns - 1) s.goes.0)))
+            s.told
+            (s.some, s.known leg.thread (s.can leg.thread (subst (λ (k : ℕ). IsAmong (t ∷ others) k) (sym s.thread) (or_left (nat_eq t t) (list_any (nat_eq t) others) (same t))))),
+        place_with before leg ∙ (λ i. after_all (s.here i) (whole i)) ∙ after_whole p t (leg.turns - 1),
+      )
 
   -- the others after it
   goes_after : (p : Place) (left t : ℕ) (others : List ℕ) → GoesOn p left t → AreApart (t ∷ others) → ((u : ℕ) → IsAmong (t ∷ others) u → IsAmong p.going u)
@@ -160,22 +164,31 @@ module _ (start : Place) (tells : List ℕ → Bool → Type 0) where
   offered_good before p left (t ∷ others) (leg ∷ legs) ends begun here goes can known apart told =
       let parts = told_split tells (schedule_of before) (turns_with leg.thread leg.over leg.turns) (turns_of legs) told in
       let s : Stands before p left t others leg = record {
-        begun = begun; here = here; goes = goes; can = can; known = known; apart = apart;
-        thread = ends.0; over = ends.1; some = ends.2; told = parts.0;
+        begun = begun;
+        here = here;
+        goes = goes;
+        can = can;
+        known = known;
+        apart = apart;
+        thread = ends.0;
+        over = ends.1;
+        some = ends.2;
+        told = parts.0;
       } in
       let whole = leg_begun before p left t others leg s in
       let after_goes = goes_after p left t others goes apart can in
       let rest = offered_good (before ++ leg ∷ []) (after_leg p t) left others legs ends.3 whole.0 whole.1 (first_of others after_goes)
-          (λ u h. without_in u t p.going (can u (or_right (nat_eq u t) (list_any (nat_eq u) others) h)) (others_are u t others apart.0 h))
-          (λ u h. known u (without_out u t p.going h).0) apart.1
-          (subst (λ (l : List ℕ). AreTold tells l (turns_of legs)) (ap (λ (l : List ℕ). schedule_of before ++ l) (threads_with leg.thread leg.over leg.turns) ∙ sym (schedule_more before leg)) parts.1) in
-      (all_append (IsOffer start tells) (switches_in before left others leg) (offers_to (before ++ leg ∷ []) left (drop 1 others) ++ offered (before ++ leg ∷ []) left others legs)
-        (switches_good before p left t others leg s)
-        (all_append (IsOffer start tells) (offers_to (before ++ leg ∷ []) left (drop 1 others)) (offered (before ++ leg ∷ []) left others legs)
-          (offers_good (before ++ leg ∷ []) left (drop 1 others) whole.0
+      (λ u h. without_in u t p.going (can u (or_right (nat_eq u t) (list_any (nat_eq u) others) h)) (others_are u t others apart.0 h))
+      (λ u h. known u (without_out u t p.going h).0) apart.1
+      (subst (λ (l : List ℕ). AreTold tells l (turns_of legs)) (ap (λ (l : List ℕ). schedule_of before ++ l) (threads_with leg.thread leg.over leg.turns) ∙ sym (schedule_more before leg)) parts.1) in (
+        all_append (IsOffer start tells) (switches_in before left others leg) (offers_to (before ++ leg ∷ []) left (drop 1 others) ++ offered (before ++ leg ∷ []) left others legs)
+            (switches_good before p left t others leg s)
+            (all_append (IsOffer start tells) (offers_to (before ++ leg ∷ []) left (drop 1 others)) (offered (before ++ leg ∷ []) left others legs)
+            (offers_good (before ++ leg ∷ []) left (drop 1 others) whole.0
             (λ u h. subst (λ (q : Place). GoesOn q left u) (sym whole.1) (after_goes u (drop_among others u h))))
-          rest.0),
-       subst Begun (append_assoc before (leg ∷ []) legs) rest.1)
+            rest.0),
+        subst Begun (append_assoc before (leg ∷ []) legs) rest.1,
+      )
     where
       first_of : (us : List ℕ) → ((u : ℕ) → IsAmong us u → GoesOn (after_leg p t) left u) → FirstGoesOn (after_leg p t) left us
       first_of [] g = tt

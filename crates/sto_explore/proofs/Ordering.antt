@@ -38,9 +38,9 @@ filter_out f u (v ∷ vs) h = by (f v) refl (λ there. filter_out f u vs there)
     by : (b : Bool) → f v ≡ b → (IsAmong (filter f vs) u → IsAmong vs u × (f u ≡ true)) → IsAmong (v ∷ vs) u × (f u ≡ true)
     by true is rec = elim (or_cases (nat_eq u v) (list_any (nat_eq u) (filter f vs))
         (subst (λ (l : List ℕ). IsAmong l u) (cond-true (f v) (v ∷ filter f vs) (filter f vs) is) h)) [
-      | inl here ↦ (or_left (nat_eq u v) (list_any (nat_eq u) vs) here, subst (λ (n : ℕ). f n ≡ true) (sym (eqb-true u v here)) is)
-      | inr there ↦ further (rec there)
-    ]
+          | inl here ↦ (or_left (nat_eq u v) (list_any (nat_eq u) vs) here, subst (λ (n : ℕ). f n ≡ true) (sym (eqb-true u v here)) is)
+          | inr there ↦ further (rec there)
+        ]
     by false is rec = further (rec (subst (λ (l : List ℕ). IsAmong l u) (cond-false (f v) (v ∷ filter f vs) (filter f vs) is) h))
 
 apart_filter : (f : ℕ → Bool) (xs : List ℕ) → AreApart xs → AreApart (filter f xs)
@@ -77,15 +77,16 @@ pub going_out : (threads : List ℕ) (legs : List Leg) (p : Place) (u : ℕ) →
 going_out threads [] p u fit h = (h, refl)
 going_out threads (leg ∷ legs) p u fit h =
     by leg.over refl (going_out threads legs (after_all p (turns_with leg.thread leg.over leg.turns)) u fit.1
-      (subst (λ (q : Place). IsAmong q.going u) (after_append p (turns_with leg.thread leg.over leg.turns) (turns_of legs)) h))
+    (subst (λ (q : Place). IsAmong q.going u) (after_append p (turns_with leg.thread leg.over leg.turns) (turns_of legs)) h))
   where
     by : (b : Bool) → leg.over ≡ b → (IsAmong (after_all p (turns_with leg.thread leg.over leg.turns)).going u × (ended legs u ≡ false)) → IsAmong p.going u × (ended (leg ∷ legs) u ≡ false)
     by true is k =
         let out = without_out u leg.thread p.going (subst (λ (l : List ℕ). IsAmong l u) (after_one p leg true is fit.0.0) k.0) in
         (out.0, or_from (leg.over && nat_eq leg.thread u) (ended legs u) (ap (λ (b : Bool). b && nat_eq leg.thread u) is ∙ differ leg.thread u out.1) k.1)
-    by false is k =
-        (subst (λ (l : List ℕ). IsAmong l u) (after_one p leg false is fit.0.0) k.0,
-         or_from (leg.over && nat_eq leg.thread u) (ended legs u) (and_left leg.over (nat_eq leg.thread u) is) k.1)
+    by false is k = (
+      subst (λ (l : List ℕ). IsAmong l u) (after_one p leg false is fit.0.0) k.0,
+      or_from (leg.over && nat_eq leg.thread u) (ended legs u) (and_left leg.over (nat_eq leg.thread u) is) k.1,
+    )
 
 going_in : (threads : List ℕ) (legs : List Leg) (p : Place) (u : ℕ) → AllByRecursion (IsFit threads) legs
     → IsAmong p.going u → ended legs u ≡ false → IsAmong (after_all p (turns_of legs)).going u
@@ -113,7 +114,7 @@ offer_ordered start tells o apart h = record {
   apart = (
     false_from_ne_true (list_any (nat_eq o.next) (filter f start.going)) (λ k. both_ways (not (nat_eq o.next o.next)) (not_from_true (nat_eq o.next o.next) (same o.next))
         (and_parts (not (nat_eq o.next o.next)) (not (ended o.legs o.next)) (filter_out f o.next start.going k).1).0),
-    apart_filter f start.going apart
+    apart_filter f start.going apart,
   );
   first = h.goes_on;
 }

@@ -45,15 +45,15 @@ walk q thread ts zero stay [] = inl refl
 walk q thread ts (suc m) stay [] = inl refl
 walk q thread ts zero stay (u ∷ rest) = elim (cases_Bool (nat_eq u thread)) [
   | inl agrees ↦ inr (inr (record {
-      rest = rest;
-      passes = ap (λ (n : ℕ). n ∷ rest) (eqb-true u thread agrees);
-      as_rest = cond-true (nat_eq u thread) (follows (after_leg q thread) ts rest) (not (may q u)) agrees;
-    }))
+    rest = rest;
+    passes = ap (λ (n : ℕ). n ∷ rest) (eqb-true u thread agrees);
+    as_rest = cond-true (nat_eq u thread) (follows (after_leg q thread) ts rest) (not (may q u)) agrees;
+  }))
   | inr differs ↦ elim (leaving q thread u 1 rest (follows q (turns_with thread true 1 ++ ts) (u ∷ rest)) (omega arith) differs
       (cond-false (nat_eq u thread) (follows (after_leg q thread) ts rest) (not (may q u)) differs)) [
-      | inl is ↦ inl is
-      | inr away ↦ inr (inl away)
-    ]
+        | inl is ↦ inl is
+        | inr away ↦ inr (inl away)
+      ]
 ]
 walk q thread ts (suc m) stay (u ∷ rest) = by (cases_Bool (nat_eq u thread)) (walk q thread ts m stay rest)
   where
@@ -83,9 +83,9 @@ walk q thread ts (suc m) stay (u ∷ rest) = by (cases_Bool (nat_eq u thread)) (
     }))
     by (inr differs) other = elim (leaving q thread u (suc (suc m)) rest now (omega arith) differs
         (cond-false (nat_eq u thread) (follows (within_leg q thread) (turns_with thread true (suc m) ++ ts) rest) (not (may q u)) differs)) [
-      | inl is ↦ inl is
-      | inr away ↦ inr (inl away)
-    ]
+          | inl is ↦ inl is
+          | inr away ↦ inr (inl away)
+        ]
 
 -- a leg, of which the schedule has the first turn
 abbrev Crosses : Place → ℕ → List Turn → ℕ → List ℕ → Type 0

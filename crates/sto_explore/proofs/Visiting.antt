@@ -52,7 +52,7 @@ module _ {P : Type 0} (start : Place) (tells : List ℕ → Bool → Type 0) (re
   visited holds held legs made all left order report was now h ends told reported whole added held_then =
       let p = after_all start (turns_of legs) in
       let good = offered_good start tells legs p left order made ends h.begun refl h.first h.can
-          (λ u k. (going_out start.going legs start u h.begun.fit k).0) h.apart told in
+      (λ u k. (going_out start.going legs start u h.begun.fit k).0) h.apart told in
       let begun : IsBegun start tells all = subst (IsBegun start tells) (sym whole) good.1 in
       record {
         x = record { legs = all; report = report };
@@ -133,9 +133,9 @@ module _ {P : Type 0} (start : Place) (tells : List ℕ → Bool → Type 0) (re
       any_cases f (x ∷ xs) ys h = elim (or_cases (f x) (list_any f (xs ++ ys)) h) [
         | inl here ↦ inl (or_left (f x) (list_any f xs) here)
         | inr there ↦ elim (any_cases f xs ys there) [
-            | inl a ↦ inl (or_right (f x) (list_any f xs) a)
-            | inr b ↦ inr b
-          ]
+          | inl a ↦ inl (or_right (f x) (list_any f xs) a)
+          | inr b ↦ inr b
+        ]
       ]
 
       from : (s : List ℕ) → (followed was.xs s ≡ true) ⊎ (list_any (Q s) todo ≡ true) → Goal s
@@ -143,21 +143,25 @@ module _ {P : Type 0} (start : Place) (tells : List ℕ → Bool → Type 0) (re
       from s (inr h) = elim (any_cases (Q s) rest (o ∷ []) (subst (λ (l : List Offer). list_any (Q s) l ≡ true) popped h)) [
         | inl a ↦ in_now s (any_left (Q s) rest v.offers a)
         | inr b ↦ elim (or_cases (Q s o) false b) [
-            | inl c ↦ (let k = begins_split (path_of o) s c in taken s k.0 k.1)
-            | inr c ↦ absurd (false≢true c)
-          ]
+          | inl c ↦ (let k = begins_split (path_of o) s c in taken s k.0 k.1)
+          | inr c ↦ absurd (false≢true c)
+        ]
       ]
 
   -- at the end
   pub all_explored : (held : List (Found P) → Type 0) → (todo : List Offer) → todo ≡ [] → IsUnderWay start tells reports held todo
       → (xs : List (Found P)) × held xs × AreExplored start tells reports xs
-  all_explored held todo none was = (was.xs, was.holds, record {
-    each = was.each;
-    complete = λ s. (elim (was.complete s) [
-      | inl is ↦ is
-      | inr is ↦ absurd (false≢true (subst (λ (l : List Offer). list_any (λ (o : Offer). begins (path_of o) s) l ≡ true) none is))
-    ]);
-  })
+  all_explored held todo none was = (
+    was.xs,
+    was.holds,
+    record {
+      each = was.each;
+      complete = λ s. (elim (was.complete s) [
+        | inl is ↦ is
+        | inr is ↦ absurd (false≢true (subst (λ (l : List Offer). list_any (λ (o : Offer). begins (path_of o) s) l ≡ true) none is))
+      ]);
+    },
+  )
 
   -- the offer that is taken up
   pub last_offer : (todo rest : List Offer) (o : Offer) → todo ≡ rest ++ o ∷ [] → AllByRecursion (IsOffer start tells) todo → IsOffer start tells o

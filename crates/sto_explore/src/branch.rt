@@ -2,6 +2,7 @@
 ghost use Rattle.std.specs.Prelude.{◌≡◌, ◌++◌, ◌&&◌, [], ◌∷◌, length, map, drop, not, nat_eq, OnOk, IfOk};
 ghost use Rattle.sto_explore.specs.Branches.{offer_of, offers_to, switches_in, offered};
 ghost use Rattle.sto_explore.specs.Exploring.{ended, order_after};
+
 use crate::leg::Leg;
 use std::alloc::Global;
 use sto_part::NoMemory;

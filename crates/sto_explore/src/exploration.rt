@@ -44,7 +44,7 @@ fn visit<P: Drop, R: Runs<P>, G: Gathers<P>>(
     requires order { AllByRecursion (IsAmong (R.threads runs.now)) order.now }
     ensures { OnOk result ((start : Place) → IsOrdered start (R.tells runs.now) decided.items left order.now
         → HasVisited start (R.tells runs.now) (R.reports runs.now) (G.holds found.old) (G.holds found.new) decided.items order.now
-            (map offer_of todo.old.items) (map offer_of todo.new.items)) }
+        (map offer_of todo.old.items) (map offer_of todo.new.items)) }
 {
     let first = decided.as_slice();
     let ran = runs.run(alloc, first, order)?;
@@ -66,7 +66,7 @@ fn take_up<P: Drop, R: Runs<P>, G: Gathers<P>>(
     requires { (start : Place) × (start.going ≡ R.threads runs.now) × IsOffer start (R.tells runs.now) (offer_of branch) }
     ensures { OnOk result ((start : Place) → start.going ≡ R.threads runs.now → IsOffer start (R.tells runs.now) (offer_of branch)
         → HasVisited start (R.tells runs.now) (R.reports runs.now) (G.holds found.old) (G.holds found.new) branch.decided.items
-            (order_after (R.threads runs.now) branch.decided.items branch.next) (map offer_of todo.old.items) (map offer_of todo.new.items)) }
+        (order_after (R.threads runs.now) branch.decided.items branch.next) (map offer_of todo.old.items) (map offer_of todo.new.items)) }
 {
     let Branch {
         decided,

@@ -10,9 +10,12 @@ use Rattle.sto_explore.proofs.exploration.explore.Goals as goal
 pub take_up-requires : goal.take_up-requires
 take_up-requires g c =
     let start = start_of c.args.switches (g.R.Runs.threads c.args.runs.now) in
-    let popped : c.loop.todo.items ≡ c.pop.new.self.items ++ c.in-Some.branch ∷ [] = search rules in
-    (start, refl, last_offer start (g.R.Runs.tells c.args.runs.now) (g.R.Runs.reports c.args.runs.now) (map offer_of c.loop.todo.items) (map offer_of c.pop.new.self.items) (offer_of c.in-Some.branch)
-      (ap (map offer_of) popped ∙ map-append offer_of c.pop.new.self.items (c.in-Some.branch ∷ [])) c.loop.invariant.offers)
+    let popped : c.loop.todo.items ≡ c.pop.new.self.items ++ c.in-Some.branch ∷ [] = search rules in (
+      start,
+      refl,
+      last_offer start (g.R.Runs.tells c.args.runs.now) (g.R.Runs.reports c.args.runs.now) (map offer_of c.loop.todo.items) (map offer_of c.pop.new.self.items) (offer_of c.in-Some.branch)
+          (ap (map offer_of) popped ∙ map-append offer_of c.pop.new.self.items (c.in-Some.branch ∷ [])) c.loop.invariant.offers,
+    )
 
 pub loop-preserved : goal.loop-preserved
 loop-preserved g c =
