@@ -1,0 +1,5 @@
+pub mod Schedules
+pub mod Legs
+pub mod Explored
+pub mod Branches
+pub mod Exploring

@@ -1,0 +1,128 @@
+//! One run by each schedule.
+ghost use Rattle.std.specs.Prelude.{◌≡◌, [], OnOk, IfOk, List, map};
+ghost use Rattle.std.specs.List.{AllByRecursion};
+ghost use Rattle.sto_explore.specs.declared.exploration.Stopped.TheVariants.{NoMemory};
+ghost use Rattle.sto_explore.specs.Schedules.{Place};
+ghost use Rattle.sto_explore.specs.Legs.{IsAmong};
+ghost use Rattle.sto_explore.specs.Branches.{offer_of};
+ghost use Rattle.sto_explore.specs.Exploring.{IsOffer, IsOrdered, HasVisited, IsUnderWay, order_after};
+ghost use Rattle.sto_explore.specs.Explored.{Found, AreExplored, start_of};
+
+use crate::branch::{Branch, offer_all, offer_others, order_of};
+use crate::leg::Leg;
+use crate::runs::{Gathers, Ran, Runs};
+use std::alloc::Global;
+use sto_part::NoMemory;
+
+/// Why an exploration was given up.
+#[derive(Clone, Copy)]
+pub enum Stopped {
+    NoMemory,
+    /// There are more schedules than may be tried.
+    TooMany,
+}
+
+impl From<NoMemory> for Stopped {
+    ghost from_gives = { λ _ e. e ≡ NoMemory };
+
+    fn from(_no: NoMemory) -> Stopped {
+        Stopped::NoMemory
+    }
+}
+
+// Makes one run, hands it on, and adds a branch for each other thread that may go on after its first turn.
+fn visit<P: Drop, R: Runs<P>, G: Gathers<P>>(
+    runs: &R,
+    alloc: Global,
+    todo: &mut Vec<Branch>,
+    found: &mut G,
+    decided: Vec<Leg>,
+    left: u32,
+    order: &[u32],
+) -> Result<(), NoMemory>
+    requires decided { AllByRecursion (λ leg. IsAmong (R.threads runs.now) leg.thread) decided.items }
+    requires order { AllByRecursion (IsAmong (R.threads runs.now)) order.now }
+    ensures { OnOk result ((start : Place) → IsOrdered start (R.tells runs.now) decided.items left order.now
+        → HasVisited start (R.tells runs.now) (R.reports runs.now) (G.holds found.old) (G.holds found.new) decided.items order.now
+        (map offer_of todo.old.items) (map offer_of todo.new.items)) }
+{
+    let first = decided.as_slice();
+    let ran = runs.run(alloc, first, order)?;
+    let Ran { legs, report } = ran;
+    let made = legs.as_slice();
+    let all = offer_all(alloc, todo, decided, left, order, made)?;
+    found.add(alloc, all, report)?;
+    Ok(())
+}
+
+// Makes the run of a branch.
+fn take_up<P: Drop, R: Runs<P>, G: Gathers<P>>(
+    runs: &R,
+    alloc: Global,
+    todo: &mut Vec<Branch>,
+    found: &mut G,
+    branch: Branch,
+) -> Result<(), NoMemory>
+    requires { (start : Place) × (start.going ≡ R.threads runs.now) × IsOffer start (R.tells runs.now) (offer_of branch) }
+    ensures { OnOk result ((start : Place) → start.going ≡ R.threads runs.now → IsOffer start (R.tells runs.now) (offer_of branch)
+        → HasVisited start (R.tells runs.now) (R.reports runs.now) (G.holds found.old) (G.holds found.new) branch.decided.items
+        (order_after (R.threads runs.now) branch.decided.items branch.next) (map offer_of todo.old.items) (map offer_of todo.new.items)) }
+{
+    let Branch {
+        decided,
+        next,
+        left,
+    } = branch;
+    let all = runs.threads();
+    let legs = decided.as_slice();
+    let order = order_of(alloc, all, legs, next)?;
+    let ordered = order.as_slice();
+    visit(runs, alloc, todo, found, decided, left, ordered)?;
+    Ok(())
+}
+
+// Makes the first run, each thread from its beginning to its end.
+fn begin<P: Drop, R: Runs<P>, G: Gathers<P>>(
+    runs: &R,
+    alloc: Global,
+    switches: u32,
+    found: &mut G,
+) -> Result<Vec<Branch>, NoMemory>
+    requires { G.holds found.old [] }
+    ensures { IfOk result (λ todo. IsUnderWay (start_of switches (R.threads runs.now)) (R.tells runs.now) (R.reports runs.now)
+        (G.holds found.new) (map offer_of todo.items)) }
+{
+    let mut todo = Vec::new(alloc);
+    let none = Vec::new(alloc);
+    let all = runs.threads();
+    offer_others(alloc, &mut todo, none.as_slice(), switches, all)?;
+    visit(runs, alloc, &mut todo, found, none, switches, all)?;
+    Ok(todo)
+}
+
+/// Makes one run by each schedule with at most so many switches away from a thread that could go on, and hands each on. Where there are
+/// more schedules than the limit, which is at least 1, the rest is given up.
+pub fn explore<P: Drop, R: Runs<P>, G: Gathers<P>>(
+    runs: &R,
+    alloc: Global,
+    switches: u32,
+    limit: u32,
+    found: &mut G,
+) -> Result<(), Stopped>
+    requires { G.holds found.old [] }
+    ensures { OnOk result ((xs : List (Found P)) × G.holds found.new xs
+        × AreExplored (start_of switches (R.threads runs.now)) (R.tells runs.now) (R.reports runs.now) xs) }
+{
+    let mut todo = begin(runs, alloc, switches, found)?;
+    for _ in 1..limit {
+        match todo.pop() {
+            Some(branch) => take_up(runs, alloc, &mut todo, found, branch)?,
+            None => return Ok(()),
+        }
+    }
+    if todo.is_empty() {
+        Ok(())
+    } else {
+        Err(Stopped::TooMany)
+    }
+}
