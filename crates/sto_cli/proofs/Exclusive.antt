@@ -21,10 +21,10 @@ reads Upgrade bytes fault h = refl
 reads (Gen number) bytes fault h = absurd h
 reads (Bench number threads) bytes fault h = absurd h
 
-pub same_Ok : {A E : Type 0} (x y : A) → ◌≡◌ {A = Result A E} (Ok x) (Ok y) → x ≡ y
+same_Ok : {A E : Type 0} (x y : A) → ◌≡◌ {A = Result A E} (Ok x) (Ok y) → x ≡ y
 same_Ok x y e = cc
 
-no_fault : (bytes : List ℕ) (file : File) (fault : InputFault) → file_of bytes ≡ Ok file → IsScriptFault bytes fault → ⊥
+pub no_fault : (bytes : List ℕ) (file : File) (fault : InputFault) → file_of bytes ≡ Ok file → IsScriptFault bytes fault → ⊥
 no_fault bytes file (Script fault) e f = true≢false (ap is_ok (sym e ∙ f))
 no_fault bytes file NoReport e f = f
 no_fault bytes file LongTrace e f = f
