@@ -1,0 +1,1 @@
+pub use Rattle.sto_model.specs.Told

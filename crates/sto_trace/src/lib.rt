@@ -1,7 +1,11 @@
 //! Traces of runs: what each event did and found, as data.
 #![tactic(auto)]
 
+mod replies;
+
+pub use replies::replies_past;
 use sto_attempt_log::Verdict;
+use sto_model::Replies;
 use sto_part::List;
 use sto_version::Version;
 
@@ -41,15 +45,15 @@ pub enum Deed {
 }
 
 /// One event of a run: who made it, what it did, and where it led the attempt.
-#[derive(Clone, Copy, PartialEq, Eq, Debug)]
+#[derive(Drop)]
 pub struct Step {
     /// The script thread.
     pub thread: u32,
     /// The position of its transaction, from 1.
     pub position: u32,
     pub deed: Deed,
-    /// How many calls of the attempt have been answered after it.
-    pub heard: u32,
+    /// What further calls of the attempt were answered, in order.
+    pub replies: Replies,
     /// How the attempt ended with it, if it did.
     pub end: Option<Verdict>,
 }

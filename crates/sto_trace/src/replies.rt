@@ -1,0 +1,44 @@
+//! Copies of replies.
+ghost use Rattle.std.specs.Prelude.{◌≡◌, map, drop, IfOk};
+ghost use Rattle.sto_model.specs.Told.{told};
+
+use std::alloc::Global;
+use sto_model::{Replies, Reply};
+use sto_part::{List, NoMemory};
+
+// The same reply in room of its own.
+fn copied(reply: &Reply) -> Result<Reply, NoMemory>
+    ensures { IfOk result (λ copy. told copy ≡ told reply.now) }
+{
+    match reply {
+        Reply::Done => Ok(Reply::Done),
+        Reply::Value(value) => Ok(Reply::Value(*value)),
+        Reply::Flag(yes) => Ok(Reply::Flag(*yes)),
+        Reply::Absent => Ok(Reply::Absent),
+        Reply::Full => Ok(Reply::Full),
+        Reply::Range => Ok(Reply::Range),
+        Reply::Pairs(pairs) => Ok(Reply::Pairs(pairs.copied()?)),
+    }
+}
+
+// Copies of all these replies.
+fn all_copied(alloc: Global, replies: &[Reply]) -> Result<Replies, NoMemory>
+    ensures { IfOk result (λ copies. map told copies.items ≡ map told replies.now) }
+{
+    let mut copies = List::new(alloc);
+    for reply in replies {
+        copies.push(copied(reply)?)?;
+    }
+    Ok(copies)
+}
+
+/// Copies of the replies past the first so many; none where there are no more.
+pub fn replies_past(alloc: Global, replies: &[Reply], heard: usize) -> Result<Replies, NoMemory>
+    ensures { IfOk result (λ copies. map told copies.items ≡ drop heard (map told replies.now)) }
+{
+    if heard < replies.len() {
+        all_copied(alloc, &replies[heard..])
+    } else {
+        Ok(List::new(alloc))
+    }
+}
