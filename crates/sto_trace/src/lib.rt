@@ -1,8 +1,10 @@
-//! Traces of runs: what each event did and found, as data.
+//! Traces of runs: what each event did and found.
 #![tactic(auto)]
 
+mod noting;
 mod replies;
 
+pub use noting::Noting;
 pub use replies::replies_past;
 use sto_attempt_log::Verdict;
 use sto_model::Replies;

@@ -1,5 +1,5 @@
 //! Copies of replies.
-ghost use Rattle.std.specs.Prelude.{◌≡◌, map, drop, IfOk};
+ghost use Rattle.std.specs.Prelude.{◌≡◌, ◌<◌, ◌^◌, length, map, drop, IfOk};
 ghost use Rattle.sto_model.specs.Told.{told};
 
 use std::alloc::Global;
@@ -23,7 +23,8 @@ fn copied(reply: &Reply) -> Result<Reply, NoMemory>
 
 // Copies of all these replies.
 fn all_copied(alloc: Global, replies: &[Reply]) -> Result<Replies, NoMemory>
-    ensures { IfOk result (λ copies. map told copies.items ≡ map told replies.now) }
+    requires few { length replies.now < 2 ^ 32 }
+    ensures copied { IfOk result (λ copies. map told copies.items ≡ map told replies.now) }
 {
     let mut copies = List::new(alloc);
     for reply in replies {
@@ -33,11 +34,12 @@ fn all_copied(alloc: Global, replies: &[Reply]) -> Result<Replies, NoMemory>
 }
 
 /// Copies of the replies past the first so many; none where there are no more.
-pub fn replies_past(alloc: Global, replies: &[Reply], heard: usize) -> Result<Replies, NoMemory>
-    ensures { IfOk result (λ copies. map told copies.items ≡ drop heard (map told replies.now)) }
+pub fn replies_past(replies: &Replies, heard: u32) -> Result<Replies, NoMemory>
+    ensures { IfOk result (λ copies. map told copies.items ≡ drop heard (map told replies.now.items)) }
 {
+    let alloc = replies.allocator();
     if heard < replies.len() {
-        all_copied(alloc, &replies[heard..])
+        all_copied(alloc, &replies.as_slice()[heard as usize..])
     } else {
         Ok(List::new(alloc))
     }
