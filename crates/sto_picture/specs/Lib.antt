@@ -1,0 +1,7 @@
+pub mod Elements
+pub mod Told
+pub mod Places
+pub mod Views
+pub mod Lanes
+pub mod Attempts
+pub mod Pictures

@@ -1,0 +1,163 @@
+//! What steps tell.
+ghost use Rattle.std.specs.Prelude.{◌≡◌, ◌<◌, ◌≤◌, ◌^◌, true, length};
+ghost use Rattle.std.specs.List.{list_all};
+ghost use Rattle.sto_lang.specs.Ascii.{is_ascii};
+ghost use Rattle.sto_picture.specs.Told.{sign, starts, tries_lock, locked_part, freed_part, released_part, seen_part, is_part, last_before, starts_of, locks_of, sees_of, releases, commits_of, start_of, commit_of};
+
+use sto_trace::{Deed, Step};
+
+/// The sign of a deed.
+pub(crate) fn sign(deed: Deed) -> &'static str
+    ensures sign { result.now ≡ sign deed }
+    ensures ascii { list_all is_ascii result.now ≡ true }
+{
+    match deed {
+        Deed::Start { .. } => "s",
+        Deed::Renew { .. } => "n",
+        Deed::Open { .. } => "o",
+        Deed::Word { .. } => "w",
+        Deed::Close { .. } => "c",
+        Deed::Recheck { .. } => "r",
+        Deed::Lock { .. } => "L",
+        Deed::Test { .. } => "T",
+        Deed::Draw { .. } => "D",
+        Deed::Check { .. } => "C",
+        Deed::Decide { commit: true } => "Y",
+        Deed::Decide { commit: false } => "N",
+        Deed::Put { .. } => "P",
+        Deed::Release { .. } => "R",
+        Deed::Unlock { .. } => "U",
+    }
+}
+
+fn starts(deed: Deed) -> bool
+    ensures { result ≡ starts deed }
+{
+    matches!(deed, Deed::Start { .. })
+}
+
+fn tries_lock(deed: Deed) -> bool
+    ensures { result ≡ tries_lock deed }
+{
+    matches!(deed, Deed::Lock { .. })
+}
+
+/// The part that a deed locked, which was free.
+pub(crate) fn locked_part(deed: Deed) -> Option<u32>
+    ensures { result ≡ locked_part deed }
+{
+    match deed {
+        Deed::Lock { part, version } if !version.is_locked() => Some(part),
+        _ => None,
+    }
+}
+
+/// The part whose lock a deed gave back.
+pub(crate) fn freed_part(deed: Deed) -> Option<u32>
+    ensures { result ≡ freed_part deed }
+{
+    match deed {
+        Deed::Release { part } | Deed::Unlock { part } => Some(part),
+        _ => None,
+    }
+}
+
+fn released_part(deed: Deed) -> Option<u32>
+    ensures { result ≡ released_part deed }
+{
+    match deed {
+        Deed::Release { part } => Some(part),
+        _ => None,
+    }
+}
+
+/// The part whose version a deed looked at.
+fn seen_part(deed: Deed) -> Option<u32>
+    ensures { result ≡ seen_part deed }
+{
+    match deed {
+        Deed::Open { part, .. }
+        | Deed::Close { part, .. }
+        | Deed::Recheck { part, .. }
+        | Deed::Test { part, .. }
+        | Deed::Check { part, .. } => Some(part),
+        _ => None,
+    }
+}
+
+fn is_part(part: u32, other: Option<u32>) -> bool
+    ensures { result ≡ is_part part other }
+{
+    match other {
+        Some(other) => other == part,
+        None => false,
+    }
+}
+
+fn last_start(steps: &[Step], thread: u32, n: u32) -> Option<u32>
+    requires { n ≤ length steps.now }
+    ensures { result ≡ last_before (starts_of thread) steps.now n }
+{
+    let back = steps[..n as usize]
+        .iter()
+        .rev()
+        .position(|step| step.thread == thread && starts(step.deed))?;
+    Some(n - 1 - back as u32)
+}
+
+/// The last step before n with which a thread locked a part.
+pub(crate) fn last_lock(steps: &[Step], thread: u32, part: u32, n: u32) -> Option<u32>
+    requires { n ≤ length steps.now }
+    ensures { result ≡ last_before (locks_of thread part) steps.now n }
+{
+    let back = steps[..n as usize]
+        .iter()
+        .rev()
+        .position(|step| step.thread == thread && is_part(part, locked_part(step.deed)))?;
+    Some(n - 1 - back as u32)
+}
+
+/// The last step before n with which a thread looked at the version of a part.
+pub(crate) fn last_look(steps: &[Step], thread: u32, part: u32, n: u32) -> Option<u32>
+    requires { n ≤ length steps.now }
+    ensures { result ≡ last_before (sees_of thread part) steps.now n }
+{
+    let back = steps[..n as usize]
+        .iter()
+        .rev()
+        .position(|step| step.thread == thread && is_part(part, seen_part(step.deed)))?;
+    Some(n - 1 - back as u32)
+}
+
+/// The last step before n that released a part.
+pub(crate) fn last_release(steps: &[Step], part: u32, n: u32) -> Option<u32>
+    requires { n ≤ length steps.now }
+    ensures { result ≡ last_before (releases part) steps.now n }
+{
+    let back = steps[..n as usize]
+        .iter()
+        .rev()
+        .position(|step| is_part(part, released_part(step.deed)))?;
+    Some(n - 1 - back as u32)
+}
+
+/// The step with which the attempt began that a thread makes with step n.
+pub(crate) fn start_of(steps: &[Step], thread: u32, n: u32) -> u32
+    requires { n < length steps.now }
+    ensures start { result ≡ start_of steps.now thread n }
+    ensures before { result ≤ n }
+{
+    last_start(steps, thread, n + 1).unwrap_or(0)
+}
+
+/// The step with which that attempt began to commit, if it did.
+pub(crate) fn commit_of(steps: &[Step], thread: u32, n: u32) -> Option<u32>
+    requires { n < length steps.now }
+    ensures { result ≡ commit_of steps.now thread n }
+{
+    let start = start_of(steps, thread, n);
+    let more = steps[start as usize..n as usize + 1]
+        .iter()
+        .position(|step| step.thread == thread && tries_lock(step.deed))?;
+    Some(start + more as u32)
+}
