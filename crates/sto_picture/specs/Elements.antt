@@ -2,26 +2,42 @@
 use Rattle.std.specs.Prelude.{ℕ, zero, suc, List, [], ◌∷◌, ◌++◌, codes, decimal}
 
 -- an attribute with a number
-abbrev pub attribute : List ℕ → ℕ → List ℕ
+unfoldable pub attribute : List ℕ → ℕ → List ℕ
 attribute name value = codes " " ++ (name ++ (codes "='" ++ (decimal value ++ codes "'")))
 
+-- an element in a role
+unfoldable pub class_text : List ℕ → List ℕ → List ℕ
+class_text element role = codes "<" ++ (element ++ (codes " class='" ++ (role ++ codes "'")))
+
+-- where an element stands, from the left and from above
+unfoldable pub place_text : ℕ → ℕ → List ℕ
+place_text x y = attribute (codes "x") x ++ attribute (codes "y") y
+
 -- a box in a role, by its left and its upper edge, its width and its height
-abbrev pub box_text : List ℕ → ℕ → ℕ → ℕ → ℕ → List ℕ
+unfoldable pub box_text : List ℕ → ℕ → ℕ → ℕ → ℕ → List ℕ
 box_text role x y width height =
-    codes "<rect class='" ++ (role ++ (codes "'" ++ (attribute (codes "x") x ++ (attribute (codes "y") y ++ (attribute (codes "width") width
-    ++ (attribute (codes "height") height ++ codes "/>\n"))))))
+    class_text (codes "rect") role ++ (place_text x y ++ (attribute (codes "width") width ++ (attribute (codes "height") height ++ codes "/>\n")))
 
 -- words in a role, which begin at x on the line y, or stand around it, as the role says
-abbrev pub words_head : List ℕ → ℕ → ℕ → List ℕ
-words_head role x y = codes "<text class='" ++ (role ++ (codes "'" ++ (attribute (codes "x") x ++ (attribute (codes "y") y ++ codes ">"))))
+unfoldable pub words_head : List ℕ → ℕ → ℕ → List ℕ
+words_head role x y = class_text (codes "text") role ++ (place_text x y ++ codes ">")
 
 abbrev pub words_text : List ℕ → ℕ → ℕ → List ℕ → List ℕ
 words_text role x y words = words_head role x y ++ (words ++ codes "</text>\n")
 
+-- a point of a path
+unfoldable pub point_text : ℕ → ℕ → List ℕ
+point_text x y = codes "M" ++ (decimal x ++ (codes " " ++ decimal y))
+
+-- where a path turns: at this x or y
+unfoldable pub turn_text : List ℕ → ℕ → List ℕ
+turn_text axis to = axis ++ decimal to
+
 -- an arrow from a point to a line above it, along this line, and up to its head
-abbrev pub arrow_text : ℕ → ℕ → ℕ → ℕ → ℕ → List ℕ
+unfoldable pub arrow_text : ℕ → ℕ → ℕ → ℕ → ℕ → List ℕ
 arrow_text x y line to head =
-    codes "<path class='arrow' d='M" ++ (decimal x ++ (codes " " ++ (decimal y ++ (codes "V" ++ (decimal line ++ (codes "H" ++ (decimal to ++ (codes "V" ++ (decimal head ++ codes "'/>\n")))))))))
+    codes "<path class='arrow' d='"
+    ++ (point_text x y ++ (turn_text (codes "V") line ++ (turn_text (codes "H") to ++ (turn_text (codes "V") head ++ codes "'/>\n"))))
 
 -- something for each of the first so many numbers
 abbrev pub each : {X : Type 0} → (ℕ → X) → ℕ → List X

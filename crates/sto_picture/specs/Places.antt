@@ -1,6 +1,6 @@
 -- Where things stand, in units of the picture: from the left for x, from above for y.
-use Rattle.std.specs.Prelude.{ℕ, ◌+◌, ◌*◌, ◌/◌, List, ◌++◌, max, min, length, fold, nat_le, if◌then◌else◌, Option, None, Some, unwrap_or, is_some, slice_get, take, count_by, position, ◌==◌}
-use Rattle.std.specs.Option.{option_map}
+use Rattle.std.specs.Prelude.{ℕ, ◌+◌, ◌-◌, ◌*◌, ◌/◌, List, [], ◌∷◌, ◌++◌, map, max, min, length, fold, nat_le, if◌then◌else◌, Bool, Option, None, Some, unwrap_or, is_some, slice_get, take, count_by, position, ◌==◌}
+use Rattle.std.specs.List.{list_any}
 use Rattle.sto_trace.specs.declared.Step.{Step}
 use Rattle.sto_picture.specs.Views.{Scene, Frame, text_at}
 use Rattle.sto_picture.specs.Told.{locked_part}
@@ -15,7 +15,7 @@ longest texts = fold (λ most text. max most (length text)) 0 texts
 -- the parts so far, and the part that a step locks, where it is not among them
 abbrev pub with_part : List ℕ → Option ℕ → List ℕ
 with_part lanes None = lanes
-with_part lanes (Some part) = elim (position (λ lane. lane == part) lanes) [ None ↦ lanes ++ part ∷ [] | Some lane ↦ lanes ]
+with_part lanes (Some part) = if list_any (λ lane. lane == part) lanes then lanes else (lanes ++ part ∷ [])
 
 -- the parts that are locked, in the order of their first locks
 abbrev pub lanes_of : List Step → List ℕ
@@ -39,13 +39,14 @@ event_width count = if nat_le count 200 then 14 else 8
 
 -- how much further a step goes with which an attempt ends: the name of a part has room there, and no less than 16 characters
 abbrev pub end_width : Scene → ℕ
-end_width scene = 10 + 7 * max 16 (name_width (lane_names scene.parts (lanes_of scene.steps)))
+end_width scene = 10 + 7 * max (name_width (lane_names scene.parts (lanes_of scene.steps))) 16
 
 -- an attempt ends with this step
 abbrev pub ends : Step → Bool
 ends step = is_some step.end
 
--- where the column of step n begins, by where the first begins and the two widths
+-- where the column of step n begins, by where the first begins, the width of an event, and how much further a step goes with which an
+-- attempt ends
 abbrev pub left_of : ℕ → ℕ → ℕ → List Step → ℕ → ℕ
 left_of first event room steps n = first + n * event + count_by ends (take n steps) * room
 
@@ -107,8 +108,8 @@ value_line frame place = lanes_bottom frame + 38 + 15 * place
 abbrev pub legend_top : Scene → Frame → ℕ
 legend_top scene frame = value_line frame (length scene.values)
 
-abbrev pub height : Scene → Frame → ℕ
-height scene frame = legend_top scene frame + 110
+abbrev pub picture_height : Scene → Frame → ℕ
+picture_height scene frame = legend_top scene frame + 110
 
-abbrev pub width : Scene → Frame → ℕ
-width scene frame = max 700 (max (last_right frame + 12) (24 + 7 * longest scene.values))
+abbrev pub picture_width : Scene → Frame → ℕ
+picture_width scene frame = max 700 (max (last_right frame + 12) (24 + 7 * longest scene.values))

@@ -1,5 +1,5 @@
 -- What steps tell: the sign of a deed, what is locked and let go, and where an attempt begins.
-use Rattle.std.specs.Prelude.{ℕ, ◌+◌, ◌-◌, List, ◌==◌, ◌&&◌, Bool, true, false, Option, None, Some, unwrap_or, is_some, if◌then◌else◌, position, reverse, take, drop, codes}
+use Rattle.std.specs.Prelude.{ℕ, ◌+◌, ◌-◌, List, ◌==◌, ◌&&◌, Bool, true, false, Option, None, Some, unwrap_or, is_some, if◌then◌else◌, position, reverse, take, slice_range, codes}
 use Rattle.std.specs.Option.{option_map}
 use Rattle.sto_version.specs.Versions.{is_free}
 use Rattle.sto_trace.specs.declared.Deed.{Deed}
@@ -96,4 +96,4 @@ start_of steps thread n = unwrap_or (last_before (starts_of thread) steps (n + 1
 abbrev pub commit_of : List Step → ℕ → ℕ → Option ℕ
 commit_of steps thread n =
     let start = start_of steps thread n in
-    option_map (λ more. start + more) (position (commits_of thread) (drop start (take (n + 1) steps)))
+    option_map (λ more. start + more) (position (commits_of thread) (slice_range steps start (n + 1)))

@@ -24,11 +24,11 @@ pub record Frame : Type 0 where
 abbrev pub bytes_of : List (Listed ℕ) → List (List ℕ)
 bytes_of texts = map (λ text. text.items) texts
 
-abbrev pub scene : whole.Scene → Scene
-scene s = record { threads = bytes_of s.threads.items; parts = bytes_of s.parts.items; steps = s.steps.items; values = bytes_of s.values.items }
+abbrev pub scene_view : whole.Scene → Scene
+scene_view s = record { threads = bytes_of s.threads.items; parts = bytes_of s.parts.items; steps = s.steps.items; values = bytes_of s.values.items }
 
-abbrev pub frame : measured.Frame → Frame
-frame f = record { threads = f.threads; lanes = f.lanes.items; lefts = f.lefts.items; event = f.event }
+abbrev pub frame_view : measured.Frame → Frame
+frame_view f = record { threads = f.threads; lanes = f.lanes.items; lefts = f.lefts.items; event = f.event }
 
 -- the text with a number
 abbrev pub text_at : List (List ℕ) → ℕ → List ℕ

@@ -1,8 +1,8 @@
 //! What is drawn of attempts.
-ghost use Rattle.std.specs.Prelude.{◌≡◌, ◌++◌, ◌<◌, true, length, OnOk, codes};
+ghost use Rattle.std.specs.Prelude.{◌≡◌, ◌++◌, ◌<◌, ◌^◌, true, length, OnOk, codes};
 ghost use Rattle.std.specs.List.{list_all};
 ghost use Rattle.sto_lang.specs.Ascii.{is_ascii};
-ghost use Rattle.sto_picture.specs.Views.{scene, frame, bytes_of};
+ghost use Rattle.sto_picture.specs.Views.{scene_view, frame_view, bytes_of};
 ghost use Rattle.sto_picture.specs.Attempts.{bar_text, commit_bar, hatch_bar, attempt_bar, end_word, end_cause, end_writer, end_words, sign_text};
 
 use crate::Scene;
@@ -26,7 +26,7 @@ fn push_bar(
     n: u32,
 ) -> Result<(), NoMemory>
     requires { list_all is_ascii role.now ≡ true }
-    ensures { OnOk result (out.new.items ≡ out.old.items ++ bar_text (frame frame.now) role.now thread from n) }
+    ensures { OnOk result (out.new.items ≡ out.old.items ++ bar_text (frame_view frame.now) role.now thread from n) }
 {
     let x = left(frame, from);
     push_box(
@@ -47,7 +47,7 @@ fn push_commit_bar(
     from: Option<u32>,
     n: u32,
 ) -> Result<(), NoMemory>
-    ensures { OnOk result (out.new.items ≡ out.old.items ++ commit_bar (frame frame.now) thread from n) }
+    ensures { OnOk result (out.new.items ≡ out.old.items ++ commit_bar (frame_view frame.now) thread from n) }
 {
     match from {
         Some(from) => push_bar(out, frame, "committing", thread, from, n),
@@ -64,7 +64,7 @@ fn push_hatch(
     from: u32,
     n: u32,
 ) -> Result<(), NoMemory>
-    ensures { OnOk result (out.new.items ≡ out.old.items ++ hatch_bar (frame frame.now) thread end from n) }
+    ensures { OnOk result (out.new.items ≡ out.old.items ++ hatch_bar (frame_view frame.now) thread end from n) }
 {
     match end {
         Verdict::Wrote { .. } | Verdict::Read { .. } | Verdict::Cancelled { .. } => Ok(()),
@@ -83,8 +83,9 @@ pub(crate) fn push_attempt(
     thread: u32,
     end: Option<Verdict>,
 ) -> Result<(), NoMemory>
-    requires { n < length steps.now }
-    ensures { OnOk result (out.new.items ≡ out.old.items ++ attempt_bar (frame frame.now) steps.now n thread end) }
+    requires step { n < length steps.now }
+    requires few { length steps.now < 2 ^ 32 }
+    ensures { OnOk result (out.new.items ≡ out.old.items ++ attempt_bar (frame_view frame.now) steps.now n thread end) }
 {
     let Some(end) = end else {
         return Ok(());
@@ -154,7 +155,7 @@ pub(crate) fn push_end(
     n: u32,
     step: &Step,
 ) -> Result<(), NoMemory>
-    ensures { OnOk result (out.new.items ≡ out.old.items ++ end_words (scene scene.now) (frame frame.now) n step.now step.now.end) }
+    ensures { OnOk result (out.new.items ≡ out.old.items ++ end_words (scene_view scene.now) (frame_view frame.now) n step.now step.now.end) }
 {
     let Some(end) = step.end else {
         return Ok(());
@@ -178,7 +179,7 @@ pub(crate) fn push_sign(
     n: u32,
     step: &Step,
 ) -> Result<(), NoMemory>
-    ensures { OnOk result (out.new.items ≡ out.old.items ++ sign_text (frame frame.now) n step.now) }
+    ensures { OnOk result (out.new.items ≡ out.old.items ++ sign_text (frame_view frame.now) n step.now) }
 {
     push_words(
         out,

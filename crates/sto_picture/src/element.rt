@@ -2,7 +2,7 @@
 ghost use Rattle.std.specs.Prelude.{◌≡◌, ◌++◌, true, OnOk, codes, decimal};
 ghost use Rattle.std.specs.List.{list_all};
 ghost use Rattle.sto_lang.specs.Ascii.{is_ascii};
-ghost use Rattle.sto_picture.specs.Elements.{attribute, box_text, words_head, words_text, arrow_text};
+ghost use Rattle.sto_picture.specs.Elements.{attribute, class_text, place_text, box_text, words_head, words_text, point_text, turn_text, arrow_text};
 
 use itoa::Buffer;
 use sto_lang::Text;
@@ -16,6 +16,7 @@ pub(crate) fn push_number(out: &mut Text, value: u64) -> Result<(), NoMemory>
     out.append(buffer.format(value))
 }
 
+#[tactic(auto, unfolding(crate::specs::Elements::attribute))]
 /// Adds an attribute with a number.
 pub(crate) fn push_attribute(out: &mut Text, name: &str, value: u64) -> Result<(), NoMemory>
     requires { list_all is_ascii name.now ≡ true }
@@ -28,6 +29,30 @@ pub(crate) fn push_attribute(out: &mut Text, name: &str, value: u64) -> Result<(
     out.append("'")
 }
 
+#[tactic(auto, unfolding(crate::specs::Elements::class_text))]
+/// Begins an element in a role.
+fn begin_element(out: &mut Text, element: &str, role: &str) -> Result<(), NoMemory>
+    requires element { list_all is_ascii element.now ≡ true }
+    requires role { list_all is_ascii role.now ≡ true }
+    ensures { OnOk result (out.new.items ≡ out.old.items ++ class_text element.now role.now) }
+{
+    out.append("<")?;
+    out.append(element)?;
+    out.append(" class='")?;
+    out.append(role)?;
+    out.append("'")
+}
+
+#[tactic(auto, unfolding(crate::specs::Elements::place_text))]
+/// Adds where an element stands.
+fn push_place(out: &mut Text, x: u64, y: u64) -> Result<(), NoMemory>
+    ensures { OnOk result (out.new.items ≡ out.old.items ++ place_text x y) }
+{
+    push_attribute(out, "x", x)?;
+    push_attribute(out, "y", y)
+}
+
+#[tactic(auto, unfolding(crate::specs::Elements::box_text))]
 /// Adds a box in a role, by its left and its upper edge, its width and its height.
 pub(crate) fn push_box(
     out: &mut Text,
@@ -40,26 +65,21 @@ pub(crate) fn push_box(
     requires { list_all is_ascii role.now ≡ true }
     ensures { OnOk result (out.new.items ≡ out.old.items ++ box_text role.now x y width height) }
 {
-    out.append("<rect class='")?;
-    out.append(role)?;
-    out.append("'")?;
-    push_attribute(out, "x", x)?;
-    push_attribute(out, "y", y)?;
+    begin_element(out, "rect", role)?;
+    push_place(out, x, y)?;
     push_attribute(out, "width", width)?;
     push_attribute(out, "height", height)?;
     out.append("/>\n")
 }
 
+#[tactic(auto, unfolding(crate::specs::Elements::words_head))]
 /// Begins words in a role, at a place.
 pub(crate) fn begin_words(out: &mut Text, role: &str, x: u64, y: u64) -> Result<(), NoMemory>
     requires { list_all is_ascii role.now ≡ true }
     ensures { OnOk result (out.new.items ≡ out.old.items ++ words_head role.now x y) }
 {
-    out.append("<text class='")?;
-    out.append(role)?;
-    out.append("'")?;
-    push_attribute(out, "x", x)?;
-    push_attribute(out, "y", y)?;
+    begin_element(out, "text", role)?;
+    push_place(out, x, y)?;
     out.append(">")
 }
 
@@ -97,19 +117,36 @@ pub(crate) struct Arrow {
     pub(crate) head: u64,
 }
 
+#[tactic(auto, unfolding(crate::specs::Elements::point_text))]
+/// Adds a point of a path.
+fn push_point(out: &mut Text, x: u64, y: u64) -> Result<(), NoMemory>
+    ensures { OnOk result (out.new.items ≡ out.old.items ++ point_text x y) }
+{
+    out.append("M")?;
+    push_number(out, x)?;
+    out.append(" ")?;
+    push_number(out, y)
+}
+
+#[tactic(auto, unfolding(crate::specs::Elements::turn_text))]
+/// Adds where a path turns.
+fn push_turn(out: &mut Text, axis: &str, to: u64) -> Result<(), NoMemory>
+    requires { list_all is_ascii axis.now ≡ true }
+    ensures { OnOk result (out.new.items ≡ out.old.items ++ turn_text axis.now to) }
+{
+    out.append(axis)?;
+    push_number(out, to)
+}
+
+#[tactic(auto, unfolding(crate::specs::Elements::arrow_text))]
 /// Adds an arrow.
 pub(crate) fn push_arrow(out: &mut Text, arrow: Arrow) -> Result<(), NoMemory>
     ensures { OnOk result (out.new.items ≡ out.old.items ++ arrow_text arrow.x arrow.y arrow.line arrow.to arrow.head) }
 {
-    out.append("<path class='arrow' d='M")?;
-    push_number(out, arrow.x)?;
-    out.append(" ")?;
-    push_number(out, arrow.y)?;
-    out.append("V")?;
-    push_number(out, arrow.line)?;
-    out.append("H")?;
-    push_number(out, arrow.to)?;
-    out.append("V")?;
-    push_number(out, arrow.head)?;
+    out.append("<path class='arrow' d='")?;
+    push_point(out, arrow.x, arrow.y)?;
+    push_turn(out, "V", arrow.line)?;
+    push_turn(out, "H", arrow.to)?;
+    push_turn(out, "V", arrow.head)?;
     out.append("'/>\n")
 }

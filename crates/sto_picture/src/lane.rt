@@ -2,7 +2,7 @@
 ghost use Rattle.std.specs.Prelude.{◌≡◌, ◌+◌, ◌++◌, ◌<◌, ◌≤◌, ◌^◌, true, length, OnOk};
 ghost use Rattle.std.specs.List.{list_all};
 ghost use Rattle.sto_lang.specs.Ascii.{is_ascii};
-ghost use Rattle.sto_picture.specs.Views.{frame};
+ghost use Rattle.sto_picture.specs.Views.{frame_view};
 ghost use Rattle.sto_picture.specs.Lanes.{held_text, lock_text, found_text, seen_text, change_text, lane_text};
 
 use crate::element::{Arrow, push_arrow, push_box, push_words};
@@ -22,7 +22,7 @@ fn push_held(
     from: Option<u32>,
     n: u32,
 ) -> Result<(), NoMemory>
-    ensures { OnOk result (out.new.items ≡ out.old.items ++ held_text (frame frame.now) lane from n) }
+    ensures { OnOk result (out.new.items ≡ out.old.items ++ held_text (frame_view frame.now) lane from n) }
 {
     let (Some(lane), Some(from)) = (lane, from) else {
         return Ok(());
@@ -41,8 +41,9 @@ pub(crate) fn push_lock(
     thread: u32,
     part: Option<u32>,
 ) -> Result<(), NoMemory>
-    requires { n < length steps.now }
-    ensures { OnOk result (out.new.items ≡ out.old.items ++ lock_text (frame frame.now) steps.now n thread part) }
+    requires step { n < length steps.now }
+    requires few { length steps.now < 2 ^ 32 }
+    ensures { OnOk result (out.new.items ≡ out.old.items ++ lock_text (frame_view frame.now) steps.now n thread part) }
 {
     let Some(part) = part else {
         return Ok(());
@@ -60,7 +61,7 @@ fn push_found(
     from: Option<u32>,
     n: u32,
 ) -> Result<(), NoMemory>
-    ensures { OnOk result (out.new.items ≡ out.old.items ++ found_text (frame frame.now) thread lane from n) }
+    ensures { OnOk result (out.new.items ≡ out.old.items ++ found_text (frame_view frame.now) thread lane from n) }
 {
     let (Some(lane), Some(from)) = (lane, from) else {
         return Ok(());
@@ -87,8 +88,9 @@ pub(crate) fn push_change(
     thread: u32,
     end: Option<Verdict>,
 ) -> Result<(), NoMemory>
-    requires { n < length steps.now }
-    ensures { OnOk result (out.new.items ≡ out.old.items ++ change_text (frame frame.now) steps.now n thread end) }
+    requires step { n < length steps.now }
+    requires few { length steps.now < 2 ^ 32 }
+    ensures { OnOk result (out.new.items ≡ out.old.items ++ change_text (frame_view frame.now) steps.now n thread end) }
 {
     let Some(Verdict::Changed { part, .. }) = end else {
         return Ok(());

@@ -8,6 +8,7 @@ mod lane;
 mod measure;
 mod place;
 mod scene;
+mod style;
 mod told;
 mod whole;
 

@@ -1,10 +1,10 @@
 //! The measures of a scene.
-ghost use Rattle.std.specs.Prelude.{◌≡◌, ◌+◌, ◌<◌, ◌≤◌, ◌^◌, true, length, map, fold, IfOk, OnOk, Some};
-ghost use Rattle.std.specs.List.{list_all};
+ghost use Rattle.std.specs.Prelude.{◌≡◌, ◌==◌, ◌+◌, ◌<◌, ◌≤◌, ◌^◌, true, length, map, fold, IfOk, OnOk, Some, if◌then◌else◌};
+ghost use Rattle.std.specs.List.{list_all, list_any};
 ghost use Rattle.sto_lang.specs.Ascii.{is_ascii};
 ghost use Rattle.sto_picture.specs.Elements.{each};
-ghost use Rattle.sto_picture.specs.Views.{scene, frame, bytes_of, text_at};
-ghost use Rattle.sto_picture.specs.Places.{longest, with_part, lanes_of, lane_names, name_width, first_left, event_width, end_width, left_of, frame_of};
+ghost use Rattle.sto_picture.specs.Views.{scene_view, frame_view, bytes_of, text_at};
+ghost use Rattle.sto_picture.specs.Places.{longest, with_part, lanes_of, lane_names, name_width, first_left, event_width, end_width, ends, left_of, frame_of};
 
 use crate::Scene;
 use crate::frame::Frame;
@@ -47,13 +47,19 @@ fn longest_name(parts: &[Text], lanes: &[u32]) -> usize
     most
 }
 
+fn has_part(lanes: &[u32], part: u32) -> bool
+    ensures { result ≡ list_any (λ lane. lane == part) lanes.now }
+{
+    lanes.iter().any(|lane| *lane == part)
+}
+
 /// Adds a part, where it is not there yet.
 fn add_part(lanes: &mut Parts, part: u32) -> Result<(), NoMemory>
     requires { length lanes.old.items + 1 < 2 ^ 32 }
     ensures parts { OnOk result (lanes.new.items ≡ with_part lanes.old.items (Some part)) }
     ensures few { length lanes.new.items ≤ length lanes.old.items + 1 }
 {
-    if lanes.as_slice().iter().position(|lane| *lane == part).is_none() {
+    if !has_part(lanes.as_slice(), part) {
         lanes.push(part)?;
     }
     Ok(())
@@ -71,6 +77,20 @@ fn lanes_of(alloc: Global, steps: &[Step]) -> Result<Parts, NoMemory>
         }
     }
     Ok(lanes)
+}
+
+/// How much further the next column begins.
+fn step_width(step: &Step, event: u32, room: u32) -> u32
+    requires event { event ≤ 14 }
+    requires room { room ≤ 400 }
+    ensures width { result ≡ event + (if ends step.now then room else 0) }
+    ensures small { result ≤ 414 }
+{
+    if step.end.is_some() {
+        event + room
+    } else {
+        event
+    }
 }
 
 /// Where the column of each step begins, and where the last one ends, by where the first begins, the width of an event and how
@@ -92,10 +112,7 @@ fn lefts_of(
     let mut left = first;
     for step in steps {
         lefts.push(left)?;
-        left += event;
-        if step.end.is_some() {
-            left += room;
-        }
+        left += step_width(step, event, room);
     }
     lefts.push(left)?;
     Ok(lefts)
@@ -109,18 +126,36 @@ fn event_width(count: u32) -> u32
     if count <= 200 { 14 } else { 8 }
 }
 
+/// The room that names of threads take.
+fn thread_width(threads: &[Text]) -> u32
+    ensures width { result ≡ name_width (bytes_of threads.now) }
+    ensures small { result ≤ 48 }
+{
+    longest(threads).min(48)
+}
+
+/// The room that names of parts take.
+fn part_width(parts: &[Text], lanes: &[u32]) -> u32
+    ensures width { result ≡ name_width (lane_names (bytes_of parts.now) lanes.now) }
+    ensures small { result ≤ 48 }
+{
+    longest_name(parts, lanes).min(48) as u32
+}
+
+#[tactic(auto, using(crate::proofs::Growing::frame_made))]
 /// All places of a scene.
 pub(crate) fn frame_of(alloc: Global, scene: &Scene) -> Result<Frame, NoMemory>
     requires { length scene.now.steps.items ≤ 20000 }
-    ensures { IfOk result (λ f. frame f ≡ frame_of (scene scene.now)) }
+    ensures { IfOk result (λ f. frame_view f ≡ frame_of (scene_view scene.now)) }
 {
     let steps = scene.steps.as_slice();
     let lanes = lanes_of(alloc, steps)?;
-    let part_width = longest_name(scene.parts.as_slice(), lanes.as_slice()).min(48) as u32;
-    let thread_width = longest(scene.threads.as_slice()).min(48);
+    let parts = part_width(scene.parts.as_slice(), lanes.as_slice());
+    let threads = thread_width(scene.threads.as_slice());
     let event = event_width(scene.steps.len());
-    let first = 24 + 7 * thread_width.max(part_width);
-    let lefts = lefts_of(alloc, steps, first, event, 10 + 7 * part_width.max(16))?;
+    let first = 24 + 7 * threads.max(parts);
+    let room = 10 + 7 * parts.max(16);
+    let lefts = lefts_of(alloc, steps, first, event, room)?;
     Ok(Frame {
         threads: scene.threads.len(),
         lanes,

@@ -1,13 +1,13 @@
 //! Where things stand, in units of the picture.
-ghost use Rattle.std.specs.Prelude.{◌≡◌, ◌<◌, ◌^◌, length, map};
-ghost use Rattle.sto_picture.specs.Views.{frame};
+ghost use Rattle.std.specs.Prelude.{◌≡◌, ◌==◌, ◌<◌, ◌^◌, length, position, IfSome};
+ghost use Rattle.sto_picture.specs.Views.{frame_view};
 ghost use Rattle.sto_picture.specs.Places.{left, right, middle, thread_top, bar_top, bar_bottom, words_line, part_top, lane_of, lanes_bottom, value_line, last_right};
 
 use crate::frame::Frame;
 
 /// Where the column of a step begins.
 pub(crate) fn left(frame: &Frame, n: u32) -> u64
-    ensures left { result ≡ left (frame frame.now) n }
+    ensures left { result ≡ left (frame_view frame.now) n }
     ensures small { result < 2 ^ 32 }
 {
     match frame.lefts.as_slice().get(n as usize) {
@@ -18,7 +18,7 @@ pub(crate) fn left(frame: &Frame, n: u32) -> u64
 
 /// Where the event of a step ends.
 pub(crate) fn right(frame: &Frame, n: u32) -> u64
-    ensures right { result ≡ right (frame frame.now) n }
+    ensures right { result ≡ right (frame_view frame.now) n }
     ensures small { result < 2 ^ 33 }
 {
     left(frame, n) + u64::from(frame.event)
@@ -26,14 +26,14 @@ pub(crate) fn right(frame: &Frame, n: u32) -> u64
 
 /// The middle of the event of a step.
 pub(crate) fn middle(frame: &Frame, n: u32) -> u64
-    ensures { result ≡ middle (frame frame.now) n }
+    ensures { result ≡ middle (frame_view frame.now) n }
 {
     left(frame, n) + u64::from(frame.event / 2)
 }
 
 /// Where all columns end.
 pub(crate) fn last_right(frame: &Frame) -> u64
-    ensures right { result ≡ last_right (frame frame.now) }
+    ensures right { result ≡ last_right (frame_view frame.now) }
     ensures small { result < 2 ^ 32 }
 {
     left(frame, frame.lefts.len().saturating_sub(1))
@@ -70,23 +70,32 @@ pub(crate) fn words_line(thread: u32, line: u32) -> u64
 
 /// Where the lane of a part begins.
 pub(crate) fn part_top(frame: &Frame, lane: u32) -> u64
-    ensures top { result ≡ part_top (frame frame.now) lane }
+    ensures top { result ≡ part_top (frame_view frame.now) lane }
     ensures small { result < 2 ^ 41 }
 {
     thread_top(frame.threads) + 24 * u64::from(lane)
 }
 
+fn place_in(lanes: &[u32], part: u32) -> Option<usize>
+    ensures place { result ≡ position (λ lane. lane == part) lanes.now }
+    ensures within { IfSome result (λ place. place < length lanes.now) }
+{
+    lanes.iter().position(|lane| *lane == part)
+}
+
 /// The lane that a part has.
 pub(crate) fn lane_of(frame: &Frame, part: u32) -> Option<u32>
-    ensures { result ≡ lane_of (frame frame.now) part }
+    ensures { result ≡ lane_of (frame_view frame.now) part }
 {
-    let lane = frame.lanes.as_slice().iter().position(|lane| *lane == part)?;
-    Some(lane as u32)
+    match place_in(frame.lanes.as_slice(), part) {
+        Some(lane) => Some(lane as u32),
+        None => None,
+    }
 }
 
 /// Where all lanes end.
 pub(crate) fn lanes_bottom(frame: &Frame) -> u64
-    ensures bottom { result ≡ lanes_bottom (frame frame.now) }
+    ensures bottom { result ≡ lanes_bottom (frame_view frame.now) }
     ensures small { result < 2 ^ 41 }
 {
     part_top(frame, frame.lanes.len())
@@ -94,7 +103,7 @@ pub(crate) fn lanes_bottom(frame: &Frame) -> u64
 
 /// The line of the object with a place in the file.
 pub(crate) fn value_line(frame: &Frame, place: u32) -> u64
-    ensures line { result ≡ value_line (frame frame.now) place }
+    ensures line { result ≡ value_line (frame_view frame.now) place }
     ensures small { result < 2 ^ 42 }
 {
     lanes_bottom(frame) + 38 + 15 * u64::from(place)

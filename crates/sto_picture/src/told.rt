@@ -1,5 +1,6 @@
 //! What steps tell.
-ghost use Rattle.std.specs.Prelude.{◌≡◌, ◌<◌, ◌≤◌, ◌^◌, true, length};
+ghost use Rattle.std.specs.Prelude.{◌≡◌, ◌-◌, ◌<◌, ◌≤◌, ◌^◌, true, length, position, reverse, IfSome};
+ghost use Rattle.std.specs.Option.{option_map};
 ghost use Rattle.std.specs.List.{list_all};
 ghost use Rattle.sto_lang.specs.Ascii.{is_ascii};
 ghost use Rattle.sto_picture.specs.Told.{sign, starts, tries_lock, locked_part, freed_part, released_part, seen_part, is_part, last_before, starts_of, locks_of, sees_of, releases, commits_of, start_of, commit_of};
@@ -94,15 +95,34 @@ fn is_part(part: u32, other: Option<u32>) -> bool
     }
 }
 
+/// The place of a step that stands so far before n.
+fn place_before(n: u32, back: Option<usize>) -> Option<u32>
+    ensures { result ≡ option_map (λ back. n - 1 - back) back }
+{
+    match back {
+        Some(back) => Some((n as usize).saturating_sub(1).saturating_sub(back) as u32),
+        None => None,
+    }
+}
+
+fn start_back(steps: &[Step], thread: u32) -> Option<usize>
+    ensures { result ≡ position (starts_of thread) (reverse steps.now) }
+{
+    steps.iter().rev().position(|step| step.thread == thread && starts(step.deed))
+}
+
+/// The last step before n with which a thread began an attempt.
 fn last_start(steps: &[Step], thread: u32, n: u32) -> Option<u32>
     requires { n ≤ length steps.now }
     ensures { result ≡ last_before (starts_of thread) steps.now n }
 {
-    let back = steps[..n as usize]
-        .iter()
-        .rev()
-        .position(|step| step.thread == thread && starts(step.deed))?;
-    Some(n - 1 - back as u32)
+    place_before(n, start_back(&steps[..n as usize], thread))
+}
+
+fn lock_back(steps: &[Step], thread: u32, part: u32) -> Option<usize>
+    ensures { result ≡ position (locks_of thread part) (reverse steps.now) }
+{
+    steps.iter().rev().position(|step| step.thread == thread && is_part(part, locked_part(step.deed)))
 }
 
 /// The last step before n with which a thread locked a part.
@@ -110,11 +130,13 @@ pub(crate) fn last_lock(steps: &[Step], thread: u32, part: u32, n: u32) -> Optio
     requires { n ≤ length steps.now }
     ensures { result ≡ last_before (locks_of thread part) steps.now n }
 {
-    let back = steps[..n as usize]
-        .iter()
-        .rev()
-        .position(|step| step.thread == thread && is_part(part, locked_part(step.deed)))?;
-    Some(n - 1 - back as u32)
+    place_before(n, lock_back(&steps[..n as usize], thread, part))
+}
+
+fn look_back(steps: &[Step], thread: u32, part: u32) -> Option<usize>
+    ensures { result ≡ position (sees_of thread part) (reverse steps.now) }
+{
+    steps.iter().rev().position(|step| step.thread == thread && is_part(part, seen_part(step.deed)))
 }
 
 /// The last step before n with which a thread looked at the version of a part.
@@ -122,11 +144,13 @@ pub(crate) fn last_look(steps: &[Step], thread: u32, part: u32, n: u32) -> Optio
     requires { n ≤ length steps.now }
     ensures { result ≡ last_before (sees_of thread part) steps.now n }
 {
-    let back = steps[..n as usize]
-        .iter()
-        .rev()
-        .position(|step| step.thread == thread && is_part(part, seen_part(step.deed)))?;
-    Some(n - 1 - back as u32)
+    place_before(n, look_back(&steps[..n as usize], thread, part))
+}
+
+fn release_back(steps: &[Step], part: u32) -> Option<usize>
+    ensures { result ≡ position (releases part) (reverse steps.now) }
+{
+    steps.iter().rev().position(|step| is_part(part, released_part(step.deed)))
 }
 
 /// The last step before n that released a part.
@@ -134,30 +158,35 @@ pub(crate) fn last_release(steps: &[Step], part: u32, n: u32) -> Option<u32>
     requires { n ≤ length steps.now }
     ensures { result ≡ last_before (releases part) steps.now n }
 {
-    let back = steps[..n as usize]
-        .iter()
-        .rev()
-        .position(|step| is_part(part, released_part(step.deed)))?;
-    Some(n - 1 - back as u32)
+    place_before(n, release_back(&steps[..n as usize], part))
 }
 
 /// The step with which the attempt began that a thread makes with step n.
 pub(crate) fn start_of(steps: &[Step], thread: u32, n: u32) -> u32
-    requires { n < length steps.now }
+    requires step { n < length steps.now }
+    requires few { length steps.now < 2 ^ 32 }
     ensures start { result ≡ start_of steps.now thread n }
     ensures before { result ≤ n }
 {
     last_start(steps, thread, n + 1).unwrap_or(0)
 }
 
+fn commit_ahead(steps: &[Step], thread: u32) -> Option<usize>
+    ensures place { result ≡ position (commits_of thread) steps.now }
+    ensures within { IfSome result (λ place. place < length steps.now) }
+{
+    steps.iter().position(|step| step.thread == thread && tries_lock(step.deed))
+}
+
 /// The step with which that attempt began to commit, if it did.
 pub(crate) fn commit_of(steps: &[Step], thread: u32, n: u32) -> Option<u32>
-    requires { n < length steps.now }
+    requires step { n < length steps.now }
+    requires few { length steps.now < 2 ^ 32 }
     ensures { result ≡ commit_of steps.now thread n }
 {
     let start = start_of(steps, thread, n);
-    let more = steps[start as usize..n as usize + 1]
-        .iter()
-        .position(|step| step.thread == thread && tries_lock(step.deed))?;
-    Some(start + more as u32)
+    match commit_ahead(&steps[start as usize..n as usize + 1], thread) {
+        Some(more) => Some(start + more as u32),
+        None => None,
+    }
 }

@@ -1,12 +1,12 @@
 //! The whole picture.
-ghost use Rattle.std.specs.Prelude.{◌≡◌, ◌+◌, ◌*◌, ◌/◌, ◌++◌, ◌<◌, ◌≤◌, ◌^◌, length, OnOk, IfOk, unwrap_or, slice_get};
-ghost use Rattle.sto_picture.specs.Elements.{each_text};
-ghost use Rattle.sto_picture.specs.Views.{scene, frame, bytes_of, text_at};
+ghost use Rattle.std.specs.Prelude.{◌≡◌, ◌+◌, ◌*◌, ◌/◌, ◌++◌, ◌<◌, ◌≤◌, ◌^◌, length, OnOk, IfOk, unwrap_or, slice_get, codes};
+ghost use Rattle.sto_picture.specs.Elements.{each_text, words_text};
+ghost use Rattle.sto_picture.specs.Views.{scene_view, frame_view, bytes_of, text_at};
 ghost use Rattle.sto_picture.specs.Told.{freed_part};
-ghost use Rattle.sto_picture.specs.Places.{thread_top, part_top, value_line, legend_top, width, height};
+ghost use Rattle.sto_picture.specs.Places.{thread_top, part_top, value_line, legend_top, picture_width};
 ghost use Rattle.sto_picture.specs.Lanes.{lane_text, lock_text, change_text};
 ghost use Rattle.sto_picture.specs.Attempts.{attempt_bar, end_words, sign_text};
-ghost use Rattle.sto_picture.specs.Pictures.{by_step, tick_text, ticks_text, lanes_text, steps_text, values_text, head_text, legend_text, picture_of};
+ghost use Rattle.sto_picture.specs.Pictures.{by_step, tick_text, ticks_text, lanes_text, steps_text, values_text, style_text, signs_text, opening_text, head_text, legend_text, picture_of};
 
 use crate::Scene;
 use crate::attempt::{push_attempt, push_end, push_sign};
@@ -15,6 +15,7 @@ use crate::frame::Frame;
 use crate::lane::{push_change, push_lane, push_lock};
 use crate::measure::{frame_of, longest, text_at};
 use crate::place::{last_right, lanes_bottom, left, part_top, thread_top, value_line};
+use crate::style::{LEGEND, STYLE};
 use crate::told::freed_part;
 use std::alloc::Global;
 use sto_lang::Text;
@@ -23,50 +24,10 @@ use sto_part::NoMemory;
 /// The most events that a picture shows.
 pub const MOST_STEPS: u32 = 20_000;
 
-/// What the roles look like, the patterns, and the paper.
-pub const STYLE: &str = "<style>
-text{font:11px monospace}
-.rule{fill:#ccc}
-.reading{fill:#fff;stroke:#000}
-.committing{fill:#bbb;stroke:#000}
-.aborted{fill:url(#hatch);stroke:#000}
-.lock{fill:#000}
-.arrow{fill:none;stroke:#000;marker-end:url(#head)}
-.sign{text-anchor:middle;font-weight:bold;paint-order:stroke;stroke:#fff;stroke-width:3px}
-</style>
-<defs>
-<pattern id='hatch' width='6' height='6' patternUnits='userSpaceOnUse' patternTransform='rotate(45)'>
-<rect width='1' height='6'/>
-</pattern>
-<marker id='head' viewBox='0 0 8 8' refX='7' refY='4' markerWidth='8' markerHeight='8' orient='auto'>
-<path d='M0 0L8 4L0 8z'/>
-</marker>
-</defs>
-<rect width='100%' height='100%' fill='#fff'/>
-";
-
-/// The words about signs.
-pub const LEGEND: &str = "<rect class='rule' x='-12' y='0' width='700' height='1'/>
-<rect class='reading' x='1' y='12' width='28' height='16'/>
-<text x='36' y='24'>reading</text>
-<rect class='committing' x='111' y='12' width='28' height='16'/>
-<text x='146' y='24'>committing</text>
-<rect class='reading' x='241' y='12' width='28' height='16'/>
-<rect class='aborted' x='241' y='12' width='28' height='16'/>
-<text x='276' y='24'>aborted</text>
-<rect class='lock' x='351' y='17' width='28' height='7'/>
-<text x='386' y='24'>locked</text>
-<path class='arrow' d='M456 26V20H484V10'/>
-<text x='496' y='24'>a release that an attempt found</text>
-<text x='0' y='48'>s start, o open, w word, c close, n renew the clock, r recheck</text>
-<text x='0' y='64'>L lock, T test, D draw a ticket, C check, Y commit, N drop the ticket, P put, R release, U unlock</text>
-<text x='0' y='80'>Below the bar of an attempt: the position of its transaction in the thread, and how it ended.</text>
-";
-
 /// Adds the line of each tenth event.
 fn push_tick(out: &mut Text, frame: &Frame, k: u32) -> Result<(), NoMemory>
-    requires { k < 2 ^ 28 }
-    ensures { OnOk result (out.new.items ≡ out.old.items ++ tick_text (frame frame.now) k) }
+    requires { 10 * k < 2 ^ 32 }
+    ensures { OnOk result (out.new.items ≡ out.old.items ++ tick_text (frame_view frame.now) k) }
 {
     let x = left(frame, 10 * k);
     let height = lanes_bottom(frame).saturating_sub(20);
@@ -77,7 +38,7 @@ fn push_tick(out: &mut Text, frame: &Frame, k: u32) -> Result<(), NoMemory>
 }
 
 fn push_ticks(out: &mut Text, scene: &Scene, frame: &Frame) -> Result<(), NoMemory>
-    ensures { OnOk result (out.new.items ≡ out.old.items ++ ticks_text (scene scene.now) (frame frame.now)) }
+    ensures { OnOk result (out.new.items ≡ out.old.items ++ ticks_text (scene_view scene.now) (frame_view frame.now)) }
 {
     for k in 0..scene.steps.len() / 10 + 1 {
         push_tick(out, frame, k)?;
@@ -98,7 +59,7 @@ fn push_threads(out: &mut Text, scene: &Scene, frame: &Frame, width: u64) -> Res
 
 fn push_parts(out: &mut Text, scene: &Scene, frame: &Frame, width: u64) -> Result<(), NoMemory>
     ensures { OnOk result (out.new.items ≡ out.old.items
-        ++ each_text (λ lane. lane_text width (part_top (frame frame.now) lane)
+        ++ each_text (λ lane. lane_text width (part_top (frame_view frame.now) lane)
         (text_at (bytes_of scene.now.parts.items) (unwrap_or (slice_get frame.now.lanes.items lane) 0))) (length frame.now.lanes.items)) }
 {
     for lane in 0..frame.lanes.len() {
@@ -110,7 +71,7 @@ fn push_parts(out: &mut Text, scene: &Scene, frame: &Frame, width: u64) -> Resul
 
 fn push_locks(out: &mut Text, scene: &Scene, frame: &Frame) -> Result<(), NoMemory>
     ensures { OnOk result (out.new.items ≡ out.old.items
-        ++ by_step (λ n step. lock_text (frame frame.now) scene.now.steps.items n step.thread (freed_part step.deed)) scene.now.steps.items) }
+        ++ by_step (λ n step. lock_text (frame_view frame.now) scene.now.steps.items n step.thread (freed_part step.deed)) scene.now.steps.items) }
 {
     for n in 0..scene.steps.len() {
         let step = scene.steps.get(n);
@@ -122,7 +83,7 @@ fn push_locks(out: &mut Text, scene: &Scene, frame: &Frame) -> Result<(), NoMemo
 
 fn push_bars(out: &mut Text, scene: &Scene, frame: &Frame) -> Result<(), NoMemory>
     ensures { OnOk result (out.new.items ≡ out.old.items
-        ++ by_step (λ n step. attempt_bar (frame frame.now) scene.now.steps.items n step.thread step.end) scene.now.steps.items) }
+        ++ by_step (λ n step. attempt_bar (frame_view frame.now) scene.now.steps.items n step.thread step.end) scene.now.steps.items) }
 {
     for n in 0..scene.steps.len() {
         let step = scene.steps.get(n);
@@ -140,7 +101,7 @@ fn push_bars(out: &mut Text, scene: &Scene, frame: &Frame) -> Result<(), NoMemor
 
 fn push_changes(out: &mut Text, scene: &Scene, frame: &Frame) -> Result<(), NoMemory>
     ensures { OnOk result (out.new.items ≡ out.old.items
-        ++ by_step (λ n step. change_text (frame frame.now) scene.now.steps.items n step.thread step.end) scene.now.steps.items) }
+        ++ by_step (λ n step. change_text (frame_view frame.now) scene.now.steps.items n step.thread step.end) scene.now.steps.items) }
 {
     for n in 0..scene.steps.len() {
         let step = scene.steps.get(n);
@@ -158,7 +119,7 @@ fn push_changes(out: &mut Text, scene: &Scene, frame: &Frame) -> Result<(), NoMe
 
 fn push_signs(out: &mut Text, scene: &Scene, frame: &Frame) -> Result<(), NoMemory>
     ensures { OnOk result (out.new.items ≡ out.old.items ++ by_step
-        (λ n step. sign_text (frame frame.now) n step ++ end_words (scene scene.now) (frame frame.now) n step step.end)
+        (λ n step. sign_text (frame_view frame.now) n step ++ end_words (scene_view scene.now) (frame_view frame.now) n step step.end)
         scene.now.steps.items) }
 {
     for n in 0..scene.steps.len() {
@@ -170,7 +131,7 @@ fn push_signs(out: &mut Text, scene: &Scene, frame: &Frame) -> Result<(), NoMemo
 }
 
 fn push_steps(out: &mut Text, scene: &Scene, frame: &Frame) -> Result<(), NoMemory>
-    ensures { OnOk result (out.new.items ≡ out.old.items ++ steps_text (scene scene.now) (frame frame.now)) }
+    ensures { OnOk result (out.new.items ≡ out.old.items ++ steps_text (scene_view scene.now) (frame_view frame.now)) }
 {
     push_locks(out, scene, frame)?;
     push_bars(out, scene, frame)?;
@@ -180,7 +141,7 @@ fn push_steps(out: &mut Text, scene: &Scene, frame: &Frame) -> Result<(), NoMemo
 
 fn push_value_lines(out: &mut Text, scene: &Scene, frame: &Frame) -> Result<(), NoMemory>
     ensures { OnOk result (out.new.items ≡ out.old.items ++ each_text (λ place. words_text (codes "value") 12
-        (value_line (frame frame.now) place) (text_at (bytes_of scene.now.values.items) place)) (length scene.now.values.items)) }
+        (value_line (frame_view frame.now) place) (text_at (bytes_of scene.now.values.items) place)) (length scene.now.values.items)) }
 {
     for place in 0..scene.values.len() {
         let words = text_at(scene.values.as_slice(), place);
@@ -190,8 +151,8 @@ fn push_value_lines(out: &mut Text, scene: &Scene, frame: &Frame) -> Result<(), 
 }
 
 fn push_values(out: &mut Text, scene: &Scene, frame: &Frame, width: u64) -> Result<(), NoMemory>
-    requires { width ≡ width (scene scene.now) (frame frame.now) }
-    ensures { OnOk result (out.new.items ≡ out.old.items ++ values_text (scene scene.now) (frame frame.now)) }
+    requires { width ≡ picture_width (scene_view scene.now) (frame_view frame.now) }
+    ensures { OnOk result (out.new.items ≡ out.old.items ++ values_text (scene_view scene.now) (frame_view frame.now)) }
 {
     let y = lanes_bottom(frame);
     push_box(out, "rule", 0, y, width, 1)?;
@@ -199,14 +160,38 @@ fn push_values(out: &mut Text, scene: &Scene, frame: &Frame, width: u64) -> Resu
     push_value_lines(out, scene, frame)
 }
 
+#[tactic(auto, unfolding(crate::specs::Pictures::style_text))]
+/// Adds what the roles look like.
+fn push_style(out: &mut Text) -> Result<(), NoMemory>
+    ensures { OnOk result (out.new.items ≡ out.old.items ++ style_text) }
+{
+    out.append(STYLE)
+}
+
+#[tactic(auto, unfolding(crate::specs::Pictures::signs_text))]
+/// Adds what the signs mean.
+fn push_signs_meant(out: &mut Text) -> Result<(), NoMemory>
+    ensures { OnOk result (out.new.items ≡ out.old.items ++ signs_text) }
+{
+    out.append(LEGEND)
+}
+
+#[tactic(auto, unfolding(crate::specs::Pictures::opening_text))]
+fn push_opening(out: &mut Text) -> Result<(), NoMemory>
+    ensures { OnOk result (out.new.items ≡ out.old.items ++ opening_text) }
+{
+    out.append("<svg xmlns='http://www.w3.org/2000/svg'")
+}
+
+/// Adds the head of a picture.
 fn push_head(out: &mut Text, width: u64, height: u64) -> Result<(), NoMemory>
     ensures { OnOk result (out.new.items ≡ out.old.items ++ head_text width height) }
 {
-    out.append("<svg xmlns='http://www.w3.org/2000/svg'")?;
+    push_opening(out)?;
     push_attribute(out, "width", width)?;
     push_attribute(out, "height", height)?;
     out.append(">\n")?;
-    out.append(STYLE)
+    push_style(out)
 }
 
 fn push_legend(out: &mut Text, top: u64) -> Result<(), NoMemory>
@@ -215,13 +200,13 @@ fn push_legend(out: &mut Text, top: u64) -> Result<(), NoMemory>
     out.append("<g transform='translate(12 ")?;
     push_number(out, top)?;
     out.append(")'>\n")?;
-    out.append(LEGEND)?;
+    push_signs_meant(out)?;
     out.append("</g>\n</svg>\n")
 }
 
 /// How wide a picture is.
 fn width_of(scene: &Scene, frame: &Frame) -> u64
-    ensures { result ≡ width (scene scene.now) (frame frame.now) }
+    ensures { result ≡ picture_width (scene_view scene.now) (frame_view frame.now) }
 {
     let values = 24 + 7 * u64::from(longest(scene.values.as_slice()));
     (last_right(frame) + 12).max(values).max(700)
@@ -231,7 +216,7 @@ fn width_of(scene: &Scene, frame: &Frame) -> u64
 /// for each part that is locked, and what the objects hold at the end.
 pub fn picture(alloc: Global, scene: &Scene) -> Result<Text, NoMemory>
     requires { length scene.now.steps.items ≤ 20000 }
-    ensures { IfOk result (λ text. text.items ≡ picture_of (scene scene.now)) }
+    ensures { IfOk result (λ text. text.items ≡ picture_of (scene_view scene.now)) }
 {
     let frame = frame_of(alloc, scene)?;
     let width = width_of(scene, &frame);

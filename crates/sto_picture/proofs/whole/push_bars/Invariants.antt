@@ -1,9 +1,9 @@
 use Rattle.std.proofs.Common.{◌≡◌, ◌++◌, [], slice_get}
 use Rattle.std.specs.Option.{option_map_or}
 use Rattle.sto_picture.specs.Elements.{each_text}
-use Rattle.sto_picture.specs.Views.{frame}
+use Rattle.sto_picture.specs.Views.{frame_view}
 use Rattle.sto_picture.specs.Attempts.{attempt_bar}
 use Rattle.sto_picture.proofs.whole.push_bars.Given as goal
 
 abbrev pub invariant-loop-n : goal.invariant-loop-n
-invariant-loop-n l = l.out.items ≡ l.initial.out.items ++ each_text (λ n. option_map_or (λ step. attempt_bar (frame l.frame) l.scene.steps.items n step.thread step.end) [] (slice_get l.scene.steps.items n)) l.n
+invariant-loop-n l = l.out.items ≡ l.initial.out.items ++ each_text (λ n. option_map_or (λ step. attempt_bar (frame_view l.frame) l.scene.steps.items n step.thread step.end) (slice_get l.scene.steps.items n) []) l.n
