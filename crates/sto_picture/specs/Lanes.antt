@@ -1,11 +1,11 @@
 -- What is drawn of lanes and locks: names, thick lines and arrows.
-use Rattle.std.specs.Prelude.{ℕ, ◌+◌, ◌-◌, List, [], ◌++◌, Option, None, Some, unwrap_or, codes, decimal}
+use Rattle.std.specs.Prelude.{ℕ, ◌+◌, ◌-◌, List, [], ◌++◌, Option, None, Some, codes}
 use Rattle.sto_attempt_log.specs.declared.verdict.Verdict.{Verdict}
 use Rattle.sto_attempt_log.specs.declared.verdict.Verdict.TheVariants.{Wrote, Read, Cancelled, Locked, Changed}
 use Rattle.sto_trace.specs.declared.Step.{Step}
-use Rattle.sto_picture.specs.Views.{Scene, Frame, text_at}
+use Rattle.sto_picture.specs.Views.{Frame}
 use Rattle.sto_picture.specs.Elements.{box_text, words_text, arrow_text}
-use Rattle.sto_picture.specs.Told.{freed_part, last_before, locks_of, sees_of, releases}
+use Rattle.sto_picture.specs.Told.{last_before, locks_of, sees_of, releases}
 use Rattle.sto_picture.specs.Places.{left, right, middle, bar_bottom, part_top, lane_of}
 
 -- a thick line in a lane, from the step that locked its part to step n, which gave it back

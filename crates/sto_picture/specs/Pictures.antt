@@ -19,17 +19,17 @@ abbrev pub tick_text : Frame → ℕ → List ℕ
 tick_text frame k =
     box_text (codes "rule") (left frame (10 * k)) 20 1 (lanes_bottom frame - 20) ++ words_text (codes "name") (left frame (10 * k) + 3) 24 (decimal (10 * k))
 
-abbrev pub ticks_text : Scene → Frame → List ℕ
+unfoldable pub ticks_text : Scene → Frame → List ℕ
 ticks_text scene frame = each_text (tick_text frame) (length scene.steps / 10 + 1)
 
 -- the lanes of the threads, and those of the parts
-abbrev pub lanes_text : Scene → Frame → List ℕ
+unfoldable pub lanes_text : Scene → Frame → List ℕ
 lanes_text scene frame =
     each_text (λ thread. lane_text (picture_width scene frame) (thread_top thread) (text_at scene.threads thread)) frame.threads
     ++ each_text (λ lane. lane_text (picture_width scene frame) (part_top frame lane) (text_at scene.parts (unwrap_or (slice_get frame.lanes lane) 0))) (length frame.lanes)
 
 -- the locks, then the bars, then the arrows, and above all the words
-abbrev pub steps_text : Scene → Frame → List ℕ
+unfoldable pub steps_text : Scene → Frame → List ℕ
 steps_text scene frame =
     by_step (λ n step. lock_text frame scene.steps n step.thread (freed_part step.deed)) scene.steps
     ++ (by_step (λ n step. attempt_bar frame scene.steps n step.thread step.end) scene.steps
@@ -37,7 +37,7 @@ steps_text scene frame =
     ++ by_step (λ n step. sign_text frame n step ++ end_words scene frame n step step.end) scene.steps))
 
 -- what the objects hold at the end
-abbrev pub values_text : Scene → Frame → List ℕ
+unfoldable pub values_text : Scene → Frame → List ℕ
 values_text scene frame =
     box_text (codes "rule") 0 (lanes_bottom frame) (picture_width scene frame) 1
     ++ (words_text (codes "name") 12 (lanes_bottom frame + 20) (codes "at the end")
@@ -56,15 +56,15 @@ unfoldable pub opening_text : List ℕ
 opening_text = codes "<svg xmlns='http://www.w3.org/2000/svg'"
 
 -- the head of a picture with its size
-abbrev pub head_text : ℕ → ℕ → List ℕ
+unfoldable pub head_text : ℕ → ℕ → List ℕ
 head_text width height =
     opening_text ++ (attribute (codes "width") width ++ (attribute (codes "height") height ++ (codes ">\n" ++ style_text)))
 
 -- the words about signs where they stand
-abbrev pub legend_text : ℕ → List ℕ
+unfoldable pub legend_text : ℕ → List ℕ
 legend_text top = codes "<g transform='translate(12 " ++ (decimal top ++ (codes ")'>\n" ++ (signs_text ++ codes "</g>\n</svg>\n")))
 
-abbrev pub drawn : Scene → Frame → List ℕ
+unfoldable pub drawn : Scene → Frame → List ℕ
 drawn scene frame =
     head_text (picture_width scene frame) (picture_height scene frame)
     ++ (ticks_text scene frame ++ (lanes_text scene frame ++ (steps_text scene frame ++ (values_text scene frame ++ legend_text (legend_top scene frame)))))

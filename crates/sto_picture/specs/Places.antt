@@ -53,11 +53,11 @@ left_of first event room steps n = first + n * event + count_by ends (take n ste
 -- all places of a scene
 abbrev pub frame_of : Scene → Frame
 frame_of scene = record {
-    threads = length scene.threads;
-    lanes = lanes_of scene.steps;
-    lefts = each (left_of (first_left scene) (event_width (length scene.steps)) (end_width scene) scene.steps) (length scene.steps + 1);
-    event = event_width (length scene.steps);
-  }
+  threads = length scene.threads;
+  lanes = lanes_of scene.steps;
+  lefts = each (left_of (first_left scene) (event_width (length scene.steps)) (end_width scene) scene.steps) (length scene.steps + 1);
+  event = event_width (length scene.steps);
+}
 
 -- where the column of step n begins
 abbrev pub left : Frame → ℕ → ℕ

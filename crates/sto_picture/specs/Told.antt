@@ -1,5 +1,5 @@
 -- What steps tell: the sign of a deed, what is locked and let go, and where an attempt begins.
-use Rattle.std.specs.Prelude.{ℕ, ◌+◌, ◌-◌, List, ◌==◌, ◌&&◌, Bool, true, false, Option, None, Some, unwrap_or, is_some, if◌then◌else◌, position, reverse, take, slice_range, codes}
+use Rattle.std.specs.Prelude.{ℕ, ◌+◌, ◌-◌, List, ◌==◌, ◌&&◌, Bool, true, false, Option, None, Some, unwrap_or, if◌then◌else◌, position, reverse, take, slice_range, codes}
 use Rattle.std.specs.Option.{option_map}
 use Rattle.sto_version.specs.Versions.{is_free}
 use Rattle.sto_trace.specs.declared.Deed.{Deed}

@@ -173,12 +173,7 @@ pub(crate) fn push_end(
 }
 
 /// Adds the sign of a step.
-pub(crate) fn push_sign(
-    out: &mut Text,
-    frame: &Frame,
-    n: u32,
-    step: &Step,
-) -> Result<(), NoMemory>
+pub(crate) fn push_sign(out: &mut Text, frame: &Frame, n: u32, step: &Step) -> Result<(), NoMemory>
     ensures { OnOk result (out.new.items ≡ out.old.items ++ sign_text (frame_view frame.now) n step.now) }
 {
     push_words(

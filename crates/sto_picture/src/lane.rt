@@ -103,12 +103,7 @@ pub(crate) fn push_change(
 }
 
 /// Adds the name of a lane, and a line above it across the picture.
-pub(crate) fn push_lane(
-    out: &mut Text,
-    width: u64,
-    top: u64,
-    name: &str,
-) -> Result<(), NoMemory>
+pub(crate) fn push_lane(out: &mut Text, width: u64, top: u64, name: &str) -> Result<(), NoMemory>
     requires name { list_all is_ascii name.now ≡ true }
     requires top { top < 2 ^ 42 }
     ensures { OnOk result (out.new.items ≡ out.old.items ++ lane_text width top name.now) }

@@ -108,7 +108,10 @@ fn place_before(n: u32, back: Option<usize>) -> Option<u32>
 fn start_back(steps: &[Step], thread: u32) -> Option<usize>
     ensures { result ≡ position (starts_of thread) (reverse steps.now) }
 {
-    steps.iter().rev().position(|step| step.thread == thread && starts(step.deed))
+    steps
+        .iter()
+        .rev()
+        .position(|step| step.thread == thread && starts(step.deed))
 }
 
 /// The last step before n with which a thread began an attempt.
@@ -122,7 +125,8 @@ fn last_start(steps: &[Step], thread: u32, n: u32) -> Option<u32>
 fn lock_back(steps: &[Step], thread: u32, part: u32) -> Option<usize>
     ensures { result ≡ position (locks_of thread part) (reverse steps.now) }
 {
-    steps.iter().rev().position(|step| step.thread == thread && is_part(part, locked_part(step.deed)))
+    steps.iter().rev().position(|step| step.thread == thread
+        && is_part(part, locked_part(step.deed)))
 }
 
 /// The last step before n with which a thread locked a part.
@@ -150,7 +154,10 @@ pub(crate) fn last_look(steps: &[Step], thread: u32, part: u32, n: u32) -> Optio
 fn release_back(steps: &[Step], part: u32) -> Option<usize>
     ensures { result ≡ position (releases part) (reverse steps.now) }
 {
-    steps.iter().rev().position(|step| is_part(part, released_part(step.deed)))
+    steps
+        .iter()
+        .rev()
+        .position(|step| is_part(part, released_part(step.deed)))
 }
 
 /// The last step before n that released a part.
@@ -175,7 +182,9 @@ fn commit_ahead(steps: &[Step], thread: u32) -> Option<usize>
     ensures place { result ≡ position (commits_of thread) steps.now }
     ensures within { IfSome result (λ place. place < length steps.now) }
 {
-    steps.iter().position(|step| step.thread == thread && tries_lock(step.deed))
+    steps
+        .iter()
+        .position(|step| step.thread == thread && tries_lock(step.deed))
 }
 
 /// The step with which that attempt began to commit, if it did.

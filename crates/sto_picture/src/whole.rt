@@ -3,10 +3,10 @@ ghost use Rattle.std.specs.Prelude.{◌≡◌, ◌+◌, ◌*◌, ◌/◌, ◌++�
 ghost use Rattle.sto_picture.specs.Elements.{each_text, words_text};
 ghost use Rattle.sto_picture.specs.Views.{scene_view, frame_view, bytes_of, text_at};
 ghost use Rattle.sto_picture.specs.Told.{freed_part};
-ghost use Rattle.sto_picture.specs.Places.{thread_top, part_top, value_line, legend_top, picture_width};
+ghost use Rattle.sto_picture.specs.Places.{thread_top, part_top, value_line, picture_width};
 ghost use Rattle.sto_picture.specs.Lanes.{lane_text, lock_text, change_text};
 ghost use Rattle.sto_picture.specs.Attempts.{attempt_bar, end_words, sign_text};
-ghost use Rattle.sto_picture.specs.Pictures.{by_step, tick_text, ticks_text, lanes_text, steps_text, values_text, style_text, signs_text, opening_text, head_text, legend_text, picture_of};
+ghost use Rattle.sto_picture.specs.Pictures.{by_step, tick_text, ticks_text, lanes_text, steps_text, values_text, style_text, signs_text, opening_text, head_text, legend_text, drawn, picture_of};
 
 use crate::Scene;
 use crate::attempt::{push_attempt, push_end, push_sign};
@@ -14,7 +14,7 @@ use crate::element::{begin_words, end_words, push_attribute, push_box, push_numb
 use crate::frame::Frame;
 use crate::lane::{push_change, push_lane, push_lock};
 use crate::measure::{frame_of, longest, text_at};
-use crate::place::{last_right, lanes_bottom, left, part_top, thread_top, value_line};
+use crate::place::{lanes_bottom, last_right, left, part_top, thread_top, value_line};
 use crate::style::{LEGEND, STYLE};
 use crate::told::freed_part;
 use std::alloc::Global;
@@ -37,6 +37,7 @@ fn push_tick(out: &mut Text, frame: &Frame, k: u32) -> Result<(), NoMemory>
     end_words(out)
 }
 
+#[tactic(auto, unfolding(crate::specs::Pictures::ticks_text))]
 fn push_ticks(out: &mut Text, scene: &Scene, frame: &Frame) -> Result<(), NoMemory>
     ensures { OnOk result (out.new.items ≡ out.old.items ++ ticks_text (scene_view scene.now) (frame_view frame.now)) }
 {
@@ -69,6 +70,16 @@ fn push_parts(out: &mut Text, scene: &Scene, frame: &Frame, width: u64) -> Resul
     Ok(())
 }
 
+#[tactic(auto, unfolding(crate::specs::Pictures::lanes_text))]
+/// Adds the lanes of the threads, and those of the parts.
+fn push_lanes(out: &mut Text, scene: &Scene, frame: &Frame) -> Result<(), NoMemory>
+    ensures { OnOk result (out.new.items ≡ out.old.items ++ lanes_text (scene_view scene.now) (frame_view frame.now)) }
+{
+    let width = width_of(scene, frame);
+    push_threads(out, scene, frame, width)?;
+    push_parts(out, scene, frame, width)
+}
+
 fn push_locks(out: &mut Text, scene: &Scene, frame: &Frame) -> Result<(), NoMemory>
     ensures { OnOk result (out.new.items ≡ out.old.items
         ++ by_step (λ n step. lock_text (frame_view frame.now) scene.now.steps.items n step.thread (freed_part step.deed)) scene.now.steps.items) }
@@ -87,14 +98,7 @@ fn push_bars(out: &mut Text, scene: &Scene, frame: &Frame) -> Result<(), NoMemor
 {
     for n in 0..scene.steps.len() {
         let step = scene.steps.get(n);
-        push_attempt(
-            out,
-            frame,
-            scene.steps.as_slice(),
-            n,
-            step.thread,
-            step.end,
-        )?;
+        push_attempt(out, frame, scene.steps.as_slice(), n, step.thread, step.end)?;
     }
     Ok(())
 }
@@ -105,14 +109,7 @@ fn push_changes(out: &mut Text, scene: &Scene, frame: &Frame) -> Result<(), NoMe
 {
     for n in 0..scene.steps.len() {
         let step = scene.steps.get(n);
-        push_change(
-            out,
-            frame,
-            scene.steps.as_slice(),
-            n,
-            step.thread,
-            step.end,
-        )?;
+        push_change(out, frame, scene.steps.as_slice(), n, step.thread, step.end)?;
     }
     Ok(())
 }
@@ -130,6 +127,7 @@ fn push_signs(out: &mut Text, scene: &Scene, frame: &Frame) -> Result<(), NoMemo
     Ok(())
 }
 
+#[tactic(auto, unfolding(crate::specs::Pictures::steps_text))]
 fn push_steps(out: &mut Text, scene: &Scene, frame: &Frame) -> Result<(), NoMemory>
     ensures { OnOk result (out.new.items ≡ out.old.items ++ steps_text (scene_view scene.now) (frame_view frame.now)) }
 {
@@ -150,12 +148,13 @@ fn push_value_lines(out: &mut Text, scene: &Scene, frame: &Frame) -> Result<(), 
     Ok(())
 }
 
-fn push_values(out: &mut Text, scene: &Scene, frame: &Frame, width: u64) -> Result<(), NoMemory>
-    requires { width ≡ picture_width (scene_view scene.now) (frame_view frame.now) }
+#[tactic(auto, unfolding(crate::specs::Pictures::values_text))]
+/// Adds what the objects hold at the end.
+fn push_values(out: &mut Text, scene: &Scene, frame: &Frame) -> Result<(), NoMemory>
     ensures { OnOk result (out.new.items ≡ out.old.items ++ values_text (scene_view scene.now) (frame_view frame.now)) }
 {
     let y = lanes_bottom(frame);
-    push_box(out, "rule", 0, y, width, 1)?;
+    push_box(out, "rule", 0, y, width_of(scene, frame), 1)?;
     push_words(out, "name", 12, y + 20, "at the end")?;
     push_value_lines(out, scene, frame)
 }
@@ -183,6 +182,7 @@ fn push_opening(out: &mut Text) -> Result<(), NoMemory>
     out.append("<svg xmlns='http://www.w3.org/2000/svg'")
 }
 
+#[tactic(auto, unfolding(crate::specs::Pictures::head_text))]
 /// Adds the head of a picture.
 fn push_head(out: &mut Text, width: u64, height: u64) -> Result<(), NoMemory>
     ensures { OnOk result (out.new.items ≡ out.old.items ++ head_text width height) }
@@ -194,6 +194,8 @@ fn push_head(out: &mut Text, width: u64, height: u64) -> Result<(), NoMemory>
     push_style(out)
 }
 
+#[tactic(auto, unfolding(crate::specs::Pictures::legend_text))]
+/// Adds the words about signs.
 fn push_legend(out: &mut Text, top: u64) -> Result<(), NoMemory>
     ensures { OnOk result (out.new.items ≡ out.old.items ++ legend_text top) }
 {
@@ -212,6 +214,20 @@ fn width_of(scene: &Scene, frame: &Frame) -> u64
     (last_right(frame) + 12).max(values).max(700)
 }
 
+#[tactic(auto, unfolding(crate::specs::Pictures::drawn))]
+/// Adds the picture of a scene in its places.
+fn push_picture(out: &mut Text, scene: &Scene, frame: &Frame) -> Result<(), NoMemory>
+    ensures { OnOk result (out.new.items ≡ out.old.items ++ drawn (scene_view scene.now) (frame_view frame.now)) }
+{
+    let top = value_line(frame, scene.values.len());
+    push_head(out, width_of(scene, frame), top + 110)?;
+    push_ticks(out, scene, frame)?;
+    push_lanes(out, scene, frame)?;
+    push_steps(out, scene, frame)?;
+    push_values(out, scene, frame)?;
+    push_legend(out, top)
+}
+
 /// The picture of a run as a text in SVG, with no script in it: a lane for each script thread with a bar for each attempt, a lane
 /// for each part that is locked, and what the objects hold at the end.
 pub fn picture(alloc: Global, scene: &Scene) -> Result<Text, NoMemory>
@@ -219,15 +235,7 @@ pub fn picture(alloc: Global, scene: &Scene) -> Result<Text, NoMemory>
     ensures { IfOk result (λ text. text.items ≡ picture_of (scene_view scene.now)) }
 {
     let frame = frame_of(alloc, scene)?;
-    let width = width_of(scene, &frame);
-    let top = value_line(&frame, scene.values.len());
     let mut out = Text::new(alloc);
-    push_head(&mut out, width, top + 110)?;
-    push_ticks(&mut out, scene, &frame)?;
-    push_threads(&mut out, scene, &frame, width)?;
-    push_parts(&mut out, scene, &frame, width)?;
-    push_steps(&mut out, scene, &frame)?;
-    push_values(&mut out, scene, &frame, width)?;
-    push_legend(&mut out, top)?;
+    push_picture(&mut out, scene, &frame)?;
     Ok(out)
 }

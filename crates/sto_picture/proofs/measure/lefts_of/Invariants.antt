@@ -1,4 +1,4 @@
-use Rattle.std.proofs.Common.{◌≡◌, ◌+◌, ◌*◌, ◌≤◌, take, length}
+use Rattle.std.proofs.Common.{◌≡◌, ◌+◌, ◌*◌, ◌≤◌, length}
 use Rattle.sto_picture.specs.Elements.{each}
 use Rattle.sto_picture.specs.Places.{left_of}
 use Rattle.sto_picture.proofs.measure.lefts_of.Given as goal
