@@ -18,7 +18,7 @@ use Rattle.sto_core.specs.Versions.{is_free}
 use Rattle.sto_core.specs.Views.{own_ticket}
 use Rattle.sto_core.specs.Allowed.{Allowed, IsIdle, MayRead, MayClose, MayLock, MayUnlock, MayPut, MayRelease, MayDecide}
 use Rattle.sto_core.proofs.Lists.{each_snoc}
-use Rattle.sto_attempt_facts.specs.Records.{Place, Verdict, Wrote, Read, Cancelled, Locked, Changed, Record, IsSince, wrote_with}
+use Rattle.sto_attempt_facts.specs.Records.{Place, Verdict, Wrote, Read, Cancelled, Locked, Changed, Record, IsSince, IsAbove, wrote_with}
 use Rattle.sto_attempt_facts.specs.Told.{IsTold, IsFound}
 use Rattle.sto_attempt_facts.specs.Counted.{times_committed, if_won}
 use Rattle.sto_attempt_facts.specs.Added.{Grows, IsKnown}
@@ -149,9 +149,9 @@ draws_locks : (u : ℕ) → P.Drawn u ≡ P.Locking → ⊥
 unfolding HasDrawnOne
 draws_locks u is = subst (λ (h : Phase). HasDrawnOne h) is tt
 
--- an event that is allowed after the commit leaves what was drawn
+-- an event that is allowed after the commit leaves what was drawn, and the number that the attempt reads as of
 pub won_keeps : (valid : Validity) (e : Event) (v : View) (n : ℕ) (x : ℤ) (t : ℕ) (puts : List (ℕ × ℕ)) → v.phase ≡ P.Won t puts → Allowed valid e v
-    → ((after e v n x).entries ≡ v.entries) × ((after e v n x).draws ≡ v.draws)
+    → ((after e v n x).entries ≡ v.entries) × ((after e v n x).draws ≡ v.draws) × ((after e v n x).at ≡ v.at)
 won_keeps valid Start v n x t puts is may = absurd (subst (λ (h : Phase). IsIdle h) is may)
 won_keeps valid (Open p) v n x t puts is may = absurd (reads_none (sym may.0 ∙ is))
 won_keeps valid (Word p i) v n x t puts is may = absurd (subst (λ (h : Phase). MayRead v p h) is may.0)
@@ -162,8 +162,8 @@ won_keeps valid (Draw us seen loaded) v n x t puts is may = absurd (locks_none (
 won_keeps valid (Check p) v n x t puts is may = absurd (draws_none may.0.0 (sym may.0.1 ∙ is))
 won_keeps valid (Decide true) v n x t puts is may = absurd (draws_none may.0.0 (sym may.0.1 ∙ is))
 won_keeps valid (Decide false) v n x t puts is may = absurd (draws_none may.0 (sym may.1 ∙ is))
-won_keeps valid (Put p i y) v n x t puts is may = (refl, refl)
-won_keeps valid (Release p) v n x t puts is may = (refl, refl)
+won_keeps valid (Put p i y) v n x t puts is may = (refl, refl, refl)
+won_keeps valid (Release p) v n x t puts is may = (refl, refl, refl)
 won_keeps valid (Unlock p) v n x t puts is may = absurd (subst (λ (h : Phase). MayUnlock p v h) is may)
 won_keeps valid Renew v n x t puts is may = absurd (reads_none (sym may ∙ is))
 won_keeps valid (Recheck p) v n x t puts is may = absurd (reads_none (sym may.0 ∙ is))
@@ -339,12 +339,12 @@ counted_won b t u es n h =
 -- What an attempt adds that has led from the view b to the idle view w.
 pub tried : (m : Meaning) (b w : View) (f : Steps) (place : Place) (replies : List Told) (verdict : Verdict)
     → IsRunning b w → IsIdle w.phase → IsTold m w f replies verdict → IsFound w w.starts verdict
-    → ((k : ℕ) → IsKnown b k → IsSince k verdict)
+    → ((k : ℕ) → IsKnown b k → IsSince k verdict) → IsAbove w.at verdict
     → ((t : ℕ) → times_committed t w.entries ≡ times_committed t b.entries + wrote_with t verdict)
     → HasTried m b w f place (record { place = place; replies = replies; verdict = verdict })
-tried m b w f place replies verdict r idle told found since count =
+tried m b w f place replies verdict r idle told found since above count =
     let d : HasSettled b w.entries w.draws = settled_of b w.phase w.entries w.draws idle r.drawn in record {
-      added = record { placed = refl; told = told; since = since };
+      added = record { placed = refl; told = told; since = since; above = above };
       grows = r.grows;
       kept = kept_entries b w.entries w.draws d;
       committed = count;

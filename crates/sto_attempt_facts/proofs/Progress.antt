@@ -22,6 +22,7 @@ use Rattle.sto_attempt_facts.specs.Counted.{times_committed, if_won}
 use Rattle.sto_attempt_facts.specs.Added.{Grows, IsKnown}
 use Rattle.sto_attempt_facts.specs.Running.{HasNoMore, HasOneMore, HasSettled, Undrawn, Won, Lost, HasDrawn, IsRunning}
 use Rattle.sto_attempt_facts.proofs.Events.{grows_on, event_grows, covers_known}
+use Rattle.sto_attempt_facts.proofs.Above.{keeps_above}
 
 -- what is known before an attempt is known while nothing was drawn
 known_still : (b v : View) (k : ℕ) → v.entries ≡ b.entries → Grows b v → IsKnown b k → IsKnown v k
@@ -41,6 +42,7 @@ begun_runs valid passes v w n x t =
       starts = refl;
       settled = subst (λ (u : View). Each (λ (e : Entry). e.fate ≢ Pending) u.entries) t.after t.learns.1.decided;
       drawn = record { same = refl; left = refl };
+      above = tt;
       sizes = refl;
       opening = refl;
     })
@@ -210,6 +212,7 @@ kept valid passes e b v w n x t r g starts d =
       starts = starts ∙ r.starts;
       settled = r.settled;
       drawn = d;
+      above = keeps_above valid passes e v w n x t r.above;
       sizes = (lasts e v n x).sizes ∙ r.sizes;
       opening = (lasts e v n x).opening ∙ r.opening;
     })

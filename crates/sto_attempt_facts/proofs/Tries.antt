@@ -1,15 +1,15 @@
 -- The records of one transaction, attempt by attempt.
 use Rattle.std.specs.Prelude.{◌≢◌, ◌⊎◌, ◌&&◌, if◌then◌else◌, ◌==◌, length}
 use Rattle.std.specs.List.{All}
-use Rattle.std.proofs.Common.{◌≡◌, ℕ, ◌+◌, ◌<◌, ◌≤◌, List, [], ◌∷◌, ◌++◌, refl, sym, ap, ◌∙◌, zero, suc, subst, arith, Bool, true, false, inl, inr}
-use Rattle.std.proofs.lemmas.List.Elements.{All-append, All-weaker, All-cons, All-nil, All-head, All-tail}
+use Rattle.std.proofs.Common.{◌≡◌, ℕ, ◌+◌, ◌<◌, ◌≤◌, List, [], ◌∷◌, ◌++◌, refl, sym, ap, ◌∙◌, zero, suc, subst, arith, Bool, true, false, true≢false, inl, inr}
+use Rattle.std.proofs.lemmas.List.Elements.{All-append, All-cons, All-nil, All-head, All-tail}
 use Rattle.sto_model.specs.Run.{Script as Steps}
 use Rattle.sto_type.specs.Meaning.{Meaning}
 use Rattle.sto_core.specs.declared.view.Entry.{Entry}
 use Rattle.sto_core.specs.declared.view.Finding.{Finding}
 use Rattle.sto_core.specs.declared.view.View.{View}
 use Rattle.sto_core.specs.Lists.{Among}
-use Rattle.sto_attempt_facts.specs.Records.{Place, Verdict, Wrote, Read, Cancelled, Locked, Changed, Record, is_abort, known_after, IsSince, times_written, wrote_with}
+use Rattle.sto_attempt_facts.specs.Records.{Place, Verdict, Wrote, Read, Cancelled, Locked, Changed, Record, is_abort, known_after, IsSince, IsAbove, times_written, wrote_with}
 use Rattle.sto_attempt_facts.specs.Told.{IsTold, HasFound, IsFound}
 use Rattle.sto_attempt_facts.specs.Counted.{times_committed, Follows, InThreads}
 use Rattle.sto_attempt_facts.specs.Added.{Grows, IsKnown, IsAdded}
@@ -82,6 +82,26 @@ all_followed m b v w f place (x ∷ rs) r t each aborted h =
       all_followed m b v w f place rs r t (All-tail (IsAdded m b v f place) x rs each) (All-tail (λ (s : Record). is_abort s.verdict ≡ true) x rs aborted) h.1,
     )
 
+-- what is told of aborted records stays so when the view grows
+aborted_above : (n : ℕ) (verdict : Verdict) → is_abort verdict ≡ true → IsAbove n verdict
+aborted_above n (Wrote t) h = absurd (true≢false (sym h))
+aborted_above n (Read k) h = tt
+aborted_above n (Cancelled k) h = tt
+aborted_above n (Locked k p) h = tt
+aborted_above n (Changed k p t) h = tt
+
+pub still_added : (m : Meaning) (b v w : View) (f : Steps) (place : Place) (rs : List Record) → Grows v w → AreAborted rs
+    → All (IsAdded m b v f place) rs → All (IsAdded m b w f place) rs
+still_added m b v w f place [] g aborted h = All-nil (IsAdded m b w f place)
+still_added m b v w f place (x ∷ rs) g aborted h =
+    let a : IsAdded m b v f place x = All-head (IsAdded m b v f place) x rs h in
+    All-cons (IsAdded m b w f place) x rs (record {
+      placed = a.placed;
+      told = told_later m v w f x.replies x.verdict g a.told;
+      since = a.since;
+      above = aborted_above w.at x.verdict (All-head (λ (s : Record). is_abort s.verdict ≡ true) x rs aborted);
+    }) (still_added m b v w f place rs g (All-tail (λ (s : Record). is_abort s.verdict ≡ true) x rs aborted) (All-tail (IsAdded m b v f place) x rs h))
+
 -- One more attempt, after aborted ones.
 pub one_more : (m : Meaning) (b v w : View) (f : Steps) (place : Place) (rs : List Record) (r : Record) → AreAborted rs → HasMade m b v f place rs → HasTried m v w f place r → HasMade m b w f place (rs ++ r ∷ [])
 one_more m b v w f place rs r aborted h t = record {
@@ -89,8 +109,8 @@ one_more m b v w f place rs r aborted h t = record {
   known = λ k a. known_after_it m v w f place r t k (h.known k a);
   entries = λ n. (let a = h.entries n in let c = t.committed n in let d = written_more n rs r in omega (arith, a, c, d));
   each = All-append (IsAdded m b w f place) rs (r ∷ [])
-      (All-weaker (IsAdded m b v f place) (IsAdded m b w f place) (λ x a. record { placed = a.placed; told = told_later m v w f x.replies x.verdict t.grows a.told; since = a.since }) rs h.each)
-      (All-cons (IsAdded m b w f place) r [] (record { placed = t.added.placed; told = t.added.told; since = λ n a. t.added.since n (h.known n a) }) (All-nil _));
+      (still_added m b v w f place rs t.grows aborted h.each)
+      (All-cons (IsAdded m b w f place) r [] (record { placed = t.added.placed; told = t.added.told; since = λ n a. t.added.since n (h.known n a); above = t.added.above }) (All-nil _));
   threads = all_followed m b v w f place rs r t h.each aborted h.threads;
   starts = (let a = h.starts in let c = t.starts in let d = longer rs r in omega (arith, a, c, d));
   draws = (let a = h.draws in let c = t.draws in let d = longer rs r in omega (arith, a, c, d));

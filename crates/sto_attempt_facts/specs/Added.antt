@@ -10,7 +10,7 @@ use Rattle.sto_core.specs.declared.view.Finding.{Finding}
 use Rattle.sto_core.specs.declared.view.Fate.TheVariants.{Committed}
 use Rattle.sto_core.specs.declared.view.View.{View}
 use Rattle.sto_core.specs.Lists.{Among}
-use Rattle.sto_attempt_facts.specs.Records.{Place, Record, IsSince, times_written}
+use Rattle.sto_attempt_facts.specs.Records.{Place, Record, IsSince, IsAbove, times_written}
 use Rattle.sto_attempt_facts.specs.Told.{IsTold}
 use Rattle.sto_attempt_facts.specs.Counted.{InThreads, times_committed, aborted_times}
 
@@ -38,11 +38,13 @@ pub record IsSeenTicket (v : View) (n : ℕ) : Type 0 where
 abbrev pub IsKnown : View → ℕ → Type 0
 IsKnown v n = (n ≤ v.at) ⊎ IsOwnTicket v n ⊎ IsSeenTicket v n
 
--- a record of the place that is told of the view w after it, and that began after all that the view v before it knew
+-- a record of the place that is told of the view w after it, and that began after all that the view v before it knew; the ticket of a
+-- writer is above the clock that w has at the end
 pub record IsAdded (m : Meaning) (v w : View) (f : Steps) (place : Place) (r : Record) : Type 0 where
   pub placed : r.place ≡ place
   pub told : IsTold m w f r.replies r.verdict
   pub since : (n : ℕ) → IsKnown v n → IsSince n r.verdict
+  pub above : IsAbove w.at r.verdict
 
 -- a run of the transaction at a place, which does f, from the view v to the view w, added these records
 pub record HasAdded (m : Meaning) (tries : ℕ) (v w : View) (f : Steps) (place : Place) (new : List Record) : Type 0 where

@@ -65,6 +65,11 @@ IsSince n (Cancelled at) = n ≤ at
 IsSince n (Locked at part) = n ≤ at
 IsSince n (Changed at part ticket) = n ≤ at
 
+-- the ticket that it wrote with, if it did, is above the number
+abbrev pub IsAbove : ℕ → Verdict → Type 0
+IsAbove n (Wrote ticket) = n < ticket
+IsAbove n verdict = Unit {0}
+
 -- 1 where the record wrote with the ticket
 abbrev pub wrote_with : ℕ → Verdict → ℕ
 wrote_with n (Wrote ticket) = if ticket == n then 1 else 0

@@ -40,12 +40,21 @@ HasDrawn begun (P.Drawn t) es n = HasOneMore begun t Pending es n
 HasDrawn begun (P.Won t puts) es n = HasOneMore begun t Committed es n
 HasDrawn begun (P.Lost t) es n = HasOneMore begun t Dropped es n
 
+-- the ticket that an attempt in this phase has drawn, if any, is above the number
+abbrev pub HasDrawnAbove : ℕ → Phase → Type 0
+HasDrawnAbove n (P.Drawn t) = n < t
+HasDrawnAbove n (P.Won t puts) = n < t
+HasDrawnAbove n (P.Lost t) = n < t
+HasDrawnAbove n _ = Unit {0}
+
 -- an attempt that began at the view `begun` has led to the view v
 pub record IsRunning (begun v : View) : Type 0 where
   pub grows : Grows begun v
   pub starts : v.starts ≡ begun.starts + 1
   pub settled : Each (λ (e : Entry). e.fate ≢ Pending) begun.entries
   pub drawn : HasDrawn begun v.phase v.entries v.draws
+  -- its ticket is above the number that it reads as of
+  pub above : HasDrawnAbove v.at v.phase
   -- its words are those of the same type
   pub sizes : v.sizes ≡ begun.sizes
   pub opening : v.opening ≡ begun.opening

@@ -1,5 +1,5 @@
 -- The report of a lawful journal is lawful.
-use Rattle.std.proofs.Common.{◌≡◌, ℕ, List, length, map, sym, ap, ◌∙◌, subst}
+use Rattle.std.proofs.Common.{◌≡◌, ℕ, List, [], length, map, sym, ap, ◌∙◌, subst}
 use Rattle.std.proofs.lemmas.List.{length-map}
 use Rattle.sto_model.specs.Run.{State}
 use Rattle.sto_lang.specs.Scripts.{File}
@@ -18,10 +18,14 @@ use Rattle.sto_report_spec.specs.Json.{json_text, json_of}
 use Rattle.sto_report_spec.specs.NamedJson.{json_order_named, json_aborts_named}
 use Rattle.sto_report_spec.specs.Updated.{Updating}
 use Rattle.sto_report_spec.specs.LawfulAborts.{AreLawful}
-use Rattle.sto_report_spec.specs.Lawful.{IsLawful, IsLawfulJson}
+use Rattle.sto_report_spec.specs.declared.form.ReportForm.{ReportForm}
+use Rattle.sto_report_spec.specs.declared.form.ReportForm.TheVariants.{Text, Json}
+use Rattle.sto_report_spec.specs.Lawful.{IsLawful, IsLawfulJson, IsLawfulIn, made_in}
 use Rattle.sto_journal.specs.declared.journal.Journal.{Journal}
 use Rattle.sto_journal.specs.Journals.{entry, places, abort, HaveThreads, AreAbortsOf}
 use Rattle.sto_run.specs.Lawful.{IsLawfulJournal}
+use Rattle.sto_run.specs.Alone.{all_places, RanAlone}
+use Rattle.sto_cli.specs.Outputs.{order_told, aborts_told, IsAlone}
 use Rattle.sto_run.proofs.Printed.{lawful_threads, lawful_aborts}
 
 module _ (u : Updating) (f : File) (tries : ℕ) (j : Journal) (lawful : IsLawfulJournal u f tries j) (text : List ℕ) where
@@ -70,3 +74,22 @@ module _ (u : Updating) (f : whole.File) (tries : ℕ) (j : Journal) (sound : Is
 
   pub printed_aborts : AreAbortsOf (length f.threads.items) (map declaration f.decls.items) j.aborts.items
   printed_aborts = subst (λ (n : ℕ). AreAbortsOf n (map declaration f.decls.items) j.aborts.items) same_count (lawful_aborts u (views.file f) tries j sound lawful)
+
+-- The report of a run beside which nothing ran is one text.
+pub one_report : (form : ReportForm) (u : Updating) (file : File) (tries : ℕ) (j : Journal) (text : List ℕ) → RanAlone file j → IsLawfulIn form u file tries text
+    → order_told form file.names text ≡ places j.lines.items → aborts_told form file.names text ≡ map (abort file.declarations) j.aborts.items → IsAlone form file text
+one_report form u file tries j text alone lawful order aborts = record {
+  order = in_order;
+  none = none;
+  text = said form lawful ∙ ap (λ (ps : List Place). made_in form file ps (aborts_told form file.names text)) in_order ∙ ap (made_in form file (all_places file)) none;
+}
+  where
+    in_order : order_told form file.names text ≡ all_places file
+    in_order = order ∙ alone.order
+
+    none : aborts_told form file.names text ≡ []
+    none = aborts ∙ ap (map (abort file.declarations)) alone.none
+
+    said : (f : ReportForm) → IsLawfulIn f u file tries text → text ≡ made_in f file (order_told f file.names text) (aborts_told f file.names text)
+    said Text l = l.report
+    said Json l = l.report

@@ -8,15 +8,18 @@ use Rattle.sto_write.specs.Texts.{text_of, upgraded}
 use Rattle.sto_gen.specs.Generated.{file_of as generated}
 use Rattle.sto_report_spec.specs.declared.form.ReportForm.{ReportForm}
 use Rattle.sto_report_spec.specs.declared.form.ReportForm.TheVariants.{Text, Json}
+use Rattle.sto_report_spec.specs.Orders.{Place}
 use Rattle.sto_report_spec.specs.Aborts.{Abort}
+use Rattle.sto_report_spec.specs.Named.{order_named}
 use Rattle.sto_report_spec.specs.NamedAborts.{aborts_named}
-use Rattle.sto_report_spec.specs.NamedJson.{json_aborts_named}
-use Rattle.sto_report_spec.specs.Lawful.{IsLawfulIn}
+use Rattle.sto_report_spec.specs.NamedJson.{json_order_named, json_aborts_named}
+use Rattle.sto_report_spec.specs.Lawful.{IsLawfulIn, made_in}
 use Rattle.sto_run.specs.Meanings.{updating_by}
 use Rattle.sto_run.specs.Stores.{means}
 use Rattle.sto_journal.specs.declared.journal.Journal.{Journal}
 use Rattle.sto_summary.specs.Summary.{summary_of, HasTotals}
 use Rattle.sto_run.specs.Lawful.{IsLawfulJournal}
+use Rattle.sto_run.specs.Alone.{all_places}
 use Rattle.sto_args.specs.declared.command.Command.{Command}
 use Rattle.sto_args.specs.declared.command.Command.TheVariants.{Run, Step, Upgrade, Gen, Bench}
 
@@ -35,12 +38,23 @@ abbrev pub aborts_told : ReportForm → List (List ℕ) → List ℕ → List Ab
 aborts_told Text names text = aborts_named names text
 aborts_told Json names text = json_aborts_named names text
 
+-- the order that it names
+abbrev pub order_told : ReportForm → List (List ℕ) → List ℕ → List Place
+order_told Text names text = order_named names text
+order_told Json names text = json_order_named names text
+
+-- the one report of a run beside which nothing runs: of all transactions in rising thread and then position, with no aborted attempt
+pub record IsAlone (form : ReportForm) (file : File) (text : List ℕ) : Type 0 where
+  pub order : order_told form file.names text ≡ all_places file
+  pub none : aborts_told form file.names text ≡ []
+  pub text : text ≡ made_in form file (all_places file) []
+
 -- a lawful report of the file that the bytes are, for so many tries and in the form that is asked for, with what the types of
--- objects say of updates; it names no aborted attempt where nothing runs beside
+-- objects say of updates; where nothing runs beside, it is the one report of such a run
 abbrev pub IsReport : ℕ → Bool → (File → Type 0) → List ℕ → List ℕ → Type 0
 IsReport tries json alone bytes text =
     (file : File) × (file_of bytes ≡ Ok file) × IsLawfulIn (form_for json) (updating_by means) file tries text
-    × (alone file → aborts_told (form_for json) file.names text ≡ [])
+    × (alone file → IsAlone (form_for json) file text)
 
 -- the summary of a lawful journal of the file that the number generates, for 64 tries: it tells of all 3,200 transactions, and
 -- of what they leave in whatever order: accounts that hold 64,000 together, 160 pairs in the log and 128 in the table of owners
@@ -48,7 +62,7 @@ abbrev pub IsSummary : ℕ → List ℕ → Type 0
 IsSummary number text =
     (journal : Journal) × IsLawfulJournal (updating_by means) (generated number) 64 journal × (text ≡ summary_of number 3200 journal.state.items) × HasTotals journal.state.items
 
--- `run` and `step` print a lawful report, in which nothing is aborted where one worker runs the file, or where `step` has at most one
+-- `run` and `step` print a lawful report, which is one text where one worker runs the file, or where `step` has at most one
 -- script thread; `upgrade` prints the canonical text of the file that the bytes are with its version
 -- set to 2; `gen` prints the canonical text of the file that the number generates, which reads as that file, and `bench` the summary of
 -- a run of it

@@ -4,13 +4,13 @@ ghost use Rattle.sto_args.specs.declared.command.Command.TheVariants as commands
 ghost use Rattle.sto_args.specs.Commands.{HasThreads};
 ghost use Rattle.sto_lang.specs.Sound.{IsSound, IsFromTo};
 ghost use Rattle.sto_lang.specs.Views.{file as view};
-ghost use Rattle.sto_journal.specs.Journals.{abort};
+ghost use Rattle.sto_journal.specs.Journals.{places, abort};
 ghost use Rattle.sto_report_spec.specs.Lawful.{IsLawfulIn};
 ghost use Rattle.sto_run.specs.Meanings.{updating_by};
 ghost use Rattle.sto_run.specs.Stores.{means};
 ghost use Rattle.sto_run.specs.Lawful.{IsLawfulJournal};
 ghost use Rattle.sto_cli_common.specs.Ends.{IsFileRefusal};
-ghost use Rattle.sto_cli.specs.Outputs.{IsOutput, aborts_told, form_for, workers_of};
+ghost use Rattle.sto_cli.specs.Outputs.{IsOutput, order_told, aborts_told, form_for, workers_of};
 
 use std::alloc::Global;
 use std::mem;
@@ -23,12 +23,13 @@ use sto_part::NoMemory;
 use sto_run::{Gate, run_file, step_file};
 
 /// The report of a lawful journal of a file, as a text or as one line of JSON. It is lawful for each number of tries for which
-/// the journal is, and names the aborted attempts of the journal.
+/// the journal is, and names the order and the aborted attempts of the journal.
 pub fn report(alloc: Global, file: &File, journal: &Journal, json: bool) -> Result<Text, NoMemory>
     requires sound { IsSound (view file.now) }
     requires lawful { (tries : ℕ) × IsLawfulJournal (updating_by means) (view file.now) tries journal.now }
     ensures lawful { IfOk result (λ text. (tries : ℕ) → IsLawfulJournal (updating_by means) (view file.now) tries journal.now
         → IsLawfulIn (form_for json) (updating_by means) (view file.now) tries text.items) }
+    ensures order { IfOk result (λ text. order_told (form_for json) (view file.now).names text.items ≡ places journal.now.lines.items) }
     ensures aborts { IfOk result (λ text. aborts_told (form_for json) (view file.now).names text.items
         ≡ map (abort (view file.now).declarations) journal.now.aborts.items) }
 {

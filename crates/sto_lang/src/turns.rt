@@ -1,30 +1,32 @@
 //! The schedule, and what a transaction weighs.
-ghost use Rattle.std.specs.Prelude.{◌≡◌, ◌+◌, ◌^◌, ◌<◌, length, map, IfOk, true, min};
+ghost use Rattle.std.specs.Prelude.{List as Seq, ◌≡◌, ◌+◌, ◌^◌, ◌<◌, length, map, IfOk, true, min};
 ghost use Rattle.std.specs.List.{list_all};
 ghost use Rattle.sto_syntax.specs.Views.{entries as entries_of, form as form_of};
 ghost use Rattle.sto_lang.specs.Limits.{is_in_range};
 ghost use Rattle.sto_lang.specs.Drafts.{turns_of, script_of};
 ghost use Rattle.sto_lang.specs.BegunViews.{begun_of};
 ghost use Rattle.sto_lang.specs.DraftViews.{draft_of};
-ghost use Rattle.sto_lang.specs.Weighed.{begun_weight, ended_weight};
+ghost use Rattle.sto_lang.specs.Objects.{Object, shapes_in};
+ghost use Rattle.sto_lang.specs.Shapes.{in_order};
+ghost use Rattle.sto_lang.specs.Weighed.{begun_weight, ended_weight, AreWeighed};
 ghost use Rattle.sto_lang.specs.Views.{names_of};
 
 use crate::begun::Begun;
 use crate::draft::Draft;
-use crate::objects::DeclaredObjects;
 use crate::range::natural;
 use crate::thread::thread_number;
-use crate::weight::weight;
+use crate::weight::TOO_HEAVY;
 use crate::{Schedule, Thread, Turns};
 use std::alloc::Global;
 use sto_part::{List, NoMemory};
 use sto_syntax::{Entries, Form};
 
 /// What a transaction weighs, or the least weight that no transaction may have.
-fn own_weight(objects: &DeclaredObjects, begun: &Begun) -> u64
-    ensures { result ≡ min (script_of objects.now (begun_of begun.now)).weight 4097 }
+fn own_weight(begun: &Begun) -> u64
+    ensures { (objects : Seq Object) → AreWeighed (in_order (shapes_in objects)) begun.now
+        → result ≡ min (script_of objects (begun_of begun.now)).weight 4097 }
 {
-    (1 + weight(objects.in_order(), begun.statements.as_slice())).min(4097)
+    (1 + u64::from(begun.statements.weight)).min(TOO_HEAVY)
 }
 
 /// What the transaction weighs that the lines stand in.
@@ -32,7 +34,7 @@ fn begun_weight(draft: &Draft) -> u64
     ensures { result ≡ begun_weight (draft_of draft.now) (draft_of draft.now).inside }
 {
     match &draft.begun {
-        Some(begun) => own_weight(&draft.objects, begun),
+        Some(begun) => own_weight(begun),
         None => 0,
     }
 }

@@ -27,14 +27,14 @@ module _ {T : Type 0} {n : naming.Ghosts T} (t : OfType T) (words : Words T) whe
   ServeBoth pair = Serves t words pair.0.rest.seat × Serves t words pair.1.rest.seat
 
   -- a worker did a task, and is the store's still
-  abbrev pub HasServed : {Out : Type 0} → List Shape → IdleWorker T n → (Working T → Working T → Out → Type 0) → Finished T Out n → Type 0
-  HasServed shapes worker gives done =
+  abbrev pub DoesTask : {Out : Type 0} → List Shape → IdleWorker T n → (Working T → Working T → Out → Type 0) → Finished T Out n → Type 0
+  DoesTask shapes worker gives done =
       Serves t words done.worker.rest.seat × IsDone words shapes worker.rest.seat.me.0.view done.worker.rest.seat.me.0.view gives done.out
 
   -- a pair of workers did two tasks, each one of them
-  abbrev pub HaveServed : {A B : Type 0} → List Shape → IdleWorker T n × IdleWorker T n → (Working T → Working T → A → Type 0) → (Working T → Working T → B → Type 0)
+  abbrev pub DoBoth : {A B : Type 0} → List Shape → IdleWorker T n × IdleWorker T n → (Working T → Working T → A → Type 0) → (Working T → Working T → B → Type 0)
       → Finished T A n × Finished T B n → Type 0
-  HaveServed shapes pair a b done = HasServed shapes pair.0 a done.0 × HasServed shapes pair.1 b done.1
+  DoBoth shapes pair a b done = DoesTask shapes pair.0 a done.0 × DoesTask shapes pair.1 b done.1
 
 -- two workers of a store did tasks, and are back
 pub record AreBothDone {T A B : Type 0} (old new : Stored T) (a : Working T → Working T → A → Type 0) (b : Working T → Working T → B → Type 0) (x : A) (y : B) : Type 0 where

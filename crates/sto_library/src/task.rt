@@ -1,7 +1,7 @@
 //! What a worker does, told by whoever gives it to do.
 ghost use Rattle.std.specs.Prelude.{◌≡◌};
 ghost use Rattle.sto_library.specs.Values.{Serves, TakeCalls, Working};
-ghost use Rattle.sto_library.specs.Tasks.{HasServed};
+ghost use Rattle.sto_library.specs.Tasks.{DoesTask};
 
 use crate::worker::StoreWorker;
 use std::alloc::Global;
@@ -51,7 +51,7 @@ pub(crate) fn work_alone<T: TxType, K: Task<T>>(
 ) -> Finished<T, K::Out>
     requires takes { TakeCalls T.TxType words.now shapes.now.items }
     requires serves { Serves T.TxType words.now worker.rest.seat }
-    ensures { HasServed T.TxType words.now shapes.now.items worker (K.gives task.now) result }
+    ensures { DoesTask T.TxType words.now shapes.now.items worker (K.gives task.now) result }
 {
     let mut busy = StoreWorker::new(alloc, words, shapes, worker);
     let out = task.work(&mut busy);

@@ -2,7 +2,7 @@
 ghost use Rattle.std.specs.Prelude.{◌≡◌, ◌+◌, ◌<◌, [], ◌∷◌, ◌++◌, length, IfOk, IfErr, IfSome, MatchOption};
 ghost use Rattle.std.specs.Thread.{IsSync};
 ghost use Rattle.sto_library.specs.Values.{Serves, TakeCalls};
-ghost use Rattle.sto_library.specs.Tasks.{ServeBoth, HasServed, HaveServed, AreBothDone, AreFourDone, HasFailed};
+ghost use Rattle.sto_library.specs.Tasks.{ServeBoth, DoesTask, DoBoth, AreBothDone, AreFourDone, HasFailed};
 
 use crate::store::SharedStore;
 use crate::task::{Finished, Task, TaskError, work_alone};
@@ -101,7 +101,7 @@ where
     B::Out: Send + Drop,
     requires takes { TakeCalls T.TxType words.now shapes.now.items }
     requires serve { ServeBoth T.TxType words.now workers }
-    ensures { HaveServed T.TxType words.now shapes.now.items workers (A.gives a.now) (B.gives b.now) result }
+    ensures { DoBoth T.TxType words.now shapes.now.items workers (A.gives a.now) (B.gives b.now) result }
 {
     let (first, other) = workers;
     join(
@@ -109,12 +109,12 @@ where
         move || -> Finished<T, A::Out>
             requires takes { TakeCalls T.TxType words.now shapes.now.items }
             requires serves { Serves T.TxType words.now first.rest.seat }
-            ensures { HasServed T.TxType words.entry.now shapes.entry.now.items first (A.gives a.entry.now) result }
+            ensures { DoesTask T.TxType words.entry.now shapes.entry.now.items first (A.gives a.entry.now) result }
         { work_alone(alloc, words, shapes, first, a) },
         move || -> Finished<T, B::Out>
             requires takes { TakeCalls T.TxType words.now shapes.now.items }
             requires serves { Serves T.TxType words.now other.rest.seat }
-            ensures { HasServed T.TxType words.entry.now shapes.entry.now.items other (B.gives b.entry.now) result }
+            ensures { DoesTask T.TxType words.entry.now shapes.entry.now.items other (B.gives b.entry.now) result }
         { work_alone(alloc, words, shapes, other, b) },
     )
 }
@@ -130,7 +130,7 @@ fn work_in_turn<T: TxType, A: Task<T>, B: Task<T>>(
 ) -> FinishedPair<T, A::Out, B::Out>
     requires takes { TakeCalls T.TxType words.now shapes.now.items }
     requires serve { ServeBoth T.TxType words.now workers }
-    ensures { HaveServed T.TxType words.now shapes.now.items workers (A.gives a.now) (B.gives b.now) result }
+    ensures { DoBoth T.TxType words.now shapes.now.items workers (A.gives a.now) (B.gives b.now) result }
 {
     let (first, other) = workers;
     let done = work_alone(alloc, words, shapes, first, a);
@@ -153,7 +153,7 @@ where
     B::Out: Send + Drop,
     requires takes { TakeCalls T.TxType words.now shapes.now.items }
     requires serve { ServeBoth T.TxType words.now workers }
-    ensures { HaveServed T.TxType words.now shapes.now.items workers (A.gives a.now) (B.gives b.now) result }
+    ensures { DoBoth T.TxType words.now shapes.now.items workers (A.gives a.now) (B.gives b.now) result }
 {
     if threads < 2 {
         return work_in_turn(alloc, words, shapes, workers, a, b);
@@ -192,8 +192,8 @@ where
     requires takes { TakeCalls T.TxType words.now shapes.now.items }
     requires first { ServeBoth T.TxType words.now workers.0 }
     requires other { ServeBoth T.TxType words.now workers.1 }
-    ensures first { HaveServed T.TxType words.now shapes.now.items workers.0 (A.gives a.now) (B.gives b.now) result.0 }
-    ensures other { HaveServed T.TxType words.now shapes.now.items workers.1 (C.gives c.now) (D.gives d.now) result.1 }
+    ensures first { DoBoth T.TxType words.now shapes.now.items workers.0 (A.gives a.now) (B.gives b.now) result.0 }
+    ensures other { DoBoth T.TxType words.now shapes.now.items workers.1 (C.gives c.now) (D.gives d.now) result.1 }
 {
     let (first, other) = workers;
     if threads < 2 {
@@ -207,13 +207,13 @@ where
             requires sync { IsSync R.row }
             requires takes { TakeCalls T.TxType words.now shapes.now.items }
             requires serve { ServeBoth T.TxType words.now first }
-            ensures { HaveServed T.TxType words.entry.now shapes.entry.now.items first (A.gives a.entry.now) (B.gives b.entry.now) result }
+            ensures { DoBoth T.TxType words.entry.now shapes.entry.now.items first (A.gives a.entry.now) (B.gives b.entry.now) result }
         { work_two(rt, alloc, words, shapes, each, first, a, b) },
         move || -> FinishedPair<T, C::Out, D::Out>
             requires sync { IsSync R.row }
             requires takes { TakeCalls T.TxType words.now shapes.now.items }
             requires serve { ServeBoth T.TxType words.now other }
-            ensures { HaveServed T.TxType words.entry.now shapes.entry.now.items other (C.gives c.entry.now) (D.gives d.entry.now) result }
+            ensures { DoBoth T.TxType words.entry.now shapes.entry.now.items other (C.gives c.entry.now) (D.gives d.entry.now) result }
         { work_two(rt, alloc, words, shapes, each, other, c, d) },
     )
 }

@@ -77,7 +77,7 @@ known_made part (Some by) seen = refl
 
 -- the last of the abort lines that were read, where all of them are right
 abbrev pub IsLastRead : File → ℕ → List (List ℕ) → ℕ → Option LastAbort → Type 0
-IsLastRead file tries lines read last = AreRight file tries lines read → IsLastOf (aborts_in file (take read lines)) last
+IsLastRead file tries lines read last = AreRight file tries lines read → IsLastOf tries (aborts_in file (take read lines)) last
 
 fewer : {P : ℕ → Type 0} (n m : ℕ) → n ≤ m → ((place : ℕ) → place < m → P place) → (place : ℕ) → place < n → P place
 fewer n m l h place k = h place (omega (arith, l, k))
@@ -165,19 +165,19 @@ module _ (file : File) (tries : ℕ) (lines : List (List ℕ)) (order : List Pla
           told k = tells k.abort k.named k.right.alone
 
           -- or by its place among the others
-          pub unfollowed : ((before : List Abort) (a : Abort) → IsLastOf before last → a.place ≡ place_of given.told.place → a.seen ≡ given.told.seen → known_at_end a ≡ known_of given.told.cause.by given.told.seen → IsFollowed before a tries None)
+          pub unfollowed : ((before : List Abort) (a : Abort) → IsLastOf tries before last → a.place ≡ place_of given.told.place → a.seen ≡ given.told.seen → known_at_end a ≡ known_of given.told.cause.by given.told.seen → IsFollowed before a tries None)
               → AreRight file tries lines read → GoesWrong file tries lines read
           unfollowed none right =
-              inl (here, λ at. (let k = abort_line at in let t = told k in none (aborts_in file front) k.abort (read_last right) t.place t.seen (known_read k.abort given.told t) k.right.few k.right.sorted))
+              inl (here, λ at. (let k = abort_line at in let t = told k in none (aborts_in file front) k.abort (read_last right) t.place t.seen (known_read k.abort given.told t) k.right.few k.right.handed k.right.sorted))
 
           -- one more is gathered
-          module _ (more : LastAbort) (follows : (before : List Abort) (a : Abort) → IsLastOf before last → a.place ≡ place_of given.told.place → a.seen ≡ given.told.seen → known_at_end a ≡ known_of given.told.cause.by given.told.seen → IsFollowed before a tries (Some more)) where
+          module _ (more : LastAbort) (follows : (before : List Abort) (a : Abort) → IsLastOf tries before last → a.place ≡ place_of given.told.place → a.seen ≡ given.told.seen → known_at_end a ≡ known_of given.told.cause.by given.told.seen → IsFollowed before a tries (Some more)) where
             judged : IsJudged file tries lines order read given
             judged = record {
               given_is = is;
               right = λ right heard.
                   let f = follows (aborts_in file front) (abort_of file (shown file order given.told.seen) given.told) (read_last right) refl refl (known_made (record { object = given.told.cause.object.now; part = given.told.cause.part }) given.told.cause.by given.told.seen) in
-                  right_line (subst (IsAbortLine file tries order (aborts_in file front)) text (heard_right file order given tries (aborts_in file front) is heard f.0 f.1));
+                  right_line (subst (IsAbortLine file tries order (aborts_in file front)) text (heard_right file order given tries (aborts_in file front) is heard f.0 f.2.handed f.1));
               heard = λ right at. right_heard file order given tries (aborts_in file front) line text is.placed tells (abort_line at);
             }
 
@@ -206,5 +206,5 @@ module _ (file : File) (tries : ℕ) (lines : List (List ℕ)) (order : List Pla
                 let k = abort_line (right read (omega arith)) in
                 let t = told k in
                 let f = follows (aborts_in file front) k.abort (read_last before) t.place t.seen (known_read k.abort given.told t) in
-                subst (λ (listed : List Abort). IsLast listed more)
+                subst (λ (listed : List Abort). IsLast tries listed more)
                 (sym (ap (aborts_in file) next ∙ aborts_grow file tries front line past h.none state_false ∙ ap (λ (listed : List Abort). aborts_in file front ++ listed) k.named)) f.2

@@ -12,7 +12,7 @@ use Rattle.sto_report_spec.specs.Replay.{entries_of, run_at, shown}
 use Rattle.sto_report_spec.specs.Report.{abort_text}
 use Rattle.sto_report_spec.specs.Aborts.{LocalPart, Cause, Locked, Changed, Abort, part_in}
 use Rattle.sto_report_spec.specs.NamedAborts.{aborts_named}
-use Rattle.sto_report_spec.specs.LawfulAborts.{IsFront, IsBefore, IsAfterOwn, IsSorted, count_at, declared_as, IsPartAsked}
+use Rattle.sto_report_spec.specs.LawfulAborts.{IsFront, IsBefore, IsAfterOwn, IsSorted, HandsBack, count_at, declared_as, IsPartAsked}
 use Rattle.sto_report_lines.specs.declared.told.ToldCause.{ToldCause}
 use Rattle.sto_report_lines.specs.declared.told.ToldAbort.{ToldAbort}
 use Rattle.sto_report_lines.specs.Reading.{place_of, IsCauseRead, IsTold}
@@ -118,9 +118,10 @@ module _ (file : File) (order : List Place) (given : GivenAbort) where
 
   -- and a line that was heard is right
   pub heard_right : (tries : ℕ) (before : List Abort) → IsGiven file order given → IsHeard file seen_state given
-      → count_at (place_of given.told.place) (before ++ abort_of file seen_state given.told ∷ []) ≤ tries → IsSorted (before ++ abort_of file seen_state given.told ∷ [])
+      → count_at (place_of given.told.place) (before ++ abort_of file seen_state given.told ∷ []) ≤ tries → HandsBack tries (before ++ abort_of file seen_state given.told ∷ [])
+      → IsSorted (before ++ abort_of file seen_state given.told ∷ [])
       → IsAbortLine file tries order before given.text.now
-  heard_right tries before g h few sorted =
+  heard_right tries before g h few handed sorted =
       let part : LocalPart = record { object = given.told.cause.object.now; part = given.told.cause.part } in
       let same : g.placed.object ≡ h.object = same_object g.placed.object h.object (sym g.placed.stands ∙ h.stands) in
       let part_is : part_in (cause_in given.told.cause) ≡ part = part_by part given.told.cause.by in
@@ -143,6 +144,7 @@ module _ (file : File) (order : List Place) (given : GivenAbort) where
             cause = cause_right h.object given.told.cause.by part (subst (λ (d : Declaration). IsWriterOr file order given.told d.number given.told.cause.by) same g.cause);
           };
           few = few;
+          handed = handed;
           sorted = sorted;
         };
         text = h.text;

@@ -19,7 +19,7 @@ use Rattle.sto_report_spec.specs.Aborts.{Cause, Locked, Changed, Abort, part_in}
 use Rattle.sto_report_spec.specs.Report.{line_text, abort_text, object_text, report_of}
 use Rattle.sto_report_spec.specs.Named.{is_line_feed, is_space, is_dot, place_of_pieces, order_named, AreNames, IsNamable}
 use Rattle.sto_report_spec.specs.NamedAborts.{aborts_named, aborts_in, abort_by, heard_in, Heard, aborts_among}
-use Rattle.sto_report_spec.specs.LawfulAborts.{IsSorted, count_at, declared_as, IsLawfulAbort, IsCause}
+use Rattle.sto_report_spec.specs.LawfulAborts.{IsSorted, HandsBack, count_at, declared_as, IsLawfulAbort, IsCause}
 use Rattle.sto_report_spec.specs.Lawful.{IsLawful}
 use Rattle.sto_report_spec.specs.Updated.{Updating}
 use Rattle.sto_report_spec.specs.Short.{IsShortEntry, AreShortEntries}
@@ -308,6 +308,16 @@ regroup : {X : Type 0} (front : List X) (x : X) (back : List X) → front ++ x �
 regroup [] x back = refl
 regroup (y ∷ front) x back = ap (λ l. y ∷ l) (regroup front x back)
 
+handed_front : (tries : ℕ) (front : List Abort) (a : Abort) (back : List Abort) → ((q : Place) → count_at q (front ++ a ∷ back) ≤ tries) → HandsBack tries (front ++ a ∷ back) → HandsBack tries (front ++ a ∷ [])
+handed_front tries front a back few h p q own low used =
+    let whole = regroup front a back in
+    let part_p = count_front p (front ++ a ∷ []) back in
+    let part_q = count_front q (front ++ a ∷ []) back in
+    let same_p = ap (count_at p) whole in
+    let same_q = ap (count_at q) whole in
+    let most = few p in
+    let none = h p q own low (omega (arith, part_p, same_p, most, used)) in omega (arith, part_q, same_q, none)
+
 -- the first so many lines and the others
 
 take_all : {X : Type 0} (xs ys : List X) (n : ℕ) → length xs ≡ n → take n (xs ++ ys) ≡ xs
@@ -562,6 +572,7 @@ module _ (file : File) (sound : IsSound file) (tries : ℕ) (u : Updating) (law 
               let part = count_front m.item.place (m.before ++ m.item ∷ []) m.after in
               let same = ap (count_at m.item.place) (m.are ∙ regroup m.before m.item m.after) in
               omega (arith, most, part, same);
+          handed = handed_front tries m.before m.item m.after (subst (λ (l : List Abort). (q : Place) → count_at q l ≤ tries) m.are lawful.aborts.few) (subst (HandsBack tries) m.are lawful.aborts.handed);
           sorted = sorted_front m.before m.item m.after (subst IsSorted m.are lawful.aborts.sorted);
         };
         text = m.is;

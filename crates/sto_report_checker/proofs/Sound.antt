@@ -15,7 +15,7 @@ use Rattle.sto_report_spec.specs.Aborts.{Abort}
 use Rattle.sto_report_spec.specs.Report.{line_text, abort_text, object_text, report_of}
 use Rattle.sto_report_spec.specs.Named.{order_named}
 use Rattle.sto_report_spec.specs.NamedAborts.{aborts_named}
-use Rattle.sto_report_spec.specs.LawfulAborts.{IsSorted, count_at}
+use Rattle.sto_report_spec.specs.LawfulAborts.{IsSorted, HandsBack, count_at}
 use Rattle.sto_replay.proofs.Replayed.{entries_from-more}
 use Rattle.sto_report_lines.specs.Lines.{is_line_feed, onto_line, lines_of, is_state_line, until_state, beyond_state}
 use Rattle.sto_report_lines.specs.Shown.{IsInside, AreInside}
@@ -136,6 +136,7 @@ module _ (file : File) (tries : ℕ) (lines : List (List ℕ)) where
     text : joined (front n) ≡ flat_map (line_text file.names) (entries_of file (order_at n)) ++ flat_map (abort_text file.names) (aborts_at n)
     each : All (IsRightAlone file (order_at n)) (aborts_at n)
     few : (place : Place) → count_at place (aborts_at n) ≤ tries
+    handed : HandsBack tries (aborts_at n)
     sorted : IsSorted (aborts_at n)
 
   abbrev has_state : ℕ → Bool
@@ -215,6 +216,7 @@ module _ (file : File) (tries : ℕ) (lines : List (List ℕ)) where
           each = subst (λ (o : List Place). All (IsRightAlone file o) (aborts_at (n + 1))) (sym same_order)
               (subst (All (IsRightAlone file (order_at n))) (sym grown) (All-push (IsRightAlone file (order_at n)) (aborts_at n) k.abort h.each k.right.alone));
           few = subst (λ (listed : List Abort). (place : Place) → count_at place listed ≤ tries) (sym grown) (few_more (aborts_at n) k.abort h.few k.right.few);
+          handed = subst (HandsBack tries) (sym grown) k.right.handed;
           sorted = subst IsSorted (sym grown) k.right.sorted;
         }
 
@@ -225,7 +227,7 @@ module _ (file : File) (tries : ℕ) (lines : List (List ℕ)) where
         record {
           order = subst (IsOrder file) (sym same_order) h.order;
           aborts = aborts_at n;
-          are_right = subst (λ (o : List Place). AreRightAborts file tries o (aborts_at n)) (sym same_order) (record { each = h.each; few = h.few; sorted = h.sorted });
+          are_right = subst (λ (o : List Place). AreRightAborts file tries o (aborts_at n)) (sym same_order) (record { each = h.each; few = h.few; handed = h.handed; sorted = h.sorted });
           within = omega (arith, none_yet);
           text =
               joined_more
@@ -278,6 +280,7 @@ module _ (file : File) (tries : ℕ) (lines : List (List ℕ)) where
         text = h.text ∙ sym (append-nil (flat_map (line_text file.names) (entries_of file (order_at (total file))))) ∙ ap (λ (listed : List Abort). flat_map (line_text file.names) (entries_of file (order_at (total file))) ++ flat_map (abort_text file.names) listed) (sym none);
         each = subst (All (IsRightAlone file (order_at (total file)))) (sym none) (All-nil (IsRightAlone file (order_at (total file))));
         few = subst (λ (listed : List Abort). (place : Place) → count_at place listed ≤ tries) (sym none) (λ place. omega arith);
+        handed = subst (HandsBack tries) (sym none) (λ p q own low used. refl);
         sorted = subst IsSorted (sym none) tt;
       }
 

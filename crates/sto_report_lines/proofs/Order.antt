@@ -1,14 +1,15 @@
 -- Aborted attempts in their order, with one more.
 use Rattle.std.proofs.Common.{◌≡◌, ◌⊎◌, ℕ, ◌+◌, ◌<◌, ◌≤◌, List, [], ◌∷◌, ◌++◌, refl, sym, ap, ◌∙◌, subst, Bool, true, false, cond, ◌==◌, ◌&&◌, Option, None, Some, arith, inl, inr, IfSome}
+use Rattle.std.proofs.lemmas.Bool.{cases_eq, cases_order}
 use Rattle.std.proofs.lemmas.Bool.Decides.{nat_tests}
 use Rattle.std.proofs.lemmas.List.Sums.{sum_by-cons}
 use Rattle.sto_report_spec.specs.Orders.{Place}
 use Rattle.sto_report_spec.specs.Aborts.{Abort}
-use Rattle.sto_report_spec.specs.LawfulAborts.{MayPrecede, IsSorted, count_at, known_at_end}
+use Rattle.sto_report_spec.specs.LawfulAborts.{MayPrecede, IsSorted, HandsBack, count_at, known_at_end}
 use Rattle.sto_report_lines.specs.declared.last.LastAbort.{LastAbort}
 use Rattle.sto_report_lines.specs.declared.transaction.TransactionPlace.{TransactionPlace}
 use Rattle.sto_report_lines.specs.Reading.{place_of}
-use Rattle.sto_report_lines.specs.Last.{IsLast, IsFollowed}
+use Rattle.sto_report_lines.specs.Last.{IsLast, IsFollowed, MayFollow}
 
 -- sorted lists with one more at their end
 
@@ -104,7 +105,58 @@ first_own xs l a h k =
     let one = one_more_own (xs ++ l ∷ []) a in
     omega (arith, none, one)
 
-module _ (before : List Abort) (a : Abort) (last : LastAbort) (at : TransactionPlace) (seen known tries : ℕ) (h : IsLast before last) (p : a.place ≡ place_of at) (s : a.seen ≡ seen) (n : known_at_end a ≡ known) where
+-- Of transactions of one thread that used up their tries, with one more line.
+
+places_equal : (p q : Place) → (p ≡ q) ⊎ (((p.0 == q.0) && (p.1 == q.1)) ≡ false)
+places_equal p q = elim (cases_eq p.0 q.0) [
+  | inl e ↦ elim (cases_eq p.1 q.1) [
+    | inl g ↦ inl (λ i. (e i, g i))
+    | inr n ↦ inr (grind (arith, nat_tests))
+  ]
+  | inr n ↦ inr (grind (arith, nat_tests))
+]
+
+other_count : (xs : List Abort) (a : Abort) (q : Place) → ((a.place.0 == q.0) && (a.place.1 == q.1)) ≡ false → count_at q (xs ++ a ∷ []) ≡ count_at q xs
+other_count xs a q other =
+    let more = count_more xs a q in
+    let one = count_cons a [] q in
+    let none = ap (λ (b : Bool). cond {A = ℕ} b 1 0) other in omega (arith, more, one, none)
+
+earlier_other : (p q : Place) → p.1 < q.1 → ((q.0 == p.0) && (q.1 == p.1)) ≡ false
+earlier_other p q l = grind (arith, nat_tests)
+
+handed_more : (tries : ℕ) (xs : List Abort) (a : Abort) → HandsBack tries xs → ((p : Place) → p.0 ≡ a.place.0 → p.1 < a.place.1 → count_at p xs ≡ tries → ⊥)
+    → ((q : Place) → a.place.0 ≡ q.0 → a.place.1 < q.1 → count_at q xs ≡ 0) → HandsBack tries (xs ++ a ∷ [])
+handed_more tries xs a h spare none p q own low used = elim (places_equal a.place q) [
+  | inl here ↦
+      let own_p : p.0 ≡ a.place.0 = own ∙ sym (ap (λ (x : Place). x.0) here) in
+      let low_p : p.1 < a.place.1 = let e = ap (λ (x : Place). x.1) here in omega (arith, low, e) in
+      absurd (spare p own_p low_p (sym (other_count xs a p (earlier_other p a.place low_p)) ∙ used))
+  | inr other ↦ other_count xs a q other ∙ elim (places_equal a.place p) [
+    | inl here ↦ none q (ap (λ (x : Place). x.0) here ∙ own) (let e = ap (λ (x : Place). x.1) here in omega (arith, low, e))
+    | inr apart ↦ h p q own low (sym (other_count xs a p apart) ∙ used)
+  ]
+]
+
+-- the first of all lines
+pub first_some : (before : List Abort) (a : Abort) (at : TransactionPlace) (known tries : ℕ) → 1 ≤ tries → before ≡ [] → a.place ≡ place_of at → known_at_end a ≡ known
+    → IsFollowed before a tries (Some (record { at = at; known = known; count = 1 }))
+first_some before a at known tries one is p n = subst (λ (l : List Abort). IsFollowed l a tries (Some (record { at = at; known = known; count = 1 }))) (sym is) (
+  (let c = count_own a in omega (arith, c, one)),
+  tt,
+  record {
+    before = [];
+    abort = a;
+    are = refl;
+    place = p;
+    known = n;
+    count = count_own a;
+    handed = handed_more tries [] a (λ p q own low used. refl) (λ p own low used. absurd (omega (arith, used, one))) (λ q own low. refl);
+    sorted = tt;
+  },
+)
+
+module _ (before : List Abort) (a : Abort) (last : LastAbort) (at : TransactionPlace) (seen known tries : ℕ) (h : IsLast tries before last) (p : a.place ≡ place_of at) (s : a.seen ≡ seen) (n : known_at_end a ≡ known) where
   whole : before ++ a ∷ [] ≡ (h.before ++ h.abort ∷ []) ++ a ∷ []
   whole = ap (λ (l : List Abort). l ++ a ∷ []) h.are
 
@@ -113,6 +165,13 @@ module _ (before : List Abort) (a : Abort) (last : LastAbort) (at : TransactionP
 
   followed : IsSorted (before ++ a ∷ []) → MayPrecede h.abort a
   followed g = last_two h.before h.abort a (subst IsSorted (whole ∙ regroup h.before h.abort a) g)
+
+  -- the last line is one of its transaction, which stands before all later ones
+  own_some : count_at h.abort.place before ≡ 0 → ⊥
+  own_some none = absurd (let e = ap (λ (l : List Abort). count_at h.abort.place l) h.are in let o = one_more_own h.before h.abort in omega (arith, e, o, none))
+
+  none_behind : (q : Place) → IsBehind h.abort.place q → count_at q before ≡ 0
+  none_behind q k = ap (λ (l : List Abort). count_at q l) h.are ∙ none_at (h.before ++ h.abort ∷ []) h.abort.place q (sorted_up h.before h.abort (subst IsSorted h.are h.sorted)) k
 
   -- one more of the same transaction
   module _ (t : last.at.thread ≡ at.thread) (q : last.at.position ≡ at.position) where
@@ -125,16 +184,21 @@ module _ (before : List Abort) (a : Abort) (last : LastAbort) (at : TransactionP
         let own = ap (λ (x : Place). count_at x before) (sym one_place) ∙ h.count in
         omega (arith, more, own)
 
+    handed_again : HandsBack tries (before ++ a ∷ [])
+    handed_again = handed_more tries before a h.handed
+        (λ x own low used. own_some (ap (λ (y : Place). count_at y before) one_place ∙ h.handed x a.place own low used))
+        (λ q own low. none_behind q (inr (ap (λ (x : Place). x.0) one_place ∙ own, (let e = ap (λ (x : Place). x.1) one_place in omega (arith, e, low)))))
+
     pub again_some : last.known ≤ seen → last.count < tries → IsFollowed before a tries (Some (record { at = last.at; known = known; count = last.count + 1 }))
     again_some l k =
         let sorted = follows (inr (inr (one_place, (let e = h.known in omega (arith, l, e, s))))) in (
           (let c = count_again in omega (arith, c, k)),
           sorted,
-          record { before = before; abort = a; are = refl; place = sym one_place ∙ h.place; known = n; count = count_again; sorted = sorted },
+          record { before = before; abort = a; are = refl; place = sym one_place ∙ h.place; known = n; count = count_again; handed = handed_again; sorted = sorted },
         )
 
     pub again_none : (last.known ≤ seen → last.count < tries → ⊥) → IsFollowed before a tries None
-    again_none wrong few sorted = by (followed sorted)
+    again_none wrong few handed sorted = by (followed sorted)
       where
         by : MayPrecede h.abort a → ⊥
         by (inl l) = let e = ap (λ (x : Place). x.0) one_place in absurd (omega (arith, l, e))
@@ -159,28 +223,57 @@ module _ (before : List Abort) (a : Abort) (last : LastAbort) (at : TransactionP
   own_position = ap (λ (x : Place). x.1) p
 
   -- the first of a later transaction
-  pub later_some : 1 ≤ tries → (last.at.thread < at.thread) ⊎ ((last.at.thread ≡ at.thread) × (last.at.position < at.position)) → IsFollowed before a tries (Some (record { at = at; known = known; count = 1 }))
+  behind_by : MayFollow last at tries → IsBehind h.abort.place a.place
+  behind_by (inl l) = inl (omega (arith, l, thread_is, own_thread))
+  behind_by (inr l) = inr (thread_is ∙ l.0 ∙ sym own_thread, (let m = l.1 in omega (arith, m, position_is, own_position)))
+
+  precede_by : MayFollow last at tries → MayPrecede h.abort a
+  precede_by (inl l) = inl (omega (arith, l, thread_is, own_thread))
+  precede_by (inr l) = inr (inl (thread_is ∙ l.0 ∙ sym own_thread, (let m = l.1 in omega (arith, m, position_is, own_position))))
+
+  -- no earlier one of its thread has used up the tries
+  spare_by : 1 ≤ tries → MayFollow last at tries → (x : Place) → x.0 ≡ a.place.0 → x.1 < a.place.1 → count_at x before ≡ tries → ⊥
+  spare_by one (inl l) x own low used = absurd (let none = none_behind x (inl (omega (arith, l, thread_is, own_thread, own))) in omega (arith, none, used, one))
+  spare_by one (inr l) x own low used =
+      let same : x.0 ≡ h.abort.place.0 = own ∙ own_thread ∙ sym (thread_is ∙ l.0) in elim (cases_order x.1 h.abort.place.1) [
+        | inl e ↦ l.2 (sym h.count ∙ ap (λ (y : Place). count_at y before) (λ i. (sym same i, sym e i)) ∙ used)
+        | inr (inl m) ↦ own_some (h.handed x h.abort.place same m used)
+        | inr (inr m) ↦ absurd (let none = none_behind x (inr (sym same, m)) in omega (arith, none, used, one))
+      ]
+
+  none_by : MayFollow last at tries → (q : Place) → a.place.0 ≡ q.0 → a.place.1 < q.1 → count_at q before ≡ 0
+  none_by (inl l) q own low = none_behind q (inl (omega (arith, l, thread_is, own_thread, own)))
+  none_by (inr l) q own low = none_behind q (inr (thread_is ∙ l.0 ∙ sym own_thread ∙ own, (let m = l.1 in omega (arith, m, position_is, own_position, low))))
+
+  pub later_some : 1 ≤ tries → MayFollow last at tries → IsFollowed before a tries (Some (record { at = at; known = known; count = 1 }))
   later_some one k =
-      let behind = behind_by k in
       let sorted = follows (precede_by k) in
-      let count = ap (λ (l : List Abort). count_at a.place l) whole ∙ first_own h.before h.abort a (subst IsSorted h.are h.sorted) behind in (
+      let count = ap (λ (l : List Abort). count_at a.place l) whole ∙ first_own h.before h.abort a (subst IsSorted h.are h.sorted) (behind_by k) in (
         omega (arith, count, one),
         sorted,
-        record { before = before; abort = a; are = refl; place = p; known = n; count = count; sorted = sorted },
+        record {
+          before = before;
+          abort = a;
+          are = refl;
+          place = p;
+          known = n;
+          count = count;
+          handed = handed_more tries before a h.handed (spare_by one k) (none_by k);
+          sorted = sorted;
+        },
       )
-    where
-      behind_by : (last.at.thread < at.thread) ⊎ ((last.at.thread ≡ at.thread) × (last.at.position < at.position)) → IsBehind h.abort.place a.place
-      behind_by (inl l) = inl (omega (arith, l, thread_is, own_thread))
-      behind_by (inr l) = inr (thread_is ∙ l.0 ∙ sym own_thread, (let m = l.1 in omega (arith, m, position_is, own_position)))
 
-      precede_by : (last.at.thread < at.thread) ⊎ ((last.at.thread ≡ at.thread) × (last.at.position < at.position)) → MayPrecede h.abort a
-      precede_by (inl l) = inl (omega (arith, l, thread_is, own_thread))
-      precede_by (inr l) = inr (inl (thread_is ∙ l.0 ∙ sym own_thread, (let m = l.1 in omega (arith, m, position_is, own_position))))
+  -- where the last one has used up the tries, none of its thread may follow
+  used_up : HandsBack tries (before ++ a ∷ []) → h.abort.place.0 ≡ a.place.0 → h.abort.place.1 < a.place.1 → last.count ≡ tries → ⊥
+  used_up handed own low all =
+      let still = other_count before a h.abort.place (earlier_other h.abort.place a.place low) in
+      let none = handed h.abort.place a.place own low (still ∙ h.count ∙ all) in
+      absurd (let o = one_more_own before a in omega (arith, none, o))
 
-  pub later_none : ((last.at.thread ≡ at.thread) → (last.at.position ≡ at.position) → ⊥) → ((last.at.thread < at.thread) ⊎ ((last.at.thread ≡ at.thread) × (last.at.position < at.position)) → ⊥) → IsFollowed before a tries None
-  later_none other wrong few sorted = by (followed sorted)
+  pub later_none : ((last.at.thread ≡ at.thread) → (last.at.position ≡ at.position) → ⊥) → (MayFollow last at tries → ⊥) → IsFollowed before a tries None
+  later_none other wrong few handed sorted = by (followed sorted)
     where
       by : MayPrecede h.abort a → ⊥
       by (inl l) = wrong (inl (omega (arith, l, thread_is, own_thread)))
-      by (inr (inl l)) = wrong (inr (sym thread_is ∙ l.0 ∙ own_thread, (let m = l.1 in omega (arith, m, position_is, own_position))))
+      by (inr (inl l)) = wrong (inr (sym thread_is ∙ l.0 ∙ own_thread, (let m = l.1 in omega (arith, m, position_is, own_position)), used_up handed l.0 l.1))
       by (inr (inr l)) = other (sym thread_is ∙ ap (λ (x : Place). x.0) l.0 ∙ own_thread) (sym position_is ∙ ap (λ (x : Place). x.1) l.0 ∙ own_position)

@@ -6,16 +6,17 @@ use Rattle.sto_lang.specs.Objects.{Declaration}
 use Rattle.sto_lang.specs.Scripts.{File}
 use Rattle.sto_report_spec.specs.Orders.{Place, IsOrder}
 use Rattle.sto_report_spec.specs.Aborts.{Abort}
-use Rattle.sto_report_spec.specs.LawfulAborts.{IsSorted, count_at, declared_as, part_number}
+use Rattle.sto_report_spec.specs.LawfulAborts.{IsSorted, HandsBack, count_at, declared_as, part_number}
 use Rattle.sto_report_spec.specs.Report.{report_of}
 use Rattle.sto_report_spec.specs.Updated.{Updating, updated}
 use Rattle.sto_report_lines.specs.Right.{HasWritten, IsRightAlone}
 
 -- aborted attempts are lawful, but that the object that a cause names stands for the part: each of them is, no transaction
--- has more than the tries, and they stand in their order
+-- has more than the tries, one that has as many is the last of its thread to have any, and they stand in their order
 pub record AreRightAborts (file : File) (tries : ℕ) (order : List Place) (aborts : List Abort) : Type 0 where
   pub each : All (IsRightAlone file order) aborts
   pub few : (place : Place) → count_at place aborts ≤ tries
+  pub handed : HandsBack tries aborts
   pub sorted : IsSorted aborts
 
 -- the text is the report of an order of the file and of such aborted attempts

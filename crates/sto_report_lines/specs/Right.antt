@@ -10,7 +10,7 @@ use Rattle.sto_report_spec.specs.Aborts.{Cause, Locked, Changed, Abort, part_in}
 use Rattle.sto_report_spec.specs.Report.{line_text, abort_text, object_text}
 use Rattle.sto_report_spec.specs.Named.{order_named}
 use Rattle.sto_report_spec.specs.NamedAborts.{aborts_named}
-use Rattle.sto_report_spec.specs.LawfulAborts.{IsFront, IsBefore, IsAfterOwn, IsPartAsked, IsSorted, count_at}
+use Rattle.sto_report_spec.specs.LawfulAborts.{IsFront, IsBefore, IsAfterOwn, IsPartAsked, IsSorted, HandsBack, count_at}
 use Rattle.sto_replay.specs.Runs.{writers_from}
 use Rattle.sto_report_lines.specs.Lines.{is_state_line, until_state, beyond_state}
 use Rattle.sto_report_lines.specs.Written.{written_of}
@@ -80,10 +80,12 @@ pub record IsRightAlone (file : File) (order : List Place) (abort : Abort) : Typ
   pub part : IsPartAsked file script abort.replies (part_in abort.cause) object
   pub cause : IsCauseOf file order abort object abort.cause
 
--- and so it is after those before it: its transaction has not more than the tries, and they stand in their order
+-- and so it is after those before it: its transaction has not more than the tries, no earlier one of its thread has as many, and they
+-- stand in their order
 pub record IsRightAbort (file : File) (tries : ℕ) (order : List Place) (before : List Abort) (abort : Abort) : Type 0 where
   pub alone : IsRightAlone file order abort
   pub few : count_at abort.place (before ++ abort ∷ []) ≤ tries
+  pub handed : HandsBack tries (before ++ abort ∷ [])
   pub sorted : IsSorted (before ++ abort ∷ [])
 
 -- the line is that of an aborted attempt

@@ -3,7 +3,7 @@ ghost use Rattle.std.specs.Prelude.{◌≡◌, ◌↔◌, ◌+◌, ◌<◌, ◌�
 ghost use Rattle.sto_report_spec.specs.Aborts.{Abort};
 ghost use Rattle.sto_report_spec.specs.LawfulAborts.{IsSorted, count_at, known_at_end};
 ghost use Rattle.sto_report_lines.specs.Reading.{place_of};
-ghost use Rattle.sto_report_lines.specs.Last.{IsLast, IsLastOf, IsFollowed};
+ghost use Rattle.sto_report_lines.specs.Last.{IsLast, IsLastOf, IsFollowed, MayFollow};
 
 use crate::transaction::TransactionPlace;
 
@@ -32,15 +32,18 @@ fn again(last: LastAbort, seen: u32, known: u32, tries: u32) -> Option<LastAbort
     None
 }
 
-// Whether a transaction stands before another, by threads and then by positions.
-fn is_earlier(one: TransactionPlace, other: TransactionPlace) -> bool
-    ensures { IsTrue result ↔ ((one.thread < other.thread) ⊎ ((one.thread ≡ other.thread) × (one.position < other.position))) }
+// Whether a further transaction may stand behind the last line: one of a later thread, or a later one of its thread, where its own has
+// not used up the tries.
+fn may_follow(last: LastAbort, at: TransactionPlace, tries: u32) -> bool
+    ensures { IsTrue result ↔ MayFollow last at tries }
 {
-    one.thread < other.thread || (one.thread == other.thread && one.position < other.position)
+    last.at.thread < at.thread
+        || (last.at.thread == at.thread && last.at.position < at.position && last.count != tries)
 }
 
 /// The last line with one more, where that may follow: in the order of threads and positions; in one transaction only where it saw
-/// at least what the attempt before it knew at its end; and with no more lines of one transaction than the tries.
+/// at least what the attempt before it knew at its end; with no more lines of one transaction than the tries; and behind as many only of
+/// another thread.
 pub fn followed_by(
     last: Option<LastAbort>,
     at: TransactionPlace,
@@ -49,7 +52,7 @@ pub fn followed_by(
     tries: u32,
 ) -> Option<LastAbort>
     requires { 1 ≤ tries }
-    ensures { (before : List Abort) (a : Abort) → IsLastOf before last → a.place ≡ place_of at → a.seen ≡ seen
+    ensures { (before : List Abort) (a : Abort) → IsLastOf tries before last → a.place ≡ place_of at → a.seen ≡ seen
         → known_at_end a ≡ known → IsFollowed before a tries result }
 {
     match last {
@@ -71,13 +74,13 @@ fn behind(
     tries: u32,
 ) -> Option<LastAbort>
     requires { 1 ≤ tries }
-    ensures { (before : List Abort) (a : Abort) → IsLast before last → a.place ≡ place_of at → a.seen ≡ seen
+    ensures { (before : List Abort) (a : Abort) → IsLast tries before last → a.place ≡ place_of at → a.seen ≡ seen
         → known_at_end a ≡ known → IsFollowed before a tries result }
 {
     if last.at.thread == at.thread && last.at.position == at.position {
         return again(last, seen, known, tries);
     }
-    if is_earlier(last.at, at) {
+    if may_follow(last, at, tries) {
         Some(LastAbort {
             at,
             known,

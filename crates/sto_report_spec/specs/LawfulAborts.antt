@@ -97,8 +97,14 @@ IsSorted (a ∷ b ∷ aborts) = MayPrecede a b × IsSorted (b ∷ aborts)
 abbrev pub count_at : Place → List Abort → ℕ
 count_at place aborts = count_by (λ a. (a.place.0 == place.0) && (a.place.1 == place.1)) aborts
 
--- the aborts are lawful: each of them is, no transaction has more than the tries, and they stand in their order
+-- a transaction with as many of them as tries is handed back with all later ones of its thread, and of these none is aborted
+abbrev pub HandsBack : ℕ → List Abort → Type 0
+HandsBack tries aborts = (p q : Place) → p.0 ≡ q.0 → p.1 < q.1 → count_at p aborts ≡ tries → count_at q aborts ≡ 0
+
+-- the aborts are lawful: each of them is, no transaction has more than the tries, one that has as many is the last of its thread to have
+-- any, and they stand in their order
 pub record AreLawful (u : Updating) (file : File) (tries : ℕ) (order : List Place) (aborts : List Abort) : Type 0 where
   pub each : All (IsLawfulAbort u file order) aborts
   pub few : (place : Place) → count_at place aborts ≤ tries
+  pub handed : HandsBack tries aborts
   pub sorted : IsSorted aborts

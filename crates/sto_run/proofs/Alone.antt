@@ -37,4 +37,4 @@ no_aborts u file j lawful = by j.aborts.items lawful.aborts.few
 
 -- the records of a finished run without an aborted attempt are those of one with no try to abort
 pub never_aborted : (m : Meaning) (file : File) (tries : ℕ) (v : View) (rs : List Record) → AreFinished m file tries v rs → ((place : Place) → aborted_times place rs ≡ 0) → AreFinished m file 0 v rs
-never_aborted m file tries v rs h none = record { order = h.order; threads = h.threads; few = λ place. (let k = none place in omega (arith, k)); tickets = h.tickets; each = h.each }
+never_aborted m file tries v rs h none = record { order = h.order; threads = h.threads; few = λ place. (let k = none place in omega (arith, k)); handed = λ p q own low used. none q; tickets = h.tickets; each = h.each }

@@ -15,15 +15,7 @@ use Rattle.sto_type.specs.Meaning.{Meaning}
 use Rattle.sto_core.specs.declared.view.View.{View}
 use Rattle.sto_serializability.specs.Finished.{IsRecord}
 use Rattle.sto_serializability.proofs.Pairs.{hit, occurrences}
-
--- the places of a thread, and those of all threads from a number on
-abbrev places_in : ℕ → ℕ → ℕ → List Place
-places_in thread first zero = []
-places_in thread first (suc count) = (thread, first) ∷ places_in thread (suc first) count
-
-abbrev places_from : ℕ → List (List Script) → List Place
-places_from thread [] = []
-places_from thread (scripts ∷ threads) = places_in thread 1 (length scripts) ++ places_from (suc thread) threads
+use Rattle.sto_run.specs.Alone.{places_in, places_from}
 
 -- 1 where the place p is q
 abbrev is : Place → Place → ℕ

@@ -14,3 +14,4 @@ pub mod Sound
 pub mod ObjectCalls
 pub mod Entire
 pub mod RunJournals
+pub mod Turns

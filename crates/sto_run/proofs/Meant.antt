@@ -98,6 +98,7 @@ module _ (u w : Updating) (file : File) (same : SayTheSame u w (shapes_of file.d
   aborts_same tries order aborts h = record {
     each = All-weaker (IsLawfulAbort u file order) (IsLawfulAbort w file order) (abort_same order) aborts h.each;
     few = h.few;
+    handed = h.handed;
     sorted = h.sorted;
   }
 

@@ -29,7 +29,7 @@ use Rattle.sto_serializability.proofs.Usable.{sound_usable}
 use Rattle.sto_journal_merge.specs.PlainLines.{AreLines}
 use Rattle.sto_run.specs.Lawful.{IsLawfulJournal}
 
-places_told : (rs ordered : List Record) → map (λ (e : Entry). e.place) (map (line_of rs) ordered) ≡ places_of ordered
+pub places_told : (rs ordered : List Record) → map (λ (e : Entry). e.place) (map (line_of rs) ordered) ≡ places_of ordered
 places_told rs [] = refl
 places_told rs (r ∷ ordered) = ap (λ (ps : List Place). r.place ∷ ps) (places_told rs ordered)
 

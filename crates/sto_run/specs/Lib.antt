@@ -1,5 +1,7 @@
 pub mod Lawful
 pub mod Runnable
+pub mod Alone
+pub mod Traced
 pub use Rattle.sto_plain.specs.Passes
 pub use Rattle.sto_store.specs.Stores
 pub use Rattle.sto_transaction.specs.Plain

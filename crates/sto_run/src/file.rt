@@ -1,11 +1,12 @@
 //! Runs of whole files on threads.
-ghost use Rattle.std.specs.Prelude.{◌≡◌, [], IfOk};
+ghost use Rattle.std.specs.Prelude.{◌≡◌, IfOk};
 ghost use Rattle.sto_lang.specs.Sound.{IsSound, IsFromTo};
 ghost use Rattle.sto_lang.specs.Views.{file as view};
 ghost use Rattle.sto_serializability.specs.Meanings.{updating_by};
 ghost use Rattle.sto_store.specs.Stores.{means};
 ghost use Rattle.sto_run_threads.specs.Plans.{plan_of};
 ghost use Rattle.sto_run.specs.Lawful.{IsLawfulJournal};
+ghost use Rattle.sto_run.specs.Alone.{RanAlone};
 ghost use Rattle.sto_run.specs.Runnable.{IsRunnable};
 
 use crate::opened::OpenedRun;
@@ -31,13 +32,14 @@ pub fn run_file<R: Threads + Sync, G: Gate>(
     requires workers { IsFromTo 1 16 workers }
     requires tries { IsFromTo 1 64 tries }
     ensures lawful { IfOk result (IsLawfulJournal (updating_by means) (view file.now) tries) }
-    ensures alone { workers ≡ 1 → IfOk result (λ journal. journal.aborts.items ≡ []) }
+    ensures alone { workers ≡ 1 → IfOk result (RanAlone (view file.now)) }
 {
     run_workload(rt, alloc, LentFile { file }, workers, tries, gate)
 }
 
 /// Runs a file on so many workers, by attempts on words that they share, and gives the journal of the run. Its report in
-/// either form is lawful for the file and so many tries of a transaction; with one worker it tells no aborted attempt.
+/// either form is lawful for the file and so many tries of a transaction; with one worker the transactions were run in rising
+/// thread and then position, and it tells no aborted attempt.
 ///
 /// Each worker claims script threads until none is left. A transaction with so many aborted attempts is handed back, with all
 /// that follow in its thread, and these are run last, beside no other.
@@ -53,7 +55,7 @@ pub fn run_workload<R: Threads + Sync, F: Workload + Drop + Send + Sync, G: Gate
     requires workers { IsFromTo 1 16 workers }
     requires tries { IsFromTo 1 64 tries }
     ensures lawful { IfOk result (IsLawfulJournal (updating_by means) (F.file file) tries) }
-    ensures alone { workers ≡ 1 → IfOk result (λ journal. journal.aborts.items ≡ []) }
+    ensures alone { workers ≡ 1 → IfOk result (RanAlone (F.file file)) }
 {
     let objects = objects_of(alloc, &file)?;
     let turn = RetryTurn::new();
@@ -73,7 +75,7 @@ fn run_opened<
     requires workers { IsFromTo 1 16 workers }
     ensures lawful { IfOk result (IsLawfulJournal (updating_by (λ _. T.meaning run.now.work.ty.now)) (F.file run.now.work.workload)
         run.now.work.tries) }
-    ensures alone { workers ≡ 1 → IfOk result (λ journal. journal.aborts.items ≡ []) }
+    ensures alone { workers ≡ 1 → IfOk result (RanAlone (F.file run.now.work.workload)) }
 {
     let finished = run_threads(rt, &run.work, alloc, run.work.ty, &run.opening, workers)?;
     run.journal(alloc, finished)

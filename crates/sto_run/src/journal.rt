@@ -1,13 +1,17 @@
 //! The journal of a finished run.
-ghost use Rattle.std.specs.Prelude.{◌≡◌, ◌≤◌, ℕ, length, map, IfOk};
+ghost use Rattle.std.specs.Prelude.{◌≡◌, ◌≤◌, ℕ, [], length, map, IfOk};
 ghost use Rattle.sto_lang.specs.Objects.{shapes_of};
 ghost use Rattle.sto_lang.specs.Sound.{IsSound};
 ghost use Rattle.sto_plain.specs.Passes.{view_of};
+ghost use Rattle.sto_attempt_facts.specs.Records.{Place};
+ghost use Rattle.sto_journal.specs.Journals.{places};
+ghost use Rattle.sto_run_threads.specs.Ordered.{RunsInOrder};
 ghost use Rattle.sto_serializability.specs.Finished.{AreFinished};
 ghost use Rattle.sto_serializability.specs.Meanings.{updating_by, IsTypeOf};
 ghost use Rattle.sto_transaction.specs.Plain.{plain};
 ghost use Rattle.sto_transaction.specs.Resting.{IsAtRest};
 ghost use Rattle.sto_run.specs.Lawful.{IsLawfulJournal};
+ghost use Rattle.sto_run.specs.Alone.{all_places};
 
 use crate::whole::{homes_of, rows_of};
 use std::alloc::Global;
@@ -39,6 +43,9 @@ pub fn journal_of<F: Workload, T: TxType>(
     ensures lawful { IfOk result (λ journal. (tries : ℕ) → AreFinished (T.meaning ty.now) (F.file file.now) tries (view_of words.now 0)
         (map plain records.items)
         → IsLawfulJournal (updating_by (λ _. T.meaning ty.now)) (F.file file.now) tries journal) }
+    // Transactions that were run one after the other, in rising thread and then position, stand so in it.
+    ensures in_turn { (from to : Place) → RunsInOrder from to [] (map plain records.items)
+        → IfOk result (λ journal. places journal.lines.items ≡ all_places (F.file file.now)) }
     ensures state { IfOk result (λ journal. journal.state.items
         ≡ (T.meaning ty.now).rows (map (λ part. part.words) words.now.parts)) }
 {

@@ -14,7 +14,7 @@ mod whole;
 pub use file::{run_file, run_workload};
 pub use journal::journal_of;
 pub use opened::OpenedRun;
-pub use step::step_file;
+pub use step::{TracedRun, step_file, trace_file};
 pub use sto_run_threads::{Gate, LentFile, NoGate, Workload};
 pub use stored::objects_of;
 pub use whole::{homes_of, opening_of, rows_of};

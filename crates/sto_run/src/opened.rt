@@ -2,13 +2,16 @@
 ghost use Rattle.std.specs.Prelude.{◌≡◌, ◌≤◌, [], IfOk};
 ghost use Rattle.sto_lang.specs.Objects.{shapes_of};
 ghost use Rattle.sto_lang.specs.Sound.{IsSound, IsFromTo};
+ghost use Rattle.sto_journal.specs.Journals.{places};
 ghost use Rattle.sto_serializability.specs.Meanings.{updating_by, IsTypeOf};
 ghost use Rattle.sto_run_threads.specs.Plans.{plan_of};
 ghost use Rattle.sto_run_threads.specs.Told.{told_in};
 ghost use Rattle.sto_run_threads.specs.Taken.{IsTaken};
+ghost use Rattle.sto_run_threads.specs.Ordered.{RanInTurn};
 ghost use Rattle.sto_run_threads.specs.Worked.{AbortsNone};
 ghost use Rattle.sto_run_threads.specs.Runs.{IsFinished};
 ghost use Rattle.sto_run.specs.Lawful.{IsLawfulJournal};
+ghost use Rattle.sto_run.specs.Alone.{all_places};
 ghost use Rattle.sto_run.specs.Runnable.{IsRunnable};
 
 use crate::journal::journal_of;
@@ -59,7 +62,8 @@ impl<'f, F: Workload + Drop, T: TxType, G: Gate> OpenedRun<'f, F, T, G> {
     }
 
     /// The journal of the run, once it has finished. It is lawful for the file and so many tries of a transaction, and tells no
-    /// aborted attempt where there was none. After `NoMemory` the records are given up.
+    /// aborted attempt where there was none. It has the transactions in rising thread and then position where they were run so, one after
+    /// the other. After `NoMemory` the records are given up.
     pub fn journal(&self, alloc: Global, finished: FinishedRun<T>) -> Result<Journal, NoMemory>
         requires sound { IsSound (F.file self.now.work.workload) }
         requires type_of { IsTypeOf (shapes_of (F.file self.now.work.workload).declarations) (T.meaning self.now.work.ty.now) }
@@ -69,6 +73,8 @@ impl<'f, F: Workload + Drop, T: TxType, G: Gate> OpenedRun<'f, F, T, G> {
         ensures lawful { IfOk result (IsLawfulJournal (updating_by (λ _. T.meaning self.now.work.ty.now)) (F.file self.now.work.workload)
             self.now.work.tries) }
         ensures alone { AbortsNone [] (told_in finished.records) → IfOk result (λ journal. journal.aborts.items ≡ []) }
+        ensures in_turn { RanInTurn (plan_of T.TxType self.now.work.ty.now (F.file self.now.work.workload) self.now.work.tries)
+            (told_in finished.records) → IfOk result (λ journal. places journal.lines.items ≡ all_places (F.file self.now.work.workload)) }
     {
         let FinishedRun { records, words } = finished;
         journal_of(alloc, &self.work.workload, self.work.ty, &words, records)

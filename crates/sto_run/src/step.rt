@@ -1,23 +1,32 @@
 //! Runs of whole files in one thread.
-ghost use Rattle.std.specs.Prelude.{◌≡◌, ◌<◌, ◌≤◌, [], length, IfOk};
+ghost use Rattle.std.specs.Prelude.{◌≡◌, ◌<◌, ◌≤◌, length, map, IfOk};
 ghost use Rattle.std.specs.List.{All};
 ghost use Rattle.sto_lang.specs.Sound.{IsSound, IsSchedule, IsFromTo};
 ghost use Rattle.sto_lang.specs.Views.{file as view};
 ghost use Rattle.sto_serializability.specs.Meanings.{updating_by};
 ghost use Rattle.sto_store.specs.Stores.{means};
+ghost use Rattle.sto_lang.specs.Objects.{shapes_of};
+ghost use Rattle.sto_store.specs.ObjectShapes.{AreOf};
+ghost use Rattle.sto_objects.specs.declared.objects.Objects.{Objects};
+ghost use Rattle.sto_run_steps.specs.Logged.{kept};
 ghost use Rattle.sto_run.specs.Lawful.{IsLawfulJournal};
+ghost use Rattle.sto_run.specs.Alone.{RanAlone};
+ghost use Rattle.sto_run.specs.Traced.{IsTraced};
 
 use crate::opened::OpenedRun;
 use crate::stored::objects_of;
+use crate::whole::homes_of;
 use std::alloc::Global;
 use sto_journal::Journal;
 use sto_lang::{File, Turns};
 use sto_objects::Objects;
 use sto_part::NoMemory;
-use sto_run_steps::{SteppedWork, step_threads};
+use sto_run_steps::{SteppedWork, step_threads, trace_threads};
 use sto_run_threads::{LentFile, NoGate, RetryTurn};
 use sto_script::ScriptBody;
+use sto_trace::Steps;
 use sto_transaction::Machine;
+use sto_type::{Home, TxType};
 
 // The entries of a file's schedule; none where it has no schedule.
 fn turns_of(file: &File) -> &[Turns]
@@ -39,7 +48,7 @@ pub fn step_file(alloc: Global, file: &File, tries: u32) -> Result<Journal, NoMe
     requires sound { IsSound (view file.now) }
     requires tries { IsFromTo 1 64 tries }
     ensures lawful { IfOk result (IsLawfulJournal (updating_by means) (view file.now) tries) }
-    ensures alone { length (view file.now).threads ≤ 1 → IfOk result (λ journal. journal.aborts.items ≡ []) }
+    ensures alone { length (view file.now).threads ≤ 1 → IfOk result (RanAlone (view file.now)) }
 {
     let file = LentFile { file };
     let objects = objects_of(alloc, &file)?;
@@ -53,4 +62,45 @@ pub fn step_file(alloc: Global, file: &File, tries: u32) -> Result<Journal, NoMe
         turns_of(run.work.workload.file),
     )?;
     run.journal(alloc, finished)
+}
+
+/// What a run in one thread did: its journal, the homes of all parts of its objects, and the steps of its threads in their order, or none
+/// where they made too many.
+#[derive(Drop)]
+pub struct TracedRun {
+    pub journal: Journal,
+    pub homes: Vec<Home>,
+    pub steps: Option<Steps>,
+}
+
+/// Runs a file in one thread as [`step_file`] does, and tells its steps beside the journal. It tells none where they are more than 100,000.
+/// What is handed back is run last, and its events are not among the steps.
+pub fn trace_file(alloc: Global, file: &File, tries: u32) -> Result<TracedRun, NoMemory>
+    requires sound { IsSound (view file.now) }
+    requires tries { IsFromTo 1 64 tries }
+    ensures lawful { IfOk result (λ r. IsLawfulJournal (updating_by means) (view file.now) tries r.journal) }
+    ensures alone { length (view file.now).threads ≤ 1 → IfOk result (λ r. RanAlone (view file.now) r.journal) }
+    // On some objects of the file, the steps are those of its run, and these are the homes of their parts.
+    ensures traced { IfOk result (λ r. (objects : Objects) × AreOf objects (shapes_of (view file.now).declarations)
+        × (map (λ h. (h.object, h.local)) r.homes.items ≡ (⟦<Objects as TxType>⟧.meaning objects).homes)
+        × IsTraced ⟦<Objects as TxType>⟧ objects (view file.now) tries (kept r.steps)) }
+{
+    let file = LentFile { file };
+    let objects = objects_of(alloc, &file)?;
+    let turn = RetryTurn::new();
+    let run = OpenedRun::new(alloc, file, &objects, tries, &NoGate, &turn)?;
+    let (finished, steps) = trace_threads::<Objects, Machine<'_, Objects, ScriptBody<'_>>, _>(
+        &SteppedWork { work: &run.work },
+        alloc,
+        run.work.ty,
+        &run.opening,
+        turns_of(run.work.workload.file),
+    )?;
+    let homes = homes_of(alloc, run.work.ty)?;
+    let journal = run.journal(alloc, finished)?;
+    Ok(TracedRun {
+        journal,
+        homes,
+        steps,
+    })
 }

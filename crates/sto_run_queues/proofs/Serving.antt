@@ -15,17 +15,17 @@ use Rattle.sto_claims.specs.Taken.{times}
 use Rattle.sto_run_threads.specs.Orders.{Place, at_position, transaction_at, positions_of, numbers_from, count_in}
 use Rattle.sto_run_threads.specs.Records.{Record}
 use Rattle.sto_run_threads.specs.Counted.{aborted_times, finished_places}
-use Rattle.sto_serializability.proofs.Working.{positions_append, finished_append}
+use Rattle.sto_serializability.proofs.Working.{positions_append, finished_append, aborted_append}
 use Rattle.sto_run_threads.specs.Counts.{scripts_from}
 use Rattle.sto_run_threads.specs.Ran.{IsTransaction, HasRunAt}
 use Rattle.sto_run_threads.specs.Running.{ended_of, HasNone}
-use Rattle.sto_run_threads.specs.Worked.{HasWorked, IsOneMore}
+use Rattle.sto_run_threads.specs.Worked.{HasWorked, HasSpared, IsOneMore}
 use Rattle.sto_run_threads.proofs.Threads.{one_of_own, length_numbers}
 use Rattle.sto_run_threads.proofs.Joined.{once_self}
-use Rattle.sto_run_threads.proofs.Runs.{one_more}
+use Rattle.sto_run_threads.proofs.Runs.{one_more, spared_more, placed_all}
 use Rattle.sto_run_threads.proofs.Scripts.{transaction_there, adds_none}
 use Rattle.sto_run_queues.specs.Jobs.{places_of, AreJobs}
-use Rattle.sto_run_queues.specs.Served.{HasServed, HaveServed, AreFrom, IsJobRun}
+use Rattle.sto_run_queues.specs.Served.{HasServed, HaveServed, AreFrom, IsJobRun, ComesNext}
 use Rattle.sto_run_queues.proofs.Going.{few_places}
 use Rattle.sto_run_threads.specs.Plans.{Plan}
 
@@ -42,13 +42,13 @@ transaction_within file thread position s at = within_by (slice_get file.threads
 
 -- The run of the transaction at a place that is its thread's next one.
 pub job_run : (plan : Plan) (passes : ℕ) (v w : View) (thread position : ℕ) (rs later : List Record) (on : Bool)
-    → HasWorked plan v rs → suc (ended_of thread rs) ≡ position → aborted_times (thread, position) rs ≡ 0
+    → HasWorked plan v rs → ComesNext plan.tries (thread, position) rs
     → HasRunAt plan passes v w (thread, position) rs later on → IsJobRun plan passes w (thread, position) rs later true on
-job_run plan passes v w thread position rs later on h next fresh run =
+job_run plan passes v w thread position rs later on h comes run =
     subst (λ (p : ℕ). IsJobRun plan passes w (thread, p) rs later true on) next (record {
       worked = k.next.worked;
       adds = k.next.adds;
-      ended = λ e. (refl, finished ∙ ap (λ (b : Bool). finished_places rs ++ (if b then place ∷ [] else [])) e, (k.next.more e).1);
+      ended = λ e. (refl, finished ∙ ap (λ (b : Bool). finished_places rs ++ (if b then place ∷ [] else [])) e, (k.next.more e).1, spared e);
       used = λ e _. (
         finished ∙ ap (λ (b : Bool). finished_places rs ++ (if b then place ∷ [] else [])) e ∙ append-nil (finished_places rs),
         ap (λ (n : ℕ). aborted_times (thread, suc n) later) (sym (k.next.left e)) ∙ k.used e,
@@ -57,6 +57,9 @@ job_run plan passes v w thread position rs later on h next fresh run =
       alone = λ one. (k.alone one).1;
     })
   where
+    next : suc (ended_of thread rs) ≡ position
+    next = comes.0
+
     place : Place
     place = (thread, suc (ended_of thread rs))
 
@@ -66,7 +69,14 @@ job_run plan passes v w thread position rs later on h next fresh run =
     k : IsOneMore plan passes w thread rs later on
     k = one_more plan passes v w thread rs later on h
         (transaction_within plan.file thread (ended_of thread rs) own.script own.there)
-        (inr (subst (λ (p : ℕ). aborted_times (thread, p) rs ≡ 0) (sym next) fresh)) own
+        (inr (subst (λ (p : ℕ). aborted_times (thread, p) rs ≡ 0) (sym next) comes.1, comes.2)) own
+
+    spared : on ≡ true → HasSpared plan.tries thread later
+    spared e = subst (HasSpared plan.tries thread) (sym own.ran.whole) (spared_more plan.tries thread rs own.ran.new
+        (placed_all plan.meaning v w own.script place own.ran.new own.ran.added.each)
+        (let n = (k.next.more e).0 in let l = ap (ended_of thread) own.ran.whole in omega (arith, n, l))
+        (λ _. (let a = aborted_append place rs own.ran.new in let b = own.ran.spare e in
+        let z = subst (λ (p : ℕ). aborted_times (thread, p) rs ≡ 0) (sym next) comes.1 in omega (arith, a, b, z))) comes.2)
 
     finished : finished_places later ≡ finished_places rs ++ (if on then place ∷ [] else [])
     finished = ap finished_places own.ran.whole ∙ finished_append rs own.ran.new ∙ ap (λ (l : List Place). finished_places rs ++ l) own.ran.ends
@@ -167,13 +177,13 @@ few_jobs file queues number jobs h = few_places file.threads (places_of jobs) ea
 
 -- What a worker has done that has taken so many jobs: it ran them all to their end, or one used up its tries.
 pub record IsServing (tries queues number : ℕ) (places : List Place) (taken : ℕ) (rs : List Record) (runs : Bool) : Type 0 where
-  pub fine : runs ≡ true → (finished_places rs ≡ take taken places) × ((u : ℕ) → aborted_times (u, suc (ended_of u rs)) rs ≡ 0)
+  pub fine : runs ≡ true → (finished_places rs ≡ take taken places) × ((u : ℕ) → (aborted_times (u, suc (ended_of u rs)) rs ≡ 0) × HasSpared tries u rs)
   pub back : runs ≡ false → (ran : ℕ) × (place : Place) × (ran < taken) × (finished_places rs ≡ take ran places) × (slice_get places ran ≡ Some place) × (aborted_times place rs ≡ tries)
   pub own : (thread : ℕ) → (thread % queues ≡ number → ⊥) → HasNone thread rs
 
 pub serving_none : (tries queues number : ℕ) (places : List Place) → IsServing tries queues number places 0 [] true
 serving_none tries queues number places = record {
-  fine = λ e. (refl, λ u. refl);
+  fine = λ e. (refl, λ u. (refl, λ position low high. absurd (omega (arith, low, high))));
   back = λ e. absurd (true≢false e);
   own = λ thread other k d l. absurd (omega (arith, l));
 }
@@ -181,12 +191,12 @@ serving_none tries queues number places = record {
 -- the next transaction is the next one of its thread, and was not tried yet
 pub comes_next : (plan : Plan) (queues number : ℕ) (places : List Place) (taken thread position : ℕ) (rs : List Record) (runs : Bool)
     → IsServing plan.tries queues number places taken rs runs → IsNextPlace plan.file queues number (take taken places) (thread, position) → runs ≡ true
-    → (suc (ended_of thread rs) ≡ position) × (aborted_times (thread, position) rs ≡ 0)
+    → ComesNext plan.tries (thread, position) rs
 comes_next plan queues number places taken thread position rs runs h next on =
     let fine = h.fine on in
     let same : ended_of thread rs ≡ length (positions_of thread (take taken places)) = ap (λ (l : List Place). length (positions_of thread l)) fine.0 in
     let e : suc (ended_of thread rs) ≡ position = ap suc same ∙ sym next.position in
-    (e, subst (λ (n : ℕ). aborted_times (thread, n) rs ≡ 0) e (fine.1 thread))
+    (e, subst (λ (n : ℕ). aborted_times (thread, n) rs ≡ 0) e (fine.1 thread).0, (fine.1 thread).1)
 
 take_one : (ps : List Place) (k : ℕ) (p : Place) → slice_get ps k ≡ Some p → take k ps ++ p ∷ [] ≡ take (k + 1) ps
 take_one ps k p at =
@@ -201,20 +211,24 @@ serving_more plan passes queues number w places taken place rs later runs on at 
   own = λ thread other. run.adds.apart thread (λ is. other (sym (ap (λ (n : ℕ). n % queues) is) ∙ goes)) (h.own thread other);
 }
   where
-    fine : (runs ≡ true) × (finished_places later ≡ finished_places rs ++ place ∷ []) × (aborted_times (place.0, suc (ended_of place.0 later)) later ≡ 0)
-        → (finished_places later ≡ take (taken + 1) places) × ((u : ℕ) → aborted_times (u, suc (ended_of u later)) later ≡ 0)
+    fine : (runs ≡ true) × (finished_places later ≡ finished_places rs ++ place ∷ []) × (aborted_times (place.0, suc (ended_of place.0 later)) later ≡ 0) × HasSpared plan.tries place.0 later
+        → (finished_places later ≡ take (taken + 1) places) × ((u : ℕ) → (aborted_times (u, suc (ended_of u later)) later ≡ 0) × HasSpared plan.tries u later)
     fine e = (
       e.1 ∙ ap (λ (l : List Place). l ++ place ∷ []) (h.fine e.0).0 ∙ take_one places taken place at,
       λ u. elim (cases_eq place.0 u) [
-        | inl same ↦ subst (λ (n : ℕ). aborted_times (n, suc (ended_of n later)) later ≡ 0) same e.2
-        | inr other ↦ run.adds.aborts (u, suc (ended_of u later)) other ∙ ap (λ (n : ℕ). aborted_times (u, suc n) rs) (run.adds.others u other) ∙ (h.fine e.0).1 u
+        | inl same ↦ subst (λ (n : ℕ). (aborted_times (n, suc (ended_of n later)) later ≡ 0) × HasSpared plan.tries n later) same (e.2, e.3)
+        | inr other ↦ (
+          run.adds.aborts (u, suc (ended_of u later)) other ∙ ap (λ (n : ℕ). aborted_times (u, suc n) rs) (run.adds.others u other) ∙ ((h.fine e.0).1 u).0,
+          λ position low high. (let a = run.adds.aborts (u, position) other in let n = run.adds.others u other in
+              let s = ((h.fine e.0).1 u).1 position low (omega (arith, high, n)) in omega (arith, a, s)),
+        )
       ],
     )
 
     by : (b : Bool) → on ≡ false → (on ≡ false → b ≡ true → (finished_places later ≡ finished_places rs) × (aborted_times place later ≡ plan.tries))
         → (b ≡ false → (on ≡ false) × (later ≡ rs))
         → (b ≡ false → (ran : ℕ) × (p : Place) × (ran < taken) × (finished_places rs ≡ take ran places) × (slice_get places ran ≡ Some p) × (aborted_times p rs ≡ plan.tries))
-        → (b ≡ true → (finished_places rs ≡ take taken places) × ((u : ℕ) → aborted_times (u, suc (ended_of u rs)) rs ≡ 0))
+        → (b ≡ true → (finished_places rs ≡ take taken places) × ((u : ℕ) → (aborted_times (u, suc (ended_of u rs)) rs ≡ 0) × HasSpared plan.tries u rs))
         → (ran : ℕ) × (p : Place) × (ran < taken + 1) × (finished_places later ≡ take ran places) × (slice_get places ran ≡ Some p) × (aborted_times p later ≡ plan.tries)
     by true off used still back fine = (taken, place, omega arith, (used off refl).0 ∙ (fine refl).0, at, (used off refl).1)
     by false off used still back fine =

@@ -47,15 +47,15 @@ abbrev pub HaveFed : {A : Type 0} → List JobQueue → List TransactionPlace �
 HaveFed queues order feeders = AreSent (length queues) queues feeders.items (places_in order)
 
 -- some jobs were all sent with the first passes, and all taken with the others
-abbrev pub MayClose : List JobQueue → List JobPass → List JobPass → Type 0
-MayClose queues feeders workers = (jobs : ℕ → List Job) × AreAt queues feeders (λ n. all_sent (jobs n)) × AreAt queues workers (λ n. all_taken (jobs n))
+abbrev pub AreDrained : List JobQueue → List JobPass → List JobPass → Type 0
+AreDrained queues feeders workers = (jobs : ℕ → List Job) × AreAt queues feeders (λ n. all_sent (jobs n)) × AreAt queues workers (λ n. all_taken (jobs n))
 
 -- a pass to take with knows what it has taken; the job is the next one; and that one was taken
 abbrev pub IsWorking : JobQueue → JobPass → Type 0
 IsWorking queue pass = IsPass queue pass (working (known pass).jobs (known pass).taken)
 
-abbrev pub IsNext : JobPass → Job → Type 0
-IsNext pass job = slice_get (known pass).jobs (known pass).taken ≡ Some job
+abbrev pub IsNextJob : JobPass → Job → Type 0
+IsNextJob pass job = slice_get (known pass).jobs (known pass).taken ≡ Some job
 
 abbrev pub TakesOne : JobQueue → JobPass → JobPass → Type 0
 TakesOne queue pass later = IsPass queue later (working (known pass).jobs ((known pass).taken + 1))

@@ -18,7 +18,7 @@ use Rattle.sto_table.specs.Rests.{IsOf}
 use Rattle.sto_run_threads.specs.Records.{Record}
 use Rattle.sto_run_threads.specs.Counted.{aborted_times, finished_places}
 use Rattle.sto_run_threads.specs.Running.{ended_of, HasNone}
-use Rattle.sto_run_threads.specs.Worked.{HasWorked, AddsTo, AbortsNone}
+use Rattle.sto_run_threads.specs.Worked.{HasWorked, HasSpared, AddsTo, AbortsNone}
 use Rattle.sto_run_threads.specs.declared.all.Worked.{Worked}
 use Rattle.sto_run_threads.specs.declared.one.Work as work
 use Rattle.sto_run_threads.specs.Accounts.{HasGathered, Leads}
@@ -115,15 +115,16 @@ module _ {T : Type 0} {n : naming.Ghosts T} where
   abbrev pub HaveServedInTurn : Plan → ℕ → List TransactionPlace → Worked T n → Type 0
   HaveServedInTurn plan queues order all = HaveServed plan.tries (all_jobs queues (places_in order)) (told_in all.records)
 
--- a transaction is the next one of its thread, and none of its attempts was aborted
-abbrev pub ComesNext : Place → List Record → Type 0
-ComesNext place rs = (suc (ended_of place.0 rs) ≡ place.1) × (aborted_times place rs ≡ 0)
+-- a transaction is the next one of its thread, none of its attempts was aborted, and those before it had a try left
+abbrev pub ComesNext : ℕ → Place → List Record → Type 0
+ComesNext tries place rs = (suc (ended_of place.0 rs) ≡ place.1) × (aborted_times place rs ≡ 0) × HasSpared tries place.0 rs
 
 -- a transaction was run, or is handed back since an earlier one was
 pub record IsJobRun (plan : Plan) (passes : ℕ) (w : View) (place : Place) (rs later : List Record) (runs on : Bool) : Type 0 where
   pub worked : HasWorked plan w later
   pub adds : AddsTo place.0 rs later
-  pub ended : on ≡ true → (runs ≡ true) × (finished_places later ≡ finished_places rs ++ place ∷ []) × (aborted_times (place.0, suc (ended_of place.0 later)) later ≡ 0)
+  pub ended : on ≡ true → (runs ≡ true) × (finished_places later ≡ finished_places rs ++ place ∷ [])
+      × (aborted_times (place.0, suc (ended_of place.0 later)) later ≡ 0) × HasSpared plan.tries place.0 later
   pub used : on ≡ false → runs ≡ true → (finished_places later ≡ finished_places rs) × (aborted_times place later ≡ plan.tries)
   pub still : runs ≡ false → (on ≡ false) × (later ≡ rs)
   pub alone : passes ≡ 1 → AbortsNone rs later

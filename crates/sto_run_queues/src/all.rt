@@ -5,7 +5,7 @@ ghost use Rattle.std.specs.Thread.{IsSync};
 ghost use Rattle.sto_run_threads.specs.Orders.{IsOrder};
 ghost use Rattle.sto_run_threads.specs.Teams.{IsReady, HaveWorked, view_at};
 ghost use Rattle.sto_run_queues.specs.Orders.{places_in};
-ghost use Rattle.sto_run_queues.specs.Passes.{MayFeed, HaveFed, MayClose};
+ghost use Rattle.sto_run_queues.specs.Passes.{MayFeed, HaveFed, AreDrained};
 ghost use Rattle.sto_run_queues.specs.Served.{CanServe, IsTeamOf, HaveServedInTurn};
 
 use crate::feeder::feed;
@@ -23,7 +23,7 @@ use sto_table::{Rests, Shared};
 
 // Closes queues whose jobs were all sent and all taken.
 fn close_all(queues: Vec<JobQueue>, feeders: Vec<JobPass>, workers: Vec<JobPass>)
-    requires { MayClose queues.items feeders.items workers.items }
+    requires { AreDrained queues.items feeders.items workers.items }
 {
     let mut queues = queues;
     let mut feeders = feeders;

@@ -4,7 +4,7 @@ ghost use Rattle.sto_run_threads.specs.Plans.{MayDraw};
 ghost use Rattle.sto_run_threads.specs.Told.{told_in};
 ghost use Rattle.sto_run_threads.specs.Ran.{IsTransaction};
 ghost use Rattle.sto_run_threads.specs.Worked.{HasWorked};
-ghost use Rattle.sto_run_queues.specs.Passes.{IsWorking, IsNext, TakesOne};
+ghost use Rattle.sto_run_queues.specs.Passes.{IsWorking, IsNextJob, TakesOne};
 ghost use Rattle.sto_run_queues.specs.Served.{IsPosted, IsTeamOf, ComesNext, LeadsOn, RunsJob};
 
 use crossbeam_utils::Backoff;
@@ -36,7 +36,7 @@ pub struct ServingTeam<T: Naming> {
 // Takes the next job, and tries again where the queue is empty. After some tries it sleeps until a job is sent.
 fn next_job<R: Wait>(rt: &R, queue: &JobQueue, worker: &mut JobPass) -> Job
     requires of { IsWorking queue.now worker.old }
-    ensures next { IsNext worker.old result }
+    ensures next { IsNextJob worker.old result }
     ensures taken { TakesOne queue.now worker.old worker.new }
 {
     let backoff = Backoff::new();
@@ -66,7 +66,7 @@ fn serve_one<T: Naming, W: Work<T>, C: Cells<T>>(
 ) -> Result<bool, NoMemory>
     requires ready { W.ready work.now }
     requires there { IsTransaction (W.plan work.now).file (thread, position) }
-    requires next { runs ≡ true → ComesNext (thread, position) (told_in records.old) }
+    requires next { runs ≡ true → ComesNext (W.plan work.now).tries (thread, position) (told_in records.old) }
     requires free { MayDraw (W.plan work.now) (W.plan work.now).tries (C.view cells.old) }
     requires worked { HasWorked (W.plan work.now) (C.view cells.old) (told_in records.old) }
     ensures same { C.same cells.old cells.new }

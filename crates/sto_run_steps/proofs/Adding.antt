@@ -13,11 +13,12 @@ use Rattle.sto_attempt_facts.specs.Added.{IsAdded, HasAdded}
 use Rattle.sto_attempt_facts.specs.Tried.{HasTried}
 use Rattle.sto_attempt_facts.specs.Trying.{AreFound}
 use Rattle.sto_attempt_facts.specs.Told.{IsFound}
+use Rattle.sto_serializability.proofs.Chains.{Every}
 use Rattle.sto_serializability.proofs.Working.{times_append, aborted_append}
 use Rattle.sto_run_threads.specs.Running.{ended_of}
 use Rattle.sto_run_threads.specs.Worked.{IsNext}
 use Rattle.sto_run_threads.proofs.Claiming.{snoc_length}
-use Rattle.sto_run_threads.proofs.Runs.{next_more}
+use Rattle.sto_run_threads.proofs.Runs.{next_more, spared_more}
 use Rattle.sto_run_steps.specs.Stepped.{HasMadeOne}
 use Rattle.sto_run_steps.specs.Seated.{IsBetween}
 use Rattle.sto_run_steps.proofs.Counting.{fewer_tries, fewer_transactions}
@@ -84,12 +85,16 @@ module _ (plan : Plan) (passes thread ended left : ℕ) (v w : View) (rs : List 
       (one_added plan.meaning plan.tries v w (meaning_of here.script) (thread, suc (ended_of thread rs)) r (let a = few b is in let t = tried in omega (arith, a, t, again)) here.tried)
       (one_found plan.meaning v w (meaning_of here.script) (thread, suc (ended_of thread rs)) r here.tried)
       (let a = few b is in let t = tried in omega (arith, a, t, again))
+      (λ position low high all. absurd (let s = h.spared position low (omega (arith, high)) in omega (arith, s, all)))
       (finished_by b r is ∙ at_place b)
       (one_paced (pace_of plan) v w here.steps here.tried.starts)
     where
       at_place : (c : Bool) → (if not c then r.place ∷ [] else []) ≡ (if not c then (thread, suc (ended_of thread rs)) ∷ [] else [])
       at_place true = refl
       at_place false = ap (λ (p : Place). p ∷ []) here.tried.added.placed
+
+  placed : Every (λ (x : Record). x.place ≡ (thread, suc (ended_of thread rs))) (r ∷ [])
+  placed = (here.tried.added.placed, tt)
 
   one_start : w.starts ≡ length (rs ++ r ∷ [])
   one_start = let a = h.starts in let b = here.tried.starts in let c = snoc_length rs r in omega (arith, a, b, c)
@@ -107,6 +112,7 @@ module _ (plan : Plan) (passes thread ended left : ℕ) (v w : View) (rs : List 
         tried = (let a = aborted_append (thread, suc ended) rs (r ∷ []) in
             let b = aborted_one (thread, suc ended) r (here.tried.added.placed ∙ ap (λ (n : ℕ). (thread, suc n)) h.so_many) is in
             let c = h.tried in omega (arith, a, b, c, used));
+        spared = spared_more plan.tries thread rs (r ∷ []) placed (let n = k.left refl in omega (arith, n)) (λ e. absurd (let n = k.left refl in omega (arith, n, e))) h.spared;
         draws = (let a = h.draws in let b = here.tried.draws in
             let c = fewer_tries plan.tries left later (count_in plan.file.threads thread - ended) (omega (arith, next)) used in omega (arith, a, b, c));
         alone = λ one. absurd (true≢false (sym is ∙ here.alone one));
@@ -124,6 +130,8 @@ module _ (plan : Plan) (passes thread ended left : ℕ) (v w : View) (rs : List 
         so_many = (let a = (k.more refl).0 in let b = h.so_many in omega (arith, a, b));
         tried = (let a = subst (λ (n : ℕ). aborted_times (thread, suc n) (rs ++ r ∷ []) ≡ 0)
             (let a = (k.more refl).0 in let b = h.so_many in let e : ended_of thread (rs ++ r ∷ []) ≡ ended + 1 = omega (arith, a, b) in e) (k.more refl).1 in omega (arith, a));
+        spared = spared_more plan.tries thread rs (r ∷ []) placed (let n = (k.more refl).0 in omega (arith, n))
+            (λ e. (let a = aborted_append (thread, suc (ended_of thread rs)) rs (r ∷ []) in let b = ended_one (thread, suc (ended_of thread rs)) r is in let t = tried in omega (arith, a, b, t, again))) h.spared;
         draws = (let a = h.draws in let b = here.tried.draws in
             let c = fewer_transactions plan.tries left (count_in plan.file.threads thread) ended next in omega (arith, a, b, c, again));
         alone = λ one place. (let a = aborted_append place rs (r ∷ []) in let b = ended_one place r is in let c = h.alone one place in omega (arith, a, b, c));

@@ -76,6 +76,7 @@ module _ (plan : Plan) (few : draws_of plan + draws_of plan ≤ opening_draws) w
     starts = refl;
     so_many = refl;
     tried = omega arith;
+    spared = λ position low high. absurd (omega (arith, low, high));
     draws =
         (let a = most_attempts plan.tries (count_in plan.file.threads thread - 0) in
         let e : count_in plan.file.threads thread - 0 ≡ count_in plan.file.threads thread = omega arith in

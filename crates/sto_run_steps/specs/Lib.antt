@@ -1,6 +1,7 @@
 pub mod Stepped
 pub mod Counts
 pub mod Seated
+pub mod Logged
 pub mod Proceeding
 pub mod Turning
 pub mod Leading

@@ -1,5 +1,6 @@
 -- Attempts of the transactions of a file.
-use Rattle.std.specs.Prelude.{◌≡◌, ◌≤◌, ◌+◌, ℕ, Some}
+use Rattle.std.specs.Prelude.{◌≡◌, ◌≤◌, ◌+◌, ℕ, List, [], map, Some}
+use Rattle.sto_model.specs.Told.{Told, told}
 use Rattle.sto_lang.specs.Scripts.{Script, File}
 use Rattle.sto_script.specs.Meaning.{meaning_of}
 use Rattle.sto_script.specs.Bodies.{then_of, script_of, left_of, MayAskOf}
@@ -8,6 +9,7 @@ use Rattle.sto_type.specs.Traits.{OfType}
 use Rattle.sto_core.specs.declared.view.View.{View}
 use Rattle.sto_run_threads.specs.Orders.{Place, transaction_at}
 use Rattle.sto_transaction.specs.declared.machine.Machine.{Machine}
+use Rattle.sto_transaction.specs.declared.machine.Machine.TheVariants.{Running, Committing, Over}
 use Rattle.sto_transaction.specs.Pace.{most_steps}
 use Rattle.sto_transaction.specs.Machines.{Proceeds, machine_left}
 use Rattle.sto_run_threads.specs.Counts.{heaviest}
@@ -15,6 +17,12 @@ use Rattle.sto_run_threads.specs.Counts.{heaviest}
 -- how many events an attempt has left at most
 abbrev pub script_left : {T : Type 0} → OfType T → Machine T ScriptBody → ℕ
 script_left t trial = machine_left t.meaning t.valid t.sizes script_of then_of left_of MayAskOf trial
+
+-- what its calls have been answered so far
+abbrev pub heard_by : {T : Type 0} → Machine T ScriptBody → List Told
+heard_by (Running a) = map told a.log.replies.items
+heard_by (Committing r) = map told r.log.replies.items
+heard_by Over = []
 
 -- on words with so many passes, the attempt is one of the transaction of the file at a place, on a type, and has led from the view
 -- `begun` to the view v

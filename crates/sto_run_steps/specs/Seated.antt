@@ -9,7 +9,7 @@ use Rattle.sto_attempt_facts.specs.Counted.{times_committed, aborted_times}
 use Rattle.sto_run_threads.specs.Plans.{Plan, Rests, draws_of}
 use Rattle.sto_run_threads.specs.Told.{told_in}
 use Rattle.sto_run_threads.specs.Running.{ended_of, HasNone}
-use Rattle.sto_run_threads.specs.Worked.{HasWorked}
+use Rattle.sto_run_threads.specs.Worked.{HasWorked, HasSpared}
 use Rattle.sto_run_steps.specs.Counts.{attempts_left, events_left}
 use Rattle.sto_run_steps.specs.declared.seat.Seat.{Seat}
 
@@ -23,6 +23,8 @@ pub record IsBetween (plan : Plan) (passes thread ended left : ℕ) (rs : List R
   pub starts : v.starts ≡ length rs
   pub so_many : ended_of thread rs ≡ ended
   pub tried : aborted_times (thread, suc ended) rs + left ≡ plan.tries
+  -- those that have ended had a try left
+  pub spared : HasSpared plan.tries thread rs
   pub draws : draws_of plan + attempts_left plan.tries left (count_in plan.file.threads thread - ended) ≤ v.draws
   -- beside no other pass none was aborted
   pub alone : passes ≡ 1 → (place : Place) → aborted_times place rs ≡ 0

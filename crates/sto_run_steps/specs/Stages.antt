@@ -1,12 +1,16 @@
 -- Stages and seats as the code has them: what a step asks and tells, over what the traits of the work and of the pass say.
-use Rattle.std.specs.Prelude.{◌≤◌, ◌<◌, ℕ, List, length}
+use Rattle.std.specs.Prelude.{◌≤◌, ◌<◌, ℕ, List, length, Option}
+use Rattle.sto_part.specs.Listed.{Listed}
 use Rattle.sto_part.specs.declared.naming.Naming as naming
+use Rattle.sto_model.specs.Told.{Told}
 use Rattle.sto_core.specs.declared.cells.Cells as cells
 use Rattle.sto_core.specs.declared.view.View.{View}
+use Rattle.sto_trace.specs.declared.Step.{Step}
 use Rattle.sto_run_threads.specs.Orders.{Place}
 use Rattle.sto_run_threads.specs.Plans.{Plan}
 use Rattle.sto_run_steps.specs.Seated.{AreSeated, HaveFewer, IsSeated, IsIn, WithinAt, events_of, events_with}
 use Rattle.sto_run_steps.specs.Turning.{HasTurn, TakeTurns, round_turns}
+use Rattle.sto_run_steps.specs.Logged.{kept, HasLogged, IsStep}
 use Rattle.sto_run_steps.specs.declared.seat.Seat.{Seat}
 use Rattle.sto_run_steps.specs.declared.stage.Stage.{Stage}
 
@@ -18,6 +22,7 @@ OfAttempts W M = record {
   fits : W → ℕ → Place → M → View → View → Type 0;
   left : W → M → ℕ;
   most : W → ℕ;
+  heard : W → M → List Told;
 }
 
 -- n and a are what the traits of the type and of the work say
@@ -32,7 +37,8 @@ module _ {T M W : Type 0} where
 
   -- these threads had turns, one after the other; and all had, in some rounds
   abbrev pub GoesOn : naming.Ghosts T → OfAttempts W M → W → List ℕ → Stage T M → Stage T M → Type 0
-  GoesOn n a w threads s later = TakeTurns (a.plan w) (a.fits w) n.valid threads s.words s.seats.items later.words later.seats.items
+  GoesOn n a w threads s later =
+      TakeTurns (a.plan w) (a.fits w) n.valid (a.heard w) threads s.words s.seats.items (kept s.log) later.words later.seats.items (kept later.log)
 
   abbrev pub GoesRound : naming.Ghosts T → OfAttempts W M → W → Stage T M → Stage T M → Type 0
   GoesRound n a w s later = (rounds : ℕ) × GoesOn n a w (round_turns (length s.seats.items) rounds) s later
@@ -55,5 +61,11 @@ module _ {M W : Type 0} where
       (passes : ℕ) (v : View) → IsSeated (a.plan w) (a.fits w) passes thread v s → IsIn (WithinAt (a.plan w) (a.fits w) passes thread s) later.trial v
 
 -- a thread had a turn
-abbrev pub TakesTurn : {T M : Type 0} → naming.Ghosts T → ℕ → Stage T M → Stage T M → Type 0
-TakesTurn n thread s later = HasTurn n.valid thread s.words s.seats.items later.words later.seats.items
+abbrev pub TakesTurn : {T M W : Type 0} → naming.Ghosts T → OfAttempts W M → W → ℕ → Stage T M → Stage T M → Type 0
+TakesTurn n a w thread s later =
+    HasTurn n.valid (a.heard w) thread s.words s.seats.items (kept s.log) later.words later.seats.items (kept later.log)
+
+-- a thread made an event on its pass, and where steps are kept, it is the next one
+abbrev pub LogsStep : {T M W C : Type 0} → naming.Ghosts T → OfAttempts W M → cells.Ghosts C T → W → ℕ → C → Seat M → Option (Listed Step) → C → Seat M → Option (Listed Step) → Type 0
+LogsStep n a c w thread here s log there later next =
+    HasLogged (IsStep n.valid (c.passes here) (a.heard w) thread (c.view here) s (c.view there) later) (kept log) (kept next)

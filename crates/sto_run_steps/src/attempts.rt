@@ -1,10 +1,12 @@
 //! Attempts of transactions that are made event by event.
-ghost use Rattle.std.specs.Prelude.{◌≡◌, ◌≤◌, ℕ, IfOk};
+ghost use Rattle.std.specs.Prelude.{◌≡◌, ◌≤◌, ℕ, List, IfOk, option_copied};
+ghost use Rattle.sto_model.specs.Told.{Told};
 ghost use Rattle.sto_core.specs.declared.view.View.{View};
 ghost use Rattle.sto_run_threads.specs.Orders.{Place};
 ghost use Rattle.sto_run_threads.specs.Plans.{MayDraw};
 ghost use Rattle.sto_run_threads.specs.Ran.{IsTransaction};
 ghost use Rattle.sto_run_steps.specs.Leading.{MayStep, MakesEvent, Steps};
+ghost use Rattle.sto_run_steps.specs.Logged.{answered};
 
 use std::alloc::Global;
 use sto_attempt::Verdict;
@@ -35,6 +37,9 @@ pub trait Attempts<T: Naming, M>: Work<T> {
 
     /// How many events an attempt makes at most.
     ghost most: { Self → ℕ };
+
+    /// What the calls of an attempt have been answered so far.
+    ghost heard: { Self → M → List Told };
 
     /// How many attempts of a transaction may be aborted.
     fn most_tries(&self) -> u32
@@ -70,4 +75,8 @@ pub trait Attempts<T: Naming, M>: Work<T> {
         ensures event { MakesEvent T.Naming C.Cells cells.old cells.new }
         ensures stepped { Steps C.Cells (fits self.now) (thread, position) (Self.plan self.now) (left self.now)
             trial.old trial.new cells.old cells.new result };
+
+    /// What the calls of an attempt that goes on have been answered so far.
+    fn replies<'m>(&self, trial: &'m M) -> Option<&'m Replies>
+        ensures { answered (option_copied result) ≡ heard self.now trial.now };
 }

@@ -1,5 +1,5 @@
 //! A whole file, stepped.
-ghost use Rattle.std.specs.Prelude.{◌≡◌, ◌≤◌, ◌<◌, [], max, length, IfOk};
+ghost use Rattle.std.specs.Prelude.{◌≡◌, ◌≤◌, ◌<◌, [], max, length, IfOk, Some, None};
 ghost use Rattle.std.specs.List.{All, flat_map};
 ghost use Rattle.sto_core.specs.Opened.{opened_core};
 ghost use Rattle.sto_run_threads.specs.Plans.{Opens, thread_count, transaction_count};
@@ -7,16 +7,19 @@ ghost use Rattle.sto_run_threads.specs.Told.{told_in};
 ghost use Rattle.sto_run_threads.specs.Worked.{AbortsNone};
 ghost use Rattle.sto_run_threads.specs.Runs.{IsFinished};
 ghost use Rattle.sto_run_steps.specs.Seated.{AreNew, AreSeated};
+ghost use Rattle.sto_run_steps.specs.Logged.{kept};
 ghost use Rattle.sto_run_steps.specs.Turning.{WereStepped};
 
 use crate::attempts::Attempts;
+use crate::log::Log;
 use crate::seat::Seat;
 use crate::stage::Stage;
 use std::alloc::Global;
 use sto_lang::Turns;
-use sto_part::{Contents, Naming, NoMemory};
+use sto_part::{Contents, List, Naming, NoMemory};
 use sto_plain::Plain;
 use sto_run_threads::{FinishedRun, Work, run_left};
+use sto_trace::Steps;
 use sto_transaction::Record;
 
 // How many passes there are: one for each script thread, and one where there is none.
@@ -60,23 +63,25 @@ fn seats_of<T: Naming, M: Drop, W: Attempts<T, M>>(
     Ok(seats)
 }
 
-// Opens the words with a pass for each seat.
+// Opens the words with a pass for each seat, and begins with a log.
 fn open<T: Naming, M: Drop, W: Attempts<T, M>>(
     work: &W,
     alloc: Global,
     ty: &T,
     contents: &Contents,
+    log: Log,
 ) -> Result<Stage<T, M>, NoMemory>
     requires opens { Opens (W.plan work.now) T.valid (T.sizes ty.now) contents.now.items }
     requires threads { thread_count (W.plan work.now) ≤ 65536 }
     ensures many { IfOk result (λ s. length s.seats.items ≡ max 1 (thread_count (W.plan work.now))) }
     ensures opened { IfOk result (λ s. s.words ≡ opened_core (T.sizes ty.now) contents.now.items (length s.seats.items)) }
     ensures begun { IfOk result (λ s. AreNew (W.plan work.now) s.seats.items) }
+    ensures log { IfOk result (λ s. s.log ≡ log) }
     ensures seated { IfOk result (λ s. AreSeated (W.plan work.now) (W.fits work.now) s.words s.seats.items) }
 {
     let seats = seats_of(work, alloc)?;
     let words = Plain::open(alloc, ty, contents, seats.len() as u32)?;
-    Ok(Stage { words, seats })
+    Ok(Stage { words, seats, log })
 }
 
 // The records of all threads, thread by thread.
@@ -112,15 +117,64 @@ pub fn step_threads<T: Naming, M: Drop, W: Attempts<T, M>>(
     ensures finished { IfOk result (IsFinished (W.plan work.now)) }
 
     // Each event is made in the turn of its thread.
-    ensures stepped { IfOk result (λ run. WereStepped M (W.plan work.now) T.valid schedule.now
-        (opened_core (T.sizes ty.now) contents.now.items (max 1 (thread_count (W.plan work.now)))) (told_in run.records)) }
+    ensures stepped { IfOk result (λ run. WereStepped (W.plan work.now) T.valid (W.heard work.now) schedule.now
+        (opened_core (T.sizes ty.now) contents.now.items (max 1 (thread_count (W.plan work.now)))) None (told_in run.records) None) }
 
     // With one thread no attempt is aborted.
     ensures alone { thread_count (W.plan work.now) ≤ 1 → IfOk result (λ run. AbortsNone [] (told_in run.records)) }
 {
-    let stage = open(work, alloc, ty, contents)?;
+    let (run, _) = log_threads(work, alloc, ty, contents, schedule, None)?;
+    Ok(run)
+}
+
+/// Steps the script threads of a file as [`step_threads`] does, and tells the steps that they made by the schedule and in turn, in their
+/// order. It tells none where they made more than 100,000. The run of what was handed back is not among them.
+pub fn trace_threads<T: Naming, M: Drop, W: Attempts<T, M>>(
+    work: &W,
+    alloc: Global,
+    ty: &T,
+    contents: &Contents,
+    schedule: &[Turns],
+) -> Result<(FinishedRun<T>, Option<Steps>), NoMemory>
+    requires ready { W.ready work.now }
+    requires opens { Opens (W.plan work.now) T.valid (T.sizes ty.now) contents.now.items }
+    requires threads { thread_count (W.plan work.now) ≤ 65536 }
+    requires schedule { All (λ turns. turns.thread < thread_count (W.plan work.now)) schedule.now }
+    ensures finished { IfOk result (λ r. IsFinished (W.plan work.now) r.0) }
+
+    // Each event is made in the turn of its thread, and the steps are these events.
+    ensures traced { IfOk result (λ r. WereStepped (W.plan work.now) T.valid (W.heard work.now) schedule.now
+        (opened_core (T.sizes ty.now) contents.now.items (max 1 (thread_count (W.plan work.now)))) (Some []) (told_in r.0.records)
+        (kept r.1)) }
+
+    // With one thread no attempt is aborted.
+    ensures alone { thread_count (W.plan work.now) ≤ 1 → IfOk result (λ r. AbortsNone [] (told_in r.0.records)) }
+{
+    log_threads(work, alloc, ty, contents, schedule, Some(List::new(alloc)))
+}
+
+// Steps the script threads, and adds to a log.
+fn log_threads<T: Naming, M: Drop, W: Attempts<T, M>>(
+    work: &W,
+    alloc: Global,
+    ty: &T,
+    contents: &Contents,
+    schedule: &[Turns],
+    log: Log,
+) -> Result<(FinishedRun<T>, Log), NoMemory>
+    requires ready { W.ready work.now }
+    requires opens { Opens (W.plan work.now) T.valid (T.sizes ty.now) contents.now.items }
+    requires threads { thread_count (W.plan work.now) ≤ 65536 }
+    requires schedule { All (λ turns. turns.thread < thread_count (W.plan work.now)) schedule.now }
+    ensures finished { IfOk result (λ r. IsFinished (W.plan work.now) r.0) }
+    ensures stepped { IfOk result (λ r. WereStepped (W.plan work.now) T.valid (W.heard work.now) schedule.now
+        (opened_core (T.sizes ty.now) contents.now.items (max 1 (thread_count (W.plan work.now)))) (kept log) (told_in r.0.records)
+        (kept r.1)) }
+    ensures alone { thread_count (W.plan work.now) ≤ 1 → IfOk result (λ r. AbortsNone [] (told_in r.0.records)) }
+{
+    let stage = open(work, alloc, ty, contents, log)?;
     let stage = stage.follow(work, alloc, schedule)?;
-    let Stage { words, seats } = stage.finish(work, alloc)?;
+    let Stage { words, seats, log } = stage.finish(work, alloc)?;
     let mut records = records_of(alloc, seats)?;
     let words = match Plain::reopen(words.close()) {
         Ok(words) => words,
@@ -128,8 +182,6 @@ pub fn step_threads<T: Naming, M: Drop, W: Attempts<T, M>>(
     };
     let mut pass = words.at(0);
     run_left(work, alloc, &mut pass, &mut records)?;
-    Ok(FinishedRun {
-        records,
-        words: pass.back(),
-    })
+    let words = pass.back();
+    Ok((FinishedRun { records, words }, log))
 }

@@ -6,10 +6,11 @@
 
 mod attempts;
 mod file;
+mod log;
 mod seat;
 mod stage;
 mod work;
 
 pub use attempts::{Attempts, Stepped};
-pub use file::step_threads;
+pub use file::{step_threads, trace_threads};
 pub use work::SteppedWork;

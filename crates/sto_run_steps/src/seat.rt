@@ -1,12 +1,15 @@
 //! A script thread, as far as it has come.
-ghost use Rattle.std.specs.Prelude.{◌≡◌, ◌≤◌, ◌<◌, ◌↔◌, IsTrue, OnOk, OnErr};
+ghost use Rattle.std.specs.Prelude.{◌≡◌, ◌≤◌, ◌<◌, ◌+◌, ◌↔◌, IsTrue, IfOk, OnOk, OnErr, length, Some, option_copied};
 ghost use Rattle.sto_run_threads.specs.Plans.{transaction_count};
 
 use crate::attempts::{Attempts, Stepped};
+use crate::log::{Log, with_step};
 use std::alloc::Global;
 use sto_attempt::Verdict;
 use sto_core::Cells;
-use sto_part::{Naming, NoMemory};
+use sto_model::Replies;
+use sto_part::{List, Naming, NoMemory};
+use sto_trace::{Deed, Noting, Step, replies_past};
 use sto_transaction::{Memory, Record};
 
 /// A script thread, of whose transactions the first so many have ended.
@@ -32,7 +35,8 @@ impl<M: Drop> Seat<M> {
     ghost use Rattle.sto_transaction.specs.Plain.{plain};
     ghost use Rattle.sto_run_steps.specs.Seated.{IsNew, IsSeated, IsOver, HasKept};
     ghost use Rattle.sto_run_steps.specs.Leading.{MakesEvent};
-    ghost use Rattle.sto_run_steps.specs.Stages.{SitsAt, HasLess, HasNoMore, HasBegun};
+    ghost use Rattle.sto_run_steps.specs.Stages.{SitsAt, HasLess, HasNoMore, HasBegun, LogsStep};
+    ghost use Rattle.sto_run_steps.specs.Logged.{answered, kept, heard_before, heard_after, end_after, last_record, HasLogged, IsLast};
 
     /// A thread with so many transactions, of which none has begun.
     pub(crate) fn new(alloc: Global, count: u32, tries: u32) -> Seat<M>
@@ -62,6 +66,103 @@ impl<M: Drop> Seat<M> {
     {
         let Seat { records, .. } = self;
         records
+    }
+
+    /// Makes the next event of the thread, which is not over, on its pass, and adds it to the steps where they are kept.
+    pub(crate) fn logged_step<T: Naming, W: Attempts<T, M>, C: Cells<T> + Drop>(
+        &mut self,
+        work: &W,
+        alloc: Global,
+        thread: u32,
+        cells: C,
+        log: Log,
+    ) -> Result<(C, Log), NoMemory>
+        requires ready { W.ready work.now }
+        requires seated { SitsAt W.Attempts C.Cells work.now cells thread self.old }
+        requires going { IsOver self.old → ⊥ }
+        ensures same { IfOk result (λ r. C.same cells r.0) }
+        ensures event { IfOk result (λ r. MakesEvent T.Naming C.Cells cells r.0) }
+        ensures seated { IfOk result (λ r. IsSeated (W.plan work.now) (W.fits work.now) (C.passes cells) thread (C.view r.0) self.new) }
+        ensures left { OnOk result (HasLess W.Attempts work.now self.old self.new) }
+        ensures logged { IfOk result (λ r. LogsStep T.Naming W.Attempts C.Cells work.now thread cells self.old log r.0 self.new r.1) }
+    {
+        let position = self.ended + 1;
+        let heard = self.heard(work);
+        let mut pass = Noting { cells, deed: None };
+        self.step(work, alloc, thread, &mut pass)?;
+        let Noting { cells, deed } = pass;
+        match (log, deed) {
+            (Some(steps), Some(deed)) => {
+                let step = self.last_step(work, alloc, thread, position, heard, deed)?;
+                Ok((cells, with_step(steps, step)?))
+            }
+            _ => Ok((cells, None)),
+        }
+    }
+
+    // How many calls of the next attempt have been answered.
+    fn heard<T: Naming, W: Attempts<T, M>>(&self, work: &W) -> u32
+        ensures { result ≡ length (heard_before (W.heard work.now) self.now.trial) }
+    {
+        let Some(trial) = &self.trial else {
+            return 0;
+        };
+        match work.replies(trial) {
+            Some(replies) => replies.len(),
+            None => 0,
+        }
+    }
+
+    // What the attempt that has made the last event has been answered.
+    fn replies<T: Naming, W: Attempts<T, M>>(&self, work: &W) -> Option<&Replies>
+        ensures { answered (option_copied result) ≡ heard_after (W.heard work.now) self.now.trial (last_record self.now) }
+    {
+        if let Some(trial) = &self.trial {
+            return work.replies(trial);
+        }
+        match self.records.last() {
+            Some(record) => Some(&record.replies),
+            None => None,
+        }
+    }
+
+    // How the attempt that has made the last event has ended, if it has.
+    fn end(&self) -> Option<Verdict>
+        ensures { result ≡ end_after self.now.trial (last_record self.now) }
+    {
+        if self.trial.is_some() {
+            return None;
+        }
+        match self.records.last() {
+            Some(record) => Some(record.verdict),
+            None => None,
+        }
+    }
+
+    // The step that the thread has made, where so many calls had been answered before.
+    fn last_step<T: Naming, W: Attempts<T, M>>(
+        &self,
+        work: &W,
+        alloc: Global,
+        thread: u32,
+        position: u32,
+        heard: u32,
+        deed: Deed,
+    ) -> Result<Step, NoMemory>
+        ensures deed { IfOk result (λ step. step.deed ≡ deed) }
+        ensures last { IfOk result (IsLast (W.heard work.now) thread position heard self.now) }
+    {
+        let replies = match self.replies(work) {
+            Some(replies) => replies_past(replies, heard)?,
+            None => List::new(alloc),
+        };
+        Ok(Step {
+            thread,
+            position,
+            deed,
+            replies,
+            end: self.end(),
+        })
     }
 
     /// Makes the next event of the thread, which is not over, on its pass. Where there is no memory, no record is added.

@@ -4,17 +4,19 @@ ghost use Rattle.std.specs.List.{All, flat_map};
 ghost use Rattle.sto_run_threads.specs.Orders.{numbers_from};
 
 use crate::attempts::Attempts;
+use crate::log::Log;
 use crate::seat::Seat;
 use std::alloc::Global;
 use sto_lang::Turns;
 use sto_part::{Naming, NoMemory};
 use sto_plain::Plain;
 
-/// The words, with a pass for each script thread, and the threads in the order of their passes.
+/// The words, with a pass for each script thread, the threads in the order of their passes, and the steps where they are kept.
 #[derive(Drop)]
 pub(crate) struct Stage<T: Naming, M> {
     pub(crate) words: Plain<T>,
     pub(crate) seats: Vec<Seat<M>>,
+    pub(crate) log: Log,
 }
 
 impl<T: Naming, M: Drop> Stage<T, M> {
@@ -32,20 +34,24 @@ impl<T: Naming, M: Drop> Stage<T, M> {
         requires ready { W.ready work.now }
         requires seated { AreOn W.Attempts work.now self }
         requires inside { thread < length self.seats.items }
-        ensures turn { IfOk result (λ s. TakesTurn T.Naming thread self s.0) }
+        ensures turn { IfOk result (λ s. TakesTurn T.Naming W.Attempts work.now thread self s.0) }
         ensures seated { IfOk result (λ s. AreOn W.Attempts work.now s.0) }
         ensures many { IfOk result (λ s. length s.0.seats.items ≡ length self.seats.items) }
         ensures made { IfOk result (λ s. s.1 ≡ true → HasFewer W.Attempts work.now self s.0) }
         ensures over { IfOk result (λ s. s.1 ≡ false → (s.0.seats.items ≡ self.seats.items) × IsOverAt thread self.seats.items) }
     {
-        let Stage { words, mut seats } = self;
+        let Stage {
+            words,
+            mut seats,
+            log,
+        } = self;
         if seats[thread as usize].is_over() {
-            return Ok((Stage { words, seats }, false));
+            return Ok((Stage { words, seats, log }, false));
         }
-        let mut pass = words.at(thread);
-        seats[thread as usize].step(work, alloc, thread, &mut pass)?;
+        let pass = words.at(thread);
+        let (pass, log) = seats[thread as usize].logged_step(work, alloc, thread, pass, log)?;
         let words = pass.back();
-        Ok((Stage { words, seats }, true))
+        Ok((Stage { words, seats, log }, true))
     }
 
     // Gives a thread as many events as an entry of a schedule says, or as many as it has.

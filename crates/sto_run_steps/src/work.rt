@@ -5,11 +5,12 @@ ghost use Rattle.sto_lang.specs.Views.{file as view};
 ghost use Rattle.sto_transaction.specs.Bounds.{bound, words_of};
 ghost use Rattle.sto_run_threads.specs.Plans.{plan_of};
 ghost use Rattle.sto_run_threads.specs.Taken.{IsTaken};
-ghost use Rattle.sto_run_steps.specs.Proceeding.{ProceedsAt, script_left};
+ghost use Rattle.sto_run_steps.specs.Proceeding.{ProceedsAt, script_left, heard_by};
 
 use crate::attempts::{Attempts, Stepped};
 use std::alloc::Global;
 use sto_core::Cells;
+use sto_model::Replies;
 use sto_part::NoMemory;
 use sto_run_threads::{FileWork, Gate, LentFile, Work};
 use sto_script::ScriptBody;
@@ -57,6 +58,8 @@ impl<'w, T: TxType, G: Gate> Attempts<T, Machine<'w, T, ScriptBody<'w>>> for Ste
     ghost most = { λ w. bound (weight_total (view w.work.now.workload.file.now).threads) (length (T.meaning w.work.now.ty.now).widths)
         (words_of (T.meaning w.work.now.ty.now).widths) };
 
+    ghost heard = { λ w. heard_by };
+
     fn most_tries(&self) -> u32 {
         self.work.tries
     }
@@ -94,6 +97,14 @@ impl<'w, T: TxType, G: Gate> Attempts<T, Machine<'w, T, ScriptBody<'w>>> for Ste
                 } = end;
                 Ok(Stepped::Ended { replies, verdict })
             }
+        }
+    }
+
+    fn replies<'m>(&self, trial: &'m Machine<'w, T, ScriptBody<'w>>) -> Option<&'m Replies> {
+        match trial {
+            Machine::Running(attempt) => Some(attempt.replies()),
+            Machine::Committing(ready) => Some(ready.replies()),
+            Machine::Over => None,
         }
     }
 }

@@ -50,8 +50,11 @@ pub none_was_aborted : (place : Place) (rs : List Record) → HasNone place.0 rs
 none_was_aborted place rs h =
     none_aborted place rs (every_weaker (λ (r : Record). r.place.0 ≡ place.0 → ⊥) (λ (r : Record). r.place.0 ≡ place.0 → r.place.1 ≡ place.1 → ⊥) (λ r no e g. no e) rs (none_of place.0 rs h))
 
-pub none_is_fresh : (passes thread : ℕ) (rs : List Record) → HasNone thread rs → IsFresh passes thread rs
-none_is_fresh passes thread rs h = inr (none_was_aborted (thread, suc (ended_of thread rs)) rs h)
+pub none_is_fresh : (tries passes thread : ℕ) (rs : List Record) → HasNone thread rs → IsFresh tries passes thread rs
+none_is_fresh tries passes thread rs h = inr (
+  none_was_aborted (thread, suc (ended_of thread rs)) rs h,
+  λ position low high. absurd (let e = none_has_ended thread rs h in omega (arith, e, low, high)),
+)
 
 -- a claimed thread was run
 pub claimed_more : (threads : List ℕ) (n : ℕ) (rs later : List Record) → AreOf threads rs → AddsTo n rs later → AreOf (threads ++ n ∷ []) later
@@ -127,10 +130,10 @@ gathered_apart plan v u rs ss apart h k = record {
   paced = both_paced plan v u h.paced k.paced;
 }
   where
-    each : (place : Place) → (aborted_times place rs ≡ 0) ⊎ (aborted_times place ss ≡ 0)
-    each place = elim (apart place.0) [
-      | inl none ↦ inl (none_was_aborted place rs none)
-      | inr none ↦ inr (none_was_aborted place ss none)
+    each : (thread : ℕ) → ((position : ℕ) → aborted_times (thread, position) rs ≡ 0) ⊎ ((position : ℕ) → aborted_times (thread, position) ss ≡ 0)
+    each thread = elim (apart thread) [
+      | inl none ↦ inl (λ position. none_was_aborted (thread, position) rs none)
+      | inr none ↦ inr (λ position. none_was_aborted (thread, position) ss none)
     ]
 
     -- a record of the first beside all of the second

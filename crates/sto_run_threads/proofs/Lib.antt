@@ -12,3 +12,4 @@ pub mod Gathered
 pub mod Opened
 pub mod Reopened
 pub mod Ordered
+pub mod Turns

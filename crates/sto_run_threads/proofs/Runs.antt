@@ -1,7 +1,7 @@
 -- One more transaction of a thread was run.
 use Rattle.std.specs.Prelude.{if◌then◌else◌, Some}
 use Rattle.std.specs.List.{All}
-use Rattle.std.proofs.Common.{◌≡◌, ℕ, suc, ◌+◌, ◌≤◌, List, [], ◌∷◌, ◌++◌, length, refl, sym, ap, ap₂, ◌∙◌, subst, arith, Bool, true, false, append-nil, inl, inr, true≢false}
+use Rattle.std.proofs.Common.{◌≡◌, ℕ, suc, ◌+◌, ◌<◌, ◌≤◌, List, [], ◌∷◌, ◌++◌, length, refl, sym, ap, ap₂, ◌∙◌, subst, arith, Bool, true, false, append-nil, inl, inr, true≢false}
 use Rattle.std.proofs.lemmas.Bool.{cases_eq}
 use Rattle.std.proofs.lemmas.List.Elements.{All-append, All-weaker}
 use Rattle.sto_lang.specs.Scripts.{Script, File}
@@ -20,7 +20,7 @@ use Rattle.sto_serializability.proofs.Working.{more_so_far, ended_more, none_abo
 use Rattle.sto_run_threads.specs.Running.{ended_of, IsUpTo, IsUnderWay, AreUnderWay}
 use Rattle.sto_transaction.specs.Pace.{KeepsPace}
 use Rattle.sto_run_threads.specs.Ran.{HasRunAt}
-use Rattle.sto_run_threads.specs.Worked.{HasWorked, WasFound, IsFresh, AddsTo, AbortsNone, IsNext, IsOneMore}
+use Rattle.sto_run_threads.specs.Worked.{HasWorked, WasFound, HasSpared, IsFresh, AddsTo, AbortsNone, IsNext, IsOneMore}
 use Rattle.sto_run_threads.proofs.Found.{found_more}
 use Rattle.sto_run_threads.proofs.Threads.{length_numbers, positions_in, none_ended, all_aborted}
 use Rattle.sto_run_threads.specs.Plans.{Plan, pace_of, IsPaced}
@@ -33,7 +33,7 @@ up_more : (thread ended : ℕ) (r : Record) → IsUpTo thread ended r → IsUpTo
 up_more thread ended r up own = let p = (up own).0 in (omega (arith, p), λ e. absurd (omega (arith, p, e)))
 
 -- the place of the records that are added
-placed_all : (m : Meaning) (v w : View) (s : Script) (place : Place) (new : List Record)
+pub placed_all : (m : Meaning) (v w : View) (s : Script) (place : Place) (new : List Record)
     → All (IsAdded m v w (meaning_of s) place) new → Every (λ (r : Record). r.place ≡ place) new
 placed_all m v w s place new h = every_weaker (IsAdded m v w (meaning_of s) place) (λ (r : Record). r.place ≡ place) (λ r a. a.placed) new (every (IsAdded m v w (meaning_of s) place) new h)
 
@@ -109,20 +109,35 @@ other_same file rs new place thread other h placed = (
     count : ended_of thread (rs ++ new) ≡ ended_of thread rs
     count = ap length same
 
+-- Records of the next transaction leave a try to those before it, and to it where it has ended with one left.
+pub spared_more : (tries thread : ℕ) (rs new : List Record) → Every (λ (r : Record). r.place ≡ (thread, suc (ended_of thread rs))) new
+    → ended_of thread (rs ++ new) ≤ suc (ended_of thread rs)
+    → (ended_of thread (rs ++ new) ≡ suc (ended_of thread rs) → aborted_times (thread, suc (ended_of thread rs)) (rs ++ new) < tries)
+    → HasSpared tries thread rs → HasSpared tries thread (rs ++ new)
+spared_more tries thread rs new placed few last h position low high = elim (cases_eq position (suc (ended_of thread rs))) [
+  | inl same ↦ subst (λ (n : ℕ). aborted_times (thread, n) (rs ++ new) < tries) (sym same) (last (omega (arith, same, high, few)))
+  | inr other ↦
+      let old = h position low (omega (arith, other, high, few)) in
+      let both = aborted_append (thread, position) rs new in
+      let none = none_aborted (thread, position) new (every_weaker (λ (r : Record). r.place ≡ (thread, suc (ended_of thread rs))) (λ (r : Record). r.place.0 ≡ thread → r.place.1 ≡ position → ⊥)
+      (λ r is e g. other (sym g ∙ ap (λ (x : Place). x.1) is)) new placed) in omega (arith, old, both, none)
+]
+
 -- Attempts of the next transaction of a thread add their records.
 pub next_more : (plan : Plan) (v w : View) (thread : ℕ) (rs new : List Record) (script : Script) (ended : Bool)
     → HasWorked plan v rs → suc (ended_of thread rs) ≤ count_in plan.file.threads thread → transaction_at plan.file (thread, suc (ended_of thread rs)) ≡ Some script
     → HasAdded plan.meaning plan.tries v w (meaning_of script) (thread, suc (ended_of thread rs)) new → AreFound w (v.starts + 1) new
     → aborted_times (thread, suc (ended_of thread rs)) rs + aborted_times (thread, suc (ended_of thread rs)) new ≤ plan.tries
+    → ((position : ℕ) → 1 ≤ position → position < suc (ended_of thread rs) → aborted_times (thread, position) rs ≡ plan.tries → aborted_times (thread, suc (ended_of thread rs)) new ≡ 0)
     → finished_places new ≡ (if ended then (thread, suc (ended_of thread rs)) ∷ [] else []) → KeepsPace (pace_of plan) v w → IsNext plan w thread rs (rs ++ new) ended
-next_more plan v w thread rs new script ended h there at added finding few ends pace = by ended ends
+next_more plan v w thread rs new script ended h there at added finding few spare ends pace = by ended ends
   where
     placed : Every (λ (r : Record). r.place ≡ (thread, suc (ended_of thread rs))) new
     placed = placed_all plan.meaning v w script (thread, suc (ended_of thread rs)) new added.each
 
     so_far : AreSoFar plan.meaning plan.file plan.tries w (rs ++ new)
     so_far = more_so_far plan.meaning plan.file plan.tries v w rs new (thread, suc (ended_of thread rs)) script at
-        (every (IsUpTo thread (ended_of thread rs)) rs (h.under_way thread).comes) h.so_far added few
+        (every (IsUpTo thread (ended_of thread rs)) rs (h.under_way thread).comes) h.so_far added few spare
 
     paced : IsPaced plan w
     paced = omega (arith, h.paced, pace)
@@ -191,12 +206,12 @@ none_else thread position rs new adds placed none place = elim (cases_eq thread 
 
 -- A run of the next transaction adds its records.
 pub one_more : (plan : Plan) (passes : ℕ) (v w : View) (thread : ℕ) (rs later : List Record) (ended : Bool)
-    → HasWorked plan v rs → suc (ended_of thread rs) ≤ count_in plan.file.threads thread → IsFresh passes thread rs
+    → HasWorked plan v rs → suc (ended_of thread rs) ≤ count_in plan.file.threads thread → IsFresh plan.tries passes thread rs
     → HasRunAt plan passes v w (thread, suc (ended_of thread rs)) rs later ended → IsOneMore plan passes w thread rs later ended
 one_more plan passes v w thread rs later ended h there fresh run =
     subst (λ (l : List Record). IsOneMore plan passes w thread rs l ended) (sym run.ran.whole) (record {
       next = next;
-      fresh = λ on. inr (next.more on).1;
+      fresh = λ on. still_fresh on fresh;
       used = λ off. subst (λ (n : ℕ). aborted_times (thread, suc n) (rs ++ run.ran.new) ≡ plan.tries) (sym (next.left off))
           (let a = aborted_append (thread, suc (ended_of thread rs)) rs run.ran.new in let u = run.ran.used off in
           let f = next.worked.so_far.few (thread, suc (ended_of thread rs)) in omega (arith, a, u, f));
@@ -210,8 +225,25 @@ one_more plan passes v w thread rs later ended h there fresh run =
     few : aborted_times (thread, suc (ended_of thread rs)) rs + aborted_times (thread, suc (ended_of thread rs)) run.ran.new ≤ plan.tries
     few = elim fresh [
       | inl one ↦ (let a = (run.ran.alone one).1 in let b = h.so_far.few (thread, suc (ended_of thread rs)) in omega (arith, a, b))
-      | inr none ↦ (let b = run.ran.added.few in omega (arith, none, b))
+      | inr none ↦ (let b = run.ran.added.few in let z = none.0 in omega (arith, z, b))
     ]
 
+    place : Place
+    place = (thread, suc (ended_of thread rs))
+
+    spare : IsFresh plan.tries passes thread rs → (position : ℕ) → 1 ≤ position → position < suc (ended_of thread rs) → aborted_times (thread, position) rs ≡ plan.tries
+        → aborted_times place run.ran.new ≡ 0
+    spare (inl one) position low high all = (run.ran.alone one).1
+    spare (inr none) position low high all = absurd (let s = none.1 position low (omega (arith, high)) in omega (arith, s, all))
+
     next : IsNext plan w thread rs (rs ++ run.ran.new) ended
-    next = next_more plan v w thread rs run.ran.new run.script ended h there run.there run.ran.added run.ran.found few run.ran.ends run.pace
+    next = next_more plan v w thread rs run.ran.new run.script ended h there run.there run.ran.added run.ran.found few (spare fresh) run.ran.ends run.pace
+
+    still_fresh : ended ≡ true → IsFresh plan.tries passes thread rs → IsFresh plan.tries passes thread (rs ++ run.ran.new)
+    still_fresh on (inl one) = inl one
+    still_fresh on (inr none) =
+        let count = (next.more on).0 in inr (
+          (next.more on).1,
+          spared_more plan.tries thread rs run.ran.new (placed_all plan.meaning v w run.script place run.ran.new run.ran.added.each) (omega (arith, count))
+              (λ e. (let a = aborted_append place rs run.ran.new in let b = run.ran.spare on in let z = none.0 in omega (arith, a, b, z))) none.1,
+        )

@@ -49,7 +49,7 @@ aborts_none_through rs ss ts h k place = k place ∙ h place
 
 -- the run of the next transaction, where so many have ended
 pub script_step : (plan : Plan) (passes now : ℕ) (v w : View) (thread position : ℕ) (rs later : List Record) (ended : Bool)
-    → now ≡ passes → ended_of thread rs ≡ position → position < count_in plan.file.threads thread → IsFresh passes thread rs → HasWorked plan v rs
+    → now ≡ passes → ended_of thread rs ≡ position → position < count_in plan.file.threads thread → IsFresh plan.tries passes thread rs → HasWorked plan v rs
     → HasRunAt plan now v w (thread, position + 1) rs later ended → IsOneMore plan passes w thread rs later ended
 script_step plan passes now v w thread position rs later ended same is there fresh h ran =
     let e : position + 1 ≡ suc (ended_of thread rs) = omega (arith, is) in
@@ -59,7 +59,7 @@ script_step plan passes now v w thread position rs later ended same is there fre
 
 -- it is handed back
 pub script_left : (plan : Plan) (passes now : ℕ) (v w : View) (thread position : ℕ) (first rs later : List Record) (ended : Bool)
-    → now ≡ passes → ended_of thread rs ≡ position → position < count_in plan.file.threads thread → IsFresh passes thread rs → HasWorked plan v rs
+    → now ≡ passes → ended_of thread rs ≡ position → position < count_in plan.file.threads thread → IsFresh plan.tries passes thread rs → HasWorked plan v rs
     → HasRunAt plan now v w (thread, position + 1) rs later ended → ended ≡ false → AddsTo thread first rs → IsScriptRun plan passes w thread first later false
 script_left plan passes now v w thread position first rs later ended same is there fresh h ran off adds =
     let k = script_step plan passes now v w thread position rs later ended same is there fresh h ran in record {

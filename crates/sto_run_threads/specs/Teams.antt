@@ -14,6 +14,7 @@ use Rattle.sto_run_threads.specs.Plans.{Plan, Rests, MayDraw, draws_of, IsPaced}
 use Rattle.sto_run_threads.specs.Accounts.{HasGathered}
 use Rattle.sto_run_threads.specs.Told.{told_in}
 use Rattle.sto_run_threads.specs.Worked.{HasWorked, AreOf, AreDone, AbortsNone}
+use Rattle.sto_run_threads.specs.Ordered.{RanInTurn}
 use Rattle.sto_run_threads.specs.declared.worker.Worker.{Worker}
 use Rattle.sto_run_threads.specs.declared.worker.Team.{Team}
 use Rattle.sto_run_threads.specs.declared.all.Worked.{Worked}
@@ -76,6 +77,8 @@ module _ {T : Type 0} {n : naming.Ghosts T} where
     pub finished : HasFinished s claims plan team
     pub gathered : HasGathered (draws_of plan) (views_of workers) (view_at team.rest) (told_in team.records)
     pub seats : team.claimer.seat.me.0.seats ≡ seats_of workers
+    -- one worker runs all in rising thread and then position
+    pub in_turn : length workers ≡ 1 → RanInTurn plan (told_in team.records)
 
   -- all workers on these words, whose passes knew this before, were gathered
   pub record HaveWorked (s : Shared T) (plan : Plan) (before : List View) (all : Worked T n) : Type 0 where

@@ -1,5 +1,5 @@
 -- What a pass has done that ran script threads.
-use Rattle.std.specs.Prelude.{◌≡◌, ◌⊎◌, ◌<◌, ℕ, suc, List, length, Bool, true, false}
+use Rattle.std.specs.Prelude.{◌≡◌, ◌⊎◌, ◌<◌, ◌≤◌, ℕ, suc, List, length, Bool, true, false}
 use Rattle.std.specs.List.{All}
 use Rattle.sto_core.specs.declared.view.View.{View}
 use Rattle.sto_claims.specs.Taken.{times}
@@ -32,9 +32,13 @@ AreWhole plan v rs = AreFinished plan.meaning plan.file plan.tries v rs
 abbrev pub AreOf : List ℕ → List Record → Type 0
 AreOf threads rs = (thread : ℕ) → times thread threads ≡ 0 → HasNone thread rs
 
--- the next transaction of the thread was not tried before, or nothing runs beside it
-abbrev pub IsFresh : ℕ → ℕ → List Record → Type 0
-IsFresh passes thread rs = (passes ≡ 1) ⊎ (aborted_times (thread, suc (ended_of thread rs)) rs ≡ 0)
+-- each transaction of the thread that has ended had a try left
+abbrev pub HasSpared : ℕ → ℕ → List Record → Type 0
+HasSpared tries thread rs = (position : ℕ) → 1 ≤ position → position ≤ ended_of thread rs → aborted_times (thread, position) rs < tries
+
+-- the next transaction of the thread was not tried before, and those before it had a try left; or nothing runs beside it
+abbrev pub IsFresh : ℕ → ℕ → ℕ → List Record → Type 0
+IsFresh tries passes thread rs = (passes ≡ 1) ⊎ ((aborted_times (thread, suc (ended_of thread rs)) rs ≡ 0) × HasSpared tries thread rs)
 
 -- the thread was run to its end, or its next transaction used up its tries
 abbrev pub IsDone : Plan → List Record → ℕ → Type 0
@@ -65,7 +69,7 @@ pub record IsNext (plan : Plan) (w : View) (thread : ℕ) (rs later : List Recor
 -- the next transaction of a thread was run: it has ended, or is handed back
 pub record IsOneMore (plan : Plan) (passes : ℕ) (w : View) (thread : ℕ) (rs later : List Record) (ended : Bool) : Type 0 where
   pub next : IsNext plan w thread rs later ended
-  pub fresh : ended ≡ true → IsFresh passes thread later
+  pub fresh : ended ≡ true → IsFresh plan.tries passes thread later
   pub used : ended ≡ false → aborted_times (thread, suc (ended_of thread later)) later ≡ plan.tries
   pub alone : passes ≡ 1 → (ended ≡ true) × AbortsNone rs later
 

@@ -5,6 +5,7 @@ ghost use Rattle.std.specs.Vec.{vec_len};
 ghost use Rattle.sto_run_threads.specs.Accounts.{Gathers};
 ghost use Rattle.sto_run_threads.specs.Told.{told_in};
 ghost use Rattle.sto_run_threads.specs.Worked.{IsDone};
+ghost use Rattle.sto_run_threads.specs.Ordered.{RanInTurn};
 ghost use Rattle.sto_run_threads.specs.Teams.{IsReady, IsNew, IsHired, HaveWorked, view_at, views_of, seats_of};
 ghost use Rattle.sto_run_threads.specs.Plans.{thread_count};
 
@@ -71,6 +72,8 @@ pub fn work_all<R: Threads + Sync, T: Naming + Send + Sync, W: Work<T> + Sync>(
     ensures worked { IfOk result (HaveWorked shared.now (W.plan work.now) (map view_at rests.items)) }
     ensures done { IfOk result (λ all. (thread : ℕ) → thread < thread_count (W.plan work.now)
         → IsDone (W.plan work.now) (told_in all.records) thread) }
+    // One worker runs all in rising thread and then position.
+    ensures in_turn { length rests.items ≡ 1 → IfOk result (λ all. RanInTurn (W.plan work.now) (told_in all.records)) }
 {
     let OpenedClaims { claims, claimers } = open_claims(alloc, work.threads(), rests.len())?;
     let workers = hire(work, alloc, shared, &claims, rests, claimers)?;

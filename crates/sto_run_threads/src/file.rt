@@ -2,7 +2,7 @@
 ghost use Rattle.std.specs.Prelude.{◌≡◌, ◌≤◌, [], IfOk};
 ghost use Rattle.sto_run_threads.specs.Plans.{Opens, draws_of, thread_count};
 ghost use Rattle.sto_run_threads.specs.Told.{told_in};
-ghost use Rattle.sto_run_threads.specs.Ordered.{RunsInOrder};
+ghost use Rattle.sto_run_threads.specs.Ordered.{RunsInOrder, RanInTurn};
 ghost use Rattle.sto_run_threads.specs.Accounts.{HasAll};
 ghost use Rattle.sto_run_threads.specs.Worked.{AbortsNone};
 ghost use Rattle.sto_run_threads.specs.Teams.{HasMade, view_at};
@@ -70,8 +70,10 @@ pub fn run_threads<R: Threads + Sync, T: Naming + Send + Sync, W: Work<T> + Sync
     requires workers { (1 ≤ workers) × (workers ≤ 65536) }
     ensures finished { IfOk result (IsFinished (W.plan work.now)) }
     ensures accounted { IfOk result IsAccounted }
-    // With one worker no attempt is aborted.
+    // With one worker no attempt is aborted, and all is run in rising thread and then position.
     ensures alone { IfOk result (λ run. workers ≡ 1 → AbortsNone [] (told_in run.records)) }
+    ensures in_turn { workers ≡ 1 → 1 ≤ (W.plan work.now).tries
+        → IfOk result (λ run. RanInTurn (W.plan work.now) (told_in run.records)) }
 {
     let Opened { shared, rests } = open(alloc, ty, contents, workers)?;
     let worked = work_all(rt, work, alloc, &shared, rests)?;

@@ -32,7 +32,7 @@ impl Gate for NoGate {
 }
 
 // For how many microseconds a worker sleeps between two looks.
-const NAP: u64 = 300;
+const NAP: u64 = 800;
 
 /// Holds nobody, and lets a worker that waits sleep, so that it takes no processor.
 #[derive(Drop)]

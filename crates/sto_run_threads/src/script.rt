@@ -28,7 +28,7 @@ pub fn run_script<T: Naming, W: Work<T>, C: Cells<T>>(
     requires ready { W.ready work.now }
     requires count { (count ≡ transaction_count (W.plan work.now) thread) × (ended ≤ count) }
     requires ended { ended_of thread (told_in records.old) ≡ ended }
-    requires fresh { IsFresh (C.passes cells.old) thread (told_in records.old) }
+    requires fresh { IsFresh (W.plan work.now).tries (C.passes cells.old) thread (told_in records.old) }
     requires free { MayDraw (W.plan work.now) ((W.plan work.now).tries * (count - ended)) (C.view cells.old) }
     requires worked { HasWorked (W.plan work.now) (C.view cells.old) (told_in records.old) }
     ensures same { C.same cells.old cells.new }

@@ -23,7 +23,7 @@ const LOOKS: u32 = 200_000;
 
 // After how many of its first aborts a transaction of short attempts is soon tried again. Whoever is aborted more often meets others who
 // want the same parts, and leaves the processor to them: attempts in vain, and parts that go from one processor to another, cost more.
-const SOON: u32 = 2;
+const SOON: u32 = 1;
 
 // How often the backoff is called then, each time for longer, so that the commits of others end.
 const SNOOZES: u32 = 3;

@@ -270,6 +270,10 @@ module _ {valid : Validity} {sizes : List ℕ} {opening : Contents} {past : Past
         record_lawful rs (all_beside rs finished.threads) (every (IsRecord m file v) rs finished.each))
         0 (length file.threads));
     few = λ place. (let k = few_at file.declarations m.homes rs place 0 (length file.threads) in let f = finished.few place in omega (arith, k, f));
+    handed = λ p q own low used.
+        (let k = few_at file.declarations m.homes rs p 0 (length file.threads) in let f = finished.few p in
+        let all = finished.handed p q own low (omega (arith, k, f, used)) in
+        let l = few_at file.declarations m.homes rs q 0 (length file.threads) in omega (arith, all, l));
     sorted = sorted_of file.declarations m.homes rs (aborts_from file.declarations m.homes rs 0 (length file.threads))
         (all_sorted file.declarations m.homes rs finished.threads 0 (length file.threads));
   }

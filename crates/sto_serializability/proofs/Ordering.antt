@@ -18,7 +18,7 @@ use Rattle.sto_serializability.proofs.Pairs.{all_of, every_weaker, every_both, L
 use Rattle.sto_serializability.proofs.Replaying.{places_of}
 
 -- what follows a record in its thread comes after it
-key_rises : (v w : Verdict) → is_abort v ≡ false → is_abort w ≡ false → IsSince (known_after v) w → key_of v ≤ key_of w
+pub key_rises : (v w : Verdict) → is_abort v ≡ false → is_abort w ≡ false → IsSince (known_after v) w → key_of v ≤ key_of w
 key_rises (Wrote t) (Wrote u) a b l = omega (arith, l)
 key_rises (Wrote t) (Read n) a b l = omega (arith, l)
 key_rises (Wrote t) (Cancelled n) a b l = omega (arith, l)
@@ -78,7 +78,7 @@ later_both (r ∷ rs) h k = (
 )
 
 -- a fact of all pairs is one of all pairs in another order
-pairs_ordered : (C : Record → Record → Type 0) (xs ys : List Record) → IsPermutation xs ys → Every (λ r. Every (C r) xs) xs → Every (λ r. Every (C r) ys) ys
+pub pairs_ordered : (C : Record → Record → Type 0) (xs ys : List Record) → IsPermutation xs ys → Every (λ r. Every (C r) xs) xs → Every (λ r. Every (C r) ys) ys
 pairs_ordered C xs ys same h =
     every (λ r. Every (C r) ys) ys
     (All-permutation (λ r. Every (C r) ys) xs ys same

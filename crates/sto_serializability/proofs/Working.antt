@@ -1,6 +1,6 @@
 -- What was told of a record stays true of later views, and records are added transaction by transaction.
 use Rattle.std.specs.Prelude.{◌⊎◌, ◌&&◌, if◌then◌else◌, filter}
-use Rattle.std.proofs.Common.{◌≡◌, ℕ, ◌+◌, ◌<◌, ◌≤◌, List, [], ◌∷◌, ◌++◌, map, refl, sym, ap, ◌∙◌, subst, arith, Bool, true, false, ◌==◌, Some, inl, inr, eqb-true, eq-eqb, zero, suc, cond}
+use Rattle.std.proofs.Common.{◌≡◌, ℕ, ◌+◌, ◌<◌, ◌≤◌, List, [], ◌∷◌, ◌++◌, map, refl, sym, ap, ◌∙◌, subst, arith, Bool, true, false, ◌==◌, Option, Some, None, slice_get, option_and_then, inl, inr, eqb-true, eq-eqb, zero, suc, cond}
 use Rattle.std.proofs.lemmas.Bool.{cases_eq}
 use Rattle.std.proofs.lemmas.List.{map-append}
 use Rattle.std.proofs.lemmas.List.Elements.{filter-append, All-append, All-weaker}
@@ -9,9 +9,9 @@ use Rattle.sto_lang.specs.Scripts.{Script, File}
 use Rattle.sto_script.specs.Meaning.{meaning_of}
 use Rattle.sto_type.specs.Meaning.{Meaning}
 use Rattle.sto_core.specs.declared.view.View.{View}
-use Rattle.sto_report_spec.specs.Orders.{Place, transaction_at, positions_of, numbers_from}
+use Rattle.sto_report_spec.specs.Orders.{Place, at_position, transaction_at, positions_of, numbers_from}
 use Rattle.sto_attempt_facts.specs.Records.{Record, is_abort, is_finished, known_after, times_written}
-use Rattle.sto_serializability.specs.Finished.{IsRecord}
+use Rattle.sto_serializability.specs.Finished.{IsRecord, HandsBack}
 use Rattle.sto_attempt_facts.specs.Counted.{Follows, InThreads, aborted_times, finished_places}
 use Rattle.sto_attempt_facts.specs.Added.{IsAdded, HasAdded}
 pub use Rattle.sto_serializability.specs.Working.{AreSoFar}
@@ -54,6 +54,15 @@ none_aborted q (x ∷ xs) h =
     let here = not_both (x.place.0 == q.0) (x.place.1 == q.1) (is_abort x.verdict) (λ e g. h.0 (eqb-true x.place.0 q.0 e) (eqb-true x.place.1 q.1 g)) in
     let rest = none_aborted q xs h.1 in omega (arith, here, rest)
 
+-- no transaction stands before the first position
+zero_none : (s : Script) (scripts : Option (List Script)) → option_and_then (at_position 0) scripts ≡ Some s → ⊥
+zero_none s None e = absurd cc
+zero_none s (Some scripts) e = absurd cc
+
+no_position_zero : (file : File) (place : Place) (s : Script) → place.1 ≡ 0 → transaction_at file place ≡ Some s → ⊥
+no_position_zero file place s first at =
+    zero_none s (slice_get file.threads place.0) (subst (λ (n : ℕ). option_and_then (at_position n) (slice_get file.threads place.0) ≡ Some s) first at)
+
 -- a run of the transaction at a place may come after these records: they are of lower positions of its thread, or aborted attempts of it
 abbrev pub MayCome : Place → List Record → Type 0
 MayCome place rs = Every (λ (r : Record). r.place.0 ≡ place.0 → (r.place.1 ≤ place.1) × (r.place.1 ≡ place.1 → is_abort r.verdict ≡ true)) rs
@@ -61,8 +70,9 @@ MayCome place rs = Every (λ (r : Record). r.place.0 ≡ place.0 → (r.place.1 
 -- A run of a transaction adds its records to those that the pass was told of.
 pub more_so_far : (m : Meaning) (file : File) (tries : ℕ) (v w : View) (rs new : List Record) (place : Place) (s : Script)
     → transaction_at file place ≡ Some s → MayCome place rs → AreSoFar m file tries v rs → HasAdded m tries v w (meaning_of s) place new
-    → aborted_times place rs + aborted_times place new ≤ tries → AreSoFar m file tries w (rs ++ new)
-more_so_far m file tries v w rs new place s at comes h added few = record {
+    → aborted_times place rs + aborted_times place new ≤ tries
+    → ((position : ℕ) → 1 ≤ position → position < place.1 → aborted_times (place.0, position) rs ≡ tries → aborted_times place new ≡ 0) → AreSoFar m file tries w (rs ++ new)
+more_so_far m file tries v w rs new place s at comes h added few spare = record {
   threads = in_threads_append rs new h.threads added.threads
       (every_both (λ (r : Record). r.place.0 ≡ place.0 → (r.place.1 ≤ place.1) × (r.place.1 ≡ place.1 → is_abort r.verdict ≡ true)) (IsRecord m file v) (λ (r : Record). Every (λ (y : Record). r.place.0 ≡ y.place.0 → Follows r y) new)
       (λ r low k. every_weaker (IsAdded m v w (meaning_of s) place) (λ (y : Record). r.place.0 ≡ y.place.0 → Follows r y)
@@ -76,6 +86,7 @@ more_so_far m file tries v w rs new place s at comes h added few = record {
       }) new
       (every (IsAdded m v w (meaning_of s) place) new added.each)) rs comes (every (IsRecord m file v) rs h.each));
   few = few_more;
+  handed = handed;
   each = All-append (IsRecord m file w) rs new
       (All-weaker (IsRecord m file v) (IsRecord m file w)
       (λ r k. record { script = k.script; transaction = k.transaction; told = told_later m v w (meaning_of k.script) r.replies r.verdict added.grows k.told }) rs h.each)
@@ -83,16 +94,55 @@ more_so_far m file tries v w rs new place s at comes h added few = record {
       (λ r a. record { script = s; transaction = ap (transaction_at file) a.placed ∙ at; told = a.told }) new added.each);
 }
   where
+    elsewhere : (q : Place) → (q ≡ place → ⊥) → aborted_times q new ≡ 0
+    elsewhere q other =
+        none_aborted q new (every_weaker (IsAdded m v w (meaning_of s) place) (λ (r : Record). r.place.0 ≡ q.0 → r.place.1 ≡ q.1 → ⊥)
+        (λ r a e g. other (λ i. (sym (sym (ap (λ (x : Place). x.0) a.placed) ∙ e) i, sym (sym (ap (λ (x : Place). x.1) a.placed) ∙ g) i))) new
+        (every (IsAdded m v w (meaning_of s) place) new added.each))
+
+    -- no record is of a later transaction of the thread
+    none_later : (q : Place) → place.0 ≡ q.0 → place.1 < q.1 → aborted_times q rs ≡ 0
+    none_later q own low =
+        none_aborted q rs (every_weaker (λ (r : Record). r.place.0 ≡ place.0 → (r.place.1 ≤ place.1) × (r.place.1 ≡ place.1 → is_abort r.verdict ≡ true)) (λ (r : Record). r.place.0 ≡ q.0 → r.place.1 ≡ q.1 → ⊥)
+        (λ r may e g. absurd (let l = (may (e ∙ sym own)).0 in omega (arith, l, g, low))) rs comes)
+
+    -- the first position is 1
+    none_at_zero : (q : Place) → q.1 ≡ 0 → aborted_times q rs ≡ 0
+    none_at_zero q first = none_aborted q rs (every_weaker (IsRecord m file v) (λ (r : Record). r.place.0 ≡ q.0 → r.place.1 ≡ q.1 → ⊥)
+        (λ r k e g. no_position_zero file r.place k.script (g ∙ first) k.transaction) rs (every (IsRecord m file v) rs h.each))
+
+    later_new : (p q : Place) → q ≡ place → p.0 ≡ q.0 → p.1 < q.1 → aborted_times p rs ≡ tries → aborted_times q new ≡ 0
+    later_new p q same own low used = ap (λ (x : Place). aborted_times x new) same ∙ elim (cases_eq p.1 0) [
+      | inl first ↦ (let a = none_at_zero p first in omega (arith, few, used, a))
+      | inr some ↦ spare p.1 (omega (arith, some)) (let e = ap (λ (x : Place). x.1) same in omega (arith, low, e))
+          (subst (λ (t : ℕ). aborted_times (t, p.1) rs ≡ tries) (own ∙ ap (λ (x : Place). x.0) same) used)
+    ]
+
+    handed : HandsBack tries (rs ++ new)
+    handed p q own low used =
+        let both_p = aborted_append p rs new in let both_q = aborted_append q rs new in elim (same_place p place) [
+          | inl same ↦
+              let own_q : place.0 ≡ q.0 = sym (ap (λ (x : Place). x.0) same) ∙ own in
+              let low_q : place.1 < q.1 = let e = ap (λ (x : Place). x.1) same in omega (arith, low, e) in
+              let old = none_later q own_q low_q in
+              let none = elsewhere q (λ is. absurd (let e = ap (λ (x : Place). x.1) is in omega (arith, e, low_q))) in
+              omega (arith, both_q, old, none)
+          | inr other ↦
+              let none_p = elsewhere p other in
+              let used_old : aborted_times p rs ≡ tries = omega (arith, both_p, none_p, used) in
+              let old = h.handed p q own low used_old in elim (same_place q place) [
+                | inl same ↦ (let none = later_new p q same own low used_old in omega (arith, both_q, old, none))
+                | inr apart ↦ (let none = elsewhere q apart in omega (arith, both_q, old, none))
+              ]
+        ]
+
     few_more : (q : Place) → aborted_times q (rs ++ new) ≤ tries
     few_more q = elim (same_place q place) [
       | inl same ↦
           let all = aborted_append q rs new in
           let old = ap (λ (x : Place). aborted_times x rs) same in let here = ap (λ (x : Place). aborted_times x new) same in omega (arith, all, old, here, few)
       | inr other ↦
-          let none : aborted_times q new ≡ 0 =
-          none_aborted q new (every_weaker (IsAdded m v w (meaning_of s) place) (λ (r : Record). r.place.0 ≡ q.0 → r.place.1 ≡ q.1 → ⊥)
-          (λ r a e g. other (λ i. (sym (sym (ap (λ (x : Place). x.0) a.placed) ∙ e) i, sym (sym (ap (λ (x : Place). x.1) a.placed) ∙ g) i))) new
-          (every (IsAdded m v w (meaning_of s) place) new added.each)) in
+          let none = elsewhere q other in
           let all = aborted_append q rs new in let k = h.few q in omega (arith, all, none, k)
     ]
 

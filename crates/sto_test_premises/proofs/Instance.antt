@@ -76,12 +76,15 @@ at_most : (b : Bool) → (if b then 1 else 0) ≤ 1
 at_most true = omega arith
 at_most false = omega arith
 
-are_few : (place : Place) → aborted_times place records ≤ 64
-are_few place =
+few_of : (place : Place) → aborted_times place records ≤ 3
+few_of place =
     let a = at_most ((0 == place.0) && ((1 == place.1) && true)) in
     let b = at_most ((0 == place.0) && ((1 == place.1) && false)) in
     let c = at_most ((1 == place.0) && ((1 == place.1) && false)) in
     omega (arith, a, b, c)
+
+are_few : (place : Place) → aborted_times place records ≤ 64
+are_few place = let k = few_of place in omega (arith, k)
 
 are_tickets : (t : ℕ) → times_written t records ≡ times_committed t view.entries
 are_tickets zero = refl
@@ -95,6 +98,7 @@ are_finished = record {
   order = is_order;
   threads = in_threads;
   few = are_few;
+  handed = λ p q own low used. absurd (let k = few_of p in omega (arith, k, used));
   tickets = are_tickets;
   each = All-from_recursion (IsRecord box file view) records (lost_is, (again_is, (won_is, tt)));
 }

@@ -1,6 +1,6 @@
 -- An attempt that has ended is told by its record.
 use Rattle.std.specs.Prelude.{◌⊎◌}
-use Rattle.std.proofs.Common.{◌≡◌, ◌≤◌, ◌+◌, ℕ, List, false, refl, sym, ap, ◌∙◌, subst, arith, inl}
+use Rattle.std.proofs.Common.{◌≡◌, ◌≤◌, ◌<◌, ◌+◌, ℕ, List, false, refl, sym, ap, ◌∙◌, subst, arith, inl}
 use Rattle.sto_model.specs.Told.{Told}
 use Rattle.sto_model.specs.Run.{Script}
 use Rattle.sto_type.specs.Meaning.{Meaning}
@@ -19,10 +19,10 @@ use Rattle.sto_attempt_log.specs.Answers.{OneEvent, IsCommitEvent}
 use Rattle.sto_attempt_log.specs.Standing.{Ends, IsLeft, IsUnaborted}
 use Rattle.sto_attempt_log.specs.CommitPhases.{Deal, EndsWith, EndsIn}
 use Rattle.sto_attempt_log.specs.Verdicts.{IsWrote}
-use Rattle.sto_attempt_facts.specs.Records.{Place, IsSince, is_abort, wrote_with}
+use Rattle.sto_attempt_facts.specs.Records.{Place, IsSince, IsAbove, is_abort, wrote_with}
 use Rattle.sto_attempt_facts.specs.Counted.{times_committed}
 use Rattle.sto_attempt_facts.specs.Added.{IsKnown}
-use Rattle.sto_attempt_facts.specs.Running.{HasNoMore, HasOneMore, HasDrawn, IsRunning}
+use Rattle.sto_attempt_facts.specs.Running.{HasNoMore, HasOneMore, HasDrawn, HasDrawnAbove, IsRunning}
 use Rattle.sto_attempt_facts.specs.Tried.{HasTried}
 use Rattle.sto_attempt_facts.proofs.Ended.{IsUnwon, tried, counted_none, counted_won, won_keeps, lost_keeps}
 use Rattle.sto_attempt_facts.proofs.Progress.{keeps_running}
@@ -38,10 +38,17 @@ unwritten m f w at rs (Cancelled n) h t = refl
 unwritten m f w at rs (Locked n p) h t = refl
 unwritten m f w at rs (Changed n p u) h t = refl
 
+unwritten_above : (m : Meaning) (f : Script) (w : View) (at : ℕ) (rs : List Told) (x : Verdict) → Ends m f w at rs x → IsAbove w.at (verdict x)
+unwritten_above m f w at rs (Wrote u) h = absurd h
+unwritten_above m f w at rs (Read n) h = tt
+unwritten_above m f w at rs (Cancelled n) h = tt
+unwritten_above m f w at rs (Locked n p) h = tt
+unwritten_above m f w at rs (Changed n p u) h = tt
+
 pub ended_reading : (m : Meaning) (f : Script) (begun w : View) (at : ℕ) (rs : List Told) (x : Verdict) → InBody begun w at → IsLeft w → at ≤ w.at → Ends m f w at rs x
     → (place : Place) → HasTried m begun w f place (record { place = place; replies = rs; verdict = verdict x })
 ended_reading m f begun w at rs x h left within ends place =
-    tried m begun w f place rs (verdict x) h.running left.idle (ends_told m f w at rs x within ends) (ends_found m f w at rs x ends) (ends_since m f begun w at rs x h.late ends)
+    tried m begun w f place rs (verdict x) h.running left.idle (ends_told m f w at rs x within ends) (ends_found m f w at rs x ends) (ends_since m f begun w at rs x h.late ends) (unwritten_above m f w at rs x ends)
     (λ t. counted_none begun t w.entries w.draws (inl h.undrawn) ∙ ap (λ (k : ℕ). times_committed t begun.entries + k) (sym (unwritten m f w at rs x ends t)))
 
 pub unaborted_turn : (x : Verdict) → IsUnaborted (Ended x) → is_abort (verdict x) ≡ false
@@ -113,22 +120,28 @@ module _ (d : Deal) (passes : ℕ) (begun v w : View) (r : IsRunning begun v) (l
       let k = won_keeps d.valid o.event v o.number o.value u h.puts h.is o.tells.allowed in
       same_more begun u Committed v.entries w.entries v.draws w.draws (ap (λ (z : View). z.entries) o.tells.after ∙ k.0) (ap (λ (z : View). z.draws) o.tells.after ∙ k.1) before
 
+  won_above : (u : ℕ) → EndsIn v.phase (Wrote u) → w.at < u
+  won_above u by =
+      let h = was_won v.phase u by in
+      let k = won_keeps d.valid o.event v o.number o.value u h.puts h.is o.tells.allowed in
+      subst (λ (n : ℕ). n < u) (sym (ap (λ (z : View). z.at) o.tells.after ∙ k.2)) (subst (λ (g : Phase). HasDrawnAbove v.at g) h.is r.above)
+
   lost : IsUnwon v.phase → HasNoMore begun w.entries w.draws ⊎ ((u : ℕ) × HasOneMore begun u Dropped w.entries w.draws)
   lost unwon =
       subst (λ (z : View). HasNoMore begun z.entries z.draws ⊎ ((u : ℕ) × HasOneMore begun u Dropped z.entries z.draws)) (sym o.tells.after)
       (lost_keeps d.valid o.event begun v o.number o.value (begins_none d o.event o.of_kind) unwon o.tells.allowed (subst (λ (z : View). IsIdle z.phase) o.tells.after left.idle) r.drawn)
 
-  told_as : (x : Verdict) → EndsWith d w x → ((k : ℕ) → IsKnown begun k → IsSince k (verdict x)) → ((t : ℕ) → times_committed t w.entries ≡ times_committed t begun.entries + wrote_with t (verdict x))
+  told_as : (x : Verdict) → EndsWith d w x → ((k : ℕ) → IsKnown begun k → IsSince k (verdict x)) → IsAbove w.at (verdict x) → ((t : ℕ) → times_committed t w.entries ≡ times_committed t begun.entries + wrote_with t (verdict x))
       → (place : Place) → HasTried d.m begun w d.f place (record { place = place; replies = d.rs; verdict = verdict x })
-  told_as x ends since count place = tried d.m begun w d.f place d.rs (verdict x) (commit_runs d passes begun v w r o) left.idle (said_told d w x within ends) (said_found d w x ends) since count
+  told_as x ends since above count place = tried d.m begun w d.f place d.rs (verdict x) (commit_runs d passes begun v w r o) left.idle (said_told d w x within ends) (said_found d w x ends) since above count
 
   pub ended_commit : (x : Verdict) → EndsWith d w x → EndsIn v.phase x → (place : Place) → HasTried d.m begun w d.f place (record { place = place; replies = d.rs; verdict = verdict x })
-  ended_commit (Wrote u) ends by = let one = won u by in told_as (Wrote u) ends one.since (λ t. counted_won begun t u w.entries w.draws one)
+  ended_commit (Wrote u) ends by = let one = won u by in told_as (Wrote u) ends one.since (won_above u by) (λ t. counted_won begun t u w.entries w.draws one)
   ended_commit (Read n) ends by = absurd ends
   ended_commit (Cancelled n) ends by = absurd ends
   ended_commit (Locked n p) ends by =
-      told_as (Locked n p) ends (λ k known. (let a = late k known in let e = ends.0 in omega (arith, a, e)))
+      told_as (Locked n p) ends (λ k known. (let a = late k known in let e = ends.0 in omega (arith, a, e))) tt
       (λ t. counted_none begun t w.entries w.draws (lost (unwon_locked v.phase n p by)))
   ended_commit (Changed n p u) ends by =
-      told_as (Changed n p u) ends (λ k known. (let a = late k known in let e = ends.0 in omega (arith, a, e)))
+      told_as (Changed n p u) ends (λ k known. (let a = late k known in let e = ends.0 in omega (arith, a, e))) tt
       (λ t. counted_none begun t w.entries w.draws (lost (unwon_changed v.phase n p u by)))

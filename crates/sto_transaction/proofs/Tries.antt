@@ -12,8 +12,7 @@ use Rattle.sto_attempt_facts.specs.Added.{HasAdded, IsAdded}
 use Rattle.sto_attempt_facts.specs.Tried.{HasTried}
 use Rattle.sto_attempt_facts.specs.Trying.{HasMade, AreAborted}
 use Rattle.sto_attempt_facts.proofs.Events.{grows_on}
-use Rattle.sto_attempt_facts.proofs.Later.{told_later}
-use Rattle.sto_attempt_facts.proofs.Tries.{none_made, one_more, longer, are_found_later}
+use Rattle.sto_attempt_facts.proofs.Tries.{none_made, one_more, still_added, longer, are_found_later}
 use Rattle.sto_transaction.specs.Ran.{HasRun, HasBroken}
 use Rattle.sto_transaction.specs.Resting.{IsAtRest}
 use Rattle.sto_transaction.specs.Machines.{HasStopped}
@@ -70,6 +69,7 @@ module _ (m : Meaning) (sizes : List ℕ) (tries passes made : ℕ) (v u w : Vie
         found = all.found;
         kept = all.kept;
         ends = last_finished h.new r h.aborted ended ∙ ap (λ (p : Place). p ∷ []) is;
+        spare = λ on. (let b = h.count in omega (arith, count, b, few));
         used = λ other. absurd (true≢false other);
         rests = rest;
         draws = (let a = all.draws in let b = longer h.new r in let c = h.count in omega (arith, a, b, c, few));
@@ -82,7 +82,7 @@ module _ (m : Meaning) (sizes : List ℕ) (tries passes made : ℕ) (v u w : Vie
       let count : aborted_times place h.new ≡ length h.new = all_aborted place h.new h.aborted (placed m v u f place h.new h.added.each) in record {
         grows = grows_on v u w h.added.grows s.grows;
         entries = λ t. ap (times_committed t) s.entries ∙ h.added.entries t;
-        each = All-weaker (IsAdded m v u f place) (IsAdded m v w f place) (λ r a. record { placed = a.placed; told = told_later m u w f r.replies r.verdict s.grows a.told; since = a.since }) h.new h.added.each;
+        each = still_added m v u w f place h.new s.grows h.aborted h.added.each;
         threads = h.added.threads;
         few = (let b = h.count in omega (arith, count, b, few));
       }
@@ -118,6 +118,7 @@ module _ (m : Meaning) (sizes : List ℕ) (tries passes made : ℕ) (v w : View)
     found = h.added.found;
     kept = h.added.kept;
     ends = none_finished h.new h.aborted;
+    spare = λ on. absurd (true≢false (sym on));
     used = λ no. (let a = count in let b = h.count in omega (arith, a, b, all));
     rests = h.rests;
     draws = (let a = h.added.draws in let b = h.count in omega (arith, a, b, all));

@@ -107,8 +107,8 @@ module _ {T B : Type 0} (t : OfType T) (b : OfBody B) where
     Spends old new here there = HasSpent t.meaning t.valid t.sizes b.script b.then b.left b.may_ask b.left_at_reset old new (c.view here) (c.view there)
 
     -- a transaction has run, and for want of memory it has broken off, with these records before and these later
-    abbrev pub Runs : Transaction T B → C → C → List Record → List Record → Bool → Type 0
-    Runs x here there before later ended =
+    abbrev pub RunsThrough : Transaction T B → C → C → List Record → List Record → Bool → Type 0
+    RunsThrough x here there before later ended =
         HasRun (t.meaning x.ty.now) (t.sizes x.ty.now) x.tries (c.passes here) (c.view here) (c.view there) (b.script x.body) (x.thread, x.position) before later ended
 
     abbrev pub Breaks : Transaction T B → C → C → List Record → List Record → Type 0

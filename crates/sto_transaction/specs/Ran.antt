@@ -1,5 +1,5 @@
 -- What a run of one transaction on an idle pass ensures.
-use Rattle.std.specs.Prelude.{◌≡◌, ◌≤◌, ◌⊎◌, ℕ, ◌+◌, List, [], ◌∷◌, ◌++◌, length, Bool, true, false, if◌then◌else◌}
+use Rattle.std.specs.Prelude.{◌≡◌, ◌≤◌, ◌<◌, ◌⊎◌, ℕ, ◌+◌, List, [], ◌∷◌, ◌++◌, length, Bool, true, false, if◌then◌else◌}
 use Rattle.sto_model.specs.Run.{Script as Steps}
 use Rattle.sto_type.specs.Meaning.{Meaning}
 use Rattle.sto_core.specs.declared.view.Entry.{Entry}
@@ -21,8 +21,9 @@ pub record HasRun (m : Meaning) (sizes : List ℕ) (tries passes : ℕ) (v w : V
   pub starts : w.starts ≡ v.starts + length new
   pub found : AreFound w (v.starts + 1) new
   pub kept : (e : Entry) → Among e v.entries → Among e w.entries
-  -- the last record is not aborted, or all are
+  -- the last record is not aborted, and one try at least was left for it; or all are, and are as many as the tries
   pub ends : finished_places new ≡ (if ended then place ∷ [] else [])
+  pub spare : ended ≡ true → aborted_times place new < tries
   pub used : ended ≡ false → aborted_times place new ≡ tries
   pub rests : IsAtRest m sizes w
   pub draws : v.draws ≤ w.draws + tries

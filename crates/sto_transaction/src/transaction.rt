@@ -7,7 +7,7 @@ ghost use Rattle.sto_transaction.specs.Plain.{plain, verdict};
 ghost use Rattle.sto_transaction.specs.Pace.{most_steps, KeepsPace};
 ghost use Rattle.sto_transaction.specs.Resting.{IsAtRest};
 ghost use Rattle.sto_transaction.specs.Machines.{HasStopped};
-ghost use Rattle.sto_transaction.specs.Leading.{IsEndOf, MayGoOn, GoesOn, Stops, Finishes, Runs, Breaks, Spends, left_of, calls_at};
+ghost use Rattle.sto_transaction.specs.Leading.{IsEndOf, MayGoOn, GoesOn, Stops, Finishes, RunsThrough, Breaks, Spends, left_of, calls_at};
 
 use crate::machine::{Ended, Machine};
 use crate::record::Record;
@@ -70,7 +70,7 @@ impl<T: TxType, B: Body + Drop> Transaction<'_, T, B> {
         requires rests { IsAtRest (T.meaning self.ty.now) (T.sizes self.ty.now) (C.view cells.old) }
         requires draws { self.tries ≤ (C.view cells.old).draws }
         requires some { 0 < self.tries }
-        ensures ran { IfOk result (λ r. Runs T.TxType B.Body C.Cells self.entry cells.old cells.new
+        ensures ran { IfOk result (λ r. RunsThrough T.TxType B.Body C.Cells self.entry cells.old cells.new
             (map plain records.old.items) (map plain records.new.items) r.ended) }
         ensures err { OnErr result (Breaks T.TxType B.Body C.Cells self.entry cells.old cells.new
             (map plain records.old.items) (map plain records.new.items)) }

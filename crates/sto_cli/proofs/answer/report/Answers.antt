@@ -5,8 +5,8 @@ use Rattle.sto_report_spec.specs.Lawful.{IsLawfulIn}
 use Rattle.sto_run.specs.Meanings.{updating_by}
 use Rattle.sto_run.specs.Stores.{means}
 use Rattle.sto_run.proofs.Printed.{names_of_sound, lawful_rows}
-use Rattle.sto_journal.specs.Journals.{abort}
-use Rattle.sto_cli.specs.Outputs.{aborts_told, form_for}
+use Rattle.sto_journal.specs.Journals.{places, abort}
+use Rattle.sto_cli.specs.Outputs.{order_told, aborts_told, form_for}
 use Rattle.sto_cli.proofs.Reports.{lawful_text, lawful_json, printed_threads, printed_aborts}
 use Rattle.sto_cli.proofs.answer.report.Goals as goal
 
@@ -59,3 +59,13 @@ pub returns-clause-aborts : goal.returns-clause-aborts
 returns-clause-aborts c =
     subst (λ (b : Bool). aborts_told (form_for b) (view c.args.file.now).names c.in_ok-report.field-0.items
     ≡ map (abort (view c.args.file.now).declarations) c.args.journal.now.aborts.items) (sym c.if-json.false) c.in_ok-report.ensures.aborts
+
+pub returns-then-json-clause-order : goal.returns-then-json-clause-order
+returns-then-json-clause-order c =
+    subst (λ (b : Bool). order_told (form_for b) (view c.args.file.now).names c.in_ok-json_report.field-0.items ≡ places c.args.journal.now.lines.items) (sym c.if-json.true)
+    c.in_ok-json_report.ensures.order
+
+pub returns-clause-order : goal.returns-clause-order
+returns-clause-order c =
+    subst (λ (b : Bool). order_told (form_for b) (view c.args.file.now).names c.in_ok-report.field-0.items ≡ places c.args.journal.now.lines.items) (sym c.if-json.false)
+    c.in_ok-report.ensures.order

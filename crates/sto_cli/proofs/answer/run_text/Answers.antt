@@ -1,5 +1,8 @@
-use Rattle.std.proofs.Common.{◌∙◌, ap, map}
-use Rattle.sto_journal.specs.Journals.{abort}
+use Rattle.std.proofs.Common.{◌∙◌}
+use Rattle.sto_run.specs.Meanings.{updating_by}
+use Rattle.sto_run.specs.Stores.{means}
+use Rattle.sto_cli.specs.Outputs.{form_for}
+use Rattle.sto_cli.proofs.Reports.{one_report}
 use Rattle.sto_lang.specs.Views.{file as view}
 use Rattle.sto_lang.proofs.SoundFiles.{readable_sound}
 use Rattle.sto_cli.proofs.answer.run_text.Goals as goal
@@ -20,5 +23,6 @@ returns-clause-text g c =
       file,
       c.in_ok-file.ensures.file,
       c.in_ok-text.ensures.lawful c.args.tries c.in_ok-journal.ensures.lawful,
-      λ one. c.in_ok-text.ensures.aborts ∙ ap (map (abort file.declarations)) (c.in_ok-journal.ensures.alone (c.workers_for.ensures.count ∙ one)),
+      λ one. one_report (form_for c.args.json) (updating_by means) file c.args.tries journal c.in_ok-text.text.items (c.in_ok-journal.ensures.alone (c.workers_for.ensures.count ∙ one))
+          (c.in_ok-text.ensures.lawful c.args.tries c.in_ok-journal.ensures.lawful) c.in_ok-text.ensures.order c.in_ok-text.ensures.aborts,
     )

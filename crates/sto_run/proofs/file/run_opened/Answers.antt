@@ -1,4 +1,5 @@
 use Rattle.std.proofs.Common.{arith}
+use Rattle.sto_run.proofs.Turns.{ran_alone}
 use Rattle.sto_run.proofs.file.run_opened.Goals as goal
 
 pub run_threads-requires-clause-ready : goal.run_threads-requires-clause-ready
@@ -17,4 +18,6 @@ pub journal-requires-clause-tries : goal.journal-requires-clause-tries
 journal-requires-clause-tries g c = λ κs within. c.requires.runnable.tries.1
 
 pub returns-clause-alone : goal.returns-clause-alone
-returns-clause-alone g c = λ one. c.journal.ensures.alone (c.in_ok-finished.ensures.alone one)
+returns-clause-alone g c = λ one.
+    ran_alone (g.F.Workload.file c.args.run.now.work.workload) c.journal.result (c.journal.ensures.alone (c.in_ok-finished.ensures.alone one))
+    (c.journal.ensures.in_turn (c.in_ok-finished.ensures.in_turn one (let some = c.requires.runnable.tries.0 in omega (arith, some))))

@@ -13,6 +13,7 @@ use Rattle.sto_run.proofs.Few.{few_records, have_scripts}
 use Rattle.sto_run.proofs.Closing.{none_held, closed_words}
 use Rattle.sto_run.proofs.Placed.{in_threads, in_parts}
 use Rattle.sto_run.proofs.Merged.{valid_at_end, lawful_journal}
+use Rattle.sto_run.proofs.Turns.{journal_order}
 use Rattle.sto_run.proofs.journal.journal_of.Goals as goal
 
 pub contents-requires : goal.contents-requires
@@ -63,3 +64,8 @@ returns-clause-lawful g c = λ tries finished.
     (c.in_ok-merge.ensures.aborts file.declarations count low ∙ ap (λ (hs : List (ℕ × ℕ)). aborts_from file.declarations hs rs 0 count) homes)
     (ap (λ (s : State). s.items) c.in_ok-merge.ensures.state ∙ c.in_ok-state.ensures)
     now.are
+
+pub returns-clause-in_turn : goal.returns-clause-in_turn
+returns-clause-in_turn g c = λ from to turn.
+    let finished = c.requires.finished.2 in
+    journal_order (g.F.Workload.file c.args.file.now) c.in_ok-merge.field-0 (map plain c.args.records.items) finished.threads finished.order c.in_ok-merge.ensures.lines from to turn

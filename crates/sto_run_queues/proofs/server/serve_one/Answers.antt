@@ -21,7 +21,7 @@ returns-then-runs-clause-ran g c =
     let next = c.requires.next c.if-runs.true in
     IfOk-weaker c.run_one.result _ _
     (λ on h. subst (λ (b : Bool). IsJobRun plan (g.C.Cells.passes c.args.cells.now) (g.C.Cells.view c.run_one.new.cells) place rs later b on) (sym c.if-runs.true)
-    (job_run plan (g.C.Cells.passes c.args.cells.now) (g.C.Cells.view c.args.cells.now) (g.C.Cells.view c.run_one.new.cells) c.args.thread c.args.position rs later on c.requires.worked next.0 next.1 h))
+    (job_run plan (g.C.Cells.passes c.args.cells.now) (g.C.Cells.view c.args.cells.now) (g.C.Cells.view c.run_one.new.cells) c.args.thread c.args.position rs later on c.requires.worked next h))
     c.run_one.ensures.ran
 
 pub returns-else-runs-clause-leads : goal.returns-else-runs-clause-leads

@@ -18,3 +18,6 @@ returns-clause-worked g c =
       gathered = c.in_ok-workers.ensures.gathered (draws_of (g.W.Work.plan c.args.work.now)) _ _ team.gathered;
       alone = team.finished.alone;
     }
+
+pub returns-clause-in_turn : goal.returns-clause-in_turn
+returns-clause-in_turn g c = λ one. c.in_ok-rest.ensures.team.in_turn (let m = c.in_ok-workers.ensures.many in omega (arith, one, m))

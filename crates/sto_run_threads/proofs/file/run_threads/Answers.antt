@@ -11,7 +11,13 @@ use Rattle.sto_run_threads.specs.Teams.{IsReady, view_at}
 use Rattle.sto_run_threads.proofs.Accounts.{opened_new, opened_all}
 use Rattle.sto_run_threads.proofs.Scripts.{aborts_none_through}
 use Rattle.sto_run_threads.proofs.Opened.{all_ready}
-use Rattle.sto_run_threads.specs.Plans.{draws_of}
+use Rattle.sto_run_threads.specs.Ordered.{RunsInOrder, RanInTurn}
+use Rattle.sto_run_threads.specs.Worked.{AbortsNone}
+use Rattle.sto_run_threads.specs.Runs.{IsFinished}
+use Rattle.sto_run_threads.specs.declared.file.FinishedRun.{FinishedRun}
+use Rattle.sto_run_threads.proofs.Results.{all_ok}
+use Rattle.sto_run_threads.proofs.Turns.{turn_whole}
+use Rattle.sto_run_threads.specs.Plans.{draws_of, thread_count}
 use Rattle.sto_run_threads.specs.Told.{told_in}
 use Rattle.sto_run_threads.proofs.file.run_threads.Goals as goal
 
@@ -51,3 +57,19 @@ returns-clause-alone g c =
     IfOk-weaker c.run_rest.result _ _
     (λ e none one. aborts_none_through [] (told_in c.in_ok-worked.worked.records) (told_in e.records)
     (c.in_ok-worked.ensures.worked.alone (c.in_ok-shared.ensures.shared.0 ∙ one)) none) c.run_rest.ensures.none
+
+pub returns-clause-in_turn : goal.returns-clause-in_turn
+returns-clause-in_turn g c = λ one some.
+    let plan = g.W.Work.plan c.args.work.now in
+    let rs = told_in c.in_ok-worked.worked.records in
+    let o = c.in_ok-shared.field-0 in
+    let n = opened_new (g.T.Naming.sizes c.args.ty.now) c.args.contents.now.items c.args.workers in
+    let a = ap length c.in_ok-shared.ensures.views in let k = n.many in
+    let l = length-map o.rests.items (λ (r : Rest g.row.T.Denot g.T.Naming). view_at r) in
+    let turn : RanInTurn plan rs = c.in_ok-worked.ensures.in_turn (omega (arith, k, one, a, l)) in
+    let none : AbortsNone [] rs = c.in_ok-worked.ensures.worked.alone (c.in_ok-shared.ensures.shared.0 ∙ one) in
+    let Run : Type 0 = FinishedRun g.row.T.Denot in
+    let Left : Run → Type 0 = λ run. RunsInOrder (0, 0) (thread_count plan, 0) rs (told_in run.records) in
+    all_ok c.run_rest.result (IsFinished plan) (λ (run : Run). AbortsNone rs (told_in run.records)) Left (λ (run : Run). RanInTurn plan (told_in run.records))
+    (λ run h aborts left. turn_whole plan (0, 0) (thread_count plan, 0) rs (told_in run.records) some turn none c.in_ok-worked.ensures.done h.finished.order aborts left)
+    c.run_rest.ensures.finished c.run_rest.ensures.none c.run_rest.ensures.in_order

@@ -21,5 +21,6 @@ returns g t c =
             gathered = halves_gathered (draws_of plan) (λ (w : Worker g.row.T.Denot g.T.Naming). view_at w.rest) c.args.workers.items (c.len-half.result / 2)
                 c.split_off.new.self.items c.in-Ok.others.items _ _ _ _ _ _ first others both.view both.records a.gathered b.gathered;
             seats = both.seats ∙ ap₂ ◌+◌ (a.seats ∙ ap (sum_by G) first) (b.seats ∙ ap (sum_by G) others) ∙ sum_by-take-drop G c.args.workers.items (c.len-half.result / 2);
+            in_turn = λ one. absurd (search rules);
           }) c.gather.ensures.both;
     }

@@ -50,7 +50,7 @@ loop-position-preserved g c =
           (run_adds_up _ _ _ _ _ _ _ _ _ _ _ ran.ran);
       in_order = ordered_on (c.args.thread, c.args.ended + 1) (c.args.thread, c.loop-position.position + 1) (c.args.thread, c.loop-position.position + 1 + 1)
           (told_in c.args.records.now) (told_in c.loop-position.records) (told_in c.run_one.new.records)
-          (inr (refl, omega (arith, c.loop-position.auto.position))) (inr (refl, omega arith)) c.loop-position.invariant.in_order (ordered_run _ _ _ _ _ _ _ _ _ ran);
+          (inr (refl, omega (arith, c.loop-position.auto.position))) (inr (refl, omega arith)) c.loop-position.invariant.in_order (ordered_run _ _ _ _ _ _ _ _ c.in_ok-run_one.field-0 c.loop-position.invariant.worked ran);
       same = g.met.C.Cells.same_through c.args.cells.now c.loop-position.cells c.run_one.new.cells c.loop-position.invariant.same c.run_one.ensures.same;
     }
 
@@ -82,7 +82,7 @@ returns-then-not-branch-clause-in_order g c =
     (inr (refl, omega arith)) (inr (refl, omega (arith, c.loop-position-test.true)))
     (ordered_on (thread, c.args.ended + 1) (thread, position + 1) (thread, position + 1 + 1) olds (told_in c.loop-position.records) news
     (inr (refl, omega (arith, c.loop-position.auto.position))) (inr (refl, omega arith)) c.loop-position.invariant.in_order
-    (ordered_run _ _ _ _ _ _ _ _ _ c.in_ok-run_one.ensures.ran))
+    (ordered_run _ _ _ _ _ _ _ _ c.in_ok-run_one.field-0 c.loop-position.invariant.worked c.in_ok-run_one.ensures.ran))
 
 pub returns-clause-in_order : goal.returns-clause-in_order
 returns-clause-in_order g c =

@@ -10,7 +10,7 @@ use Rattle.sto_run_threads.proofs.script.run_script.Given as goal
 abbrev pub invariant-loop-position : goal.invariant-loop-position
 invariant-loop-position g l = record {
   ended : ended_of l.thread (told_in l.records) ≡ l.position;
-  fresh : IsFresh (g.C.Cells.passes l.fn.cells) l.thread (told_in l.records);
+  fresh : IsFresh (g.W.Work.plan l.work).tries (g.C.Cells.passes l.fn.cells) l.thread (told_in l.records);
   rests : Rests (g.W.Work.plan l.work) (g.C.Cells.view l.cells);
   draws : (g.W.Work.plan l.work).tries * (l.count - l.position) ≤ (g.C.Cells.view l.cells).draws;
   spent : (g.C.Cells.view l.fn.cells).draws ≤ (g.C.Cells.view l.cells).draws + (g.W.Work.plan l.work).tries * (l.position - l.ended);

@@ -1,4 +1,4 @@
-use Rattle.std.proofs.Common.{◌≡◌, length, ℕ, suc, ◌+◌, ◌-◌, ◌*◌, ◌<◌, ◌≤◌, List, [], ◌∷◌, ◌++◌, sym, ap, ◌∙◌, subst, arith}
+use Rattle.std.proofs.Common.{◌≡◌, length, ℕ, suc, ◌+◌, ◌-◌, ◌*◌, ◌<◌, ◌≤◌, List, [], ◌∷◌, ◌++◌, sym, ap, ◌∙◌, subst, arith, inl}
 use Rattle.atomic_table.specs.declared.shared.Seat.{Seat}
 use Rattle.sto_table.specs.declared.stance.Stance.{Stance}
 use Rattle.sto_claims.specs.declared.taken.Taken.{Taken}
@@ -11,7 +11,9 @@ use Rattle.sto_run_threads.proofs.Scripts.{aborts_none_through}
 use Rattle.sto_run_threads.proofs.Gathered.{made_at}
 use Rattle.sto_run_threads.proofs.Accounts.{adds_up_through, one_gathered}
 use Rattle.sto_run_threads.proofs.Claiming.{thread_within, next_is, next_more, spent_left, past_more, done_more, of_past, done_past}
-use Rattle.sto_run_threads.specs.Plans.{draws_of}
+use Rattle.sto_run_threads.specs.Ordered.{RunsInOrder}
+use Rattle.sto_run_threads.proofs.Ordered.{from_first, before_thread, up_to_thread, ordered_on, ordered_wider}
+use Rattle.sto_run_threads.specs.Plans.{draws_of, thread_count}
 use Rattle.sto_run_threads.specs.Told.{told_in}
 use Rattle.sto_run_threads.specs.Teams.{view_at}
 use Rattle.sto_run_threads.proofs.worker.work_alone.Goals as goal
@@ -24,7 +26,7 @@ run_script-requires-clause-ended g c =
 pub run_script-requires-clause-fresh : goal.run_script-requires-clause-fresh
 run_script-requires-clause-fresh g c =
     let numbers = c.loop-thread.claimer.seat.me.0.numbers in
-    none_is_fresh c.loop-thread.pass.shared.now.table.shared.key.passes c.in-Some.thread (told_in c.loop-thread.records) (c.loop-thread.invariant.own c.in-Some.thread (above_all c.in-Some.thread numbers c.in-Some.ensures.some.1.above))
+    none_is_fresh (g.W.Work.plan c.args.work.now).tries c.loop-thread.pass.shared.now.table.shared.key.passes c.in-Some.thread (told_in c.loop-thread.records) (c.loop-thread.invariant.own c.in-Some.thread (above_all c.in-Some.thread numbers c.in-Some.ensures.some.1.above))
 
 pub run_script-requires-clause-free : goal.run_script-requires-clause-free
 run_script-requires-clause-free g c =
@@ -59,7 +61,8 @@ loop-thread-preserved g c =
     let new : c.claim.new.claimer.seat.me.0.numbers ≡ numbers ++ c.in-Some.thread ∷ [] = ap (λ (t : Taken). t.numbers) claims.view in
     let now = ap next_after new ∙ next_more numbers c.in-Some.thread claims.above in
     let below = c.in-Some.ensures.some.0 in let count = c.requires.count in
-    let w = thread_within threads c.in-Some.thread (next_after numbers) (next_is numbers c.in-Some.thread claims.above) in
+    let low = next_is numbers c.in-Some.thread claims.above in
+    let w = thread_within threads c.in-Some.thread (next_after numbers) low in
     let is : c.count-count.result - 0 ≡ c.count-count.result = omega arith in
     let spent = subst (λ (n : ℕ). c.loop-thread.pass.seat.me.0.view.draws ≤ c.run_script.new.cells.seat.me.0.view.draws + plan.tries * n) (is ∙ c.count-count.ensures) leads.draws in
     record {
@@ -78,6 +81,11 @@ loop-thread-preserved g c =
       adds_up = adds_up_through (view_at c.args.worker.rest) c.loop-thread.pass.seat.me.0.view c.run_script.new.cells.seat.me.0.view [] (told_in c.loop-thread.records) (told_in c.run_script.new.records)
           inv.adds_up leads.adds_up;
       alone = λ one. aborts_none_through [] (told_in c.loop-thread.records) (told_in c.run_script.new.records) (inv.alone one) (ran.alone (inv.passes ∙ one)).1;
+      in_order = subst (λ (n : ℕ). RunsInOrder (0, 0) (n, 0) [] (told_in c.run_script.new.records)) (sym now)
+          (ordered_on (0, 0) (next_after numbers, 0) (suc c.in-Some.thread, 0) [] (told_in c.loop-thread.records) (told_in c.run_script.new.records)
+          (from_first (next_after numbers, 0)) (inl (omega (arith, low))) inv.in_order
+          (ordered_wider (next_after numbers, 0) (c.in-Some.thread, 0 + 1) (c.in-Some.thread, c.count-count.result + 1) (suc c.in-Some.thread, 0)
+          (told_in c.loop-thread.records) (told_in c.run_script.new.records) (before_thread (next_after numbers) c.in-Some.thread 0 low) (inl (omega arith)) c.in_ok-run_script.ensures.in_order));
       own = subst (λ (l : List ℕ). AreOf l (told_in c.run_script.new.records)) (sym new)
           (claimed_more numbers c.in-Some.thread (told_in c.loop-thread.records) (told_in c.run_script.new.records) inv.own ran.adds);
       done = subst (λ (l : List ℕ). AreDone plan l (told_in c.run_script.new.records)) (sym new)
@@ -109,5 +117,6 @@ returns g c =
         gathered = subst (λ (s : Seat (Unit {0}) Stance). HasGathered (draws_of plan) (view_at c.args.worker.rest ∷ []) s.me.0.view rs) (sym c.rest.ensures)
             (one_gathered (draws_of plan) (view_at c.args.worker.rest) c.loop-thread.pass.seat.me.0.view rs inv.adds_up inv.gathered (let d = inv.draws in omega (arith, d)));
         seats = (let a = ap (λ (t : Taken). t.seats) found.2.view in let b = inv.seats in omega (arith, a, b));
+        in_turn = λ one. ordered_wider (0, 0) (0, 0) (next_after numbers, 0) (thread_count plan, 0) [] rs (from_first (0, 0)) (up_to_thread (next_after numbers) (thread_count plan) inv.within) inv.in_order;
       };
     }

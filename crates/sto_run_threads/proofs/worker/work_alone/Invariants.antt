@@ -4,6 +4,7 @@ use Rattle.sto_table.specs.Rests.{IsOf}
 use Rattle.sto_run_threads.specs.Accounts.{AddsUp}
 use Rattle.sto_run_threads.specs.Counts.{scripts_from, next_after}
 use Rattle.sto_run_threads.specs.Worked.{HasWorked, AreOf, AreDone, AbortsNone}
+use Rattle.sto_run_threads.specs.Ordered.{RunsInOrder}
 use Rattle.sto_run_threads.specs.Plans.{Rests, draws_of}
 use Rattle.sto_run_threads.specs.Told.{told_in}
 use Rattle.sto_run_threads.specs.Teams.{view_at}
@@ -23,6 +24,7 @@ invariant-loop-thread g l = record {
   worked : HasWorked (g.W.Work.plan l.work) l.pass.seat.me.0.view (told_in l.records);
   adds_up : AddsUp (view_at l.fn.worker.rest) l.pass.seat.me.0.view [] (told_in l.records);
   alone : l.shared.table.shared.key.passes ≡ 1 → AbortsNone [] (told_in l.records);
+  in_order : RunsInOrder (0, 0) (next_after l.claimer.seat.me.0.numbers, 0) [] (told_in l.records);
   own : AreOf l.claimer.seat.me.0.numbers (told_in l.records);
   done : AreDone (g.W.Work.plan l.work) l.claimer.seat.me.0.numbers (told_in l.records);
 }

@@ -1,4 +1,4 @@
-use Rattle.std.proofs.Common.{◌≡◌, ◌≤◌, ℕ, List, [], map, refl, arith}
+use Rattle.std.proofs.Common.{◌≡◌, ◌≤◌, ℕ, List, [], length, map, refl, arith}
 use Rattle.std.proofs.lemmas.Result.{IfOk-weaker}
 use Rattle.sto_lang.specs.Scripts.{File}
 use Rattle.sto_type.specs.Meaning.{Meaning}
@@ -25,3 +25,7 @@ returns-clause-alone g c = λ none.
     IfOk-weaker c.journal_of.result _ _
     (λ j h. no_aborts (updating_by (λ shapes. m)) file j (h 0 (never_aborted m file c.args.self.now.work.tries _ _ c.requires.finished.finished none)))
     c.journal_of.ensures.lawful
+
+pub returns-clause-in_turn : goal.returns-clause-in_turn
+returns-clause-in_turn g c = λ turn.
+    let file : File = g.F.Workload.file c.args.self.now.work.workload in c.journal_of.ensures.in_turn (0, 0) (length file.threads, 0) turn

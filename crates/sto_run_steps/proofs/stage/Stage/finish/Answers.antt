@@ -1,9 +1,10 @@
 use Rattle.std.proofs.Common.{rules, ◌≡◌, zero, suc, length, ◌∙◌, refl, false}
+use Rattle.sto_run_steps.specs.Logged.{kept}
 use Rattle.sto_run_steps.proofs.Turns.{rounds_more}
 use Rattle.sto_run_steps.proofs.stage.Stage.finish.Goals as goal
 
 pub loop-next-init : goal.loop-next-init
-loop-next-init g c = record { turns = (zero, record { turns = (refl, refl); seated = c.requires.seated; many = refl }) }
+loop-next-init g c = record { turns = (zero, record { turns = (refl, refl, refl); seated = c.requires.seated; many = refl }) }
 
 pub returns-then-not-moved-clause-over : goal.returns-then-not-moved-clause-over
 returns-then-not-moved-clause-over g c =
@@ -18,7 +19,7 @@ loop-next-preserved g c =
       turns = (
         suc was.0,
         record {
-          turns = rounds_more g.T.Naming.valid (length first) (length stage.seats.items) was.0 c.args.self.words stage.words next.words first stage.seats.items next.seats.items was.1.many was.1.turns now.turns;
+          turns = rounds_more g.T.Naming.valid (g.W.Attempts.heard c.args.work.now) (length first) (length stage.seats.items) was.0 c.args.self.words stage.words next.words first stage.seats.items next.seats.items (kept c.args.self.log) (kept stage.log) (kept next.log) was.1.many was.1.turns now.turns;
           seated = now.seated;
           many = now.many ∙ was.1.many;
         },
@@ -31,7 +32,7 @@ returns-then-not-moved-clause-turns g c =
     let first = c.args.self.seats.items in let stage = c.loop-next.stage in let next = c.in_ok-next.next in (
       suc was.0,
       record {
-        turns = rounds_more g.T.Naming.valid (length first) (length stage.seats.items) was.0 c.args.self.words stage.words next.words first stage.seats.items next.seats.items was.1.many was.1.turns now.turns;
+        turns = rounds_more g.T.Naming.valid (g.W.Attempts.heard c.args.work.now) (length first) (length stage.seats.items) was.0 c.args.self.words stage.words next.words first stage.seats.items next.seats.items (kept c.args.self.log) (kept stage.log) (kept next.log) was.1.many was.1.turns now.turns;
         seated = now.seated;
         many = now.many ∙ was.1.many;
       },

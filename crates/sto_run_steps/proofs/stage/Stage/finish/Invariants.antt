@@ -1,11 +1,12 @@
 use Rattle.std.proofs.Common.{ℕ, length}
 use Rattle.sto_run_steps.specs.Seated.{events_of_all}
+use Rattle.sto_run_steps.specs.Logged.{kept}
 use Rattle.sto_run_steps.specs.Turning.{TakeTurns, round_turns}
 use Rattle.sto_run_steps.proofs.stage.Stage.finish.Given as goal
 
 abbrev pub invariant-loop-next : goal.invariant-loop-next
 invariant-loop-next g l = record {
-  turns : (rounds : ℕ) × TakeTurns (g.W.Work.plan l.work) (g.W.Attempts.fits l.work) g.T.Naming.valid (round_turns (length l.fn.self.seats.items) rounds) l.fn.self.words l.fn.self.seats.items l.stage.words l.stage.seats.items;
+  turns : (rounds : ℕ) × TakeTurns (g.W.Work.plan l.work) (g.W.Attempts.fits l.work) g.T.Naming.valid (g.W.Attempts.heard l.work) (round_turns (length l.fn.self.seats.items) rounds) l.fn.self.words l.fn.self.seats.items (kept l.fn.self.log) l.stage.words l.stage.seats.items (kept l.stage.log);
 }
 
 abbrev pub decreases-loop-next : goal.decreases-loop-next

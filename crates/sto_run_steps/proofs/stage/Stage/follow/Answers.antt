@@ -2,6 +2,7 @@ use Rattle.std.specs.List.{flat_map}
 use Rattle.std.proofs.Common.{List, refl, ◌∙◌, subst, arith}
 use Rattle.std.proofs.lemmas.List.{take_all}
 use Rattle.sto_lang.specs.declared.file.Turns.{Turns}
+use Rattle.sto_run_steps.specs.Logged.{kept}
 use Rattle.sto_run_steps.specs.Turning.{HaveTurns, entry_turns}
 use Rattle.sto_run_steps.proofs.Turns.{schedule_more}
 use Rattle.sto_run_steps.proofs.stage.Stage.follow.Goals as goal
@@ -11,7 +12,7 @@ loop-turns-preserved g c =
     let was = c.loop-turns.invariant.turns in let now = c.in_ok-stage.ensures.turns in let next = c.in_ok-stage in
     record {
       turns = record {
-        turns = schedule_more g.T.Naming.valid c.args.schedule.now c.loop-turns.turns-index (record { thread = 0; steps = 0 }) c.args.self.words c.loop-turns.stage.words next.stage.words c.args.self.seats.items c.loop-turns.stage.seats.items next.stage.seats.items
+        turns = schedule_more g.T.Naming.valid (g.W.Attempts.heard c.args.work.now) c.args.schedule.now c.loop-turns.turns-index (record { thread = 0; steps = 0 }) c.args.self.words c.loop-turns.stage.words next.stage.words c.args.self.seats.items c.loop-turns.stage.seats.items next.stage.seats.items (kept c.args.self.log) (kept c.loop-turns.stage.log) (kept next.stage.log)
             c.loop-turns-test.true was.turns now.turns;
         seated = now.seated;
         many = now.many ∙ was.many;
@@ -19,13 +20,13 @@ loop-turns-preserved g c =
     }
 
 pub loop-turns-init : goal.loop-turns-init
-loop-turns-init g c = record { turns = record { turns = (refl, refl); seated = c.requires.seated; many = refl } }
+loop-turns-init g c = record { turns = record { turns = (refl, refl, refl); seated = c.requires.seated; many = refl } }
 
 pub returns : goal.returns
 returns g c =
     let was = c.loop-turns.invariant.turns in record {
       turns = record {
-        turns = subst (λ (l : List Turns). HaveTurns g.T.Naming.valid (flat_map entry_turns l) c.args.self.words c.args.self.seats.items c.loop-turns.stage.words c.loop-turns.stage.seats.items)
+        turns = subst (λ (l : List Turns). HaveTurns g.T.Naming.valid (g.W.Attempts.heard c.args.work.now) (flat_map entry_turns l) c.args.self.words c.args.self.seats.items (kept c.args.self.log) c.loop-turns.stage.words c.loop-turns.stage.seats.items (kept c.loop-turns.stage.log))
             (take_all c.loop-turns.turns-index c.args.schedule.now (omega (arith, c.loop-turns-test.false))) was.turns;
         seated = was.seated;
         many = was.many;

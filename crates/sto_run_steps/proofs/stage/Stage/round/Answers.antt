@@ -1,6 +1,7 @@
 use Rattle.std.specs.Prelude.{◌⊎◌}
 use Rattle.std.proofs.Common.{rules, refl, ◌≡◌, true, false, ◌∙◌, ap, arith, length, inl, inr}
 use Rattle.sto_run_steps.specs.Seated.{events_of_all}
+use Rattle.sto_run_steps.specs.Logged.{kept}
 use Rattle.sto_run_steps.proofs.Seats.{round_more}
 use Rattle.sto_run_steps.proofs.Turns.{round_turn}
 use Rattle.sto_run_steps.proofs.stage.Stage.round.Goals as goal
@@ -18,7 +19,7 @@ loop-thread-preserved g c =
     c.args.self.seats.items c.loop-thread.stage.seats.items c.in_ok-next.next.seats.items c.loop-thread.thread inv.fewer inv.rest c.in_ok-next.ensures.made c.in_ok-next.ensures.over how in
     record {
       turns = record {
-        turns = round_turn g.T.Naming.valid c.loop-thread.thread c.args.self.words c.loop-thread.stage.words c.in_ok-next.next.words c.args.self.seats.items c.loop-thread.stage.seats.items c.in_ok-next.next.seats.items
+        turns = round_turn g.T.Naming.valid (g.W.Attempts.heard c.args.work.now) c.loop-thread.thread c.args.self.words c.loop-thread.stage.words c.in_ok-next.next.words c.args.self.seats.items c.loop-thread.stage.seats.items c.in_ok-next.next.seats.items (kept c.args.self.log) (kept c.loop-thread.stage.log) (kept c.in_ok-next.next.log)
             inv.turns.turns c.in_ok-next.ensures.turn;
         seated = c.in_ok-next.ensures.seated;
         many = c.in_ok-next.ensures.many ∙ inv.turns.many;
@@ -37,7 +38,7 @@ returns-clause-over g c = λ still thread below s there.
 
 pub loop-thread-init : goal.loop-thread-init
 loop-thread-init g c = record {
-  turns = record { turns = (refl, refl); seated = c.requires.seated; many = refl };
+  turns = record { turns = (refl, refl, refl); seated = c.requires.seated; many = refl };
   end = search rules;
   fewer = search rules;
   rest = search rules;

@@ -7,13 +7,17 @@ use Rattle.sto_core.specs.Core.{Core}
 use Rattle.sto_core.specs.Opened.{opened_core}
 use Rattle.sto_plain.specs.Passes.{view_of}
 use Rattle.sto_run_threads.specs.Worked.{HasWorked}
+use Rattle.std.specs.Prelude.{Option}
+use Rattle.sto_part.specs.Listed.{Listed}
+use Rattle.sto_trace.specs.declared.Step.{Step}
+use Rattle.sto_run_steps.specs.Logged.{kept}
 use Rattle.sto_run_steps.specs.Seated.{AreOver, records_of}
 use Rattle.sto_run_steps.specs.Turning.{HaveTurns, entry_turns, round_turns}
 use Rattle.sto_run_steps.proofs.Reopened.{over_idle, over_made, over_reopened, all_records}
 use Rattle.sto_run_steps.proofs.Turns.{turns_append}
 use Rattle.sto_run_threads.specs.Plans.{MayDraw, IsPaced, draws_of}
 use Rattle.sto_run_threads.proofs.Reopened.{back_at}
-use Rattle.sto_run_steps.proofs.file.step_threads.Goals as goal
+use Rattle.sto_run_steps.proofs.file.log_threads.Goals as goal
 
 pub close-requires : goal.close-requires
 close-requires g c =
@@ -49,7 +53,7 @@ run_left-requires-clause-tickets g c =
 pub returns-clause-finished : goal.returns-clause-finished
 returns-clause-finished g c =
     let zero : c.run_left.new.cells.pass ≡ 0 = c.run_left.ensures.same.0 ∙ c.at-pass.ensures.pass in
-    let there = back_at c.back.result c.run_left.new.cells.plain c.run_left.new.cells.pass c.back.ensures zero in
+    let there = back_at c.back-words.result c.run_left.new.cells.plain c.run_left.new.cells.pass c.back-words.ensures zero in
     record {
       one = search rules;
       rests = search rules;
@@ -72,7 +76,7 @@ returns-clause-alone g c = λ one place.
 
 pub returns-clause-stepped : goal.returns-clause-stepped
 returns-clause-stepped g c =
-    let valid = g.T.Naming.valid in
+    let valid = g.T.Naming.valid in let heard = g.W.Attempts.heard c.args.work.now in
     let first = c.in_ok-stage.stage in let followed = c.in_ok-stage-2.stage in let last = c.in_ok-words.field-0 in
     let turns = flat_map entry_turns c.args.schedule.now in
     let rounds = c.in_ok-words.ensures.turns.0 in
@@ -86,9 +90,10 @@ returns-clause-stepped g c =
       stepped = last.words;
       later = last.seats.items;
       turns =
-          subst (λ (d : Core). HaveTurns valid (turns ++ round_turns (length first.seats.items) rounds) d first.seats.items last.words last.seats.items) opened
-          (turns_append valid turns (round_turns (length first.seats.items) rounds) first.words followed.words last.words first.seats.items followed.seats.items last.seats.items c.in_ok-stage-2.ensures.turns.turns
-          (subst (λ (n : ℕ). HaveTurns valid (round_turns n rounds) followed.words followed.seats.items last.words last.seats.items) many c.in_ok-words.ensures.turns.1.turns));
+          subst (λ (d : Core). HaveTurns valid heard (turns ++ round_turns (length first.seats.items) rounds) d first.seats.items (kept c.args.log) last.words last.seats.items (kept last.log)) opened
+          (subst (λ (o : Option (Listed Step)). HaveTurns valid heard (turns ++ round_turns (length first.seats.items) rounds) first.words first.seats.items (kept o) last.words last.seats.items (kept last.log)) c.in_ok-stage.ensures.log
+          (turns_append valid heard turns (round_turns (length first.seats.items) rounds) first.words followed.words last.words first.seats.items followed.seats.items last.seats.items (kept first.log) (kept followed.log) (kept last.log) c.in_ok-stage-2.ensures.turns.turns
+          (subst (λ (n : ℕ). HaveTurns valid heard (round_turns n rounds) followed.words followed.seats.items (kept followed.log) last.words last.seats.items (kept last.log)) many c.in_ok-words.ensures.turns.1.turns)));
       over = subst (λ (n : ℕ). AreOver n last.seats.items) (c.in_ok-words.ensures.turns.1.many ∙ many) c.in_ok-words.ensures.over;
       made = over_made (g.W.Work.plan c.args.work.now) (g.W.Attempts.fits c.args.work.now)
           last.words last.seats.items c.in_ok-words.ensures.turns.1.seated c.in_ok-words.ensures.over;
