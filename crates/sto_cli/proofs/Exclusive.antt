@@ -19,7 +19,7 @@ reads Upgrade bytes fault h = refl
 reads (Gen number) bytes fault h = absurd h
 reads (Bench number threads) bytes fault h = absurd h
 
-no_fault : (bytes : List ℕ) (file : File) (fault : InputFault) → file_of bytes ≡ Ok file → IsScriptFault bytes fault → ⊥
+pub no_fault : (bytes : List ℕ) (file : File) (fault : InputFault) → file_of bytes ≡ Ok file → IsScriptFault bytes fault → ⊥
 no_fault bytes file (Script fault) e f = true≢false (ap is_ok (sym e ∙ f))
 no_fault bytes file NoReport e f = f
 

@@ -1,4 +1,4 @@
-pub mod Commands
+pub mod Programs
 pub use Rattle.sto_args.specs.Asked
 pub use Rattle.sto_io.specs.Told
 pub use Rattle.sto_cli_common.specs.Said

@@ -2,8 +2,7 @@
 ghost use Rattle.std.specs.Prelude.{IfOk, IfErr};
 ghost use Rattle.sto_args.specs.Asked.{HasNumbers};
 ghost use Rattle.sto_cli_common.specs.Ends.{IsFileRefusal};
-ghost use Rattle.sto_cli.specs.Outputs.{IsOutput};
-ghost use Rattle.sto_feed_cli.specs.Commands.{command_for};
+ghost use Rattle.sto_feed_cli.specs.Programs.{IsFed};
 
 use std::alloc::Global;
 use std::sync::Wait;
@@ -23,7 +22,7 @@ pub(crate) fn feed_text<R: Threads + Wait + Sync, G: Gate>(
     gate: &G,
 ) -> Result<Text, Refusal>
     requires { HasNumbers asked }
-    ensures text { IfOk result (λ text. IsOutput (command_for asked) bytes.now text.items) }
+    ensures text { IfOk result (λ text. IsFed asked bytes.now text.items) }
     ensures fault { IfErr result (λ e. IsFileRefusal e bytes.now) }
 {
     let file = file_in(alloc, bytes)?;

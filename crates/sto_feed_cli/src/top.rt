@@ -1,12 +1,12 @@
 //! The top call.
 ghost use Rattle.std.specs.Prelude.{◌≡◌};
+ghost use Rattle.sto_args.specs.Asked.{feeding_in};
 ghost use Rattle.sto_cli_common.specs.Said.{Says};
 ghost use Rattle.sto_cli_common.specs.Statuses.{line_of, done_status, EndsWith};
 ghost use Rattle.sto_cli_common.specs.Ends.{Ends};
 ghost use Rattle.sto_cli_common.specs.Outcomes.{IsDone};
 ghost use Rattle.sto_cli_common.specs.Causes.{HasCauses};
-ghost use Rattle.sto_cli.specs.Programs.{program};
-ghost use Rattle.sto_feed_cli.specs.Commands.{feed_command};
+ghost use Rattle.sto_feed_cli.specs.Programs.{feed_program};
 
 use crate::work::perform;
 use std::alloc::Global;
@@ -41,13 +41,13 @@ pub fn feed<R: Threads + Wait + Sync, S: Source, K: Sink, E: Sink, G: Gate>(
 ) -> u8
     // The headline: with status 0 all of the input was read, and exactly one text was written, one that the words ask for.
     ensures headline { result ≡ 0
-        → IsDone program tt (feed_command words.now) (S.left source.old) (S.left source.new) (K.held out.old) (K.held out.new) }
+        → IsDone feed_program tt (feeding_in words.now) (S.left source.old) (S.left source.new) (K.held out.old) (K.held out.new) }
     // One outcome has this status and these effects, and its line is written beside.
     ensures ends { EndsWith done_status result (λ outcome.
-        Ends program outcome (feed_command words.now) (S.left source.old) (S.left source.new) (K.held out.old) (K.held out.new)
+        Ends feed_program outcome (feeding_in words.now) (S.left source.old) (S.left source.new) (K.held out.old) (K.held out.new)
         × Says (line_of outcome) (E.held diag.old) (E.held diag.new) (E.faults diag.old) (E.faults diag.new)) }
     // What follows: the cause of each status, and what stays as it was.
-    ensures causes { HasCauses program done_status result (feed_command words.now) (S.left source.old) (S.left source.new)
+    ensures causes { HasCauses feed_program done_status result (feeding_in words.now) (S.left source.old) (S.left source.new)
         (K.held out.old) (K.held out.new) (S.faults source.old) (S.faults source.new) (K.faults out.old) (K.faults out.new) }
 {
     let outcome = perform(rt, alloc, words, source, out, gate);

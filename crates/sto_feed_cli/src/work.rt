@@ -1,10 +1,9 @@
 //! The order of work: the words, the source, the script, the run, the text, the writing.
 ghost use Rattle.std.specs.Prelude.{IfOk, IfErr};
-ghost use Rattle.sto_args.specs.Asked.{HasNumbers};
+ghost use Rattle.sto_args.specs.Asked.{HasNumbers, feeding_in};
 ghost use Rattle.sto_cli_common.specs.declared.refusal.Refusal.TheVariants.{ReadFault, WriteFault};
 ghost use Rattle.sto_cli_common.specs.Ends.{Made, Unmade, Ends, RoseFor};
-ghost use Rattle.sto_cli.specs.Programs.{program};
-ghost use Rattle.sto_feed_cli.specs.Commands.{command_for, feed_command};
+ghost use Rattle.sto_feed_cli.specs.Programs.{feed_program};
 
 use crate::answer::feed_text;
 use std::alloc::Global;
@@ -25,8 +24,8 @@ fn feed_source<R: Threads + Wait + Sync, S: Source, G: Gate>(
     gate: &G,
 ) -> Result<Text, Refusal>
     requires { HasNumbers asked }
-    ensures made { IfOk result (λ text. Made program (command_for asked) tt (S.left source.old) (S.left source.new) text.items) }
-    ensures unmade { IfErr result (λ e. Unmade program e (command_for asked) (S.left source.old) (S.left source.new)) }
+    ensures made { IfOk result (λ text. Made feed_program asked tt (S.left source.old) (S.left source.new) text.items) }
+    ensures unmade { IfErr result (λ e. Unmade feed_program e asked (S.left source.old) (S.left source.new)) }
     ensures source_faults { RoseFor ReadFault result (S.faults source.old) (S.faults source.new) }
 {
     let bytes = script_left(alloc, source)?;
@@ -43,7 +42,7 @@ pub(crate) fn perform<R: Threads + Wait + Sync, S: Source, K: Sink, G: Gate>(
     out: &mut K,
     gate: &G,
 ) -> Result<(), Refusal>
-    ensures ends { Ends program result (feed_command words.now) (S.left source.old) (S.left source.new) (K.held out.old) (K.held out.new) }
+    ensures ends { Ends feed_program result (feeding_in words.now) (S.left source.old) (S.left source.new) (K.held out.old) (K.held out.new) }
     ensures source_faults { RoseFor ReadFault result (S.faults source.old) (S.faults source.new) }
     ensures out_faults { RoseFor WriteFault result (K.faults out.old) (K.faults out.new) }
 {

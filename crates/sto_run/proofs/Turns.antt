@@ -155,11 +155,11 @@ in_the_middle : {X : Type 0} (P : X → Type 0) (xs : List X) (x : X) (ys : List
 in_the_middle P [] x ys h = h.0
 in_the_middle P (y ∷ xs) x ys h = in_the_middle P xs x ys h.1
 
-after_one : (first : List Record) (r : Record) (then new : List Record) → AreSince (first ++ r ∷ then) new → Every (λ (s : Record). IsSince (known_after r.verdict) s.verdict) new
-after_one first r then [] h = tt
-after_one first r then (s ∷ new) h = (
-  in_the_middle (λ (b : Record). IsSince (known_after b.verdict) s.verdict) first r then (every (λ (b : Record). IsSince (known_after b.verdict) s.verdict) (first ++ r ∷ then) h.0),
-  after_one first r (then ++ s ∷ []) new (subst (λ (l : List Record). AreSince l new) (append_assoc first (r ∷ then) (s ∷ [])) h.1),
+after_one : (first : List Record) (r : Record) (after new : List Record) → AreSince (first ++ r ∷ after) new → Every (λ (s : Record). IsSince (known_after r.verdict) s.verdict) new
+after_one first r after [] h = tt
+after_one first r after (s ∷ new) h = (
+  in_the_middle (λ (b : Record). IsSince (known_after b.verdict) s.verdict) first r after (every (λ (b : Record). IsSince (known_after b.verdict) s.verdict) (first ++ r ∷ after) h.0),
+  after_one first r (after ++ s ∷ []) new (subst (λ (l : List Record). AreSince l new) (append_assoc first (r ∷ after) (s ∷ [])) h.1),
 )
 
 later_since : (before rs : List Record) → AreSince before rs → Later (λ (r s : Record). IsSince (known_after r.verdict) s.verdict) rs

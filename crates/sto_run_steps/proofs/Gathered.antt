@@ -83,7 +83,7 @@ apart_from first n x = elim (cases_eq x first) [
 -- a view that knows what another knows
 worked_later : (plan : Plan) (v w : View) (rs : List Record) → Grows v w → (w.steps ≡ v.steps) → (w.starts ≡ v.starts) → HasWorked plan v rs → HasWorked plan w rs
 worked_later plan v w rs g steps starts h = record {
-  so_far = record { threads = h.so_far.threads; few = h.so_far.few; each = later_record plan.meaning plan.file v w g rs h.so_far.each };
+  so_far = record { threads = h.so_far.threads; few = h.so_far.few; handed = h.so_far.handed; each = later_record plan.meaning plan.file v w g rs h.so_far.each };
   found = all_found_later v w rs g h.found;
   under_way = h.under_way;
   paced = (let paced = h.paced in let all = ap (λ (n : ℕ). n * pace_of plan) starts in omega (arith, paced, steps, all));

@@ -1,12 +1,11 @@
 //! Calls of the programs that run scripts.
 ghost use Rattle.std.specs.Prelude.{ℕ, List, Option, Some, map, IfOk};
-ghost use Rattle.std.specs.Option.{option_map};
 ghost use Rattle.sto_args.specs.Commands.{command_of};
 ghost use Rattle.sto_args.specs.Asked.{feeding_of};
 ghost use Rattle.sto_cli_common.specs.Statuses.{EndsWith, done_status};
 ghost use Rattle.sto_cli_common.specs.Ends.{Ends};
 ghost use Rattle.sto_cli.specs.Programs.{program};
-ghost use Rattle.sto_feed_cli.specs.Commands.{command_for};
+ghost use Rattle.sto_feed_cli.specs.Programs.{feed_program};
 
 use crate::streams::{Called, Failing, Streams, called_with, owned, streams_for};
 use std::alloc::Global;
@@ -59,8 +58,8 @@ pub fn call_feed<R: Threads + Wait + Sync, G: Gate>(
     gate: &G,
 ) -> Result<Called, NoMemory>
     ensures ends { IfOk result (λ called. EndsWith done_status called.status (λ outcome.
-        (rest held : Option (List ℕ)) × Ends program outcome (option_map command_for (feeding_of (map (λ word. word.now) words.now)))
-        (Some script.now) rest held (Some called.out.items))) }
+        (rest held : Option (List ℕ)) × Ends feed_program outcome (feeding_of (map (λ word. word.now) words.now)) (Some script.now) rest held
+        (Some called.out.items))) }
 {
     let given = owned(alloc, words)?;
     let Streams {

@@ -16,9 +16,9 @@ report-requires-clause-lawful g c = (c.args.asked.tries, c.in_ok-journal.ensures
 pub returns-clause-text : goal.returns-clause-text
 returns-clause-text g c =
     let file = view c.in_ok-file.file in
-    let journal = c.in_ok-journal.journal in (
-      file,
-      c.in_ok-file.ensures.file,
-      c.in_ok-text.ensures.lawful c.args.asked.tries c.in_ok-journal.ensures.lawful,
-      λ one. c.in_ok-text.ensures.aborts ∙ ap (map (abort file.declarations)) (c.in_ok-journal.ensures.alone (c.workers_for-workers.ensures.count ∙ one)),
-    )
+    let journal = c.in_ok-journal.journal in record {
+      file = file;
+      script = c.in_ok-file.ensures.file;
+      lawful = c.in_ok-text.ensures.lawful c.args.asked.tries c.in_ok-journal.ensures.lawful;
+      alone = λ one. c.in_ok-text.ensures.aborts ∙ ap (map (abort file.declarations)) (c.in_ok-journal.ensures.alone (c.workers_for-workers.ensures.count ∙ one));
+    }

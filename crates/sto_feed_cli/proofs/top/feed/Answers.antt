@@ -1,14 +1,15 @@
 use Rattle.sto_cli_common.specs.Statuses.{done_status}
 use Rattle.sto_cli_common.proofs.Endings.{ended, read_so, write_so}
 use Rattle.sto_cli_common.proofs.Causes.{causes}
-use Rattle.sto_cli.specs.Programs.{program}
-use Rattle.sto_cli.proofs.Exclusive.{exclusive, few_statuses}
-use Rattle.sto_feed_cli.specs.Commands.{feed_command}
+use Rattle.sto_args.specs.Asked.{feeding_in}
+use Rattle.sto_cli.proofs.Exclusive.{few_statuses}
+use Rattle.sto_feed_cli.specs.Programs.{feed_program}
+use Rattle.sto_feed_cli.proofs.Ways.{exclusive}
 use Rattle.sto_feed_cli.proofs.top.feed.Goals as goal
 
 pub returns : goal.returns
 returns g c =
-    let command = feed_command c.args.words.now in
+    let asked = feeding_in c.args.words.now in
     let left = g.S.Source.left c.args.source.now in
     let rest = g.S.Source.left c.perform-outcome.new.source in
     let held = g.K.Sink.held c.args.out.now in
@@ -19,10 +20,10 @@ returns g c =
     let wrote_now = g.K.Sink.faults c.perform-outcome.new.out in
     let status = c.status.result in
     let same = c.say.ensures.same in
-    let ends = ended program command left rest held now c.perform-outcome.result c.say.result same c.perform-outcome.ensures.ends in
+    let ends = ended feed_program asked left rest held now c.perform-outcome.result c.say.result same c.perform-outcome.ensures.ends in
     let reads = read_so read read_now c.perform-outcome.result c.say.result same c.perform-outcome.ensures.source_faults in
     let writes = write_so wrote wrote_now c.perform-outcome.result c.say.result same c.perform-outcome.ensures.out_faults in
-    let so = causes program exclusive done_status few_statuses c.say.result status c.status.ensures command left rest held now read read_now wrote wrote_now ends reads writes in
+    let so = causes feed_program exclusive done_status few_statuses c.say.result status c.status.ensures asked left rest held now read read_now wrote wrote_now ends reads writes in
     record {
       headline = λ zero. (so.done (tt, zero)).2;
       ends = (c.say.result, c.status.ensures, (ends, c.say.ensures.says));

@@ -5,6 +5,9 @@ use Rattle.sto_run_threads.specs.declared.workload.LentFile.{LentFile}
 use Rattle.sto_run.proofs.Draws.{few_threads}
 use Rattle.sto_lang.specs.Objects.{shapes_of}
 use Rattle.sto_store.proofs.ObjectMeanings.{objects_mean}
+use Rattle.sto_report_spec.specs.Orders.{IsOrder}
+use Rattle.sto_journal.specs.Journals.{places}
+use Rattle.sto_run.proofs.Turns.{one_thread_order}
 use Rattle.sto_run.proofs.RunJournals.{lawful_run}
 use Rattle.sto_run.proofs.step.trace_file.Goals as goal
 
@@ -30,7 +33,12 @@ pub turns_of-requires : goal.turns_of-requires
 turns_of-requires c = c.in_ok-run.ensures.runnable.sound.scheduled
 
 pub returns-clause-alone : goal.returns-clause-alone
-returns-clause-alone c = λ few. c.in_ok-journal.ensures.alone (c.in_ok-finished.ensures.alone (subst (λ (f : LentFile). length (view f.file.now).threads ≤ 1) (sym c.in_ok-run.ensures.of.0) few))
+returns-clause-alone c = λ few.
+    let same = c.in_ok-run.ensures.of in
+    let order = places c.in_ok-journal.journal.lines.items in record {
+      order = one_thread_order (view c.args.file.now) order few (subst (λ (f : LentFile). IsOrder (view f.file.now) order) same.0 c.in_ok-journal.ensures.lawful.order);
+      none = c.in_ok-journal.ensures.alone (c.in_ok-finished.ensures.alone (subst (λ (f : LentFile). length (view f.file.now).threads ≤ 1) (sym same.0) few));
+    }
 
 pub returns-clause-lawful : goal.returns-clause-lawful
 returns-clause-lawful c =
