@@ -4,7 +4,7 @@ ghost use Rattle.sto_lang.specs.Objects.{HaveNames};
 ghost use Rattle.sto_lang.specs.Views.{declaration, names_of};
 ghost use Rattle.sto_report_spec.specs.Report.{object_text};
 ghost use Rattle.sto_journal.specs.Journals.{home_pair, HaveRows};
-ghost use Rattle.sto_picture.specs.Views.{bytes_of, scene};
+ghost use Rattle.sto_picture.specs.Views.{bytes_of, scene_view};
 ghost use Rattle.sto_scene.specs.Scenes.{name_of_part, scene_for};
 
 use crate::name::{object_line, part_name};
@@ -38,6 +38,7 @@ fn part_names(alloc: Global, decls: &[Decl], homes: &[Home]) -> Result<List<Text
     Ok(names)
 }
 
+#[tactic(auto, using(crate::proofs::Named::has_name))]
 fn object_lines(alloc: Global, decls: &[Decl], state: &State) -> Result<List<Text>, NoMemory>
     requires few { length decls.now < 2 ^ 32 }
     requires names { HaveNames (map declaration decls.now) }
@@ -63,7 +64,7 @@ pub fn scene_of(
     requires homes { length homes.now < 2 ^ 32 }
     requires names { HaveNames (map declaration file.now.decls.items) }
     requires rows { HaveRows state.now.items file.now.decls.items }
-    ensures { IfOk result (λ s. scene s ≡ scene_for (names_of file.now.threads.items) (map declaration file.now.decls.items)
+    ensures { IfOk result (λ s. scene_view s ≡ scene_for (names_of file.now.threads.items) (map declaration file.now.decls.items)
         (map home_pair homes.now) steps.items state.now.items) }
 {
     Ok(Scene {
