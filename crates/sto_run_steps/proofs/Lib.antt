@@ -6,3 +6,4 @@ pub mod Opening
 pub mod Gathered
 pub mod Reopened
 pub mod Turns
+pub mod Logging

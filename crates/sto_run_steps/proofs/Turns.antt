@@ -1,7 +1,7 @@
 -- Turns of threads, one after the other.
-use Rattle.std.specs.Prelude.{slice_get, Some}
+use Rattle.std.specs.Prelude.{slice_get, Some, None}
 use Rattle.std.specs.List.{flat_map}
-use Rattle.std.proofs.Common.{◌≡◌, ℕ, zero, suc, ◌+◌, ◌-◌, ◌<◌, ◌≤◌, List, [], ◌∷◌, ◌++◌, length, get_or, take, set, replicate, refl, sym, ap, ◌∙◌, subst, arith, inr, append-nil}
+use Rattle.std.proofs.Common.{◌≡◌, ℕ, zero, suc, ◌+◌, ◌-◌, ◌<◌, ◌≤◌, List, [], ◌∷◌, ◌++◌, length, get_or, take, set, replicate, refl, sym, ap, ◌∙◌, subst, arith, inl, inr, append-nil}
 use Rattle.std.proofs.lemmas.List.{take_more, replicate_more, replicate-append-replicate}
 use Rattle.std.proofs.lemmas.List.Concat.{flat_map-append}
 use Rattle.sto_lang.specs.declared.file.Turns.{Turns}
@@ -109,3 +109,10 @@ module _ {M : Type 0} (valid : Validity) (heard : M → List Told) where
   rounds_more n k rounds c d e seats middle later log kept next same h round =
       turns_append (round_turns n rounds) (numbers_from 0 n) c d e seats middle later log kept next h
       (subst (λ (m : ℕ). HaveTurns valid heard (numbers_from 0 m) d middle kept e later next) same round)
+
+  -- where no steps are kept, none are kept later
+  pub none_kept : (threads : List ℕ) (c d : Core) (seats later : List (Seat M)) (next : Log) → HaveTurns valid heard threads c seats None d later next → next ≡ None
+  none_kept [] c d seats later next h = h.2
+  none_kept (thread ∷ threads) c d seats later next h =
+      let e : h.2 ≡ None = elim h.3 [ inl one ↦ one.logged | inr over ↦ over.3 ] in
+      none_kept threads h.0 d h.1 later next (subst (λ (o : Log). HaveTurns valid heard threads h.0 h.1 o d later next) e h.4)

@@ -91,13 +91,12 @@ impl<M: Drop> Seat<M> {
         let mut pass = Noting { cells, deed: None };
         self.step(work, alloc, thread, &mut pass)?;
         let Noting { cells, deed } = pass;
-        match (log, deed) {
-            (Some(steps), Some(deed)) => {
-                let step = self.last_step(work, alloc, thread, position, heard, deed)?;
-                Ok((cells, with_step(steps, step)?))
-            }
-            _ => Ok((cells, None)),
-        }
+        let Some(steps) = log else {
+            return Ok((cells, None));
+        };
+        let Some(deed) = deed else { unreachable!() };
+        let step = self.last_step(work, alloc, thread, position, heard, deed)?;
+        Ok((cells, with_step(steps, step)?))
     }
 
     // How many calls of the next attempt have been answered.
