@@ -28,9 +28,11 @@ fn thread_names(alloc: Global, threads: &[Thread]) -> Result<List<Text>, NoMemor
 }
 
 fn part_names(alloc: Global, decls: &[Decl], homes: &[Home]) -> Result<List<Text>, NoMemory>
-    requires { length homes.now < 2 ^ 32 }
     ensures { IfOk result (λ names. bytes_of names.items ≡ map (name_of_part (map declaration decls.now)) (map home_pair homes.now)) }
 {
+    if homes.len() >= u32::MAX as usize {
+        return Err(NoMemory);
+    }
     let mut names = List::new(alloc);
     for home in homes {
         names.push(part_name(alloc, decls, *home)?)?;
@@ -53,7 +55,7 @@ fn object_lines(alloc: Global, decls: &[Decl], state: &State) -> Result<List<Tex
 }
 
 /// What a picture shows of a run of a file, whose parts have these homes: the names of its threads, the parts as abort lines name
-/// them, the events, and what each object holds at the end.
+/// them, the events, and what each object holds at the end. `NoMemory` comes also where there are 2^32 parts.
 pub fn scene_of(
     alloc: Global,
     file: &File,
@@ -61,7 +63,6 @@ pub fn scene_of(
     steps: Steps,
     state: &State,
 ) -> Result<Scene, NoMemory>
-    requires homes { length homes.now < 2 ^ 32 }
     requires names { HaveNames (map declaration file.now.decls.items) }
     requires rows { HaveRows state.now.items file.now.decls.items }
     ensures { IfOk result (λ s. scene_view s ≡ scene_for (names_of file.now.threads.items) (map declaration file.now.decls.items)
