@@ -112,4 +112,4 @@ abbrev pub picture_height : Scene → Frame → ℕ
 picture_height scene frame = legend_top scene frame + 110
 
 abbrev pub picture_width : Scene → Frame → ℕ
-picture_width scene frame = max 700 (max (last_right frame + 12) (24 + 7 * longest scene.values))
+picture_width scene frame = max 740 (max (last_right frame + 48) (24 + 7 * longest scene.values))

@@ -23,7 +23,7 @@ text{font:11px monospace}
 ";
 
 /// The words about signs.
-pub const LEGEND: &str = "<rect class='rule' x='-12' y='0' width='700' height='1'/>
+pub const LEGEND: &str = "<rect class='rule' x='-12' y='0' width='740' height='1'/>
 <rect class='reading' x='1' y='12' width='28' height='16'/>
 <text x='36' y='24'>reading</text>
 <rect class='committing' x='111' y='12' width='28' height='16'/>

@@ -211,7 +211,7 @@ fn width_of(scene: &Scene, frame: &Frame) -> u64
     ensures { result ≡ picture_width (scene_view scene.now) (frame_view frame.now) }
 {
     let values = 24 + 7 * u64::from(longest(scene.values.as_slice()));
-    (last_right(frame) + 12).max(values).max(700)
+    (last_right(frame) + 48).max(values).max(740)
 }
 
 #[tactic(auto, unfolding(crate::specs::Pictures::drawn))]
