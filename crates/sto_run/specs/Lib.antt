@@ -1,6 +1,7 @@
 pub mod Lawful
 pub mod Runnable
 pub mod Alone
+pub mod OfRecords
 pub mod Traced
 pub use Rattle.sto_plain.specs.Passes
 pub use Rattle.sto_store.specs.Stores

@@ -11,6 +11,7 @@ ghost use Rattle.sto_serializability.specs.Meanings.{updating_by, IsTypeOf};
 ghost use Rattle.sto_transaction.specs.Plain.{plain};
 ghost use Rattle.sto_transaction.specs.Resting.{IsAtRest};
 ghost use Rattle.sto_run.specs.Lawful.{IsLawfulJournal};
+ghost use Rattle.sto_run.specs.OfRecords.{IsOfRecords};
 ghost use Rattle.sto_run.specs.Alone.{all_places};
 
 use crate::whole::{homes_of, rows_of};
@@ -46,6 +47,7 @@ pub fn journal_of<F: Workload, T: TxType>(
     // Transactions that were run one after the other, in rising thread and then position, stand so in it.
     ensures in_turn { (from to : Place) → RunsInOrder from to [] (map plain records.items)
         → IfOk result (λ journal. places journal.lines.items ≡ all_places (F.file file.now)) }
+    ensures of_records { IfOk result (IsOfRecords (F.file file.now) (T.meaning ty.now).homes (map plain records.items)) }
     ensures state { IfOk result (λ journal. journal.state.items
         ≡ (T.meaning ty.now).rows (map (λ part. part.words) words.now.parts)) }
 {

@@ -11,6 +11,7 @@ ghost use Rattle.sto_run_threads.specs.Ordered.{RanInTurn};
 ghost use Rattle.sto_run_threads.specs.Worked.{AbortsNone};
 ghost use Rattle.sto_run_threads.specs.Runs.{IsFinished};
 ghost use Rattle.sto_run.specs.Lawful.{IsLawfulJournal};
+ghost use Rattle.sto_run.specs.OfRecords.{IsOfRecords};
 ghost use Rattle.sto_run.specs.Alone.{all_places};
 ghost use Rattle.sto_run.specs.Runnable.{IsRunnable};
 
@@ -75,6 +76,8 @@ impl<'f, F: Workload + Drop, T: TxType, G: Gate> OpenedRun<'f, F, T, G> {
         ensures alone { AbortsNone [] (told_in finished.records) → IfOk result (λ journal. journal.aborts.items ≡ []) }
         ensures in_turn { RanInTurn (plan_of T.TxType self.now.work.ty.now (F.file self.now.work.workload) self.now.work.tries)
             (told_in finished.records) → IfOk result (λ journal. places journal.lines.items ≡ all_places (F.file self.now.work.workload)) }
+        ensures of_records { IfOk result (IsOfRecords (F.file self.now.work.workload) (T.meaning self.now.work.ty.now).homes
+            (told_in finished.records)) }
     {
         let FinishedRun { records, words } = finished;
         journal_of(alloc, &self.work.workload, self.work.ty, &words, records)

@@ -5,13 +5,10 @@ ghost use Rattle.sto_lang.specs.Sound.{IsSound, IsSchedule, IsFromTo};
 ghost use Rattle.sto_lang.specs.Views.{file as view};
 ghost use Rattle.sto_serializability.specs.Meanings.{updating_by};
 ghost use Rattle.sto_store.specs.Stores.{means};
-ghost use Rattle.sto_lang.specs.Objects.{shapes_of};
-ghost use Rattle.sto_store.specs.ObjectShapes.{AreOf};
-ghost use Rattle.sto_objects.specs.declared.objects.Objects.{Objects};
 ghost use Rattle.sto_run_steps.specs.Logged.{kept};
 ghost use Rattle.sto_run.specs.Lawful.{IsLawfulJournal};
 ghost use Rattle.sto_run.specs.Alone.{RanAlone};
-ghost use Rattle.sto_run.specs.Traced.{IsTraced};
+ghost use Rattle.sto_run.specs.Traced.{IsTraceOf, turns_in};
 
 use crate::opened::OpenedRun;
 use crate::stored::objects_of;
@@ -31,7 +28,8 @@ use sto_type::{Home, TxType};
 // The entries of a file's schedule; none where it has no schedule.
 fn turns_of(file: &File) -> &[Turns]
     requires { IsSchedule (length (view file.now).threads) (view file.now).schedule }
-    ensures { All (λ turns. turns.thread < length (view file.now).threads) result.now }
+    ensures inside { All (λ turns. turns.thread < length (view file.now).threads) result.now }
+    ensures same { result.now ≡ turns_in (view file.now).schedule }
 {
     match &file.schedule {
         Some(schedule) => schedule.as_slice(),
@@ -80,10 +78,9 @@ pub fn trace_file(alloc: Global, file: &File, tries: u32) -> Result<TracedRun, N
     requires tries { IsFromTo 1 64 tries }
     ensures lawful { IfOk result (λ r. IsLawfulJournal (updating_by means) (view file.now) tries r.journal) }
     ensures alone { length (view file.now).threads ≤ 1 → IfOk result (λ r. RanAlone (view file.now) r.journal) }
-    // On some objects of the file, the steps are those of its run, and these are the homes of their parts.
-    ensures traced { IfOk result (λ r. (objects : Objects) × AreOf objects (shapes_of (view file.now).declarations)
-        × (map (λ h. (h.object, h.local)) r.homes.items ≡ (⟦<Objects as TxType>⟧.meaning objects).homes)
-        × IsTraced ⟦<Objects as TxType>⟧ objects (view file.now) tries (kept r.steps)) }
+    // The steps are all events of the run by the schedule, and the journal is that of this run.
+    ensures traced { IfOk result (λ r. IsTraceOf (view file.now) tries r.journal (map (λ h. (h.object, h.local)) r.homes.items)
+        (kept r.steps)) }
 {
     let file = LentFile { file };
     let objects = objects_of(alloc, &file)?;

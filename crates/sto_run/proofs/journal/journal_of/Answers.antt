@@ -69,3 +69,16 @@ pub returns-clause-in_turn : goal.returns-clause-in_turn
 returns-clause-in_turn g c = λ from to turn.
     let finished = c.requires.finished.2 in
     journal_order (g.F.Workload.file c.args.file.now) c.in_ok-merge.field-0 (map plain c.args.records.items) finished.threads finished.order c.in_ok-merge.ensures.lines from to turn
+
+pub returns-clause-of_records : goal.returns-clause-of_records
+returns-clause-of_records g c =
+    let m : Meaning = g.T.TxType.meaning c.args.ty.now in
+    let file : File = g.F.Workload.file c.args.file.now in
+    let rs : List plainly.Record = map plain c.args.records.items in
+    let count : ℕ = length file.threads in
+    let homes : map home_pair c.deref.result.now ≡ m.homes = ap (map home_pair) c.deref.ensures.value ∙ c.in_ok-homes.ensures in
+    let low = in_threads m file (view_of c.args.words.now 0) c.args.records.items c.requires.finished.2.each in
+    record {
+      lines = c.in_ok-merge.ensures.lines;
+      aborts = c.in_ok-merge.ensures.aborts file.declarations count low ∙ ap (λ (hs : List (ℕ × ℕ)). aborts_from file.declarations hs rs 0 count) homes;
+    }

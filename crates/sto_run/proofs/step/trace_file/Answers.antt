@@ -1,4 +1,4 @@
-use Rattle.std.proofs.Common.{◌≡◌, ◌≤◌, length, sym, subst, ap, arith}
+use Rattle.std.proofs.Common.{◌≡◌, ◌≤◌, length, map, sym, subst, ap, arith}
 use Rattle.std.proofs.lemmas.Result.{IfOk-weaker}
 use Rattle.sto_lang.specs.Views.{file as view}
 use Rattle.sto_run_threads.specs.declared.workload.LentFile.{LentFile}
@@ -8,6 +8,10 @@ use Rattle.sto_store.proofs.ObjectMeanings.{objects_mean}
 use Rattle.sto_report_spec.specs.Orders.{IsOrder}
 use Rattle.sto_journal.specs.Journals.{places}
 use Rattle.sto_run.proofs.Turns.{one_thread_order}
+use Rattle.sto_run_threads.specs.Told.{told_in}
+use Rattle.sto_run_steps.specs.Logged.{kept}
+use Rattle.sto_run.specs.Traced.{of_objects}
+use Rattle.sto_run.proofs.Traced.{traced_by, traced_run}
 use Rattle.sto_run.proofs.RunJournals.{lawful_run}
 use Rattle.sto_run.proofs.step.trace_file.Goals as goal
 
@@ -19,6 +23,12 @@ trace_threads-requires-clause-opens c = c.in_ok-run.ensures.runnable.opens
 
 pub trace_threads-requires-clause-threads : goal.trace_threads-requires-clause-threads
 trace_threads-requires-clause-threads c = few_threads (view c.in_ok-run.run'.work.workload.file.now) c.in_ok-run.ensures.runnable.sound
+
+pub trace_threads-requires-clause-schedule : goal.trace_threads-requires-clause-schedule
+trace_threads-requires-clause-schedule c = c.turns_of.ensures.inside
+
+pub journal-requires-clause-finished : goal.journal-requires-clause-finished
+journal-requires-clause-finished c = λ κs within. c.in_ok-finished.ensures.finished
 
 pub journal-requires-clause-sound : goal.journal-requires-clause-sound
 journal-requires-clause-sound c = λ κs within. c.in_ok-run.ensures.runnable.sound
@@ -45,3 +55,12 @@ returns-clause-lawful c =
     let same = c.in_ok-run.ensures.of in
     lawful_run c.in_ok-objects.objects c.in_ok-run.run'.work.ty.now (view c.in_ok-run.run'.work.workload.file.now) (view c.args.file.now) _ c.args.tries c.in_ok-journal.journal
     (objects_mean c.in_ok-objects.objects (shapes_of (view c.args.file.now).declarations) c.in_ok-objects.ensures.kinds) (ap (λ (f : LentFile). view f.file.now) same.0, same.1, same.2) c.in_ok-journal.ensures.lawful
+
+pub returns-clause-traced : goal.returns-clause-traced
+returns-clause-traced c =
+    let same = c.in_ok-run.ensures.of in
+    let x = c.in_ok-run.run'.work.ty.now in let f = view c.in_ok-run.run'.work.workload.file.now in let t = c.in_ok-run.run'.work.tries in
+    traced_run x c.in_ok-objects.objects f (view c.args.file.now) t c.args.tries c.in_ok-journal.journal (map (λ h. (h.object, h.local)) c.in_ok-homes.homes.items) (kept c.in_ok-finished.steps)
+    (ap (λ (w : LentFile). view w.file.now) same.0, same.1, same.2) c.in_ok-objects.ensures.kinds c.in_ok-homes.ensures
+    (traced_by of_objects x f t c.in_ok-journal.journal c.turns_of.result.now c.in_ok-run.run'.opening.items (told_in c.in_ok-finished.finished.records) (kept c.in_ok-finished.steps)
+    c.turns_of.ensures.same c.in_ok-run.ensures.runnable.opens.opened c.in_ok-finished.ensures.traced c.in_ok-journal.ensures.of_records)
