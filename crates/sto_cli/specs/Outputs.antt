@@ -1,9 +1,15 @@
 -- What a command may print for the bytes that it reads, and the fault that it tells of them.
-use Rattle.std.specs.Prelude.{◌≡◌, ◌≤◌, ℕ, min, max, List, [], length, Bool, Option, None, Some, Ok, Err, if◌then◌else◌}
+use Rattle.std.specs.Prelude.{◌≡◌, ◌≤◌, ◌<◌, ℕ, sum_by, min, max, List, [], length, Bool, Option, None, Some, Ok, Err, if◌then◌else◌}
 use Rattle.sto_lang.specs.Files.{file_of}
 use Rattle.sto_lang.specs.Scripts.{File}
 use Rattle.sto_cli_common.specs.declared.refusal.InputFault.{InputFault}
-use Rattle.sto_cli_common.specs.declared.refusal.InputFault.TheVariants.{Script, NoReport}
+use Rattle.sto_cli_common.specs.declared.refusal.InputFault.TheVariants.{Script, NoReport, LongTrace}
+use Rattle.sto_cli_common.specs.declared.refusal.Refusal.{Refusal}
+use Rattle.sto_cli_common.specs.declared.refusal.Refusal.TheVariants.{Usage, Input, ReadFault, WriteFault, NoMemory}
+use Rattle.sto_trace.specs.declared.Step.{Step}
+use Rattle.sto_trace_text.specs.Texts.{trace_text}
+use Rattle.sto_run.specs.Traced.{IsTraceOf}
+use Rattle.sto_draw.specs.Drawn.{IsPicture}
 use Rattle.sto_write.specs.Texts.{text_of, upgraded}
 use Rattle.sto_gen.specs.Generated.{file_of as generated}
 use Rattle.sto_report_spec.specs.declared.form.ReportForm.{ReportForm}
@@ -21,7 +27,7 @@ use Rattle.sto_summary.specs.Summary.{summary_of, HasTotals}
 use Rattle.sto_run.specs.Lawful.{IsLawfulJournal}
 use Rattle.sto_run.specs.Alone.{all_places}
 use Rattle.sto_args.specs.declared.command.Command.{Command}
-use Rattle.sto_args.specs.declared.command.Command.TheVariants.{Run, Step, Upgrade, Gen, Bench}
+use Rattle.sto_args.specs.declared.command.Command.TheVariants.{Run, Step, Trace, Draw, Upgrade, Gen, Bench}
 
 -- the form of the report that is asked for
 abbrev pub form_for : Bool → ReportForm
@@ -62,13 +68,34 @@ abbrev pub IsSummary : ℕ → List ℕ → Type 0
 IsSummary number text =
     (journal : Journal) × IsLawfulJournal (updating_by means) (generated number) 64 journal × (text ≡ summary_of number 3200 journal.state.items) × HasTotals journal.state.items
 
+-- how many transactions a file has, and how many one may have that is traced
+abbrev pub transactions_in : File → ℕ
+transactions_in file = sum_by (λ scripts. length scripts) file.threads
+
+abbrev pub most_traced : ℕ
+most_traced = 256
+
+-- a line for each event of a run of the file by its schedule, whose report is lawful
+abbrev pub IsTrace : ℕ → List ℕ → List ℕ → Type 0
+IsTrace tries bytes text =
+    (file : File) × (file_of bytes ≡ Ok file) × (transactions_in file ≤ most_traced)
+    × (journal : Journal) × IsLawfulJournal (updating_by means) file tries journal
+    × (homes : List (ℕ × ℕ)) × (steps : List Step) × IsTraceOf file tries journal homes (Some steps)
+    × (text ≡ trace_text (record { threads = file.names; declarations = file.declarations; homes = homes }) steps)
+
+-- the picture of a run of the file by its schedule
+abbrev pub IsDrawn : ℕ → List ℕ → List ℕ → Type 0
+IsDrawn tries bytes text = (file : File) × (file_of bytes ≡ Ok file) × (transactions_in file ≤ most_traced) × IsPicture file tries text
+
 -- `run` and `step` print a lawful report, which is one text where one worker runs the file, or where `step` has at most one
--- script thread; `upgrade` prints the canonical text of the file that the bytes are with its version
+-- script thread; `trace` prints the events of the run that `step` makes, and `draw` its picture; `upgrade` prints the canonical text of the file that the bytes are with its version
 -- set to 2; `gen` prints the canonical text of the file that the number generates, which reads as that file, and `bench` the summary of
 -- a run of it
 abbrev pub IsOutput : Command → List ℕ → List ℕ → Type 0
 IsOutput (Run threads tries json) bytes text = IsReport tries json (λ file. workers_of threads (length file.threads) ≡ 1) bytes text
 IsOutput (Step tries json) bytes text = IsReport tries json (λ file. length file.threads ≤ 1) bytes text
+IsOutput (Trace tries) bytes text = IsTrace tries bytes text
+IsOutput (Draw tries) bytes text = IsDrawn tries bytes text
 IsOutput Upgrade bytes text = (file : File) × (file_of bytes ≡ Ok file) × (text ≡ text_of (upgraded file))
 IsOutput (Gen number) bytes text = (text ≡ text_of (generated number)) × (file_of text ≡ Ok (generated number))
 IsOutput (Bench number threads) bytes text = IsSummary number text
@@ -77,11 +104,28 @@ IsOutput (Bench number threads) bytes text = IsSummary number text
 abbrev pub IsScriptFault : List ℕ → InputFault → Type 0
 IsScriptFault bytes (Script fault) = file_of bytes ≡ Err fault
 IsScriptFault bytes NoReport = ⊥
+IsScriptFault bytes LongTrace = ⊥
+
+-- the same, or the file that they are has too many transactions for a trace
+abbrev pub IsTraceFault : List ℕ → InputFault → Type 0
+IsTraceFault bytes (Script fault) = file_of bytes ≡ Err fault
+IsTraceFault bytes NoReport = ⊥
+IsTraceFault bytes LongTrace = (file : File) × (file_of bytes ≡ Ok file) × (most_traced < transactions_in file)
+
+-- why bytes are no file that can be traced
+abbrev pub IsTraceRefusal : Refusal → List ℕ → Type 0
+IsTraceRefusal (Input fault) bytes = IsTraceFault bytes fault
+IsTraceRefusal NoMemory bytes = Unit {0}
+IsTraceRefusal Usage bytes = ⊥
+IsTraceRefusal ReadFault bytes = ⊥
+IsTraceRefusal WriteFault bytes = ⊥
 
 -- the bytes have this fault
 abbrev pub HasFault : Command → List ℕ → InputFault → Type 0
 HasFault (Run threads tries json) bytes fault = IsScriptFault bytes fault
 HasFault (Step tries json) bytes fault = IsScriptFault bytes fault
+HasFault (Trace tries) bytes fault = IsTraceFault bytes fault
+HasFault (Draw tries) bytes fault = IsTraceFault bytes fault
 HasFault Upgrade bytes fault = IsScriptFault bytes fault
 HasFault (Gen number) bytes fault = ⊥
 HasFault (Bench number threads) bytes fault = ⊥

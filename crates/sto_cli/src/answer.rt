@@ -10,17 +10,22 @@ ghost use Rattle.sto_run.specs.Meanings.{updating_by};
 ghost use Rattle.sto_run.specs.Stores.{means};
 ghost use Rattle.sto_run.specs.Lawful.{IsLawfulJournal};
 ghost use Rattle.sto_cli_common.specs.Ends.{IsFileRefusal};
-ghost use Rattle.sto_cli.specs.Outputs.{IsOutput, order_told, aborts_told, form_for, workers_of};
+ghost use Rattle.sto_cli.specs.Outputs.{IsTraceRefusal, transactions_in, IsOutput, order_told, aborts_told, form_for, workers_of};
 
 use std::alloc::Global;
 use std::mem;
 use std::thread::Threads;
 use sto_bench::run_generated;
-use sto_cli_common::{Refusal, file_in};
+use sto_cli_common::{InputFault, Refusal, file_in};
+use sto_draw::draw_file;
 use sto_journal::Journal;
 use sto_lang::{File, Text};
 use sto_part::NoMemory;
-use sto_run::{Gate, run_file, step_file};
+use sto_run::{Gate, TracedRun, run_file, step_file, trace_file};
+use sto_trace_text::Names;
+
+/// How many transactions a script may have that is traced.
+const MOST_TRACED: u64 = 256;
 
 /// The report of a lawful journal of a file, as a text or as one line of JSON. It is lawful for each number of tries for which
 /// the journal is, and names the order and the aborted attempts of the journal.
@@ -93,6 +98,62 @@ pub(crate) fn step_text(
     let journal = step_file(alloc, &file, tries)?;
     let text = report(alloc, &file, &journal, json)?;
     leave(file, journal);
+    Ok(text)
+}
+
+// How many transactions a file has.
+fn transactions_of(file: &File) -> u64
+    ensures { result ≡ transactions_in (view file.now) }
+{
+    let mut count = 0;
+    for thread in file.threads.as_slice() {
+        count += u64::from(thread.scripts.len());
+    }
+    count
+}
+
+/// What `trace` prints for these bytes.
+pub(crate) fn trace_text(alloc: Global, bytes: &[u8], tries: u32) -> Result<Text, Refusal>
+    requires { IsFromTo 1 64 tries }
+    ensures text { IfOk result (λ text. IsOutput (commands.Trace tries) bytes.now text.items) }
+    ensures fault { IfErr result (λ e. IsTraceRefusal e bytes.now) }
+{
+    let file = file_in(alloc, bytes)?;
+    if transactions_of(&file) > MOST_TRACED {
+        return Err(Refusal::Input(InputFault::LongTrace));
+    }
+    let TracedRun {
+        journal,
+        homes,
+        steps,
+    } = trace_file(alloc, &file, tries)?;
+    let Some(steps) = steps else {
+        return Err(Refusal::NoMemory);
+    };
+    let names = Names {
+        threads: file.threads.as_slice(),
+        decls: file.decls.as_slice(),
+        homes: homes.as_slice(),
+    };
+    let text = sto_trace_text::trace_text(alloc, &names, steps.as_slice())?;
+    leave(file, journal);
+    Ok(Text::of_string(text)?)
+}
+
+/// What `draw` prints for these bytes.
+pub(crate) fn draw_text(alloc: Global, bytes: &[u8], tries: u32) -> Result<Text, Refusal>
+    requires { IsFromTo 1 64 tries }
+    ensures text { IfOk result (λ text. IsOutput (commands.Draw tries) bytes.now text.items) }
+    ensures fault { IfErr result (λ e. IsTraceRefusal e bytes.now) }
+{
+    let file = file_in(alloc, bytes)?;
+    if transactions_of(&file) > MOST_TRACED {
+        return Err(Refusal::Input(InputFault::LongTrace));
+    }
+    let Some(text) = draw_file(alloc, &file, tries)? else {
+        return Err(Refusal::NoMemory);
+    };
+    mem::forget(file);
     Ok(text)
 }
 

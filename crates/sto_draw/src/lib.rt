@@ -59,13 +59,7 @@ pub fn draw_file(alloc: Global, file: &File, tries: u32) -> Result<Option<Text>,
             if steps.len() > MOST_STEPS {
                 return Ok(None);
             }
-            Ok(Some(draw_run(
-                alloc,
-                file,
-                &journal,
-                homes.as_slice(),
-                steps,
-            )?))
+            Ok(Some(draw_run(alloc, file, &journal, homes.as_slice(), steps)?))
         }
     }
 }
