@@ -1,31 +1,48 @@
 -- A command prints a text for an input, or the input has a fault.
-use Rattle.std.proofs.Common.{◌≡◌, ◌<◌, ℕ, List, refl, sym, ap, ◌∙◌, arith, true, Ok, true≢false}
+use Rattle.std.proofs.Common.{◌≡◌, ◌<◌, ◌≤◌, ℕ, List, refl, sym, ap, ◌∙◌, arith, true, Ok, true≢false}
+use Rattle.std.specs.Prelude.{Result}
 use Rattle.std.specs.Result.{is_ok}
 use Rattle.sto_lang.specs.Files.{file_of}
 use Rattle.sto_lang.specs.Scripts.{File}
 use Rattle.sto_args.specs.declared.command.Command.{Command}
-use Rattle.sto_args.specs.declared.command.Command.TheVariants.{Run, Step, Upgrade, Gen, Bench}
+use Rattle.sto_args.specs.declared.command.Command.TheVariants.{Run, Step, Trace, Draw, Upgrade, Gen, Bench}
 use Rattle.sto_cli_common.specs.declared.refusal.InputFault.{InputFault}
-use Rattle.sto_cli_common.specs.declared.refusal.InputFault.TheVariants.{Script, NoReport}
+use Rattle.sto_cli_common.specs.declared.refusal.InputFault.TheVariants.{Script, NoReport, LongTrace}
 use Rattle.sto_cli_common.specs.Statuses.{done_status}
 use Rattle.sto_cli_common.proofs.Causes.{IsExclusive}
-use Rattle.sto_cli.specs.Outputs.{IsOutput, IsScriptFault, HasFault}
+use Rattle.sto_cli.specs.Outputs.{IsOutput, IsScriptFault, IsTraceFault, HasFault, transactions_in, most_traced}
 use Rattle.sto_cli.specs.Programs.{reads_script, program}
 
 reads : (command : Command) (bytes : List ℕ) (fault : InputFault) → HasFault command bytes fault → reads_script command ≡ true
 reads (Run threads tries json) bytes fault h = refl
 reads (Step tries json) bytes fault h = refl
+reads (Trace tries) bytes fault h = refl
+reads (Draw tries) bytes fault h = refl
 reads Upgrade bytes fault h = refl
 reads (Gen number) bytes fault h = absurd h
 reads (Bench number threads) bytes fault h = absurd h
 
+same_Ok : {A E : Type 0} (x y : A) → ◌≡◌ {A = Result A E} (Ok x) (Ok y) → x ≡ y
+same_Ok x y e = cc
+
 pub no_fault : (bytes : List ℕ) (file : File) (fault : InputFault) → file_of bytes ≡ Ok file → IsScriptFault bytes fault → ⊥
 no_fault bytes file (Script fault) e f = true≢false (ap is_ok (sym e ∙ f))
 no_fault bytes file NoReport e f = f
+no_fault bytes file LongTrace e f = f
+
+-- a file that is traced has few transactions, and there is one file at most that the bytes are
+no_trace_fault : (bytes : List ℕ) (file : File) (fault : InputFault) → file_of bytes ≡ Ok file → transactions_in file ≤ most_traced → IsTraceFault bytes fault → ⊥
+no_trace_fault bytes file (Script fault) e few f = true≢false (ap is_ok (sym e ∙ f))
+no_trace_fault bytes file NoReport e few f = f
+no_trace_fault bytes file LongTrace e few f =
+    let same : file ≡ f.0 = same_Ok file f.0 (sym e ∙ f.1) in
+    let count = ap transactions_in same in let many = f.2 in omega (arith, few, count, many)
 
 faultless : (command : Command) (bytes text : List ℕ) (fault : InputFault) → IsOutput command bytes text → HasFault command bytes fault → ⊥
 faultless (Run threads tries json) bytes text fault h f = no_fault bytes h.0 fault h.1 f
 faultless (Step tries json) bytes text fault h f = no_fault bytes h.0 fault h.1 f
+faultless (Trace tries) bytes text fault h f = no_trace_fault bytes h.0 fault h.1 h.2 f
+faultless (Draw tries) bytes text fault h f = no_trace_fault bytes h.0 fault h.1 h.2 f
 faultless Upgrade bytes text fault h f = no_fault bytes h.0 fault h.1 f
 faultless (Gen number) bytes text fault h f = f
 faultless (Bench number threads) bytes text fault h f = f
