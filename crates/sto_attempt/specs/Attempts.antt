@@ -29,7 +29,7 @@ use Rattle.sto_attempt_log.specs.Growing.{HasHeard}
 use Rattle.sto_attempt_log.specs.Reasons.{IsCaused}
 use Rattle.sto_attempt_log.specs.ReadSet.{words_in}
 use Rattle.sto_attempt_log.specs.CommitPhases.{Deal, deal, IsPlanned, HasSpace}
-use Rattle.sto_attempt_log.specs.Standing.{Goes, Fits, MayGoOn, Renews, Spans, Turned, IsLeft, IsFirst, IsUnaborted, IsRenewed, HasBegun, KeepsExtension, Moves, next_event}
+use Rattle.sto_attempt_log.specs.Standing.{Goes, Fits, MayGoOn, Renews, Spans, Turned, IsLeft, IsFirst, IsUnaborted, IsRenewed, HasBegun, KeepsExtension, Moves, next_event, IsCalling}
 use Rattle.sto_type.specs.Traits.{OfType}
 use Rattle.sto_model.specs.Bodies.{OfBody}
 use Rattle.sto_attempt.specs.declared.attempt.Attempt.{Attempt}
@@ -64,7 +64,8 @@ module _ {T B : Type 0} (t : OfType T) (b : OfBody B) where
       Fits (t.meaning a.log.ty.now) t.valid (t.sizes a.log.ty.now) (b.script a.log.body) a.at read_phase a.words.items a.log.base.items a.log.set.updates (heard a) v
 
   abbrev pub RenewsAt : ReadPhase → Attempt T B → View → Type 0
-  RenewsAt read_phase a v = Renews (t.meaning a.log.ty.now) t.valid (t.sizes a.log.ty.now) a.at read_phase a.words.items a.extension a.log.base.items a.log.set.items v
+  RenewsAt read_phase a v =
+      Renews (t.meaning a.log.ty.now) t.valid (t.sizes a.log.ty.now) (b.script a.log.body (heard a)) a.at read_phase a.words.items a.extension a.log.base.items a.log.set.items v
 
   abbrev pub GoesAt : ReadPhase → Attempt T B → View → Type 0
   GoesAt read_phase a v =
@@ -198,6 +199,7 @@ module _ {T B : Type 0} (t : OfType T) (b : OfBody B) where
     pub log : IsOwnLog a
     pub observed : IsObserved a.log.set.items (watches_of a)
     pub extended : a.extension.extended ≡ true
+    pub asks : IsCalling (b.script a.log.body (heard a))
     pub renewed : AreRenewed a
     pub bound : a.at ≤ a.extension.bound
     pub some : CanHave a (words_in a.log.base.items)

@@ -2,14 +2,15 @@
 -- has gathered it (`proofs/Later`).
 --
 -- m is the meaning of the type that the pass's words were opened with, and f what the transaction does next after each list of replies.
-use Rattle.std.specs.Prelude.{◌≡◌, ◌≤◌, ◌<◌, ◌⊎◌, ℕ, List, [], ◌∷◌, true, false, slice_index_or, length}
+use Rattle.std.specs.Prelude.{◌≡◌, ◌≤◌, ◌<◌, ◌⊎◌, ℕ, List, [], ◌∷◌, true, false, slice_index_or}
 use Rattle.sto_part.specs.Parts.{part_of}
 use Rattle.sto_model.specs.Told.{Told}
 use Rattle.sto_model.specs.Run.{Script as Steps, IsRun}
 use Rattle.sto_model.specs.Serial.{has_written}
 use Rattle.sto_model.specs.declared.body.Next.TheVariants.{Commit, Cancel}
 use Rattle.sto_type.specs.Known.{Parts}
-use Rattle.sto_type.specs.Meaning.{Meaning, IsPartOfObject}
+use Rattle.sto_type.specs.Meaning.{Meaning}
+use Rattle.sto_type.specs.Touching.{HasTouched}
 use Rattle.sto_type.specs.Runs.{IsRunOn}
 use Rattle.sto_core.specs.declared.view.Entry.{Entry}
 use Rattle.sto_core.specs.declared.view.Claim.{Claim}
@@ -20,18 +21,12 @@ use Rattle.sto_core.specs.declared.view.View.{View}
 use Rattle.sto_core.specs.Lists.{Each, Among}
 use Rattle.sto_core.specs.Versions.{ticket_of, is_free}
 use Rattle.sto_core.specs.History.{Shows}
-use Rattle.sto_model.specs.Asked.{HasAsked}
+use Rattle.sto_model.specs.Asked.{IsUnsettled}
 use Rattle.sto_attempt_facts.specs.Records.{Verdict, Wrote, Read, Cancelled, Locked, Changed}
 
 -- the contents have what the claims of the view say of the number n
 abbrev pub HasClaimed : View → ℕ → Parts → Type 0
 HasClaimed v n c = Each (λ (k : Claim). k.number ≡ n → part_of c k.part ≡ k.words) v.claims
-
--- the part is one of an object that the attempt asks: by the calls that its replies answer, or by the next one
-pub record IsAskedPart (m : Meaning) (f : Steps) (replies : List Told) (part : ℕ) : Type 0 where
-  pub object : ℕ
-  pub owned : IsPartOfObject m.homes object part
-  pub asked : HasAsked object f replies
 
 -- it wrote with the ticket: the view has its committed entry, and on all valid contents that have what the entry looked at, the replies
 -- and the updates are those of the transaction's serial run, which commits and has written
@@ -58,11 +53,13 @@ pub record HasCancelled (m : Meaning) (v : View) (f : Steps) (replies : List Tol
   pub runs : (c : Parts) → m.valid c → HasClaimed v n c → IsRun m.machines f (m.rows c) replies
   pub ends : f replies ≡ Cancel
 
--- it was aborted, as of the number n, and names a part: on the same contents the replies are the first ones of the serial run
+-- it was aborted, as of the number n, and names a part: on the same contents the replies are the first ones of the serial run; one of the
+-- calls that it asked may touch the part; and it was not at its end: a call was running, or it was committing what it had written
 pub record WasAborted (m : Meaning) (v : View) (f : Steps) (replies : List Told) (n part : ℕ) : Type 0 where
   pub known : n ≤ v.at
   pub runs : (c : Parts) → m.valid c → HasClaimed v n c → IsRun m.machines f (m.rows c) replies
-  pub asked : IsAskedPart m f replies part
+  pub touched : HasTouched m f replies part
+  pub unsettled : IsUnsettled f replies
 
 -- the view knows that the ticket wrote the part
 pub record HasWrote (v : View) (ticket part : ℕ) : Type 0 where

@@ -28,21 +28,22 @@ use Rattle.sto_core.proofs.Lists.{among_snoc}
 use Rattle.sto_type.specs.Known.{Parts, Known, IsPartOf}
 use Rattle.sto_type.specs.Meaning.{Meaning, IsLawful}
 use Rattle.sto_attempt_log.specs.declared.read_entry.ReadEntry.{ReadEntry}
-use Rattle.sto_attempt_log.specs.Asked.{IsAsked}
+use Rattle.sto_type.specs.Touching.{HasTouched}
 use Rattle.sto_attempt_log.specs.ReadSet.{words_in, claim_of, IsClaimed, AreClaimed, AllTrueIn}
 use Rattle.sto_attempt_log.specs.Log.{IsLog}
 use Rattle.sto_attempt_log.specs.Answers.{IsPrefix, HasFound, WasLocked, WasChanged}
 use Rattle.sto_attempt_log.specs.Standing.{numbered, Spans, IsRenewed, IsNext, IsLeft}
 use Rattle.sto_attempt_log.proofs.Claimed.{words_new}
-use Rattle.sto_attempt_log.proofs.Asking.{asked_range}
+use Rattle.sto_attempt_log.proofs.Touched.{touched_range}
 use Rattle.sto_attempt_log.proofs.Numbered.{numbered_more, all_numbered, words_numbered}
 use Rattle.sto_attempt_log.specs.Reasons.{WasReadUnder}
 use Rattle.sto_attempt_log.proofs.Prefix.{prefix, prefix_on, some_contents}
 use Rattle.sto_attempt_log.proofs.Drawing.{read_entry_of}
 use Rattle.sto_attempt_log.proofs.Reading.{odd_other, ticket_other, even_same, idle_reading, among_front, has_part, width_is}
 use Rattle.sto_attempt_log.proofs.Renewing.{recheck_locked, recheck_changed, recheck_left, recheck_keeps, recheck_number}
-use Rattle.sto_attempt_log.proofs.Anew.{next_observed, next_is, next_unread, renewed_more, watch_read, watch_asked, watch_true}
+use Rattle.sto_attempt_log.proofs.Anew.{next_observed, next_is, next_unread, renewed_more, watch_read, watch_touched, watch_true}
 use Rattle.sto_attempt_log.proofs.Spanning.{spans_quiet, spans_more, rests, may_recheck, recheck_spans}
+use Rattle.sto_model.specs.Asked.{IsUnsettled}
 
 -- a part that was read is claimed
 pub claimed_in : (v : View) (number : ℕ) (ss : List ReadEntry) (s : ReadEntry) → Contains ss s → AreClaimed v number ss → IsClaimed v number s
@@ -86,17 +87,17 @@ module _ (m : Meaning) (law : IsLawful m) (valid : Validity) (sizes : List ℕ) 
   pub was_read : IsSome (words_in base p)
   was_read = watch_read m law f base items es rs log some_old.0 some_old.1 some_old.2 p of_item
 
-  pub asked : IsAsked m f rs p
-  asked = watch_asked m law f base items es rs log some_old.0 some_old.1 some_old.2 p of_item
+  pub touched : HasTouched m f rs p
+  touched = watch_touched m law f base items es rs log some_old.0 some_old.1 some_old.2 p of_item
 
   runs : IsPrefix m f v at rs
   runs = prefix m f v at base items es rs log spans.claimed
 
   range : HasPart v p
-  range = has_part m law valid sizes f at p rs v spans.own asked
+  range = has_part m law valid sizes f at p rs v spans.own touched
 
   pub below_long : p < long
-  below_long = omega (arith, asked_range m f rs p asked, law.homes)
+  below_long = omega (arith, touched_range m law f rs p touched, law.homes)
 
   unread : words_in fresh p ≡ None
   unread = next_unread long (words_in base) fresh watches seen p next observed.parts.rising
@@ -125,15 +126,15 @@ module _ (m : Meaning) (law : IsLawful m) (valid : Validity) (sizes : List ℕ) 
       pub rechecked_within : at ≤ w.at
       rechecked_within = omega (arith, recheck_number m valid sizes f at bound rs v (rests m valid sizes at bound base fresh f rs v spans phase) s claim passes n x w own_told, spans.number, spans.above)
 
-      pub rechecked_locked : is_free n ≡ false → WasLocked m f w at p rs
-      rechecked_locked e =
+      pub rechecked_locked : IsUnsettled f rs → is_free n ≡ false → WasLocked m f w at p rs
+      rechecked_locked unsettled e =
           subst (λ (q : ℕ). WasLocked m f w at q rs) part
-          (recheck_locked m valid sizes f at bound rs v (rests m valid sizes at bound base fresh f rs v spans phase) s claim passes n x w own_told runs (subst (IsAsked m f rs) (sym part) asked) e).1
+          (recheck_locked m valid sizes f at bound rs v (rests m valid sizes at bound base fresh f rs v spans phase) s claim passes n x w own_told runs (subst (HasTouched m f rs) (sym part) touched) unsettled e).1
 
-      pub rechecked_changed : is_free n ≡ true → ticket_of n ≢ s.ticket → WasChanged m f w at p (ticket_of n) rs
-      rechecked_changed e ne =
+      pub rechecked_changed : IsUnsettled f rs → is_free n ≡ true → ticket_of n ≢ s.ticket → WasChanged m f w at p (ticket_of n) rs
+      rechecked_changed unsettled e ne =
           subst (λ (q : ℕ). WasChanged m f w at q (ticket_of n) rs) part
-          (recheck_changed m valid sizes f at bound rs v (rests m valid sizes at bound base fresh f rs v spans phase) s claim passes n x w own_told runs (subst (IsAsked m f rs) (sym part) asked) e ne)
+          (recheck_changed m valid sizes f at bound rs v (rests m valid sizes at bound base fresh f rs v spans phase) s claim passes n x w own_told runs (subst (HasTouched m f rs) (sym part) touched) unsettled e ne)
 
       -- read anew, with the same words
       module _ (e : is_free n ≡ true) (same : ticket_of n ≡ s.ticket) (y : ReadEntry) (of_part : y.part ≡ p) (ticket : y.ticket ≡ s.ticket) (words : y.words.items ≡ s.words.items) (known : words_in base p ≡ Some s.words.items) where
@@ -166,17 +167,17 @@ module _ (m : Meaning) (law : IsLawful m) (valid : Validity) (sizes : List ℕ) 
       reopened_left : u.phase ≡ P.Reading → IsLeft w
       reopened_left e = subst IsLeft (sym t.after) (record { idle = idle_reading u e; unheld = spans.unheld; decided = spans.decided })
 
-      pub reopened_locked : is_free n ≡ false → IsLeft w × WasLocked m f w at p rs
-      reopened_locked e =
+      pub reopened_locked : IsUnsettled f rs → is_free n ≡ false → IsLeft w × WasLocked m f w at p rs
+      reopened_locked unsettled e =
           let stop : u.phase ≡ P.Reading = rw e refl in
           let one : Finding = record { start = v.starts; part = p; version = n; held = false } in
           let there : Among one u.findings = subst (λ (b : Bool). Among one (v.findings ++ record { start = v.starts; part = p; version = n; held = b } ∷ [])) (sym held_none) (among_snoc v.findings one) in
           let runs_u : IsPrefix m f u at rs = runs in
-          let h : WasLocked m f u at p rs = record { runs = runs_u; asked = asked; found = record { version = n; among = there; locked = e } } in
+          let h : WasLocked m f u at p rs = record { runs = runs_u; touched = touched; unsettled = unsettled; found = record { version = n; among = there; locked = e } } in
           (reopened_left stop, subst (λ (y : View). WasLocked m f y at p rs) (sym t.after) h)
 
-      pub reopened_changed : is_free n ≡ true → bound < ticket_of n → IsLeft w × WasChanged m f w at p (ticket_of n) rs
-      reopened_changed e l =
+      pub reopened_changed : IsUnsettled f rs → is_free n ≡ true → bound < ticket_of n → IsLeft w × WasChanged m f w at p (ticket_of n) rs
+      reopened_changed unsettled e l =
           let over : nat_le (ticket_of n) v.at ≡ false = grind (arith, nat_tests, spans.number) in
           let stop : u.phase ≡ P.Reading = rw (e, over) refl in
           let own : is_own_or_free v p n ≡ true = rw e refl in
@@ -187,7 +188,8 @@ module _ (m : Meaning) (law : IsLawful m) (valid : Validity) (sizes : List ℕ) 
             reopened_left stop,
             record {
               runs = subst (λ (y : View). IsPrefix m f y at rs) (sym t.after) runs_u;
-              asked = asked;
+              touched = touched;
+              unsettled = unsettled;
               found = subst (λ (y : View). HasFound y p (ticket_of n)) (sym t.after) there;
               later = omega (arith, spans.above, l);
               wrote = subst (λ (k : ℕ). Among (record { start = k; ticket = ticket_of n; part = p }) w.wrote) (sym same) (t.learns.wrote own (omega (arith, l)));
@@ -207,7 +209,7 @@ module _ (m : Meaning) (law : IsLawful m) (valid : Validity) (sizes : List ℕ) 
     the_read = record { part = p; ticket = s; reads = numbered 0 ws }
 
     width_here : width_in v p ≡ slice_index_or m.widths p 0
-    width_here = width_is m law valid sizes f at p rs v spans.own asked
+    width_here = width_is m law valid sizes f at p rs v spans.own touched
 
     pub reread_allowed : length ws < slice_index_or m.widths p 0 → Allowed valid (Word p (length ws)) v
     reread_allowed l = (subst (MayRead v p) (sym phase) refl, (range, omega (arith, l, width_here)))
@@ -281,13 +283,13 @@ module _ (m : Meaning) (law : IsLawful m) (valid : Validity) (sizes : List ℕ) 
           | inr e ↦ let same : w.at ≡ v.at = ap (λ (x : View). x.at) (to_unclaimed e) in omega (arith, same, spans.number, spans.above)
         ]
 
-        pub reclosed_locked : is_free n ≡ false → WasLocked m f w at p rs
-        reclosed_locked e =
+        pub reclosed_locked : IsUnsettled f rs → is_free n ≡ false → WasLocked m f w at p rs
+        reclosed_locked unsettled e =
             let to : w ≡ unclaimed = to_unclaimed (odd_other n s e) in
             let one : Finding = record { start = v.starts; part = p; version = n; held = false } in
             let there : Among one unclaimed.findings = subst (λ (b : Bool). Among one (v.findings ++ record { start = v.starts; part = p; version = n; held = b } ∷ [])) (sym held_none) (among_snoc v.findings one) in
             let runs_u : IsPrefix m f unclaimed at rs = runs in
-            let h : WasLocked m f unclaimed at p rs = record { runs = runs_u; asked = asked; found = record { version = n; among = there; locked = e } } in
+            let h : WasLocked m f unclaimed at p rs = record { runs = runs_u; touched = touched; unsettled = unsettled; found = record { version = n; among = there; locked = e } } in
             subst (λ (y : View). WasLocked m f y at p rs) (sym to) h
 
         closes_here : Closes (P.Looking the_read) v p n
@@ -296,8 +298,8 @@ module _ (m : Meaning) (law : IsLawful m) (valid : Validity) (sizes : List ℕ) 
         abbrev finding : Finding
         finding = record { start = v.starts; part = p; version = n; held = holds p v.held }
 
-        pub reclosed_changed : is_free n ≡ true → ticket_of n ≢ s → WasChanged m f w at p (ticket_of n) rs
-        reclosed_changed e ne =
+        pub reclosed_changed : IsUnsettled f rs → is_free n ≡ true → ticket_of n ≢ s → WasChanged m f w at p (ticket_of n) rs
+        reclosed_changed unsettled e ne =
             let to : w ≡ unclaimed = to_unclaimed (ticket_other n s ne) in
             let newer : (s < ticket_of n) × (v.at < ticket_of n) = closes_here.0 e ne in
             let own : is_own_or_free v p n ≡ true = rw e refl in
@@ -306,7 +308,8 @@ module _ (m : Meaning) (law : IsLawful m) (valid : Validity) (sizes : List ℕ) 
             let runs_u : IsPrefix m f unclaimed at rs = runs in
             record {
               runs = subst (λ (y : View). IsPrefix m f y at rs) (sym to) runs_u;
-              asked = asked;
+              touched = touched;
+              unsettled = unsettled;
               found = subst (λ (y : View). HasFound y p (ticket_of n)) (sym to) there;
               later = omega (arith, newer.1, spans.number, spans.above);
               wrote = subst (λ (k : ℕ). Among (record { start = k; ticket = ticket_of n; part = p }) w.wrote) (sym same) (t.learns.0.wrote own (omega (arith, newer.0)));
@@ -323,8 +326,8 @@ module _ (m : Meaning) (law : IsLawful m) (valid : Validity) (sizes : List ℕ) 
               subst (λ (y : View). WasReadUnder y p s ws) (sym (to_claimed again)) here
 
           -- a predicate is false: the ticket is later than the claims, of whose words it is true
-          pub reclosed_false : (preds : List Pred) → preds ≡ preds_on p items → (AllTrueIn ws preds → ⊥) → WasChanged m f w at p s rs
-          reclosed_false preds are fails =
+          pub reclosed_false : IsUnsettled f rs → (preds : List Pred) → preds ≡ preds_on p items → (AllTrueIn ws preds → ⊥) → WasChanged m f w at p s rs
+          reclosed_false unsettled preds are fails =
               let to : w ≡ claimed_view = to_claimed again in
               let own : is_own_or_free v p n ≡ true = rw e refl in
               let there : HasFound claimed_view p s = record { finding = finding; among = among_snoc v.findings finding; start = refl; on = refl; is = same; own = inl e } in
@@ -333,7 +336,8 @@ module _ (m : Meaning) (law : IsLawful m) (valid : Validity) (sizes : List ℕ) 
               let later : at < s = not_early s at (λ l. by (words_in base p) refl was_read l) in
               record {
                 runs = subst (λ (y : View). IsPrefix m f y at rs) (sym to) runs_c;
-                asked = asked;
+                touched = touched;
+                unsettled = unsettled;
                 found = subst (λ (y : View). HasFound y p s) (sym to) there;
                 later = later;
                 wrote = subst (λ (k : ℕ). Among (record { start = k; ticket = s; part = p }) w.wrote) (sym starts) (subst (λ (k : ℕ). Among (record { start = v.starts; ticket = k; part = p }) w.wrote) same (t.learns.0.wrote own (omega (arith, same, later))));

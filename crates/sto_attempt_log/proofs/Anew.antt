@@ -18,13 +18,14 @@ use Rattle.sto_model.specs.Run.{Script}
 use Rattle.sto_type.specs.Known.{Parts, Known, IsPartOf}
 use Rattle.sto_type.specs.Meaning.{Meaning, IsLawful}
 use Rattle.sto_attempt_log.specs.declared.read_entry.ReadEntry.{ReadEntry}
-use Rattle.sto_attempt_log.specs.Asked.{AllOf, IsAsked}
+use Rattle.sto_attempt_log.specs.Every.{AllOf}
+use Rattle.sto_type.specs.Touching.{HasTouched}
 use Rattle.sto_attempt_log.specs.ReadSet.{words_in, IsTrueIn, AllTrueIn}
 use Rattle.sto_attempt_log.specs.Log.{IsLog, IsRead}
 use Rattle.sto_attempt_log.specs.Extending.{StaysSo, IsWatched, StaysWatched}
 use Rattle.sto_attempt_log.specs.Standing.{IsRenewed, IsNext}
 use Rattle.sto_attempt_log.proofs.Every.{all_contained, all_map, all_append}
-use Rattle.sto_attempt_log.proofs.Asking.{asked_range}
+use Rattle.sto_attempt_log.proofs.Touched.{touched_range}
 use Rattle.sto_attempt_log.proofs.Claimed.{words_more}
 use Rattle.sto_attempt_log.proofs.Extended.{carried_over}
 use Rattle.sto_attempt_log.proofs.Observing.{WasTrue, all_stay}
@@ -167,7 +168,7 @@ module _ (m : Meaning) (law : IsLawful m) (f : Script) (base : List ReadEntry) (
   wide d v = sym (length-map d length) ∙ ap length (law.widths d v)
 
   in_range : AllOf (λ (i : Item). part_of_item i < long) items
-  in_range = all_map (λ (i : Item). IsAsked m f rs (part_of_item i)) (λ (i : Item). part_of_item i < long) (λ i h. omega (arith, asked_range m f rs (part_of_item i) h, law.homes)) items log.asked_items
+  in_range = all_map (λ (i : Item). HasTouched m f rs (part_of_item i)) (λ (i : Item). part_of_item i < long) (λ i h. omega (arith, touched_range m law f rs (part_of_item i) h, law.homes)) items log.touched_items
 
   pub were_true : AllOf (WasTrue (words_in base)) items
   were_true = all_were_true long (words_in base) c items (wide c valid) part in_range (log.carried.holds c valid part)
@@ -183,8 +184,8 @@ module _ (m : Meaning) (law : IsLawful m) (f : Script) (base : List ReadEntry) (
         carried = carried_over m (words_in base) (words_in fresh) f items es rs long c wide valid part stay log.carried;
         read = all_map (StaysSo long (words_in base) (words_in fresh)) (IsRead (words_in fresh)) (some_words (words_in fresh)) items stay;
         inside = log.inside;
-        asked_items = log.asked_items;
-        asked_updates = log.asked_updates;
+        touched_items = log.touched_items;
+        touched_updates = log.touched_updates;
         written = log.written;
       }
 
@@ -192,8 +193,8 @@ module _ (m : Meaning) (law : IsLawful m) (f : Script) (base : List ReadEntry) (
   pub watch_read : (p : ℕ) → Contains (parts_of_items items) p → IsSome (words_in base p)
   watch_read p h = all_contained (λ (q : ℕ). IsSome (words_in base q)) (parts_of_items items) p h (all_mapped (λ (q : ℕ). IsSome (words_in base q)) items log.read)
 
-  pub watch_asked : (p : ℕ) → Contains (parts_of_items items) p → IsAsked m f rs p
-  watch_asked p h = all_contained (λ (q : ℕ). IsAsked m f rs q) (parts_of_items items) p h (all_mapped (λ (q : ℕ). IsAsked m f rs q) items log.asked_items)
+  pub watch_touched : (p : ℕ) → Contains (parts_of_items items) p → HasTouched m f rs p
+  watch_touched p h = all_contained (λ (q : ℕ). HasTouched m f rs q) (parts_of_items items) p h (all_mapped (λ (q : ℕ). HasTouched m f rs q) items log.touched_items)
 
   -- and predicates on it were true of its words
   pub watch_true : (p : ℕ) (ws : List ℤ) → words_in base p ≡ Some ws → AllTrueIn ws (preds_on p items)
@@ -201,4 +202,4 @@ module _ (m : Meaning) (law : IsLawful m) (f : Script) (base : List ReadEntry) (
 
   -- and is one of the type's
   pub items_range : (p : ℕ) → Contains (parts_of_items items) p → p < long
-  items_range p h = omega (arith, asked_range m f rs p (watch_asked p h), law.homes)
+  items_range p h = omega (arith, touched_range m law f rs p (watch_touched p h), law.homes)

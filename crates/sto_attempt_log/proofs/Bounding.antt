@@ -17,7 +17,7 @@ use Rattle.sto_attempt_log.specs.declared.read_phase.ReadPhase.{ReadPhase}
 use Rattle.sto_attempt_log.specs.declared.verdict.Turn.{Turn}
 use Rattle.sto_attempt_log.specs.declared.log.Reached.{Reached}
 use Rattle.sto_attempt_log.specs.declared.log.Reached.TheVariants.{Needs, Commits, Cancels}
-use Rattle.sto_attempt_log.specs.Asked.{AllOf}
+use Rattle.sto_attempt_log.specs.Every.{AllOf}
 use Rattle.sto_attempt_log.specs.ReadSet.{words_in}
 use Rattle.sto_attempt_log.specs.Led.{IsLed}
 use Rattle.sto_attempt_log.specs.Standing.{IsRenewed, IsNext}

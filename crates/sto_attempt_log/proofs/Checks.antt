@@ -26,7 +26,7 @@ use Rattle.sto_attempt_log.specs.declared.commit_phase.FoundTicket.{FoundTicket}
 use Rattle.sto_attempt_log.specs.declared.commit_phase.LoadedWord.{LoadedWord}
 use Rattle.sto_attempt_log.specs.declared.verdict.Verdict.{Verdict}
 use Rattle.sto_attempt_log.specs.declared.verdict.Verdict.TheVariants.{Locked, Changed}
-use Rattle.sto_attempt_log.specs.Asked.{IsAsked}
+use Rattle.sto_type.specs.Touching.{HasTouched}
 use Rattle.sto_attempt_log.specs.Answers.{HasFound}
 use Rattle.sto_attempt_log.specs.Log.{IsRead}
 use Rattle.sto_attempt_log.specs.ReadSet.{words_in, ticket_in, AreClaimed, claim_of}
@@ -40,6 +40,7 @@ use Rattle.sto_attempt_log.proofs.Leaving.{Sealed, sealed_still}
 use Rattle.sto_attempt_log.proofs.Locking.{found_still, wrote_kept}
 use Rattle.sto_attempt_log.proofs.Loading.{each_but}
 use Rattle.sto_attempt_log.proofs.SeenParts.{among_any, any_among, loaded_unseen}
+use Rattle.sto_attempt_log.proofs.Unsettled.{unsettled_sealed}
 
 -- the claim of a part that was read
 pub record ClaimAt (v : View) (number p t : ℕ) : Type 0 where
@@ -84,27 +85,27 @@ not_below : (t at s : ℕ) → (t ≤ at → t ≡ s) → t ≢ s → at < t
 not_below t at s same ne = grind arith
 
 module _ (d : Deal) (law : IsLawful d.m) (n ticket : ℕ) (found_tickets : Listed FoundTicket) (loaded_words : List LoadedWord) (v : View) (h : IsCheckingAt d n ticket found_tickets loaded_words v) (p : ℕ) (get : slice_get d.checks n ≡ Some p) where
-  asked_seen : Among p d.seen → IsAsked d.m d.f d.rs p
-  asked_seen a = all_contained (λ (y : Item). IsAsked d.m d.f d.rs (part_of_item y)) d.items (Seen p) (h.planned.of_seen a.0 p a.1) h.sealed.log.asked_items
+  touched_seen : Among p d.seen → HasTouched d.m d.f d.rs p
+  touched_seen a = all_contained (λ (y : Item). HasTouched d.m d.f d.rs (part_of_item y)) d.items (Seen p) (h.planned.of_seen a.0 p a.1) h.sealed.log.touched_items
 
-  asked_loaded : Among p d.loaded → IsAsked d.m d.f d.rs p
-  asked_loaded a =
+  touched_loaded : Among p d.loaded → HasTouched d.m d.f d.rs p
+  touched_loaded a =
       let k = h.planned.on_loaded a.0 p a.1 in
-      subst (IsAsked d.m d.f d.rs) k.2 (all_contained (λ (y : Item). IsAsked d.m d.f d.rs (part_of_item y)) d.items (Holds k.0) k.1 h.sealed.log.asked_items)
+      subst (HasTouched d.m d.f d.rs) k.2 (all_contained (λ (y : Item). HasTouched d.m d.f d.rs (part_of_item y)) d.items (Holds k.0) k.1 h.sealed.log.touched_items)
 
   read_loaded : Among p d.loaded → IsSome (words_in d.base p)
   read_loaded a =
       let k = h.planned.on_loaded a.0 p a.1 in
       subst (λ (q : ℕ). IsSome (words_in d.base q)) k.2 (all_contained (IsRead (words_in d.base)) d.items (Holds k.0) k.1 h.sealed.log.read)
 
-  asked : IsAsked d.m d.f d.rs p
-  asked = elim (each_get (λ (p : ℕ). Among p d.seen ⊎ (Among p d.loaded × (writes d.us p ≡ false))) d.checks n p get h.planned.from_checks) [
-    | inl s ↦ asked_seen s
-    | inr l ↦ asked_loaded l.0
+  touched : HasTouched d.m d.f d.rs p
+  touched = elim (each_get (λ (p : ℕ). Among p d.seen ⊎ (Among p d.loaded × (writes d.us p ≡ false))) d.checks n p get h.planned.from_checks) [
+    | inl s ↦ touched_seen s
+    | inr l ↦ touched_loaded l.0
   ]
 
   pub may_check : Allowed d.valid (Check p) v
-  may_check = ((ticket, h.phase), has_part d.m law d.valid d.sizes d.f d.at p d.rs v h.sealed.own asked)
+  may_check = ((ticket, h.phase), has_part d.m law d.valid d.sizes d.f d.at p d.rs v h.sealed.own touched)
 
   held_is : writes d.us p ≡ holds p v.held
   held_is = held_written d.us v p (record { held = h.holding.held })
@@ -136,7 +137,8 @@ module _ (d : Deal) (law : IsLawful d.m) (n ticket : ℕ) (found_tickets : Liste
           refl,
           record {
             runs = prefix d.m d.f it d.at d.base d.items d.us d.rs sealed.log sealed.claimed;
-            asked = asked;
+            touched = touched;
+            unsettled = unsettled_sealed d.m d.valid d.sizes d.f d.at d.base d.items d.us d.rs v h.sealed;
             found = record { version = m; among = there; locked = busy };
           },
         )
@@ -173,7 +175,8 @@ module _ (d : Deal) (law : IsLawful d.m) (n ticket : ℕ) (found_tickets : Liste
             refl,
             record {
               runs = prefix d.m d.f it d.at d.base d.items d.us d.rs sealed.log sealed.claimed;
-              asked = asked;
+              touched = touched;
+              unsettled = unsettled_sealed d.m d.valid d.sizes d.f d.at d.base d.items d.us d.rs v h.sealed;
               found = there;
               later = later ne;
               wrote = subst (λ (y : View). Among (record { start = v.starts; ticket = ticket_of m; part = p }) y.wrote) is_it (t.learns.wrote own (omega (arith, later ne)));

@@ -25,7 +25,7 @@ use Rattle.sto_core.proofs.Lists.{both_are}
 use Rattle.sto_type.specs.Known.{Parts, Known, IsPartOf}
 use Rattle.sto_type.specs.Meaning.{Meaning, IsLawful}
 use Rattle.sto_attempt_log.specs.declared.read_entry.ReadEntry.{ReadEntry}
-use Rattle.sto_attempt_log.specs.Asked.{AllOf}
+use Rattle.sto_attempt_log.specs.Every.{AllOf}
 use Rattle.sto_attempt_log.specs.ReadSet.{IsTrueIn, AreOnly, ticket_in, words_in, claim_of, IsClaimed, AreClaimed}
 use Rattle.sto_attempt_log.specs.Log.{IsLog, IsRead}
 use Rattle.sto_attempt_log.specs.Looking.{IsLooked, LooksAt, IsCovered}

@@ -24,7 +24,7 @@ use Rattle.sto_type.specs.Known.{Parts}
 use Rattle.sto_type.specs.Meaning.{IsLawful}
 use Rattle.sto_attempt_log.specs.declared.commit_phase.FoundTicket.{FoundTicket}
 use Rattle.sto_attempt_log.specs.declared.commit_phase.LoadedWord.{LoadedWord}
-use Rattle.sto_attempt_log.specs.Asked.{AllOf}
+use Rattle.sto_attempt_log.specs.Every.{AllOf}
 use Rattle.sto_attempt_log.specs.Log.{IsRead}
 use Rattle.sto_attempt_log.specs.ReadSet.{words_in, IsTrueIn, HasClaims}
 use Rattle.sto_attempt_log.specs.Looking.{LooksAt, IsCovered}

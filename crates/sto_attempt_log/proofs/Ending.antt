@@ -25,7 +25,8 @@ use Rattle.sto_attempt_log.specs.declared.commit_phase.FoundTicket.{FoundTicket}
 use Rattle.sto_attempt_log.specs.declared.commit_phase.LoadedWord.{LoadedWord}
 use Rattle.sto_attempt_log.specs.declared.verdict.Verdict.{Verdict}
 use Rattle.sto_attempt_log.specs.declared.verdict.Verdict.TheVariants.{Locked, Changed}
-use Rattle.sto_attempt_log.specs.Asked.{AllOf, IsAsked}
+use Rattle.sto_attempt_log.specs.Every.{AllOf}
+use Rattle.sto_type.specs.Touching.{HasTouched}
 use Rattle.sto_attempt_log.specs.ReadSet.{words_in, ticket_in, claim_of, IsTrueIn, HasClaims}
 use Rattle.sto_attempt_log.specs.CommitPhases.{Deal, task, ticket_from, reads_of, IsDone, IsTrueOn, WasFound, IsLeaving, IsLoadingAt, IsTestedWord, words_loaded, due, HasSpace, SpaceAt, IsAim}
 use Rattle.sto_attempt_log.proofs.Every.{all_contained}
@@ -47,7 +48,8 @@ use Rattle.sto_attempt_log.proofs.Drawing.{were_true}
 use Rattle.sto_attempt_log.proofs.Observing.{WasTrue}
 use Rattle.sto_attempt_log.specs.Reasons.{WasReadUnder, IsByPredicate, IsByTest}
 use Rattle.sto_attempt_log.proofs.SeenParts.{loaded_unseen}
-use Rattle.sto_attempt_log.proofs.Unheld.{task_loaded, task_asked, task_read_entry, task_read, part_there, part_wide}
+use Rattle.sto_attempt_log.proofs.Unheld.{task_loaded, task_touched, task_read_entry, task_read, part_there, part_wide}
+use Rattle.sto_attempt_log.proofs.Unsettled.{unsettled_sealed}
 
 pub odd_version : (n s : ℕ) → is_free n ≡ false → nat_eq n (2 * s) ≡ false
 odd_version n s e = grind (arith, nat_tests)
@@ -87,8 +89,8 @@ module _ (d : Deal) (law : IsLawful d.m) (n i t : ℕ) (found_tickets : Listed F
   abbrev o : OpenRead
   o = record { part = r; ticket = t; reads = reads_of loaded_words r }
 
-  asked : IsAsked d.m d.f d.rs r
-  asked = task_asked d law n v h.going.sealed h.going.planned h.below h.unwritten
+  touched : HasTouched d.m d.f d.rs r
+  touched = task_touched d law n v h.going.sealed h.going.planned h.below h.unwritten
 
   unheld : holds r v.held ≡ false
   unheld = sym (held_written d.us v r (record { held = h.holding.held })) ∙ h.unwritten
@@ -142,7 +144,8 @@ module _ (d : Deal) (law : IsLawful d.m) (n i t : ℕ) (found_tickets : Listed F
               refl,
               record {
                 runs = prefix d.m d.f left d.at d.base d.items d.us d.rs sealed_left.log sealed_left.claimed;
-                asked = asked;
+                touched = touched;
+                unsettled = unsettled_sealed d.m d.valid d.sizes d.f d.at d.base d.items d.us d.rs v h.going.sealed;
                 found = record { version = m; among = there; locked = busy };
               },
             );
@@ -165,7 +168,8 @@ module _ (d : Deal) (law : IsLawful d.m) (n i t : ℕ) (found_tickets : Listed F
               refl,
               record {
                 runs = prefix d.m d.f left d.at d.base d.items d.us d.rs sealed_left.log sealed_left.claimed;
-                asked = asked;
+                touched = touched;
+                unsettled = unsettled_sealed d.m d.valid d.sizes d.f d.at d.base d.items d.us d.rs v h.going.sealed;
                 found = record { finding = finding; among = among_snoc v.findings finding; start = refl; on = refl; is = refl; own = inl free };
                 later = late;
                 wrote = subst (λ (y : View). Among (record { start = v.starts; ticket = ticket_of m; part = r }) y.wrote) is_left (tells.learns.0.wrote own (omega (arith, late)));
@@ -296,7 +300,8 @@ module _ (d : Deal) (law : IsLawful d.m) (n i t : ℕ) (found_tickets : Listed F
                 refl,
                 record {
                   runs = prefix d.m d.f made d.at d.base d.items d.us d.rs sealed_made.log sealed_made.claimed;
-                  asked = asked;
+                  touched = touched;
+                  unsettled = unsettled_sealed d.m d.valid d.sizes d.f d.at d.base d.items d.us d.rs v h.going.sealed;
                   found = k.found;
                   later = later;
                   wrote = k.wrote (omega (arith, later));

@@ -11,7 +11,7 @@ use Rattle.sto_model.specs.Run.{Script}
 use Rattle.sto_type.specs.Known.{Parts, Known, IsPartOf}
 use Rattle.sto_type.specs.Meaning.{Meaning}
 use Rattle.sto_type.specs.Runs.{IsCarried}
-use Rattle.sto_attempt_log.specs.Asked.{AllOf}
+use Rattle.sto_attempt_log.specs.Every.{AllOf}
 use Rattle.sto_attempt_log.specs.Extending.{StaysSo}
 
 -- each item is said of the new parts as of the old

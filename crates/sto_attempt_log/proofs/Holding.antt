@@ -8,7 +8,7 @@ use Rattle.sto_core.specs.declared.view.Phase.{Phase}
 use Rattle.sto_core.specs.Lists.{Each}
 use Rattle.sto_core.specs.Views.{holds, without}
 use Rattle.sto_core.specs.Event.{phase_left}
-use Rattle.sto_attempt_log.specs.Asked.{AllOf}
+use Rattle.sto_attempt_log.specs.Every.{AllOf}
 use Rattle.sto_attempt_log.specs.Committing.{written}
 
 abbrev pub parts_held : List Held → List ℕ

@@ -29,7 +29,8 @@ use Rattle.sto_type.specs.Meaning.{IsLawful}
 use Rattle.sto_attempt_log.specs.declared.commit_phase.FoundTicket.{FoundTicket}
 use Rattle.sto_attempt_log.specs.declared.commit_phase.LoadedWord.{LoadedWord}
 use Rattle.sto_attempt_log.specs.declared.verdict.Verdict.TheVariants.{Wrote}
-use Rattle.sto_attempt_log.specs.Asked.{AllOf, IsAsked}
+use Rattle.sto_attempt_log.specs.Every.{AllOf}
+use Rattle.sto_type.specs.Touching.{HasTouched}
 use Rattle.sto_attempt_log.specs.Answers.{HasWritten}
 use Rattle.sto_attempt_log.specs.ReadSet.{words_in}
 use Rattle.sto_attempt_log.specs.Looking.{LooksAt}
@@ -131,10 +132,10 @@ module _ (d : Deal) (law : IsLawful d.m) (n k ticket : ℕ) (puts : List (ℕ ×
       let was : own_ticket v.phase ≡ ticket = ap own_ticket h.phase in
       ap (λ (l : List Entry). entry_of (own_ticket w.phase) l) es ∙ ap (λ (j : ℕ). entry_of j v.entries) (e ∙ sym was)
 
-  in_range : (p : ℕ) (us : List Update) → writes us p ≡ true → AllOf (λ (e : Update). IsAsked d.m d.f d.rs e.0) us → IsAsked d.m d.f d.rs p
+  in_range : (p : ℕ) (us : List Update) → writes us p ≡ true → AllOf (λ (e : Update). HasTouched d.m d.f d.rs e.0) us → HasTouched d.m d.f d.rs p
   in_range p [] e a = cc
   in_range p (u ∷ us) e a = elim (cases_Bool (nat_eq u.0 p)) [
-    | inl hit ↦ subst (IsAsked d.m d.f d.rs) (eqb-true u.0 p hit) a.0
+    | inl hit ↦ subst (HasTouched d.m d.f d.rs) (eqb-true u.0 p hit) a.0
     | inr miss ↦ in_range p us (rw miss at e) a.1
   ]
 
@@ -167,8 +168,8 @@ module _ (d : Deal) (law : IsLawful d.m) (n k ticket : ℕ) (puts : List (ℕ ×
 
     pub may_put : Allowed d.valid (PutAt y.0 y.1 value) v
     may_put =
-        let asked : IsAsked d.m d.f d.rs y.0 = in_range y.0 d.us place.written h.sealed.log.asked_updates in
-        let range : HasPart v y.0 = has_part d.m law d.valid d.sizes d.f d.at y.0 d.rs v h.sealed.own asked in
+        let touched : HasTouched d.m d.f d.rs y.0 = in_range y.0 d.us place.written h.sealed.log.touched_updates in
+        let range : HasPart v y.0 = has_part d.m law d.valid d.sizes d.f d.at y.0 d.rs v h.sealed.own touched in
         let word : HasWord v y.0 y.1 = (range, omega (arith, place.within, wide y.0)) in
         let put : IsPutOf (change_at (own_entry v).updates y.0 y.1) (hold_of y.0 v.held).reads y.1 value =
         subst (λ (l : List Update). IsPutOf (change_at l y.0 y.1) (hold_of y.0 v.held).reads y.1 value) (sym h.updates)
@@ -245,8 +246,8 @@ module _ (d : Deal) (law : IsLawful d.m) (n k ticket : ℕ) (puts : List (ℕ ×
 
     pub may_release : Allowed d.valid (Release u.0) v
     may_release =
-        let asked : IsAsked d.m d.f d.rs u.0 = all_get (λ (e : Update). IsAsked d.m d.f d.rs e.0) d.us k u get h.sealed.log.asked_updates in
-        let range : HasPart v u.0 = has_part d.m law d.valid d.sizes d.f d.at u.0 d.rs v h.sealed.own asked in
+        let touched : HasTouched d.m d.f d.rs u.0 = all_get (λ (e : Update). HasTouched d.m d.f d.rs e.0) d.us k u get h.sealed.log.touched_updates in
+        let range : HasPart v u.0 = has_part d.m law d.valid d.sizes d.f d.at u.0 d.rs v h.sealed.own touched in
         subst (MayRelease u.0 v) (sym h.phase) (range, holds_first u.0 v.held (drop (suc k) (take (length d.us) (written d.us))) first, all_put)
 
     module _ (w : View) (passes found : ℕ) (x : ℤ) (t : Tells d.valid passes (Release u.0) v found x w) where

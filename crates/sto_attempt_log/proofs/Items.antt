@@ -5,7 +5,7 @@ use Rattle.sto_item.specs.Recorded.{Recorded, AddsItem}
 use Rattle.sto_item.specs.Agreement.{Agrees}
 use Rattle.sto_item.proofs.Agreeing.{Agrees-append, Agrees-split, Agrees-added, Agrees-before}
 use Rattle.sto_type.specs.Known.{Parts}
-use Rattle.sto_attempt_log.specs.Asked.{AllOf}
+use Rattle.sto_attempt_log.specs.Every.{AllOf}
 use Rattle.sto_item.specs.Recorded.{AddsItems}
 use Rattle.sto_attempt_log.proofs.Every.{all_append}
 

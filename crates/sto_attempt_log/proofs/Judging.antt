@@ -28,7 +28,8 @@ use Rattle.sto_type.specs.Meaning.{IsLawful}
 use Rattle.sto_attempt_log.specs.declared.commit_phase.FoundTicket.{FoundTicket}
 use Rattle.sto_attempt_log.specs.declared.commit_phase.LoadedWord.{LoadedWord}
 use Rattle.sto_attempt_log.specs.declared.verdict.Verdict.TheVariants.{Changed}
-use Rattle.sto_attempt_log.specs.Asked.{AllOf, IsAsked}
+use Rattle.sto_attempt_log.specs.Every.{AllOf}
+use Rattle.sto_type.specs.Touching.{HasTouched}
 use Rattle.sto_attempt_log.specs.Log.{IsRead, IsInside}
 use Rattle.sto_part.specs.Preds.{holds_of}
 use Rattle.sto_attempt_log.specs.ReadSet.{words_in, IsTrueIn, HasClaims}
@@ -43,6 +44,7 @@ use Rattle.sto_attempt_log.proofs.Prefix.{prefix}
 use Rattle.sto_attempt_log.proofs.Ticketing.{held_written}
 use Rattle.sto_attempt_log.proofs.Leaving.{some_update}
 use Rattle.sto_attempt_log.proofs.Loading.{each_but, each_cons, hold_has, task_wide, read_view, is_read, after_read, words_more}
+use Rattle.sto_attempt_log.proofs.Unsettled.{unsettled_sealed}
 
 -- what was loaded of a part under its hold is what was read before
 pub agrees_of : (d : Deal) (found_tickets : List FoundTicket) (loaded_words : List LoadedWord) (p : ℕ) (ws : List ℤ) → Each (IsAsBefore d found_tickets) loaded_words → writes d.us p ≡ true → ticket_from 0 found_tickets p ≤ d.at → words_in d.base p ≡ Some ws → ReadsAgree (reads_of loaded_words p) ws
@@ -156,7 +158,7 @@ module _ (d : Deal) (law : IsLawful d.m) (n i : ℕ) (found_tickets : Listed Fou
 
     pub load_fails : IsLeaving d 0 (length d.us) (Changed d.at (task d n) (ticket_from 0 found_tickets.items (task d n))) w
     load_fails =
-        let asked : IsAsked d.m d.f d.rs p = subst (IsAsked d.m d.f d.rs) on (all_contained (λ (y : Item). IsAsked d.m d.f d.rs (part_of_item y)) d.items (Holds q) there h.loading.going.sealed.log.asked_items) in
+        let touched : HasTouched d.m d.f d.rs p = subst (HasTouched d.m d.f d.rs) on (all_contained (λ (y : Item). HasTouched d.m d.f d.rs (part_of_item y)) d.items (Holds q) there h.loading.going.sealed.log.touched_items) in
         let it : IsLeaving d 0 (length d.us) (Changed d.at p (ticket_from 0 found_tickets.items p)) read = record {
           below = (some_update d going.going.sealed.some, omega arith);
           sealed = going.going.sealed;
@@ -168,7 +170,8 @@ module _ (d : Deal) (law : IsLawful d.m) (n i : ℕ) (found_tickets : Listed Fou
             refl,
             record {
               runs = prefix d.m d.f read d.at d.base d.items d.us d.rs going.going.sealed.log going.going.sealed.claimed;
-              asked = asked;
+              touched = touched;
+              unsettled = unsettled_sealed d.m d.valid d.sizes d.f d.at d.base d.items d.us d.rs read going.going.sealed;
               found = known_p.found;
               later = later;
               wrote = known_p.wrote (omega (arith, later));

@@ -22,7 +22,7 @@ use Rattle.sto_core.specs.Tells.{Tells, ClaimsFit}
 use Rattle.sto_type.specs.Meaning.{IsLawful, is_empty}
 use Rattle.sto_attempt_log.specs.declared.verdict.Verdict.{Verdict}
 use Rattle.sto_attempt_log.specs.declared.verdict.Verdict.TheVariants.{Wrote, Read, Cancelled, Locked, Changed}
-use Rattle.sto_attempt_log.specs.Asked.{IsAsked}
+use Rattle.sto_type.specs.Touching.{HasTouched}
 use Rattle.sto_attempt_log.specs.Answers.{IsPrefix, WasLocked, WasChanged}
 use Rattle.sto_attempt_log.specs.Standing.{IsLeft}
 use Rattle.sto_attempt_log.specs.Committing.{written, IsSealed}
@@ -59,7 +59,7 @@ module _ (d : Deal) (v w : View) (starts : w.starts ≡ v.starts) (claims : w.cl
     locked_still p h =
         let it : Finding = record { start = w.starts; part = p; version = h.found.version; held = false } in
         let same : Among it v.findings = subst (λ (k : ℕ). Among (record { start = k; part = p; version = h.found.version; held = false }) v.findings) (sym starts) h.found.among in
-        record { runs = prefix_still h.runs; asked = h.asked; found = record { version = h.found.version; among = findings it same; locked = h.found.locked } }
+        record { runs = prefix_still h.runs; touched = h.touched; unsettled = h.unsettled; found = record { version = h.found.version; among = findings it same; locked = h.found.locked } }
 
     pub changed_still : (p t : ℕ) → WasChanged d.m d.f v d.at p t d.rs → WasChanged d.m d.f w d.at p t d.rs
     changed_still p t h =
@@ -67,7 +67,8 @@ module _ (d : Deal) (v w : View) (starts : w.starts ≡ v.starts) (claims : w.cl
         let same : Among it v.wrote = subst (λ (k : ℕ). Among (record { start = k; ticket = t; part = p }) v.wrote) (sym starts) h.wrote in
         record {
           runs = prefix_still h.runs;
-          asked = h.asked;
+          touched = h.touched;
+          unsettled = h.unsettled;
           found = record { finding = h.found.finding; among = findings h.found.finding h.found.among; start = h.found.start ∙ sym starts; on = h.found.on; is = h.found.is; own = h.found.own };
           later = h.later;
           wrote = wrote it same;
@@ -98,12 +99,12 @@ module _ (d : Deal) (law : IsLawful d.m) (k n : ℕ) (verdict : Verdict) (v : Vi
   first : parts_held v.held ≡ u.0 ∷ drop (suc k) (take n (written d.us))
   first = h.holding.held ∙ (rest_from 0 d.us k n u h.planned.ordered.0 get h.below.0).0
 
-  asked : IsAsked d.m d.f d.rs u.0
-  asked = all_get (λ (e : Update). IsAsked d.m d.f d.rs e.0) d.us k u get h.sealed.log.asked_updates
+  touched : HasTouched d.m d.f d.rs u.0
+  touched = all_get (λ (e : Update). HasTouched d.m d.f d.rs e.0) d.us k u get h.sealed.log.touched_updates
 
   pub may_unlock : Allowed d.valid (Unlock u.0) v
   may_unlock =
-      let both : HasPart v u.0 × HoldsPart v u.0 = (has_part d.m law d.valid d.sizes d.f d.at u.0 d.rs v h.sealed.own asked, holds_first u.0 v.held (drop (suc k) (take n (written d.us))) first) in
+      let both : HasPart v u.0 × HoldsPart v u.0 = (has_part d.m law d.valid d.sizes d.f d.at u.0 d.rs v h.sealed.own touched, holds_first u.0 v.held (drop (suc k) (take n (written d.us))) first) in
       elim h.phase [
         | inl e ↦ subst (MayUnlock u.0 v) (sym e) both
         | inr e ↦ subst (MayUnlock u.0 v) (sym e.1) both

@@ -1,5 +1,5 @@
 pub mod Every
-pub mod Asking
+pub mod Touched
 pub mod Claimed
 pub mod Placed
 pub mod Flat
@@ -12,6 +12,7 @@ pub mod Refreshing
 pub mod OneReply
 pub mod Onward
 pub mod Numbered
+pub mod Unsettled
 pub mod Prefix
 pub mod Reading
 pub mod ReadIn

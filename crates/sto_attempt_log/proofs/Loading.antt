@@ -21,7 +21,7 @@ use Rattle.sto_core.proofs.Lists.{each_snoc, each_nothing}
 use Rattle.sto_type.specs.Meaning.{IsLawful}
 use Rattle.sto_attempt_log.specs.declared.commit_phase.FoundTicket.{FoundTicket}
 use Rattle.sto_attempt_log.specs.declared.commit_phase.LoadedWord.{LoadedWord}
-use Rattle.sto_attempt_log.specs.Asked.{AllOf}
+use Rattle.sto_attempt_log.specs.Every.{AllOf}
 use Rattle.sto_attempt_log.specs.ReadSet.{words_in}
 use Rattle.sto_attempt_log.specs.CommitPhases.{Deal, task, ticket_from, reads_of, IsTrueOn, IsDone, IsAsBefore, IsFreshAt, WasFound, IsLoadingAt, IsLoadingWord}
 use Rattle.sto_attempt_log.proofs.Drawing.{read_entry_of}

@@ -19,7 +19,8 @@ use Rattle.sto_type.specs.Meaning.{IsLawful}
 use Rattle.sto_attempt_log.specs.declared.commit_phase.FoundTicket.{FoundTicket}
 use Rattle.sto_attempt_log.specs.declared.commit_phase.LoadedWord.{LoadedWord}
 use Rattle.sto_attempt_log.specs.declared.verdict.Verdict.TheVariants.{Locked}
-use Rattle.sto_attempt_log.specs.Asked.{AllOf, IsAsked}
+use Rattle.sto_attempt_log.specs.Every.{AllOf}
+use Rattle.sto_type.specs.Touching.{HasTouched}
 use Rattle.sto_attempt_log.specs.Answers.{HasFound}
 use Rattle.sto_attempt_log.specs.Standing.{IsLeft}
 use Rattle.sto_attempt_log.specs.Committing.{written}
@@ -28,6 +29,7 @@ use Rattle.sto_attempt_log.proofs.Prefix.{prefix}
 use Rattle.sto_attempt_log.proofs.Reading.{has_part, among_front, idle_reading}
 use Rattle.sto_attempt_log.proofs.Holding.{parts_held, all_get, first_below, each_held, not_held, take_more, map_snoc, none_left}
 use Rattle.sto_attempt_log.proofs.Leaving.{Sealed, sealed_still, prefix_still}
+use Rattle.sto_attempt_log.proofs.Unsettled.{unsettled_sealed}
 
 pub ticket_other : (t : ℕ) (xs : List FoundTicket) (x : FoundTicket) (p : ℕ) → nat_eq x.part p ≡ false → ticket_from t (xs ++ x ∷ []) p ≡ ticket_from t xs p
 ticket_other t [] x p e = rw e refl
@@ -58,8 +60,8 @@ module _ (d : Deal) (law : IsLawful d.m) (n : ℕ) (found_tickets : Listed Found
   each_below : Each (λ (x : Held). x.part < u.0) v.held
   each_below = each_held (λ (q : ℕ). q < u.0) v.held below
 
-  asked : IsAsked d.m d.f d.rs u.0
-  asked = all_get (λ (e : Update). IsAsked d.m d.f d.rs e.0) d.us n u get h.going.sealed.log.asked_updates
+  touched : HasTouched d.m d.f d.rs u.0
+  touched = all_get (λ (e : Update). HasTouched d.m d.f d.rs e.0) d.us n u get h.going.sealed.log.touched_updates
 
   unheld : holds u.0 v.held ≡ false
   unheld = not_held u.0 v.held below
@@ -73,7 +75,7 @@ module _ (d : Deal) (law : IsLawful d.m) (n : ℕ) (found_tickets : Listed Found
       | inl e ↦ subst (MayLock v u.0) (sym e.1) tt
       | inr e ↦ subst (MayLock v u.0) (sym e.1) each_below
     ],
-    has_part d.m law d.valid d.sizes d.f d.at u.0 d.rs v h.going.sealed.own asked,
+    has_part d.m law d.valid d.sizes d.f d.at u.0 d.rs v h.going.sealed.own touched,
   )
 
   module _ (w : View) (passes m : ℕ) (x : ℤ) (t : Tells d.valid passes (Lock u.0) v m x w) where
@@ -90,7 +92,8 @@ module _ (d : Deal) (law : IsLawful d.m) (n : ℕ) (found_tickets : Listed Found
             refl,
             record {
               runs = prefix_still d v (found v u.0 m) refl refl (prefix d.m d.f v d.at d.base d.items d.us d.rs h.going.sealed.log h.going.sealed.claimed);
-              asked = asked;
+              touched = touched;
+              unsettled = unsettled_sealed d.m d.valid d.sizes d.f d.at d.base d.items d.us d.rs v h.going.sealed;
               found = record { version = m; among = there; locked = busy };
             },
           )

@@ -20,9 +20,10 @@ use Rattle.sto_core.specs.declared.view.View.{View}
 use Rattle.sto_attempt_log.specs.Answers.{HasWritten}
 use Rattle.sto_type.specs.Runs.{IsRunOn}
 use Rattle.sto_item.specs.Observed.{part_of_item}
-use Rattle.sto_attempt_log.specs.Asked.{AllOf, IsAsked}
+use Rattle.sto_attempt_log.specs.Every.{AllOf}
+use Rattle.sto_type.specs.Touching.{HasTouched}
 use Rattle.sto_attempt_log.specs.Log.{IsLog}
-use Rattle.sto_attempt_log.proofs.Asking.{asked_there}
+use Rattle.sto_attempt_log.proofs.Touched.{touched_there}
 use Rattle.sto_attempt_log.specs.Looking.{IsLooked, LooksAt}
 
 -- contents that have what was looked at have the words with which a part was looked at
@@ -31,10 +32,10 @@ shown looked p ws c l h = ap (part_of c) (sym l.of_part) ∙ h l.among.0 l.one l
 
 module _ (m : Meaning) (law : IsLawful m) (f : Script) (base : Known) (rs : List Told) (d : Parts) (v : m.valid d) (part : IsPartOf base d) where
   -- they agree with the items relative to what was read
-  looked_agrees : (looked : List Looked) (c : Parts) (is : List Item) → Each (Shows c) looked → AllOf (λ (i : Item). IsAsked m f rs (part_of_item i)) is → AllOf (LooksAt base looked) is → Agrees c is d
+  looked_agrees : (looked : List Looked) (c : Parts) (is : List Item) → Each (Shows c) looked → AllOf (λ (i : Item). HasTouched m f rs (part_of_item i)) is → AllOf (LooksAt base looked) is → Agrees c is d
   looked_agrees looked c [] h r l = tt
   looked_agrees looked c (Seen p ∷ is) h r l = (
-    shown looked p l.0.words c l.0.looked_at h ∙ sym (part.same p l.0.words (asked_there m law f rs p d v r.0) l.0.read),
+    shown looked p l.0.words c l.0.looked_at h ∙ sym (part.same p l.0.words (touched_there m law f rs p d v r.0) l.0.read),
     looked_agrees looked c is h r.1 l.1,
   )
   looked_agrees looked c (Holds q ∷ is) h r l = (
@@ -44,7 +45,7 @@ module _ (m : Meaning) (law : IsLawful m) (f : Script) (base : Known) (rs : List
 
   -- so on all valid contents that have what was looked at, the run is that of the attempt, and its updates lead to valid contents
   pub looked_runs : (items : List Item) (es : List Update) (looked : List Looked) (c : Parts) → IsLog m f base items es rs → AllOf (LooksAt base looked) items → m.valid c → Each (Shows c) looked → IsRunOn m f c es rs
-  looked_runs items es looked c is l w h = is.carried.runs d c v part w (looked_agrees looked c items h is.asked_items l)
+  looked_runs items es looked c is l w h = is.carried.runs d c v part w (looked_agrees looked c items h is.touched_items l)
 
   pub looked_keeps : (items : List Item) (es : List Update) (looked : List Looked) (c : Parts) → IsLog m f base items es rs → AllOf (LooksAt base looked) items → m.valid c → Each (Shows c) looked → m.valid (applied_updates es c)
   looked_keeps items es looked c is l w h = (looked_runs items es looked c is l w h).valid

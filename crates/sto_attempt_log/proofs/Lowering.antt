@@ -13,14 +13,14 @@ use Rattle.sto_attempt_log.specs.declared.extension.Extension.{Extension}
 use Rattle.sto_attempt_log.specs.declared.read_phase.ReadPhase.{ReadPhase}
 use Rattle.sto_attempt_log.specs.declared.verdict.Turn.{Turn}
 use Rattle.sto_attempt_log.specs.declared.log.Reached.{Reached}
-use Rattle.sto_attempt_log.specs.Asked.{AllOf}
+use Rattle.sto_attempt_log.specs.Every.{AllOf}
 use Rattle.sto_attempt_log.specs.Log.{IsNeeded}
 use Rattle.sto_attempt_log.specs.ReadSet.{words_in}
 use Rattle.sto_attempt_log.specs.Led.{IsLed}
 use Rattle.sto_attempt_log.specs.Reached.{IsByCall}
 use Rattle.sto_attempt_log.specs.Standing.{IsNext}
 use Rattle.sto_attempt_log.specs.Bounds.{words_of, reading, unread, renewing, later, left_opening, left_renewing, left_extending, events_left}
-use Rattle.sto_attempt_log.proofs.Asking.{asked_next, asked_range}
+use Rattle.sto_attempt_log.proofs.Touched.{touched_next, touched_range}
 use Rattle.sto_attempt_log.proofs.Bounding.{commit_cost, unread_most, needed_cost, read_cost, led_fewer, next_call, same_call, first_left, renew_costs, renewing_most, recheck_costs, reread_costs}
 
 -- two truths that say the same
@@ -47,7 +47,7 @@ began_fewer at es reached read_phase turn led before calls widths words extensio
 -- an open
 module _ (m : Meaning) (law : IsLawful m) (f : Script) (rs : List Told) (p : ℕ) (base : List ReadEntry) (pending : List Update) (needed : IsNeeded m (f rs) (words_in base) pending p) where
   range : p < length m.widths
-  range = omega (arith, asked_range m f rs p (asked_next m f rs p needed.of_next), law.homes)
+  range = omega (arith, touched_range m law f rs p (touched_next m f rs p needed.by_next), law.homes)
 
   -- what is left before the open of a needed part has room for its read
   pub room : (calls : ℕ) (extended : Bool) → later calls m.widths + slice_index_or m.widths p 0 + 2 ≤ left_opening calls m.widths extended (words_in base)

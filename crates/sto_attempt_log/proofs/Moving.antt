@@ -17,7 +17,7 @@ use Rattle.sto_item.specs.Rebase.{overwrites, moved, rebased}
 use Rattle.sto_item.proofs.Applied.{same_width}
 use Rattle.sto_type.specs.Known.{Parts, Known}
 use Rattle.sto_type.specs.Meaning.{IsPartOfObject, EachKnown, EachInside}
-use Rattle.sto_attempt_log.specs.Asked.{AllOf}
+use Rattle.sto_attempt_log.specs.Every.{AllOf}
 use Rattle.sto_attempt_log.specs.Log.{IsRead, IsInside}
 use Rattle.sto_attempt_log.proofs.Every.{all_append}
 
@@ -92,14 +92,14 @@ inside_below widths es (Holds p ∷ is) inside =
     (all_moved (IsInside widths) p (change_at es p.part p.word) (λ q e f. subst (λ (n : ℕ). q.word < slice_index_or widths n 0) (sym e) (subst (λ (n : ℕ). n < slice_index_or widths p.part 0) (sym f) inside.0)))
     (inside_below widths es is inside.1)
 
--- what is left is of the object of the call
-pub owned_below : (homes : List (ℕ × ℕ)) (object : ℕ) (k : Known) (es : List Entry) (is : List Item) → EachKnown homes object k is → AllOf (λ (i : Item). IsPartOfObject homes object (part_of_item i)) (rebased es is)
-owned_below homes object k es [] known = tt
-owned_below homes object k es (Seen p ∷ is) known = elim (cases_Bool (overwrites (changes_of es p))) [
-  | inl hit ↦ rw hit (owned_below homes object k es is known.2)
-  | inr miss ↦ rw miss (known.0, owned_below homes object k es is known.2)
+-- what is left is of parts of the call's items
+pub parts_below : (P : ℕ → Type 0) (es : List Entry) (is : List Item) → AllOf (λ (i : Item). P (part_of_item i)) is → AllOf (λ (i : Item). P (part_of_item i)) (rebased es is)
+parts_below P es [] all = tt
+parts_below P es (Seen p ∷ is) all = elim (cases_Bool (overwrites (changes_of es p))) [
+  | inl hit ↦ rw hit (parts_below P es is all.1)
+  | inr miss ↦ rw miss (all.0, parts_below P es is all.1)
 ]
-owned_below homes object k es (Holds p ∷ is) known =
-    let P : Item → Type 0 = λ i. IsPartOfObject homes object (part_of_item i) in
-    all_append P (moved p (change_at es p.part p.word)) (rebased es is)
-    (all_moved P p (change_at es p.part p.word) (λ q e f. subst (λ (n : ℕ). IsPartOfObject homes object n) (sym e) known.0)) (owned_below homes object k es is known.2)
+parts_below P es (Holds p ∷ is) all =
+    let Q : Item → Type 0 = λ i. P (part_of_item i) in
+    all_append Q (moved p (change_at es p.part p.word)) (rebased es is)
+    (all_moved Q p (change_at es p.part p.word) (λ q e f. subst (λ (n : ℕ). P n) (sym e) all.0)) (parts_below P es is all.1)

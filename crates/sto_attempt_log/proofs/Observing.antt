@@ -8,7 +8,7 @@ use Rattle.sto_item.specs.declared.item.Item.{Item}
 use Rattle.sto_item.specs.declared.item.Item.TheVariants.{Seen, Holds}
 use Rattle.sto_item.specs.Observed.{Watched, IsObserved, watch_at, sees, is_sight_of, preds_on, pred_on, part_of_item, parts_of_items}
 use Rattle.sto_type.specs.Known.{Known}
-use Rattle.sto_attempt_log.specs.Asked.{AllOf}
+use Rattle.sto_attempt_log.specs.Every.{AllOf}
 use Rattle.sto_attempt_log.specs.ReadSet.{IsTrueIn, AllTrueIn}
 use Rattle.sto_attempt_log.specs.Extending.{StaysSo, SameSeen, PredsHold, StaysWatched}
 use Rattle.sto_attempt_log.proofs.Every.{all_contained}

@@ -1,8 +1,9 @@
 -- An attempt's log over one more reply.
-use Rattle.std.proofs.Common.{◌≡◌, ℕ, not, ◌||◌, None, List, [], ◌∷◌, ◌++◌, ap, sym, ◌∙◌, subst}
+use Rattle.std.proofs.Common.{◌≡◌, ℕ, suc, not, ◌||◌, None, List, [], ◌∷◌, ◌++◌, map, refl, arith, ap, sym, ◌∙◌, subst, inl, inr}
+use Rattle.std.specs.List.{Contains}
 use Rattle.sto_item.specs.declared.item.Item.{Item}
 use Rattle.sto_item.specs.Pending.{Entry, AreUpdates, applied_updates, with_updates}
-use Rattle.sto_item.specs.Observed.{part_of_item}
+use Rattle.sto_item.specs.Observed.{part_of_item, parts_of_items}
 use Rattle.sto_item.specs.Rebase.{rebased}
 use Rattle.sto_item.specs.Recorded.{Recorded}
 use Rattle.sto_item.specs.Agreement.{Agrees, AreTrueOf}
@@ -14,18 +15,19 @@ use Rattle.sto_model.specs.Machine.{reply_to}
 use Rattle.sto_model.specs.Run.{Script}
 use Rattle.sto_model.specs.Serial.{is_written, has_written}
 use Rattle.sto_type.specs.Known.{Parts, Known, IsPartOf, known}
-use Rattle.sto_type.specs.Meaning.{Meaning, IsLawful, IsReady, IsPartOfObject, EachOwned, is_empty}
+use Rattle.sto_type.specs.Meaning.{Meaning, IsLawful, IsReady, is_empty}
 use Rattle.sto_type.specs.Runs.{IsRunOn, IsCarried}
 use Rattle.sto_type.proofs.Carrying.{IsCarried-more}
 use Rattle.sto_type.proofs.Learning.{IsPartOf-none}
-use Rattle.sto_attempt_log.specs.Asked.{AllOf, IsOfNext, IsAsked}
+use Rattle.sto_attempt_log.specs.Every.{AllOf}
+use Rattle.sto_type.specs.Touching.{Touches, NextTouches, HasTouched}
 use Rattle.sto_attempt_log.specs.Log.{IsRead, IsInside, IsLog, IsCache}
 use Rattle.sto_item.specs.Recorded.{AddsItems}
 use Rattle.sto_attempt_log.proofs.Every.{all_map}
-use Rattle.sto_attempt_log.proofs.Asking.{asked_next, asked_more}
+use Rattle.sto_attempt_log.proofs.Touched.{touched_next, touched_more}
 use Rattle.sto_attempt_log.proofs.Items.{agrees_added, agrees_before, all_added}
 use Rattle.sto_attempt_log.proofs.Written.{written_more, empty_with, with_parts}
-use Rattle.sto_attempt_log.proofs.Moving.{read_below, inside_below, owned_below}
+use Rattle.sto_attempt_log.proofs.Moving.{read_below, inside_below, parts_below}
 
 pub cache_none : (m : Meaning) (base : Known) (es : List Entry) → IsCache m base es (known [])
 cache_none m base es = record { above = λ d v p. IsPartOf-none (applied_updates es d); from = λ p h. cc }
@@ -34,9 +36,14 @@ cache_none m base es = record { above = λ d v p. IsPartOf-none (applied_updates
 pub run_on : (m : Meaning) (f : Script) (base : Known) (items : List Item) (es : List Entry) (rs : List Told) (d : Parts) → IsCarried m f base items es rs → m.valid d → IsPartOf base d → IsRunOn m f d es rs
 run_on m f base items es rs d h v p = h.runs d d v p v (h.holds d v p)
 
-all_owned : (homes : List (ℕ × ℕ)) (object : ℕ) (es : List Entry) → EachOwned homes object es → AllOf (λ (e : Entry). IsPartOfObject homes object e.0) es
-all_owned homes object [] h = tt
-all_owned homes object (e ∷ es) h = (h.0, all_owned homes object es h.1)
+-- what is so of each part that items name, and that updates name
+all_observed : (P : ℕ → Type 0) (is : List Item) → ((p : ℕ) → Contains (parts_of_items is) p → P p) → AllOf (λ (i : Item). P (part_of_item i)) is
+all_observed P [] h = tt
+all_observed P (i ∷ is) h = (h (part_of_item i) (0, omega arith, refl), all_observed P is (λ p c. h p (suc c.0, omega (arith, c.1), c.2)))
+
+all_updated : (P : ℕ → Type 0) (es : List Entry) → ((p : ℕ) → Contains (map (λ e. e.0) es) p → P p) → AllOf (λ (e : Entry). P e.0) es
+all_updated P [] h = tt
+all_updated P (e ∷ es) h = (h e.0 (0, omega arith, refl), all_updated P es (λ p c. h p (suc c.0, omega (arith, c.1), c.2)))
 
 -- the same of a set that agrees alike
 pub carried_alike : (m : Meaning) (f : Script) (base : Known) (items js : List Item) (es : List Entry) (rs : List Told) → IsCarried m f base items es rs
@@ -63,11 +70,15 @@ module _ (m : Meaning) (law : IsLawful m) (f : Script) (base : Known) (items : L
   abbrev pub left : List Item
   left = rebased es (m.items call k)
 
-  next_is : IsOfNext m (Ask call) ≡ IsOfNext m (f rs)
-  next_is = ap (IsOfNext m) (sym asks)
+  touched_of : (p : ℕ) → Touches m p call → HasTouched m f rs p
+  touched_of p h = touched_next m f rs p (subst (λ (n : Next). NextTouches m n p) (sym asks) h)
 
-  asked_of : (p : ℕ) → IsPartOfObject m.homes call.object p → IsAsked m f rs p
-  asked_of p h = asked_next m f rs p (subst (λ (n : Next). IsOfNext m n p) (sym asks) h)
+  -- the call may touch what it observes, and what it updates
+  observes : (p : ℕ) → Contains (parts_of_items (m.items call k)) p → Touches m p call
+  observes p there = record { takes = t; contents = applied_updates es d; valid = here.valid; knowledge = k; known = cache.above d valid part; does = inr (inl (done, there)) }
+
+  updates : (p : ℕ) → Contains (map (λ e. e.0) (m.updates call (applied_updates es d))) p → Touches m p call
+  updates p there = record { takes = t; contents = applied_updates es d; valid = here.valid; knowledge = k; known = cache.above d valid part; does = inr (inr there) }
 
   module _ (reply : Told) (v : List Entry) (ordered : AreUpdates v) (says : (c : Parts) → m.valid c → IsPartOf k c → (reply ≡ reply_to m.machines call (m.rows c)) × (v ≡ m.updates call c)) where
     said : (reply ≡ reply_to m.machines call (m.rows (applied_updates es d))) × (v ≡ m.updates call (applied_updates es d))
@@ -93,16 +104,15 @@ module _ (m : Meaning) (law : IsLawful m) (f : Script) (base : Known) (items : L
           carried = carried_alike m f base (items ++ left) js (with_updates es v) (rs ++ reply ∷ []) carried (λ e c a. agrees_added e c old left new adds a) (λ e c a. agrees_before e c old left new adds a);
           read = all_added (IsRead base) old left new adds was.read (read_below base k es m.widths d here.widths (law.widths d valid) cache.from m.homes call.object (m.items call k) known_items inside);
           inside = all_added (IsInside m.widths) old left new adds was.inside (inside_below m.widths es (m.items call k) inside);
-          asked_items =
-              let P : Item → Type 0 = λ i. IsAsked m f (rs ++ reply ∷ []) (part_of_item i) in
-              all_added P old left new adds (all_map (λ (i : Item). IsAsked m f rs (part_of_item i)) P (λ i h. asked_more m f rs reply (part_of_item i) h) items was.asked_items)
-              (all_map (λ (i : Item). IsPartOfObject m.homes call.object (part_of_item i)) P (λ i h. asked_more m f rs reply (part_of_item i) (asked_of (part_of_item i) h)) left
-              (owned_below m.homes call.object k es (m.items call k) known_items));
-          asked_updates =
-              let P : ℕ → Type 0 = λ p. IsAsked m f (rs ++ reply ∷ []) p in
-              with_parts P es v (all_map (λ (e : Entry). IsAsked m f rs e.0) (λ (e : Entry). P e.0) (λ e h. asked_more m f rs reply e.0 h) es was.asked_updates)
+          touched_items =
+              let P : Item → Type 0 = λ i. HasTouched m f (rs ++ reply ∷ []) (part_of_item i) in
+              all_added P old left new adds (all_map (λ (i : Item). HasTouched m f rs (part_of_item i)) P (λ i h. touched_more m f rs reply (part_of_item i) h) items was.touched_items)
+              (parts_below (λ p. HasTouched m f (rs ++ reply ∷ []) p) es (m.items call k)
+              (all_observed (λ p. HasTouched m f (rs ++ reply ∷ []) p) (m.items call k) (λ p there. touched_more m f rs reply p (touched_of p (observes p there)))));
+          touched_updates =
+              let P : ℕ → Type 0 = λ p. HasTouched m f (rs ++ reply ∷ []) p in
+              with_parts P es v (all_map (λ (e : Entry). HasTouched m f rs e.0) (λ (e : Entry). P e.0) (λ e h. touched_more m f rs reply e.0 h) es was.touched_updates)
               (subst (λ (l : List Entry). AllOf (λ (e : Entry). P e.0) l) (sym said.1)
-              (all_map (λ (e : Entry). IsPartOfObject m.homes call.object e.0) (λ (e : Entry). P e.0) (λ e h. asked_more m f rs reply e.0 (asked_of e.0 h)) (m.updates call (applied_updates es d))
-              (all_owned m.homes call.object (m.updates call (applied_updates es d)) (law.updated call (applied_updates es d) t here.valid).owned)));
+              (all_updated P (m.updates call (applied_updates es d)) (λ p there. touched_more m f rs reply p (touched_of p (updates p there)))));
           written = written;
         }

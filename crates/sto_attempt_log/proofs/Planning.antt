@@ -16,7 +16,7 @@ use Rattle.sto_item.specs.Agreement.{HasWidths}
 use Rattle.sto_core.specs.Lists.{Each, Among}
 use Rattle.sto_core.specs.History.{writes}
 use Rattle.sto_type.specs.Known.{Parts}
-use Rattle.sto_attempt_log.specs.Asked.{AllOf}
+use Rattle.sto_attempt_log.specs.Every.{AllOf}
 use Rattle.sto_attempt_log.specs.Log.{IsInside}
 use Rattle.sto_attempt_log.specs.CommitPhases.{is_of_part, is_same_part, IsNamed}
 use Rattle.sto_attempt_log.specs.Gathering.{gathered, seen_part, not_in, other_part, is_add, adding_part, unwritten_part}

@@ -10,7 +10,7 @@ use Rattle.sto_type.specs.Meaning.{Meaning, IsLawful}
 use Rattle.sto_attempt_log.specs.declared.read_entry.ReadEntry.{ReadEntry}
 use Rattle.sto_attempt_log.specs.Log.{IsLog, IsCache, IsNeeded, IsPending}
 use Rattle.sto_attempt_log.specs.ReadSet.{words_in}
-use Rattle.sto_attempt_log.proofs.Asking.{asked_next, asked_range}
+use Rattle.sto_attempt_log.proofs.Touched.{touched_next, touched_range}
 use Rattle.sto_attempt_log.proofs.Claimed.{words_new}
 use Rattle.sto_attempt_log.proofs.Onward.{pending_of}
 use Rattle.sto_attempt_log.proofs.Reading.{log_wider, cache_wider}
@@ -23,7 +23,7 @@ module _ (m : Meaning) (law : IsLawful m) (f : Script) (base : List ReadEntry) (
   pending = pending_of m f (words_in (base ++ x ∷ [])) items es rs (log_wider m f base x items es rs was) some
 
   range : x.part < length m.widths
-  range = omega (arith, asked_range m f rs x.part (asked_next m f rs x.part awaits.of_next), law.homes)
+  range = omega (arith, touched_range m law f rs x.part (touched_next m f rs x.part awaits.by_next), law.homes)
 
   -- its pending changes are not more than its words
   pub fits_new : length (changes_of es x.part) ≤ length x.words.items

@@ -35,19 +35,21 @@ use Rattle.sto_attempt_log.specs.declared.verdict.Turn.{Turn}
 use Rattle.sto_attempt_log.specs.declared.verdict.Turn.TheVariants.{More, Ready, Ended}
 use Rattle.sto_attempt_log.specs.declared.verdict.Verdict.TheVariants.{Read, Cancelled}
 use Rattle.sto_attempt_log.specs.ReadSet.{words_in, claim_of, IsClaimed, AreClaimed, AreOnly, AreBelow, ticket_in}
-use Rattle.sto_attempt_log.specs.Asked.{IsAsked}
+use Rattle.sto_type.specs.Touching.{HasTouched}
 use Rattle.sto_attempt_log.specs.Log.{IsLog, IsCache, IsRead}
 use Rattle.sto_attempt_log.specs.Answers.{IsPrefix, HasFound, WasLocked, WasChanged}
 use Rattle.sto_attempt_log.specs.Reached.{IsReached}
 use Rattle.sto_attempt_log.specs.Led.{IsLed}
 use Rattle.sto_attempt_log.specs.Standing.{numbered, AreDecided, IsOwn, IsAsOf, Fits, MayGoOn, Turned, IsLeft}
-use Rattle.sto_attempt_log.proofs.Asking.{asked_next, asked_there}
+use Rattle.sto_attempt_log.proofs.Touched.{touched_next, touched_there}
 use Rattle.sto_attempt_log.proofs.Every.{all_map}
 use Rattle.sto_attempt_log.proofs.Claimed.{words_more, ticket_more, ticket_new, part_of_fewer, claimed_still, claimed_more}
 use Rattle.sto_item.specs.Observed.{part_of_item}
 use Rattle.sto_attempt_log.proofs.Moving.{width_of}
 use Rattle.sto_attempt_log.proofs.Numbered.{numbered_more, all_numbered, words_numbered}
 use Rattle.sto_attempt_log.proofs.Prefix.{prefix, prefix_on, has_read, has_cancelled}
+use Rattle.sto_attempt_log.proofs.Unsettled.{calling, unsettled_calling}
+use Rattle.sto_model.specs.Asked.{IsUnsettled}
 
 -- the view of an attempt between two reads, with no word of its log
 pub record AtRest (m : Meaning) (valid : Validity) (sizes : List ℕ) (at : ℕ) (v : View) : Type 0 where
@@ -147,8 +149,11 @@ module _ (m : Meaning) (valid : Validity) (sizes : List ℕ) (f : Script) (at p 
   abbrev u : View
   u = after (Open p) v n (pos 0)
 
-  asked : IsAsked m f rs p
-  asked = asked_next m f rs p fits.awaits.of_next
+  touched : HasTouched m f rs p
+  touched = touched_next m f rs p fits.awaits.by_next
+
+  unsettled : IsUnsettled f rs
+  unsettled = unsettled_calling f rs (calling m (f rs) p fits.awaits.by_next)
 
   runs : IsPrefix m f u at rs
   runs = prefix m f v at base items es rs log fits.claimed
@@ -170,7 +175,7 @@ module _ (m : Meaning) (valid : Validity) (sizes : List ℕ) (f : Script) (at p 
   open_locked e =
       let finding : Among (record { start = v.starts; part = p; version = n; held = false }) u.findings =
       subst (λ (b : Bool). Among (record { start = v.starts; part = p; version = n; held = false }) (v.findings ++ record { start = v.starts; part = p; version = n; held = b } ∷ [])) (sym held_none) (among_snoc v.findings (record { start = v.starts; part = p; version = n; held = false })) in
-      let h : WasLocked m f u at p rs = record { runs = runs; asked = asked; found = record { version = n; among = finding; locked = e } } in
+      let h : WasLocked m f u at p rs = record { runs = runs; touched = touched; unsettled = unsettled; found = record { version = n; among = finding; locked = e } } in
       (open_left (stopped e), subst (λ (x : View). WasLocked m f x at p rs) (sym t.after) h)
 
   -- a free one that is newer
@@ -215,7 +220,8 @@ module _ (m : Meaning) (valid : Validity) (sizes : List ℕ) (f : Script) (at p 
         open_left (later e l),
         record {
           runs = subst (λ (x : View). IsPrefix m f x at rs) (sym t.after) runs;
-          asked = asked;
+          touched = touched;
+          unsettled = unsettled;
           found = subst (λ (x : View). HasFound x p (ticket_of n)) (sym t.after) there;
           later = l;
           wrote = later_wrote e l;
@@ -246,9 +252,9 @@ module _ (m : Meaning) (valid : Validity) (sizes : List ℕ) (f : Script) (at p 
       claimed_u = claimed_still v u at base refl (λ c h. h) fits.claimed
 
 -- what a part that is needed asks of the view
-module _ (m : Meaning) (law : IsLawful m) (valid : Validity) (sizes : List ℕ) (f : Script) (at p : ℕ) (rs : List Told) (v : View) (own : IsOwn m sizes v) (asked : IsAsked m f rs p) where
+module _ (m : Meaning) (law : IsLawful m) (valid : Validity) (sizes : List ℕ) (f : Script) (at p : ℕ) (rs : List Told) (v : View) (own : IsOwn m sizes v) (touched : HasTouched m f rs p) where
   pub has_part : HasPart v p
-  has_part = asked_there m law f rs p v.opening own.opening asked
+  has_part = touched_there m law f rs p v.opening own.opening touched
 
   pub width_is : width_in v p ≡ slice_index_or m.widths p 0
   width_is = sym (width_of v.opening p) ∙ ap (λ (l : List ℕ). slice_index_or l p 0) (law.widths v.opening own.opening)
@@ -261,9 +267,9 @@ module _ (m : Meaning) (valid : Validity) (sizes : List ℕ) (f : Script) (at p 
 
   pub may_read : (law : IsLawful m) → length ws < slice_index_or m.widths p 0 → Allowed valid (Word p (length ws)) v
   may_read law l =
-      let asked : IsAsked m f rs p = asked_next m f rs p fits.awaits.of_next in
-      let range : HasPart v p = has_part m law valid sizes f at p rs v fits.own asked in
-      (subst (MayRead v p) (sym fits.stands.0) refl, (range, omega (arith, l, width_is m law valid sizes f at p rs v fits.own asked)))
+      let touched : HasTouched m f rs p = touched_next m f rs p fits.awaits.by_next in
+      let range : HasPart v p = has_part m law valid sizes f at p rs v fits.own touched in
+      (subst (MayRead v p) (sym fits.stands.0) refl, (range, omega (arith, l, width_is m law valid sizes f at p rs v fits.own touched)))
 
   module _ (w : View) (passes n : ℕ) (x : ℤ) (t : Tells valid passes (Word p (length ws)) v n x w) (l : length ws < slice_index_or m.widths p 0) where
     abbrev with_word : View
@@ -301,9 +307,9 @@ module _ (m : Meaning) (valid : Validity) (sizes : List ℕ) (f : Script) (at p 
   -- The end of an open read
   pub may_close : (law : IsLawful m) → length ws ≡ slice_index_or m.widths p 0 → Allowed valid (Close p) v
   may_close law l =
-      let asked : IsAsked m f rs p = asked_next m f rs p fits.awaits.of_next in
-      let long : length ws ≡ width_in v p = l ∙ sym (width_is m law valid sizes f at p rs v fits.own asked) in
-      (subst (MayClose v p) (sym fits.stands.0) (refl, subst (AllRead (numbered 0 ws)) long (all_numbered ws)), has_part m law valid sizes f at p rs v fits.own asked)
+      let touched : HasTouched m f rs p = touched_next m f rs p fits.awaits.by_next in
+      let long : length ws ≡ width_in v p = l ∙ sym (width_is m law valid sizes f at p rs v fits.own touched) in
+      (subst (MayClose v p) (sym fits.stands.0) (refl, subst (AllRead (numbered 0 ws)) long (all_numbered ws)), has_part m law valid sizes f at p rs v fits.own touched)
 
   module _ (w : View) (passes n : ℕ) (t : Tells valid passes (Close p) v n (pos 0) w) (log : IsLog m f (words_in base) items es rs) where
     abbrev ended : View
@@ -312,8 +318,11 @@ module _ (m : Meaning) (valid : Validity) (sizes : List ℕ) (f : Script) (at p 
     is_ended : w ≡ ended
     is_ended = t.after ∙ ap (λ h. closed_by h (found v p n) n) fits.stands.0
 
-    asked_part : IsAsked m f rs p
-    asked_part = asked_next m f rs p fits.awaits.of_next
+    touched_part : HasTouched m f rs p
+    touched_part = touched_next m f rs p fits.awaits.by_next
+
+    unsettled_here : IsUnsettled f rs
+    unsettled_here = unsettled_calling f rs (calling m (f rs) p fits.awaits.by_next)
 
     runs_on : IsPrefix m f v at rs
     runs_on = prefix m f v at base items es rs log fits.claimed
@@ -367,7 +376,7 @@ module _ (m : Meaning) (valid : Validity) (sizes : List ℕ) (f : Script) (at p 
         let there : Among one unclaimed.findings =
         subst (λ (b : Bool). Among one (v.findings ++ record { start = v.starts; part = p; version = n; held = b } ∷ [])) (sym held_none) (among_snoc v.findings one) in
         let runs : IsPrefix m f unclaimed at rs = runs_on in
-        let h : WasLocked m f unclaimed at p rs = record { runs = runs; asked = asked_part; found = record { version = n; among = there; locked = e } } in
+        let h : WasLocked m f unclaimed at p rs = record { runs = runs; touched = touched_part; unsettled = unsettled_here; found = record { version = n; among = there; locked = e } } in
         (left_unclaimed other, subst (λ (y : View). WasLocked m f y at p rs) (sym (is_unclaimed other)) h)
 
     pub close_changed : is_free n ≡ true → ticket_of n ≢ s → IsLeft w × WasChanged m f w at p (ticket_of n) rs
@@ -384,7 +393,8 @@ module _ (m : Meaning) (valid : Validity) (sizes : List ℕ) (f : Script) (at p 
           left_unclaimed other,
           record {
             runs = subst (λ (y : View). IsPrefix m f y at rs) (sym (is_unclaimed other)) runs;
-            asked = asked_part;
+            touched = touched_part;
+            unsettled = unsettled_here;
             found = subst (λ (y : View). HasFound y p (ticket_of n)) (sym (is_unclaimed other)) there;
             later = later;
             wrote = subst (λ (k : ℕ). Among (record { start = k; ticket = ticket_of n; part = p }) w.wrote) (sym same) (t.learns.0.wrote own (omega (arith, newer.0)));
@@ -420,7 +430,7 @@ module _ (m : Meaning) (valid : Validity) (sizes : List ℕ) (f : Script) (at p 
 
       own_claim : claim_of claimed_view at x ≡ new_claim
       own_claim =
-          let width : length ws ≡ width_in v p = long ∙ sym (width_is m law valid sizes f at p rs v fits.own asked_part) in
+          let width : length ws ≡ width_in v p = long ∙ sym (width_is m law valid sizes f at p rs v fits.own touched_part) in
           let read : words_read (numbered 0 ws) (width_in v p) ≡ ws = ap (words_read (numbered 0 ws)) (sym width) ∙ words_numbered ws in
           λ i. record { start = v.starts; number = sym fits.number i; part = part i; ticket = ticket i; words = (words ∙ sym read) i }
 
@@ -462,8 +472,8 @@ log_wider m f base x items es rs h = record {
   };
   read = all_map (IsRead (words_in base)) (IsRead (words_in (base ++ x ∷ []))) (λ i h. some_more base x (part_of_item i) h) items h.read;
   inside = h.inside;
-  asked_items = h.asked_items;
-  asked_updates = h.asked_updates;
+  touched_items = h.touched_items;
+  touched_updates = h.touched_updates;
   written = h.written;
 }
 

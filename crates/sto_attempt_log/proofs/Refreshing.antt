@@ -14,7 +14,7 @@ use Rattle.sto_item.proofs.Applied.{part_of-applied}
 use Rattle.sto_item.proofs.Widths.{length-applied_updates, HasWidths-above, applied_updates-with_updates}
 use Rattle.sto_type.specs.Known.{Parts, Known, learnt, IsPartOf}
 use Rattle.sto_type.specs.Meaning.{Meaning}
-use Rattle.sto_attempt_log.specs.Asked.{AllOf}
+use Rattle.sto_attempt_log.specs.Every.{AllOf}
 use Rattle.sto_attempt_log.specs.Log.{IsCache}
 use Rattle.sto_attempt_log.specs.Refreshed.{outside, IsLearntAnew}
 use Rattle.sto_attempt_log.proofs.Recalling.{cache_learnt}

@@ -17,12 +17,13 @@ use Rattle.sto_model.specs.Run.{Script}
 use Rattle.sto_type.specs.Meaning.{Meaning}
 use Rattle.sto_attempt_log.specs.declared.read_entry.ReadEntry.{ReadEntry}
 use Rattle.sto_attempt_log.specs.ReadSet.{claim_of, IsClaimed}
-use Rattle.sto_attempt_log.specs.Asked.{IsAsked}
+use Rattle.sto_type.specs.Touching.{HasTouched}
 use Rattle.sto_attempt_log.specs.Answers.{IsPrefix, HasFound, WasLocked, WasChanged}
 use Rattle.sto_attempt_log.specs.Standing.{IsLeft}
 use Rattle.sto_attempt_log.proofs.Prefix.{prefix_on}
 use Rattle.sto_attempt_log.proofs.Drawing.{any_at}
 use Rattle.sto_attempt_log.proofs.Reading.{AtRest, own_still, idle_reading, among_front}
+use Rattle.sto_model.specs.Asked.{IsUnsettled}
 
 -- The recheck of a part that was seen as of the number `at`, while the view has the number `now`
 module _ (m : Meaning) (valid : Validity) (sizes : List ℕ) (f : Script) (at now : ℕ) (rs : List Told) (v : View) (rest : AtRest m valid sizes now v) (s : ReadEntry) (claim : IsClaimed v at s) where
@@ -96,7 +97,7 @@ module _ (m : Meaning) (valid : Validity) (sizes : List ℕ) (f : Script) (at no
       | inr off ↦ ap (λ (y : View). y.at) (t.after ∙ ap (λ (b : Bool). rechecked_by b plain_view s.part n) off)
     ]
 
-    module _ (runs : IsPrefix m f v at rs) (asked : IsAsked m f rs s.part) where
+    module _ (runs : IsPrefix m f v at rs) (touched : HasTouched m f rs s.part) (unsettled : IsUnsettled f rs) where
       held_none : holds s.part v.held ≡ false
       held_none = ap (holds s.part) rest.unheld
 
@@ -109,7 +110,7 @@ module _ (m : Meaning) (valid : Validity) (sizes : List ℕ) (f : Script) (at no
           let there : Among one plain_view.findings = subst (λ (b : Bool). Among one (v.findings ++ record { start = v.starts; part = s.part; version = n; held = b } ∷ [])) (sym held_none) (among_snoc v.findings one) in
           let prefix_now : IsPrefix m f plain_view at rs = runs in
           let left : IsLeft plain_view = record { idle = idle_reading plain_view rest.phase; unheld = rest.unheld; decided = rest.decided } in
-          let h : WasLocked m f plain_view at s.part rs = record { runs = prefix_now; asked = asked; found = record { version = n; among = there; locked = e } } in
+          let h : WasLocked m f plain_view at s.part rs = record { runs = prefix_now; touched = touched; unsettled = unsettled; found = record { version = n; among = there; locked = e } } in
           (subst IsLeft (sym is) left, subst (λ (y : View). WasLocked m f y at s.part rs) (sym is) h)
 
       -- found free with another ticket, which is later
@@ -163,7 +164,8 @@ module _ (m : Meaning) (valid : Validity) (sizes : List ℕ) (f : Script) (at no
           ] in
           record {
             runs = recheck_runs;
-            asked = asked;
+            touched = touched;
+            unsettled = unsettled;
             found = recheck_found e;
             later = recheck_later e ne;
             wrote = subst (λ (k : ℕ). Among (record { start = k; ticket = ticket_of n; part = s.part }) w.wrote) (sym start) (recheck_wrote e ne);

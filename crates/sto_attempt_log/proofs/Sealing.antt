@@ -22,7 +22,7 @@ use Rattle.sto_attempt_log.specs.declared.commit_phase.FoundTicket.{FoundTicket}
 use Rattle.sto_attempt_log.specs.declared.commit_phase.LoadedWord.{LoadedWord}
 use Rattle.sto_attempt_log.specs.declared.read_phase.ReadPhase.TheVariants.{Committing}
 use Rattle.sto_attempt_log.specs.declared.commit_phase.CommitPhase.TheVariants.{Locking}
-use Rattle.sto_attempt_log.specs.Asked.{IsAsked}
+use Rattle.sto_type.specs.Touching.{HasTouched}
 use Rattle.sto_attempt_log.specs.Bounds.{round, words_of}
 use Rattle.sto_attempt_log.specs.Remaining.{commit_left}
 use Rattle.sto_attempt_log.specs.ReadSet.{words_in}
@@ -30,7 +30,7 @@ use Rattle.sto_attempt_log.specs.Log.{IsLog}
 use Rattle.sto_attempt_log.specs.Standing.{Fits}
 use Rattle.sto_attempt_log.specs.Gathering.{gathered, seen_part, other_part, adding_part, unwritten_part, places_in, is_add, AreGathered}
 use Rattle.sto_attempt_log.specs.CommitPhases.{Deal, deal, IsPlanned, IsLockingAt, WasFound, ticket_from, reads_of}
-use Rattle.sto_attempt_log.proofs.Asking.{asked_range}
+use Rattle.sto_attempt_log.proofs.Touched.{touched_range}
 use Rattle.sto_attempt_log.proofs.Bounded.{begins_bounded}
 use Rattle.sto_attempt_log.proofs.Every.{all_contained}
 use Rattle.sto_attempt_log.proofs.Onward.{pending_of}
@@ -132,8 +132,8 @@ module _ (m : Meaning) (law : IsLawful m) (valid : Validity) (sizes : List ℕ) 
       in_range : Each (λ (p : ℕ). p < length m.widths) checks
       in_range j p e = elim (planned.from_checks j p e) [
         | inl s ↦
-            let asked = all_contained (λ (y : Item). IsAsked m f rs (part_of_item y)) items (Seen p) (planned.of_seen s.0 p s.1) h.asked_items in
-            omega (arith, asked_range m f rs p asked, law.homes)
+            let touched = all_contained (λ (y : Item). HasTouched m f rs (part_of_item y)) items (Seen p) (planned.of_seen s.0 p s.1) h.touched_items in
+            omega (arith, touched_range m law f rs p touched, law.homes)
         | inr l ↦ let t = planned.of_loaded l.0.0 p l.0.1 in (planned.in_range t.0 p t.1).0
       ]
 

@@ -21,7 +21,7 @@ use Rattle.sto_type.specs.Known.{Parts, IsPartOf}
 use Rattle.sto_type.specs.Meaning.{Meaning, IsLawful}
 use Rattle.sto_type.specs.Runs.{IsRunOn}
 use Rattle.sto_attempt_log.specs.declared.read_entry.ReadEntry.{ReadEntry}
-use Rattle.sto_attempt_log.specs.Asked.{AllOf}
+use Rattle.sto_attempt_log.specs.Every.{AllOf}
 use Rattle.sto_attempt_log.specs.ReadSet.{words_in, HasClaims}
 use Rattle.sto_attempt_log.specs.Looking.{LooksAt, IsCovered}
 use Rattle.sto_attempt_log.specs.Committing.{written, IsSealed, HoldsFirst}

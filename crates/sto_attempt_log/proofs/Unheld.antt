@@ -27,7 +27,8 @@ use Rattle.sto_attempt_log.specs.declared.read_entry.ReadEntry.{ReadEntry}
 use Rattle.sto_attempt_log.specs.declared.commit_phase.FoundTicket.{FoundTicket}
 use Rattle.sto_attempt_log.specs.declared.commit_phase.LoadedWord.{LoadedWord}
 use Rattle.sto_attempt_log.specs.declared.verdict.Verdict.TheVariants.{Locked}
-use Rattle.sto_attempt_log.specs.Asked.{AllOf, IsAsked}
+use Rattle.sto_attempt_log.specs.Every.{AllOf}
+use Rattle.sto_type.specs.Touching.{HasTouched}
 use Rattle.sto_attempt_log.specs.Answers.{HasFound}
 use Rattle.sto_attempt_log.specs.Log.{IsRead}
 use Rattle.sto_attempt_log.specs.ReadSet.{words_in, ticket_in, claim_of, IsClaimed}
@@ -41,6 +42,7 @@ use Rattle.sto_attempt_log.proofs.Ticketing.{held_written}
 use Rattle.sto_attempt_log.proofs.Leaving.{Sealed, sealed_still, prefix_still, some_update}
 use Rattle.sto_attempt_log.proofs.Locking.{ticket_other, ticket_own, found_still, wrote_kept}
 use Rattle.sto_attempt_log.proofs.Loading.{each_at, each_but, each_cons, before_below, reads_own, reads_other, all_more}
+use Rattle.sto_attempt_log.proofs.Unsettled.{unsettled_sealed}
 
 turned : (q p : ℕ) → nat_eq q p ≡ false → nat_eq p q ≡ false
 turned q p e = grind (arith, nat_tests, e)
@@ -81,8 +83,8 @@ module _ (d : Deal) (law : IsLawful d.m) (n : ℕ) (v : View) (sealed : Sealed d
   on : (q : Pred) × Contains d.items (Holds q) × (q.part ≡ task d n)
   on = planned.on_loaded task_loaded.0 (task d n) task_loaded.1
 
-  pub task_asked : IsAsked d.m d.f d.rs (task d n)
-  task_asked = subst (IsAsked d.m d.f d.rs) on.2 (all_contained (λ (y : Item). IsAsked d.m d.f d.rs (part_of_item y)) d.items (Holds on.0) on.1 sealed.log.asked_items)
+  pub task_touched : HasTouched d.m d.f d.rs (task d n)
+  task_touched = subst (HasTouched d.m d.f d.rs) on.2 (all_contained (λ (y : Item). HasTouched d.m d.f d.rs (part_of_item y)) d.items (Holds on.0) on.1 sealed.log.touched_items)
 
   pub task_read : (ws : List ℤ) × (words_in d.base (task d n) ≡ Some ws)
   task_read =
@@ -96,7 +98,7 @@ module _ (d : Deal) (law : IsLawful d.m) (n : ℕ) (v : View) (sealed : Sealed d
   read_entry_ticket = subst (λ (q : ℕ). ticket_in d.base q ≡ Some task_read_entry.0.ticket) task_read_entry.2 (sealed.only task_read_entry.1.among.0 (claim_of v d.at task_read_entry.0) task_read_entry.1.among.1 refl refl)
 
   pub part_there : HasPart v (task d n)
-  part_there = has_part d.m law d.valid d.sizes d.f d.at (task d n) d.rs v sealed.own task_asked
+  part_there = has_part d.m law d.valid d.sizes d.f d.at (task d n) d.rs v sealed.own task_touched
 
   pub part_wide : width_in v (task d n) ≡ slice_index_or d.m.widths (task d n) 0
   part_wide = sym (width_of v.opening (task d n)) ∙ ap (λ (l : List ℕ). slice_index_or l (task d n) 0) (law.widths v.opening sealed.own.opening)
@@ -119,8 +121,8 @@ module _ (d : Deal) (law : IsLawful d.m) (n : ℕ) (found_tickets : Listed Found
   unheld : holds p v.held ≡ false
   unheld = sym (held_written d.us v p (record { held = h.loading.holding.held })) ∙ h.unwritten
 
-  asked : IsAsked d.m d.f d.rs p
-  asked = task_asked d law n v h.loading.going.sealed h.loading.going.planned h.below h.unwritten
+  touched : HasTouched d.m d.f d.rs p
+  touched = task_touched d law n v h.loading.going.sealed h.loading.going.planned h.below h.unwritten
 
   pub test_unheld : holds (task d n) v.held ≡ false
   test_unheld = unheld
@@ -144,7 +146,8 @@ module _ (d : Deal) (law : IsLawful d.m) (n : ℕ) (found_tickets : Listed Found
             refl,
             record {
               runs = prefix_still d v met refl refl (prefix d.m d.f v d.at d.base d.items d.us d.rs h.loading.going.sealed.log h.loading.going.sealed.claimed);
-              asked = asked;
+              touched = touched;
+              unsettled = unsettled_sealed d.m d.valid d.sizes d.f d.at d.base d.items d.us d.rs v h.loading.going.sealed;
               found = record { version = m; among = there; locked = busy };
             },
           )

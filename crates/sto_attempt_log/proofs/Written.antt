@@ -8,7 +8,7 @@ use Rattle.sto_model.specs.Told.{Told}
 use Rattle.sto_model.specs.Run.{Script}
 use Rattle.sto_model.specs.Serial.{is_written, has_written}
 use Rattle.sto_type.specs.Meaning.{is_empty}
-use Rattle.sto_attempt_log.specs.Asked.{AllOf}
+use Rattle.sto_attempt_log.specs.Every.{AllOf}
 
 or_assoc : (a b c : Bool) → (a || (b || c)) ≡ ((a || b) || c)
 or_assoc true b c = refl

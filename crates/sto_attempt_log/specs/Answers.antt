@@ -4,6 +4,7 @@ use Rattle.sto_model.specs.declared.body.Next.TheVariants.{Commit, Cancel}
 use Rattle.sto_model.specs.Told.{Told}
 use Rattle.sto_model.specs.Run.{Script, IsRun}
 use Rattle.sto_model.specs.Serial.{has_written}
+use Rattle.sto_model.specs.Asked.{IsUnsettled}
 use Rattle.sto_item.specs.Pending.{Entry as Update}
 use Rattle.sto_type.specs.Known.{Parts}
 use Rattle.sto_type.specs.Meaning.{Meaning}
@@ -17,7 +18,7 @@ use Rattle.sto_core.specs.Versions.{ticket_of, is_free}
 use Rattle.sto_core.specs.History.{Shows, Validity}
 use Rattle.sto_core.specs.Event.{Event, Start, Open, Draw, Renew, Recheck}
 use Rattle.sto_core.specs.Tells.{Tells}
-use Rattle.sto_attempt_log.specs.Asked.{IsAsked}
+use Rattle.sto_type.specs.Touching.{HasTouched}
 use Rattle.sto_attempt_log.specs.ReadSet.{HasClaims}
 
 -- exactly one event was made, and it is of this kind
@@ -81,13 +82,15 @@ pub record HasFound (v : View) (part ticket : ℕ) : Type 0 where
 -- it was aborted, as of the number at, by a part that was locked
 pub record WasLocked (m : Meaning) (f : Script) (v : View) (at part : ℕ) (rs : List Told) : Type 0 where
   pub runs : IsPrefix m f v at rs
-  pub asked : IsAsked m f rs part
+  pub touched : HasTouched m f rs part
+  pub unsettled : IsUnsettled f rs
   pub found : HasFoundLocked v part
 
 -- it was aborted, as of the number at, by a part that a later ticket has written
 pub record WasChanged (m : Meaning) (f : Script) (v : View) (at part ticket : ℕ) (rs : List Told) : Type 0 where
   pub runs : IsPrefix m f v at rs
-  pub asked : IsAsked m f rs part
+  pub touched : HasTouched m f rs part
+  pub unsettled : IsUnsettled f rs
   pub found : HasFound v part ticket
   pub later : at < ticket
   pub wrote : Among (record { start = v.starts; ticket = ticket; part = part }) v.wrote

@@ -34,7 +34,7 @@ use Rattle.sto_attempt_log.specs.declared.commit_phase.FoundTicket.{FoundTicket}
 use Rattle.sto_attempt_log.specs.declared.commit_phase.LoadedWord.{LoadedWord}
 use Rattle.sto_attempt_log.specs.declared.verdict.Verdict.{Verdict}
 use Rattle.sto_attempt_log.specs.declared.verdict.Verdict.TheVariants.{Wrote, Read, Cancelled, Locked, Changed}
-use Rattle.sto_attempt_log.specs.Asked.{AllOf}
+use Rattle.sto_attempt_log.specs.Every.{AllOf}
 use Rattle.sto_attempt_log.specs.ReadSet.{words_in, ticket_in, IsTrueIn}
 use Rattle.sto_attempt_log.specs.Looking.{LooksAt}
 use Rattle.sto_attempt_log.specs.Answers.{HasFound, WasLocked, WasChanged, HasWritten}

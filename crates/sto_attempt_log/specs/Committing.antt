@@ -16,7 +16,7 @@ use Rattle.sto_core.specs.History.{Validity}
 use Rattle.sto_core.specs.Tells.{ClaimsFit}
 use Rattle.sto_type.specs.Meaning.{Meaning, is_empty}
 use Rattle.sto_attempt_log.specs.declared.read_entry.ReadEntry.{ReadEntry}
-use Rattle.sto_attempt_log.specs.Asked.{AllOf}
+use Rattle.sto_attempt_log.specs.Every.{AllOf}
 use Rattle.sto_attempt_log.specs.ReadSet.{words_in, AreClaimed, AreOnly}
 use Rattle.sto_attempt_log.specs.Looking.{LooksAt}
 use Rattle.sto_attempt_log.specs.Log.{IsLog}

@@ -2,7 +2,7 @@ pub mod Says
 pub mod ReadSet
 pub mod Placed
 pub mod Flat
-pub mod Asked
+pub mod Every
 pub mod Log
 pub mod Refreshed
 pub mod Answers

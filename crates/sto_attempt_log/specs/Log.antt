@@ -13,7 +13,8 @@ use Rattle.sto_model.specs.Serial.{has_written}
 use Rattle.sto_type.specs.Known.{Parts, Known, known, IsPartOf}
 use Rattle.sto_type.specs.Meaning.{Meaning, is_empty}
 use Rattle.sto_type.specs.Runs.{IsCarried}
-use Rattle.sto_attempt_log.specs.Asked.{AllOf, IsOfNext, IsAsked}
+use Rattle.sto_attempt_log.specs.Every.{AllOf}
+use Rattle.sto_type.specs.Touching.{NextTouches, HasTouched}
 use Rattle.sto_attempt_log.specs.ReadSet.{words_in}
 use Rattle.sto_attempt_log.specs.declared.read_entry.ReadEntry.{ReadEntry}
 use Rattle.sto_part.specs.Listed.{Listed}
@@ -37,8 +38,8 @@ pub record IsLog (m : Meaning) (f : Script) (base : Known) (items : List Item) (
   pub carried : IsCarried m f base items es rs
   pub read : AllOf (IsRead base) items
   pub inside : AllOf (IsInside m.widths) items
-  pub asked_items : AllOf (λ (i : Item). IsAsked m f rs (part_of_item i)) items
-  pub asked_updates : AllOf (λ (e : Entry). IsAsked m f rs e.0) es
+  pub touched_items : AllOf (λ (i : Item). HasTouched m f rs (part_of_item i)) items
+  pub touched_updates : AllOf (λ (e : Entry). HasTouched m f rs e.0) es
   pub written : has_written f rs ≡ not (is_empty es)
 
 -- what is known with the pending updates applied: of all contents that what was read is part of, and of no other part than those read and those that the updates put whole
@@ -69,7 +70,7 @@ pub record IsOnLog (m : Meaning) (next : List Told → Next) (f : Script) (left 
 pub record IsNeeded (m : Meaning) (next : Next) (base : Known) (es : List Entry) (p : ℕ) : Type 0 where
   pub unread : base p ≡ None
   pub unput : overwrites (changes_of es p) ≡ false
-  pub of_next : IsOfNext m next p
+  pub by_next : NextTouches m next p
 
 -- the part was not read, and the pending updates do not put it whole
 abbrev pub IsUnknown : Listed ReadEntry → Recorded → ℕ → Type 0

@@ -1,7 +1,9 @@
 -- How an attempt stands to the view of its pass between two events.
 use Rattle.std.specs.Prelude.{◌≡◌, ◌≢◌, ◌≤◌, ◌<◌, ℕ, suc, ℤ, List, [], ◌∷◌, ◌++◌, length, map, nat_lt, if◌then◌else◌, slice_index_or, Bool, true, false}
 use Rattle.sto_item.specs.Pending.{Entry as Update}
+use Rattle.sto_model.specs.declared.body.Next.{Next}
 use Rattle.sto_model.specs.declared.body.Next.TheVariants.{Commit}
+use Rattle.sto_model.specs.Asked.{AsksSuch}
 use Rattle.sto_model.specs.Told.{Told}
 use Rattle.sto_model.specs.Run.{Script}
 use Rattle.sto_core.specs.declared.view.Phase.TheVariants as P
@@ -28,7 +30,7 @@ use Rattle.sto_item.specs.Observed.{Watched, IsObserved}
 use Rattle.sto_item.specs.Watched.{watched}
 use Rattle.sto_core.specs.Lists.{Each, Among}
 use Rattle.sto_type.specs.Known.{Known}
-use Rattle.sto_attempt_log.specs.Asked.{AllOf}
+use Rattle.sto_attempt_log.specs.Every.{AllOf}
 use Rattle.sto_attempt_log.specs.Log.{IsNeeded}
 use Rattle.sto_core.specs.Event.{Event, Start, Open, Word, Close, Renew, Recheck}
 use Rattle.sto_attempt_log.specs.Answers.{HasRead, HasCancelled, WasLocked, WasChanged}
@@ -138,11 +140,16 @@ InExtension m bound old fresh watches (Rereading p t) ws v =
     × IsNext (length m.widths) old fresh watches false p
 InExtension m bound old fresh watches _ ws v = ⊥
 
--- the view is as the earlier steps of an extension left it
-pub record Renews (m : Meaning) (valid : Validity) (sizes : List ℕ) (at : ℕ) (read_phase : ReadPhase) (words : List ℤ) (extension : Extension) (base : List ReadEntry) (items : List Item) (v : View) : Type 0 where
+-- a call of the body is running
+abbrev pub IsCalling : Next → Type 0
+IsCalling next = AsksSuch (λ call. Unit {0}) next
+
+-- the view is as the earlier steps of an extension left it, and the call that made it is running still
+pub record Renews (m : Meaning) (valid : Validity) (sizes : List ℕ) (next : Next) (at : ℕ) (read_phase : ReadPhase) (words : List ℤ) (extension : Extension) (base : List ReadEntry) (items : List Item) (v : View) : Type 0 where
   pub spans : Spans m valid sizes at extension.bound base extension.fresh.items v
   pub observed : IsObserved items (map watched extension.watches.items)
   pub extended : extension.extended ≡ true
+  pub asks : IsCalling next
   pub stands : InExtension m extension.bound (words_in base) extension.fresh.items (map watched extension.watches.items) read_phase words v
 
 -- where the running call has extended, the attempt reads as of the number of the extension
@@ -155,9 +162,9 @@ Goes m valid sizes f at Unstarted words extension base items es rs v = IsIdle v.
 Goes m valid sizes f at (Opening p) words extension base items es rs v = Fits m valid sizes f at (Opening p) words base es rs v × IsAsOf at extension
 Goes m valid sizes f at (Reading p t) words extension base items es rs v = Fits m valid sizes f at (Reading p t) words base es rs v × IsAsOf at extension
 Goes m valid sizes f at (Renewing p t) words extension base items es rs v = Fits m valid sizes f at (Renewing p t) words base es rs v
-Goes m valid sizes f at (Rechecking p) words extension base items es rs v = Renews m valid sizes at (Rechecking p) words extension base items v
-Goes m valid sizes f at (Reopening p) words extension base items es rs v = Renews m valid sizes at (Reopening p) words extension base items v
-Goes m valid sizes f at (Rereading p t) words extension base items es rs v = Renews m valid sizes at (Rereading p t) words extension base items v
+Goes m valid sizes f at (Rechecking p) words extension base items es rs v = Renews m valid sizes (f rs) at (Rechecking p) words extension base items v
+Goes m valid sizes f at (Reopening p) words extension base items es rs v = Renews m valid sizes (f rs) at (Reopening p) words extension base items v
+Goes m valid sizes f at (Rereading p t) words extension base items es rs v = Renews m valid sizes (f rs) at (Rereading p t) words extension base items v
 Goes m valid sizes f at Committing words extension base items es rs v = ⊥
 Goes m valid sizes f at Over words extension base items es rs v = ⊥
 

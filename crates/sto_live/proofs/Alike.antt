@@ -11,7 +11,7 @@ use Rattle.sto_model.specs.declared.body.Next.{Next}
 use Rattle.sto_type.specs.Known.{Parts, Known}
 use Rattle.sto_type.specs.Meaning.{Meaning}
 use Rattle.sto_type.specs.Runs.{pending_after, pending_along, contents_after, contents_along, AreTaken, IsRunOn, IsCarried}
-use Rattle.sto_attempt_log.specs.Asked.{IsOfNext, IsAsked}
+use Rattle.sto_type.specs.Touching.{NextTouches, HasTouched}
 use Rattle.sto_attempt_log.specs.Log.{IsLog}
 use Rattle.sto_attempt_log.proofs.Every.{all_map}
 
@@ -56,13 +56,13 @@ written_alike f g (r ∷ rs) a = rw a.0 (rw (written_alike (λ xs. f (r ∷ xs))
 
 -- what the first script does after the replies asks nothing, or the second does the same
 abbrev pub NoFurther : Meaning → Next → Next → Type 0
-NoFurther m n k = (p : ℕ) → IsOfNext m n p → IsOfNext m k p
+NoFurther m n k = (p : ℕ) → NextTouches m n p → NextTouches m k p
 
-pub asked_alike : (m : Meaning) (f g : Script) (rs : List Told) (p : ℕ) → AreAlike f g rs → NoFurther m (f rs) (g rs) → IsAsked m f rs p → IsAsked m g rs p
-asked_alike m f g [] p a n h = n p h
-asked_alike m f g (r ∷ rs) p a n h = elim h [
-  | inl here ↦ inl (subst (λ (k : Next). IsOfNext m k p) a.0 here)
-  | inr later ↦ inr (asked_alike m (λ xs. f (r ∷ xs)) (λ xs. g (r ∷ xs)) rs p a.1 n later)
+pub touched_alike : (m : Meaning) (f g : Script) (rs : List Told) (p : ℕ) → AreAlike f g rs → NoFurther m (f rs) (g rs) → HasTouched m f rs p → HasTouched m g rs p
+touched_alike m f g [] p a n h = n p h
+touched_alike m f g (r ∷ rs) p a n h = elim h [
+  | inl here ↦ inl (subst (λ (k : Next). NextTouches m k p) a.0 here)
+  | inr later ↦ inr (touched_alike m (λ xs. f (r ∷ xs)) (λ xs. g (r ∷ xs)) rs p a.1 n later)
 ]
 
 pub run_on_alike : (m : Meaning) (f g : Script) (c : Parts) (es : List Entry) (rs : List Told) → AreAlike f g rs → IsRunOn m f c es rs → IsRunOn m g c es rs
@@ -88,7 +88,7 @@ IsLog-alike m f g base items es rs a n k =
       carried = IsCarried-alike m f g base items es rs a k.carried;
       read = k.read;
       inside = k.inside;
-      asked_items = all_map _ _ (λ (i : Item) h. asked_alike m f g rs (part_of_item i) a n h) items k.asked_items;
-      asked_updates = all_map _ _ (λ (e : Entry) h. asked_alike m f g rs e.0 a n h) es k.asked_updates;
+      touched_items = all_map _ _ (λ (i : Item) h. touched_alike m f g rs (part_of_item i) a n h) items k.touched_items;
+      touched_updates = all_map _ _ (λ (e : Entry) h. touched_alike m f g rs e.0 a n h) es k.touched_updates;
       written = sym (written_alike f g rs a) ∙ k.written;
     }

@@ -23,7 +23,7 @@ use Rattle.sto_attempt_log.specs.declared.verdict.Verdict.TheVariants.{Wrote, Re
 use Rattle.sto_attempt_log.specs.declared.verdict.Turn.{Turn}
 use Rattle.sto_attempt_log.specs.declared.verdict.Turn.TheVariants.{More, Ready, Ended}
 use Rattle.sto_attempt_log.specs.Answers.{IsPrefix}
-use Rattle.sto_attempt_log.specs.Asked.{IsOfNext}
+use Rattle.sto_type.specs.Touching.{NextTouches}
 use Rattle.sto_attempt_log.specs.Standing.{Fits, Goes, HasBegun, IsFirst, IsUnaborted}
 use Rattle.sto_attempt_log.proofs.Claimed.{claims_fit}
 use Rattle.sto_attempt_log.proofs.Prefix.{prefix}
@@ -34,7 +34,7 @@ use Rattle.sto_live.specs.Scripts.{script_of}
 use Rattle.sto_live.specs.Waiting.{IsWaiting}
 use Rattle.sto_live.proofs.Extending.{few_replies}
 
-no_part : (m : Meaning) (n : Next) (p : ℕ) → (IsAsk n → ⊥) → IsOfNext m n p → ⊥
+no_part : (m : Meaning) (n : Next) (p : ℕ) → (IsAsk n → ⊥) → NextTouches m n p → ⊥
 no_part m (Ask call) p none h = none tt
 no_part m Commit p none h = h
 no_part m Cancel p none h = h
@@ -42,8 +42,8 @@ no_part m Cancel p none h = h
 no_goes : (m : Meaning) (valid : Validity) (sizes : List ℕ) (f : Script) (at : ℕ) (read_phase : ReadPhase) (ws : List ℤ) (extension : Extension) (base : List ReadEntry) (items : List Item) (es : List Update) (rs : List Told) (v : View)
     → HasBegun read_phase → IsFirst read_phase → (IsAsk (f rs) → ⊥) → Goes m valid sizes f at read_phase ws extension base items es rs v → ⊥
 no_goes m valid sizes f at Unstarted ws extension base items es rs v begins first none h = begins
-no_goes m valid sizes f at (Opening p) ws extension base items es rs v begins first none h = no_part m (f rs) p none h.0.awaits.of_next
-no_goes m valid sizes f at (Reading p t) ws extension base items es rs v begins first none h = no_part m (f rs) p none h.0.awaits.of_next
+no_goes m valid sizes f at (Opening p) ws extension base items es rs v begins first none h = no_part m (f rs) p none h.0.awaits.by_next
+no_goes m valid sizes f at (Reading p t) ws extension base items es rs v begins first none h = no_part m (f rs) p none h.0.awaits.by_next
 no_goes m valid sizes f at (Renewing p t) ws extension base items es rs v begins first none h = first
 no_goes m valid sizes f at (Rechecking p) ws extension base items es rs v begins first none h = first
 no_goes m valid sizes f at (Reopening p) ws extension base items es rs v begins first none h = first

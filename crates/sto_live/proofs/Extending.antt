@@ -11,7 +11,7 @@ use Rattle.sto_model.specs.declared.run.End.TheVariants as E
 use Rattle.sto_model.specs.Run.{State, IsReplyTo, IsRun, IsAsk, stepped}
 use Rattle.sto_model.specs.Serial.{end_step}
 use Rattle.sto_type.specs.Meaning.{Meaning}
-use Rattle.sto_attempt_log.specs.Asked.{IsOfNext}
+use Rattle.sto_type.specs.Touching.{NextTouches}
 use Rattle.sto_live.specs.Scripts.{script_of}
 use Rattle.sto_live.proofs.Alike.{AreAlike, NoFurther}
 
@@ -57,8 +57,8 @@ few_replies ms [] end st (r ∷ rs) h = absurd (no_reply end h.0)
 few_replies ms (call ∷ calls) end st (r ∷ rs) h = (let l = few_replies ms calls end (stepped ms (Ask call) st) rs h.1 in omega (arith, l))
 
 end_asks_none : (m : Meaning) (end : End) (n k : Next) → n ≡ end_step end → NoFurther m n k
-end_asks_none m E.Commit n k e p h = absurd (subst (λ (x : Next). IsOfNext m x p) e h)
-end_asks_none m E.Cancel n k e p h = absurd (subst (λ (x : Next). IsOfNext m x p) e h)
+end_asks_none m E.Commit n k e p h = absurd (subst (λ (x : Next). NextTouches m x p) e h)
+end_asks_none m E.Cancel n k e p h = absurd (subst (λ (x : Next). NextTouches m x p) e h)
 
 pub more_asked : (m : Meaning) (calls more : List Call) (end other : End) (rs : List Told) → length rs ≡ length calls → NoFurther m (script_of calls end rs) (script_of (calls ++ more) other rs)
 more_asked m calls more end other rs e = end_asks_none m end (script_of calls end rs) (script_of (calls ++ more) other rs) (at_end calls end rs (omega (arith, e)))

@@ -1,9 +1,11 @@
 -- When a line of a report is right, after the lines before it.
 use Rattle.std.specs.Prelude.{◌≡◌, ℕ, suc, ◌≤◌, ◌<◌, ◌-◌, ◌⊎◌, List, [], ◌∷◌, ◌++◌, length, take, drop, nat_lt, Bool, true, false, Some, slice_get, Contains, codes}
 use Rattle.std.specs.List.{list_any, flat_map}
+use Rattle.sto_model.specs.Asked.{IsUnsettled}
 use Rattle.sto_lang.specs.Objects.{Declaration}
 use Rattle.sto_lang.specs.Scripts.{Script, File}
 use Rattle.sto_lang.specs.Drafts.{transaction_count}
+use Rattle.sto_script.specs.Meaning.{meaning_of}
 use Rattle.sto_report_spec.specs.Orders.{Place, transaction_at, positions_of}
 use Rattle.sto_report_spec.specs.Replay.{Entry, entries_of, opening_state, final_state, entry_at, run_at, shown}
 use Rattle.sto_report_spec.specs.Aborts.{Cause, Locked, Changed, Abort, part_in}
@@ -77,6 +79,7 @@ pub record IsRightAlone (file : File) (order : List Place) (abort : Abort) : Typ
   pub replies : IsFront abort.replies (run_at file (shown file order abort.seen) abort.place).replies
   pub after_own : IsAfterOwn (entries_of file order) abort.place abort.seen
   pub earlier : IsBefore (entries_of file order) abort.place abort.seen
+  pub unsettled : IsUnsettled (meaning_of script) abort.replies
   pub part : IsPartAsked file script abort.replies (part_in abort.cause) object
   pub cause : IsCauseOf file order abort object abort.cause
 

@@ -3,7 +3,7 @@ use Rattle.std.specs.Prelude.{◌≡◌, ℕ, ◌+◌, ◌-◌, ◌≤◌, ◌<�
 use Rattle.std.specs.List.{All}
 use Rattle.std.specs.Str.{bytes_eq}
 use Rattle.sto_model.specs.Told.{Told}
-use Rattle.sto_model.specs.Asked.{HasAsked}
+use Rattle.sto_model.specs.Asked.{HasAsked, HasAskedSuch, IsUnsettled}
 use Rattle.sto_lang.specs.Objects.{Declaration, shapes_of}
 use Rattle.sto_model.specs.Sizes.{part_count}
 use Rattle.sto_lang.specs.Scripts.{Script, File}
@@ -53,6 +53,10 @@ pub record IsChange (u : Updating) (file : File) (order : List Place) (abort : A
   pub earlier : IsBefore (entries_of file order) abort.place by
   pub written : (before after : List ℕ) × (updated u file order by ≡ before ++ part ∷ after)
 
+-- one of the calls of the attempt may touch the part
+abbrev pub IsPartTouched : Updating → File → Script → List Told → ℕ → Type 0
+IsPartTouched u file script replies part = HasAskedSuch (u.touches (shapes_of file.declarations) part) (meaning_of script) replies
+
 -- what the cause says of a writer
 abbrev pub IsCause : Updating → File → List Place → Abort → Declaration → Cause → Type 0
 IsCause u file order abort d (Locked part) = Unit {0}
@@ -60,7 +64,8 @@ IsCause u file order abort d (Changed part by) = IsChange u file order abort (pa
 
 -- an aborted attempt is lawful: it is one of a transaction of the file, it heard what that hears of the state after the
 -- writers that it saw, those are as many as its thread's own earlier entries and not more than are before its own entry,
--- and its cause is a part that it asked for, and a writer that changed it
+-- it was not at its end (a call was running, or it was committing what it had written), and its cause is a part of an
+-- object that it asked for, which one of its calls may touch, and a writer that changed it
 pub record IsLawfulAbort (u : Updating) (file : File) (order : List Place) (abort : Abort) : Type 0 where
   pub script : Script
   pub object : Declaration
@@ -68,7 +73,9 @@ pub record IsLawfulAbort (u : Updating) (file : File) (order : List Place) (abor
   pub replies : IsFront abort.replies (run_at file (shown file order abort.seen) abort.place).replies
   pub after_own : IsAfterOwn (entries_of file order) abort.place abort.seen
   pub before : IsBefore (entries_of file order) abort.place abort.seen
+  pub unsettled : IsUnsettled (meaning_of script) abort.replies
   pub part : IsPartAsked file script abort.replies (part_in abort.cause) object
+  pub touched : IsPartTouched u file script abort.replies (part_number file.declarations object (part_in abort.cause).part)
   pub cause : IsCause u file order abort object abort.cause
 
 -- how many writers an attempt knew of that saw so many and was aborted for this cause: the one that changed the part, too

@@ -17,11 +17,12 @@ abbrev pub Contents : Type 0
 Contents = List (List ℤ)
 
 -- what the types say of objects of some shapes: their contents at the opening, the parts that the updates of a call on
--- contents name, and the contents after these updates
-pub record Updating : Type 0 where
+-- contents name, the contents after these updates, and whether a call may touch a part: need, observe or update it
+pub record Updating : Type 1 where
   pub opening : List Shape → Contents
   pub parts : List Shape → Call → Contents → List ℕ
   pub after : List Shape → Call → Contents → Contents
+  pub touches : List Shape → ℕ → Call → Type 0
 
 -- the parts that a run has updated so far, and the contents then
 pub record Updates : Type 0 where

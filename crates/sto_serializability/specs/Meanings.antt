@@ -14,13 +14,15 @@ use Rattle.sto_report_spec.specs.Named.{AreNames}
 use Rattle.sto_report_spec.specs.LawfulAborts.{declared_as}
 use Rattle.sto_type.specs.Meaning.{Meaning, IsLawful}
 use Rattle.sto_report_spec.specs.Updated.{Updating}
+use Rattle.sto_type.specs.Touching.{Touches}
 
--- the contents at the opening, and what a call updates, as the type of the shapes says it
+-- the contents at the opening, what a call updates, and what it may touch, as the type of the shapes says it
 abbrev pub updating_by : (List Shape → Meaning) → Updating
 updating_by means = record {
   opening = λ shapes. (means shapes).opened;
   parts = λ shapes call c. map (λ (e : Entry). e.0) ((means shapes).updates call c);
   after = λ shapes call c. applied_updates ((means shapes).updates call c) c;
+  touches = λ shapes part call. Touches (means shapes) part call;
 }
 
 -- a part of the words by its home: it is one of its object, and parts are numbered in the order of the objects

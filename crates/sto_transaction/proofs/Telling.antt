@@ -1,51 +1,31 @@
 -- What an attempt tells at its end is what its record tells.
 use Rattle.std.proofs.Common.{ℕ, ◌≤◌, List, [], ◌∷◌, refl, sym, subst, arith, false, inl, inr}
-use Rattle.sto_model.specs.declared.body.Next.{Next}
-use Rattle.sto_model.specs.declared.body.Next.TheVariants.{Ask, Commit, Cancel}
 use Rattle.sto_model.specs.Told.{Told}
 use Rattle.sto_model.specs.Run.{Script}
 use Rattle.sto_type.specs.Known.{Parts}
-use Rattle.sto_type.specs.Meaning.{Meaning, IsPartOfObject}
+use Rattle.sto_type.specs.Meaning.{Meaning}
 use Rattle.sto_core.specs.declared.view.View.{View}
-use Rattle.sto_attempt_log.specs.Asked.{IsOfNext, IsAsked}
 use Rattle.sto_attempt_log.specs.ReadSet.{HasClaims}
 use Rattle.sto_attempt_log.specs.Answers as answers
 use Rattle.sto_attempt_log.specs.Standing.{Ends}
 use Rattle.sto_attempt_log.specs.declared.verdict.Verdict.{Verdict}
 use Rattle.sto_attempt_log.specs.declared.verdict.Verdict.TheVariants.{Wrote, Read, Cancelled, Locked, Changed}
-use Rattle.sto_model.specs.Asked.{AsksOf}
 use Rattle.sto_attempt_log.specs.CommitPhases.{Deal, EndsWith}
-use Rattle.sto_attempt_facts.specs.Told.{HasFound, IsLockedFinding, IsTicketFinding, HasClaimed, IsAskedPart, IsTold, IsFound, HasRead, HasCancelled, WasAborted, WasChanged}
+use Rattle.sto_attempt_facts.specs.Told.{HasFound, IsLockedFinding, IsTicketFinding, HasClaimed, IsTold, IsFound, HasRead, HasCancelled, WasAborted, WasChanged}
 use Rattle.sto_attempt_facts.specs.Added.{IsKnown}
 use Rattle.sto_attempt_facts.specs.Records.{IsSince}
 use Rattle.sto_transaction.specs.Plain.{verdict}
-
--- the part is one of the object that is asked next
-record AsksPart (m : Meaning) (n : Next) (part : ℕ) : Type 0 where
-  object : ℕ
-  owned : IsPartOfObject m.homes object part
-  asked : AsksOf object n
-
-next_part : (m : Meaning) (n : Next) (p : ℕ) → IsOfNext m n p → AsksPart m n p
-next_part m (Ask call) p h = record { object = call.object; owned = h; asked = refl }
-next_part m Commit p h = absurd h
-next_part m Cancel p h = absurd h
-
-pub asked_part : (m : Meaning) (f : Script) (rs : List Told) (p : ℕ) → IsAsked m f rs p → IsAskedPart m f rs p
-asked_part m f [] p h = let k = next_part m (f []) p h in record { object = k.object; owned = k.owned; asked = k.asked }
-asked_part m f (r ∷ rs) p (inl h) = let k = next_part m (f []) p h in record { object = k.object; owned = k.owned; asked = inl k.asked }
-asked_part m f (r ∷ rs) p (inr h) = let k = asked_part m (λ xs. f (r ∷ xs)) rs p h in record { object = k.object; owned = k.owned; asked = inr k.asked }
 
 -- the claims of the running attempt are among all of a number
 claims_of : (v : View) (n : ℕ) (c : Parts) → HasClaimed v n c → HasClaims v n c
 claims_of v n c h j k at start number = h j k at number
 
 told_locked : (m : Meaning) (f : Script) (v : View) (at p : ℕ) (rs : List Told) → at ≤ v.at → answers.WasLocked m f v at p rs → WasAborted m v f rs at p
-told_locked m f v at p rs within h = record { known = within; runs = λ c valid k. h.runs c valid (claims_of v at c k); asked = asked_part m f rs p h.asked }
+told_locked m f v at p rs within h = record { known = within; runs = λ c valid k. h.runs c valid (claims_of v at c k); touched = h.touched; unsettled = h.unsettled }
 
 told_changed : (m : Meaning) (f : Script) (v : View) (at p t : ℕ) (rs : List Told) → at ≤ v.at → answers.WasChanged m f v at p t rs → WasChanged m v f rs at p t
 told_changed m f v at p t rs within h = record {
-  aborted = record { known = within; runs = λ c valid k. h.runs c valid (claims_of v at c k); asked = asked_part m f rs p h.asked };
+  aborted = record { known = within; runs = λ c valid k. h.runs c valid (claims_of v at c k); touched = h.touched; unsettled = h.unsettled };
   later = h.later;
   wrote = record { claim = record { start = v.starts; ticket = t; part = p }; there = h.wrote; by = refl; on = refl };
 }

@@ -7,7 +7,7 @@ use Rattle.sto_attempt_log.specs.declared.read_phase.ReadPhase.{ReadPhase}
 use Rattle.sto_attempt_log.specs.declared.read_phase.ReadPhase.TheVariants.{Unstarted, Opening, Reading, Renewing, Rechecking, Reopening, Rereading, Committing, Over}
 use Rattle.sto_attempt_log.specs.Standing.{Fits, Goes, IsAsOf, Renews}
 use Rattle.sto_attempt_log.proofs.Again.{below_long}
-use Rattle.sto_attempt_log.proofs.Asking.{asked_next, asked_range}
+use Rattle.sto_attempt_log.proofs.Touched.{touched_next, touched_range}
 use Rattle.sto_attempt_log.proofs.Stepping.{width_got}
 use Rattle.sto_attempt.specs.Attempts.{unread}
 use Rattle.sto_attempt.proofs.attempt.Attempt.words_left.Goals as goal
@@ -42,7 +42,7 @@ width-requires g c =
     let p = c.in-Reading.part in
     let goes : Fits m valid sizes f a.at (Reading p c.in-Reading.ticket) a.words.items a.log.base.items a.log.set.updates rs v × IsAsOf a.at a.extension =
     subst (λ (s : ReadPhase). Goes m valid sizes f a.at s a.words.items a.extension a.log.base.items a.log.set.items a.log.set.updates rs v) c.in-Reading.is c.requires.1.goes in
-    omega (arith, asked_range m f rs p (asked_next m f rs p goes.0.awaits.of_next), law.homes)
+    omega (arith, touched_range m law f rs p (touched_next m f rs p goes.0.awaits.by_next), law.homes)
 
 pub overflow_sub-result : goal.overflow_sub-result
 overflow_sub-result g c =
