@@ -16,7 +16,7 @@ use Rattle.sto_item.specs.Agreement.{HasWidths}
 use Rattle.sto_item.specs.Rebase.{overwrites, moved, rebased}
 use Rattle.sto_item.proofs.Applied.{same_width}
 use Rattle.sto_type.specs.Known.{Parts, Known}
-use Rattle.sto_type.specs.Meaning.{IsPartOfObject, EachKnown, EachInside}
+use Rattle.sto_type.specs.Meaning.{EachKnown, EachInside}
 use Rattle.sto_attempt_log.specs.Every.{AllOf}
 use Rattle.sto_attempt_log.specs.Log.{IsRead, IsInside}
 use Rattle.sto_attempt_log.proofs.Every.{all_append}

@@ -1,16 +1,18 @@
 -- The log after one more call, as the code has it.
-use Rattle.std.proofs.Common.{◌≡◌, List, [], ◌∷◌, ◌++◌, ap, sym, ◌∙◌, subst}
+use Rattle.std.proofs.Common.{◌≡◌, ℕ, Some, List, [], ◌∷◌, ◌++◌, ap, sym, ◌∙◌, subst, inl}
 use Rattle.sto_item.specs.declared.item.Item.{Item}
 use Rattle.sto_item.specs.Pending.{Entry, AreUpdates, applied_updates, with_updates}
 use Rattle.sto_item.specs.Rebase.{rebased}
 use Rattle.sto_item.specs.Agreement.{HasWidths}
 use Rattle.sto_item.specs.Recorded.{Recorded}
 use Rattle.sto_model.specs.declared.call.Call.{Call}
+use Rattle.sto_model.specs.declared.body.Next.{Next}
 use Rattle.sto_model.specs.declared.body.Next.TheVariants.{Ask}
 use Rattle.sto_model.specs.Told.{Told}
 use Rattle.sto_model.specs.Run.{Script}
 use Rattle.sto_type.specs.Known.{Parts, Known, IsPartOf}
 use Rattle.sto_type.specs.Meaning.{Meaning, IsLawful}
+use Rattle.sto_type.specs.Touching.{Touches, NextTouches}
 use Rattle.sto_type.specs.Plans.{Say, IsPlan}
 use Rattle.sto_type.specs.Runs.{IsRunOn}
 use Rattle.sto_type.proofs.Steps.{step_widths}
@@ -31,6 +33,20 @@ pending_of m f base items es rs h some = record {
   fits = λ d v p. let on : IsRunOn m f d es rs = run_on m f base items es rs d h.carried v p in (on.widths, on.valid);
   some = some;
 }
+
+-- the next call may touch the part that it needs
+pub need_touched : (m : Meaning) (f : Script) (base : Known) (items : List Item) (es : List Entry) (rs : List Told) (call : Call) (k : Known) (p : ℕ)
+    → IsLog m f base items es rs → IsCache m base es k → ((d : Parts) × m.valid d × IsPartOf base d) → m.takes call → f rs ≡ Ask call → m.need call k ≡ Some p → NextTouches m (f rs) p
+need_touched m f base items es rs call k p log cache some takes asks needs =
+    let touches : Touches m p call = record {
+      takes = takes;
+      contents = applied_updates es some.0;
+      valid = (run_on m f base items es rs some.0 log.carried some.1 some.2).valid;
+      knowledge = k;
+      known = cache.above some.0 some.1 some.2;
+      does = inl needs;
+    } in
+    subst (λ (n : Next). NextTouches m n p) (sym asks) touches
 
 module _ (m : Meaning) (law : IsLawful m) (f : Script) (base : Known) (old : Recorded) (rs : List Told) (call : Call) (k : Known)
     (was : IsLog m f base old.items old.updates rs) (cache : IsCache m base old.updates k) (some : (d : Parts) × m.valid d × IsPartOf base d)

@@ -32,7 +32,7 @@ abbrev pub IsInside : List ℕ → Item → Type 0
 IsInside widths (Seen p) = Unit {0}
 IsInside widths (Holds p) = p.word < slice_index_or widths p.part 0
 
--- the items and updates carry the replies; each item names a word of a part that was read, and items and updates are of objects that were asked;
+-- the items and updates carry the replies; each item names a word of a part that was read; the calls may touch the parts of items and updates;
 -- there are updates exactly where a call has written
 pub record IsLog (m : Meaning) (f : Script) (base : Known) (items : List Item) (es : List Entry) (rs : List Told) : Type 0 where
   pub carried : IsCarried m f base items es rs

@@ -64,7 +64,7 @@ returns-then-watch g c =
           let e : slice_get (map watched ws) (length fresh) ≡ Some (watched w) =
           slice_get-map watched ws (length fresh) ∙ ap (option_map watched) (ap (slice_get ws) (sym c.len-place.ensures) ∙ c.get-watch.ensures) in
           let next : IsNext (length m.widths) old fresh (map watched ws) w.seen w.part = ahead (length m.widths) old fresh (map watched ws) c.requires.renewed.0 c.requires.renewed.1 (watched w) e in
-          record { spans = spans; observed = c.requires.observed; extended = c.requires.extended; stands = (phase, subst (λ (b : Bool). IsNext (length m.widths) old fresh (map watched ws) b w.part) c.if-watch.true next) });
+          record { spans = spans; observed = c.requires.observed; extended = c.requires.extended; asks = c.requires.asks; stands = (phase, subst (λ (b : Bool). IsNext (length m.widths) old fresh (map watched ws) b w.part) c.if-watch.true next) });
       unaborted = search rules;
       grown = heard_none (g.T.TxType.meaning a.log.ty.now) (g.B.Body.script a.log.body) (words_in a.log.base.items) (map told a.log.replies.items) a.log.set;
       renewed = search rules;
@@ -90,7 +90,7 @@ returns-else-watch g c =
           let e : slice_get (map watched ws) (length fresh) ≡ Some (watched w) =
           slice_get-map watched ws (length fresh) ∙ ap (option_map watched) (ap (slice_get ws) (sym c.len-place.ensures) ∙ c.get-watch.ensures) in
           let next : IsNext (length m.widths) old fresh (map watched ws) w.seen w.part = ahead (length m.widths) old fresh (map watched ws) c.requires.renewed.0 c.requires.renewed.1 (watched w) e in
-          record { spans = spans; observed = c.requires.observed; extended = c.requires.extended; stands = (phase, subst (λ (b : Bool). IsNext (length m.widths) old fresh (map watched ws) b w.part) c.if-watch.false next) });
+          record { spans = spans; observed = c.requires.observed; extended = c.requires.extended; asks = c.requires.asks; stands = (phase, subst (λ (b : Bool). IsNext (length m.widths) old fresh (map watched ws) b w.part) c.if-watch.false next) });
       unaborted = search rules;
       grown = heard_none (g.T.TxType.meaning a.log.ty.now) (g.B.Body.script a.log.body) (words_in a.log.base.items) (map told a.log.replies.items) a.log.set;
       renewed = search rules;

@@ -12,6 +12,7 @@ use Rattle.sto_attempt_log.specs.ReadSet.{words_in}
 use Rattle.sto_attempt_log.specs.Answers.{WasChanged}
 use Rattle.sto_attempt_log.specs.Standing.{IsRenewed, Spans, IsLeft}
 use Rattle.sto_attempt_log.proofs.Reading.{always_err}
+use Rattle.sto_attempt_log.proofs.Unsettled.{unsettled_calling}
 use Rattle.sto_attempt_log.proofs.Again.{some_none, was_read, some_old, some_anew, recheck_allowed, rechecked_left, rechecked_within, rechecked_locked, rechecked_changed, rechecked_spans, rechecked_renewed}
 use Rattle.std.proofs.Common.{◌-◌, ◌+◌, drop, OnOk}
 use Rattle.sto_core.specs.Event.{Recheck}
@@ -81,7 +82,7 @@ returns-then-is_locked g c =
       steps = record {
         event = search rules;
         log = c.requires.log;
-        turned = (refl, rechecked_left m law g.T.Naming.valid sizes is f a.at a.extension.bound c.args.part true a.log.base.items fresh a.log.set.items ws a.log.set.updates rs v goes.spans goes.observed goes.stands.1 c.requires.log.log goes.stands.0 s there c.in-Some.ensures.part w passes n (pos 0) c.recheck-found.ensures.tells, rechecked_within m law g.T.Naming.valid sizes is f a.at a.extension.bound c.args.part true a.log.base.items fresh a.log.set.items ws a.log.set.updates rs v goes.spans goes.observed goes.stands.1 c.requires.log.log goes.stands.0 s there c.in-Some.ensures.part w passes n (pos 0) c.recheck-found.ensures.tells, (refl, rechecked_locked m law g.T.Naming.valid sizes is f a.at a.extension.bound c.args.part true a.log.base.items fresh a.log.set.items ws a.log.set.updates rs v goes.spans goes.observed goes.stands.1 c.requires.log.log goes.stands.0 s there c.in-Some.ensures.part w passes n (pos 0) c.recheck-found.ensures.tells locked));
+        turned = (refl, rechecked_left m law g.T.Naming.valid sizes is f a.at a.extension.bound c.args.part true a.log.base.items fresh a.log.set.items ws a.log.set.updates rs v goes.spans goes.observed goes.stands.1 c.requires.log.log goes.stands.0 s there c.in-Some.ensures.part w passes n (pos 0) c.recheck-found.ensures.tells, rechecked_within m law g.T.Naming.valid sizes is f a.at a.extension.bound c.args.part true a.log.base.items fresh a.log.set.items ws a.log.set.updates rs v goes.spans goes.observed goes.stands.1 c.requires.log.log goes.stands.0 s there c.in-Some.ensures.part w passes n (pos 0) c.recheck-found.ensures.tells, (refl, rechecked_locked m law g.T.Naming.valid sizes is f a.at a.extension.bound c.args.part true a.log.base.items fresh a.log.set.items ws a.log.set.updates rs v goes.spans goes.observed goes.stands.1 c.requires.log.log goes.stands.0 s there c.in-Some.ensures.part w passes n (pos 0) c.recheck-found.ensures.tells (unsettled_calling f rs goes.asks) locked));
         grown = heard_none (g.T.TxType.meaning a.log.ty.now) (g.B.Body.script a.log.body) (words_in a.log.base.items) (map told a.log.replies.items) a.log.set;
         alone = λ one first. absurd first;
         reason = tt;
@@ -117,7 +118,7 @@ returns-then-newer-ticket g c =
     let free : is_free n ≡ true = locked_is (is_free n) (sym c.is_locked.ensures ∙ c.if-is_locked.false) in
     let is : (d : Parts) → g.T.Naming.valid sizes d → m.valid d = λ d h. (g.met.T.TxType.valid_is a.log.ty.now d).1 h in
     let ne : ticket_of n ≡ s.ticket → ⊥ = λ h. c.if-newer-ticket.true (c.ticket-newer.ensures.ticket ∙ h) in
-    let h = rechecked_changed m law g.T.Naming.valid sizes is f a.at a.extension.bound c.args.part true a.log.base.items fresh a.log.set.items ws a.log.set.updates rs v goes.spans goes.observed goes.stands.1 c.requires.log.log goes.stands.0 s there c.in-Some.ensures.part w passes n (pos 0) c.recheck-found.ensures.tells free ne in
+    let h = rechecked_changed m law g.T.Naming.valid sizes is f a.at a.extension.bound c.args.part true a.log.base.items fresh a.log.set.items ws a.log.set.updates rs v goes.spans goes.observed goes.stands.1 c.requires.log.log goes.stands.0 s there c.in-Some.ensures.part w passes n (pos 0) c.recheck-found.ensures.tells (unsettled_calling f rs goes.asks) free ne in
     record {
       steps = record {
         event = search rules;
@@ -165,6 +166,7 @@ advance-requires g c =
       log = c.requires.log;
       observed = c.requires.goes.observed;
       extended = c.requires.goes.extended;
+      asks = c.requires.goes.asks;
       renewed =
           let is : (d : Parts) → g.T.Naming.valid sizes d → m.valid d = λ d h. (g.met.T.TxType.valid_is a.log.ty.now d).1 h in
           let h = rechecked_renewed m law g.T.Naming.valid sizes is f a.at a.extension.bound c.args.part true a.log.base.items fresh a.log.set.items ws a.log.set.updates rs v goes.spans goes.observed goes.stands.1 c.requires.log.log goes.stands.0 s there c.in-Some.ensures.part w passes n (pos 0) c.recheck-found.ensures.tells free same y refl refl refl known refl in

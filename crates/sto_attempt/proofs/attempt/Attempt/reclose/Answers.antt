@@ -16,6 +16,7 @@ use Rattle.sto_attempt_log.specs.ReadSet.{words_in, AllTrueIn}
 use Rattle.sto_attempt_log.specs.Answers.{WasChanged}
 use Rattle.sto_attempt_log.specs.Standing.{IsRenewed, IsNext, Spans, IsLeft}
 use Rattle.sto_attempt_log.proofs.Reading.{always_err}
+use Rattle.sto_attempt_log.proofs.Unsettled.{unsettled_calling}
 use Rattle.sto_attempt_log.proofs.Again.{some_old, some_anew, reclose_allowed, reclosed_left, reclosed_within, reclosed_locked, reclosed_changed, reclosed_false, reclosed_spans, reclosed_renewed, next_place, next_short, next_preds, next_unseen}
 use Rattle.std.proofs.Common.{◌-◌, ◌+◌, drop, OnOk}
 use Rattle.sto_core.specs.Event.{Close}
@@ -79,7 +80,7 @@ returns-then-is_locked g c =
       steps = record {
         event = search rules;
         log = c.requires.before.log;
-        turned = (refl, reclosed_left m law g.T.Naming.valid sizes is f a.at a.extension.bound c.args.part false a.log.base.items fresh a.log.set.items ws a.log.set.updates rs v goes.spans goes.observed goes.stands.3 c.requires.before.log.log c.args.ticket a.words.items goes.stands.0 goes.stands.1 c.requires.all w passes n c.close-found.ensures.tells, reclosed_within m law g.T.Naming.valid sizes is f a.at a.extension.bound c.args.part false a.log.base.items fresh a.log.set.items ws a.log.set.updates rs v goes.spans goes.observed goes.stands.3 c.requires.before.log.log c.args.ticket a.words.items goes.stands.0 goes.stands.1 c.requires.all w passes n c.close-found.ensures.tells, (refl, reclosed_locked m law g.T.Naming.valid sizes is f a.at a.extension.bound c.args.part false a.log.base.items fresh a.log.set.items ws a.log.set.updates rs v goes.spans goes.observed goes.stands.3 c.requires.before.log.log c.args.ticket a.words.items goes.stands.0 goes.stands.1 c.requires.all w passes n c.close-found.ensures.tells locked));
+        turned = (refl, reclosed_left m law g.T.Naming.valid sizes is f a.at a.extension.bound c.args.part false a.log.base.items fresh a.log.set.items ws a.log.set.updates rs v goes.spans goes.observed goes.stands.3 c.requires.before.log.log c.args.ticket a.words.items goes.stands.0 goes.stands.1 c.requires.all w passes n c.close-found.ensures.tells, reclosed_within m law g.T.Naming.valid sizes is f a.at a.extension.bound c.args.part false a.log.base.items fresh a.log.set.items ws a.log.set.updates rs v goes.spans goes.observed goes.stands.3 c.requires.before.log.log c.args.ticket a.words.items goes.stands.0 goes.stands.1 c.requires.all w passes n c.close-found.ensures.tells, (refl, reclosed_locked m law g.T.Naming.valid sizes is f a.at a.extension.bound c.args.part false a.log.base.items fresh a.log.set.items ws a.log.set.updates rs v goes.spans goes.observed goes.stands.3 c.requires.before.log.log c.args.ticket a.words.items goes.stands.0 goes.stands.1 c.requires.all w passes n c.close-found.ensures.tells (unsettled_calling f rs goes.asks) locked));
         grown = heard_none (g.T.TxType.meaning a.log.ty.now) (g.B.Body.script a.log.body) (words_in a.log.base.items) (map told a.log.replies.items) a.log.set;
         alone = λ one first. absurd first;
         reason = tt;
@@ -113,7 +114,7 @@ returns-then-newer-ticket g c =
     let free : is_free n ≡ true = locked_is (is_free n) (sym c.is_locked.ensures ∙ c.if-is_locked.false) in
     let is : (d : Parts) → g.T.Naming.valid sizes d → m.valid d = λ d h. (g.met.T.TxType.valid_is a.log.ty.now d).1 h in
     let ne : ticket_of n ≡ c.args.ticket → ⊥ = λ h. c.if-newer-ticket.true (c.ticket-newer.ensures.ticket ∙ h) in
-    let h = reclosed_changed m law g.T.Naming.valid sizes is f a.at a.extension.bound c.args.part false a.log.base.items fresh a.log.set.items ws a.log.set.updates rs v goes.spans goes.observed goes.stands.3 c.requires.before.log.log c.args.ticket a.words.items goes.stands.0 goes.stands.1 c.requires.all w passes n c.close-found.ensures.tells free ne in
+    let h = reclosed_changed m law g.T.Naming.valid sizes is f a.at a.extension.bound c.args.part false a.log.base.items fresh a.log.set.items ws a.log.set.updates rs v goes.spans goes.observed goes.stands.3 c.requires.before.log.log c.args.ticket a.words.items goes.stands.0 goes.stands.1 c.requires.all w passes n c.close-found.ensures.tells (unsettled_calling f rs goes.asks) free ne in
     record {
       steps = record {
         event = search rules;
@@ -165,7 +166,7 @@ returns-then-not-are_true g c =
       steps = record {
         event = search rules;
         log = c.requires.before.log;
-        turned = (refl, reclosed_left m law g.T.Naming.valid sizes is f a.at a.extension.bound c.args.part false a.log.base.items fresh a.log.set.items ws a.log.set.updates rs v goes.spans goes.observed goes.stands.3 c.requires.before.log.log c.args.ticket a.words.items goes.stands.0 goes.stands.1 c.requires.all w passes n c.close-found.ensures.tells, reclosed_within m law g.T.Naming.valid sizes is f a.at a.extension.bound c.args.part false a.log.base.items fresh a.log.set.items ws a.log.set.updates rs v goes.spans goes.observed goes.stands.3 c.requires.before.log.log c.args.ticket a.words.items goes.stands.0 goes.stands.1 c.requires.all w passes n c.close-found.ensures.tells, (refl, reclosed_false m law g.T.Naming.valid sizes is f a.at a.extension.bound c.args.part false a.log.base.items fresh a.log.set.items ws a.log.set.updates rs v goes.spans goes.observed goes.stands.3 c.requires.before.log.log c.args.ticket a.words.items goes.stands.0 goes.stands.1 c.requires.all w passes n c.close-found.ensures.tells free same preds are fails));
+        turned = (refl, reclosed_left m law g.T.Naming.valid sizes is f a.at a.extension.bound c.args.part false a.log.base.items fresh a.log.set.items ws a.log.set.updates rs v goes.spans goes.observed goes.stands.3 c.requires.before.log.log c.args.ticket a.words.items goes.stands.0 goes.stands.1 c.requires.all w passes n c.close-found.ensures.tells, reclosed_within m law g.T.Naming.valid sizes is f a.at a.extension.bound c.args.part false a.log.base.items fresh a.log.set.items ws a.log.set.updates rs v goes.spans goes.observed goes.stands.3 c.requires.before.log.log c.args.ticket a.words.items goes.stands.0 goes.stands.1 c.requires.all w passes n c.close-found.ensures.tells, (refl, reclosed_false m law g.T.Naming.valid sizes is f a.at a.extension.bound c.args.part false a.log.base.items fresh a.log.set.items ws a.log.set.updates rs v goes.spans goes.observed goes.stands.3 c.requires.before.log.log c.args.ticket a.words.items goes.stands.0 goes.stands.1 c.requires.all w passes n c.close-found.ensures.tells free same (unsettled_calling f rs goes.asks) preds are fails));
         grown = heard_none (g.T.TxType.meaning a.log.ty.now) (g.B.Body.script a.log.body) (words_in a.log.base.items) (map told a.log.replies.items) a.log.set;
         alone = λ one first. absurd first;
         reason = by_predicate (Close c.args.part) a.log.set.items w c.args.part c.args.ticket a.extension.extended a.extension.bound a.words.items
@@ -214,6 +215,7 @@ advance-requires g c =
       log = c.requires.before.log;
       observed = c.requires.before.goes.observed;
       extended = c.requires.before.goes.extended;
+      asks = c.requires.before.goes.asks;
       renewed =
           let is : (d : Parts) → g.T.Naming.valid sizes d → m.valid d = λ d h. (g.met.T.TxType.valid_is a.log.ty.now d).1 h in
           let h = reclosed_renewed m law g.T.Naming.valid sizes is f a.at a.extension.bound c.args.part false a.log.base.items fresh a.log.set.items ws a.log.set.updates rs v goes.spans goes.observed goes.stands.3 c.requires.before.log.log c.args.ticket a.words.items goes.stands.0 goes.stands.1 c.requires.all w passes n c.close-found.ensures.tells free same y refl refl c.as_slice-words.ensures.items refl hold in

@@ -6,6 +6,7 @@ use Rattle.sto_type.specs.Known.{Parts}
 use Rattle.sto_attempt_log.specs.declared.read_entry.ReadEntry.{ReadEntry}
 use Rattle.sto_attempt_log.specs.ReadSet.{words_in}
 use Rattle.sto_attempt_log.specs.Standing.{IsRenewed, Spans}
+use Rattle.sto_attempt_log.proofs.Unsettled.{calling}
 use Rattle.sto_attempt_log.proofs.Prefix.{some_contents}
 use Rattle.sto_attempt_log.proofs.Spanning.{renew_spans}
 use Rattle.std.proofs.Common.{◌-◌, ◌+◌, drop, OnOk}
@@ -36,6 +37,7 @@ advance-requires g c =
       log = c.requires.log;
       observed = c.in_ok-watches.ensures;
       extended = refl;
+      asks = calling m (g.B.Body.script a.log.body (map told a.log.replies.items)) c.requires.fits.0 fits.awaits.by_next;
       renewed = (ws, subst (λ (l : List ReadEntry). IsRenewed (length m.widths) (words_in a.log.base.items) l ws ws) (sym none) h);
       bound = omega (arith, c.renew-bound.ensures.tells.learns.at, c.requires.fits.2.number);
       some = some_contents m g.T.Naming.valid v a.at a.log.base.items is fits.fit fits.claimed;

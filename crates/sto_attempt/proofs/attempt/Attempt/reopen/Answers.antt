@@ -8,6 +8,7 @@ use Rattle.sto_attempt_log.specs.declared.read_phase.ReadPhase.TheVariants.{Rere
 use Rattle.sto_attempt_log.specs.ReadSet.{words_in}
 use Rattle.sto_attempt_log.specs.Answers.{WasChanged}
 use Rattle.sto_attempt_log.specs.Standing.{Renews}
+use Rattle.sto_attempt_log.proofs.Unsettled.{unsettled_calling}
 use Rattle.sto_attempt_log.proofs.Again.{reopen_allowed, reopened_within, reopened_locked, reopened_changed, reopened_goes}
 use Rattle.std.proofs.Common.{◌-◌, ◌+◌, drop}
 use Rattle.sto_attempt_log.specs.Bounds.{left_extending}
@@ -48,7 +49,7 @@ returns-then-is_locked-clause-made g c =
     let passes = g.C.Cells.passes c.args.cells.now in
     let n = c.open-found.result.0 in
     let locked : is_free n ≡ false = unlocked_is (is_free n) (sym c.is_locked.ensures ∙ c.if-is_locked.true) in
-    let h = reopened_locked m law g.T.Naming.valid sizes is f a.at a.extension.bound c.args.part false a.log.base.items fresh a.log.set.items ws a.log.set.updates rs v goes.spans goes.observed goes.stands.1 c.requires.log.log goes.stands.0 w passes n c.open-found.ensures.tells locked in
+    let h = reopened_locked m law g.T.Naming.valid sizes is f a.at a.extension.bound c.args.part false a.log.base.items fresh a.log.set.items ws a.log.set.updates rs v goes.spans goes.observed goes.stands.1 c.requires.log.log goes.stands.0 w passes n c.open-found.ensures.tells (unsettled_calling f rs goes.asks) locked in
     record {
       steps = record {
         event = search rules;
@@ -87,7 +88,7 @@ returns-then-ticket-self-clause-made g c =
     let n = c.open-found.result.0 in
     let free : is_free n ≡ true = locked_is (is_free n) (sym c.is_locked.ensures ∙ c.if-is_locked.false) in
     let later : a.extension.bound < ticket_of n = omega (arith, c.if-ticket-self.true, c.ticket-ticket.ensures.ticket) in
-    let h = reopened_changed m law g.T.Naming.valid sizes is f a.at a.extension.bound c.args.part false a.log.base.items fresh a.log.set.items ws a.log.set.updates rs v goes.spans goes.observed goes.stands.1 c.requires.log.log goes.stands.0 w passes n c.open-found.ensures.tells free later in
+    let h = reopened_changed m law g.T.Naming.valid sizes is f a.at a.extension.bound c.args.part false a.log.base.items fresh a.log.set.items ws a.log.set.updates rs v goes.spans goes.observed goes.stands.1 c.requires.log.log goes.stands.0 w passes n c.open-found.ensures.tells (unsettled_calling f rs goes.asks) free later in
     record {
       steps = record {
         event = search rules;
@@ -128,14 +129,14 @@ returns-clause-made g c =
     let early : ticket_of n ≤ a.extension.bound = omega (arith, c.if-ticket-self.false, c.ticket-ticket.ensures.ticket) in
     let h = reopened_goes m law g.T.Naming.valid sizes is f a.at a.extension.bound c.args.part false a.log.base.items fresh a.log.set.items ws a.log.set.updates rs v goes.spans goes.observed goes.stands.1 c.requires.log.log goes.stands.0 w passes n c.open-found.ensures.tells free early in
     let none : c.make_room.new.words.items ≡ [] = c.make_room.ensures in
-    let made : Renews m g.T.Naming.valid sizes a.at (Rereading c.args.part (ticket_of n)) [] a.extension a.log.base.items a.log.set.items w = record { spans = h.0; observed = goes.observed; extended = goes.extended; stands = (h.1, early, omega arith, goes.stands.1) } in
+    let made : Renews m g.T.Naming.valid sizes (f rs) a.at (Rereading c.args.part (ticket_of n)) [] a.extension a.log.base.items a.log.set.items w = record { spans = h.0; observed = goes.observed; extended = goes.extended; asks = goes.asks; stands = (h.1, early, omega arith, goes.stands.1) } in
     let most = left_extending (g.B.Body.left a.log.body - 1) m.widths (drop (length fresh) ws) in
     record {
       steps = record {
         event = search rules;
         log = c.requires.log;
-        turned = subst (λ (ks : List ℤ). Renews m g.T.Naming.valid sizes a.at (Rereading c.args.part c.ticket-ticket.result) ks a.extension a.log.base.items a.log.set.items w) (sym none)
-            (subst (λ (k : ℕ). Renews m g.T.Naming.valid sizes a.at (Rereading c.args.part k) [] a.extension a.log.base.items a.log.set.items w) (sym c.ticket-ticket.ensures.ticket) made);
+        turned = subst (λ (ks : List ℤ). Renews m g.T.Naming.valid sizes (f rs) a.at (Rereading c.args.part c.ticket-ticket.result) ks a.extension a.log.base.items a.log.set.items w) (sym none)
+            (subst (λ (k : ℕ). Renews m g.T.Naming.valid sizes (f rs) a.at (Rereading c.args.part k) [] a.extension a.log.base.items a.log.set.items w) (sym c.ticket-ticket.ensures.ticket) made);
         grown = heard_none _ _ _ _ _;
         alone = λ one first. absurd first;
         reason = search rules;

@@ -60,12 +60,12 @@ returns g c =
     let most = left_extending (calls - 1) m.widths (drop (length fresh) ws) in
     let is : (d : Parts) → g.T.Naming.valid sizes d → m.valid d = λ d h. (g.met.T.TxType.valid_is a.log.ty.now d).1 h in
     let h = reread_goes m law g.T.Naming.valid sizes is f a.at a.extension.bound c.args.part false a.log.base.items fresh a.log.set.items ws a.log.set.updates rs v goes.spans goes.observed goes.stands.3 c.requires.before.log.log c.args.ticket a.words.items goes.stands.0 goes.stands.1 w passes 0 x tells in
-    let made : Renews m g.T.Naming.valid sizes a.at (Rereading c.args.part c.args.ticket) (a.words.items ++ x ∷ []) a.extension a.log.base.items a.log.set.items w =
-    record { spans = h.0; observed = goes.observed; extended = goes.extended; stands = (h.1, goes.stands.1, omega (arith, c.requires.more, length-append a.words.items (x ∷ [])), goes.stands.3) } in
+    let made : Renews m g.T.Naming.valid sizes (f rs) a.at (Rereading c.args.part c.args.ticket) (a.words.items ++ x ∷ []) a.extension a.log.base.items a.log.set.items w =
+    record { spans = h.0; observed = goes.observed; extended = goes.extended; asks = goes.asks; stands = (h.1, goes.stands.1, omega (arith, c.requires.more, length-append a.words.items (x ∷ [])), goes.stands.3) } in
     record {
       event = search rules;
       turned = subst (λ (s : ReadPhase). Goes m g.T.Naming.valid sizes f a.at s c.push.new.self.items a.extension a.log.base.items a.log.set.items a.log.set.updates rs w) (sym c.requires.read_phase)
-          (subst (λ (ks : List ℤ). Renews m g.T.Naming.valid sizes a.at (Rereading c.args.part c.args.ticket) ks a.extension a.log.base.items a.log.set.items w) (sym pushed) made);
+          (subst (λ (ks : List ℤ). Renews m g.T.Naming.valid sizes (f rs) a.at (Rereading c.args.part c.args.ticket) ks a.extension a.log.base.items a.log.set.items w) (sym pushed) made);
       moves = (subst HasBegun (sym c.requires.read_phase) tt, refl);
       left = subst (λ (s : ReadPhase). events_left calls m.widths s c.push.new.self.items a.extension a.log.base.items < most - (1 + length a.words.items)) (sym c.requires.read_phase)
           (subst (λ (k : ℕ). most - (1 + k) < most - (1 + length a.words.items)) (sym longer)

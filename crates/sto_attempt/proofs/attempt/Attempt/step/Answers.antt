@@ -67,7 +67,7 @@ width-requires-in-Rereading g c =
     let v = g.C.Cells.view c.args.cells.now in
     let is : (d : Parts) → valid sizes d → m.valid d = λ d h. (g.met.T.TxType.valid_is a.log.ty.now d).1 h in
     let p = c.in-Rereading.part in
-    let goes : Renews m valid sizes a.at (Rereading p c.in-Rereading.ticket) a.words.items a.extension a.log.base.items a.log.set.items v =
+    let goes : Renews m valid sizes (f rs) a.at (Rereading p c.in-Rereading.ticket) a.words.items a.extension a.log.base.items a.log.set.items v =
     subst (λ (s : ReadPhase). Goes m valid sizes f a.at s a.words.items a.extension a.log.base.items a.log.set.items a.log.set.updates rs v) c.in-Rereading.is c.requires.goes in
     below_long m law valid sizes is f a.at a.extension.bound p false a.log.base.items a.extension.fresh.items a.log.set.items (map watched a.extension.watches.items) a.log.set.updates rs v goes.spans goes.observed goes.stands.3 c.requires.log.log
 
@@ -81,7 +81,7 @@ reclose-requires-clause-all g c =
     let rs = map told a.log.replies.items in
     let v = g.C.Cells.view c.args.cells.now in
     let p = c.in-Rereading.part in
-    let goes : Renews m valid sizes a.at (Rereading p c.in-Rereading.ticket) a.words.items a.extension a.log.base.items a.log.set.items v =
+    let goes : Renews m valid sizes (f rs) a.at (Rereading p c.in-Rereading.ticket) a.words.items a.extension a.log.base.items a.log.set.items v =
     subst (λ (s : ReadPhase). Goes m valid sizes f a.at s a.words.items a.extension a.log.base.items a.log.set.items a.log.set.updates rs v) c.in-Rereading.is c.requires.goes in
     omega (arith, width_got m.widths p c.width-in-Rereading.result c.width-in-Rereading.ensures, c.if-len-width-2.false, c.len-in-Rereading.ensures, goes.stands.2)
 

@@ -1,7 +1,8 @@
-use Rattle.std.proofs.Common.{refl, arith, ap, sym, ◌∙◌, [], map, append-nil}
+use Rattle.std.proofs.Common.{refl, arith, ap, sym, ◌∙◌, [], map, append-nil, rules}
 use Rattle.sto_model.specs.Told.{told}
+use Rattle.sto_type.specs.Known.{known}
 use Rattle.sto_attempt_log.specs.ReadSet.{words_in}
-use Rattle.sto_attempt_log.proofs.Onward.{heard_none}
+use Rattle.sto_attempt_log.proofs.Onward.{heard_none, need_touched}
 use Rattle.sto_attempt_log.proofs.log.Log.go_on.Goals as goal
 
 pub take_in-requires-clause-log : goal.take_in-requires-clause-log
@@ -51,3 +52,32 @@ loop-call-init g c = record {
   ty = refl;
   base = refl;
 }
+
+pub returns-in-Need : goal.returns-in-Need
+returns-in-Need g c =
+    let m = g.T.TxType.meaning c.args.self.now.ty.now in
+    let f = g.B.Body.script c.args.self.now.body in
+    let i = c.loop-call.invariant in
+    let l = c.loop-call.self in
+    let rs = map told l.replies.items in
+    let asks = ap f (sym (append-nil rs)) ∙ sym (c.in-Ask.ensures.next ∙ i.log.then []) in
+    let unknown = c.in_ok-part-in-Ask.ensures.need c.in-Need.part c.in-Need.is in
+    record {
+      log = search rules;
+      reached = record {
+        unread = search rules;
+        unput = search rules;
+        by_next =
+            rw (← i.ty) (need_touched (g.T.TxType.meaning l.ty.now) f (words_in l.base.items) l.set.items l.set.updates rs c.in-Ask.call (known c.ask.new.cache) c.in-Need.part
+            i.log.log c.in_ok-part-in-Ask.ensures.cache i.some (i.log.taken c.in-Ask.call c.in-Ask.ensures.may) asks (rw c.in-Need.is at c.in_ok-part-in-Ask.ensures.plan));
+      };
+      grown = search rules;
+      runs = search rules;
+      left = search rules;
+      asks = search rules;
+      script = search rules;
+      left_at_reset = search rules;
+      may = search rules;
+      ty = search rules;
+      base = search rules;
+    }
