@@ -1,11 +1,11 @@
 -- Threads among others, and offers among others.
-use Rattle.std.specs.List.{flat_map, list_any}
-use Rattle.std.proofs.Common.{◌≡◌, ◌≤◌, ◌<◌, ◌+◌, ◌-◌, ℕ, zero, suc, List, [], ◌∷◌, ◌++◌, map, replicate, refl, sym, ap, ◌∙◌, subst, arith, Bool, true, false, not, ◌&&◌, ◌||◌, inl, inr, append_assoc, append-nil, nat_eq}
+use Rattle.std.specs.List.{list_any}
+use Rattle.std.proofs.Common.{◌≡◌, ◌≤◌, ℕ, zero, suc, List, [], ◌∷◌, ◌++◌, replicate, refl, sym, ap, ◌∙◌, subst, arith, Bool, true, false, not, ◌&&◌, inl, inr, append_assoc, append-nil, nat_eq}
 use Rattle.std.specs.Prelude.{◌⊎◌}
-use Rattle.std.proofs.lemmas.Bool.{eqb-true, eq-eqb, cases_Bool, cases_eq, or_cases, or_left, or_right, false≢true, true≢false, cond-true, cond-false, not_from_true, not_from_false, not-true, and_from, both_ways}
+use Rattle.std.proofs.lemmas.Bool.{eqb-true, eq-eqb, cases_Bool, cases_eq, or_cases, or_left, or_right, false≢true, cond-true, cond-false, not_from_true, not_from_false, and_from, both_ways}
 use Rattle.std.proofs.lemmas.List.{map-append}
 use Rattle.sto_explore.specs.Schedules.{Turn, without}
-use Rattle.sto_explore.specs.Legs.{turns_of, turns_with, threads_of, schedule_of, IsAmong, AreApart}
+use Rattle.sto_explore.specs.Legs.{turns_of, turns_with, threads_of, schedule_of, IsAmong}
 use Rattle.sto_explore.specs.Branches.{Offer, offers_to, offers_within, part_of, begins, path_of}
 use Rattle.sto_explore.specs.declared.leg.Leg.{Leg}
 use Rattle.sto_explore.proofs.Following.{same, threads_with}

@@ -1,13 +1,10 @@
 -- Runs and schedules, turn by turn.
-use Rattle.std.specs.Prelude.{Option, None, Some}
-use Rattle.std.specs.List.{flat_map, list_any}
-use Rattle.std.proofs.Common.{◌≡◌, ◌≤◌, ◌<◌, ◌+◌, ◌-◌, ℕ, zero, suc, List, [], ◌∷◌, ◌++◌, map, replicate, refl, sym, ap, ◌∙◌, subst, arith, Bool, true, false, not, ◌&&◌, ◌||◌, inl, inr, append_assoc, append-nil, nat_eq, nat_lt}
-use Rattle.std.proofs.lemmas.List.{map-append}
-use Rattle.std.specs.Prelude.{◌⊎◌}
-use Rattle.std.proofs.lemmas.Bool.{eq-eqb, eqb-true, cases_Bool, and_parts, and_from, or_left, cond-true, cond-false, not_from_true, not_from_false, not-true}
+use Rattle.std.specs.Prelude.{None, Some}
+use Rattle.std.specs.List.{list_any}
+use Rattle.std.proofs.Common.{◌≡◌, ◌≤◌, ◌-◌, ℕ, zero, suc, List, [], ◌∷◌, ◌++◌, replicate, refl, sym, ap, ◌∙◌, subst, arith, Bool, true, false, not, ◌||◌, append_assoc, append-nil, nat_eq, nat_lt}
+use Rattle.std.proofs.lemmas.Bool.{eq-eqb, and_parts, and_from, or_left, cond-true, cond-false, not_from_true, not_from_false}
 use Rattle.sto_explore.specs.Schedules.{Turn, Place, is_switch, may, after, is_within, follows}
-use Rattle.sto_explore.specs.Legs.{turns_with, turns_of, threads_of, schedule_of, after_all, AreTold}
-use Rattle.sto_explore.specs.declared.leg.Leg.{Leg}
+use Rattle.sto_explore.specs.Legs.{turns_with, threads_of, after_all, AreTold}
 
 pub same : (n : ℕ) → nat_eq n n ≡ true
 same n = eq-eqb n n refl

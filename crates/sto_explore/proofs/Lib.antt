@@ -5,3 +5,4 @@ pub mod Reaching
 pub mod Offering
 pub mod Ordering
 pub mod Visiting
+pub mod Parting

@@ -1,14 +1,13 @@
 -- What is offered can be taken up.
-use Rattle.std.specs.Prelude.{◌⊎◌, None, Some}
-use Rattle.std.specs.List.{AllByRecursion, list_any, flat_map}
-use Rattle.std.proofs.Common.{◌≡◌, ◌≤◌, ◌<◌, ◌+◌, ◌-◌, ℕ, zero, suc, List, [], ◌∷◌, ◌++◌, drop, replicate, refl, sym, ap, ◌∙◌, subst, arith, Bool, true, false, not, ◌&&◌, ◌||◌, inl, inr, append_assoc, append-nil, nat_eq, nat_lt}
-use Rattle.std.proofs.lemmas.Bool.{cases_Bool, and_parts, and_from, or_left, or_right, cond-true, cond-false, not_from_true, not_from_false, lt-ltb, eqb-true, both_ways}
-use Rattle.std.proofs.lemmas.List.{map-append}
+use Rattle.std.specs.Prelude.{Some}
+use Rattle.std.specs.List.{AllByRecursion, list_any}
+use Rattle.std.proofs.Common.{◌≡◌, ◌≤◌, ◌<◌, ◌+◌, ◌-◌, ℕ, zero, suc, List, [], ◌∷◌, ◌++◌, drop, refl, sym, ap, ◌∙◌, subst, arith, Bool, true, false, not, ◌||◌, inl, inr, append_assoc, append-nil, nat_eq, nat_lt}
+use Rattle.std.proofs.lemmas.Bool.{cases_Bool, and_from, or_left, or_right, cond-true, not_from_false, lt-ltb, eqb-true, both_ways}
 use Rattle.std.proofs.lemmas.List.Concat.{flat_map-append}
-use Rattle.sto_explore.specs.Schedules.{Turn, Place, is_switch, may, after, is_within, without}
+use Rattle.sto_explore.specs.Schedules.{Turn, Place, is_switch, may, is_within, without}
 use Rattle.sto_explore.specs.Legs.{turns_with, turns_of, threads_of, schedule_of, after_all, IsAmong, AreApart, LeadToEnds, AreTold}
-use Rattle.sto_explore.specs.Branches.{Offer, offers_to, offers_within, switches_in, offered, part_of}
-use Rattle.sto_explore.specs.Exploring.{IsFit, GoesOn, FirstGoesOn, IsBegun, IsOffer, IsOrdered}
+use Rattle.sto_explore.specs.Branches.{offers_to, offers_within, switches_in, offered, part_of}
+use Rattle.sto_explore.specs.Exploring.{IsFit, GoesOn, FirstGoesOn, IsBegun, IsOffer}
 use Rattle.sto_explore.specs.declared.leg.Leg.{Leg}
 use Rattle.sto_explore.proofs.Following.{same, within_leg, after_leg, after_append, within_append, told_append, within_with, after_part, after_whole, told_part, threads_with}
 use Rattle.sto_explore.proofs.Among.{without_in, without_out, others_are, schedule_more}
@@ -17,6 +16,10 @@ use Rattle.sto_explore.proofs.Reaching.{whole_leg}
 pub all_append : {X : Type 0} (A : X → Type 0) (xs ys : List X) → AllByRecursion A xs → AllByRecursion A ys → AllByRecursion A (xs ++ ys)
 all_append A [] ys h k = k
 all_append A (x ∷ xs) ys h k = (h.0, all_append A xs ys h.1 k)
+
+pub all_split : {X : Type 0} (A : X → Type 0) (xs ys : List X) → AllByRecursion A (xs ++ ys) → AllByRecursion A xs × AllByRecursion A ys
+all_split A [] ys h = (tt, h)
+all_split A (x ∷ xs) ys h = (let k = all_split A xs ys h.1 in ((h.0, k.0), k.1))
 
 pub turns_append : (xs ys : List Leg) → turns_of (xs ++ ys) ≡ turns_of xs ++ turns_of ys
 turns_append xs ys = flat_map-append (λ (leg : Leg). turns_with leg.thread leg.over leg.turns) xs ys
@@ -35,16 +38,35 @@ told_split tells before (x ∷ xs) ys h =
 may_after : (p : Place) (t u : ℕ) → IsAmong (without t p.going) u → may (after_leg p t) u ≡ true
 may_after p t u h = and_from (list_any (nat_eq u) (without t p.going)) true h refl
 
-may_switch : (p : Place) (t u : ℕ) → IsAmong p.going u → 1 ≤ (within_leg p t).left → may (within_leg p t) u ≡ true
+pub may_switch : (p : Place) (t u : ℕ) → IsAmong p.going u → 1 ≤ (within_leg p t).left → may (within_leg p t) u ≡ true
 may_switch p t u h some =
     and_from (list_any (nat_eq u) p.going) (not (is_switch (Some t) u) || nat_lt 0 (within_leg p t).left) h
     (or_right (not (is_switch (Some t) u)) (nat_lt 0 (within_leg p t).left) (lt-ltb 0 (within_leg p t).left some))
 
-differ : (t u : ℕ) → nat_eq u t ≡ false → nat_eq t u ≡ false
+pub differ : (t u : ℕ) → nat_eq u t ≡ false → nat_eq t u ≡ false
 differ t u other = elim (cases_Bool (nat_eq t u)) [
   | inl is ↦ absurd (both_ways (nat_eq u t) other (subst (λ (n : ℕ). nat_eq u n ≡ true) (sym (eqb-true t u is)) (same u)))
   | inr is_not ↦ is_not
 ]
+
+pub place_with : (start : Place) (legs : List Leg) (leg : Leg)
+    → after_all start (turns_of (legs ++ leg ∷ [])) ≡ after_all (after_all start (turns_of legs)) (turns_with leg.thread leg.over leg.turns)
+place_with start legs leg = ap (after_all start) (turns_more legs leg) ∙ after_append start (turns_of legs) (turns_with leg.thread leg.over leg.turns)
+
+-- the others after a leg
+pub goes_after : (p : Place) (left t : ℕ) (others : List ℕ) → GoesOn p left t → AreApart (t ∷ others) → ((u : ℕ) → IsAmong (t ∷ others) u → IsAmong p.going u)
+    → (u : ℕ) → IsAmong others u → GoesOn (after_leg p t) left u
+goes_after p left t others goes apart can u h =
+    (may_after p t u (without_in u t p.going (can u (or_right (nat_eq u t) (list_any (nat_eq u) others) h)) (others_are u t others apart.0 h)), goes.1)
+
+pub drop_among : (others : List ℕ) (u : ℕ) → IsAmong (drop 1 others) u → IsAmong others u
+drop_among [] u h = h
+drop_among (t ∷ others) u h = or_right (nat_eq u t) (list_any (nat_eq u) others) h
+
+-- and the first of them
+pub first_of : (q : Place) (left : ℕ) (us : List ℕ) → ((u : ℕ) → IsAmong us u → GoesOn q left u) → FirstGoesOn q left us
+first_of q left [] g = tt
+first_of q left (u ∷ us) g = g u (or_left (nat_eq u u) (list_any (nat_eq u) us) (same u))
 
 module _ (start : Place) (tells : List ℕ → Bool → Type 0) where
   place_of : List Leg → Place
@@ -61,9 +83,6 @@ module _ (start : Place) (tells : List ℕ → Bool → Type 0) where
     told = subst (λ (l : List Turn). AreTold tells [] l) (sym (turns_more legs leg)) (told_append tells [] (turns_of legs) (turns_with leg.thread leg.over leg.turns) b.told told);
     fit = all_append (IsFit start.going) legs (leg ∷ []) b.fit (fit, tt);
   }
-
-  place_with : (legs : List Leg) (leg : Leg) → after_all start (turns_of (legs ++ leg ∷ [])) ≡ after_all (after_all start (turns_of legs)) (turns_with leg.thread leg.over leg.turns)
-  place_with legs leg = ap (after_all start) (turns_more legs leg) ∙ after_append start (turns_of legs) (turns_with leg.thread leg.over leg.turns)
 
   -- what is so before a leg of a thread, which may go on: the leg was told whole
   record Stands (before : List Leg) (p : Place) (left t : ℕ) (others : List ℕ) (leg : Leg) : Type 0 where
@@ -100,7 +119,7 @@ module _ (start : Place) (tells : List ℕ → Bool → Type 0) where
             (within_with p leg.thread false e (subst (λ (k : ℕ). may p k ≡ true) (sym s.thread) s.goes.0)))
             (told_part tells (schedule_of before) leg.thread leg.over e n (omega (arith, less)) told)
             (omega arith, s.known leg.thread (s.can leg.thread (subst (λ (k : ℕ). IsAmong (t ∷ others) k) (sym s.thread) (or_left (nat_eq t t) (list_any (nat_eq t) others) (same t))))),
-        place_with before (part_of leg.thread (suc e)) ∙ ap (λ (q : Place). after_all q (turns_with leg.thread false (suc e))) s.here
+        place_with start before (part_of leg.thread (suc e)) ∙ ap (λ (q : Place). after_all q (turns_with leg.thread false (suc e))) s.here
             ∙ after_part p leg.thread e ∙ ap (within_leg p) s.thread,
       )
 
@@ -139,18 +158,8 @@ module _ (start : Place) (tells : List ℕ → Bool → Type 0) where
             (subst (λ (l : List Turn). is_within p l ≡ true) (sym whole) (within_with p t true (leg.turns - 1) s.goes.0)))
             s.told
             (s.some, s.known leg.thread (s.can leg.thread (subst (λ (k : ℕ). IsAmong (t ∷ others) k) (sym s.thread) (or_left (nat_eq t t) (list_any (nat_eq t) others) (same t))))),
-        place_with before leg ∙ (λ i. after_all (s.here i) (whole i)) ∙ after_whole p t (leg.turns - 1),
+        place_with start before leg ∙ (λ i. after_all (s.here i) (whole i)) ∙ after_whole p t (leg.turns - 1),
       )
-
-  -- the others after it
-  goes_after : (p : Place) (left t : ℕ) (others : List ℕ) → GoesOn p left t → AreApart (t ∷ others) → ((u : ℕ) → IsAmong (t ∷ others) u → IsAmong p.going u)
-      → (u : ℕ) → IsAmong others u → GoesOn (after_leg p t) left u
-  goes_after p left t others goes apart can u h =
-      (may_after p t u (without_in u t p.going (can u (or_right (nat_eq u t) (list_any (nat_eq u) others) h)) (others_are u t others apart.0 h)), goes.1)
-
-  drop_among : (others : List ℕ) (u : ℕ) → IsAmong (drop 1 others) u → IsAmong others u
-  drop_among [] u h = h
-  drop_among (t ∷ others) u h = or_right (nat_eq u t) (list_any (nat_eq u) others) h
 
   -- all offers at the legs of an order, and the legs themselves
   pub offered_good : (before : List Leg) (p : Place) (left : ℕ) (order : List ℕ) (legs : List Leg)
@@ -177,7 +186,7 @@ module _ (start : Place) (tells : List ℕ → Bool → Type 0) where
       } in
       let whole = leg_begun before p left t others leg s in
       let after_goes = goes_after p left t others goes apart can in
-      let rest = offered_good (before ++ leg ∷ []) (after_leg p t) left others legs ends.3 whole.0 whole.1 (first_of others after_goes)
+      let rest = offered_good (before ++ leg ∷ []) (after_leg p t) left others legs ends.3 whole.0 whole.1 (first_of (after_leg p t) left others after_goes)
       (λ u h. without_in u t p.going (can u (or_right (nat_eq u t) (list_any (nat_eq u) others) h)) (others_are u t others apart.0 h))
       (λ u h. known u (without_out u t p.going h).0) apart.1
       (subst (λ (l : List ℕ). AreTold tells l (turns_of legs)) (ap (λ (l : List ℕ). schedule_of before ++ l) (threads_with leg.thread leg.over leg.turns) ∙ sym (schedule_more before leg)) parts.1) in (
@@ -189,7 +198,3 @@ module _ (start : Place) (tells : List ℕ → Bool → Type 0) where
             rest.0),
         subst Begun (append_assoc before (leg ∷ []) legs) rest.1,
       )
-    where
-      first_of : (us : List ℕ) → ((u : ℕ) → IsAmong us u → GoesOn (after_leg p t) left u) → FirstGoesOn (after_leg p t) left us
-      first_of [] g = tt
-      first_of (u ∷ us) g = g u (or_left (nat_eq u u) (list_any (nat_eq u) us) (same u))

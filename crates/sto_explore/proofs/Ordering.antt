@@ -1,15 +1,15 @@
 -- The threads that can go on after some legs.
-use Rattle.std.specs.Prelude.{◌⊎◌, None, Some, if◌then◌else◌}
+use Rattle.std.specs.Prelude.{◌⊎◌, if◌then◌else◌}
 use Rattle.std.specs.List.{AllByRecursion, list_any, filter}
-use Rattle.std.proofs.Common.{◌≡◌, ◌≤◌, ◌<◌, ◌+◌, ◌-◌, ℕ, zero, suc, List, [], ◌∷◌, ◌++◌, refl, sym, ap, ◌∙◌, subst, arith, Bool, true, false, not, ◌&&◌, ◌||◌, inl, inr, nat_eq}
-use Rattle.std.proofs.lemmas.Bool.{cases_Bool, and_parts, and_from, or_parts, or_from, or_cases, or_left, or_right, cond-true, cond-false, not_from_true, not_from_false, not-true, eqb-true, eq-eqb, both_ways, false≢true, false_from_ne_true, and_left}
-use Rattle.sto_explore.specs.Schedules.{Turn, Place, may, without}
+use Rattle.std.proofs.Common.{◌≡◌, ◌≤◌, ◌-◌, ℕ, suc, List, [], ◌∷◌, refl, sym, ap, ◌∙◌, subst, arith, Bool, true, false, not, ◌&&◌, inl, inr, nat_eq}
+use Rattle.std.proofs.lemmas.Bool.{cases_Bool, and_parts, and_from, or_parts, or_from, or_cases, or_left, or_right, cond-true, cond-false, not_from_true, not_from_false, not-true, eqb-true, both_ways, false≢true, false_from_ne_true, and_left}
+use Rattle.sto_explore.specs.Schedules.{Place, without}
 use Rattle.sto_explore.specs.Legs.{turns_with, turns_of, after_all, IsAmong, AreApart}
 use Rattle.sto_explore.specs.Branches.{Offer}
-use Rattle.sto_explore.specs.Exploring.{IsFit, GoesOn, FirstGoesOn, IsBegun, IsOffer, IsOrdered, ended, order_after}
+use Rattle.sto_explore.specs.Exploring.{IsFit, FirstGoesOn, IsOffer, IsOrdered, ended, order_after}
 use Rattle.sto_explore.specs.Explored.{start_of}
 use Rattle.sto_explore.specs.declared.leg.Leg.{Leg}
-use Rattle.sto_explore.proofs.Following.{same, within_leg, after_leg, after_append, after_part, after_whole}
+use Rattle.sto_explore.proofs.Following.{same, after_append, after_part, after_whole}
 use Rattle.sto_explore.proofs.Among.{without_in, without_out}
 use Rattle.sto_explore.proofs.Reaching.{going_of}
 

@@ -1,14 +1,14 @@
 -- A schedule follows the legs of a run, or leaves them where another thread was offered to go on.
 use Rattle.std.specs.Prelude.{◌⊎◌}
 use Rattle.std.specs.List.{list_any}
-use Rattle.std.proofs.Common.{◌≡◌, ◌≤◌, ◌<◌, ◌+◌, ◌-◌, ℕ, zero, suc, List, [], ◌∷◌, ◌++◌, drop, replicate, refl, sym, ap, ◌∙◌, subst, arith, Bool, true, false, not, ◌&&◌, ◌||◌, inl, inr, append_assoc, nat_eq, nat_lt}
-use Rattle.std.proofs.lemmas.Bool.{eqb-true, cases_Bool, and_parts, or_cases, cond-true, cond-false, not_from_true, not_from_false, ltb-true, false≢true, true≢false}
-use Rattle.sto_explore.specs.Schedules.{Turn, Place, is_switch, may, after, follows, without}
-use Rattle.sto_explore.specs.Legs.{turns_with, turns_of, schedule_of, IsAmong, AreApart, LeadToEnds}
-use Rattle.sto_explore.specs.Branches.{Offer, offers_to, offers_within, switches_in, offered, part_of, begins, path_of}
+use Rattle.std.proofs.Common.{◌≡◌, ◌≤◌, ◌<◌, ◌-◌, ℕ, zero, suc, List, [], ◌∷◌, ◌++◌, replicate, refl, sym, ap, ◌∙◌, subst, arith, Bool, true, false, not, ◌||◌, inl, inr, append_assoc, nat_eq, nat_lt}
+use Rattle.std.proofs.lemmas.Bool.{eqb-true, cases_Bool, and_parts, or_cases, cond-true, cond-false, not_from_true, not_from_false, ltb-true, false≢true}
+use Rattle.sto_explore.specs.Schedules.{Turn, Place, is_switch, may, follows}
+use Rattle.sto_explore.specs.Legs.{turns_with, turns_of, schedule_of, IsAmong, LeadToEnds}
+use Rattle.sto_explore.specs.Branches.{Offer, offers_to, offers_within, switches_in, offered, begins, path_of}
 use Rattle.sto_explore.specs.declared.leg.Leg.{Leg}
 use Rattle.sto_explore.proofs.Following.{same, within_leg, after_leg, stays, ends_alike}
-use Rattle.sto_explore.proofs.Among.{any_left, any_right, without_out, among_others, others_are, schedule_more, in_offers, in_within}
+use Rattle.sto_explore.proofs.Among.{any_left, any_right, without_out, among_others, schedule_more, in_offers, in_within}
 
 -- the schedule leaves a thread after fewer than so many of its turns, for another that may go on there
 record Leaves (q : Place) (thread most : ℕ) (schedule : List ℕ) : Type 0 where
@@ -179,7 +179,7 @@ other_first b t zero ts u rest differs = cond-false (nat_eq u t) (follows (after
 other_first b t (suc m) ts u rest differs = cond-false (nat_eq u t) (follows (within_leg b t) (turns_with t true (suc m) ++ ts) rest) (not (may b u)) differs
 
 -- where a thread has ended, the others can go on
-after_in : (p : Place) (t : ℕ) (others : List ℕ) → AreIn p (t ∷ others) → AreIn (after_leg p t) others
+pub after_in : (p : Place) (t : ℕ) (others : List ℕ) → AreIn p (t ∷ others) → AreIn (after_leg p t) others
 after_in p t others inside u h =
     let out = without_out u t p.going h in
     among_others u t others (inside u out.0) out.1

@@ -1,6 +1,7 @@
 -- Runs that are still to be made, as the code has them.
-use Rattle.std.specs.Prelude.{◌-◌, ◌&&◌, ℕ, zero, suc, List, [], ◌∷◌, ◌++◌, map, drop, Bool, true, false, nat_eq}
-use Rattle.sto_explore.specs.Legs.{schedule_of}
+use Rattle.std.specs.Prelude.{◌≡◌, ◌⊎◌, ◌-◌, ◌&&◌, ℕ, zero, suc, List, [], ◌∷◌, ◌++◌, map, drop, Bool, true, false, nat_eq}
+use Rattle.sto_explore.specs.Schedules.{Turn, Place, may, after}
+use Rattle.sto_explore.specs.Legs.{turns_of, schedule_of}
 use Rattle.sto_explore.specs.declared.leg.Leg.{Leg}
 use Rattle.sto_explore.specs.declared.branch.Branch.{Branch}
 
@@ -47,3 +48,21 @@ begins (thread ∷ threads) (other ∷ schedule) = nat_eq thread other && begins
 -- the schedules of the runs with which an offer can be taken up begin so
 abbrev pub path_of : Offer → List ℕ
 path_of o = schedule_of o.legs ++ o.next ∷ []
+
+-- the turns with which they begin; whether the thread is over after the last is not known yet
+abbrev pub way_of : Offer → List Turn
+way_of o = turns_of o.legs ++ record { thread = o.next; over = false } ∷ []
+
+-- turns that go on after some others with a turn of the first of these threads, if there is one
+abbrev pub GoesOnFrom : List Turn → List ℕ → List Turn → Type 0
+GoesOnFrom before [] turns = (more : List Turn) × (turns ≡ before ++ more)
+GoesOnFrom before (thread ∷ others) turns =
+    (over : Bool) × (more : List Turn) × (turns ≡ before ++ record { thread = thread; over = over } ∷ more)
+
+-- turns that part from others: after the same ones come those of two threads, each of which may go on
+abbrev pub Part : Place → List Turn → List Turn → Type 0
+Part p [] others = ⊥
+Part p (turn ∷ turns) [] = ⊥
+Part p (turn ∷ turns) (other ∷ others) =
+    ((turn ≡ other) × Part (after p turn) turns others)
+    ⊎ ((nat_eq turn.thread other.thread ≡ false) × (may p turn.thread ≡ true) × (may p other.thread ≡ true))

@@ -1,6 +1,6 @@
 -- Legs of runs, and the turns that they stand for.
-use Rattle.std.specs.Prelude.{◌≡◌, ◌≤◌, ◌&&◌, ℕ, zero, suc, List, [], ◌∷◌, ◌++◌, map, Bool, true, false, nat_eq}
-use Rattle.std.specs.List.{flat_map, AllByRecursion, list_any}
+use Rattle.std.specs.Prelude.{◌≡◌, ◌≤◌, ℕ, zero, suc, List, [], ◌∷◌, ◌++◌, map, Bool, true, false, nat_eq}
+use Rattle.std.specs.List.{flat_map, list_any}
 use Rattle.sto_explore.specs.Schedules.{Turn, Place, after}
 use Rattle.sto_explore.specs.declared.leg.Leg.{Leg}
 

@@ -1,5 +1,5 @@
 -- Schedules, turn by turn: which thread may have the next turn, where at most so many switches are made.
-use Rattle.std.specs.Prelude.{◌-◌, ◌&&◌, ◌||◌, ℕ, List, [], ◌∷◌, ◌++◌, Option, None, Some, Bool, true, false, not, nat_eq, nat_lt, if◌then◌else◌}
+use Rattle.std.specs.Prelude.{◌-◌, ◌&&◌, ◌||◌, ℕ, List, [], ◌∷◌, Option, None, Some, Bool, true, false, not, nat_eq, nat_lt, if◌then◌else◌}
 use Rattle.std.specs.List.{filter, list_any}
 
 -- a turn of a thread, and whether the thread was over after it

@@ -1,12 +1,12 @@
 //! One run by each schedule.
-ghost use Rattle.std.specs.Prelude.{◌≡◌, [], OnOk, IfOk, List, map};
+ghost use Rattle.std.specs.Prelude.{◌≡◌, [], OnOk, IfOk, IfErr, List, map};
 ghost use Rattle.std.specs.List.{AllByRecursion};
-ghost use Rattle.sto_explore.specs.declared.exploration.Stopped.TheVariants.{NoMemory};
+ghost use Rattle.sto_explore.specs.declared.exploration.Stopped.TheVariants.{NoMemory, TooMany};
 ghost use Rattle.sto_explore.specs.Schedules.{Place};
 ghost use Rattle.sto_explore.specs.Legs.{IsAmong};
 ghost use Rattle.sto_explore.specs.Branches.{offer_of};
 ghost use Rattle.sto_explore.specs.Exploring.{IsOffer, IsOrdered, HasVisited, IsUnderWay, order_after};
-ghost use Rattle.sto_explore.specs.Explored.{Found, AreExplored, start_of};
+ghost use Rattle.sto_explore.specs.Explored.{Found, AreExplored, AreTooMany, start_of};
 
 use crate::branch::{Branch, offer_all, offer_others, order_of};
 use crate::leg::Leg;
@@ -90,7 +90,7 @@ fn begin<P: Drop, R: Runs<P>, G: Gathers<P>>(
 ) -> Result<Vec<Branch>, NoMemory>
     requires { G.holds found.old [] }
     ensures { IfOk result (λ todo. IsUnderWay (start_of switches (R.threads runs.now)) (R.tells runs.now) (R.reports runs.now)
-        (G.holds found.new) (map offer_of todo.items)) }
+        (G.holds found.new) 1 (map offer_of todo.items)) }
 {
     let mut todo = Vec::new(alloc);
     let none = Vec::new(alloc);
@@ -100,8 +100,9 @@ fn begin<P: Drop, R: Runs<P>, G: Gathers<P>>(
     Ok(todo)
 }
 
-/// Makes one run by each schedule with at most so many switches away from a thread that could go on, and hands each on. Where there are
-/// more schedules than the limit, which is at least 1, the rest is given up.
+/// Makes one run by each schedule with at most so many switches away from a thread that could go on, and hands each on.
+///
+/// At most `limit` runs are made, but at least one. Where a schedule is left that none of them follows, this is `TooMany`.
 pub fn explore<P: Drop, R: Runs<P>, G: Gathers<P>>(
     runs: &R,
     alloc: Global,
@@ -110,11 +111,13 @@ pub fn explore<P: Drop, R: Runs<P>, G: Gathers<P>>(
     found: &mut G,
 ) -> Result<(), Stopped>
     requires { G.holds found.old [] }
-    ensures { OnOk result ((xs : List (Found P)) × G.holds found.new xs
+    ensures explored { OnOk result ((xs : List (Found P)) × G.holds found.new xs
         × AreExplored (start_of switches (R.threads runs.now)) (R.tells runs.now) (R.reports runs.now) xs) }
+    ensures too_many { IfErr result (λ why. why ≡ TooMany → (xs : List (Found P)) × G.holds found.new xs
+        × AreTooMany (start_of switches (R.threads runs.now)) (R.tells runs.now) (R.reports runs.now) limit xs) }
 {
     let mut todo = begin(runs, alloc, switches, found)?;
-    for _ in 1..limit {
+    for _made in 1..limit {
         match todo.pop() {
             Some(branch) => take_up(runs, alloc, &mut todo, found, branch)?,
             None => return Ok(()),

@@ -42,7 +42,8 @@ pub(crate) fn perform<R: Threads + Wait + Sync, S: Source, K: Sink, G: Gate>(
     out: &mut K,
     gate: &G,
 ) -> Result<(), Refusal>
-    ensures ends { Ends feed_program result (feeding_in words.now) (S.left source.old) (S.left source.new) (K.held out.old) (K.held out.new) }
+    ensures ends { Ends feed_program result (feeding_in words.now) (S.left source.old) (S.left source.new)
+        (K.held out.old) (K.held out.new) }
     ensures source_faults { RoseFor ReadFault result (S.faults source.old) (S.faults source.new) }
     ensures out_faults { RoseFor WriteFault result (K.faults out.old) (K.faults out.new) }
 {

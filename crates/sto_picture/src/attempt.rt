@@ -155,7 +155,8 @@ pub(crate) fn push_end(
     n: u32,
     step: &Step,
 ) -> Result<(), NoMemory>
-    ensures { OnOk result (out.new.items ≡ out.old.items ++ end_words (scene_view scene.now) (frame_view frame.now) n step.now step.now.end) }
+    ensures { OnOk result (out.new.items ≡ out.old.items
+        ++ end_words (scene_view scene.now) (frame_view frame.now) n step.now step.now.end) }
 {
     let Some(end) = step.end else {
         return Ok(());

@@ -49,7 +49,8 @@ fn push_ticks(out: &mut Text, scene: &Scene, frame: &Frame) -> Result<(), NoMemo
 
 fn push_threads(out: &mut Text, scene: &Scene, frame: &Frame, width: u64) -> Result<(), NoMemory>
     ensures { OnOk result (out.new.items ≡ out.old.items
-        ++ each_text (λ thread. lane_text width (thread_top thread) (text_at (bytes_of scene.now.threads.items) thread)) frame.now.threads) }
+        ++ each_text (λ thread. lane_text width (thread_top thread) (text_at (bytes_of scene.now.threads.items) thread))
+        frame.now.threads) }
 {
     for thread in 0..frame.threads {
         let name = text_at(scene.threads.as_slice(), thread);
@@ -82,7 +83,8 @@ fn push_lanes(out: &mut Text, scene: &Scene, frame: &Frame) -> Result<(), NoMemo
 
 fn push_locks(out: &mut Text, scene: &Scene, frame: &Frame) -> Result<(), NoMemory>
     ensures { OnOk result (out.new.items ≡ out.old.items
-        ++ by_step (λ n step. lock_text (frame_view frame.now) scene.now.steps.items n step.thread (freed_part step.deed)) scene.now.steps.items) }
+        ++ by_step (λ n step. lock_text (frame_view frame.now) scene.now.steps.items n step.thread (freed_part step.deed))
+        scene.now.steps.items) }
 {
     for n in 0..scene.steps.len() {
         let step = scene.steps.get(n);

@@ -58,8 +58,8 @@ pub fn call_feed<R: Threads + Wait + Sync, G: Gate>(
     gate: &G,
 ) -> Result<Called, NoMemory>
     ensures ends { IfOk result (λ called. EndsWith done_status called.status (λ outcome.
-        (rest held : Option (List ℕ)) × Ends feed_program outcome (feeding_of (map (λ word. word.now) words.now)) (Some script.now) rest held
-        (Some called.out.items))) }
+        (rest held : Option (List ℕ)) × Ends feed_program outcome (feeding_of (map (λ word. word.now) words.now)) (Some script.now) rest
+        held (Some called.out.items))) }
 {
     let given = owned(alloc, words)?;
     let Streams {

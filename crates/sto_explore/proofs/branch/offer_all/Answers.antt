@@ -1,4 +1,4 @@
-use Rattle.std.proofs.Common.{rules, ◌≡◌, ◌≤◌, ◌+◌, ◌++◌, [], ◌∷◌, map, take, drop, length, append_assoc, get_or, refl, sym, ap, ◌∙◌}
+use Rattle.std.proofs.Common.{rules, ◌≡◌, ◌≤◌, ◌+◌, ◌++◌, [], ◌∷◌, map, take, drop, length, append_assoc, get_or, sym, ap, ◌∙◌}
 use Rattle.sto_explore.specs.Branches.{offer_of, part_of, switches_in, offers_to}
 use Rattle.sto_explore.specs.declared.leg.Leg.{Leg}
 use Rattle.std.proofs.lemmas.List.{take_rest, take_more}

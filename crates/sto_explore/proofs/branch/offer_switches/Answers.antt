@@ -1,4 +1,4 @@
-use Rattle.std.proofs.Common.{rules, ◌≡◌, ◌≤◌, ◌-◌, ◌+◌, ◌++◌, map, ap, ◌∙◌, arith}
+use Rattle.std.proofs.Common.{rules, ◌≤◌, ◌-◌, ◌++◌, map, ap, ◌∙◌, arith}
 use Rattle.sto_explore.specs.Branches.{offer_of}
 use Rattle.sto_explore.proofs.Offers.{within_more, within_all}
 use Rattle.sto_explore.proofs.branch.offer_switches.Goals as goal

@@ -1,4 +1,4 @@
-use Rattle.std.proofs.Common.{◌≡◌, ◌++◌, ◌∷◌, ◌&&◌, drop, not, nat_eq}
+use Rattle.std.proofs.Common.{◌≡◌, ◌++◌, ◌&&◌, drop, not, nat_eq}
 use Rattle.std.specs.List.{filter}
 use Rattle.sto_explore.specs.Exploring.{ended, order_after}
 use Rattle.sto_explore.proofs.branch.order_of.Given as goal

@@ -1,5 +1,5 @@
 use Rattle.std.specs.List.{AllByRecursion}
-use Rattle.std.proofs.Common.{◌≡◌, ℕ, List, [], ◌++◌, map, drop, sym, ap, ◌∙◌, subst}
+use Rattle.std.proofs.Common.{ℕ, List, [], ◌++◌, map, drop, sym, ◌∙◌, subst}
 use Rattle.sto_explore.specs.Legs.{IsAmong}
 use Rattle.sto_explore.specs.Explored.{start_of}
 use Rattle.sto_explore.specs.Exploring.{IsOrdered, HasVisited}
@@ -34,6 +34,7 @@ returns g c =
     (subst (λ (us : List ℕ). IsOrdered start tells [] c.args.switches us) (sym all) (start_ordered c.args.switches threads tells c.threads-all.ensures.apart)) in
     first_run c.args.switches threads tells reports holds held was now c.requires
     (c.in_ok-offer_others.ensures ∙ (λ i. map offer_of (c.new-todo.ensures.items i) ++ offers_to ((c.as_slice.ensures.value ∙ empty) i) c.args.switches (drop 1 (all i))))
+    c.threads-all.ensures.apart
     (subst (λ (ls : List Leg). HasVisited start tells reports holds held ls threads was now) empty
     (subst (λ (us : List ℕ). HasVisited start tells reports holds held c.new-none.result.items us was now) all
     (c.in_ok-visit.ensures start ordered)))

@@ -1,4 +1,4 @@
-use Rattle.std.proofs.Common.{◌≡◌, ℕ, List, ◌++◌, map, length, sym, ap, ◌∙◌, subst}
+use Rattle.std.proofs.Common.{List, ◌++◌, map, length, sym, ap, ◌∙◌, subst}
 use Rattle.sto_explore.specs.Legs.{turns_of, schedule_of, AreTold}
 use Rattle.sto_explore.specs.Branches.{offer_of, offered}
 use Rattle.sto_explore.specs.declared.leg.Leg.{Leg}
