@@ -38,13 +38,15 @@ told_later m v w f replies (Cancelled n) g h = record {
 told_later m v w f replies (Locked n p) g h = record {
   known = (let a = g.at in let b = h.known in omega (arith, a, b));
   runs = λ c valid k. h.runs c valid (fewer_claims v w g n c k);
-  asked = h.asked;
+  touched = h.touched;
+  unsettled = h.unsettled;
 }
 told_later m v w f replies (Changed n p t) g h = record {
   aborted = record {
     known = (let a = g.at in let b = h.aborted.known in omega (arith, a, b));
     runs = λ c valid k. h.aborted.runs c valid (fewer_claims v w g n c k);
-    asked = h.aborted.asked;
+    touched = h.aborted.touched;
+    unsettled = h.aborted.unsettled;
   };
   later = h.later;
   wrote = record { claim = h.wrote.claim; there = g.wrote h.wrote.claim h.wrote.there; by = h.wrote.by; on = h.wrote.on };
