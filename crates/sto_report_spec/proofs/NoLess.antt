@@ -1,5 +1,4 @@
 -- What is lawful by what some types say is so by what others say that say the same of updates and let calls touch no less.
-use Rattle.std.specs.List.{All}
 use Rattle.std.proofs.Common.{◌≡◌, ℕ, zero, suc, List, [], ◌∷◌, ◌++◌, refl, sym, ap, ◌∙◌, Bool, true, false, cond, Option, None, Some, inl, inr}
 use Rattle.std.proofs.lemmas.List.Elements.{All-weaker}
 use Rattle.sto_model.specs.Told.{Told}
