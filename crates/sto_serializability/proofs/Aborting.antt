@@ -1,17 +1,13 @@
 -- The aborted attempts of a finished run are lawful for the replay of its journal.
 use Rattle.sto_model.specs.Asked.{HasAsked}
-use Rattle.std.specs.Prelude.{if◌then◌else◌, filter, ◌⊎◌, ◌-◌, ◌+◌, take, sum_by, slice_index_or}
+use Rattle.std.specs.Prelude.{filter, ◌+◌, take, sum_by, slice_index_or}
 use Rattle.std.specs.List.{All}
-use Rattle.std.proofs.Common.{◌≡◌, ℕ, zero, suc, ◌<◌, ◌≤◌, List, [], ◌∷◌, ◌++◌, length, map, refl, sym, ap, ◌∙◌, subst, arith, Bool, true, false, Some, Option, true≢false, inl, inr}
-use Rattle.std.proofs.lemmas.Bool.{cases_lt}
+use Rattle.std.proofs.Common.{◌≡◌, ℕ, ◌<◌, ◌≤◌, List, [], ◌∷◌, map, refl, sym, ap, ◌∙◌, subst, arith, Bool, true, false, Some, Option, true≢false}
 use Rattle.std.proofs.lemmas.Bool.Decides.{nat_tests}
 use Rattle.std.proofs.lemmas.List.Elements.{All-filter, All-same, All-map}
 use Rattle.std.proofs.lemmas.List.Sorted.{All-permutation}
 use Rattle.sto_model.specs.Told.{Told}
-use Rattle.sto_model.specs.Run.{State, IsRun, Script as Steps}
-use Rattle.sto_model.specs.declared.call.Call.{Call}
-use Rattle.sto_model.specs.declared.body.Next.{Next}
-use Rattle.sto_model.specs.declared.body.Next.TheVariants.{Ask, Commit, Cancel}
+use Rattle.sto_model.specs.Run.{State, IsRun}
 use Rattle.sto_model.specs.declared.shape.Shape.{Shape}
 use Rattle.sto_lang.specs.Objects.{Declaration, shapes_of, with_number}
 use Rattle.sto_model.specs.Sizes.{part_count}
@@ -27,12 +23,12 @@ use Rattle.sto_core.specs.Core.{Core}
 use Rattle.sto_core.specs.Rule.{Past}
 use Rattle.sto_report_spec.specs.Orders.{Place, transaction_at}
 use Rattle.sto_report_spec.specs.Replay.{Entry, run_at, entries_of, opening_state, shown}
-use Rattle.sto_report_spec.specs.Updated.{Updating, updated, updated_from}
+use Rattle.sto_report_spec.specs.Updated.{updated, updated_from}
 use Rattle.sto_report_spec.specs.Aborts.{LocalPart, Abort, name_of, part_by_home}
 use Rattle.sto_report_spec.specs.Aborts as aborts
-use Rattle.sto_report_spec.specs.LawfulAborts.{IsFront, writers_before, IsBefore, IsAfterOwn, declared_as, part_number, IsPartAsked, IsPartTouched, IsChange, IsLawfulAbort}
+use Rattle.sto_report_spec.specs.LawfulAborts.{IsFront, writers_before, IsBefore, IsAfterOwn, declared_as, part_number, IsPartAsked, IsPartTouched, IsLawfulAbort}
 use Rattle.sto_attempt_facts.specs.Records.{Verdict, Wrote, Read, Cancelled, Locked, Changed, Record, is_abort, is_finished, stands_at, known_after, IsSince, wrote_with, times_written, writers_up_to}
-use Rattle.sto_serializability.specs.Finished.{IsRecord, AreFinished}
+use Rattle.sto_serializability.specs.Finished.{AreFinished}
 use Rattle.sto_attempt_facts.specs.Counted.{Follows, InThreads}
 use Rattle.sto_serializability.specs.Merged.{ending_of, line_of, part_named, AreMerged}
 use Rattle.sto_serializability.specs.Meanings.{updating_by, IsHomeAt, IsTypeOf, IsNamedObject, IsUsable}
@@ -40,8 +36,7 @@ use Rattle.sto_serializability.proofs.Bodies.{few_replies}
 use Rattle.sto_serializability.proofs.Runs.{front_at}
 use Rattle.sto_history.proofs.Counts.{writers_rise, times_ordered}
 use Rattle.sto_serializability.proofs.Chains.{Every, every}
-use Rattle.sto_history.proofs.Histories.{AbortedAt, ChangedAt, StandsAt, rank_rises}
-use Rattle.sto_serializability.proofs.Stands.{Stands}
+use Rattle.sto_history.proofs.Histories.{AbortedAt, ChangedAt, rank_rises}
 use Rattle.sto_serializability.proofs.Pairs.{all_of, every_weaker, every_both, Later, all_pairs}
 use Rattle.sto_serializability.proofs.Replaying.{places_of}
 use Rattle.sto_serializability.proofs.Ordering.{finished_ended}

@@ -1,14 +1,13 @@
 -- The report of a finished run is lawful, in both forms.
-use Rattle.std.specs.Prelude.{◌+◌, slice_index_or, slice_get, option_and_then, filter}
-use Rattle.std.specs.List.{All}
-use Rattle.std.proofs.Common.{◌≡◌, ℕ, zero, suc, ◌<◌, ◌≤◌, ◌^◌, List, [], ◌∷◌, ◌++◌, length, map, refl, sym, ap, ◌∙◌, subst, arith, Bool, true, false, Option, None, Some, nat_le, cond}
+use Rattle.std.specs.Prelude.{slice_index_or, slice_get, option_and_then, filter}
+use Rattle.std.proofs.Common.{◌≡◌, ℕ, ◌<◌, ◌≤◌, ◌^◌, List, [], ◌∷◌, length, map, refl, sym, ap, ◌∙◌, subst, arith, true, Option, None, Some}
 use Rattle.std.proofs.lemmas.Bool.Decides.{nat_tests}
 use Rattle.std.proofs.lemmas.List.Elements.{All-filter}
 use Rattle.std.proofs.lemmas.List.Sorted.{All-permutation}
 use Rattle.sto_model.specs.Told.{Told}
 use Rattle.sto_model.specs.declared.shape.Shape.{Shape}
 use Rattle.sto_syntax.specs.Words.{is_name}
-use Rattle.sto_lang.specs.Objects.{Declaration, shapes_of, with_number}
+use Rattle.sto_lang.specs.Objects.{shapes_of}
 use Rattle.sto_lang.specs.Scripts.{Script, File}
 use Rattle.sto_script.specs.Meaning.{meaning_of}
 use Rattle.sto_type.specs.Meaning.{Meaning}
@@ -18,7 +17,7 @@ use Rattle.sto_core.specs.declared.view.View.{View}
 use Rattle.sto_core.specs.History.{Contents, Validity, contents_as_of, writes, committed_updates}
 use Rattle.sto_core.specs.Core.{Core}
 use Rattle.sto_core.specs.Rule.{Past}
-use Rattle.sto_report_spec.specs.Orders.{Place, at_position, transaction_at, IsOrder}
+use Rattle.sto_report_spec.specs.Orders.{Place, at_position, IsOrder}
 use Rattle.sto_report_spec.specs.Replay.{Entry, entries_of, final_state}
 use Rattle.sto_report_spec.specs.Aborts.{Abort, name_of}
 use Rattle.sto_report_spec.specs.Named.{IsNamable, order_named}
@@ -40,7 +39,6 @@ use Rattle.sto_serializability.specs.Meanings.{updating_by, IsHomeAt, IsTypeOf, 
 use Rattle.sto_serializability.specs.Headline.{IsShortRecord, AreShortRecords}
 use Rattle.sto_serializability.proofs.Chains.{Every, every}
 use Rattle.sto_history.proofs.Histories.{StandsAt}
-use Rattle.sto_serializability.proofs.Stands.{Stands}
 use Rattle.sto_serializability.proofs.Pairs.{every_both}
 use Rattle.sto_serializability.proofs.Replaying.{places_of}
 use Rattle.sto_serializability.proofs.Journal as journal
