@@ -1,12 +1,11 @@
 -- What is said of a report, and why nothing is.
 use Rattle.std.specs.Prelude.{◌≡◌, ℕ, List, Ok, Err}
 use Rattle.sto_lang.specs.Scripts.{File}
-use Rattle.sto_report_checker.specs.Updated.{Updating}
 use Rattle.sto_report_checker.specs.Lawful.{IsLawful}
 use Rattle.sto_report_lines.specs.declared.found.Found.{Found}
 use Rattle.sto_report_lines.specs.declared.found.Found.TheVariants.{Lawful}
 use Rattle.sto_report_lines.specs.Answer.{IsFound}
-use Rattle.sto_report_lines.specs.Exact.{IsRightReport, UpdatesWritten}
+use Rattle.sto_report_lines.specs.Exact.{IsRightReport, UpdatesAlone, touching_all, UpdatesWritten}
 use Rattle.sto_run.specs.Meanings.{updating_by}
 use Rattle.sto_run.specs.Stores.{means}
 use Rattle.sto_check_cli.specs.Inputs.{Input, input_of}
@@ -14,13 +13,14 @@ use Rattle.sto_cli_common.specs.declared.refusal.Refusal.{Refusal}
 use Rattle.sto_cli_common.specs.declared.refusal.Refusal.TheVariants.{Usage, ReadFault, WriteFault, NoMemory}
 use Rattle.sto_cli_common.specs.declared.refusal.Refusal.TheVariants as refusals
 
--- the answer for a report, which no other is; each text that is lawful by what the types of objects say of updates is found so, and
--- by what any types say that update only objects that were written; and what is found so is the report of an order of the file
+-- the answer for a report, which no other is; each text that is lawful by what the types of objects say is found so, and by what any
+-- types say that update only objects that were written, whatever part they let a call touch; and what is found so is the report of an
+-- order of the file
 pub record IsJudged (file : File) (tries : ℕ) (report : List ℕ) (found : Found) : Type 0 where
   pub is : IsFound file tries report found
   pub only : (other : Found) → IsFound file tries report other → other ≡ found
   pub complete : IsLawful (updating_by means) file tries report → found ≡ Lawful
-  pub complete_for : (u : Updating) → UpdatesWritten u file → IsLawful u file tries report → found ≡ Lawful
+  pub complete_for : (u : UpdatesAlone) → UpdatesWritten (touching_all u) file → IsLawful (touching_all u) file tries report → found ≡ Lawful
   pub right : found ≡ Lawful → IsRightReport file tries report
 
 -- the same of the report in what was read

@@ -5,13 +5,14 @@ use Rattle.sto_item.specs.Pending.{Entry, applied_updates}
 use Rattle.sto_model.specs.Told.{Told}
 use Rattle.sto_model.specs.Run.{Script as Steps, State, IsRun}
 use Rattle.sto_model.specs.Serial.{has_written}
+use Rattle.sto_model.specs.Asked.{IsUnsettled}
 use Rattle.sto_model.specs.declared.body.Next.TheVariants.{Commit, Cancel}
 use Rattle.sto_type.specs.Known.{Parts}
 use Rattle.sto_type.specs.Meaning.{Meaning}
 use Rattle.sto_type.specs.Runs.{IsRunOn}
+use Rattle.sto_type.specs.Touching.{HasTouched}
 use Rattle.sto_core.specs.History.{writes}
 use Rattle.sto_attempt_facts.specs.Records.{Verdict, Wrote, Read, Cancelled, Locked, Changed, Record, times_written, writers_up_to}
-use Rattle.sto_attempt_facts.specs.Told.{IsAskedPart}
 use Rattle.sto_history.proofs.Counts.{writers_next, same_to, writers_rise}
 
 -- the contents after each number up to the clock: only the tickets of writers change them, and each is that of one writer
@@ -49,7 +50,8 @@ module _ (m : Meaning) (clock : ℕ) (contents : ℕ → Parts) (wrote : ℕ →
   pub record AbortedAt (n part : ℕ) : Type 0 where
     pub within : n ≤ clock
     pub runs : IsRun m.machines f (m.rows (contents n)) replies
-    pub asked : IsAskedPart m f replies part
+    pub touched : HasTouched m f replies part
+    pub unsettled : IsUnsettled f replies
 
   pub record ChangedAt (n part ticket : ℕ) : Type 0 where
     pub aborted : AbortedAt n part

@@ -169,7 +169,8 @@ module _ {valid : Validity} {sizes : List ℕ} {opening : Contents} {past : Past
     aborted_stands n part h = record {
       within = within_clock n h.known;
       runs = h.runs (contents_at n) (valid_at n (within_clock n h.known)) (claimed n);
-      asked = h.asked;
+      touched = h.touched;
+      unsettled = h.unsettled;
     }
 
     pub told_stands : (verdict : Verdict) → IsTold m v f replies verdict → StandsAt m core.clock contents_at wrote_at rs f replies verdict

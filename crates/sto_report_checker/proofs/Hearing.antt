@@ -3,7 +3,6 @@ use Rattle.std.proofs.Common.{◌≡◌, ◌↔◌, ℕ, zero, suc, ◌-◌, ◌
 use Rattle.std.specs.Option.{option_map}
 use Rattle.std.proofs.lemmas.List.{length-map, map-append}
 use Rattle.std.proofs.lemmas.Option.{slice_get-map}
-use Rattle.sto_model.specs.Asked.{HasAsked}
 use Rattle.sto_model.specs.Told.{Told, told}
 use Rattle.sto_model.specs.Machine.{Machine, reply_to, state_after}
 use Rattle.sto_model.specs.Objects.{machines_of}
@@ -39,7 +38,7 @@ use Rattle.sto_report_lines.proofs.Declared.{part_named, is_declared}
 use Rattle.sto_report_lines.proofs.Kept.{is_inside}
 use Rattle.sto_report_lines.specs.Reading.{place_of}
 use Rattle.sto_report_checker.specs.declared.abort.GivenAbort.{GivenAbort}
-use Rattle.sto_report_checker.specs.Given.{cause_by, cause_in, hears, abort_of, TellsCause, IsPlaced, IsHeard}
+use Rattle.sto_report_checker.specs.Given.{cause_by, cause_in, hears, abort_of, TellsCause, IsPlaced, MayBeAborted, IsHeard}
 use Rattle.sto_report_checker.proofs.Judged.{front_taken, front_long, same_script, same_object, made}
 use Rattle.sto_report_checker.proofs.Named.{text_names}
 
@@ -103,19 +102,19 @@ module _ (file : File) (shapes : List Shape) (st : State) (given : GivenAbort) (
     replies_are : replies ≡ take given.told.heard (hears file st given.told)
     replies_are = first ∙ ap (take given.told.heard) hears_is
 
-    asked_in : IsHeard file st given → HasAsked d.number (meaning_of s) replies
-    asked_in h =
-        subst (HasAsked d.number (meaning_of s)) (sym replies_are)
-        (subst (λ (x : Script). HasAsked d.number (meaning_of x) (take given.told.heard (hears file st given.told))) (same_script h.script s (sym h.transaction ∙ at))
-        (subst (λ (x : Declaration). HasAsked x.number (meaning_of h.script) (take given.told.heard (hears file st given.told))) (same_object h.object d (sym h.stands ∙ stands)) h.asked))
+    may_abort_in : IsHeard file st given → MayBeAborted d.number (meaning_of s) replies
+    may_abort_in h =
+        subst (MayBeAborted d.number (meaning_of s)) (sym replies_are)
+        (subst (λ (x : Script). MayBeAborted d.number (meaning_of x) (take given.told.heard (hears file st given.told))) (same_script h.script s (sym h.transaction ∙ at))
+        (subst (λ (x : Declaration). MayBeAborted x.number (meaning_of h.script) (take given.told.heard (hears file st given.told))) (same_object h.object d (sym h.stands ∙ stands)) h.may_abort))
 
-    pub not_asked : (HasAsked d.number (meaning_of s) replies → ⊥) → IsHeard file st given → ⊥
-    not_asked n h = n (asked_in h)
+    pub not_aborted : (MayBeAborted d.number (meaning_of s) replies → ⊥) → IsHeard file st given → ⊥
+    not_aborted n h = n (may_abort_in h)
 
     -- its text decides
-    pub heard_by_text : (c : Cause) → c ≡ cause_in given.told.cause → IsSound file → HasAsked d.number (meaning_of s) replies → IsShortAbort file.names (made (place_of given.told.place) given.told.seen replies c)
+    pub heard_by_text : (c : Cause) → c ≡ cause_in given.told.cause → IsSound file → MayBeAborted d.number (meaning_of s) replies → IsShortAbort file.names (made (place_of given.told.place) given.told.seen replies c)
         → given.text.now ≡ abort_text file.names (made (place_of given.told.place) given.told.seen replies c) ↔ IsHeard file st given
-    heard_by_text c same sound asked short =
+    heard_by_text c same sound may_abort short =
         let place : Place = place_of given.told.place in
         let seen : ℕ = given.told.seen in
         let a : Abort = made place seen replies c in
@@ -126,7 +125,7 @@ module _ (file : File) (shapes : List Shape) (st : State) (given : GivenAbort) (
             transaction = at;
             stands = stands;
             enough = subst (λ (rs : List Told). given.told.heard ≤ length rs) hears_is enough;
-            asked = subst (HasAsked d.number (meaning_of s)) replies_are asked;
+            may_abort = subst (MayBeAborted d.number (meaning_of s)) replies_are may_abort;
             named =
                 ap (aborts_named file.names) text
                 ∙ text_names file.names a (record { each = sound.thread_names.are_names; differ = sound.thread_names.differ }) short

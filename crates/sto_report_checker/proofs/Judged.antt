@@ -3,7 +3,6 @@ use Rattle.std.proofs.Common.{◌≡◌, ℕ, zero, suc, ◌<◌, ◌≤◌, Lis
 use Rattle.sto_model.specs.Told.{Told}
 use Rattle.sto_model.specs.Run.{State}
 use Rattle.sto_model.specs.Sizes.{part_count}
-use Rattle.sto_model.specs.Asked.{HasAsked}
 use Rattle.sto_lang.specs.Objects.{Declaration}
 use Rattle.sto_lang.specs.Scripts.{Script, File}
 use Rattle.sto_script.specs.Meaning.{meaning_of}
@@ -18,7 +17,7 @@ use Rattle.sto_report_lines.specs.declared.told.ToldAbort.{ToldAbort}
 use Rattle.sto_report_lines.specs.Reading.{place_of, IsCauseRead, IsTold}
 use Rattle.sto_report_lines.specs.Right.{IsCauseOf, IsWrittenBy, IsRightAlone, IsAbortLine}
 use Rattle.sto_report_checker.specs.declared.abort.GivenAbort.{GivenAbort}
-use Rattle.sto_report_checker.specs.Given.{cause_by, cause_in, hears, abort_of, IsWriterOr, IsPlaced, IsGiven, TellsAbort, IsHeard}
+use Rattle.sto_report_checker.specs.Given.{cause_by, cause_in, hears, abort_of, IsWriterOr, IsPlaced, IsGiven, TellsAbort, MayBeAborted, IsHeard}
 
 pub part_by : (part : LocalPart) (o : Option ℕ) → part_in (cause_by part o) ≡ part
 part_by part None = refl
@@ -107,7 +106,7 @@ module _ (file : File) (order : List Place) (given : GivenAbort) where
         transaction = ap (transaction_at file) (sym told.place) ∙ alone.transaction;
         stands = placed.stands ∙ ap Some same;
         enough = enough a told alone;
-        asked = subst (λ (x : Abort). HasAsked alone.object.number (meaning_of alone.script) x.replies) is alone.part.asked;
+        may_abort = subst (λ (x : Abort). MayBeAborted alone.object.number (meaning_of alone.script) x.replies) is (alone.part.asked, alone.unsettled);
         named = ap (aborts_named file.names) text ∙ h.named ∙ ap (λ (x : Abort). x ∷ []) is;
         text = text ∙ h.text ∙ ap (abort_text file.names) is;
       }
@@ -136,10 +135,11 @@ module _ (file : File) (order : List Place) (given : GivenAbort) where
             replies = (drop given.told.heard all_heard, take_drop given.told.heard all_heard);
             after_own = g.after_own;
             earlier = g.earlier;
+            unsettled = h.may_abort.1;
             part = subst (λ (p : LocalPart). IsPartAsked file h.script (take given.told.heard all_heard) p h.object) (sym part_is) (record {
               declared = g.placed.declared ∙ ap Some same;
               inside = subst (λ (d : Declaration). given.told.cause.part < part_count d.shape) same g.placed.inside;
-              asked = h.asked;
+              asked = h.may_abort.0;
             });
             cause = cause_right h.object given.told.cause.by part (subst (λ (d : Declaration). IsWriterOr file order given.told d.number given.told.cause.by) same g.cause);
           };

@@ -564,6 +564,7 @@ module _ (file : File) (sound : IsSound file) (tries : ℕ) (u : Updating) (law 
             replies = alone.replies;
             after_own = alone.after_own;
             earlier = alone.before;
+            unsettled = alone.unsettled;
             part = alone.part;
             cause = cause_right m.item alone.object m.item.cause alone.part.declared alone.part.inside alone.cause;
           };

@@ -1,8 +1,8 @@
 -- What an abort line tells, and what is left to be judged of it.
 use Rattle.std.specs.Prelude.{◌≡◌, ℕ, ◌≤◌, ◌<◌, List, [], ◌∷◌, length, take, Option, None, Some, slice_get}
-use Rattle.sto_model.specs.Asked.{HasAsked}
+use Rattle.sto_model.specs.Asked.{HasAsked, IsUnsettled}
 use Rattle.sto_model.specs.Told.{Told}
-use Rattle.sto_model.specs.Run.{State}
+use Rattle.sto_model.specs.Run.{Script as Steps, State}
 use Rattle.sto_model.specs.Sizes.{part_count}
 use Rattle.sto_lang.specs.Objects.{Declaration}
 use Rattle.sto_lang.specs.Scripts.{Script, File}
@@ -82,13 +82,18 @@ abbrev pub IsGivenOr : File → List Place → List ℕ → Option GivenAbort �
 IsGivenOr file order line None = (tries : ℕ) (before : List Abort) → IsAbortLine file tries order before line → ⊥
 IsGivenOr file order line (Some given) = (given.text.now ≡ line) × IsGiven file order given × TellsAbort file order line given.told
 
--- its replies are those that its transaction hears first from a state, and its object is one that the attempt asked
+-- an attempt that heard the replies asked the object, and was not at its end
+abbrev pub MayBeAborted : ℕ → Steps → List Told → Type 0
+MayBeAborted object script replies = HasAsked object script replies × IsUnsettled script replies
+
+-- its replies are those that its transaction hears first from a state, and the attempt that heard these may have been aborted, for a part
+-- of its object
 pub record IsHeard (file : File) (state : State) (given : GivenAbort) : Type 0 where
   pub script : Script
   pub object : Declaration
   pub transaction : transaction_at file (place_of given.told.place) ≡ Some script
   pub stands : slice_get file.declarations given.object ≡ Some object
   pub enough : given.told.heard ≤ length (hears file state given.told)
-  pub asked : HasAsked object.number (meaning_of script) (take given.told.heard (hears file state given.told))
+  pub may_abort : MayBeAborted object.number (meaning_of script) (take given.told.heard (hears file state given.told))
   pub named : aborts_named file.names given.text.now ≡ abort_of file state given.told ∷ []
   pub text : given.text.now ≡ abort_text file.names (abort_of file state given.told)

@@ -3,13 +3,12 @@ ghost use Rattle.std.specs.Prelude.{◌≡◌, ◌+◌, ◌<◌, ◌≤◌, ◌^
 ghost use Rattle.sto_lang.specs.Objects.{shapes_of};
 ghost use Rattle.sto_lang.specs.Sound.{IsSound};
 ghost use Rattle.sto_lang.specs.Views.{file as view};
-ghost use Rattle.sto_report_spec.specs.Updated.{Updating};
 ghost use Rattle.sto_report_spec.specs.Lawful.{IsLawful};
 ghost use Rattle.sto_report_lines.specs.declared.found.Found.TheVariants.{Lawful};
 ghost use Rattle.sto_report_lines.specs.Lines.{lines_of};
 ghost use Rattle.sto_report_lines.specs.Answer.{IsAnswer, IsFound};
 ghost use Rattle.sto_report_lines.specs.Reached.{AreObjectsRead, IsWrongOr};
-ghost use Rattle.sto_report_lines.specs.Exact.{IsRightReport, UpdatesWritten};
+ghost use Rattle.sto_report_lines.specs.Exact.{IsRightReport, UpdatesAlone, touching_all, UpdatesWritten};
 ghost use Rattle.sto_report_checker.specs.Replayed.{IsJournalTaken};
 
 use crate::aborts::{Gathered, gather};
@@ -90,8 +89,9 @@ pub fn check_report(alloc: Global, file: &File, tries: u32, bytes: &[u8]) -> Res
     requires few { length bytes.now + 1 < 2 ^ 32 }
     ensures found { IfOk result (λ found. IsFound (view file.now) tries bytes.now found) }
     ensures only { IfOk result (λ found. (other : Found) → IsFound (view file.now) tries bytes.now other → other ≡ found) }
-    ensures complete { IfOk result (λ found. (u : Updating) → UpdatesWritten u (view file.now) → IsLawful u (view file.now) tries bytes.now
-        → found ≡ Found.Lawful) }
+    // What is lawful by any types is so by those that say the same of updates and let every call touch every part.
+    ensures complete { IfOk result (λ found. (u : UpdatesAlone) → UpdatesWritten (touching_all u) (view file.now)
+        → IsLawful (touching_all u) (view file.now) tries bytes.now → found ≡ Found.Lawful) }
     ensures right { IfOk result (λ found. found ≡ Found.Lawful → IsRightReport (view file.now) tries bytes.now) }
 {
     let shapes = sto_lang::shapes(alloc, file)?;

@@ -4,22 +4,24 @@ ghost use Rattle.sto_model.specs.Told.{told};
 ghost use Rattle.sto_model.specs.Objects.{machines_of};
 ghost use Rattle.sto_model.specs.Serial.{serial_run_of};
 ghost use Rattle.sto_lang.specs.Objects.{HaveNames, shapes_of};
+ghost use Rattle.sto_lang.specs.Sizes.{calls_of};
 ghost use Rattle.sto_lang.specs.Sound.{IsSound};
 ghost use Rattle.sto_lang.specs.Views.{file as view, script as script_view, declaration, names_of};
 ghost use Rattle.sto_script.specs.Meaning.{meaning_of};
 ghost use Rattle.sto_report_spec.specs.Report.{abort_text};
 ghost use Rattle.sto_report_spec.specs.Short.{IsShortAbort};
 ghost use Rattle.sto_journal.specs.Journals.{abort, IsAbortOf};
+ghost use Rattle.sto_replay.specs.Heard.{AreHeard};
 ghost use Rattle.sto_replay.specs.Runnable.{CanRun};
-ghost use Rattle.sto_report_checker.specs.Given.{TellsCause, IsPlaced, IsHeard};
+ghost use Rattle.sto_report_checker.specs.Given.{TellsCause, IsPlaced, MayBeAborted, IsHeard};
 
 use crate::abort::GivenAbort;
 use std::alloc::{AllocError, Global};
 use sto_journal::{AbortLine, Cause, push_abort};
 use sto_lang::{File, Script};
-use sto_model::{Replies, Shapes, State};
+use sto_model::{Replies, Reply, Shapes, State};
 use sto_part::NoMemory;
-use sto_report_lines::{has_asked, replies_of};
+use sto_report_lines::{has_asked, is_unsettled, replies_of};
 use sto_script::ScriptBody;
 use sto_type::Home;
 
@@ -47,6 +49,21 @@ fn first_replies(
         replies.pop();
     }
     Ok(Some(replies))
+}
+
+// Whether an attempt of a transaction that heard these replies may have been aborted, for a part of an object.
+fn may_be_aborted(
+    alloc: Global,
+    script: &Script,
+    replies: &[Reply],
+    object: u32,
+) -> Result<bool, NoMemory>
+    requires weighed { calls_of script.now.body ≤ script.now.weight }
+    requires heard { AreHeard (meaning_of (script_view script.now)) (map told replies.now) }
+    ensures { IfOk result (λ yes. IsTrue yes ↔ MayBeAborted object (meaning_of (script_view script.now)) (map told replies.now)) }
+{
+    let mut body = ScriptBody::new(alloc, script)?;
+    Ok(is_unsettled(&mut body, replies) && has_asked(&mut body, replies, object))
 }
 
 // Whether bytes are the text of an abort line.
@@ -84,8 +101,8 @@ fn cause_of(given: &GivenAbort<'_>, object: u32) -> Cause
     }
 }
 
-/// Whether the replies of an abort line are those that its transaction hears first from a state, and its object is one that
-/// the attempt asked. The state stays as it is.
+/// Whether the replies of an abort line are those that its transaction hears first from a state, and the attempt may have been
+/// aborted there: it asked the object, and it was not at its end. The state stays as it is.
 pub(crate) fn is_heard(
     alloc: Global,
     file: &File,
@@ -106,8 +123,7 @@ pub(crate) fn is_heard(
     let Some(replies) = first_replies(alloc, script, shapes, state, given.told.heard)? else {
         return Ok(false);
     };
-    let mut body = ScriptBody::new(alloc, script)?;
-    if !has_asked(&mut body, replies.as_slice(), object) {
+    if !may_be_aborted(alloc, script, replies.as_slice(), object)? {
         return Ok(false);
     }
     let line = AbortLine {

@@ -6,6 +6,7 @@ pub mod Named
 pub mod Reading
 pub mod Walked
 pub mod Uncommitted
+pub mod AllTouched
 pub mod Unwritten
 pub mod Kept
 pub mod Along

@@ -28,5 +28,5 @@ pub use reader::{GivenLine, Reader, first_line};
 pub use tentative::replies_of;
 pub use told::{ToldAbort, ToldCause, heard_in};
 pub use transaction::{TransactionPlace, journal_transaction, transaction_in};
-pub use walk::{has_asked, objects_written};
+pub use walk::{has_asked, is_unsettled, objects_written};
 pub use word::{first_piece, number};

@@ -1,7 +1,7 @@
 //! Walks along the calls that replies answer.
 ghost use Rattle.std.specs.Prelude.{◌≡◌, ◌↔◌, ◌<◌, ◌^◌, length, IfOk, IsTrue, map};
 ghost use Rattle.sto_model.specs.Told.{told};
-ghost use Rattle.sto_model.specs.Asked.{HasAsked};
+ghost use Rattle.sto_model.specs.Asked.{HasAsked, IsUnsettled};
 ghost use Rattle.sto_replay.specs.Heard.{AreHeard};
 ghost use Rattle.sto_report_lines.specs.Written.{objects_along};
 
@@ -30,6 +30,28 @@ pub fn objects_written<B: Body>(
         body.hear(reply);
     }
     Ok(objects)
+}
+
+/// Whether an attempt that heard these replies may still be aborted: a call is next, or the commit of a run that has written.
+pub fn is_unsettled<B: Body>(body: &mut B, replies: &[Reply]) -> bool
+    requires { AreHeard (B.script body.old) (map told replies.now) }
+    ensures unsettled { IsTrue result ↔ IsUnsettled (B.script body.old) (map told replies.now) }
+    ensures script { B.script body.new ≡ B.script body.old }
+{
+    let mut written = false;
+    body.reset();
+    for reply in replies {
+        let Next::Ask(call) = body.next() else {
+            return false;
+        };
+        written = written || writes(call.code, reply);
+        body.hear(reply);
+    }
+    match body.next() {
+        Next::Ask(_) => true,
+        Next::Commit => written,
+        Next::Cancel => false,
+    }
 }
 
 /// Whether one of the calls that these replies answer, or the one that is asked next, is one on an object.

@@ -1,123 +1,35 @@
 -- What is lawful by the meaning of a file's own shapes is so by the meaning of all shapes.
-use Rattle.std.specs.List.{All}
-use Rattle.std.proofs.Common.{◌≡◌, ℕ, zero, suc, List, [], ◌∷◌, ◌++◌, map, refl, sym, ap, ◌∙◌, Bool, true, false, cond, Option, None, Some}
-use Rattle.std.proofs.lemmas.List.Elements.{All-weaker}
+use Rattle.std.proofs.Common.{◌≡◌, ℕ, List, map, subst}
 use Rattle.sto_attempt_log.specs.Pending.{Entry, applied_updates}
-use Rattle.sto_model.specs.Told.{Told}
-use Rattle.sto_model.specs.Run.{Script as Steps, State}
-use Rattle.sto_model.specs.declared.body.Next.{Next}
-use Rattle.sto_model.specs.declared.body.Next.TheVariants.{Ask, Commit, Cancel}
 use Rattle.sto_model.specs.declared.shape.Shape.{Shape}
-use Rattle.sto_lang.specs.Objects.{Declaration, shapes_of}
-use Rattle.sto_lang.specs.Scripts.{Script, File}
-use Rattle.sto_script.specs.Meaning.{meaning_of}
+use Rattle.sto_lang.specs.Objects.{shapes_of}
+use Rattle.sto_lang.specs.Scripts.{File}
 use Rattle.sto_type.specs.Meaning.{Meaning}
-use Rattle.sto_report_spec.specs.Orders.{Place, transaction_at}
-use Rattle.sto_report_spec.specs.Replay.{run_at, is_writer, opening_state}
-use Rattle.sto_report_spec.specs.Aborts.{Cause, Locked, Changed, Abort}
-use Rattle.sto_report_spec.specs.LawfulAborts.{IsCause, IsLawfulAbort, AreLawful}
-use Rattle.sto_report_spec.specs.Updated.{Contents, Updating, Updates, with_next, updates_along, updates_in, updates_at, at_writer, updated_from, updated}
+use Rattle.sto_type.specs.Touching.{Touches}
+use Rattle.sto_report_spec.specs.Updated.{Updating}
+use Rattle.sto_report_spec.proofs.NoLess.{SaysNoLess, aborts_same}
 use Rattle.sto_journal.specs.declared.journal.Journal.{Journal}
 use Rattle.sto_journal.specs.Journals.{places, abort}
 use Rattle.sto_serializability.specs.Meanings.{updating_by}
 use Rattle.sto_run.specs.Lawful.{IsLawfulJournal}
 
--- both say the same of these shapes
-record SayTheSame (u w : Updating) (shapes : List Shape) : Type 0 where
-  opening : u.opening shapes ≡ w.opening shapes
-  parts : u.parts shapes ≡ w.parts shapes
-  after : u.after shapes ≡ w.after shapes
+journal_same : (u w : Updating) (file : File) (tries : ℕ) (j : Journal) → SaysNoLess u w (shapes_of file.declarations) → IsLawfulJournal u file tries j → IsLawfulJournal w file tries j
+journal_same u w file tries j same h = record {
+  order = h.order;
+  entries = h.entries;
+  aborts = aborts_same u w file same tries (places j.lines.items) (map (abort file.declarations) j.aborts.items) h.aborts;
+  final = h.final;
+}
 
-module _ (u w : Updating) (file : File) (same : SayTheSame u w (shapes_of file.declarations)) where
-  abbrev shapes : List Shape
-  shapes = shapes_of file.declarations
-
-  next_same : (next : Next) (done : Updates) → with_next u shapes next done ≡ with_next w shapes next done
-  next_same (Ask call) done = λ i. record { parts = done.parts ++ same.parts i call done.contents; contents = same.after i call done.contents }
-  next_same Commit done = refl
-  next_same Cancel done = refl
-
-  along_same : (steps : Steps) (replies : List Told) (done : Updates) → updates_along u shapes steps replies done ≡ updates_along w shapes steps replies done
-  along_same steps [] done = refl
-  along_same steps (r ∷ rs) done =
-      along_same (λ others. steps (r ∷ others)) rs (with_next u shapes (steps []) done)
-      ∙ ap (updates_along w shapes (λ others. steps (r ∷ others)) rs) (next_same (steps []) done)
-
-  in_same : (script : Option Script) (replies : List Told) (contents : Contents) → updates_in u shapes script replies contents ≡ updates_in w shapes script replies contents
-  in_same None replies contents = refl
-  in_same (Some script) replies contents = along_same (meaning_of script) replies (record { parts = []; contents = contents })
-
-  at_same : (state : State) (contents : Contents) (place : Place) → updates_at u file state contents place ≡ updates_at w file state contents place
-  at_same state contents place = in_same (transaction_at file place) (run_at file state place).replies contents
-
-  from_same : (state : State) (contents : Contents) (order : List Place) (number : ℕ) → updated_from u file state contents order number ≡ updated_from w file state contents order number
-  from_same state contents [] number = refl
-  from_same state contents (place ∷ order) zero = refl
-  from_same state contents (place ∷ order) (suc earlier) =
-      by (is_writer (transaction_at file place) (run_at file state place)) earlier (λ more. from_same (run_at file state place).after (updates_at w file state contents place).contents order (suc more))
-      (from_same (run_at file state place).after contents order (suc earlier))
-    where
-      by : (b : Bool) (earlier : ℕ)
-          → ((more : ℕ) → updated_from u file (run_at file state place).after (updates_at w file state contents place).contents order (suc more) ≡ updated_from w file (run_at file state place).after (updates_at w file state contents place).contents order (suc more))
-          → updated_from u file (run_at file state place).after contents order (suc earlier) ≡ updated_from w file (run_at file state place).after contents order (suc earlier)
-          → cond b (at_writer earlier (updates_at u file state contents place).parts (updated_from u file (run_at file state place).after (updates_at u file state contents place).contents order))
-          (updated_from u file (run_at file state place).after contents order (suc earlier))
-          ≡ cond b (at_writer earlier (updates_at w file state contents place).parts (updated_from w file (run_at file state place).after (updates_at w file state contents place).contents order))
-          (updated_from w file (run_at file state place).after contents order (suc earlier))
-      by true zero later skipped = ap (λ (done : Updates). done.parts) (at_same state contents place)
-      by true (suc more) later skipped =
-          ap (λ (done : Updates). updated_from u file (run_at file state place).after done.contents order (suc more)) (at_same state contents place) ∙ later more
-      by false earlier later skipped = skipped
-
-  updated_same : (order : List Place) (number : ℕ) → updated u file order number ≡ updated w file order number
-  updated_same order number =
-      ap (λ (contents : Contents). updated_from u file (opening_state file) contents order number) same.opening
-      ∙ from_same (opening_state file) (w.opening shapes) order number
-
-  cause_same : (order : List Place) (a : Abort) (d : Declaration) (c : Cause) → IsCause u file order a d c → IsCause w file order a d c
-  cause_same order a d (Locked part) h = tt
-  cause_same order a d (Changed part by) h = record {
-    later = h.later;
-    earlier = h.earlier;
-    written = (h.written.0, h.written.1, sym (updated_same order by) ∙ h.written.2);
-  }
-
-  abort_same : (order : List Place) (a : Abort) → IsLawfulAbort u file order a → IsLawfulAbort w file order a
-  abort_same order a h = record {
-    script = h.script;
-    object = h.object;
-    transaction = h.transaction;
-    replies = h.replies;
-    after_own = h.after_own;
-    before = h.before;
-    part = h.part;
-    cause = cause_same order a h.object a.cause h.cause;
-  }
-
-  aborts_same : (tries : ℕ) (order : List Place) (aborts : List Abort) → AreLawful u file tries order aborts → AreLawful w file tries order aborts
-  aborts_same tries order aborts h = record {
-    each = All-weaker (IsLawfulAbort u file order) (IsLawfulAbort w file order) (abort_same order) aborts h.each;
-    few = h.few;
-    handed = h.handed;
-    sorted = h.sorted;
-  }
-
-  journal_same : (tries : ℕ) (j : Journal) → IsLawfulJournal u file tries j → IsLawfulJournal w file tries j
-  journal_same tries j h = record {
-    order = h.order;
-    entries = h.entries;
-    aborts = aborts_same tries (places j.lines.items) (map (abort file.declarations) j.aborts.items) h.aborts;
-    final = h.final;
-  }
-
-meant_same : (m : Meaning) (means : List Shape → Meaning) (shapes : List Shape) → m ≡ means shapes → SayTheSame (updating_by (λ all. m)) (updating_by means) shapes
+meant_same : (m : Meaning) (means : List Shape → Meaning) (shapes : List Shape) → m ≡ means shapes → SaysNoLess (updating_by (λ all. m)) (updating_by means) shapes
 meant_same m means shapes e = record {
   opening = λ i. (e i).opened;
   parts = λ i call contents. map (λ (x : Entry). x.0) ((e i).updates call contents);
   after = λ i call contents. applied_updates ((e i).updates call contents) contents;
+  touches = λ part call h. subst (λ (x : Meaning). Touches x part call) e h;
 }
 
 pub lawful_meant : (m : Meaning) (means : List Shape → Meaning) (file : File) (tries : ℕ) (j : Journal) → m ≡ means (shapes_of file.declarations)
     → IsLawfulJournal (updating_by (λ shapes. m)) file tries j → IsLawfulJournal (updating_by means) file tries j
 lawful_meant m means file tries j e h =
-    journal_same (updating_by (λ shapes. m)) (updating_by means) file (meant_same m means (shapes_of file.declarations) e) tries j h
+    journal_same (updating_by (λ shapes. m)) (updating_by means) file tries j (meant_same m means (shapes_of file.declarations) e) h

@@ -7,7 +7,9 @@ use Rattle.sto_model.specs.Told.{Told, told}
 use Rattle.sto_model.specs.Run.{Script as Steps}
 use Rattle.sto_lang.specs.Scripts.{Script, File}
 use Rattle.sto_script.specs.Meaning.{meaning_of}
-use Rattle.sto_type.specs.Meaning.{Meaning}
+use Rattle.sto_type.specs.Meaning.{Meaning, IsLawful}
+use Rattle.sto_type.specs.Touching.{HasTouched}
+use Rattle.sto_type.proofs.Touching.{touched_of}
 use Rattle.sto_core.specs.declared.view.View.{View}
 use Rattle.sto_report_spec.specs.Orders.{at_position}
 use Rattle.sto_attempt_facts.specs.Told.{IsTold}
@@ -35,17 +37,20 @@ module _ (m : Meaning) (file : File) (v : View) where
       All-cons (λ (x : Record). x.thread < length file.threads) r rs (has_thread file.threads r.thread r.position here.script here.transaction)
       (in_threads rs (All-tail (IsRecord m file v) (plain r) (map plain rs) h))
 
-  part_in : (f : Steps) (replies : List Told) (w : Verdict) → IsTold m v f replies (verdict w) → IsPartIn (length m.homes) w
-  part_in f replies (Wrote ticket) h = tt
-  part_in f replies (Read at) h = tt
-  part_in f replies (Cancelled at) h = tt
-  part_in f replies (Locked at part) h = h.asked.owned.in_range
-  part_in f replies (Changed at part ticket) h = h.aborted.asked.owned.in_range
+  touched_in : IsLawful m → (f : Steps) (replies : List Told) (part : ℕ) → HasTouched m f replies part → part < length m.homes
+  touched_in law f replies part h = (touched_of m law f replies part h).owned.in_range
 
-  pub in_parts : (count : ℕ) (rs : List Record) → length m.homes ≡ count → All (IsRecord m file v) (map plain rs) → All (IsInRange count) rs
-  in_parts count [] e h = All-nil (IsInRange count)
-  in_parts count (r ∷ rs) e h =
+  part_in : IsLawful m → (f : Steps) (replies : List Told) (w : Verdict) → IsTold m v f replies (verdict w) → IsPartIn (length m.homes) w
+  part_in law f replies (Wrote ticket) h = tt
+  part_in law f replies (Read at) h = tt
+  part_in law f replies (Cancelled at) h = tt
+  part_in law f replies (Locked at part) h = touched_in law f replies part h.touched
+  part_in law f replies (Changed at part ticket) h = touched_in law f replies part h.aborted.touched
+
+  pub in_parts : IsLawful m → (count : ℕ) (rs : List Record) → length m.homes ≡ count → All (IsRecord m file v) (map plain rs) → All (IsInRange count) rs
+  in_parts law count [] e h = All-nil (IsInRange count)
+  in_parts law count (r ∷ rs) e h =
       let here : IsRecord m file v (plain r) = All-head (IsRecord m file v) (plain r) (map plain rs) h in
       All-cons (IsInRange count) r rs
-      (subst (λ (n : ℕ). IsPartIn n r.verdict) e (part_in (meaning_of here.script) (map told r.replies.items) r.verdict here.told))
-      (in_parts count rs e (All-tail (IsRecord m file v) (plain r) (map plain rs) h))
+      (subst (λ (n : ℕ). IsPartIn n r.verdict) e (part_in law (meaning_of here.script) (map told r.replies.items) r.verdict here.told))
+      (in_parts law count rs e (All-tail (IsRecord m file v) (plain r) (map plain rs) h))

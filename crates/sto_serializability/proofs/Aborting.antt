@@ -1,17 +1,13 @@
 -- The aborted attempts of a finished run are lawful for the replay of its journal.
 use Rattle.sto_model.specs.Asked.{HasAsked}
-use Rattle.std.specs.Prelude.{if◌then◌else◌, filter, ◌⊎◌, ◌-◌, ◌+◌, take, sum_by, slice_index_or}
+use Rattle.std.specs.Prelude.{filter, ◌+◌, take, sum_by, slice_index_or}
 use Rattle.std.specs.List.{All}
-use Rattle.std.proofs.Common.{◌≡◌, ℕ, zero, suc, ◌<◌, ◌≤◌, List, [], ◌∷◌, ◌++◌, length, map, refl, sym, ap, ◌∙◌, subst, arith, Bool, true, false, Some, Option, true≢false, inl, inr}
-use Rattle.std.proofs.lemmas.Bool.{cases_lt}
+use Rattle.std.proofs.Common.{◌≡◌, ℕ, ◌<◌, ◌≤◌, List, [], ◌∷◌, map, refl, sym, ap, ◌∙◌, subst, arith, Bool, true, false, Some, Option, true≢false}
 use Rattle.std.proofs.lemmas.Bool.Decides.{nat_tests}
 use Rattle.std.proofs.lemmas.List.Elements.{All-filter, All-same, All-map}
 use Rattle.std.proofs.lemmas.List.Sorted.{All-permutation}
 use Rattle.sto_model.specs.Told.{Told}
-use Rattle.sto_model.specs.Run.{State, IsRun, Script as Steps}
-use Rattle.sto_model.specs.declared.call.Call.{Call}
-use Rattle.sto_model.specs.declared.body.Next.{Next}
-use Rattle.sto_model.specs.declared.body.Next.TheVariants.{Ask, Commit, Cancel}
+use Rattle.sto_model.specs.Run.{State, IsRun}
 use Rattle.sto_model.specs.declared.shape.Shape.{Shape}
 use Rattle.sto_lang.specs.Objects.{Declaration, shapes_of, with_number}
 use Rattle.sto_model.specs.Sizes.{part_count}
@@ -19,19 +15,20 @@ use Rattle.sto_lang.specs.Scripts.{Script, File}
 use Rattle.sto_script.specs.Meaning.{meaning_of}
 use Rattle.sto_type.specs.Known.{Parts}
 use Rattle.sto_type.specs.Meaning.{Meaning}
+use Rattle.sto_type.specs.Touching.{HasTouched}
+use Rattle.sto_type.proofs.Touching.{IsTouchedOf, touched_of}
 use Rattle.sto_core.specs.declared.view.View.{View}
 use Rattle.sto_core.specs.History.{Contents, Validity, contents_as_of, writes, committed_updates}
 use Rattle.sto_core.specs.Core.{Core}
 use Rattle.sto_core.specs.Rule.{Past}
 use Rattle.sto_report_spec.specs.Orders.{Place, transaction_at}
 use Rattle.sto_report_spec.specs.Replay.{Entry, run_at, entries_of, opening_state, shown}
-use Rattle.sto_report_spec.specs.Updated.{Updating, updated, updated_from}
+use Rattle.sto_report_spec.specs.Updated.{updated, updated_from}
 use Rattle.sto_report_spec.specs.Aborts.{LocalPart, Abort, name_of, part_by_home}
 use Rattle.sto_report_spec.specs.Aborts as aborts
-use Rattle.sto_report_spec.specs.LawfulAborts.{IsFront, writers_before, IsBefore, IsAfterOwn, declared_as, part_number, IsPartAsked, IsChange, IsLawfulAbort}
+use Rattle.sto_report_spec.specs.LawfulAborts.{IsFront, writers_before, IsBefore, IsAfterOwn, declared_as, part_number, IsPartAsked, IsPartTouched, IsLawfulAbort}
 use Rattle.sto_attempt_facts.specs.Records.{Verdict, Wrote, Read, Cancelled, Locked, Changed, Record, is_abort, is_finished, stands_at, known_after, IsSince, wrote_with, times_written, writers_up_to}
-use Rattle.sto_attempt_facts.specs.Told.{IsAskedPart}
-use Rattle.sto_serializability.specs.Finished.{IsRecord, AreFinished}
+use Rattle.sto_serializability.specs.Finished.{AreFinished}
 use Rattle.sto_attempt_facts.specs.Counted.{Follows, InThreads}
 use Rattle.sto_serializability.specs.Merged.{ending_of, line_of, part_named, AreMerged}
 use Rattle.sto_serializability.specs.Meanings.{updating_by, IsHomeAt, IsTypeOf, IsNamedObject, IsUsable}
@@ -39,8 +36,7 @@ use Rattle.sto_serializability.proofs.Bodies.{few_replies}
 use Rattle.sto_serializability.proofs.Runs.{front_at}
 use Rattle.sto_history.proofs.Counts.{writers_rise, times_ordered}
 use Rattle.sto_serializability.proofs.Chains.{Every, every}
-use Rattle.sto_history.proofs.Histories.{AbortedAt, ChangedAt, StandsAt, rank_rises}
-use Rattle.sto_serializability.proofs.Stands.{Stands}
+use Rattle.sto_history.proofs.Histories.{AbortedAt, ChangedAt, rank_rises}
 use Rattle.sto_serializability.proofs.Pairs.{all_of, every_weaker, every_both, Later, all_pairs}
 use Rattle.sto_serializability.proofs.Replaying.{places_of}
 use Rattle.sto_serializability.proofs.Ordering.{finished_ended}
@@ -196,10 +192,12 @@ module _ {valid : Validity} {sizes : List ℕ} {opening : Contents} {past : Past
   record Part (p : ℕ) (s : Script) (replies : List Told) : Type 0 where
     object : Declaration
     asked : IsPartAsked file s replies (part_named file.declarations homes p) object
+    touched : IsPartTouched (updating_by means) file s replies (part_number file.declarations object (part_named file.declarations homes p).part)
     number : part_number file.declarations object (part_named file.declarations homes p).part ≡ p
 
-  part_is : (p : ℕ) (s : Script) (replies : List Told) → IsAskedPart m (meaning_of s) replies p → Part p s replies
-  part_is p s replies h =
+  part_is : (p : ℕ) (s : Script) (replies : List Told) → HasTouched m (meaning_of s) replies p → Part p s replies
+  part_is p s replies touched =
+      let h : IsTouchedOf m (meaning_of s) replies p = touched_of m type_of.lawful (meaning_of s) replies p touched in
       let home : ℕ × ℕ = slice_index_or homes p (0, 0) in
       let at_home : IsHomeAt (shapes_of file.declarations) p home = type_of.homes p h.owned.in_range in
       let found = usable.named home.0 at_home.shape at_home.object in
@@ -207,6 +205,8 @@ module _ {valid : Validity} {sizes : List ℕ} {opening : Contents} {past : Past
       let is : IsNamedObject file.declarations home.0 d = found.1 in
       let name_is : name_of (with_number home.0 file.declarations) ≡ d.name = ap name_of is.by_number in
       let shape_is : at_home.shape ≡ d.shape = some_shape at_home.shape d.shape (sym at_home.object ∙ is.shaped) in
+      let number : part_number file.declarations d home.1 ≡ p =
+      ap (λ (x : ℕ). sum_by part_count (take x (shapes_of file.declarations)) + home.1) is.number ∙ sym at_home.number in
       record {
         object = d;
         asked = record {
@@ -214,9 +214,8 @@ module _ {valid : Validity} {sizes : List ℕ} {opening : Contents} {past : Past
           inside = subst (λ (x : Shape). home.1 < part_count x) shape_is at_home.inside;
           asked = subst (λ (x : ℕ). HasAsked x (meaning_of s) replies) (sym h.owned.owner ∙ sym is.number) h.asked;
         };
-        number =
-            ap (λ (x : ℕ). sum_by part_count (take x (shapes_of file.declarations)) + home.1) is.number
-            ∙ sym at_home.number;
+        touched = subst (λ (x : ℕ). IsPartTouched (updating_by means) file s replies x) (sym number) touched;
+        number = number;
       }
     where
       find_by : List ℕ → Option Declaration
@@ -236,7 +235,7 @@ module _ {valid : Validity} {sizes : List ℕ} {opening : Contents} {past : Past
         → IsLawfulAbort (updating_by means) file order
         (record { place = r.place; seen = writers_up_to n rs; replies = r.replies; cause = aborts.Locked (part_named file.declarations homes p) })
     locked_lawful n p is h =
-        let part : Part p s r.replies = part_is p s r.replies h.asked in
+        let part : Part p s r.replies = part_is p s r.replies h.touched in
         record {
           script = s;
           object = part.object;
@@ -244,7 +243,9 @@ module _ {valid : Validity} {sizes : List ℕ} {opening : Contents} {past : Past
           replies = front n h.within h.runs;
           after_own = subst (λ (w : Verdict). IsAfterOwn (entries_of file order) r.place (writers_up_to (stands_at w) rs)) is (after_own r (ap is_abort is) beside);
           before = is_before r (ap is_abort is) beside n (let k = ap known_after is in omega (arith, k));
+          unsettled = h.unsettled;
           part = part.asked;
+          touched = part.touched;
           cause = tt;
         }
 
@@ -252,7 +253,7 @@ module _ {valid : Validity} {sizes : List ℕ} {opening : Contents} {past : Past
         → IsLawfulAbort (updating_by means) file order
         (record { place = r.place; seen = writers_up_to n rs; replies = r.replies; cause = aborts.Changed (part_named file.declarations homes p) (writers_up_to t rs) })
     changed_lawful n p t is h =
-        let part : Part p s r.replies = part_is p s r.replies h.aborted.asked in
+        let part : Part p s r.replies = part_is p s r.replies h.aborted.touched in
         let hist = journal.history means file usable type_of closed tries rs ordered finished merged in
         let none = journal.none_yet means file usable type_of closed tries rs ordered finished merged in
         let there : Stood p (updated (updating_by means) file order (writers_up_to t rs)) =
@@ -273,7 +274,9 @@ module _ {valid : Validity} {sizes : List ℕ} {opening : Contents} {past : Past
           replies = front n h.aborted.within h.aborted.runs;
           after_own = subst (λ (w : Verdict). IsAfterOwn (entries_of file order) r.place (writers_up_to (stands_at w) rs)) is (after_own r (ap is_abort is) beside);
           before = is_before r (ap is_abort is) beside n (let k = ap known_after is in let l = h.later in omega (arith, k, l));
+          unsettled = h.aborted.unsettled;
           part = part.asked;
+          touched = part.touched;
           cause = record {
             later = rank_rises hist n t h.later h.written;
             earlier = is_before r (ap is_abort is) beside t (let k = ap known_after is in omega (arith, k));

@@ -1,23 +1,23 @@
 -- The report of a finished run is lawful, in both forms.
-use Rattle.std.specs.Prelude.{◌+◌, slice_index_or, slice_get, option_and_then, filter}
-use Rattle.std.specs.List.{All}
-use Rattle.std.proofs.Common.{◌≡◌, ℕ, zero, suc, ◌<◌, ◌≤◌, ◌^◌, List, [], ◌∷◌, ◌++◌, length, map, refl, sym, ap, ◌∙◌, subst, arith, Bool, true, false, Option, None, Some, nat_le, cond}
+use Rattle.std.specs.Prelude.{slice_index_or, slice_get, option_and_then, filter}
+use Rattle.std.proofs.Common.{◌≡◌, ℕ, ◌<◌, ◌≤◌, ◌^◌, List, [], ◌∷◌, length, map, refl, sym, ap, ◌∙◌, subst, arith, true, Option, None, Some}
 use Rattle.std.proofs.lemmas.Bool.Decides.{nat_tests}
 use Rattle.std.proofs.lemmas.List.Elements.{All-filter}
 use Rattle.std.proofs.lemmas.List.Sorted.{All-permutation}
 use Rattle.sto_model.specs.Told.{Told}
-use Rattle.sto_model.specs.Run.{Script as Steps}
 use Rattle.sto_model.specs.declared.shape.Shape.{Shape}
 use Rattle.sto_syntax.specs.Words.{is_name}
-use Rattle.sto_lang.specs.Objects.{Declaration, shapes_of, with_number}
+use Rattle.sto_lang.specs.Objects.{shapes_of}
 use Rattle.sto_lang.specs.Scripts.{Script, File}
 use Rattle.sto_script.specs.Meaning.{meaning_of}
 use Rattle.sto_type.specs.Meaning.{Meaning}
+use Rattle.sto_type.specs.Touching.{HasTouched}
+use Rattle.sto_type.proofs.Touching.{touched_of}
 use Rattle.sto_core.specs.declared.view.View.{View}
 use Rattle.sto_core.specs.History.{Contents, Validity, contents_as_of, writes, committed_updates}
 use Rattle.sto_core.specs.Core.{Core}
 use Rattle.sto_core.specs.Rule.{Past}
-use Rattle.sto_report_spec.specs.Orders.{Place, at_position, transaction_at, IsOrder}
+use Rattle.sto_report_spec.specs.Orders.{Place, at_position, IsOrder}
 use Rattle.sto_report_spec.specs.Replay.{Entry, entries_of, final_state}
 use Rattle.sto_report_spec.specs.Aborts.{Abort, name_of}
 use Rattle.sto_report_spec.specs.Named.{IsNamable, order_named}
@@ -34,13 +34,11 @@ use Rattle.sto_report_spec.proofs.NamingTexts.{text_names_order, text_names_abor
 use Rattle.sto_report_spec.proofs.NamingJson.{json_names_order, json_names_aborts}
 use Rattle.sto_attempt_facts.specs.Records.{Verdict, Wrote, Read, Cancelled, Locked, Changed, Record, is_finished, stands_at, wrote_within, writers_up_to}
 use Rattle.sto_serializability.specs.Finished.{IsRecord, AreFinished}
-use Rattle.sto_attempt_facts.specs.Told.{IsAskedPart}
 use Rattle.sto_serializability.specs.Merged.{line_of, AreMerged, part_named, lines_of_abort, aborts_from}
 use Rattle.sto_serializability.specs.Meanings.{updating_by, IsHomeAt, IsTypeOf, IsNamedObject, IsUsable}
 use Rattle.sto_serializability.specs.Headline.{IsShortRecord, AreShortRecords}
 use Rattle.sto_serializability.proofs.Chains.{Every, every}
 use Rattle.sto_history.proofs.Histories.{StandsAt}
-use Rattle.sto_serializability.proofs.Stands.{Stands}
 use Rattle.sto_serializability.proofs.Pairs.{every_both}
 use Rattle.sto_serializability.proofs.Replaying.{places_of}
 use Rattle.sto_serializability.proofs.Journal as journal
@@ -90,19 +88,22 @@ module _ {valid : Validity} {sizes : List ℕ} {opening : Contents} {past : Past
   abbrev aborts : List Abort
   aborts = aborts_from file.declarations m.homes rs 0 (length file.threads)
 
-  named_part : (p : ℕ) (f : Steps) (replies : List Told) → IsAskedPart m f replies p → is_name (part_named file.declarations m.homes p).object ≡ true
-  named_part p f replies h =
+  named_part : (p : ℕ) → p < length m.homes → is_name (part_named file.declarations m.homes p).object ≡ true
+  named_part p range =
       let home : ℕ × ℕ = slice_index_or m.homes p (0, 0) in
-      let at_home : IsHomeAt (shapes_of file.declarations) p home = type_of.homes p h.owned.in_range in
+      let at_home : IsHomeAt (shapes_of file.declarations) p home = type_of.homes p range in
       let found = usable.named home.0 at_home.shape at_home.object in
       let is : IsNamedObject file.declarations home.0 found.0 = found.1 in
       ap (λ x. is_name (name_of x)) is.by_number ∙ is.word
 
-  low_part : (p : ℕ) (f : Steps) (replies : List Told) → IsAskedPart m f replies p → (part_named file.declarations m.homes p).part < 2 ^ 64
-  low_part p f replies h =
+  low_part : (p : ℕ) → p < length m.homes → (part_named file.declarations m.homes p).part < 2 ^ 64
+  low_part p range =
       let home : ℕ × ℕ = slice_index_or m.homes p (0, 0) in
-      let at_home : IsHomeAt (shapes_of file.declarations) p home = type_of.homes p h.owned.in_range in
-      let number = at_home.number in let range = h.owned.in_range in omega (arith, number, range, parts)
+      let at_home : IsHomeAt (shapes_of file.declarations) p home = type_of.homes p range in
+      let number = at_home.number in omega (arith, number, range, parts)
+
+  in_range : (p : ℕ) (s : Script) (replies : List Told) → HasTouched m (meaning_of s) replies p → p < length m.homes
+  in_range p s replies h = (touched_of m type_of.lawful (meaning_of s) replies p h).owned.in_range
 
   few : (n : ℕ) → writers_up_to n rs < 2 ^ 64
   few n = let k = few_writers n rs in let l = short.few in omega (arith, k, l)
@@ -118,7 +119,7 @@ module _ {valid : Validity} {sizes : List ℕ} {opening : Contents} {past : Past
       place = named;
       seen = few n;
       replies = k.replies;
-      cause = (named_part p (meaning_of s) r.replies h.asked, low_part p (meaning_of s) r.replies h.asked);
+      cause = let range = in_range p s r.replies h.touched in (named_part p range, low_part p range);
     },
     tt,
   )
@@ -127,7 +128,7 @@ module _ {valid : Validity} {sizes : List ℕ} {opening : Contents} {past : Past
       place = named;
       seen = few n;
       replies = k.replies;
-      cause = (named_part p (meaning_of s) r.replies h.aborted.asked, low_part p (meaning_of s) r.replies h.aborted.asked, few t);
+      cause = let range = in_range p s r.replies h.aborted.touched in (named_part p range, low_part p range, few t);
     },
     tt,
   )

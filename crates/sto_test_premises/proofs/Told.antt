@@ -1,7 +1,7 @@
 -- What the records tell of the view at the end.
 use Rattle.std.specs.Int.{w64, int_wrap}
 use Rattle.std.specs.Int.RustNames.{FitsSigned}
-use Rattle.std.proofs.Common.{◌≡◌, ℕ, ℤ, pos, ◌<◌, ◌≤◌, List, [], ◌∷◌, refl, ap, ◌∙◌, sym, subst, arith, true, false, inl}
+use Rattle.std.proofs.Common.{◌≡◌, ℕ, ℤ, pos, ◌<◌, ◌≤◌, List, [], ◌∷◌, None, refl, ap, ◌∙◌, sym, subst, arith, true, false, inl}
 use Rattle.sto_part.specs.Codes.{IsSignedCode}
 use Rattle.sto_part.specs.Parts.{part_of}
 use Rattle.sto_part.specs.declared.change.Change.TheVariants.{Put as PutValue}
@@ -11,13 +11,14 @@ use Rattle.sto_model.specs.Run.{IsRun}
 use Rattle.sto_script.specs.Meaning.{meaning_of}
 use Rattle.sto_type.specs.Known.{Parts}
 use Rattle.sto_type.specs.Runs.{IsRunOn}
+use Rattle.sto_type.specs.Touching.{Touches}
 use Rattle.sto_box.specs.Boxed.{IsBox, BoxTakes}
 use Rattle.sto_box.specs.BoxedLaw.{one_part}
 use Rattle.sto_core.specs.declared.view.Fate.TheVariants.{Committed}
-use Rattle.sto_attempt_facts.specs.Told.{HasClaimed, IsAskedPart, HasWritten, HasWrote, WasAborted, WasChanged}
+use Rattle.sto_attempt_facts.specs.Told.{HasClaimed, HasWritten, HasWrote, WasAborted, WasChanged}
 use Rattle.sto_serializability.specs.Finished.{IsRecord}
 use Rattle.sto_test_premises.specs.LostUpdate.{box, adding, file, view, lost, again, won}
-use Rattle.sto_test_premises.proofs.Closed.{fits_1, fits_2}
+use Rattle.sto_test_premises.proofs.Closed.{fits_1, fits_2, box_opened}
 
 -- the calls of either transaction are taken: a get of the box, and a set of it to a number
 get_taken : BoxTakes 1 IsSignedCode (record { object = 0; code = 0; a = pos 0; b = pos 0 })
@@ -25,6 +26,10 @@ get_taken = record { object = refl; code = omega arith; value = λ e. ∣ tt ∣
 
 set_taken : (y : ℤ) → FitsSigned w64 y → BoxTakes 1 IsSignedCode (record { object = 0; code = 1; a = y; b = pos 0 })
 set_taken y fits = record { object = refl; code = omega arith; value = λ e. ∣ tt ∣₁; fits = fits; fits_too = record { sfits = omega arith } }
+
+-- the get may touch the part: where nothing is known, it needs it
+get_touches : Touches box 0 (record { object = 0; code = 0; a = pos 0; b = pos 0 })
+get_touches = record { takes = get_taken; contents = box.opened; valid = box_opened; knowledge = λ p. None; known = record { same = λ p ws l e. absurd cc }; does = inl refl }
 
 abbrev puts : ℤ → List Update
 puts y = (0, PutValue y ∷ []) ∷ []
@@ -87,7 +92,8 @@ lost_told = record {
   aborted = record {
     known = omega arith;
     runs = λ c v claims. subst (λ (d : Parts). IsRun box.machines (meaning_of adding) (box.rows d) lost.replies) (shown (pos 0) c v (claims 0 _ refl refl)) run_on_0.run;
-    asked = record { object = 0; owned = record { in_range = omega arith; owner = refl }; asked = inl refl };
+    touched = inl get_touches;
+    unsettled = refl;
   };
   later = omega arith;
   wrote = record { claim = record { start = 1; ticket = 1; part = 0 }; there = (0, refl); by = refl; on = refl };

@@ -3,6 +3,7 @@ use Rattle.sto_lang.specs.Views.{file as view}
 use Rattle.sto_report_lines.specs.declared.found.Found.TheVariants.{Lawful, Not}
 use Rattle.sto_report_lines.specs.Lines.{lines_of}
 use Rattle.sto_report_lines.specs.Answer.{IsAnswer, IsFound}
+use Rattle.sto_report_lines.specs.Exact.{touching_all}
 use Rattle.sto_report_lines.specs.Reached.{IsWrongOr}
 use Rattle.sto_report_checker.proofs.Sound.{right_report}
 use Rattle.sto_report_checker.proofs.Only.{one_answer}
@@ -23,4 +24,4 @@ returns-clause-complete c = λ u written lawful.
     let read = lines_of c.new-reader.result.bytes.now in
     let found = subst (IsWrongOr f c.args.tries read (IsAnswer f c.args.tries read Lawful)) c.in-Some.is c.in_ok-wrong_line.ensures in
     let here = subst (λ (bs : List ℕ). IsFound f c.args.tries bs (Not c.in-Some.line)) c.new-reader.ensures.bytes found in
-    one_answer f c.args.tries (lines_of c.args.bytes.now) (Not c.in-Some.line) Lawful here (lawful_found f c.requires.sound c.args.tries u written c.args.bytes.now lawful)
+    one_answer f c.args.tries (lines_of c.args.bytes.now) (Not c.in-Some.line) Lawful here (lawful_found f c.requires.sound c.args.tries (touching_all u) written c.args.bytes.now lawful)

@@ -1,11 +1,9 @@
 use Rattle.std.proofs.Common.{◌≡◌, List, map, sym, subst}
-use Rattle.sto_model.specs.Asked.{HasAsked}
 use Rattle.sto_model.specs.Told.{told}
 use Rattle.sto_model.specs.Run.{Script as Steps}
 use Rattle.sto_model.specs.declared.reply.Reply.{Reply}
 use Rattle.sto_model.specs.declared.shape.Shape.{Shape}
 use Rattle.sto_lang.specs.Views.{file as view, script as script_view, declaration}
-use Rattle.sto_script.specs.Bodies.{script_of}
 use Rattle.sto_script.specs.Meaning.{meaning_of}
 use Rattle.sto_report_spec.specs.Report.{abort_text}
 use Rattle.sto_report_spec.specs.Short.{IsShortAbort}
@@ -14,9 +12,9 @@ use Rattle.sto_replay.specs.Heard.{AreHeard}
 use Rattle.sto_replay.specs.Runnable.{CanRun}
 use Rattle.sto_replay.proofs.Sound.{sound_runnable}
 use Rattle.sto_report_lines.specs.Reading.{place_of}
-use Rattle.sto_report_checker.specs.Given.{IsHeard}
+use Rattle.sto_report_checker.specs.Given.{MayBeAborted, IsHeard}
 use Rattle.sto_report_checker.proofs.Judged.{made}
-use Rattle.sto_report_checker.proofs.Hearing.{heard_all, not_enough, not_asked, heard_by_text, decided, thread_inside, script_at, object_at, cause_named, home_declared}
+use Rattle.sto_report_checker.proofs.Hearing.{heard_all, not_enough, not_aborted, heard_by_text, decided, thread_inside, script_at, object_at, cause_named, home_declared}
 use Rattle.sto_report_checker.proofs.heard.is_heard.Goals as goal
 
 pub first_replies-requires-clause-fits : goal.first_replies-requires-clause-fits
@@ -34,32 +32,29 @@ returns-in_default-clause-heard c =
       (λ h. absurd (not_enough (view c.args.file.now) c.args.shapes.now.items c.args.state.now.items c.args.given.now (script_view c.get-script.result.now) (declaration c.get.result.now) c.requires.shapes at stands few h)),
     )
 
-pub new-requires : goal.new-requires
-new-requires c =
+pub may_be_aborted-requires-clause-weighed : goal.may_be_aborted-requires-clause-weighed
+may_be_aborted-requires-clause-weighed c =
     let at = script_at c.args.file.now c.args.given.now c.requires.placed c.get-2.result.now c.get-script.result.now c.get-2.ensures c.get-script.ensures in
     ((sound_runnable (view c.args.file.now) c.requires.sound).scripts (place_of c.args.given.now.told.place) (script_view c.get-script.result.now) at).weighed
 
-pub has_asked-requires : goal.has_asked-requires
-has_asked-requires c =
+pub may_be_aborted-requires-clause-heard : goal.may_be_aborted-requires-clause-heard
+may_be_aborted-requires-clause-heard c =
     let meaning : Steps = meaning_of (script_view c.get-script.result.now) in
     let kept = rw c.in-Some.is at c.in_ok-replies.ensures.replies in
     let heard = heard_all c.args.shapes.now.items (script_view c.get-script.result.now) c.args.state.now.items c.args.given.now.told.heard in
-    subst (λ (rs : List Reply). AreHeard (script_of c.in_ok-body.body) (map told rs)) (sym c.as_slice.ensures.items)
-    (subst (λ (f : Steps). AreHeard f (map told c.in-Some.replies.items)) (sym c.in_ok-body.ensures.script)
-    (subst (AreHeard meaning) (sym kept.1) heard))
+    subst (λ (rs : List Reply). AreHeard meaning (map told rs)) (sym c.as_slice.ensures.items) (subst (AreHeard meaning) (sym kept.1) heard)
 
-pub returns-then-not-has_asked-clause-heard : goal.returns-then-not-has_asked-clause-heard
-returns-then-not-has_asked-clause-heard c =
+pub returns-then-not-branch-clause-heard : goal.returns-then-not-branch-clause-heard
+returns-then-not-branch-clause-heard c =
     let at = script_at c.args.file.now c.args.given.now c.requires.placed c.get-2.result.now c.get-script.result.now c.get-2.ensures c.get-script.ensures in
     let stands = object_at c.args.file.now c.args.given.now c.requires.placed c.get.result.now c.get.ensures in
     let kept = rw c.in-Some.is at c.in_ok-replies.ensures.replies in
-    let asked = rw c.if-not-has_asked.true at c.has_asked.ensures in (
+    let may_abort = rw c.if-not-branch.true at c.in_ok-may_be_aborted.ensures in (
       (λ e. absurd cc),
-      (λ h. absurd (not_asked (view c.args.file.now) c.args.shapes.now.items c.args.state.now.items c.args.given.now (script_view c.get-script.result.now) (declaration c.get.result.now) c.requires.shapes at stands
+      (λ h. absurd (not_aborted (view c.args.file.now) c.args.shapes.now.items c.args.state.now.items c.args.given.now (script_view c.get-script.result.now) (declaration c.get.result.now) c.requires.shapes at stands
           (map told c.in-Some.replies.items) kept.0 kept.1
-          (λ k. absurd (let no = asked.1
-          (subst (λ (rs : List Reply). HasAsked c.get.result.now.number (script_of c.in_ok-body.body) (map told rs)) (sym c.as_slice.ensures.items)
-          (subst (λ (f : Steps). HasAsked c.get.result.now.number f (map told c.in-Some.replies.items)) (sym c.in_ok-body.ensures.script) k)) in cc)) h)),
+          (λ k. absurd (let no = may_abort.1
+          (subst (λ (rs : List Reply). MayBeAborted c.get.result.now.number (meaning_of (script_view c.get-script.result.now)) (map told rs)) (sym c.as_slice.ensures.items) k) in cc)) h)),
     )
 
 pub is_abort-requires-clause-known : goal.is_abort-requires-clause-known
@@ -75,12 +70,11 @@ returns-clause-heard c =
     let at = script_at c.args.file.now given c.requires.placed c.get-2.result.now c.get-script.result.now c.get-2.ensures c.get-script.ensures in
     let stands = object_at c.args.file.now given c.requires.placed c.get.result.now c.get.ensures in
     let kept = rw c.in-Some.is at c.in_ok-replies.ensures.replies in
-    let asked = (rw c.if-not-has_asked.false at c.has_asked.ensures).0 cc in
+    let may_abort = (rw c.if-not-branch.false at c.in_ok-may_be_aborted.ensures).0 cc in
     let named = cause_named c.args.file.now given c.requires.placed c.get.result.now c.get.ensures c.requires.sound c.cause_of.result c.cause_of.ensures in
     let a = made (place_of given.told.place) given.told.seen (map told c.in-Some.replies.items) (cause file.declarations c.cause_of.result) in
     decided c.is_abort.result (given.text.now ≡ abort_text file.names a) (IsHeard file c.args.state.now.items given) (IsShortAbort file.names a)
     (heard_by_text file c.args.shapes.now.items c.args.state.now.items given (script_view c.get-script.result.now) (declaration c.get.result.now) c.requires.shapes at stands
     (map told c.in-Some.replies.items) kept.0 kept.1 (cause file.declarations c.cause_of.result) named c.requires.sound
-    (subst (λ (f : Steps). HasAsked c.get.result.now.number f (map told c.in-Some.replies.items)) c.in_ok-body.ensures.script
-    (subst (λ (rs : List Reply). HasAsked c.get.result.now.number (script_of c.in_ok-body.body) (map told rs)) c.as_slice.ensures.items asked)))
+    (subst (λ (rs : List Reply). MayBeAborted c.get.result.now.number (meaning_of (script_view c.get-script.result.now)) (map told rs)) c.as_slice.ensures.items may_abort))
     c.is_abort.ensures.text c.is_abort.ensures.short

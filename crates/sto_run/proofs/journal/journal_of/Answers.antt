@@ -31,7 +31,7 @@ rows_of-requires g c =
 pub merge-requires-clause-parts : goal.merge-requires-clause-parts
 merge-requires-clause-parts g c =
     let m : Meaning = g.T.TxType.meaning c.args.ty.now in
-    in_parts m (g.F.Workload.file c.args.file.now) (view_of c.args.words.now 0) (length c.deref.result.now) c.args.records.items
+    in_parts m (g.F.Workload.file c.args.file.now) (view_of c.args.words.now 0) c.requires.type_of.lawful (length c.deref.result.now) c.args.records.items
     (ap (λ (l : List (ℕ × ℕ)). length l) (sym c.in_ok-homes.ensures) ∙ length-map c.in_ok-homes.homes.items home_pair ∙ ap (λ (l : List Home). length l) (sym c.deref.ensures.value))
     c.requires.finished.2.each
 

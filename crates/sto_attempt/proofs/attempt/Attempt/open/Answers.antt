@@ -12,7 +12,22 @@ use Rattle.std.proofs.Common.{◌-◌, false, ◌<◌}
 use Rattle.sto_attempt_log.proofs.Lowering.{open_renew}
 use Rattle.sto_attempt_log.proofs.Causing.{by_open}
 use Rattle.sto_attempt_log.proofs.Onward.{heard_none}
+use Rattle.sto_attempt_log.proofs.Reading.{has_part}
+use Rattle.sto_attempt_log.proofs.Touched.{touched_next}
 use Rattle.sto_attempt.proofs.attempt.Attempt.open.Goals as goal
+
+pub open-found-requires : goal.open-found-requires
+open-found-requires g c =
+    let a = c.args.self.now in
+    let m = g.T.TxType.meaning a.log.ty.now in
+    let law = g.met.T.TxType.lawful a.log.ty.now in
+    let sizes = g.T.Naming.sizes a.log.ty.now in
+    let valid = g.T.Naming.valid in
+    let f = g.B.Body.script a.log.body in
+    let rs = map told a.log.replies.items in
+    let v = g.C.Cells.view c.args.cells.now in
+    let fits = c.requires.goes.0 in
+    (fits.stands, has_part m law valid sizes f a.at c.args.part rs v fits.own (touched_next m f rs c.args.part fits.awaits.by_next))
 
 pub returns-then-is_locked-clause-made : goal.returns-then-is_locked-clause-made
 returns-then-is_locked-clause-made g c =

@@ -3,10 +3,10 @@ use Rattle.sto_item.specs.Watched.{watched}
 use Rattle.sto_model.specs.Told.{told}
 use Rattle.sto_type.specs.Known.{Parts}
 use Rattle.sto_attempt_log.specs.declared.read_phase.ReadPhase.{ReadPhase}
-use Rattle.sto_attempt_log.specs.declared.read_phase.ReadPhase.TheVariants.{Rereading}
+use Rattle.sto_attempt_log.specs.declared.read_phase.ReadPhase.TheVariants.{Reading, Rereading}
 use Rattle.sto_attempt_log.specs.ReadSet.{words_in}
 use Rattle.sto_attempt_log.specs.Log.{IsOnLog, IsLog}
-use Rattle.sto_attempt_log.specs.Standing.{Goes, Renews, IsLeft}
+use Rattle.sto_attempt_log.specs.Standing.{Fits, IsAsOf, Goes, Renews, IsLeft}
 use Rattle.sto_attempt_log.proofs.Again.{below_long}
 use Rattle.sto_attempt_log.proofs.Stepping.{any_prefix, ok_map, ok_always, width_got}
 use Rattle.sto_attempt_log.specs.Standing.{IsFirst}
@@ -23,7 +23,23 @@ use Rattle.sto_attempt_log.specs.Standing.{IsUnaborted}
 use Rattle.sto_attempt_log.proofs.Stepping.{if_ok, err_map, unaborted_caused, keeps_fresh}
 use Rattle.sto_type.specs.Traits.{of_type}
 use Rattle.sto_attempt.proofs.Attempts.{under_way_at, steps_at, steps_as, renew_steps, stepped_prefix}
+use Rattle.sto_attempt_log.proofs.Touched.{touched_next, touched_range}
 use Rattle.sto_attempt.proofs.attempt.Attempt.step.Goals as goal
+
+pub width-requires : goal.width-requires
+width-requires g c =
+    let a = c.args.self.now in
+    let m = g.T.TxType.meaning a.log.ty.now in
+    let law = g.met.T.TxType.lawful a.log.ty.now in
+    let sizes = g.T.Naming.sizes a.log.ty.now in
+    let valid = g.T.Naming.valid in
+    let f = g.B.Body.script a.log.body in
+    let rs = map told a.log.replies.items in
+    let v = g.C.Cells.view c.args.cells.now in
+    let p = c.in-Reading.part in
+    let goes : Fits m valid sizes f a.at (Reading p c.in-Reading.ticket) a.words.items a.log.base.items a.log.set.updates rs v × IsAsOf a.at a.extension =
+    subst (λ (s : ReadPhase). Goes m valid sizes f a.at s a.words.items a.extension a.log.base.items a.log.set.items a.log.set.updates rs v) c.in-Reading.is c.requires.goes in
+    omega (arith, touched_range m law f rs p (touched_next m f rs p goes.0.awaits.by_next), law.homes)
 
 pub begin-requires : goal.begin-requires
 begin-requires g c =

@@ -16,7 +16,22 @@ use Rattle.sto_attempt_log.specs.Standing.{IsLeft}
 use Rattle.sto_attempt_log.proofs.Lowering.{word_fewer}
 use Rattle.sto_attempt_log.proofs.Reading.{word_stops, always_err}
 use Rattle.sto_attempt_log.specs.Standing.{HasBegun}
+use Rattle.sto_attempt_log.proofs.Reading.{may_read}
+use Rattle.sto_core.specs.Allowed.{Allowed}
 use Rattle.sto_attempt.proofs.attempt.Attempt.word.Goals as goal
+
+pub word-value-requires : goal.word-value-requires
+word-value-requires g c =
+    let a = c.args.self.now in
+    let m = g.T.TxType.meaning a.log.ty.now in
+    let law = g.met.T.TxType.lawful a.log.ty.now in
+    let sizes = g.T.Naming.sizes a.log.ty.now in
+    let valid = g.T.Naming.valid in
+    let f = g.B.Body.script a.log.body in
+    let rs = map told a.log.replies.items in
+    let v = g.C.Cells.view c.args.cells.now in
+    subst (λ (i : ℕ). Allowed valid (Word c.args.part i) v) (sym c.len.ensures)
+    (may_read m valid sizes f a.at c.args.part c.args.ticket a.words.items a.log.base.items a.log.set.items a.log.set.updates rs v c.requires.before.goes.0 law c.requires.more)
 
 pub returns : goal.returns
 returns g c =
