@@ -4,8 +4,8 @@ use Rattle.sto_io.specs.Told.{Takes, AtEnd}
 use Rattle.sto_lang.specs.Files.{file_of}
 use Rattle.sto_lang.specs.declared.fault.ScriptFault.{ScriptFault}
 use Rattle.sto_args.specs.declared.command.Command.{Command}
-use Rattle.sto_args.specs.declared.command.Command.TheVariants.{Run, Step, Upgrade, Gen, Bench}
-use Rattle.sto_cli_common.specs.declared.refusal.InputFault.TheVariants.{Script, NoReport}
+use Rattle.sto_args.specs.declared.command.Command.TheVariants.{Run, Step, Trace, Upgrade, Gen, Bench}
+use Rattle.sto_cli_common.specs.declared.refusal.InputFault.TheVariants.{Script, NoReport, LongTrace}
 use Rattle.sto_cli_common.specs.declared.refusal.Refusal.{Refusal}
 use Rattle.sto_cli_common.specs.declared.refusal.Refusal.TheVariants.{Usage, Input, ReadFault, WriteFault, NoMemory}
 use Rattle.sto_cli_common.specs.Read.{IfTold}
@@ -18,6 +18,7 @@ has_fault : (command : Command) → reads_script command ≡ true → (left rest
     → IfTold left rest (λ bytes. HasFault command bytes (Script fault))
 has_fault (Run threads tries json) reads left rest fault h = h
 has_fault (Step tries json) reads left rest fault h = h
+has_fault (Trace tries) reads left rest fault h = h
 has_fault Upgrade reads left rest fault h = h
 has_fault (Gen number) reads left rest fault h = absurd (true≢false (sym reads))
 has_fault (Bench number threads) reads left rest fault h = absurd (true≢false (sym reads))
@@ -27,6 +28,7 @@ pub unmade : (command : Command) → reads_script command ≡ true → (left res
     → (length taken < 1048577 → AtEnd rest) → IsFileRefusal refusal taken → Unmade program refusal command left rest
 unmade command reads left rest taken (Input (Script fault)) t end e = (reads, has_fault command reads left rest fault (told_fault left rest taken fault t end e))
 unmade command reads left rest taken (Input NoReport) t end e = absurd e
+unmade command reads left rest taken (Input LongTrace) t end e = absurd e
 unmade command reads left rest taken NoMemory t end e = tt
 unmade command reads left rest taken Usage t end e = absurd e
 unmade command reads left rest taken ReadFault t end e = absurd e
