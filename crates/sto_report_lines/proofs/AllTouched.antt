@@ -1,5 +1,5 @@
 -- What is lawful by some types is so by those that say the same of updates, and by which every call may touch every part.
-use Rattle.std.proofs.Common.{◌≡◌, ℕ, List, refl, ◌∙◌}
+use Rattle.std.proofs.Common.{ℕ, List, refl, ◌∙◌}
 use Rattle.sto_lang.specs.Objects.{shapes_of}
 use Rattle.sto_lang.specs.Scripts.{File}
 use Rattle.sto_report_spec.specs.Lawful.{IsLawful}
