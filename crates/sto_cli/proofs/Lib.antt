@@ -2,3 +2,4 @@ pub mod Reports
 pub mod Reading
 pub mod Exclusive
 pub mod Counted
+pub mod Lines

@@ -1,5 +1,5 @@
 //! The text of `trace`: a line for each event of a run.
-ghost use Rattle.std.specs.Prelude.{◌≡◌, ◌<◌, ◌^◌, length, map, sum, IfOk, IfErr};
+ghost use Rattle.std.specs.Prelude.{◌≡◌, ◌<◌, ◌^◌, length, map, sum, Some, IfOk, IfErr};
 ghost use Rattle.sto_args.specs.declared.command.Command.TheVariants as commands;
 ghost use Rattle.sto_lang.specs.Objects.{HaveNames};
 ghost use Rattle.sto_lang.specs.Sound.{IsFromTo};
@@ -15,7 +15,9 @@ use sto_cli_common::{InputFault, Refusal, file_in};
 use sto_lang::{File, Text, Thread};
 use sto_part::NoMemory;
 use sto_run::{TracedRun, trace_file};
+use sto_trace::Step;
 use sto_trace_text::Names;
+use sto_type::Home;
 
 // How many transactions a script may have that is traced.
 const MOST_TRACED: u64 = 256;
@@ -43,22 +45,38 @@ fn traceable_in(alloc: Global, bytes: &[u8]) -> Result<File, Refusal>
     Ok(file)
 }
 
+// The lines of these steps of a run of a file, with these homes of parts.
+fn text_of(
+    alloc: Global,
+    file: &File,
+    homes: &[Home],
+    steps: &[Step],
+) -> Result<Text, NoMemory>
+    requires objects { HaveNames (view file.now).declarations }
+    requires threads { AreNames (view file.now).names }
+    ensures { IfOk result (λ text. AreLinesOf (view file.now) (map home_pair homes.now) (Some steps.now) text.items) }
+{
+    let threads = file.threads.as_slice();
+    let decls = file.decls.as_slice();
+    let names = Names {
+        threads,
+        decls,
+        homes,
+    };
+    let text = sto_trace_text::trace_text(alloc, &names, steps)?;
+    Text::of_string(text)
+}
+
 // The lines of the steps of a run of a file, where they were kept.
 fn lines_of(alloc: Global, file: &File, run: &TracedRun) -> Result<Text, NoMemory>
     requires objects { HaveNames (view file.now).declarations }
     requires threads { AreNames (view file.now).names }
     ensures { IfOk result (λ text. AreLinesOf (view file.now) (map home_pair run.now.homes.items) (kept run.now.steps) text.items) }
 {
-    let Some(steps) = &run.steps else {
-        return Err(NoMemory);
-    };
-    let names = Names {
-        threads: file.threads.as_slice(),
-        decls: file.decls.as_slice(),
-        homes: run.homes.as_slice(),
-    };
-    let text = sto_trace_text::trace_text(alloc, &names, steps.as_slice())?;
-    Text::of_string(text)
+    match &run.steps {
+        Some(steps) => text_of(alloc, file, run.homes.as_slice(), steps.as_slice()),
+        None => Err(NoMemory),
+    }
 }
 
 /// What `trace` prints for these bytes. `NoMemory` comes also where the run makes more events than a run keeps.
