@@ -82,7 +82,7 @@ fn trace_on<T: TxType>(
 // Runs what was opened by the schedule of its file, and gives the journal and the steps.
 fn trace_opened<'f, T: TxType, G: Gate>(
     alloc: Global,
-    run: &OpenedRun<'f, LentFile<'f>, T, G>,
+    run: &'f OpenedRun<'f, LentFile<'f>, T, G>,
 ) -> Result<(Journal, Option<Steps>), NoMemory>
     requires runnable { IsRunnable (plan_of T.TxType run.now.work.ty.now (view run.now.work.workload.file.now) run.now.work.tries)
         T.valid run.now.opening.items }

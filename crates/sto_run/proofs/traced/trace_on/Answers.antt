@@ -9,7 +9,7 @@ use Rattle.sto_run_steps.specs.Logged.{kept}
 use Rattle.sto_run.specs.Alone.{RanAlone}
 use Rattle.sto_run.specs.Lawful.{IsLawfulJournal}
 use Rattle.sto_run.specs.Traced.{IsTraced}
-use Rattle.sto_run.proofs.Traced.{moved}
+use Rattle.sto_run.proofs.TracedRuns.{moved}
 use Rattle.sto_run.proofs.traced.trace_on.Goals as goal
 
 pub returns-clause-lawful : goal.returns-clause-lawful

@@ -6,7 +6,7 @@ use Rattle.sto_run_threads.specs.Told.{told_in}
 use Rattle.sto_run_steps.specs.Logged.{kept}
 use Rattle.sto_run.proofs.Draws.{few_threads}
 use Rattle.sto_run.proofs.Turns.{one_thread_order}
-use Rattle.sto_run.proofs.Traced.{traced_by}
+use Rattle.sto_run.proofs.TracedRuns.{traced_by}
 use Rattle.sto_run.proofs.traced.trace_opened.Goals as goal
 
 pub trace_threads-requires-clause-ready : goal.trace_threads-requires-clause-ready
