@@ -46,12 +46,7 @@ fn traceable_in(alloc: Global, bytes: &[u8]) -> Result<File, Refusal>
 }
 
 // The lines of these steps of a run of a file, with these homes of parts.
-fn text_of(
-    alloc: Global,
-    file: &File,
-    homes: &[Home],
-    steps: &[Step],
-) -> Result<Text, NoMemory>
+fn text_of(alloc: Global, file: &File, homes: &[Home], steps: &[Step]) -> Result<Text, NoMemory>
     requires objects { HaveNames (view file.now).declarations }
     requires threads { AreNames (view file.now).names }
     ensures { IfOk result (λ text. AreLinesOf (view file.now) (map home_pair homes.now) (Some steps.now) text.items) }

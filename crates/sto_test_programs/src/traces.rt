@@ -18,7 +18,9 @@ impl Attempts {
         let ended = trace
             .lines()
             .filter(|line| {
-                line.contains("; commit ") || line.contains("; read at ") || line.contains("; cancel at ")
+                line.contains("; commit ")
+                    || line.contains("; read at ")
+                    || line.contains("; cancel at ")
             })
             .count();
         let aborted = trace
