@@ -48,8 +48,7 @@ pub fn trace_file(alloc: Global, file: &File, tries: u32) -> Result<TracedRun, N
     // The steps are all events of the run by the schedule, and the journal is that of this run.
     ensures traced { IfOk result (λ r. IsTraceOf (view file.now) tries r.journal (map home_pair r.homes.items) (kept r.steps)) }
 {
-    let file = LentFile { file };
-    let objects = objects_of(alloc, &file)?;
+    let objects = objects_of(alloc, &LentFile { file })?;
     let homes = homes_of(alloc, &objects)?;
     let (journal, steps) = trace_on(alloc, file, &objects, tries)?;
     Ok(TracedRun {
@@ -62,20 +61,20 @@ pub fn trace_file(alloc: Global, file: &File, tries: u32) -> Result<TracedRun, N
 // Runs a file over its objects, and gives the journal and the steps.
 fn trace_on<T: TxType>(
     alloc: Global,
-    file: LentFile<'_>,
+    file: &File,
     ty: &T,
     tries: u32,
 ) -> Result<(Journal, Option<Steps>), NoMemory>
-    requires sound { IsSound (view file.file.now) }
-    requires type_of { IsTypeOf (shapes_of (view file.file.now).declarations) (T.meaning ty.now) }
-    requires taken { IsTaken (view file.file.now) (T.meaning ty.now) }
+    requires sound { IsSound (view file.now) }
+    requires type_of { IsTypeOf (shapes_of (view file.now).declarations) (T.meaning ty.now) }
+    requires taken { IsTaken (view file.now) (T.meaning ty.now) }
     requires tries { IsFromTo 1 64 tries }
-    ensures lawful { IfOk result (λ r. IsLawfulJournal (updating_by (λ _. T.meaning ty.now)) (view file.file.now) tries r.0) }
-    ensures alone { length (view file.file.now).threads ≤ 1 → IfOk result (λ r. RanAlone (view file.file.now) r.0) }
-    ensures traced { IfOk result (λ r. IsTraced T.TxType ty.now (view file.file.now) tries r.0 (kept r.1)) }
+    ensures lawful { IfOk result (λ r. IsLawfulJournal (updating_by (λ _. T.meaning ty.now)) (view file.now) tries r.0) }
+    ensures alone { length (view file.now).threads ≤ 1 → IfOk result (λ r. RanAlone (view file.now) r.0) }
+    ensures traced { IfOk result (λ r. IsTraced T.TxType ty.now (view file.now) tries r.0 (kept r.1)) }
 {
     let turn = RetryTurn::new();
-    let run = OpenedRun::new(alloc, file, ty, tries, &NoGate, &turn)?;
+    let run = OpenedRun::new(alloc, LentFile { file }, ty, tries, &NoGate, &turn)?;
     trace_opened(alloc, &run)
 }
 

@@ -17,7 +17,7 @@ returns-clause-lawful g c =
     let same = c.in_ok-run.ensures.of in
     let work = c.in_ok-run.run'.work in
     IfOk-weaker c.trace_opened.result _ _
-    (λ r h. moved (λ ty file tries. IsLawfulJournal (updating_by (λ shapes. g.T.TxType.meaning ty)) file tries r.0) work.ty.now c.args.ty.now (view work.workload.file.now) (view c.args.file.file.now)
+    (λ r h. moved (λ ty file tries. IsLawfulJournal (updating_by (λ shapes. g.T.TxType.meaning ty)) file tries r.0) work.ty.now c.args.ty.now (view work.workload.file.now) (view c.args.file.now)
     work.tries c.args.tries (ap (λ (f : LentFile). view f.file.now) same.0) same.1 same.2 h)
     c.trace_opened.ensures.lawful
 
@@ -32,6 +32,6 @@ returns-clause-traced g c =
     let same = c.in_ok-run.ensures.of in
     let work = c.in_ok-run.run'.work in
     IfOk-weaker c.trace_opened.result _ _
-    (λ r h. moved (λ ty file tries. IsTraced (of_type g.T.Naming g.T.TxType) ty file tries r.0 (kept r.1)) work.ty.now c.args.ty.now (view work.workload.file.now) (view c.args.file.file.now)
+    (λ r h. moved (λ ty file tries. IsTraced (of_type g.T.Naming g.T.TxType) ty file tries r.0 (kept r.1)) work.ty.now c.args.ty.now (view work.workload.file.now) (view c.args.file.now)
     work.tries c.args.tries (ap (λ (f : LentFile). view f.file.now) same.0) same.1 same.2 h)
     c.trace_opened.ensures.traced
