@@ -15,14 +15,17 @@ use crate::{AbortLine, Cause};
 use std::alloc::AllocError;
 use std::fmt::Write;
 use sto_lang::{Decl, Thread};
+use sto_type::Home;
 
-fn push_part(out: &mut String, decls: &[Decl], object: u32, part: u32) -> Result<(), AllocError>
+/// Adds a part, by the name of its object and its number there. Where no object has the number, the name is empty.
+pub fn push_part(out: &mut String, decls: &[Decl], home: Home) -> Result<(), AllocError>
     ensures text { OnOk result (string_bytes out.new ≡ string_bytes out.old
-        ++ part_text (part_by_home (map declaration decls.now) (object, part))) }
-    ensures short { part < 2 ^ 64 }
+        ++ part_text (part_by_home (map declaration decls.now) (home_pair home))) }
+    ensures short { home.local < 2 ^ 64 }
 {
+    let Home { object, local } = home;
     let name = object_name(decls, object);
-    write!(out, "{name} {part}")
+    write!(out, "{name} {local}")
 }
 
 fn push_writer(out: &mut String, by: u32) -> Result<(), AllocError>
@@ -42,11 +45,11 @@ fn push_cause(out: &mut String, decls: &[Decl], why: Cause) -> Result<(), AllocE
     match why {
         Cause::Locked { home } => {
             out.push_str("locked ")?;
-            push_part(out, decls, home.object, home.local)
+            push_part(out, decls, home)
         }
         Cause::Changed { home, by } => {
             out.push_str("changed ")?;
-            push_part(out, decls, home.object, home.local)?;
+            push_part(out, decls, home)?;
             push_writer(out, by)
         }
     }

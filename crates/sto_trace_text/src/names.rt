@@ -1,14 +1,12 @@
-//! The names of threads, objects and parts.
-ghost use Rattle.std.specs.Prelude.{◌≡◌, find, ◌==◌, ◌++◌, OnOk, string_bytes, map, option_copied, slice_get, unwrap_or};
-ghost use Rattle.sto_lang.specs.Objects.{with_number};
-ghost use Rattle.sto_lang.specs.Views.{declaration, names_of};
-ghost use Rattle.sto_report_spec.specs.Aborts.{name_of};
+//! The names of threads and parts.
+ghost use Rattle.std.specs.Prelude.{◌≡◌, ◌++◌, OnOk, string_bytes, map, slice_get, unwrap_or};
+ghost use Rattle.sto_lang.specs.Views.{names_of};
 ghost use Rattle.sto_report_spec.specs.Report.{name_at};
+ghost use Rattle.sto_journal.specs.Journals.{home_pair};
 ghost use Rattle.sto_trace_text.specs.Texts.{part_at};
-ghost use Rattle.sto_trace_text.specs.Named.{named, pair_of};
+ghost use Rattle.sto_trace_text.specs.Named.{named};
 
 use std::alloc::AllocError;
-use std::fmt::Write;
 use sto_lang::{Decl, Thread};
 use sto_type::Home;
 
@@ -30,27 +28,9 @@ pub(crate) fn thread_name(threads: &[Thread], number: u32) -> &str
     }
 }
 
-// The object with a number.
-fn decl_with(decls: &[Decl], number: u32) -> Option<&Decl>
-    ensures { option_copied result ≡ find (λ d. d.number == number) decls.now }
-{
-    decls.iter().find(|decl| decl.number == number)
-}
-
-// The name of the object with a number; of none, nothing.
-#[tactic(auto, using(sto_journal::proofs::Objects::found, sto_journal::proofs::Objects::not_found))]
-fn object_name(decls: &[Decl], number: u32) -> &str
-    ensures { result.now ≡ name_of (with_number number (map declaration decls.now)) }
-{
-    match decl_with(decls, number) {
-        Some(decl) => decl.name.as_str(),
-        None => "",
-    }
-}
-
-// The object and the number there of a part.
+// The home of a part; of none, the first part of object 0.
 fn home_at(homes: &[Home], part: u32) -> Home
-    ensures { pair_of result ≡ unwrap_or (slice_get (map pair_of homes.now) part) (0, 0) }
+    ensures { home_pair result ≡ unwrap_or (slice_get (map home_pair homes.now) part) (0, 0) }
 {
     match homes.get(part as usize) {
         Some(home) => *home,
@@ -65,8 +45,5 @@ fn home_at(homes: &[Home], part: u32) -> Home
 pub(crate) fn push_part(out: &mut String, names: &Names<'_>, part: u32) -> Result<(), AllocError>
     ensures { OnOk result (string_bytes out.new ≡ string_bytes out.old ++ part_at (named names.now) part) }
 {
-    let home = home_at(names.homes, part);
-    let name = object_name(names.decls, home.object);
-    let local = home.local;
-    write!(out, "{name} {local}")
+    sto_journal::push_part(out, names.decls, home_at(names.homes, part))
 }
