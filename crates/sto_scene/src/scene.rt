@@ -28,6 +28,7 @@ fn thread_names(alloc: Global, threads: &[Thread]) -> Result<List<Text>, NoMemor
 }
 
 fn part_names(alloc: Global, decls: &[Decl], homes: &[Home]) -> Result<List<Text>, NoMemory>
+    requires { HaveNames (map declaration decls.now) }
     ensures { IfOk result (λ names. bytes_of names.items ≡ map (name_of_part (map declaration decls.now)) (map home_pair homes.now)) }
 {
     if homes.len() >= u32::MAX as usize {
