@@ -27,7 +27,7 @@ pub struct Feeding {
 }
 
 /// What the checker is asked by words none of which is refused.
-fn checking_from(alloc: Global, words: &[&str]) -> Result<Option<Checking>, NoMemory>
+pub(crate) fn checking_from(alloc: Global, words: &[&str]) -> Result<Option<Checking>, NoMemory>
     requires { list_any is_refused (map (λ word. word.now) words.now) ≡ false }
     ensures range { IfOk result (λ c. IfSome c HasTries) }
     ensures asked { IfOk result (λ c. c ≡ option_and_then check_of (given_by check_takes (map (λ word. word.now) words.now))) }

@@ -3,8 +3,9 @@ ghost use Rattle.std.specs.Prelude.{◌≡◌, ◌≤◌, IfOk, IfSome, false, i
 ghost use Rattle.std.specs.List.{list_any};
 ghost use Rattle.std.specs.Option.{option_and_then, option_map};
 ghost use Rattle.sto_args.specs.Given.{given_by, is_refused};
-ghost use Rattle.sto_args.specs.Commands.{HasThreads, HasRange, command_in, command_from, run_takes, run_of, step_takes, step_of, upgrade_of, gen_takes, gen_of, bench_takes, bench_of, threads_of, tries_of, decimal_of};
+ghost use Rattle.sto_args.specs.Commands.{HasThreads, HasRange, command_in, command_from, run_takes, run_of, step_takes, step_of, trace_takes, trace_of, upgrade_of, gen_takes, gen_of, bench_takes, bench_of, threads_of, tries_of, decimal_of};
 
+use crate::asked::{Checking, checking_from};
 use crate::grammar::{bench_grammar, gen_grammar, matches_in, run_grammar, step_grammar};
 use crate::number::{decimal_of, number_in};
 use crate::word::{as_options, has_flag_value, has_refused};
@@ -26,6 +27,10 @@ pub enum Command {
     Step {
         tries: u32,
         json: bool,
+    },
+    /// Reads a script, runs it as `Step` does, and prints a line for each event.
+    Trace {
+        tries: u32,
     },
     /// Reads a script and prints it in the newest version of the language.
     Upgrade,
@@ -120,6 +125,17 @@ fn step(alloc: Global, words: &[&str]) -> Result<Option<Command>, NoMemory>
     Ok(Some(Command::Step { tries, json }))
 }
 
+fn trace(alloc: Global, words: &[&str]) -> Result<Option<Command>, NoMemory>
+    requires { list_any is_refused (map (λ word. word.now) words.now) ≡ false }
+    ensures range { IfOk result (λ c. IfSome c HasRange) }
+    ensures command { IfOk result (λ c. c ≡ option_and_then trace_of (given_by trace_takes (map (λ word. word.now) words.now))) }
+{
+    match checking_from(alloc, words)? {
+        Some(Checking { tries }) => Ok(Some(Command::Trace { tries })),
+        None => Ok(None),
+    }
+}
+
 fn upgrade(words: &[&str]) -> Option<Command>
     ensures range { IfSome result HasRange }
     ensures command { result ≡ upgrade_of (map (λ word. word.now) words.now) }
@@ -174,6 +190,7 @@ fn bench(alloc: Global, words: &[&str]) -> Result<Option<Command>, NoMemory>
 /// |---|---|
 /// | `run [--threads N] [--tries N] [--json]` | `Run`, with 1 to 16 threads, with 1 to 64 tries, and 64 where none is given, and with the form of the report |
 /// | `step [--tries N] [--json]` | `Step`, with tries and a form as for `Run` |
+/// | `trace [--tries N]` | `Trace`, with tries as for `Run` |
 /// | `upgrade` | `Upgrade` |
 /// | `gen NUMBER` | `Gen`, with a number of 64 bits |
 /// | `bench NUMBER [--threads N]` | `Bench`, with a number of 64 bits, and with threads as for `Run` |
@@ -206,6 +223,7 @@ fn command_from(alloc: Global, word: &str, options: &[&str]) -> Result<Option<Co
     match word {
         "run" => run(alloc, options),
         "step" => step(alloc, options),
+        "trace" => trace(alloc, options),
         "upgrade" => Ok(upgrade(options)),
         "gen" => generate(alloc, options),
         "bench" => bench(alloc, options),

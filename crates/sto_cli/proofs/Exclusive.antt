@@ -1,20 +1,24 @@
 -- A command prints a text for an input, or the input has a fault.
-use Rattle.std.proofs.Common.{◌≡◌, ◌<◌, ℕ, List, refl, sym, ap, ◌∙◌, arith, true, Ok, true≢false}
+use Rattle.std.proofs.Common.{◌≡◌, ◌<◌, ℕ, List, refl, sym, ap, ◌∙◌, arith, true, Result, Ok, true≢false}
 use Rattle.std.specs.Result.{is_ok}
 use Rattle.sto_lang.specs.Files.{file_of}
 use Rattle.sto_lang.specs.Scripts.{File}
+use Rattle.sto_lang.specs.declared.fault.ScriptFault.{ScriptFault}
 use Rattle.sto_args.specs.declared.command.Command.{Command}
-use Rattle.sto_args.specs.declared.command.Command.TheVariants.{Run, Step, Upgrade, Gen, Bench}
+use Rattle.sto_args.specs.declared.command.Command.TheVariants.{Run, Step, Trace, Upgrade, Gen, Bench}
 use Rattle.sto_cli_common.specs.declared.refusal.InputFault.{InputFault}
-use Rattle.sto_cli_common.specs.declared.refusal.InputFault.TheVariants.{Script, NoReport}
+use Rattle.sto_cli_common.specs.declared.refusal.InputFault.TheVariants.{Script, NoReport, LongTrace}
 use Rattle.sto_cli_common.specs.Statuses.{done_status}
 use Rattle.sto_cli_common.proofs.Causes.{IsExclusive}
+use Rattle.sto_lang.specs.Drafts.{transaction_count}
+use Rattle.sto_cli.specs.Traces.{IsTraceable, IsTraceFault}
 use Rattle.sto_cli.specs.Outputs.{IsOutput, IsScriptFault, HasFault}
 use Rattle.sto_cli.specs.Programs.{reads_script, program}
 
 reads : (command : Command) (bytes : List ℕ) (fault : InputFault) → HasFault command bytes fault → reads_script command ≡ true
 reads (Run threads tries json) bytes fault h = refl
 reads (Step tries json) bytes fault h = refl
+reads (Trace tries) bytes fault h = refl
 reads Upgrade bytes fault h = refl
 reads (Gen number) bytes fault h = absurd h
 reads (Bench number threads) bytes fault h = absurd h
@@ -22,10 +26,23 @@ reads (Bench number threads) bytes fault h = absurd h
 pub no_fault : (bytes : List ℕ) (file : File) (fault : InputFault) → file_of bytes ≡ Ok file → IsScriptFault bytes fault → ⊥
 no_fault bytes file (Script fault) e f = true≢false (ap is_ok (sym e ∙ f))
 no_fault bytes file NoReport e f = f
+no_fault bytes file LongTrace e f = f
+
+same_file : (x y : File) → ◌≡◌ {A = Result File ScriptFault} (Ok x) (Ok y) → x ≡ y
+same_file x y e = cc
+
+-- a file that is traced has few transactions, and the bytes are one file alone
+no_trace_fault : (bytes : List ℕ) (file : File) (fault : InputFault) → IsTraceable bytes file → IsTraceFault bytes fault → ⊥
+no_trace_fault bytes file (Script fault) h f = true≢false (ap is_ok (sym h.0 ∙ f))
+no_trace_fault bytes file NoReport h f = f
+no_trace_fault bytes file LongTrace h f =
+    let same = ap (λ (g : File). transaction_count g.threads) (same_file file f.0 (sym h.0 ∙ f.1)) in
+    let few = h.1 in let many = f.2 in omega (arith, same, few, many)
 
 faultless : (command : Command) (bytes text : List ℕ) (fault : InputFault) → IsOutput command bytes text → HasFault command bytes fault → ⊥
 faultless (Run threads tries json) bytes text fault h f = no_fault bytes h.0 fault h.1 f
 faultless (Step tries json) bytes text fault h f = no_fault bytes h.0 fault h.1 f
+faultless (Trace tries) bytes text fault h f = no_trace_fault bytes h.0 fault h.1 f
 faultless Upgrade bytes text fault h f = no_fault bytes h.0 fault h.1 f
 faultless (Gen number) bytes text fault h f = f
 faultless (Bench number threads) bytes text fault h f = f

@@ -1,3 +1,5 @@
 pub mod Reports
 pub mod Reading
 pub mod Exclusive
+pub mod Counted
+pub mod Lines

@@ -1,3 +1,4 @@
+pub mod Traces
 pub mod Outputs
 pub mod Programs
 pub use Rattle.sto_store.specs.Stores

@@ -6,6 +6,7 @@
 
 mod answer;
 mod top;
+mod traced;
 mod work;
 
 pub use answer::{leave, report, workers_for};

@@ -13,6 +13,8 @@ pub enum InputFault {
     Script(ScriptFault),
     /// A report must follow the script, and no line is `report`.
     NoReport,
+    /// A trace is asked, and the script has too many transactions for one.
+    LongTrace,
 }
 
 /// Why a call of a program was refused.

@@ -15,3 +15,4 @@ pub mod ObjectCalls
 pub mod Entire
 pub mod RunJournals
 pub mod Turns
+pub mod TracedRuns

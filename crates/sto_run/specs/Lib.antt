@@ -2,6 +2,7 @@ pub mod Lawful
 pub mod Runnable
 pub mod Alone
 pub mod OfRecords
+pub mod Traced
 pub use Rattle.sto_plain.specs.Passes
 pub use Rattle.sto_store.specs.Stores
 pub use Rattle.sto_transaction.specs.Plain
@@ -16,3 +17,4 @@ pub use Rattle.sto_run_threads.specs.Told
 pub use Rattle.sto_run_threads.specs.Taken
 pub use Rattle.sto_run_threads.specs.Worked
 pub use Rattle.sto_run_threads.specs.Runs
+pub use Rattle.sto_run_steps.specs.Logged

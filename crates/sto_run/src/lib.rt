@@ -9,6 +9,7 @@ mod journal;
 mod opened;
 mod step;
 mod stored;
+mod traced;
 mod whole;
 
 pub use file::{run_file, run_workload};
@@ -17,4 +18,5 @@ pub use opened::OpenedRun;
 pub use step::step_file;
 pub use sto_run_threads::{Gate, LentFile, NoGate, Workload};
 pub use stored::objects_of;
+pub use traced::{TracedRun, trace_file};
 pub use whole::{homes_of, opening_of, rows_of};

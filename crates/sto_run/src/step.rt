@@ -7,6 +7,7 @@ ghost use Rattle.sto_serializability.specs.Meanings.{updating_by};
 ghost use Rattle.sto_store.specs.Stores.{means};
 ghost use Rattle.sto_run.specs.Lawful.{IsLawfulJournal};
 ghost use Rattle.sto_run.specs.Alone.{RanAlone};
+ghost use Rattle.sto_run.specs.Traced.{turns_in};
 
 use crate::opened::OpenedRun;
 use crate::stored::objects_of;
@@ -20,10 +21,11 @@ use sto_run_threads::{LentFile, NoGate, RetryTurn};
 use sto_script::ScriptBody;
 use sto_transaction::Machine;
 
-// The entries of a file's schedule; none where it has no schedule.
-fn turns_of(file: &File) -> &[Turns]
+/// The entries of a file's schedule; none where it has no schedule.
+pub(crate) fn turns_of(file: &File) -> &[Turns]
     requires { IsSchedule (length (view file.now).threads) (view file.now).schedule }
-    ensures { All (λ turns. turns.thread < length (view file.now).threads) result.now }
+    ensures inside { All (λ turns. turns.thread < length (view file.now).threads) result.now }
+    ensures same { result.now ≡ turns_in (view file.now).schedule }
 {
     match &file.schedule {
         Some(schedule) => schedule.as_slice(),

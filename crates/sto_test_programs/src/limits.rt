@@ -72,3 +72,22 @@ impl Limit {
         Ok(at.status == 0 && past.status == 3 && past.said == says)
     }
 }
+
+// A script of one thread with so many transactions.
+fn script_of(alloc: Global, transactions: u32) -> Result<String, AllocError> {
+    let mut text = String::from_str(alloc, "box a 0\nthread\n")?;
+    for _ in 0..transactions {
+        text.push_str("begin\nx = get a\ncommit\n")?;
+    }
+    Ok(text)
+}
+
+/// Whether a script of 256 transactions is traced, and one of 257 is refused.
+pub fn limits_traces<R: Threads + Sync>(threads: &R, alloc: Global) -> Result<bool, AllocError> {
+    let at = script_of(alloc, 256)?;
+    let past = script_of(alloc, 257)?;
+    let at = outcome_of(threads, alloc, "trace", at.as_str(), &NoGate)?;
+    let past = outcome_of(threads, alloc, "trace", past.as_str(), &NoGate)?;
+    let says = "sto: line 0: too many transactions\n";
+    Ok(at.status == 0 && past.status == 3 && past.said == says)
+}

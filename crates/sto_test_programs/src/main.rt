@@ -1,5 +1,5 @@
 //! Whole runs of the programs: every example and worked case of the pages, the reports of their scripts in both versions and both
-//! forms, attempts that meet event by event, runs on workers under gates, replays of what four workers did, and sums that no schedule changes.
+//! forms, the traces of the examples, attempts that meet event by event, runs on workers under gates, replays of what four workers did, and sums that no schedule changes.
 #![tactic(auto)]
 
 mod gates;
@@ -14,12 +14,14 @@ mod report;
 mod reports;
 mod stopped;
 mod sums;
+mod traces;
 
 use std::io;
 
 fn main(rt: HostRuntime) -> io::Result<()> {
     pages::go_over_all(&rt, &rt)?;
     reports::compare_all(&rt, &rt)?;
+    traces::compare_all(&rt, &rt)?;
     stopped::stop_at_each(&rt, &rt)?;
     held::hold_all(&rt, &rt)?;
     sums::sum_all(&rt, &rt)

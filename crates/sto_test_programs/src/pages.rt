@@ -1,6 +1,6 @@
 //! The examples and worked cases that the pages show, each row of their tables of mistakes and of faults, and scripts at the
 //! limits of version 2.
-use crate::limits::LIMITS;
+use crate::limits::{LIMITS, limits_traces};
 use crate::outcome::outcome_of;
 use crate::page::{Example, Fault, Mistake, Page};
 use std::alloc::AllocError;
@@ -146,6 +146,9 @@ pub fn go_over_all<R: Threads + Sync>(rt: &HostRuntime, threads: &R) -> io::Resu
         if !limit.holds(threads, rt.alloc())? {
             println!(rt; "the limit on {} is another", limit.name)?;
         }
+    }
+    if !limits_traces(threads, rt.alloc())? {
+        println!(rt; "the limit on transactions of a trace is another")?;
     }
     Ok(())
 }

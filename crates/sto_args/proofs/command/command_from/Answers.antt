@@ -14,6 +14,9 @@ run-requires c = sym (list_any-map is_refused (λ option. option.now) c.args.opt
 pub generate-requires : goal.generate-requires
 generate-requires c = sym (list_any-map is_refused (λ option. option.now) c.args.options.now) ∙ sym c.has_refused.ensures ∙ c.if-has_refused.false
 
+pub trace-requires : goal.trace-requires
+trace-requires c = sym (list_any-map is_refused (λ option. option.now) c.args.options.now) ∙ sym c.has_refused.ensures ∙ c.if-has_refused.false
+
 pub step-requires : goal.step-requires
 step-requires c = sym (list_any-map is_refused (λ option. option.now) c.args.options.now) ∙ sym c.has_refused.ensures ∙ c.if-has_refused.false
 

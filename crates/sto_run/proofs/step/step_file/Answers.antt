@@ -20,6 +20,12 @@ step_threads-requires-clause-opens c = c.in_ok-run.ensures.runnable.opens
 pub step_threads-requires-clause-threads : goal.step_threads-requires-clause-threads
 step_threads-requires-clause-threads c = few_threads (view c.in_ok-run.run'.work.workload.file.now) c.in_ok-run.ensures.runnable.sound
 
+pub step_threads-requires-clause-schedule : goal.step_threads-requires-clause-schedule
+step_threads-requires-clause-schedule c = c.turns_of.ensures.inside
+
+pub journal-requires-clause-finished : goal.journal-requires-clause-finished
+journal-requires-clause-finished c = λ κs within. c.in_ok-finished.ensures.finished
+
 pub journal-requires-clause-sound : goal.journal-requires-clause-sound
 journal-requires-clause-sound c = λ κs within. c.in_ok-run.ensures.runnable.sound
 

@@ -1,0 +1,86 @@
+//! The text of `trace`: a line for each event of a run.
+ghost use Rattle.std.specs.Prelude.{◌≡◌, ◌<◌, ◌^◌, length, map, sum, Some, IfOk, IfErr};
+ghost use Rattle.sto_args.specs.declared.command.Command.TheVariants as commands;
+ghost use Rattle.sto_lang.specs.Objects.{HaveNames};
+ghost use Rattle.sto_lang.specs.Sound.{IsFromTo};
+ghost use Rattle.sto_lang.specs.Views.{file as view};
+ghost use Rattle.sto_report_spec.specs.Named.{AreNames};
+ghost use Rattle.sto_journal.specs.Journals.{home_pair};
+ghost use Rattle.sto_run.specs.Logged.{kept};
+ghost use Rattle.sto_cli.specs.Traces.{IsTraceable, IsTraceRefusal, AreLinesOf};
+ghost use Rattle.sto_cli.specs.Outputs.{IsOutput};
+
+use std::alloc::Global;
+use sto_cli_common::{InputFault, Refusal, file_in};
+use sto_lang::{File, Text, Thread};
+use sto_part::NoMemory;
+use sto_run::{TracedRun, trace_file};
+use sto_trace::Step;
+use sto_trace_text::Names;
+use sto_type::Home;
+
+// How many transactions a script may have that is traced.
+const MOST_TRACED: u64 = 256;
+
+// How many transactions script threads have.
+fn transactions_of(threads: &[Thread]) -> u64
+    requires { length threads.now < 2 ^ 32 }
+    ensures { result ≡ sum (map (λ thread. length thread.scripts.items) threads.now) }
+{
+    threads
+        .iter()
+        .map(|thread| u64::from(thread.scripts.len()))
+        .sum()
+}
+
+// The script that these bytes are, where it can be traced.
+fn traceable_in(alloc: Global, bytes: &[u8]) -> Result<File, Refusal>
+    ensures file { IfOk result (λ file. IsTraceable bytes.now (view file)) }
+    ensures fault { IfErr result (λ e. IsTraceRefusal e bytes.now) }
+{
+    let file = file_in(alloc, bytes)?;
+    if transactions_of(file.threads.as_slice()) > MOST_TRACED {
+        return Err(Refusal::Input(InputFault::LongTrace));
+    }
+    Ok(file)
+}
+
+// The lines of these steps of a run of a file, with these homes of parts.
+fn text_of(alloc: Global, file: &File, homes: &[Home], steps: &[Step]) -> Result<Text, NoMemory>
+    requires objects { HaveNames (view file.now).declarations }
+    requires threads { AreNames (view file.now).names }
+    ensures { IfOk result (λ text. AreLinesOf (view file.now) (map home_pair homes.now) (Some steps.now) text.items) }
+{
+    let threads = file.threads.as_slice();
+    let decls = file.decls.as_slice();
+    let names = Names {
+        threads,
+        decls,
+        homes,
+    };
+    let text = sto_trace_text::trace_text(alloc, &names, steps)?;
+    Text::of_string(text)
+}
+
+// The lines of the steps of a run of a file, where they were kept.
+fn lines_of(alloc: Global, file: &File, run: &TracedRun) -> Result<Text, NoMemory>
+    requires objects { HaveNames (view file.now).declarations }
+    requires threads { AreNames (view file.now).names }
+    ensures { IfOk result (λ text. AreLinesOf (view file.now) (map home_pair run.now.homes.items) (kept run.now.steps) text.items) }
+{
+    match &run.steps {
+        Some(steps) => text_of(alloc, file, run.homes.as_slice(), steps.as_slice()),
+        None => Err(NoMemory),
+    }
+}
+
+/// What `trace` prints for these bytes. `NoMemory` comes also where the run makes more events than a run keeps.
+pub(crate) fn trace_text(alloc: Global, bytes: &[u8], tries: u32) -> Result<Text, Refusal>
+    requires { IsFromTo 1 64 tries }
+    ensures text { IfOk result (λ text. IsOutput (commands.Trace tries) bytes.now text.items) }
+    ensures fault { IfErr result (λ e. IsTraceRefusal e bytes.now) }
+{
+    let file = traceable_in(alloc, bytes)?;
+    let run = trace_file(alloc, &file, tries)?;
+    Ok(lines_of(alloc, &file, &run)?)
+}

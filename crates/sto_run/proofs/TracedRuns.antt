@@ -1,0 +1,36 @@
+-- The steps of a run, said of its file.
+use Rattle.std.specs.Prelude.{Some}
+use Rattle.std.proofs.Common.{◌≡◌, ℕ, List, [], length, max, subst}
+use Rattle.sto_core.specs.History.{Contents}
+use Rattle.sto_core.specs.Opened.{opened_core}
+use Rattle.sto_lang.specs.Scripts.{File}
+use Rattle.sto_lang.specs.declared.file.Turns.{Turns}
+use Rattle.sto_attempt_facts.specs.Records.{Record}
+use Rattle.sto_script.specs.declared.body.ScriptBody.{ScriptBody}
+use Rattle.sto_transaction.specs.declared.machine.Machine.{Machine}
+use Rattle.sto_journal.specs.declared.journal.Journal.{Journal}
+use Rattle.sto_type.specs.Traits.{OfType}
+use Rattle.sto_run_threads.specs.Plans.{plan_of}
+use Rattle.sto_run_steps.specs.Logged.{Log}
+use Rattle.sto_run_steps.specs.Proceeding.{heard_by}
+use Rattle.sto_run_steps.specs.Turning.{WereStepped}
+use Rattle.sto_run.specs.OfRecords.{IsOfRecords}
+use Rattle.sto_run.specs.Traced.{IsTraced, turns_in}
+
+-- a run by a schedule that is the file's, on words that open with what the objects open with
+pub traced_by : {T : Type 0} (t : OfType T) (ty : T) (file : File) (tries : ℕ) (journal : Journal) (schedule : List Turns) (opening : Contents) (rs : List Record) (steps : Log)
+    → schedule ≡ turns_in file.schedule → opening ≡ (t.meaning ty).opened
+    → WereStepped {M = Machine T ScriptBody} (plan_of t ty file tries) t.valid heard_by schedule (opened_core (t.sizes ty) opening (max 1 (length file.threads))) (Some []) rs steps
+    → IsOfRecords file (t.meaning ty).homes rs journal → IsTraced t ty file tries journal steps
+traced_by {T} t ty file tries journal schedule opening rs steps same opens stepped told = record {
+  records = rs;
+  stepped =
+      subst (λ (s : List Turns). WereStepped {M = Machine T ScriptBody} (plan_of t ty file tries) t.valid heard_by s (opened_core (t.sizes ty) (t.meaning ty).opened (max 1 (length file.threads))) (Some []) rs steps) same
+      (subst (λ (c : Contents). WereStepped {M = Machine T ScriptBody} (plan_of t ty file tries) t.valid heard_by schedule (opened_core (t.sizes ty) c (max 1 (length file.threads))) (Some []) rs steps) opens stepped);
+  told = told;
+}
+
+-- what is so of the objects, the file and the number of tries that the work of a run has is so of those that it was opened with
+pub moved : {T : Type 0} (P : T → File → ℕ → Type 0) (x ty : T) (f file : File) (k tries : ℕ) → f ≡ file → x ≡ ty → k ≡ tries → P x f k → P ty file tries
+moved {T} P x ty f file k tries same_file same_objects same_tries h =
+    subst (λ (n : ℕ). P ty file n) same_tries (subst (λ (y : T). P y file k) same_objects (subst (λ (g : File). P x g k) same_file h))
