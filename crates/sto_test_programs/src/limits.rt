@@ -98,21 +98,20 @@ fn refuses<R: Threads + Sync>(
     Ok(outcome.status == 3 && outcome.said == says)
 }
 
-/// Whether the command, `trace` or `draw`, takes a script of 256 transactions, and refuses one of 257, and one of so many whose run
-/// makes too many events. Each of these makes 1,537.
-pub fn limits_runs<R: Threads + Sync>(
+/// Whether the command, `trace` or `draw`, takes a script of 256 transactions, and refuses one of 257.
+pub fn limits_transactions<R: Threads + Sync>(
     threads: &R,
     alloc: Global,
     command: &str,
-    too_many: u32,
 ) -> Result<bool, AllocError> {
     let largest = script_of(alloc, 256, 1)?;
     let largest = outcome_of(threads, alloc, command, largest.as_str(), &NoGate)?;
-    let transactions = "sto: line 0: too many transactions\n";
-    let events = "sto: line 0: too many events\n";
-    Ok(
-        largest.status == 0
-            && refuses(threads, alloc, command, (257, 1), transactions)?
-            && refuses(threads, alloc, command, (too_many, 512), events)?,
-    )
+    let says = "sto: line 0: too many transactions\n";
+    Ok(largest.status == 0 && refuses(threads, alloc, command, (257, 1), says)?)
+}
+
+/// Whether `draw` refuses a script whose run makes more than 20,000 events: each of its transactions makes 1,537.
+pub fn limits_events<R: Threads + Sync>(threads: &R, alloc: Global) -> Result<bool, AllocError> {
+    let says = "sto: line 0: too many events\n";
+    refuses(threads, alloc, "draw", (14, 512), says)
 }

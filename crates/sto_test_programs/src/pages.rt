@@ -1,6 +1,6 @@
 //! The examples and worked cases that the pages show, each row of their tables of mistakes and of faults, and scripts at the
 //! limits of version 2.
-use crate::limits::{LIMITS, limits_runs};
+use crate::limits::{LIMITS, limits_events, limits_transactions};
 use crate::outcome::outcome_of;
 use crate::page::{Example, Fault, Mistake, Page};
 use std::alloc::AllocError;
@@ -186,11 +186,13 @@ pub fn go_over_all<R: Threads + Sync>(rt: &HostRuntime, threads: &R) -> io::Resu
             println!(rt; "the limit on {} is another", limit.name)?;
         }
     }
-    // 66 transactions make more than 100,000 events, and 14 more than 20,000.
-    for (command, too_many) in [("trace", 66), ("draw", 14)] {
-        if !limits_runs(threads, rt.alloc(), command, too_many)? {
-            println!(rt; "the limits of {command} are others")?;
+    for command in ["trace", "draw"] {
+        if !limits_transactions(threads, rt.alloc(), command)? {
+            println!(rt; "the limit on transactions of {command} is another")?;
         }
+    }
+    if !limits_events(threads, rt.alloc())? {
+        println!(rt; "the limit on events of a picture is another")?;
     }
     Ok(())
 }
