@@ -95,7 +95,7 @@ fn refuses<R: Threads + Sync>(
 ) -> Result<bool, AllocError> {
     let script = script_of(alloc, transactions, places)?;
     let outcome = outcome_of(threads, alloc, command, script.as_str(), &NoGate)?;
-    Ok(outcome.status == 3 && outcome.said == says)
+    Ok(outcome.status == 3 && outcome.said.as_str() == says)
 }
 
 /// Whether the command, `trace` or `draw`, takes a script of 256 transactions, and refuses one of 257.
