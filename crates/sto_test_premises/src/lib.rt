@@ -22,7 +22,8 @@ ghost use Rattle.sto_test_premises.specs.Premises.{Premises};
 pub fn lost_update() -> &'static str
     ensures script { file_of script ≡ Ok file }
     ensures premises { Premises valid [] box.opened box file 64 lost.closed lost.view lost.records lost.ordered }
-    ensures lawful { (form : ReportForm) → IsLawfulIn form (updating_by (λ _. box)) file 64 (made_in form file lost.order lost.told_aborts) }
+    ensures lawful { (form : ReportForm) → IsLawfulIn form (updating_by (λ _. box)) file 64
+        (made_in form file lost.order lost.told_aborts) }
     ensures text { result.now ≡ made_in Text file lost.order lost.told_aborts }
 {
     "1 t1.1 commit 0 ok\n2 t0.1 commit 1 ok\nabort t0.1 at 0 saw 0 ok changed a 0 by 1\nstate\na = 2\n"
@@ -33,7 +34,8 @@ pub fn lost_update() -> &'static str
 pub fn locked_out() -> &'static str
     ensures script { file_of script ≡ Ok file }
     ensures premises { Premises valid [] box.opened box file 1 locked.closed locked.view locked.records locked.ordered }
-    ensures lawful { (form : ReportForm) → IsLawfulIn form (updating_by (λ _. box)) file 1 (made_in form file locked.order locked.told_aborts) }
+    ensures lawful { (form : ReportForm) → IsLawfulIn form (updating_by (λ _. box)) file 1
+        (made_in form file locked.order locked.told_aborts) }
     ensures text { result.now ≡ made_in Text file locked.order locked.told_aborts }
 {
     "1 t0.1 commit 0 ok\n2 t1.1 commit 1 ok\nabort t1.1 at 0 saw locked a 0\nstate\na = 2\n"
