@@ -7,15 +7,13 @@ use Rattle.std.specs.Cmp.Lexicographic.{slice_cmp}
 use Rattle.std.specs.Str.{bytes_eq}
 use Rattle.std.specs.String.{string_cmp}
 use Rattle.std.specs.Map.{lookup, keys_of}
-use Rattle.std.specs.BTreeMap.{BTreeMap, get_by_text, IsOrdered}
 use Rattle.std.specs.declared.string.String.{String}
 use Rattle.std.specs.declared.alloc.Global.{Global}
-use Rattle.std.proofs.Common.{◌≡◌, ◌+◌, ℕ, List, [], ◌∷◌, ◌++◌, length, map, refl, sym, ap, ◌∙◌, subst, arith, Bool, cond, true, false, inl, inr, zero-add, Less, Equal}
+use Rattle.std.proofs.Common.{◌≡◌, ◌+◌, ℕ, List, [], ◌∷◌, length, map, refl, sym, ap, ◌∙◌, subst, arith, cond, true, false, inl, inr, zero-add, Less, Equal}
 use Rattle.std.proofs.lemmas.Bool.{cases_Bool, cond-true, cond-false, both_ways, or_cases, or_left, or_right, false≢true, false_from_ne_true}
 use Rattle.std.proofs.lemmas.List.Sums.{sum_by-cons}
 use Rattle.std.proofs.lemmas.Slice.Eq.{bytes_eq-Decides}
 use Rattle.std.proofs.lemmas.Map.Text.{is_eq-slice_cmp}
-use Rattle.std.proofs.lemmas.Map.Keys.{sorted_head, sorted_tail}
 use Rattle.std.proofs.lemmas.Cmp.{tied_itself, nat_list_cmp_total}
 use Rattle.sto_explore.specs.Explored.{Found}
 use Rattle.sto_outcomes.specs.Outcomes.{leads_to, IsOutcome, AreRising}
@@ -23,7 +21,6 @@ use Rattle.sto_outcomes.specs.Tallied.{Ways, IsWay, AreWays, outcome_of}
 use Rattle.sto_outcomes.specs.declared.outcome.Reported.{Reported}
 use Rattle.sto_outcomes.specs.declared.outcome.Outcome.{Outcome}
 use Rattle.sto_outcomes.specs.declared.way.Way.{Way}
-use Rattle.sto_outcomes.proofs.Lists.{all_weaker}
 
 abbrev Entry : Type 0
 Entry = String Global × Way

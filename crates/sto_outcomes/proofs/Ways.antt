@@ -1,13 +1,13 @@
 -- One run more, and how runs lead to a report then.
 use Rattle.std.specs.List.{AllByRecursion}
-use Rattle.std.specs.Prelude.{count_by, nat_lt, Option, None, Some, string_bytes}
-use Rattle.std.proofs.Common.{◌≡◌, ◌≤◌, ◌<◌, ◌+◌, ℕ, List, [], ◌∷◌, ◌++◌, length, refl, sym, ap, ◌∙◌, subst, arith, Bool, cond, true, false, inl, inr, append_assoc, add-zero, zero-add}
+use Rattle.std.specs.Prelude.{count_by, nat_lt, Option, None, Some}
+use Rattle.std.proofs.Common.{◌≡◌, ◌<◌, ◌+◌, ℕ, List, [], ◌∷◌, ◌++◌, length, refl, sym, ap, ◌∙◌, subst, arith, cond, true, false, inl, inr, append_assoc, add-zero, zero-add}
 use Rattle.std.proofs.lemmas.Bool.{cases_lt, lt-ltb, le-ltb, cond-true, cond-false, both_ways}
 use Rattle.std.proofs.lemmas.List.Sums.{sum_by_push, sum_by-cons}
 use Rattle.sto_explore.specs.Explored.{Found}
 use Rattle.sto_explore.specs.declared.leg.Leg.{Leg}
 use Rattle.sto_outcomes.specs.Outcomes.{leads_to, NeedsAtLeast, AreFirstFewest}
-use Rattle.sto_outcomes.specs.Tallied.{fewer_of, HasOneMore, IsOneMore, IsWay}
+use Rattle.sto_outcomes.specs.Tallied.{fewer_of, IsOneMore, IsWay}
 use Rattle.sto_outcomes.specs.declared.outcome.Reported.{Reported}
 use Rattle.sto_outcomes.specs.declared.way.Way.{Way}
 use Rattle.sto_outcomes.proofs.Lists.{all_append, all_weaker}

@@ -1,7 +1,5 @@
-use Rattle.std.proofs.Common.{sym, ap, ◌∙◌, subst, map, List}
+use Rattle.std.proofs.Common.{sym, subst}
 use Rattle.sto_outcomes.specs.Outcomes.{AreRising}
-use Rattle.sto_outcomes.specs.Tallied.{outcome_of}
-use Rattle.sto_outcomes.specs.declared.outcome.Outcome.{Outcome}
 use Rattle.sto_outcomes.proofs.Listing.{AreListed, listed}
 use Rattle.sto_outcomes.proofs.tally.Tally.outcomes.Goals as goal
 
