@@ -3,11 +3,9 @@ use Rattle.std.specs.Prelude.{slice_index_or}
 use Rattle.std.specs.Fmt.{digits}
 use Rattle.std.specs.Int.{w64, int_wrap}
 use Rattle.std.specs.Int.RustNames.{FitsSigned}
-use Rattle.std.proofs.Common.{◌≡◌, ℕ, zero, suc, ℤ, pos, ◌<◌, ◌≤◌, List, [], ◌∷◌, length, None, refl, ap, ◌∙◌, sym, subst, arith, Bool, true, false, if◌then◌else◌, ◌&&◌, inl, Ok}
-use Rattle.sto_part.specs.declared.change.Change.TheVariants.{Put as PutValue}
+use Rattle.std.proofs.Common.{◌≡◌, ℕ, zero, suc, ℤ, pos, ◌<◌, ◌≤◌, List, [], ◌∷◌, length, None, refl, ap, ◌∙◌, sym, subst, arith, Bool, true, false, if◌then◌else◌, inl, Ok}
 use Rattle.sto_part.specs.Codes.{IsSignedCode}
 use Rattle.sto_part.specs.Parts.{part_of}
-use Rattle.sto_model.specs.Told.{Told}
 use Rattle.sto_model.specs.declared.shape.Shape.TheVariants.{Single}
 use Rattle.sto_lang.specs.Objects.{shapes_of}
 use Rattle.sto_lang.specs.Files.{file_of}
@@ -196,8 +194,3 @@ has_written v ticket pass found x y run there = record {
 pub at_most : (b : Bool) → (if b then 1 else 0) ≤ 1
 at_most true = omega arith
 at_most false = omega arith
-
-pub none_if : (a b : Bool) → (if a && (b && false) then 1 else 0) ≡ 0
-none_if true true = refl
-none_if true false = refl
-none_if false b = refl

@@ -1,7 +1,6 @@
 -- The run in which the second transaction finds the box locked meets all premises of the headline: each of its events is allowed, the
 -- words may be opened again, and its records are told of the view at the end.
-use Rattle.std.specs.Prelude.{filter}
-use Rattle.std.proofs.Common.{◌≡◌, ℕ, zero, suc, pos, ◌<◌, ◌≤◌, List, [], ◌∷◌, refl, arith, true, false, ◌==◌, ◌&&◌, inl}
+use Rattle.std.proofs.Common.{◌≡◌, ℕ, zero, suc, pos, ◌≤◌, [], ◌∷◌, refl, arith, Bool, true, false, if◌then◌else◌, ◌==◌, ◌&&◌, inl}
 use Rattle.std.proofs.lemmas.Bool.Decides.{nat_tests}
 use Rattle.std.proofs.lemmas.List.Elements.{All-from_recursion}
 use Rattle.std.proofs.lemmas.List.Sorted.{IsPermutation-refl}
@@ -14,7 +13,7 @@ use Rattle.sto_core.proofs.Lists.{each_one, each_append}
 use Rattle.sto_core.proofs.Opened.{opened_holds}
 use Rattle.sto_core.proofs.Reopening.{reopened_past, reopen_keeps}
 use Rattle.sto_report_spec.specs.Orders.{Place, IsOrder}
-use Rattle.sto_attempt_facts.specs.Records.{Record, is_finished, times_written}
+use Rattle.sto_attempt_facts.specs.Records.{Record, times_written}
 use Rattle.sto_attempt_facts.specs.Counted.{Follows, InThreads, aborted_times, finished_places, times_committed}
 use Rattle.sto_attempt_facts.specs.Told.{WasAborted}
 use Rattle.sto_serializability.specs.Finished.{IsRecord, HandsBack, AreFinished}
@@ -26,7 +25,7 @@ use Rattle.sto_test_premises.specs.Turns.{view_at}
 use Rattle.sto_test_premises.specs.Adding.{adding, file, box, valid, opened}
 use Rattle.sto_test_premises.specs.LockedOut.{first_turns, second_turns, third_turns, first_core, second_core, reopened, closed, view, won, locked_out, again, records, ordered}
 use Rattle.sto_test_premises.proofs.Turning.{AreTurns, may, turns_keep}
-use Rattle.sto_test_premises.proofs.Adding.{usable, box_opened, type_is, one, fits_1, fits_2, one_read, one_put, may_draw, get_touches, run_on_0, run_on_1, has_written, at_most, none_if}
+use Rattle.sto_test_premises.proofs.Adding.{usable, box_opened, type_is, one, fits_1, fits_2, one_read, one_put, may_draw, get_touches, run_on_0, run_on_1, has_written, at_most}
 
 -- Every turn is allowed, and the words may be closed and opened between them, so those at the end meet the rule, and their pass knows all
 
@@ -150,6 +149,11 @@ in_threads = (
     (All-from_recursion (λ (s : Record). again.place.0 ≡ s.place.0 → Follows again s) [] tt, tt),
   ),
 )
+
+none_if : (a b : Bool) → ◌≡◌ {A = ℕ} (if a && (b && false) then 1 else 0) 0
+none_if true true = refl
+none_if true false = refl
+none_if false b = refl
 
 -- one transaction alone has an aborted attempt
 few_of : (place : Place) → aborted_times place records ≤ 1

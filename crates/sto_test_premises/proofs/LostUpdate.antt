@@ -1,7 +1,7 @@
 -- The run in which the first to read loses meets all premises of the headline: each of its events is allowed, and its records are told
 -- of the view at the end.
 use Rattle.std.specs.Prelude.{filter}
-use Rattle.std.proofs.Common.{◌≡◌, ℕ, zero, suc, pos, ◌<◌, ◌≤◌, List, [], ◌∷◌, refl, subst, arith, true, false, ◌==◌, ◌&&◌, inl}
+use Rattle.std.proofs.Common.{◌≡◌, ℕ, zero, suc, pos, ◌≤◌, [], ◌∷◌, refl, subst, arith, true, false, ◌==◌, ◌&&◌, inl}
 use Rattle.std.proofs.lemmas.Bool.Decides.{nat_tests}
 use Rattle.std.proofs.lemmas.List.Elements.{All-from_recursion}
 use Rattle.std.proofs.lemmas.List.Sorted.{IsPermutation-swap}
