@@ -3,7 +3,8 @@ ghost use Rattle.std.specs.Prelude.{◌≡◌, map, IfOk};
 ghost use Rattle.sto_lang.specs.Views.{declaration};
 ghost use Rattle.sto_write.specs.Texts.{call_text};
 
-use crate::line::{Ask, decl_with, push_asked};
+use crate::line::{Ask, push_asked};
+use crate::object::decl_with;
 use std::alloc::Global;
 use sto_lang::{Arg, Decl, Names, Text};
 use sto_model::Call;
@@ -15,15 +16,16 @@ pub fn call_text(alloc: Global, decls: &[Decl], call: Call) -> Result<Text, NoMe
     ensures { IfOk result (λ text. text.items ≡ call_text (map declaration decls.now) call) }
 {
     let mut out = Text::new(alloc);
-    if let Some(decl) = decl_with(decls, call.object) {
-        let no_variables = Names::of(alloc, List::new(alloc))?;
-        let ask = Ask {
-            object: call.object,
-            code: call.code,
-            a: Arg::Num(call.a),
-            b: Arg::Num(call.b),
-        };
-        push_asked(&mut out, &no_variables, decl, ask)?;
-    }
+    let Some(decl) = decl_with(decls, call.object) else {
+        return Ok(out);
+    };
+    let no_variables = Names::of(alloc, List::new(alloc))?;
+    let ask = Ask {
+        object: call.object,
+        code: call.code,
+        a: Arg::Num(call.a),
+        b: Arg::Num(call.b),
+    };
+    push_asked(&mut out, &no_variables, decl, ask)?;
     Ok(out)
 }
