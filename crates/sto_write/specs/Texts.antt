@@ -3,6 +3,7 @@ use Rattle.std.specs.Prelude.{ℕ, ℤ, pos, List, [], ◌∷◌, ◌++◌, ◌=
 use Rattle.std.specs.Option.{option_map}
 use Rattle.std.specs.List.{join_with_byte}
 use Rattle.std.specs.Fmt.{signed_decimal}
+use Rattle.sto_model.specs.declared.call.Call.{Call}
 use Rattle.sto_model.specs.declared.shape.Shape.{Shape}
 use Rattle.sto_model.specs.declared.shape.Shape.TheVariants as shapes
 use Rattle.sto_part.specs.declared.pred.Test.{Test}
@@ -202,6 +203,14 @@ line_text form = join_with_byte 32 (form_words form) ++ 10 ∷ []
 
 abbrev pub text_of : File → List ℕ
 text_of file = flat_map line_text (lines_for file)
+
+-- a call as a statement: its arguments are numbers, and no variable takes its reply
+abbrev pub statement_of : Call → Statements
+statement_of call = Ask None call.object call.code (Num call.a) (Num call.b) Nothing
+
+-- the text of a call: the words of its statement
+abbrev pub call_text : List Declaration → Call → List ℕ
+call_text ds call = join_with_byte 32 (flat_map form_words (statement_lines ds [] (statement_of call)))
 
 -- the file with its version set to 2
 abbrev pub upgraded : File → File
