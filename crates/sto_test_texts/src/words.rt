@@ -65,20 +65,8 @@ const COMMANDS: &[(&[&str], Command)] = &[
             json: true,
         },
     ),
-    (
-        &["trace"],
-        Command::Trace {
-            tries: 64,
-            json: false,
-        },
-    ),
-    (
-        &["trace", "--tries=2", "--json"],
-        Command::Trace {
-            tries: 2,
-            json: true,
-        },
-    ),
+    (&["trace"], Command::Trace { tries: 64 }),
+    (&["trace", "--tries=2"], Command::Trace { tries: 2 }),
     (&["draw"], Command::Draw { tries: 64 }),
     (&["draw", "--tries", "2"], Command::Draw { tries: 2 }),
     (&["upgrade"], Command::Upgrade),
