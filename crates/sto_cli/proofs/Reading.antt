@@ -1,5 +1,5 @@
 -- Why no text of a command that reads a script was made.
-use Rattle.std.proofs.Common.{◌≡◌, ℕ, ◌<◌, List, [], ◌++◌, length, append-nil, refl, sym, ap, ◌∙◌, subst, true, Option, Ok, Err, true≢false}
+use Rattle.std.proofs.Common.{◌≡◌, ℕ, ◌<◌, List, ◌++◌, length, append-nil, refl, sym, ap, ◌∙◌, subst, true, Option, Ok, Err, true≢false}
 use Rattle.sto_io.specs.Told.{Takes, AtEnd}
 use Rattle.sto_lang.specs.Files.{file_of}
 use Rattle.sto_lang.specs.Scripts.{File}

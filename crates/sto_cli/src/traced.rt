@@ -1,9 +1,10 @@
 //! The scripts that can be traced, and the text of `trace`: a line for each event of a run.
-ghost use Rattle.std.specs.Prelude.{◌≡◌, ◌<◌, ◌^◌, length, map, sum, None, Some, IfOk, IfErr};
+ghost use Rattle.std.specs.Prelude.{◌≡◌, map, None, Some, IfOk, IfErr};
 ghost use Rattle.sto_args.specs.declared.command.Command.TheVariants as commands;
 ghost use Rattle.sto_cli_common.specs.declared.refusal.InputFault.TheVariants.{LongRun};
 ghost use Rattle.sto_lang.specs.Objects.{HaveNames};
-ghost use Rattle.sto_lang.specs.Sound.{IsFromTo};
+ghost use Rattle.sto_lang.specs.Drafts.{transaction_count};
+ghost use Rattle.sto_lang.specs.Sound.{IsSound, IsFromTo};
 ghost use Rattle.sto_lang.specs.Views.{file as view};
 ghost use Rattle.sto_report_spec.specs.Named.{AreNames};
 ghost use Rattle.sto_journal.specs.Journals.{home_pair};
@@ -13,7 +14,7 @@ ghost use Rattle.sto_cli.specs.Outputs.{IsOutput};
 
 use std::alloc::Global;
 use sto_cli_common::{InputFault, Refusal, file_in};
-use sto_lang::{File, Text, Thread};
+use sto_lang::{File, Text};
 use sto_part::NoMemory;
 use sto_run::{TracedRun, trace_file};
 use sto_trace::Step;
@@ -21,17 +22,18 @@ use sto_trace_text::Names;
 use sto_type::Home;
 
 // How many transactions a script may have that is traced or drawn.
-const MOST_TRACED: u64 = 256;
+const MOST_TRACED: u32 = 256;
 
-// How many transactions script threads have.
-fn transactions_of(threads: &[Thread]) -> u64
-    requires { length threads.now < 2 ^ 32 }
-    ensures { result ≡ sum (map (λ thread. length thread.scripts.items) threads.now) }
+// How many transactions a file has.
+fn transactions_of(file: &File) -> u32
+    requires { IsSound (view file.now) }
+    ensures { result ≡ transaction_count (view file.now).threads }
 {
-    threads
-        .iter()
-        .map(|thread| u64::from(thread.scripts.len()))
-        .sum()
+    let mut count = 0;
+    for thread in file.threads.as_slice() {
+        count += thread.scripts.len();
+    }
+    count
 }
 
 /// The script that these bytes are, where it can be traced.
@@ -40,7 +42,8 @@ pub(crate) fn traceable_in(alloc: Global, bytes: &[u8]) -> Result<File, Refusal>
     ensures fault { IfErr result (λ e. IsRefusalFor (IsTraceFault bytes.now) e) }
 {
     let file = file_in(alloc, bytes)?;
-    if transactions_of(file.threads.as_slice()) > MOST_TRACED {
+    let count = transactions_of(&file);
+    if count > MOST_TRACED {
         return Err(Refusal::Input(InputFault::LongTrace));
     }
     Ok(file)
