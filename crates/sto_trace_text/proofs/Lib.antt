@@ -1,2 +1,5 @@
-pub mod Numbered
+pub mod Places
+pub mod Silent
+pub mod Hearing
+pub mod Led
 pub mod Ascii

@@ -1,0 +1,6 @@
+use Rattle.std.proofs.Common.{◌≡◌, Option, None, replicate}
+use Rattle.sto_script.specs.declared.body.ScriptBody.{ScriptBody}
+use Rattle.sto_trace_text.proofs.attempts.no_attempts.Given as goal
+
+abbrev pub invariant-loop-thread : goal.invariant-loop-thread
+invariant-loop-thread l = l.attempts.items ≡ replicate l._thread-index None
