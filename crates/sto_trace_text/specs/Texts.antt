@@ -1,5 +1,5 @@
 -- The text of a trace: a line for each event.
-use Rattle.std.specs.Prelude.{ℕ, ℤ, List, ◌++◌, true, false, Bool, Option, None, Some, unwrap_or, slice_get, codes, decimal}
+use Rattle.std.specs.Prelude.{ℕ, ℤ, List, [], ◌++◌, true, false, Bool, Option, None, Some, unwrap_or, slice_get, codes, decimal}
 use Rattle.std.specs.List.{flat_map}
 use Rattle.std.specs.Fmt.{signed_decimal}
 use Rattle.sto_version.specs.Versions.{ticket_of, is_free}

@@ -109,8 +109,8 @@ fn reply_value(alloc: Global, reply: &Reply) -> Result<Value, AllocError>
 }
 
 // A reply with its call.
-fn answer_value(alloc: Global, names: &Names<'_>, answer: Answer<'_>) -> Result<Value, AllocError>
-    ensures { IfOk result (λ v. view v ≡ answer_data (named names.now) (answer_of answer)) }
+fn answer_value(alloc: Global, names: &Names<'_>, answer: &Answer<'_>) -> Result<Value, AllocError>
+    ensures { IfOk result (λ v. view v ≡ answer_data (named names.now) (answer_of answer.now)) }
 {
     let call = call_value(alloc, names.file.decls.as_slice(), answer.call)?;
     let reply = reply_value(alloc, answer.reply)?;
@@ -126,7 +126,7 @@ fn answer_values(
 {
     let mut items = Vec::new(alloc);
     for answer in answers {
-        items.push(answer_value(alloc, names, *answer)?)?;
+        items.push(answer_value(alloc, names, answer)?)?;
     }
     Ok(Value::Array(items))
 }

@@ -47,9 +47,9 @@ fn push_answer(
     alloc: Global,
     out: &mut String,
     names: &Names<'_>,
-    answer: Answer<'_>,
+    answer: &Answer<'_>,
 ) -> Result<(), AllocError>
-    ensures { OnOk result (string_bytes out.new ≡ string_bytes out.old ++ answer_text (named names.now) (answer_of answer)) }
+    ensures { OnOk result (string_bytes out.new ≡ string_bytes out.old ++ answer_text (named names.now) (answer_of answer.now)) }
 {
     out.push_str("; ")?;
     push_asked(alloc, out, names.file.decls.as_slice(), answer.call)?;
@@ -68,7 +68,7 @@ fn push_answers(
         ++ flat_map (answer_text (named names.now)) (map answer_of answers.now)) }
 {
     for answer in answers {
-        push_answer(alloc, out, names, *answer)?;
+        push_answer(alloc, out, names, answer)?;
     }
     Ok(())
 }
