@@ -1,7 +1,6 @@
 -- The text of a trace is ASCII, where the names of threads and objects are names.
-use Rattle.std.proofs.Common.{◌≡◌, ℕ, zero, suc, ℤ, List, [], ◌∷◌, ◌++◌, refl, sym, subst, append-nil, ◌==◌, Bool, true, false, cond, map, Option, None, Some, unwrap_or, slice_get, decimal, codes}
-use Rattle.std.specs.List.{All, flat_map, list_all, join_with_byte}
-use Rattle.std.specs.Option.{option_map}
+use Rattle.std.proofs.Common.{◌≡◌, ℕ, zero, suc, ℤ, List, [], ◌∷◌, ◌++◌, refl, Bool, true, false, Option, None, Some, unwrap_or, slice_get, decimal, codes}
+use Rattle.std.specs.List.{All, flat_map, list_all}
 use Rattle.std.specs.Fmt.{signed_decimal}
 use Rattle.std.specs.Str.{IsAscii}
 use Rattle.std.proofs.lemmas.List.Elements.{All-head, All-tail}
@@ -9,14 +8,7 @@ use Rattle.std.proofs.lemmas.Str.{IsAscii-append}
 use Rattle.std.proofs.lemmas.Str.Ascii.{IsAscii-nil}
 use Rattle.sto_version.specs.Versions.{ticket_of, is_free}
 use Rattle.sto_version.specs.declared.Version.{Version}
-use Rattle.sto_part.specs.declared.pred.Test.{Test}
-use Rattle.sto_part.specs.declared.pred.Test.TheVariants.{Eq, Ne, Lt, Le, Gt, Ge}
 use Rattle.sto_model.specs.declared.call.Call.{Call}
-use Rattle.sto_syntax.specs.Kinds.{Kind, Box, Counter, Array, Hash, Tree, Vector}
-use Rattle.sto_syntax.specs.Forms.{Operand}
-use Rattle.sto_syntax.specs.Operations.{operation_word, test_word}
-use Rattle.sto_syntax.specs.declared.operation.OperationWord.{OperationWord}
-use Rattle.sto_syntax.specs.declared.operation.OperationWord.TheVariants as ops
 use Rattle.sto_syntax.specs.Words.{is_name}
 use Rattle.sto_attempt_log.specs.declared.verdict.Verdict.{Verdict}
 use Rattle.sto_attempt_log.specs.declared.verdict.Verdict.TheVariants.{Wrote, Read, Cancelled, Locked, Changed}
@@ -31,10 +23,8 @@ use Rattle.sto_report_spec.proofs.Printable.{IsPrintable, printable_ascii, print
 use Rattle.sto_trace.specs.declared.Deed.{Deed}
 use Rattle.sto_trace.specs.declared.Deed.TheVariants.{Start, Renew, Open, Word, Close, Recheck, Lock, Test, Draw, Check, Decide, Put, Release, Unlock}
 use Rattle.sto_trace.specs.declared.Step.{Step}
-use Rattle.sto_lang.specs.Shapes.{kind_of}
-use Rattle.sto_lang.specs.declared.arg.Arg.{Arg}
-use Rattle.sto_lang.specs.declared.arg.Arg.TheVariants.{Num}
-use Rattle.sto_write.specs.Texts.{call_words, form_words, operand, operand_word, operation_with, arguments_of, call_on, option_list, call_text}
+use Rattle.sto_write.specs.Texts.{call_text}
+use Rattle.sto_trace_text.proofs.Calls.{object_printable, call_printable}
 use Rattle.sto_trace_text.specs.Events.{Answer, Event, events_of}
 use Rattle.sto_trace_text.specs.Texts.{Names, part_at, word_text, lock_text, version_text, decision_text, deed_text, asked_text, answer_text, verdict_text, end_text, event_text, trace_text}
 
@@ -68,131 +58,12 @@ thread_name [] thread h = none
 thread_name (name ∷ names) zero h = word name (All-head (λ n. is_name n ≡ true) name names h)
 thread_name (name ∷ names) (suc thread) h = thread_name names thread (All-tail (λ n. is_name n ≡ true) name names h)
 
--- what is made of the object with a number, where there is one
-with_object : (ds : List Declaration) (object : ℕ) (made : Option Declaration → List ℕ) → HaveNames ds → Ascii (made None) → ((d : Declaration) → is_name d.name ≡ true → Ascii (made (Some d)))
-    → Ascii (made (with_number object ds))
-with_object [] object made h none_made one_made = none_made
-with_object (d ∷ ds) object made h none_made one_made = by (d.number == object) (with_object ds object made h.1 none_made one_made)
-  where
-    by : (b : Bool) → Ascii (made (with_number object ds)) → Ascii (made (cond b (Some d) (with_number object ds)))
-    by true later = one_made d h.0
-    by false later = later
-
 object_name : (ds : List Declaration) (object : ℕ) → HaveNames ds → Ascii (name_of (with_number object ds))
-object_name ds object h = with_object ds object name_of h none (λ d named. word d.name named)
-
--- words, all of them
-All_ascii : List (List ℕ) → Type 0
-All_ascii [] = Unit {0}
-All_ascii (w ∷ words) = Ascii w × All_ascii words
-
-joined : (words : List (List ℕ)) → All_ascii words → Ascii (join_with_byte 32 words)
-joined [] h = none
-joined (w ∷ []) h = h.0
-joined (w ∷ next ∷ words) h = then h.0 (then (plain (32 ∷ []) refl) (joined (next ∷ words) h.1))
-
-compared : (test : Test) → Ascii (test_word test)
-compared Eq = plain (test_word Eq) refl
-compared Ne = plain (test_word Ne) refl
-compared Lt = plain (test_word Lt) refl
-compared Le = plain (test_word Le) refl
-compared Gt = plain (test_word Gt) refl
-compared Ge = plain (test_word Ge) refl
-
-operates : (operation : OperationWord) → Ascii (operation_word operation)
-operates ops.Get = plain (operation_word ops.Get) refl
-operates ops.Set = plain (operation_word ops.Set) refl
-operates ops.Add = plain (operation_word ops.Add) refl
-operates (ops.Compare test) = plain (operation_word (ops.Compare test)) refl
-operates ops.Take = plain (operation_word ops.Take) refl
-operates ops.Put = plain (operation_word ops.Put) refl
-operates ops.Remove = plain (operation_word ops.Remove) refl
-operates ops.Has = plain (operation_word ops.Has) refl
-operates ops.Len = plain (operation_word ops.Len) refl
-operates ops.Next = plain (operation_word ops.Next) refl
-operates ops.Count = plain (operation_word ops.Count) refl
-operates ops.Scan = plain (operation_word ops.Scan) refl
-operates ops.Push = plain (operation_word ops.Push) refl
-operates ops.Pop = plain (operation_word ops.Pop) refl
-
-then_operands : (operation : OperationWord) (operands : List Operand) → All_ascii (map operand_word operands) → All_ascii (call_words operation operands)
-then_operands ops.Get operands h = h
-then_operands ops.Set operands h = h
-then_operands ops.Add operands h = h
-then_operands (ops.Compare test) operands h = (compared test, h)
-then_operands ops.Take operands h = h
-then_operands ops.Put operands h = h
-then_operands ops.Remove operands h = h
-then_operands ops.Has operands h = h
-then_operands ops.Len operands h = h
-then_operands ops.Next operands h = h
-then_operands ops.Count operands h = h
-then_operands ops.Scan operands h = h
-then_operands ops.Push operands h = h
-then_operands ops.Pop operands h = h
-
-module _ (x y : ℤ) where
-  words_of : List Arg → List (List ℕ)
-  words_of arguments = map operand_word (map (operand []) arguments)
-
-  no_number : All_ascii (words_of [])
-  no_number = tt
-
-  first : All_ascii (words_of (Num x ∷ []))
-  first = (signed x, tt)
-
-  second : All_ascii (words_of (Num y ∷ []))
-  second = (signed y, tt)
-
-  both : All_ascii (words_of (Num x ∷ Num y ∷ []))
-  both = (signed x, (signed y, tt))
-
-  numbers : (operation : OperationWord) (kind : Kind) → All_ascii (words_of (arguments_of operation kind (Num x) (Num y)))
-  numbers ops.Get Box = no_number
-  numbers ops.Get Counter = no_number
-  numbers ops.Get Array = first
-  numbers ops.Get Hash = first
-  numbers ops.Get Tree = first
-  numbers ops.Get Vector = first
-  numbers ops.Set Box = first
-  numbers ops.Set Counter = both
-  numbers ops.Set Array = both
-  numbers ops.Set Hash = both
-  numbers ops.Set Tree = both
-  numbers ops.Set Vector = both
-  numbers ops.Add Box = both
-  numbers ops.Add Counter = first
-  numbers ops.Add Array = both
-  numbers ops.Add Hash = both
-  numbers ops.Add Tree = both
-  numbers ops.Add Vector = both
-  numbers (ops.Compare test) kind = second
-  numbers ops.Take kind = first
-  numbers ops.Put kind = both
-  numbers ops.Remove kind = first
-  numbers ops.Has kind = first
-  numbers ops.Len kind = no_number
-  numbers ops.Next kind = first
-  numbers ops.Count kind = both
-  numbers ops.Scan kind = both
-  numbers ops.Push kind = first
-  numbers ops.Pop kind = no_number
-
-  call_words_ascii : (operation : OperationWord) (d : Declaration) → is_name d.name ≡ true → All_ascii (form_words (call_on [] None operation (Num x) (Num y) d))
-  call_words_ascii operation d h =
-      (operates operation, (word d.name h, then_operands operation (map (operand []) (arguments_of operation (kind_of d.shape) (Num x) (Num y))) (numbers operation (kind_of d.shape))))
-
--- a call
-called : (ds : List Declaration) (call : Call) → HaveNames ds → Ascii (call_text ds call)
-called ds call h =
-    let operation = operation_with call.code (Num call.a) in
-    let made = call_on [] None operation (Num call.a) (Num call.b) in
-    with_object ds call.object (λ o. join_with_byte 32 (flat_map form_words (option_list (option_map made o) ++ []))) h none
-    (λ d named. subst (λ (words : List (List ℕ)). Ascii (join_with_byte 32 words)) (sym (append-nil (form_words (made d)))) (joined (form_words (made d)) (call_words_ascii call.a call.b operation d named)))
+object_name ds object h = printed (name_of (with_number object ds)) (object_printable ds object h)
 
 asked : (ds : List Declaration) (call : Option Call) → HaveNames ds → Ascii (asked_text ds call)
 asked ds None h = none
-asked ds (Some call) h = then (called ds call h) (plain (codes " ") refl)
+asked ds (Some call) h = then (printed (call_text ds call) (call_printable ds call h)) (plain (codes " ") refl)
 
 locked : (free : Bool) → Ascii (lock_text free)
 locked true = plain (lock_text true) refl

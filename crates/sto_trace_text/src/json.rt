@@ -192,7 +192,23 @@ fn event_value(
     json!(in alloc; {"attempt": attempt, "calls": calls, "event": event, "number": number, "position": position, "thread": thread})
 }
 
-// Adds the line of an event, by its number, its step and its answers.
+// The line of an event, by its number, its step and its answers.
+fn line_of(
+    alloc: Global,
+    names: &Names<'_>,
+    number: usize,
+    step: &Step,
+    answers: &[Answer<'_>],
+) -> Result<String, AllocError>
+    ensures { IfOk result (λ line. string_bytes line ≡ json_line (named names.now) (event_with number step.now answers.now)) }
+{
+    let value = event_value(alloc, names, number, step, answers)?;
+    let mut line = value.to_string(alloc)?;
+    line.push_str("\n")?;
+    Ok(line)
+}
+
+// Adds the line of an event.
 fn push_event(
     alloc: Global,
     out: &mut String,
@@ -204,10 +220,8 @@ fn push_event(
     ensures { OnOk result (string_bytes out.new ≡ string_bytes out.old
         ++ json_line (named names.now) (event_with number step.now answers.now)) }
 {
-    let value = event_value(alloc, names, number, step, answers)?;
-    let line = value.to_string(alloc)?;
-    out.push_str(line.as_str())?;
-    out.push_str("\n")
+    let line = line_of(alloc, names, number, step, answers)?;
+    out.push_str(line.as_str())
 }
 
 // Adds the line of the event that is a step of its thread's attempt.
