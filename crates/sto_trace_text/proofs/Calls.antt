@@ -1,5 +1,5 @@
 -- The text of a call is printable, where the names of objects are names.
-use Rattle.std.proofs.Common.{◌≡◌, ℕ, ℤ, List, [], ◌∷◌, ◌++◌, refl, sym, ap, subst, append-nil, ◌==◌, Bool, true, false, ◌&&◌, cond, map, Option, None, Some}
+use Rattle.std.proofs.Common.{◌≡◌, ℕ, ℤ, List, [], ◌∷◌, ◌++◌, refl, sym, subst, append-nil, ◌==◌, Bool, true, false, ◌&&◌, cond, map, Option, None, Some}
 use Rattle.std.specs.List.{flat_map, list_all, join_with_byte}
 use Rattle.std.specs.Option.{option_map}
 use Rattle.sto_part.specs.declared.pred.Test as tests

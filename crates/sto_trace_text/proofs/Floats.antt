@@ -1,5 +1,5 @@
 -- The JSON of a trace has no number that is a float.
-use Rattle.std.proofs.Common.{◌≡◌, List, [], ◌∷◌, map, refl, ap, ◌∙◌, Bool, true, false, ◌||◌, Option, None, Some}
+use Rattle.std.proofs.Common.{◌≡◌, List, [], ◌∷◌, map, refl, ap, ◌∙◌, Bool, false, ◌||◌, Option, None, Some}
 use Rattle.serde_json.specs.View.{items_of}
 use Rattle.serde_json.specs.Written.{has_float, items_have_float}
 use Rattle.sto_model.specs.declared.call.Call.{Call}
@@ -10,7 +10,7 @@ use Rattle.sto_trace.specs.declared.Deed.{Deed}
 use Rattle.sto_trace.specs.declared.Deed.TheVariants.{Start, Renew, Open, Word, Close, Recheck, Lock, Test, Draw, Check, Decide, Put, Release, Unlock}
 use Rattle.sto_trace_text.specs.Events.{Answer, Event}
 use Rattle.sto_trace_text.specs.Texts.{Names}
-use Rattle.sto_trace_text.specs.Json.{deed_data, call_data, answer_data, verdict_data, end_data, event_data}
+use Rattle.sto_trace_text.specs.Json.{deed_data, call_data, answer_data, end_data, event_data}
 
 call : (ds : List Declaration) (c : Option Call) → has_float (call_data ds c) ≡ false
 call ds None = refl

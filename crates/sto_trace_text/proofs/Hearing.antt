@@ -1,5 +1,5 @@
 -- The calls that replies answer, as a body hears them.
-use Rattle.std.proofs.Common.{◌≡◌, ℕ, List, [], ◌∷◌, ◌++◌, refl, sym, ap, ◌∙◌, subst, append-nil, append_assoc, map, true, false, Bool, cond, Option, None, Some}
+use Rattle.std.proofs.Common.{◌≡◌, List, [], ◌∷◌, ◌++◌, refl, sym, ap, ◌∙◌, subst, append-nil, append_assoc, map, true, false, Bool, cond, Option, None, Some}
 use Rattle.std.specs.Option.{option_map}
 use Rattle.sto_model.specs.Told.{Told, told}
 use Rattle.sto_model.specs.declared.call.Call.{Call}
@@ -11,7 +11,7 @@ use Rattle.sto_script.specs.Bodies.{then_of}
 use Rattle.sto_script.specs.declared.body.ScriptBody.{ScriptBody}
 use Rattle.sto_report_spec.specs.Orders.{transaction_at}
 use Rattle.sto_trace.specs.declared.Step.{Step}
-use Rattle.sto_trace_text.specs.Events.{Attempt, Answer, begun, hearing, asked_in, asked_by, answers, is_start, making, made}
+use Rattle.sto_trace_text.specs.Events.{Attempt, Answer, begun, hearing, asked_in, asked_by, answers, is_start, making}
 use Rattle.sto_trace_text.specs.Bodies.{IsBodyOf, HearsReply, HearsReplies, GoesThrough}
 use Rattle.sto_trace_text.proofs.Silent.{stays}
 

@@ -1,5 +1,5 @@
 -- The JSON of a trace is ASCII, where the names of threads and objects are names.
-use Rattle.std.proofs.Common.{◌≡◌, ℕ, zero, suc, List, [], ◌∷◌, ◌++◌, refl, true, map, Option, None, Some, unwrap_or, slice_get, codes}
+use Rattle.std.proofs.Common.{◌≡◌, ℕ, zero, suc, List, [], ◌∷◌, refl, true, map, Option, None, Some, unwrap_or, slice_get, codes}
 use Rattle.std.specs.List.{All, flat_map}
 use Rattle.std.specs.Str.{IsAscii}
 use Rattle.std.proofs.lemmas.List.Elements.{All-head, All-tail}

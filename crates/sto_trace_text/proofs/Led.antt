@@ -1,9 +1,9 @@
 -- The attempts of threads, step by step.
-use Rattle.std.proofs.Common.{◌≡◌, ◌≤◌, ◌<◌, ℕ, zero, suc, ◌+◌, ◌==◌, eqb, List, [], ◌∷◌, ◌++◌, length, take, refl, sym, ap, ◌∙◌, subst, arith, append-nil, append_assoc, map, true, false, Bool, cond, Option, None, Some, slice_get}
+use Rattle.std.proofs.Common.{◌≡◌, ◌≤◌, ◌<◌, ℕ, zero, suc, ◌+◌, ◌==◌, List, [], ◌∷◌, ◌++◌, length, take, refl, sym, ap, ◌∙◌, subst, arith, append-nil, append_assoc, map, true, false, Bool, cond, Option, None, Some, slice_get}
 use Rattle.std.specs.Prelude.{slice_set, option_and_then}
 use Rattle.std.specs.Option.{option_map}
 use Rattle.std.specs.List.{flat_map}
-use Rattle.std.proofs.lemmas.Bool.{eq-eqb, eqb-true, eqb-false}
+use Rattle.std.proofs.lemmas.Bool.{eq-eqb, eqb-true}
 use Rattle.std.proofs.lemmas.List.{length-set}
 use Rattle.std.proofs.lemmas.List.Concat.{flat_map-append}
 use Rattle.std.proofs.lemmas.Option.{slice_get_past, slice_get_within}
@@ -13,8 +13,8 @@ use Rattle.sto_lang.proofs.ObjectLemmas.{take_found}
 use Rattle.sto_script.specs.declared.body.ScriptBody.{ScriptBody}
 use Rattle.sto_report_spec.specs.Orders.{at_position, transaction_at}
 use Rattle.sto_trace.specs.declared.Step.{Step}
-use Rattle.sto_trace_text.specs.Events.{Attempt, Answer, Event, begun, hearing, is_start, making, made, led, attempt_of, event_after, events_after, events_of}
-use Rattle.sto_trace_text.specs.Bodies.{IsBodyOf, GoesThrough, AreBodiesAfter, GoThrough, answer_of, event_with}
+use Rattle.sto_trace_text.specs.Events.{Attempt, Answer, Event, begun, hearing, is_start, made, led, attempt_of, event_after, events_after, events_of}
+use Rattle.sto_trace_text.specs.Bodies.{IsBodyOf, GoesThrough, GoThrough, answer_of, event_with}
 use Rattle.sto_trace_text.specs.Lines.{AddsLine}
 use Rattle.sto_trace_text.specs.declared.attempts.Answer as code
 

@@ -1,5 +1,5 @@
 -- A transaction that asks nothing more stays as it ended, whatever it hears.
-use Rattle.std.proofs.Common.{◌≡◌, ℕ, zero, suc, List, [], ◌∷◌, ◌++◌, length, refl, Bool, true, false, cond, Option, None, replicate, pos}
+use Rattle.std.proofs.Common.{◌≡◌, ℕ, zero, suc, List, [], ◌∷◌, ◌++◌, length, refl, Bool, true, false, cond, None, replicate, pos}
 use Rattle.sto_part.specs.Preds.{compares}
 use Rattle.sto_model.specs.Told.{Told}
 use Rattle.sto_lang.specs.Scripts.{Script}

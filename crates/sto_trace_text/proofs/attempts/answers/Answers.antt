@@ -1,9 +1,9 @@
-use Rattle.std.proofs.Common.{◌≤◌, ℕ, ap, sym, refl, subst}
+use Rattle.std.proofs.Common.{◌≤◌, ℕ, refl, subst}
 use Rattle.std.specs.Prelude.{Result, Ok, Err, IfOk, map}
 use Rattle.sto_part.specs.Listed.{Listed}
 use Rattle.sto_part.specs.declared.NoMemory.{NoMemory}
 use Rattle.sto_lang.specs.Views.{file}
-use Rattle.sto_trace_text.specs.Bodies.{GoesThrough, GoThrough, answer_of}
+use Rattle.sto_trace_text.specs.Bodies.{answer_of}
 use Rattle.sto_trace_text.specs.declared.attempts.Answer.{Answer}
 use Rattle.sto_trace_text.proofs.Led.{own_goes, none_goes}
 use Rattle.sto_trace_text.proofs.attempts.answers.Goals as goal

@@ -1,4 +1,4 @@
-use Rattle.std.proofs.Common.{subst, sym, ap, ◌∙◌}
+use Rattle.std.proofs.Common.{subst, sym, ◌∙◌}
 use Rattle.std.specs.Option.{option_map}
 use Rattle.sto_lang.specs.Views.{file, script}
 use Rattle.sto_trace_text.specs.Bodies.{IsBodyOf}

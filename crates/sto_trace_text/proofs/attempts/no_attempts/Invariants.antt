@@ -1,5 +1,4 @@
-use Rattle.std.proofs.Common.{◌≡◌, Option, None, replicate}
-use Rattle.sto_script.specs.declared.body.ScriptBody.{ScriptBody}
+use Rattle.std.proofs.Common.{◌≡◌, None, replicate}
 use Rattle.sto_trace_text.proofs.attempts.no_attempts.Given as goal
 
 abbrev pub invariant-loop-thread : goal.invariant-loop-thread

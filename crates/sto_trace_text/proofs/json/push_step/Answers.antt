@@ -1,5 +1,4 @@
 use Rattle.std.proofs.Common.{List, ◌++◌, string_bytes, ap, ◌∙◌}
-use Rattle.sto_lang.specs.Views.{file}
 use Rattle.sto_trace_text.specs.Bodies.{event_with}
 use Rattle.sto_trace_text.specs.declared.attempts.Answer.{Answer}
 use Rattle.sto_trace_text.specs.Named.{named}

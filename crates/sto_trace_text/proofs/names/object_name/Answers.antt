@@ -1,5 +1,5 @@
 use Rattle.std.proofs.Common.{ap, sym, ◌∙◌}
-use Rattle.std.specs.Option.{option_map, option_copied}
+use Rattle.std.specs.Option.{option_map}
 use Rattle.sto_lang.specs.Views.{declaration}
 use Rattle.sto_report_spec.specs.Aborts.{name_of}
 use Rattle.sto_write.proofs.TextLemmas.{with_number_of}
