@@ -6,7 +6,7 @@ use Rattle.std.specs.Str.Parse.{digits_value}
 use Rattle.std.specs.List.{list_any}
 use Rattle.sto_args.specs.Given.{Text, Takes, Given, value_of, number_name, given_by, as_option, gives_flag}
 use Rattle.sto_args.specs.declared.command.Command.{Command}
-use Rattle.sto_args.specs.declared.command.Command.TheVariants.{Run, Step, Trace, Upgrade, Gen, Bench}
+use Rattle.sto_args.specs.declared.command.Command.TheVariants.{Run, Step, Trace, Draw, Upgrade, Gen, Bench}
 
 -- the number of 64 bits that a text is: decimal digits without a sign, and no leading zero unless it is 0 alone
 abbrev pub decimal_of : Text → Option ℕ
@@ -47,6 +47,10 @@ trace_takes = record { options = codes "tries" ∷ []; number = false }
 abbrev pub trace_of : Given → Option Command
 trace_of given = option_map (λ tries. Trace tries) (tries_of (value_of (codes "tries") given))
 
+-- `draw [--tries N]`, which takes what `trace` takes
+abbrev pub draw_of : Given → Option Command
+draw_of given = option_map (λ tries. Draw tries) (tries_of (value_of (codes "tries") given))
+
 -- `upgrade` alone
 abbrev pub upgrade_of : List Text → Option Command
 upgrade_of [] = Some Upgrade
@@ -72,10 +76,11 @@ command_from word words =
     if bytes_eq word (codes "run") then option_and_then run_of (given_by run_takes words)
     else (if bytes_eq word (codes "step") then option_and_then step_of (given_by step_takes words)
     else (if bytes_eq word (codes "trace") then option_and_then trace_of (given_by trace_takes words)
+    else (if bytes_eq word (codes "draw") then option_and_then draw_of (given_by trace_takes words)
     else (if bytes_eq word (codes "upgrade") then upgrade_of words
     else (if bytes_eq word (codes "gen") then option_and_then gen_of (given_by gen_takes words)
     else (if bytes_eq word (codes "bench") then option_and_then bench_of (given_by bench_takes words)
-    else None)))))
+    else None))))))
 
 abbrev pub command_of : List Text → Option Command
 command_of [] = None
@@ -95,6 +100,7 @@ abbrev pub HasRange : Command → Type 0
 HasRange (Run threads tries json) = HasThreads threads × (1 ≤ tries) × (tries ≤ 64)
 HasRange (Step tries json) = (1 ≤ tries) × (tries ≤ 64)
 HasRange (Trace tries) = (1 ≤ tries) × (tries ≤ 64)
+HasRange (Draw tries) = (1 ≤ tries) × (tries ≤ 64)
 HasRange Upgrade = Unit {0}
 HasRange (Gen number) = Unit {0}
 HasRange (Bench number threads) = HasThreads threads

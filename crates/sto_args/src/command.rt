@@ -3,7 +3,7 @@ ghost use Rattle.std.specs.Prelude.{◌≡◌, ◌≤◌, IfOk, IfSome, false, i
 ghost use Rattle.std.specs.List.{list_any};
 ghost use Rattle.std.specs.Option.{option_and_then, option_map};
 ghost use Rattle.sto_args.specs.Given.{given_by, is_refused};
-ghost use Rattle.sto_args.specs.Commands.{HasThreads, HasRange, command_in, command_from, run_takes, run_of, step_takes, step_of, trace_takes, trace_of, upgrade_of, gen_takes, gen_of, bench_takes, bench_of, threads_of, tries_of, decimal_of};
+ghost use Rattle.sto_args.specs.Commands.{HasThreads, HasRange, command_in, command_from, run_takes, run_of, step_takes, step_of, trace_takes, trace_of, draw_of, upgrade_of, gen_takes, gen_of, bench_takes, bench_of, threads_of, tries_of, decimal_of};
 
 use crate::asked::{Checking, checking_from};
 use crate::grammar::{bench_grammar, gen_grammar, matches_in, run_grammar, step_grammar};
@@ -30,6 +30,10 @@ pub enum Command {
     },
     /// Reads a script, runs it as `Step` does, and prints a line for each event.
     Trace {
+        tries: u32,
+    },
+    /// Reads a script, runs it as `Step` does, and prints a picture of the run.
+    Draw {
         tries: u32,
     },
     /// Reads a script and prints it in the newest version of the language.
@@ -136,6 +140,17 @@ fn trace(alloc: Global, words: &[&str]) -> Result<Option<Command>, NoMemory>
     }
 }
 
+fn draw(alloc: Global, words: &[&str]) -> Result<Option<Command>, NoMemory>
+    requires { list_any is_refused (map (λ word. word.now) words.now) ≡ false }
+    ensures range { IfOk result (λ c. IfSome c HasRange) }
+    ensures command { IfOk result (λ c. c ≡ option_and_then draw_of (given_by trace_takes (map (λ word. word.now) words.now))) }
+{
+    match checking_from(alloc, words)? {
+        Some(Checking { tries }) => Ok(Some(Command::Draw { tries })),
+        None => Ok(None),
+    }
+}
+
 fn upgrade(words: &[&str]) -> Option<Command>
     ensures range { IfSome result HasRange }
     ensures command { result ≡ upgrade_of (map (λ word. word.now) words.now) }
@@ -191,6 +206,7 @@ fn bench(alloc: Global, words: &[&str]) -> Result<Option<Command>, NoMemory>
 /// | `run [--threads N] [--tries N] [--json]` | `Run`, with 1 to 16 threads, with 1 to 64 tries, and 64 where none is given, and with the form of the report |
 /// | `step [--tries N] [--json]` | `Step`, with tries and a form as for `Run` |
 /// | `trace [--tries N]` | `Trace`, with tries as for `Run` |
+/// | `draw [--tries N]` | `Draw`, with tries as for `Run` |
 /// | `upgrade` | `Upgrade` |
 /// | `gen NUMBER` | `Gen`, with a number of 64 bits |
 /// | `bench NUMBER [--threads N]` | `Bench`, with a number of 64 bits, and with threads as for `Run` |
@@ -224,6 +240,7 @@ fn command_from(alloc: Global, word: &str, options: &[&str]) -> Result<Option<Co
         "run" => run(alloc, options),
         "step" => step(alloc, options),
         "trace" => trace(alloc, options),
+        "draw" => draw(alloc, options),
         "upgrade" => Ok(upgrade(options)),
         "gen" => generate(alloc, options),
         "bench" => bench(alloc, options),

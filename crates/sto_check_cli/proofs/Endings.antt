@@ -46,7 +46,7 @@ no_fault B input fault e = absurd (true≢false (ap is_ok e))
 pub exclusive : IsExclusive program
 exclusive = record {
   read = λ asked bytes fault h. refl;
-  faultless = λ asked bytes fault found text h f. no_fault _ h.0.input fault (sym h.0.reads ∙ f);
+  faultless = λ asked bytes fault found text own h f. no_fault _ h.0.input fault (sym h.0.reads ∙ f);
 }
 
 -- only one answer is found of bytes that are told

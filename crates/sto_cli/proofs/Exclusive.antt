@@ -5,13 +5,15 @@ use Rattle.sto_lang.specs.Files.{file_of}
 use Rattle.sto_lang.specs.Scripts.{File}
 use Rattle.sto_lang.specs.declared.fault.ScriptFault.{ScriptFault}
 use Rattle.sto_args.specs.declared.command.Command.{Command}
-use Rattle.sto_args.specs.declared.command.Command.TheVariants.{Run, Step, Trace, Upgrade, Gen, Bench}
+use Rattle.sto_args.specs.declared.command.Command.TheVariants.{Run, Step, Trace, Draw, Upgrade, Gen, Bench}
 use Rattle.sto_cli_common.specs.declared.refusal.InputFault.{InputFault}
-use Rattle.sto_cli_common.specs.declared.refusal.InputFault.TheVariants.{Script, NoReport, LongTrace}
+use Rattle.sto_cli_common.specs.declared.refusal.InputFault.TheVariants.{Script, NoReport, LongTrace, LongRun}
 use Rattle.sto_cli_common.specs.Statuses.{done_status}
+use Rattle.sto_cli_common.specs.Outcomes.{IsOwn}
 use Rattle.sto_cli_common.proofs.Causes.{IsExclusive}
 use Rattle.sto_lang.specs.Drafts.{transaction_count}
-use Rattle.sto_cli.specs.Traces.{IsTraceable, IsTraceFault}
+use Rattle.sto_cli.specs.Traces.{IsTraceable, IsTraceFault, HasLongRun, IsRunFault}
+use Rattle.sto_draw.specs.Drawn.{IsTooLong}
 use Rattle.sto_cli.specs.Outputs.{IsOutput, IsScriptFault, HasFault}
 use Rattle.sto_cli.specs.Programs.{reads_script, program}
 
@@ -19,6 +21,7 @@ reads : (command : Command) (bytes : List ℕ) (fault : InputFault) → HasFault
 reads (Run threads tries json) bytes fault h = refl
 reads (Step tries json) bytes fault h = refl
 reads (Trace tries) bytes fault h = refl
+reads (Draw tries) bytes fault h = refl
 reads Upgrade bytes fault h = refl
 reads (Gen number) bytes fault h = absurd h
 reads (Bench number threads) bytes fault h = absurd h
@@ -27,6 +30,7 @@ pub no_fault : (bytes : List ℕ) (file : File) (fault : InputFault) → file_of
 no_fault bytes file (Script fault) e f = true≢false (ap is_ok (sym e ∙ f))
 no_fault bytes file NoReport e f = f
 no_fault bytes file LongTrace e f = f
+no_fault bytes file LongRun e f = f
 
 same_file : (x y : File) → ◌≡◌ {A = Result File ScriptFault} (Ok x) (Ok y) → x ≡ y
 same_file x y e = cc
@@ -38,17 +42,25 @@ no_trace_fault bytes file NoReport h f = f
 no_trace_fault bytes file LongTrace h f =
     let same = ap (λ (g : File). transaction_count g.threads) (same_file file f.0 (sym h.0 ∙ f.1)) in
     let few = h.1 in let many = f.2 in omega (arith, same, few, many)
+no_trace_fault bytes file LongRun h f = f
 
-faultless : (command : Command) (bytes text : List ℕ) (fault : InputFault) → IsOutput command bytes text → HasFault command bytes fault → ⊥
-faultless (Run threads tries json) bytes text fault h f = no_fault bytes h.0 fault h.1 f
-faultless (Step tries json) bytes text fault h f = no_fault bytes h.0 fault h.1 f
-faultless (Trace tries) bytes text fault h f = no_trace_fault bytes h.0 fault h.1 f
-faultless Upgrade bytes text fault h f = no_fault bytes h.0 fault h.1 f
-faultless (Gen number) bytes text fault h f = f
-faultless (Bench number threads) bytes text fault h f = f
+no_run_fault : (IsLong : File → Type 0) (bytes : List ℕ) (file : File) (fault : InputFault) → IsOwn fault → IsTraceable bytes file → IsRunFault IsLong bytes fault → ⊥
+no_run_fault IsLong bytes file (Script fault) own h f = no_trace_fault bytes file (Script fault) h f
+no_run_fault IsLong bytes file NoReport own h f = no_trace_fault bytes file NoReport h f
+no_run_fault IsLong bytes file LongTrace own h f = no_trace_fault bytes file LongTrace h f
+no_run_fault IsLong bytes file LongRun own h f = own
+
+faultless : (command : Command) (bytes text : List ℕ) (fault : InputFault) → IsOwn fault → IsOutput command bytes text → HasFault command bytes fault → ⊥
+faultless (Run threads tries json) bytes text fault own h f = no_fault bytes h.0 fault h.1 f
+faultless (Step tries json) bytes text fault own h f = no_fault bytes h.0 fault h.1 f
+faultless (Trace tries) bytes text fault own h f = no_run_fault (HasLongRun tries) bytes h.0 fault own h.1 f
+faultless (Draw tries) bytes text fault own h f = no_run_fault (IsTooLong tries) bytes h.0 fault own h.1 f
+faultless Upgrade bytes text fault own h f = no_fault bytes h.0 fault h.1 f
+faultless (Gen number) bytes text fault own h f = f
+faultless (Bench number threads) bytes text fault own h f = f
 
 pub exclusive : IsExclusive program
-exclusive = record { read = reads; faultless = λ command bytes fault done text h f. faultless command bytes text fault h f }
+exclusive = record { read = reads; faultless = λ command bytes fault done text own h f. faultless command bytes text fault own h f }
 
 pub few_statuses : (done : Unit {0}) → done_status done < 2
 few_statuses done = omega arith

@@ -1,18 +1,21 @@
 -- Why no text of a command that reads a script was made.
-use Rattle.std.proofs.Common.{◌≡◌, ℕ, ◌<◌, List, [], ◌++◌, length, append-nil, refl, sym, ap, ◌∙◌, subst, true, Option, Err, true≢false}
+use Rattle.std.proofs.Common.{◌≡◌, ℕ, ◌<◌, List, ◌++◌, length, append-nil, refl, sym, ap, ◌∙◌, subst, true, Option, Ok, Err, true≢false}
 use Rattle.sto_io.specs.Told.{Takes, AtEnd}
 use Rattle.sto_lang.specs.Files.{file_of}
+use Rattle.sto_lang.specs.Scripts.{File}
 use Rattle.sto_lang.specs.declared.fault.ScriptFault.{ScriptFault}
 use Rattle.sto_args.specs.declared.command.Command.{Command}
-use Rattle.sto_args.specs.declared.command.Command.TheVariants.{Run, Step, Trace, Upgrade, Gen, Bench}
-use Rattle.sto_cli_common.specs.declared.refusal.InputFault.TheVariants.{Script, NoReport, LongTrace}
+use Rattle.sto_args.specs.declared.command.Command.TheVariants.{Run, Step, Trace, Draw, Upgrade, Gen, Bench}
+use Rattle.sto_cli_common.specs.declared.refusal.InputFault.{InputFault}
+use Rattle.sto_cli_common.specs.declared.refusal.InputFault.TheVariants.{Script, NoReport, LongTrace, LongRun}
 use Rattle.sto_cli_common.specs.declared.refusal.Refusal.{Refusal}
 use Rattle.sto_cli_common.specs.declared.refusal.Refusal.TheVariants.{Usage, Input, ReadFault, WriteFault, NoMemory}
 use Rattle.sto_cli_common.specs.Read.{IfTold}
-use Rattle.sto_cli_common.specs.Ends.{IsFileRefusal, Unmade}
+use Rattle.sto_cli_common.specs.Ends.{IsFileRefusal, Faulty, Unmade}
 use Rattle.sto_cli_common.proofs.Reading.{if_told}
 use Rattle.sto_cli_common.proofs.Scripts.{small_file, told_fault}
-use Rattle.sto_cli.specs.Traces.{IsTraceFault, IsTraceRefusal}
+use Rattle.sto_draw.specs.Drawn.{IsTooLong}
+use Rattle.sto_cli.specs.Traces.{HasLongRun, IsTraceFault, IsRunFault, IsRefusalFor}
 use Rattle.sto_cli.specs.Outputs.{HasFault}
 use Rattle.sto_cli.specs.Programs.{reads_script, program}
 
@@ -21,6 +24,7 @@ has_fault : (command : Command) → reads_script command ≡ true → (left rest
 has_fault (Run threads tries json) reads left rest fault h = h
 has_fault (Step tries json) reads left rest fault h = h
 has_fault (Trace tries) reads left rest fault h = h
+has_fault (Draw tries) reads left rest fault h = h
 has_fault Upgrade reads left rest fault h = h
 has_fault (Gen number) reads left rest fault h = absurd (true≢false (sym reads))
 has_fault (Bench number threads) reads left rest fault h = absurd (true≢false (sym reads))
@@ -31,28 +35,48 @@ pub unmade : (command : Command) → reads_script command ≡ true → (left res
 unmade command reads left rest taken (Input (Script fault)) t end e = (reads, has_fault command reads left rest fault (told_fault left rest taken fault t end e))
 unmade command reads left rest taken (Input NoReport) t end e = absurd e
 unmade command reads left rest taken (Input LongTrace) t end e = absurd e
+unmade command reads left rest taken (Input LongRun) t end e = absurd e
 unmade command reads left rest taken NoMemory t end e = tt
 unmade command reads left rest taken Usage t end e = absurd e
 unmade command reads left rest taken ReadFault t end e = absurd e
 unmade command reads left rest taken WriteFault t end e = absurd e
 
--- a script that was read whole and has too many transactions is all that was left
-long_trace : (left rest : Option (List ℕ)) (taken : List ℕ) → Takes left rest taken → (length taken < 1048577 → AtEnd rest) → IsTraceFault taken LongTrace
-    → IfTold left rest (λ bytes. IsTraceFault bytes LongTrace)
-long_trace left rest taken t end h =
-    if_told (λ (bytes : List ℕ). IsTraceFault bytes LongTrace) 1048577 left rest taken t end
+-- what is so of a script that was read whole is so of all that was left
+of_whole : (Q : List ℕ → Type 0) (file : File) (left rest : Option (List ℕ)) (taken : List ℕ) → Takes left rest taken → (length taken < 1048577 → AtEnd rest)
+    → file_of taken ≡ Ok file → Q taken → IfTold left rest Q
+of_whole Q file left rest taken t end reads h =
+    if_told Q 1048577 left rest taken t end
     (λ more last f.
-    let all : taken ++ more ≡ taken = ap (λ (xs : List ℕ). taken ++ xs) (last (small_file taken f.0 f.1)) ∙ append-nil taken in
-    subst (λ (bytes : List ℕ). IsTraceFault bytes LongTrace) (sym all) f)
+    let all : taken ++ more ≡ taken = ap (λ (xs : List ℕ). taken ++ xs) (last (small_file taken file reads)) ∙ append-nil taken in
+    subst Q (sym all) f)
     h
+
+-- a fault of a script that was read whole is one of all that was left
+told_run : (IsLong : File → Type 0) (left rest : Option (List ℕ)) (taken : List ℕ) (fault : InputFault) → Takes left rest taken
+    → (length taken < 1048577 → AtEnd rest) → IsRunFault IsLong taken fault → IfTold left rest (λ bytes. IsRunFault IsLong bytes fault)
+told_run IsLong left rest taken (Script fault) t end h = told_fault left rest taken fault t end h
+told_run IsLong left rest taken NoReport t end h = absurd h
+told_run IsLong left rest taken LongTrace t end h = of_whole (λ (bytes : List ℕ). IsTraceFault bytes LongTrace) h.0 left rest taken t end h.1 h
+told_run IsLong left rest taken LongRun t end h = of_whole (λ (bytes : List ℕ). IsRunFault IsLong bytes LongRun) h.0 left rest taken t end h.1.0 h
+
+refused : (F : InputFault → Type 0) (command : Command) (left rest : Option (List ℕ)) → ((fault : InputFault) → F fault → Faulty program command fault left rest)
+    → (refusal : Refusal) → IsRefusalFor F refusal → Unmade program refusal command left rest
+refused F command left rest faulty (Input fault) e = faulty fault e
+refused F command left rest faulty NoMemory e = tt
+refused F command left rest faulty Usage e = absurd e
+refused F command left rest faulty ReadFault e = absurd e
+refused F command left rest faulty WriteFault e = absurd e
 
 -- the bytes that were taken are not traced
 pub untraced : (tries : ℕ) (left rest : Option (List ℕ)) (taken : List ℕ) (refusal : Refusal) → Takes left rest taken → (length taken < 1048577 → AtEnd rest)
-    → IsTraceRefusal refusal taken → Unmade program refusal (Trace tries) left rest
-untraced tries left rest taken (Input (Script fault)) t end e = (refl, told_fault left rest taken fault t end e)
-untraced tries left rest taken (Input NoReport) t end e = absurd e
-untraced tries left rest taken (Input LongTrace) t end e = (refl, long_trace left rest taken t end e)
-untraced tries left rest taken NoMemory t end e = tt
-untraced tries left rest taken Usage t end e = absurd e
-untraced tries left rest taken ReadFault t end e = absurd e
-untraced tries left rest taken WriteFault t end e = absurd e
+    → IsRefusalFor (IsRunFault (HasLongRun tries) taken) refusal → Unmade program refusal (Trace tries) left rest
+untraced tries left rest taken refusal t end e =
+    refused (IsRunFault (HasLongRun tries) taken) (Trace tries) left rest
+    (λ fault h. (refl, told_run (HasLongRun tries) left rest taken fault t end h)) refusal e
+
+-- or not drawn
+pub undrawn : (tries : ℕ) (left rest : Option (List ℕ)) (taken : List ℕ) (refusal : Refusal) → Takes left rest taken → (length taken < 1048577 → AtEnd rest)
+    → IsRefusalFor (IsRunFault (IsTooLong tries) taken) refusal → Unmade program refusal (Draw tries) left rest
+undrawn tries left rest taken refusal t end e =
+    refused (IsRunFault (IsTooLong tries) taken) (Draw tries) left rest
+    (λ fault h. (refl, told_run (IsTooLong tries) left rest taken fault t end h)) refusal e

@@ -3,7 +3,7 @@ use Rattle.std.specs.Prelude.{◌≡◌, ◌≤◌, ℕ, min, max, List, [], len
 use Rattle.sto_lang.specs.Files.{file_of}
 use Rattle.sto_lang.specs.Scripts.{File}
 use Rattle.sto_cli_common.specs.declared.refusal.InputFault.{InputFault}
-use Rattle.sto_cli_common.specs.declared.refusal.InputFault.TheVariants.{Script, NoReport, LongTrace}
+use Rattle.sto_cli_common.specs.declared.refusal.InputFault.TheVariants.{Script, NoReport, LongTrace, LongRun}
 use Rattle.sto_write.specs.Texts.{text_of, upgraded}
 use Rattle.sto_gen.specs.Generated.{file_of as generated}
 use Rattle.sto_report_spec.specs.declared.form.ReportForm.{ReportForm}
@@ -21,8 +21,9 @@ use Rattle.sto_summary.specs.Summary.{summary_of, HasTotals}
 use Rattle.sto_run.specs.Lawful.{IsLawfulJournal}
 use Rattle.sto_run.specs.Alone.{all_places}
 use Rattle.sto_args.specs.declared.command.Command.{Command}
-use Rattle.sto_args.specs.declared.command.Command.TheVariants.{Run, Step, Trace, Upgrade, Gen, Bench}
-use Rattle.sto_cli.specs.Traces.{IsTraceable, IsTrace, IsTraceFault}
+use Rattle.sto_args.specs.declared.command.Command.TheVariants.{Run, Step, Trace, Draw, Upgrade, Gen, Bench}
+use Rattle.sto_draw.specs.Drawn.{IsPicture, IsTooLong}
+use Rattle.sto_cli.specs.Traces.{IsTraceable, IsTrace, HasLongRun, IsRunFault}
 
 -- the form of the report that is asked for
 abbrev pub form_for : Bool → ReportForm
@@ -64,13 +65,14 @@ IsSummary number text =
     (journal : Journal) × IsLawfulJournal (updating_by means) (generated number) 64 journal × (text ≡ summary_of number 3200 journal.state.items) × HasTotals journal.state.items
 
 -- `run` and `step` print a lawful report, which is one text where one worker runs the file, or where `step` has at most one
--- script thread; `trace` prints the events of such a run as `step` makes; `upgrade` prints the canonical text of the file that the
--- bytes are with its version set to 2; `gen` prints the canonical text of the file that the number generates, which reads as that
--- file, and `bench` the summary of a run of it
+-- script thread; `trace` prints the events of such a run as `step` makes, and `draw` its picture; `upgrade` prints the canonical text
+-- of the file that the bytes are with its version set to 2; `gen` prints the canonical text of the file that the number generates,
+-- which reads as that file, and `bench` the summary of a run of it
 abbrev pub IsOutput : Command → List ℕ → List ℕ → Type 0
 IsOutput (Run threads tries json) bytes text = IsReport tries json (λ file. workers_of threads (length file.threads) ≡ 1) bytes text
 IsOutput (Step tries json) bytes text = IsReport tries json (λ file. length file.threads ≤ 1) bytes text
 IsOutput (Trace tries) bytes text = (file : File) × IsTraceable bytes file × IsTrace tries file text
+IsOutput (Draw tries) bytes text = (file : File) × IsTraceable bytes file × IsPicture tries file text
 IsOutput Upgrade bytes text = (file : File) × (file_of bytes ≡ Ok file) × (text ≡ text_of (upgraded file))
 IsOutput (Gen number) bytes text = (text ≡ text_of (generated number)) × (file_of text ≡ Ok (generated number))
 IsOutput (Bench number threads) bytes text = IsSummary number text
@@ -80,12 +82,14 @@ abbrev pub IsScriptFault : List ℕ → InputFault → Type 0
 IsScriptFault bytes (Script fault) = file_of bytes ≡ Err fault
 IsScriptFault bytes NoReport = ⊥
 IsScriptFault bytes LongTrace = ⊥
+IsScriptFault bytes LongRun = ⊥
 
 -- the bytes have this fault
 abbrev pub HasFault : Command → List ℕ → InputFault → Type 0
 HasFault (Run threads tries json) bytes fault = IsScriptFault bytes fault
 HasFault (Step tries json) bytes fault = IsScriptFault bytes fault
-HasFault (Trace tries) bytes fault = IsTraceFault bytes fault
+HasFault (Trace tries) bytes fault = IsRunFault (HasLongRun tries) bytes fault
+HasFault (Draw tries) bytes fault = IsRunFault (IsTooLong tries) bytes fault
 HasFault Upgrade bytes fault = IsScriptFault bytes fault
 HasFault (Gen number) bytes fault = ⊥
 HasFault (Bench number threads) bytes fault = ⊥

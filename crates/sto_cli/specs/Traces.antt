@@ -1,10 +1,10 @@
--- What `trace` prints of a script, and the faults that it tells of one.
-use Rattle.std.specs.Prelude.{◌≡◌, ◌≤◌, ◌<◌, ℕ, List, length, Option, None, Some, Ok, Err}
+-- What `trace` prints of a script, and the faults that it and `draw` tell of one.
+use Rattle.std.specs.Prelude.{◌≡◌, ◌≤◌, ◌<◌, ℕ, List, length, None, Some, Ok, Err}
 use Rattle.sto_lang.specs.Files.{file_of}
 use Rattle.sto_lang.specs.Scripts.{File}
 use Rattle.sto_lang.specs.Drafts.{transaction_count}
 use Rattle.sto_cli_common.specs.declared.refusal.InputFault.{InputFault}
-use Rattle.sto_cli_common.specs.declared.refusal.InputFault.TheVariants.{Script, NoReport, LongTrace}
+use Rattle.sto_cli_common.specs.declared.refusal.InputFault.TheVariants.{Script, NoReport, LongTrace, LongRun}
 use Rattle.sto_cli_common.specs.declared.refusal.Refusal.{Refusal}
 use Rattle.sto_cli_common.specs.declared.refusal.Refusal.TheVariants.{Usage, Input, ReadFault, WriteFault, NoMemory}
 use Rattle.sto_trace_text.specs.Texts.{trace_text}
@@ -16,7 +16,7 @@ use Rattle.sto_run.specs.Alone.{RanAlone}
 use Rattle.sto_run.specs.Logged.{Log}
 use Rattle.sto_run.specs.Traced.{IsTraceOf}
 
--- how many transactions a script may have that is traced
+-- how many transactions a script may have that is traced or drawn
 abbrev pub most_traced : ℕ
 most_traced = 256
 
@@ -41,16 +41,28 @@ pub record IsTrace (tries : ℕ) (file : File) (text : List ℕ) : Type 0 where
   pub lawful : IsLawfulJournal (updating_by means) file tries journal
   pub alone : length file.threads ≤ 1 → RanAlone file journal
 
+-- a run of the file by its schedule had more steps than are kept
+abbrev pub HasLongRun : ℕ → File → Type 0
+HasLongRun tries file = (journal : Journal) × (homes : List (ℕ × ℕ)) × IsTraceOf file tries journal homes None
+
 -- the bytes are no script, for this fault, or a script that has too many transactions
 abbrev pub IsTraceFault : List ℕ → InputFault → Type 0
 IsTraceFault bytes (Script fault) = file_of bytes ≡ Err fault
 IsTraceFault bytes NoReport = ⊥
 IsTraceFault bytes LongTrace = (file : File) × (file_of bytes ≡ Ok file) × (most_traced < transaction_count file.threads)
+IsTraceFault bytes LongRun = ⊥
 
--- why bytes were not traced: the fault that is told is theirs, and want of memory may come at any time
-abbrev pub IsTraceRefusal : Refusal → List ℕ → Type 0
-IsTraceRefusal (Input fault) bytes = IsTraceFault bytes fault
-IsTraceRefusal NoMemory bytes = Unit {0}
-IsTraceRefusal Usage bytes = ⊥
-IsTraceRefusal ReadFault bytes = ⊥
-IsTraceRefusal WriteFault bytes = ⊥
+-- the same, or a script that can be traced, of which a run is too long
+abbrev pub IsRunFault : (File → Type 0) → List ℕ → InputFault → Type 0
+IsRunFault IsLong bytes LongRun = (file : File) × IsTraceable bytes file × IsLong file
+IsRunFault IsLong bytes (Script fault) = IsTraceFault bytes (Script fault)
+IsRunFault IsLong bytes NoReport = IsTraceFault bytes NoReport
+IsRunFault IsLong bytes LongTrace = IsTraceFault bytes LongTrace
+
+-- why bytes were not traced or drawn: for such a fault, and want of memory may come at any time
+abbrev pub IsRefusalFor : (InputFault → Type 0) → Refusal → Type 0
+IsRefusalFor IsFault (Input fault) = IsFault fault
+IsRefusalFor IsFault NoMemory = Unit {0}
+IsRefusalFor IsFault Usage = ⊥
+IsRefusalFor IsFault ReadFault = ⊥
+IsRefusalFor IsFault WriteFault = ⊥

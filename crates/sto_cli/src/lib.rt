@@ -5,6 +5,7 @@
 #![tactic(auto)]
 
 mod answer;
+mod drawn;
 mod top;
 mod traced;
 mod work;

@@ -1,45 +1,49 @@
-//! The text of `trace`: a line for each event of a run.
-ghost use Rattle.std.specs.Prelude.{◌≡◌, ◌<◌, ◌^◌, length, map, sum, Some, IfOk, IfErr};
+//! The scripts that can be traced, and the text of `trace`: a line for each event of a run.
+ghost use Rattle.std.specs.Prelude.{◌≡◌, map, None, Some, IfOk, IfErr};
 ghost use Rattle.sto_args.specs.declared.command.Command.TheVariants as commands;
+ghost use Rattle.sto_cli_common.specs.declared.refusal.InputFault.TheVariants.{LongRun};
 ghost use Rattle.sto_lang.specs.Objects.{HaveNames};
-ghost use Rattle.sto_lang.specs.Sound.{IsFromTo};
+ghost use Rattle.sto_lang.specs.Drafts.{transaction_count};
+ghost use Rattle.sto_lang.specs.Sound.{IsSound, IsFromTo};
 ghost use Rattle.sto_lang.specs.Views.{file as view};
 ghost use Rattle.sto_report_spec.specs.Named.{AreNames};
 ghost use Rattle.sto_journal.specs.Journals.{home_pair};
 ghost use Rattle.sto_run.specs.Logged.{kept};
-ghost use Rattle.sto_cli.specs.Traces.{IsTraceable, IsTraceRefusal, AreLinesOf};
+ghost use Rattle.sto_cli.specs.Traces.{IsTraceable, IsTraceFault, HasLongRun, IsRunFault, IsRefusalFor, AreLinesOf};
 ghost use Rattle.sto_cli.specs.Outputs.{IsOutput};
 
 use std::alloc::Global;
 use sto_cli_common::{InputFault, Refusal, file_in};
-use sto_lang::{File, Text, Thread};
+use sto_lang::{File, Text};
 use sto_part::NoMemory;
 use sto_run::{TracedRun, trace_file};
 use sto_trace::Step;
 use sto_trace_text::Names;
 use sto_type::Home;
 
-// How many transactions a script may have that is traced.
-const MOST_TRACED: u64 = 256;
+// How many transactions a script may have that is traced or drawn.
+const MOST_TRACED: u32 = 256;
 
-// How many transactions script threads have.
-fn transactions_of(threads: &[Thread]) -> u64
-    requires { length threads.now < 2 ^ 32 }
-    ensures { result ≡ sum (map (λ thread. length thread.scripts.items) threads.now) }
+// How many transactions a file has.
+fn transactions_of(file: &File) -> u32
+    requires { IsSound (view file.now) }
+    ensures { result ≡ transaction_count (view file.now).threads }
 {
-    threads
-        .iter()
-        .map(|thread| u64::from(thread.scripts.len()))
-        .sum()
+    let mut count = 0;
+    for thread in file.threads.as_slice() {
+        count += thread.scripts.len();
+    }
+    count
 }
 
-// The script that these bytes are, where it can be traced.
-fn traceable_in(alloc: Global, bytes: &[u8]) -> Result<File, Refusal>
+/// The script that these bytes are, where it can be traced.
+pub(crate) fn traceable_in(alloc: Global, bytes: &[u8]) -> Result<File, Refusal>
     ensures file { IfOk result (λ file. IsTraceable bytes.now (view file)) }
-    ensures fault { IfErr result (λ e. IsTraceRefusal e bytes.now) }
+    ensures fault { IfErr result (λ e. IsRefusalFor (IsTraceFault bytes.now) e) }
 {
     let file = file_in(alloc, bytes)?;
-    if transactions_of(file.threads.as_slice()) > MOST_TRACED {
+    let count = transactions_of(&file);
+    if count > MOST_TRACED {
         return Err(Refusal::Input(InputFault::LongTrace));
     }
     Ok(file)
@@ -62,25 +66,26 @@ fn text_of(alloc: Global, file: &File, homes: &[Home], steps: &[Step]) -> Result
     Text::of_string(text)
 }
 
-// The lines of the steps of a run of a file, where they were kept.
-fn lines_of(alloc: Global, file: &File, run: &TracedRun) -> Result<Text, NoMemory>
+// The lines of the steps of a run of a file; where they were too many to be kept, the run is too long.
+fn lines_of(alloc: Global, file: &File, run: &TracedRun) -> Result<Text, Refusal>
     requires objects { HaveNames (view file.now).declarations }
     requires threads { AreNames (view file.now).names }
-    ensures { IfOk result (λ text. AreLinesOf (view file.now) (map home_pair run.now.homes.items) (kept run.now.steps) text.items) }
+    ensures text { IfOk result (λ text. AreLinesOf (view file.now) (map home_pair run.now.homes.items) (kept run.now.steps) text.items) }
+    ensures fault { IfErr result (λ e. IsRefusalFor (λ fault. (fault ≡ LongRun) × (kept run.now.steps ≡ None)) e) }
 {
     match &run.steps {
-        Some(steps) => text_of(alloc, file, run.homes.as_slice(), steps.as_slice()),
-        None => Err(NoMemory),
+        Some(steps) => Ok(text_of(alloc, file, run.homes.as_slice(), steps.as_slice())?),
+        None => Err(Refusal::Input(InputFault::LongRun)),
     }
 }
 
-/// What `trace` prints for these bytes. `NoMemory` comes also where the run makes more events than a run keeps.
+/// What `trace` prints for these bytes.
 pub(crate) fn trace_text(alloc: Global, bytes: &[u8], tries: u32) -> Result<Text, Refusal>
     requires { IsFromTo 1 64 tries }
     ensures text { IfOk result (λ text. IsOutput (commands.Trace tries) bytes.now text.items) }
-    ensures fault { IfErr result (λ e. IsTraceRefusal e bytes.now) }
+    ensures fault { IfErr result (λ e. IsRefusalFor (IsRunFault (HasLongRun tries) bytes.now) e) }
 {
     let file = traceable_in(alloc, bytes)?;
     let run = trace_file(alloc, &file, tries)?;
-    Ok(lines_of(alloc, &file, &run)?)
+    lines_of(alloc, &file, &run)
 }

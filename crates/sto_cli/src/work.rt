@@ -8,6 +8,7 @@ ghost use Rattle.sto_cli_common.specs.Ends.{Made, Unmade, Ends, RoseFor};
 ghost use Rattle.sto_cli.specs.Programs.{program};
 
 use crate::answer::{bench_text, gen_text, run_text, step_text, upgrade_text};
+use crate::drawn::draw_text;
 use crate::traced::trace_text;
 use std::alloc::Global;
 use std::thread::Threads;
@@ -65,6 +66,17 @@ fn trace_source<S: Source>(alloc: Global, source: &mut S, tries: u32) -> Result<
     trace_text(alloc, bytes.as_slice(), tries)
 }
 
+/// Reads the source, runs the script in one thread, event by event, and draws the run.
+fn draw_source<S: Source>(alloc: Global, source: &mut S, tries: u32) -> Result<Text, Refusal>
+    requires { IsFromTo 1 64 tries }
+    ensures made { IfOk result (λ text. Made program (commands.Draw tries) tt (S.left source.old) (S.left source.new) text.items) }
+    ensures unmade { IfErr result (λ e. Unmade program e (commands.Draw tries) (S.left source.old) (S.left source.new)) }
+    ensures source_faults { RoseFor ReadFault result (S.faults source.old) (S.faults source.new) }
+{
+    let bytes = script_left(alloc, source)?;
+    draw_text(alloc, bytes.as_slice(), tries)
+}
+
 /// Reads the source, and writes the script in version 2.
 fn upgrade_source<S: Source>(alloc: Global, source: &mut S) -> Result<Text, Refusal>
     ensures made { IfOk result (λ text. Made program commands.Upgrade tt (S.left source.old) (S.left source.new) text.items) }
@@ -75,8 +87,8 @@ fn upgrade_source<S: Source>(alloc: Global, source: &mut S) -> Result<Text, Refu
     upgrade_text(alloc, bytes.as_slice())
 }
 
-/// Makes the whole text of a command. `run`, `step`, `trace` and `upgrade` read the source to its end or past the limit; `gen` and
-/// `bench` do not touch it.
+/// Makes the whole text of a command. `run`, `step`, `trace`, `draw` and `upgrade` read the source to its end or past the limit;
+/// `gen` and `bench` do not touch it.
 fn text_for<R: Threads + Sync, S: Source, G: Gate>(
     rt: &R,
     alloc: Global,
@@ -97,6 +109,7 @@ fn text_for<R: Threads + Sync, S: Source, G: Gate>(
         } => run_source(rt, alloc, source, threads, tries, json, gate),
         Command::Step { tries, json } => step_source(alloc, source, tries, json),
         Command::Trace { tries } => trace_source(alloc, source, tries),
+        Command::Draw { tries } => draw_source(alloc, source, tries),
         Command::Upgrade => upgrade_source(alloc, source),
         Command::Gen { number } => Ok(gen_text(alloc, number)?),
         Command::Bench { number, threads } => Ok(bench_text(rt, alloc, number, threads, gate)?),

@@ -8,13 +8,13 @@ use Rattle.sto_cli_common.specs.declared.refusal.Refusal.TheVariants.{Usage, Inp
 use Rattle.sto_cli_common.specs.Programs.{Program}
 use Rattle.sto_cli_common.specs.Statuses.{status_of}
 use Rattle.sto_cli_common.specs.Ends.{Reads, Made, Faulty, Ends, RoseFor}
-use Rattle.sto_cli_common.specs.Outcomes.{IsDone, IsFaulty, IsStopped, IsToldFault, IfReads, IsToldWell, IsFaultless}
+use Rattle.sto_cli_common.specs.Outcomes.{IsDone, IsFaulty, IsStopped, IsOwn, IsToldFault, IfReads, IsToldWell, IsFaultless}
 use Rattle.sto_cli_common.specs.Causes.{HasAnswered, HasCauses}
 
--- only what is read has faults, and what has one is not answered
+-- only what is read has faults, and what has one of its own is not answered
 pub record IsExclusive {C A : Type 0} (p : Program C A) : Type 0 where
   pub read : (command : C) (bytes : List ℕ) (fault : InputFault) → p.HasFault command bytes fault → p.reads command ≡ true
-  pub faultless : (command : C) (bytes : List ℕ) (fault : InputFault) (answer : A) (text : List ℕ) → p.IsAnswer command bytes answer text → p.HasFault command bytes fault → ⊥
+  pub faultless : (command : C) (bytes : List ℕ) (fault : InputFault) (answer : A) (text : List ℕ) → IsOwn fault → p.IsAnswer command bytes answer text → p.HasFault command bytes fault → ⊥
 
 -- ---- by how the call ended
 
@@ -129,32 +129,32 @@ module _ {C A : Type 0} (p : Program C A) (answered : A → ℕ) (low : (answer 
 -- ---- by what the input is
 
 module _ {C A : Type 0} (p : Program C A) (exclusive : IsExclusive p) (command : C) (bytes rest : List ℕ) where
-  -- what is answered and told was read whole, and has no fault
-  answered_well : (fault : InputFault) (answer : A) (text : List ℕ) → p.HasFault command bytes fault → Made p command answer (Some bytes) (Some rest) text → ⊥
-  answered_well fault answer text f m = by (p.reads command) refl m.reads
+  -- what is answered and told was read whole, and has no fault of its own
+  answered_well : (fault : InputFault) (answer : A) (text : List ℕ) → IsOwn fault → p.HasFault command bytes fault → Made p command answer (Some bytes) (Some rest) text → ⊥
+  answered_well fault answer text own f m = by (p.reads command) refl m.reads
     where
       by : (b : Bool) → p.reads command ≡ b → Reads b (Some bytes) (Some rest) m.bytes → ⊥
       by true e r =
           let whole : bytes ≡ m.bytes = r.0 ∙ ap (λ (xs : List ℕ). m.bytes ++ xs) r.1 ∙ append-nil m.bytes in
-          exclusive.faultless command m.bytes fault answer text m.output (subst (λ (xs : List ℕ). p.HasFault command xs fault) whole f)
+          exclusive.faultless command m.bytes fault answer text own m.output (subst (λ (xs : List ℕ). p.HasFault command xs fault) whole f)
       by false e r = absurd (true≢false (sym (exclusive.read command bytes fault f) ∙ e))
 
 module _ {C A : Type 0} (p : Program C A) (exclusive : IsExclusive p) (answered : A → ℕ) where
   told_fault : (ending : Result A Refusal) (command : C) (bytes rest : List ℕ) (held now : Option (List ℕ)) (fault : InputFault) → Ends p ending (Some command) (Some bytes) (Some rest) held now
-      → p.HasFault command bytes fault → (status_of answered ending ≡ 3) ⊎ (status_of answered ending ≡ 4) ⊎ (status_of answered ending ≡ 6)
-  told_fault (Ok answer) command bytes rest held now fault h f = absurd (answered_well p exclusive command bytes rest fault answer h.text f h.made)
-  told_fault (Err Usage) command bytes rest held now fault h f = no_command _ command h.0
-  told_fault (Err (Input other_fault)) command bytes rest held now fault h f = inl refl
-  told_fault (Err ReadFault) command bytes rest held now fault h f = inr (inl refl)
-  told_fault (Err WriteFault) command bytes rest held now fault h f = absurd (answered_well p exclusive command bytes rest fault h.answer h.text f h.made)
-  told_fault (Err NoMemory) command bytes rest held now fault h f = inr (inr refl)
+      → IsOwn fault → p.HasFault command bytes fault → (status_of answered ending ≡ 3) ⊎ (status_of answered ending ≡ 4) ⊎ (status_of answered ending ≡ 6)
+  told_fault (Ok answer) command bytes rest held now fault h own f = absurd (answered_well p exclusive command bytes rest fault answer h.text own f h.made)
+  told_fault (Err Usage) command bytes rest held now fault h own f = no_command _ command h.0
+  told_fault (Err (Input other_fault)) command bytes rest held now fault h own f = inl refl
+  told_fault (Err ReadFault) command bytes rest held now fault h own f = inr (inl refl)
+  told_fault (Err WriteFault) command bytes rest held now fault h own f = absurd (answered_well p exclusive command bytes rest fault h.answer h.text own f h.made)
+  told_fault (Err NoMemory) command bytes rest held now fault h own f = inr (inr refl)
 
   refused : (ending : Result A Refusal) (command : Option C) (left rest held now : Option (List ℕ)) (fault : InputFault) → Ends p ending command left rest held now
-      → IsToldFault p fault command left rest → (status_of answered ending ≡ 3) ⊎ (status_of answered ending ≡ 4) ⊎ (status_of answered ending ≡ 6)
-  refused ending None left rest held now fault h f = absurd f
-  refused ending (Some command) None rest held now fault h f = absurd f
-  refused ending (Some command) (Some bytes) None held now fault h f = absurd f
-  refused ending (Some command) (Some bytes) (Some rest) held now fault h f = told_fault ending command bytes rest held now fault h f
+      → IsOwn fault → IsToldFault p fault command left rest → (status_of answered ending ≡ 3) ⊎ (status_of answered ending ≡ 4) ⊎ (status_of answered ending ≡ 6)
+  refused ending None left rest held now fault h own f = absurd f
+  refused ending (Some command) None rest held now fault h own f = absurd f
+  refused ending (Some command) (Some bytes) None held now fault h own f = absurd f
+  refused ending (Some command) (Some bytes) (Some rest) held now fault h own f = told_fault ending command bytes rest held now fault h own f
 
 -- bytes that are told and have no fault are refused for none
 told_well : {C A : Type 0} (p : Program C A) (command : C) (left rest : Option (List ℕ)) (fault : InputFault) → Faulty p command fault left rest → IsToldWell p (Some command) left rest → ⊥
@@ -202,7 +202,7 @@ causes p exclusive answered low ending status is command left rest held now read
       usage = usage p answered low left rest held now ending command h;
       usage_only = usage_only p answered low left rest held now ending command h;
       faulty = faulty p answered low left rest held now ending command h;
-      refused = λ fault f. refused p exclusive answered ending command left rest held now fault h f;
+      refused = λ fault own f. refused p exclusive answered ending command left rest held now fault h own f;
       complete = complete p answered ending command left rest held now read read_now wrote wrote_now h fr fw;
       stopped = stopped p answered low left rest held now ending command h;
       unchanged = λ undone. unchanged p answered low left rest held now ending command h (λ answer e. undone (answer, e));

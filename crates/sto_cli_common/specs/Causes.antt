@@ -3,7 +3,7 @@ use Rattle.std.specs.Prelude.{◌≡◌, ◌≢◌, ℕ, ◌≤◌, List, ◌⊎
 use Rattle.sto_io.specs.Told.{Rose}
 use Rattle.sto_cli_common.specs.declared.refusal.InputFault.{InputFault}
 use Rattle.sto_cli_common.specs.Programs.{Program}
-use Rattle.sto_cli_common.specs.Outcomes.{IsDone, IsFaulty, IsStopped, IsFaultless, IsToldFault}
+use Rattle.sto_cli_common.specs.Outcomes.{IsDone, IsFaulty, IsStopped, IsFaultless, IsOwn, IsToldFault}
 
 -- the status is that of an answer
 abbrev pub HasAnswered : {A : Type 0} → (A → ℕ) → ℕ → Type 0
@@ -22,9 +22,9 @@ pub record HasCauses {C A : Type 0} (p : Program C A) (answered : A → ℕ) (st
   -- 2 comes only where the words are no command; there, no other comes but 6
   pub usage : status ≡ 2 → command ≡ None
   pub usage_only : command ≡ None → (status ≡ 2) ⊎ (status ≡ 6)
-  -- 3 comes only where the bytes have a fault; where they are told and have one, no other comes but 4 and 6
+  -- 3 comes only where the bytes have a fault; where they are told and have one of their own, no other comes but 4 and 6
   pub faulty : status ≡ 3 → IsFaulty p command left rest
-  pub refused : (fault : InputFault) → IsToldFault p fault command left rest → (status ≡ 3) ⊎ (status ≡ 4) ⊎ (status ≡ 6)
+  pub refused : (fault : InputFault) → IsOwn fault → IsToldFault p fault command left rest → (status ≡ 3) ⊎ (status ≡ 4) ⊎ (status ≡ 6)
   -- 4 comes only where the count of the source rose; with every other status that is as it was
   pub read_fault : status ≡ 4 → Rose read read_now
   pub no_read_fault : status ≢ 4 → read_now ≡ read

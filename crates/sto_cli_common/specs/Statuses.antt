@@ -1,7 +1,7 @@
 -- The status of a call of a program, and the line that it writes beside. `A` is what a program answers.
 use Rattle.std.specs.Prelude.{◌≡◌, ℕ, List, [], ◌⊎◌, Result, Ok, Err, codes}
 use Rattle.sto_cli_common.specs.Said.{fault_line}
-use Rattle.sto_cli_common.specs.declared.refusal.InputFault.TheVariants.{Script, NoReport, LongTrace}
+use Rattle.sto_cli_common.specs.declared.refusal.InputFault.TheVariants.{Script, NoReport, LongTrace, LongRun}
 use Rattle.sto_cli_common.specs.declared.refusal.Refusal.{Refusal}
 use Rattle.sto_cli_common.specs.declared.refusal.Refusal.TheVariants.{Usage, Input, ReadFault, WriteFault, NoMemory}
 
@@ -28,6 +28,7 @@ refusal_line Usage = codes "sto: usage\n"
 refusal_line (Input (Script fault)) = fault_line fault
 refusal_line (Input NoReport) = codes "sto: line 0: no report\n"
 refusal_line (Input LongTrace) = codes "sto: line 0: too many transactions\n"
+refusal_line (Input LongRun) = codes "sto: line 0: too many events\n"
 refusal_line ReadFault = codes "sto: read fault\n"
 refusal_line WriteFault = codes "sto: write fault\n"
 refusal_line NoMemory = codes "sto: out of memory\n"
@@ -46,6 +47,7 @@ abbrev pub IsFixed : Refusal → Type 0
 IsFixed (Input (Script fault)) = ⊥
 IsFixed (Input NoReport) = Unit {0}
 IsFixed (Input LongTrace) = Unit {0}
+IsFixed (Input LongRun) = Unit {0}
 IsFixed Usage = Unit {0}
 IsFixed ReadFault = Unit {0}
 IsFixed WriteFault = Unit {0}
@@ -56,6 +58,7 @@ abbrev pub IsRefusedSo : Refusal → Refusal → Type 0
 IsRefusedSo (Input (Script fault)) told = (told ≡ Input (Script fault)) ⊎ (told ≡ NoMemory)
 IsRefusedSo (Input NoReport) told = told ≡ Input NoReport
 IsRefusedSo (Input LongTrace) told = told ≡ Input LongTrace
+IsRefusedSo (Input LongRun) told = told ≡ Input LongRun
 IsRefusedSo Usage told = told ≡ Usage
 IsRefusedSo ReadFault told = told ≡ ReadFault
 IsRefusedSo WriteFault told = told ≡ WriteFault

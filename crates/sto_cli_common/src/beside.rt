@@ -26,6 +26,7 @@ fn fixed_line(refusal: Refusal) -> &'static [u8]
         Refusal::Input(InputFault::Script(_)) => unreachable!(),
         Refusal::Input(InputFault::NoReport) => b"sto: line 0: no report\n",
         Refusal::Input(InputFault::LongTrace) => b"sto: line 0: too many transactions\n",
+        Refusal::Input(InputFault::LongRun) => b"sto: line 0: too many events\n",
         Refusal::ReadFault => b"sto: read fault\n",
         Refusal::WriteFault => b"sto: write fault\n",
         Refusal::NoMemory => b"sto: out of memory\n",

@@ -13,8 +13,10 @@ pub enum InputFault {
     Script(ScriptFault),
     /// A report must follow the script, and no line is `report`.
     NoReport,
-    /// A trace is asked, and the script has too many transactions for one.
+    /// A trace or a picture is asked, and the script has too many transactions for one.
     LongTrace,
+    /// The same, and a run of the script has too many events for one.
+    LongRun,
 }
 
 /// Why a call of a program was refused.

@@ -2,7 +2,7 @@
 use Rattle.std.proofs.Common.{◌≡◌, ◌<◌, ℕ, List, length, refl, Option}
 use Rattle.sto_io.specs.Told.{Takes, AtEnd}
 use Rattle.sto_args.specs.declared.asked.Feeding.{Feeding}
-use Rattle.sto_cli_common.specs.declared.refusal.InputFault.TheVariants.{Script, NoReport, LongTrace}
+use Rattle.sto_cli_common.specs.declared.refusal.InputFault.TheVariants.{Script, NoReport, LongTrace, LongRun}
 use Rattle.sto_cli_common.specs.declared.refusal.Refusal.{Refusal}
 use Rattle.sto_cli_common.specs.declared.refusal.Refusal.TheVariants.{Usage, Input, ReadFault, WriteFault, NoMemory}
 use Rattle.sto_cli_common.specs.Ends.{IsFileRefusal, Unmade}
@@ -17,10 +17,11 @@ pub unmade : (asked : Feeding) (left rest : Option (List ℕ)) (taken : List ℕ
 unmade asked left rest taken (Input (Script fault)) t end e = (refl, told_fault left rest taken fault t end e)
 unmade asked left rest taken (Input NoReport) t end e = absurd e
 unmade asked left rest taken (Input LongTrace) t end e = absurd e
+unmade asked left rest taken (Input LongRun) t end e = absurd e
 unmade asked left rest taken NoMemory t end e = tt
 unmade asked left rest taken Usage t end e = absurd e
 unmade asked left rest taken ReadFault t end e = absurd e
 unmade asked left rest taken WriteFault t end e = absurd e
 
 pub exclusive : IsExclusive feed_program
-exclusive = record { read = λ asked bytes fault h. refl; faultless = λ asked bytes fault done text h f. no_fault bytes h.file fault h.script f }
+exclusive = record { read = λ asked bytes fault h. refl; faultless = λ asked bytes fault done text own h f. no_fault bytes h.file fault h.script f }

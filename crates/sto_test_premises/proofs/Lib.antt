@@ -1,4 +1,4 @@
 pub mod Turning
-pub mod Closed
-pub mod Told
-pub mod Instance
+pub mod Adding
+pub mod LostUpdate
+pub mod LockedOut

@@ -1,6 +1,5 @@
 -- What the headline asks of the words of a run and of the records of its attempts, all together.
 use Rattle.std.specs.Prelude.{ℕ, ◌<◌, ◌^◌, List, length}
-use Rattle.sto_model.specs.declared.shape.Shape.{Shape}
 use Rattle.sto_lang.specs.Objects.{shapes_of}
 use Rattle.sto_lang.specs.Scripts.{File}
 use Rattle.sto_type.specs.Meaning.{Meaning}

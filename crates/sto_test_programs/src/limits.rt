@@ -73,21 +73,45 @@ impl Limit {
     }
 }
 
-// A script of one thread with so many transactions.
-fn script_of(alloc: Global, transactions: u32) -> Result<String, AllocError> {
-    let mut text = String::from_str(alloc, "box a 0\nthread\n")?;
+// A script of one thread with so many transactions, which all read the first places of an array.
+fn script_of(alloc: Global, transactions: u32, places: u32) -> Result<String, AllocError> {
+    let mut text = String::from_str(alloc, "array r 512 0\nthread\n")?;
     for _ in 0..transactions {
-        text.push_str("begin\nx = get a\ncommit\n")?;
+        write!(
+            text,
+            "begin\ni = sum 0 0\nrepeat {places}\nx = get r i\ni = sum i 1\nend\ncommit\n"
+        )?;
     }
     Ok(text)
 }
 
-/// Whether a script of 256 transactions is traced, and one of 257 is refused.
-pub fn limits_traces<R: Threads + Sync>(threads: &R, alloc: Global) -> Result<bool, AllocError> {
-    let at = script_of(alloc, 256)?;
-    let past = script_of(alloc, 257)?;
-    let at = outcome_of(threads, alloc, "trace", at.as_str(), &NoGate)?;
-    let past = outcome_of(threads, alloc, "trace", past.as_str(), &NoGate)?;
+// Whether the command refuses a script of so many transactions, each of so many reads, with this line.
+fn refuses<R: Threads + Sync>(
+    threads: &R,
+    alloc: Global,
+    command: &str,
+    (transactions, places): (u32, u32),
+    says: &str,
+) -> Result<bool, AllocError> {
+    let script = script_of(alloc, transactions, places)?;
+    let outcome = outcome_of(threads, alloc, command, script.as_str(), &NoGate)?;
+    Ok(outcome.status == 3 && outcome.said.as_str() == says)
+}
+
+/// Whether the command, `trace` or `draw`, takes a script of 256 transactions, and refuses one of 257.
+pub fn limits_transactions<R: Threads + Sync>(
+    threads: &R,
+    alloc: Global,
+    command: &str,
+) -> Result<bool, AllocError> {
+    let largest = script_of(alloc, 256, 1)?;
+    let largest = outcome_of(threads, alloc, command, largest.as_str(), &NoGate)?;
     let says = "sto: line 0: too many transactions\n";
-    Ok(at.status == 0 && past.status == 3 && past.said == says)
+    Ok(largest.status == 0 && refuses(threads, alloc, command, (257, 1), says)?)
+}
+
+/// Whether `draw` refuses a script whose run makes more than 20,000 events: each of its transactions makes 1,537.
+pub fn limits_events<R: Threads + Sync>(threads: &R, alloc: Global) -> Result<bool, AllocError> {
+    let says = "sto: line 0: too many events\n";
+    refuses(threads, alloc, "draw", (14, 512), says)
 }

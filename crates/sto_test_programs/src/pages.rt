@@ -1,6 +1,6 @@
 //! The examples and worked cases that the pages show, each row of their tables of mistakes and of faults, and scripts at the
 //! limits of version 2.
-use crate::limits::{LIMITS, limits_traces};
+use crate::limits::{LIMITS, limits_events, limits_transactions};
 use crate::outcome::outcome_of;
 use crate::page::{Example, Fault, Mistake, Page};
 use std::alloc::AllocError;
@@ -38,6 +38,29 @@ pub const EXAMPLES: [&str; 13] = [
 /// An example with a schedule, and the report of its steps.
 pub const STEPPED: &str = "schedule";
 
+/// The examples with a schedule, and the pictures of their runs.
+const DRAWN: [&str; 6] = [
+    "lost_update",
+    "write_skew",
+    "extension_keeps",
+    "extension_breaks",
+    "kept_predicate",
+    "phantom",
+];
+
+// Whether a run writes what stands in a file, and nothing beside.
+fn is_as_stored<R: Threads + Sync>(
+    rt: &HostRuntime,
+    threads: &R,
+    words: &str,
+    script: &str,
+    file: &str,
+) -> io::Result<bool> {
+    let stored = fs::read_to_string(rt, file)?;
+    let outcome = outcome_of(threads, rt.alloc(), words, script, &NoGate)?;
+    Ok(outcome.status == 0 && outcome.said.is_empty() && outcome.written == stored)
+}
+
 // Whether a run writes what the page shows, with the status where the page shows it, and else with status 0.
 fn is_as_shown<R: Threads + Sync>(
     rt: &HostRuntime,
@@ -45,6 +68,9 @@ fn is_as_shown<R: Threads + Sync>(
     example: &Example,
 ) -> io::Result<bool> {
     let shown = example.command.as_str();
+    if let Some((words, file)) = shown.split_once(" > ") {
+        return is_as_stored(rt, threads, words, example.script.as_str(), file);
+    }
     let asked = shown.strip_suffix("; echo $?");
     let command = asked.unwrap_or(shown);
     let outcome = match command.split_once(" < ") {
@@ -133,7 +159,17 @@ fn run_example<R: Threads + Sync>(
     Ok(())
 }
 
-/// Goes over all pages, examples and limits.
+// Draws the script.
+fn draw_example<R: Threads + Sync>(rt: &HostRuntime, threads: &R, name: &str) -> io::Result<()> {
+    let script = fs::read_to_string(rt, format!(in rt.alloc(); "examples/pictures/{name}.sto")?)?;
+    let picture = format!(in rt.alloc(); "examples/pictures/{name}.svg")?;
+    if !is_as_stored(rt, threads, "draw", script.as_str(), picture.as_str())? {
+        println!(rt; "{picture}: the picture is another")?;
+    }
+    Ok(())
+}
+
+/// Goes over all pages, examples, pictures and limits.
 pub fn go_over_all<R: Threads + Sync>(rt: &HostRuntime, threads: &R) -> io::Result<()> {
     for name in PAGES {
         go_over(rt, threads, name)?;
@@ -142,13 +178,21 @@ pub fn go_over_all<R: Threads + Sync>(rt: &HostRuntime, threads: &R) -> io::Resu
         run_example(rt, threads, "run", name)?;
     }
     run_example(rt, threads, "step", STEPPED)?;
+    for name in DRAWN {
+        draw_example(rt, threads, name)?;
+    }
     for limit in LIMITS {
         if !limit.holds(threads, rt.alloc())? {
             println!(rt; "the limit on {} is another", limit.name)?;
         }
     }
-    if !limits_traces(threads, rt.alloc())? {
-        println!(rt; "the limit on transactions of a trace is another")?;
+    for command in ["trace", "draw"] {
+        if !limits_transactions(threads, rt.alloc(), command)? {
+            println!(rt; "the limit on transactions of {command} is another")?;
+        }
+    }
+    if !limits_events(threads, rt.alloc())? {
+        println!(rt; "the limit on events of a picture is another")?;
     }
     Ok(())
 }

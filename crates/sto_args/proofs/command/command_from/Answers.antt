@@ -17,6 +17,9 @@ generate-requires c = sym (list_any-map is_refused (λ option. option.now) c.arg
 pub trace-requires : goal.trace-requires
 trace-requires c = sym (list_any-map is_refused (λ option. option.now) c.args.options.now) ∙ sym c.has_refused.ensures ∙ c.if-has_refused.false
 
+pub draw-requires : goal.draw-requires
+draw-requires c = sym (list_any-map is_refused (λ option. option.now) c.args.options.now) ∙ sym c.has_refused.ensures ∙ c.if-has_refused.false
+
 pub step-requires : goal.step-requires
 step-requires c = sym (list_any-map is_refused (λ option. option.now) c.args.options.now) ∙ sym c.has_refused.ensures ∙ c.if-has_refused.false
 

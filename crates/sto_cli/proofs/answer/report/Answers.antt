@@ -1,6 +1,5 @@
-use Rattle.std.proofs.Common.{◌≡◌, ℕ, Bool, map, refl, subst, sym}
+use Rattle.std.proofs.Common.{◌≡◌, Bool, map, refl, subst, sym}
 use Rattle.sto_lang.specs.Views.{file as view}
-use Rattle.sto_lang.specs.Scripts.{File}
 use Rattle.sto_report_spec.specs.Lawful.{IsLawfulIn}
 use Rattle.sto_run.specs.Meanings.{updating_by}
 use Rattle.sto_run.specs.Stores.{means}

@@ -1,4 +1,3 @@
-use Rattle.std.proofs.Common.{◌∙◌}
 use Rattle.sto_run.specs.Meanings.{updating_by}
 use Rattle.sto_run.specs.Stores.{means}
 use Rattle.sto_cli.specs.Outputs.{form_for}

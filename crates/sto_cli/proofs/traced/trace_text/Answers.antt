@@ -1,9 +1,16 @@
-use Rattle.std.proofs.Common.{map}
+use Rattle.std.specs.Prelude.{None}
+use Rattle.std.proofs.Common.{◌≡◌, map}
+use Rattle.std.proofs.lemmas.Result.{IfOk-weaker, IfErr-weaker}
+use Rattle.sto_args.specs.declared.command.Command.TheVariants as commands
+use Rattle.sto_cli_common.specs.declared.refusal.InputFault.TheVariants.{LongRun}
 use Rattle.sto_lang.specs.Views.{file as view}
 use Rattle.sto_lang.proofs.SoundFiles.{readable_sound}
 use Rattle.sto_journal.specs.Journals.{home_pair}
 use Rattle.sto_run.specs.Logged.{kept}
 use Rattle.sto_run.proofs.Printed.{names_of_sound}
+use Rattle.sto_cli.specs.Traces.{AreLinesOf, HasLongRun, IsRunFault, IsRefusalFor}
+use Rattle.sto_cli.specs.Outputs.{IsOutput}
+use Rattle.sto_cli.proofs.Refusals.{long_run}
 use Rattle.sto_cli.proofs.traced.trace_text.Goals as goal
 
 pub trace_file-requires-clause-sound : goal.trace_file-requires-clause-sound
@@ -19,16 +26,33 @@ lines_of-requires-clause-threads c =
 
 pub returns-clause-text : goal.returns-clause-text
 returns-clause-text c =
-    let run = c.in_ok-run.run' in (
-      view c.in_ok-file.file,
+    let run = c.in_ok-run.run' in
+    let file = view c.in_ok-file.file in
+    IfOk-weaker c.lines_of.result
+    (λ text. AreLinesOf file (map home_pair run.homes.items) (kept run.steps) text.items)
+    (λ text. IsOutput (commands.Trace c.args.tries) c.args.bytes.now text.items)
+    (λ text lines. (
+      file,
       c.in_ok-file.ensures.file,
       record {
         journal = run.journal;
         homes = map home_pair run.homes.items;
         steps = kept run.steps;
         run = c.in_ok-run.ensures.traced;
-        lines = c.in_ok-lines_of.ensures;
+        lines = lines;
         lawful = c.in_ok-run.ensures.lawful;
         alone = c.in_ok-run.ensures.alone;
       },
-    )
+    ))
+    c.lines_of.ensures.text
+
+pub returns-clause-fault : goal.returns-clause-fault
+returns-clause-fault c =
+    let run = c.in_ok-run.run' in
+    let file = view c.in_ok-file.file in
+    IfErr-weaker c.lines_of.result
+    (λ e. IsRefusalFor (λ fault. (fault ≡ LongRun) × (kept run.steps ≡ None)) e)
+    (λ e. IsRefusalFor (IsRunFault (HasLongRun c.args.tries) c.args.bytes.now) e)
+    (λ e h. long_run c.args.tries c.args.bytes.now file run.journal (map home_pair run.homes.items) (kept run.steps) c.in_ok-file.ensures.file
+    c.in_ok-run.ensures.traced e h)
+    c.lines_of.ensures.fault

@@ -1,0 +1,52 @@
+-- Why a script is not traced or drawn.
+use Rattle.std.specs.Prelude.{None}
+use Rattle.std.proofs.Common.{◌≡◌, ℕ, List, sym, subst}
+use Rattle.sto_lang.specs.Scripts.{File}
+use Rattle.sto_cli_common.specs.declared.refusal.InputFault.{InputFault}
+use Rattle.sto_cli_common.specs.declared.refusal.InputFault.TheVariants.{Script, NoReport, LongTrace, LongRun}
+use Rattle.sto_cli_common.specs.declared.refusal.Refusal.{Refusal}
+use Rattle.sto_cli_common.specs.declared.refusal.Refusal.TheVariants.{Usage, Input, ReadFault, WriteFault, NoMemory}
+use Rattle.sto_cli_common.specs.Ends.{IsFileRefusal}
+use Rattle.sto_journal.specs.declared.journal.Journal.{Journal}
+use Rattle.sto_run.specs.Logged.{Log}
+use Rattle.sto_run.specs.Traced.{IsTraceOf}
+use Rattle.sto_cli.specs.Traces.{IsTraceable, HasLongRun, IsTraceFault, IsRunFault, IsRefusalFor}
+
+pub refused_for : (F G : InputFault → Type 0) → ((fault : InputFault) → F fault → G fault) → (e : Refusal) → IsRefusalFor F e → IsRefusalFor G e
+refused_for F G h (Input fault) e = h fault e
+refused_for F G h NoMemory e = tt
+refused_for F G h Usage e = absurd e
+refused_for F G h ReadFault e = absurd e
+refused_for F G h WriteFault e = absurd e
+
+-- bytes that are no file are none that can be traced
+pub no_file : (bytes : List ℕ) (e : Refusal) → IsFileRefusal e bytes → IsRefusalFor (IsTraceFault bytes) e
+no_file bytes (Input (Script fault)) h = h
+no_file bytes (Input NoReport) h = absurd h
+no_file bytes (Input LongTrace) h = absurd h
+no_file bytes (Input LongRun) h = absurd h
+no_file bytes NoMemory h = tt
+no_file bytes Usage h = absurd h
+no_file bytes ReadFault h = absurd h
+no_file bytes WriteFault h = absurd h
+
+trace_fault : (IsLong : File → Type 0) (bytes : List ℕ) (fault : InputFault) → IsTraceFault bytes fault → IsRunFault IsLong bytes fault
+trace_fault IsLong bytes (Script fault) h = h
+trace_fault IsLong bytes NoReport h = h
+trace_fault IsLong bytes LongTrace h = h
+trace_fault IsLong bytes LongRun h = absurd h
+
+-- of bytes that cannot be traced there is no run
+pub untraceable : (IsLong : File → Type 0) (bytes : List ℕ) (e : Refusal) → IsRefusalFor (IsTraceFault bytes) e → IsRefusalFor (IsRunFault IsLong bytes) e
+untraceable IsLong bytes e h = refused_for (IsTraceFault bytes) (IsRunFault IsLong bytes) (trace_fault IsLong bytes) e h
+
+-- a run whose steps were not kept is too long
+pub long_run : (tries : ℕ) (bytes : List ℕ) (file : File) (journal : Journal) (homes : List (ℕ × ℕ)) (steps : Log) → IsTraceable bytes file
+    → IsTraceOf file tries journal homes steps → (e : Refusal) → IsRefusalFor (λ fault. (fault ≡ LongRun) × (steps ≡ None)) e
+    → IsRefusalFor (IsRunFault (HasLongRun tries) bytes) e
+long_run tries bytes file journal homes steps traceable run e h =
+    refused_for (λ fault. (fault ≡ LongRun) × (steps ≡ None)) (IsRunFault (HasLongRun tries) bytes)
+    (λ fault so.
+    let none = subst (λ (kept : Log). IsTraceOf file tries journal homes kept) so.1 run in
+    subst (λ (f : InputFault). IsRunFault (HasLongRun tries) bytes f) (sym so.0) (file, traceable, (journal, homes, none)))
+    e h

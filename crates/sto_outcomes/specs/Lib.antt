@@ -1,0 +1,3 @@
+pub mod Outcomes
+pub mod Tallied
+pub use Rattle.sto_explore.specs.Explored

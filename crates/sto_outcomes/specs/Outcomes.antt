@@ -1,0 +1,50 @@
+-- What runs lead to, each report once.
+use Rattle.std.specs.Prelude.{◌≡◌, ◌+◌, ◌≤◌, ℕ, List, ◌∷◌, ◌++◌, length, map, sum_by, count_by, Bool, true, string_bytes}
+use Rattle.std.specs.List.{AllByRecursion, list_any}
+use Rattle.std.specs.List.Sorted.{IsStrictlySortedBy}
+use Rattle.std.specs.Ordering.{nat_cmp}
+use Rattle.std.specs.Cmp.Lexicographic.{slice_cmp}
+use Rattle.std.specs.Str.{bytes_eq}
+use Rattle.sto_explore.specs.Explored.{Found}
+use Rattle.sto_explore.specs.declared.leg.Leg.{Leg}
+use Rattle.sto_outcomes.specs.declared.outcome.Reported.{Reported}
+use Rattle.sto_outcomes.specs.declared.outcome.Outcome.{Outcome}
+use Rattle.sto_outcomes.specs.declared.outcome.Outcomes.{Outcomes}
+
+-- whether a run leads to this report
+abbrev pub leads_to : List ℕ → Found Reported → Bool
+leads_to text x = bytes_eq text (string_bytes x.report.text)
+
+-- it leads there by so many legs or more
+abbrev pub NeedsAtLeast : List ℕ → ℕ → Found Reported → Type 0
+NeedsAtLeast text count x = leads_to text x ≡ true → count ≤ length x.legs
+
+-- the legs are those of a run that leads to this report: none that does has fewer, and each that does and was found before has more
+pub record AreFirstFewest (xs : List (Found Reported)) (text : List ℕ) (legs : List Leg) : Type 0 where
+  pub before : List (Found Reported)
+  pub x : Found Reported
+  pub others : List (Found Reported)
+  pub among : xs ≡ before ++ x ∷ others
+  pub same : x.legs ≡ legs
+  pub leads : leads_to text x ≡ true
+  pub more : AllByRecursion (NeedsAtLeast text (length legs + 1)) before
+  pub no_fewer : AllByRecursion (NeedsAtLeast text (length legs)) others
+
+-- an outcome of runs: as many schedules as runs lead to its report, and the legs of one of them
+pub record IsOutcome (xs : List (Found Reported)) (o : Outcome) : Type 0 where
+  pub schedules : o.schedules ≡ count_by (leads_to (string_bytes o.text)) xs
+  pub legs : AreFirstFewest xs (string_bytes o.text) o.legs.items
+
+-- the texts of outcomes rise, so that none comes twice
+abbrev pub AreRising : List Outcome → Type 0
+AreRising outcomes = IsStrictlySortedBy (slice_cmp nat_cmp) (map (λ o. string_bytes o.text) outcomes)
+
+-- these are the outcomes of the runs: each report that one leads to is among them, and none else. They add up to all runs
+pub record AreOutcomes (xs : List (Found Reported)) (outcomes : Outcomes) : Type 0 where
+  pub each : AllByRecursion (IsOutcome xs) outcomes.each.items
+  pub all : AllByRecursion (λ x. list_any (λ o. leads_to (string_bytes o.text) x) outcomes.each.items ≡ true) xs
+  pub rising : AreRising outcomes.each.items
+  pub sum : sum_by (λ o. o.schedules) outcomes.each.items ≡ length xs
+  pub schedules : outcomes.schedules ≡ length xs
+  pub locked : outcomes.aborted.locked ≡ sum_by (λ x. x.report.aborted.locked) xs
+  pub changed : outcomes.aborted.changed ≡ sum_by (λ x. x.report.aborted.changed) xs
