@@ -1,6 +1,5 @@
 -- The lines of a trace are ASCII.
-use Rattle.std.specs.Prelude.{if◌then◌else◌}
-use Rattle.std.proofs.Common.{◌≡◌, List, Bool, true, false}
+use Rattle.std.proofs.Common.{List, Bool, true, false}
 use Rattle.std.specs.Str.{IsAscii}
 use Rattle.sto_lang.specs.Sound.{IsSound}
 use Rattle.sto_run.proofs.Printed.{names_of_sound}

@@ -55,7 +55,7 @@ fn lines_by(
     steps: &[Step],
     json: bool,
 ) -> Result<String, NoMemory>
-    requires sound { IsSound (view names.now.file.now) }
+    requires { IsSound (view names.now.file.now) }
     ensures { IfOk result (λ text. string_bytes text ≡ lines_in json (named names.now) steps.now) }
 {
     if json {
@@ -72,7 +72,7 @@ fn text_of(
     steps: &[Step],
     json: bool,
 ) -> Result<Text, NoMemory>
-    requires sound { IsSound (view file.now) }
+    requires { IsSound (view file.now) }
     ensures { IfOk result (λ text. AreLinesOf json (view file.now) (map home_pair homes.now) (Some steps.now) text.items) }
 {
     let names = Names { file, homes };
@@ -82,7 +82,7 @@ fn text_of(
 
 // The lines of the steps of a run of a file; where they were too many to be kept, the run is too long.
 fn lines_of(alloc: Global, file: &File, run: &TracedRun, json: bool) -> Result<Text, Refusal>
-    requires sound { IsSound (view file.now) }
+    requires { IsSound (view file.now) }
     ensures text { IfOk result (λ text. AreLinesOf json (view file.now) (map home_pair run.now.homes.items) (kept run.now.steps) text.items) }
     ensures fault { IfErr result (λ e. IsRefusalFor (λ fault. (fault ≡ LongRun) × (kept run.now.steps ≡ None)) e) }
 {

@@ -15,8 +15,8 @@ use Rattle.sto_cli.proofs.traced.trace_text.Goals as goal
 pub trace_file-requires-clause-sound : goal.trace_file-requires-clause-sound
 trace_file-requires-clause-sound c = readable_sound c.args.bytes.now (view c.in_ok-file.file) c.in_ok-file.ensures.file.0
 
-pub lines_of-requires-clause-sound : goal.lines_of-requires-clause-sound
-lines_of-requires-clause-sound c = readable_sound c.args.bytes.now (view c.in_ok-file.file) c.in_ok-file.ensures.file.0
+pub lines_of-requires : goal.lines_of-requires
+lines_of-requires c = readable_sound c.args.bytes.now (view c.in_ok-file.file) c.in_ok-file.ensures.file.0
 
 pub returns-clause-text : goal.returns-clause-text
 returns-clause-text c =
