@@ -40,6 +40,7 @@ fn visit<P: Drop, R: Runs<P>, G: Gathers<P>>(
     left: u32,
     order: &[u32],
 ) -> Result<(), NoMemory>
+    requires ready { R.ready runs.now }
     requires decided { AllByRecursion (λ leg. IsAmong (R.threads runs.now) leg.thread) decided.items }
     requires order { AllByRecursion (IsAmong (R.threads runs.now)) order.now }
     ensures { OnOk result ((start : Place) → IsOrdered start (R.tells runs.now) decided.items left order.now
@@ -63,7 +64,8 @@ fn take_up<P: Drop, R: Runs<P>, G: Gathers<P>>(
     found: &mut G,
     branch: Branch,
 ) -> Result<(), NoMemory>
-    requires { (start : Place) × (start.going ≡ R.threads runs.now) × IsOffer start (R.tells runs.now) (offer_of branch) }
+    requires ready { R.ready runs.now }
+    requires offered { (start : Place) × (start.going ≡ R.threads runs.now) × IsOffer start (R.tells runs.now) (offer_of branch) }
     ensures { OnOk result ((start : Place) → start.going ≡ R.threads runs.now → IsOffer start (R.tells runs.now) (offer_of branch)
         → HasVisited start (R.tells runs.now) (R.reports runs.now) (G.holds found.old) (G.holds found.new) branch.decided.items
         (order_after (R.threads runs.now) branch.decided.items branch.next) (map offer_of todo.old.items) (map offer_of todo.new.items)) }
@@ -88,7 +90,8 @@ fn begin<P: Drop, R: Runs<P>, G: Gathers<P>>(
     switches: u32,
     found: &mut G,
 ) -> Result<Vec<Branch>, NoMemory>
-    requires { G.holds found.old [] }
+    requires ready { R.ready runs.now }
+    requires none { G.holds found.old [] }
     ensures { IfOk result (λ todo. IsUnderWay (start_of switches (R.threads runs.now)) (R.tells runs.now) (R.reports runs.now)
         (G.holds found.new) 1 (map offer_of todo.items)) }
 {
@@ -110,7 +113,8 @@ pub fn explore<P: Drop, R: Runs<P>, G: Gathers<P>>(
     limit: u32,
     found: &mut G,
 ) -> Result<(), Stopped>
-    requires { G.holds found.old [] }
+    requires ready { R.ready runs.now }
+    requires none { G.holds found.old [] }
     ensures explored { OnOk result ((xs : List (Found P)) × G.holds found.new xs
         × AreExplored (start_of switches (R.threads runs.now)) (R.tells runs.now) (R.reports runs.now) xs) }
     ensures too_many { IfErr result (λ why. why ≡ TooMany → (xs : List (Found P)) × G.holds found.new xs

@@ -17,6 +17,9 @@ pub struct Ran<P> {
 
 /// Threads that can be run from their beginning by any schedule, again and again. What a run leads to is a `P`.
 pub trait Runs<P> {
+    /// They can be run.
+    ghost ready: { Self → Type 0 };
+
     /// The threads that have something to do.
     ghost threads: { Self → List ℕ };
 
@@ -28,12 +31,14 @@ pub trait Runs<P> {
 
     /// The threads that have something to do, in the order in which they are tried.
     fn threads(&self) -> &[u32]
+        requires { ready self.now }
         ensures threads { result.now ≡ threads self.now }
         ensures apart { AreApart (threads self.now) };
 
     /// Runs the threads from their beginning: by the legs that are decided, and then each thread of the order to its end, with at least
     /// one turn.
     fn run(&self, alloc: Global, decided: &[Leg], order: &[u32]) -> Result<Ran<P>, NoMemory>
+        requires ready { ready self.now }
         requires decided { AllByRecursion (λ leg. IsAmong (threads self.now) leg.thread) decided.now }
         requires order { AllByRecursion (IsAmong (threads self.now)) order.now }
         ensures ends { IfOk result (λ ran. LeadToEnds order.now ran.legs.items) }

@@ -32,7 +32,7 @@ returns g c =
     let all = c.threads-all.ensures.threads in
     let ordered = subst (λ (ls : List Leg). IsOrdered start tells ls c.args.switches c.threads-all.result.now) (sym empty)
     (subst (λ (us : List ℕ). IsOrdered start tells [] c.args.switches us) (sym all) (start_ordered c.args.switches threads tells c.threads-all.ensures.apart)) in
-    first_run c.args.switches threads tells reports holds held was now c.requires
+    first_run c.args.switches threads tells reports holds held was now c.requires.none
     (c.in_ok-offer_others.ensures ∙ (λ i. map offer_of (c.new-todo.ensures.items i) ++ offers_to ((c.as_slice.ensures.value ∙ empty) i) c.args.switches (drop 1 (all i))))
     c.threads-all.ensures.apart
     (subst (λ (ls : List Leg). HasVisited start tells reports holds held ls threads was now) empty

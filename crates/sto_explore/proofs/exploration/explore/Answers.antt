@@ -6,8 +6,8 @@ use Rattle.sto_explore.specs.Branches.{offer_of}
 use Rattle.sto_explore.proofs.Visiting.{going_on, last_offer, all_explored, too_many}
 use Rattle.sto_explore.proofs.exploration.explore.Goals as goal
 
-pub take_up-requires : goal.take_up-requires
-take_up-requires g c =
+pub take_up-requires-clause-offered : goal.take_up-requires-clause-offered
+take_up-requires-clause-offered g c =
     let start = start_of c.args.switches (g.R.Runs.threads c.args.runs.now) in
     let popped : c.loop-made.todo.items ≡ c.pop.new.self.items ++ c.in-Some.branch ∷ [] = search rules in (
       start,

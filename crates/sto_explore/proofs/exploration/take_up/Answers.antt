@@ -10,18 +10,18 @@ use Rattle.sto_explore.proofs.exploration.take_up.Goals as goal
 pub visit-requires-clause-decided : goal.visit-requires-clause-decided
 visit-requires-clause-decided g c =
     let legs = c.args.branch.decided.items in
-    subst (λ (ts : List ℕ). AllByRecursion (λ (leg : Leg). IsAmong ts leg.thread) legs) c.requires.1 (legs_among c.requires.0.going legs c.requires.2.begun.fit)
+    subst (λ (ts : List ℕ). AllByRecursion (λ (leg : Leg). IsAmong ts leg.thread) legs) c.requires.offered.1 (legs_among c.requires.offered.0.going legs c.requires.offered.2.begun.fit)
 
 pub visit-requires-clause-order : goal.visit-requires-clause-order
 visit-requires-clause-order g c =
-    let start = c.requires.0 in
-    let same = c.requires.1 in
+    let start = c.requires.offered.0 in
+    let same = c.requires.offered.1 in
     let next = c.args.branch.next in
     let is : c.as_slice-ordered.result.now ≡ order_after start.going c.args.branch.decided.items next =
     c.as_slice-ordered.ensures.value ∙ c.in_ok-order.ensures ∙ (λ i. order_after ((c.threads-all.ensures.threads ∙ sym same) i) (c.as_slice-legs.ensures.value i) next) in
     subst (λ (ts : List ℕ). AllByRecursion (IsAmong ts) c.as_slice-ordered.result.now) same
     (subst (λ (us : List ℕ). AllByRecursion (IsAmong start.going) us) (sym is)
-    (order_among start (g.R.Runs.tells c.args.runs.now) (offer_of c.args.branch) (subst AreApart (sym same) c.threads-all.ensures.apart) c.requires.2))
+    (order_among start (g.R.Runs.tells c.args.runs.now) (offer_of c.args.branch) (subst AreApart (sym same) c.threads-all.ensures.apart) c.requires.offered.2))
 
 pub returns : goal.returns
 returns g c = λ start same offer.
