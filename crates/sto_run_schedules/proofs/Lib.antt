@@ -1,6 +1,1 @@
-pub mod Turned
-pub mod Fronts
-pub mod Ending
-pub mod Stepping
-pub mod Busy
-pub mod Entries
+pub mod FileStepping

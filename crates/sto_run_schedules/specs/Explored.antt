@@ -10,7 +10,7 @@ use Rattle.sto_explore.specs.Explored.{Found, AreExplored, AreTooMany, start_of}
 use Rattle.sto_outcomes.specs.Outcomes.{AreOutcomes}
 use Rattle.sto_outcomes.specs.declared.outcome.Reported.{Reported}
 use Rattle.sto_outcomes.specs.declared.outcome.Outcomes.{Outcomes}
-use Rattle.sto_run_schedules.specs.Telling.{tells_of, busy_threads}
+use Rattle.sto_run_legs.specs.Telling.{tells_of, busy_threads}
 use Rattle.sto_run_schedules.specs.Leading.{LeadsTo}
 
 -- the outcomes of runs of a file: on its objects, one by each schedule with at most so many switches, and none else

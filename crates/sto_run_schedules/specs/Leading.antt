@@ -27,7 +27,7 @@ use Rattle.sto_run.specs.OfRecords.{IsOfRecords}
 use Rattle.sto_run.specs.Traced.{IsTraced, of_objects}
 use Rattle.sto_lawful_report.specs.Forms.{order_told, aborts_told}
 use Rattle.sto_outcomes.specs.declared.outcome.Reported.{Reported}
-use Rattle.sto_run_schedules.specs.Telling.{opened_for}
+use Rattle.sto_run_legs.specs.Telling.{opened_for}
 
 -- on objects of a type the file was run by a schedule, and these are the steps of its threads; the journal is that of the records of this run
 pub record IsRunBy {T : Type 0} (t : OfType T) (ty : T) (file : File) (tries : ℕ) (schedule : List Turns) (journal : Journal) (steps : Log) : Type 0 where

@@ -1,5 +1,3 @@
-pub mod Parted
-pub mod Telling
 pub mod Leading
 pub mod Ready
 pub mod Explored

@@ -10,7 +10,7 @@ use Rattle.sto_run.specs.Runnable.{IsRunnable}
 use Rattle.sto_run.specs.Traced.{of_objects}
 use Rattle.sto_lawful_report.specs.Forms.{form_for}
 use Rattle.sto_outcomes.specs.declared.outcome.Reported.{Reported}
-use Rattle.sto_run_schedules.specs.Telling.{tells_of, busy_threads}
+use Rattle.sto_run_legs.specs.Telling.{tells_of, busy_threads}
 use Rattle.sto_run_schedules.specs.Leading.{LeadsTo}
 use Rattle.sto_run_schedules.specs.declared.runs.FileRuns.{FileRuns}
 

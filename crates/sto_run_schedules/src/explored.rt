@@ -11,7 +11,6 @@ ghost use Rattle.sto_lawful_report.specs.Forms.{form_for};
 ghost use Rattle.sto_explore.specs.declared.exploration.Stopped.TheVariants.{TooMany};
 ghost use Rattle.sto_run_schedules.specs.Explored.{AreOutcomesOf, HasTooMany};
 
-use crate::busy::busy_threads;
 use crate::runs::FileRuns;
 use std::alloc::Global;
 use sto_explore::{Stopped, explore};
@@ -19,6 +18,7 @@ use sto_lang::File;
 use sto_objects::Objects;
 use sto_outcomes::{Outcomes, Tally};
 use sto_run::{LentFile, NoGate, OpenedRun, objects_of};
+use sto_run_legs::busy_threads;
 use sto_run_threads::RetryTurn;
 
 /// Runs a file in one thread by every schedule with at most so many switches away from a thread that could go on, and gathers the reports.

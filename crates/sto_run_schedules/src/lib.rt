@@ -3,10 +3,7 @@
 //! [`explore_file`] runs a file in one thread again and again, by one schedule after another, and gathers the reports.
 #![tactic(auto)]
 
-mod busy;
-mod entries;
 mod explored;
-mod legs;
 mod reported;
 mod runs;
 mod traced;

@@ -2,8 +2,6 @@
 ghost use Rattle.std.specs.Prelude.{◌<◌};
 ghost use Rattle.sto_run_steps.specs.Logged.{most_kept};
 
-use crate::entries::entries_to_ends;
-use crate::legs::{ends, past};
 use crate::reported::reported;
 use crate::traced::trace_by;
 use std::alloc::Global;
@@ -12,6 +10,7 @@ use sto_objects::Objects;
 use sto_outcomes::Reported;
 use sto_part::NoMemory;
 use sto_run::{LentFile, NoGate, OpenedRun};
+use sto_run_legs::{ends, entries_to_ends, past};
 
 /// A file that can be run in one thread by any schedule, again and again, and the threads that have a transaction.
 #[derive(Drop)]

@@ -3,7 +3,7 @@ ghost use Rattle.std.specs.Prelude.{◌≡◌, ◌++◌, ◌<◌, map, IfOk, OnO
 ghost use Rattle.std.specs.List.{flat_map};
 ghost use Rattle.sto_run_steps.specs.Turning.{entry_turns};
 ghost use Rattle.sto_explore.specs.Legs.{schedule_of};
-ghost use Rattle.sto_run_schedules.specs.Parted.{turns_to_ends};
+ghost use Rattle.sto_run_legs.specs.Parted.{turns_to_ends};
 
 use std::alloc::Global;
 use sto_explore::Leg;
@@ -11,7 +11,7 @@ use sto_lang::Turns;
 use sto_part::NoMemory;
 
 /// The schedule by which legs are made. `NoMemory` comes also where a leg has 2^32 turns or more.
-pub(crate) fn entries_of(alloc: Global, legs: &[Leg]) -> Result<Vec<Turns>, NoMemory>
+pub fn entries_of(alloc: Global, legs: &[Leg]) -> Result<Vec<Turns>, NoMemory>
     ensures turns { IfOk result (λ entries. flat_map entry_turns entries.items ≡ schedule_of legs.now) }
     ensures threads { IfOk result (λ entries. map (λ e. e.thread) entries.items ≡ map (λ leg. leg.thread) legs.now) }
 {
@@ -32,7 +32,7 @@ pub(crate) fn entries_of(alloc: Global, legs: &[Leg]) -> Result<Vec<Turns>, NoMe
 }
 
 /// The schedule of legs with which a run begins, and then of so many turns of each thread of an order.
-pub(crate) fn entries_to_ends(
+pub fn entries_to_ends(
     alloc: Global,
     decided: &[Leg],
     order: &[u32],

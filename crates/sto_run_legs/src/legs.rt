@@ -1,7 +1,7 @@
 //! The events of a run, parted into legs.
-ghost use Rattle.std.specs.Prelude.{◌≡◌, IfOk, min, nat_eq};
+ghost use Rattle.std.specs.Prelude.{◌≡◌, ◌≤◌, ◌<◌, ◌^◌, length, IfOk, nat_eq};
 ghost use Rattle.std.specs.List.{prefix_len};
-ghost use Rattle.sto_run_schedules.specs.Parted.{front_of, past, ends_of};
+ghost use Rattle.sto_run_legs.specs.Parted.{front_of, past, ends_of};
 
 use std::alloc::Global;
 use sto_explore::Leg;
@@ -20,29 +20,29 @@ fn own_front(steps: &[Step], thread: u32) -> usize
 
 // No more of them than so many.
 fn front(steps: &[Step], thread: u32, most: u64) -> usize
-    ensures { result ≡ front_of thread most steps.now }
+    ensures count { result ≡ front_of thread most steps.now }
+    ensures within { result ≤ length steps.now }
 {
     own_front(steps, thread).min(most as usize)
 }
 
 /// The events past those of the legs with which a run begins.
-pub(crate) fn past<'s>(steps: &'s [Step], decided: &[Leg]) -> &'s [Step]
-    ensures { result.now ≡ past decided.now steps.now }
+pub fn past<'s>(steps: &'s [Step], decided: &[Leg]) -> &'s [Step]
+    requires { length steps.now < 2 ^ 32 }
+    ensures past { result.now ≡ past decided.now steps.now }
+    ensures few { length result.now < 2 ^ 32 }
 {
     let mut rest = steps;
     for leg in decided {
-        rest = &rest[front(rest, leg.thread, leg.turns)..];
+        let made = front(rest, leg.thread, leg.turns);
+        rest = &rest[made..];
     }
     rest
 }
 
 /// The legs that led the threads of an order to their ends, one after the other, where none made more events than so many.
-pub(crate) fn ends(
-    alloc: Global,
-    steps: &[Step],
-    order: &[u32],
-    most: u32,
-) -> Result<Vec<Leg>, NoMemory>
+pub fn ends(alloc: Global, steps: &[Step], order: &[u32], most: u32) -> Result<Vec<Leg>, NoMemory>
+    requires { length steps.now < 2 ^ 32 }
     ensures { IfOk result (λ legs. legs.items ≡ ends_of most order.now steps.now) }
 {
     let mut rest = steps;

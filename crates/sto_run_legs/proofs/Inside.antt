@@ -1,15 +1,16 @@
 -- Entries of a schedule, one more, and that they are those of threads of the file.
-use Rattle.std.specs.Prelude.{map, nat_eq}
-use Rattle.std.specs.List.{All, AllByRecursion, flat_map, list_any}
-use Rattle.std.proofs.Common.{◌≡◌, ℕ, zero, suc, ◌+◌, ◌<◌, List, [], ◌∷◌, ◌++◌, length, replicate, refl, sym, ap, ◌∙◌, subst, append-nil, append_assoc}
-use Rattle.std.proofs.lemmas.List.{map-append}
+use Rattle.std.specs.Prelude.{map}
+use Rattle.std.specs.List.{All, AllByRecursion, flat_map}
+use Rattle.std.proofs.Common.{◌≡◌, ℕ, ◌+◌, ◌<◌, List, [], ◌∷◌, ◌++◌, length, get_or, take, replicate, sym, ap, ◌∙◌, subst, append-nil, append_assoc}
+use Rattle.std.proofs.lemmas.List.{map-append, take_more}
 use Rattle.std.proofs.lemmas.List.Concat.{flat_map-append}
 use Rattle.std.proofs.lemmas.List.Elements.{All-from_recursion}
 use Rattle.sto_lang.specs.declared.file.Turns.{Turns}
 use Rattle.sto_run_steps.specs.Turning.{entry_turns}
 use Rattle.sto_explore.specs.Legs.{IsAmong, schedule_of}
 use Rattle.sto_explore.specs.declared.leg.Leg.{Leg}
-use Rattle.sto_run_schedules.proofs.Ending.{schedule_cons}
+use Rattle.sto_explore.proofs.Among.{schedule_more}
+use Rattle.sto_run_legs.specs.Parted.{turns_to_ends}
 
 -- the turns of entries with one more
 pub entries_more : (entries : List Turns) (entry : Turns) → flat_map entry_turns (entries ++ entry ∷ []) ≡ flat_map entry_turns entries ++ replicate entry.steps entry.thread
@@ -47,3 +48,27 @@ entries_inside count busy inside entries decided order is legs threads =
     (both_below count (map (λ (leg : Leg). leg.thread) decided) order
     (legs_below count decided (all_weaker (λ (leg : Leg). IsAmong busy leg.thread) (λ (leg : Leg). leg.thread < count) (λ leg h. inside leg.thread h) decided legs))
     (all_weaker (IsAmong busy) (λ (n : ℕ). n < count) inside order threads)))
+
+-- the turns of entries of legs, one more
+pub legs_more : (entries next : List Turns) (legs : List Leg) (i : ℕ) (none : Leg) (entry : Turns) → i < length legs → next ≡ entries ++ entry ∷ []
+    → entry.thread ≡ (get_or legs i none).thread → entry.steps ≡ (get_or legs i none).turns → flat_map entry_turns entries ≡ schedule_of (take i legs)
+    → flat_map entry_turns next ≡ schedule_of (take (i + 1) legs)
+legs_more entries next legs i none entry inside added thread turns so_far =
+    ap (flat_map entry_turns) added ∙ entries_more entries entry ∙ (λ k. so_far k ++ replicate (turns k) (thread k)) ∙ sym (schedule_more (take i legs) (get_or legs i none))
+    ∙ ap schedule_of (sym (take_more legs i none inside))
+
+pub threads_more : (entries next : List Turns) (threads : List ℕ) (entry : Turns) → next ≡ entries ++ entry ∷ [] → map (λ (e : Turns). e.thread) entries ≡ threads
+    → map (λ (e : Turns). e.thread) next ≡ threads ++ entry.thread ∷ []
+threads_more entries next threads entry added so_far =
+    ap (map (λ (e : Turns). e.thread)) added ∙ map-append (λ (e : Turns). e.thread) entries (entry ∷ []) ∙ ap (λ (l : List ℕ). l ++ entry.thread ∷ []) so_far
+
+-- those of legs and of an order, one more
+pub order_more : (entries next : List Turns) (decided : List Leg) (most : ℕ) (order : List ℕ) (i none : ℕ) (entry : Turns) → i < length order → next ≡ entries ++ entry ∷ []
+    → entry.thread ≡ get_or order i none → entry.steps ≡ most → flat_map entry_turns entries ≡ turns_to_ends decided most (take i order)
+    → flat_map entry_turns next ≡ turns_to_ends decided most (take (i + 1) order)
+order_more entries next decided most order i none entry inside added thread turns so_far =
+    let own = get_or order i none in
+    ap (flat_map entry_turns) added ∙ entries_more entries entry ∙ (λ k. so_far k ++ replicate (turns k) (thread k))
+    ∙ append_assoc (schedule_of decided) (flat_map (replicate most) (take i order)) (replicate most own)
+    ∙ ap (λ (l : List ℕ). schedule_of decided ++ l) (sym (ap (flat_map (replicate most)) (take_more order i none inside) ∙ flat_map-append (replicate most) (take i order) (own ∷ [])
+    ∙ ap (λ (l : List ℕ). flat_map (replicate most) (take i order) ++ l) (append-nil (replicate most own))))

@@ -1,12 +1,12 @@
 -- The first steps of a thread among others.
 use Rattle.std.specs.Prelude.{◌⊎◌, nat_eq}
 use Rattle.std.specs.List.{prefix_len}
-use Rattle.std.proofs.Common.{◌≡◌, ℕ, ◌+◌, ◌≤◌, List, [], ◌∷◌, ◌++◌, length, drop, refl, sym, ap, ◌∙◌, arith, true, inl, inr, zero-add}
+use Rattle.std.proofs.Common.{◌≡◌, ℕ, ◌+◌, ◌≤◌, List, [], ◌∷◌, ◌++◌, length, drop, refl, sym, ap, ◌∙◌, arith, inl, inr, zero-add}
 use Rattle.std.proofs.Math.Seq.{drop-append_seam}
 use Rattle.std.proofs.lemmas.Bool.{cond-true, cond-false}
 use Rattle.sto_trace.specs.declared.Step.{Step}
-use Rattle.sto_run_schedules.specs.Parted.{front_of}
-use Rattle.sto_run_schedules.proofs.Turned.{AreOf, AreOfOthers}
+use Rattle.sto_run_legs.specs.Parted.{front_of}
+use Rattle.sto_run_legs.proofs.Turned.{AreOf, AreOfOthers}
 
 abbrev own : ℕ → List Step → ℕ
 own thread steps = prefix_len (λ (step : Step). nat_eq step.thread thread) steps
