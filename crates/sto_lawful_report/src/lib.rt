@@ -1,6 +1,6 @@
 //! The report of a lawful journal, as a text or as one line of JSON.
 #![tactic(auto)]
 
-mod report;
+mod form;
 
-pub use report::report;
+pub use form::report;

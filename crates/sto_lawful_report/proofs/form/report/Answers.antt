@@ -1,6 +1,5 @@
-use Rattle.std.proofs.Common.{◌≡◌, ℕ, Bool, map, refl, subst, sym}
+use Rattle.std.proofs.Common.{◌≡◌, Bool, map, refl, subst, sym}
 use Rattle.sto_lang.specs.Views.{file as view}
-use Rattle.sto_lang.specs.Scripts.{File}
 use Rattle.sto_report_spec.specs.Lawful.{IsLawfulIn}
 use Rattle.sto_run.specs.Meanings.{updating_by}
 use Rattle.sto_run.specs.Stores.{means}
@@ -8,7 +7,7 @@ use Rattle.sto_run.proofs.Printed.{names_of_sound, lawful_rows}
 use Rattle.sto_journal.specs.Journals.{places, abort}
 use Rattle.sto_lawful_report.specs.Forms.{order_told, aborts_told, form_for}
 use Rattle.sto_lawful_report.proofs.Reports.{lawful_text, lawful_json, printed_threads, printed_aborts}
-use Rattle.sto_lawful_report.proofs.report.report.Goals as goal
+use Rattle.sto_lawful_report.proofs.form.report.Goals as goal
 
 pub json_report-requires-clause-threads : goal.json_report-requires-clause-threads
 json_report-requires-clause-threads c = names_of_sound (view c.args.file.now) c.requires.sound
