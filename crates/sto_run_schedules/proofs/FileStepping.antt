@@ -1,8 +1,11 @@
 -- A run of a file by a schedule to the ends of its threads.
 use Rattle.std.specs.Prelude.{Some}
 use Rattle.std.specs.List.{flat_map}
-use Rattle.std.proofs.Common.{◌≡◌, ℕ, ◌<◌, List, ◌++◌}
+use Rattle.std.proofs.Common.{◌≡◌, ℕ, ◌<◌, List, [], ◌++◌, length, max, subst}
 use Rattle.sto_type.specs.Traits.{OfType}
+use Rattle.sto_core.specs.History.{Contents}
+use Rattle.sto_core.specs.Opened.{opened_core}
+use Rattle.sto_attempt_facts.specs.Records.{Record}
 use Rattle.sto_lang.specs.declared.file.Turns.{Turns}
 use Rattle.sto_lang.specs.Scripts.{File}
 use Rattle.sto_trace.specs.declared.Step.{Step}
@@ -10,14 +13,15 @@ use Rattle.sto_script.specs.declared.body.ScriptBody.{ScriptBody}
 use Rattle.sto_transaction.specs.declared.machine.Machine.{Machine}
 use Rattle.sto_journal.specs.declared.journal.Journal.{Journal}
 use Rattle.sto_run_threads.specs.Plans.{plan_of}
-use Rattle.sto_run_steps.specs.Logged.{most_kept}
+use Rattle.sto_run_steps.specs.Logged.{Log, most_kept}
 use Rattle.sto_run_steps.specs.Proceeding.{heard_by}
-use Rattle.sto_run_steps.specs.Turning.{entry_turns}
+use Rattle.sto_run_steps.specs.Turning.{WereStepped, entry_turns}
 use Rattle.sto_explore.specs.Legs.{turns_of, schedule_of, LeadToEnds, AreTold}
 use Rattle.sto_explore.specs.declared.leg.Leg.{Leg}
 use Rattle.sto_run_legs.specs.Parted.{turns_to_ends, past, ends_of}
 use Rattle.sto_run_legs.specs.Telling.{tells_of, opened_for}
 use Rattle.sto_run_legs.proofs.Stepping.{stepped}
+use Rattle.sto_run.specs.OfRecords.{IsOfRecords}
 use Rattle.sto_run_schedules.specs.Leading.{IsRunBy, IsJournalBy}
 
 -- what it tells, and that it is the run by each schedule of the same turns
@@ -45,3 +49,15 @@ file_stepped {T} t ty file tries journal decided order n schedule all enough tur
             },
           );
     }
+
+-- a run by a schedule, on words that open with what the objects open with
+pub run_by : {T : Type 0} (t : OfType T) (ty : T) (file : File) (tries : ℕ) (journal : Journal) (schedule : List Turns) (opening : Contents) (rs : List Record) (steps : Log)
+    → opening ≡ (t.meaning ty).opened
+    → WereStepped {M = Machine T ScriptBody} (plan_of t ty file tries) t.valid heard_by schedule (opened_core (t.sizes ty) opening (max 1 (length file.threads))) (Some []) rs steps
+    → IsOfRecords file (t.meaning ty).homes rs journal → IsRunBy t ty file tries schedule journal steps
+run_by {T} t ty file tries journal schedule opening rs steps opens were told = record {
+  records = rs;
+  stepped =
+      subst (λ (c : Contents). WereStepped {M = Machine T ScriptBody} (plan_of t ty file tries) t.valid heard_by schedule (opened_core (t.sizes ty) c (max 1 (length file.threads))) (Some []) rs steps) opens were;
+  told = told;
+}

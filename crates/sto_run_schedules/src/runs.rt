@@ -49,15 +49,16 @@ impl Runs<Reported> for FileRuns<'_> {
         decided: &[Leg],
         order: &[u32],
     ) -> Result<Ran<Reported>, NoMemory> {
+        let run = self.run;
         let most = enough();
         let entries = entries_to_ends(alloc, decided, order, most)?;
-        let (journal, steps) = trace_by(alloc, self.run, entries.as_slice())?;
+        let (journal, steps) = trace_by(alloc, run, entries.as_slice())?;
         let Some(steps) = steps else {
             return Err(NoMemory);
         };
         let further = past(steps.as_slice(), decided);
         let legs = ends(alloc, further, order, most)?;
-        let report = reported(alloc, self.run.work.workload.file, &journal, self.json)?;
+        let report = reported(alloc, run.work.workload.file, &journal, self.json)?;
         Ok(Ran { legs, report })
     }
 }
