@@ -9,7 +9,7 @@ use Rattle.std.proofs.lemmas.List.{take_all}
 use Rattle.clap.proofs.WalkLemmas.{list_any-map}
 use Rattle.sto_args.specs.declared.command.Command.{Command}
 use Rattle.sto_args.specs.Given.{Text, Takes, Given, Word, Bare, Valued, Alone, Refused, Reading, with_word, with_awaited, kind_of, after_word, given_after, given_by, is_refused, is_refused_kind, as_option, gives_flag}
-use Rattle.sto_args.specs.Commands.{command_of, command_from, run_of, run_takes, step_of, step_takes, trace_of, trace_takes, draw_of, upgrade_of, gen_of, gen_takes, bench_of, bench_takes}
+use Rattle.sto_args.specs.Commands.{command_of, command_from, run_of, run_takes, step_of, step_takes, trace_of, draw_takes, draw_of, upgrade_of, gen_of, gen_takes, bench_of, bench_takes}
 
 is_refused_word : (kind : Word) → is_refused_kind kind ≡ true → kind ≡ Refused
 is_refused_word (Bare name) e = absurd (true≢false (sym e))
@@ -68,7 +68,7 @@ command_refused word words e =
     let is_bench = bytes_eq word (codes "bench") in
     let none : (t : Takes) → None ≡ given_by t words = λ t. sym (words_refused t words e) in
     no_command is_run is_step is_trace is_draw is_upgrade is_gen is_bench
-    ∙ (λ i. command_by is_run is_step is_trace is_draw is_upgrade is_gen is_bench (none run_takes i) (none step_takes i) (none trace_takes i) (none trace_takes i) (no_upgrade words e i) (none gen_takes i) (none bench_takes i))
+    ∙ (λ i. command_by is_run is_step is_trace is_draw is_upgrade is_gen is_bench (none run_takes i) (none step_takes i) (none step_takes i) (none draw_takes i) (no_upgrade words e i) (none gen_takes i) (none bench_takes i))
 
 -- words after the first one that give a value to a flag
 pub valued_after_first : {X : Type 0} (f : X → Text) (xs : List X) → true ≡ list_any (λ x. gives_flag (f x)) (take (length xs - 1) (drop 1 xs)) → None ≡ command_of (map f xs)

@@ -6,6 +6,7 @@ use Rattle.std.specs.Str.Parse.{digits_value}
 use Rattle.std.specs.List.{list_any}
 use Rattle.sto_args.specs.Given.{Text, Takes, Given, value_of, number_name, given_by, as_option, gives_flag}
 use Rattle.sto_args.specs.declared.command.Command.{Command}
+use Rattle.sto_args.specs.declared.command.Stepping.{Stepping}
 use Rattle.sto_args.specs.declared.command.Command.TheVariants.{Run, Step, Trace, Draw, Upgrade, Gen, Bench}
 
 -- the number of 64 bits that a text is: decimal digits without a sign, and no leading zero unless it is 0 alone
@@ -37,17 +38,20 @@ run_of given = option_and_then (λ threads. option_map (λ tries. Run threads tr
 abbrev pub step_takes : Takes
 step_takes = record { options = codes "tries" ∷ codes "json" ∷ []; number = false }
 
+abbrev pub stepping_of : Given → Option Stepping
+stepping_of given = option_map (λ tries. record { tries = tries; json = is_some (value_of (codes "json") given) }) (tries_of (value_of (codes "tries") given))
+
 abbrev pub step_of : Given → Option Command
-step_of given = option_map (λ tries. Step tries (is_some (value_of (codes "json") given))) (tries_of (value_of (codes "tries") given))
+step_of given = option_map (λ stepping. Step stepping.tries stepping.json) (stepping_of given)
 
--- `trace [--tries N]`
-abbrev pub trace_takes : Takes
-trace_takes = record { options = codes "tries" ∷ []; number = false }
-
+-- `trace`, which takes what `step` takes
 abbrev pub trace_of : Given → Option Command
-trace_of given = option_map (λ tries. Trace tries) (tries_of (value_of (codes "tries") given))
+trace_of given = option_map (λ stepping. Trace stepping.tries stepping.json) (stepping_of given)
 
--- `draw [--tries N]`, which takes what `trace` takes
+-- `draw [--tries N]`
+abbrev pub draw_takes : Takes
+draw_takes = record { options = codes "tries" ∷ []; number = false }
+
 abbrev pub draw_of : Given → Option Command
 draw_of given = option_map (λ tries. Draw tries) (tries_of (value_of (codes "tries") given))
 
@@ -75,8 +79,8 @@ abbrev pub command_from : Text → List Text → Option Command
 command_from word words =
     if bytes_eq word (codes "run") then option_and_then run_of (given_by run_takes words)
     else (if bytes_eq word (codes "step") then option_and_then step_of (given_by step_takes words)
-    else (if bytes_eq word (codes "trace") then option_and_then trace_of (given_by trace_takes words)
-    else (if bytes_eq word (codes "draw") then option_and_then draw_of (given_by trace_takes words)
+    else (if bytes_eq word (codes "trace") then option_and_then trace_of (given_by step_takes words)
+    else (if bytes_eq word (codes "draw") then option_and_then draw_of (given_by draw_takes words)
     else (if bytes_eq word (codes "upgrade") then upgrade_of words
     else (if bytes_eq word (codes "gen") then option_and_then gen_of (given_by gen_takes words)
     else (if bytes_eq word (codes "bench") then option_and_then bench_of (given_by bench_takes words)
@@ -99,7 +103,7 @@ HasThreads (Some threads) = (1 ≤ threads) × (threads ≤ 16)
 abbrev pub HasRange : Command → Type 0
 HasRange (Run threads tries json) = HasThreads threads × (1 ≤ tries) × (tries ≤ 64)
 HasRange (Step tries json) = (1 ≤ tries) × (tries ≤ 64)
-HasRange (Trace tries) = (1 ≤ tries) × (tries ≤ 64)
+HasRange (Trace tries json) = (1 ≤ tries) × (tries ≤ 64)
 HasRange (Draw tries) = (1 ≤ tries) × (tries ≤ 64)
 HasRange Upgrade = Unit {0}
 HasRange (Gen number) = Unit {0}

@@ -3,7 +3,7 @@ ghost use Rattle.std.specs.Prelude.{◌≡◌, ◌≤◌, IfOk, IfSome, false, i
 ghost use Rattle.std.specs.List.{list_any};
 ghost use Rattle.std.specs.Option.{option_and_then, option_map};
 ghost use Rattle.sto_args.specs.Given.{given_by, is_refused};
-ghost use Rattle.sto_args.specs.Commands.{HasThreads, HasRange, command_in, command_from, run_takes, run_of, step_takes, step_of, trace_takes, trace_of, draw_of, upgrade_of, gen_takes, gen_of, bench_takes, bench_of, threads_of, tries_of, decimal_of};
+ghost use Rattle.sto_args.specs.Commands.{HasThreads, HasRange, command_in, command_from, run_takes, run_of, step_takes, stepping_of, step_of, trace_of, draw_takes, draw_of, upgrade_of, gen_takes, gen_of, bench_takes, bench_of, threads_of, tries_of, decimal_of};
 
 use crate::asked::{Checking, checking_from};
 use crate::grammar::{bench_grammar, gen_grammar, matches_in, run_grammar, step_grammar};
@@ -28,9 +28,10 @@ pub enum Command {
         tries: u32,
         json: bool,
     },
-    /// Reads a script, runs it as `Step` does, and prints a line for each event.
+    /// Reads a script, runs it as `Step` does, and prints a line for each event, as JSON or as text.
     Trace {
         tries: u32,
+        json: bool,
     },
     /// Reads a script, runs it as `Step` does, and prints a picture of the run.
     Draw {
@@ -111,10 +112,17 @@ fn run(alloc: Global, words: &[&str]) -> Result<Option<Command>, NoMemory>
     }))
 }
 
-fn step(alloc: Global, words: &[&str]) -> Result<Option<Command>, NoMemory>
+/// How a script is run in one thread: with so many tries of each transaction. What is printed then is JSON or text.
+#[derive(Clone, Copy)]
+struct Stepping {
+    tries: u32,
+    json: bool,
+}
+
+fn stepping_from(alloc: Global, words: &[&str]) -> Result<Option<Stepping>, NoMemory>
     requires { list_any is_refused (map (λ word. word.now) words.now) ≡ false }
-    ensures range { IfOk result (λ c. IfSome c HasRange) }
-    ensures command { IfOk result (λ c. c ≡ option_and_then step_of (given_by step_takes (map (λ word. word.now) words.now))) }
+    ensures range { IfOk result (λ s. IfSome s (λ s. (1 ≤ s.tries) × (s.tries ≤ 64))) }
+    ensures stepping { IfOk result (λ s. s ≡ option_and_then stepping_of (given_by step_takes (map (λ word. word.now) words.now))) }
 {
     let Ok(grammar) = step_grammar(alloc) else {
         return Err(NoMemory);
@@ -126,16 +134,27 @@ fn step(alloc: Global, words: &[&str]) -> Result<Option<Command>, NoMemory>
         return Ok(None);
     };
     let json = is_given(matches.get_str("json"));
-    Ok(Some(Command::Step { tries, json }))
+    Ok(Some(Stepping { tries, json }))
+}
+
+fn step(alloc: Global, words: &[&str]) -> Result<Option<Command>, NoMemory>
+    requires { list_any is_refused (map (λ word. word.now) words.now) ≡ false }
+    ensures range { IfOk result (λ c. IfSome c HasRange) }
+    ensures command { IfOk result (λ c. c ≡ option_and_then step_of (given_by step_takes (map (λ word. word.now) words.now))) }
+{
+    match stepping_from(alloc, words)? {
+        Some(Stepping { tries, json }) => Ok(Some(Command::Step { tries, json })),
+        None => Ok(None),
+    }
 }
 
 fn trace(alloc: Global, words: &[&str]) -> Result<Option<Command>, NoMemory>
     requires { list_any is_refused (map (λ word. word.now) words.now) ≡ false }
     ensures range { IfOk result (λ c. IfSome c HasRange) }
-    ensures command { IfOk result (λ c. c ≡ option_and_then trace_of (given_by trace_takes (map (λ word. word.now) words.now))) }
+    ensures command { IfOk result (λ c. c ≡ option_and_then trace_of (given_by step_takes (map (λ word. word.now) words.now))) }
 {
-    match checking_from(alloc, words)? {
-        Some(Checking { tries }) => Ok(Some(Command::Trace { tries })),
+    match stepping_from(alloc, words)? {
+        Some(Stepping { tries, json }) => Ok(Some(Command::Trace { tries, json })),
         None => Ok(None),
     }
 }
@@ -143,7 +162,7 @@ fn trace(alloc: Global, words: &[&str]) -> Result<Option<Command>, NoMemory>
 fn draw(alloc: Global, words: &[&str]) -> Result<Option<Command>, NoMemory>
     requires { list_any is_refused (map (λ word. word.now) words.now) ≡ false }
     ensures range { IfOk result (λ c. IfSome c HasRange) }
-    ensures command { IfOk result (λ c. c ≡ option_and_then draw_of (given_by trace_takes (map (λ word. word.now) words.now))) }
+    ensures command { IfOk result (λ c. c ≡ option_and_then draw_of (given_by draw_takes (map (λ word. word.now) words.now))) }
 {
     match checking_from(alloc, words)? {
         Some(Checking { tries }) => Ok(Some(Command::Draw { tries })),
@@ -205,7 +224,7 @@ fn bench(alloc: Global, words: &[&str]) -> Result<Option<Command>, NoMemory>
 /// |---|---|
 /// | `run [--threads N] [--tries N] [--json]` | `Run`, with 1 to 16 threads, with 1 to 64 tries, and 64 where none is given, and with the form of the report |
 /// | `step [--tries N] [--json]` | `Step`, with tries and a form as for `Run` |
-/// | `trace [--tries N]` | `Trace`, with tries as for `Run` |
+/// | `trace [--tries N] [--json]` | `Trace`, with tries and a form as for `Run` |
 /// | `draw [--tries N]` | `Draw`, with tries as for `Run` |
 /// | `upgrade` | `Upgrade` |
 /// | `gen NUMBER` | `Gen`, with a number of 64 bits |

@@ -20,7 +20,7 @@ use Rattle.sto_cli.specs.Programs.{reads_script, program}
 reads : (command : Command) (bytes : List ℕ) (fault : InputFault) → HasFault command bytes fault → reads_script command ≡ true
 reads (Run threads tries json) bytes fault h = refl
 reads (Step tries json) bytes fault h = refl
-reads (Trace tries) bytes fault h = refl
+reads (Trace tries json) bytes fault h = refl
 reads (Draw tries) bytes fault h = refl
 reads Upgrade bytes fault h = refl
 reads (Gen number) bytes fault h = absurd h
@@ -53,7 +53,7 @@ no_run_fault IsLong bytes file LongRun own h f = own
 faultless : (command : Command) (bytes text : List ℕ) (fault : InputFault) → IsOwn fault → IsOutput command bytes text → HasFault command bytes fault → ⊥
 faultless (Run threads tries json) bytes text fault own h f = no_fault bytes h.0 fault h.1 f
 faultless (Step tries json) bytes text fault own h f = no_fault bytes h.0 fault h.1 f
-faultless (Trace tries) bytes text fault own h f = no_run_fault (HasLongRun tries) bytes h.0 fault own h.1 f
+faultless (Trace tries json) bytes text fault own h f = no_run_fault (HasLongRun tries) bytes h.0 fault own h.1 f
 faultless (Draw tries) bytes text fault own h f = no_run_fault (IsTooLong tries) bytes h.0 fault own h.1 f
 faultless Upgrade bytes text fault own h f = no_fault bytes h.0 fault h.1 f
 faultless (Gen number) bytes text fault own h f = f

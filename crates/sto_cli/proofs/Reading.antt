@@ -1,5 +1,5 @@
 -- Why no text of a command that reads a script was made.
-use Rattle.std.proofs.Common.{◌≡◌, ℕ, ◌<◌, List, ◌++◌, length, append-nil, refl, sym, ap, ◌∙◌, subst, true, Option, Ok, Err, true≢false}
+use Rattle.std.proofs.Common.{◌≡◌, ℕ, ◌<◌, List, ◌++◌, length, append-nil, refl, sym, ap, ◌∙◌, subst, Bool, true, Option, Ok, Err, true≢false}
 use Rattle.sto_io.specs.Told.{Takes, AtEnd}
 use Rattle.sto_lang.specs.Files.{file_of}
 use Rattle.sto_lang.specs.Scripts.{File}
@@ -23,7 +23,7 @@ has_fault : (command : Command) → reads_script command ≡ true → (left rest
     → IfTold left rest (λ bytes. HasFault command bytes (Script fault))
 has_fault (Run threads tries json) reads left rest fault h = h
 has_fault (Step tries json) reads left rest fault h = h
-has_fault (Trace tries) reads left rest fault h = h
+has_fault (Trace tries json) reads left rest fault h = h
 has_fault (Draw tries) reads left rest fault h = h
 has_fault Upgrade reads left rest fault h = h
 has_fault (Gen number) reads left rest fault h = absurd (true≢false (sym reads))
@@ -68,10 +68,10 @@ refused F command left rest faulty ReadFault e = absurd e
 refused F command left rest faulty WriteFault e = absurd e
 
 -- the bytes that were taken are not traced
-pub untraced : (tries : ℕ) (left rest : Option (List ℕ)) (taken : List ℕ) (refusal : Refusal) → Takes left rest taken → (length taken < 1048577 → AtEnd rest)
-    → IsRefusalFor (IsRunFault (HasLongRun tries) taken) refusal → Unmade program refusal (Trace tries) left rest
-untraced tries left rest taken refusal t end e =
-    refused (IsRunFault (HasLongRun tries) taken) (Trace tries) left rest
+pub untraced : (tries : ℕ) (json : Bool) (left rest : Option (List ℕ)) (taken : List ℕ) (refusal : Refusal) → Takes left rest taken → (length taken < 1048577 → AtEnd rest)
+    → IsRefusalFor (IsRunFault (HasLongRun tries) taken) refusal → Unmade program refusal (Trace tries json) left rest
+untraced tries json left rest taken refusal t end e =
+    refused (IsRunFault (HasLongRun tries) taken) (Trace tries json) left rest
     (λ fault h. (refl, told_run (HasLongRun tries) left rest taken fault t end h)) refusal e
 
 -- or not drawn

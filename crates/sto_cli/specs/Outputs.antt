@@ -71,7 +71,7 @@ IsSummary number text =
 abbrev pub IsOutput : Command → List ℕ → List ℕ → Type 0
 IsOutput (Run threads tries json) bytes text = IsReport tries json (λ file. workers_of threads (length file.threads) ≡ 1) bytes text
 IsOutput (Step tries json) bytes text = IsReport tries json (λ file. length file.threads ≤ 1) bytes text
-IsOutput (Trace tries) bytes text = (file : File) × IsTraceable bytes file × IsTrace tries file text
+IsOutput (Trace tries json) bytes text = (file : File) × IsTraceable bytes file × IsTrace tries json file text
 IsOutput (Draw tries) bytes text = (file : File) × IsTraceable bytes file × IsPicture tries file text
 IsOutput Upgrade bytes text = (file : File) × (file_of bytes ≡ Ok file) × (text ≡ text_of (upgraded file))
 IsOutput (Gen number) bytes text = (text ≡ text_of (generated number)) × (file_of text ≡ Ok (generated number))
@@ -88,7 +88,7 @@ IsScriptFault bytes LongRun = ⊥
 abbrev pub HasFault : Command → List ℕ → InputFault → Type 0
 HasFault (Run threads tries json) bytes fault = IsScriptFault bytes fault
 HasFault (Step tries json) bytes fault = IsScriptFault bytes fault
-HasFault (Trace tries) bytes fault = IsRunFault (HasLongRun tries) bytes fault
+HasFault (Trace tries json) bytes fault = IsRunFault (HasLongRun tries) bytes fault
 HasFault (Draw tries) bytes fault = IsRunFault (IsTooLong tries) bytes fault
 HasFault Upgrade bytes fault = IsScriptFault bytes fault
 HasFault (Gen number) bytes fault = ⊥

@@ -9,7 +9,7 @@ use Rattle.sto_cli.specs.Outputs.{IsOutput, HasFault}
 abbrev pub reads_script : Command → Bool
 reads_script (Run threads tries json) = true
 reads_script (Step tries json) = true
-reads_script (Trace tries) = true
+reads_script (Trace tries json) = true
 reads_script (Draw tries) = true
 reads_script Upgrade = true
 reads_script (Gen number) = false

@@ -1,5 +1,5 @@
 -- What `trace` prints of a script, and the faults that it and `draw` tell of one.
-use Rattle.std.specs.Prelude.{◌≡◌, ◌≤◌, ◌<◌, ℕ, List, length, None, Some, Ok, Err}
+use Rattle.std.specs.Prelude.{◌≡◌, ◌≤◌, ◌<◌, ℕ, List, length, Bool, if◌then◌else◌, None, Some, Ok, Err}
 use Rattle.sto_lang.specs.Files.{file_of}
 use Rattle.sto_lang.specs.Scripts.{File}
 use Rattle.sto_lang.specs.Drafts.{transaction_count}
@@ -7,7 +7,9 @@ use Rattle.sto_cli_common.specs.declared.refusal.InputFault.{InputFault}
 use Rattle.sto_cli_common.specs.declared.refusal.InputFault.TheVariants.{Script, NoReport, LongTrace, LongRun}
 use Rattle.sto_cli_common.specs.declared.refusal.Refusal.{Refusal}
 use Rattle.sto_cli_common.specs.declared.refusal.Refusal.TheVariants.{Usage, Input, ReadFault, WriteFault, NoMemory}
-use Rattle.sto_trace_text.specs.Texts.{trace_text}
+use Rattle.sto_trace.specs.declared.Step.{Step}
+use Rattle.sto_trace_text.specs.Texts.{Names, trace_text}
+use Rattle.sto_trace_text.specs.Json.{trace_json}
 use Rattle.sto_journal.specs.declared.journal.Journal.{Journal}
 use Rattle.sto_run.specs.Meanings.{updating_by}
 use Rattle.sto_run.specs.Stores.{means}
@@ -24,20 +26,24 @@ most_traced = 256
 abbrev pub IsTraceable : List ℕ → File → Type 0
 IsTraceable bytes file = (file_of bytes ≡ Ok file) × (transaction_count file.threads ≤ most_traced)
 
+-- the lines of steps, each of JSON or of text
+abbrev pub lines_in : Bool → Names → List Step → List ℕ
+lines_in json names steps = if json then trace_json names steps else trace_text names steps
+
 -- the steps of a run were kept, and the text has a line for each, in their order
-abbrev pub AreLinesOf : File → List (ℕ × ℕ) → Log → List ℕ → Type 0
-AreLinesOf file homes None text = ⊥
-AreLinesOf file homes (Some steps) text = text ≡ trace_text (record { threads = file.names; declarations = file.declarations; homes = homes }) steps
+abbrev pub AreLinesOf : Bool → File → List (ℕ × ℕ) → Log → List ℕ → Type 0
+AreLinesOf json file homes None text = ⊥
+AreLinesOf json file homes (Some steps) text = text ≡ lines_in json (record { file = file; homes = homes }) steps
 
 -- the text tells the events of a run of the file by its schedule: all of them, in their order, each on the pass of its thread. The
 -- journal of this run is one of which `step` prints the report: it is lawful, and with at most one script thread it is the one of such
 -- a run
-pub record IsTrace (tries : ℕ) (file : File) (text : List ℕ) : Type 0 where
+pub record IsTrace (tries : ℕ) (json : Bool) (file : File) (text : List ℕ) : Type 0 where
   pub journal : Journal
   pub homes : List (ℕ × ℕ)
   pub steps : Log
   pub run : IsTraceOf file tries journal homes steps
-  pub lines : AreLinesOf file homes steps text
+  pub lines : AreLinesOf json file homes steps text
   pub lawful : IsLawfulJournal (updating_by means) file tries journal
   pub alone : length file.threads ≤ 1 → RanAlone file journal
 

@@ -56,14 +56,19 @@ fn step_source<S: Source>(
 }
 
 /// Reads the source, and runs the script in one thread, event by event.
-fn trace_source<S: Source>(alloc: Global, source: &mut S, tries: u32) -> Result<Text, Refusal>
+fn trace_source<S: Source>(
+    alloc: Global,
+    source: &mut S,
+    tries: u32,
+    json: bool,
+) -> Result<Text, Refusal>
     requires { IsFromTo 1 64 tries }
-    ensures made { IfOk result (λ text. Made program (commands.Trace tries) tt (S.left source.old) (S.left source.new) text.items) }
-    ensures unmade { IfErr result (λ e. Unmade program e (commands.Trace tries) (S.left source.old) (S.left source.new)) }
+    ensures made { IfOk result (λ text. Made program (commands.Trace tries json) tt (S.left source.old) (S.left source.new) text.items) }
+    ensures unmade { IfErr result (λ e. Unmade program e (commands.Trace tries json) (S.left source.old) (S.left source.new)) }
     ensures source_faults { RoseFor ReadFault result (S.faults source.old) (S.faults source.new) }
 {
     let bytes = script_left(alloc, source)?;
-    trace_text(alloc, bytes.as_slice(), tries)
+    trace_text(alloc, bytes.as_slice(), tries, json)
 }
 
 /// Reads the source, runs the script in one thread, event by event, and draws the run.
@@ -108,7 +113,7 @@ fn text_for<R: Threads + Sync, S: Source, G: Gate>(
             json,
         } => run_source(rt, alloc, source, threads, tries, json, gate),
         Command::Step { tries, json } => step_source(alloc, source, tries, json),
-        Command::Trace { tries } => trace_source(alloc, source, tries),
+        Command::Trace { tries, json } => trace_source(alloc, source, tries, json),
         Command::Draw { tries } => draw_source(alloc, source, tries),
         Command::Upgrade => upgrade_source(alloc, source),
         Command::Gen { number } => Ok(gen_text(alloc, number)?),

@@ -1,4 +1,4 @@
-//! The traces of the examples, beside the reports of the same scripts: both tell as many attempts.
+//! The traces of the examples, in both forms, beside the reports of the same scripts: all tell as many attempts.
 use crate::outcome::outcome_of;
 use crate::pages::{EXAMPLES, STEPPED};
 use std::thread::Threads;
@@ -12,20 +12,42 @@ struct Attempts {
     aborted: usize,
 }
 
+// How the lines of a trace tell that an attempt ended.
+struct Endings {
+    commit: &'static str,
+    read: &'static str,
+    cancel: &'static str,
+    abort: &'static str,
+}
+
+const TEXT: Endings = Endings {
+    commit: "; commit ",
+    read: "; read at ",
+    cancel: "; cancel at ",
+    abort: "; abort at ",
+};
+
+const JSON: Endings = Endings {
+    commit: "\"end\":\"commit\"",
+    read: "\"end\":\"read\"",
+    cancel: "\"end\":\"cancel\"",
+    abort: "\"end\":\"abort\"",
+};
+
 impl Attempts {
     // Those that a trace tells.
-    fn traced(trace: &str) -> Attempts {
+    fn traced(trace: &str, endings: &Endings) -> Attempts {
         let ended = trace
             .lines()
             .filter(|line| {
-                line.contains("; commit ")
-                    || line.contains("; read at ")
-                    || line.contains("; cancel at ")
+                line.contains(endings.commit)
+                    || line.contains(endings.read)
+                    || line.contains(endings.cancel)
             })
             .count();
         let aborted = trace
             .lines()
-            .filter(|line| line.contains("; abort at "))
+            .filter(|line| line.contains(endings.abort))
             .count();
         Attempts { ended, aborted }
     }
@@ -47,15 +69,22 @@ impl Attempts {
 
 // Traces and steps an example, and gives the number of its events.
 fn compare<R: Threads + Sync>(rt: &HostRuntime, threads: &R, name: &str) -> io::Result<usize> {
-    let script = fs::read_to_string(rt, format!(in rt.alloc(); "examples/{name}.sto")?)?;
-    let trace = outcome_of(threads, rt.alloc(), "trace", script.as_str(), &NoGate)?;
-    let report = outcome_of(threads, rt.alloc(), "step", script.as_str(), &NoGate)?;
-    let traced = Attempts::traced(trace.written.as_str());
-    let reported = Attempts::reported(report.written.as_str());
-    if trace.status != 0 || traced != reported {
+    let alloc = rt.alloc();
+    let script = fs::read_to_string(rt, format!(in alloc; "examples/{name}.sto")?)?;
+    let trace = outcome_of(threads, alloc, "trace", script.as_str(), &NoGate)?.written;
+    let json = outcome_of(threads, alloc, "trace --json", script.as_str(), &NoGate)?.written;
+    let report = outcome_of(threads, alloc, "step", script.as_str(), &NoGate)?.written;
+    let reported = Attempts::reported(report.as_str());
+    if Attempts::traced(trace.as_str(), &TEXT) != reported
+        || Attempts::traced(json.as_str(), &JSON) != reported
+    {
         println!(rt; "examples/{name}.sto: the trace tells other attempts than the report")?;
     }
-    Ok(trace.written.lines().count())
+    let events = trace.lines().count();
+    if events == 0 || json.lines().count() != events {
+        println!(rt; "examples/{name}.sto: the JSON of the trace tells other events")?;
+    }
+    Ok(events)
 }
 
 /// Compares those of all examples.

@@ -65,8 +65,20 @@ const COMMANDS: &[(&[&str], Command)] = &[
             json: true,
         },
     ),
-    (&["trace"], Command::Trace { tries: 64 }),
-    (&["trace", "--tries=2"], Command::Trace { tries: 2 }),
+    (
+        &["trace"],
+        Command::Trace {
+            tries: 64,
+            json: false,
+        },
+    ),
+    (
+        &["trace", "--tries=2", "--json"],
+        Command::Trace {
+            tries: 2,
+            json: true,
+        },
+    ),
     (&["draw"], Command::Draw { tries: 64 }),
     (&["draw", "--tries", "2"], Command::Draw { tries: 2 }),
     (&["upgrade"], Command::Upgrade),

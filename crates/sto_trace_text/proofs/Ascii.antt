@@ -1,5 +1,5 @@
 -- The text of a trace is ASCII, where the names of threads and objects are names.
-use Rattle.std.proofs.Common.{◌≡◌, ℕ, zero, suc, ℤ, List, [], ◌∷◌, ◌++◌, refl, ◌==◌, Bool, true, false, cond, map, Option, None, Some, unwrap_or, slice_get, decimal, codes}
+use Rattle.std.proofs.Common.{◌≡◌, ℕ, zero, suc, ℤ, List, [], ◌∷◌, ◌++◌, refl, Bool, true, false, Option, None, Some, unwrap_or, slice_get, decimal, codes}
 use Rattle.std.specs.List.{All, flat_map, list_all}
 use Rattle.std.specs.Fmt.{signed_decimal}
 use Rattle.std.specs.Str.{IsAscii}
@@ -8,7 +8,7 @@ use Rattle.std.proofs.lemmas.Str.{IsAscii-append}
 use Rattle.std.proofs.lemmas.Str.Ascii.{IsAscii-nil}
 use Rattle.sto_version.specs.Versions.{ticket_of, is_free}
 use Rattle.sto_version.specs.declared.Version.{Version}
-use Rattle.sto_model.specs.Told.{Told, told}
+use Rattle.sto_model.specs.declared.call.Call.{Call}
 use Rattle.sto_syntax.specs.Words.{is_name}
 use Rattle.sto_attempt_log.specs.declared.verdict.Verdict.{Verdict}
 use Rattle.sto_attempt_log.specs.declared.verdict.Verdict.TheVariants.{Wrote, Read, Cancelled, Locked, Changed}
@@ -17,13 +17,16 @@ use Rattle.sto_lang.specs.Ascii.{is_ascii}
 use Rattle.sto_lang.proofs.AsciiLemmas.{is_text}
 use Rattle.sto_report_spec.specs.Aborts.{name_of}
 use Rattle.sto_report_spec.specs.Named.{AreNames}
-use Rattle.sto_report_spec.specs.Report.{name_at, part_text, spaced_reply}
+use Rattle.sto_report_spec.specs.Report.{name_at, reply_text}
 use Rattle.sto_report_spec.proofs.Names.{name_printable}
-use Rattle.sto_report_spec.proofs.Printable.{IsPrintable, printable_ascii, printable_decimal, printable_signed, printable_replies}
+use Rattle.sto_report_spec.proofs.Printable.{IsPrintable, printable_ascii, printable_decimal, printable_signed, printable_reply}
 use Rattle.sto_trace.specs.declared.Deed.{Deed}
 use Rattle.sto_trace.specs.declared.Deed.TheVariants.{Start, Renew, Open, Word, Close, Recheck, Lock, Test, Draw, Check, Decide, Put, Release, Unlock}
 use Rattle.sto_trace.specs.declared.Step.{Step}
-use Rattle.sto_trace_text.specs.Texts.{Names, part_at, word_text, lock_text, version_text, decision_text, deed_text, heard_text, verdict_text, end_text, step_text, steps_text, trace_text}
+use Rattle.sto_write.specs.Texts.{call_text}
+use Rattle.sto_trace_text.proofs.Calls.{object_printable, call_printable}
+use Rattle.sto_trace_text.specs.Events.{Answer, Event, events_of}
+use Rattle.sto_trace_text.specs.Texts.{Names, part_at, word_text, lock_text, version_text, decision_text, deed_text, asked_text, answer_text, verdict_text, end_text, event_text, trace_text}
 
 -- a text is ASCII; as a record, so that the fact tells the text
 record Ascii (bytes : List ℕ) : Type 0 where
@@ -56,12 +59,11 @@ thread_name (name ∷ names) zero h = word name (All-head (λ n. is_name n ≡ t
 thread_name (name ∷ names) (suc thread) h = thread_name names thread (All-tail (λ n. is_name n ≡ true) name names h)
 
 object_name : (ds : List Declaration) (object : ℕ) → HaveNames ds → Ascii (name_of (with_number object ds))
-object_name [] object h = none
-object_name (d ∷ ds) object h = by (d.number == object) (object_name ds object h.1)
-  where
-    by : (b : Bool) → Ascii (name_of (with_number object ds)) → Ascii (name_of (cond b (Some d) (with_number object ds)))
-    by true later = word d.name h.0
-    by false later = later
+object_name ds object h = printed (name_of (with_number object ds)) (object_printable ds object h)
+
+asked : (ds : List Declaration) (call : Option Call) → HaveNames ds → Ascii (asked_text ds call)
+asked ds None h = none
+asked ds (Some call) h = then (printed (call_text ds call) (call_printable ds call h)) (plain (codes " ") refl)
 
 locked : (free : Bool) → Ascii (lock_text free)
 locked true = plain (lock_text true) refl
@@ -71,13 +73,9 @@ decision : (commit : Bool) → Ascii (decision_text commit)
 decision true = plain (decision_text true) refl
 decision false = plain (decision_text false) refl
 
-heard : (replies : List Told) → Ascii (heard_text replies)
-heard [] = none
-heard (r ∷ rs) = then (plain (codes "; heard") refl) (printed (flat_map spaced_reply (r ∷ rs)) (printable_replies (r ∷ rs)))
-
-module _ (names : Names) (objects : HaveNames names.declarations) (threads : AreNames names.threads) where
-  home : (at : ℕ × ℕ) → Ascii (name_of (with_number at.0 names.declarations) ++ (codes " " ++ decimal at.1))
-  home at = then (object_name names.declarations at.0 objects) (then (plain (codes " ") refl) (number at.1))
+module _ (names : Names) (objects : HaveNames names.file.declarations) (threads : AreNames names.file.names) where
+  home : (at : ℕ × ℕ) → Ascii (name_of (with_number at.0 names.file.declarations) ++ (codes " " ++ decimal at.1))
+  home at = then (object_name names.file.declarations at.0 objects) (then (plain (codes " ") refl) (number at.1))
 
   part : (p : ℕ) → Ascii (part_at names p)
   part p = home (unwrap_or (slice_get names.homes p) (0, 0))
@@ -116,14 +114,20 @@ module _ (names : Names) (objects : HaveNames names.declarations) (threads : Are
   end None = none
   end (Some v) = verdict v
 
-  line : (n : ℕ) (s : Step) → Ascii (step_text names n s)
-  line n s =
-      then (number n) (then (plain (codes " ") refl) (then (thread_name names.threads s.thread threads.each) (then (plain (codes ".") refl) (then (number s.position) (then (plain (codes " ") refl)
-      (then (deed s.deed) (then (heard (map told s.replies.items)) (then (end s.end) (plain (codes "\n") refl)))))))))
+  answered : (answers : List Answer) → Ascii (flat_map (answer_text names) answers)
+  answered [] = none
+  answered (a ∷ answers) =
+      then (then (plain (codes "; ") refl) (then (asked names.file.declarations a.call objects) (then (plain (codes "heard ") refl) (printed (reply_text a.reply) (printable_reply a.reply)))))
+      (answered answers)
 
-  lines : (n : ℕ) (steps : List Step) → Ascii (steps_text names n steps)
-  lines n [] = none
-  lines n (s ∷ steps) = then (line n s) (lines (suc n) steps)
+  line : (e : Event) → Ascii (event_text names e)
+  line e =
+      then (number e.number) (then (plain (codes " ") refl) (then (thread_name names.file.names e.step.thread threads.each) (then (plain (codes ".") refl) (then (number e.step.position) (then (plain (codes " ") refl)
+      (then (deed e.step.deed) (then (answered e.answers) (then (end e.step.end) (plain (codes "\n") refl)))))))))
+
+  lines : (events : List Event) → Ascii (flat_map (event_text names) events)
+  lines [] = none
+  lines (e ∷ events) = then (line e) (lines events)
 
   pub trace_ascii : (steps : List Step) → IsAscii (trace_text names steps)
-  trace_ascii steps = (lines 1 steps).text
+  trace_ascii steps = (lines (events_of names.file steps)).text

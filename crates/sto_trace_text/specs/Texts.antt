@@ -1,28 +1,33 @@
 -- The text of a trace: a line for each event.
-use Rattle.std.specs.Prelude.{ℕ, ℤ, suc, List, [], ◌∷◌, ◌++◌, map, true, false, Bool, Option, None, Some, unwrap_or, slice_get, codes, decimal}
+use Rattle.std.specs.Prelude.{ℕ, ℤ, List, [], ◌++◌, true, false, Bool, Option, None, Some, unwrap_or, slice_get, codes, decimal}
 use Rattle.std.specs.List.{flat_map}
 use Rattle.std.specs.Fmt.{signed_decimal}
 use Rattle.sto_version.specs.Versions.{ticket_of, is_free}
 use Rattle.sto_version.specs.declared.Version.{Version}
-use Rattle.sto_model.specs.Told.{Told, told}
+use Rattle.sto_model.specs.declared.call.Call.{Call}
 use Rattle.sto_attempt_log.specs.declared.verdict.Verdict.{Verdict}
 use Rattle.sto_attempt_log.specs.declared.verdict.Verdict.TheVariants.{Wrote, Read, Cancelled, Locked, Changed}
 use Rattle.sto_lang.specs.Objects.{Declaration}
-use Rattle.sto_report_spec.specs.Aborts.{part_by_home}
-use Rattle.sto_report_spec.specs.Report.{name_at, part_text, spaced_reply}
+use Rattle.sto_lang.specs.Scripts.{File}
+use Rattle.sto_write.specs.Texts.{call_text}
+use Rattle.sto_report_spec.specs.Aborts.{LocalPart, part_by_home}
+use Rattle.sto_report_spec.specs.Report.{name_at, part_text, reply_text}
 use Rattle.sto_trace.specs.declared.Deed.{Deed}
 use Rattle.sto_trace.specs.declared.Deed.TheVariants.{Start, Renew, Open, Word, Close, Recheck, Lock, Test, Draw, Check, Decide, Put, Release, Unlock}
 use Rattle.sto_trace.specs.declared.Step.{Step}
+use Rattle.sto_trace_text.specs.Events.{Answer, Event, events_of}
 
--- the names in a trace: of threads, of objects, and the homes of all parts: an object's number, and the part's number there
+-- the names in a trace: those of the file that was run, and the homes of all parts: an object's number, and the part's number there
 pub record Names : Type 0 where
-  pub threads : List (List ℕ)
-  pub declarations : List Declaration
+  pub file : File
   pub homes : List (ℕ × ℕ)
 
--- a part, by the name of its object and its number there
+-- the name of a part: its object's, and its number there
+abbrev pub named_part : Names → ℕ → LocalPart
+named_part names part = part_by_home names.file.declarations (unwrap_or (slice_get names.homes part) (0, 0))
+
 abbrev pub part_at : Names → ℕ → List ℕ
-part_at names part = part_text (part_by_home names.declarations (unwrap_or (slice_get names.homes part) (0, 0)))
+part_at names part = part_text (named_part names part)
 
 -- a word of a part, and its value
 abbrev pub word_text : Names → ℕ → ℕ → ℤ → List ℕ
@@ -57,10 +62,14 @@ deed_text names (Put part word value) = codes "put " ++ word_text names part wor
 deed_text names (Release part) = codes "release " ++ part_at names part
 deed_text names (Unlock part) = codes "unlock " ++ part_at names part
 
--- the replies to the calls that it completed, where there are some
-abbrev pub heard_text : List Told → List ℕ
-heard_text [] = []
-heard_text (r ∷ rs) = codes "; heard" ++ flat_map spaced_reply (r ∷ rs)
+-- the call that a reply answers
+abbrev pub asked_text : List Declaration → Option Call → List ℕ
+asked_text declarations None = []
+asked_text declarations (Some call) = call_text declarations call ++ codes " "
+
+-- a reply behind its call
+abbrev pub answer_text : Names → Answer → List ℕ
+answer_text names answer = codes "; " ++ (asked_text names.file.declarations answer.call ++ (codes "heard " ++ reply_text answer.reply))
 
 -- how the attempt ended, and why
 abbrev pub verdict_text : Names → Verdict → List ℕ
@@ -75,17 +84,12 @@ abbrev pub end_text : Names → Option Verdict → List ℕ
 end_text names None = []
 end_text names (Some verdict) = verdict_text names verdict
 
--- the line of an event, with its number
-abbrev pub step_text : Names → ℕ → Step → List ℕ
-step_text names number step =
-    decimal number ++ (codes " " ++ (name_at names.threads step.thread ++ (codes "." ++ (decimal step.position ++ (codes " "
-    ++ (deed_text names step.deed ++ (heard_text (map told step.replies.items) ++ (end_text names step.end ++ codes "\n"))))))))
+-- the line of an event
+abbrev pub event_text : Names → Event → List ℕ
+event_text names event =
+    decimal event.number ++ (codes " " ++ (name_at names.file.names event.step.thread ++ (codes "." ++ (decimal event.step.position ++ (codes " "
+    ++ (deed_text names event.step.deed ++ (flat_map (answer_text names) event.answers ++ (end_text names event.step.end ++ codes "\n"))))))))
 
--- the lines of events that are numbered on
-abbrev pub steps_text : Names → ℕ → List Step → List ℕ
-steps_text names number [] = []
-steps_text names number (step ∷ steps) = step_text names number step ++ steps_text names (suc number) steps
-
--- the text of a trace: its events are numbered from 1
+-- the text of a trace
 abbrev pub trace_text : Names → List Step → List ℕ
-trace_text names steps = steps_text names 1 steps
+trace_text names steps = flat_map (event_text names) (events_of names.file steps)

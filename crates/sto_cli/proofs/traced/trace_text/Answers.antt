@@ -7,7 +7,6 @@ use Rattle.sto_lang.specs.Views.{file as view}
 use Rattle.sto_lang.proofs.SoundFiles.{readable_sound}
 use Rattle.sto_journal.specs.Journals.{home_pair}
 use Rattle.sto_run.specs.Logged.{kept}
-use Rattle.sto_run.proofs.Printed.{names_of_sound}
 use Rattle.sto_cli.specs.Traces.{AreLinesOf, HasLongRun, IsRunFault, IsRefusalFor}
 use Rattle.sto_cli.specs.Outputs.{IsOutput}
 use Rattle.sto_cli.proofs.Refusals.{long_run}
@@ -16,21 +15,16 @@ use Rattle.sto_cli.proofs.traced.trace_text.Goals as goal
 pub trace_file-requires-clause-sound : goal.trace_file-requires-clause-sound
 trace_file-requires-clause-sound c = readable_sound c.args.bytes.now (view c.in_ok-file.file) c.in_ok-file.ensures.file.0
 
-pub lines_of-requires-clause-objects : goal.lines_of-requires-clause-objects
-lines_of-requires-clause-objects c = (readable_sound c.args.bytes.now (view c.in_ok-file.file) c.in_ok-file.ensures.file.0).named
-
-pub lines_of-requires-clause-threads : goal.lines_of-requires-clause-threads
-lines_of-requires-clause-threads c =
-    let file = view c.in_ok-file.file in
-    names_of_sound file (readable_sound c.args.bytes.now file c.in_ok-file.ensures.file.0)
+pub lines_of-requires : goal.lines_of-requires
+lines_of-requires c = readable_sound c.args.bytes.now (view c.in_ok-file.file) c.in_ok-file.ensures.file.0
 
 pub returns-clause-text : goal.returns-clause-text
 returns-clause-text c =
     let run = c.in_ok-run.run' in
     let file = view c.in_ok-file.file in
     IfOk-weaker c.lines_of.result
-    (λ text. AreLinesOf file (map home_pair run.homes.items) (kept run.steps) text.items)
-    (λ text. IsOutput (commands.Trace c.args.tries) c.args.bytes.now text.items)
+    (λ text. AreLinesOf c.args.json file (map home_pair run.homes.items) (kept run.steps) text.items)
+    (λ text. IsOutput (commands.Trace c.args.tries c.args.json) c.args.bytes.now text.items)
     (λ text lines. (
       file,
       c.in_ok-file.ensures.file,

@@ -12,11 +12,11 @@ use Rattle.sto_cli.proofs.work.trace_source.Goals as goal
 pub returns-clause-made : goal.returns-clause-made
 returns-clause-made g c =
     IfOk-weaker c.trace_text.result
-    (λ text. IsOutput (commands.Trace c.args.tries) c.as_slice.result.now text.items)
-    (λ text. Made program (commands.Trace c.args.tries) tt (g.S.Source.left c.args.source.now) (g.S.Source.left c.script_left.new.source) text.items)
+    (λ text. IsOutput (commands.Trace c.args.tries c.args.json) c.as_slice.result.now text.items)
+    (λ text. Made program (commands.Trace c.args.tries c.args.json) tt (g.S.Source.left c.args.source.now) (g.S.Source.left c.script_left.new.source) text.items)
     (λ text h.
-    let output : IsOutput (commands.Trace c.args.tries) c.in_ok-bytes.bytes.items text.items =
-    subst (λ (bytes : List ℕ). IsOutput (commands.Trace c.args.tries) bytes text.items) c.as_slice.ensures.items h in
+    let output : IsOutput (commands.Trace c.args.tries c.args.json) c.in_ok-bytes.bytes.items text.items =
+    subst (λ (bytes : List ℕ). IsOutput (commands.Trace c.args.tries c.args.json) bytes text.items) c.as_slice.ensures.items h in
     record {
       bytes = c.in_ok-bytes.bytes.items;
       reads = (c.in_ok-bytes.ensures.taken, c.in_ok-bytes.ensures.end (small_file c.in_ok-bytes.bytes.items output.0 output.1.0));
@@ -28,7 +28,7 @@ pub returns-clause-unmade : goal.returns-clause-unmade
 returns-clause-unmade g c =
     IfErr-weaker c.trace_text.result
     (λ e. IsRefusalFor (IsRunFault (HasLongRun c.args.tries) c.as_slice.result.now) e)
-    (λ e. Unmade program e (commands.Trace c.args.tries) (g.S.Source.left c.args.source.now) (g.S.Source.left c.script_left.new.source))
-    (λ e h. untraced c.args.tries (g.S.Source.left c.args.source.now) (g.S.Source.left c.script_left.new.source) c.in_ok-bytes.bytes.items e
+    (λ e. Unmade program e (commands.Trace c.args.tries c.args.json) (g.S.Source.left c.args.source.now) (g.S.Source.left c.script_left.new.source))
+    (λ e h. untraced c.args.tries c.args.json (g.S.Source.left c.args.source.now) (g.S.Source.left c.script_left.new.source) c.in_ok-bytes.bytes.items e
     c.in_ok-bytes.ensures.taken c.in_ok-bytes.ensures.end (subst (λ (bytes : List ℕ). IsRefusalFor (IsRunFault (HasLongRun c.args.tries) bytes) e) c.as_slice.ensures.items h))
     c.trace_text.ensures.fault

@@ -1,0 +1,12 @@
+use Rattle.std.proofs.Common.{◌≡◌, take, string_bytes}
+use Rattle.std.specs.List.{flat_map}
+use Rattle.sto_trace_text.specs.Bodies.{AreBodiesAfter}
+use Rattle.sto_trace_text.specs.Events.{events_of}
+use Rattle.sto_trace_text.specs.Named.{named}
+use Rattle.sto_trace_text.specs.Json.{json_line}
+use Rattle.sto_trace_text.proofs.json.trace_json.Given as goal
+
+abbrev pub invariant-loop-place : goal.invariant-loop-place
+invariant-loop-place l =
+    (string_bytes l.out ≡ flat_map (json_line (named l.names)) (events_of (named l.names).file (take l.place l.steps)))
+    × AreBodiesAfter (named l.names).file (take l.place l.steps) l.attempts.items
