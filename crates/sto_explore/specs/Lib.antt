@@ -3,3 +3,4 @@ pub mod Legs
 pub mod Explored
 pub mod Branches
 pub mod Exploring
+pub mod NotMade

@@ -1,7 +1,9 @@
 //! One run by each schedule.
 ghost use Rattle.std.specs.Prelude.{◌≡◌, [], OnOk, IfOk, IfErr, List, map};
 ghost use Rattle.std.specs.List.{AllByRecursion};
-ghost use Rattle.sto_explore.specs.declared.exploration.Stopped.TheVariants.{NoMemory, TooMany};
+ghost use Rattle.sto_explore.specs.declared.exploration.Stopped.TheVariants.{TooLong, TooMany};
+ghost use Rattle.sto_explore.specs.declared.runs.NotMade.TheVariants as not_made;
+ghost use Rattle.sto_explore.specs.NotMade.{stopped_by};
 ghost use Rattle.sto_explore.specs.Schedules.{Place};
 ghost use Rattle.sto_explore.specs.Legs.{IsAmong};
 ghost use Rattle.sto_explore.specs.Branches.{offer_of};
@@ -10,23 +12,27 @@ ghost use Rattle.sto_explore.specs.Explored.{Found, AreExplored, AreTooMany, sta
 
 use crate::branch::{Branch, offer_all, offer_others, order_of};
 use crate::leg::Leg;
-use crate::runs::{Gathers, Ran, Runs};
+use crate::runs::{Gathers, NotMade, Ran, Runs};
 use std::alloc::Global;
-use sto_part::NoMemory;
 
 /// Why an exploration was given up.
 #[derive(Clone, Copy)]
 pub enum Stopped {
     NoMemory,
+    /// A run is too long to be told.
+    TooLong,
     /// There are more schedules than may be tried.
     TooMany,
 }
 
-impl From<NoMemory> for Stopped {
-    ghost from_gives = { λ _ e. e ≡ NoMemory };
+impl From<NotMade> for Stopped {
+    ghost from_gives = { λ why e. e ≡ stopped_by why };
 
-    fn from(_no: NoMemory) -> Stopped {
-        Stopped::NoMemory
+    fn from(why: NotMade) -> Stopped {
+        match why {
+            NotMade::NoMemory => Stopped::NoMemory,
+            NotMade::TooLong => Stopped::TooLong,
+        }
     }
 }
 
@@ -39,13 +45,14 @@ fn visit<P: Drop, R: Runs<P>, G: Gathers<P>>(
     decided: Vec<Leg>,
     left: u32,
     order: &[u32],
-) -> Result<(), NoMemory>
+) -> Result<(), NotMade>
     requires ready { R.ready runs.now }
     requires decided { AllByRecursion (λ leg. IsAmong (R.threads runs.now) leg.thread) decided.items }
     requires order { AllByRecursion (IsAmong (R.threads runs.now)) order.now }
-    ensures { OnOk result ((start : Place) → IsOrdered start (R.tells runs.now) decided.items left order.now
+    ensures visited { OnOk result ((start : Place) → IsOrdered start (R.tells runs.now) decided.items left order.now
         → HasVisited start (R.tells runs.now) (R.reports runs.now) (G.holds found.old) (G.holds found.new) decided.items order.now
         (map offer_of todo.old.items) (map offer_of todo.new.items)) }
+    ensures too_long { IfErr result (λ why. why ≡ not_made.TooLong → R.too_long runs.now) }
 {
     let first = decided.as_slice();
     let ran = runs.run(alloc, first, order)?;
@@ -63,12 +70,13 @@ fn take_up<P: Drop, R: Runs<P>, G: Gathers<P>>(
     todo: &mut Vec<Branch>,
     found: &mut G,
     branch: Branch,
-) -> Result<(), NoMemory>
+) -> Result<(), NotMade>
     requires ready { R.ready runs.now }
     requires offered { (start : Place) × (start.going ≡ R.threads runs.now) × IsOffer start (R.tells runs.now) (offer_of branch) }
-    ensures { OnOk result ((start : Place) → start.going ≡ R.threads runs.now → IsOffer start (R.tells runs.now) (offer_of branch)
+    ensures visited { OnOk result ((start : Place) → start.going ≡ R.threads runs.now → IsOffer start (R.tells runs.now) (offer_of branch)
         → HasVisited start (R.tells runs.now) (R.reports runs.now) (G.holds found.old) (G.holds found.new) branch.decided.items
         (order_after (R.threads runs.now) branch.decided.items branch.next) (map offer_of todo.old.items) (map offer_of todo.new.items)) }
+    ensures too_long { IfErr result (λ why. why ≡ not_made.TooLong → R.too_long runs.now) }
 {
     let Branch {
         decided,
@@ -89,11 +97,12 @@ fn begin<P: Drop, R: Runs<P>, G: Gathers<P>>(
     alloc: Global,
     switches: u32,
     found: &mut G,
-) -> Result<Vec<Branch>, NoMemory>
+) -> Result<Vec<Branch>, NotMade>
     requires ready { R.ready runs.now }
     requires none { G.holds found.old [] }
-    ensures { IfOk result (λ todo. IsUnderWay (start_of switches (R.threads runs.now)) (R.tells runs.now) (R.reports runs.now)
+    ensures begun { IfOk result (λ todo. IsUnderWay (start_of switches (R.threads runs.now)) (R.tells runs.now) (R.reports runs.now)
         (G.holds found.new) 1 (map offer_of todo.items)) }
+    ensures too_long { IfErr result (λ why. why ≡ not_made.TooLong → R.too_long runs.now) }
 {
     let mut todo = Vec::new(alloc);
     let none = Vec::new(alloc);
@@ -105,7 +114,8 @@ fn begin<P: Drop, R: Runs<P>, G: Gathers<P>>(
 
 /// Makes one run by each schedule with at most so many switches away from a thread that could go on, and hands each on.
 ///
-/// At most `limit` runs are made, but at least one. Where a schedule is left that none of them follows, this is `TooMany`.
+/// At most `limit` runs are made, but at least one. Where a schedule is left that none of them follows, this is `TooMany`. After a run that
+/// is too long to be told no other is made.
 pub fn explore<P: Drop, R: Runs<P>, G: Gathers<P>>(
     runs: &R,
     alloc: Global,
@@ -119,6 +129,7 @@ pub fn explore<P: Drop, R: Runs<P>, G: Gathers<P>>(
         × AreExplored (start_of switches (R.threads runs.now)) (R.tells runs.now) (R.reports runs.now) xs) }
     ensures too_many { IfErr result (λ why. why ≡ TooMany → (xs : List (Found P)) × G.holds found.new xs
         × AreTooMany (start_of switches (R.threads runs.now)) (R.tells runs.now) (R.reports runs.now) limit xs) }
+    ensures too_long { IfErr result (λ why. why ≡ TooLong → R.too_long runs.now) }
 {
     let mut todo = begin(runs, alloc, switches, found)?;
     for _made in 1..limit {

@@ -11,4 +11,4 @@ mod runs;
 
 pub use exploration::{Stopped, explore};
 pub use leg::Leg;
-pub use runs::{Gathers, Ran, Runs};
+pub use runs::{Gathers, NotMade, Ran, Runs};

@@ -1,12 +1,29 @@
 //! What is run by a schedule, and what is told of its runs.
-ghost use Rattle.std.specs.Prelude.{◌≡◌, ◌++◌, ℕ, List, Bool, OnOk, IfOk, [], ◌∷◌, true};
+ghost use Rattle.std.specs.Prelude.{◌≡◌, ◌++◌, ℕ, List, Bool, OnOk, IfOk, IfErr, [], ◌∷◌, true};
 ghost use Rattle.std.specs.List.{AllByRecursion};
 ghost use Rattle.sto_explore.specs.Explored.{Found};
+ghost use Rattle.sto_explore.specs.declared.runs.NotMade.TheVariants as not_made;
 ghost use Rattle.sto_explore.specs.Legs.{turns_of, schedule_of, AreApart, IsAmong, LeadToEnds, AreTold};
 
 use crate::leg::Leg;
 use std::alloc::Global;
 use sto_part::NoMemory;
+
+/// Why a run was not made.
+#[derive(Clone, Copy)]
+pub enum NotMade {
+    NoMemory,
+    /// It is too long to be told.
+    TooLong,
+}
+
+impl From<NoMemory> for NotMade {
+    ghost from_gives = { λ _ e. e ≡ not_made.NoMemory };
+
+    fn from(_no: NoMemory) -> NotMade {
+        NotMade::NoMemory
+    }
+}
 
 /// A run that was made: its legs after those that were decided, and what it led to.
 #[derive(Drop)]
@@ -29,6 +46,9 @@ pub trait Runs<P> {
     /// What a run with these turns leads to.
     ghost reports: { Self → List ℕ → P → Type 0 };
 
+    /// One of their runs is too long to be told.
+    ghost too_long: { Self → Type 0 };
+
     /// The threads that have something to do, in the order in which they are tried.
     fn threads(&self) -> &[u32]
         requires { ready self.now }
@@ -37,13 +57,14 @@ pub trait Runs<P> {
 
     /// Runs the threads from their beginning: by the legs that are decided, and then each thread of the order to its end, with at least
     /// one turn.
-    fn run(&self, alloc: Global, decided: &[Leg], order: &[u32]) -> Result<Ran<P>, NoMemory>
+    fn run(&self, alloc: Global, decided: &[Leg], order: &[u32]) -> Result<Ran<P>, NotMade>
         requires ready { ready self.now }
         requires decided { AllByRecursion (λ leg. IsAmong (threads self.now) leg.thread) decided.now }
         requires order { AllByRecursion (IsAmong (threads self.now)) order.now }
         ensures ends { IfOk result (λ ran. LeadToEnds order.now ran.legs.items) }
         ensures told { IfOk result (λ ran. AreTold (tells self.now) (schedule_of decided.now) (turns_of ran.legs.items)) }
-        ensures report { IfOk result (λ ran. reports self.now (schedule_of decided.now ++ schedule_of ran.legs.items) ran.report) };
+        ensures report { IfOk result (λ ran. reports self.now (schedule_of decided.now ++ schedule_of ran.legs.items) ran.report) }
+        ensures too_long { IfErr result (λ why. why ≡ not_made.TooLong → too_long self.now) };
 }
 
 /// What gathers the runs that are found.

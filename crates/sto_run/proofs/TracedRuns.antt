@@ -15,18 +15,17 @@ use Rattle.sto_run_steps.specs.Logged.{Log}
 use Rattle.sto_run_steps.specs.Proceeding.{heard_by}
 use Rattle.sto_run_steps.specs.Turning.{WereStepped}
 use Rattle.sto_run.specs.OfRecords.{IsOfRecords}
-use Rattle.sto_run.specs.Traced.{IsTraced, turns_in}
+use Rattle.sto_run.specs.Traced.{IsRunBy}
 
--- a run by a schedule that is the file's, on words that open with what the objects open with
-pub traced_by : {T : Type 0} (t : OfType T) (ty : T) (file : File) (tries : ℕ) (journal : Journal) (schedule : List Turns) (opening : Contents) (rs : List Record) (steps : Log)
-    → schedule ≡ turns_in file.schedule → opening ≡ (t.meaning ty).opened
+-- a run by a schedule, on words that open with what the objects open with
+pub run_by : {T : Type 0} (t : OfType T) (ty : T) (file : File) (tries : ℕ) (journal : Journal) (schedule : List Turns) (opening : Contents) (rs : List Record) (steps : Log)
+    → opening ≡ (t.meaning ty).opened
     → WereStepped {M = Machine T ScriptBody} (plan_of t ty file tries) t.valid heard_by schedule (opened_core (t.sizes ty) opening (max 1 (length file.threads))) (Some []) rs steps
-    → IsOfRecords file (t.meaning ty).homes rs journal → IsTraced t ty file tries journal steps
-traced_by {T} t ty file tries journal schedule opening rs steps same opens stepped told = record {
+    → IsOfRecords file (t.meaning ty).homes rs journal → IsRunBy t ty file tries schedule journal steps
+run_by {T} t ty file tries journal schedule opening rs steps opens were told = record {
   records = rs;
   stepped =
-      subst (λ (s : List Turns). WereStepped {M = Machine T ScriptBody} (plan_of t ty file tries) t.valid heard_by s (opened_core (t.sizes ty) (t.meaning ty).opened (max 1 (length file.threads))) (Some []) rs steps) same
-      (subst (λ (c : Contents). WereStepped {M = Machine T ScriptBody} (plan_of t ty file tries) t.valid heard_by schedule (opened_core (t.sizes ty) c (max 1 (length file.threads))) (Some []) rs steps) opens stepped);
+      subst (λ (c : Contents). WereStepped {M = Machine T ScriptBody} (plan_of t ty file tries) t.valid heard_by schedule (opened_core (t.sizes ty) c (max 1 (length file.threads))) (Some []) rs steps) opens were;
   told = told;
 }
 

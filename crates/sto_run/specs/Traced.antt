@@ -24,12 +24,16 @@ abbrev pub turns_in : Option (List Turns) → List Turns
 turns_in None = []
 turns_in (Some schedule) = schedule
 
--- on objects of a type the file was run by its schedule, and these are all steps that its threads made, in their order, where they are told:
+-- on objects of a type a file was run by a schedule, and these are all steps that its threads made, in their order, where they are told:
 -- each on the pass of its thread, and in its turn. The journal is that of the records of this run
-pub record IsTraced {T : Type 0} (t : OfType T) (ty : T) (file : File) (tries : ℕ) (journal : Journal) (steps : Log) : Type 0 where
+pub record IsRunBy {T : Type 0} (t : OfType T) (ty : T) (file : File) (tries : ℕ) (schedule : List Turns) (journal : Journal) (steps : Log) : Type 0 where
   pub records : List Record
-  pub stepped : WereStepped {M = Machine T ScriptBody} (plan_of t ty file tries) t.valid heard_by (turns_in file.schedule) (opened_core (t.sizes ty) (t.meaning ty).opened (max 1 (length file.threads))) (Some []) records steps
+  pub stepped : WereStepped {M = Machine T ScriptBody} (plan_of t ty file tries) t.valid heard_by schedule (opened_core (t.sizes ty) (t.meaning ty).opened (max 1 (length file.threads))) (Some []) records steps
   pub told : IsOfRecords file (t.meaning ty).homes records journal
+
+-- the same by the file's own schedule
+abbrev pub IsTraced : {T : Type 0} → OfType T → T → File → ℕ → Journal → Log → Type 0
+IsTraced t ty file tries journal steps = IsRunBy t ty file tries (turns_in file.schedule) journal steps
 
 -- what the trait of the type says of the objects of a file
 abbrev pub of_objects : OfType Objects

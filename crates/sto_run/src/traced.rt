@@ -1,5 +1,6 @@
 //! Runs of whole files in one thread whose steps are told.
-ghost use Rattle.std.specs.Prelude.{◌≡◌, ◌≤◌, length, map, IfOk};
+ghost use Rattle.std.specs.Prelude.{◌≡◌, ◌≤◌, ◌<◌, length, map, IfOk};
+ghost use Rattle.std.specs.List.{All};
 ghost use Rattle.sto_lang.specs.Objects.{shapes_of};
 ghost use Rattle.sto_lang.specs.Sound.{IsSound, IsFromTo};
 ghost use Rattle.sto_lang.specs.Views.{file as view};
@@ -12,7 +13,7 @@ ghost use Rattle.sto_run_steps.specs.Logged.{kept};
 ghost use Rattle.sto_run.specs.Lawful.{IsLawfulJournal};
 ghost use Rattle.sto_run.specs.Alone.{RanAlone};
 ghost use Rattle.sto_run.specs.Runnable.{IsRunnable};
-ghost use Rattle.sto_run.specs.Traced.{IsTraced, IsTraceOf};
+ghost use Rattle.sto_run.specs.Traced.{IsRunBy, IsTraced, IsTraceOf};
 
 use crate::opened::OpenedRun;
 use crate::step::turns_of;
@@ -20,7 +21,7 @@ use crate::stored::objects_of;
 use crate::whole::homes_of;
 use std::alloc::Global;
 use sto_journal::Journal;
-use sto_lang::File;
+use sto_lang::{File, Turns};
 use sto_part::NoMemory;
 use sto_run_steps::{SteppedWork, trace_threads};
 use sto_run_threads::{Gate, LentFile, NoGate, RetryTurn};
@@ -75,29 +76,33 @@ fn trace_on<T: TxType>(
 {
     let turn = RetryTurn::new();
     let run = OpenedRun::new(alloc, LentFile { file }, ty, tries, &NoGate, &turn)?;
-    trace_opened(alloc, &run)
+    let schedule = turns_of(run.work.workload.file);
+    trace_opened(alloc, &run, schedule)
 }
 
-// Runs what was opened by the schedule of its file, and gives the journal and the steps.
-fn trace_opened<'f, T: TxType, G: Gate>(
+/// Runs a file that was opened by a schedule, and gives the journal and the steps. It tells none where they are more than 100,000. The
+/// schedule of the file itself is not used. What is handed back is run last, and its events are not among the steps.
+pub fn trace_opened<'f, T: TxType, G: Gate>(
     alloc: Global,
     run: &'f OpenedRun<'f, LentFile<'f>, T, G>,
+    schedule: &[Turns],
 ) -> Result<(Journal, Option<Steps>), NoMemory>
     requires runnable { IsRunnable (plan_of T.TxType run.now.work.ty.now (view run.now.work.workload.file.now) run.now.work.tries)
         T.valid run.now.opening.items }
+    requires schedule { All (λ turns. turns.thread < length (view run.now.work.workload.file.now).threads) schedule.now }
     ensures lawful { IfOk result (λ r. IsLawfulJournal (updating_by (λ _. T.meaning run.now.work.ty.now))
         (view run.now.work.workload.file.now) run.now.work.tries r.0) }
     ensures alone { length (view run.now.work.workload.file.now).threads ≤ 1
         → IfOk result (λ r. RanAlone (view run.now.work.workload.file.now) r.0) }
-    ensures traced { IfOk result (λ r. IsTraced T.TxType run.now.work.ty.now (view run.now.work.workload.file.now) run.now.work.tries
-        r.0 (kept r.1)) }
+    ensures run_by { IfOk result (λ r. IsRunBy T.TxType run.now.work.ty.now (view run.now.work.workload.file.now) run.now.work.tries
+        schedule.now r.0 (kept r.1)) }
 {
     let (finished, steps) = trace_threads::<T, Machine<'_, T, ScriptBody<'_>>, _>(
         &SteppedWork { work: &run.work },
         alloc,
         run.work.ty,
         &run.opening,
-        turns_of(run.work.workload.file),
+        schedule,
     )?;
     let journal = run.journal(alloc, finished)?;
     Ok((journal, steps))

@@ -18,8 +18,8 @@ visit-requires-clause-order g c =
     let threads = g.R.Runs.threads c.args.runs.now in
     subst (λ (us : List ℕ). AllByRecursion (IsAmong threads) us) (sym c.threads-all.ensures.threads) (all_among threads threads (λ u h. h))
 
-pub returns : goal.returns
-returns g c =
+pub returns-clause-begun : goal.returns-clause-begun
+returns-clause-begun g c =
     let threads = g.R.Runs.threads c.args.runs.now in
     let tells = g.R.Runs.tells c.args.runs.now in
     let reports = g.R.Runs.reports c.args.runs.now in
@@ -37,4 +37,4 @@ returns g c =
     c.threads-all.ensures.apart
     (subst (λ (ls : List Leg). HasVisited start tells reports holds held ls threads was now) empty
     (subst (λ (us : List ℕ). HasVisited start tells reports holds held c.new-none.result.items us was now) all
-    (c.in_ok-visit.ensures start ordered)))
+    (c.in_ok-visit.ensures.visited start ordered)))

@@ -23,8 +23,8 @@ visit-requires-clause-order g c =
     (subst (λ (us : List ℕ). AllByRecursion (IsAmong start.going) us) (sym is)
     (order_among start (g.R.Runs.tells c.args.runs.now) (offer_of c.args.branch) (subst AreApart (sym same) c.threads-all.ensures.apart) c.requires.offered.2))
 
-pub returns : goal.returns
-returns g c = λ start same offer.
+pub returns-clause-visited : goal.returns-clause-visited
+returns-clause-visited g c = λ start same offer.
     let tells = g.R.Runs.tells c.args.runs.now in
     let legs = c.args.branch.decided.items in
     let next = c.args.branch.next in
@@ -34,4 +34,4 @@ returns g c = λ start same offer.
     let ordered = subst (IsOrdered start tells legs c.args.branch.left) (here ∙ sym is) (offer_ordered start tells (offer_of c.args.branch) (subst AreApart (sym same) c.threads-all.ensures.apart) offer) in
     subst (λ (us : List ℕ). HasVisited start tells (g.R.Runs.reports c.args.runs.now) (g.G.Gathers.holds c.args.found.now) (g.G.Gathers.holds c.visit.new.found) legs us
     (map offer_of c.args.todo.now.items) (map offer_of c.visit.new.todo.items)) is
-    (c.in_ok-visit.ensures start ordered)
+    (c.in_ok-visit.ensures.visited start ordered)

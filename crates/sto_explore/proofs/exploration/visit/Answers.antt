@@ -9,8 +9,8 @@ pub offer_all-requires : goal.offer_all-requires
 offer_all-requires g c =
     many_ends c.args.order.now c.in_ok-ran.ran.legs.items c.in_ok-ran.ensures.ends ∙ ap (λ (ls : List Leg). length ls) (sym c.as_slice-made.ensures.value)
 
-pub returns : goal.returns
-returns g c = λ start ordered.
+pub returns-clause-visited : goal.returns-clause-visited
+returns-clause-visited g c = λ start ordered.
     let tells = g.R.Runs.tells c.args.runs.now in
     let reports = g.R.Runs.reports c.args.runs.now in
     let made = c.in_ok-ran.ran.legs.items in

@@ -6,7 +6,7 @@ use Rattle.sto_run_threads.specs.Told.{told_in}
 use Rattle.sto_run_steps.specs.Logged.{kept}
 use Rattle.sto_run.proofs.Draws.{few_threads}
 use Rattle.sto_run.proofs.Turns.{one_thread_order}
-use Rattle.sto_run.proofs.TracedRuns.{traced_by}
+use Rattle.sto_run.proofs.TracedRuns.{run_by}
 use Rattle.sto_run.proofs.traced.trace_opened.Goals as goal
 
 pub trace_threads-requires-clause-ready : goal.trace_threads-requires-clause-ready
@@ -17,12 +17,6 @@ trace_threads-requires-clause-opens g c = c.requires.runnable.opens
 
 pub trace_threads-requires-clause-threads : goal.trace_threads-requires-clause-threads
 trace_threads-requires-clause-threads g c = few_threads (view c.args.run.now.work.workload.file.now) c.requires.runnable.sound
-
-pub trace_threads-requires-clause-schedule : goal.trace_threads-requires-clause-schedule
-trace_threads-requires-clause-schedule g c = c.turns_of.ensures.inside
-
-pub turns_of-requires : goal.turns_of-requires
-turns_of-requires g c = c.requires.runnable.sound.scheduled
 
 pub journal-requires-clause-finished : goal.journal-requires-clause-finished
 journal-requires-clause-finished g c = λ κs within. c.in_ok-finished.ensures.finished
@@ -43,8 +37,8 @@ returns-clause-alone g c = λ few.
       none = c.in_ok-journal.ensures.alone (c.in_ok-finished.ensures.alone few);
     }
 
-pub returns-clause-traced : goal.returns-clause-traced
-returns-clause-traced g c =
+pub returns-clause-run_by : goal.returns-clause-run_by
+returns-clause-run_by g c =
     let run = c.args.run.now in
-    traced_by (of_type g.T.Naming g.T.TxType) run.work.ty.now (view run.work.workload.file.now) run.work.tries c.in_ok-journal.journal c.turns_of.result.now run.opening.items
-    (told_in c.in_ok-finished.finished.records) (kept c.in_ok-finished.steps) c.turns_of.ensures.same c.requires.runnable.opens.opened c.in_ok-finished.ensures.traced c.in_ok-journal.ensures.of_records
+    run_by (of_type g.T.Naming g.T.TxType) run.work.ty.now (view run.work.workload.file.now) run.work.tries c.in_ok-journal.journal c.args.schedule.now run.opening.items
+    (told_in c.in_ok-finished.finished.records) (kept c.in_ok-finished.steps) c.requires.runnable.opens.opened c.in_ok-finished.ensures.traced c.in_ok-journal.ensures.of_records
