@@ -180,6 +180,10 @@ word_for version names number = if version == 2 then Named (variable_name names 
 abbrev pub entry_for : ℕ → List (List ℕ) → Turns → ScheduleEntry
 entry_for version names turns = record { thread = word_for version names turns.thread; steps = whole_number turns.steps }
 
+-- entries, each after a space
+abbrev pub entries_text : ℕ → List (List ℕ) → List Turns → List ℕ
+entries_text version names turns = flat_map (λ t. 32 ∷ entry_word (entry_for version names t)) turns
+
 abbrev pub schedule_lines : ℕ → List (List ℕ) → Option (List Turns) → List Form
 schedule_lines version names None = []
 schedule_lines version names (Some schedule) = ScheduleLine (map (entry_for version names) schedule) ∷ []

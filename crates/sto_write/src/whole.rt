@@ -7,7 +7,7 @@ ghost use Rattle.sto_lang.specs.Ascii.{is_ascii};
 ghost use Rattle.sto_lang.specs.Views.{declaration, script as script_of, names_of, file as file_of};
 ghost use Rattle.sto_syntax.specs.Forms.{ThreadLine};
 ghost use Rattle.sto_write.specs.Laws.{ReadsAs};
-ghost use Rattle.sto_write.specs.Texts.{declare_line, script_lines, version_lines, name_on_line, thread_lines, schedule_lines, word_for, thread_text, entry_for, entry_word, line_text, text_of};
+ghost use Rattle.sto_write.specs.Texts.{declare_line, script_lines, version_lines, name_on_line, thread_lines, schedule_lines, word_for, thread_text, entry_for, entry_word, entries_text, line_text, text_of};
 
 use crate::line::push_alone;
 use crate::statement::push_statements;
@@ -175,14 +175,14 @@ fn push_entry(
     push_number(out, i64::from(turns.steps))
 }
 
-fn push_entries(
+/// Adds the entries of a schedule for these threads of a file of this version, each after a space.
+pub fn push_entries(
     out: &mut Text,
     version: u32,
     threads: &[Thread],
     turns: &[Turns],
 ) -> Result<(), NoMemory>
-    ensures { OnOk result (out.new.items ≡ out.old.items ++ flat_map (λ t. 32 ∷ entry_word (entry_for version (names_of threads.now) t))
-        turns.now) }
+    ensures { OnOk result (out.new.items ≡ out.old.items ++ entries_text version (names_of threads.now) turns.now) }
 {
     for entry in turns {
         push_entry(out, version, threads, *entry)?;

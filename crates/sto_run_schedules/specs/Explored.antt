@@ -1,0 +1,29 @@
+-- Every outcome of a file, where at most so many switches are made.
+use Rattle.std.specs.Prelude.{ℕ, List}
+use Rattle.sto_objects.specs.declared.objects.Objects.{Objects}
+use Rattle.sto_store.specs.ObjectShapes.{AreOf}
+use Rattle.sto_lang.specs.Objects.{shapes_of}
+use Rattle.sto_lang.specs.Scripts.{File}
+use Rattle.sto_report_spec.specs.declared.form.ReportForm.{ReportForm}
+use Rattle.sto_run.specs.Traced.{of_objects}
+use Rattle.sto_explore.specs.Explored.{Found, AreExplored, AreTooMany, start_of}
+use Rattle.sto_outcomes.specs.Outcomes.{AreOutcomes}
+use Rattle.sto_outcomes.specs.declared.outcome.Reported.{Reported}
+use Rattle.sto_outcomes.specs.declared.outcome.Outcomes.{Outcomes}
+use Rattle.sto_run_legs.specs.Telling.{tells_of, busy_threads}
+use Rattle.sto_run_schedules.specs.Leading.{LeadsTo}
+
+-- the outcomes of runs of a file: on its objects, one by each schedule with at most so many switches, and none else
+pub record AreOutcomesOf (form : ReportForm) (file : File) (tries switches : ℕ) (outcomes : Outcomes) : Type 0 where
+  pub objects : Objects
+  pub kinds : AreOf objects (shapes_of file.declarations)
+  pub runs : List (Found Reported)
+  pub explored : AreExplored (start_of switches (busy_threads file)) (tells_of of_objects objects file tries) (LeadsTo form objects file tries) runs
+  pub outcomes_of_them : AreOutcomes runs outcomes
+
+-- there are more than so many of them
+pub record HasTooMany (form : ReportForm) (file : File) (tries switches limit : ℕ) : Type 0 where
+  pub objects : Objects
+  pub kinds : AreOf objects (shapes_of file.declarations)
+  pub runs : List (Found Reported)
+  pub too_many : AreTooMany (start_of switches (busy_threads file)) (tells_of of_objects objects file tries) (LeadsTo form objects file tries) limit runs

@@ -1,0 +1,70 @@
+-- What a run of a file by turns of its threads leads to.
+use Rattle.std.specs.Prelude.{◌≡◌, ◌≤◌, ℕ, List, [], length, map, count_by, Some, Bool, true, false, not, string_bytes}
+use Rattle.std.specs.List.{flat_map}
+use Rattle.sto_type.specs.Traits.{OfType}
+use Rattle.sto_objects.specs.declared.objects.Objects.{Objects}
+use Rattle.sto_lang.specs.declared.file.Turns.{Turns}
+use Rattle.sto_lang.specs.Scripts.{File}
+use Rattle.sto_attempt_facts.specs.Records.{Record}
+use Rattle.sto_script.specs.declared.body.ScriptBody.{ScriptBody}
+use Rattle.sto_transaction.specs.declared.machine.Machine.{Machine}
+use Rattle.sto_report_spec.specs.declared.form.ReportForm.{ReportForm}
+use Rattle.sto_report_spec.specs.Lawful.{IsLawfulIn}
+use Rattle.sto_journal.specs.declared.journal.Journal.{Journal}
+use Rattle.sto_journal.specs.declared.journal.AbortLine.{AbortLine}
+use Rattle.sto_journal.specs.declared.journal.Cause.{Cause}
+use Rattle.sto_journal.specs.declared.journal.Cause.TheVariants.{Locked, Changed}
+use Rattle.sto_journal.specs.Journals.{places, abort}
+use Rattle.sto_run_threads.specs.Plans.{plan_of}
+use Rattle.sto_run_steps.specs.Logged.{Log}
+use Rattle.sto_run_steps.specs.Proceeding.{heard_by}
+use Rattle.sto_run_steps.specs.Turning.{WereStepped, entry_turns}
+use Rattle.sto_run.specs.Meanings.{updating_by}
+use Rattle.sto_run.specs.Stores.{means}
+use Rattle.sto_run.specs.Lawful.{IsLawfulJournal}
+use Rattle.sto_run.specs.Alone.{RanAlone}
+use Rattle.sto_run.specs.OfRecords.{IsOfRecords}
+use Rattle.sto_run.specs.Traced.{IsTraced, of_objects}
+use Rattle.sto_lawful_report.specs.Forms.{order_told, aborts_told}
+use Rattle.sto_outcomes.specs.declared.outcome.Reported.{Reported}
+use Rattle.sto_run_legs.specs.Telling.{opened_for}
+
+-- on objects of a type the file was run by a schedule, and these are the steps of its threads; the journal is that of the records of this run
+pub record IsRunBy {T : Type 0} (t : OfType T) (ty : T) (file : File) (tries : ℕ) (schedule : List Turns) (journal : Journal) (steps : Log) : Type 0 where
+  pub records : List Record
+  pub stepped : WereStepped {M = Machine T ScriptBody} (plan_of t ty file tries) t.valid heard_by schedule (opened_for t ty file) (Some []) records steps
+  pub told : IsOfRecords file (t.meaning ty).homes records journal
+
+-- the file with another schedule
+abbrev pub with_schedule : List Turns → File → File
+with_schedule schedule file = record file { schedule = Some schedule }
+
+-- the journal is that of a run by the schedule of the file, whichever schedule of these turns it has
+abbrev pub IsJournalBy : {T : Type 0} → OfType T → T → File → ℕ → List ℕ → Journal → Type 0
+IsJournalBy t ty file tries turns journal =
+    (schedule : List Turns) → flat_map entry_turns schedule ≡ turns → (steps : Log) × IsTraced t ty (with_schedule schedule file) tries journal steps
+
+-- a text is the report of a lawful journal in a form
+pub record IsReportOf (form : ReportForm) (file : File) (tries : ℕ) (journal : Journal) (text : List ℕ) : Type 0 where
+  pub lawful : IsLawfulIn form (updating_by means) file tries text
+  pub order : order_told form file.names text ≡ places journal.lines.items
+  pub aborts : aborts_told form file.names text ≡ map (abort file.declarations) journal.aborts.items
+
+-- whether an attempt was aborted because a part was locked
+abbrev pub by_lock : Cause → Bool
+by_lock (Locked home) = true
+by_lock (Changed home by) = false
+
+abbrev pub is_locked : AbortLine → Bool
+is_locked line = by_lock line.cause
+
+-- what a run of a file with these turns leads to: the report of a lawful journal of such a run, which is the one of a run beside which nothing
+-- runs where the file has at most one thread; and how many attempts this journal has of each cause
+pub record LeadsTo (form : ReportForm) (objects : Objects) (file : File) (tries : ℕ) (turns : List ℕ) (r : Reported) : Type 0 where
+  pub journal : Journal
+  pub run : IsJournalBy of_objects objects file tries turns journal
+  pub lawful : IsLawfulJournal (updating_by means) file tries journal
+  pub alone : length file.threads ≤ 1 → RanAlone file journal
+  pub report : IsReportOf form file tries journal (string_bytes r.text)
+  pub locked : r.aborted.locked ≡ count_by is_locked journal.aborts.items
+  pub changed : r.aborted.changed ≡ count_by (λ line. not (is_locked line)) journal.aborts.items

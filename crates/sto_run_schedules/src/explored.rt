@@ -1,0 +1,68 @@
+//! Every outcome of a file.
+ghost use Rattle.std.specs.Prelude.{◌≡◌, IfOk, IfErr};
+ghost use Rattle.sto_store.specs.ObjectShapes.{AreOf};
+ghost use Rattle.sto_lang.specs.Objects.{shapes_of};
+ghost use Rattle.sto_lang.specs.Sound.{IsSound, IsFromTo};
+ghost use Rattle.sto_lang.specs.Views.{file as view};
+ghost use Rattle.sto_run_threads.specs.Plans.{plan_of};
+ghost use Rattle.sto_run.specs.Runnable.{IsRunnable};
+ghost use Rattle.sto_run.specs.Traced.{of_objects};
+ghost use Rattle.sto_lawful_report.specs.Forms.{form_for};
+ghost use Rattle.sto_explore.specs.declared.exploration.Stopped.TheVariants.{TooMany};
+ghost use Rattle.sto_run_schedules.specs.Explored.{AreOutcomesOf, HasTooMany};
+
+use crate::runs::FileRuns;
+use std::alloc::Global;
+use sto_explore::{Stopped, explore};
+use sto_lang::File;
+use sto_objects::Objects;
+use sto_outcomes::{Outcomes, Tally};
+use sto_run::{LentFile, NoGate, OpenedRun, objects_of};
+use sto_run_legs::busy_threads;
+use sto_run_threads::RetryTurn;
+
+/// Runs a file in one thread by every schedule with at most so many switches away from a thread that could go on, and gathers the reports.
+///
+/// At most `limit` runs are made, but at least one. Where a schedule is left that none of them follows, this is `TooMany`. `NoMemory` comes
+/// also where a run makes more events than a run keeps.
+pub fn explore_file(
+    alloc: Global,
+    file: &File,
+    tries: u32,
+    switches: u32,
+    limit: u32,
+    json: bool,
+) -> Result<Outcomes, Stopped>
+    requires sound { IsSound (view file.now) }
+    requires tries { IsFromTo 1 64 tries }
+    ensures outcomes { IfOk result (AreOutcomesOf (form_for json) (view file.now) tries switches) }
+    ensures too_many { IfErr result (λ why. why ≡ TooMany → HasTooMany (form_for json) (view file.now) tries switches limit) }
+{
+    let lent = LentFile { file };
+    let objects = objects_of(alloc, &lent)?;
+    let turn = RetryTurn::new();
+    let run = OpenedRun::new(alloc, lent, &objects, tries, &NoGate, &turn)?;
+    explore_opened(alloc, &run, switches, limit, json)
+}
+
+// Runs what was opened by every schedule.
+fn explore_opened<'f>(
+    alloc: Global,
+    run: &'f OpenedRun<'f, LentFile<'f>, Objects, NoGate>,
+    switches: u32,
+    limit: u32,
+    json: bool,
+) -> Result<Outcomes, Stopped>
+    requires runnable { IsRunnable (plan_of of_objects run.now.work.ty.now (view run.now.work.workload.file.now) run.now.work.tries)
+        of_objects.valid run.now.opening.items }
+    requires kinds { AreOf run.now.work.ty.now (shapes_of (view run.now.work.workload.file.now).declarations) }
+    ensures outcomes { IfOk result (AreOutcomesOf (form_for json) (view run.now.work.workload.file.now) run.now.work.tries switches) }
+    ensures too_many { IfErr result (λ why. why ≡ TooMany
+        → HasTooMany (form_for json) (view run.now.work.workload.file.now) run.now.work.tries switches limit) }
+{
+    let threads = busy_threads(alloc, run.work.workload.file)?;
+    let runs = FileRuns { run, threads, json };
+    let mut tally = Tally::new(alloc);
+    explore(&runs, alloc, switches, limit, &mut tally)?;
+    Ok(tally.outcomes(alloc)?)
+}

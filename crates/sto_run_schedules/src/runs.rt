@@ -1,0 +1,64 @@
+//! A file that is run by one schedule after another.
+ghost use Rattle.std.specs.Prelude.{◌<◌};
+ghost use Rattle.sto_run_steps.specs.Logged.{most_kept};
+
+use crate::reported::reported;
+use crate::traced::trace_by;
+use std::alloc::Global;
+use sto_explore::{Leg, Ran, Runs};
+use sto_objects::Objects;
+use sto_outcomes::Reported;
+use sto_part::NoMemory;
+use sto_run::{LentFile, NoGate, OpenedRun};
+use sto_run_legs::{ends, entries_to_ends, past};
+
+/// A file that can be run in one thread by any schedule, again and again, and the threads that have a transaction.
+#[derive(Drop)]
+pub(crate) struct FileRuns<'f> {
+    pub(crate) run: &'f OpenedRun<'f, LentFile<'f>, Objects, NoGate>,
+    pub(crate) threads: Vec<u32>,
+    /// Whether its reports are JSON.
+    pub(crate) json: bool,
+}
+
+// More events than a run keeps: a thread that has so many turns comes to its end.
+fn enough() -> u32
+    ensures { most_kept < result }
+{
+    u32::MAX
+}
+
+impl Runs<Reported> for FileRuns<'_> {
+    ghost use Rattle.sto_run_schedules.specs.Ready.{IsReady, Tells, Leads};
+
+    ghost ready = { IsReady };
+
+    ghost threads = { λ r. r.threads.items };
+
+    ghost tells = { Tells };
+
+    ghost reports = { Leads };
+
+    fn threads(&self) -> &[u32] {
+        self.threads.as_slice()
+    }
+
+    fn run(
+        &self,
+        alloc: Global,
+        decided: &[Leg],
+        order: &[u32],
+    ) -> Result<Ran<Reported>, NoMemory> {
+        let run = self.run;
+        let most = enough();
+        let entries = entries_to_ends(alloc, decided, order, most)?;
+        let (journal, steps) = trace_by(alloc, run, entries.as_slice())?;
+        let Some(steps) = steps else {
+            return Err(NoMemory);
+        };
+        let further = past(steps.as_slice(), decided);
+        let legs = ends(alloc, further, order, most)?;
+        let report = reported(alloc, run.work.workload.file, &journal, self.json)?;
+        Ok(Ran { legs, report })
+    }
+}
