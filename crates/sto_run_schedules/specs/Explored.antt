@@ -21,6 +21,11 @@ pub record AreOutcomesOf (form : ReportForm) (file : File) (tries switches : ℕ
   pub explored : AreExplored (start_of switches (busy_threads file)) (tells_of of_objects objects file tries) (LeadsTo form objects file tries) runs
   pub outcomes_of_them : AreOutcomes runs outcomes
 
+-- each outcome is a report of the file by each schedule that gives the turns of its legs
+abbrev pub AreReports : ReportForm → File → ℕ → Outcomes → Type 0
+AreReports form file tries outcomes =
+    AllByRecursion (λ o. (schedule : List Turns) → Gives (schedule_of o.legs.items) schedule → IsReportBy form file tries schedule (string_bytes o.text)) outcomes.each.items
+
 -- there are more than so many of them
 pub record HasTooMany (form : ReportForm) (file : File) (tries switches limit : ℕ) : Type 0 where
   pub objects : Objects

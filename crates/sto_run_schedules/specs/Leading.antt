@@ -29,20 +29,17 @@ use Rattle.sto_lawful_report.specs.Forms.{order_told, aborts_told}
 use Rattle.sto_outcomes.specs.declared.outcome.Reported.{Reported}
 use Rattle.sto_run_legs.specs.Telling.{opened_for}
 
--- on objects of a type the file was run by a schedule, and these are the steps of its threads; the journal is that of the records of this run
-pub record IsRunBy {T : Type 0} (t : OfType T) (ty : T) (file : File) (tries : ℕ) (schedule : List Turns) (journal : Journal) (steps : Log) : Type 0 where
-  pub records : List Record
-  pub stepped : WereStepped {M = Machine T ScriptBody} (plan_of t ty file tries) t.valid heard_by schedule (opened_for t ty file) (Some []) records steps
-  pub told : IsOfRecords file (t.meaning ty).homes records journal
-
 -- the file with another schedule
 abbrev pub with_schedule : List Turns → File → File
 with_schedule schedule file = record file { schedule = Some schedule }
 
--- the journal is that of a run by the schedule of the file, whichever schedule of these turns it has
-abbrev pub IsJournalBy : {T : Type 0} → OfType T → T → File → ℕ → List ℕ → Journal → Type 0
-IsJournalBy t ty file tries turns journal =
-    (schedule : List Turns) → flat_map entry_turns schedule ≡ turns → (steps : Log) × IsTraced t ty (with_schedule schedule file) tries journal steps
+-- the journal is that of a run by the schedule of the file, where this is put in the place of its own
+abbrev pub IsJournalBy : Objects → File → ℕ → List Turns → Journal → Type 0
+IsJournalBy objects file tries schedule journal = (steps : Log) × IsTraced of_objects objects (with_schedule schedule file) tries journal steps
+
+-- the schedules that give these turns
+abbrev pub Gives : List ℕ → List Turns → Type 0
+Gives turns schedule = flat_map entry_turns schedule ≡ turns
 
 -- a text is the report of a lawful journal in a form
 pub record IsReportOf (form : ReportForm) (file : File) (tries : ℕ) (journal : Journal) (text : List ℕ) : Type 0 where
@@ -58,13 +55,30 @@ by_lock (Changed home by) = false
 abbrev pub is_locked : AbortLine → Bool
 is_locked line = by_lock line.cause
 
--- what a run of a file with these turns leads to: the report of a lawful journal of such a run, which is the one of a run beside which nothing
--- runs where the file has at most one thread; and how many attempts this journal has of each cause
+-- what a run of a file with these turns leads to, whichever schedule gives them: the report of a lawful journal of such a run, which is the one
+-- of a run beside which nothing runs where the file has at most one thread; and how many attempts this journal has of each cause
 pub record LeadsTo (form : ReportForm) (objects : Objects) (file : File) (tries : ℕ) (turns : List ℕ) (r : Reported) : Type 0 where
   pub journal : Journal
-  pub run : IsJournalBy of_objects objects file tries turns journal
+  pub run : (schedule : List Turns) → Gives turns schedule → IsJournalBy objects file tries schedule journal
   pub lawful : IsLawfulJournal (updating_by means) file tries journal
   pub alone : length file.threads ≤ 1 → RanAlone file journal
   pub report : IsReportOf form file tries journal (string_bytes r.text)
   pub locked : r.aborted.locked ≡ count_by is_locked journal.aborts.items
   pub changed : r.aborted.changed ≡ count_by (λ line. not (is_locked line)) journal.aborts.items
+
+-- the text is a report of the file by this schedule: of the journal of a run on its objects
+pub record IsReportBy (form : ReportForm) (file : File) (tries : ℕ) (schedule : List Turns) (text : List ℕ) : Type 0 where
+  pub objects : Objects
+  pub kinds : AreOf objects (shapes_of file.declarations)
+  pub journal : Journal
+  pub run : IsJournalBy objects file tries schedule journal
+  pub report : IsReportOf form file tries journal text
+  pub alone : length file.threads ≤ 1 → IsAlone form file text
+
+-- a run of the file on its objects by some schedule has more events than a run keeps
+pub record HasLongRun (file : File) (tries : ℕ) : Type 0 where
+  pub objects : Objects
+  pub kinds : AreOf objects (shapes_of file.declarations)
+  pub schedule : List Turns
+  pub journal : Journal
+  pub run : IsTraced of_objects objects (with_schedule schedule file) tries journal None

@@ -11,7 +11,7 @@ use Rattle.sto_run.specs.Traced.{of_objects}
 use Rattle.sto_lawful_report.specs.Forms.{form_for}
 use Rattle.sto_outcomes.specs.declared.outcome.Reported.{Reported}
 use Rattle.sto_run_legs.specs.Telling.{tells_of, busy_threads}
-use Rattle.sto_run_schedules.specs.Leading.{LeadsTo}
+use Rattle.sto_run_schedules.specs.Leading.{LeadsTo, HasLongRun}
 use Rattle.sto_run_schedules.specs.declared.runs.FileRuns.{FileRuns}
 
 -- its objects, its file, and how many aborted attempts a transaction may have
@@ -35,3 +35,6 @@ Tells r = tells_of of_objects (objects_of r) (file_of r) (tries_of r)
 
 abbrev pub Leads : FileRuns → List ℕ → Reported → Type 0
 Leads r = LeadsTo (form_for r.json) (objects_of r) (file_of r) (tries_of r)
+
+abbrev pub IsLong : FileRuns → Type 0
+IsLong r = HasLongRun (file_of r) (tries_of r)

@@ -8,10 +8,12 @@ ghost use Rattle.sto_run_threads.specs.Plans.{plan_of};
 ghost use Rattle.sto_run.specs.Runnable.{IsRunnable};
 ghost use Rattle.sto_run.specs.Traced.{of_objects};
 ghost use Rattle.sto_lawful_report.specs.Forms.{form_for};
-ghost use Rattle.sto_explore.specs.declared.exploration.Stopped.TheVariants.{TooMany};
-ghost use Rattle.sto_run_schedules.specs.Explored.{AreOutcomesOf, HasTooMany};
+ghost use Rattle.sto_explore.specs.declared.exploration.Stopped.TheVariants.{TooLong, TooMany};
+ghost use Rattle.sto_run_schedules.specs.Explored.{AreOutcomesOf, AreReports, HasTooMany};
+ghost use Rattle.sto_run_schedules.specs.Leading.{HasLongRun};
 
 use crate::runs::FileRuns;
+use crate::watch::Watch;
 use std::alloc::Global;
 use sto_explore::{Stopped, explore};
 use sto_lang::File;
@@ -23,35 +25,40 @@ use sto_run_threads::RetryTurn;
 
 /// Runs a file in one thread by every schedule with at most so many switches away from a thread that could go on, and gathers the reports.
 ///
-/// At most `limit` runs are made, but at least one. Where a schedule is left that none of them follows, this is `TooMany`. `NoMemory` comes
-/// also where a run makes more events than a run keeps.
-pub fn explore_file(
+/// At most `limit` runs are made, but at least one. Where a schedule is left that none of them follows, this is `TooMany`. Where a run makes
+/// more events than a run keeps, it is `TooLong`. The watch is told of each run.
+pub fn explore_file<W: Watch>(
     alloc: Global,
     file: &File,
     tries: u32,
     switches: u32,
     limit: u32,
     json: bool,
+    watch: &W,
 ) -> Result<Outcomes, Stopped>
     requires sound { IsSound (view file.now) }
     requires tries { IsFromTo 1 64 tries }
     ensures outcomes { IfOk result (AreOutcomesOf (form_for json) (view file.now) tries switches) }
+    // Each is what `step` prints of the file with a schedule that gives the turns of its legs.
+    ensures reports { IfOk result (AreReports (form_for json) (view file.now) tries) }
     ensures too_many { IfErr result (λ why. why ≡ TooMany → HasTooMany (form_for json) (view file.now) tries switches limit) }
+    ensures too_long { IfErr result (λ why. why ≡ TooLong → HasLongRun (view file.now) tries) }
 {
     let lent = LentFile { file };
     let objects = objects_of(alloc, &lent)?;
     let turn = RetryTurn::new();
     let run = OpenedRun::new(alloc, lent, &objects, tries, &NoGate, &turn)?;
-    explore_opened(alloc, &run, switches, limit, json)
+    explore_opened(alloc, &run, switches, limit, json, watch)
 }
 
 // Runs what was opened by every schedule.
-fn explore_opened<'f>(
+fn explore_opened<'f, W: Watch>(
     alloc: Global,
     run: &'f OpenedRun<'f, LentFile<'f>, Objects, NoGate>,
     switches: u32,
     limit: u32,
     json: bool,
+    watch: &'f W,
 ) -> Result<Outcomes, Stopped>
     requires runnable { IsRunnable (plan_of of_objects run.now.work.ty.now (view run.now.work.workload.file.now) run.now.work.tries)
         of_objects.valid run.now.opening.items }
@@ -59,9 +66,10 @@ fn explore_opened<'f>(
     ensures outcomes { IfOk result (AreOutcomesOf (form_for json) (view run.now.work.workload.file.now) run.now.work.tries switches) }
     ensures too_many { IfErr result (λ why. why ≡ TooMany
         → HasTooMany (form_for json) (view run.now.work.workload.file.now) run.now.work.tries switches limit) }
+    ensures too_long { IfErr result (λ why. why ≡ TooLong → HasLongRun (view run.now.work.workload.file.now) run.now.work.tries) }
 {
     let threads = busy_threads(alloc, run.work.workload.file)?;
-    let runs = FileRuns { run, threads, json };
+    let runs = FileRuns { run, threads, json, watch };
     let mut tally = Tally::new(alloc);
     explore(&runs, alloc, switches, limit, &mut tally)?;
     Ok(tally.outcomes(alloc)?)

@@ -6,8 +6,9 @@
 mod explored;
 mod reported;
 mod runs;
-mod traced;
+mod watch;
 
 pub use explored::explore_file;
 pub use sto_explore::Stopped;
 pub use sto_outcomes::{Outcome, Outcomes};
+pub use watch::{NoWatch, Watch};

@@ -3,22 +3,22 @@ ghost use Rattle.std.specs.Prelude.{◌<◌};
 ghost use Rattle.sto_run_steps.specs.Logged.{most_kept};
 
 use crate::reported::reported;
-use crate::traced::trace_by;
+use crate::watch::Watch;
 use std::alloc::Global;
-use sto_explore::{Leg, Ran, Runs};
+use sto_explore::{Leg, NotMade, Ran, Runs};
 use sto_objects::Objects;
 use sto_outcomes::Reported;
-use sto_part::NoMemory;
-use sto_run::{LentFile, NoGate, OpenedRun};
+use sto_run::{LentFile, NoGate, OpenedRun, trace_opened};
 use sto_run_legs::{ends, entries_to_ends, past};
 
 /// A file that can be run in one thread by any schedule, again and again, and the threads that have a transaction.
 #[derive(Drop)]
-pub(crate) struct FileRuns<'f> {
+pub(crate) struct FileRuns<'f, W: Watch> {
     pub(crate) run: &'f OpenedRun<'f, LentFile<'f>, Objects, NoGate>,
     pub(crate) threads: Vec<u32>,
     /// Whether its reports are JSON.
     pub(crate) json: bool,
+    pub(crate) watch: &'f W,
 }
 
 // More events than a run keeps: a thread that has so many turns comes to its end.
@@ -28,8 +28,8 @@ fn enough() -> u32
     u32::MAX
 }
 
-impl Runs<Reported> for FileRuns<'_> {
-    ghost use Rattle.sto_run_schedules.specs.Ready.{IsReady, Tells, Leads};
+impl<W: Watch> Runs<Reported> for FileRuns<'_, W> {
+    ghost use Rattle.sto_run_schedules.specs.Ready.{IsReady, Tells, Leads, IsLong};
 
     ghost ready = { IsReady };
 
@@ -38,6 +38,8 @@ impl Runs<Reported> for FileRuns<'_> {
     ghost tells = { Tells };
 
     ghost reports = { Leads };
+
+    ghost too_long = { IsLong };
 
     fn threads(&self) -> &[u32] {
         self.threads.as_slice()
@@ -48,17 +50,18 @@ impl Runs<Reported> for FileRuns<'_> {
         alloc: Global,
         decided: &[Leg],
         order: &[u32],
-    ) -> Result<Ran<Reported>, NoMemory> {
+    ) -> Result<Ran<Reported>, NotMade> {
         let run = self.run;
         let most = enough();
         let entries = entries_to_ends(alloc, decided, order, most)?;
-        let (journal, steps) = trace_by(alloc, run, entries.as_slice())?;
+        let (journal, steps) = trace_opened(alloc, run, entries.as_slice())?;
         let Some(steps) = steps else {
-            return Err(NoMemory);
+            return Err(NotMade::TooLong);
         };
         let further = past(steps.as_slice(), decided);
         let legs = ends(alloc, further, order, most)?;
         let report = reported(alloc, run.work.workload.file, &journal, self.json)?;
+        self.watch.made();
         Ok(Ran { legs, report })
     }
 }
