@@ -3,53 +3,27 @@ use Rattle.std.specs.Prelude.{◌≡◌, ◌≤◌, ℕ, min, max, List, [], len
 use Rattle.sto_lang.specs.Files.{file_of}
 use Rattle.sto_lang.specs.Scripts.{File}
 use Rattle.sto_cli_common.specs.declared.refusal.InputFault.{InputFault}
-use Rattle.sto_cli_common.specs.declared.refusal.InputFault.TheVariants.{Script, NoReport, LongTrace, LongRun}
+use Rattle.sto_cli_common.specs.declared.refusal.InputFault.TheVariants.{Script, NoReport, LongTrace, LongRun, ManySchedules}
 use Rattle.sto_write.specs.Texts.{text_of, upgraded}
 use Rattle.sto_gen.specs.Generated.{file_of as generated}
-use Rattle.sto_report_spec.specs.declared.form.ReportForm.{ReportForm}
-use Rattle.sto_report_spec.specs.declared.form.ReportForm.TheVariants.{Text, Json}
-use Rattle.sto_report_spec.specs.Orders.{Place}
-use Rattle.sto_report_spec.specs.Aborts.{Abort}
-use Rattle.sto_report_spec.specs.Named.{order_named}
-use Rattle.sto_report_spec.specs.NamedAborts.{aborts_named}
-use Rattle.sto_report_spec.specs.NamedJson.{json_order_named, json_aborts_named}
-use Rattle.sto_report_spec.specs.Lawful.{IsLawfulIn, made_in}
+use Rattle.sto_report_spec.specs.Lawful.{IsLawfulIn}
+use Rattle.sto_lawful_report.specs.Forms.{form_for, IsAlone}
 use Rattle.sto_run.specs.Meanings.{updating_by}
 use Rattle.sto_run.specs.Stores.{means}
 use Rattle.sto_journal.specs.declared.journal.Journal.{Journal}
 use Rattle.sto_summary.specs.Summary.{summary_of, HasTotals}
 use Rattle.sto_run.specs.Lawful.{IsLawfulJournal}
-use Rattle.sto_run.specs.Alone.{all_places}
 use Rattle.sto_args.specs.declared.command.Command.{Command}
-use Rattle.sto_args.specs.declared.command.Command.TheVariants.{Run, Step, Trace, Draw, Upgrade, Gen, Bench}
+use Rattle.sto_args.specs.declared.command.Command.TheVariants.{Run, Step, Trace, Draw, Explore, Upgrade, Gen, Bench}
 use Rattle.sto_draw.specs.Drawn.{IsPicture, IsTooLong}
-use Rattle.sto_cli.specs.Traces.{IsTraceable, IsTrace, HasLongRun, IsRunFault}
-
--- the form of the report that is asked for
-abbrev pub form_for : Bool → ReportForm
-form_for json = if json then Json else Text
+use Rattle.sto_cli.specs.Traces.{IsTraceable, IsTrace, HasLongRun, IsRunFault, NeverMany}
+use Rattle.sto_cli.specs.Explorations.{IsExploration, IsLongSomewhere, HasManySchedules}
 
 -- how many workers run a file with so many script threads: as many as are asked for, else 16, but no more than there are script
 -- threads, and at least one
 abbrev pub workers_of : Option ℕ → ℕ → ℕ
 workers_of None count = max (min 16 count) 1
 workers_of (Some threads) count = max (min threads count) 1
-
--- the aborted attempts that a report in a form names
-abbrev pub aborts_told : ReportForm → List (List ℕ) → List ℕ → List Abort
-aborts_told Text names text = aborts_named names text
-aborts_told Json names text = json_aborts_named names text
-
--- the order that it names
-abbrev pub order_told : ReportForm → List (List ℕ) → List ℕ → List Place
-order_told Text names text = order_named names text
-order_told Json names text = json_order_named names text
-
--- the one report of a run beside which nothing runs: of all transactions in rising thread and then position, with no aborted attempt
-pub record IsAlone (form : ReportForm) (file : File) (text : List ℕ) : Type 0 where
-  pub order : order_told form file.names text ≡ all_places file
-  pub none : aborts_told form file.names text ≡ []
-  pub report : text ≡ made_in form file (all_places file) []
 
 -- a lawful report of the file that the bytes are, for so many tries and in the form that is asked for, with what the types of
 -- objects say of updates; where nothing runs beside, it is the one report of such a run
@@ -65,14 +39,15 @@ IsSummary number text =
     (journal : Journal) × IsLawfulJournal (updating_by means) (generated number) 64 journal × (text ≡ summary_of number 3200 journal.state.items) × HasTotals journal.state.items
 
 -- `run` and `step` print a lawful report, which is one text where one worker runs the file, or where `step` has at most one
--- script thread; `trace` prints the events of such a run as `step` makes, and `draw` its picture; `upgrade` prints the canonical text
--- of the file that the bytes are with its version set to 2; `gen` prints the canonical text of the file that the number generates,
+-- script thread; `trace` prints the events of such a run as `step` makes, `draw` its picture, and `explore` the outcomes of all such runs within a bound; `upgrade`
+-- prints the canonical text of the file that the bytes are with its version set to 2; `gen` prints the canonical text of the file that the number generates,
 -- which reads as that file, and `bench` the summary of a run of it
 abbrev pub IsOutput : Command → List ℕ → List ℕ → Type 0
 IsOutput (Run threads tries json) bytes text = IsReport tries json (λ file. workers_of threads (length file.threads) ≡ 1) bytes text
 IsOutput (Step tries json) bytes text = IsReport tries json (λ file. length file.threads ≤ 1) bytes text
 IsOutput (Trace tries json) bytes text = (file : File) × IsTraceable bytes file × IsTrace tries json file text
 IsOutput (Draw tries) bytes text = (file : File) × IsTraceable bytes file × IsPicture tries file text
+IsOutput (Explore switches tries json) bytes text = (file : File) × IsTraceable bytes file × IsExploration switches tries json file text
 IsOutput Upgrade bytes text = (file : File) × (file_of bytes ≡ Ok file) × (text ≡ text_of (upgraded file))
 IsOutput (Gen number) bytes text = (text ≡ text_of (generated number)) × (file_of text ≡ Ok (generated number))
 IsOutput (Bench number threads) bytes text = IsSummary number text
@@ -83,13 +58,15 @@ IsScriptFault bytes (Script fault) = file_of bytes ≡ Err fault
 IsScriptFault bytes NoReport = ⊥
 IsScriptFault bytes LongTrace = ⊥
 IsScriptFault bytes LongRun = ⊥
+IsScriptFault bytes (ManySchedules counts) = ⊥
 
 -- the bytes have this fault
 abbrev pub HasFault : Command → List ℕ → InputFault → Type 0
 HasFault (Run threads tries json) bytes fault = IsScriptFault bytes fault
 HasFault (Step tries json) bytes fault = IsScriptFault bytes fault
-HasFault (Trace tries json) bytes fault = IsRunFault (HasLongRun tries) bytes fault
-HasFault (Draw tries) bytes fault = IsRunFault (IsTooLong tries) bytes fault
+HasFault (Trace tries json) bytes fault = IsRunFault (HasLongRun tries) NeverMany bytes fault
+HasFault (Draw tries) bytes fault = IsRunFault (IsTooLong tries) NeverMany bytes fault
+HasFault (Explore switches tries json) bytes fault = IsRunFault (IsLongSomewhere tries) (HasManySchedules switches tries json) bytes fault
 HasFault Upgrade bytes fault = IsScriptFault bytes fault
 HasFault (Gen number) bytes fault = ⊥
 HasFault (Bench number threads) bytes fault = ⊥

@@ -1,10 +1,11 @@
--- What `trace` prints of a script, and the faults that it and `draw` tell of one.
+-- What `trace` prints of a script, and the faults that it, `draw` and `explore` tell of one.
 use Rattle.std.specs.Prelude.{◌≡◌, ◌≤◌, ◌<◌, ℕ, List, length, Bool, if◌then◌else◌, None, Some, Ok, Err}
 use Rattle.sto_lang.specs.Files.{file_of}
 use Rattle.sto_lang.specs.Scripts.{File}
 use Rattle.sto_lang.specs.Drafts.{transaction_count}
 use Rattle.sto_cli_common.specs.declared.refusal.InputFault.{InputFault}
-use Rattle.sto_cli_common.specs.declared.refusal.InputFault.TheVariants.{Script, NoReport, LongTrace, LongRun}
+use Rattle.sto_cli_common.specs.declared.refusal.ScheduleCounts.{ScheduleCounts}
+use Rattle.sto_cli_common.specs.declared.refusal.InputFault.TheVariants.{Script, NoReport, LongTrace, LongRun, ManySchedules}
 use Rattle.sto_cli_common.specs.declared.refusal.Refusal.{Refusal}
 use Rattle.sto_cli_common.specs.declared.refusal.Refusal.TheVariants.{Usage, Input, ReadFault, WriteFault, NoMemory}
 use Rattle.sto_trace.specs.declared.Step.{Step}
@@ -18,7 +19,7 @@ use Rattle.sto_run.specs.Alone.{RanAlone}
 use Rattle.sto_run.specs.Logged.{Log}
 use Rattle.sto_run.specs.Traced.{IsTraceOf}
 
--- how many transactions a script may have that is traced or drawn
+-- how many transactions a script may have that is traced, drawn or explored
 abbrev pub most_traced : ℕ
 most_traced = 256
 
@@ -57,15 +58,21 @@ IsTraceFault bytes (Script fault) = file_of bytes ≡ Err fault
 IsTraceFault bytes NoReport = ⊥
 IsTraceFault bytes LongTrace = (file : File) × (file_of bytes ≡ Ok file) × (most_traced < transaction_count file.threads)
 IsTraceFault bytes LongRun = ⊥
+IsTraceFault bytes (ManySchedules counts) = ⊥
 
--- the same, or a script that can be traced, of which a run is too long
-abbrev pub IsRunFault : (File → Type 0) → List ℕ → InputFault → Type 0
-IsRunFault IsLong bytes LongRun = (file : File) × IsTraceable bytes file × IsLong file
-IsRunFault IsLong bytes (Script fault) = IsTraceFault bytes (Script fault)
-IsRunFault IsLong bytes NoReport = IsTraceFault bytes NoReport
-IsRunFault IsLong bytes LongTrace = IsTraceFault bytes LongTrace
+-- one run has no schedules to be counted
+abbrev pub NeverMany : ScheduleCounts → File → Type 0
+NeverMany counts file = ⊥
 
--- why bytes were not traced or drawn: for such a fault, and want of memory may come at any time
+-- the same, or a script that can be traced, of which a run is too long, or that has too many schedules
+abbrev pub IsRunFault : (File → Type 0) → (ScheduleCounts → File → Type 0) → List ℕ → InputFault → Type 0
+IsRunFault IsLong IsMany bytes LongRun = (file : File) × IsTraceable bytes file × IsLong file
+IsRunFault IsLong IsMany bytes (ManySchedules counts) = (file : File) × IsTraceable bytes file × IsMany counts file
+IsRunFault IsLong IsMany bytes (Script fault) = IsTraceFault bytes (Script fault)
+IsRunFault IsLong IsMany bytes NoReport = IsTraceFault bytes NoReport
+IsRunFault IsLong IsMany bytes LongTrace = IsTraceFault bytes LongTrace
+
+-- why bytes were not traced, drawn or explored: for such a fault, and want of memory may come at any time
 abbrev pub IsRefusalFor : (InputFault → Type 0) → Refusal → Type 0
 IsRefusalFor IsFault (Input fault) = IsFault fault
 IsRefusalFor IsFault NoMemory = Unit {0}

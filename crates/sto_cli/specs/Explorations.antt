@@ -1,0 +1,52 @@
+-- What `explore` prints of a script, and why it refuses one.
+use Rattle.std.specs.Prelude.{◌≡◌, ℕ, List, Bool, Option, None, Some, string_bytes}
+use Rattle.std.specs.List.{AllByRecursion}
+use Rattle.sto_lang.specs.Scripts.{File}
+use Rattle.sto_report_spec.specs.declared.form.ReportForm.{ReportForm}
+use Rattle.sto_cli_common.specs.declared.refusal.InputFault.{InputFault}
+use Rattle.sto_cli_common.specs.declared.refusal.InputFault.TheVariants.{Script, NoReport, LongTrace, LongRun, ManySchedules}
+use Rattle.sto_cli_common.specs.declared.refusal.ScheduleCounts.{ScheduleCounts}
+use Rattle.sto_lawful_report.specs.Forms.{form_for}
+use Rattle.sto_outcomes.specs.declared.outcome.Outcomes.{Outcomes}
+use Rattle.sto_run_schedules.specs.Leading.{IsReportBy, HasSomeLongRun}
+use Rattle.sto_run_schedules.specs.Explored.{AreOutcomesOf, HasTooMany}
+use Rattle.sto_outcome_text.specs.Texts.{entries_of, outcomes_in}
+
+-- how many schedules a script may have of which every outcome is told
+abbrev pub most_schedules : ℕ
+most_schedules = 1000000
+
+-- the text tells the outcomes of runs of the file: one by each schedule with at most so many switches, and of none else. Each is a report
+-- of the file by the schedule that is printed before it, as `step` prints it of the file with this line
+pub record IsExploration (switches tries : ℕ) (json : Bool) (file : File) (text : List ℕ) : Type 0 where
+  pub outcomes : Outcomes
+  pub of_file : AreOutcomesOf (form_for json) file tries switches outcomes
+  pub reports : AllByRecursion (λ o. IsReportBy (form_for json) file tries (entries_of o.legs.items) (string_bytes o.text)) outcomes.each.items
+  pub told : text ≡ outcomes_in json file outcomes
+
+-- so many schedules of the file make at most so many switches; where no number is told, they are more than are tried
+abbrev pub IsCountAt : ReportForm → File → ℕ → ℕ → Option ℕ → Type 0
+IsCountAt form file tries switches None = HasTooMany form file tries switches most_schedules
+IsCountAt form file tries switches (Some count) = (outcomes : Outcomes) × AreOutcomesOf form file tries switches outcomes × (count ≡ outcomes.schedules)
+
+-- these numbers of schedules make at most no, one and two switches
+pub record AreCounts (form : ReportForm) (file : File) (tries : ℕ) (counts : ScheduleCounts) : Type 0 where
+  pub none : IsCountAt form file tries 0 counts.none
+  pub one : IsCountAt form file tries 1 counts.one
+  pub two : IsCountAt form file tries 2 counts.two
+
+-- too many schedules make at most so many switches, and these are the numbers for fewer
+abbrev pub HasManySchedules : ℕ → ℕ → Bool → ScheduleCounts → File → Type 0
+HasManySchedules switches tries json counts file = HasTooMany (form_for json) file tries switches most_schedules × AreCounts (form_for json) file tries counts
+
+-- a run of the file by some schedule has more events than are kept
+abbrev pub IsLongSomewhere : ℕ → File → Type 0
+IsLongSomewhere tries file = HasSomeLongRun file tries
+
+-- the file cannot be explored, for this fault
+abbrev pub IsExploringFault : ℕ → ℕ → Bool → File → InputFault → Type 0
+IsExploringFault switches tries json file LongRun = IsLongSomewhere tries file
+IsExploringFault switches tries json file (ManySchedules counts) = HasManySchedules switches tries json counts file
+IsExploringFault switches tries json file (Script fault) = ⊥
+IsExploringFault switches tries json file NoReport = ⊥
+IsExploringFault switches tries json file LongTrace = ⊥
