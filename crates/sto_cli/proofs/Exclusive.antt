@@ -5,14 +5,16 @@ use Rattle.sto_lang.specs.Files.{file_of}
 use Rattle.sto_lang.specs.Scripts.{File}
 use Rattle.sto_lang.specs.declared.fault.ScriptFault.{ScriptFault}
 use Rattle.sto_args.specs.declared.command.Command.{Command}
-use Rattle.sto_args.specs.declared.command.Command.TheVariants.{Run, Step, Trace, Draw, Upgrade, Gen, Bench}
+use Rattle.sto_args.specs.declared.command.Command.TheVariants.{Run, Step, Trace, Draw, Explore, Upgrade, Gen, Bench}
 use Rattle.sto_cli_common.specs.declared.refusal.InputFault.{InputFault}
-use Rattle.sto_cli_common.specs.declared.refusal.InputFault.TheVariants.{Script, NoReport, LongTrace, LongRun}
+use Rattle.sto_cli_common.specs.declared.refusal.InputFault.TheVariants.{Script, NoReport, LongTrace, LongRun, ManySchedules}
 use Rattle.sto_cli_common.specs.Statuses.{done_status}
 use Rattle.sto_cli_common.specs.Outcomes.{IsOwn}
 use Rattle.sto_cli_common.proofs.Causes.{IsExclusive}
 use Rattle.sto_lang.specs.Drafts.{transaction_count}
-use Rattle.sto_cli.specs.Traces.{IsTraceable, IsTraceFault, HasLongRun, IsRunFault}
+use Rattle.sto_cli_common.specs.declared.refusal.ScheduleCounts.{ScheduleCounts}
+use Rattle.sto_cli.specs.Traces.{IsTraceable, IsTraceFault, HasLongRun, IsRunFault, NeverMany}
+use Rattle.sto_cli.specs.Explorations.{IsLongSomewhere, HasManySchedules}
 use Rattle.sto_draw.specs.Drawn.{IsTooLong}
 use Rattle.sto_cli.specs.Outputs.{IsOutput, IsScriptFault, HasFault}
 use Rattle.sto_cli.specs.Programs.{reads_script, program}
@@ -22,6 +24,7 @@ reads (Run threads tries json) bytes fault h = refl
 reads (Step tries json) bytes fault h = refl
 reads (Trace tries json) bytes fault h = refl
 reads (Draw tries) bytes fault h = refl
+reads (Explore switches tries json) bytes fault h = refl
 reads Upgrade bytes fault h = refl
 reads (Gen number) bytes fault h = absurd h
 reads (Bench number threads) bytes fault h = absurd h
@@ -31,6 +34,7 @@ no_fault bytes file (Script fault) e f = true≢false (ap is_ok (sym e ∙ f))
 no_fault bytes file NoReport e f = f
 no_fault bytes file LongTrace e f = f
 no_fault bytes file LongRun e f = f
+no_fault bytes file (ManySchedules counts) e f = f
 
 same_file : (x y : File) → ◌≡◌ {A = Result File ScriptFault} (Ok x) (Ok y) → x ≡ y
 same_file x y e = cc
@@ -43,18 +47,22 @@ no_trace_fault bytes file LongTrace h f =
     let same = ap (λ (g : File). transaction_count g.threads) (same_file file f.0 (sym h.0 ∙ f.1)) in
     let few = h.1 in let many = f.2 in omega (arith, same, few, many)
 no_trace_fault bytes file LongRun h f = f
+no_trace_fault bytes file (ManySchedules counts) h f = f
 
-no_run_fault : (IsLong : File → Type 0) (bytes : List ℕ) (file : File) (fault : InputFault) → IsOwn fault → IsTraceable bytes file → IsRunFault IsLong bytes fault → ⊥
-no_run_fault IsLong bytes file (Script fault) own h f = no_trace_fault bytes file (Script fault) h f
-no_run_fault IsLong bytes file NoReport own h f = no_trace_fault bytes file NoReport h f
-no_run_fault IsLong bytes file LongTrace own h f = no_trace_fault bytes file LongTrace h f
-no_run_fault IsLong bytes file LongRun own h f = own
+no_run_fault : (IsLong : File → Type 0) (IsMany : ScheduleCounts → File → Type 0) (bytes : List ℕ) (file : File) (fault : InputFault) → IsOwn fault
+    → IsTraceable bytes file → IsRunFault IsLong IsMany bytes fault → ⊥
+no_run_fault IsLong IsMany bytes file (Script fault) own h f = no_trace_fault bytes file (Script fault) h f
+no_run_fault IsLong IsMany bytes file NoReport own h f = no_trace_fault bytes file NoReport h f
+no_run_fault IsLong IsMany bytes file LongTrace own h f = no_trace_fault bytes file LongTrace h f
+no_run_fault IsLong IsMany bytes file LongRun own h f = own
+no_run_fault IsLong IsMany bytes file (ManySchedules counts) own h f = own
 
 faultless : (command : Command) (bytes text : List ℕ) (fault : InputFault) → IsOwn fault → IsOutput command bytes text → HasFault command bytes fault → ⊥
 faultless (Run threads tries json) bytes text fault own h f = no_fault bytes h.0 fault h.1 f
 faultless (Step tries json) bytes text fault own h f = no_fault bytes h.0 fault h.1 f
-faultless (Trace tries json) bytes text fault own h f = no_run_fault (HasLongRun tries) bytes h.0 fault own h.1 f
-faultless (Draw tries) bytes text fault own h f = no_run_fault (IsTooLong tries) bytes h.0 fault own h.1 f
+faultless (Trace tries json) bytes text fault own h f = no_run_fault (HasLongRun tries) NeverMany bytes h.0 fault own h.1 f
+faultless (Draw tries) bytes text fault own h f = no_run_fault (IsTooLong tries) NeverMany bytes h.0 fault own h.1 f
+faultless (Explore switches tries json) bytes text fault own h f = no_run_fault (IsLongSomewhere tries) (HasManySchedules switches tries json) bytes h.0 fault own h.1 f
 faultless Upgrade bytes text fault own h f = no_fault bytes h.0 fault h.1 f
 faultless (Gen number) bytes text fault own h f = f
 faultless (Bench number threads) bytes text fault own h f = f

@@ -1,4 +1,3 @@
-pub mod Reports
 pub mod Reading
 pub mod Exclusive
 pub mod Counted

@@ -5,9 +5,9 @@ use Rattle.sto_lang.specs.Files.{file_of}
 use Rattle.sto_lang.specs.Scripts.{File}
 use Rattle.sto_lang.specs.declared.fault.ScriptFault.{ScriptFault}
 use Rattle.sto_args.specs.declared.command.Command.{Command}
-use Rattle.sto_args.specs.declared.command.Command.TheVariants.{Run, Step, Trace, Draw, Upgrade, Gen, Bench}
+use Rattle.sto_args.specs.declared.command.Command.TheVariants.{Run, Step, Trace, Draw, Explore, Upgrade, Gen, Bench}
 use Rattle.sto_cli_common.specs.declared.refusal.InputFault.{InputFault}
-use Rattle.sto_cli_common.specs.declared.refusal.InputFault.TheVariants.{Script, NoReport, LongTrace, LongRun}
+use Rattle.sto_cli_common.specs.declared.refusal.InputFault.TheVariants.{Script, NoReport, LongTrace, LongRun, ManySchedules}
 use Rattle.sto_cli_common.specs.declared.refusal.Refusal.{Refusal}
 use Rattle.sto_cli_common.specs.declared.refusal.Refusal.TheVariants.{Usage, Input, ReadFault, WriteFault, NoMemory}
 use Rattle.sto_cli_common.specs.Read.{IfTold}
@@ -15,7 +15,9 @@ use Rattle.sto_cli_common.specs.Ends.{IsFileRefusal, Faulty, Unmade}
 use Rattle.sto_cli_common.proofs.Reading.{if_told}
 use Rattle.sto_cli_common.proofs.Scripts.{small_file, told_fault}
 use Rattle.sto_draw.specs.Drawn.{IsTooLong}
-use Rattle.sto_cli.specs.Traces.{HasLongRun, IsTraceFault, IsRunFault, IsRefusalFor}
+use Rattle.sto_cli_common.specs.declared.refusal.ScheduleCounts.{ScheduleCounts}
+use Rattle.sto_cli.specs.Traces.{HasLongRun, IsTraceFault, IsRunFault, NeverMany, IsRefusalFor}
+use Rattle.sto_cli.specs.Explorations.{IsLongSomewhere, HasManySchedules}
 use Rattle.sto_cli.specs.Outputs.{HasFault}
 use Rattle.sto_cli.specs.Programs.{reads_script, program}
 
@@ -25,6 +27,7 @@ has_fault (Run threads tries json) reads left rest fault h = h
 has_fault (Step tries json) reads left rest fault h = h
 has_fault (Trace tries json) reads left rest fault h = h
 has_fault (Draw tries) reads left rest fault h = h
+has_fault (Explore switches tries json) reads left rest fault h = h
 has_fault Upgrade reads left rest fault h = h
 has_fault (Gen number) reads left rest fault h = absurd (true≢false (sym reads))
 has_fault (Bench number threads) reads left rest fault h = absurd (true≢false (sym reads))
@@ -36,6 +39,7 @@ unmade command reads left rest taken (Input (Script fault)) t end e = (reads, ha
 unmade command reads left rest taken (Input NoReport) t end e = absurd e
 unmade command reads left rest taken (Input LongTrace) t end e = absurd e
 unmade command reads left rest taken (Input LongRun) t end e = absurd e
+unmade command reads left rest taken (Input (ManySchedules counts)) t end e = absurd e
 unmade command reads left rest taken NoMemory t end e = tt
 unmade command reads left rest taken Usage t end e = absurd e
 unmade command reads left rest taken ReadFault t end e = absurd e
@@ -52,12 +56,14 @@ of_whole Q file left rest taken t end reads h =
     h
 
 -- a fault of a script that was read whole is one of all that was left
-told_run : (IsLong : File → Type 0) (left rest : Option (List ℕ)) (taken : List ℕ) (fault : InputFault) → Takes left rest taken
-    → (length taken < 1048577 → AtEnd rest) → IsRunFault IsLong taken fault → IfTold left rest (λ bytes. IsRunFault IsLong bytes fault)
-told_run IsLong left rest taken (Script fault) t end h = told_fault left rest taken fault t end h
-told_run IsLong left rest taken NoReport t end h = absurd h
-told_run IsLong left rest taken LongTrace t end h = of_whole (λ (bytes : List ℕ). IsTraceFault bytes LongTrace) h.0 left rest taken t end h.1 h
-told_run IsLong left rest taken LongRun t end h = of_whole (λ (bytes : List ℕ). IsRunFault IsLong bytes LongRun) h.0 left rest taken t end h.1.0 h
+told_run : (IsLong : File → Type 0) (IsMany : ScheduleCounts → File → Type 0) (left rest : Option (List ℕ)) (taken : List ℕ) (fault : InputFault) → Takes left rest taken
+    → (length taken < 1048577 → AtEnd rest) → IsRunFault IsLong IsMany taken fault → IfTold left rest (λ bytes. IsRunFault IsLong IsMany bytes fault)
+told_run IsLong IsMany left rest taken (Script fault) t end h = told_fault left rest taken fault t end h
+told_run IsLong IsMany left rest taken NoReport t end h = absurd h
+told_run IsLong IsMany left rest taken LongTrace t end h = of_whole (λ (bytes : List ℕ). IsTraceFault bytes LongTrace) h.0 left rest taken t end h.1 h
+told_run IsLong IsMany left rest taken LongRun t end h = of_whole (λ (bytes : List ℕ). IsRunFault IsLong IsMany bytes LongRun) h.0 left rest taken t end h.1.0 h
+told_run IsLong IsMany left rest taken (ManySchedules counts) t end h =
+    of_whole (λ (bytes : List ℕ). IsRunFault IsLong IsMany bytes (ManySchedules counts)) h.0 left rest taken t end h.1.0 h
 
 refused : (F : InputFault → Type 0) (command : Command) (left rest : Option (List ℕ)) → ((fault : InputFault) → F fault → Faulty program command fault left rest)
     → (refusal : Refusal) → IsRefusalFor F refusal → Unmade program refusal command left rest
@@ -69,14 +75,22 @@ refused F command left rest faulty WriteFault e = absurd e
 
 -- the bytes that were taken are not traced
 pub untraced : (tries : ℕ) (json : Bool) (left rest : Option (List ℕ)) (taken : List ℕ) (refusal : Refusal) → Takes left rest taken → (length taken < 1048577 → AtEnd rest)
-    → IsRefusalFor (IsRunFault (HasLongRun tries) taken) refusal → Unmade program refusal (Trace tries json) left rest
+    → IsRefusalFor (IsRunFault (HasLongRun tries) NeverMany taken) refusal → Unmade program refusal (Trace tries json) left rest
 untraced tries json left rest taken refusal t end e =
-    refused (IsRunFault (HasLongRun tries) taken) (Trace tries json) left rest
-    (λ fault h. (refl, told_run (HasLongRun tries) left rest taken fault t end h)) refusal e
+    refused (IsRunFault (HasLongRun tries) NeverMany taken) (Trace tries json) left rest
+    (λ fault h. (refl, told_run (HasLongRun tries) NeverMany left rest taken fault t end h)) refusal e
 
 -- or not drawn
 pub undrawn : (tries : ℕ) (left rest : Option (List ℕ)) (taken : List ℕ) (refusal : Refusal) → Takes left rest taken → (length taken < 1048577 → AtEnd rest)
-    → IsRefusalFor (IsRunFault (IsTooLong tries) taken) refusal → Unmade program refusal (Draw tries) left rest
+    → IsRefusalFor (IsRunFault (IsTooLong tries) NeverMany taken) refusal → Unmade program refusal (Draw tries) left rest
 undrawn tries left rest taken refusal t end e =
-    refused (IsRunFault (IsTooLong tries) taken) (Draw tries) left rest
-    (λ fault h. (refl, told_run (IsTooLong tries) left rest taken fault t end h)) refusal e
+    refused (IsRunFault (IsTooLong tries) NeverMany taken) (Draw tries) left rest
+    (λ fault h. (refl, told_run (IsTooLong tries) NeverMany left rest taken fault t end h)) refusal e
+
+-- or not explored
+pub unexplored : (switches tries : ℕ) (json : Bool) (left rest : Option (List ℕ)) (taken : List ℕ) (refusal : Refusal) → Takes left rest taken
+    → (length taken < 1048577 → AtEnd rest) → IsRefusalFor (IsRunFault (IsLongSomewhere tries) (HasManySchedules switches tries json) taken) refusal
+    → Unmade program refusal (Explore switches tries json) left rest
+unexplored switches tries json left rest taken refusal t end e =
+    refused (IsRunFault (IsLongSomewhere tries) (HasManySchedules switches tries json) taken) (Explore switches tries json) left rest
+    (λ fault h. (refl, told_run (IsLongSomewhere tries) (HasManySchedules switches tries json) left rest taken fault t end h)) refusal e

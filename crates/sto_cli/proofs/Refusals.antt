@@ -1,16 +1,18 @@
--- Why a script is not traced or drawn.
+-- Why a script is not traced, drawn or explored.
 use Rattle.std.specs.Prelude.{None}
-use Rattle.std.proofs.Common.{◌≡◌, ℕ, List, sym, subst}
+use Rattle.std.proofs.Common.{◌≡◌, ℕ, List, Bool, sym, subst}
 use Rattle.sto_lang.specs.Scripts.{File}
 use Rattle.sto_cli_common.specs.declared.refusal.InputFault.{InputFault}
-use Rattle.sto_cli_common.specs.declared.refusal.InputFault.TheVariants.{Script, NoReport, LongTrace, LongRun}
+use Rattle.sto_cli_common.specs.declared.refusal.ScheduleCounts.{ScheduleCounts}
+use Rattle.sto_cli_common.specs.declared.refusal.InputFault.TheVariants.{Script, NoReport, LongTrace, LongRun, ManySchedules}
 use Rattle.sto_cli_common.specs.declared.refusal.Refusal.{Refusal}
 use Rattle.sto_cli_common.specs.declared.refusal.Refusal.TheVariants.{Usage, Input, ReadFault, WriteFault, NoMemory}
 use Rattle.sto_cli_common.specs.Ends.{IsFileRefusal}
 use Rattle.sto_journal.specs.declared.journal.Journal.{Journal}
 use Rattle.sto_run.specs.Logged.{Log}
 use Rattle.sto_run.specs.Traced.{IsTraceOf}
-use Rattle.sto_cli.specs.Traces.{IsTraceable, HasLongRun, IsTraceFault, IsRunFault, IsRefusalFor}
+use Rattle.sto_cli.specs.Traces.{IsTraceable, HasLongRun, IsTraceFault, IsRunFault, NeverMany, IsRefusalFor}
+use Rattle.sto_cli.specs.Explorations.{IsLongSomewhere, HasManySchedules, IsExploringFault}
 
 pub refused_for : (F G : InputFault → Type 0) → ((fault : InputFault) → F fault → G fault) → (e : Refusal) → IsRefusalFor F e → IsRefusalFor G e
 refused_for F G h (Input fault) e = h fault e
@@ -25,28 +27,46 @@ no_file bytes (Input (Script fault)) h = h
 no_file bytes (Input NoReport) h = absurd h
 no_file bytes (Input LongTrace) h = absurd h
 no_file bytes (Input LongRun) h = absurd h
+no_file bytes (Input (ManySchedules counts)) h = absurd h
 no_file bytes NoMemory h = tt
 no_file bytes Usage h = absurd h
 no_file bytes ReadFault h = absurd h
 no_file bytes WriteFault h = absurd h
 
-trace_fault : (IsLong : File → Type 0) (bytes : List ℕ) (fault : InputFault) → IsTraceFault bytes fault → IsRunFault IsLong bytes fault
-trace_fault IsLong bytes (Script fault) h = h
-trace_fault IsLong bytes NoReport h = h
-trace_fault IsLong bytes LongTrace h = h
-trace_fault IsLong bytes LongRun h = absurd h
+module _ (IsLong : File → Type 0) (IsMany : ScheduleCounts → File → Type 0) (bytes : List ℕ) where
+  trace_fault : (fault : InputFault) → IsTraceFault bytes fault → IsRunFault IsLong IsMany bytes fault
+  trace_fault (Script fault) h = h
+  trace_fault NoReport h = h
+  trace_fault LongTrace h = h
+  trace_fault LongRun h = absurd h
+  trace_fault (ManySchedules counts) h = absurd h
 
--- of bytes that cannot be traced there is no run
-pub untraceable : (IsLong : File → Type 0) (bytes : List ℕ) (e : Refusal) → IsRefusalFor (IsTraceFault bytes) e → IsRefusalFor (IsRunFault IsLong bytes) e
-untraceable IsLong bytes e h = refused_for (IsTraceFault bytes) (IsRunFault IsLong bytes) (trace_fault IsLong bytes) e h
+  -- of bytes that cannot be traced there is no run
+  pub untraceable : (e : Refusal) → IsRefusalFor (IsTraceFault bytes) e → IsRefusalFor (IsRunFault IsLong IsMany bytes) e
+  untraceable e h = refused_for (IsTraceFault bytes) (IsRunFault IsLong IsMany bytes) trace_fault e h
 
 -- a run whose steps were not kept is too long
 pub long_run : (tries : ℕ) (bytes : List ℕ) (file : File) (journal : Journal) (homes : List (ℕ × ℕ)) (steps : Log) → IsTraceable bytes file
     → IsTraceOf file tries journal homes steps → (e : Refusal) → IsRefusalFor (λ fault. (fault ≡ LongRun) × (steps ≡ None)) e
-    → IsRefusalFor (IsRunFault (HasLongRun tries) bytes) e
+    → IsRefusalFor (IsRunFault (HasLongRun tries) NeverMany bytes) e
 long_run tries bytes file journal homes steps traceable run e h =
-    refused_for (λ fault. (fault ≡ LongRun) × (steps ≡ None)) (IsRunFault (HasLongRun tries) bytes)
+    refused_for (λ fault. (fault ≡ LongRun) × (steps ≡ None)) (IsRunFault (HasLongRun tries) NeverMany bytes)
     (λ fault so.
     let none = subst (λ (kept : Log). IsTraceOf file tries journal homes kept) so.1 run in
-    subst (λ (f : InputFault). IsRunFault (HasLongRun tries) bytes f) (sym so.0) (file, traceable, (journal, homes, none)))
+    subst (λ (f : InputFault). IsRunFault (HasLongRun tries) NeverMany bytes f) (sym so.0) (file, traceable, (journal, homes, none)))
     e h
+
+exploring_fault : (switches tries : ℕ) (json : Bool) (bytes : List ℕ) (file : File) → IsTraceable bytes file
+    → (fault : InputFault) → IsExploringFault switches tries json file fault → IsRunFault (IsLongSomewhere tries) (HasManySchedules switches tries json) bytes fault
+exploring_fault switches tries json bytes file traceable LongRun h = (file, traceable, h)
+exploring_fault switches tries json bytes file traceable (ManySchedules counts) h = (file, traceable, h)
+exploring_fault switches tries json bytes file traceable (Script fault) h = absurd h
+exploring_fault switches tries json bytes file traceable NoReport h = absurd h
+exploring_fault switches tries json bytes file traceable LongTrace h = absurd h
+
+-- a script that can be traced is not explored for a fault of its runs
+pub unexplorable : (switches tries : ℕ) (json : Bool) (bytes : List ℕ) (file : File) → IsTraceable bytes file → (e : Refusal)
+    → IsRefusalFor (IsExploringFault switches tries json file) e → IsRefusalFor (IsRunFault (IsLongSomewhere tries) (HasManySchedules switches tries json) bytes) e
+unexplorable switches tries json bytes file traceable e h =
+    refused_for (IsExploringFault switches tries json file) (IsRunFault (IsLongSomewhere tries) (HasManySchedules switches tries json) bytes)
+    (exploring_fault switches tries json bytes file traceable) e h

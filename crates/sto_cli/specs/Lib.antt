@@ -1,4 +1,5 @@
 pub mod Traces
+pub mod Explorations
 pub mod Outputs
 pub mod Programs
 pub use Rattle.sto_store.specs.Stores
@@ -6,6 +7,8 @@ pub use Rattle.sto_lang.specs.Files
 pub use Rattle.sto_lang.specs.Sound
 pub use Rattle.sto_lang.specs.Views
 pub use Rattle.sto_report_spec.specs.Lawful
+pub use Rattle.sto_lawful_report.specs.Forms
+pub use Rattle.sto_lawful_report.specs.Stepped
 pub use Rattle.sto_journal.specs.Journals
 pub use Rattle.sto_serializability.specs.Meanings
 pub use Rattle.sto_args.specs.Commands

@@ -1,5 +1,5 @@
 -- What a command may print for the bytes that it reads, and the fault that it tells of them.
-use Rattle.std.specs.Prelude.{◌≡◌, ◌≤◌, ℕ, min, max, List, [], length, Bool, Option, None, Some, Ok, Err, if◌then◌else◌}
+use Rattle.std.specs.Prelude.{◌≡◌, ℕ, min, max, List, [], length, Bool, Option, None, Some, Ok, Err}
 use Rattle.sto_lang.specs.Files.{file_of}
 use Rattle.sto_lang.specs.Scripts.{File}
 use Rattle.sto_cli_common.specs.declared.refusal.InputFault.{InputFault}
@@ -8,6 +8,7 @@ use Rattle.sto_write.specs.Texts.{text_of, upgraded}
 use Rattle.sto_gen.specs.Generated.{file_of as generated}
 use Rattle.sto_report_spec.specs.Lawful.{IsLawfulIn}
 use Rattle.sto_lawful_report.specs.Forms.{form_for, IsAlone}
+use Rattle.sto_lawful_report.specs.Stepped.{IsStepReport}
 use Rattle.sto_run.specs.Meanings.{updating_by}
 use Rattle.sto_run.specs.Stores.{means}
 use Rattle.sto_journal.specs.declared.journal.Journal.{Journal}
@@ -26,11 +27,11 @@ workers_of None count = max (min 16 count) 1
 workers_of (Some threads) count = max (min threads count) 1
 
 -- a lawful report of the file that the bytes are, for so many tries and in the form that is asked for, with what the types of
--- objects say of updates; where nothing runs beside, it is the one report of such a run
-abbrev pub IsReport : ℕ → Bool → (File → Type 0) → List ℕ → List ℕ → Type 0
-IsReport tries json alone bytes text =
+-- objects say of updates; where one worker runs it, it is the one report of a run beside which nothing runs
+abbrev pub IsRunReport : Option ℕ → ℕ → Bool → List ℕ → List ℕ → Type 0
+IsRunReport threads tries json bytes text =
     (file : File) × (file_of bytes ≡ Ok file) × IsLawfulIn (form_for json) (updating_by means) file tries text
-    × (alone file → IsAlone (form_for json) file text)
+    × (workers_of threads (length file.threads) ≡ 1 → IsAlone (form_for json) file text)
 
 -- the summary of a lawful journal of the file that the number generates, for 64 tries: it tells of all 3,200 transactions, and
 -- of what they leave in whatever order: accounts that hold 64,000 together, 160 pairs in the log and 128 in the table of owners
@@ -38,13 +39,13 @@ abbrev pub IsSummary : ℕ → List ℕ → Type 0
 IsSummary number text =
     (journal : Journal) × IsLawfulJournal (updating_by means) (generated number) 64 journal × (text ≡ summary_of number 3200 journal.state.items) × HasTotals journal.state.items
 
--- `run` and `step` print a lawful report, which is one text where one worker runs the file, or where `step` has at most one
--- script thread; `trace` prints the events of such a run as `step` makes, `draw` its picture, and `explore` the outcomes of all such runs within a bound; `upgrade`
--- prints the canonical text of the file that the bytes are with its version set to 2; `gen` prints the canonical text of the file that the number generates,
--- which reads as that file, and `bench` the summary of a run of it
+-- `run` prints a lawful report, which is one text where one worker runs the file, and `step` that of a run by the schedule, which is one text
+-- with at most one script thread; `trace` prints the events of such a run, `draw` its picture, and `explore` the outcomes of such runs by all
+-- schedules within a bound; `upgrade` prints the canonical text of the file that the bytes are with its version set to 2; `gen` prints the
+-- canonical text of the file that the number generates, which reads as that file, and `bench` the summary of a run of it
 abbrev pub IsOutput : Command → List ℕ → List ℕ → Type 0
-IsOutput (Run threads tries json) bytes text = IsReport tries json (λ file. workers_of threads (length file.threads) ≡ 1) bytes text
-IsOutput (Step tries json) bytes text = IsReport tries json (λ file. length file.threads ≤ 1) bytes text
+IsOutput (Run threads tries json) bytes text = IsRunReport threads tries json bytes text
+IsOutput (Step tries json) bytes text = (file : File) × (file_of bytes ≡ Ok file) × IsStepReport (form_for json) file tries text
 IsOutput (Trace tries json) bytes text = (file : File) × IsTraceable bytes file × IsTrace tries json file text
 IsOutput (Draw tries) bytes text = (file : File) × IsTraceable bytes file × IsPicture tries file text
 IsOutput (Explore switches tries json) bytes text = (file : File) × IsTraceable bytes file × IsExploration switches tries json file text

@@ -17,7 +17,7 @@ use Rattle.sto_run.specs.Stores.{means}
 use Rattle.sto_run.specs.Lawful.{IsLawfulJournal}
 use Rattle.sto_run.specs.Alone.{RanAlone}
 use Rattle.sto_run.specs.Logged.{Log}
-use Rattle.sto_run.specs.Traced.{IsTraceOf}
+use Rattle.sto_run.specs.Traced.{IsTraceOf, IsStepped}
 
 -- how many transactions a script may have that is traced, drawn or explored
 abbrev pub most_traced : ℕ
@@ -44,6 +44,7 @@ pub record IsTrace (tries : ℕ) (json : Bool) (file : File) (text : List ℕ) :
   pub homes : List (ℕ × ℕ)
   pub steps : Log
   pub run : IsTraceOf file tries journal homes steps
+  pub stepped : IsStepped file tries journal
   pub lines : AreLinesOf json file homes steps text
   pub lawful : IsLawfulJournal (updating_by means) file tries journal
   pub alone : length file.threads ≤ 1 → RanAlone file journal

@@ -3,7 +3,7 @@ ghost use Rattle.std.specs.Prelude.{IfOk, IfErr};
 ghost use Rattle.sto_args.specs.declared.command.Command.TheVariants as commands;
 ghost use Rattle.sto_lang.specs.Sound.{IsFromTo};
 ghost use Rattle.sto_draw.specs.Drawn.{IsTooLong};
-ghost use Rattle.sto_cli.specs.Traces.{IsRunFault, IsRefusalFor};
+ghost use Rattle.sto_cli.specs.Traces.{IsRunFault, NeverMany, IsRefusalFor};
 ghost use Rattle.sto_cli.specs.Outputs.{IsOutput};
 
 use crate::traced::traceable_in;
@@ -16,7 +16,7 @@ use sto_lang::Text;
 pub(crate) fn draw_text(alloc: Global, bytes: &[u8], tries: u32) -> Result<Text, Refusal>
     requires { IsFromTo 1 64 tries }
     ensures text { IfOk result (λ text. IsOutput (commands.Draw tries) bytes.now text.items) }
-    ensures fault { IfErr result (λ e. IsRefusalFor (IsRunFault (IsTooLong tries) bytes.now) e) }
+    ensures fault { IfErr result (λ e. IsRefusalFor (IsRunFault (IsTooLong tries) NeverMany bytes.now) e) }
 {
     let file = traceable_in(alloc, bytes)?;
     match draw_file(alloc, &file, tries)? {

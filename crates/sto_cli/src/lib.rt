@@ -1,19 +1,21 @@
 //! The program: its words, its source and its sinks, and all that a call of it does.
 //!
-//! What it shares with the other programs is in `sto_cli_common`. [`workers_for`], [`report`] and [`leave`] are public, for a program that runs
+//! What it shares with the other programs is in `sto_cli_common`. [`workers_for`] and [`leave`] are public, for a program that runs
 //! its script in another way.
 #![tactic(auto)]
 
 mod answer;
 mod drawn;
+mod explored;
 mod top;
 mod traced;
 mod work;
 
-pub use answer::{leave, report, workers_for};
+pub use answer::{leave, workers_for};
 pub use sto_cli_common::{WordsFault, refuse_words, words_of};
 pub use sto_io::{
     Failed, MemSink, MemSource, QuietSink, QuietSource, Sink, Source, StdSink, StdSource,
 };
 pub use sto_run::{Gate, NoGate};
+pub use sto_run_schedules::{NoWatch, Watch};
 pub use top::sto;

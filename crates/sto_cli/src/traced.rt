@@ -8,7 +8,7 @@ ghost use Rattle.sto_lang.specs.Views.{file as view};
 ghost use Rattle.sto_journal.specs.Journals.{home_pair};
 ghost use Rattle.sto_run.specs.Logged.{kept};
 ghost use Rattle.sto_trace_text.specs.Named.{named};
-ghost use Rattle.sto_cli.specs.Traces.{IsTraceable, IsTraceFault, HasLongRun, IsRunFault, IsRefusalFor, lines_in, AreLinesOf};
+ghost use Rattle.sto_cli.specs.Traces.{IsTraceable, IsTraceFault, HasLongRun, IsRunFault, NeverMany, IsRefusalFor, lines_in, AreLinesOf};
 ghost use Rattle.sto_cli.specs.Outputs.{IsOutput};
 
 use std::alloc::Global;
@@ -20,7 +20,7 @@ use sto_trace::Step;
 use sto_trace_text::{Names, trace_json};
 use sto_type::Home;
 
-// How many transactions a script may have that is traced or drawn.
+// How many transactions a script may have that is traced, drawn or explored.
 const MOST_TRACED: u32 = 256;
 
 // How many transactions a file has.
@@ -101,7 +101,7 @@ pub(crate) fn trace_text(
 ) -> Result<Text, Refusal>
     requires { IsFromTo 1 64 tries }
     ensures text { IfOk result (λ text. IsOutput (commands.Trace tries json) bytes.now text.items) }
-    ensures fault { IfErr result (λ e. IsRefusalFor (IsRunFault (HasLongRun tries) bytes.now) e) }
+    ensures fault { IfErr result (λ e. IsRefusalFor (IsRunFault (HasLongRun tries) NeverMany bytes.now) e) }
 {
     let file = traceable_in(alloc, bytes)?;
     let run = trace_file(alloc, &file, tries)?;

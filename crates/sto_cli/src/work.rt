@@ -9,6 +9,7 @@ ghost use Rattle.sto_cli.specs.Programs.{program};
 
 use crate::answer::{bench_text, gen_text, run_text, step_text, upgrade_text};
 use crate::drawn::draw_text;
+use crate::explored::explore_text;
 use crate::traced::trace_text;
 use std::alloc::Global;
 use std::thread::Threads;
@@ -17,6 +18,7 @@ use sto_cli_common::{Refusal, script_left, write_text};
 use sto_io::{Sink, Source};
 use sto_lang::Text;
 use sto_run::Gate;
+use sto_run_schedules::Watch;
 
 /// Reads the source, and runs the script on threads.
 fn run_source<R: Threads + Sync, S: Source, G: Gate>(
@@ -82,6 +84,25 @@ fn draw_source<S: Source>(alloc: Global, source: &mut S, tries: u32) -> Result<T
     draw_text(alloc, bytes.as_slice(), tries)
 }
 
+/// Reads the source, runs the script in one thread by each schedule within a bound, and tells what these runs lead to.
+fn explore_source<S: Source, W: Watch>(
+    alloc: Global,
+    source: &mut S,
+    switches: u32,
+    tries: u32,
+    json: bool,
+    watch: &W,
+) -> Result<Text, Refusal>
+    requires { IsFromTo 1 64 tries }
+    ensures made { IfOk result (λ text.
+        Made program (commands.Explore switches tries json) tt (S.left source.old) (S.left source.new) text.items) }
+    ensures unmade { IfErr result (λ e. Unmade program e (commands.Explore switches tries json) (S.left source.old) (S.left source.new)) }
+    ensures source_faults { RoseFor ReadFault result (S.faults source.old) (S.faults source.new) }
+{
+    let bytes = script_left(alloc, source)?;
+    explore_text(alloc, bytes.as_slice(), switches, tries, json, watch)
+}
+
 /// Reads the source, and writes the script in version 2.
 fn upgrade_source<S: Source>(alloc: Global, source: &mut S) -> Result<Text, Refusal>
     ensures made { IfOk result (λ text. Made program commands.Upgrade tt (S.left source.old) (S.left source.new) text.items) }
@@ -92,14 +113,15 @@ fn upgrade_source<S: Source>(alloc: Global, source: &mut S) -> Result<Text, Refu
     upgrade_text(alloc, bytes.as_slice())
 }
 
-/// Makes the whole text of a command. `run`, `step`, `trace`, `draw` and `upgrade` read the source to its end or past the limit;
+/// Makes the whole text of a command. `run`, `step`, `trace`, `draw`, `explore` and `upgrade` read the source to its end or past the limit;
 /// `gen` and `bench` do not touch it.
-fn text_for<R: Threads + Sync, S: Source, G: Gate>(
+fn text_for<R: Threads + Sync, S: Source, G: Gate, W: Watch>(
     rt: &R,
     alloc: Global,
     command: Command,
     source: &mut S,
     gate: &G,
+    watch: &W,
 ) -> Result<Text, Refusal>
     requires { HasRange command }
     ensures made { IfOk result (λ text. Made program command tt (S.left source.old) (S.left source.new) text.items) }
@@ -115,6 +137,11 @@ fn text_for<R: Threads + Sync, S: Source, G: Gate>(
         Command::Step { tries, json } => step_source(alloc, source, tries, json),
         Command::Trace { tries, json } => trace_source(alloc, source, tries, json),
         Command::Draw { tries } => draw_source(alloc, source, tries),
+        Command::Explore {
+            switches,
+            tries,
+            json,
+        } => explore_source(alloc, source, switches, tries, json, watch),
         Command::Upgrade => upgrade_source(alloc, source),
         Command::Gen { number } => Ok(gen_text(alloc, number)?),
         Command::Bench { number, threads } => Ok(bench_text(rt, alloc, number, threads, gate)?),
@@ -123,13 +150,14 @@ fn text_for<R: Threads + Sync, S: Source, G: Gate>(
 
 /// Does what the words say: makes the whole text, and writes it.
 #[tactic(auto, using(sto_cli_common::proofs::Making::refused_making, sto_cli_common::proofs::Making::refused_writing, sto_cli_common::proofs::Making::unwritten, sto_cli_common::proofs::Making::unread))]
-pub(crate) fn perform<R: Threads + Sync, S: Source, K: Sink, G: Gate>(
+pub(crate) fn perform<R: Threads + Sync, S: Source, K: Sink, G: Gate, W: Watch>(
     rt: &R,
     alloc: Global,
     words: &[String],
     source: &mut S,
     out: &mut K,
     gate: &G,
+    watch: &W,
 ) -> Result<(), Refusal>
     ensures ends { Ends program result (command_in words.now) (S.left source.old) (S.left source.new) (K.held out.old) (K.held out.new) }
     ensures source_faults { RoseFor ReadFault result (S.faults source.old) (S.faults source.new) }
@@ -138,6 +166,6 @@ pub(crate) fn perform<R: Threads + Sync, S: Source, K: Sink, G: Gate>(
     let Some(command) = find_command(alloc, words)? else {
         return Err(Refusal::Usage);
     };
-    let text = text_for(rt, alloc, command, source, gate)?;
+    let text = text_for(rt, alloc, command, source, gate, watch)?;
     write_text(out, text.as_bytes())
 }

@@ -8,9 +8,10 @@ use std::alloc::Global;
 use std::sync::Wait;
 use std::thread::Threads;
 use sto_args::Feeding;
-use sto_cli::{leave, report, workers_for};
+use sto_cli::{leave, workers_for};
 use sto_cli_common::{Refusal, file_in};
 use sto_lang::Text;
+use sto_lawful_report::report;
 use sto_run_feed::{Gate, feed_file};
 
 /// What is printed for these bytes: the report of a run in which a feeder sends the transactions to the workers.

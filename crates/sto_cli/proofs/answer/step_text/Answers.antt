@@ -1,7 +1,7 @@
 use Rattle.sto_run.specs.Meanings.{updating_by}
 use Rattle.sto_run.specs.Stores.{means}
-use Rattle.sto_cli.specs.Outputs.{form_for}
-use Rattle.sto_cli.proofs.Reports.{one_report}
+use Rattle.sto_lawful_report.specs.Forms.{form_for}
+use Rattle.sto_lawful_report.proofs.Reports.{one_report}
 use Rattle.sto_lang.specs.Views.{file as view}
 use Rattle.sto_lang.proofs.SoundFiles.{readable_sound}
 use Rattle.sto_cli.proofs.answer.step_text.Goals as goal
@@ -18,10 +18,15 @@ report-requires-clause-lawful c = (c.args.tries, c.in_ok-journal.ensures.lawful)
 pub returns-clause-text : goal.returns-clause-text
 returns-clause-text c =
     let file = view c.in_ok-file.file in
-    let journal = c.in_ok-journal.journal in (
+    let journal = c.in_ok-journal.journal in
+    let lawful = c.in_ok-text.ensures.lawful c.args.tries c.in_ok-journal.ensures.lawful in (
       file,
       c.in_ok-file.ensures.file,
-      c.in_ok-text.ensures.lawful c.args.tries c.in_ok-journal.ensures.lawful,
-      λ least. one_report (form_for c.args.json) (updating_by means) file c.args.tries journal c.in_ok-text.text.items (c.in_ok-journal.ensures.alone least)
-          (c.in_ok-text.ensures.lawful c.args.tries c.in_ok-journal.ensures.lawful) c.in_ok-text.ensures.order c.in_ok-text.ensures.aborts,
+      record {
+        journal = journal;
+        run = c.in_ok-journal.ensures.stepped;
+        report = record { lawful = lawful; order = c.in_ok-text.ensures.order; aborts = c.in_ok-text.ensures.aborts };
+        alone = λ least. one_report (form_for c.args.json) (updating_by means) file c.args.tries journal c.in_ok-text.text.items (c.in_ok-journal.ensures.alone least)
+            lawful c.in_ok-text.ensures.order c.in_ok-text.ensures.aborts;
+      },
     )

@@ -7,9 +7,10 @@ use Rattle.sto_lang.specs.Views.{file as view}
 use Rattle.sto_lang.proofs.SoundFiles.{readable_sound}
 use Rattle.sto_journal.specs.Journals.{home_pair}
 use Rattle.sto_run.specs.Logged.{kept}
-use Rattle.sto_cli.specs.Traces.{AreLinesOf, HasLongRun, IsRunFault, IsRefusalFor}
+use Rattle.sto_cli.specs.Traces.{AreLinesOf, HasLongRun, IsRunFault, NeverMany, IsRefusalFor}
 use Rattle.sto_cli.specs.Outputs.{IsOutput}
 use Rattle.sto_cli.proofs.Refusals.{long_run}
+use Rattle.sto_run.proofs.TracedRuns.{trace_stepped}
 use Rattle.sto_cli.proofs.traced.trace_text.Goals as goal
 
 pub trace_file-requires-clause-sound : goal.trace_file-requires-clause-sound
@@ -33,6 +34,7 @@ returns-clause-text c =
         homes = map home_pair run.homes.items;
         steps = kept run.steps;
         run = c.in_ok-run.ensures.traced;
+        stepped = trace_stepped file c.args.tries run.journal (map home_pair run.homes.items) (kept run.steps) c.in_ok-run.ensures.traced;
         lines = lines;
         lawful = c.in_ok-run.ensures.lawful;
         alone = c.in_ok-run.ensures.alone;
@@ -46,7 +48,7 @@ returns-clause-fault c =
     let file = view c.in_ok-file.file in
     IfErr-weaker c.lines_of.result
     (λ e. IsRefusalFor (λ fault. (fault ≡ LongRun) × (kept run.steps ≡ None)) e)
-    (λ e. IsRefusalFor (IsRunFault (HasLongRun c.args.tries) c.args.bytes.now) e)
+    (λ e. IsRefusalFor (IsRunFault (HasLongRun c.args.tries) NeverMany c.args.bytes.now) e)
     (λ e h. long_run c.args.tries c.args.bytes.now file run.journal (map home_pair run.homes.items) (kept run.steps) c.in_ok-file.ensures.file
     c.in_ok-run.ensures.traced e h)
     c.lines_of.ensures.fault

@@ -3,7 +3,7 @@ use Rattle.std.proofs.lemmas.Result.{IfOk-weaker, IfErr-weaker}
 use Rattle.sto_args.specs.declared.command.Command.TheVariants as commands
 use Rattle.sto_cli_common.specs.Ends.{Made, Unmade}
 use Rattle.sto_cli_common.proofs.Scripts.{small_file}
-use Rattle.sto_cli.specs.Traces.{HasLongRun, IsRunFault, IsRefusalFor}
+use Rattle.sto_cli.specs.Traces.{HasLongRun, IsRunFault, NeverMany, IsRefusalFor}
 use Rattle.sto_cli.specs.Outputs.{IsOutput}
 use Rattle.sto_cli.specs.Programs.{program}
 use Rattle.sto_cli.proofs.Reading.{untraced}
@@ -27,8 +27,8 @@ returns-clause-made g c =
 pub returns-clause-unmade : goal.returns-clause-unmade
 returns-clause-unmade g c =
     IfErr-weaker c.trace_text.result
-    (λ e. IsRefusalFor (IsRunFault (HasLongRun c.args.tries) c.as_slice.result.now) e)
+    (λ e. IsRefusalFor (IsRunFault (HasLongRun c.args.tries) NeverMany c.as_slice.result.now) e)
     (λ e. Unmade program e (commands.Trace c.args.tries c.args.json) (g.S.Source.left c.args.source.now) (g.S.Source.left c.script_left.new.source))
     (λ e h. untraced c.args.tries c.args.json (g.S.Source.left c.args.source.now) (g.S.Source.left c.script_left.new.source) c.in_ok-bytes.bytes.items e
-    c.in_ok-bytes.ensures.taken c.in_ok-bytes.ensures.end (subst (λ (bytes : List ℕ). IsRefusalFor (IsRunFault (HasLongRun c.args.tries) bytes) e) c.as_slice.ensures.items h))
+    c.in_ok-bytes.ensures.taken c.in_ok-bytes.ensures.end (subst (λ (bytes : List ℕ). IsRefusalFor (IsRunFault (HasLongRun c.args.tries) NeverMany bytes) e) c.as_slice.ensures.items h))
     c.trace_text.ensures.fault
