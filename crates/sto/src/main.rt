@@ -1,6 +1,9 @@
 //! The program `sto`: runs scripts of transactions.
 #![tactic(auto)]
 
+mod progress;
+
+use crate::progress::Progress;
 use std::process::ExitCode;
 use sto_cli::{StdSink, StdSource, refuse_words, sto, words_of};
 use sto_run_threads::SleepingGate;
@@ -21,5 +24,6 @@ fn main(rt: HostRuntime) -> ExitCode {
         &mut out,
         &mut diag,
         &SleepingGate::new(&rt),
+        &Progress::new(&rt),
     ))
 }

@@ -1,0 +1,36 @@
+//! How far an exploration is, for who waits at a terminal.
+use std::cell::Cell;
+use std::io::IsTerminal;
+use sto_cli::Watch;
+
+// After how many runs a line is written.
+const BETWEEN: u64 = 100_000;
+
+/// Writes a line to standard error after each 100,000 runs, where that is a terminal.
+pub struct Progress<'rt> {
+    rt: &'rt HostRuntime,
+    made: Cell<u64>,
+    is_seen: bool,
+}
+
+impl<'rt> Progress<'rt> {
+    /// No run was made so far.
+    pub fn new(rt: &'rt HostRuntime) -> Progress<'rt> {
+        Progress {
+            rt,
+            made: Cell::new(0),
+            is_seen: rt.stderr().is_terminal(),
+        }
+    }
+}
+
+impl Watch for Progress<'_> {
+    fn made(&self) {
+        let made = self.made.get().saturating_add(1);
+        self.made.set(made);
+        if self.is_seen && made % BETWEEN == 0 {
+            // Where the terminal takes no more, the exploration goes on.
+            let _ = eprintln!(self.rt; "sto: {made} schedules");
+        }
+    }
+}
