@@ -98,7 +98,7 @@ fn refuses<R: Threads + Sync>(
     Ok(outcome.status == 3 && outcome.said.as_str() == says)
 }
 
-/// Whether the command, `trace` or `draw`, takes a script of 256 transactions, and refuses one of 257.
+/// Whether the command, `trace`, `draw` or `explore`, takes a script of 256 transactions, and refuses one of 257.
 pub fn limits_transactions<R: Threads + Sync>(
     threads: &R,
     alloc: Global,
@@ -110,8 +110,10 @@ pub fn limits_transactions<R: Threads + Sync>(
     Ok(largest.status == 0 && refuses(threads, alloc, command, (257, 1), says)?)
 }
 
-/// Whether `draw` refuses a script whose run makes more than 20,000 events: each of its transactions makes 1,537.
+/// Whether `draw` refuses a script whose run makes more than 20,000 events, and `explore` one whose runs make more than 100,000: each of its
+/// transactions makes 1,537.
 pub fn limits_events<R: Threads + Sync>(threads: &R, alloc: Global) -> Result<bool, AllocError> {
     let says = "sto: line 0: too many events\n";
-    refuses(threads, alloc, "draw", (14, 512), says)
+    Ok(refuses(threads, alloc, "draw", (14, 512), says)?
+        && refuses(threads, alloc, "explore", (66, 512), says)?)
 }

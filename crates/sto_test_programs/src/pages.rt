@@ -9,13 +9,14 @@ use std::{fs, io};
 use sto_cli::NoGate;
 
 /// The pages that show runs. The examples that they name lie beside them.
-pub const PAGES: [&str; 6] = [
+pub const PAGES: [&str; 7] = [
     "language.md",
     "report.md",
     "statuses.md",
     "mistakes.md",
     "steps.md",
     "cases.md",
+    "explore.md",
 ];
 
 /// The examples, each a script and the report of its run.
@@ -186,13 +187,13 @@ pub fn go_over_all<R: Threads + Sync>(rt: &HostRuntime, threads: &R) -> io::Resu
             println!(rt; "the limit on {} is another", limit.name)?;
         }
     }
-    for command in ["trace", "draw"] {
+    for command in ["trace", "draw", "explore"] {
         if !limits_transactions(threads, rt.alloc(), command)? {
             println!(rt; "the limit on transactions of {command} is another")?;
         }
     }
     if !limits_events(threads, rt.alloc())? {
-        println!(rt; "the limit on events of a picture is another")?;
+        println!(rt; "the limit on events of a picture or of an exploration is another")?;
     }
     Ok(())
 }
