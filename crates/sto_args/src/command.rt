@@ -3,10 +3,12 @@ ghost use Rattle.std.specs.Prelude.{◌≡◌, ◌≤◌, IfOk, IfSome, false, i
 ghost use Rattle.std.specs.List.{list_any};
 ghost use Rattle.std.specs.Option.{option_and_then, option_map};
 ghost use Rattle.sto_args.specs.Given.{given_by, is_refused};
-ghost use Rattle.sto_args.specs.Commands.{HasThreads, HasRange, command_in, command_from, run_takes, run_of, step_takes, stepping_of, step_of, trace_of, draw_takes, draw_of, upgrade_of, gen_takes, gen_of, bench_takes, bench_of, threads_of, tries_of, decimal_of};
+ghost use Rattle.sto_args.specs.Commands.{HasThreads, HasRange, command_in, command_from, run_takes, run_of, step_takes, stepping_of, step_of, trace_of, draw_takes, draw_of, explore_takes, explore_of, upgrade_of, gen_takes, gen_of, bench_takes, bench_of, threads_of, tries_of, switches_of, decimal_of};
 
 use crate::asked::{Checking, checking_from};
-use crate::grammar::{bench_grammar, gen_grammar, matches_in, run_grammar, step_grammar};
+use crate::grammar::{
+    bench_grammar, explore_grammar, gen_grammar, matches_in, run_grammar, step_grammar,
+};
 use crate::number::{decimal_of, number_in};
 use crate::word::{as_options, has_flag_value, has_refused};
 use std::alloc::Global;
@@ -36,6 +38,13 @@ pub enum Command {
     /// Reads a script, runs it as `Step` does, and prints a picture of the run.
     Draw {
         tries: u32,
+    },
+    /// Reads a script, runs it by every schedule with at most so many switches, with so many tries of
+    /// each transaction, and prints every outcome, as JSON or as text.
+    Explore {
+        switches: u32,
+        tries: u32,
+        json: bool,
     },
     /// Reads a script and prints it in the newest version of the language.
     Upgrade,
@@ -79,6 +88,18 @@ pub(crate) fn tries(text: Option<&str>) -> Option<u32>
     };
     let tries = number_in(1, 64, text)?;
     Some(tries as u32)
+}
+
+/// The switches that an option gives, 2 where it is not given.
+fn switches(text: Option<&str>) -> Option<u32>
+    ensures switches { result ≡ switches_of (option_map (λ t. t.now) text.entry) }
+    ensures range { IfSome result (λ k. k ≤ 8) }
+{
+    let Some(text) = text else {
+        return Some(2);
+    };
+    let switches = number_in(0, 8, text)?;
+    Some(switches as u32)
 }
 
 fn number(text: Option<&str>) -> Option<u64>
@@ -170,6 +191,31 @@ fn draw(alloc: Global, words: &[&str]) -> Result<Option<Command>, NoMemory>
     }
 }
 
+fn explore(alloc: Global, words: &[&str]) -> Result<Option<Command>, NoMemory>
+    requires { list_any is_refused (map (λ word. word.now) words.now) ≡ false }
+    ensures range { IfOk result (λ c. IfSome c HasRange) }
+    ensures command { IfOk result (λ c. c ≡ option_and_then explore_of (given_by explore_takes (map (λ word. word.now) words.now))) }
+{
+    let Ok(grammar) = explore_grammar(alloc) else {
+        return Err(NoMemory);
+    };
+    let Some(matches) = matches_in(grammar, words)? else {
+        return Ok(None);
+    };
+    let Some(switches) = switches(matches.get_str("switches")) else {
+        return Ok(None);
+    };
+    let Some(tries) = tries(matches.get_str("tries")) else {
+        return Ok(None);
+    };
+    let json = is_given(matches.get_str("json"));
+    Ok(Some(Command::Explore {
+        switches,
+        tries,
+        json,
+    }))
+}
+
 fn upgrade(words: &[&str]) -> Option<Command>
     ensures range { IfSome result HasRange }
     ensures command { result ≡ upgrade_of (map (λ word. word.now) words.now) }
@@ -226,6 +272,7 @@ fn bench(alloc: Global, words: &[&str]) -> Result<Option<Command>, NoMemory>
 /// | `step [--tries N] [--json]` | `Step`, with tries and a form as for `Run` |
 /// | `trace [--tries N] [--json]` | `Trace`, with tries and a form as for `Run` |
 /// | `draw [--tries N]` | `Draw`, with tries as for `Run` |
+/// | `explore [--switches K] [--tries N] [--json]` | `Explore`, with at most 8 switches, and 2 where none is given, and with tries and a form as for `Run` |
 /// | `upgrade` | `Upgrade` |
 /// | `gen NUMBER` | `Gen`, with a number of 64 bits |
 /// | `bench NUMBER [--threads N]` | `Bench`, with a number of 64 bits, and with threads as for `Run` |
@@ -260,6 +307,7 @@ fn command_from(alloc: Global, word: &str, options: &[&str]) -> Result<Option<Co
         "step" => step(alloc, options),
         "trace" => trace(alloc, options),
         "draw" => draw(alloc, options),
+        "explore" => explore(alloc, options),
         "upgrade" => Ok(upgrade(options)),
         "gen" => generate(alloc, options),
         "bench" => bench(alloc, options),

@@ -5,7 +5,7 @@ use Rattle.sto_lang.specs.Files.{file_of}
 use Rattle.sto_cli_common.specs.Read.{IfTold}
 use Rattle.sto_cli_common.specs.Programs.{Program}
 use Rattle.sto_cli_common.specs.declared.refusal.InputFault.{InputFault}
-use Rattle.sto_cli_common.specs.declared.refusal.InputFault.TheVariants.{Script, NoReport, LongTrace, LongRun}
+use Rattle.sto_cli_common.specs.declared.refusal.InputFault.TheVariants.{Script, NoReport, LongTrace, LongRun, ManySchedules}
 use Rattle.sto_cli_common.specs.declared.refusal.Refusal.{Refusal}
 use Rattle.sto_cli_common.specs.declared.refusal.Refusal.TheVariants.{Usage, Input, ReadFault, WriteFault, NoMemory}
 
@@ -52,6 +52,7 @@ IsFileRefusal (Input (Script fault)) bytes = file_of bytes ≡ Err fault
 IsFileRefusal (Input NoReport) bytes = ⊥
 IsFileRefusal (Input LongTrace) bytes = ⊥
 IsFileRefusal (Input LongRun) bytes = ⊥
+IsFileRefusal (Input (ManySchedules counts)) bytes = ⊥
 IsFileRefusal NoMemory bytes = Unit {0}
 IsFileRefusal Usage bytes = ⊥
 IsFileRefusal ReadFault bytes = ⊥

@@ -3,7 +3,7 @@ use Rattle.std.specs.Prelude.{ℕ, List, Bool, true, false, Option, None, Some}
 use Rattle.sto_cli_common.specs.Programs.{Program}
 use Rattle.sto_cli_common.specs.Ends.{Done, Stopped, Faulty}
 use Rattle.sto_cli_common.specs.declared.refusal.InputFault.{InputFault}
-use Rattle.sto_cli_common.specs.declared.refusal.InputFault.TheVariants.{Script, NoReport, LongTrace, LongRun}
+use Rattle.sto_cli_common.specs.declared.refusal.InputFault.TheVariants.{Script, NoReport, LongTrace, LongRun, ManySchedules}
 
 -- the words are a command, which is answered so, and its text is written
 abbrev pub IsDone : {C A : Type 0} → Program C A → A → Option C → Option (List ℕ) → Option (List ℕ) → Option (List ℕ) → Option (List ℕ) → Type 0
@@ -27,12 +27,13 @@ IsTold (Some command) None rest P = ⊥
 IsTold (Some command) (Some bytes) None P = ⊥
 IsTold (Some command) (Some bytes) (Some rest) P = P command bytes
 
--- a fault of bytes whatever a run of them does. That a run of them was too long says nothing of another one
+-- a fault of bytes whatever runs of them do. That a run of them was too long, or that so many schedules were counted, says nothing of others
 abbrev pub IsOwn : InputFault → Type 0
 IsOwn (Script fault) = Unit {0}
 IsOwn NoReport = Unit {0}
 IsOwn LongTrace = Unit {0}
 IsOwn LongRun = ⊥
+IsOwn (ManySchedules counts) = ⊥
 
 -- they have this fault
 abbrev pub IsToldFault : {C A : Type 0} → Program C A → InputFault → Option C → Option (List ℕ) → Option (List ℕ) → Type 0

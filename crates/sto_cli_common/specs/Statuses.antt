@@ -1,7 +1,7 @@
 -- The status of a call of a program, and the line that it writes beside. `A` is what a program answers.
 use Rattle.std.specs.Prelude.{◌≡◌, ℕ, List, [], ◌⊎◌, Result, Ok, Err, codes}
-use Rattle.sto_cli_common.specs.Said.{fault_line}
-use Rattle.sto_cli_common.specs.declared.refusal.InputFault.TheVariants.{Script, NoReport, LongTrace, LongRun}
+use Rattle.sto_cli_common.specs.Said.{fault_line, schedules_line}
+use Rattle.sto_cli_common.specs.declared.refusal.InputFault.TheVariants.{Script, NoReport, LongTrace, LongRun, ManySchedules}
 use Rattle.sto_cli_common.specs.declared.refusal.Refusal.{Refusal}
 use Rattle.sto_cli_common.specs.declared.refusal.Refusal.TheVariants.{Usage, Input, ReadFault, WriteFault, NoMemory}
 
@@ -29,6 +29,7 @@ refusal_line (Input (Script fault)) = fault_line fault
 refusal_line (Input NoReport) = codes "sto: line 0: no report\n"
 refusal_line (Input LongTrace) = codes "sto: line 0: too many transactions\n"
 refusal_line (Input LongRun) = codes "sto: line 0: too many events\n"
+refusal_line (Input (ManySchedules counts)) = schedules_line counts
 refusal_line ReadFault = codes "sto: read fault\n"
 refusal_line WriteFault = codes "sto: write fault\n"
 refusal_line NoMemory = codes "sto: out of memory\n"
@@ -48,6 +49,7 @@ IsFixed (Input (Script fault)) = ⊥
 IsFixed (Input NoReport) = Unit {0}
 IsFixed (Input LongTrace) = Unit {0}
 IsFixed (Input LongRun) = Unit {0}
+IsFixed (Input (ManySchedules counts)) = ⊥
 IsFixed Usage = Unit {0}
 IsFixed ReadFault = Unit {0}
 IsFixed WriteFault = Unit {0}
@@ -59,6 +61,7 @@ IsRefusedSo (Input (Script fault)) told = (told ≡ Input (Script fault)) ⊎ (t
 IsRefusedSo (Input NoReport) told = told ≡ Input NoReport
 IsRefusedSo (Input LongTrace) told = told ≡ Input LongTrace
 IsRefusedSo (Input LongRun) told = told ≡ Input LongRun
+IsRefusedSo (Input (ManySchedules counts)) told = (told ≡ Input (ManySchedules counts)) ⊎ (told ≡ NoMemory)
 IsRefusedSo Usage told = told ≡ Usage
 IsRefusedSo ReadFault told = told ≡ ReadFault
 IsRefusedSo WriteFault told = told ≡ WriteFault

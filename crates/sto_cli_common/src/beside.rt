@@ -1,10 +1,12 @@
 //! The line beside the output.
-ghost use Rattle.std.specs.Prelude.{◌≡◌, IfOk, string_bytes};
-ghost use Rattle.sto_cli_common.specs.Said.{fault_line, Says};
+ghost use Rattle.std.specs.Prelude.{◌≡◌, ◌⊎◌, Some, IfOk, string_bytes};
+ghost use Rattle.sto_cli_common.specs.declared.refusal.Refusal.TheVariants.{NoMemory};
+ghost use Rattle.sto_cli_common.specs.Said.{fault_line, count_text, schedules_line, Says};
 ghost use Rattle.sto_cli_common.specs.Statuses.{refusal_line, line_of, IsFixed, IsRefusedSo, EndsSo};
 
-use crate::refusal::{InputFault, Refusal};
+use crate::refusal::{InputFault, Refusal, ScheduleCounts};
 use std::alloc::{AllocError, Global};
+use std::fmt;
 use sto_io::{Sink, write_all};
 use sto_lang::ScriptFault;
 
@@ -16,14 +18,41 @@ pub fn fault_line(alloc: Global, fault: ScriptFault) -> Result<String, AllocErro
     format!(in alloc; "sto: line {line}: {kind}\n")
 }
 
-// The line of a refusal that is not for a fault of a script.
+// How many schedules there are, as it is told.
+#[derive(Clone, Copy)]
+struct Count(Option<u32>);
+
+impl fmt::Display for Count {
+    ghost output = { λ count. Some (count_text count.0) };
+
+    fn fmt<W: fmt::Write>(&self, f: &mut fmt::Formatter<W>) -> fmt::Result {
+        match self.0 {
+            Some(number) => write!(f, "{number}"),
+            None => write!(f, "more than 1000000"),
+        }
+    }
+}
+
+/// The line of a script that has too many schedules.
+pub fn schedules_line(alloc: Global, counts: ScheduleCounts) -> Result<String, AllocError>
+    ensures { IfOk result (λ text. string_bytes text ≡ schedules_line counts) }
+{
+    let none = Count(counts.none);
+    let one = Count(counts.one);
+    let two = Count(counts.two);
+    format!(in alloc;
+        "sto: line 0: too many schedules: {none} at 0 switches, {one} at 1, {two} at 2\n"
+    )
+}
+
+// The line of a refusal whose line is always the same.
 fn fixed_line(refusal: Refusal) -> &'static [u8]
     requires { IsFixed refusal }
     ensures { result.now ≡ refusal_line refusal }
 {
     match refusal {
         Refusal::Usage => b"sto: usage\n",
-        Refusal::Input(InputFault::Script(_)) => unreachable!(),
+        Refusal::Input(InputFault::Script(_) | InputFault::ManySchedules(_)) => unreachable!(),
         Refusal::Input(InputFault::NoReport) => b"sto: line 0: no report\n",
         Refusal::Input(InputFault::LongTrace) => b"sto: line 0: too many transactions\n",
         Refusal::Input(InputFault::LongRun) => b"sto: line 0: too many events\n",
@@ -40,22 +69,38 @@ pub fn write_line<E: Sink>(diag: &mut E, line: &[u8])
     let _ = write_all(diag, line);
 }
 
+// Says beside why a call was refused, by a line that was made for it. Where there is no memory for one, it is refused for that.
+fn say_made<E: Sink>(diag: &mut E, refusal: Refusal, line: Result<String, AllocError>) -> Refusal
+    requires { IfOk line (λ text. string_bytes text ≡ refusal_line refusal) }
+    ensures same { (result ≡ refusal) ⊎ (result ≡ NoMemory) }
+    ensures says { Says (refusal_line result) (E.held diag.old) (E.held diag.new) (E.faults diag.old) (E.faults diag.new) }
+{
+    let Ok(line) = line else {
+        write_line(diag, fixed_line(Refusal::NoMemory));
+        return Refusal::NoMemory;
+    };
+    write_line(diag, line.as_bytes());
+    refusal
+}
+
 /// Says beside why a call was refused. Where there is no memory for the line of a fault, it is refused for that. A fault of the
 /// sink changes nothing else.
 pub fn say_refusal<E: Sink>(alloc: Global, diag: &mut E, refusal: Refusal) -> Refusal
     ensures same { IsRefusedSo refusal result }
     ensures says { Says (refusal_line result) (E.held diag.old) (E.held diag.new) (E.faults diag.old) (E.faults diag.new) }
 {
-    if let Refusal::Input(InputFault::Script(fault)) = refusal {
-        if let Ok(line) = fault_line(alloc, fault) {
-            write_line(diag, line.as_bytes());
-            return refusal;
+    match refusal {
+        Refusal::Input(InputFault::Script(fault)) => {
+            say_made(diag, refusal, fault_line(alloc, fault))
         }
-        write_line(diag, fixed_line(Refusal::NoMemory));
-        return Refusal::NoMemory;
+        Refusal::Input(InputFault::ManySchedules(counts)) => {
+            say_made(diag, refusal, schedules_line(alloc, counts))
+        }
+        _ => {
+            write_line(diag, fixed_line(refusal));
+            refusal
+        }
     }
-    write_line(diag, fixed_line(refusal));
-    refusal
 }
 
 /// Says beside how a call ended: nothing where it was answered, and else why it was refused.

@@ -7,7 +7,7 @@ mod refusal;
 mod streams;
 mod words;
 
-pub use beside::{fault_line, say, say_refusal, write_line};
-pub use refusal::{InputFault, Refusal, status};
+pub use beside::{fault_line, say, say_refusal, schedules_line, write_line};
+pub use refusal::{InputFault, Refusal, ScheduleCounts, status};
 pub use streams::{bytes_left, file_in, script_left, write_text};
 pub use words::{WordsFault, refuse_words, words_of};

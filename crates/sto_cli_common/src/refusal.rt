@@ -6,6 +6,14 @@ ghost use Rattle.sto_cli_common.specs.Statuses.{status_of, done_status, refusal_
 use std::alloc::AllocError;
 use sto_lang::ScriptFault;
 
+/// How many schedules a script has with at most no, one and two switches; `None` where they are more than 1,000,000.
+#[derive(Clone, Copy, PartialEq, Eq, Debug)]
+pub struct ScheduleCounts {
+    pub none: Option<u32>,
+    pub one: Option<u32>,
+    pub two: Option<u32>,
+}
+
 /// What is wrong with the bytes that were read.
 #[derive(Clone, Copy, PartialEq, Eq, Debug)]
 pub enum InputFault {
@@ -17,6 +25,8 @@ pub enum InputFault {
     LongTrace,
     /// The same, and a run of the script has too many events for one.
     LongRun,
+    /// Every outcome is asked, and the script has too many schedules for that.
+    ManySchedules(ScheduleCounts),
 }
 
 /// Why a call of a program was refused.

@@ -20,6 +20,9 @@ trace-requires c = sym (list_any-map is_refused (λ option. option.now) c.args.o
 pub draw-requires : goal.draw-requires
 draw-requires c = sym (list_any-map is_refused (λ option. option.now) c.args.options.now) ∙ sym c.has_refused.ensures ∙ c.if-has_refused.false
 
+pub explore-requires : goal.explore-requires
+explore-requires c = sym (list_any-map is_refused (λ option. option.now) c.args.options.now) ∙ sym c.has_refused.ensures ∙ c.if-has_refused.false
+
 pub step-requires : goal.step-requires
 step-requires c = sym (list_any-map is_refused (λ option. option.now) c.args.options.now) ∙ sym c.has_refused.ensures ∙ c.if-has_refused.false
 
