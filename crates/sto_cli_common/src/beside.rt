@@ -20,7 +20,7 @@ pub fn fault_line(alloc: Global, fault: ScriptFault) -> Result<String, AllocErro
 
 // How many schedules there are, as it is told.
 #[derive(Clone, Copy)]
-struct Count(Option<u32>);
+struct Count(Option<u64>);
 
 impl fmt::Display for Count {
     ghost output = { λ count. Some (count_text count.0) };

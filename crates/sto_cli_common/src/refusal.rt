@@ -9,9 +9,9 @@ use sto_lang::ScriptFault;
 /// How many schedules a script has with at most no, one and two switches; `None` where they are more than 1,000,000.
 #[derive(Clone, Copy, PartialEq, Eq, Debug)]
 pub struct ScheduleCounts {
-    pub none: Option<u32>,
-    pub one: Option<u32>,
-    pub two: Option<u32>,
+    pub none: Option<u64>,
+    pub one: Option<u64>,
+    pub two: Option<u64>,
 }
 
 /// What is wrong with the bytes that were read.
