@@ -7,6 +7,7 @@ use sto_cli::Watch;
 const BETWEEN: u64 = 100_000;
 
 /// Writes a line to standard error after each 100,000 runs, where that is a terminal.
+#[derive(Drop)]
 pub struct Progress<'rt> {
     rt: &'rt HostRuntime,
     made: Cell<u64>,
