@@ -1,5 +1,5 @@
 //! Outcomes as JSON.
-ghost use Rattle.std.specs.Prelude.{◌≡◌, ◌++◌, map, OnOk};
+ghost use Rattle.std.specs.Prelude.{◌≡◌, ◌∷◌, ◌++◌, map, OnOk};
 ghost use Rattle.std.specs.List.{join_with_byte};
 ghost use Rattle.sto_lang.specs.Views.{file as view};
 ghost use Rattle.sto_outcome_text.specs.Texts.{outcome_json, outcomes_json};
@@ -22,6 +22,14 @@ fn push_outcome(out: &mut Text, file: &File, outcome: &Outcome) -> Result<(), No
     out.append("}")
 }
 
+// Adds an outcome after a comma.
+fn push_next(out: &mut Text, file: &File, outcome: &Outcome) -> Result<(), NoMemory>
+    ensures { OnOk result (out.new.items ≡ out.old.items ++ 44 ∷ outcome_json (view file.now) outcome.now) }
+{
+    out.append(",")?;
+    push_outcome(out, file, outcome)
+}
+
 // Adds outcomes with a comma between each two.
 fn push_each(out: &mut Text, file: &File, outcomes: &[Outcome]) -> Result<(), NoMemory>
     ensures { OnOk result (out.new.items ≡ out.old.items ++ join_with_byte 44 (map (outcome_json (view file.now)) outcomes.now)) }
@@ -31,8 +39,7 @@ fn push_each(out: &mut Text, file: &File, outcomes: &[Outcome]) -> Result<(), No
     };
     push_outcome(out, file, first)?;
     for outcome in others {
-        out.append(",")?;
-        push_outcome(out, file, outcome)?;
+        push_next(out, file, outcome)?;
     }
     Ok(())
 }
