@@ -1,0 +1,2 @@
+pub mod Texts
+pub use Rattle.sto_lang.specs.Views
