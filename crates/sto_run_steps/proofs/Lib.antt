@@ -7,3 +7,4 @@ pub mod Gathered
 pub mod Reopened
 pub mod Turns
 pub mod Logging
+pub mod Forgetting
