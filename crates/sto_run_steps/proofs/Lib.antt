@@ -7,4 +7,3 @@ pub mod Gathered
 pub mod Reopened
 pub mod Turns
 pub mod Logging
-pub mod Forgetting
