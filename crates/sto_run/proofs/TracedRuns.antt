@@ -1,7 +1,10 @@
 -- The steps of a run, said of its file.
-use Rattle.std.specs.Prelude.{Some}
-use Rattle.std.proofs.Common.{◌≡◌, ℕ, List, [], length, max, subst}
-use Rattle.sto_core.specs.History.{Contents}
+use Rattle.std.specs.Prelude.{None, Some}
+use Rattle.std.specs.List.{flat_map}
+use Rattle.std.proofs.Common.{◌≡◌, ℕ, List, [], ◌∷◌, ◌++◌, length, max, refl, subst, inl, inr}
+use Rattle.sto_model.specs.Told.{Told}
+use Rattle.sto_core.specs.Core.{Core}
+use Rattle.sto_core.specs.History.{Contents, Validity}
 use Rattle.sto_core.specs.Opened.{opened_core}
 use Rattle.sto_lang.specs.Scripts.{File}
 use Rattle.sto_lang.specs.declared.file.Turns.{Turns}
@@ -13,20 +16,75 @@ use Rattle.sto_type.specs.Traits.{OfType}
 use Rattle.sto_run_threads.specs.Plans.{plan_of}
 use Rattle.sto_run_steps.specs.Logged.{Log}
 use Rattle.sto_run_steps.specs.Proceeding.{heard_by}
-use Rattle.sto_run_steps.specs.Turning.{WereStepped}
+use Rattle.sto_run_steps.specs.Turning.{HasTurn, HaveTurns, WereStepped, entry_turns, round_turns}
+use Rattle.sto_run_steps.specs.declared.seat.Seat.{Seat}
 use Rattle.sto_run.specs.OfRecords.{IsOfRecords}
-use Rattle.sto_run.specs.Traced.{IsRunBy}
+use Rattle.sto_run.specs.Traced.{IsRunFrom, IsTraceOf, IsStepped, of_objects, turns_in}
 
 -- a run by a schedule, on words that open with what the objects open with
-pub run_by : {T : Type 0} (t : OfType T) (ty : T) (file : File) (tries : ℕ) (journal : Journal) (schedule : List Turns) (opening : Contents) (rs : List Record) (steps : Log)
+pub run_by : {T : Type 0} (t : OfType T) (ty : T) (file : File) (tries : ℕ) (journal : Journal) (schedule : List Turns) (opening : Contents) (rs : List Record) (first last : Log)
     → opening ≡ (t.meaning ty).opened
-    → WereStepped {M = Machine T ScriptBody} (plan_of t ty file tries) t.valid heard_by schedule (opened_core (t.sizes ty) opening (max 1 (length file.threads))) (Some []) rs steps
-    → IsOfRecords file (t.meaning ty).homes rs journal → IsRunBy t ty file tries schedule journal steps
-run_by {T} t ty file tries journal schedule opening rs steps opens were told = record {
+    → WereStepped {M = Machine T ScriptBody} (plan_of t ty file tries) t.valid heard_by schedule (opened_core (t.sizes ty) opening (max 1 (length file.threads))) first rs last
+    → IsOfRecords file (t.meaning ty).homes rs journal → IsRunFrom t ty file tries schedule first journal last
+run_by {T} t ty file tries journal schedule opening rs first last opens were told = record {
   records = rs;
   stepped =
-      subst (λ (c : Contents). WereStepped {M = Machine T ScriptBody} (plan_of t ty file tries) t.valid heard_by schedule (opened_core (t.sizes ty) c (max 1 (length file.threads))) (Some []) rs steps) opens were;
+      subst (λ (c : Contents). WereStepped {M = Machine T ScriptBody} (plan_of t ty file tries) t.valid heard_by schedule (opened_core (t.sizes ty) c (max 1 (length file.threads))) first rs last) opens were;
   told = told;
+}
+
+module _ {M : Type 0} (valid : Validity) (heard : M → List Told) where
+  forget_turn : (thread : ℕ) (c d : Core) (seats later : List (Seat M)) (log next : Log) → HasTurn valid heard thread c seats log d later next
+      → HasTurn valid heard thread c seats None d later None
+  forget_turn thread c d seats later log next turn = elim turn [
+    | inl one ↦
+        inl
+        (record {
+          going = one.going;
+          event = one.event;
+          passes = one.passes;
+          before = one.before;
+          at = one.at;
+          seat = one.seat;
+          others = one.others;
+          logged = refl;
+        })
+    | inr idle ↦ inr (idle.0, idle.1, idle.2, refl)
+  ]
+
+  forget_turns : (threads : List ℕ) (c d : Core) (seats later : List (Seat M)) (log next : Log) → HaveTurns valid heard threads c seats log d later next
+      → HaveTurns valid heard threads c seats None d later None
+  forget_turns [] c d seats later log next h = (h.0, h.1, refl)
+  forget_turns (thread ∷ threads) c d seats later log next h =
+      (h.0, h.1, None, forget_turn thread c h.0 seats h.1 log h.2 h.3, forget_turns threads h.0 d h.1 later h.2 next h.4)
+
+-- the run is the same where its steps are not told
+pub untold : {T : Type 0} (t : OfType T) (ty : T) (file : File) (tries : ℕ) (schedule : List Turns) (journal : Journal) (first last : Log)
+    → IsRunFrom t ty file tries schedule first journal last → IsRunFrom t ty file tries schedule None journal None
+untold {T} t ty file tries schedule journal first last r =
+    let w = r.stepped in
+    record {
+      records = r.records;
+      stepped = record {
+        seats = w.seats;
+        new = w.new;
+        rounds = w.rounds;
+        stepped = w.stepped;
+        later = w.later;
+        turns = forget_turns t.valid heard_by (flat_map entry_turns schedule ++ round_turns (length w.seats) w.rounds) (opened_core (t.sizes ty) (t.meaning ty).opened (max 1 (length file.threads))) w.stepped w.seats w.later first last w.turns;
+        over = w.over;
+        made = w.made;
+        aborts = w.aborts;
+      };
+      told = r.told;
+    }
+
+-- the journal of a run whose steps are told is that of a run by the file's schedule
+pub trace_stepped : (file : File) (tries : ℕ) (journal : Journal) (homes : List (ℕ × ℕ)) (steps : Log) → IsTraceOf file tries journal homes steps → IsStepped file tries journal
+trace_stepped file tries journal homes steps r = record {
+  objects = r.objects;
+  kinds = r.kinds;
+  run = untold of_objects r.objects file tries (turns_in file.schedule) journal (Some []) steps r.traced;
 }
 
 -- what is so of the objects, the file and the number of tries that the work of a run has is so of those that it was opened with

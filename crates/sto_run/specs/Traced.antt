@@ -24,12 +24,16 @@ abbrev pub turns_in : Option (List Turns) → List Turns
 turns_in None = []
 turns_in (Some schedule) = schedule
 
--- on objects of a type a file was run by a schedule, and these are all steps that its threads made, in their order, where they are told:
--- each on the pass of its thread, and in its turn. The journal is that of the records of this run
-pub record IsRunBy {T : Type 0} (t : OfType T) (ty : T) (file : File) (tries : ℕ) (schedule : List Turns) (journal : Journal) (steps : Log) : Type 0 where
+-- on objects of a type a file was run by a schedule; the journal is that of the records of this run. Where steps were kept from the first on,
+-- the last log has all that its threads made, in their order: each on the pass of its thread, and in its turn
+pub record IsRunFrom {T : Type 0} (t : OfType T) (ty : T) (file : File) (tries : ℕ) (schedule : List Turns) (first : Log) (journal : Journal) (last : Log) : Type 0 where
   pub records : List Record
-  pub stepped : WereStepped {M = Machine T ScriptBody} (plan_of t ty file tries) t.valid heard_by schedule (opened_core (t.sizes ty) (t.meaning ty).opened (max 1 (length file.threads))) (Some []) records steps
+  pub stepped : WereStepped {M = Machine T ScriptBody} (plan_of t ty file tries) t.valid heard_by schedule (opened_core (t.sizes ty) (t.meaning ty).opened (max 1 (length file.threads))) first records last
   pub told : IsOfRecords file (t.meaning ty).homes records journal
+
+-- so run, and these are all steps, where they are told
+abbrev pub IsRunBy : {T : Type 0} → OfType T → T → File → ℕ → List Turns → Journal → Log → Type 0
+IsRunBy t ty file tries schedule journal steps = IsRunFrom t ty file tries schedule (Some []) journal steps
 
 -- the same by the file's own schedule
 abbrev pub IsTraced : {T : Type 0} → OfType T → T → File → ℕ → Journal → Log → Type 0
@@ -45,3 +49,9 @@ pub record IsTraceOf (file : File) (tries : ℕ) (journal : Journal) (homes : Li
   pub kinds : AreOf objects (shapes_of file.declarations)
   pub same_homes : homes ≡ (of_objects.meaning objects).homes
   pub traced : IsTraced of_objects objects file tries journal steps
+
+-- on some objects of the file it was run by its own schedule, and the journal is that of this run, whose steps are not told
+pub record IsStepped (file : File) (tries : ℕ) (journal : Journal) : Type 0 where
+  pub objects : Objects
+  pub kinds : AreOf objects (shapes_of file.declarations)
+  pub run : IsRunFrom of_objects objects file tries (turns_in file.schedule) None journal None

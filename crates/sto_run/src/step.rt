@@ -7,7 +7,7 @@ ghost use Rattle.sto_serializability.specs.Meanings.{updating_by};
 ghost use Rattle.sto_store.specs.Stores.{means};
 ghost use Rattle.sto_run.specs.Lawful.{IsLawfulJournal};
 ghost use Rattle.sto_run.specs.Alone.{RanAlone};
-ghost use Rattle.sto_run.specs.Traced.{turns_in};
+ghost use Rattle.sto_run.specs.Traced.{IsStepped, turns_in};
 
 use crate::opened::OpenedRun;
 use crate::stored::objects_of;
@@ -43,6 +43,8 @@ pub fn step_file(alloc: Global, file: &File, tries: u32) -> Result<Journal, NoMe
     requires tries { IsFromTo 1 64 tries }
     ensures lawful { IfOk result (IsLawfulJournal (updating_by means) (view file.now) tries) }
     ensures alone { length (view file.now).threads ≤ 1 → IfOk result (RanAlone (view file.now)) }
+    // Each event was made in the turn of its thread, and the journal is that of this run.
+    ensures stepped { IfOk result (IsStepped (view file.now) tries) }
 {
     let file = LentFile { file };
     let objects = objects_of(alloc, &file)?;

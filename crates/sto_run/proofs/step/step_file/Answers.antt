@@ -1,4 +1,6 @@
-use Rattle.std.proofs.Common.{◌≡◌, ◌≤◌, length, sym, subst, ap, arith}
+use Rattle.std.proofs.Common.{◌≡◌, ◌≤◌, List, length, sym, subst, ap, arith, None}
+use Rattle.sto_lang.specs.declared.file.Turns.{Turns}
+use Rattle.sto_run_threads.specs.Told.{told_in}
 use Rattle.std.proofs.lemmas.Result.{IfOk-weaker}
 use Rattle.sto_lang.specs.Views.{file as view}
 use Rattle.sto_run_threads.specs.declared.workload.LentFile.{LentFile}
@@ -9,6 +11,8 @@ use Rattle.sto_report_spec.specs.Orders.{IsOrder}
 use Rattle.sto_journal.specs.Journals.{places}
 use Rattle.sto_run.proofs.Turns.{one_thread_order, ran_alone}
 use Rattle.sto_run.proofs.RunJournals.{lawful_run}
+use Rattle.sto_run.specs.Traced.{IsRunFrom, of_objects, turns_in}
+use Rattle.sto_run.proofs.TracedRuns.{run_by, moved}
 use Rattle.sto_run.proofs.step.step_file.Goals as goal
 
 pub step_threads-requires-clause-ready : goal.step_threads-requires-clause-ready
@@ -54,3 +58,21 @@ returns-clause-lawful c =
     (λ j h. lawful_run c.in_ok-objects.objects c.in_ok-run.run'.work.ty.now (view c.in_ok-run.run'.work.workload.file.now) (view c.args.file.now) _ c.args.tries j
     (objects_mean c.in_ok-objects.objects (shapes_of (view c.args.file.now).declarations) c.in_ok-objects.ensures.kinds) (ap (λ (f : LentFile). view f.file.now) same.0, same.1, same.2) h)
     c.journal.ensures.lawful
+
+pub returns-clause-stepped : goal.returns-clause-stepped
+returns-clause-stepped c =
+    let same = c.in_ok-run.ensures.of in
+    let run = c.in_ok-run.run' in
+    let work = run.work in
+    let here = ap (λ (f : LentFile). view f.file.now) same.0 in
+    IfOk-weaker c.journal.result _ _
+    (λ j h. record {
+      objects = c.in_ok-objects.objects;
+      kinds = c.in_ok-objects.ensures.kinds;
+      run = moved (λ ty file tries. IsRunFrom of_objects ty file tries (turns_in file.schedule) None j None) work.ty.now c.in_ok-objects.objects (view work.workload.file.now) (view c.args.file.now)
+          work.tries c.args.tries here same.1 same.2
+          (subst (λ (s : List Turns). IsRunFrom of_objects work.ty.now (view work.workload.file.now) work.tries s None j None) c.turns_of.ensures.same
+          (run_by of_objects work.ty.now (view work.workload.file.now) work.tries j c.turns_of.result.now run.opening.items
+          (told_in c.in_ok-finished.finished.records) None None c.in_ok-run.ensures.runnable.opens.opened c.in_ok-finished.ensures.stepped h));
+    })
+    c.journal.ensures.of_records

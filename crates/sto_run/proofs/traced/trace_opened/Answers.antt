@@ -1,4 +1,4 @@
-use Rattle.std.proofs.Common.{arith}
+use Rattle.std.proofs.Common.{arith, [], Some}
 use Rattle.sto_lang.specs.Views.{file as view}
 use Rattle.sto_type.specs.Traits.{of_type}
 use Rattle.sto_journal.specs.Journals.{places}
@@ -41,4 +41,4 @@ pub returns-clause-run_by : goal.returns-clause-run_by
 returns-clause-run_by g c =
     let run = c.args.run.now in
     run_by (of_type g.T.Naming g.T.TxType) run.work.ty.now (view run.work.workload.file.now) run.work.tries c.in_ok-journal.journal c.args.schedule.now run.opening.items
-    (told_in c.in_ok-finished.finished.records) (kept c.in_ok-finished.steps) c.requires.runnable.opens.opened c.in_ok-finished.ensures.traced c.in_ok-journal.ensures.of_records
+    (told_in c.in_ok-finished.finished.records) (Some []) (kept c.in_ok-finished.steps) c.requires.runnable.opens.opened c.in_ok-finished.ensures.traced c.in_ok-journal.ensures.of_records
