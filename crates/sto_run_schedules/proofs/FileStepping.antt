@@ -1,7 +1,7 @@
 -- A run of a file by a schedule to the ends of its threads.
 use Rattle.std.specs.Prelude.{Some}
 use Rattle.std.specs.List.{flat_map}
-use Rattle.std.proofs.Common.{◌≡◌, ℕ, ◌<◌, List, ◌++◌}
+use Rattle.std.proofs.Common.{◌≡◌, ℕ, ◌<◌, List, ◌++◌, sym, ap, ◌∙◌, subst}
 use Rattle.sto_type.specs.Traits.{OfType}
 use Rattle.sto_lang.specs.declared.file.Turns.{Turns}
 use Rattle.sto_lang.specs.Scripts.{File}
@@ -49,3 +49,11 @@ file_stepped {T} t ty file tries journal decided order n schedule all enough tur
       told = s.told;
       run = λ exact is. let k = s.by_turns exact is in (k.0, by_own t ty file tries exact journal k.0 (record { records = r.records; stepped = k.1; told = r.told }));
     }
+
+-- the same of legs that were parted from the steps that a run has told
+pub file_ran : {T : Type 0} (t : OfType T) (ty : T) (file : File) (tries : ℕ) (journal : Journal) (decided : List Leg) (order : List ℕ) (n : ℕ) (schedule entries : List Turns) (log : Log)
+    (all told further : List Step) (legs : List Leg) → most_kept < n → schedule ≡ entries → flat_map entry_turns entries ≡ turns_to_ends decided n order → IsRunBy t ty file tries schedule journal log
+    → log ≡ Some all → told ≡ all → further ≡ past decided told → legs ≡ ends_of n order further → FileStepped t ty file tries journal decided legs order
+file_ran {T} t ty file tries journal decided order n schedule entries log all told further legs enough same turns r is are past_them parted =
+    subst (λ (ls : List Leg). FileStepped t ty file tries journal decided ls order) (sym (parted ∙ ap (ends_of n order) (past_them ∙ ap (past decided) are)))
+    (file_stepped t ty file tries journal decided order n schedule all enough (ap (flat_map entry_turns) same ∙ turns) (subst (λ (l : Log). IsRunBy t ty file tries schedule journal l) is r))
