@@ -17,7 +17,6 @@ use Rattle.sto_run_threads.specs.Plans.{plan_of}
 use Rattle.sto_run_steps.specs.Logged.{Log}
 use Rattle.sto_run_steps.specs.Proceeding.{heard_by}
 use Rattle.sto_run_steps.specs.Turning.{HasTurn, HaveTurns, WereStepped, entry_turns, round_turns}
-use Rattle.sto_run_steps.specs.declared.seat.Seat.{Seat}
 use Rattle.sto_run.specs.OfRecords.{IsOfRecords}
 use Rattle.sto_run.specs.Traced.{IsRunFrom, IsTraceOf, IsStepped, of_objects, turns_in}
 
@@ -34,7 +33,7 @@ run_by {T} t ty file tries journal schedule opening rs first last opens were tol
 }
 
 module _ {M : Type 0} (valid : Validity) (heard : M → List Told) where
-  forget_turn : (thread : ℕ) (c d : Core) (seats later : List (Seat M)) (log next : Log) → HasTurn valid heard thread c seats log d later next
+  forget_turn : (thread : ℕ) (c d : Core) (seats later : _) (log next : Log) → HasTurn valid heard thread c seats log d later next
       → HasTurn valid heard thread c seats None d later None
   forget_turn thread c d seats later log next turn = elim turn [
     | inl one ↦
@@ -52,7 +51,7 @@ module _ {M : Type 0} (valid : Validity) (heard : M → List Told) where
     | inr idle ↦ inr (idle.0, idle.1, idle.2, refl)
   ]
 
-  forget_turns : (threads : List ℕ) (c d : Core) (seats later : List (Seat M)) (log next : Log) → HaveTurns valid heard threads c seats log d later next
+  forget_turns : (threads : List ℕ) (c d : Core) (seats later : _) (log next : Log) → HaveTurns valid heard threads c seats log d later next
       → HaveTurns valid heard threads c seats None d later None
   forget_turns [] c d seats later log next h = (h.0, h.1, refl)
   forget_turns (thread ∷ threads) c d seats later log next h =

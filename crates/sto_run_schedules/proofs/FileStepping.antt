@@ -1,11 +1,8 @@
 -- A run of a file by a schedule to the ends of its threads.
 use Rattle.std.specs.Prelude.{Some}
 use Rattle.std.specs.List.{flat_map}
-use Rattle.std.proofs.Common.{◌≡◌, ℕ, ◌<◌, List, [], ◌++◌, length, max, subst}
+use Rattle.std.proofs.Common.{◌≡◌, ℕ, ◌<◌, List, ◌++◌, sym, ap, ◌∙◌, subst}
 use Rattle.sto_type.specs.Traits.{OfType}
-use Rattle.sto_core.specs.History.{Contents}
-use Rattle.sto_core.specs.Opened.{opened_core}
-use Rattle.sto_attempt_facts.specs.Records.{Record}
 use Rattle.sto_lang.specs.declared.file.Turns.{Turns}
 use Rattle.sto_lang.specs.Scripts.{File}
 use Rattle.sto_trace.specs.declared.Step.{Step}
@@ -15,20 +12,32 @@ use Rattle.sto_journal.specs.declared.journal.Journal.{Journal}
 use Rattle.sto_run_threads.specs.Plans.{plan_of}
 use Rattle.sto_run_steps.specs.Logged.{Log, most_kept}
 use Rattle.sto_run_steps.specs.Proceeding.{heard_by}
-use Rattle.sto_run_steps.specs.Turning.{WereStepped, entry_turns}
+use Rattle.sto_run_steps.specs.Turning.{entry_turns}
 use Rattle.sto_explore.specs.Legs.{turns_of, schedule_of, LeadToEnds, AreTold}
 use Rattle.sto_explore.specs.declared.leg.Leg.{Leg}
+use Rattle.sto_run.specs.Traced.{IsRunBy, IsTraced}
 use Rattle.sto_run_legs.specs.Parted.{turns_to_ends, past, ends_of}
 use Rattle.sto_run_legs.specs.Telling.{tells_of, opened_for}
 use Rattle.sto_run_legs.proofs.Stepping.{stepped}
-use Rattle.sto_run.specs.OfRecords.{IsOfRecords}
-use Rattle.sto_run_schedules.specs.Leading.{IsRunBy, IsJournalBy}
+use Rattle.sto_run_schedules.specs.Leading.{with_schedule, Gives}
+
+-- a run by a schedule is one by that of the file, where this is put in the place of its own
+pub by_own : {T : Type 0} (t : OfType T) (ty : T) (file : File) (tries : ℕ) (schedule : List Turns) (journal : Journal) (steps : Log)
+    → IsRunBy t ty file tries schedule journal steps → IsTraced t ty (with_schedule schedule file) tries journal steps
+by_own {T} t ty file tries schedule journal steps r =
+    let w = r.stepped in
+    record {
+      records = r.records;
+      stepped = record { seats = w.seats; new = w.new; rounds = w.rounds; stepped = w.stepped; later = w.later; turns = w.turns; over = w.over; made = w.made; aborts = w.aborts };
+      told = record { lines = r.told.lines; aborts = r.told.aborts };
+    }
 
 -- what it tells, and that it is the run by each schedule of the same turns
 pub record FileStepped {T : Type 0} (t : OfType T) (ty : T) (file : File) (tries : ℕ) (journal : Journal) (decided legs : List Leg) (order : List ℕ) : Type 0 where
   pub ends : LeadToEnds order legs
   pub told : AreTold (tells_of t ty file tries) (schedule_of decided) (turns_of legs)
-  pub run : IsJournalBy t ty file tries (schedule_of decided ++ schedule_of legs) journal
+  pub run : (schedule : List Turns) → Gives (schedule_of decided ++ schedule_of legs) schedule
+      → (steps : Log) × IsTraced t ty (with_schedule schedule file) tries journal steps
 
 pub file_stepped : {T : Type 0} (t : OfType T) (ty : T) (file : File) (tries : ℕ) (journal : Journal) (decided : List Leg) (order : List ℕ) (n : ℕ) (schedule : List Turns) (all : List Step)
     → most_kept < n → flat_map entry_turns schedule ≡ turns_to_ends decided n order → IsRunBy t ty file tries schedule journal (Some all)
@@ -38,26 +47,13 @@ file_stepped {T} t ty file tries journal decided order n schedule all enough tur
     record {
       ends = s.ends;
       told = s.told;
-      run = λ exact is.
-          let k = s.by_turns exact is in
-          let w = k.1 in (
-            k.0,
-            record {
-              records = r.records;
-              stepped = record { seats = w.seats; new = w.new; rounds = w.rounds; stepped = w.stepped; later = w.later; turns = w.turns; over = w.over; made = w.made; aborts = w.aborts };
-              told = r.told;
-            },
-          );
+      run = λ exact is. let k = s.by_turns exact is in (k.0, by_own t ty file tries exact journal k.0 (record { records = r.records; stepped = k.1; told = r.told }));
     }
 
--- a run by a schedule, on words that open with what the objects open with
-pub run_by : {T : Type 0} (t : OfType T) (ty : T) (file : File) (tries : ℕ) (journal : Journal) (schedule : List Turns) (opening : Contents) (rs : List Record) (steps : Log)
-    → opening ≡ (t.meaning ty).opened
-    → WereStepped {M = Machine T ScriptBody} (plan_of t ty file tries) t.valid heard_by schedule (opened_core (t.sizes ty) opening (max 1 (length file.threads))) (Some []) rs steps
-    → IsOfRecords file (t.meaning ty).homes rs journal → IsRunBy t ty file tries schedule journal steps
-run_by {T} t ty file tries journal schedule opening rs steps opens were told = record {
-  records = rs;
-  stepped =
-      subst (λ (c : Contents). WereStepped {M = Machine T ScriptBody} (plan_of t ty file tries) t.valid heard_by schedule (opened_core (t.sizes ty) c (max 1 (length file.threads))) (Some []) rs steps) opens were;
-  told = told;
-}
+-- the same of legs that were parted from the steps that a run has told
+pub file_ran : {T : Type 0} (t : OfType T) (ty : T) (file : File) (tries : ℕ) (journal : Journal) (decided : List Leg) (order : List ℕ) (n : ℕ) (schedule entries : List Turns) (log : Log)
+    (all told further : List Step) (legs : List Leg) → most_kept < n → schedule ≡ entries → flat_map entry_turns entries ≡ turns_to_ends decided n order → IsRunBy t ty file tries schedule journal log
+    → log ≡ Some all → told ≡ all → further ≡ past decided told → legs ≡ ends_of n order further → FileStepped t ty file tries journal decided legs order
+file_ran {T} t ty file tries journal decided order n schedule entries log all told further legs enough same turns r is are past_them parted =
+    subst (λ (ls : List Leg). FileStepped t ty file tries journal decided ls order) (sym (parted ∙ ap (ends_of n order) (past_them ∙ ap (past decided) are)))
+    (file_stepped t ty file tries journal decided order n schedule all enough (ap (flat_map entry_turns) same ∙ turns) (subst (λ (l : Log). IsRunBy t ty file tries schedule journal l) is r))

@@ -1,1 +1,3 @@
 pub mod FileStepping
+pub mod Outcomes
+pub mod Making

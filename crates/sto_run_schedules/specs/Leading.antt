@@ -1,13 +1,11 @@
 -- What a run of a file by turns of its threads leads to.
-use Rattle.std.specs.Prelude.{◌≡◌, ◌≤◌, ℕ, List, [], length, map, count_by, Some, Bool, true, false, not, string_bytes}
+use Rattle.std.specs.Prelude.{◌≡◌, ◌≤◌, ℕ, List, length, map, count_by, None, Some, Bool, true, false, not, string_bytes}
 use Rattle.std.specs.List.{flat_map}
-use Rattle.sto_type.specs.Traits.{OfType}
 use Rattle.sto_objects.specs.declared.objects.Objects.{Objects}
+use Rattle.sto_store.specs.ObjectShapes.{AreOf}
 use Rattle.sto_lang.specs.declared.file.Turns.{Turns}
+use Rattle.sto_lang.specs.Objects.{shapes_of}
 use Rattle.sto_lang.specs.Scripts.{File}
-use Rattle.sto_attempt_facts.specs.Records.{Record}
-use Rattle.sto_script.specs.declared.body.ScriptBody.{ScriptBody}
-use Rattle.sto_transaction.specs.declared.machine.Machine.{Machine}
 use Rattle.sto_report_spec.specs.declared.form.ReportForm.{ReportForm}
 use Rattle.sto_report_spec.specs.Lawful.{IsLawfulIn}
 use Rattle.sto_journal.specs.declared.journal.Journal.{Journal}
@@ -15,19 +13,15 @@ use Rattle.sto_journal.specs.declared.journal.AbortLine.{AbortLine}
 use Rattle.sto_journal.specs.declared.journal.Cause.{Cause}
 use Rattle.sto_journal.specs.declared.journal.Cause.TheVariants.{Locked, Changed}
 use Rattle.sto_journal.specs.Journals.{places, abort}
-use Rattle.sto_run_threads.specs.Plans.{plan_of}
 use Rattle.sto_run_steps.specs.Logged.{Log}
-use Rattle.sto_run_steps.specs.Proceeding.{heard_by}
-use Rattle.sto_run_steps.specs.Turning.{WereStepped, entry_turns}
+use Rattle.sto_run_steps.specs.Turning.{entry_turns}
 use Rattle.sto_run.specs.Meanings.{updating_by}
 use Rattle.sto_run.specs.Stores.{means}
 use Rattle.sto_run.specs.Lawful.{IsLawfulJournal}
 use Rattle.sto_run.specs.Alone.{RanAlone}
-use Rattle.sto_run.specs.OfRecords.{IsOfRecords}
 use Rattle.sto_run.specs.Traced.{IsTraced, of_objects}
-use Rattle.sto_lawful_report.specs.Forms.{order_told, aborts_told}
+use Rattle.sto_lawful_report.specs.Forms.{order_told, aborts_told, IsAlone}
 use Rattle.sto_outcomes.specs.declared.outcome.Reported.{Reported}
-use Rattle.sto_run_legs.specs.Telling.{opened_for}
 
 -- the file with another schedule
 abbrev pub with_schedule : List Turns → File → File

@@ -15,26 +15,26 @@ use Rattle.sto_run_schedules.specs.Leading.{LeadsTo, HasLongRun}
 use Rattle.sto_run_schedules.specs.declared.runs.FileRuns.{FileRuns}
 
 -- its objects, its file, and how many aborted attempts a transaction may have
-abbrev pub objects_of : FileRuns → Objects
+abbrev pub objects_of : {W : Type 0} → FileRuns W → Objects
 objects_of r = r.run.now.work.ty.now
 
-abbrev pub file_of : FileRuns → File
+abbrev pub file_of : {W : Type 0} → FileRuns W → File
 file_of r = view r.run.now.work.workload.file.now
 
-abbrev pub tries_of : FileRuns → ℕ
+abbrev pub tries_of : {W : Type 0} → FileRuns W → ℕ
 tries_of r = r.run.now.work.tries
 
 -- it can be run
-pub record IsReady (r : FileRuns) : Type 0 where
+pub record IsReady {W : Type 0} (r : FileRuns W) : Type 0 where
   pub runnable : IsRunnable (plan_of of_objects (objects_of r) (file_of r) (tries_of r)) of_objects.valid r.run.now.opening.items
   pub kinds : AreOf (objects_of r) (shapes_of (file_of r).declarations)
   pub threads : r.threads.items ≡ busy_threads (file_of r)
 
-abbrev pub Tells : FileRuns → List ℕ → Bool → Type 0
+abbrev pub Tells : {W : Type 0} → FileRuns W → List ℕ → Bool → Type 0
 Tells r = tells_of of_objects (objects_of r) (file_of r) (tries_of r)
 
-abbrev pub Leads : FileRuns → List ℕ → Reported → Type 0
+abbrev pub Leads : {W : Type 0} → FileRuns W → List ℕ → Reported → Type 0
 Leads r = LeadsTo (form_for r.json) (objects_of r) (file_of r) (tries_of r)
 
-abbrev pub IsLong : FileRuns → Type 0
+abbrev pub IsLong : {W : Type 0} → FileRuns W → Type 0
 IsLong r = HasLongRun (file_of r) (tries_of r)

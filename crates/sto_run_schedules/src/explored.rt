@@ -19,6 +19,7 @@ use sto_explore::{Stopped, explore};
 use sto_lang::File;
 use sto_objects::Objects;
 use sto_outcomes::{Outcomes, Tally};
+use sto_part::NoMemory;
 use sto_run::{LentFile, NoGate, OpenedRun, objects_of};
 use sto_run_legs::busy_threads;
 use sto_run_threads::RetryTurn;
@@ -44,10 +45,14 @@ pub fn explore_file<W: Watch>(
     ensures too_many { IfErr result (λ why. why ≡ TooMany → HasTooMany (form_for json) (view file.now) tries switches limit) }
     ensures too_long { IfErr result (λ why. why ≡ TooLong → HasLongRun (view file.now) tries) }
 {
-    let lent = LentFile { file };
-    let objects = objects_of(alloc, &lent)?;
+    let Ok(objects) = objects_of(alloc, &LentFile { file }) else {
+        return Err(Stopped::NoMemory);
+    };
     let turn = RetryTurn::new();
-    let run = OpenedRun::new(alloc, lent, &objects, tries, &NoGate, &turn)?;
+    let lent = LentFile { file };
+    let Ok(run) = OpenedRun::new(alloc, lent, &objects, tries, &NoGate, &turn) else {
+        return Err(Stopped::NoMemory);
+    };
     explore_opened(alloc, &run, switches, limit, json, watch)
 }
 
@@ -68,9 +73,19 @@ fn explore_opened<'f, W: Watch>(
         → HasTooMany (form_for json) (view run.now.work.workload.file.now) run.now.work.tries switches limit) }
     ensures too_long { IfErr result (λ why. why ≡ TooLong → HasLongRun (view run.now.work.workload.file.now) run.now.work.tries) }
 {
-    let threads = busy_threads(alloc, run.work.workload.file)?;
-    let runs = FileRuns { run, threads, json, watch };
+    let Ok(threads) = busy_threads(alloc, run.work.workload.file) else {
+        return Err(Stopped::NoMemory);
+    };
+    let runs = FileRuns {
+        run,
+        threads,
+        json,
+        watch,
+    };
     let mut tally = Tally::new(alloc);
     explore(&runs, alloc, switches, limit, &mut tally)?;
-    Ok(tally.outcomes(alloc)?)
+    match tally.outcomes(alloc) {
+        Ok(outcomes) => Ok(outcomes),
+        Err(NoMemory) => Err(Stopped::NoMemory),
+    }
 }

@@ -45,12 +45,7 @@ impl<W: Watch> Runs<Reported> for FileRuns<'_, W> {
         self.threads.as_slice()
     }
 
-    fn run(
-        &self,
-        alloc: Global,
-        decided: &[Leg],
-        order: &[u32],
-    ) -> Result<Ran<Reported>, NotMade> {
+    fn run(&self, alloc: Global, decided: &[Leg], order: &[u32]) -> Result<Ran<Reported>, NotMade> {
         let run = self.run;
         let most = enough();
         let entries = entries_to_ends(alloc, decided, order, most)?;

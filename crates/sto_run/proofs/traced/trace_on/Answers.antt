@@ -13,11 +13,11 @@ use Rattle.sto_run.specs.Traced.{IsRunBy, IsTraced}
 use Rattle.sto_run.proofs.TracedRuns.{moved}
 use Rattle.sto_run.proofs.traced.trace_on.Goals as goal
 
-pub turns_of-requires : goal.turns_of-requires
-turns_of-requires g c = c.in_ok-run.ensures.runnable.sound.scheduled
+pub turns_of-schedule-requires : goal.turns_of-schedule-requires
+turns_of-schedule-requires g c = c.in_ok-run.ensures.runnable.sound.scheduled
 
 pub trace_opened-requires-clause-schedule : goal.trace_opened-requires-clause-schedule
-trace_opened-requires-clause-schedule g c = c.turns_of.ensures.inside
+trace_opened-requires-clause-schedule g c = λ κs within. c.turns_of-schedule.ensures.inside
 
 pub returns-clause-lawful : goal.returns-clause-lawful
 returns-clause-lawful g c =
@@ -42,5 +42,5 @@ returns-clause-traced g c =
     IfOk-weaker c.trace_opened.result _ _
     (λ r h. moved (λ ty file tries. IsTraced t ty file tries r.0 (kept r.1)) work.ty.now c.args.ty.now (view work.workload.file.now) (view c.args.file.now)
     work.tries c.args.tries (ap (λ (f : LentFile). view f.file.now) same.0) same.1 same.2
-    (subst (λ (s : List Turns). IsRunBy t work.ty.now (view work.workload.file.now) work.tries s r.0 (kept r.1)) c.turns_of.ensures.same h))
+    (subst (λ (s : List Turns). IsRunBy t work.ty.now (view work.workload.file.now) work.tries s r.0 (kept r.1)) c.turns_of-schedule.ensures.same h))
     c.trace_opened.ensures.run_by
