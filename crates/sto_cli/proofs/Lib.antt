@@ -3,3 +3,4 @@ pub mod Exclusive
 pub mod Counted
 pub mod Lines
 pub mod Refusals
+pub mod Printed

@@ -12,6 +12,7 @@ use Rattle.sto_journal.specs.declared.journal.Journal.{Journal}
 use Rattle.sto_run.specs.Logged.{Log}
 use Rattle.sto_run.specs.Traced.{IsTraceOf}
 use Rattle.sto_cli.specs.Traces.{IsTraceable, HasLongRun, IsTraceFault, IsRunFault, NeverMany, IsRefusalFor}
+use Rattle.sto_run_schedules.specs.Leading.{HasSomeLongRun}
 use Rattle.sto_cli.specs.Explorations.{IsLongSomewhere, HasManySchedules, IsExploringFault}
 
 pub refused_for : (F G : InputFault → Type 0) → ((fault : InputFault) → F fault → G fault) → (e : Refusal) → IsRefusalFor F e → IsRefusalFor G e
@@ -70,3 +71,10 @@ pub unexplorable : (switches tries : ℕ) (json : Bool) (bytes : List ℕ) (file
 unexplorable switches tries json bytes file traceable e h =
     refused_for (IsExploringFault switches tries json file) (IsRunFault (IsLongSomewhere tries) (HasManySchedules switches tries json) bytes)
     (exploring_fault switches tries json bytes file traceable) e h
+
+-- a run by some schedule was too long
+pub long_somewhere : (switches tries : ℕ) (json : Bool) (file : File) (e : Refusal) → IsRefusalFor (λ fault. (fault ≡ LongRun) × HasSomeLongRun file tries) e
+    → IsRefusalFor (IsExploringFault switches tries json file) e
+long_somewhere switches tries json file e h =
+    refused_for (λ fault. (fault ≡ LongRun) × HasSomeLongRun file tries) (IsExploringFault switches tries json file)
+    (λ fault so. subst (IsExploringFault switches tries json file) (sym so.0) so.1) e h

@@ -120,5 +120,6 @@ pub(crate) fn explore_text<W: Watch>(
 {
     let file = traceable_in(alloc, bytes)?;
     let outcomes = outcomes_of(alloc, &file, switches, tries, json, watch)?;
-    Ok(outcomes_text(alloc, &file, &outcomes, json)?)
+    let text = outcomes_text(alloc, &file, &outcomes, json)?;
+    Ok(text)
 }
