@@ -1,3 +1,3 @@
 pub mod FileStepping
-pub mod Outcomes
+pub mod Telling
 pub mod Making

@@ -1,8 +1,7 @@
 -- One run of a file, as it is made.
-use Rattle.std.specs.Prelude.{Some, length, count_by, not, string_bytes}
-use Rattle.std.specs.List.{All, AllByRecursion, flat_map}
-use Rattle.std.proofs.Common.{◌≡◌, ◌≤◌, ◌<◌, ℕ, List, ◌++◌, map, refl, subst, zero-add}
-use Rattle.sto_type.specs.Traits.{OfType}
+use Rattle.std.specs.Prelude.{length}
+use Rattle.std.specs.List.{All, AllByRecursion}
+use Rattle.std.proofs.Common.{◌≡◌, ◌<◌, ℕ, List, ◌++◌, map, refl, subst, zero-add}
 use Rattle.sto_objects.specs.declared.objects.Objects.{Objects}
 use Rattle.sto_store.specs.ObjectShapes.{AreOf}
 use Rattle.sto_store.proofs.ObjectMeanings.{meaning_of, objects_mean}

@@ -2,4 +2,3 @@ pub mod Leading
 pub mod Ready
 pub mod Explored
 pub use Rattle.sto_outcomes.specs.Outcomes
-pub use Rattle.sto_explore.specs.Explored

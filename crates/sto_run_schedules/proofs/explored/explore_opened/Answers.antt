@@ -1,8 +1,9 @@
-use Rattle.std.proofs.Common.{◌≡◌, List, ℕ, sym, subst}
+use Rattle.std.proofs.Common.{List, ℕ, subst}
+use Rattle.std.proofs.lemmas.Result.{err_from_is_err_and}
 use Rattle.sto_lang.specs.Views.{file as view}
 use Rattle.sto_explore.specs.Explored.{AreExplored, AreTooMany, start_of}
 use Rattle.sto_run.specs.Traced.{of_objects}
-use Rattle.sto_run_legs.specs.Telling.{tells_of, busy_threads}
+use Rattle.sto_run_legs.specs.Telling.{tells_of}
 use Rattle.sto_lawful_report.specs.Forms.{form_for}
 use Rattle.sto_run_schedules.specs.Leading.{LeadsTo}
 use Rattle.sto_run_schedules.proofs.explored.explore_opened.Goals as goal
@@ -10,8 +11,8 @@ use Rattle.sto_run_schedules.proofs.explored.explore_opened.Goals as goal
 pub explore-requires-clause-ready : goal.explore-requires-clause-ready
 explore-requires-clause-ready g c = record { runnable = c.requires.runnable; kinds = c.requires.kinds; threads = c.in-Ok.ensures }
 
-pub returns-in-Ok-clause-outcomes : goal.returns-in-Ok-clause-outcomes
-returns-in-Ok-clause-outcomes g c =
+pub returns-in-Ok-outcomes-clause-outcomes : goal.returns-in-Ok-outcomes-clause-outcomes
+returns-in-Ok-outcomes-clause-outcomes g c =
     let work = c.args.run.now.work in
     let file = view work.workload.file.now in
     let e = c.in_ok-explore.ensures.explored in
@@ -24,13 +25,16 @@ returns-in-Ok-clause-outcomes g c =
     }
 
 pub returns-in_err-explore-clause-too_many : goal.returns-in_err-explore-clause-too_many
-returns-in_err-explore-clause-too_many g c = λ is.
+returns-in_err-explore-clause-too_many g c =
+    let p = err_from_is_err_and c.from_residual.result c.from_residual.ensures.1 in
     let work = c.args.run.now.work in
     let file = view work.workload.file.now in
+    rw (p.1, p.2)
+    (λ is.
     let e = c.in_err-explore.ensures.too_many is in
     record {
       objects = work.ty.now;
       kinds = c.requires.kinds;
       runs = e.0;
       too_many = subst (λ (ts : List ℕ). AreTooMany (start_of c.args.switches ts) (tells_of of_objects work.ty.now file work.tries) (LeadsTo (form_for c.args.json) work.ty.now file work.tries) c.args.limit e.0) c.in-Ok.ensures e.2;
-    }
+    })

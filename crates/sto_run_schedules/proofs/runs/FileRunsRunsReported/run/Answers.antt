@@ -1,6 +1,6 @@
-use Rattle.std.specs.Prelude.{None, Some}
-use Rattle.std.specs.List.{All, flat_map}
-use Rattle.std.proofs.Common.{◌≡◌, ◌∙◌, ◌<◌, List, length, sym, ap, subst}
+use Rattle.std.specs.Prelude.{None}
+use Rattle.std.specs.List.{All}
+use Rattle.std.proofs.Common.{◌<◌, List, length, sym, ap, subst}
 use Rattle.sto_lang.specs.declared.file.Turns.{Turns}
 use Rattle.sto_run_steps.specs.Logged.{Log, kept}
 use Rattle.sto_run.specs.Traced.{IsRunBy, of_objects}
@@ -10,10 +10,10 @@ use Rattle.sto_run_schedules.proofs.Making.{inside_file, lawful_by_shapes}
 use Rattle.sto_run_schedules.proofs.runs.FileRunsRunsReported.run.Goals as goal
 
 pub trace_opened-requires-clause-runnable : goal.trace_opened-requires-clause-runnable
-trace_opened-requires-clause-runnable g c = c.requires.ready.runnable
+trace_opened-requires-clause-runnable g c = λ κs. c.requires.ready.runnable
 
 pub trace_opened-requires-clause-schedule : goal.trace_opened-requires-clause-schedule
-trace_opened-requires-clause-schedule g c =
+trace_opened-requires-clause-schedule g c = λ κs.
     let r = c.args.self.now in
     subst (λ (l : List Turns). All (λ (e : Turns). e.thread < length (file_of r).threads) l) (sym c.as_slice.ensures.value)
     (inside_file (file_of r) r.threads.items c.in_ok-entries.entries.items c.args.decided.now c.args.order.now c.requires.ready.threads
@@ -72,5 +72,5 @@ returns-in_default-clause-too_long g c = λ _.
       schedule = c.as_slice.result.now;
       journal = c.in_ok-journal.journal;
       run = by_own of_objects (objects_of r) (file_of r) (tries_of r) c.as_slice.result.now c.in_ok-journal.journal None
-          (subst (λ (l : Log). IsRunBy of_objects (objects_of r) (file_of r) (tries_of r) c.as_slice.result.now c.in_ok-journal.journal l) (ap kept c.in-None.is) c.in_ok-journal.ensures.run_by);
+          (subst (λ (l : Log). IsRunBy of_objects (objects_of r) (file_of r) (tries_of r) c.as_slice.result.now c.in_ok-journal.journal l) (ap kept c.in_default.is) c.in_ok-journal.ensures.run_by);
     }

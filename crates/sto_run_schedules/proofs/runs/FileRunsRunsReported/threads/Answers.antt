@@ -1,4 +1,4 @@
-use Rattle.std.proofs.Common.{List, ℕ, sym, subst}
+use Rattle.std.proofs.Common.{sym, subst}
 use Rattle.sto_explore.specs.Legs.{AreApart}
 use Rattle.sto_run_legs.proofs.BusyThreads.{busy_apart}
 use Rattle.sto_run_schedules.specs.Ready.{file_of}

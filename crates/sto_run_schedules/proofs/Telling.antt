@@ -1,5 +1,5 @@
 -- The reports of outcomes.
-use Rattle.std.specs.Prelude.{length, string_bytes, Bool}
+use Rattle.std.specs.Prelude.{string_bytes, Bool}
 use Rattle.std.specs.List.{AllByRecursion}
 use Rattle.std.proofs.Common.{◌≡◌, ℕ, List, ◌∷◌, [], ◌++◌, ap, sym, ◌∙◌, subst}
 use Rattle.std.proofs.lemmas.Slice.Eq.{bytes_eq-Decides}
