@@ -13,7 +13,7 @@ use Rattle.sto_explore.specs.declared.leg.Leg.{Leg}
 use Rattle.sto_explore.proofs.Following.{threads_with}
 use Rattle.sto_outcomes.specs.declared.outcome.Outcome.{Outcome}
 use Rattle.sto_outcome_text.specs.Texts.{entries_of}
-use Rattle.sto_run_schedules.specs.Leading.{Gives, with_schedule}
+use Rattle.sto_run_schedules.specs.Leading.{Gives}
 use Rattle.sto_lang.specs.declared.file.Turns.{Turns}
 
 -- the entries of legs give their turns
@@ -24,7 +24,7 @@ entries_give (leg ∷ legs) =
     ∙ sym (map-append (λ (turn : Turn). turn.thread) (turns_with leg.thread leg.over leg.turns) (turns_of legs))
 
 pub printed : (form : ReportForm) (file : File) (tries : ℕ) (os : List Outcome)
-    → AllByRecursion (λ (o : Outcome). (schedule : List Turns) → Gives (schedule_of o.legs.items) schedule → IsStepReport form (with_schedule schedule file) tries (string_bytes o.text)) os
-    → AllByRecursion (λ (o : Outcome). IsStepReport form (with_schedule (entries_of o.legs.items) file) tries (string_bytes o.text)) os
+    → AllByRecursion (λ (o : Outcome). (schedule : List Turns) → Gives (schedule_of o.legs.items) schedule → IsStepReport form file tries schedule (string_bytes o.text)) os
+    → AllByRecursion (λ (o : Outcome). IsStepReport form file tries (entries_of o.legs.items) (string_bytes o.text)) os
 printed form file tries [] h = tt
 printed form file tries (o ∷ os) h = (h.0 (entries_of o.legs.items) (entries_give o.legs.items), printed form file tries os h.1)

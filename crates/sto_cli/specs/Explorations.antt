@@ -9,7 +9,7 @@ use Rattle.sto_cli_common.specs.declared.refusal.ScheduleCounts.{ScheduleCounts}
 use Rattle.sto_lawful_report.specs.Forms.{form_for}
 use Rattle.sto_outcomes.specs.declared.outcome.Outcomes.{Outcomes}
 use Rattle.sto_lawful_report.specs.Stepped.{IsStepReport}
-use Rattle.sto_run_schedules.specs.Leading.{with_schedule, HasSomeLongRun}
+use Rattle.sto_run_schedules.specs.Leading.{HasSomeLongRun}
 use Rattle.sto_run_schedules.specs.Explored.{AreOutcomesOf, HasTooMany}
 use Rattle.sto_outcome_text.specs.Texts.{entries_of, outcomes_in}
 
@@ -22,7 +22,7 @@ most_schedules = 1000000
 pub record IsExploration (switches tries : ℕ) (json : Bool) (file : File) (text : List ℕ) : Type 0 where
   pub outcomes : Outcomes
   pub of_file : AreOutcomesOf (form_for json) file tries switches outcomes
-  pub reports : AllByRecursion (λ o. IsStepReport (form_for json) (with_schedule (entries_of o.legs.items) file) tries (string_bytes o.text)) outcomes.each.items
+  pub reports : AllByRecursion (λ o. IsStepReport (form_for json) file tries (entries_of o.legs.items) (string_bytes o.text)) outcomes.each.items
   pub told : text ≡ outcomes_in json file outcomes
 
 -- so many schedules of the file make at most so many switches; where no number is told, they are more than are tried

@@ -14,6 +14,7 @@ use Rattle.sto_run.specs.Stores.{means}
 use Rattle.sto_journal.specs.declared.journal.Journal.{Journal}
 use Rattle.sto_summary.specs.Summary.{summary_of, HasTotals}
 use Rattle.sto_run.specs.Lawful.{IsLawfulJournal}
+use Rattle.sto_run.specs.Traced.{turns_in}
 use Rattle.sto_args.specs.declared.command.Command.{Command}
 use Rattle.sto_args.specs.declared.command.Command.TheVariants.{Run, Step, Trace, Draw, Explore, Upgrade, Gen, Bench}
 use Rattle.sto_draw.specs.Drawn.{IsPicture, IsTooLong}
@@ -45,7 +46,7 @@ IsSummary number text =
 -- canonical text of the file that the number generates, which reads as that file, and `bench` the summary of a run of it
 abbrev pub IsOutput : Command → List ℕ → List ℕ → Type 0
 IsOutput (Run threads tries json) bytes text = IsRunReport threads tries json bytes text
-IsOutput (Step tries json) bytes text = (file : File) × (file_of bytes ≡ Ok file) × IsStepReport (form_for json) file tries text
+IsOutput (Step tries json) bytes text = (file : File) × (file_of bytes ≡ Ok file) × IsStepReport (form_for json) file tries (turns_in file.schedule) text
 IsOutput (Trace tries json) bytes text = (file : File) × IsTraceable bytes file × IsTrace tries json file text
 IsOutput (Draw tries) bytes text = (file : File) × IsTraceable bytes file × IsPicture tries file text
 IsOutput (Explore switches tries json) bytes text = (file : File) × IsTraceable bytes file × IsExploration switches tries json file text

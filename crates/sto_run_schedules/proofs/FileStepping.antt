@@ -15,29 +15,18 @@ use Rattle.sto_run_steps.specs.Proceeding.{heard_by}
 use Rattle.sto_run_steps.specs.Turning.{entry_turns}
 use Rattle.sto_explore.specs.Legs.{turns_of, schedule_of, LeadToEnds, AreTold}
 use Rattle.sto_explore.specs.declared.leg.Leg.{Leg}
-use Rattle.sto_run.specs.Traced.{IsRunBy, IsTraced}
+use Rattle.sto_run.specs.Traced.{IsRunBy}
 use Rattle.sto_run_legs.specs.Parted.{turns_to_ends, past, ends_of}
 use Rattle.sto_run_legs.specs.Telling.{tells_of, opened_for}
 use Rattle.sto_run_legs.proofs.Stepping.{stepped}
-use Rattle.sto_run_schedules.specs.Leading.{with_schedule, Gives}
-
--- a run by a schedule is one by that of the file, where this is put in the place of its own
-pub by_own : {T : Type 0} (t : OfType T) (ty : T) (file : File) (tries : ℕ) (schedule : List Turns) (journal : Journal) (steps : Log)
-    → IsRunBy t ty file tries schedule journal steps → IsTraced t ty (with_schedule schedule file) tries journal steps
-by_own {T} t ty file tries schedule journal steps r =
-    let w = r.stepped in
-    record {
-      records = r.records;
-      stepped = record { seats = w.seats; new = w.new; rounds = w.rounds; stepped = w.stepped; later = w.later; turns = w.turns; over = w.over; made = w.made; aborts = w.aborts };
-      told = record { lines = r.told.lines; aborts = r.told.aborts };
-    }
+use Rattle.sto_run_schedules.specs.Leading.{Gives}
 
 -- what it tells, and that it is the run by each schedule of the same turns
 pub record FileStepped {T : Type 0} (t : OfType T) (ty : T) (file : File) (tries : ℕ) (journal : Journal) (decided legs : List Leg) (order : List ℕ) : Type 0 where
   pub ends : LeadToEnds order legs
   pub told : AreTold (tells_of t ty file tries) (schedule_of decided) (turns_of legs)
   pub run : (schedule : List Turns) → Gives (schedule_of decided ++ schedule_of legs) schedule
-      → (steps : Log) × IsTraced t ty (with_schedule schedule file) tries journal steps
+      → (steps : Log) × IsRunBy t ty file tries schedule journal steps
 
 pub file_stepped : {T : Type 0} (t : OfType T) (ty : T) (file : File) (tries : ℕ) (journal : Journal) (decided : List Leg) (order : List ℕ) (n : ℕ) (schedule : List Turns) (all : List Step)
     → most_kept < n → flat_map entry_turns schedule ≡ turns_to_ends decided n order → IsRunBy t ty file tries schedule journal (Some all)
@@ -47,7 +36,7 @@ file_stepped {T} t ty file tries journal decided order n schedule all enough tur
     record {
       ends = s.ends;
       told = s.told;
-      run = λ exact is. let k = s.by_turns exact is in (k.0, by_own t ty file tries exact journal k.0 (record { records = r.records; stepped = k.1; told = r.told }));
+      run = λ exact is. let k = s.by_turns exact is in (k.0, record { records = r.records; stepped = k.1; told = r.told });
     }
 
 -- the same of legs that were parted from the steps that a run has told

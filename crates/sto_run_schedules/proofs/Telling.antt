@@ -1,5 +1,5 @@
 -- The reports of outcomes.
-use Rattle.std.specs.Prelude.{string_bytes, Bool}
+use Rattle.std.specs.Prelude.{string_bytes, Bool, Some}
 use Rattle.std.specs.List.{AllByRecursion}
 use Rattle.std.proofs.Common.{◌≡◌, ℕ, List, ◌∷◌, [], ◌++◌, ap, sym, ◌∙◌, subst}
 use Rattle.std.proofs.lemmas.Slice.Eq.{bytes_eq-Decides}
@@ -17,14 +17,16 @@ use Rattle.sto_run.specs.Meanings.{updating_by}
 use Rattle.sto_run.specs.Stores.{means}
 use Rattle.sto_run.specs.Alone.{RanAlone}
 use Rattle.sto_run.specs.Traced.{of_objects}
+use Rattle.sto_run.proofs.TracedRuns.{untold}
 use Rattle.sto_run_legs.specs.Telling.{tells_of, busy_threads}
 use Rattle.sto_lawful_report.specs.Forms.{IsAlone}
+use Rattle.sto_lawful_report.specs.Stepped.{IsStepReport, IsReportOf}
 use Rattle.sto_lawful_report.proofs.Reports.{one_report}
 use Rattle.sto_outcomes.specs.Outcomes.{IsOutcome}
 use Rattle.sto_outcomes.specs.declared.outcome.Outcome.{Outcome}
 use Rattle.sto_outcomes.specs.declared.outcome.Outcomes.{Outcomes}
 use Rattle.sto_outcomes.specs.declared.outcome.Reported.{Reported}
-use Rattle.sto_run_schedules.specs.Leading.{LeadsTo, Gives, IsReportBy, IsReportOf}
+use Rattle.sto_run_schedules.specs.Leading.{LeadsTo, Gives}
 use Rattle.sto_run_schedules.specs.Explored.{AreOutcomesOf, AreReports}
 
 -- what is so of all is so of one among others
@@ -42,12 +44,13 @@ is_alone form file tries journal text alone r = one_report form (updating_by mea
 module _ (form : ReportForm) (objects : Objects) (file : File) (tries : ℕ) (kinds : AreOf objects (shapes_of file.declarations)) where
   -- what a run leads to is a report of the file by each schedule of its turns
   report_by : (turns : List ℕ) (r : Reported) (schedule : List Turns) → LeadsTo form objects file tries turns r → Gives turns schedule
-      → IsReportBy form file tries schedule (string_bytes r.text)
-  report_by turns r schedule l is = record {
+      → IsStepReport form file tries schedule (string_bytes r.text)
+  report_by turns r schedule l is =
+    let by = l.run schedule is in record {
     objects = objects;
     kinds = kinds;
     journal = l.journal;
-    run = l.run schedule is;
+    run = untold of_objects objects file tries schedule l.journal (Some []) by.0 by.1;
     report = l.report;
     alone = λ few. is_alone form file tries l.journal (string_bytes r.text) (l.alone few) l.report;
   }
@@ -55,17 +58,17 @@ module _ (form : ReportForm) (objects : Objects) (file : File) (tries : ℕ) (ki
   -- so is the text of an outcome by those of the turns of its legs
   outcome_by : (start : Place) (tells : List ℕ → Bool → Type 0) (runs : List (Found Reported)) (o : Outcome)
       → AllByRecursion (IsFound start tells (LeadsTo form objects file tries)) runs → IsOutcome runs o
-      → (schedule : List Turns) → Gives (schedule_of o.legs.items) schedule → IsReportBy form file tries schedule (string_bytes o.text)
+      → (schedule : List Turns) → Gives (schedule_of o.legs.items) schedule → IsStepReport form file tries schedule (string_bytes o.text)
   outcome_by start tells runs o all is schedule gives =
       let f = is.legs in
       let found = among (IsFound start tells (LeadsTo form objects file tries)) f.before f.x f.others runs f.among all in
       let same : string_bytes o.text ≡ string_bytes f.x.report.text = (bytes_eq-Decides (string_bytes o.text) (string_bytes f.x.report.text)).0 f.leads in
-      subst (IsReportBy form file tries schedule) (sym same)
+      subst (IsStepReport form file tries schedule) (sym same)
       (report_by (schedule_of f.x.legs) f.x.report schedule found.reported (gives ∙ ap schedule_of (sym f.same)))
 
   outcomes_by : (start : Place) (tells : List ℕ → Bool → Type 0) (runs : List (Found Reported)) (os : List Outcome)
       → AllByRecursion (IsFound start tells (LeadsTo form objects file tries)) runs → AllByRecursion (IsOutcome runs) os
-      → AllByRecursion (λ (o : Outcome). (schedule : List Turns) → Gives (schedule_of o.legs.items) schedule → IsReportBy form file tries schedule (string_bytes o.text)) os
+      → AllByRecursion (λ (o : Outcome). (schedule : List Turns) → Gives (schedule_of o.legs.items) schedule → IsStepReport form file tries schedule (string_bytes o.text)) os
   outcomes_by start tells runs [] all each = tt
   outcomes_by start tells runs (o ∷ os) all each = (outcome_by start tells runs o all each.0, outcomes_by start tells runs os all each.1)
 

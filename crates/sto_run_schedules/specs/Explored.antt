@@ -14,7 +14,8 @@ use Rattle.sto_outcomes.specs.Outcomes.{AreOutcomes}
 use Rattle.sto_outcomes.specs.declared.outcome.Reported.{Reported}
 use Rattle.sto_outcomes.specs.declared.outcome.Outcomes.{Outcomes}
 use Rattle.sto_run_legs.specs.Telling.{tells_of, busy_threads}
-use Rattle.sto_run_schedules.specs.Leading.{LeadsTo, Gives, IsReportBy}
+use Rattle.sto_lawful_report.specs.Stepped.{IsStepReport}
+use Rattle.sto_run_schedules.specs.Leading.{LeadsTo, Gives}
 
 -- the outcomes of runs of a file: on its objects, one by each schedule with at most so many switches, and none else
 pub record AreOutcomesOf (form : ReportForm) (file : File) (tries switches : ℕ) (outcomes : Outcomes) : Type 0 where
@@ -27,7 +28,7 @@ pub record AreOutcomesOf (form : ReportForm) (file : File) (tries switches : ℕ
 -- each outcome is a report of the file by each schedule that gives the turns of its legs
 abbrev pub AreReports : ReportForm → File → ℕ → Outcomes → Type 0
 AreReports form file tries outcomes =
-    AllByRecursion (λ o. (schedule : List Turns) → Gives (schedule_of o.legs.items) schedule → IsReportBy form file tries schedule (string_bytes o.text)) outcomes.each.items
+    AllByRecursion (λ o. (schedule : List Turns) → Gives (schedule_of o.legs.items) schedule → IsStepReport form file tries schedule (string_bytes o.text)) outcomes.each.items
 
 -- there are more than so many of them
 pub record HasTooMany (form : ReportForm) (file : File) (tries switches limit : ℕ) : Type 0 where

@@ -23,23 +23,13 @@ use Rattle.sto_run.specs.Traced.{IsTraced, of_objects}
 use Rattle.sto_lawful_report.specs.Forms.{order_told, aborts_told, IsAlone}
 use Rattle.sto_outcomes.specs.declared.outcome.Reported.{Reported}
 
--- the file with another schedule
-abbrev pub with_schedule : List Turns → File → File
-with_schedule schedule file = record file { schedule = Some schedule }
-
--- the journal is that of a run by the schedule of the file, where this is put in the place of its own
+-- the journal is that of a run of the file by a schedule, whose steps are told or were too many
 abbrev pub IsJournalBy : Objects → File → ℕ → List Turns → Journal → Type 0
-IsJournalBy objects file tries schedule journal = (steps : Log) × IsTraced of_objects objects (with_schedule schedule file) tries journal steps
+IsJournalBy objects file tries schedule journal = (steps : Log) × IsRunBy of_objects objects file tries schedule journal steps
 
 -- the schedules that give these turns
 abbrev pub Gives : List ℕ → List Turns → Type 0
 Gives turns schedule = flat_map entry_turns schedule ≡ turns
-
--- a text is the report of a lawful journal in a form
-pub record IsReportOf (form : ReportForm) (file : File) (tries : ℕ) (journal : Journal) (text : List ℕ) : Type 0 where
-  pub lawful : IsLawfulIn form (updating_by means) file tries text
-  pub order : order_told form file.names text ≡ places journal.lines.items
-  pub aborts : aborts_told form file.names text ≡ map (abort file.declarations) journal.aborts.items
 
 -- whether an attempt was aborted because a part was locked
 abbrev pub by_lock : Cause → Bool
@@ -60,19 +50,10 @@ pub record LeadsTo (form : ReportForm) (objects : Objects) (file : File) (tries 
   pub locked : r.aborted.locked ≡ count_by is_locked journal.aborts.items
   pub changed : r.aborted.changed ≡ count_by (λ line. not (is_locked line)) journal.aborts.items
 
--- the text is a report of the file by this schedule: of the journal of a run on its objects
-pub record IsReportBy (form : ReportForm) (file : File) (tries : ℕ) (schedule : List Turns) (text : List ℕ) : Type 0 where
-  pub objects : Objects
-  pub kinds : AreOf objects (shapes_of file.declarations)
-  pub journal : Journal
-  pub run : IsJournalBy objects file tries schedule journal
-  pub report : IsReportOf form file tries journal text
-  pub alone : length file.threads ≤ 1 → IsAlone form file text
-
 -- a run of the file on its objects by some schedule has more events than a run keeps
-pub record HasLongRun (file : File) (tries : ℕ) : Type 0 where
+pub record HasSomeLongRun (file : File) (tries : ℕ) : Type 0 where
   pub objects : Objects
   pub kinds : AreOf objects (shapes_of file.declarations)
   pub schedule : List Turns
   pub journal : Journal
-  pub run : IsTraced of_objects objects (with_schedule schedule file) tries journal None
+  pub run : IsRunBy of_objects objects file tries schedule journal None

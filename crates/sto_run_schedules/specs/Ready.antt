@@ -11,7 +11,7 @@ use Rattle.sto_run.specs.Traced.{of_objects}
 use Rattle.sto_lawful_report.specs.Forms.{form_for}
 use Rattle.sto_outcomes.specs.declared.outcome.Reported.{Reported}
 use Rattle.sto_run_legs.specs.Telling.{tells_of, busy_threads}
-use Rattle.sto_run_schedules.specs.Leading.{LeadsTo, HasLongRun}
+use Rattle.sto_run_schedules.specs.Leading.{LeadsTo, HasSomeLongRun}
 use Rattle.sto_run_schedules.specs.declared.runs.FileRuns.{FileRuns}
 
 -- its objects, its file, and how many aborted attempts a transaction may have
@@ -37,4 +37,4 @@ abbrev pub Leads : {W : Type 0} → FileRuns W → List ℕ → Reported → Typ
 Leads r = LeadsTo (form_for r.json) (objects_of r) (file_of r) (tries_of r)
 
 abbrev pub IsLong : {W : Type 0} → FileRuns W → Type 0
-IsLong r = HasLongRun (file_of r) (tries_of r)
+IsLong r = HasSomeLongRun (file_of r) (tries_of r)

@@ -10,7 +10,7 @@ ghost use Rattle.sto_run.specs.Traced.{of_objects};
 ghost use Rattle.sto_lawful_report.specs.Forms.{form_for};
 ghost use Rattle.sto_explore.specs.declared.exploration.Stopped.TheVariants.{TooLong, TooMany};
 ghost use Rattle.sto_run_schedules.specs.Explored.{AreOutcomesOf, AreReports, HasTooMany};
-ghost use Rattle.sto_run_schedules.specs.Leading.{HasLongRun};
+ghost use Rattle.sto_run_schedules.specs.Leading.{HasSomeLongRun};
 
 use crate::runs::FileRuns;
 use crate::watch::Watch;
@@ -43,7 +43,7 @@ pub fn explore_file<W: Watch>(
     // Each is what `step` prints of the file with a schedule that gives the turns of its legs.
     ensures reports { IfOk result (AreReports (form_for json) (view file.now) tries) }
     ensures too_many { IfErr result (λ why. why ≡ TooMany → HasTooMany (form_for json) (view file.now) tries switches limit) }
-    ensures too_long { IfErr result (λ why. why ≡ TooLong → HasLongRun (view file.now) tries) }
+    ensures too_long { IfErr result (λ why. why ≡ TooLong → HasSomeLongRun (view file.now) tries) }
 {
     let Ok(objects) = objects_of(alloc, &LentFile { file }) else {
         return Err(Stopped::NoMemory);
@@ -71,7 +71,7 @@ fn explore_opened<'f, W: Watch>(
     ensures outcomes { IfOk result (AreOutcomesOf (form_for json) (view run.now.work.workload.file.now) run.now.work.tries switches) }
     ensures too_many { IfErr result (λ why. why ≡ TooMany
         → HasTooMany (form_for json) (view run.now.work.workload.file.now) run.now.work.tries switches limit) }
-    ensures too_long { IfErr result (λ why. why ≡ TooLong → HasLongRun (view run.now.work.workload.file.now) run.now.work.tries) }
+    ensures too_long { IfErr result (λ why. why ≡ TooLong → HasSomeLongRun (view run.now.work.workload.file.now) run.now.work.tries) }
 {
     let Ok(threads) = busy_threads(alloc, run.work.workload.file) else {
         return Err(Stopped::NoMemory);

@@ -6,7 +6,8 @@ ghost use Rattle.sto_run.specs.Meanings.{updating_by};
 ghost use Rattle.sto_run.specs.Stores.{means};
 ghost use Rattle.sto_run.specs.Lawful.{IsLawfulJournal};
 ghost use Rattle.sto_lawful_report.specs.Forms.{form_for};
-ghost use Rattle.sto_run_schedules.specs.Leading.{IsReportOf, is_locked};
+ghost use Rattle.sto_lawful_report.specs.Stepped.{IsReportOf};
+ghost use Rattle.sto_run_schedules.specs.Leading.{is_locked};
 
 use std::alloc::Global;
 use sto_journal::{AbortLine, Cause, Journal};

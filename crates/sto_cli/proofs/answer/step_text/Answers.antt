@@ -23,8 +23,10 @@ returns-clause-text c =
       file,
       c.in_ok-file.ensures.file,
       record {
+        objects = c.in_ok-journal.ensures.stepped.objects;
+        kinds = c.in_ok-journal.ensures.stepped.kinds;
         journal = journal;
-        run = c.in_ok-journal.ensures.stepped;
+        run = c.in_ok-journal.ensures.stepped.run;
         report = record { lawful = lawful; order = c.in_ok-text.ensures.order; aborts = c.in_ok-text.ensures.aborts };
         alone = λ least. one_report (form_for c.args.json) (updating_by means) file c.args.tries journal c.in_ok-text.text.items (c.in_ok-journal.ensures.alone least)
             lawful c.in_ok-text.ensures.order c.in_ok-text.ensures.aborts;

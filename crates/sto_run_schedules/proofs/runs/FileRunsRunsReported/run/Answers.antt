@@ -5,7 +5,7 @@ use Rattle.sto_lang.specs.declared.file.Turns.{Turns}
 use Rattle.sto_run_steps.specs.Logged.{Log, kept}
 use Rattle.sto_run.specs.Traced.{IsRunBy, of_objects}
 use Rattle.sto_run_schedules.specs.Ready.{objects_of, file_of, tries_of}
-use Rattle.sto_run_schedules.proofs.FileStepping.{file_ran, by_own}
+use Rattle.sto_run_schedules.proofs.FileStepping.{file_ran}
 use Rattle.sto_run_schedules.proofs.Making.{inside_file, lawful_by_shapes}
 use Rattle.sto_run_schedules.proofs.runs.FileRunsRunsReported.run.Goals as goal
 
@@ -71,6 +71,5 @@ returns-in_default-clause-too_long g c = λ _.
       kinds = c.requires.ready.kinds;
       schedule = c.as_slice.result.now;
       journal = c.in_ok-journal.journal;
-      run = by_own of_objects (objects_of r) (file_of r) (tries_of r) c.as_slice.result.now c.in_ok-journal.journal None
-          (subst (λ (l : Log). IsRunBy of_objects (objects_of r) (file_of r) (tries_of r) c.as_slice.result.now c.in_ok-journal.journal l) (ap kept c.in_default.is) c.in_ok-journal.ensures.run_by);
+      run = subst (λ (l : Log). IsRunBy of_objects (objects_of r) (file_of r) (tries_of r) c.as_slice.result.now c.in_ok-journal.journal l) (ap kept c.in_default.is) c.in_ok-journal.ensures.run_by;
     }
