@@ -1,5 +1,5 @@
 -- What a run of a file by turns of its threads leads to.
-use Rattle.std.specs.Prelude.{◌≡◌, ◌≤◌, ℕ, List, length, map, count_by, None, Some, Bool, true, false, not, string_bytes}
+use Rattle.std.specs.Prelude.{◌≡◌, ◌≤◌, ℕ, List, length, count_by, None, Bool, true, false, not, string_bytes}
 use Rattle.std.specs.List.{flat_map}
 use Rattle.sto_objects.specs.declared.objects.Objects.{Objects}
 use Rattle.sto_store.specs.ObjectShapes.{AreOf}
@@ -7,20 +7,18 @@ use Rattle.sto_lang.specs.declared.file.Turns.{Turns}
 use Rattle.sto_lang.specs.Objects.{shapes_of}
 use Rattle.sto_lang.specs.Scripts.{File}
 use Rattle.sto_report_spec.specs.declared.form.ReportForm.{ReportForm}
-use Rattle.sto_report_spec.specs.Lawful.{IsLawfulIn}
 use Rattle.sto_journal.specs.declared.journal.Journal.{Journal}
 use Rattle.sto_journal.specs.declared.journal.AbortLine.{AbortLine}
 use Rattle.sto_journal.specs.declared.journal.Cause.{Cause}
 use Rattle.sto_journal.specs.declared.journal.Cause.TheVariants.{Locked, Changed}
-use Rattle.sto_journal.specs.Journals.{places, abort}
 use Rattle.sto_run_steps.specs.Logged.{Log}
 use Rattle.sto_run_steps.specs.Turning.{entry_turns}
 use Rattle.sto_run.specs.Meanings.{updating_by}
 use Rattle.sto_run.specs.Stores.{means}
 use Rattle.sto_run.specs.Lawful.{IsLawfulJournal}
 use Rattle.sto_run.specs.Alone.{RanAlone}
-use Rattle.sto_run.specs.Traced.{IsTraced, of_objects}
-use Rattle.sto_lawful_report.specs.Forms.{order_told, aborts_told, IsAlone}
+use Rattle.sto_run.specs.Traced.{IsRunBy, of_objects}
+use Rattle.sto_lawful_report.specs.Stepped.{IsReportOf}
 use Rattle.sto_outcomes.specs.declared.outcome.Reported.{Reported}
 
 -- the journal is that of a run of the file by a schedule, whose steps are told or were too many
