@@ -46,14 +46,14 @@ module _ (form : ReportForm) (objects : Objects) (file : File) (tries : ℕ) (ki
   report_by : (turns : List ℕ) (r : Reported) (schedule : List Turns) → LeadsTo form objects file tries turns r → Gives turns schedule
       → IsStepReport form file tries schedule (string_bytes r.text)
   report_by turns r schedule l is =
-    let by = l.run schedule is in record {
-    objects = objects;
-    kinds = kinds;
-    journal = l.journal;
-    run = untold of_objects objects file tries schedule l.journal (Some []) by.0 by.1;
-    report = l.report;
-    alone = λ few. is_alone form file tries l.journal (string_bytes r.text) (l.alone few) l.report;
-  }
+      let by = l.run schedule is in record {
+        objects = objects;
+        kinds = kinds;
+        journal = l.journal;
+        run = untold of_objects objects file tries schedule l.journal (Some []) by.0 by.1;
+        report = l.report;
+        alone = λ few. is_alone form file tries l.journal (string_bytes r.text) (l.alone few) l.report;
+      }
 
   -- so is the text of an outcome by those of the turns of its legs
   outcome_by : (start : Place) (tells : List ℕ → Bool → Type 0) (runs : List (Found Reported)) (o : Outcome)

@@ -1,4 +1,3 @@
-use Rattle.std.specs.Prelude.{None}
 use Rattle.std.specs.List.{All}
 use Rattle.std.proofs.Common.{◌<◌, List, length, sym, ap, subst}
 use Rattle.sto_lang.specs.declared.file.Turns.{Turns}
