@@ -114,6 +114,8 @@ pub fn limits_transactions<R: Threads + Sync>(
 /// transactions makes 1,537.
 pub fn limits_events<R: Threads + Sync>(threads: &R, alloc: Global) -> Result<bool, AllocError> {
     let says = "sto: line 0: too many events\n";
-    Ok(refuses(threads, alloc, "draw", (14, 512), says)?
-        && refuses(threads, alloc, "explore", (66, 512), says)?)
+    Ok(
+        refuses(threads, alloc, "draw", (14, 512), says)?
+            && refuses(threads, alloc, "explore", (66, 512), says)?,
+    )
 }

@@ -101,7 +101,13 @@ fn is_stepped<R: Threads + Sync>(
         return Ok(false);
     };
     let scheduled = format!(in alloc; "{script}{schedule}\n")?;
-    let stepped = outcome_of(threads, alloc, "step --tries 2", scheduled.as_str(), &NoGate)?;
+    let stepped = outcome_of(
+        threads,
+        alloc,
+        "step --tries 2",
+        scheduled.as_str(),
+        &NoGate,
+    )?;
     Ok(stepped.report() == Some(report))
 }
 
@@ -120,14 +126,20 @@ fn explore<R: Threads + Sync>(
     let told = outcome_of(threads, alloc, words.as_str(), script.as_str(), &NoGate)?.written;
     let (outcomes, sum) = told.rsplit_once("sum ").unwrap_or(("", ""));
     if format!(in alloc; "sum {sum}")? != format!(in alloc; "{}\n", explored.sum)? {
-        println!(rt; "examples/explored/{}.sto: other sums are told", explored.name)?;
+        println!(rt;
+            "examples/explored/{}.sto: other sums are told",
+            explored.name
+        )?;
     }
     let mut stepped: usize = 0;
     for outcome in outcomes.split("outcome ").skip(1) {
         if is_stepped(rt, threads, script.as_str(), outcome)? {
             stepped = stepped.saturating_add(1);
         } else {
-            println!(rt; "examples/explored/{}.sto: step prints something else", explored.name)?;
+            println!(rt;
+                "examples/explored/{}.sto: step prints something else",
+                explored.name
+            )?;
         }
     }
     Ok(stepped)
