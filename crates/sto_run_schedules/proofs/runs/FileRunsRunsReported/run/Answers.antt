@@ -1,4 +1,3 @@
-use Rattle.std.specs.Prelude.{None}
 use Rattle.std.specs.List.{All}
 use Rattle.std.proofs.Common.{◌<◌, List, length, sym, ap, subst}
 use Rattle.sto_lang.specs.declared.file.Turns.{Turns}
@@ -27,26 +26,8 @@ reported-requires-clause-lawful g c =
     let r = c.args.self.now in
     (tries_of r, lawful_by_shapes (objects_of r) (file_of r) (tries_of r) c.in_ok-journal.journal c.requires.ready.kinds c.in_ok-journal.ensures.lawful)
 
-pub returns-clause-ends : goal.returns-clause-ends
-returns-clause-ends g c =
-    let r = c.args.self.now in
-    let s = file_ran of_objects (objects_of r) (file_of r) (tries_of r) c.in_ok-journal.journal c.args.decided.now c.args.order.now c.enough-most.result
-    c.as_slice.result.now c.in_ok-entries.entries.items (kept c.in_ok-journal.steps) c.in-Some.steps.items c.as_slice-2.result.now c.past-further.result.now c.in_ok-legs.legs.items
-    c.enough-most.ensures c.as_slice.ensures.value c.in_ok-entries.ensures.turns c.in_ok-journal.ensures.run_by (ap kept c.in-Some.is) c.as_slice-2.ensures.items
-    c.past-further.ensures.past c.in_ok-legs.ensures in
-    s.ends
-
-pub returns-clause-told : goal.returns-clause-told
-returns-clause-told g c =
-    let r = c.args.self.now in
-    let s = file_ran of_objects (objects_of r) (file_of r) (tries_of r) c.in_ok-journal.journal c.args.decided.now c.args.order.now c.enough-most.result
-    c.as_slice.result.now c.in_ok-entries.entries.items (kept c.in_ok-journal.steps) c.in-Some.steps.items c.as_slice-2.result.now c.past-further.result.now c.in_ok-legs.legs.items
-    c.enough-most.ensures c.as_slice.ensures.value c.in_ok-entries.ensures.turns c.in_ok-journal.ensures.run_by (ap kept c.in-Some.is) c.as_slice-2.ensures.items
-    c.past-further.ensures.past c.in_ok-legs.ensures in
-    s.told
-
-pub returns-clause-report : goal.returns-clause-report
-returns-clause-report g c =
+pub returns : goal.returns
+returns g c =
     let r = c.args.self.now in
     let s = file_ran of_objects (objects_of r) (file_of r) (tries_of r) c.in_ok-journal.journal c.args.decided.now c.args.order.now c.enough-most.result
     c.as_slice.result.now c.in_ok-entries.entries.items (kept c.in_ok-journal.steps) c.in-Some.steps.items c.as_slice-2.result.now c.past-further.result.now c.in_ok-legs.legs.items
@@ -54,13 +35,18 @@ returns-clause-report g c =
     c.past-further.ensures.past c.in_ok-legs.ensures in
     let lawful = lawful_by_shapes (objects_of r) (file_of r) (tries_of r) c.in_ok-journal.journal c.requires.ready.kinds c.in_ok-journal.ensures.lawful in
     record {
-      journal = c.in_ok-journal.journal;
-      run = s.run;
-      lawful = lawful;
-      alone = c.in_ok-journal.ensures.alone;
-      report = c.in_ok-report.ensures.report (tries_of r) lawful;
-      locked = c.in_ok-report.ensures.locked;
-      changed = c.in_ok-report.ensures.changed;
+      ends = s.ends;
+      told = s.told;
+      report = record {
+        journal = c.in_ok-journal.journal;
+        run = s.run;
+        lawful = lawful;
+        alone = c.in_ok-journal.ensures.alone;
+        report = c.in_ok-report.ensures.report (tries_of r) lawful;
+        locked = c.in_ok-report.ensures.locked;
+        changed = c.in_ok-report.ensures.changed;
+      };
+      too_long = tt;
     }
 
 pub returns-in_default-clause-too_long : goal.returns-in_default-clause-too_long
