@@ -1,9 +1,9 @@
 //! The program `sto`: runs scripts of transactions.
 #![tactic(auto)]
 
-mod progress;
+mod meter;
 
-use crate::progress::Progress;
+use crate::meter::TerminalMeter;
 use std::process::ExitCode;
 use sto_cli::{StdSink, StdSource, refuse_words, sto, words_of};
 use sto_run_threads::SleepingGate;
@@ -24,6 +24,6 @@ fn main(rt: HostRuntime) -> ExitCode {
         &mut out,
         &mut diag,
         &SleepingGate::new(&rt),
-        &Progress::new(&rt),
+        &TerminalMeter::new(&rt),
     ))
 }

@@ -16,26 +16,26 @@ use std::alloc::Global;
 use sto_cli_common::{InputFault, Refusal, ScheduleCounts};
 use sto_lang::{File, Text};
 use sto_outcome_text::outcomes_text;
-use sto_run_schedules::{Outcomes, Stopped, Watch, explore_file};
+use sto_run_schedules::{Meter, Outcomes, Stopped, explore_file};
 
 // How many schedules a script may have of which every outcome is told.
 const MOST_SCHEDULES: u32 = 1_000_000;
 
 // How many schedules a file has with at most so many switches, where they are not too many.
-fn count_at<W: Watch>(
+fn count_at<W: Meter>(
     alloc: Global,
     file: &File,
     switches: u32,
     tries: u32,
     json: bool,
-    watch: &W,
+    meter: &W,
 ) -> Result<Option<u64>, Refusal>
     requires sound { IsSound (view file.now) }
     requires tries { IsFromTo 1 64 tries }
     ensures count { IfOk result (IsCountAt (form_for json) (view file.now) tries switches) }
     ensures fault { IfErr result (λ e. IsRefusalFor (λ fault. (fault ≡ LongRun) × HasSomeLongRun (view file.now) tries) e) }
 {
-    match explore_file(alloc, file, tries, switches, MOST_SCHEDULES, json, watch) {
+    match explore_file(alloc, file, tries, switches, MOST_SCHEDULES, json, meter) {
         Ok(outcomes) => Ok(Some(outcomes.schedules)),
         Err(Stopped::TooMany) => Ok(None),
         Err(Stopped::TooLong) => Err(Refusal::Input(InputFault::LongRun)),
@@ -44,52 +44,52 @@ fn count_at<W: Watch>(
 }
 
 // The numbers of schedules with at most no, one and two switches.
-fn counts_of<W: Watch>(
+fn counts_of<W: Meter>(
     alloc: Global,
     file: &File,
     tries: u32,
     json: bool,
-    watch: &W,
+    meter: &W,
 ) -> Result<ScheduleCounts, Refusal>
     requires sound { IsSound (view file.now) }
     requires tries { IsFromTo 1 64 tries }
     ensures counts { IfOk result (AreCounts (form_for json) (view file.now) tries) }
     ensures fault { IfErr result (λ e. IsRefusalFor (λ fault. (fault ≡ LongRun) × HasSomeLongRun (view file.now) tries) e) }
 {
-    let none = count_at(alloc, file, 0, tries, json, watch)?;
-    let one = count_at(alloc, file, 1, tries, json, watch)?;
-    let two = count_at(alloc, file, 2, tries, json, watch)?;
+    let none = count_at(alloc, file, 0, tries, json, meter)?;
+    let one = count_at(alloc, file, 1, tries, json, meter)?;
+    let two = count_at(alloc, file, 2, tries, json, meter)?;
     Ok(ScheduleCounts { none, one, two })
 }
 
 // Why a file is not explored that has too many schedules.
-fn many_schedules<W: Watch>(
+fn many_schedules<W: Meter>(
     alloc: Global,
     file: &File,
     switches: u32,
     tries: u32,
     json: bool,
-    watch: &W,
+    meter: &W,
 ) -> Refusal
     requires sound { IsSound (view file.now) }
     requires tries { IsFromTo 1 64 tries }
     requires many { HasTooMany (form_for json) (view file.now) tries switches most_schedules }
     ensures { IsRefusalFor (IsExploringFault switches tries json (view file.now)) result }
 {
-    match counts_of(alloc, file, tries, json, watch) {
+    match counts_of(alloc, file, tries, json, meter) {
         Ok(counts) => Refusal::Input(InputFault::ManySchedules(counts)),
         Err(refusal) => refusal,
     }
 }
 
 // The outcomes of a file by each schedule with at most so many switches.
-fn outcomes_of<W: Watch>(
+fn outcomes_of<W: Meter>(
     alloc: Global,
     file: &File,
     switches: u32,
     tries: u32,
     json: bool,
-    watch: &W,
+    meter: &W,
 ) -> Result<Outcomes, Refusal>
     requires sound { IsSound (view file.now) }
     requires tries { IsFromTo 1 64 tries }
@@ -97,29 +97,29 @@ fn outcomes_of<W: Watch>(
     ensures reports { IfOk result (AreReports (form_for json) (view file.now) tries) }
     ensures fault { IfErr result (λ e. IsRefusalFor (IsExploringFault switches tries json (view file.now)) e) }
 {
-    match explore_file(alloc, file, tries, switches, MOST_SCHEDULES, json, watch) {
+    match explore_file(alloc, file, tries, switches, MOST_SCHEDULES, json, meter) {
         Ok(outcomes) => Ok(outcomes),
-        Err(Stopped::TooMany) => Err(many_schedules(alloc, file, switches, tries, json, watch)),
+        Err(Stopped::TooMany) => Err(many_schedules(alloc, file, switches, tries, json, meter)),
         Err(Stopped::TooLong) => Err(Refusal::Input(InputFault::LongRun)),
         Err(Stopped::NoMemory) => Err(Refusal::NoMemory),
     }
 }
 
-/// What `explore` prints for these bytes. The watch is told of each run.
-pub(crate) fn explore_text<W: Watch>(
+/// What `explore` prints for these bytes. The meter is told of each run.
+pub(crate) fn explore_text<W: Meter>(
     alloc: Global,
     bytes: &[u8],
     switches: u32,
     tries: u32,
     json: bool,
-    watch: &W,
+    meter: &W,
 ) -> Result<Text, Refusal>
     requires { IsFromTo 1 64 tries }
     ensures text { IfOk result (λ text. IsOutput (commands.Explore switches tries json) bytes.now text.items) }
     ensures fault { IfErr result (λ e. IsRefusalFor (IsRunFault (IsLongSomewhere tries) (HasManySchedules switches tries json) bytes.now) e) }
 {
     let file = traceable_in(alloc, bytes)?;
-    let outcomes = outcomes_of(alloc, &file, switches, tries, json, watch)?;
+    let outcomes = outcomes_of(alloc, &file, switches, tries, json, meter)?;
     let text = outcomes_text(alloc, &file, &outcomes, json)?;
     Ok(text)
 }

@@ -17,5 +17,5 @@ pub use sto_io::{
     Failed, MemSink, MemSource, QuietSink, QuietSource, Sink, Source, StdSink, StdSource,
 };
 pub use sto_run::{Gate, NoGate};
-pub use sto_run_schedules::{NoWatch, Watch};
+pub use sto_run_schedules::{Meter, NoMeter};
 pub use top::sto;

@@ -14,10 +14,10 @@ use std::thread::Threads;
 use sto_cli_common::{say, status};
 use sto_io::{Sink, Source};
 use sto_run::Gate;
-use sto_run_schedules::Watch;
+use sto_run_schedules::Meter;
 
 /// All that the program does with the words after its name. It gives the exit status. The gate is told of the workers of `run` and `bench`, and
-/// the watch of each run of `explore`.
+/// the meter of each run of `explore`.
 ///
 /// | Status | When | `out` gains | `diag` gains |
 /// |---|---|---|---|
@@ -27,7 +27,7 @@ use sto_run_schedules::Watch;
 /// | 4 | the source failed | nothing | `sto: read fault` |
 /// | 5 | `out` failed | a front of the text | `sto: write fault` |
 /// | 6 | memory could not be had | nothing | `sto: out of memory` |
-pub fn sto<R: Threads + Sync, S: Source, K: Sink, E: Sink, G: Gate, W: Watch>(
+pub fn sto<R: Threads + Sync, S: Source, K: Sink, E: Sink, G: Gate, W: Meter>(
     rt: &R,
     alloc: Global,
     words: &[String],
@@ -35,7 +35,7 @@ pub fn sto<R: Threads + Sync, S: Source, K: Sink, E: Sink, G: Gate, W: Watch>(
     out: &mut K,
     diag: &mut E,
     gate: &G,
-    watch: &W,
+    meter: &W,
 ) -> u8
     // The headline: with status 0 all of the input was read, and exactly one text was written, one that the words ask for.
     ensures headline { result ≡ 0
@@ -48,6 +48,6 @@ pub fn sto<R: Threads + Sync, S: Source, K: Sink, E: Sink, G: Gate, W: Watch>(
     ensures causes { HasCauses program done_status result (command_in words.now) (S.left source.old) (S.left source.new)
         (K.held out.old) (K.held out.new) (S.faults source.old) (S.faults source.new) (K.faults out.old) (K.faults out.new) }
 {
-    let outcome = perform(rt, alloc, words, source, out, gate, watch);
+    let outcome = perform(rt, alloc, words, source, out, gate, meter);
     status(say(alloc, diag, outcome))
 }

@@ -18,7 +18,7 @@ use sto_cli_common::{Refusal, script_left, write_text};
 use sto_io::{Sink, Source};
 use sto_lang::Text;
 use sto_run::Gate;
-use sto_run_schedules::Watch;
+use sto_run_schedules::Meter;
 
 /// Reads the source, and runs the script on threads.
 fn run_source<R: Threads + Sync, S: Source, G: Gate>(
@@ -85,13 +85,13 @@ fn draw_source<S: Source>(alloc: Global, source: &mut S, tries: u32) -> Result<T
 }
 
 /// Reads the source, runs the script in one thread by each schedule within a bound, and tells what these runs lead to.
-fn explore_source<S: Source, W: Watch>(
+fn explore_source<S: Source, W: Meter>(
     alloc: Global,
     source: &mut S,
     switches: u32,
     tries: u32,
     json: bool,
-    watch: &W,
+    meter: &W,
 ) -> Result<Text, Refusal>
     requires { IsFromTo 1 64 tries }
     ensures made { IfOk result (λ text.
@@ -100,7 +100,7 @@ fn explore_source<S: Source, W: Watch>(
     ensures source_faults { RoseFor ReadFault result (S.faults source.old) (S.faults source.new) }
 {
     let bytes = script_left(alloc, source)?;
-    explore_text(alloc, bytes.as_slice(), switches, tries, json, watch)
+    explore_text(alloc, bytes.as_slice(), switches, tries, json, meter)
 }
 
 /// Reads the source, and writes the script in version 2.
@@ -115,13 +115,13 @@ fn upgrade_source<S: Source>(alloc: Global, source: &mut S) -> Result<Text, Refu
 
 /// Makes the whole text of a command. `run`, `step`, `trace`, `draw`, `explore` and `upgrade` read the source to its end or past the limit;
 /// `gen` and `bench` do not touch it.
-fn text_for<R: Threads + Sync, S: Source, G: Gate, W: Watch>(
+fn text_for<R: Threads + Sync, S: Source, G: Gate, W: Meter>(
     rt: &R,
     alloc: Global,
     command: Command,
     source: &mut S,
     gate: &G,
-    watch: &W,
+    meter: &W,
 ) -> Result<Text, Refusal>
     requires { HasRange command }
     ensures made { IfOk result (λ text. Made program command tt (S.left source.old) (S.left source.new) text.items) }
@@ -141,7 +141,7 @@ fn text_for<R: Threads + Sync, S: Source, G: Gate, W: Watch>(
             switches,
             tries,
             json,
-        } => explore_source(alloc, source, switches, tries, json, watch),
+        } => explore_source(alloc, source, switches, tries, json, meter),
         Command::Upgrade => upgrade_source(alloc, source),
         Command::Gen { number } => Ok(gen_text(alloc, number)?),
         Command::Bench { number, threads } => Ok(bench_text(rt, alloc, number, threads, gate)?),
@@ -150,14 +150,14 @@ fn text_for<R: Threads + Sync, S: Source, G: Gate, W: Watch>(
 
 /// Does what the words say: makes the whole text, and writes it.
 #[tactic(auto, using(sto_cli_common::proofs::Making::refused_making, sto_cli_common::proofs::Making::refused_writing, sto_cli_common::proofs::Making::unwritten, sto_cli_common::proofs::Making::unread))]
-pub(crate) fn perform<R: Threads + Sync, S: Source, K: Sink, G: Gate, W: Watch>(
+pub(crate) fn perform<R: Threads + Sync, S: Source, K: Sink, G: Gate, W: Meter>(
     rt: &R,
     alloc: Global,
     words: &[String],
     source: &mut S,
     out: &mut K,
     gate: &G,
-    watch: &W,
+    meter: &W,
 ) -> Result<(), Refusal>
     ensures ends { Ends program result (command_in words.now) (S.left source.old) (S.left source.new) (K.held out.old) (K.held out.new) }
     ensures source_faults { RoseFor ReadFault result (S.faults source.old) (S.faults source.new) }
@@ -166,6 +166,6 @@ pub(crate) fn perform<R: Threads + Sync, S: Source, K: Sink, G: Gate, W: Watch>(
     let Some(command) = find_command(alloc, words)? else {
         return Err(Refusal::Usage);
     };
-    let text = text_for(rt, alloc, command, source, gate, watch)?;
+    let text = text_for(rt, alloc, command, source, gate, meter)?;
     write_text(out, text.as_bytes())
 }

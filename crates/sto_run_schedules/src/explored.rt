@@ -12,8 +12,8 @@ ghost use Rattle.sto_explore.specs.declared.exploration.Stopped.TheVariants.{Too
 ghost use Rattle.sto_run_schedules.specs.Explored.{AreOutcomesOf, AreReports, HasTooMany};
 ghost use Rattle.sto_run_schedules.specs.Leading.{HasSomeLongRun};
 
+use crate::meter::Meter;
 use crate::runs::FileRuns;
-use crate::watch::Watch;
 use std::alloc::Global;
 use sto_explore::{Stopped, explore};
 use sto_lang::File;
@@ -27,15 +27,15 @@ use sto_run_threads::RetryTurn;
 /// Runs a file in one thread by every schedule with at most so many switches away from a thread that could go on, and gathers the reports.
 ///
 /// At most `limit` runs are made, but at least one. Where a schedule is left that none of them follows, this is `TooMany`. Where a run makes
-/// more events than a run keeps, it is `TooLong`. The watch is told of each run.
-pub fn explore_file<W: Watch>(
+/// more events than a run keeps, it is `TooLong`. The meter is told of each run.
+pub fn explore_file<W: Meter>(
     alloc: Global,
     file: &File,
     tries: u32,
     switches: u32,
     limit: u32,
     json: bool,
-    watch: &W,
+    meter: &W,
 ) -> Result<Outcomes, Stopped>
     requires sound { IsSound (view file.now) }
     requires tries { IsFromTo 1 64 tries }
@@ -53,17 +53,17 @@ pub fn explore_file<W: Watch>(
     let Ok(run) = OpenedRun::new(alloc, lent, &objects, tries, &NoGate, &turn) else {
         return Err(Stopped::NoMemory);
     };
-    explore_opened(alloc, &run, switches, limit, json, watch)
+    explore_opened(alloc, &run, switches, limit, json, meter)
 }
 
 // Runs what was opened by every schedule.
-fn explore_opened<'f, W: Watch>(
+fn explore_opened<'f, W: Meter>(
     alloc: Global,
     run: &'f OpenedRun<'f, LentFile<'f>, Objects, NoGate>,
     switches: u32,
     limit: u32,
     json: bool,
-    watch: &'f W,
+    meter: &'f W,
 ) -> Result<Outcomes, Stopped>
     requires runnable { IsRunnable (plan_of of_objects run.now.work.ty.now (view run.now.work.workload.file.now) run.now.work.tries)
         of_objects.valid run.now.opening.items }
@@ -80,7 +80,7 @@ fn explore_opened<'f, W: Watch>(
         run,
         threads,
         json,
-        watch,
+        meter,
     };
     let mut tally = Tally::new(alloc);
     explore(&runs, alloc, switches, limit, &mut tally)?;

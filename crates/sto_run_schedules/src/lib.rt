@@ -4,11 +4,11 @@
 #![tactic(auto)]
 
 mod explored;
+mod meter;
 mod reported;
 mod runs;
-mod watch;
 
 pub use explored::explore_file;
+pub use meter::{Meter, NoMeter};
 pub use sto_explore::Stopped;
 pub use sto_outcomes::{Outcome, Outcomes};
-pub use watch::{NoWatch, Watch};

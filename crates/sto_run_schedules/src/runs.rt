@@ -2,8 +2,8 @@
 ghost use Rattle.std.specs.Prelude.{◌<◌};
 ghost use Rattle.sto_run_steps.specs.Logged.{most_kept};
 
+use crate::meter::Meter;
 use crate::reported::reported;
-use crate::watch::Watch;
 use std::alloc::Global;
 use sto_explore::{Leg, NotMade, Ran, Runs};
 use sto_objects::Objects;
@@ -13,12 +13,12 @@ use sto_run_legs::{ends, entries_to_ends, past};
 
 /// A file that can be run in one thread by any schedule, again and again, and the threads that have a transaction.
 #[derive(Drop)]
-pub(crate) struct FileRuns<'f, W: Watch> {
+pub(crate) struct FileRuns<'f, W: Meter> {
     pub(crate) run: &'f OpenedRun<'f, LentFile<'f>, Objects, NoGate>,
     pub(crate) threads: Vec<u32>,
     /// Whether its reports are JSON.
     pub(crate) json: bool,
-    pub(crate) watch: &'f W,
+    pub(crate) meter: &'f W,
 }
 
 // More events than a run keeps: a thread that has so many turns comes to its end.
@@ -28,7 +28,7 @@ fn enough() -> u32
     u32::MAX
 }
 
-impl<W: Watch> Runs<Reported> for FileRuns<'_, W> {
+impl<W: Meter> Runs<Reported> for FileRuns<'_, W> {
     ghost use Rattle.sto_run_schedules.specs.Ready.{IsReady, Tells, Leads, IsLong};
 
     ghost ready = { IsReady };
@@ -56,7 +56,7 @@ impl<W: Watch> Runs<Reported> for FileRuns<'_, W> {
         let further = past(steps.as_slice(), decided);
         let legs = ends(alloc, further, order, most)?;
         let report = reported(alloc, run.work.workload.file, &journal, self.json)?;
-        self.watch.made();
+        self.meter.made();
         Ok(Ran { legs, report })
     }
 }

@@ -11,7 +11,7 @@ use crate::streams::{Called, Failing, Streams, called_with, owned, streams_for};
 use std::alloc::Global;
 use std::sync::Wait;
 use std::thread::Threads;
-use sto_cli::{Gate, NoWatch, sto};
+use sto_cli::{Gate, NoMeter, sto};
 use sto_feed_cli::feed;
 use sto_part::NoMemory;
 
@@ -43,7 +43,7 @@ pub fn call<R: Threads + Sync, G: Gate>(
         &mut out,
         &mut diag,
         gate,
-        &NoWatch,
+        &NoMeter,
     );
     Ok(called_with(alloc, status, &out, &diag)?)
 }

@@ -1,23 +1,23 @@
-//! How far an exploration is, for who waits at a terminal.
+//! What tells who waits at a terminal how far an exploration is.
 use std::cell::Cell;
 use std::io::IsTerminal;
-use sto_cli::Watch;
+use sto_cli::Meter;
 
 // After how many runs a line is written.
 const BETWEEN: u64 = 100_000;
 
 /// Writes a line to standard error after each 100,000 runs, where that is a terminal.
 #[derive(Drop)]
-pub struct Progress<'rt> {
+pub struct TerminalMeter<'rt> {
     rt: &'rt HostRuntime,
     made: Cell<u64>,
     is_seen: bool,
 }
 
-impl<'rt> Progress<'rt> {
+impl<'rt> TerminalMeter<'rt> {
     /// No run was made so far.
-    pub fn new(rt: &'rt HostRuntime) -> Progress<'rt> {
-        Progress {
+    pub fn new(rt: &'rt HostRuntime) -> TerminalMeter<'rt> {
+        TerminalMeter {
             rt,
             made: Cell::new(0),
             is_seen: rt.stderr().is_terminal(),
@@ -25,7 +25,7 @@ impl<'rt> Progress<'rt> {
     }
 }
 
-impl Watch for Progress<'_> {
+impl Meter for TerminalMeter<'_> {
     fn made(&self) {
         let made = self.made.get().saturating_add(1);
         self.made.set(made);

@@ -1,14 +1,14 @@
-//! What watches an exploration.
+//! What is told how far an exploration is.
 
 /// Is told how far an exploration is. It changes nothing of it.
-pub trait Watch {
+pub trait Meter {
     /// One more run was made.
     fn made(&self);
 }
 
-/// Watches nothing.
-pub struct NoWatch;
+/// Counts nothing.
+pub struct NoMeter;
 
-impl Watch for NoWatch {
+impl Meter for NoMeter {
     fn made(&self) {}
 }
