@@ -99,43 +99,34 @@ pub(crate) fn offer_others(
     }
 }
 
-// Legs with one more.
-fn with_leg(alloc: Global, legs: &[Leg], leg: Leg) -> Result<Vec<Leg>, NoMemory>
-    ensures { IfOk result (λ more. more.items ≡ legs.now ++ leg ∷ []) }
-{
-    let mut more = match Vec::from_slice(alloc, legs) {
-        Ok(more) => more,
-        Err(_) => return Err(NoMemory),
-    };
-    match more.push(leg) {
-        Ok(()) => Ok(more),
-        Err(_) => Err(NoMemory),
-    }
-}
-
-// Adds a branch for each switch to one of these threads before the end of a leg.
+// Adds a branch for each switch to one of these threads before the end of a leg. The legs that are decided stay the same.
 fn offer_switches(
     alloc: Global,
     todo: &mut Vec<Branch>,
-    decided: &[Leg],
+    decided: &mut Vec<Leg>,
     left: u32,
     threads: &[u32],
     leg: &Leg,
 ) -> Result<(), NoMemory>
-    ensures { OnOk result (map offer_of todo.new.items
-        ≡ map offer_of todo.old.items ++ switches_in decided.now left threads.now leg.now) }
+    ensures todo { OnOk result (map offer_of todo.new.items
+        ≡ map offer_of todo.old.items ++ switches_in decided.old.items left threads.now leg.now) }
+    ensures same { OnOk result (decided.new.items ≡ decided.old.items) }
 {
     if left == 0 {
         return Ok(());
     }
+    let count = decided.len();
     for turns in 1..leg.turns {
         let part = Leg {
             thread: leg.thread,
             turns,
             over: false,
         };
-        let legs = with_leg(alloc, decided, part)?;
-        offer(alloc, todo, legs.as_slice(), left - 1, threads)?;
+        if decided.push(part).is_err() {
+            return Err(NoMemory);
+        }
+        offer(alloc, todo, decided.as_slice(), left - 1, threads)?;
+        decided.truncate(count);
     }
     Ok(())
 }
@@ -158,7 +149,7 @@ pub(crate) fn offer_all(
     let mut decided = decided;
     for (place, leg) in legs.iter().enumerate() {
         let others = &order[place + 1..];
-        offer_switches(alloc, todo, decided.as_slice(), left, others, leg)?;
+        offer_switches(alloc, todo, &mut decided, left, others, leg)?;
         if decided.push(*leg).is_err() {
             return Err(NoMemory);
         }

@@ -1,10 +1,8 @@
 -- The steps of a run, said of its file.
 use Rattle.std.specs.Prelude.{None, Some}
 use Rattle.std.specs.List.{flat_map}
-use Rattle.std.proofs.Common.{◌≡◌, ℕ, List, [], ◌∷◌, ◌++◌, length, max, refl, subst, inl, inr}
-use Rattle.sto_model.specs.Told.{Told}
-use Rattle.sto_core.specs.Core.{Core}
-use Rattle.sto_core.specs.History.{Contents, Validity}
+use Rattle.std.proofs.Common.{◌≡◌, ℕ, List, [], ◌++◌, length, max, subst}
+use Rattle.sto_core.specs.History.{Contents}
 use Rattle.sto_core.specs.Opened.{opened_core}
 use Rattle.sto_lang.specs.Scripts.{File}
 use Rattle.sto_lang.specs.declared.file.Turns.{Turns}
@@ -16,7 +14,8 @@ use Rattle.sto_type.specs.Traits.{OfType}
 use Rattle.sto_run_threads.specs.Plans.{plan_of}
 use Rattle.sto_run_steps.specs.Logged.{Log}
 use Rattle.sto_run_steps.specs.Proceeding.{heard_by}
-use Rattle.sto_run_steps.specs.Turning.{HasTurn, HaveTurns, WereStepped, entry_turns, round_turns}
+use Rattle.sto_run_steps.specs.Turning.{WereStepped, entry_turns, round_turns}
+use Rattle.sto_run_steps.proofs.Logging.{forget_turns}
 use Rattle.sto_run.specs.OfRecords.{IsOfRecords}
 use Rattle.sto_run.specs.Traced.{IsRunFrom, IsTraceOf, IsStepped, of_objects, turns_in}
 
@@ -31,31 +30,6 @@ run_by {T} t ty file tries journal schedule opening rs first last opens were tol
       subst (λ (c : Contents). WereStepped {M = Machine T ScriptBody} (plan_of t ty file tries) t.valid heard_by schedule (opened_core (t.sizes ty) c (max 1 (length file.threads))) first rs last) opens were;
   told = told;
 }
-
-module _ {M : Type 0} (valid : Validity) (heard : M → List Told) where
-  forget_turn : (thread : ℕ) (c d : Core) (seats later : _) (log next : Log) → HasTurn valid heard thread c seats log d later next
-      → HasTurn valid heard thread c seats None d later None
-  forget_turn thread c d seats later log next turn = elim turn [
-    | inl one ↦
-        inl
-        (record {
-          going = one.going;
-          event = one.event;
-          passes = one.passes;
-          before = one.before;
-          at = one.at;
-          seat = one.seat;
-          others = one.others;
-          logged = refl;
-        })
-    | inr idle ↦ inr (idle.0, idle.1, idle.2, refl)
-  ]
-
-  forget_turns : (threads : List ℕ) (c d : Core) (seats later : _) (log next : Log) → HaveTurns valid heard threads c seats log d later next
-      → HaveTurns valid heard threads c seats None d later None
-  forget_turns [] c d seats later log next h = (h.0, h.1, refl)
-  forget_turns (thread ∷ threads) c d seats later log next h =
-      (h.0, h.1, None, forget_turn thread c h.0 seats h.1 log h.2 h.3, forget_turns threads h.0 d h.1 later h.2 next h.4)
 
 -- the run is the same where its steps are not told
 pub untold : {T : Type 0} (t : OfType T) (ty : T) (file : File) (tries : ℕ) (schedule : List Turns) (journal : Journal) (first last : Log)

@@ -23,7 +23,7 @@ use std::alloc::Global;
 use sto_journal::Journal;
 use sto_lang::{File, Turns};
 use sto_part::NoMemory;
-use sto_run_steps::{SteppedWork, trace_threads};
+use sto_run_steps::{Spare, SteppedWork, trace_threads};
 use sto_run_threads::{Gate, LentFile, NoGate, RetryTurn};
 use sto_script::ScriptBody;
 use sto_trace::Steps;
@@ -77,15 +77,18 @@ fn trace_on<T: TxType>(
     let turn = RetryTurn::new();
     let run = OpenedRun::new(alloc, LentFile { file }, ty, tries, &NoGate, &turn)?;
     let schedule = turns_of(run.work.workload.file);
-    trace_opened(alloc, &run, schedule)
+    trace_opened(alloc, &run, schedule, &mut Spare::new(alloc))
 }
 
 /// Runs a file that was opened by a schedule, and gives the journal and the steps. It tells none where they are more than 100,000. The
 /// schedule of the file itself is not used. What is handed back is run last, and its events are not among the steps.
+///
+/// The run is lent what is spare, and gives back all but the steps, which the caller may keep there too.
 pub fn trace_opened<'f, T: TxType, G: Gate>(
     alloc: Global,
     run: &'f OpenedRun<'f, LentFile<'f>, T, G>,
     schedule: &[Turns],
+    spare: &mut Spare,
 ) -> Result<(Journal, Option<Steps>), NoMemory>
     requires runnable { IsRunnable (plan_of T.TxType run.now.work.ty.now (view run.now.work.workload.file.now) run.now.work.tries)
         T.valid run.now.opening.items }
@@ -103,6 +106,7 @@ pub fn trace_opened<'f, T: TxType, G: Gate>(
         run.work.ty,
         &run.opening,
         schedule,
+        spare,
     )?;
     let journal = run.journal(alloc, finished)?;
     Ok((journal, steps))

@@ -10,8 +10,8 @@ use sto_explore::Leg;
 use sto_lang::Turns;
 use sto_part::NoMemory;
 
-/// The schedule by which legs are made. `NoMemory` comes also where a leg has 2^32 turns or more.
-pub fn entries_of(alloc: Global, legs: &[Leg]) -> Result<Vec<Turns>, NoMemory>
+// The schedule by which legs are made. `NoMemory` comes also where a leg has 2^32 turns or more.
+fn entries_of(alloc: Global, legs: &[Leg]) -> Result<Vec<Turns>, NoMemory>
     ensures turns { IfOk result (λ entries. flat_map entry_turns entries.items ≡ schedule_of legs.now) }
     ensures threads { IfOk result (λ entries. map (λ e. e.thread) entries.items ≡ map (λ leg. leg.thread) legs.now) }
 {

@@ -6,5 +6,5 @@ mod entries;
 mod legs;
 
 pub use busy::busy_threads;
-pub use entries::{entries_of, entries_to_ends};
+pub use entries::entries_to_ends;
 pub use legs::{ends, past};

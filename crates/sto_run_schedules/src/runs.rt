@@ -5,11 +5,13 @@ ghost use Rattle.sto_run_steps.specs.Logged.{most_kept};
 use crate::meter::Meter;
 use crate::reported::reported;
 use std::alloc::Global;
+use std::cell::Cell;
 use sto_explore::{Leg, NotMade, Ran, Runs};
 use sto_objects::Objects;
 use sto_outcomes::Reported;
 use sto_run::{LentFile, NoGate, OpenedRun, trace_opened};
 use sto_run_legs::{ends, entries_to_ends, past};
+use sto_run_steps::Spare;
 
 /// A file that can be run in one thread by any schedule, again and again, and the threads that have a transaction.
 #[derive(Drop)]
@@ -19,6 +21,8 @@ pub(crate) struct FileRuns<'f, W: Meter> {
     /// Whether its reports are JSON.
     pub(crate) json: bool,
     pub(crate) meter: &'f W,
+    /// What a run is lent, and then the next one.
+    pub(crate) spare: Cell<Spare>,
 }
 
 // More events than a run keeps: a thread that has so many turns comes to its end.
@@ -49,12 +53,15 @@ impl<W: Meter> Runs<Reported> for FileRuns<'_, W> {
         let run = self.run;
         let most = enough();
         let entries = entries_to_ends(alloc, decided, order, most)?;
-        let (journal, steps) = trace_opened(alloc, run, entries.as_slice())?;
+        let mut spare = self.spare.replace(Spare::new(alloc));
+        let (journal, steps) = trace_opened(alloc, run, entries.as_slice(), &mut spare)?;
         let Some(steps) = steps else {
             return Err(NotMade::TooLong);
         };
         let further = past(steps.as_slice(), decided);
         let legs = ends(alloc, further, order, most)?;
+        spare.keep_steps(steps);
+        self.spare.set(spare);
         let report = reported(alloc, run.work.workload.file, &journal, self.json)?;
         self.meter.made();
         Ok(Ran { legs, report })

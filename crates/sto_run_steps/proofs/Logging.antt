@@ -1,17 +1,19 @@
 -- The event of a step is noted, and logged.
 use Rattle.std.specs.Prelude.{Option, None, Some}
-use Rattle.std.proofs.Common.{◌≡◌, ℕ, ◌+◌, List, length, sym, ◌∙◌, subst}
+use Rattle.std.proofs.Common.{◌≡◌, ℕ, ◌+◌, List, [], ◌∷◌, length, refl, sym, ◌∙◌, subst, inl, inr}
 use Rattle.std.proofs.lemmas.Option.{same_Some}
 use Rattle.sto_part.specs.Listed.{Listed}
 use Rattle.sto_model.specs.Told.{Told}
 use Rattle.sto_core.specs.declared.view.View.{View}
+use Rattle.sto_core.specs.Core.{Core}
 use Rattle.sto_core.specs.History.{Validity}
 use Rattle.sto_trace.specs.declared.Deed.{Deed}
 use Rattle.sto_trace.specs.declared.Step.{Step}
 use Rattle.sto_trace.specs.Deeds.{IsDone}
 use Rattle.sto_trace.specs.Noted.{Notes}
 use Rattle.sto_trace.proofs.Noted.{noted_one}
-use Rattle.sto_run_steps.specs.Logged.{kept, with_step, heard_before, HasLogged, IsLast, IsStep}
+use Rattle.sto_run_steps.specs.Turning.{HasTurn, HaveTurns}
+use Rattle.sto_run_steps.specs.Logged.{Log, kept, with_step, heard_before, HasLogged, IsLast, IsStep}
 use Rattle.sto_run_steps.specs.declared.seat.Seat.{Seat}
 
 some_none : {A : Type 0} (x : A) → ◌≡◌ {A = Option A} (Some x) None → ⊥
@@ -36,3 +38,30 @@ logged {M} valid passes heard thread v s w later noted deed before step log next
       },
       added,
     )
+
+module _ {M : Type 0} (valid : Validity) (heard : M → List Told) where
+  -- a turn is the same where its step is not kept
+  forget_turn : (thread : ℕ) (c d : Core) (seats later : List (Seat M)) (log next : Log) → HasTurn valid heard thread c seats log d later next
+      → HasTurn valid heard thread c seats None d later None
+  forget_turn thread c d seats later log next turn = elim turn [
+    | inl one ↦
+        inl
+        (record {
+          going = one.going;
+          event = one.event;
+          passes = one.passes;
+          before = one.before;
+          at = one.at;
+          seat = one.seat;
+          others = one.others;
+          logged = refl;
+        })
+    | inr idle ↦ inr (idle.0, idle.1, idle.2, refl)
+  ]
+
+  -- and so are all that follow each other
+  pub forget_turns : (threads : List ℕ) (c d : Core) (seats later : List (Seat M)) (log next : Log) → HaveTurns valid heard threads c seats log d later next
+      → HaveTurns valid heard threads c seats None d later None
+  forget_turns [] c d seats later log next h = (h.0, h.1, refl)
+  forget_turns (thread ∷ threads) c d seats later log next h =
+      (h.0, h.1, None, forget_turn thread c h.0 seats h.1 log h.2 h.3, forget_turns threads h.0 d h.1 later h.2 next h.4)

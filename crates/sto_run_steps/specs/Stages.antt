@@ -28,19 +28,19 @@ OfAttempts W M = record {
 -- n and a are what the traits of the type and of the work say
 module _ {T M W : Type 0} where
   -- the threads are at their seats
-  abbrev pub AreOn : OfAttempts W M → W → Stage T M → Type 0
-  AreOn a w s = AreSeated (a.plan w) (a.fits w) s.words s.seats.items
+  abbrev pub AreOn : {n : naming.Ghosts T} → OfAttempts W M → W → Stage T M n → Type 0
+  AreOn a w s = AreSeated (a.plan w) (a.fits w) s.pass.cells.plain s.seats.items
 
   -- all threads together have fewer events left
-  abbrev pub HasFewer : OfAttempts W M → W → Stage T M → Stage T M → Type 0
+  abbrev pub HasFewer : {n : naming.Ghosts T} → OfAttempts W M → W → Stage T M n → Stage T M n → Type 0
   HasFewer a w s later = HaveFewer (a.left w) (a.most w) s.seats.items later.seats.items
 
   -- these threads had turns, one after the other; and all had, in some rounds
-  abbrev pub GoesOn : naming.Ghosts T → OfAttempts W M → W → List ℕ → Stage T M → Stage T M → Type 0
+  abbrev pub GoesOn : (n : naming.Ghosts T) → OfAttempts W M → W → List ℕ → Stage T M n → Stage T M n → Type 0
   GoesOn n a w threads s later =
-      TakeTurns (a.plan w) (a.fits w) n.valid (a.heard w) threads s.words s.seats.items (kept s.log) later.words later.seats.items (kept later.log)
+      TakeTurns (a.plan w) (a.fits w) n.valid (a.heard w) threads s.pass.cells.plain s.seats.items (kept s.log) later.pass.cells.plain later.seats.items (kept later.log)
 
-  abbrev pub GoesRound : naming.Ghosts T → OfAttempts W M → W → Stage T M → Stage T M → Type 0
+  abbrev pub GoesRound : (n : naming.Ghosts T) → OfAttempts W M → W → Stage T M n → Stage T M n → Type 0
   GoesRound n a w s later = (rounds : ℕ) × GoesOn n a w (round_turns (length s.seats.items) rounds) s later
 
   -- a thread sits where its pass stands
@@ -61,9 +61,9 @@ module _ {M W : Type 0} where
       (passes : ℕ) (v : View) → IsSeated (a.plan w) (a.fits w) passes thread v s → IsIn (WithinAt (a.plan w) (a.fits w) passes thread s) later.trial v
 
 -- a thread had a turn
-abbrev pub TakesTurn : {T M W : Type 0} → naming.Ghosts T → OfAttempts W M → W → ℕ → Stage T M → Stage T M → Type 0
+abbrev pub TakesTurn : {T M W : Type 0} → (n : naming.Ghosts T) → OfAttempts W M → W → ℕ → Stage T M n → Stage T M n → Type 0
 TakesTurn n a w thread s later =
-    HasTurn n.valid (a.heard w) thread s.words s.seats.items (kept s.log) later.words later.seats.items (kept later.log)
+    HasTurn n.valid (a.heard w) thread s.pass.cells.plain s.seats.items (kept s.log) later.pass.cells.plain later.seats.items (kept later.log)
 
 -- a thread made an event on its pass, and where steps are kept, it is the next one
 abbrev pub LogsStep : {T M W C : Type 0} → naming.Ghosts T → OfAttempts W M → cells.Ghosts C T → W → ℕ → C → Seat M → Option (Listed Step) → C → Seat M → Option (Listed Step) → Type 0

@@ -13,13 +13,14 @@ ghost use Rattle.sto_run_steps.specs.Turning.{WereStepped};
 use crate::attempts::Attempts;
 use crate::log::Log;
 use crate::seat::Seat;
+use crate::spare::Spare;
 use crate::stage::Stage;
 use std::alloc::Global;
 use sto_lang::Turns;
-use sto_part::{Contents, List, Naming, NoMemory};
+use sto_part::{Contents, Naming, NoMemory};
 use sto_plain::Plain;
 use sto_run_threads::{FinishedRun, Work, run_left};
-use sto_trace::Steps;
+use sto_trace::{Noting, Steps};
 use sto_transaction::Record;
 
 // How many passes there are: one for each script thread, and one where there is none.
@@ -44,18 +45,24 @@ fn count_of<T: Naming, W: Work<T>>(work: &W, thread: u32) -> u32
     }
 }
 
-// A seat for each pass.
+// A seat for each pass, which is lent spare memory.
 fn seats_of<T: Naming, M: Drop, W: Attempts<T, M>>(
     work: &W,
     alloc: Global,
+    spare: &mut Spare,
 ) -> Result<Vec<Seat<M>>, NoMemory>
     ensures many { IfOk result (λ seats. length seats.items ≡ max 1 (thread_count (W.plan work.now))) }
     ensures begun { IfOk result (λ seats. AreNew (W.plan work.now) seats.items) }
 {
     let tries = work.most_tries();
-    let mut seats = Vec::new(alloc);
-    for thread in 0..passes_of(work) {
-        match seats.push(Seat::new(alloc, count_of(work, thread), tries)) {
+    let passes = passes_of(work);
+    let mut seats = match Vec::with_capacity(alloc, passes as usize) {
+        Ok(seats) => seats,
+        Err(_) => return Err(NoMemory),
+    };
+    for thread in 0..passes {
+        let memory = spare.take_memory(alloc);
+        match seats.push(Seat::new(alloc, count_of(work, thread), tries, memory)) {
             Ok(()) => {}
             Err(_) => return Err(NoMemory),
         }
@@ -70,31 +77,40 @@ fn open<T: Naming, M: Drop, W: Attempts<T, M>>(
     ty: &T,
     contents: &Contents,
     log: Log,
+    spare: &mut Spare,
 ) -> Result<Stage<T, M>, NoMemory>
     requires opens { Opens (W.plan work.now) T.valid (T.sizes ty.now) contents.now.items }
     requires threads { thread_count (W.plan work.now) ≤ 65536 }
     ensures many { IfOk result (λ s. length s.seats.items ≡ max 1 (thread_count (W.plan work.now))) }
-    ensures opened { IfOk result (λ s. s.words ≡ opened_core (T.sizes ty.now) contents.now.items (length s.seats.items)) }
+    ensures opened { IfOk result (λ s. s.pass.cells.plain ≡ opened_core (T.sizes ty.now) contents.now.items (length s.seats.items)) }
     ensures begun { IfOk result (λ s. AreNew (W.plan work.now) s.seats.items) }
     ensures log { IfOk result (λ s. s.log ≡ log) }
-    ensures seated { IfOk result (λ s. AreSeated (W.plan work.now) (W.fits work.now) s.words s.seats.items) }
+    ensures seated { IfOk result (λ s. AreSeated (W.plan work.now) (W.fits work.now) s.pass.cells.plain s.seats.items) }
 {
-    let seats = seats_of(work, alloc)?;
+    let seats = seats_of(work, alloc, spare)?;
     let words = Plain::open(alloc, ty, contents, seats.len() as u32)?;
-    Ok(Stage { words, seats, log })
+    let pass = Noting {
+        cells: words.at(0),
+        deed: None,
+    };
+    Ok(Stage { pass, seats, log })
 }
 
-// The records of all threads, thread by thread.
-fn records_of<M: Drop>(alloc: Global, seats: Vec<Seat<M>>) -> Result<Vec<Record>, NoMemory>
+// The records of all threads, thread by thread. Their memory is spare again.
+fn records_of<M: Drop>(
+    alloc: Global,
+    seats: Vec<Seat<M>>,
+    spare: &mut Spare,
+) -> Result<Vec<Record>, NoMemory>
     ensures { IfOk result (λ records. records.items ≡ flat_map (λ seat. seat.records.items) seats.items) }
 {
     let mut records = Vec::new(alloc);
     for seat in seats {
-        let mut own = seat.into_records();
-        match records.append(&mut own) {
-            Ok(()) => {}
-            Err(_) => return Err(NoMemory),
+        let (mut own, memory) = seat.into_parts();
+        if records.append(&mut own).is_err() {
+            return Err(NoMemory);
         }
+        spare.keep_memory(memory)?;
     }
     Ok(records)
 }
@@ -123,18 +139,22 @@ pub fn step_threads<T: Naming, M: Drop, W: Attempts<T, M>>(
     // With one thread no attempt is aborted.
     ensures alone { thread_count (W.plan work.now) ≤ 1 → IfOk result (λ run. AbortsNone [] (told_in run.records)) }
 {
-    let (run, _) = log_threads(work, alloc, ty, contents, schedule, None)?;
+    let mut spare = Spare::new(alloc);
+    let (run, _) = log_threads(work, alloc, ty, contents, schedule, None, &mut spare)?;
     Ok(run)
 }
 
 /// Steps the script threads of a file as [`step_threads`] does, and tells the steps that they made by the schedule and in turn, in their
 /// order. It tells none where they made more than 100,000. The run of what was handed back is not among them.
+///
+/// The run is lent what is spare, and gives back all but the steps, which the caller may keep there too.
 pub fn trace_threads<T: Naming, M: Drop, W: Attempts<T, M>>(
     work: &W,
     alloc: Global,
     ty: &T,
     contents: &Contents,
     schedule: &[Turns],
+    spare: &mut Spare,
 ) -> Result<(FinishedRun<T>, Option<Steps>), NoMemory>
     requires ready { W.ready work.now }
     requires opens { Opens (W.plan work.now) T.valid (T.sizes ty.now) contents.now.items }
@@ -150,7 +170,8 @@ pub fn trace_threads<T: Naming, M: Drop, W: Attempts<T, M>>(
     // With one thread no attempt is aborted.
     ensures alone { thread_count (W.plan work.now) ≤ 1 → IfOk result (λ r. AbortsNone [] (told_in r.0.records)) }
 {
-    log_threads(work, alloc, ty, contents, schedule, Some(List::new(alloc)))
+    let log = Some(spare.take_steps(alloc));
+    log_threads(work, alloc, ty, contents, schedule, log, spare)
 }
 
 // Steps the script threads, and adds to a log.
@@ -161,6 +182,7 @@ fn log_threads<T: Naming, M: Drop, W: Attempts<T, M>>(
     contents: &Contents,
     schedule: &[Turns],
     log: Log,
+    spare: &mut Spare,
 ) -> Result<(FinishedRun<T>, Log), NoMemory>
     requires ready { W.ready work.now }
     requires opens { Opens (W.plan work.now) T.valid (T.sizes ty.now) contents.now.items }
@@ -172,11 +194,16 @@ fn log_threads<T: Naming, M: Drop, W: Attempts<T, M>>(
         (kept r.1)) }
     ensures alone { thread_count (W.plan work.now) ≤ 1 → IfOk result (λ r. AbortsNone [] (told_in r.0.records)) }
 {
-    let stage = open(work, alloc, ty, contents, log)?;
-    let stage = stage.follow(work, alloc, schedule)?;
-    let Stage { words, seats, log } = stage.finish(work, alloc)?;
-    let mut records = records_of(alloc, seats)?;
-    let words = match Plain::reopen(words.close()) {
+    let mut stage = open(work, alloc, ty, contents, log, spare)?;
+    stage.follow(work, alloc, schedule)?;
+    stage.finish(work, alloc)?;
+    let Stage {
+        pass: last,
+        seats,
+        log,
+    } = stage;
+    let mut records = records_of(alloc, seats, spare)?;
+    let words = match Plain::reopen(last.cells.back().close()) {
         Ok(words) => words,
         Err(_) => return Err(NoMemory),
     };

@@ -8,9 +8,11 @@ mod attempts;
 mod file;
 mod log;
 mod seat;
+mod spare;
 mod stage;
 mod work;
 
 pub use attempts::{Attempts, Stepped};
 pub use file::{step_threads, trace_threads};
+pub use spare::Spare;
 pub use work::SteppedWork;

@@ -1,10 +1,11 @@
 //! A script thread, as far as it has come.
-ghost use Rattle.std.specs.Prelude.{◌≡◌, ◌≤◌, ◌<◌, ◌+◌, ◌↔◌, IsTrue, IfOk, OnOk, OnErr, length, Some, option_copied};
+ghost use Rattle.std.specs.Prelude.{◌≡◌, ◌≤◌, ◌<◌, ◌+◌, ◌↔◌, IsTrue, IfOk, OnOk, OnErr, length, None, Some, option_copied};
 ghost use Rattle.sto_run_threads.specs.Plans.{transaction_count};
 
 use crate::attempts::{Attempts, Stepped};
 use crate::log::{Log, with_step};
 use std::alloc::Global;
+use std::mem;
 use sto_attempt::Verdict;
 use sto_core::Cells;
 use sto_model::Replies;
@@ -38,8 +39,8 @@ impl<M: Drop> Seat<M> {
     ghost use Rattle.sto_run_steps.specs.Stages.{SitsAt, HasLess, HasNoMore, HasBegun, LogsStep};
     ghost use Rattle.sto_run_steps.specs.Logged.{answered, kept, heard_before, heard_after, end_after, last_record, HasLogged, IsLast};
 
-    /// A thread with so many transactions, of which none has begun.
-    pub(crate) fn new(alloc: Global, count: u32, tries: u32) -> Seat<M>
+    /// A thread with so many transactions, of which none has begun, and the memory that its attempts are lent.
+    pub(crate) fn new(alloc: Global, count: u32, tries: u32, memory: Memory) -> Seat<M>
         ensures { IsNew count tries result }
     {
         Seat {
@@ -49,7 +50,7 @@ impl<M: Drop> Seat<M> {
             left: tries,
             tries,
             records: Vec::new(alloc),
-            memory: Memory::new(alloc),
+            memory,
         }
     }
 
@@ -60,43 +61,51 @@ impl<M: Drop> Seat<M> {
         self.ended == self.count || self.left == 0
     }
 
-    /// The records of its attempts.
-    pub(crate) fn into_records(self) -> Vec<Record>
-        ensures { result ≡ self.records }
+    /// The records of its attempts, and the memory that they were lent.
+    pub(crate) fn into_parts(self) -> (Vec<Record>, Memory)
+        ensures { result.0 ≡ self.records }
     {
-        let Seat { records, .. } = self;
-        records
+        let Seat {
+            records,
+            memory,
+            ..
+        } = self;
+        (records, memory)
     }
 
     /// Makes the next event of the thread, which is not over, on its pass, and adds it to the steps where they are kept.
-    pub(crate) fn logged_step<T: Naming, W: Attempts<T, M>, C: Cells<T> + Drop>(
+    pub(crate) fn logged_step<T: Naming, W: Attempts<T, M>, C: Cells<T>>(
         &mut self,
         work: &W,
         alloc: Global,
         thread: u32,
-        cells: C,
-        log: Log,
-    ) -> Result<(C, Log), NoMemory>
+        pass: &mut Noting<C>,
+        log: &mut Log,
+    ) -> Result<(), NoMemory>
         requires ready { W.ready work.now }
-        requires seated { SitsAt W.Attempts C.Cells work.now cells thread self.old }
+        requires seated { SitsAt W.Attempts C.Cells work.now pass.old.cells thread self.old }
         requires going { IsOver self.old → ⊥ }
-        ensures same { IfOk result (λ r. C.same cells r.0) }
-        ensures event { IfOk result (λ r. MakesEvent T.Naming C.Cells cells r.0) }
-        ensures seated { IfOk result (λ r. IsSeated (W.plan work.now) (W.fits work.now) (C.passes cells) thread (C.view r.0) self.new) }
+        ensures same { OnOk result (C.same pass.old.cells pass.new.cells) }
+        ensures event { OnOk result (MakesEvent T.Naming C.Cells pass.old.cells pass.new.cells) }
+        ensures seated { OnOk result (IsSeated (W.plan work.now) (W.fits work.now) (C.passes pass.old.cells) thread
+            (C.view pass.new.cells) self.new) }
         ensures left { OnOk result (HasLess W.Attempts work.now self.old self.new) }
-        ensures logged { IfOk result (λ r. LogsStep T.Naming W.Attempts C.Cells work.now thread cells self.old log r.0 self.new r.1) }
+        ensures logged { OnOk result (LogsStep T.Naming W.Attempts C.Cells work.now thread pass.old.cells self.old log.old
+            pass.new.cells self.new log.new) }
     {
         let position = self.ended + 1;
         let heard = self.heard(work);
-        let mut pass = Noting { cells, deed: None };
-        self.step(work, alloc, thread, &mut pass)?;
-        let Noting { cells, deed } = pass;
-        let Some(steps) = log else {
-            return Ok((cells, None));
+        pass.deed = None;
+        self.step(work, alloc, thread, pass)?;
+        let Some(steps) = mem::replace(log, None) else {
+            return Ok(());
         };
-        let Some(deed) = deed else { unreachable!() };
+        let Some(deed) = pass.deed else {
+            unreachable!()
+        };
         let step = self.last_step(work, alloc, thread, position, heard, deed)?;
-        Ok((cells, with_step(steps, step)?))
+        *log = with_step(steps, step)?;
+        Ok(())
     }
 
     // How many calls of the next attempt have been answered.
@@ -190,7 +199,7 @@ impl<M: Drop> Seat<M> {
         match work.step(alloc, trial, thread, position, cells, &mut self.memory)? {
             Stepped::More => Ok(()),
             Stepped::Ended { replies, verdict } => {
-                self.trial = None;
+                self.clear();
                 self.keep(Record {
                     thread,
                     position,
@@ -199,6 +208,14 @@ impl<M: Drop> Seat<M> {
                 })
             }
         }
+    }
+
+    // No attempt runs. It stands alone, as `begin_next` does.
+    #[inline(never)]
+    fn clear(&mut self)
+        ensures { self.new ≡ record self.old { trial = None } }
+    {
+        self.trial = None;
     }
 
     // Begins the next attempt where none runs.
@@ -217,9 +234,30 @@ impl<M: Drop> Seat<M> {
         ensures left { OnOk result (HasNoMore W.Attempts work.now self.old self.new) }
     {
         if self.trial.is_none() {
-            let trial = work.begin(alloc, thread, self.ended + 1, &mut self.memory)?;
-            self.trial = Some(trial);
+            self.begin_next(work, alloc, thread)?;
         }
+        Ok(())
+    }
+
+    // Begins the next attempt. It stands alone, since most events need none of the room that an attempt takes on the stack here.
+    #[inline(never)]
+    fn begin_next<T: Naming, W: Attempts<T, M>>(
+        &mut self,
+        work: &W,
+        alloc: Global,
+        thread: u32,
+    ) -> Result<(), NoMemory>
+        requires ready { W.ready work.now }
+        requires counted { self.old.count ≡ transaction_count (W.plan work.now) thread }
+        requires within { self.old.ended ≤ self.old.count }
+        requires going { IsOver self.old → ⊥ }
+        requires idle { self.old.trial ≡ None }
+        ensures kept { self.new ≡ record self.old { trial = self.new.trial } }
+        ensures within { OnOk result (HasBegun W.Attempts work.now thread self.old self.new) }
+        ensures left { OnOk result (HasNoMore W.Attempts work.now self.old self.new) }
+    {
+        let trial = work.begin(alloc, thread, self.ended + 1, &mut self.memory)?;
+        self.trial = Some(trial);
         Ok(())
     }
 

@@ -1,5 +1,5 @@
 //! All script threads, each at its seat, with the words that their passes share.
-ghost use Rattle.std.specs.Prelude.{◌≡◌, ◌<◌, length, true, false, IfOk};
+ghost use Rattle.std.specs.Prelude.{◌≡◌, ◌<◌, length, true, false, IfOk, OnOk};
 ghost use Rattle.std.specs.List.{All, flat_map};
 ghost use Rattle.sto_run_threads.specs.Orders.{numbers_from};
 
@@ -9,12 +9,14 @@ use crate::seat::Seat;
 use std::alloc::Global;
 use sto_lang::Turns;
 use sto_part::{Naming, NoMemory};
-use sto_plain::Plain;
+use sto_plain::At;
+use sto_trace::Noting;
 
 /// The words, with a pass for each script thread, the threads in the order of their passes, and the steps where they are kept.
 #[derive(Drop)]
 pub(crate) struct Stage<T: Naming, M> {
-    pub(crate) words: Plain<T>,
+    /// The pass of the thread that had the last turn, over all words.
+    pub(crate) pass: Noting<At<T>>,
     pub(crate) seats: Vec<Seat<M>>,
     pub(crate) log: Log,
 }
@@ -26,116 +28,102 @@ impl<T: Naming, M: Drop> Stage<T, M> {
 
     // Makes an event of the thread, where it is not over. It answers whether it did.
     fn turn<W: Attempts<T, M>>(
-        self,
+        &mut self,
         work: &W,
         alloc: Global,
         thread: u32,
-    ) -> Result<(Stage<T, M>, bool), NoMemory>
+    ) -> Result<bool, NoMemory>
         requires ready { W.ready work.now }
-        requires seated { AreOn W.Attempts work.now self }
-        requires inside { thread < length self.seats.items }
-        ensures turn { IfOk result (λ s. TakesTurn T.Naming W.Attempts work.now thread self s.0) }
-        ensures seated { IfOk result (λ s. AreOn W.Attempts work.now s.0) }
-        ensures many { IfOk result (λ s. length s.0.seats.items ≡ length self.seats.items) }
-        ensures made { IfOk result (λ s. s.1 ≡ true → HasFewer W.Attempts work.now self s.0) }
-        ensures over { IfOk result (λ s. s.1 ≡ false → (s.0.seats.items ≡ self.seats.items) × IsOverAt thread self.seats.items) }
+        requires seated { AreOn W.Attempts work.now self.old }
+        requires inside { thread < length self.old.seats.items }
+        ensures turn { OnOk result (TakesTurn T.Naming W.Attempts work.now thread self.old self.new) }
+        ensures seated { OnOk result (AreOn W.Attempts work.now self.new) }
+        ensures many { OnOk result (length self.new.seats.items ≡ length self.old.seats.items) }
+        ensures made { IfOk result (λ made. made ≡ true → HasFewer W.Attempts work.now self.old self.new) }
+        ensures over { IfOk result (λ made. made ≡ false → (self.new.seats.items ≡ self.old.seats.items)
+            × IsOverAt thread self.old.seats.items) }
     {
-        let Stage {
-            words,
-            mut seats,
-            log,
-        } = self;
-        if seats[thread as usize].is_over() {
-            return Ok((Stage { words, seats, log }, false));
+        if self.seats[thread as usize].is_over() {
+            return Ok(false);
         }
-        let pass = words.at(thread);
-        let (pass, log) = seats[thread as usize].logged_step(work, alloc, thread, pass, log)?;
-        let words = pass.back();
-        Ok((Stage { words, seats, log }, true))
+        self.pass.cells.pass = thread;
+        let (pass, log) = (&mut self.pass, &mut self.log);
+        self.seats[thread as usize].logged_step(work, alloc, thread, pass, log)?;
+        Ok(true)
     }
 
     // Gives a thread as many events as an entry of a schedule says, or as many as it has.
     fn take_turns<W: Attempts<T, M>>(
-        self,
+        &mut self,
         work: &W,
         alloc: Global,
         turns: &Turns,
-    ) -> Result<Stage<T, M>, NoMemory>
+    ) -> Result<(), NoMemory>
         requires ready { W.ready work.now }
-        requires seated { AreOn W.Attempts work.now self }
-        requires inside { turns.now.thread < length self.seats.items }
-        ensures turns { IfOk result (GoesOn T.Naming W.Attempts work.now (entry_turns turns.now) self) }
+        requires seated { AreOn W.Attempts work.now self.old }
+        requires inside { turns.now.thread < length self.old.seats.items }
+        ensures turns { OnOk result (GoesOn T.Naming W.Attempts work.now (entry_turns turns.now) self.old self.new) }
     {
-        let mut stage = self;
         for _ in 0..turns.steps {
-            let (next, made) = stage.turn(work, alloc, turns.thread)?;
-            stage = next;
+            let made = self.turn(work, alloc, turns.thread)?;
             if !made {
-                return Ok(stage);
+                return Ok(());
             }
         }
-        Ok(stage)
+        Ok(())
     }
 
     /// Steps the threads by a schedule.
     pub(crate) fn follow<W: Attempts<T, M>>(
-        self,
+        &mut self,
         work: &W,
         alloc: Global,
         schedule: &[Turns],
-    ) -> Result<Stage<T, M>, NoMemory>
+    ) -> Result<(), NoMemory>
         requires ready { W.ready work.now }
-        requires seated { AreOn W.Attempts work.now self }
-        requires inside { All (λ turns. turns.thread < length self.seats.items) schedule.now }
-        ensures turns { IfOk result (GoesOn T.Naming W.Attempts work.now (flat_map entry_turns schedule.now) self) }
+        requires seated { AreOn W.Attempts work.now self.old }
+        requires inside { All (λ turns. turns.thread < length self.old.seats.items) schedule.now }
+        ensures turns { OnOk result (GoesOn T.Naming W.Attempts work.now (flat_map entry_turns schedule.now) self.old self.new) }
     {
-        let mut stage = self;
         for turns in schedule {
-            stage = stage.take_turns(work, alloc, turns)?;
+            self.take_turns(work, alloc, turns)?;
         }
-        Ok(stage)
+        Ok(())
     }
 
     // Makes one event of each thread that is not over, in rising order. It answers whether there was one.
-    fn round<W: Attempts<T, M>>(
-        self,
-        work: &W,
-        alloc: Global,
-    ) -> Result<(Stage<T, M>, bool), NoMemory>
+    fn round<W: Attempts<T, M>>(&mut self, work: &W, alloc: Global) -> Result<bool, NoMemory>
         requires ready { W.ready work.now }
-        requires seated { AreOn W.Attempts work.now self }
-        ensures turns { IfOk result (λ s. GoesOn T.Naming W.Attempts work.now (numbers_from 0 (length self.seats.items)) self s.0) }
-        ensures moved { IfOk result (λ s. s.1 ≡ true → HasFewer W.Attempts work.now self s.0) }
-        ensures over { IfOk result (λ s. s.1 ≡ false → AreOver (length s.0.seats.items) s.0.seats.items) }
+        requires seated { AreOn W.Attempts work.now self.old }
+        ensures turns { OnOk result (GoesOn T.Naming W.Attempts work.now (numbers_from 0 (length self.old.seats.items))
+            self.old self.new) }
+        ensures moved { IfOk result (λ moved. moved ≡ true → HasFewer W.Attempts work.now self.old self.new) }
+        ensures over { IfOk result (λ moved. moved ≡ false → AreOver (length self.new.seats.items) self.new.seats.items) }
     {
-        let mut stage = self;
         let mut moved = false;
-        let count = stage.seats.len() as u32;
+        let count = self.seats.len() as u32;
         for thread in 0..count {
-            let (next, made) = stage.turn(work, alloc, thread)?;
-            stage = next;
+            let made = self.turn(work, alloc, thread)?;
             moved = moved || made;
         }
-        Ok((stage, moved))
+        Ok(moved)
     }
 
     /// Steps the threads in turn until all are over.
     pub(crate) fn finish<W: Attempts<T, M>>(
-        self,
+        &mut self,
         work: &W,
         alloc: Global,
-    ) -> Result<Stage<T, M>, NoMemory>
+    ) -> Result<(), NoMemory>
         requires ready { W.ready work.now }
-        requires seated { AreOn W.Attempts work.now self }
-        ensures turns { IfOk result (GoesRound T.Naming W.Attempts work.now self) }
-        ensures over { IfOk result (λ s. AreOver (length s.seats.items) s.seats.items) }
+        requires seated { AreOn W.Attempts work.now self.old }
+        ensures turns { OnOk result (GoesRound T.Naming W.Attempts work.now self.old self.new) }
+        ensures over { OnOk result (AreOver (length self.new.seats.items) self.new.seats.items) }
     {
-        let mut stage = self;
         loop {
-            let (next, moved) = stage.round(work, alloc)?;
-            stage = next;
+            let moved = self.round(work, alloc)?;
             if !moved {
-                return Ok(stage);
+                return Ok(());
             }
         }
     }

@@ -11,10 +11,10 @@ returns-clause-seated g c =
     let seats = c.in_ok-seats.seats.items in let opens = c.requires.opens in
     let many = c.in_ok-seats.ensures.many in let few = c.requires.threads in
     let long : c.len.result ≡ length seats = search rules in
-    opened_seated (g.W.Work.plan c.args.work.now) opens.few (g.W.Attempts.fits c.args.work.now) c.in_ok-words.words seats (omega (arith, many, few))
-    (c.in_ok-words.ensures ∙ λ i. opened_core (opens.sized i) (opens.opened i) (long i)) c.in_ok-seats.ensures.begun
+    opened_seated (g.W.Work.plan c.args.work.now) opens.few (g.W.Attempts.fits c.args.work.now) c.at.result.plain seats (omega (arith, many, few))
+    (c.at.ensures.plain ∙ c.in_ok-words.ensures ∙ λ i. opened_core (opens.sized i) (opens.opened i) (long i)) c.in_ok-seats.ensures.begun
 
 pub returns-clause-opened : goal.returns-clause-opened
 returns-clause-opened g c =
     let long : c.len.result ≡ length c.in_ok-seats.seats.items = search rules in
-    c.in_ok-words.ensures ∙ λ i. opened_core (g.T.Naming.sizes c.args.ty.now) c.args.contents.now.items (long i)
+    c.at.ensures.plain ∙ c.in_ok-words.ensures ∙ λ i. opened_core (g.T.Naming.sizes c.args.ty.now) c.args.contents.now.items (long i)

@@ -9,7 +9,7 @@ pub loop-thread-preserved : goal.loop-thread-preserved
 loop-thread-preserved g c =
     let plan = g.W.Work.plan c.args.work.now in
     let seats = c.loop-thread.seats.items in
-    let pushed : c.push.new.self.items ≡ seats ++ c.new.result ∷ [] = c.in-Ok.ensures.items in
+    let pushed : c.push.new.self.items ≡ seats ++ c.new.result ∷ [] = c.in-Ok-push.ensures.items in
     let long = ap length pushed ∙ snoc_length seats c.new.result in
     let many = c.loop-thread.invariant.many in
     let new : IsNew {M = g.row.M.Denot} c.count_of.result plan.tries c.new.result = subst (λ (n : ℕ). IsNew {M = g.row.M.Denot} c.count_of.result n c.new.result) c.most_tries-tries.ensures c.new.ensures in

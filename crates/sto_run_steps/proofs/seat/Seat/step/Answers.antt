@@ -1,5 +1,5 @@
 use Rattle.std.specs.Prelude.{None}
-use Rattle.std.proofs.Common.{◌+◌, map, ap, OnOk, subst, arith}
+use Rattle.std.proofs.Common.{◌+◌, map, ap, ◌∙◌, OnOk, subst, arith}
 use Rattle.std.proofs.lemmas.Result.{on_ok_weaker}
 use Rattle.sto_model.specs.Told.{told}
 use Rattle.sto_attempt_facts.specs.Records.{Record}
@@ -25,7 +25,7 @@ returns-in-Ended-clause-seated g c =
     on_ok_weaker c.keep.result
     (λ (k : HasKept r idle c.keep.new.self). seat_kept plan fits passes c.args.thread wi.begun (g.C.Cells.view c.step.new.cells) idle c.keep.new.self r
     seated.counted seated.each going wi.between made k.trial k)
-    (subst (λ (x : Seat g.row.M.Denot). OnOk c.keep.result (HasKept r x c.keep.new.self)) (ap (λ (x : Seat g.row.M.Denot). record x { trial = None }) c.begin.ensures.kept) c.keep.ensures.kept)
+    (subst (λ (x : Seat g.row.M.Denot). OnOk c.keep.result (HasKept r x c.keep.new.self)) (c.clear.ensures ∙ ap (λ (x : Seat g.row.M.Denot). record x { trial = None }) c.begin.ensures.kept) c.keep.ensures.kept)
 
 pub returns-in-Ended-clause-left : goal.returns-in-Ended-clause-left
 returns-in-Ended-clause-left g c =
@@ -42,4 +42,4 @@ returns-in-Ended-clause-left g c =
     on_ok_weaker c.keep.result
     (λ (k : HasKept r idle c.keep.new.self).
     let e = kept_events left (g.W.Attempts.most c.args.work.now) idle c.keep.new.self r c.in-Some.trial going k k.trial some in omega (arith, e, all))
-    (subst (λ (x : Seat g.row.M.Denot). OnOk c.keep.result (HasKept r x c.keep.new.self)) (ap (λ (x : Seat g.row.M.Denot). record x { trial = None }) c.begin.ensures.kept) c.keep.ensures.kept)
+    (subst (λ (x : Seat g.row.M.Denot). OnOk c.keep.result (HasKept r x c.keep.new.self)) (c.clear.ensures ∙ ap (λ (x : Seat g.row.M.Denot). record x { trial = None }) c.begin.ensures.kept) c.keep.ensures.kept)

@@ -9,10 +9,10 @@ use Rattle.sto_run_steps.proofs.stage.Stage.follow.Goals as goal
 
 pub loop-turns-preserved : goal.loop-turns-preserved
 loop-turns-preserved g c =
-    let was = c.loop-turns.invariant.turns in let now = c.in_ok-stage.ensures.turns in let next = c.in_ok-stage in
+    let was = c.loop-turns.invariant.turns in let now = c.in_ok-take_turns.ensures.turns in let next = c.in_ok-take_turns in
     record {
       turns = record {
-        turns = schedule_more g.T.Naming.valid (g.W.Attempts.heard c.args.work.now) c.args.schedule.now c.loop-turns.turns-index (record { thread = 0; steps = 0 }) c.args.self.words c.loop-turns.stage.words next.stage.words c.args.self.seats.items c.loop-turns.stage.seats.items next.stage.seats.items (kept c.args.self.log) (kept c.loop-turns.stage.log) (kept next.stage.log)
+        turns = schedule_more g.T.Naming.valid (g.W.Attempts.heard c.args.work.now) c.args.schedule.now c.loop-turns.turns-index (record { thread = 0; steps = 0 }) c.args.self.now.pass.cells.plain c.loop-turns.self.pass.cells.plain c.take_turns.new.self.pass.cells.plain c.args.self.now.seats.items c.loop-turns.self.seats.items c.take_turns.new.self.seats.items (kept c.args.self.now.log) (kept c.loop-turns.self.log) (kept c.take_turns.new.self.log)
             c.loop-turns-test.true was.turns now.turns;
         seated = now.seated;
         many = now.many ∙ was.many;
@@ -26,7 +26,7 @@ pub returns : goal.returns
 returns g c =
     let was = c.loop-turns.invariant.turns in record {
       turns = record {
-        turns = subst (λ (l : List Turns). HaveTurns g.T.Naming.valid (g.W.Attempts.heard c.args.work.now) (flat_map entry_turns l) c.args.self.words c.args.self.seats.items (kept c.args.self.log) c.loop-turns.stage.words c.loop-turns.stage.seats.items (kept c.loop-turns.stage.log))
+        turns = subst (λ (l : List Turns). HaveTurns g.T.Naming.valid (g.W.Attempts.heard c.args.work.now) (flat_map entry_turns l) c.args.self.now.pass.cells.plain c.args.self.now.seats.items (kept c.args.self.now.log) c.loop-turns.self.pass.cells.plain c.loop-turns.self.seats.items (kept c.loop-turns.self.log))
             (take_all c.loop-turns.turns-index c.args.schedule.now (omega (arith, c.loop-turns-test.false))) was.turns;
         seated = was.seated;
         many = was.many;

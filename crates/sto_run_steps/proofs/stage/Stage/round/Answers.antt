@@ -10,19 +10,19 @@ use Rattle.sto_run_steps.proofs.stage.Stage.round.Goals.{then-moved, else-moved}
 pub loop-thread-preserved : goal.loop-thread-preserved
 loop-thread-preserved g c =
     let inv = c.loop-thread.invariant in
-    let how : ((c.loop-thread.moved ≡ true) × (c.if-moved.moved ≡ true)) ⊎ ((c.loop-thread.moved ≡ false) × (c.if-moved.moved ≡ c.in_ok-next.made)) =
+    let how : ((c.loop-thread.moved ≡ true) × (c.if-moved.moved ≡ true)) ⊎ ((c.loop-thread.moved ≡ false) × (c.if-moved.moved ≡ c.in_ok-made.made)) =
     elim c.if-moved.branch [
       | then-moved w ↦ inl (w.if-moved.true, w.moved-is ∙ w.if-moved.true)
       | else-moved w ↦ inr (w.if-moved.false, w.moved-is)
     ] in
-    let k = round_more (events_of_all (g.W.Attempts.left c.args.work.now) (g.W.Attempts.most c.args.work.now)) c.if-moved.moved c.loop-thread.moved c.in_ok-next.made
-    c.args.self.seats.items c.loop-thread.stage.seats.items c.in_ok-next.next.seats.items c.loop-thread.thread inv.fewer inv.rest c.in_ok-next.ensures.made c.in_ok-next.ensures.over how in
+    let k = round_more (events_of_all (g.W.Attempts.left c.args.work.now) (g.W.Attempts.most c.args.work.now)) c.if-moved.moved c.loop-thread.moved c.in_ok-made.made
+    c.args.self.now.seats.items c.loop-thread.self.seats.items c.turn.new.self.seats.items c.loop-thread.thread inv.fewer inv.rest c.in_ok-made.ensures.made c.in_ok-made.ensures.over how in
     record {
       turns = record {
-        turns = round_turn g.T.Naming.valid (g.W.Attempts.heard c.args.work.now) c.loop-thread.thread c.args.self.words c.loop-thread.stage.words c.in_ok-next.next.words c.args.self.seats.items c.loop-thread.stage.seats.items c.in_ok-next.next.seats.items (kept c.args.self.log) (kept c.loop-thread.stage.log) (kept c.in_ok-next.next.log)
-            inv.turns.turns c.in_ok-next.ensures.turn;
-        seated = c.in_ok-next.ensures.seated;
-        many = c.in_ok-next.ensures.many ∙ inv.turns.many;
+        turns = round_turn g.T.Naming.valid (g.W.Attempts.heard c.args.work.now) c.loop-thread.thread c.args.self.now.pass.cells.plain c.loop-thread.self.pass.cells.plain c.turn.new.self.pass.cells.plain c.args.self.now.seats.items c.loop-thread.self.seats.items c.turn.new.self.seats.items (kept c.args.self.now.log) (kept c.loop-thread.self.log) (kept c.turn.new.self.log)
+            inv.turns.turns c.in_ok-made.ensures.turn;
+        seated = c.in_ok-made.ensures.seated;
+        many = c.in_ok-made.ensures.many ∙ inv.turns.many;
       };
       end = inv.end;
       fewer = k.0;

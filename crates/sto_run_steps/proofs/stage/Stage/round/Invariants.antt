@@ -7,8 +7,8 @@ use Rattle.sto_run_steps.proofs.stage.Stage.round.Given as goal
 
 abbrev pub invariant-loop-thread : goal.invariant-loop-thread
 invariant-loop-thread g l = record {
-  turns : TakeTurns (g.W.Work.plan l.work) (g.W.Attempts.fits l.work) g.T.Naming.valid (g.W.Attempts.heard l.work) (numbers_from 0 l.thread) l.fn.self.words l.fn.self.seats.items (kept l.fn.self.log) l.stage.words l.stage.seats.items (kept l.stage.log);
+  turns : TakeTurns (g.W.Work.plan l.work) (g.W.Attempts.fits l.work) g.T.Naming.valid (g.W.Attempts.heard l.work) (numbers_from 0 l.thread) l.fn.self.pass.cells.plain l.fn.self.seats.items (kept l.fn.self.log) l.self.pass.cells.plain l.self.seats.items (kept l.self.log);
   end : l.count ≡ length l.fn.self.seats.items;
-  fewer : l.moved ≡ true → HaveFewer (g.W.Attempts.left l.work) (g.W.Attempts.most l.work) l.fn.self.seats.items l.stage.seats.items;
-  rest : l.moved ≡ false → (l.stage.seats.items ≡ l.fn.self.seats.items) × AreOver l.thread l.fn.self.seats.items;
+  fewer : l.moved ≡ true → HaveFewer (g.W.Attempts.left l.work) (g.W.Attempts.most l.work) l.fn.self.seats.items l.self.seats.items;
+  rest : l.moved ≡ false → (l.self.seats.items ≡ l.fn.self.seats.items) × AreOver l.thread l.fn.self.seats.items;
 }

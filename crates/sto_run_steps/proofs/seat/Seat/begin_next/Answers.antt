@@ -1,7 +1,7 @@
 use Rattle.std.proofs.Common.{arith}
 use Rattle.sto_run_threads.proofs.Scripts.{transaction_there}
 use Rattle.sto_run_steps.proofs.Seats.{goes_on}
-use Rattle.sto_run_steps.proofs.seat.Seat.begin.Goals as goal
+use Rattle.sto_run_steps.proofs.seat.Seat.begin_next.Goals as goal
 
 pub begin-requires-clause-there : goal.begin-requires-clause-there
 begin-requires-clause-there g c =
