@@ -32,8 +32,9 @@ pub struct Ran<P> {
     pub report: P,
 }
 
-/// Threads that can be run from their beginning by any schedule, again and again. What a run leads to is a `P`.
-pub trait Runs<P> {
+/// Threads that can be run from their beginning by any schedule, again and again. What a run leads to is a `P`, and what one run keeps for
+/// the next one is a `K`.
+pub trait Runs<P, K> {
     /// They can be run.
     ghost ready: { Self → Type 0 };
 
@@ -49,6 +50,9 @@ pub trait Runs<P> {
     /// One of their runs is too long to be told.
     ghost too_long: { Self → Type 0 };
 
+    /// What earlier runs kept is so.
+    ghost keeps: { Self → K → Type 0 };
+
     /// The threads that have something to do, in the order in which they are tried.
     fn threads(&self) -> &[u32]
         requires { ready self.now }
@@ -57,13 +61,21 @@ pub trait Runs<P> {
 
     /// Runs the threads from their beginning: by the legs that are decided, and then each thread of the order to its end, with at least
     /// one turn.
-    fn run(&self, alloc: Global, decided: &[Leg], order: &[u32]) -> Result<Ran<P>, NotMade>
+    fn run(
+        &self,
+        alloc: Global,
+        kept: &mut K,
+        decided: &[Leg],
+        order: &[u32],
+    ) -> Result<Ran<P>, NotMade>
         requires ready { ready self.now }
+        requires keeps { keeps self.now kept.old }
         requires decided { AllByRecursion (λ leg. IsAmong (threads self.now) leg.thread) decided.now }
         requires order { AllByRecursion (IsAmong (threads self.now)) order.now }
         ensures ends { IfOk result (λ ran. LeadToEnds order.now ran.legs.items) }
         ensures told { IfOk result (λ ran. AreTold (tells self.now) (schedule_of decided.now) (turns_of ran.legs.items)) }
         ensures report { IfOk result (λ ran. reports self.now (schedule_of decided.now ++ schedule_of ran.legs.items) ran.report) }
+        ensures keeps { OnOk result (keeps self.now kept.new) }
         ensures too_long { IfErr result (λ why. why ≡ not_made.TooLong → too_long self.now) };
 }
 

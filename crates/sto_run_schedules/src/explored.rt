@@ -12,10 +12,10 @@ ghost use Rattle.sto_explore.specs.declared.exploration.Stopped.TheVariants.{Too
 ghost use Rattle.sto_run_schedules.specs.Explored.{AreOutcomesOf, AreReports, HasTooMany};
 ghost use Rattle.sto_run_schedules.specs.Leading.{HasSomeLongRun};
 
+use crate::kept::Kept;
 use crate::meter::Meter;
 use crate::runs::FileRuns;
 use std::alloc::Global;
-use std::cell::Cell;
 use sto_explore::{Stopped, explore};
 use sto_lang::File;
 use sto_objects::Objects;
@@ -23,7 +23,6 @@ use sto_outcomes::{Outcomes, Tally};
 use sto_part::NoMemory;
 use sto_run::{LentFile, NoGate, OpenedRun, objects_of};
 use sto_run_legs::busy_threads;
-use sto_run_steps::Spare;
 use sto_run_threads::RetryTurn;
 
 /// Runs a file in one thread by every schedule with at most so many switches away from a thread that could go on, and gathers the reports.
@@ -83,10 +82,10 @@ fn explore_opened<'f, W: Meter>(
         threads,
         json,
         meter,
-        spare: Cell::new(Spare::new(alloc)),
     };
+    let mut kept = Kept::new(alloc);
     let mut tally = Tally::new(alloc);
-    explore(&runs, alloc, switches, limit, &mut tally)?;
+    explore(&runs, alloc, switches, limit, &mut kept, &mut tally)?;
     match tally.outcomes(alloc) {
         Ok(outcomes) => Ok(outcomes),
         Err(NoMemory) => Err(Stopped::NoMemory),

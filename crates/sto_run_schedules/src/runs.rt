@@ -1,17 +1,27 @@
 //! A file that is run by one schedule after another.
-ghost use Rattle.std.specs.Prelude.{◌<◌};
+ghost use Rattle.std.specs.Prelude.{◌≡◌, ◌≤◌, ◌<◌, [], length, IfOk, OnOk};
+ghost use Rattle.sto_run_threads.specs.Plans.{plan_of};
+ghost use Rattle.sto_run_threads.specs.Runs.{IsFinished};
+ghost use Rattle.sto_run_threads.specs.Told.{told_in};
+ghost use Rattle.sto_run_threads.specs.Worked.{AbortsNone};
 ghost use Rattle.sto_run_steps.specs.Logged.{most_kept};
+ghost use Rattle.sto_run.specs.Traced.{of_objects};
 
+use crate::alike::are_same_records;
+use crate::kept::{Kept, all_copied, report_again};
 use crate::meter::Meter;
 use crate::reported::reported;
 use std::alloc::Global;
-use std::cell::Cell;
 use sto_explore::{Leg, NotMade, Ran, Runs};
 use sto_objects::Objects;
 use sto_outcomes::Reported;
-use sto_run::{LentFile, NoGate, OpenedRun, trace_opened};
+use sto_part::NoMemory;
+use sto_run::{LentFile, NoGate, OpenedRun};
 use sto_run_legs::{ends, entries_to_ends, past};
-use sto_run_steps::Spare;
+use sto_run_steps::{SteppedWork, trace_threads};
+use sto_run_threads::FinishedRun;
+use sto_script::ScriptBody;
+use sto_transaction::Machine;
 
 /// A file that can be run in one thread by any schedule, again and again, and the threads that have a transaction.
 #[derive(Drop)]
@@ -21,8 +31,6 @@ pub(crate) struct FileRuns<'f, W: Meter> {
     /// Whether its reports are JSON.
     pub(crate) json: bool,
     pub(crate) meter: &'f W,
-    /// What a run is lent, and then the next one.
-    pub(crate) spare: Cell<Spare>,
 }
 
 // More events than a run keeps: a thread that has so many turns comes to its end.
@@ -32,8 +40,58 @@ fn enough() -> u32
     u32::MAX
 }
 
-impl<W: Meter> Runs<Reported> for FileRuns<'_, W> {
+impl<W: Meter> FileRuns<'_, W> {
+    ghost use Rattle.sto_run_schedules.specs.Ready.{IsReady, objects_of, file_of, tries_of};
+    ghost use Rattle.sto_run_schedules.specs.Remembered.{MakesReport, AreRemembered};
+
+    // The report of a run that has finished. It is kept.
+    fn new_report(
+        &self,
+        alloc: Global,
+        kept: &mut Kept,
+        finished: FinishedRun<Objects>,
+    ) -> Result<Reported, NoMemory>
+        requires ready { IsReady self.now }
+        requires finished { IsFinished (plan_of of_objects (objects_of self.now) (file_of self.now) (tries_of self.now)) finished }
+        requires alone { length (file_of self.now).threads ≤ 1 → AbortsNone [] (told_in finished.records) }
+        requires remembered { AreRemembered self.now kept.old.reports.items }
+        ensures report { IfOk result (MakesReport self.now (told_in finished.records)) }
+        ensures remembered { OnOk result (AreRemembered self.now kept.new.reports.items) }
+    {
+        let run = self.run;
+        let records = all_copied(alloc, finished.records.as_slice())?;
+        let journal = run.journal(alloc, finished)?;
+        let report = reported(alloc, run.work.workload.file, &journal, self.json)?;
+        kept.remember(alloc, records, &report)?;
+        Ok(report)
+    }
+
+    // The report of a run that has finished: that of an earlier one which left the same records, or a new one.
+    fn report_of(
+        &self,
+        alloc: Global,
+        kept: &mut Kept,
+        finished: FinishedRun<Objects>,
+    ) -> Result<Reported, NoMemory>
+        requires ready { IsReady self.now }
+        requires finished { IsFinished (plan_of of_objects (objects_of self.now) (file_of self.now) (tries_of self.now)) finished }
+        requires alone { length (file_of self.now).threads ≤ 1 → AbortsNone [] (told_in finished.records) }
+        requires remembered { AreRemembered self.now kept.old.reports.items }
+        ensures report { IfOk result (MakesReport self.now (told_in finished.records)) }
+        ensures remembered { OnOk result (AreRemembered self.now kept.new.reports.items) }
+    {
+        for known in kept.reports.as_slice() {
+            if are_same_records(known.records.as_slice(), finished.records.as_slice()) {
+                return report_again(alloc, &known.report);
+            }
+        }
+        self.new_report(alloc, kept, finished)
+    }
+}
+
+impl<W: Meter> Runs<Reported, Kept> for FileRuns<'_, W> {
     ghost use Rattle.sto_run_schedules.specs.Ready.{IsReady, Tells, Leads, IsLong};
+    ghost use Rattle.sto_run_schedules.specs.Remembered.{Remembers};
 
     ghost ready = { IsReady };
 
@@ -45,24 +103,38 @@ impl<W: Meter> Runs<Reported> for FileRuns<'_, W> {
 
     ghost too_long = { IsLong };
 
+    ghost keeps = { Remembers };
+
     fn threads(&self) -> &[u32] {
         self.threads.as_slice()
     }
 
-    fn run(&self, alloc: Global, decided: &[Leg], order: &[u32]) -> Result<Ran<Reported>, NotMade> {
+    fn run(
+        &self,
+        alloc: Global,
+        kept: &mut Kept,
+        decided: &[Leg],
+        order: &[u32],
+    ) -> Result<Ran<Reported>, NotMade> {
         let run = self.run;
         let most = enough();
         let entries = entries_to_ends(alloc, decided, order, most)?;
-        let mut spare = self.spare.replace(Spare::new(alloc));
-        let (journal, steps) = trace_opened(alloc, run, entries.as_slice(), &mut spare)?;
+        let (finished, steps) = trace_threads::<Objects, Machine<'_, Objects, ScriptBody<'_>>, _>(
+            &SteppedWork { work: &run.work },
+            alloc,
+            run.work.ty,
+            &run.opening,
+            entries.as_slice(),
+            &mut kept.spare,
+        )?;
         let Some(steps) = steps else {
+            run.journal(alloc, finished)?;
             return Err(NotMade::TooLong);
         };
         let further = past(steps.as_slice(), decided);
         let legs = ends(alloc, further, order, most)?;
-        spare.keep_steps(steps);
-        self.spare.set(spare);
-        let report = reported(alloc, run.work.workload.file, &journal, self.json)?;
+        kept.spare.keep_steps(steps);
+        let report = self.report_of(alloc, kept, finished)?;
         self.meter.made();
         Ok(Ran { legs, report })
     }

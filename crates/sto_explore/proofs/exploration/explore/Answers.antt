@@ -29,6 +29,7 @@ loop-made-preserved g c =
     record {
       under_way = going_on start tells reports (g.G.Gathers.holds c.loop-made.found) (g.G.Gathers.holds c.take_up.new.found) c.loop-made._made (map offer_of c.loop-made.todo.items)
           (map offer_of c.pop.new.self.items) (map offer_of c.take_up.new.todo.items) (offer_of c.in-Some.branch) is was (c.in_ok-take_up-in-Some.ensures.visited start refl offer);
+      keeps = c.in_ok-take_up-in-Some.ensures.keeps;
       within = omega (arith, more);
     }
 
