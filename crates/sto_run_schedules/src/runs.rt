@@ -128,6 +128,7 @@ impl<W: Meter> Runs<Reported, Kept> for FileRuns<'_, W> {
             &mut kept.spare,
         )?;
         let Some(steps) = steps else {
+            // Only of a run with its journal it is said that it was too long.
             run.journal(alloc, finished)?;
             return Err(NotMade::TooLong);
         };

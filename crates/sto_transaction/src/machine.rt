@@ -119,8 +119,9 @@ impl<'t, T: TxType, B: Body + Drop> Machine<'t, T, B> {
         }
     }
 
-    // Goes on from a body that is ready to its commit.
-    #[inline(always)]
+    // Goes on from a body that is ready to its commit. It stands alone, as `end` does, since most events need none of the room that an
+    // attempt takes on the stack here.
+    #[inline(never)]
     fn seal(&mut self, alloc: Global) -> Result<(), NoMemory>
         requires { MaySeal T.TxType B.Body self.old }
         ensures proceeds { OnOk result (Seals T.TxType B.Body self.old self.new) }
@@ -143,7 +144,7 @@ impl<'t, T: TxType, B: Body + Drop> Machine<'t, T, B> {
     }
 
     // Takes what is left of an attempt that has ended, and puts back the memory that it was lent.
-    #[inline(always)]
+    #[inline(never)]
     pub(crate) fn end(&mut self, verdict: Verdict, memory: &mut Memory) -> Ended<B>
         requires { MayEnd T.TxType B.Body self.old verdict }
         ensures calls { B.left_at_reset result.body ≡ calls_at T.TxType B.Body self.old }
