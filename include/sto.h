@@ -87,7 +87,7 @@ typedef enum sto_kind {
     STO_COUNTER = 1, /* one number, which many add to at once: value */
     STO_ARRAY = 2,   /* size numbers, each of which begins as value */
     STO_HASH = 3,    /* keys with values, in size buckets with so many places each */
-    STO_TREE = 4,    /* keys with values in the order of the keys: has room for four keys in each of size leaves, at least */
+    STO_TREE = 4,    /* keys with values in the order of the keys: has room for four times size keys */
     STO_VECTOR = 5   /* up to size numbers, one behind the other */
 } sto_kind;
 
@@ -104,9 +104,9 @@ typedef struct sto_shape {
 typedef enum sto_operation {
     STO_GET = 0,    /* box, counter: its value; array, hash, tree, vector at a: the value there, or absent */
     STO_SET = 1,    /* box to a: done; array at a to b: done, or absent */
-    STO_ADD = 2,    /* counter by a: done; array at a by b: done, or absent */
+    STO_ADD = 2,    /* counter by a: done, or range; array at a by b: done, absent or range */
     STO_TEST = 3,   /* counter, vector: whether its value or length compares as a (sto_comparison) with b */
-    STO_TAKE = 4,   /* counter: yes, and it falls by a, where it is at least a; else no */
+    STO_TAKE = 4,   /* counter: no where it is below a; else yes, and it falls by a, or range */
     STO_PUT = 5,    /* hash, tree: a key a with the value b: done, or full */
     STO_REMOVE = 6, /* hash, tree: whether the key a was there */
     STO_HAS = 7,    /* hash: whether the key a is there */

@@ -14,7 +14,8 @@ use Rattle.sto_cli_common.proofs.Causes.{IsExclusive}
 use Rattle.sto_lang.specs.Drafts.{transaction_count}
 use Rattle.sto_cli_common.specs.declared.refusal.ScheduleCounts.{ScheduleCounts}
 use Rattle.sto_cli.specs.Traces.{IsTraceable, IsTraceFault, HasLongRun, IsRunFault, NeverMany}
-use Rattle.sto_cli.specs.Explorations.{IsLongSomewhere, HasManySchedules}
+use Rattle.sto_run_schedules.specs.Leading.{HasSomeLongRun}
+use Rattle.sto_cli.specs.Explorations.{HasManySchedules}
 use Rattle.sto_draw.specs.Drawn.{IsTooLong}
 use Rattle.sto_cli.specs.Outputs.{IsOutput, IsScriptFault, HasFault}
 use Rattle.sto_cli.specs.Programs.{reads_script, program}
@@ -62,7 +63,7 @@ faultless (Run threads tries json) bytes text fault own h f = no_fault bytes h.0
 faultless (Step tries json) bytes text fault own h f = no_fault bytes h.0 fault h.1 f
 faultless (Trace tries json) bytes text fault own h f = no_run_fault (HasLongRun tries) NeverMany bytes h.0 fault own h.1 f
 faultless (Draw tries) bytes text fault own h f = no_run_fault (IsTooLong tries) NeverMany bytes h.0 fault own h.1 f
-faultless (Explore switches tries json) bytes text fault own h f = no_run_fault (IsLongSomewhere tries) (HasManySchedules switches tries json) bytes h.0 fault own h.1 f
+faultless (Explore switches tries json) bytes text fault own h f = no_run_fault (HasSomeLongRun tries) (HasManySchedules switches tries json) bytes h.0 fault own h.1 f
 faultless Upgrade bytes text fault own h f = no_fault bytes h.0 fault h.1 f
 faultless (Gen number) bytes text fault own h f = f
 faultless (Bench number threads) bytes text fault own h f = f

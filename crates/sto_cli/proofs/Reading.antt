@@ -17,7 +17,8 @@ use Rattle.sto_cli_common.proofs.Scripts.{small_file, told_fault}
 use Rattle.sto_draw.specs.Drawn.{IsTooLong}
 use Rattle.sto_cli_common.specs.declared.refusal.ScheduleCounts.{ScheduleCounts}
 use Rattle.sto_cli.specs.Traces.{HasLongRun, IsTraceFault, IsRunFault, NeverMany, IsRefusalFor}
-use Rattle.sto_cli.specs.Explorations.{IsLongSomewhere, HasManySchedules}
+use Rattle.sto_run_schedules.specs.Leading.{HasSomeLongRun}
+use Rattle.sto_cli.specs.Explorations.{HasManySchedules}
 use Rattle.sto_cli.specs.Outputs.{HasFault}
 use Rattle.sto_cli.specs.Programs.{reads_script, program}
 
@@ -89,8 +90,8 @@ undrawn tries left rest taken refusal t end e =
 
 -- or not explored
 pub unexplored : (switches tries : ℕ) (json : Bool) (left rest : Option (List ℕ)) (taken : List ℕ) (refusal : Refusal) → Takes left rest taken
-    → (length taken < 1048577 → AtEnd rest) → IsRefusalFor (IsRunFault (IsLongSomewhere tries) (HasManySchedules switches tries json) taken) refusal
+    → (length taken < 1048577 → AtEnd rest) → IsRefusalFor (IsRunFault (HasSomeLongRun tries) (HasManySchedules switches tries json) taken) refusal
     → Unmade program refusal (Explore switches tries json) left rest
 unexplored switches tries json left rest taken refusal t end e =
-    refused (IsRunFault (IsLongSomewhere tries) (HasManySchedules switches tries json) taken) (Explore switches tries json) left rest
-    (λ fault h. (refl, told_run (IsLongSomewhere tries) (HasManySchedules switches tries json) left rest taken fault t end h)) refusal e
+    refused (IsRunFault (HasSomeLongRun tries) (HasManySchedules switches tries json) taken) (Explore switches tries json) left rest
+    (λ fault h. (refl, told_run (HasSomeLongRun tries) (HasManySchedules switches tries json) left rest taken fault t end h)) refusal e

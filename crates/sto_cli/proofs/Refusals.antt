@@ -13,7 +13,7 @@ use Rattle.sto_run.specs.Logged.{Log}
 use Rattle.sto_run.specs.Traced.{IsTraceOf}
 use Rattle.sto_cli.specs.Traces.{IsTraceable, HasLongRun, IsTraceFault, IsRunFault, NeverMany, IsRefusalFor}
 use Rattle.sto_run_schedules.specs.Leading.{HasSomeLongRun}
-use Rattle.sto_cli.specs.Explorations.{IsLongSomewhere, HasManySchedules, IsExploringFault}
+use Rattle.sto_cli.specs.Explorations.{HasManySchedules, IsExploringFault}
 
 pub refused_for : (F G : InputFault → Type 0) → ((fault : InputFault) → F fault → G fault) → (e : Refusal) → IsRefusalFor F e → IsRefusalFor G e
 refused_for F G h (Input fault) e = h fault e
@@ -58,7 +58,7 @@ long_run tries bytes file journal homes steps traceable run e h =
     e h
 
 exploring_fault : (switches tries : ℕ) (json : Bool) (bytes : List ℕ) (file : File) → IsTraceable bytes file
-    → (fault : InputFault) → IsExploringFault switches tries json file fault → IsRunFault (IsLongSomewhere tries) (HasManySchedules switches tries json) bytes fault
+    → (fault : InputFault) → IsExploringFault switches tries json file fault → IsRunFault (HasSomeLongRun tries) (HasManySchedules switches tries json) bytes fault
 exploring_fault switches tries json bytes file traceable LongRun h = (file, traceable, h)
 exploring_fault switches tries json bytes file traceable (ManySchedules counts) h = (file, traceable, h)
 exploring_fault switches tries json bytes file traceable (Script fault) h = absurd h
@@ -67,14 +67,14 @@ exploring_fault switches tries json bytes file traceable LongTrace h = absurd h
 
 -- a script that can be traced is not explored for a fault of its runs
 pub unexplorable : (switches tries : ℕ) (json : Bool) (bytes : List ℕ) (file : File) → IsTraceable bytes file → (e : Refusal)
-    → IsRefusalFor (IsExploringFault switches tries json file) e → IsRefusalFor (IsRunFault (IsLongSomewhere tries) (HasManySchedules switches tries json) bytes) e
+    → IsRefusalFor (IsExploringFault switches tries json file) e → IsRefusalFor (IsRunFault (HasSomeLongRun tries) (HasManySchedules switches tries json) bytes) e
 unexplorable switches tries json bytes file traceable e h =
-    refused_for (IsExploringFault switches tries json file) (IsRunFault (IsLongSomewhere tries) (HasManySchedules switches tries json) bytes)
+    refused_for (IsExploringFault switches tries json file) (IsRunFault (HasSomeLongRun tries) (HasManySchedules switches tries json) bytes)
     (exploring_fault switches tries json bytes file traceable) e h
 
 -- a run by some schedule was too long
-pub long_somewhere : (switches tries : ℕ) (json : Bool) (file : File) (e : Refusal) → IsRefusalFor (λ fault. (fault ≡ LongRun) × HasSomeLongRun file tries) e
+pub long_somewhere : (switches tries : ℕ) (json : Bool) (file : File) (e : Refusal) → IsRefusalFor (λ fault. (fault ≡ LongRun) × HasSomeLongRun tries file) e
     → IsRefusalFor (IsExploringFault switches tries json file) e
 long_somewhere switches tries json file e h =
-    refused_for (λ fault. (fault ≡ LongRun) × HasSomeLongRun file tries) (IsExploringFault switches tries json file)
+    refused_for (λ fault. (fault ≡ LongRun) × HasSomeLongRun tries file) (IsExploringFault switches tries json file)
     (λ fault so. subst (IsExploringFault switches tries json file) (sym so.0) so.1) e h

@@ -1,5 +1,5 @@
 -- What `explore` prints of a script, and why it refuses one.
-use Rattle.std.specs.Prelude.{◌≡◌, ℕ, List, Bool, Option, None, Some, string_bytes}
+use Rattle.std.specs.Prelude.{◌≡◌, ◌≤◌, ℕ, List, Bool, Option, None, Some, string_bytes}
 use Rattle.std.specs.List.{AllByRecursion}
 use Rattle.sto_lang.specs.Scripts.{File}
 use Rattle.sto_report_spec.specs.declared.form.ReportForm.{ReportForm}
@@ -17,11 +17,12 @@ use Rattle.sto_outcome_text.specs.Texts.{entries_of, outcomes_in}
 abbrev pub most_schedules : ℕ
 most_schedules = 1000000
 
--- the text tells the outcomes of runs of the file: one by each schedule with at most so many switches, and of none else. Each is what `step`
--- prints of the file with the schedule that is printed before it
+-- the text tells the outcomes of runs of the file: one by each schedule with at most so many switches, which are not too many, and of none
+-- else. Each is what `step` prints of the file with the schedule that is printed before it
 pub record IsExploration (switches tries : ℕ) (json : Bool) (file : File) (text : List ℕ) : Type 0 where
   pub outcomes : Outcomes
   pub of_file : AreOutcomesOf (form_for json) file tries switches outcomes
+  pub few : outcomes.schedules ≤ most_schedules
   pub reports : AllByRecursion (λ o. IsStepReport (form_for json) file tries (entries_of o.legs.items) (string_bytes o.text)) outcomes.each.items
   pub told : text ≡ outcomes_in json file outcomes
 
@@ -40,13 +41,9 @@ pub record AreCounts (form : ReportForm) (file : File) (tries : ℕ) (counts : S
 abbrev pub HasManySchedules : ℕ → ℕ → Bool → ScheduleCounts → File → Type 0
 HasManySchedules switches tries json counts file = HasTooMany (form_for json) file tries switches most_schedules × AreCounts (form_for json) file tries counts
 
--- a run of the file by some schedule has more events than are kept
-abbrev pub IsLongSomewhere : ℕ → File → Type 0
-IsLongSomewhere tries file = HasSomeLongRun file tries
-
 -- the file cannot be explored, for this fault
 abbrev pub IsExploringFault : ℕ → ℕ → Bool → File → InputFault → Type 0
-IsExploringFault switches tries json file LongRun = IsLongSomewhere tries file
+IsExploringFault switches tries json file LongRun = HasSomeLongRun tries file
 IsExploringFault switches tries json file (ManySchedules counts) = HasManySchedules switches tries json counts file
 IsExploringFault switches tries json file (Script fault) = ⊥
 IsExploringFault switches tries json file NoReport = ⊥

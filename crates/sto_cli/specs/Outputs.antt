@@ -18,8 +18,9 @@ use Rattle.sto_run.specs.Traced.{turns_in}
 use Rattle.sto_args.specs.declared.command.Command.{Command}
 use Rattle.sto_args.specs.declared.command.Command.TheVariants.{Run, Step, Trace, Draw, Explore, Upgrade, Gen, Bench}
 use Rattle.sto_draw.specs.Drawn.{IsPicture, IsTooLong}
+use Rattle.sto_run_schedules.specs.Leading.{HasSomeLongRun}
 use Rattle.sto_cli.specs.Traces.{IsTraceable, IsTrace, HasLongRun, IsRunFault, NeverMany}
-use Rattle.sto_cli.specs.Explorations.{IsExploration, IsLongSomewhere, HasManySchedules}
+use Rattle.sto_cli.specs.Explorations.{IsExploration, HasManySchedules}
 
 -- how many workers run a file with so many script threads: as many as are asked for, else 16, but no more than there are script
 -- threads, and at least one
@@ -68,7 +69,7 @@ HasFault (Run threads tries json) bytes fault = IsScriptFault bytes fault
 HasFault (Step tries json) bytes fault = IsScriptFault bytes fault
 HasFault (Trace tries json) bytes fault = IsRunFault (HasLongRun tries) NeverMany bytes fault
 HasFault (Draw tries) bytes fault = IsRunFault (IsTooLong tries) NeverMany bytes fault
-HasFault (Explore switches tries json) bytes fault = IsRunFault (IsLongSomewhere tries) (HasManySchedules switches tries json) bytes fault
+HasFault (Explore switches tries json) bytes fault = IsRunFault (HasSomeLongRun tries) (HasManySchedules switches tries json) bytes fault
 HasFault Upgrade bytes fault = IsScriptFault bytes fault
 HasFault (Gen number) bytes fault = ⊥
 HasFault (Bench number threads) bytes fault = ⊥

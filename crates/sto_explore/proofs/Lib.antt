@@ -6,3 +6,4 @@ pub mod Offering
 pub mod Ordering
 pub mod Visiting
 pub mod Parting
+pub mod MoreSwitches

@@ -214,9 +214,9 @@ module _ {P : Type 0} (start : Place) (tells : List ℕ → Bool → Type 0) (re
       two_with RunsPart (Differ start) (λ x y k. (part_refuses start (turns_of x.legs) (turns_of y.legs) k, part_refuses start (turns_of y.legs) (turns_of x.legs) (part_sym start (turns_of x.legs) (turns_of y.legs) k))) xs h
 
   -- at the end
-  pub all_explored : (held : List (Found P) → Type 0) (made : ℕ) (todo : List Offer) → todo ≡ [] → IsUnderWay start tells reports held made todo
-      → (xs : List (Found P)) × held xs × AreExplored start tells reports xs
-  all_explored held made todo none was = (
+  pub all_explored : (held : List (Found P) → Type 0) (made most : ℕ) (todo : List Offer) → todo ≡ [] → made ≤ most
+      → IsUnderWay start tells reports held made todo → (xs : List (Found P)) × held xs × AreExplored start tells reports xs × (length xs ≤ most)
+  all_explored held made most todo none few was = (
     was.xs,
     was.holds,
     record {
@@ -227,6 +227,7 @@ module _ {P : Type 0} (start : Place) (tells : List ℕ → Bool → Type 0) (re
         | inr is ↦ absurd (false≢true (subst (λ (l : List Offer). list_any (λ (o : Offer). begins (path_of o) s) l ≡ true) none is))
       ]);
     },
+    subst (λ (n : ℕ). n ≤ most) (sym was.many) few,
   )
 
   -- where an offer is left, no run follows it

@@ -56,6 +56,24 @@ fn is_over(legs: &[Leg], thread: u32) -> bool
     false
 }
 
+// The first legs of a run, with room for those that it is to end with: of these threads, and of one that they follow.
+fn with_room(alloc: Global, decided: &[Leg], threads: &[u32]) -> Result<Vec<Leg>, NoMemory>
+    ensures { IfOk result (λ legs. legs.items ≡ decided.now) }
+{
+    let room = decided
+        .len()
+        .saturating_add(threads.len())
+        .saturating_add(1);
+    let mut legs = match Vec::with_capacity(alloc, room) {
+        Ok(legs) => legs,
+        Err(_) => return Err(NoMemory),
+    };
+    match legs.extend_from_slice(decided) {
+        Ok(()) => Ok(legs),
+        Err(_) => Err(NoMemory),
+    }
+}
+
 // Adds a branch for each of these threads.
 fn offer(
     alloc: Global,
@@ -67,12 +85,8 @@ fn offer(
     ensures { OnOk result (map offer_of todo.new.items ≡ map offer_of todo.old.items ++ offers_to decided.now left threads.now) }
 {
     for next in threads {
-        let decided = match Vec::from_slice(alloc, decided) {
-            Ok(decided) => decided,
-            Err(_) => return Err(NoMemory),
-        };
         let branch = Branch {
-            decided,
+            decided: with_room(alloc, decided, threads)?,
             next: *next,
             left,
         };

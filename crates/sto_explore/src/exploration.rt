@@ -1,5 +1,5 @@
 //! One run by each schedule.
-ghost use Rattle.std.specs.Prelude.{◌≡◌, [], OnOk, IfOk, IfErr, List, map};
+ghost use Rattle.std.specs.Prelude.{◌≡◌, ◌≤◌, [], OnOk, IfOk, IfErr, List, map, length, max};
 ghost use Rattle.std.specs.List.{AllByRecursion};
 ghost use Rattle.sto_explore.specs.declared.exploration.Stopped.TheVariants.{TooLong, TooMany};
 ghost use Rattle.sto_explore.specs.declared.runs.NotMade.TheVariants as not_made;
@@ -138,7 +138,7 @@ pub fn explore<P: Drop, K, R: Runs<P, K>, G: Gathers<P>>(
     requires keeps { R.keeps runs.now kept.old }
     requires none { G.holds found.old [] }
     ensures explored { OnOk result ((xs : List (Found P)) × G.holds found.new xs
-        × AreExplored (start_of switches (R.threads runs.now)) (R.tells runs.now) (R.reports runs.now) xs) }
+        × AreExplored (start_of switches (R.threads runs.now)) (R.tells runs.now) (R.reports runs.now) xs × (length xs ≤ max 1 limit)) }
     ensures too_many { IfErr result (λ why. why ≡ TooMany → (xs : List (Found P)) × G.holds found.new xs
         × AreTooMany (start_of switches (R.threads runs.now)) (R.tells runs.now) (R.reports runs.now) limit xs) }
     ensures too_long { IfErr result (λ why. why ≡ TooLong → R.too_long runs.now) }

@@ -1,5 +1,5 @@
 -- What `explore` prints of the outcomes of a file.
-use Rattle.std.specs.Prelude.{ℕ, ◌-◌, List, ◌++◌, length, map, flat_map, take, Bool, if◌then◌else◌, codes, decimal, string_bytes}
+use Rattle.std.specs.Prelude.{ℕ, ◌-◌, List, [], ◌++◌, length, map, flat_map, take, Bool, if◌then◌else◌, nat_eq, codes, decimal, string_bytes}
 use Rattle.std.specs.List.{enumerate_from, join_with_byte}
 use Rattle.sto_lang.specs.declared.file.Turns.{Turns}
 use Rattle.sto_lang.specs.Scripts.{File}
@@ -19,17 +19,21 @@ entries_of legs = map entry_of legs
 abbrev pub legs_text : File → List Leg → List ℕ
 legs_text file legs = entries_text file.version file.names (entries_of legs)
 
--- the schedule that leads to an outcome, as the last line of the file would have it
+-- the schedule that leads to an outcome, as the last line of the file would have it; nothing where nothing is to be run
 abbrev pub schedule_text : File → Outcome → List ℕ
-schedule_text file o = codes "schedule" ++ legs_text file o.legs.items
+schedule_text file o = if nat_eq (length o.legs.items) 0 then [] else codes "schedule" ++ legs_text file o.legs.items
 
 -- Text.
+
+-- the line of that schedule, where there is one
+abbrev pub schedule_line : File → Outcome → List ℕ
+schedule_line file o = if nat_eq (length o.legs.items) 0 then [] else schedule_text file o ++ codes "\n"
 
 -- an outcome by its number: how many schedules lead to it, one that does, and its report
 abbrev pub outcome_text : File → ℕ × Outcome → List ℕ
 outcome_text file (number, o) =
     codes "outcome " ++ (decimal number ++ (codes " schedules " ++ (decimal o.schedules ++ (codes "\n"
-    ++ (schedule_text file o ++ (codes "\nreport\n" ++ string_bytes o.text))))))
+    ++ (schedule_line file o ++ (codes "report\n" ++ string_bytes o.text))))))
 
 -- all schedules, how many outcomes they lead to, and the aborted attempts of all their runs, by cause
 abbrev pub sum_line : Outcomes → List ℕ

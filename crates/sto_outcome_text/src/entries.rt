@@ -40,10 +40,13 @@ fn push_legs(out: &mut Text, file: &File, legs: &[Leg]) -> Result<(), NoMemory>
     Ok(())
 }
 
-/// Adds the schedule that leads to an outcome. `NoMemory` comes also where one of its legs has 2^32 turns or more.
+/// Adds the schedule that leads to an outcome, or nothing where that has no entry. `NoMemory` comes also where one of its legs has 2^32 turns or more.
 pub(crate) fn push_schedule(out: &mut Text, file: &File, outcome: &Outcome) -> Result<(), NoMemory>
     ensures { OnOk result (out.new.items ≡ out.old.items ++ schedule_text (view file.now) outcome.now) }
 {
+    if outcome.legs.is_empty() {
+        return Ok(());
+    }
     out.append("schedule")?;
     push_legs(out, file, outcome.legs.as_slice())
 }

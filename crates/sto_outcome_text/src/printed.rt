@@ -105,6 +105,32 @@ mod tests {
     }
 
     #[test]
+    fn prints_no_schedule_where_nothing_runs(rt: HostRuntime) -> Result<(), Fail> {
+        let alloc = rt.alloc();
+        let file = sto_lang::read(alloc, "box a 0\n".as_bytes())?;
+        let mut each = Vec::new(alloc);
+        each.push(Outcome {
+            text: String::from_str(alloc, "state\na = 0\n")?,
+            schedules: 1,
+            legs: Vec::new(alloc),
+        })?;
+        let outcomes = Outcomes {
+            each,
+            schedules: 1,
+            aborted: Aborted {
+                locked: 0,
+                changed: 0,
+            },
+        };
+        let text = outcomes_text(alloc, &file, &outcomes, false)?;
+        assert_eq!(rt;
+            text.as_str(),
+            "outcome 1 schedules 1\nreport\nstate\na = 0\nsum schedules 1 outcomes 1 locked 0 changed 0\n"
+        );
+        Ok(())
+    }
+
+    #[test]
     fn prints_json(rt: HostRuntime) -> Result<(), Fail> {
         let alloc = rt.alloc();
         let texts = ("{\"a\":\"1\"}\n", "{\"a\":\"2\"}\n");

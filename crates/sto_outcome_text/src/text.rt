@@ -2,13 +2,24 @@
 ghost use Rattle.std.specs.Prelude.{◌≡◌, ◌++◌, flat_map, OnOk};
 ghost use Rattle.std.specs.List.{enumerate_from};
 ghost use Rattle.sto_lang.specs.Views.{file as view};
-ghost use Rattle.sto_outcome_text.specs.Texts.{outcome_text, sum_line, outcomes_text};
+ghost use Rattle.sto_outcome_text.specs.Texts.{outcome_text, schedule_line, sum_line, outcomes_text};
 
 use crate::entries::push_schedule;
 use crate::words::{push_count, push_report};
 use sto_lang::{File, Text};
 use sto_outcomes::{Outcome, Outcomes};
 use sto_part::NoMemory;
+
+// Adds the line of the schedule that leads to an outcome, where it has an entry.
+fn push_schedule_line(out: &mut Text, file: &File, outcome: &Outcome) -> Result<(), NoMemory>
+    ensures { OnOk result (out.new.items ≡ out.old.items ++ schedule_line (view file.now) outcome.now) }
+{
+    if outcome.legs.is_empty() {
+        return Ok(());
+    }
+    push_schedule(out, file, outcome)?;
+    out.append("\n")
+}
 
 // Adds an outcome by its number.
 fn push_outcome(out: &mut Text, file: &File, number: u64, outcome: &Outcome) -> Result<(), NoMemory>
@@ -17,8 +28,8 @@ fn push_outcome(out: &mut Text, file: &File, number: u64, outcome: &Outcome) -> 
     push_count(out, "outcome ", number)?;
     push_count(out, " schedules ", outcome.schedules)?;
     out.append("\n")?;
-    push_schedule(out, file, outcome)?;
-    out.append("\nreport\n")?;
+    push_schedule_line(out, file, outcome)?;
+    out.append("report\n")?;
     push_report(out, outcome.text.as_str())
 }
 

@@ -18,5 +18,5 @@ pub use opened::OpenedRun;
 pub use step::step_file;
 pub use sto_run_threads::{Gate, LentFile, NoGate, Workload};
 pub use stored::objects_of;
-pub use traced::{TracedRun, trace_file, trace_opened};
+pub use traced::{TracedRun, trace_file};
 pub use whole::{homes_of, opening_of, rows_of};

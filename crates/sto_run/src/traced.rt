@@ -77,18 +77,14 @@ fn trace_on<T: TxType>(
     let turn = RetryTurn::new();
     let run = OpenedRun::new(alloc, LentFile { file }, ty, tries, &NoGate, &turn)?;
     let schedule = turns_of(run.work.workload.file);
-    trace_opened(alloc, &run, schedule, &mut Spare::new(alloc))
+    trace_opened(alloc, &run, schedule)
 }
 
-/// Runs a file that was opened by a schedule, and gives the journal and the steps. It tells none where they are more than 100,000. The
-/// schedule of the file itself is not used. What is handed back is run last, and its events are not among the steps.
-///
-/// The run is lent what is spare, and gives back all but the steps, which the caller may keep there too.
-pub fn trace_opened<'f, T: TxType, G: Gate>(
+// Runs a file that was opened by a schedule, and gives the journal and the steps. The schedule of the file itself is not used.
+fn trace_opened<'f, T: TxType, G: Gate>(
     alloc: Global,
     run: &'f OpenedRun<'f, LentFile<'f>, T, G>,
     schedule: &[Turns],
-    spare: &mut Spare,
 ) -> Result<(Journal, Option<Steps>), NoMemory>
     requires runnable { IsRunnable (plan_of T.TxType run.now.work.ty.now (view run.now.work.workload.file.now) run.now.work.tries)
         T.valid run.now.opening.items }
@@ -106,7 +102,7 @@ pub fn trace_opened<'f, T: TxType, G: Gate>(
         run.work.ty,
         &run.opening,
         schedule,
-        spare,
+        &mut Spare::new(alloc),
     )?;
     let journal = run.journal(alloc, finished)?;
     Ok((journal, steps))

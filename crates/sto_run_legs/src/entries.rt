@@ -10,12 +10,15 @@ use sto_explore::Leg;
 use sto_lang::Turns;
 use sto_part::NoMemory;
 
-// The schedule by which legs are made. `NoMemory` comes also where a leg has 2^32 turns or more.
-fn entries_of(alloc: Global, legs: &[Leg]) -> Result<Vec<Turns>, NoMemory>
+// The schedule by which legs are made, with room for so many more entries. `NoMemory` comes also where a leg has 2^32 turns or more.
+fn entries_of(alloc: Global, legs: &[Leg], more: usize) -> Result<Vec<Turns>, NoMemory>
     ensures turns { IfOk result (λ entries. flat_map entry_turns entries.items ≡ schedule_of legs.now) }
     ensures threads { IfOk result (λ entries. map (λ e. e.thread) entries.items ≡ map (λ leg. leg.thread) legs.now) }
 {
-    let mut entries = Vec::new(alloc);
+    let mut entries = match Vec::with_capacity(alloc, legs.len().saturating_add(more)) {
+        Ok(entries) => entries,
+        Err(_) => return Err(NoMemory),
+    };
     for leg in legs {
         let Ok(steps) = u32::try_from(leg.turns) else {
             return Err(NoMemory);
@@ -41,7 +44,7 @@ pub fn entries_to_ends(
     ensures turns { IfOk result (λ entries. flat_map entry_turns entries.items ≡ turns_to_ends decided.now most order.now) }
     ensures threads { IfOk result (λ entries. map (λ e. e.thread) entries.items ≡ map (λ leg. leg.thread) decided.now ++ order.now) }
 {
-    let mut entries = entries_of(alloc, decided)?;
+    let mut entries = entries_of(alloc, decided, order.len())?;
     for thread in order {
         let entry = Turns {
             thread: *thread,

@@ -49,7 +49,7 @@ pub record LeadsTo (form : ReportForm) (objects : Objects) (file : File) (tries 
   pub changed : r.aborted.changed ≡ count_by (λ line. not (is_locked line)) journal.aborts.items
 
 -- a run of the file on its objects by some schedule has more events than a run keeps
-pub record HasSomeLongRun (file : File) (tries : ℕ) : Type 0 where
+pub record HasSomeLongRun (tries : ℕ) (file : File) : Type 0 where
   pub objects : Objects
   pub kinds : AreOf objects (shapes_of file.declarations)
   pub schedule : List Turns

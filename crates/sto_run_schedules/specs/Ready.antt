@@ -37,4 +37,4 @@ abbrev pub Leads : {W : Type 0} → FileRuns W → List ℕ → Reported → Typ
 Leads r = LeadsTo (form_for r.json) (objects_of r) (file_of r) (tries_of r)
 
 abbrev pub IsLong : {W : Type 0} → FileRuns W → Type 0
-IsLong r = HasSomeLongRun (file_of r) (tries_of r)
+IsLong r = HasSomeLongRun (tries_of r) (file_of r)

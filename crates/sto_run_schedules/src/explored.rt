@@ -1,5 +1,5 @@
 //! Every outcome of a file.
-ghost use Rattle.std.specs.Prelude.{◌≡◌, IfOk, IfErr};
+ghost use Rattle.std.specs.Prelude.{◌≡◌, ◌≤◌, IfOk, IfErr, max};
 ghost use Rattle.sto_store.specs.ObjectShapes.{AreOf};
 ghost use Rattle.sto_lang.specs.Objects.{shapes_of};
 ghost use Rattle.sto_lang.specs.Sound.{IsSound, IsFromTo};
@@ -41,10 +41,11 @@ pub fn explore_file<W: Meter>(
     requires sound { IsSound (view file.now) }
     requires tries { IsFromTo 1 64 tries }
     ensures outcomes { IfOk result (AreOutcomesOf (form_for json) (view file.now) tries switches) }
+    ensures few { IfOk result (λ outcomes. outcomes.schedules ≤ max 1 limit) }
     // Each is what `step` prints of the file with a schedule that gives the turns of its legs.
     ensures reports { IfOk result (AreReports (form_for json) (view file.now) tries) }
     ensures too_many { IfErr result (λ why. why ≡ TooMany → HasTooMany (form_for json) (view file.now) tries switches limit) }
-    ensures too_long { IfErr result (λ why. why ≡ TooLong → HasSomeLongRun (view file.now) tries) }
+    ensures too_long { IfErr result (λ why. why ≡ TooLong → HasSomeLongRun tries (view file.now)) }
 {
     let Ok(objects) = objects_of(alloc, &LentFile { file }) else {
         return Err(Stopped::NoMemory);
@@ -70,9 +71,10 @@ fn explore_opened<'f, W: Meter>(
         of_objects.valid run.now.opening.items }
     requires kinds { AreOf run.now.work.ty.now (shapes_of (view run.now.work.workload.file.now).declarations) }
     ensures outcomes { IfOk result (AreOutcomesOf (form_for json) (view run.now.work.workload.file.now) run.now.work.tries switches) }
+    ensures few { IfOk result (λ outcomes. outcomes.schedules ≤ max 1 limit) }
     ensures too_many { IfErr result (λ why. why ≡ TooMany
         → HasTooMany (form_for json) (view run.now.work.workload.file.now) run.now.work.tries switches limit) }
-    ensures too_long { IfErr result (λ why. why ≡ TooLong → HasSomeLongRun (view run.now.work.workload.file.now) run.now.work.tries) }
+    ensures too_long { IfErr result (λ why. why ≡ TooLong → HasSomeLongRun run.now.work.tries (view run.now.work.workload.file.now)) }
 {
     let Ok(threads) = busy_threads(alloc, run.work.workload.file) else {
         return Err(Stopped::NoMemory);

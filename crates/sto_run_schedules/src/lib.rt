@@ -3,7 +3,6 @@
 //! [`explore_file`] runs a file in one thread again and again, by one schedule after another, and gathers the reports.
 #![tactic(auto)]
 
-mod alike;
 mod explored;
 mod kept;
 mod meter;

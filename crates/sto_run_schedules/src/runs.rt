@@ -7,7 +7,6 @@ ghost use Rattle.sto_run_threads.specs.Worked.{AbortsNone};
 ghost use Rattle.sto_run_steps.specs.Logged.{most_kept};
 ghost use Rattle.sto_run.specs.Traced.{of_objects};
 
-use crate::alike::are_same_records;
 use crate::kept::{Kept, all_copied, report_again};
 use crate::meter::Meter;
 use crate::reported::reported;
@@ -67,6 +66,7 @@ impl<W: Meter> FileRuns<'_, W> {
     }
 
     // The report of a run that has finished: that of an earlier one which left the same records, or a new one.
+    #[tactic(auto, using(crate::proofs::Alike::records_same))]
     fn report_of(
         &self,
         alloc: Global,
@@ -81,7 +81,7 @@ impl<W: Meter> FileRuns<'_, W> {
         ensures remembered { OnOk result (AreRemembered self.now kept.new.reports.items) }
     {
         for known in kept.reports.as_slice() {
-            if are_same_records(known.records.as_slice(), finished.records.as_slice()) {
+            if known.records == finished.records {
                 return report_again(alloc, &known.report);
             }
         }

@@ -3,7 +3,7 @@ use sto_attempt::Verdict;
 use sto_model::Replies;
 
 /// An attempt that has ended.
-#[derive(Drop)]
+#[derive(PartialEq, Eq, Drop)]
 pub struct Record {
     /// The script thread of its transaction.
     pub thread: u32,

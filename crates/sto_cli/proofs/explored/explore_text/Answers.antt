@@ -16,6 +16,7 @@ returns-clause-text g c =
       record {
         outcomes = outcomes;
         of_file = c.in_ok-outcomes.ensures.outcomes;
+        few = c.in_ok-outcomes.ensures.few;
         reports = printed (form_for c.args.json) file c.args.tries outcomes.each.items c.in_ok-outcomes.ensures.reports;
         told = c.in_ok-text.ensures;
       },

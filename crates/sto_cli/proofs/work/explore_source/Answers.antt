@@ -4,7 +4,8 @@ use Rattle.sto_args.specs.declared.command.Command.TheVariants as commands
 use Rattle.sto_cli_common.specs.Ends.{Made, Unmade}
 use Rattle.sto_cli_common.proofs.Scripts.{small_file}
 use Rattle.sto_cli.specs.Traces.{IsRunFault, IsRefusalFor}
-use Rattle.sto_cli.specs.Explorations.{IsLongSomewhere, HasManySchedules}
+use Rattle.sto_run_schedules.specs.Leading.{HasSomeLongRun}
+use Rattle.sto_cli.specs.Explorations.{HasManySchedules}
 use Rattle.sto_cli.specs.Outputs.{IsOutput}
 use Rattle.sto_cli.specs.Programs.{program}
 use Rattle.sto_cli.proofs.Reading.{unexplored}
@@ -28,8 +29,8 @@ returns-clause-made g c =
 pub returns-clause-unmade : goal.returns-clause-unmade
 returns-clause-unmade g c =
     IfErr-weaker c.explore_text.result
-    (λ e. IsRefusalFor (IsRunFault (IsLongSomewhere c.args.tries) (HasManySchedules c.args.switches c.args.tries c.args.json) c.as_slice.result.now) e)
+    (λ e. IsRefusalFor (IsRunFault (HasSomeLongRun c.args.tries) (HasManySchedules c.args.switches c.args.tries c.args.json) c.as_slice.result.now) e)
     (λ e. Unmade program e (commands.Explore c.args.switches c.args.tries c.args.json) (g.S.Source.left c.args.source.now) (g.S.Source.left c.script_left.new.source))
     (λ e h. unexplored c.args.switches c.args.tries c.args.json (g.S.Source.left c.args.source.now) (g.S.Source.left c.script_left.new.source) c.in_ok-bytes.bytes.items e
-    c.in_ok-bytes.ensures.taken c.in_ok-bytes.ensures.end (subst (λ (bytes : List ℕ). IsRefusalFor (IsRunFault (IsLongSomewhere c.args.tries) (HasManySchedules c.args.switches c.args.tries c.args.json) bytes) e) c.as_slice.ensures.items h))
+    c.in_ok-bytes.ensures.taken c.in_ok-bytes.ensures.end (subst (λ (bytes : List ℕ). IsRefusalFor (IsRunFault (HasSomeLongRun c.args.tries) (HasManySchedules c.args.switches c.args.tries c.args.json) bytes) e) c.as_slice.ensures.items h))
     c.explore_text.ensures.fault

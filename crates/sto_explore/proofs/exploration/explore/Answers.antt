@@ -37,8 +37,8 @@ pub returns-in-None-clause-explored : goal.returns-in-None-clause-explored
 returns-in-None-clause-explored g c =
     let start = start_of c.args.switches (g.R.Runs.threads c.args.runs.now) in
     let none : c.loop-made.todo.items ≡ [] = search rules in
-    all_explored start (g.R.Runs.tells c.args.runs.now) (g.R.Runs.reports c.args.runs.now) (g.G.Gathers.holds c.loop-made.found) c.loop-made._made
-    (map offer_of c.loop-made.todo.items) (ap (map offer_of) none) c.loop-made.invariant.under_way
+    all_explored start (g.R.Runs.tells c.args.runs.now) (g.R.Runs.reports c.args.runs.now) (g.G.Gathers.holds c.loop-made.found) c.loop-made._made (max 1 c.args.limit)
+    (map offer_of c.loop-made.todo.items) (ap (map offer_of) none) c.loop-made.invariant.within c.loop-made.invariant.under_way
 
 pub returns-then-is_empty-clause-explored : goal.returns-then-is_empty-clause-explored
 returns-then-is_empty-clause-explored g c =
@@ -46,8 +46,8 @@ returns-then-is_empty-clause-explored g c =
     let zero : vec_len c.loop-made.todo ≡ 0 = eqb-true (vec_len c.loop-made.todo) 0 (sym c.is_empty.ensures ∙ c.if-is_empty.true) in
     let short : length c.loop-made.todo.items ≡ 0 = search rules in
     let none : c.loop-made.todo.items ≡ [] = nil_from_length c.loop-made.todo.items short in
-    all_explored start (g.R.Runs.tells c.args.runs.now) (g.R.Runs.reports c.args.runs.now) (g.G.Gathers.holds c.loop-made.found) c.loop-made._made
-    (map offer_of c.loop-made.todo.items) (ap (map offer_of) none) c.loop-made.invariant.under_way
+    all_explored start (g.R.Runs.tells c.args.runs.now) (g.R.Runs.reports c.args.runs.now) (g.G.Gathers.holds c.loop-made.found) c.loop-made._made (max 1 c.args.limit)
+    (map offer_of c.loop-made.todo.items) (ap (map offer_of) none) c.loop-made.invariant.within c.loop-made.invariant.under_way
 
 pub returns-clause-too_many : goal.returns-clause-too_many
 returns-clause-too_many g c = λ is.

@@ -56,6 +56,6 @@ returns-clause-too_long g c =
     let same = c.in-Ok-new.ensures.of in
     let work = c.in-Ok-new.run'.work in
     IfErr-weaker c.explore_opened.result _ _
-    (λ why h is. moved (λ (ty : Objects) file tries. HasSomeLongRun file tries) work.ty.now c.in-Ok.objects (view work.workload.file.now)
+    (λ why h is. moved (λ (ty : Objects) file tries. HasSomeLongRun tries file) work.ty.now c.in-Ok.objects (view work.workload.file.now)
     (view c.args.file.now) work.tries c.args.tries (ap (λ (f : LentFile). view f.file.now) same.0) same.1 same.2 (h is))
     c.explore_opened.ensures.too_long

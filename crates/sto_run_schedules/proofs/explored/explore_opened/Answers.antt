@@ -1,4 +1,4 @@
-use Rattle.std.proofs.Common.{List, ℕ, subst}
+use Rattle.std.proofs.Common.{◌≤◌, List, ℕ, max, subst, sym}
 use Rattle.std.proofs.lemmas.Result.{err_from_is_err_and}
 use Rattle.sto_lang.specs.Views.{file as view}
 use Rattle.sto_explore.specs.Explored.{AreExplored, AreTooMany, start_of}
@@ -23,6 +23,11 @@ returns-in-Ok-outcomes-clause-outcomes g c =
       explored = subst (λ (ts : List ℕ). AreExplored (start_of c.args.switches ts) (tells_of of_objects work.ty.now file work.tries) (LeadsTo (form_for c.args.json) work.ty.now file work.tries) e.0) c.in-Ok.ensures e.2;
       outcomes_of_them = c.in-Ok-outcomes.ensures e.0 e.1;
     }
+
+pub returns-in-Ok-outcomes-clause-few : goal.returns-in-Ok-outcomes-clause-few
+returns-in-Ok-outcomes-clause-few g c =
+    let e = c.in_ok-explore.ensures.explored in
+    subst (λ (n : ℕ). n ≤ max 1 c.args.limit) (sym (c.in-Ok-outcomes.ensures e.0 e.1).schedules) e.3
 
 pub returns-in_err-explore-clause-too_many : goal.returns-in_err-explore-clause-too_many
 returns-in_err-explore-clause-too_many g c =
