@@ -56,3 +56,4 @@ pub mod Sealing
 pub mod Undisturbed
 pub mod Bounded
 pub mod Replied
+pub mod Doings

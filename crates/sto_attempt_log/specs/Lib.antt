@@ -20,6 +20,7 @@ pub mod Committing
 pub mod CommitPhases
 pub mod Gathering
 pub mod LedBy
+pub mod Doing
 pub mod Verdicts
 pub mod Ordered
 pub mod Predicates

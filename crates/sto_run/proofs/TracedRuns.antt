@@ -13,7 +13,7 @@ use Rattle.sto_journal.specs.declared.journal.Journal.{Journal}
 use Rattle.sto_type.specs.Traits.{OfType}
 use Rattle.sto_run_threads.specs.Plans.{plan_of}
 use Rattle.sto_run_steps.specs.Logged.{Log}
-use Rattle.sto_run_steps.specs.Proceeding.{heard_by}
+use Rattle.sto_run_steps.specs.Proceeding.{heard_by, ProceedsAt}
 use Rattle.sto_run_steps.specs.Turning.{WereStepped, entry_turns, round_turns}
 use Rattle.sto_run_steps.proofs.Logging.{forget_turns}
 use Rattle.sto_run.specs.OfRecords.{IsOfRecords}
@@ -22,12 +22,12 @@ use Rattle.sto_run.specs.Traced.{IsRunFrom, IsTraceOf, IsStepped, of_objects, tu
 -- a run by a schedule, on words that open with what the objects open with
 pub run_by : {T : Type 0} (t : OfType T) (ty : T) (file : File) (tries : ℕ) (journal : Journal) (schedule : List Turns) (opening : Contents) (rs : List Record) (first last : Log)
     → opening ≡ (t.meaning ty).opened
-    → WereStepped {M = Machine T ScriptBody} (plan_of t ty file tries) t.valid heard_by schedule (opened_core (t.sizes ty) opening (max 1 (length file.threads))) first rs last
+    → WereStepped {M = Machine T ScriptBody} (plan_of t ty file tries) (ProceedsAt t file ty) t.valid heard_by schedule (opened_core (t.sizes ty) opening (max 1 (length file.threads))) first rs last
     → IsOfRecords file (t.meaning ty).homes rs journal → IsRunFrom t ty file tries schedule first journal last
 run_by {T} t ty file tries journal schedule opening rs first last opens were told = record {
   records = rs;
   stepped =
-      subst (λ (c : Contents). WereStepped {M = Machine T ScriptBody} (plan_of t ty file tries) t.valid heard_by schedule (opened_core (t.sizes ty) c (max 1 (length file.threads))) first rs last) opens were;
+      subst (λ (c : Contents). WereStepped {M = Machine T ScriptBody} (plan_of t ty file tries) (ProceedsAt t file ty) t.valid heard_by schedule (opened_core (t.sizes ty) c (max 1 (length file.threads))) first rs last) opens were;
   told = told;
 }
 
@@ -40,13 +40,18 @@ untold {T} t ty file tries schedule journal first last r =
       records = r.records;
       stepped = record {
         seats = w.seats;
+        many = w.many;
         new = w.new;
+        seated = w.seated;
         rounds = w.rounds;
         stepped = w.stepped;
         later = w.later;
         turns = forget_turns t.valid heard_by (flat_map entry_turns schedule ++ round_turns (length w.seats) w.rounds) (opened_core (t.sizes ty) (t.meaning ty).opened (max 1 (length file.threads))) w.stepped w.seats w.later first last w.turns;
         over = w.over;
+        still_seated = w.still_seated;
         made = w.made;
+        others = w.others;
+        records = w.records;
         aborts = w.aborts;
       };
       told = r.told;

@@ -15,7 +15,7 @@ use Rattle.sto_transaction.specs.declared.machine.Machine.{Machine}
 use Rattle.sto_journal.specs.declared.journal.Journal.{Journal}
 use Rattle.sto_run_threads.specs.Plans.{plan_of}
 use Rattle.sto_run_steps.specs.Logged.{Log}
-use Rattle.sto_run_steps.specs.Proceeding.{heard_by}
+use Rattle.sto_run_steps.specs.Proceeding.{heard_by, ProceedsAt}
 use Rattle.sto_run_steps.specs.Turning.{WereStepped}
 use Rattle.sto_run.specs.OfRecords.{IsOfRecords}
 
@@ -28,7 +28,7 @@ turns_in (Some schedule) = schedule
 -- the last log has all that its threads made, in their order: each on the pass of its thread, and in its turn
 pub record IsRunFrom {T : Type 0} (t : OfType T) (ty : T) (file : File) (tries : ℕ) (schedule : List Turns) (first : Log) (journal : Journal) (last : Log) : Type 0 where
   pub records : List Record
-  pub stepped : WereStepped {M = Machine T ScriptBody} (plan_of t ty file tries) t.valid heard_by schedule (opened_core (t.sizes ty) (t.meaning ty).opened (max 1 (length file.threads))) first records last
+  pub stepped : WereStepped {M = Machine T ScriptBody} (plan_of t ty file tries) (ProceedsAt t file ty) t.valid heard_by schedule (opened_core (t.sizes ty) (t.meaning ty).opened (max 1 (length file.threads))) first records last
   pub told : IsOfRecords file (t.meaning ty).homes records journal
 
 -- so run, and these are all steps, where they are told

@@ -8,9 +8,11 @@ use Rattle.std.proofs.lemmas.Option.{slice_get_within, get_or_from_slice_get, sl
 use Rattle.sto_model.specs.Told.{Told}
 use Rattle.sto_core.specs.Core.{Core}
 use Rattle.sto_core.specs.History.{Validity}
+use Rattle.sto_core.specs.declared.view.View.{View}
 use Rattle.sto_lang.specs.declared.file.Turns.{Turns}
 use Rattle.sto_trace.specs.declared.Step.{Step}
 use Rattle.sto_attempt_facts.specs.Records.{Record}
+use Rattle.sto_run_threads.specs.Orders.{Place}
 use Rattle.sto_run_threads.specs.Plans.{Plan}
 use Rattle.sto_run_steps.specs.Logged.{Log, most_kept}
 use Rattle.sto_run_steps.specs.Seated.{AreNew, IsOverAt}
@@ -55,19 +57,19 @@ laws_of {M} valid heard = record {
 }
 
 -- the same run by each schedule of these turns
-abbrev pub ByTurns : {M : Type 0} → Plan → Validity → (M → List Told) → Core → List Record → List ℕ → Type 0
-ByTurns {M} plan valid heard opened records turns =
-    (schedule : List Turns) → flat_map entry_turns schedule ≡ turns → (log : Log) × WereStepped {M = M} plan valid heard schedule opened (Some []) records log
+abbrev pub ByTurns : {M : Type 0} → Plan → (ℕ → Place → M → View → View → Type 0) → Validity → (M → List Told) → Core → List Record → List ℕ → Type 0
+ByTurns {M} plan fits valid heard opened records turns =
+    (schedule : List Turns) → flat_map entry_turns schedule ≡ turns → (log : Log) × WereStepped {M = M} plan fits valid heard schedule opened (Some []) records log
 
-pub record Stepped {M : Type 0} (plan : Plan) (valid : Validity) (heard : M → List Told) (opened : Core) (records : List Record) (decided legs : List Leg) (order : List ℕ) : Type 0 where
+pub record Stepped {M : Type 0} (plan : Plan) (fits : ℕ → Place → M → View → View → Type 0) (valid : Validity) (heard : M → List Told) (opened : Core) (records : List Record) (decided legs : List Leg) (order : List ℕ) : Type 0 where
   pub ends : LeadToEnds order legs
   pub told : AreTold (IsToldAfter (AreNew {M = M} plan) (HadSome (HaveTurns valid heard) opened) (IsOverAt {M = M})) (schedule_of decided) (turns_of legs)
-  pub by_turns : ByTurns {M = M} plan valid heard opened records (schedule_of decided ++ schedule_of legs)
+  pub by_turns : ByTurns {M = M} plan fits valid heard opened records (schedule_of decided ++ schedule_of legs)
 
-pub stepped : {M : Type 0} (plan : Plan) (valid : Validity) (heard : M → List Told) (opened : Core) (records : List Record) (decided : List Leg) (order : List ℕ) (n : ℕ) (schedule : List Turns) (all : List Step)
-    → most_kept < n → flat_map entry_turns schedule ≡ turns_to_ends decided n order → WereStepped {M = M} plan valid heard schedule opened (Some []) records (Some all)
-    → Stepped {M = M} plan valid heard opened records decided (ends_of n order (past decided all)) order
-stepped {M} plan valid heard opened records decided order n schedule all enough turns w =
+pub stepped : {M : Type 0} (plan : Plan) (fits : ℕ → Place → M → View → View → Type 0) (valid : Validity) (heard : M → List Told) (opened : Core) (records : List Record) (decided : List Leg) (order : List ℕ) (n : ℕ) (schedule : List Turns) (all : List Step)
+    → most_kept < n → flat_map entry_turns schedule ≡ turns_to_ends decided n order → WereStepped {M = M} plan fits valid heard schedule opened (Some []) records (Some all)
+    → Stepped {M = M} plan fits valid heard opened records decided (ends_of n order (past decided all)) order
+stepped {M} plan fits valid heard opened records decided order n schedule all enough turns w =
     let rounds = round_turns (length w.seats) w.rounds in
     let ends = flat_map (replicate n) order in
     let laws = laws_of {M = M} valid heard in
@@ -87,7 +89,9 @@ stepped {M} plan valid heard opened records decided order n schedule all enough 
         Some (e.steps ++ e.back),
         record {
           seats = w.seats;
+          many = w.many;
           new = w.new;
+          seated = w.seated;
           rounds = w.rounds;
           stepped = w.stepped;
           later = w.later;
@@ -96,7 +100,10 @@ stepped {M} plan valid heard opened records decided order n schedule all enough 
               (had_append (IsOverAt {M = M}) (HasTurn valid heard) (HaveTurns valid heard) laws (schedule_of decided ++ schedule_of (ends_of n order b.s.back)) rounds opened e.e w.stepped w.seats e.middle w.later (Some []) (Some e.steps) (Some (e.steps ++ e.back)) e.there
               (turns_had (IsOverAt {M = M}) (HasTurn valid heard) (HaveTurns valid heard) laws rounds e.e w.stepped e.middle w.later e.steps e.back e.after));
           over = w.over;
+          still_seated = w.still_seated;
           made = w.made;
+          others = w.others;
+          records = w.records;
           aborts = w.aborts;
         },
       );

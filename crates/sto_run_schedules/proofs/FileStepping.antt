@@ -11,7 +11,7 @@ use Rattle.sto_transaction.specs.declared.machine.Machine.{Machine}
 use Rattle.sto_journal.specs.declared.journal.Journal.{Journal}
 use Rattle.sto_run_threads.specs.Plans.{plan_of}
 use Rattle.sto_run_steps.specs.Logged.{Log, most_kept}
-use Rattle.sto_run_steps.specs.Proceeding.{heard_by}
+use Rattle.sto_run_steps.specs.Proceeding.{heard_by, ProceedsAt}
 use Rattle.sto_run_steps.specs.Turning.{entry_turns}
 use Rattle.sto_explore.specs.Legs.{turns_of, schedule_of, LeadToEnds, AreTold}
 use Rattle.sto_explore.specs.declared.leg.Leg.{Leg}
@@ -32,7 +32,7 @@ pub file_stepped : {T : Type 0} (t : OfType T) (ty : T) (file : File) (tries : �
     → most_kept < n → flat_map entry_turns schedule ≡ turns_to_ends decided n order → IsRunBy t ty file tries schedule journal (Some all)
     → FileStepped t ty file tries journal decided (ends_of n order (past decided all)) order
 file_stepped {T} t ty file tries journal decided order n schedule all enough turns r =
-    let s = stepped {M = Machine T ScriptBody} (plan_of t ty file tries) t.valid heard_by (opened_for t ty file) r.records decided order n schedule all enough turns r.stepped in
+    let s = stepped {M = Machine T ScriptBody} (plan_of t ty file tries) (ProceedsAt t file ty) t.valid heard_by (opened_for t ty file) r.records decided order n schedule all enough turns r.stepped in
     record {
       ends = s.ends;
       told = s.told;

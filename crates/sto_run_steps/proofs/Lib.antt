@@ -7,3 +7,5 @@ pub mod Gathered
 pub mod Reopened
 pub mod Turns
 pub mod Logging
+pub mod Uniquely
+pub mod Nothing

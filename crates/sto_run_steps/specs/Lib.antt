@@ -4,6 +4,7 @@ pub mod Seated
 pub mod Logged
 pub mod Proceeding
 pub mod Turning
+pub mod Scheduled
 pub mod Leading
 pub mod Stages
 pub use Rattle.sto_core.specs.Opened

@@ -1,5 +1,5 @@
 -- Turns of script threads: which thread makes the next event.
-use Rattle.std.specs.Prelude.{◌≡◌, ◌⊎◌, ℕ, zero, suc, List, [], ◌∷◌, ◌++◌, length, replicate, slice_get, slice_set, Some}
+use Rattle.std.specs.Prelude.{◌≡◌, ◌⊎◌, ℕ, zero, suc, max, List, [], ◌∷◌, ◌++◌, length, replicate, slice_get, slice_set, Some}
 use Rattle.std.specs.List.{flat_map}
 use Rattle.sto_lang.specs.declared.file.Turns.{Turns}
 use Rattle.sto_model.specs.Told.{Told}
@@ -10,7 +10,7 @@ use Rattle.sto_plain.specs.Passes.{view_of, IsSame}
 use Rattle.sto_run_threads.specs.Orders.{Place, numbers_from}
 use Rattle.sto_attempt_facts.specs.Records.{Record}
 use Rattle.sto_transaction.specs.Answers.{OneEvent}
-use Rattle.sto_run_threads.specs.Plans.{Plan}
+use Rattle.sto_run_threads.specs.Plans.{Plan, thread_count}
 use Rattle.sto_run_threads.specs.Worked.{AbortsNone}
 use Rattle.sto_run_steps.specs.Seated.{AreNew, AreSeated, AreOver, IsOverAt, records_of}
 use Rattle.sto_run_steps.specs.Logged.{Log, HasLogged, IsStep}
@@ -58,16 +58,24 @@ abbrev pub round_turns : (threads rounds : ℕ) → List ℕ
 round_turns threads zero = []
 round_turns threads (suc rounds) = round_turns threads rounds ++ numbers_from 0 threads
 
--- from these words on, the threads of a file, of which none had begun, had the turns of a schedule, and then rounds of turns until all
--- were over. Each thread made a record for each start of its pass, and the aborted ones of all are those among these records. Where steps
--- were kept from the first on, the last log has those of all these turns in their order
-pub record WereStepped {M : Type 0} (plan : Plan) (valid : Validity) (heard : M → List Told) (schedule : List Turns) (opened : Core) (first : Log) (rs : List Record) (last : Log) : Type 0 where
+-- from these words on, the threads of a file, of which none had begun, each at the seat of its pass, had the turns of a schedule, and then
+-- rounds of turns until all were over; they are at their seats then too. Each thread made a record for each start of its pass; these are the
+-- first of the records, and none of the others is aborted. Where steps were kept from the first on, the last log has those of all these turns
+-- in their order
+pub record WereStepped {M : Type 0} (plan : Plan) (fits : ℕ → Place → M → View → View → Type 0) (valid : Validity) (heard : M → List Told) (schedule : List Turns) (opened : Core) (first : Log) (rs : List Record) (last : Log) : Type 0 where
   pub seats : List (Seat M)
+  -- one for each script thread, and one where there is none
+  pub many : length seats ≡ max 1 (thread_count plan)
   pub new : AreNew plan seats
+  pub seated : AreSeated plan fits opened seats
   pub rounds : ℕ
   pub stepped : Core
   pub later : List (Seat M)
   pub turns : HaveTurns valid heard (flat_map entry_turns schedule ++ round_turns (length seats) rounds) opened seats first stepped later last
   pub over : AreOver (length seats) later
+  pub still_seated : AreSeated plan fits stepped later
   pub made : (thread : ℕ) (s : Seat M) → slice_get later thread ≡ Some s → length (records_of s) ≡ (view_of stepped thread).starts
+  -- the records of what they handed back
+  pub others : List Record
+  pub records : rs ≡ flat_map records_of later ++ others
   pub aborts : AbortsNone (flat_map records_of later) rs

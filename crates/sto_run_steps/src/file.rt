@@ -133,7 +133,7 @@ pub fn step_threads<T: Naming, M: Drop, W: Attempts<T, M>>(
     ensures finished { IfOk result (IsFinished (W.plan work.now)) }
 
     // Each event is made in the turn of its thread.
-    ensures stepped { IfOk result (λ run. WereStepped (W.plan work.now) T.valid (W.heard work.now) schedule.now
+    ensures stepped { IfOk result (λ run. WereStepped (W.plan work.now) (W.fits work.now) T.valid (W.heard work.now) schedule.now
         (opened_core (T.sizes ty.now) contents.now.items (max 1 (thread_count (W.plan work.now)))) None (told_in run.records) None) }
 
     // With one thread no attempt is aborted.
@@ -163,7 +163,7 @@ pub fn trace_threads<T: Naming, M: Drop, W: Attempts<T, M>>(
     ensures finished { IfOk result (λ r. IsFinished (W.plan work.now) r.0) }
 
     // Each event is made in the turn of its thread, and the steps are these events.
-    ensures traced { IfOk result (λ r. WereStepped (W.plan work.now) T.valid (W.heard work.now) schedule.now
+    ensures traced { IfOk result (λ r. WereStepped (W.plan work.now) (W.fits work.now) T.valid (W.heard work.now) schedule.now
         (opened_core (T.sizes ty.now) contents.now.items (max 1 (thread_count (W.plan work.now)))) (Some []) (told_in r.0.records)
         (kept r.1)) }
 
@@ -189,7 +189,7 @@ fn log_threads<T: Naming, M: Drop, W: Attempts<T, M>>(
     requires threads { thread_count (W.plan work.now) ≤ 65536 }
     requires schedule { All (λ turns. turns.thread < thread_count (W.plan work.now)) schedule.now }
     ensures finished { IfOk result (λ r. IsFinished (W.plan work.now) r.0) }
-    ensures stepped { IfOk result (λ r. WereStepped (W.plan work.now) T.valid (W.heard work.now) schedule.now
+    ensures stepped { IfOk result (λ r. WereStepped (W.plan work.now) (W.fits work.now) T.valid (W.heard work.now) schedule.now
         (opened_core (T.sizes ty.now) contents.now.items (max 1 (thread_count (W.plan work.now)))) (kept log) (told_in r.0.records)
         (kept r.1)) }
     ensures alone { thread_count (W.plan work.now) ≤ 1 → IfOk result (λ r. AbortsNone [] (told_in r.0.records)) }

@@ -89,7 +89,9 @@ returns-clause-stepped g c =
     let whole = ap (map plain) c.in_ok-records.ensures ∙ all_records last.seats.items in
     record {
       seats = first.seats.items;
+      many = c.in_ok-stage.ensures.many;
       new = c.in_ok-stage.ensures.begun;
+      seated = subst (λ (d : Core). AreSeated (g.W.Work.plan c.args.work.now) (g.W.Attempts.fits c.args.work.now) d first.seats.items) opened c.in_ok-stage.ensures.seated;
       rounds = rounds;
       stepped = last.pass.cells.plain;
       later = last.seats.items;
@@ -99,6 +101,9 @@ returns-clause-stepped g c =
           (turns_append valid heard turns (round_turns (length first.seats.items) rounds) first.pass.cells.plain followed.pass.cells.plain last.pass.cells.plain first.seats.items followed.seats.items last.seats.items (kept first.log) (kept followed.log) (kept last.log) c.in_ok-follow.ensures.turns.turns
           (subst (λ (n : ℕ). HaveTurns valid heard (round_turns n rounds) followed.pass.cells.plain followed.seats.items (kept followed.log) last.pass.cells.plain last.seats.items (kept last.log)) many c.in_ok-finish.ensures.turns.1.turns)));
       over = subst (λ (n : ℕ). AreOver n last.seats.items) (c.in_ok-finish.ensures.turns.1.many ∙ many) c.in_ok-finish.ensures.over;
+      still_seated = c.in_ok-finish.ensures.turns.1.seated;
+      others = c.in_ok-run_left.ensures.in_order.new;
+      records = c.in_ok-run_left.ensures.in_order.whole ∙ ap (λ (l : List Record). l ++ c.in_ok-run_left.ensures.in_order.new) whole;
       made = over_made (g.W.Work.plan c.args.work.now) (g.W.Attempts.fits c.args.work.now)
           last.pass.cells.plain last.seats.items c.in_ok-finish.ensures.turns.1.seated c.in_ok-finish.ensures.over;
       aborts = λ place. c.in_ok-run_left.ensures.none place ∙ ap (aborted_times place) whole;

@@ -15,4 +15,4 @@ returns-clause-stepped g c =
     let opened = opened_core (g.T.Naming.sizes c.args.ty.now) c.args.contents.now.items (max 1 (thread_count plan)) in
     let k = c.in_ok-run.ensures.stepped in
     let none = none_kept g.T.Naming.valid heard (flat_map entry_turns c.args.schedule.now ++ round_turns (length k.seats) k.rounds) opened k.stepped k.seats k.later _ k.turns in
-    subst (λ (o : Log). WereStepped plan g.T.Naming.valid heard c.args.schedule.now opened None (told_in c.in_ok-run.run'.records) o) none k
+    subst (λ (o : Log). WereStepped plan (g.W.Attempts.fits c.args.work.now) g.T.Naming.valid heard c.args.schedule.now opened None (told_in c.in_ok-run.run'.records) o) none k
