@@ -5,3 +5,4 @@ pub mod Asked
 pub mod Operations
 pub mod Opening
 pub mod Reopened
+pub mod Walking

@@ -50,6 +50,7 @@ module _ {M : Type 0} (valid : Validity) (heard : M → List Told) where
           going = one.going;
           event = one.event;
           passes = one.passes;
+          steps = one.steps;
           before = one.before;
           at = one.at;
           seat = one.seat;

@@ -6,22 +6,35 @@ use Rattle.std.proofs.lemmas.List.{take_more, replicate_more, replicate-append-r
 use Rattle.std.proofs.lemmas.List.Concat.{flat_map-append}
 use Rattle.sto_lang.specs.declared.file.Turns.{Turns}
 use Rattle.sto_core.specs.Core.{Core}
+use Rattle.sto_core.specs.Event.{Event}
 use Rattle.sto_core.specs.History.{Validity}
-use Rattle.sto_plain.specs.Passes.{view_of, IsSame}
+use Rattle.sto_plain.specs.Passes.{view_of, IsSame, IsOn, Steps, Walk, Walks}
 use Rattle.sto_run_threads.specs.Orders.{numbers_from}
 use Rattle.sto_serializability.proofs.Working.{numbers_more}
 use Rattle.sto_model.specs.Told.{Told}
 use Rattle.sto_run_steps.specs.Seated.{IsOver, IsOverAt}
 use Rattle.sto_run_steps.specs.Logged.{Log, HasLogged, IsStep}
-use Rattle.sto_run_steps.specs.Turning.{AnEvent, MakesOne, HasTurn, HaveTurns, entry_turns, round_turns}
+use Rattle.sto_run_steps.specs.Turning.{AnEvent, AStep, MakesOne, HasTurn, HaveTurns, entry_turns, round_turns}
 use Rattle.sto_run_steps.specs.declared.seat.Seat.{Seat}
+
+-- of the events of a pass, each is one step of its view: so where the view made one step, there was one event
+walk_steps : (valid : Validity) (pass : ℕ) (es : List Event) (c d : Core) → Walk valid pass es c d → (view_of d pass).steps ≡ (view_of c pass).steps + length es
+walk_steps valid pass [] c d h = let same = ap (λ (x : Core). (view_of x pass).steps) h in omega (arith, same)
+walk_steps valid pass (e ∷ es) c d h =
+    let rest = walk_steps valid pass es h.2 d h.4 in let one = h.3.tells.counts in omega (arith, rest, one)
+
+one_step : (valid : Validity) (pass : ℕ) (es : List Event) (c d : Core) → Walk valid pass es c d → (view_of d pass).steps ≡ (view_of c pass).steps + 1 → AStep valid c pass d
+one_step valid pass [] c d h one = let many = walk_steps valid pass [] c d h in absurd (omega (arith, one, many))
+one_step valid pass (e ∷ []) c d h one = record { event = e; number = h.0; value = h.1; steps = subst (λ (x : Core). Steps valid e c pass h.0 h.1 x) (sym h.4) h.3 }
+one_step valid pass (e ∷ (f ∷ es)) c d h one = let many = walk_steps valid pass (e ∷ (f ∷ es)) c d h in absurd (omega (arith, one, many))
 
 -- The step of a pass, which steps apart from the seats, was the turn of its thread.
 pub made_one : {M : Type 0} (valid : Validity) (heard : M → List Told) (c d a b : Core) (i j : ℕ) (seats : List (Seat M)) (thread : ℕ) (s later : Seat M) (log next : Log)
-    → a ≡ c → i ≡ thread → d ≡ b → IsSame a i b j → AnEvent valid (length a.statuses) (view_of a i) (view_of b j)
+    → a ≡ c → i ≡ thread → d ≡ b → IsOn valid a i b j → AnEvent valid (length a.statuses) (view_of a i) (view_of b j)
     → HasLogged (IsStep valid (length a.statuses) heard thread (view_of a i) s (view_of b j) later) log next
     → slice_get seats thread ≡ Some s → (IsOver s → ⊥) → MakesOne valid heard thread c seats log d (set seats thread later) next
-made_one {M} valid heard c d a b i j seats thread s later log next words pass back same event logged at going =
+made_one {M} valid heard c d a b i j seats thread s later log next words pass back on event logged at going =
+    let same = on.0 in
     let to : j ≡ thread = same.0 ∙ pass in
     record {
       going = λ over. going (over s at);
@@ -35,6 +48,11 @@ made_one {M} valid heard c d a b i j seats thread s later log next words pass ba
           (subst (λ (n : ℕ). IsSame c thread b n) to
           (subst (λ (n : ℕ). IsSame c n b j) pass
           (subst (λ (x : Core). IsSame x i b j) words same)));
+      steps =
+          subst (λ (x : Core). AStep valid c thread x) (sym back)
+          (subst (λ (x : Core). AStep valid x thread b) words
+          (subst (λ (n : ℕ). AStep valid a n b) pass
+          (one_step valid i on.1.events a b on.1.walk (subst (λ (n : ℕ). (view_of b n).steps ≡ (view_of a i).steps + 1) same.0 event.tells.counts))));
       before = s;
       at = at;
       seat = later;

@@ -1,12 +1,13 @@
 -- Turns of script threads: which thread makes the next event.
-use Rattle.std.specs.Prelude.{◌≡◌, ◌⊎◌, ℕ, zero, suc, max, List, [], ◌∷◌, ◌++◌, length, replicate, slice_get, slice_set, Some}
+use Rattle.std.specs.Prelude.{◌≡◌, ◌⊎◌, ℕ, zero, suc, max, ℤ, List, [], ◌∷◌, ◌++◌, length, replicate, slice_get, slice_set, Some}
 use Rattle.std.specs.List.{flat_map}
 use Rattle.sto_lang.specs.declared.file.Turns.{Turns}
 use Rattle.sto_model.specs.Told.{Told}
 use Rattle.sto_core.specs.declared.view.View.{View}
 use Rattle.sto_core.specs.Core.{Core}
+use Rattle.sto_core.specs.Event.{Event}
 use Rattle.sto_core.specs.History.{Validity}
-use Rattle.sto_plain.specs.Passes.{view_of, IsSame}
+use Rattle.sto_plain.specs.Passes.{view_of, IsSame, Steps}
 use Rattle.sto_run_threads.specs.Orders.{Place, numbers_from}
 use Rattle.sto_attempt_facts.specs.Records.{Record}
 use Rattle.sto_transaction.specs.Answers.{OneEvent}
@@ -20,12 +21,21 @@ use Rattle.sto_run_steps.specs.declared.seat.Seat.{Seat}
 abbrev pub AnEvent : Validity → ℕ → View → View → Type 0
 AnEvent valid passes v w = OneEvent (λ _. Unit {0}) valid passes v w
 
+-- one event leads from a core state to the next
+pub record AStep (valid : Validity) (c : Core) (pass : ℕ) (d : Core) : Type 0 where
+  pub event : Event
+  pub number : ℕ
+  pub value : ℤ
+  pub steps : Steps valid event c pass number value d
+
 -- a thread that is not over has made exactly one event, on its own pass. Other passes and other threads are as they were. Where steps are
 -- kept, it is the next one
 pub record MakesOne {M : Type 0} (valid : Validity) (heard : M → List Told) (thread : ℕ) (c : Core) (seats : List (Seat M)) (log : Log) (d : Core) (later : List (Seat M)) (next : Log) : Type 0 where
   pub going : IsOverAt thread seats → ⊥
   pub event : AnEvent valid (length c.statuses) (view_of c thread) (view_of d thread)
   pub passes : IsSame c thread d thread
+  -- it found what its word held, and changed that word and its view, and no more
+  pub steps : AStep valid c thread d
   pub before : Seat M
   pub at : slice_get seats thread ≡ Some before
   pub seat : Seat M

@@ -55,7 +55,7 @@ run_left-requires-clause-tickets g c =
 
 pub returns-clause-finished : goal.returns-clause-finished
 returns-clause-finished g c =
-    let zero : c.run_left.new.cells.pass ≡ 0 = c.run_left.ensures.same.0 ∙ c.at-pass.ensures.pass in
+    let zero : c.run_left.new.cells.pass ≡ 0 = c.run_left.ensures.same.0.0 ∙ c.at-pass.ensures.pass in
     let there = back_at c.back-words.result c.run_left.new.cells.plain c.run_left.new.cells.pass c.back-words.ensures zero in
     record {
       one = search rules;

@@ -46,7 +46,7 @@ run_left-requires-clause-tickets g c =
 
 pub returns-clause-finished : goal.returns-clause-finished
 returns-clause-finished g c =
-    let zero : c.run_left.new.cells.pass ≡ 0 = c.run_left.ensures.same.0 ∙ c.at-pass.ensures.pass in
+    let zero : c.run_left.new.cells.pass ≡ 0 = c.run_left.ensures.same.0.0 ∙ c.at-pass.ensures.pass in
     let there = back_at c.back.result c.run_left.new.cells.plain c.run_left.new.cells.pass c.back.ensures zero in
     record {
       one = search rules;
@@ -61,7 +61,7 @@ returns-clause-accounted g c =
     let v = view_at c.args.worked.rest in let rs = told_in c.args.worked.records in
     let k = reopened_whole plan (draws_of plan) c.args.shared.table.shared.key.passes c.in_ok-closed.closed v rs
     c.at-pass.result.plain (c.at-pass.ensures.plain ∙ c.in-Ok.ensures.ok) c.in_ok-closed.ensures.views c.args.worked.rest.live made.rests made.worked c.requires.all in
-    let zero : c.run_left.new.cells.pass ≡ 0 = c.run_left.ensures.same.0 ∙ c.at-pass.ensures.pass in
+    let zero : c.run_left.new.cells.pass ≡ 0 = c.run_left.ensures.same.0.0 ∙ c.at-pass.ensures.pass in
     let first = subst (λ (n : ℕ). (view_of c.at-pass.result.plain n).starts ≡ length rs) (sym c.at-pass.ensures.pass) k.all.starts in
     let last = all_started _ _ rs (told_in c.run_left.new.records) c.in_ok-run_left.ensures.adds_up first in
     let done : (view_of c.run_left.new.cells.plain 0).starts ≡ length (told_in c.run_left.new.records) =

@@ -37,7 +37,7 @@ pub returns-clause-seated : goal.returns-clause-seated
 returns-clause-seated g c =
     turned (g.W.Work.plan c.args.work.now) (g.W.Attempts.fits c.args.work.now)
     c.args.self.now.pass.cells.plain c.logged_step.new.pass.cells.plain c.args.self.now.pass.cells.plain c.logged_step.new.pass.cells.plain c.args.thread c.logged_step.new.pass.cells.pass c.args.self.now.seats.items c.args.thread c.logged_step.new.self
-    refl refl refl c.requires.seated c.in_ok-logged_step.ensures.same c.in_ok-logged_step.ensures.seated
+    refl refl refl c.requires.seated c.in_ok-logged_step.ensures.same.0 c.in_ok-logged_step.ensures.seated
 
 pub returns-clause-turn : goal.returns-clause-turn
 returns-clause-turn g c =
