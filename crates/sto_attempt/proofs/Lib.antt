@@ -1,3 +1,4 @@
 pub mod Kept
 pub mod Commits
 pub mod Attempts
+pub mod Next

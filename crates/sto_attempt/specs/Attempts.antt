@@ -22,6 +22,7 @@ use Rattle.sto_part.specs.Listed.{Listed}
 use Rattle.sto_attempt_log.specs.declared.commit_phase.CommitPhase.TheVariants.{Locking}
 use Rattle.sto_attempt_log.specs.Predicates.{ArePredsOf}
 use Rattle.sto_attempt_log.specs.Remaining.{commit_left}
+use Rattle.sto_attempt_log.specs.Gathering.{AreGathered}
 use Rattle.sto_attempt_log.specs.Answers.{OneEvent, IsPrefix}
 use Rattle.sto_attempt_log.specs.Bounds.{events_left, left_committing, left_extending, bound, words_of}
 use Rattle.sto_attempt_log.specs.Log.{IsOnLog, IsLog}
@@ -283,6 +284,7 @@ module _ {T B : Type 0} (t : OfType T) (b : OfBody B) where
 
   -- the lists of its commit, with room for what the commit finds and loads; and the predicates that it tests, where they were sorted
   pub record IsStocked (a : Attempt T B) (l : Lists) (words : Listed LoadedWord) (sorted : Option (List Pred)) : Type 0 where
+    pub gathered : AreGathered a.log.set.items a.log.set.updates l.seen.items l.loaded.items l.tasks.items l.checks.items l.places.items
     pub planned : IsPlanned (deal_with a l)
     pub left : commit_left (deal_with a l) (Locking 0) ≤ left_committing (t.meaning a.log.ty.now).widths
     pub updates : l.updates.items ≡ a.log.set.updates

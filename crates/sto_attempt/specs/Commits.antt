@@ -1,7 +1,11 @@
 -- A commit on its pass, before an event and after it.
-use Rattle.std.specs.Prelude.{◌≡◌, ◌≤◌, ◌<◌, ◌⊎◌, ℕ, Option, None, map, slice_index_or}
+use Rattle.std.specs.Prelude.{◌≡◌, ◌≤◌, ◌<◌, ◌⊎◌, ℕ, ℤ, Option, None, map, slice_index_or}
 use Rattle.sto_model.specs.Told.{told}
+use Rattle.sto_item.specs.Watched.{watched}
 use Rattle.sto_core.specs.declared.view.View.{View}
+use Rattle.sto_core.specs.History.{Validity}
+use Rattle.sto_core.specs.Tells.{Tells}
+use Rattle.sto_type.specs.Meaning.{Meaning}
 use Rattle.sto_core.specs.declared.cells.Cells as cells
 use Rattle.sto_attempt_log.specs.declared.commit_phase.CommitPhase.{CommitPhase}
 use Rattle.sto_attempt_log.specs.declared.commit_phase.CommitPhase.TheVariants.{Locking, Loading, Testing, Tested}
@@ -16,6 +20,7 @@ use Rattle.sto_attempt_log.specs.Bounds.{left_committing}
 use Rattle.sto_attempt_log.specs.Answers.{OneEvent, IsCommitEvent, IsPrefix}
 use Rattle.sto_attempt_log.specs.Remaining.{commit_left}
 use Rattle.sto_attempt_log.specs.Verdicts.{ComesTo, HasReason, IsUndisturbed}
+use Rattle.sto_attempt_log.specs.Doing.{Reader, Committer, sealed, commit_event, after_commit}
 use Rattle.sto_attempt_log.specs.CommitPhases.{Deal, deal, Stands, Said, EndsBy, SpaceAt}
 
 -- all but the phase is as it was
@@ -29,6 +34,46 @@ KeepsAt (Loading k i) r s = s ≡ record r { loaded_words = s.loaded_words; comm
 KeepsAt (Testing k) r s = s ≡ record r { found_tickets = s.found_tickets; commit_phase = s.commit_phase }
 KeepsAt (Tested k i n) r s = s ≡ record r { loaded_words = s.loaded_words; commit_phase = s.commit_phase }
 KeepsAt _ r s = MovesOnly r s
+
+-- an attempt whose body is not at its commit, as plain data
+abbrev pub reader_of : {T B : Type 0} → Attempt T B → Reader
+reader_of a = record {
+  at = a.at;
+  phase = a.read_phase;
+  words = a.words.items;
+  base = a.log.base.items;
+  set = record { items = a.log.set.items; updates = a.log.set.updates };
+  heard = map told a.log.replies.items;
+  extended = a.extension.extended;
+  bound = a.extension.bound;
+  fresh = a.extension.fresh.items;
+  watches = map watched a.extension.watches.items;
+}
+
+-- a commit as plain data
+abbrev pub committer_of : {T B : Type 0} → Ready T B → Committer
+committer_of r = record {
+  at = r.at;
+  base = r.log.base.items;
+  items = r.log.set.items;
+  us = r.updates.items;
+  heard = map told r.log.replies.items;
+  seen = r.seen.items;
+  loaded = r.loaded.items;
+  tasks = r.tasks.items;
+  checks = r.checks.items;
+  places = r.places.items;
+  tickets = r.found_tickets.items;
+  loads = r.loaded_words.items;
+  phase = r.commit_phase;
+}
+
+-- the event of this phase was made, and what it found has led from the one commit to the other, with its verdict where it was the last one
+pub record CommitsOn (m : Meaning) (valid : Validity) (passes : ℕ) (commit_phase : CommitPhase) (c d : Committer) (v w : View) (verdict : Option Verdict) : Type 0 where
+  pub number : ℕ
+  pub value : ℤ
+  pub tells : Tells valid passes (commit_event m commit_phase c) v number value w
+  pub leads : (d, verdict) ≡ after_commit m commit_phase c number value
 
 -- t and b are what the traits of the type and of the body say
 module _ {T B : Type 0} (t : OfType T) (b : OfBody B) where
@@ -57,6 +102,8 @@ module _ {T B : Type 0} (t : OfType T) (b : OfBody B) where
     -- beside no other pass it is no abort
     pub alone : passes ≡ 1 → IsUndisturbed r.at r.found_tickets.items None commit_phase → IsUndisturbed r.at s.found_tickets.items verdict s.commit_phase
     pub by : EndsBy v.phase verdict
+    -- it is the event of the phase, and what it found leads to s
+    pub commits : CommitsOn (t.meaning r.log.ty.now) t.valid passes commit_phase (committer_of r) (committer_of s) v w verdict
     pub kept : s ≡ record r { found_tickets = s.found_tickets; loaded_words = s.loaded_words; commit_phase = s.commit_phase }
 
   -- the commit of an attempt, with all memory that it takes
@@ -69,6 +116,8 @@ module _ {T B : Type 0} (t : OfType T) (b : OfBody B) where
     pub at : r.at ≡ a.at
     pub left : commit_left (deal_of r) r.commit_phase ≤ left_committing (t.meaning a.log.ty.now).widths
     pub undisturbed : IsUndisturbed r.at r.found_tickets.items None r.commit_phase
+    -- it is the one that the items and updates lead to
+    pub seals : committer_of r ≡ sealed (reader_of a)
 
   -- the replies are the first ones of the body's serial run on all valid contents that have the attempt's claims
   abbrev pub HasPrefix : Ready T B → View → Type 0

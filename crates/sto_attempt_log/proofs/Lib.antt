@@ -57,3 +57,6 @@ pub mod Undisturbed
 pub mod Bounded
 pub mod Replied
 pub mod Doings
+pub mod CommitSteps
+pub mod Sealed
+pub mod Answering

@@ -1,5 +1,8 @@
-use Rattle.std.proofs.Common.{ℕ, List, subst}
+use Rattle.std.proofs.Common.{ℕ, List, subst, ap, ◌∙◌, map, refl, rules}
+use Rattle.sto_model.specs.Told.{told}
 use Rattle.sto_attempt_log.proofs.Claimed.{claims_fit, part_of_claims}
+use Rattle.sto_attempt_log.proofs.Sealed.{gathered_sealed}
+use Rattle.sto_attempt.specs.Commits.{reader_of}
 use Rattle.sto_attempt.proofs.attempt.Attempt.seal.Goals as goal
 
 pub stock-requires-clause-some : goal.stock-requires-clause-some
@@ -12,3 +15,20 @@ stock-requires-clause-some g c =
       (g.met.T.TxType.valid_is a.log.ty.now whole.0).1 (subst (λ (l : List ℕ). g.T.Naming.valid l whole.0) h.own.same_sizes whole.1),
       part_of_claims v a.at a.log.base.items whole.0 h.claimed whole.2,
     )
+
+pub returns-in-Ok : goal.returns-in-Ok
+returns-in-Ok g c =
+    let a = c.args.self in
+    let kept = c.in-Ok.ensures.kept in
+    let it = c.in-Ok.ensures.stocked in
+    record {
+      before = search rules;
+      space = search rules;
+      copy = search rules;
+      log = search rules;
+      at = search rules;
+      left = search rules;
+      undisturbed = search rules;
+      seals = gathered_sealed (reader_of a) _ it.gathered (ap (λ x. x.at) kept) (ap (λ x. x.log.base.items) kept) (ap (λ x. x.items) c.sort.ensures ∙ ap (λ x. x.log.set.items) kept) it.updates
+          (ap (λ x. map told x.log.replies.items) kept) it.unfound it.unloaded refl;
+    }

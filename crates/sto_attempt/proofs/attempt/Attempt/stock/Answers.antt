@@ -29,6 +29,7 @@ returns-clause-stocked g c =
     let m = g.T.TxType.meaning a.log.ty.now in
     let few = gathered_bounded m law g.T.Naming.valid (g.T.Naming.sizes a.log.ty.now) (g.B.Body.script a.log.body) a.at a.log.base.items a.log.set.items (map told a.log.replies.items) a.log.set.updates c.requires.log c.requires.some l.seen.items l.loaded.items l.tasks.items l.checks.items l.places.items is.gathered it in
     record {
+      gathered = is.gathered;
       planned = subst (λ (x : List Update). IsPlanned (deal (g.T.TxType.meaning a.log.ty.now) g.T.Naming.valid (g.T.Naming.sizes a.log.ty.now) (g.B.Body.script a.log.body) a.at a.log.base.items a.log.set.items (map told a.log.replies.items) x l.seen.items l.loaded.items l.tasks.items l.checks.items l.places.items)) (sym is.updates) it;
       left = subst (λ (x : List Update). commit_left (deal m g.T.Naming.valid (g.T.Naming.sizes a.log.ty.now) (g.B.Body.script a.log.body) a.at a.log.base.items a.log.set.items (map told a.log.replies.items) x l.seen.items l.loaded.items l.tasks.items l.checks.items l.places.items) (Locking 0) ≤ 2 * round (length m.widths) (words_of m.widths)) (sym is.updates) few;
       updates = c.in_ok-lists.ensures.lists.updates;

@@ -1,13 +1,13 @@
-use Rattle.std.proofs.Common.{inl, inr, ◌≡◌, ◌≢◌, ◌+◌, ◌∙◌, ℕ, true, false, sym, subst, arith, rules, refl}
-use Rattle.sto_core.specs.Event.{is_own_or_free}
+use Rattle.std.proofs.Common.{inl, inr, ◌≡◌, ◌≢◌, ◌+◌, ◌∙◌, ℕ, true, false, sym, subst, arith, rules, refl, ap, pos}
+use Rattle.sto_core.specs.Event.{is_own_or_free, Check}
 use Rattle.sto_core.specs.Versions.{ticket_of, is_free}
 use Rattle.sto_core.proofs.Lists.{locked_is, unlocked_is}
 use Rattle.sto_attempt_log.specs.declared.verdict.Verdict.TheVariants.{Changed}
-use Rattle.sto_attempt_log.specs.CommitPhases.{IsDropping}
+use Rattle.sto_attempt_log.specs.CommitPhases.{IsDropping, expected_of}
 use Rattle.sto_attempt_log.proofs.Checks.{may_check, check_locked, check_changed, check_goes, expected_is, own_free, own_written}
 use Rattle.sto_attempt_log.proofs.Aiming.{checks_next, is_in}
 use Rattle.sto_type.specs.Traits.{of_type}
-use Rattle.sto_attempt.specs.Commits.{deal_of}
+use Rattle.sto_attempt.specs.Commits.{deal_of, committer_of}
 use Rattle.sto_attempt.proofs.ready.Ready.check.Goals.{else-is_locked-via-then-is_locked+else-not-is_written, else-is_locked-via-else-is_locked}
 use Rattle.sto_attempt_log.proofs.Remaining.{check_lowers, refuse_lowers}
 use Rattle.sto_attempt_log.proofs.Space.{space_checks}
@@ -16,6 +16,10 @@ use Rattle.sto_attempt_log.proofs.Undisturbed.{checks_on, not_busy}
 use Rattle.sto_attempt_log.specs.declared.commit_phase.CommitPhase.TheVariants as S
 use Rattle.sto_attempt_log.specs.Verdicts.{HasReason}
 use Rattle.sto_attempt_log.specs.Reasons.{IsByTest}
+use Rattle.sto_attempt_log.proofs.CommitSteps.{check_busy, check_newer, check_on}
+use Rattle.std.proofs.lemmas.Option.{get_or_from_slice_get}
+use Rattle.sto_core.specs.Tells.{Tells}
+use Rattle.sto_core.specs.History.{writes}
 use Rattle.sto_attempt.proofs.ready.Ready.check.Goals as goal
 
 pub check-found-requires : goal.check-found-requires
@@ -59,6 +63,7 @@ returns-then-not-is_written g c =
             let h = c.requires.stands.1 in
             λ one quiet. absurd (not_busy v p n (c.check-found.ensures.tells.learns.alone one) (check_unheld d law c.args.place c.args.ticket a.found_tickets a.loaded_words.items v h p c.get-part.ensures other) busy);
         by = search rules;
+        commits = record { number = n; value = pos 0; tells = subst (λ (q : ℕ). Tells g.T.Naming.valid (g.C.Cells.passes c.args.cells.now) (Check q) v n (pos 0) w) (sym (get_or_from_slice_get a.checks.items k p 0 c.get-part.ensures)) c.check-found.ensures.tells; leads = check_busy (g.T.TxType.meaning a.log.ty.now) (committer_of a) k c.args.ticket n (pos 0) p busy (ap (writes a.updates.items) (get_or_from_slice_get a.checks.items k p 0 c.get-part.ensures) ∙ other) (sym (get_or_from_slice_get a.checks.items k p 0 c.get-part.ensures)); };
         kept = refl;
       };
       kept = refl;
@@ -113,6 +118,10 @@ returns-then-newer-expected g c =
             let it = check_changed d law c.args.place c.args.ticket a.found_tickets a.loaded_words.items v h p c.get-part.ensures w _ n _ c.check-found.ensures.tells own c.expected.result is ne in
             λ one quiet. absurd (omega (arith, it.ends.1.later, (c.check-found.ensures.tells.learns.alone one).1, h.sealed.number));
         by = search rules;
+        commits = record { number = n; value = pos 0; tells = subst (λ (q : ℕ). Tells g.T.Naming.valid (g.C.Cells.passes c.args.cells.now) (Check q) v n (pos 0) w) (sym (get_or_from_slice_get a.checks.items k p 0 c.get-part.ensures)) c.check-found.ensures.tells; leads = check_newer (g.T.TxType.meaning a.log.ty.now) (committer_of a) k c.args.ticket n (pos 0) p c.ticket-newer.result (elim c.else-is_locked.branch [
+          | else-is_locked-via-then-is_locked+else-not-is_written x ↦ inr (ap (writes a.updates.items) (get_or_from_slice_get a.checks.items k p 0 c.get-part.ensures) ∙ is_in x.as_slice.result.now a.updates.items p x.is_written.result true x.as_slice.ensures.items x.is_written.ensures x.if-not-is_written.false)
+          | else-is_locked-via-else-is_locked x ↦ inl (locked_is (is_free n) (sym c.is_locked.ensures ∙ x.if-is_locked.false))
+        ]) (λ e. ne (e ∙ ap (expected_of a.log.base.items a.found_tickets.items a.seen.items) (get_or_from_slice_get a.checks.items k p 0 c.get-part.ensures) ∙ sym c.expected.ensures)) (sym (get_or_from_slice_get a.checks.items k p 0 c.get-part.ensures)) c.ticket-newer.ensures.ticket; };
         kept = refl;
       };
       kept = refl;
@@ -149,6 +158,10 @@ returns g c =
         reason = λ y e. absurd (checks_on a.checks.items (c.args.place + 1) c.args.ticket c.next_check-self.result c.next_check-self.ensures y e);
         alone = λ one quiet. record { early = quiet.early; unaborted = λ y e. absurd (checks_on a.checks.items (c.args.place + 1) c.args.ticket c.next_check-self.result c.next_check-self.ensures y e) };
         by = search rules;
+        commits = record { number = n; value = pos 0; tells = subst (λ (q : ℕ). Tells g.T.Naming.valid (g.C.Cells.passes c.args.cells.now) (Check q) v n (pos 0) w) (sym (get_or_from_slice_get a.checks.items k p 0 c.get-part.ensures)) c.check-found.ensures.tells; leads = check_on (g.T.TxType.meaning a.log.ty.now) (committer_of a) k c.args.ticket n (pos 0) c.next_check-self.result (elim c.else-is_locked.branch [
+          | else-is_locked-via-then-is_locked+else-not-is_written x ↦ inr (ap (writes a.updates.items) (get_or_from_slice_get a.checks.items k p 0 c.get-part.ensures) ∙ is_in x.as_slice.result.now a.updates.items p x.is_written.result true x.as_slice.ensures.items x.is_written.ensures x.if-not-is_written.false)
+          | else-is_locked-via-else-is_locked x ↦ inl (locked_is (is_free n) (sym c.is_locked.ensures ∙ x.if-is_locked.false))
+        ]) (same ∙ c.expected.ensures ∙ sym (ap (expected_of a.log.base.items a.found_tickets.items a.seen.items) (get_or_from_slice_get a.checks.items k p 0 c.get-part.ensures))) c.next_check-self.ensures; };
         kept = refl;
       };
       kept = refl;

@@ -1,4 +1,4 @@
-use Rattle.std.proofs.Common.{[], rules, refl}
+use Rattle.std.proofs.Common.{[], rules, refl, pos}
 use Rattle.sto_attempt_log.proofs.Drawn.{may_decide}
 use Rattle.sto_attempt_log.proofs.Installing.{decide_goes}
 use Rattle.sto_attempt_log.proofs.Aiming.{puts_next}
@@ -6,7 +6,8 @@ use Rattle.sto_attempt_log.proofs.Remaining.{decide_lowers}
 use Rattle.sto_attempt_log.proofs.Space.{space_puts}
 use Rattle.sto_attempt_log.proofs.Undisturbed.{puts_on}
 use Rattle.sto_type.specs.Traits.{of_type}
-use Rattle.sto_attempt.specs.Commits.{deal_of}
+use Rattle.sto_attempt.specs.Commits.{deal_of, committer_of}
+use Rattle.sto_attempt_log.proofs.CommitSteps.{decide_on}
 use Rattle.sto_attempt.proofs.ready.Ready.commit.Goals as goal
 
 pub decide-requires : goal.decide-requires
@@ -32,6 +33,7 @@ returns g c =
         reason = λ y e. absurd (puts_on a.places.items 0 c.args.ticket c.next_put-self.result c.next_put-self.ensures y e);
         alone = λ one quiet. record { early = quiet.early; unaborted = λ y e. absurd (puts_on a.places.items 0 c.args.ticket c.next_put-self.result c.next_put-self.ensures y e) };
         by = search rules;
+        commits = record { number = 0; value = pos 0; tells = c.decide.ensures.tells; leads = decide_on (g.T.TxType.meaning a.log.ty.now) (committer_of a) c.args.ticket 0 (pos 0) c.next_put-self.result c.next_put-self.ensures; };
         kept = refl;
       };
       kept = refl;

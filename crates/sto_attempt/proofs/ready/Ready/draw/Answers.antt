@@ -1,4 +1,4 @@
-use Rattle.std.proofs.Common.{ℕ, List, sym, subst, rules, refl}
+use Rattle.std.proofs.Common.{ℕ, List, sym, subst, rules, refl, pos}
 use Rattle.sto_type.specs.Known.{Parts}
 use Rattle.sto_attempt_log.proofs.Drawn.{the_draw, draw_goes}
 use Rattle.sto_attempt_log.proofs.Aiming.{checks_next}
@@ -6,7 +6,8 @@ use Rattle.sto_attempt_log.proofs.Remaining.{draw_lowers}
 use Rattle.sto_attempt_log.proofs.Space.{space_checks}
 use Rattle.sto_attempt_log.proofs.Undisturbed.{checks_on}
 use Rattle.sto_type.specs.Traits.{of_type}
-use Rattle.sto_attempt.specs.Commits.{deal_of}
+use Rattle.sto_attempt.specs.Commits.{deal_of, committer_of}
+use Rattle.sto_attempt_log.proofs.CommitSteps.{draw_on}
 use Rattle.sto_attempt.proofs.ready.Ready.draw.Goals as goal
 
 pub draw-ticket-requires : goal.draw-ticket-requires
@@ -43,6 +44,7 @@ returns g c =
         reason = λ y e. absurd (checks_on a.checks.items 0 c.draw-ticket.result c.next_check-self.result c.next_check-self.ensures y e);
         alone = λ one quiet. record { early = quiet.early; unaborted = λ y e. absurd (checks_on a.checks.items 0 c.draw-ticket.result c.next_check-self.result c.next_check-self.ensures y e) };
         by = search rules;
+        commits = record { number = tells.0; value = pos 0; tells = tells.2; leads = draw_on (g.T.TxType.meaning a.log.ty.now) (committer_of a) tells.0 (pos 0) c.draw-ticket.result c.next_check-self.result tells.1 c.next_check-self.ensures; };
         kept = refl;
       };
       kept = refl;

@@ -1,9 +1,10 @@
-use Rattle.std.proofs.Common.{inl, ℕ, sym, subst, rules, refl}
+use Rattle.std.proofs.Common.{inl, ℕ, sym, subst, rules, refl, pos}
 use Rattle.sto_attempt_log.specs.CommitPhases.{IsLeaving}
 use Rattle.sto_attempt_log.proofs.Leaving.{drop_goes}
 use Rattle.sto_attempt_log.proofs.Remaining.{drop_lowers}
 use Rattle.sto_type.specs.Traits.{of_type}
-use Rattle.sto_attempt.specs.Commits.{deal_of}
+use Rattle.sto_attempt.specs.Commits.{deal_of, committer_of}
+use Rattle.sto_attempt_log.proofs.CommitSteps.{drop_on}
 use Rattle.sto_attempt.proofs.ready.Ready.drop_entry.Goals as goal
 
 pub returns : goal.returns
@@ -21,6 +22,7 @@ returns g c =
         reason = λ y e. inl e;
         alone = λ one quiet. record { early = quiet.early; unaborted = quiet.unaborted };
         by = search rules;
+        commits = record { number = 0; value = pos 0; tells = c.decide.ensures.tells; leads = drop_on (g.T.TxType.meaning a.log.ty.now) (committer_of a) c.args.ticket 0 (pos 0) c.args.verdict c.len.result c.len.ensures; };
         kept = refl;
       };
       kept = refl;

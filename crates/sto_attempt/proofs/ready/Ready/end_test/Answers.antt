@@ -1,8 +1,8 @@
-use Rattle.std.proofs.Common.{inl, inr, ◌≡◌, ◌≢◌, ◌+◌, ◌*◌, ◌∙◌, ℕ, List, true, false, nat_eq, refl, sym, subst, arith, length, slice_index_or, rules}
+use Rattle.std.proofs.Common.{inl, inr, ◌≡◌, ◌≢◌, ◌+◌, ◌*◌, ◌∙◌, ℕ, List, true, false, nat_eq, refl, sym, subst, arith, length, slice_index_or, rules, pos}
 use Rattle.std.proofs.lemmas.Option.{get_or_from_slice_get}
 use Rattle.std.specs.List.{list_all}
 use Rattle.sto_type.specs.Known.{Parts}
-use Rattle.sto_core.specs.Event.{Close}
+use Rattle.sto_core.specs.Event.{Event, Close}
 use Rattle.sto_core.specs.Tells.{Tells}
 use Rattle.sto_core.specs.Views.{width_in}
 use Rattle.sto_core.specs.Versions.{ticket_of, is_free}
@@ -10,7 +10,7 @@ use Rattle.sto_core.specs.Allowed.{HasPart, MayClose}
 use Rattle.sto_core.proofs.Lists.{locked_is, unlocked_is}
 use Rattle.sto_attempt_log.specs.declared.verdict.Verdict.TheVariants.{Locked}
 use Rattle.sto_attempt_log.specs.CommitPhases.{task, is_so, IsLeaving}
-use Rattle.sto_attempt_log.proofs.Unheld.{part_wide}
+use Rattle.sto_attempt_log.proofs.Unheld.{part_wide, task_loaded}
 use Rattle.sto_attempt_log.proofs.Ending.{odd_version, other_version, same_version, may_end, end_locked, end_newer, end_done, end_fails, space_ended}
 use Rattle.sto_attempt_log.proofs.Judging.{all_true, one_fails, so_of, leaving_as}
 use Rattle.sto_attempt_log.proofs.Aiming.{aimed}
@@ -21,7 +21,8 @@ use Rattle.sto_attempt_log.specs.declared.commit_phase.CommitPhase.TheVariants a
 use Rattle.sto_attempt_log.specs.Verdicts.{HasReason}
 use Rattle.sto_attempt_log.specs.Reasons.{IsByPredicate, IsByTest}
 use Rattle.sto_type.specs.Traits.{of_type}
-use Rattle.sto_attempt.specs.Commits.{deal_of}
+use Rattle.sto_attempt.specs.Commits.{deal_of, committer_of}
+use Rattle.sto_attempt_log.proofs.CommitSteps.{goes_where_so, tested_end, stops_where_not, tested_busy, tested_newer, tested_on, tested_fails}
 use Rattle.sto_attempt.proofs.ready.Ready.end_test.Goals as goal
 
 pub close-found-requires : goal.close-found-requires
@@ -68,6 +69,7 @@ returns-then-is_locked-clause-advanced g c =
         reason = λ y e. inr (subst (λ z. HasReason (S.Tested c.args.place c.args.word c.args.ticket) a.log.set.items w z) e tt);
         alone = λ one quiet. absurd (not_busy v (task d n) k (tells.learns.0.alone one) (end_unheld d law n i t a.found_tickets a.loaded_words.items v h all) busy);
         by = search rules;
+        commits = record { number = k; value = pos 0; tells = subst (λ (e : Event). Tells valid passes e v k (pos 0) w) (sym (tested_end (g.T.TxType.meaning a.log.ty.now) (committer_of a) n i t all)) tells; leads = tested_busy (g.T.TxType.meaning a.log.ty.now) (committer_of a) n i t k (pos 0) p c.len.result all busy (sym at) c.len.ensures; };
         kept = refl;
       };
       kept = refl;
@@ -105,6 +107,7 @@ returns-then-newer-ticket-clause-advanced g c =
         reason = λ y e. inr (subst (λ z. HasReason (S.Tested c.args.place c.args.word c.args.ticket) a.log.set.items w z) e (inr (inr (subst (λ (q : ℕ). IsByTest a.log.set.items w q c.ticket-newer.result) at (subst (λ (r : ℕ). IsByTest a.log.set.items w (task d n) r) found (newer_reason d law n i t a.found_tickets a.loaded_words.items v h all w _ k _ tells (other_version k t differs) differs))))));
         alone = λ one quiet. absurd (omega (arith, it.ends.1.later, (tells.learns.0.alone one).1, h.going.sealed.number));
         by = search rules;
+        commits = record { number = k; value = pos 0; tells = subst (λ (e : Event). Tells valid passes e v k (pos 0) w) (sym (tested_end (g.T.TxType.meaning a.log.ty.now) (committer_of a) n i t all)) tells; leads = tested_newer (g.T.TxType.meaning a.log.ty.now) (committer_of a) n i t k (pos 0) p c.ticket-newer.result c.len-then-newer-ticket.result all free differs (sym at) (sym found) c.len-then-newer-ticket.ensures; };
         kept = refl;
       };
       kept = refl;
@@ -146,6 +149,7 @@ returns-then-all_so-clause-advanced g c =
         reason = λ y e. absurd (aimed_on a.updates.items a.tasks.items (n + 1) c.aim-self.result c.aim-self.ensures y e);
         alone = λ one quiet. record { early = quiet.early; unaborted = λ y e. absurd (aimed_on a.updates.items a.tasks.items (n + 1) c.aim-self.result c.aim-self.ensures y e) };
         by = search rules;
+        commits = record { number = k; value = pos 0; tells = subst (λ (e : Event). Tells valid passes e v k (pos 0) w) (sym (tested_end (g.T.TxType.meaning a.log.ty.now) (committer_of a) n i t all)) tells; leads = tested_on (g.T.TxType.meaning a.log.ty.now) (committer_of a) n i t k (pos 0) c.aim-self.result all free same (goes_where_so a.seen.items a.log.set.items a.loaded_words.items (task d n) good) c.aim-self.ensures; };
         kept = refl;
       };
       kept = refl;
@@ -188,6 +192,7 @@ returns-clause-advanced g c =
         reason = λ y e. inr (subst (λ z. HasReason (S.Tested c.args.place c.args.word c.args.ticket) a.log.set.items w z) e (inr (inl (subst (λ (q : ℕ). IsByPredicate a.log.set.items w q t) at (fails_reason d law n i t a.found_tickets a.loaded_words.items v h all w _ k _ tells again here f.pred f.there f.on f.fails)))));
         alone = λ one quiet. absurd (omega (arith, it.ends.1.later, same, (tells.learns.0.alone one).1, h.going.sealed.number));
         by = search rules;
+        commits = record { number = k; value = pos 0; tells = subst (λ (e : Event). Tells valid passes e v k (pos 0) w) (sym (tested_end (g.T.TxType.meaning a.log.ty.now) (committer_of a) n i t all)) tells; leads = tested_fails (g.T.TxType.meaning a.log.ty.now) (committer_of a) n i t k (pos 0) p t c.len-2.result all free same (stops_where_not d h.going.planned (task d n) a.loaded_words.items (task_loaded d law n v h.going.sealed h.going.planned h.below h.unwritten) bad) (sym at) (sym h.ticket) c.len-2.ensures; };
         kept = refl;
       };
       kept = refl;

@@ -1,10 +1,13 @@
-use Rattle.std.proofs.Common.{inl, ◌+◌, refl, arith, rules}
+use Rattle.std.proofs.Common.{inl, ◌+◌, refl, arith, rules, sym, subst, ℕ, pos}
 use Rattle.sto_item.specs.Pending.{plain}
 use Rattle.sto_attempt_log.proofs.Leaving.{may_unlock, leave_more, leave_last}
 use Rattle.sto_attempt_log.proofs.Remaining.{leave_ends, leave_lowers}
 use Rattle.sto_attempt_log.proofs.Aiming.{leave_by}
 use Rattle.sto_type.specs.Traits.{of_type}
-use Rattle.sto_attempt.specs.Commits.{deal_of}
+use Rattle.sto_attempt.specs.Commits.{deal_of, committer_of}
+use Rattle.sto_attempt_log.proofs.CommitSteps.{written_part, leaves_on, leaves_last}
+use Rattle.sto_core.specs.Event.{Unlock}
+use Rattle.sto_core.specs.Tells.{Tells}
 use Rattle.sto_attempt.proofs.ready.Ready.leave.Goals as goal
 
 pub unlock-requires : goal.unlock-requires
@@ -29,6 +32,7 @@ returns-then-next-end g c =
         reason = λ y e. inl e;
         alone = λ one quiet. record { early = quiet.early; unaborted = quiet.unaborted };
         by = search rules;
+        commits = record { number = 0; value = pos 0; tells = subst (λ (q : ℕ). Tells g.T.Naming.valid (g.C.Cells.passes c.args.cells.now) (Unlock q) (g.C.Cells.view c.args.cells.now) 0 (pos 0) (g.C.Cells.view c.unlock.new.self)) (sym (written_part a.updates.items k (plain c.get.result.now) c.get.ensures)) c.unlock.ensures.tells; leads = leaves_on (g.T.TxType.meaning a.log.ty.now) (committer_of a) k c.args.end 0 (pos 0) c.args.verdict (omega (arith, c.if-next-end.true)); };
         kept = refl;
       };
       kept = refl;
@@ -53,6 +57,7 @@ returns g c =
         reason = λ y e. inl e;
         alone = λ one quiet. record { early = quiet.early; unaborted = quiet.unaborted };
         by = leave_by d c.args.place c.args.end c.args.verdict v c.requires.stands;
+        commits = record { number = 0; value = pos 0; tells = subst (λ (q : ℕ). Tells g.T.Naming.valid (g.C.Cells.passes c.args.cells.now) (Unlock q) (g.C.Cells.view c.args.cells.now) 0 (pos 0) (g.C.Cells.view c.unlock.new.self)) (sym (written_part a.updates.items k (plain c.get.result.now) c.get.ensures)) c.unlock.ensures.tells; leads = leaves_last (g.T.TxType.meaning a.log.ty.now) (committer_of a) k c.args.end 0 (pos 0) c.args.verdict (omega (arith, c.if-next-end.false)); };
         kept = refl;
       };
       kept = refl;

@@ -2,7 +2,7 @@ use Rattle.std.proofs.Common.{◌≡◌, ◌<◌, ◌+◌, ◌∙◌, ℕ, ℤ, 
 use Rattle.std.proofs.lemmas.Option.{get_or_from_slice_get}
 use Rattle.std.proofs.lemmas.Int.{to_z-of_z}
 use Rattle.sto_part.specs.Listed.{Listed}
-use Rattle.sto_core.specs.Event.{Word}
+use Rattle.sto_core.specs.Event.{Event, Word}
 use Rattle.sto_core.specs.Tells.{Tells}
 use Rattle.sto_core.specs.Views.{width_in}
 use Rattle.sto_core.specs.Allowed.{HasPart, MayRead}
@@ -12,7 +12,8 @@ use Rattle.sto_attempt_log.proofs.Unheld.{may_read_word, word_goes}
 use Rattle.sto_attempt_log.proofs.Space.{space_more}
 use Rattle.sto_attempt_log.proofs.Remaining.{word_lowers}
 use Rattle.sto_type.specs.Traits.{of_type}
-use Rattle.sto_attempt.specs.Commits.{deal_of}
+use Rattle.sto_attempt.specs.Commits.{deal_of, committer_of}
+use Rattle.sto_attempt_log.proofs.CommitSteps.{tested_word, tested_more}
 use Rattle.sto_attempt.proofs.ready.Ready.load_tested.Goals as goal
 
 pub word-value-requires : goal.word-value-requires
@@ -62,6 +63,7 @@ returns g c =
         reason = λ y e. absurd e;
         alone = λ one quiet. record { early = quiet.early; unaborted = λ y e. absurd e };
         by = search rules;
+        commits = record { number = 0; value = x; tells = subst (λ (e : Event). Tells g.T.Naming.valid passes e v 0 x w) (sym (tested_word (g.T.TxType.meaning a.log.ty.now) (committer_of a) n i c.args.ticket (omega (arith, c.requires.more, c.requires.width)))) tells; leads = tested_more (g.T.TxType.meaning a.log.ty.now) (committer_of a) n i c.args.ticket 0 x loaded_words.items items (omega (arith, c.requires.more, c.requires.width)); };
         kept = refl;
       };
       kept = refl;

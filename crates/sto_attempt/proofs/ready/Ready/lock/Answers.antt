@@ -1,4 +1,4 @@
-use Rattle.std.proofs.Common.{inr, None, ◌≡◌, ◌<◌, ◌+◌, ◌∙◌, true, false, ap, sym, subst, arith, rules, refl}
+use Rattle.std.proofs.Common.{inr, None, ◌≡◌, ◌<◌, ◌+◌, ◌∙◌, true, false, ap, sym, subst, arith, rules, refl, pos, ℕ}
 use Rattle.sto_part.specs.Listed.{Listed}
 use Rattle.sto_item.specs.Pending.{plain}
 use Rattle.sto_core.specs.Versions.{is_free}
@@ -12,7 +12,7 @@ use Rattle.sto_attempt_log.proofs.Locking.{may_lock, lock_ends, lock_leaves, loc
 use Rattle.sto_attempt_log.proofs.Ending.{space_begun, space_left}
 use Rattle.sto_attempt_log.proofs.Aiming.{aimed, gives_up}
 use Rattle.sto_type.specs.Traits.{of_type}
-use Rattle.sto_attempt.specs.Commits.{deal_of}
+use Rattle.sto_attempt.specs.Commits.{deal_of, committer_of}
 use Rattle.sto_attempt.proofs.Kept.{kept_commit_phase, kept_but_phase}
 use Rattle.sto_attempt.proofs.ready.Ready.lock.Goals.{then-next-len, else-next-len}
 use Rattle.sto_attempt_log.proofs.Remaining.{give_lowers, lock_lowers, locked_lowers}
@@ -22,6 +22,10 @@ use Rattle.sto_attempt_log.proofs.Locking.{lock_unheld}
 use Rattle.sto_attempt_log.proofs.Undisturbed.{aimed_on, early_more, given, not_busy}
 use Rattle.sto_attempt_log.specs.Verdicts.{HasReason, ComesTo}
 use Rattle.sto_attempt_log.proofs.Aiming.{give_by}
+use Rattle.sto_attempt_log.proofs.CommitSteps.{now_at, written_part, lock_busy, lock_more, lock_all}
+use Rattle.sto_core.specs.Event.{Lock}
+use Rattle.sto_core.specs.Tells.{Tells}
+use Rattle.sto_attempt_log.specs.Doing.{after_commit}
 use Rattle.sto_attempt.proofs.ready.Ready.lock.Goals as goal
 
 pub lock-found-requires : goal.lock-found-requires
@@ -58,6 +62,7 @@ returns-then-is_locked g c =
         reason = λ y e. inr (subst (λ z. HasReason (Locking c.args.place) a.log.set.items w z) (given c.args.place (Locked a.at u.0) c.give_up.new.self.commit_phase c.give_up.result c.give_up.ensures.over c.give_up.ensures.more y e) tt);
         alone = λ one quiet. absurd (not_busy v u.0 n (c.lock-found.ensures.tells.learns.alone one) (lock_unheld d law c.args.place a.found_tickets a.loaded_words.items v c.requires.stands u c.get.ensures) busy);
         by = give_by c.args.place a.at c.get.result.now.0 v c.give_up.new.self.commit_phase c.give_up.result c.give_up.ensures.over c.give_up.ensures.more c.requires.stands.phase;
+        commits = record { number = n; value = pos 0; tells = subst (λ (q : ℕ). Tells g.T.Naming.valid (g.C.Cells.passes c.args.cells.now) (Lock q) v n (pos 0) w) (sym (written_part a.updates.items k u c.get.ensures)) c.lock-found.ensures.tells; leads = (λ j. (committer_of (c.give_up.ensures.kept j), c.give_up.result)) ∙ lock_busy (g.T.TxType.meaning a.log.ty.now) (committer_of a) k n (pos 0) c.give_up.new.self.commit_phase c.give_up.result u.0 (sym (written_part a.updates.items k u c.get.ensures)) busy c.give_up.ensures.over c.give_up.ensures.more; };
         kept = kept_commit_phase a c.give_up.new.self c.give_up.ensures.kept;
       };
       kept = kept_but_phase a c.give_up.new.self c.give_up.ensures.kept;
@@ -109,6 +114,12 @@ returns g c =
           ];
         };
         by = search rules;
+        commits = record { number = n; value = pos 0; tells = subst (λ (q : ℕ). Tells g.T.Naming.valid (g.C.Cells.passes c.args.cells.now) (Lock q) v n (pos 0) w) (sym (written_part a.updates.items k u c.get.ensures)) c.lock-found.ensures.tells; leads = elim c.if-next-len.branch [
+          | then-next-len x ↦ subst (λ (s : CommitPhase). now_at (committer_of a) c.push_spare.new.self.items a.loaded_words.items s None ≡ after_commit (g.T.TxType.meaning a.log.ty.now) (Locking k) (committer_of a) n (pos 0)) (sym x.self-is)
+              ((λ j. now_at (committer_of a) (ap (λ (l : Listed FoundTicket). l.items) c.push_spare.ensures j) a.loaded_words.items (Locking (k + 1)) None) ∙ lock_more (g.T.TxType.meaning a.log.ty.now) (committer_of a) k n (pos 0) u.0 c.ticket-ticket.result (sym (written_part a.updates.items k u c.get.ensures)) free c.ticket-ticket.ensures.ticket (omega (arith, x.if-next-len.true, c.len.ensures)))
+          | else-next-len x ↦ subst (λ (s : CommitPhase). now_at (committer_of a) c.push_spare.new.self.items a.loaded_words.items s None ≡ after_commit (g.T.TxType.meaning a.log.ty.now) (Locking k) (committer_of a) n (pos 0)) (sym x.self-is)
+              ((λ j. now_at (committer_of a) (ap (λ (l : Listed FoundTicket). l.items) c.push_spare.ensures j) a.loaded_words.items x.aim-self.result None) ∙ lock_all (g.T.TxType.meaning a.log.ty.now) (committer_of a) k n (pos 0) u.0 c.ticket-ticket.result x.aim-self.result (sym (written_part a.updates.items k u c.get.ensures)) free c.ticket-ticket.ensures.ticket (omega (arith, x.if-next-len.false, c.len.ensures)) x.aim-self.ensures)
+        ]; };
         kept = refl;
       };
       kept = refl;

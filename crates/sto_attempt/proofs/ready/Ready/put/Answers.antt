@@ -1,4 +1,4 @@
-use Rattle.std.proofs.Common.{◌≡◌, ◌+◌, ◌∙◌, ℤ, [], ◌∷◌, ◌++◌, refl, arith, rules, FitsSigned, w64, to_z, of_z}
+use Rattle.std.proofs.Common.{◌≡◌, ◌+◌, ◌∙◌, ℤ, [], ◌∷◌, ◌++◌, refl, arith, rules, FitsSigned, w64, to_z, of_z, ap, sym, subst, ℕ, pos, List}
 use Rattle.std.proofs.lemmas.Int.{to_z-of_z}
 use Rattle.sto_attempt_log.proofs.Installing.{put_is, may_put, put_goes}
 use Rattle.sto_attempt_log.proofs.Aiming.{puts_next}
@@ -6,7 +6,15 @@ use Rattle.sto_attempt_log.proofs.Remaining.{put_lowers}
 use Rattle.sto_attempt_log.proofs.Space.{space_puts}
 use Rattle.sto_attempt_log.proofs.Undisturbed.{puts_on}
 use Rattle.sto_type.specs.Traits.{of_type}
-use Rattle.sto_attempt.specs.Commits.{deal_of}
+use Rattle.sto_attempt.specs.Commits.{deal_of, committer_of}
+use Rattle.sto_attempt_log.proofs.CommitSteps.{put_on}
+use Rattle.std.proofs.lemmas.Option.{get_or_from_slice_get}
+use Rattle.sto_part.specs.declared.change.Change.{Change}
+use Rattle.sto_part.specs.Changes.{applied}
+use Rattle.sto_item.specs.Pending.{Entry as Update, change_at}
+use Rattle.sto_core.specs.Event.{Put}
+use Rattle.sto_core.specs.Tells.{Tells}
+use Rattle.sto_attempt_log.specs.Doing.{value_put}
 use Rattle.sto_attempt.proofs.ready.Ready.put.Goals as goal
 
 pub put-requires : goal.put-requires
@@ -62,6 +70,7 @@ returns g c =
         reason = λ y e. absurd (puts_on a.places.items (c.args.place + 1) c.args.ticket c.next_put-self.result c.next_put-self.ensures y e);
         alone = λ one quiet. record { early = quiet.early; unaborted = λ y e. absurd (puts_on a.places.items (c.args.place + 1) c.args.ticket c.next_put-self.result c.next_put-self.ensures y e) };
         by = search rules;
+        commits = record { number = 0; value = pos 0; tells = subst (λ (q : ℕ × ℕ). Tells g.T.Naming.valid (g.C.Cells.passes c.args.cells.now) (Put q.0 q.1 (value_put (committer_of a) q)) v 0 (pos 0) w) (sym (get_or_from_slice_get a.places.items k y (0, 0) c.get.ensures)) (subst (λ (z : ℤ). Tells g.T.Naming.valid (g.C.Cells.passes c.args.cells.now) (Put y.0 y.1 z) v 0 (pos 0) w) (same ∙ c.install-value.ensures ∙ ap (λ (ch : Change). applied ch old) (c.pending-change.ensures.change ∙ ap (λ (l : List Update). change_at l y.0 y.1) c.requires.copy) ∙ ap (applied (change_at a.updates.items y.0 y.1)) (old_same ∙ c.value.ensures)) c.put.ensures.tells); leads = put_on (g.T.TxType.meaning a.log.ty.now) (committer_of a) k c.args.ticket 0 (pos 0) c.next_put-self.result c.next_put-self.ensures; };
         kept = refl;
       };
       kept = refl;

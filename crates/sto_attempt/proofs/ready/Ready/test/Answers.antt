@@ -1,4 +1,4 @@
-use Rattle.std.proofs.Common.{inr, ◌≡◌, ◌-◌, ◌∙◌, ℕ, ◌++◌, ◌∷◌, [], true, false, ap, sym, subst, arith, slice_index_or, rules, refl}
+use Rattle.std.proofs.Common.{inr, ◌≡◌, ◌-◌, ◌∙◌, ℕ, ◌++◌, ◌∷◌, [], true, false, ap, sym, subst, arith, slice_index_or, rules, refl, pos}
 use Rattle.std.proofs.lemmas.Option.{get_or_from_slice_get}
 use Rattle.sto_part.specs.Listed.{Listed}
 use Rattle.sto_core.specs.Event.{Test}
@@ -18,7 +18,8 @@ use Rattle.sto_attempt_log.proofs.Unheld.{test_unheld}
 use Rattle.sto_attempt_log.specs.declared.commit_phase.CommitPhase.TheVariants as S
 use Rattle.sto_attempt_log.specs.Verdicts.{HasReason}
 use Rattle.sto_type.specs.Traits.{of_type}
-use Rattle.sto_attempt.specs.Commits.{deal_of}
+use Rattle.sto_attempt.specs.Commits.{deal_of, committer_of}
+use Rattle.sto_attempt_log.proofs.CommitSteps.{test_busy, test_on}
 use Rattle.sto_attempt.proofs.ready.Ready.test.Goals as goal
 
 pub test-found-requires : goal.test-found-requires
@@ -56,6 +57,7 @@ returns-then-is_locked g c =
         reason = λ y e. inr (subst (λ z. HasReason (S.Testing c.args.place) a.log.set.items w z) e tt);
         alone = λ one quiet. absurd (not_busy v (task d n) m (tells.learns.alone one) (test_unheld d law n a.found_tickets a.loaded_words.items v c.requires.stands) busy);
         by = search rules;
+        commits = record { number = m; value = pos 0; tells = tells; leads = test_busy (g.T.TxType.meaning a.log.ty.now) (committer_of a) n m (pos 0) p c.len.result busy (sym at) c.len.ensures; };
         kept = refl;
       };
       kept = refl;
@@ -89,6 +91,7 @@ returns g c =
         reason = λ y e. absurd e;
         alone = λ one quiet. record { early = early_more a.at a.found_tickets c.push_spare.new.self (record { part = task d n; ticket = c.ticket-ticket.result }) (ap (λ (l : Listed FoundTicket). l.items) pushed) quiet.early (omega (arith, (tells.learns.alone one).1, c.ticket-ticket.ensures.ticket, c.requires.stands.loading.going.sealed.number)); unaborted = λ y e. absurd e };
         by = search rules;
+        commits = record { number = m; value = pos 0; tells = tells; leads = test_on (g.T.TxType.meaning a.log.ty.now) (committer_of a) n m (pos 0) c.push_spare.new.self.items c.ticket-ticket.result free (ap (λ (l : Listed FoundTicket). l.items) pushed) c.ticket-ticket.ensures.ticket; };
         kept = refl;
       };
       kept = refl;
