@@ -23,7 +23,6 @@ use sto_type::TxType;
 ///
 /// A worker is hired, goes to a thread, runs transactions there, and comes back. Contracts see the objects, their shapes, and what the
 /// workers know that rest here.
-#[derive(Drop)]
 pub struct SharedStore<T: TxType> {
     words: sto_open::Store<T>,
     shapes: Shapes,
@@ -42,6 +41,16 @@ impl<T: TxType> Model for SharedStore<T> {
 
     ghost invariant = { λ s. All (λ w. Serves (of_type T.Naming T.TxType) s.words w.rest.seat) s.idle.items
         × TakeCalls (of_type T.Naming T.TxType) s.words s.shapes.items };
+}
+
+impl<T: TxType + Drop> Drop for SharedStore<T> {
+    fn drop(self) {
+        let SharedStore {
+            words: _words,
+            shapes: _shapes,
+            idle: _idle,
+        } = self;
+    }
 }
 
 /// Why a store was not closed.

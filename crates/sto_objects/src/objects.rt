@@ -24,7 +24,6 @@ type Store = Both<Boxes, Both<Counters, Wide>>;
 /// Boxes, counters, arrays, hash tables, trees and vectors, in this order.
 ///
 /// They have a name of their own: what is proved of a run names this type, and not how its kinds are joined.
-#[derive(Drop)]
 pub struct Objects {
     pub store: Both<Boxes, Both<Counters, Wide>>,
     // How many words each part has: an attempt asks it at each word that it reads.
@@ -39,6 +38,15 @@ impl Objects {
     {
         let widths = widths_of(alloc, &store)?;
         Ok(Objects { store, widths })
+    }
+}
+
+impl Drop for Objects {
+    fn drop(self) {
+        let Objects {
+            store: _store,
+            widths: _widths,
+        } = self;
     }
 }
 
