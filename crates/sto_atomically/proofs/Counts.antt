@@ -53,6 +53,15 @@ pub last_item : {X : Type 0} (P : X → Type 0) (xs : List X) (x : X) → All P 
 last_item P [] x h = All-head P x [] h
 last_item P (y ∷ xs) x h = last_item P xs x (All-tail P y (xs ++ x ∷ []) h)
 
+-- an aborted one at the place is counted
+counted_one : (place : Place) (x : Record) → is_abort x.verdict ≡ true → x.place ≡ place → counted ((x.place.0 == place.0) && ((x.place.1 == place.1) && is_abort x.verdict)) ≡ 1
+counted_one place x abort at =
+    let a : (x.place.0 == place.0) ≡ true = eq-eqb x.place.0 place.0 (ap (λ (p : Place). p.0) at) in
+    let b : (x.place.1 == place.1) ≡ true = eq-eqb x.place.1 place.1 (ap (λ (p : Place). p.1) at) in
+    ap (λ (c : Bool). counted (c && ((x.place.1 == place.1) && is_abort x.verdict))) a
+    ∙ ap (λ (c : Bool). counted (true && (c && is_abort x.verdict))) b
+    ∙ ap (λ (c : Bool). counted (true && (true && c))) abort
+
 module _ (place : Place) (x : Record) where
   -- those before the last one at a place are aborted
   pub all_before : (rs : List Record) → All (λ r. r.place ≡ place) (rs ++ x ∷ []) → InThreads (rs ++ x ∷ []) → All (λ r. is_abort r.verdict ≡ true) rs
@@ -76,12 +85,13 @@ module _ (place : Place) (x : Record) where
 
   -- and an aborted one is counted
   pub some_aborted : is_abort x.verdict ≡ true → (rs : List Record) → x.place ≡ place → 0 < aborted_times place (rs ++ x ∷ [])
-  some_aborted abort [] at =
-      let a : (x.place.0 == place.0) ≡ true = eq-eqb x.place.0 place.0 (ap (λ (p : Place). p.0) at) in
-      let b : (x.place.1 == place.1) ≡ true = eq-eqb x.place.1 place.1 (ap (λ (p : Place). p.1) at) in
-      let one : counted ((x.place.0 == place.0) && ((x.place.1 == place.1) && is_abort x.verdict)) ≡ 1 =
-      ap (λ (c : Bool). counted (c && ((x.place.1 == place.1) && is_abort x.verdict))) a
-      ∙ ap (λ (c : Bool). counted (true && (c && is_abort x.verdict))) b
-      ∙ ap (λ (c : Bool). counted (true && (true && c))) abort in
-      omega (arith, one)
+  some_aborted abort [] at = let one = counted_one place x abort at in omega (arith, one)
   some_aborted abort (r ∷ rs) at = let k = some_aborted abort rs at in omega (arith, k)
+
+  -- where no more than one is aborted, none is before it
+  pub none_before : is_abort x.verdict ≡ true → (rs : List Record) → All (λ r. r.place ≡ place) (rs ++ x ∷ []) → All (λ r. is_abort r.verdict ≡ true) rs → aborted_times place (rs ++ x ∷ []) ≤ 1 → rs ≡ []
+  none_before abort [] at before few = refl
+  none_before abort (r ∷ rs) at before few =
+      let P : Record → Type 0 = λ y. y.place ≡ place in
+      let here = counted_one place r (All-head (λ (y : Record). is_abort y.verdict ≡ true) r rs before) (All-head P r (rs ++ x ∷ []) at) in
+      let there = some_aborted abort rs (last_item P (r ∷ rs) x at) in absurd (omega (arith, here, there, few))

@@ -1,6 +1,6 @@
 -- What one attempt led to, by its record.
 use Rattle.std.specs.List.{All}
-use Rattle.std.proofs.Common.{◌≡◌, ◌<◌, ◌+◌, ℕ, List, [], ◌∷◌, ◌++◌, map, length, Bool, true, false, refl, sym, ap, ◌∙◌, subst, arith, inl, inr}
+use Rattle.std.proofs.Common.{◌≡◌, ◌<◌, ◌≤◌, ◌+◌, ℕ, List, [], ◌∷◌, ◌++◌, map, length, Bool, true, false, refl, sym, ap, ◌∙◌, subst, arith, inl, inr}
 use Rattle.std.specs.Prelude.{Option, Some, None, Result, Ok, MatchOption, IsSome}
 use Rattle.sto_part.specs.Listed.{Listed}
 use Rattle.std.proofs.lemmas.List.{map-append}
@@ -13,6 +13,7 @@ use Rattle.sto_core.specs.declared.view.View.{View}
 use Rattle.sto_attempt_facts.specs.Records.{Place, Record as Told, is_abort, wrote_with, times_written}
 use Rattle.sto_attempt_facts.specs.Counted.{InThreads, times_committed, aborted_times, finished_places}
 use Rattle.sto_attempt_facts.specs.Added.{IsAdded, IsKnown, Grows}
+use Rattle.sto_attempt_facts.specs.Trying.{AreFound}
 use Rattle.sto_transaction.specs.declared.record.Record.{Record}
 use Rattle.sto_transaction.specs.Plain.{plain, verdict}
 use Rattle.sto_transaction.specs.Ran.{HasRun, HasBroken}
@@ -20,8 +21,8 @@ use Rattle.sto_code.specs.Shortened.{short_of}
 use Rattle.sto_code.specs.declared.short_reply.ShortReply.{ShortReply}
 use Rattle.sto_code.specs.declared.tx.Stop.{Stop}
 use Rattle.sto_code.specs.Progs.{Prog, next_within, Runs}
-use Rattle.sto_atomically.specs.Atomic.{HasSeen, TakesNoEffect, IsAtomic, HasTried}
-use Rattle.sto_atomically.proofs.Counts.{abort_wrote, all_aborted, all_before, last_wrote, some_aborted, last_item}
+use Rattle.sto_atomically.specs.Atomic.{HasSeen, TakesNoEffect, HaveAborted, IsAtomic, HasTried}
+use Rattle.sto_atomically.proofs.Counts.{abort_wrote, all_aborted, all_before, last_wrote, some_aborted, none_before, last_item}
 
 seen_known : (v : View) (n : ℕ) → HasSeen v n → IsKnown v n
 seen_known v n (inl h) = inl h
@@ -52,6 +53,20 @@ module _ (m : Meaning) (sizes : List ℕ) (passes : ℕ) (v w : View) (f : Steps
 
   pub aborted_none : is_abort (verdict x.verdict) ≡ true → TakesNoEffect v w
   aborted_none abort t = let e = last_entries t in let none = abort_wrote t (verdict x.verdict) abort in omega (arith, e, none)
+
+  -- it is the only one
+  pub once_aborted : is_abort (verdict x.verdict) ≡ true → HaveAborted v w 1
+  once_aborted abort =
+      let few : aborted_times place (map plain left ++ plain x ∷ []) ≤ 1 = subst (λ (l : List Told). aborted_times place l ≤ 1) new_is ran.added.few in
+      let before = all_before place (plain x) (map plain left) placed (subst InThreads new_is ran.added.threads) in
+      let one : ran.new ≡ plain x ∷ [] = new_is ∙ ap (λ (l : List Told). l ++ plain x ∷ []) (none_before place (plain x) abort (map plain left) placed before few) in
+      record {
+        none = aborted_none abort;
+        verdicts = verdict x.verdict ∷ [];
+        all = refl;
+        starts = ran.starts ∙ ap (λ (l : List Told). v.starts + length l) one;
+        found = (abort, (subst (AreFound w (v.starts + 1)) one ran.found).0, tt);
+      }
 
   pub not_alone : is_abort (verdict x.verdict) ≡ true → passes ≡ 1 → ⊥
   not_alone abort one =
@@ -110,7 +125,7 @@ pub told_tried : {A : Type 0} (m : Meaning) (sizes : List ℕ) (passes : ℕ) (v
     → MatchOption said (is_abort (verdict x.verdict) ≡ true) (λ said. (is_abort (verdict x.verdict) ≡ false) × Runs p (map short_of (map told x.replies.items)) said)
     → HasTried m v w shapes most p (Ok said)
 told_tried m sizes passes v w shapes most p place left x rs ended None all ran h =
-    aborted_none m sizes passes v w (λ rs. next_within shapes most p (map short_of rs)) place left x rs ended all ran h
+    once_aborted m sizes passes v w (λ rs. next_within shapes most p (map short_of rs)) place left x rs ended all ran h
 told_tried m sizes passes v w shapes most p place left x rs ended (Some said) all ran h =
     record_atomic m v w shapes most p place x (λ hs. Runs p hs said)
     (last_added m sizes passes v w (λ rs. next_within shapes most p (map short_of rs)) place left x rs ended all ran)

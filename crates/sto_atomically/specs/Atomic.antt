@@ -1,5 +1,5 @@
 -- What a transaction that was run atomically tells of its value.
-use Rattle.std.specs.Prelude.{◌≡◌, ◌⊎◌, ◌≤◌, ◌+◌, ℕ, List, map, false, Option, Some, None, Result, Ok, Err}
+use Rattle.std.specs.Prelude.{◌≡◌, ◌⊎◌, ◌≤◌, ◌<◌, ◌+◌, ℕ, List, [], ◌∷◌, length, map, true, false, Option, Some, None, Result, Ok, Err}
 use Rattle.sto_part.specs.declared.NoMemory.{NoMemory}
 use Rattle.sto_model.specs.declared.shape.Shape.{Shape}
 use Rattle.sto_model.specs.Told.{Told}
@@ -11,7 +11,7 @@ use Rattle.sto_core.specs.declared.view.Fate.TheVariants.{Committed}
 use Rattle.sto_core.specs.Lists.{Among}
 use Rattle.sto_attempt_facts.specs.Records.{Verdict, IsSince, is_abort, wrote_with}
 use Rattle.sto_attempt_facts.specs.Counted.{times_committed}
-use Rattle.sto_attempt_facts.specs.Told.{IsTold}
+use Rattle.sto_attempt_facts.specs.Told.{IsTold, IsFound}
 use Rattle.sto_attempt_facts.specs.Added.{IsSeenTicket}
 use Rattle.sto_code.specs.Shortened.{short_of}
 use Rattle.sto_code.specs.declared.short_reply.ShortReply.{ShortReply}
@@ -34,9 +34,23 @@ pub record IsCommittedTicket (v : View) (n : ℕ) : Type 0 where
 abbrev pub HasSeen : View → ℕ → Type 0
 HasSeen v n = (n ≤ v.at) ⊎ IsCommittedTicket v n ⊎ IsSeenTicket v n
 
+-- aborted attempts, the first one of this start: each has its finding
+abbrev pub EachFound : View → ℕ → List Verdict → Type 0
+EachFound w start [] = Unit {0}
+EachFound w start (v ∷ vs) = (is_abort v ≡ true) × IsFound w start v × EachFound w (start + 1) vs
+
 -- no transaction of the pass took effect in between
 abbrev pub TakesNoEffect : View → View → Type 0
 TakesNoEffect v w = (t : ℕ) → times_committed t w.entries ≡ times_committed t v.entries
+
+-- so many attempts were made from v to w, one after the other, and each was aborted: it has its finding under the number of its start, of
+-- a part that was locked, or that had been changed by another one. None took effect
+pub record HaveAborted (v w : View) (many : ℕ) : Type 0 where
+  pub none : TakesNoEffect v w
+  pub verdicts : List Verdict
+  pub all : length verdicts ≡ many
+  pub starts : w.starts ≡ v.starts + many
+  pub found : EachFound w (v.starts + 1) verdicts
 
 -- what code does next after each list of replies, on objects of these shapes, where it may ask so many calls
 abbrev pub steps_of : {A : Type 0} → List Shape → ℕ → Prog A → Steps
@@ -57,17 +71,18 @@ pub record IsAtomic {A : Type 0} (m : Meaning) (v w : View) (shapes : List Shape
 -- what one attempt led to: the code said this at its end; or it was aborted, or memory was wanting
 abbrev pub HasTried : {A : Type 0} → Meaning → (v w : View) → List Shape → ℕ → Prog A → Result (Option (Result A Stop)) NoMemory → Type 0
 HasTried m v w shapes most p (Ok (Some said)) = IsAtomic m v w shapes most p (λ hs. Runs p hs said)
-HasTried m v w shapes most p (Ok None) = TakesNoEffect v w
+HasTried m v w shapes most p (Ok None) = HaveAborted v w 1
 HasTried m v w shapes most p (Err error) = TakesNoEffect v w
 
--- what a transaction led to
-abbrev pub HasLed : {A : Type 0} → Meaning → (v w : View) → List Shape → ℕ → Prog A → Result (Done A) Unrun → Type 0
-HasLed m v w shapes most p (Ok (Gave value)) = IsAtomic m v w shapes most p (λ hs. IsGiven p hs value)
-HasLed m v w shapes most p (Ok Cancelled) = IsAtomic m v w shapes most p (λ hs. IsCancelled p hs)
-HasLed m v w shapes most p (Err (Refused call)) = IsAtomic m v w shapes most p (λ hs. IsAsked p hs call)
-HasLed m v w shapes most p (Err Busy) = TakesNoEffect v w
-HasLed m v w shapes most p (Err Worn) = TakesNoEffect v w
-HasLed m v w shapes most p (Err WantsMemory) = TakesNoEffect v w
+-- what a transaction led to, which had so many tries and left so many tickets: all tries were made and aborted; or tries were made, fewer,
+-- and none is left
+abbrev pub HasLed : {A : Type 0} → Meaning → (v w : View) → (tries left : ℕ) → List Shape → ℕ → Prog A → Result (Done A) Unrun → Type 0
+HasLed m v w tries left shapes most p (Ok (Gave value)) = IsAtomic m v w shapes most p (λ hs. IsGiven p hs value)
+HasLed m v w tries left shapes most p (Ok Cancelled) = IsAtomic m v w shapes most p (λ hs. IsCancelled p hs)
+HasLed m v w tries left shapes most p (Err (Refused call)) = IsAtomic m v w shapes most p (λ hs. IsAsked p hs call)
+HasLed m v w tries left shapes most p (Err Busy) = HaveAborted v w tries
+HasLed m v w tries left shapes most p (Err Worn) = (left ≡ 0) × ((many : ℕ) × (many < tries) × HaveAborted v w many)
+HasLed m v w tries left shapes most p (Err WantsMemory) = TakesNoEffect v w
 
 -- others were not in its way
 abbrev pub IsUndisturbed : {A : Type 0} → Result (Done A) Unrun → Type 0

@@ -38,8 +38,8 @@ where
     ensures rests { IsAtRest (T.meaning ty.now) (T.sizes ty.now) (C.view cells.new) }
     ensures left { left.new ≤ (C.view cells.new).draws }
     ensures grows { Grows (C.view cells.old) (C.view cells.new) }
-    ensures led { HasLed (T.meaning ty.now) (C.view cells.old) (C.view cells.new) shapes.now.items (K.most code.now) (K.does code.now)
-        result }
+    ensures led { HasLed (T.meaning ty.now) (C.view cells.old) (C.view cells.new) tries left.new shapes.now.items (K.most code.now)
+        (K.does code.now) result }
     ensures alone { C.passes cells.old ≡ 1 → 1 ≤ tries → IsUndisturbed result }
     ensures same { C.same cells.old cells.new }
 {

@@ -73,6 +73,7 @@ where
 }
 
 // What the code says at its end by the record of an attempt; none where that was aborted.
+#[tactic(auto, using(sto_code::proofs::Following::runs_of))]
 fn said_by<K: Code>(code: &K, last: &Record) -> Option<Result<K::Out, Stop>>
 where
     K::Out: Drop,

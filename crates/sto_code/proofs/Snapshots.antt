@@ -3,12 +3,13 @@ use Rattle.std.proofs.Common.{◌≡◌, ◌<◌, ◌+◌, ℕ, ℤ, pos, List, 
 use Rattle.std.specs.Prelude.{slice_index_or}
 use Rattle.std.proofs.lemmas.List.{map-append, length-map, take_all, take_more_set}
 use Rattle.sto_code.specs.Calls.{call_of, number}
-use Rattle.sto_code.specs.Progs.{Prog, Asks, Runs, IsAsked, HasAsked}
+use Rattle.sto_code.specs.Progs.{Prog, Asks, Gives, IsAsked, Follows}
 use Rattle.sto_code.specs.Snapshots.{each_got, HasGot}
 use Rattle.sto_model.specs.declared.call.Call.{Call}
 use Rattle.sto_code.specs.declared.short_reply.ShortReply.{ShortReply}
 use Rattle.sto_code.specs.declared.tx.Stop.{Stop}
 use Rattle.sto_code.specs.declared.tx.Stop.TheVariants as stops
+use Rattle.sto_code.proofs.Following.{asks_on, follows_asked}
 
 -- the first n were got
 pub record IsSoFar (n : ℕ) (held : List ℤ) (old new : List ShortReply) : Type 0 where
@@ -21,9 +22,9 @@ pub none_so_far : (held : List ℤ) (old : List ShortReply) → IsSoFar 0 held o
 none_so_far held old = record { heard = []; first = refl; many = refl; are = refl }
 
 -- one more
-pub one_more : (n : ℕ) (held : List ℤ) (old mid new : List ShortReply) (x : ℤ) → n < length held → IsSoFar n held old mid → (h : ShortReply) × (mid ≡ h ∷ new) × (x ≡ number h)
+pub one_more : (n : ℕ) (held : List ℤ) (old mid new : List ShortReply) (object : ℕ) (x : ℤ) → n < length held → IsSoFar n held old mid → Follows {A = ℤ} (Asks (call_of object 0 (pos 0) (pos 0)) (λ h. Gives (number h))) mid new (Ok x)
     → IsSoFar (n + 1) (set held n x) old new
-one_more n held old mid new x few so asked = record {
+one_more n held old mid new object x few so f = let asked = follows_asked (call_of object 0 (pos 0) (pos 0)) number mid new (Ok x) f in record {
   heard = so.heard ++ asked.0 ∷ [];
   first = so.first ∙ ap (λ l. so.heard ++ l) asked.1 ∙ sym (append_assoc so.heard (asked.0 ∷ []) new);
   many = (let a = so.many in let b = length-append so.heard (asked.0 ∷ []) in omega (arith, a, b));
@@ -36,30 +37,25 @@ all_got objects n held old new e f so = (so.heard, so.first, so.many ∙ sym e, 
 
 -- the next one was not answered
 pub not_reached : (objects : List ℕ) (n : ℕ) (held : List ℤ) (old mid new : List ShortReply) (object : ℕ) (s : Stop) → n < length objects → slice_index_or objects n 0 ≡ object → IsSoFar n held old mid
-    → HasAsked {R = ℤ} (call_of object 0 (pos 0) (pos 0)) number mid new (Err s) → HasGot objects old new (Err s)
-not_reached objects n held old mid new object s few is so asked =
+    → Follows {A = ℤ} (Asks (call_of object 0 (pos 0) (pos 0)) (λ h. Gives (number h))) mid new (Err s) → HasGot objects old new (Err s)
+not_reached objects n held old mid new object s few is so f =
+    let asked = follows_asked (call_of object 0 (pos 0) (pos 0)) number mid new (Err s) f in
     let reached : length old ≡ n = ap length so.first ∙ ap (λ l. length (so.heard ++ l)) asked.0 ∙ ap length (append-nil so.heard) ∙ so.many in (
       omega (arith, few, reached),
       asked.1 ∙ ap (λ o. stops.Asks (call_of o 0 (pos 0) (pos 0))) (sym is ∙ ap (λ i. slice_index_or objects i 0) (sym reached)),
     )
 
--- code that asks a call goes on with what is heard first
-asks_on : {A : Type 0} (call : Call) (k : ShortReply → Prog A) (h : ShortReply) (hs : List ShortReply) (r : Result A Stop) → Runs (k h) hs r → Runs (Asks call k) (h ∷ hs) r
-asks_on call k h hs (Ok a) g = g
-asks_on call k h hs (Err (stops.Asks c)) g = g
-asks_on call k h hs (Err stops.Cancels) g = g
-
 module _ {X A : Type 0} (get : X → (ℤ → Prog A) → Prog A) (object : X → ℕ)
     (asks : (x : X) (then : ℤ → Prog A) → get x then ≡ Asks (call_of (object x) 0 (pos 0) (pos 0)) (λ h. then (number h))) where
-  heard_on : (xs : List X) (then : List ℤ → Prog A) (hs new : List ShortReply) (r : Result A Stop) → length hs ≡ length xs → Runs (then (map number hs)) new r
-      → Runs (each_got get xs then) (hs ++ new) r
-  heard_on [] then [] new r e g = g
-  heard_on [] then (h ∷ hs) new r e g = absurd (omega (arith, e))
-  heard_on (x ∷ xs) then [] new r e g = absurd (omega (arith, e))
-  heard_on (x ∷ xs) then (h ∷ hs) new r e g =
-      subst (λ (p : Prog A). Runs p (h ∷ (hs ++ new)) r) (sym (asks x (λ v. each_got get xs (λ vs. then (v ∷ vs)))))
-      (asks_on (call_of (object x) 0 (pos 0) (pos 0)) (λ h. each_got get xs (λ vs. then (number h ∷ vs))) h (hs ++ new) r
-      (heard_on xs (λ vs. then (number h ∷ vs)) hs new r (omega (arith, e)) g))
+  heard_on : (xs : List X) (then : List ℤ → Prog A) (hs mid new : List ShortReply) (r : Result A Stop) → length hs ≡ length xs → Follows (then (map number hs)) mid new r
+      → Follows (each_got get xs then) (hs ++ mid) new r
+  heard_on [] then [] mid new r e g = g
+  heard_on [] then (h ∷ hs) mid new r e g = absurd (omega (arith, e))
+  heard_on (x ∷ xs) then [] mid new r e g = absurd (omega (arith, e))
+  heard_on (x ∷ xs) then (h ∷ hs) mid new r e g =
+      subst (λ (p : Prog A). Follows p (h ∷ (hs ++ mid)) new r) (sym (asks x (λ v. each_got get xs (λ vs. then (v ∷ vs)))))
+      (asks_on (call_of (object x) 0 (pos 0) (pos 0)) (λ h. each_got get xs (λ vs. then (number h ∷ vs))) h (hs ++ mid) new r
+      (heard_on xs (λ vs. then (number h ∷ vs)) hs mid new r (omega (arith, e)) g))
 
   next_asked : (xs : List X) (then : List ℤ → Prog A) (hs : List ShortReply) → length hs < length (map object xs)
       → IsAsked (each_got get xs then) hs (call_of (slice_index_or (map object xs) (length hs) 0) 0 (pos 0) (pos 0))
@@ -71,12 +67,12 @@ module _ {X A : Type 0} (get : X → (ℤ → Prog A) → Prog A) (object : X �
       (next_asked xs (λ vs. then (number h ∷ vs)) hs (omega (arith, few)))
 
   -- code that gets these objects goes on with what they hold
-  pub got_on : (xs : List X) (then : List ℤ → Prog A) (old new : List ShortReply) (held : List ℤ) (r : Result A Stop) → HasGot (map object xs) old new (Ok held) → Runs (then held) new r
-      → Runs (each_got get xs then) old r
-  got_on xs then old new held r got g =
-      subst (λ (l : List ShortReply). Runs (each_got get xs then) l r) (sym got.1)
-      (heard_on xs then got.0 new r (got.2 ∙ length-map xs object) (subst (λ (vs : List ℤ). Runs (then vs) new r) got.3 g))
+  pub got_on : (xs : List X) (then : List ℤ → Prog A) (old mid new : List ShortReply) (held : List ℤ) (r : Result A Stop) → HasGot (map object xs) old mid (Ok held) → Follows (then held) mid new r
+      → Follows (each_got get xs then) old new r
+  got_on xs then old mid new held r got g =
+      subst (λ (l : List ShortReply). Follows (each_got get xs then) l new r) (sym got.1)
+      (heard_on xs then got.0 mid new r (got.2 ∙ length-map xs object) (subst (λ (vs : List ℤ). Follows (then vs) mid new r) got.3 g))
 
   -- or asks the next of them
-  pub got_stop : (xs : List X) (then : List ℤ → Prog A) (old new : List ShortReply) (s : Stop) → HasGot (map object xs) old new (Err s) → Runs (each_got get xs then) old (Err s)
-  got_stop xs then old new s got = subst (λ (y : Stop). Runs (each_got get xs then) old (Err y)) (sym got.1) (next_asked xs then old got.0)
+  pub got_stop : (xs : List X) (then : List ℤ → Prog A) (old mid new : List ShortReply) (s : Stop) → HasGot (map object xs) old mid (Err s) → Follows (each_got get xs then) old new (Err s)
+  got_stop xs then old mid new s got = subst (λ (y : Stop). Follows (each_got get xs then) old new (Err y)) (sym got.1) (next_asked xs then old got.0)

@@ -67,6 +67,24 @@ abbrev pub HasAsked : {R : Type 0} → Call → (ShortReply → R) → (old new 
 HasAsked call answer old new (Ok x) = (h : ShortReply) × (old ≡ h ∷ new) × (x ≡ answer h)
 HasAsked call answer old new (Err s) = (old ≡ []) × (s ≡ stops.Asks call)
 
+-- one part of code, and then the part that its value tells
+abbrev pub chain : {A B : Type 0} → Prog A → (A → Prog B) → Prog B
+chain (Asks call k) q = Asks call (λ h. chain (k h) q)
+chain (Gives a) q = q a
+chain Cancels q = Cancels
+
+-- over what is heard first it gives the value, and the rest is left for what comes after it
+abbrev pub Leaves : {A : Type 0} → Prog A → (old new : List ShortReply) → A → Type 0
+Leaves (Asks call k) [] new a = ⊥
+Leaves (Asks call k) (h ∷ hs) new a = Leaves (k h) hs new a
+Leaves (Gives b) old new a = (a ≡ b) × (new ≡ old)
+Leaves Cancels old new a = ⊥
+
+-- a part of code: it gives the value and leaves the rest, or it stops where the tree stops
+abbrev pub Follows : {A : Type 0} → Prog A → (old new : List ShortReply) → Result A Stop → Type 0
+Follows p old new (Ok a) = Leaves p old new a
+Follows p old new (Err s) = Runs p old (Err s)
+
 -- what is done next by what a run answered, where there is room for one more call or not
 abbrev pub next_by : {A : Type 0} → List Shape → Bool → Result A Stop → Next
 next_by shapes room (Ok a) = Commit

@@ -1,6 +1,6 @@
 //! Code that may be run as a transaction.
 ghost use Rattle.std.specs.Prelude.{◌≡◌, ℕ};
-ghost use Rattle.sto_code.specs.Progs.{Prog, Runs};
+ghost use Rattle.sto_code.specs.Progs.{Prog, Follows};
 
 use crate::tx::{Stop, Tx};
 
@@ -22,7 +22,7 @@ pub trait Code {
     fn most(&self) -> u32
         ensures { result ≡ most self.now };
 
-    /// Runs it over what its calls were answered.
+    /// Runs it over what its calls were answered, from the first on; what it needs not is left.
     fn run(&self, tx: &mut Tx<'_>) -> Result<Self::Out, Stop>
-        ensures { Runs (does self.now) tx.old result };
+        ensures { Follows (does self.now) tx.old tx.new result };
 }

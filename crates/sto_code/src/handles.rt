@@ -1,7 +1,8 @@
 //! The objects of a store, as code names them, and their calls.
 ghost use Rattle.std.specs.Prelude.{◌≡◌, pos};
-ghost use Rattle.sto_code.specs.Calls.{call_of, number, perhaps, is_yes, is_done, test_number};
-ghost use Rattle.sto_code.specs.Progs.{HasAsked};
+ghost use Rattle.sto_code.specs.Calls.{call_of, test_number};
+ghost use Rattle.sto_code.specs.Progs.{Follows, Gives};
+ghost use Rattle.sto_code.specs.Steps.{box_get, box_set, counter_get, counter_add, counter_test, counter_take, array_get, array_set, array_add, hash_get, hash_put, hash_remove, hash_has, hash_len, tree_get, tree_put, tree_remove, tree_len, tree_next, tree_count, vector_get, vector_test, vector_len, vector_push, vector_pop};
 
 use crate::short_reply::{is_done, is_yes, number, perhaps};
 use crate::tx::{Stop, Tx};
@@ -35,10 +36,11 @@ pub struct BoxId {
     pub number: u32,
 }
 
+#[tactic(auto, using(crate::proofs::Following::asked_follows))]
 impl BoxId {
     /// Its value.
     pub fn get(self, tx: &mut Tx<'_>) -> Result<i64, Stop>
-        ensures { HasAsked (call_of self.number 0 (pos 0) (pos 0)) number tx.old tx.new result }
+        ensures { Follows (box_get self Gives) tx.old tx.new result }
     {
         let heard = tx.ask(call(self.number, 0, 0, 0))?;
         Ok(number(heard))
@@ -46,7 +48,7 @@ impl BoxId {
 
     /// Makes this its value.
     pub fn set(self, tx: &mut Tx<'_>, value: i64) -> Result<(), Stop>
-        ensures { HasAsked (call_of self.number 1 value (pos 0)) (λ _. tt) tx.old tx.new result }
+        ensures { Follows (box_set self value (Gives tt)) tx.old tx.new result }
     {
         let _heard = tx.ask(call(self.number, 1, value, 0))?;
         Ok(())
@@ -59,10 +61,11 @@ pub struct CounterId {
     pub number: u32,
 }
 
+#[tactic(auto, using(crate::proofs::Following::asked_follows))]
 impl CounterId {
     /// Its value.
     pub fn get(self, tx: &mut Tx<'_>) -> Result<i64, Stop>
-        ensures { HasAsked (call_of self.number 0 (pos 0) (pos 0)) number tx.old tx.new result }
+        ensures { Follows (counter_get self Gives) tx.old tx.new result }
     {
         let heard = tx.ask(call(self.number, 0, 0, 0))?;
         Ok(number(heard))
@@ -70,7 +73,7 @@ impl CounterId {
 
     /// Adds to it; false where the sum would be no number of 64 bits, and then it stays.
     pub fn add(self, tx: &mut Tx<'_>, by: i64) -> Result<bool, Stop>
-        ensures { HasAsked (call_of self.number 2 by (pos 0)) is_done tx.old tx.new result }
+        ensures { Follows (counter_add self by Gives) tx.old tx.new result }
     {
         let heard = tx.ask(call(self.number, 2, by, 0))?;
         Ok(is_done(heard))
@@ -78,7 +81,7 @@ impl CounterId {
 
     /// Whether its value compares so.
     pub fn test(self, tx: &mut Tx<'_>, test: Test, than: i64) -> Result<bool, Stop>
-        ensures { HasAsked (call_of self.number 3 (pos (test_number test)) than) is_yes tx.old tx.new result }
+        ensures { Follows (counter_test self test than Gives) tx.old tx.new result }
     {
         let heard = tx.ask(call(self.number, 3, test_number(test), than))?;
         Ok(is_yes(heard))
@@ -86,7 +89,7 @@ impl CounterId {
 
     /// Takes from it; false where it has less, or the rest would be no number of 64 bits, and then it stays.
     pub fn take(self, tx: &mut Tx<'_>, by: i64) -> Result<bool, Stop>
-        ensures { HasAsked (call_of self.number 4 by (pos 0)) is_yes tx.old tx.new result }
+        ensures { Follows (counter_take self by Gives) tx.old tx.new result }
     {
         let heard = tx.ask(call(self.number, 4, by, 0))?;
         Ok(is_yes(heard))
@@ -99,10 +102,11 @@ pub struct ArrayId {
     pub number: u32,
 }
 
+#[tactic(auto, using(crate::proofs::Following::asked_follows))]
 impl ArrayId {
     /// The value at a place; None where it has no such place.
     pub fn get(self, tx: &mut Tx<'_>, place: i64) -> Result<Option<i64>, Stop>
-        ensures { HasAsked (call_of self.number 0 place (pos 0)) perhaps tx.old tx.new result }
+        ensures { Follows (array_get self place Gives) tx.old tx.new result }
     {
         let heard = tx.ask(call(self.number, 0, place, 0))?;
         Ok(perhaps(heard))
@@ -110,7 +114,7 @@ impl ArrayId {
 
     /// Makes this the value at a place; false where it has no such place.
     pub fn set(self, tx: &mut Tx<'_>, place: i64, value: i64) -> Result<bool, Stop>
-        ensures { HasAsked (call_of self.number 1 place value) is_done tx.old tx.new result }
+        ensures { Follows (array_set self place value Gives) tx.old tx.new result }
     {
         let heard = tx.ask(call(self.number, 1, place, value))?;
         Ok(is_done(heard))
@@ -118,7 +122,7 @@ impl ArrayId {
 
     /// Adds to the value at a place; false where it has no such place, or the sum would be no number of 64 bits.
     pub fn add(self, tx: &mut Tx<'_>, place: i64, by: i64) -> Result<bool, Stop>
-        ensures { HasAsked (call_of self.number 2 place by) is_done tx.old tx.new result }
+        ensures { Follows (array_add self place by Gives) tx.old tx.new result }
     {
         let heard = tx.ask(call(self.number, 2, place, by))?;
         Ok(is_done(heard))
@@ -131,10 +135,11 @@ pub struct HashId {
     pub number: u32,
 }
 
+#[tactic(auto, using(crate::proofs::Following::asked_follows))]
 impl HashId {
     /// The value of a key.
     pub fn get(self, tx: &mut Tx<'_>, key: i64) -> Result<Option<i64>, Stop>
-        ensures { HasAsked (call_of self.number 0 key (pos 0)) perhaps tx.old tx.new result }
+        ensures { Follows (hash_get self key Gives) tx.old tx.new result }
     {
         let heard = tx.ask(call(self.number, 0, key, 0))?;
         Ok(perhaps(heard))
@@ -142,7 +147,7 @@ impl HashId {
 
     /// Gives a key this value; false where the key is new and its bucket is full.
     pub fn put(self, tx: &mut Tx<'_>, key: i64, value: i64) -> Result<bool, Stop>
-        ensures { HasAsked (call_of self.number 5 key value) is_done tx.old tx.new result }
+        ensures { Follows (hash_put self key value Gives) tx.old tx.new result }
     {
         let heard = tx.ask(call(self.number, 5, key, value))?;
         Ok(is_done(heard))
@@ -150,7 +155,7 @@ impl HashId {
 
     /// Takes a key away; false where it is not there.
     pub fn remove(self, tx: &mut Tx<'_>, key: i64) -> Result<bool, Stop>
-        ensures { HasAsked (call_of self.number 6 key (pos 0)) is_yes tx.old tx.new result }
+        ensures { Follows (hash_remove self key Gives) tx.old tx.new result }
     {
         let heard = tx.ask(call(self.number, 6, key, 0))?;
         Ok(is_yes(heard))
@@ -158,7 +163,7 @@ impl HashId {
 
     /// Whether a key is there.
     pub fn has(self, tx: &mut Tx<'_>, key: i64) -> Result<bool, Stop>
-        ensures { HasAsked (call_of self.number 7 key (pos 0)) is_yes tx.old tx.new result }
+        ensures { Follows (hash_has self key Gives) tx.old tx.new result }
     {
         let heard = tx.ask(call(self.number, 7, key, 0))?;
         Ok(is_yes(heard))
@@ -166,7 +171,7 @@ impl HashId {
 
     /// How many keys there are.
     pub fn len(self, tx: &mut Tx<'_>) -> Result<i64, Stop>
-        ensures { HasAsked (call_of self.number 8 (pos 0) (pos 0)) number tx.old tx.new result }
+        ensures { Follows (hash_len self Gives) tx.old tx.new result }
     {
         let heard = tx.ask(call(self.number, 8, 0, 0))?;
         Ok(number(heard))
@@ -179,10 +184,11 @@ pub struct TreeId {
     pub number: u32,
 }
 
+#[tactic(auto, using(crate::proofs::Following::asked_follows))]
 impl TreeId {
     /// The value of a key.
     pub fn get(self, tx: &mut Tx<'_>, key: i64) -> Result<Option<i64>, Stop>
-        ensures { HasAsked (call_of self.number 0 key (pos 0)) perhaps tx.old tx.new result }
+        ensures { Follows (tree_get self key Gives) tx.old tx.new result }
     {
         let heard = tx.ask(call(self.number, 0, key, 0))?;
         Ok(perhaps(heard))
@@ -190,7 +196,7 @@ impl TreeId {
 
     /// Gives a key this value; false where the key is new and the tree is full.
     pub fn put(self, tx: &mut Tx<'_>, key: i64, value: i64) -> Result<bool, Stop>
-        ensures { HasAsked (call_of self.number 5 key value) is_done tx.old tx.new result }
+        ensures { Follows (tree_put self key value Gives) tx.old tx.new result }
     {
         let heard = tx.ask(call(self.number, 5, key, value))?;
         Ok(is_done(heard))
@@ -198,7 +204,7 @@ impl TreeId {
 
     /// Takes a key away; false where it is not there.
     pub fn remove(self, tx: &mut Tx<'_>, key: i64) -> Result<bool, Stop>
-        ensures { HasAsked (call_of self.number 6 key (pos 0)) is_yes tx.old tx.new result }
+        ensures { Follows (tree_remove self key Gives) tx.old tx.new result }
     {
         let heard = tx.ask(call(self.number, 6, key, 0))?;
         Ok(is_yes(heard))
@@ -206,7 +212,7 @@ impl TreeId {
 
     /// How many keys there are.
     pub fn len(self, tx: &mut Tx<'_>) -> Result<i64, Stop>
-        ensures { HasAsked (call_of self.number 8 (pos 0) (pos 0)) number tx.old tx.new result }
+        ensures { Follows (tree_len self Gives) tx.old tx.new result }
     {
         let heard = tx.ask(call(self.number, 8, 0, 0))?;
         Ok(number(heard))
@@ -214,7 +220,7 @@ impl TreeId {
 
     /// The least key from this one on.
     pub fn next(self, tx: &mut Tx<'_>, from: i64) -> Result<Option<i64>, Stop>
-        ensures { HasAsked (call_of self.number 9 from (pos 0)) perhaps tx.old tx.new result }
+        ensures { Follows (tree_next self from Gives) tx.old tx.new result }
     {
         let heard = tx.ask(call(self.number, 9, from, 0))?;
         Ok(perhaps(heard))
@@ -222,7 +228,7 @@ impl TreeId {
 
     /// How many keys there are from the first to the last.
     pub fn count(self, tx: &mut Tx<'_>, first: i64, last: i64) -> Result<i64, Stop>
-        ensures { HasAsked (call_of self.number 10 first last) number tx.old tx.new result }
+        ensures { Follows (tree_count self first last Gives) tx.old tx.new result }
     {
         let heard = tx.ask(call(self.number, 10, first, last))?;
         Ok(number(heard))
@@ -235,10 +241,11 @@ pub struct VectorId {
     pub number: u32,
 }
 
+#[tactic(auto, using(crate::proofs::Following::asked_follows))]
 impl VectorId {
     /// The value at a place; None past its end.
     pub fn get(self, tx: &mut Tx<'_>, place: i64) -> Result<Option<i64>, Stop>
-        ensures { HasAsked (call_of self.number 0 place (pos 0)) perhaps tx.old tx.new result }
+        ensures { Follows (vector_get self place Gives) tx.old tx.new result }
     {
         let heard = tx.ask(call(self.number, 0, place, 0))?;
         Ok(perhaps(heard))
@@ -246,7 +253,7 @@ impl VectorId {
 
     /// Whether its length compares so.
     pub fn test(self, tx: &mut Tx<'_>, test: Test, than: i64) -> Result<bool, Stop>
-        ensures { HasAsked (call_of self.number 3 (pos (test_number test)) than) is_yes tx.old tx.new result }
+        ensures { Follows (vector_test self test than Gives) tx.old tx.new result }
     {
         let heard = tx.ask(call(self.number, 3, test_number(test), than))?;
         Ok(is_yes(heard))
@@ -254,7 +261,7 @@ impl VectorId {
 
     /// How many values there are.
     pub fn len(self, tx: &mut Tx<'_>) -> Result<i64, Stop>
-        ensures { HasAsked (call_of self.number 8 (pos 0) (pos 0)) number tx.old tx.new result }
+        ensures { Follows (vector_len self Gives) tx.old tx.new result }
     {
         let heard = tx.ask(call(self.number, 8, 0, 0))?;
         Ok(number(heard))
@@ -262,7 +269,7 @@ impl VectorId {
 
     /// Adds a value last; false where it is full.
     pub fn push(self, tx: &mut Tx<'_>, value: i64) -> Result<bool, Stop>
-        ensures { HasAsked (call_of self.number 12 value (pos 0)) is_done tx.old tx.new result }
+        ensures { Follows (vector_push self value Gives) tx.old tx.new result }
     {
         let heard = tx.ask(call(self.number, 12, value, 0))?;
         Ok(is_done(heard))
@@ -270,7 +277,7 @@ impl VectorId {
 
     /// Takes the last value away.
     pub fn pop(self, tx: &mut Tx<'_>) -> Result<Option<i64>, Stop>
-        ensures { HasAsked (call_of self.number 13 (pos 0) (pos 0)) perhaps tx.old tx.new result }
+        ensures { Follows (vector_pop self Gives) tx.old tx.new result }
     {
         let heard = tx.ask(call(self.number, 13, 0, 0))?;
         Ok(perhaps(heard))

@@ -8,17 +8,23 @@ use Rattle.sto_model.specs.Rows.{Row}
 use Rattle.sto_model.specs.Run.{State}
 use Rattle.sto_code.specs.declared.handles.BoxId.{BoxId}
 use Rattle.sto_code.specs.declared.snapshot.Held.{Held}
-use Rattle.sto_code.specs.Progs.{Prog, Gives, Cancels}
+use Rattle.sto_code.specs.Progs.{Prog, Gives, Cancels, chain}
 use Rattle.sto_code.specs.Steps.{box_get, box_set}
 use Rattle.sto_atomically.specs.declared.outcome.Done.{Done}
 use Rattle.sto_atomically.specs.declared.outcome.Unrun.{Unrun}
 use Rattle.sto_library.specs.Keeping.{IfGave}
 
--- it takes an amount from one account, where it is there, and adds it to another; it gives what was there
+-- it takes an amount from an account, where it is there; it gives what was there
+abbrev pub withdraw : BoxId → ℤ → Prog ℤ
+withdraw from amount = box_get from (λ x. if int_lt x amount then Cancels else box_set from (wrapped_difference x amount) (Gives x))
+
+-- it adds an amount to an account
+abbrev pub deposit : BoxId → ℤ → Prog (Unit {0})
+deposit to amount = box_get to (λ y. box_set to (wrapped_sum y amount) (Gives tt))
+
+-- one after the other: it takes an amount from one account, where it is there, and adds it to another; it gives what was there
 abbrev pub transfer : BoxId → BoxId → ℤ → Prog ℤ
-transfer from to amount =
-    box_get from (λ x. if int_lt x amount then Cancels else
-    box_set from (wrapped_difference x amount) (box_get to (λ y. box_set to (wrapped_sum y amount) (Gives x))))
+transfer from to amount = chain (withdraw from amount) (λ x. chain (deposit to amount) (λ _. Gives x))
 
 -- the three accounts at the opening
 abbrev pub accounts : List Shape

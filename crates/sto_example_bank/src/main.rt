@@ -2,7 +2,8 @@
 #![tactic(auto)]
 
 ghost use Rattle.std.specs.Prelude.{IfOk};
-ghost use Rattle.sto_example_bank.specs.Accounts.{transfer, IsDay};
+ghost use Rattle.sto_example_bank.specs.Accounts.{withdraw, deposit, transfer, IsDay};
+ghost use Rattle.sto_code.specs.Progs.{Follows};
 
 use std::alloc::Global;
 use std::io;
@@ -11,6 +12,26 @@ use sto_library::{
     BoxId, Code, Done, Held, Schema, Snapshot, State, Stop, StoreError, Times, Tx, Unrun, value_of,
     wrapping_difference, wrapping_sum,
 };
+
+/// Takes an amount from an account, where it is there; it gives what was there.
+fn withdraw(tx: &mut Tx<'_>, from: BoxId, amount: i64) -> Result<i64, Stop>
+    ensures { Follows (withdraw from amount) tx.old tx.new result }
+{
+    let x = from.get(tx)?;
+    if x < amount {
+        return tx.cancel();
+    }
+    from.set(tx, wrapping_difference(x, amount))?;
+    Ok(x)
+}
+
+/// Adds an amount to an account.
+fn deposit(tx: &mut Tx<'_>, to: BoxId, amount: i64) -> Result<(), Stop>
+    ensures { Follows (deposit to amount) tx.old tx.new result }
+{
+    let y = to.get(tx)?;
+    to.set(tx, wrapping_sum(y, amount))
+}
 
 /// Takes an amount from one account, where it is there, and adds it to another. It gives what was there.
 #[derive(Clone, Copy)]
@@ -31,14 +52,10 @@ impl Code for Transfer {
         4
     }
 
+    #[tactic(auto, using(sto_code::proofs::Following::then_follows, sto_code::proofs::Following::stop_follows))]
     fn run(&self, tx: &mut Tx<'_>) -> Result<i64, Stop> {
-        let x = self.from.get(tx)?;
-        if x < self.amount {
-            return tx.cancel();
-        }
-        self.from.set(tx, wrapping_difference(x, self.amount))?;
-        let y = self.to.get(tx)?;
-        self.to.set(tx, wrapping_sum(y, self.amount))?;
+        let x = withdraw(tx, self.from, self.amount)?;
+        deposit(tx, self.to, self.amount)?;
         Ok(x)
     }
 }

@@ -21,7 +21,7 @@ use Rattle.sto_atomically.specs.declared.outcome.Unrun.TheVariants.{Busy, Refuse
 use Rattle.sto_atomically.specs.Atomic.{steps_of, TakesNoEffect, IsAtomic, HasLed}
 use Rattle.sto_atomically.proofs.Tried.{seen_later}
 use Rattle.sto_library.specs.Values.{Working}
-use Rattle.sto_library.specs.Doings.{HasRunOnly, HasRepeated, HasHeard, IsLedBy, HasGiven}
+use Rattle.sto_library.specs.Doings.{HasRunOnly, HasRepeated, HasHeard, IsLedBy, HasGiven, HasCause}
 
 -- the steps are those of code of this family
 abbrev pub RanSome : {I A : Type 0} → List Shape → ℕ → (I → Prog A) → Transaction → Type 0
@@ -65,14 +65,25 @@ module _ {T A : Type 0} (t : OfType T) (before after : Working T) (most : ℕ) (
     each = All-nil (Ran before.shapes most p);
   }
 
-  pub led_given : (r : Result (Done A) Unrun) → HasLed (t.meaning before.words.ty) before.seat.me.0.view after.seat.me.0.view before.shapes most p r → HasGiven t before after 1 most p r
+  pub led_given : (tries : ℕ) (r : Result (Done A) Unrun) → HasLed (t.meaning before.words.ty) before.seat.me.0.view after.seat.me.0.view tries after.left before.shapes most p r
+      → HasGiven t before after 1 most p r
   unfolding none
-  led_given (Ok (Gave value)) h = let e = ended (λ hs. IsGiven p hs value) h in let one : length e.0.did ≡ 1 = e.1.0 in record { repeated = e.0; at_most = omega (arith, one); each_time = omega (arith, one); led = e.1.1 }
-  led_given (Ok Cancelled) h = let e = ended (λ hs. IsCancelled p hs) h in let one : length e.0.did ≡ 1 = e.1.0 in record { repeated = e.0; at_most = omega (arith, one); each_time = omega (arith, one); led = e.1.1 }
-  led_given (Err (Refused call)) h = let e = ended (λ hs. IsAsked p hs call) h in let one : length e.0.did ≡ 1 = e.1.0 in record { repeated = e.0; at_most = omega (arith, one); each_time = tt; led = e.1.1 }
-  led_given (Err Busy) h = record { repeated = none h; at_most = omega (arith); each_time = tt; led = tt }
-  led_given (Err Worn) h = record { repeated = none h; at_most = omega (arith); each_time = tt; led = tt }
-  led_given (Err NoMemory) h = record { repeated = none h; at_most = omega (arith); each_time = tt; led = tt }
+  led_given tries (Ok (Gave value)) h = let e = ended (λ hs. IsGiven p hs value) h in let one : length e.0.did ≡ 1 = e.1.0 in record { repeated = e.0; at_most = omega (arith, one); each_time = omega (arith, one); led = e.1.1 }
+  led_given tries (Ok Cancelled) h = let e = ended (λ hs. IsCancelled p hs) h in let one : length e.0.did ≡ 1 = e.1.0 in record { repeated = e.0; at_most = omega (arith, one); each_time = omega (arith, one); led = e.1.1 }
+  led_given tries (Err (Refused call)) h = let e = ended (λ hs. IsAsked p hs call) h in let one : length e.0.did ≡ 1 = e.1.0 in record { repeated = e.0; at_most = omega (arith, one); each_time = tt; led = e.1.1 }
+  led_given tries (Err Busy) h = record { repeated = none h.none; at_most = omega (arith); each_time = tt; led = tt }
+  led_given tries (Err Worn) h = record { repeated = none h.1.2.none; at_most = omega (arith); each_time = tt; led = tt }
+  led_given tries (Err NoMemory) h = record { repeated = none h; at_most = omega (arith); each_time = tt; led = tt }
+
+-- why it was not run to its end
+pub led_cause : {T A : Type 0} (m : Meaning) (before after : Working T) (tries most : ℕ) (p : Prog A) (r : Result (Done A) Unrun)
+    → HasLed m before.seat.me.0.view after.seat.me.0.view tries after.left before.shapes most p r → HasCause before after tries r
+led_cause m before after tries most p (Ok (Gave value)) h = tt
+led_cause m before after tries most p (Ok Cancelled) h = tt
+led_cause m before after tries most p (Err (Refused call)) h = tt
+led_cause m before after tries most p (Err Busy) h = h
+led_cause m before after tries most p (Err Worn) h = h
+led_cause m before after tries most p (Err NoMemory) h = tt
 
 heard_more : {T : Type 0} (u v : Working T) (did more : List Transaction) (says : List ShortReply → Type 0) → Grows u.seat.me.0.view v.seat.me.0.view → HasHeard v more says → HasHeard u (did ++ more) says
 heard_more u v did more says g h = record {

@@ -16,7 +16,7 @@ use Rattle.sto_serial_history.specs.Done.{HasDone, HaveHistory}
 use Rattle.sto_serial_history.specs.Keeping.{KeepsState, RanWithin, HasKept, IsKeeping, HaveKept}
 use Rattle.sto_serial_history.proofs.Keeping.{new_kept, kept_on, one_kept, none_kept, others_kept, first_all, second_all, kept_by_all}
 use Rattle.sto_code.specs.Shortened.{short_of}
-use Rattle.sto_code.specs.Progs.{Prog, Cancels, IsGiven}
+use Rattle.sto_code.specs.Progs.{Prog, Cancels, IsGiven, chain}
 use Rattle.sto_code.specs.Alone.{run_of}
 use Rattle.sto_code.proofs.Alone.{run_gives, run_commits}
 use Rattle.sto_open.specs.declared.store.Store.{Store as Words}
@@ -69,6 +69,12 @@ on_state ms p Q same here = subst (λ (s : State). IfSome (run_of ms p s) Q) (sy
 pub unless : {A : Type 0} (ms : List Machine) (p : Prog A) (st : State) (Q : A × State → Type 0) (b : Bool) → (b ≡ false → IfSome (run_of ms p st) Q) → IfSome (run_of ms (if b then Cancels else p) st) Q
 unless ms p st Q true h = tt
 unless ms p st Q false h = h refl
+
+-- the same as the first part of code
+pub unless_then : {A B : Type 0} (ms : List Machine) (p : Prog A) (q : A → Prog B) (st : State) (Q : B × State → Type 0) (b : Bool) → (b ≡ false → IfSome (run_of ms (chain p q) st) Q)
+    → IfSome (run_of ms (chain (if b then Cancels else p) q) st) Q
+unless_then ms p q st Q true h = tt
+unless_then ms p q st Q false h = h refl
 
 -- code that goes on only where this is so
 pub where_so : {A : Type 0} (ms : List Machine) (p : Prog A) (st : State) (Q : A × State → Type 0) (b : Bool) → (b ≡ true → IfSome (run_of ms p st) Q) → IfSome (run_of ms (if b then p else Cancels) st) Q

@@ -1,5 +1,5 @@
 -- What a worker did at its store: the transactions of one code or of a family, and what one of them led to.
-use Rattle.std.specs.Prelude.{◌≡◌, ◌≤◌, ℕ, List, length, map, Result, Ok, Err, OnOk}
+use Rattle.std.specs.Prelude.{◌≡◌, ◌≤◌, ◌<◌, ℕ, List, length, map, Result, Ok, Err, OnOk}
 use Rattle.std.specs.List.{All}
 use Rattle.sto_type.specs.Traits.{OfType}
 use Rattle.sto_core.specs.Lists.{Among}
@@ -13,7 +13,7 @@ use Rattle.sto_atomically.specs.declared.outcome.Done.{Done}
 use Rattle.sto_atomically.specs.declared.outcome.Done.TheVariants.{Gave, Cancelled}
 use Rattle.sto_atomically.specs.declared.outcome.Unrun.{Unrun}
 use Rattle.sto_atomically.specs.declared.outcome.Unrun.TheVariants.{Busy, Refused, Worn, NoMemory}
-use Rattle.sto_atomically.specs.Atomic.{steps_of, HasSeen}
+use Rattle.sto_atomically.specs.Atomic.{steps_of, HasSeen, HaveAborted}
 use Rattle.sto_library.specs.Values.{Working}
 
 -- from one time to a later one the worker ran code of this family again and again, each time another one, and nothing else
@@ -50,3 +50,11 @@ pub record HasGiven {T A : Type 0} (t : OfType T) (before after : Working T) (ti
   pub at_most : length repeated.did ≤ times
   pub each_time : OnOk outcome (times ≤ length repeated.did)
   pub led : IsLedBy before repeated.did p outcome
+
+-- why it was not run to its end, where it had so many tries: each was made and aborted; or fewer were, and no attempt is left to the worker
+abbrev pub HasCause : {T A : Type 0} → (before after : Working T) → (tries : ℕ) → Result (Done A) Unrun → Type 0
+HasCause before after tries (Err Busy) = HaveAborted before.seat.me.0.view after.seat.me.0.view tries
+HasCause before after tries (Err Worn) = (after.left ≡ 0) × ((many : ℕ) × (many < tries) × HaveAborted before.seat.me.0.view after.seat.me.0.view many)
+HasCause before after tries (Err NoMemory) = Unit {0}
+HasCause before after tries (Err (Refused call)) = Unit {0}
+HasCause before after tries (Ok done) = Unit {0}

@@ -1,12 +1,12 @@
 -- What a look at a store leads to.
-use Rattle.std.specs.Prelude.{◌≡◌, ℕ, List, [], ◌∷◌, ◌++◌, Result, Ok, Err}
+use Rattle.std.specs.Prelude.{◌≡◌, ◌^◌, ℕ, List, [], ◌∷◌, ◌++◌, Result, Ok, Err}
 use Rattle.sto_type.specs.Traits.{OfType}
 use Rattle.sto_core.specs.declared.view.View.{View}
 use Rattle.sto_code.specs.Progs.{Prog}
 use Rattle.sto_atomically.specs.declared.outcome.Done.{Done}
 use Rattle.sto_atomically.specs.declared.outcome.Unrun.{Unrun}
 use Rattle.sto_library.specs.Values.{Stored, Working}
-use Rattle.sto_library.specs.Doings.{HasGiven}
+use Rattle.sto_library.specs.Doings.{HasGiven, HasCause}
 use Rattle.sto_library.specs.Tasks.{IsDone}
 use Rattle.sto_library.specs.declared.store.LookError.{LookError}
 use Rattle.sto_library.specs.declared.store.LookError.TheVariants as unlooked
@@ -21,9 +21,9 @@ pub record IsOneDone {T Out : Type 0} (old new : Stored T) (gives : Working T �
   pub done : IsDone old.words old.shapes from to gives out
 
 module _ {T A : Type 0} (t : OfType T) (old new : Stored T) (most : ℕ) (p : Prog A) where
-  -- a worker ran this code and nothing else, and one of the runs led to this
+  -- a worker ran this code and nothing else, and one of the runs led to this; where it was not run to its end, that has its cause
   abbrev pub IsLookOf : Result (Done A) Unrun → Type 0
-  IsLookOf outcome = IsOneDone old new (λ before after o. HasGiven t before after 1 most p o) outcome
+  IsLookOf outcome = IsOneDone old new (λ before after o. HasGiven t before after 1 most p o × HasCause before after (2 ^ 16) o) outcome
 
   -- what a look answers; where no worker rests, the store is as it was
   abbrev pub HasLooked : Result (Done A) LookError → Type 0

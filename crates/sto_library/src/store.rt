@@ -1,11 +1,11 @@
 //! A store, in which its workers rest.
-ghost use Rattle.std.specs.Prelude.{◌≡◌, [], ◌∷◌, ◌++◌, map, length, IfOk, IfErr, MatchOption};
+ghost use Rattle.std.specs.Prelude.{◌≡◌, ◌^◌, [], ◌∷◌, ◌++◌, map, length, IfOk, IfErr, MatchOption};
 ghost use Rattle.std.specs.List.{All};
 ghost use Rattle.sto_serial_history.specs.Done.{HaveHistory};
 ghost use Rattle.sto_open.specs.Working.{AreRowsAfter};
 ghost use Rattle.sto_library.specs.Values.{Serves, TakeCalls};
 ghost use Rattle.sto_library.specs.Closings.{ComesBack};
-ghost use Rattle.sto_library.specs.Doings.{HasGiven};
+ghost use Rattle.sto_library.specs.Doings.{HasGiven, HasCause};
 ghost use Rattle.sto_library.specs.Tasks.{IsDone};
 ghost use Rattle.sto_library.specs.Looks.{HasLooked, looked_by};
 
@@ -88,7 +88,8 @@ where
     requires serves { Serves T.TxType words.now worker.rest.seat }
     ensures serves { Serves T.TxType words.now result.0.rest.seat }
     ensures done { IsDone words.now shapes.now.items worker.rest.seat.me.0.view result.0.rest.seat.me.0.view
-        (λ before after o. HasGiven T.TxType before after 1 (K.most code.now) (K.does code.now) o) result.1 }
+        (λ before after o. HasGiven T.TxType before after 1 (K.most code.now) (K.does code.now) o × HasCause before after (2 ^ 16) o)
+        result.1 }
 {
     let mut busy = StoreWorker::new(alloc, words, shapes, worker);
     let told = busy.run(code);

@@ -1,5 +1,5 @@
 //! A worker at its store.
-ghost use Rattle.std.specs.Prelude.{◌≡◌, ◌≤◌};
+ghost use Rattle.std.specs.Prelude.{◌≡◌, ◌≤◌, ◌^◌};
 ghost use Rattle.sto_attempt_facts.specs.Added.{Grows};
 ghost use Rattle.sto_atomically.specs.Atomic.{HasLed, IsUndisturbed};
 ghost use Rattle.sto_library.specs.Values.{Serves, TakeCalls};
@@ -73,8 +73,8 @@ impl<'s, T: TxType> StoreWorker<'s, T> {
     pub fn run<K: Code>(&mut self, code: &K) -> Result<Done<K::Out>, Unrun>
     where
         K::Out: Drop,
-        ensures led { HasLed (T.meaning self.old.words.ty) self.old.seat.me.0.view self.new.seat.me.0.view self.old.shapes
-            (K.most code.now) (K.does code.now) result }
+        ensures led { HasLed (T.meaning self.old.words.ty) self.old.seat.me.0.view self.new.seat.me.0.view (2 ^ 16) self.new.left
+            self.old.shapes (K.most code.now) (K.does code.now) result }
         ensures given { HasGiven T.TxType self.old self.new 1 (K.most code.now) (K.does code.now) result }
         ensures grows { Grows self.old.seat.me.0.view self.new.seat.me.0.view }
         ensures alone { self.old.words.shared.table.shared.key.passes ≡ 1 → IsUndisturbed result }
@@ -92,8 +92,8 @@ impl<'s, T: TxType> StoreWorker<'s, T> {
     ) -> Result<Done<K::Out>, Unrun>
     where
         K::Out: Drop,
-        ensures led { HasLed (T.meaning self.old.words.ty) self.old.seat.me.0.view self.new.seat.me.0.view self.old.shapes
-            (K.most code.now) (K.does code.now) result }
+        ensures led { HasLed (T.meaning self.old.words.ty) self.old.seat.me.0.view self.new.seat.me.0.view tries self.new.left
+            self.old.shapes (K.most code.now) (K.does code.now) result }
         ensures given { HasGiven T.TxType self.old self.new 1 (K.most code.now) (K.does code.now) result }
         ensures grows { Grows self.old.seat.me.0.view self.new.seat.me.0.view }
         ensures alone { self.old.words.shared.table.shared.key.passes ≡ 1 → 1 ≤ tries → IsUndisturbed result }
@@ -111,8 +111,8 @@ impl<'s, T: TxType> StoreWorker<'s, T> {
     ) -> Result<Done<K::Out>, Unrun>
     where
         K::Out: Drop,
-        ensures led { HasLed (T.meaning self.old.words.ty) self.old.seat.me.0.view self.new.seat.me.0.view self.old.shapes
-            (K.most code.now) (K.does code.now) result }
+        ensures led { HasLed (T.meaning self.old.words.ty) self.old.seat.me.0.view self.new.seat.me.0.view tries self.new.left
+            self.old.shapes (K.most code.now) (K.does code.now) result }
         ensures grows { Grows self.old.seat.me.0.view self.new.seat.me.0.view }
         ensures alone { self.old.words.shared.table.shared.key.passes ≡ 1 → 1 ≤ tries → IsUndisturbed result }
         ensures same { (self.new.words ≡ self.old.words) × (self.new.shapes ≡ self.old.shapes) }

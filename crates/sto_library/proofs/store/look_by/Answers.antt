@@ -1,7 +1,8 @@
-use Rattle.std.proofs.Common.{sym, ap}
+use Rattle.std.proofs.Common.{◌^◌, sym, ap}
 use Rattle.atomic_table.specs.declared.shared.Seat.{Seat}
 use Rattle.sto_core.specs.declared.view.View.{View}
 use Rattle.sto_table.specs.declared.stance.Stance.{Stance}
+use Rattle.sto_library.proofs.Doings.{led_cause}
 use Rattle.sto_library.proofs.store.look_by.Goals as goal
 
 pub returns-clause-done : goal.returns-clause-done
@@ -14,5 +15,5 @@ returns-clause-done g c =
       same_shapes = c.new-busy.ensures.1;
       from = ap view c.new-busy.ensures.2;
       to = sym (ap view c.rest.ensures.seat.0);
-      gave = c.run-told.ensures.given;
+      gave = (c.run-told.ensures.given, led_cause _ c.new-busy.result c.run-told.new.self (2 ^ 16) (g.K.Code.most c.args.code.now) (g.K.Code.does c.args.code.now) c.run-told.result c.run-told.ensures.led);
     }

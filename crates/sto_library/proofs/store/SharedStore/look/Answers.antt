@@ -1,6 +1,6 @@
 -- The worker is taken from those that rest, and put back.
 use Rattle.std.specs.List.{All}
-use Rattle.std.proofs.Common.{◌≡◌, [], ◌∷◌, ◌++◌, Result, Some, map, length, sym, ap, ◌∙◌, subst, arith, length-append}
+use Rattle.std.proofs.Common.{◌≡◌, ◌^◌, [], ◌∷◌, ◌++◌, Result, Some, map, length, sym, ap, ◌∙◌, subst, arith, length-append}
 use Rattle.std.proofs.lemmas.List.{map-append}
 use Rattle.std.proofs.lemmas.List.Elements.{All-push, All-pop}
 use Rattle.sto_core.specs.declared.view.View.{View}
@@ -9,7 +9,7 @@ use Rattle.sto_atomically.specs.declared.outcome.Done.{Done}
 use Rattle.sto_open.specs.declared.worker.IdleWorker.{IdleWorker}
 use Rattle.sto_library.specs.declared.store.LookError.{LookError}
 use Rattle.sto_library.specs.Values.{Stored, Serves}
-use Rattle.sto_library.specs.Doings.{HasGiven}
+use Rattle.sto_library.specs.Doings.{HasGiven, HasCause}
 use Rattle.sto_library.specs.Tasks.{IsDone}
 use Rattle.sto_library.specs.Looks.{HasLooked}
 use Rattle.sto_library.proofs.Looks.{answered}
@@ -48,5 +48,5 @@ returns-clause-looked g c =
       to = V again;
       were = sym (ap (λ (s : Stored g.row.T.Denot). s.views) c.self.view_is) ∙ ap (map V) all ∙ map-append V others (worker ∷ []);
       are = ap (map V) back ∙ map-append V others (again ∷ []);
-      done = subst (λ (s : Stored g.row.T.Denot). IsDone s.words s.shapes (V worker) (V again) (λ before after o. HasGiven t before after 1 most p o) out) c.self.view_is c.look_by-worker.ensures.done;
+      done = subst (λ (s : Stored g.row.T.Denot). IsDone s.words s.shapes (V worker) (V again) (λ before after o. HasGiven t before after 1 most p o × HasCause before after (2 ^ 16) o) out) c.self.view_is c.look_by-worker.ensures.done;
     }))
