@@ -28,6 +28,7 @@ use Rattle.sto_type.specs.declared.answer.Answer.{Answer}
 use Rattle.sto_counter.specs.Sums.{grows, add_items, add_updates}
 use Rattle.sto_counter.specs.SumsLaw.{add_observed, grown, not_grown}
 use Rattle.sto_counter.specs.Replies.{add_reply}
+use Rattle.sto_array.specs.ArrayedSteady.{array_steady}
 use Rattle.sto_array.specs.Arrayed.{place_of, asked, array_need, value_known, array_items, array_updates, array_rows, homes_from, IsArray, ArrayTakes, array_meaning}
 use Rattle.sto_array.specs.ArrayedRows.{by_test, one_at, value_of_place, with_place, place_some, place_none, length-ones, part_is, widths-set, fits-set, word_fits, length-homes, home_owner, length-replicate, opened_widths, opened_fits, opened_rows}
 
@@ -326,6 +327,7 @@ module _ (n : ℕ) (first : ℤ) where
     needs = λ call k d p t v part e.
         let h : (k p ≡ None) × (place_of n call.a ≡ Some p) = needs_at (operation_of call.code) (place_of n call.a) k p e in
         record { unknown = h.0; owned = here p call.object (within call.a p h.1) t.object };
+    steady = array_steady n first;
     knows = λ call k d r. knows_at (operation_of call.code) (place_of n call.a) call.b k call.object (within call.a) r.takes.object r.done;
     inside = λ call k d r. inside_at (operation_of call.code) (place_of n call.a) call.b k (within call.a);
     holds = λ call k d r. holds_at (operation_of call.code) (place_of n call.a) call.b k d (within call.a) r.takes.fits_too r.valid r.part r.done;

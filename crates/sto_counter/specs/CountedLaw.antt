@@ -31,6 +31,7 @@ use Rattle.sto_type.specs.Known.{Parts, Known, IsPartOf, ContentsFit}
 use Rattle.sto_type.specs.Meaning.{Meaning, IsLawful, IsNeed, IsUpdated, IsPartOfObject, EachKnown, EachInside, is_empty}
 use Rattle.sto_counter.specs.Sums.{word_pred_of, grows, falls, add_test, add_bound, add_items, add_updates, enough_items, take_items, take_updates, less}
 use Rattle.sto_counter.specs.SumsLaw.{holds_plain, compares-negated, add_observed, grown, not_grown, fallen, not_fallen, falls-up, falls-down}
+use Rattle.sto_counter.specs.CountedSteady.{counter_steady}
 use Rattle.sto_counter.specs.Counted.{counter_items, counter_updates, counter_meaning, test_items, asked, value_known, only_row, IsCounter, CounterTakes}
 
 heads : (x y : ℕ) (xs ys : List ℕ) → x ∷ xs ≡ y ∷ ys → x ≡ y
@@ -389,6 +390,7 @@ module _ (first : ℤ) where
     needs = λ call k d p t v part e.
         let h : (k 0 ≡ None) × (p ≡ 0) = asked_some (k 0) p e in
         record { unknown = rw h.1 h.0; owned = here p call.object h.1 t.object };
+    steady = counter_steady first;
     knows = λ call k d r.
         let s : (ws : List ℤ) × (k 0 ≡ Some ws) = asked_none (k 0) r.done in
         known_here call.object k (m.items call k) r.takes.object (rw s.1 refl) (all_here (operation_of call.code) call.a call.b (value_known (k 0)));

@@ -32,6 +32,7 @@ use Rattle.sto_type.specs.Meaning.{Meaning, IsLawful, IsNeed, IsUpdated, IsPartO
 use Rattle.sto_block.specs.Blocks.{Place, places_of, is_present, is_here, first_from, find, free, AreApart}
 use Rattle.sto_block.specs.Found.{at, here_parts, parts_here, found_there, first_is, full_count, free_count}
 use Rattle.sto_block.specs.Replaced.{place_changes, words_replaced, at_words, length-places, length-place_changes}
+use Rattle.sto_hash.specs.HashedSteady.{hash_steady}
 use Rattle.sto_hash.specs.Hashed.{bucket_part, bucket_number, key_part, value_part, hash_widths, homes_from, place_pairs, block_pairs, pairs_from, rows_of, AreOfBucket, IsBucket, IsHash, HashTakes, words_known, asked, asked_or, first_asked, value_asked, get_asked, hash_need, word_is, find_items, get_items, all_seen, found_known, known_total, hash_items, put_updates, put_told, remove_updates, hash_updates, hash_meaning}
 use Rattle.sto_hash.specs.HashedCalls.{call_of, by_call}
 use Rattle.sto_hash.specs.HashedChanges.{place_changes-change}
@@ -624,6 +625,7 @@ module _ (buckets places : ℕ) (some : 0 < buckets) where
     states = λ c v. refl;
     object = λ call t. omega (arith, t.object);
     needs = λ call k d p t v part e. let h : (k p ≡ None) × IsPartOfObject m.homes call.object p = needs call t k d p v part e in record { unknown = h.0; owned = h.1 };
+    steady = hash_steady buckets places;
     knows = λ call k d r. knows call r.takes k d r.valid r.part r.done;
     inside = λ call k d r. inside call r.takes k d r.valid r.part r.done;
     holds = λ call k d r. holds call r.takes k d r.valid r.part r.done;

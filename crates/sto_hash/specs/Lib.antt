@@ -1,4 +1,5 @@
 pub mod Hashed
+pub mod HashedSteady
 pub mod HashedCalls
 pub mod HashedChanges
 pub mod HashedItems

@@ -22,9 +22,14 @@ type Kinds = Both<Arrays, Both<Hashes, Sized>>;
 /// Arrays, hash tables, trees and vectors, in this order: the objects that may have more than one part.
 ///
 /// They are a type of their own since all that is proved of joined kinds names each kind below twice at each join.
-#[derive(Drop)]
 pub struct Wide {
     pub kinds: Both<Arrays, Both<Hashes, Sized>>,
+}
+
+impl Drop for Wide {
+    fn drop(self) {
+        let Wide { kinds: _kinds } = self;
+    }
 }
 
 impl Naming for Wide {

@@ -1,13 +1,14 @@
 -- The tests' type is lawful.
-use Rattle.std.specs.Prelude.{◌≡◌, ◌≤◌, ◌⊎◌, ℕ, zero, suc, ℤ, true, Option, Some, None, List, [], ◌∷◌, map, length, IsSome, refl}
+use Rattle.std.specs.Prelude.{◌≡◌, ◌≤◌, ◌⊎◌, ℕ, zero, suc, ℤ, Bool, true, false, nat_eq, Option, Some, None, List, [], ◌∷◌, map, length, IsSome, refl}
 use Rattle.std.specs.Int.{w64}
 use Rattle.std.specs.Int.RustNames.{FitsSigned}
-use Rattle.std.proofs.Common.{ap, sym, arith, inl, inr, subst}
+use Rattle.std.proofs.Common.{ap, sym, ◌∙◌, arith, inl, inr, subst}
 use Rattle.sto_item.specs.Agreement.{Agrees}
 use Rattle.sto_model.specs.declared.call.Call.{Call}
 use Rattle.sto_model.specs.Machine.{reply_to}
-use Rattle.sto_type.specs.Known.{Parts, Known}
-use Rattle.sto_type.specs.Meaning.{Meaning, IsLawful, IsNeed, IsUpdated, IsPartOfObject, EachKnown, EachInside}
+use Rattle.sto_type.specs.Known.{Parts, Known, IsWithin}
+use Rattle.sto_type.specs.SteadyLaw.{by_known, no_part, same_part}
+use Rattle.sto_type.specs.Meaning.{Meaning, IsLawful, IsSteady, IsNeed, IsUpdated, IsPartOfObject, EachKnown, EachInside}
 use Rattle.sto_run_alone.specs.Split.{split_meaning, split_asked, split_rows, SplitTakes}
 
 -- a get and a set
@@ -73,6 +74,37 @@ two_parts (ws ∷ vs ∷ []) e =
     (x.0, y.0, λ i. x.1 i ∷ y.1 i ∷ [])
 two_parts (ws ∷ vs ∷ us ∷ c) e = cc
 
+-- a get needs its parts however much more is known
+split_on : (b : Bool) (k more : Known) (p : ℕ) → IsWithin k more → more p ≡ None → split_asked b (k 0) (k 1) ≡ Some p → split_asked b (more 0) (more 1) ≡ Some p
+split_on false k more p w none e = cc
+split_on true k more p w none e = elim (by_known (k 0)) [
+  | inl unknown ↦
+      let it : Some 0 ≡ Some p = rw unknown at e in
+      let here : more 0 ≡ None = ap more (same_part 0 p it) ∙ none in rw here it
+  | inr known ↦ elim (by_known (k 1)) [
+    | inl unknown ↦
+        let it : Some 1 ≡ Some p = rw (known.1, unknown) at e in
+        let here : more 1 ≡ None = ap more (same_part 1 p it) ∙ none in rw (w 0 known.0 known.1, here) it
+    | inr other ↦ let no : None ≡ Some p = rw (known.1, other.1) at e in no_part p (sym no)
+  ]
+]
+
+split_off : (b : Bool) (k more : Known) → IsWithin k more → split_asked b (k 0) (k 1) ≡ None → split_asked b (more 0) (more 1) ≡ None
+split_off false k more w e = refl
+split_off true k more w e = elim (by_known (k 0)) [
+  | inl unknown ↦ let no : Some 0 ≡ None = rw unknown at e in no_part 0 no
+  | inr known ↦ elim (by_known (k 1)) [
+    | inl unknown ↦ let no : Some 1 ≡ None = rw (known.1, unknown) at e in no_part 1 no
+    | inr other ↦ rw (w 0 known.0 known.1, w 1 other.0 other.1) refl
+  ]
+]
+
+split_steady : (first second : ℤ) → IsSteady (split_meaning first second)
+split_steady first second = record {
+  steady = λ call k more p w none e. split_on (nat_eq call.code 0) k more p w none e;
+  done = λ call k more w e. (split_off (nat_eq call.code 0) k more w e, refl);
+}
+
 module _ (first second : ℤ) where
   abbrev m : Meaning
   m = split_meaning first second
@@ -99,6 +131,7 @@ module _ (first second : ℤ) where
     object = λ call t. omega (arith, t.object);
     needs = λ call k d p t v part.
         by_call (λ c. m.need c k ≡ Some p → IsNeed m c k p) (λ a b h. get_needs first second a b k p (k 0) (k 1) refl refl h) (λ a b x y h. cc) call t;
+    steady = split_steady first second;
     inside = λ call k d r. by_call (λ c. EachInside m.widths (m.items c k)) (λ a b. tt) (λ a b x y. tt) call r.takes;
     knows = λ call k d r.
         by_call (λ c. m.need c k ≡ None → EachKnown m.homes c.object k (m.items c k))

@@ -10,6 +10,7 @@ use Rattle.sto_model.specs.declared.shape.Shape.TheVariants.{Tree}
 use Rattle.sto_model.specs.Objects.{takes_by}
 use Rattle.sto_model.specs.Operations.{operation_of}
 use Rattle.sto_type.specs.Known.{Parts, Known, IsPartOf}
+use Rattle.sto_type.specs.SteadyLaw.{reading_steady, reading_done}
 use Rattle.sto_type.specs.Meaning.{Meaning, IsLawful, IsReady, IsNeed, IsPartOfObject, EachKnown, EachInside, EachOwner}
 use Rattle.sto_tree_spec.specs.Layout.{listed, parts_of, width_of}
 use Rattle.sto_tree_spec.specs.Valid.{IsTree}
@@ -101,6 +102,10 @@ module _ (leaves : ℕ) (some : 1 ≤ leaves) (few : parts_of leaves < 2 ^ 32) (
     states = λ c v. refl;
     object = λ call t. omega (arith, t.object);
     needs = λ call k d p t v part e. reading_needs m call (reading leaves call) (is_reading call) widths_are (owned call t) (lawful_on call t) k d p v part e;
+    steady = record {
+      steady = λ call k more p. reading_steady (reading leaves call) k more p;
+      done = λ call k more. reading_done (reading leaves call) k more;
+    };
     knows = λ call k d r. reading_knows m call (reading leaves call) (is_reading call) widths_are (owned call r.takes) (lawful_on call r.takes) k d r;
     inside = λ call k d r. reading_inside m call (reading leaves call) (is_reading call) widths_are (owned call r.takes) (lawful_on call r.takes) k d r;
     holds = λ call k d r. reading_holds m call (reading leaves call) (is_reading call) widths_are (owned call r.takes) (lawful_on call r.takes) k d r;

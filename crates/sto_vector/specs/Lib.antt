@@ -1,4 +1,5 @@
 pub mod Vectored
+pub mod VectoredSteady
 pub mod VectoredRows
 pub mod VectoredLaw
 pub mod VectoredPlans

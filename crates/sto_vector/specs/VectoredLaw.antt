@@ -33,6 +33,7 @@ use Rattle.sto_counter.specs.Counted.{test_items}
 use Rattle.sto_counter.specs.CountedLaw.{test_observed}
 use Rattle.sto_array.specs.Arrayed.{place_of, asked, array_rows, homes_from}
 use Rattle.sto_array.specs.ArrayedRows.{length-ones, part_is, widths-set, fits-set, length-homes, home_owner, length-replicate, opened_widths, opened_fits}
+use Rattle.sto_vector.specs.VectoredSteady.{vector_steady}
 use Rattle.sto_vector.specs.Vectored.{size_of, size_known, place_need, after_size, vector_need, get_items, push_items, pop_items, vector_items, push_updates, pop_updates, vector_updates, vector_rows, IsVector, VectorTakes, vector_meaning}
 use Rattle.sto_vector.specs.VectoredRows.{count, take_none, with_end, without_end, lt_of, ge_of, value_below, value_in, value_is}
 
@@ -612,6 +613,7 @@ module _ (capacity : ℕ) (few : 1 + capacity < 2 ^ 32) where
         let a : (n : ℕ) × (places : Parts) × (d ≡ sized n places) = apart capacity d v in
         let h : Missing k p = needs_at call t k a.0 p a.1 (subst (IsVector capacity) a.2 v) (subst (IsPartOf k) a.2 part) e in
         record { unknown = h.0; owned = here p call.object h.1 t.object };
+    steady = vector_steady capacity;
     knows = λ call k d r.
         let a : (n : ℕ) × (places : Parts) × (d ≡ sized n places) = apart capacity d r.valid in
         let v : IsVector capacity (sized a.0 a.1) = subst (IsVector capacity) a.2 r.valid in
