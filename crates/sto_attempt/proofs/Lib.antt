@@ -2,3 +2,4 @@ pub mod Kept
 pub mod Commits
 pub mod Attempts
 pub mod Next
+pub mod Extends

@@ -33,11 +33,27 @@ use Rattle.sto_attempt_log.specs.CommitPhases.{Deal, deal, IsPlanned, HasSpace}
 use Rattle.sto_attempt_log.specs.Standing.{Goes, Fits, MayGoOn, Renews, Spans, Turned, IsLeft, IsFirst, IsUnaborted, IsRenewed, HasBegun, KeepsExtension, Moves, next_event, IsCalling}
 use Rattle.sto_type.specs.Traits.{OfType}
 use Rattle.sto_model.specs.Bodies.{OfBody}
+use Rattle.sto_attempt_log.specs.Doing.{Reader, ReadsBy, ComesTo, Runs, goes_on_extending}
 use Rattle.sto_attempt.specs.declared.attempt.Attempt.{Attempt}
 
 -- the replies that the body has heard
 abbrev pub heard : {T B : Type 0} → Attempt T B → List Told
 heard a = map told a.log.replies.items
+
+-- an attempt whose body is not at its commit, as plain data
+abbrev pub reader_of : {T B : Type 0} → Attempt T B → Reader
+reader_of a = record {
+  at = a.at;
+  phase = a.read_phase;
+  words = a.words.items;
+  base = a.log.base.items;
+  set = record { items = a.log.set.items; updates = a.log.set.updates };
+  heard = map told a.log.replies.items;
+  extended = a.extension.extended;
+  bound = a.extension.bound;
+  fresh = a.extension.fresh.items;
+  watches = map watched a.extension.watches.items;
+}
 
 -- how many words are left of the part that is being read, where these were read
 abbrev pub unread : List ℕ → ReadPhase → List ℤ → ℕ
@@ -168,6 +184,8 @@ module _ {T B : Type 0} (t : OfType T) (b : OfBody B) where
     -- it stands to the view of the pass as after a step
     pub turned : (v : View) → Waits old v → IfOk result (HasTurned old new v)
     pub grown : OnOk result (HasGrown old new)
+    -- its body ran on as it does by the plain data
+    pub comes : IfOk result (ComesTo (t.meaning old.log.ty.now) (b.script old.log.body) (Runs (record (reader_of old) { extended = false })) (reader_of new))
     pub begun : OnOk result (HasBegun new.read_phase)
     pub alone : IfOk result (λ turn. IsFirst new.read_phase × IsUnaborted turn)
     pub at : new.at ≡ old.at
@@ -219,6 +237,8 @@ module _ {T B : Type 0} (t : OfType T) (b : OfBody B) where
     pub grown : OnOk result (HasGrown old new)
     pub renewed : OnOk result ((new.extension.bound ≡ old.extension.bound) × (new.extension.extended ≡ true → heard new ≡ heard old))
     pub moves : OnOk result (HasBegun new.read_phase × (old.at ≤ new.at))
+    -- as it does by the plain data
+    pub comes : IfOk result (ComesTo (t.meaning old.log.ty.now) (b.script old.log.body) (goes_on_extending (reader_of old)) (reader_of new))
     pub left : OnOk result (HasFewerOn old new)
     pub stopped : (v : View) → SpansAt old v → OnErr result (IsPrefixOf old new v)
     pub script : b.script new.log.body ≡ b.script old.log.body
@@ -230,6 +250,11 @@ module _ {T B : Type 0} (t : OfType T) (b : OfBody B) where
     -- the next event was made, and what it tells
     abbrev pub MakesNext : Attempt T B → Attempt T B → C → C → Result Turn NoMemory → Type 0
     MakesNext old new here there result = Steps (c.passes here) old.read_phase (event_of old) old new (c.view here) (c.view there) result
+
+    -- what the event e of a read phase found has led from the one to the other, as it does by the plain data
+    abbrev pub ReadsAs : ReadPhase → Event → Attempt T B → Attempt T B → C → C → Result Turn NoMemory → Type 0
+    ReadsAs read_phase e old new here there result =
+        IfOk result (ReadsBy (t.meaning old.log.ty.now) (b.script old.log.body) t.valid (c.passes here) read_phase e (reader_of old) (reader_of new) (c.view here) (c.view there))
 
     -- the next word of the part that is being read was read, as a step does
     pub record HasReadOne (old new : Attempt T B) (here there : C) (result : Result Turn NoMemory) : Type 0 where
@@ -247,6 +272,7 @@ module _ {T B : Type 0} (t : OfType T) (b : OfBody B) where
       pub grown : OnOk result (HasGrown old new)
       pub extension : new.extension ≡ old.extension
       pub moves : OnOk result (HasBegun new.read_phase × (new.at ≡ (c.view there).at))
+      pub reads : ReadsAs Unstarted Start old new here there result
       pub left : OnOk result (HasFewer Unstarted old new)
       -- it is never aborted
       pub alone : IfOk result (λ turn. IsFirst new.read_phase × IsUnaborted turn)
@@ -272,6 +298,7 @@ module _ {T B : Type 0} (t : OfType T) (b : OfBody B) where
       pub err : OnErr result (HasStopped old new (c.view there))
       pub one : IfOk result (λ turn. turn ≡ More) × OnOk result (words_left new + 1 ≡ words_left old)
       pub longer : OnOk result (length new.words.items ≡ length old.words.items + 1)
+      pub reads : ReadsAs read_phase (Word part (length old.words.items)) old new here there result
       pub log : new.log ≡ old.log
       pub extension : new.extension ≡ old.extension
       pub same : c.same here there

@@ -1,7 +1,6 @@
 -- A commit on its pass, before an event and after it.
 use Rattle.std.specs.Prelude.{◌≡◌, ◌≤◌, ◌<◌, ◌⊎◌, ℕ, ℤ, Option, None, map, slice_index_or}
 use Rattle.sto_model.specs.Told.{told}
-use Rattle.sto_item.specs.Watched.{watched}
 use Rattle.sto_core.specs.declared.view.View.{View}
 use Rattle.sto_core.specs.History.{Validity}
 use Rattle.sto_core.specs.Tells.{Tells}
@@ -14,13 +13,13 @@ use Rattle.sto_type.specs.Traits.{OfType}
 use Rattle.sto_model.specs.Bodies.{OfBody}
 use Rattle.sto_attempt.specs.declared.attempt.Attempt.{Attempt}
 use Rattle.sto_attempt.specs.declared.ready.Ready.{Ready}
-use Rattle.sto_attempt.specs.Attempts.{FitsAt}
+use Rattle.sto_attempt.specs.Attempts.{FitsAt, reader_of}
 use Rattle.sto_attempt_log.specs.declared.read_phase.ReadPhase.TheVariants.{Committing}
 use Rattle.sto_attempt_log.specs.Bounds.{left_committing}
 use Rattle.sto_attempt_log.specs.Answers.{OneEvent, IsCommitEvent, IsPrefix}
 use Rattle.sto_attempt_log.specs.Remaining.{commit_left}
 use Rattle.sto_attempt_log.specs.Verdicts.{ComesTo, HasReason, IsUndisturbed}
-use Rattle.sto_attempt_log.specs.Doing.{Reader, Committer, sealed, commit_event, after_commit}
+use Rattle.sto_attempt_log.specs.Doing.{Committer, sealed, commit_event, after_commit}
 use Rattle.sto_attempt_log.specs.CommitPhases.{Deal, deal, Stands, Said, EndsBy, SpaceAt}
 
 -- all but the phase is as it was
@@ -34,21 +33,6 @@ KeepsAt (Loading k i) r s = s ≡ record r { loaded_words = s.loaded_words; comm
 KeepsAt (Testing k) r s = s ≡ record r { found_tickets = s.found_tickets; commit_phase = s.commit_phase }
 KeepsAt (Tested k i n) r s = s ≡ record r { loaded_words = s.loaded_words; commit_phase = s.commit_phase }
 KeepsAt _ r s = MovesOnly r s
-
--- an attempt whose body is not at its commit, as plain data
-abbrev pub reader_of : {T B : Type 0} → Attempt T B → Reader
-reader_of a = record {
-  at = a.at;
-  phase = a.read_phase;
-  words = a.words.items;
-  base = a.log.base.items;
-  set = record { items = a.log.set.items; updates = a.log.set.updates };
-  heard = map told a.log.replies.items;
-  extended = a.extension.extended;
-  bound = a.extension.bound;
-  fresh = a.extension.fresh.items;
-  watches = map watched a.extension.watches.items;
-}
 
 -- a commit as plain data
 abbrev pub committer_of : {T B : Type 0} → Ready T B → Committer

@@ -5,7 +5,7 @@ ghost use Rattle.sto_core.specs.Event.{Open, Close, Renew, Recheck};
 ghost use Rattle.sto_core.specs.declared.view.View.{View};
 ghost use Rattle.sto_attempt_log.specs.declared.read_phase.ReadPhase.TheVariants.{Unstarted, Opening, Reading, Renewing, Rechecking, Reopening, Rereading};
 ghost use Rattle.sto_attempt_log.specs.ReadSet.{IsTrueIn, AllTrueIn};
-ghost use Rattle.sto_attempt.specs.Attempts.{IsNew, IsOwnLog, IsUnderWay, IsBeforeWord, IsPrefixOf, FitsAt, IsExtending, HasGoneOn, MakesNext, HasStarted, HasStepped, HasReadOne, HasReadWord, part_width, words_left};
+ghost use Rattle.sto_attempt.specs.Attempts.{IsNew, IsOwnLog, IsUnderWay, IsBeforeWord, IsPrefixOf, FitsAt, IsExtending, HasGoneOn, MakesNext, HasStarted, HasStepped, HasReadOne, HasReadWord, ReadsAs, part_width, words_left};
 
 use std::alloc::Global;
 use std::mem;
@@ -182,6 +182,7 @@ impl<'t, T: TxType, B: Body> Attempt<'t, T, B> {
     fn open<C: Cells<T>>(&mut self, alloc: Global, cells: &mut C, part: u32) -> Turn
         requires { IsUnderWay T.TxType B.Body (Opening part) self.old (C.view cells.old) }
         ensures made { HasStepped T.TxType B.Body C.Cells (Opening part) (Open part) self.old self.new cells.old cells.new (Ok result) }
+        ensures reads { ReadsAs T.TxType B.Body C.Cells (Opening part) (Open part) self.old self.new cells.old cells.new (Ok result) }
         ensures log { self.new.log ≡ self.old.log }
         ensures extension { self.new.extension ≡ self.old.extension }
     {
@@ -229,6 +230,7 @@ impl<'t, T: TxType, B: Body> Attempt<'t, T, B> {
         requires before { IsUnderWay T.TxType B.Body (Reading part ticket) self.old (C.view cells.old) }
         requires all { length self.old.words.items ≡ part_width T.TxType B.Body self.old part }
         ensures made { HasStepped T.TxType B.Body C.Cells (Reading part ticket) (Close part) self.old self.new cells.old cells.new result }
+        ensures reads { ReadsAs T.TxType B.Body C.Cells (Reading part ticket) (Close part) self.old self.new cells.old cells.new result }
         ensures at { OnOk result (self.new.at ≡ self.old.at) }
     {
         let found = cells.close(part);
@@ -351,6 +353,7 @@ impl<'t, T: TxType, B: Body> Attempt<'t, T, B> {
     fn reopen<C: Cells<T>>(&mut self, alloc: Global, cells: &mut C, part: u32) -> Turn
         requires { IsUnderWay T.TxType B.Body (Reopening part) self.old (C.view cells.old) }
         ensures made { HasStepped T.TxType B.Body C.Cells (Reopening part) (Open part) self.old self.new cells.old cells.new (Ok result) }
+        ensures reads { ReadsAs T.TxType B.Body C.Cells (Reopening part) (Open part) self.old self.new cells.old cells.new (Ok result) }
         ensures log { self.new.log ≡ self.old.log }
         ensures extension { self.new.extension ≡ self.old.extension }
     {

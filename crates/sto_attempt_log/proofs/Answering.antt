@@ -31,13 +31,13 @@ use Rattle.sto_attempt_log.specs.Log.{IsPending, IsRecalled, IsCache}
 use Rattle.sto_attempt_log.proofs.Recalling.{recalled_read, recalled_whole}
 use Rattle.sto_attempt_log.specs.Doing.{Reader, Answers, RunsOn, known_by, known_now}
 
-same_words : (xs ys : List ℤ) → Some xs ≡ Some ys → xs ≡ ys
+pub same_words : (xs ys : List ℤ) → Some xs ≡ Some ys → xs ≡ ys
 same_words xs ys e = cc
 
 same_call : (x y : Call) → Ask x ≡ Ask y → x ≡ y
 same_call x y e = cc
 
-some_of : (o : Option (List ℤ)) → IsSome o → (ws : List ℤ) × (o ≡ Some ws)
+pub some_of : (o : Option (List ℤ)) → IsSome o → (ws : List ℤ) × (o ≡ Some ws)
 some_of None s = cc
 some_of (Some ws) s = (ws, refl)
 
@@ -53,7 +53,7 @@ agrees_known homes object k a b in_a in_b range (Holds p ∷ is) known true_of =
     (true_of.0, agrees_known homes object k a b in_a in_b range is known.2 true_of.1)
 
 module _ (m : Meaning) (law : IsLawful m) (base : List ReadEntry) (us : List Update) (h : IsPending m (words_in base) us) where
-  known_is : (p : ℕ) (ws : List ℤ) (o : Option (List ℤ)) → words_in base p ≡ o → p < length m.widths → known_by o (changes_of us p) (slice_index_or m.widths p 0) ≡ Some ws
+  pub known_is : (p : ℕ) (ws : List ℤ) (o : Option (List ℤ)) → words_in base p ≡ o → p < length m.widths → known_by o (changes_of us p) (slice_index_or m.widths p 0) ≡ Some ws
       → IsRecalled m (words_in base) us p ws
   known_is p ws (Some read) e range is =
       subst (IsRecalled m (words_in base) us p) (same_words (applied_all (changes_of us p) read) ws is) (recalled_read m law (words_in base) us h p read range e)
@@ -63,38 +63,26 @@ module _ (m : Meaning) (law : IsLawful m) (base : List ReadEntry) (us : List Upd
             let zeros = replicate (slice_index_or m.widths p 0) (pos 0) in
             let it : Some (applied_all (changes_of us p) zeros) ≡ Some ws = rw whole at is in
             subst (IsRecalled m (words_in base) us p) (same_words (applied_all (changes_of us p) zeros) ws it)
-            (recalled_whole m law (words_in base) us h p zeros (length-replicate (slice_index_or m.widths p 0) (pos 0)) whole)
+            (recalled_whole m law (words_in base) us h p zeros range (length-replicate (slice_index_or m.widths p 0) (pos 0)) whole)
         | inr part ↦ let no : None ≡ Some ws = rw part at is in cc
-      ]
-
-  known_from : (p : ℕ) (o : Option (List ℤ)) → words_in base p ≡ o → IsSome (known_by o (changes_of us p) (slice_index_or m.widths p 0))
-      → IsSome (words_in base p) ⊎ (overwrites (changes_of us p) ≡ true)
-  known_from p (Some read) e some = inl (subst (λ (x : Option (List ℤ)). IsSome x) (sym e) refl)
-  known_from p None e some =
-      elim (cases_Bool (overwrites (changes_of us p))) [
-        | inl whole ↦ inr whole
-        | inr part ↦ let no = rw part at some in cc
       ]
 
   in_range : (d : Parts) → m.valid d → (p : ℕ) → p < length (applied_updates us d) → p < length m.widths
   in_range d v p range = omega (arith, range, length-applied_updates us d, ap (λ (l : List ℕ). length l) (law.widths d v), length-map d length)
 
   -- what is known without an event is so in all valid contents that have what was read
-  pub known_cache : IsCache m (words_in base) us (known_now m base us)
-  known_cache = record {
-    above = λ d v part. record { same = λ p ws range is. (known_is p ws (words_in base p) refl (in_range d v p range) is).above d v part };
-    from = λ p some. known_from p (words_in base p) refl some;
-  }
+  pub known_above : (d : Parts) → m.valid d → IsPartOf (words_in base) d → IsPartOf (known_now m base us) (applied_updates us d)
+  known_above d v part = record { same = λ p ws range is. (known_is p ws (words_in base p) refl (in_range d v p range) is).above d v part }
 
   module _ (call : Call) (takes : m.takes call) (needless : m.need call (known_now m base us) ≡ None) where
     ready : (d : Parts) → m.valid d → IsPartOf (words_in base) d → IsReady m call (known_now m base us) (applied_updates us d)
-    ready d v part = record { takes = takes; valid = (h.fits d v part).1; part = known_cache.above d v part; done = needless }
+    ready d v part = record { takes = takes; valid = (h.fits d v part).1; part = known_above d v part; done = needless }
 
     pub alike : (d e : Parts) → m.valid d → m.valid e → IsPartOf (words_in base) d → IsPartOf (words_in base) e
         → Agrees (applied_updates us e) (m.items call (known_now m base us)) (applied_updates us d)
     alike d e v w part too =
         let k = known_now m base us in
-        agrees_known m.homes call.object k (applied_updates us d) (applied_updates us e) (known_cache.above d v part) (known_cache.above e w too)
+        agrees_known m.homes call.object k (applied_updates us d) (applied_updates us e) (known_above d v part) (known_above e w too)
         (λ p l. (omega (arith, l, law.homes, length-applied_updates us d, ap (λ (x : List ℕ). length x) (law.widths d v), length-map d length),
         omega (arith, l, law.homes, length-applied_updates us e, ap (λ (x : List ℕ). length x) (law.widths e w), length-map e length)))
         (m.items call k) (law.knows call k (applied_updates us d) (ready d v part)) (law.holds call k (applied_updates us e) (ready e w too))

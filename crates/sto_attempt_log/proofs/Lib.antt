@@ -60,3 +60,6 @@ pub mod Doings
 pub mod CommitSteps
 pub mod Sealed
 pub mod Answering
+pub mod ReadRuns
+pub mod ReadSteps
+pub mod SameRising

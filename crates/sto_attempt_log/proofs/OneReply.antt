@@ -30,7 +30,7 @@ use Rattle.sto_attempt_log.proofs.Written.{written_more, empty_with, with_parts}
 use Rattle.sto_attempt_log.proofs.Moving.{read_below, inside_below, parts_below}
 
 pub cache_none : (m : Meaning) (base : Known) (es : List Entry) → IsCache m base es (known [])
-cache_none m base es = record { above = λ d v p. IsPartOf-none (applied_updates es d); from = λ p h. cc }
+cache_none m base es = record { above = λ d v p. IsPartOf-none (applied_updates es d); from = λ p h. cc; inside = λ p h. cc }
 
 -- the run on contents that what was read is part of
 pub run_on : (m : Meaning) (f : Script) (base : Known) (items : List Item) (es : List Entry) (rs : List Told) (d : Parts) → IsCarried m f base items es rs → m.valid d → IsPartOf base d → IsRunOn m f d es rs

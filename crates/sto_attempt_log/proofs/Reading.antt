@@ -484,6 +484,7 @@ cache_wider m base x es k h = record {
     | inl read ↦ inl (some_more base x p read)
     | inr put ↦ inr put
   ];
+  inside = h.inside;
 }
 
 pub always_err : {T E : Type 0} (r : Result T E) (P : Type 0) → P → OnErr r P

@@ -51,6 +51,7 @@ module _ (m : Meaning) (law : IsLawful m) (base : Known) (es : List Entry) (h : 
         let fits : HasWidths es d × m.valid (applied_updates es d) = h.fits d v part in
         part_of-applied 0 es d p h.ordered.0 fits.0 ∙ ap (applied_all (changes_of es p)) (part.same p ws (there d v range) e);
     from = inl (subst (λ (o : Option (List ℤ)). IsSome o) (sym e) refl);
+    inside = range;
   }
 
   -- its pending changes are not more than its words
@@ -60,8 +61,8 @@ module _ (m : Meaning) (law : IsLawful m) (base : Known) (es : List Entry) (h : 
       omega (arith, length-changes_of es h.some.0 p fits.0, ap length (h.some.2.same p ws (there h.some.0 h.some.1 range) e))
 
   -- a part that is put whole
-  pub recalled_whole : (ws : List ℤ) → length ws ≡ slice_index_or m.widths p 0 → overwrites (changes_of es p) ≡ true → IsRecalled m base es p (applied_all (changes_of es p) ws)
-  recalled_whole ws long o =
+  pub recalled_whole : (ws : List ℤ) → p < length m.widths → length ws ≡ slice_index_or m.widths p 0 → overwrites (changes_of es p) ≡ true → IsRecalled m base es p (applied_all (changes_of es p) ws)
+  recalled_whole ws range long o =
       let some : 0 < length (changes_of es p) = grind (arith, nat_tests) in
       let puts : list_all is_put (changes_of es p) ≡ true = and_right (nat_lt 0 (length (changes_of es p))) (list_all is_put (changes_of es p)) o in
       record {
@@ -70,6 +71,7 @@ module _ (m : Meaning) (law : IsLawful m) (base : Known) (es : List Entry) (h : 
             let same : length (part_of d p) ≡ length (changes_of es p) = same_width es d p fits.0 some in
             part_of-applied 0 es d p h.ordered.0 fits.0 ∙ applied_all-puts (changes_of es p) (part_of d p) ws puts same (long ∙ sym (width_is d v) ∙ same);
         from = inr o;
+        inside = range;
       }
 
   pub fits_whole : (ws : List ℤ) → length ws ≡ slice_index_or m.widths p 0 → length (changes_of es p) ≤ length ws
@@ -85,6 +87,11 @@ cache_learnt m base es k p ws c r = record {
       elim (cases_Bool (nat_eq p q)) as (λ _. IsSome (base q) ⊎ (overwrites (changes_of es q) ≡ true)) [
         | inl hit ↦ let P : ℕ → Type 0 = λ n. IsSome (base n) ⊎ (overwrites (changes_of es n) ≡ true) in subst P (eqb-true p q hit) r.from
         | inr miss ↦ c.from q (rw miss at some)
+      ];
+  inside = λ q some.
+      elim (cases_Bool (nat_eq p q)) as (λ _. q < length m.widths) [
+        | inl hit ↦ subst (λ (n : ℕ). n < length m.widths) (eqb-true p q hit) r.inside
+        | inr miss ↦ c.inside q (rw miss at some)
       ];
 }
 

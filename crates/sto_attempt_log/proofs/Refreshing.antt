@@ -77,8 +77,12 @@ cache_outside m base es us k ordered more fits c = record {
         ∙ (c.above d v part).same p ws there out.1;
   };
   from = λ p some. from_case p (outside us k p) refl some;
+  inside = λ p some. inside_case p (outside us k p) refl some;
 }
   where
+    inside_case : (p : ℕ) (o : Option (List ℤ)) → outside us k p ≡ o → IsSome o → p < length m.widths
+    inside_case p None is some = cc
+    inside_case p (Some ws) is some = c.inside p (subst (λ (o : Option (List ℤ)). IsSome o) (sym (outside_known us k p ws is).1) refl)
     from_case : (p : ℕ) (o : Option (List ℤ)) → outside us k p ≡ o → IsSome o → IsSome (base p) ⊎ (overwrites (changes_of (with_updates es us) p) ≡ true)
     from_case p None is some = cc
     from_case p (Some ws) is some =
@@ -98,6 +102,10 @@ cache_less m base es k less h c = record {
   from = λ p some. elim (h p) as (λ _. IsSome (base p) ⊎ (overwrites (changes_of es p) ≡ true)) [
     | inl none ↦ let no = rw none at some in cc
     | inr same ↦ c.from p (subst (λ (o : Option (List ℤ)). IsSome o) same some)
+  ];
+  inside = λ p some. elim (h p) as (λ _. p < length m.widths) [
+    | inl none ↦ let no = rw none at some in cc
+    | inr same ↦ c.inside p (subst (λ (o : Option (List ℤ)). IsSome o) same some)
   ];
 }
 

@@ -1,6 +1,6 @@
 -- What an attempt does next, over plain data: the event of its next step, and where that which the event finds leads it. Its body runs without an event, up to the next
 -- part that it needs or to its end; after that it commits. All is a function of the meaning of the type, of the script of the body, and of what the attempt has found out.
-use Rattle.std.specs.Prelude.{◌≡◌, ◌+◌, ℕ, zero, suc, ℤ, pos, nat_eq, nat_le, nat_lt, ◌&&◌, if◌then◌else◌, Bool, true, false, not, Option, Some, None, List, [], ◌∷◌, ◌++◌, length, map, replicate, slice_index_or}
+use Rattle.std.specs.Prelude.{◌≡◌, ◌+◌, ℕ, zero, suc, ℤ, pos, nat_eq, nat_le, nat_lt, ◌&&◌, if◌then◌else◌, Bool, true, false, not, Option, Some, None, List, [], ◌∷◌, ◌++◌, length, map, drop, replicate, slice_index_or, IsTrue, ◌↔◌}
 use Rattle.std.specs.List.{list_any, list_all}
 use Rattle.std.specs.Option.{option_map_or}
 use Rattle.sto_part.specs.declared.change.Change.{Change}
@@ -20,6 +20,9 @@ use Rattle.sto_model.specs.Run.{Script}
 use Rattle.sto_core.specs.Versions.{ticket_of, is_free}
 use Rattle.sto_core.specs.History.{writes}
 use Rattle.sto_core.specs.Reads.{value_read}
+use Rattle.sto_core.specs.declared.view.View.{View}
+use Rattle.sto_core.specs.History.{Validity}
+use Rattle.sto_core.specs.Tells.{Tells}
 use Rattle.sto_core.specs.Event.{Event, Start, Word, Close, Lock, Test, Draw, Check, Decide, Put, Release, Unlock}
 use Rattle.sto_type.specs.Known.{Parts, Known, IsPartOf}
 use Rattle.sto_type.specs.Meaning.{Meaning, is_empty}
@@ -71,7 +74,7 @@ pub record Reader : Type 0 where
   pub bound : ℕ
   -- the parts that it has read anew
   pub fresh : List ReadEntry
-  -- what it has still to read anew
+  -- what the last extension reads anew, part by part
   pub watches : List Watched
 
 -- the next call of the body is answered on what is known: its items and updates are added, and the body hears the reply
@@ -142,19 +145,21 @@ with_word r x = Stays (record r { words = r.words ++ x ∷ [] }) More
 abbrev pub watches_of : List Item → List Watched
 watches_of items = map (watch_at items) (gathered (λ i. Some (part_of_item i)) [] items)
 
--- an extension goes on to the next watch; where none is left, the attempt reads as of the bound, and knows the parts that were read anew and no others
-abbrev pub goes_on_extending : Reader → List Watched → Course
-goes_on_extending r [] = Runs (record r { at = r.bound; base = r.fresh; fresh = []; watches = [] })
-goes_on_extending r (w ∷ ws) = Stays (record r { watches = w ∷ ws; phase = (if w.seen then R.Rechecking w.part else R.Reopening w.part) }) More
+-- an extension goes on to the first of these watches; where there is none, the attempt reads as of the bound, and knows the parts that were read anew and no others
+abbrev pub goes_on_to : Reader → List Watched → Course
+goes_on_to r [] = Runs (record r { at = r.bound; base = r.fresh; fresh = [] })
+goes_on_to r (w ∷ ws) = moves r (if w.seen then R.Rechecking w.part else R.Reopening w.part)
 
--- the watches after the first
-abbrev pub others : List Watched → List Watched
-others [] = []
-others (w ∷ ws) = ws
+-- the watches that were not read anew
+abbrev pub watches_left : Reader → List Watched
+watches_left r = drop (length r.fresh) r.watches
 
--- the first watch was read anew, with these words
+abbrev pub goes_on_extending : Reader → Course
+goes_on_extending r = goes_on_to r (watches_left r)
+
+-- the next watch was read anew, with these words
 abbrev pub renewed : Reader → ℕ → ℕ → List ℤ → Course
-renewed r p t ws = goes_on_extending (record r { fresh = r.fresh ++ entry_with p t ws ∷ [] }) (others r.watches)
+renewed r p t ws = goes_on_extending (record r { fresh = r.fresh ++ entry_with p t ws ∷ [] })
 
 -- the predicates of the first watch are true of these words
 abbrev pub are_so : List Watched → List ℤ → Bool
@@ -175,7 +180,7 @@ after_read m (R.Opening p) r n x = opened r p n
 after_read m (R.Reading p t) r n x =
     if nat_lt (length r.words) (slice_index_or m.widths p 0) then with_word r x
     else unless_changed r p t n (Runs (record r { base = r.base ++ entry_with p t r.words ∷ [] }))
-after_read m (R.Renewing p t) r n x = goes_on_extending (record r { bound = n; extended = true; fresh = [] }) (watches_of r.set.items)
+after_read m (R.Renewing p t) r n x = goes_on_extending (record r { bound = n; extended = true; fresh = []; watches = watches_of r.set.items })
 after_read m (R.Rechecking p) r n x =
     unless_changed r p (ticket_read r p) n (renewed r p (ticket_read r p) (words_of_part r p))
 after_read m (R.Reopening p) r n x =
@@ -184,7 +189,7 @@ after_read m (R.Reopening p) r n x =
     else ends r (Changed r.at p (ticket_of n))
 after_read m (R.Rereading p t) r n x =
     if nat_lt (length r.words) (slice_index_or m.widths p 0) then with_word r x
-    else unless_changed r p t n (if are_so r.watches r.words then renewed r p t r.words else ends r (Changed r.at p t))
+    else unless_changed r p t n (if are_so (watches_left r) r.words then renewed r p t r.words else ends r (Changed r.at p t))
 after_read m R.Committing r n x = Stays r Ready
 after_read m R.Over r n x = Stays r More
 
@@ -386,3 +391,27 @@ turned r (Ended verdict) = (Reads r, Some verdict)
 abbrev pub DoesNext : Meaning → Script → Doing → ℕ → ℤ → Doing → Option Verdict → Type 0
 DoesNext m f (Reads r) n x later end = (s : Reader) × (turn : Turn) × ReadsOn m f r n x s turn × ((later, end) ≡ turned s turn)
 DoesNext m f (Committing c) n x later end = (s : Committer) × ((s, end) ≡ after_commit m c.phase c n x) × (later ≡ Committing s)
+
+-- the event e of a read phase found what leads from the one reader to the other, with this turn
+pub record ReadsBy (m : Meaning) (f : Script) (valid : Validity) (passes : ℕ) (read_phase : ReadPhase) (e : Event) (r s : Reader) (v w : View) (turn : Turn) : Type 0 where
+  pub number : ℕ
+  pub value : ℤ
+  pub tells : Tells valid passes e v number value w
+  pub leads : ComesTo m f (after_read m read_phase r number value) s turn
+
+-- so many calls of the body were answered
+abbrev pub AnswersAll : Meaning → Script → ℕ → Reader → Reader → Type 0
+AnswersAll m f zero r s = s ≡ r
+AnswersAll m f (suc n) r s = (q : Reader) × Answers m f r q × AnswersAll m f n q s
+
+-- the body of a reader has run on to this set and these replies; the running call has extended where it had, and was not answered
+pub record RanTo (m : Meaning) (f : Script) (r : Reader) (set : Recorded) (heard : List Told) : Type 0 where
+  pub count : ℕ
+  pub now : Reader
+  pub answered : AnswersAll m f count r now
+  pub kept : now ≡ record r { set = set; heard = heard; extended = now.extended }
+  pub extended : IsTrue now.extended ↔ (IsTrue r.extended × (length heard ≡ length r.heard))
+
+-- the body of a reader has run on to this set and these replies, and has come to its end or to a part that it needs
+abbrev pub HasComeTo : Meaning → Script → Reader → Recorded → List Told → Reached → Type 0
+HasComeTo m f r set heard reached = (ran : RanTo m f r set heard) × Halts m f ran.now reached

@@ -13,6 +13,7 @@ use Rattle.sto_attempt_log.specs.declared.log.Reached.{Reached}
 use Rattle.sto_attempt_log.specs.ReadSet.{words_in}
 use Rattle.sto_attempt_log.specs.Log.{IsOnLog}
 use Rattle.sto_attempt_log.specs.Growing.{HasHeard}
+use Rattle.sto_attempt_log.specs.Doing.{Reader, RanTo, HasComeTo}
 use Rattle.sto_attempt_log.specs.Reached.{IsReached, IsByCall}
 
 -- the replies that the body has heard
@@ -33,6 +34,10 @@ module _ {T B : Type 0} (t : OfType T) (b : OfBody B) where
   abbrev pub HasHeardSince : List Told → Recorded → Log T B → Log T B → Type 0
   HasHeardSince rs set old l = HasHeard (t.meaning old.ty.now) (b.script old.body) (words_in old.base.items) rs set (replies_of l) l.set
 
+  -- a reader stands where the log does
+  abbrev pub StandsAt : Reader → Log T B → Type 0
+  StandsAt r l = (r.base ≡ l.base.items) × (r.set ≡ l.set) × (r.heard ≡ replies_of l)
+
   -- the body was run on what is known, up to the next part that has to be read, or to its end
   pub record HasRunOn (old new : Log T B) (result : Result Reached NoMemory) : Type 0 where
     pub log : OnOk result (IsInOrder old new)
@@ -40,6 +45,8 @@ module _ {T B : Type 0} (t : OfType T) (b : OfBody B) where
     pub grown : OnOk result (HasHeardSince (replies_of old) old.set old new)
     -- the replies are the first ones of the serial run on all valid contents that have the parts read, also after want of memory
     pub runs : (d : List (List ℤ)) → (t.meaning old.ty.now).valid d → IsPartOf (words_in old.base.items) d → IsRun (t.meaning old.ty.now).machines (b.script old.body) ((t.meaning old.ty.now).rows d) (replies_of new)
+    -- it is the run of the plain data
+    pub comes : (r : Reader) → StandsAt r old → IfOk result (HasComeTo (t.meaning old.ty.now) (b.script old.body) r new.set (replies_of new))
     pub left : length new.replies.items + b.left new.body ≤ length old.replies.items + b.left old.body
     pub asks : IfOk result (IsByCall (b.left new.body))
     pub script : b.script new.body ≡ b.script old.body
@@ -52,6 +59,9 @@ module _ {T B : Type 0} (t : OfType T) (b : OfBody B) where
   pub record HasTakenIn {A : Type 0} (old new : Log T B) (result : Result A NoMemory) : Type 0 where
     pub log : OnOk result (IsInOrder old new)
     pub grown : OnOk result ((rs : List Told) → (set : Recorded) → HasHeardSince rs set old old → HasHeardSince rs set old new)
+    -- from where the body of a reader has run to, it has run on
+    pub ran : (r : Reader) → r.base ≡ old.base.items → RanTo (t.meaning old.ty.now) (b.script old.body) r old.set (replies_of old)
+        → OnOk result (RanTo (t.meaning old.ty.now) (b.script old.body) r new.set (replies_of new))
     pub fewer : OnOk result (b.left new.body < b.left old.body)
     pub kept : OnErr result (new.replies ≡ old.replies)
     pub left : length new.replies.items + b.left new.body ≤ length old.replies.items + b.left old.body

@@ -42,10 +42,11 @@ pub record IsLog (m : Meaning) (f : Script) (base : Known) (items : List Item) (
   pub touched_updates : AllOf (λ (e : Entry). HasTouched m f rs e.0) es
   pub written : has_written f rs ≡ not (is_empty es)
 
--- what is known with the pending updates applied: of all contents that what was read is part of, and of no other part than those read and those that the updates put whole
+-- what is known with the pending updates applied: of all contents that what was read is part of, and of no other part than those read and those that the updates put whole, and of none past the last
 pub record IsCache (m : Meaning) (base : Known) (es : List Entry) (k : Known) : Type 0 where
   pub above : (d : Parts) → m.valid d → IsPartOf base d → IsPartOf k (applied_updates es d)
   pub from : (p : ℕ) → IsSome (k p) → IsSome (base p) ⊎ (overwrites (changes_of es p) ≡ true)
+  pub inside : (p : ℕ) → IsSome (k p) → p < length m.widths
 
 -- the pending updates are in order, and fit all valid contents that what was read is part of; there are such contents
 pub record IsPending (m : Meaning) (base : Known) (es : List Entry) : Type 0 where
@@ -57,6 +58,7 @@ pub record IsPending (m : Meaning) (base : Known) (es : List Entry) : Type 0 whe
 pub record IsRecalled (m : Meaning) (base : Known) (es : List Entry) (p : ℕ) (ws : List ℤ) : Type 0 where
   pub above : (d : Parts) → m.valid d → IsPartOf base d → part_of (applied_updates es d) p ≡ ws
   pub from : IsSome (base p) ⊎ (overwrites (changes_of es p) ≡ true)
+  pub inside : p < length m.widths
 
 -- all that is kept between two events: f is the script of the body, which waits where the replies have led it
 pub record IsOnLog (m : Meaning) (next : List Told → Next) (f : Script) (left : ℕ) (may : Call → Type 0) (base : List ReadEntry) (set : Recorded) (cache : List (ℕ × List ℤ)) (replies : List Reply) : Type 0 where

@@ -45,6 +45,6 @@ returns-then-overwrites-clause-known g c is =
     let ws = replicate w (pos 0) in
     let width : slice_index_or m.widths c.args.part 0 ≡ w = get_or_from_slice_get m.widths c.args.part w 0 c.width.ensures in (
       applied_all (changes_of es c.args.part) ws,
-      recalled_whole m law base es c.requires.pending c.args.part ws (length-replicate w (pos 0) ∙ sym width) (sym c.overwrites.ensures ∙ c.if-overwrites.true),
+      recalled_whole m law base es c.requires.pending c.args.part ws c.requires.range (length-replicate w (pos 0) ∙ sym width) (sym c.overwrites.ensures ∙ c.if-overwrites.true),
       c.in_ok-learn_put.ensures,
     )

@@ -25,6 +25,11 @@ use Rattle.sto_attempt_log.proofs.Reading.{always_err}
 use Rattle.sto_attempt_log.proofs.Lowering.{advance_fewer, less_next}
 use Rattle.sto_attempt_log.proofs.Causing.{replies_on, replies_same}
 use Rattle.sto_attempt_log.proofs.Stepping.{led_begun}
+use Rattle.sto_item.specs.Recorded.{Recorded}
+use Rattle.sto_attempt_log.specs.Doing.{Reader, HasComeTo}
+use Rattle.sto_attempt_log.proofs.ReadSteps.{runs_on_is}
+use Rattle.sto_attempt.proofs.Extends.{goes_seen_is, goes_tested_is, goes_over_is}
+use Rattle.sto_attempt.specs.Attempts.{reader_of}
 use Rattle.sto_attempt.proofs.attempt.Attempt.advance.Goals as goal
 
 pub go_on-requires-clause-log : goal.go_on-requires-clause-log
@@ -69,6 +74,13 @@ returns-then-watch g c =
       grown = heard_none (g.T.TxType.meaning a.log.ty.now) (g.B.Body.script a.log.body) (words_in a.log.base.items) (map told a.log.replies.items) a.log.set;
       renewed = search rules;
       moves = search rules;
+      comes =
+          let ws = a.extension.watches.items in
+          let fresh = a.extension.fresh.items in
+          let w = c.get-watch.result.now in
+          let e : slice_get (map watched ws) (length fresh) ≡ Some (watched w) =
+          slice_get-map watched ws (length fresh) ∙ ap (option_map watched) (ap (slice_get ws) (sym c.len-place.ensures) ∙ c.get-watch.ensures) in
+          goes_seen_is (g.T.TxType.meaning a.log.ty.now) (g.B.Body.script a.log.body) (reader_of a) (watched w) e c.if-watch.true;
       left = less_next (left_extending (g.B.Body.left a.log.body - 1) (g.T.TxType.meaning a.log.ty.now).widths (drop (length a.extension.fresh.items) (map watched a.extension.watches.items)));
       stopped = search rules;
       script = search rules;
@@ -95,6 +107,13 @@ returns-else-watch g c =
       grown = heard_none (g.T.TxType.meaning a.log.ty.now) (g.B.Body.script a.log.body) (words_in a.log.base.items) (map told a.log.replies.items) a.log.set;
       renewed = search rules;
       moves = search rules;
+      comes =
+          let ws = a.extension.watches.items in
+          let fresh = a.extension.fresh.items in
+          let w = c.get-watch.result.now in
+          let e : slice_get (map watched ws) (length fresh) ≡ Some (watched w) =
+          slice_get-map watched ws (length fresh) ∙ ap (option_map watched) (ap (slice_get ws) (sym c.len-place.ensures) ∙ c.get-watch.ensures) in
+          goes_tested_is (g.T.TxType.meaning a.log.ty.now) (g.B.Body.script a.log.body) (reader_of a) (watched w) e c.if-watch.false;
       left = less_next (left_extending (g.B.Body.left a.log.body - 1) (g.T.TxType.meaning a.log.ty.now).widths (drop (length a.extension.fresh.items) (map watched a.extension.watches.items)));
       stopped = search rules;
       script = search rules;
@@ -147,6 +166,27 @@ returns g c =
         led_begun c.args.self.now.extension.bound c.go_on.new.self.set.updates c.in_ok-reached.reached c.lead-read_phase.result.0 c.lead-read_phase.result.1 c.lead-read_phase.ensures,
         c.requires.bound,
       );
+      comes =
+          let f = g.B.Body.script a.log.body in
+          let bound = a.extension.bound in
+          let last : length (map watched a.extension.watches.items) ≤ length a.extension.fresh.items = omega (arith, length-map a.extension.watches.items watched, c.if-place-len.false, c.len-place.ensures, c.len.ensures) in
+          let base = c.swap.new.x.items in
+          let fresh = c.clear.new.self.items in
+          let same : base ≡ a.extension.fresh.items = ap (λ (l : Listed ReadEntry). l.items) c.swap.ensures.x_after in
+          let kept : c.go_on.new.self.base.items ≡ base = ap (λ (l : Listed ReadEntry). l.items) c.in_ok-reached.ensures.base in
+          let r : Reader = record (reader_of a) { at = bound; base = base; fresh = fresh } in
+          let set : Recorded = c.go_on.new.self.set in
+          let all = map told c.go_on.new.self.replies.items in
+          let phase = c.lead-read_phase.result.0 in
+          let turn = c.lead-read_phase.result.1 in
+          let s : Reader = record r { phase = phase; base = c.go_on.new.self.base.items; set = set; heard = all; extended = c.still-self.result } in
+          let here : s ≡ record r { set = set; heard = all; extended = s.extended; phase = s.phase } = λ i. record r { phase = phase; base = kept i; set = set; heard = all; extended = c.still-self.result } in
+          let first : length (map told a.log.replies.items) ≡ heard = length-map a.log.replies.items told in
+          let last_one : length all ≡ now = length-map c.go_on.new.self.replies.items told in
+          let extended : IsTrue c.still-self.result ↔ (IsTrue a.extension.extended × (length all ≡ length (map told a.log.replies.items))) =
+          ((λ e. let h = iff.0 e in (h.0, omega (arith, h.1, first, last_one))), (λ h. iff.1 (h.0, omega (arith, h.1, first, last_one)))) in
+          let come : HasComeTo m f r set all c.in_ok-reached.reached = c.in_ok-reached.ensures.comes r (refl, refl, refl) in
+          goes_over_is m f (reader_of a) s turn base fresh last same c.clear.ensures (runs_on_is m f r s set all c.in_ok-reached.reached turn come.0 come.1 c.lead-read_phase.ensures here extended);
       left = advance_fewer m.widths a.extension.bound c.go_on.new.self.set.updates c.in_ok-reached.reached c.lead-read_phase.result.0 c.lead-read_phase.result.1 c.lead-read_phase.ensures before calls heard now a.extension.extended c.still-self.result a.words.items extension
           c.go_on.new.self.base.items (drop (length a.extension.fresh.items) (map watched a.extension.watches.items)) refl c.requires.extended c.in_ok-reached.ensures.left on c.in_ok-reached.ensures.asks iff;
       stopped = search rules;
@@ -164,6 +204,7 @@ returns-in_err-reached g c =
       grown = search rules;
       renewed = search rules;
       moves = search rules;
+      comes = search rules;
       left = search rules;
       stopped = λ v spans. (let a = c.args.self.now in
           let m = g.T.TxType.meaning a.log.ty.now in

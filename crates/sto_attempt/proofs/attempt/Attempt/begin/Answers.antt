@@ -1,4 +1,4 @@
-use Rattle.std.proofs.Common.{◌≡◌, List, ap, sym, subst, map, rules, refl}
+use Rattle.std.proofs.Common.{pos, IsTrue, ◌≡◌, List, ap, sym, subst, map, rules, refl}
 use Rattle.sto_part.specs.Listed.{Listed}
 use Rattle.sto_model.specs.Told.{told}
 use Rattle.sto_attempt_log.specs.declared.read_entry.ReadEntry.{ReadEntry}
@@ -11,6 +11,10 @@ use Rattle.sto_attempt_log.proofs.Causing.{replies_on}
 use Rattle.std.proofs.Common.{◌≤◌, ◌∙◌, arith, length}
 use Rattle.sto_attempt_log.proofs.Stepping.{led_begun}
 use Rattle.sto_core.specs.declared.view.View.{View}
+use Rattle.sto_item.specs.Recorded.{Recorded}
+use Rattle.sto_attempt_log.specs.Doing.{Reader, HasComeTo}
+use Rattle.sto_attempt_log.proofs.ReadSteps.{runs_on_is}
+use Rattle.sto_attempt.specs.Attempts.{reader_of}
 use Rattle.sto_attempt.proofs.attempt.Attempt.begin.Goals as goal
 
 pub returns : goal.returns
@@ -42,6 +46,22 @@ returns g c =
         led_begun c.start-at.result c.go_on.new.self.set.updates c.in_ok-reached.reached c.lead-read_phase.result.0 c.lead-read_phase.result.1 c.lead-read_phase.ensures,
         sym (ap (λ (u : View). u.at) c.start-at.ensures.tells.after),
       );
+      reads =
+          let m = g.T.TxType.meaning a.log.ty.now in
+          let r : Reader = record (reader_of a) { at = at } in
+          let set : Recorded = c.go_on.new.self.set in
+          let phase = c.lead-read_phase.result.0 in
+          let turn = c.lead-read_phase.result.1 in
+          let s : Reader = record r { phase = phase; base = c.go_on.new.self.base.items; set = set; heard = rs } in
+          let here : s ≡ record r { set = set; heard = rs; extended = s.extended; phase = s.phase } = λ i. record r { phase = phase; base = same i; set = set; heard = rs } in
+          let never : IsTrue a.extension.extended → ⊥ = λ e. let no = sym c.requires.goes.4 ∙ e in cc in
+          let come : HasComeTo m f r set rs c.in_ok-reached.reached = c.in_ok-reached.ensures.comes r (refl, refl, refl) in
+          record {
+            number = at;
+            value = pos 0;
+            tells = c.start-at.ensures.tells;
+            leads = runs_on_is m f r s set rs c.in_ok-reached.reached turn come.0 come.1 c.lead-read_phase.ensures here ((λ e. absurd (never e)), λ e. absurd (never e.0));
+          };
       left =
           let m = g.T.TxType.meaning a.log.ty.now in
           began_fewer c.start-at.result c.go_on.new.self.set.updates c.in_ok-reached.reached c.lead-read_phase.result.0 c.lead-read_phase.result.1 c.lead-read_phase.ensures (g.B.Body.left a.log.body) (g.B.Body.left c.go_on.new.self.body) m.widths

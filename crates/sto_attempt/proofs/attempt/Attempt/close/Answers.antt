@@ -1,4 +1,4 @@
-use Rattle.std.proofs.Common.{◌≡◌, ◌≤◌, ◌<◌, true, false, List, ℕ, [], ◌∷◌, ◌++◌, ap, sym, ◌∙◌, subst, map, arith, refl, rules}
+use Rattle.std.proofs.Common.{ℤ, ◌≡◌, ◌≤◌, ◌<◌, true, false, List, ℕ, [], ◌∷◌, ◌++◌, ap, sym, ◌∙◌, subst, map, arith, refl, rules}
 use Rattle.sto_part.specs.Listed.{Listed}
 use Rattle.sto_model.specs.Told.{told}
 use Rattle.sto_core.specs.Versions.{ticket_of, is_free}
@@ -28,6 +28,11 @@ use Rattle.sto_attempt_log.proofs.Lowering.{close_over, close_fewer}
 use Rattle.sto_attempt_log.proofs.Causing.{by_close, unaborted_caused, replies_on, replies_same}
 use Rattle.sto_attempt_log.proofs.Onward.{heard_none}
 use Rattle.sto_attempt_log.proofs.Stepping.{led_begun}
+use Rattle.std.proofs.lemmas.List.{length-map}
+use Rattle.sto_item.specs.Recorded.{Recorded}
+use Rattle.sto_attempt_log.specs.Doing.{Reader, ComesTo, Runs, HasComeTo}
+use Rattle.sto_attempt_log.proofs.ReadSteps.{close_locked_is, close_changed_is, close_is, runs_on_is}
+use Rattle.sto_attempt.specs.Attempts.{reader_of}
 use Rattle.sto_attempt.proofs.attempt.Attempt.close.Goals as goal
 
 pub close-found-requires : goal.close-found-requires
@@ -400,4 +405,72 @@ returns-clause-made g c =
       };
       stopped = tt;
       same = c.close-found.ensures.same;
+    }
+
+pub returns-then-is_locked-clause-reads : goal.returns-then-is_locked-clause-reads
+returns-then-is_locked-clause-reads g c =
+    let a = c.args.self.now in
+    let n = c.close-found.result.0 in
+    let m = g.T.TxType.meaning a.log.ty.now in
+    let f = g.B.Body.script a.log.body in
+    let locked : is_free n ≡ false = unlocked_is (is_free n) (sym c.is_locked.ensures ∙ c.if-is_locked.true) in
+    record { number = n; value = pos 0; tells = c.close-found.ensures.tells; leads = close_locked_is m f (reader_of a) c.args.part c.args.ticket n (pos 0) c.requires.all locked }
+
+pub returns-then-newer-ticket-clause-reads : goal.returns-then-newer-ticket-clause-reads
+returns-then-newer-ticket-clause-reads g c =
+    let a = c.args.self.now in
+    let n = c.close-found.result.0 in
+    let m = g.T.TxType.meaning a.log.ty.now in
+    let f = g.B.Body.script a.log.body in
+    let free : is_free n ≡ true = locked_is (is_free n) (sym c.is_locked.ensures ∙ c.if-is_locked.false) in
+    record {
+      number = n;
+      value = pos 0;
+      tells = c.close-found.ensures.tells;
+      leads = close_changed_is m f (reader_of a) c.args.part c.args.ticket n (pos 0) c.ticket-newer.result c.requires.all free c.ticket-newer.ensures.ticket c.if-newer-ticket.true;
+    }
+
+pub returns-then-len-clause-reads : goal.returns-then-len-clause-reads
+returns-then-len-clause-reads g c = tt
+
+pub returns-in_err-push-clause-reads : goal.returns-in_err-push-clause-reads
+returns-in_err-push-clause-reads g c = search rules
+
+pub returns-in_err-learn_updated-clause-reads : goal.returns-in_err-learn_updated-clause-reads
+returns-in_err-learn_updated-clause-reads g c = search rules
+
+pub returns-in_err-reached-clause-reads : goal.returns-in_err-reached-clause-reads
+returns-in_err-reached-clause-reads g c = search rules
+
+pub returns-clause-reads : goal.returns-clause-reads
+returns-clause-reads g c =
+    let a = c.args.self.now in
+    let n = c.close-found.result.0 in
+    let m = g.T.TxType.meaning a.log.ty.now in
+    let f = g.B.Body.script a.log.body in
+    let free : is_free n ≡ true = locked_is (is_free n) (sym c.is_locked.ensures ∙ c.if-is_locked.false) in
+    let same : ticket_of n ≡ c.args.ticket = sym c.ticket-newer.ensures.ticket ∙ c.if-newer-ticket.false in
+    let base = a.log.base.items in
+    let made : c.push.new.self.items ≡ base ++ entry_with c.args.part c.args.ticket a.words.items ∷ [] =
+    c.in_ok-push.ensures.ok ∙ ap (λ (l : List ℤ). base ++ entry_with c.args.part c.args.ticket l ∷ []) c.as_slice-words.ensures.items in
+    let kept : c.go_on.new.self.base.items ≡ c.push.new.self.items = ap (λ (l : Listed ReadEntry). l.items) c.in_ok-reached.ensures.base in
+    let r : Reader = record (reader_of a) { base = c.push.new.self.items } in
+    let set : Recorded = c.go_on.new.self.set in
+    let heard = map told c.go_on.new.self.replies.items in
+    let phase = c.lead-read_phase.result.0 in
+    let turn = c.lead-read_phase.result.1 in
+    let s : Reader = record r { phase = phase; base = c.go_on.new.self.base.items; set = set; heard = heard; extended = c.still-self.result } in
+    let here : s ≡ record r { set = set; heard = heard; extended = s.extended; phase = s.phase } = λ i. record r { phase = phase; base = kept i; set = set; heard = heard; extended = c.still-self.result } in
+    let before : length (map told a.log.replies.items) ≡ length a.log.replies.items = length-map a.log.replies.items told in
+    let now : length heard ≡ length c.go_on.new.self.replies.items = length-map c.go_on.new.self.replies.items told in
+    let extended : IsTrue c.still-self.result ↔ (IsTrue a.extension.extended × (length heard ≡ length (map told a.log.replies.items))) =
+    ((λ e. let h = c.still-self.ensures.0 e in (h.0, omega (arith, h.1, before, now, c.len-heard.ensures, c.len-2.ensures))),
+    (λ h. c.still-self.ensures.1 (h.0, omega (arith, h.1, before, now, c.len-heard.ensures, c.len-2.ensures)))) in
+    let come : HasComeTo m f r set heard c.in_ok-reached.reached = c.in_ok-reached.ensures.comes r (refl, refl, refl) in
+    let runs : ComesTo m f (Runs r) s turn = runs_on_is m f r s set heard c.in_ok-reached.reached turn come.0 come.1 c.lead-read_phase.ensures here extended in
+    record {
+      number = n;
+      value = pos 0;
+      tells = c.close-found.ensures.tells;
+      leads = close_is m f (reader_of a) c.args.part c.args.ticket n (pos 0) s turn c.push.new.self.items c.requires.all free same made runs;
     }

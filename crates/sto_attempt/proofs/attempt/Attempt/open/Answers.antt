@@ -14,6 +14,8 @@ use Rattle.sto_attempt_log.proofs.Causing.{by_open}
 use Rattle.sto_attempt_log.proofs.Onward.{heard_none}
 use Rattle.sto_attempt_log.proofs.Reading.{has_part}
 use Rattle.sto_attempt_log.proofs.Touched.{touched_next}
+use Rattle.sto_attempt.specs.Attempts.{reader_of}
+use Rattle.sto_attempt_log.proofs.ReadSteps.{open_locked_is, open_reads_is, open_changed_is, open_renews_is}
 use Rattle.sto_attempt.proofs.attempt.Attempt.open.Goals as goal
 
 pub open-found-requires : goal.open-found-requires
@@ -172,3 +174,42 @@ returns-clause-made g c =
       stopped = tt;
       same = c.open-found.ensures.same;
     }
+
+pub returns-then-is_locked-clause-reads : goal.returns-then-is_locked-clause-reads
+returns-then-is_locked-clause-reads g c =
+    let a = c.args.self.now in
+    let n = c.open-found.result.0 in
+    let m = g.T.TxType.meaning a.log.ty.now in
+    let f = g.B.Body.script a.log.body in
+    let locked : is_free n ≡ false = unlocked_is (is_free n) (sym c.is_locked.ensures ∙ c.if-is_locked.true) in
+    record { number = n; value = pos 0; tells = c.open-found.ensures.tells; leads = open_locked_is m f (reader_of a) c.args.part n (pos 0) locked }
+
+pub returns-then-ticket-self-clause-reads : goal.returns-then-ticket-self-clause-reads
+returns-then-ticket-self-clause-reads g c =
+    let a = c.args.self.now in
+    let n = c.open-found.result.0 in
+    let m = g.T.TxType.meaning a.log.ty.now in
+    let f = g.B.Body.script a.log.body in
+    let free : is_free n ≡ true = locked_is (is_free n) (sym c.is_locked.ensures ∙ c.if-is_locked.false) in
+    let early : c.ticket-ticket.result ≤ a.at = omega (arith, c.if-ticket-self.true) in
+    record { number = n; value = pos 0; tells = c.open-found.ensures.tells; leads = open_reads_is m f (reader_of a) c.args.part n (pos 0) c.ticket-ticket.result c.make_room.new.words.items free c.ticket-ticket.ensures.ticket early c.make_room.ensures }
+
+pub returns-then-self-clause-reads : goal.returns-then-self-clause-reads
+returns-then-self-clause-reads g c =
+    let a = c.args.self.now in
+    let n = c.open-found.result.0 in
+    let m = g.T.TxType.meaning a.log.ty.now in
+    let f = g.B.Body.script a.log.body in
+    let free : is_free n ≡ true = locked_is (is_free n) (sym c.is_locked.ensures ∙ c.if-is_locked.false) in
+    let later : a.at < c.ticket-ticket.result = omega (arith, c.if-ticket-self.false) in
+    record { number = n; value = pos 0; tells = c.open-found.ensures.tells; leads = open_changed_is m f (reader_of a) c.args.part n (pos 0) c.ticket-ticket.result free c.ticket-ticket.ensures.ticket later c.if-self.true }
+
+pub returns-clause-reads : goal.returns-clause-reads
+returns-clause-reads g c =
+    let a = c.args.self.now in
+    let n = c.open-found.result.0 in
+    let m = g.T.TxType.meaning a.log.ty.now in
+    let f = g.B.Body.script a.log.body in
+    let free : is_free n ≡ true = locked_is (is_free n) (sym c.is_locked.ensures ∙ c.if-is_locked.false) in
+    let later : a.at < c.ticket-ticket.result = omega (arith, c.if-ticket-self.false) in
+    record { number = n; value = pos 0; tells = c.open-found.ensures.tells; leads = open_renews_is m f (reader_of a) c.args.part n (pos 0) c.ticket-ticket.result free c.ticket-ticket.ensures.ticket later c.if-self.false }

@@ -1,3 +1,4 @@
+use Rattle.std.proofs.Common.{pos}
 use Rattle.std.proofs.Common.{rules, ◌≡◌, ◌≤◌, ◌<◌, true, false, List, ℤ, ℕ, [], sym, ◌∙◌, subst, map, length, arith, refl}
 use Rattle.sto_item.specs.Watched.{watched}
 use Rattle.sto_model.specs.Told.{told}
@@ -15,6 +16,8 @@ use Rattle.sto_attempt_log.specs.Bounds.{left_extending}
 use Rattle.sto_attempt_log.proofs.Lowering.{reopen_over, reopen_fewer}
 use Rattle.sto_attempt_log.proofs.Causing.{by_open}
 use Rattle.sto_attempt_log.proofs.Onward.{heard_none}
+use Rattle.sto_attempt.specs.Attempts.{reader_of}
+use Rattle.sto_attempt_log.proofs.ReadSteps.{reopen_locked_is, reopen_reads_is, reopen_changed_is}
 use Rattle.sto_attempt.proofs.attempt.Attempt.reopen.Goals as goal
 
 pub open-found-requires : goal.open-found-requires
@@ -151,3 +154,32 @@ returns-clause-made g c =
       stopped = tt;
       same = c.open-found.ensures.same;
     }
+
+pub returns-then-is_locked-clause-reads : goal.returns-then-is_locked-clause-reads
+returns-then-is_locked-clause-reads g c =
+    let a = c.args.self.now in
+    let n = c.open-found.result.0 in
+    let m = g.T.TxType.meaning a.log.ty.now in
+    let f = g.B.Body.script a.log.body in
+    let locked : is_free n ≡ false = unlocked_is (is_free n) (sym c.is_locked.ensures ∙ c.if-is_locked.true) in
+    record { number = n; value = pos 0; tells = c.open-found.ensures.tells; leads = reopen_locked_is m f (reader_of a) c.args.part n (pos 0) locked }
+
+pub returns-then-ticket-self-clause-reads : goal.returns-then-ticket-self-clause-reads
+returns-then-ticket-self-clause-reads g c =
+    let a = c.args.self.now in
+    let n = c.open-found.result.0 in
+    let m = g.T.TxType.meaning a.log.ty.now in
+    let f = g.B.Body.script a.log.body in
+    let free : is_free n ≡ true = locked_is (is_free n) (sym c.is_locked.ensures ∙ c.if-is_locked.false) in
+    let later : a.extension.bound < c.ticket-ticket.result = omega (arith, c.if-ticket-self.true) in
+    record { number = n; value = pos 0; tells = c.open-found.ensures.tells; leads = reopen_changed_is m f (reader_of a) c.args.part n (pos 0) c.ticket-ticket.result free c.ticket-ticket.ensures.ticket later }
+
+pub returns-clause-reads : goal.returns-clause-reads
+returns-clause-reads g c =
+    let a = c.args.self.now in
+    let n = c.open-found.result.0 in
+    let m = g.T.TxType.meaning a.log.ty.now in
+    let f = g.B.Body.script a.log.body in
+    let free : is_free n ≡ true = locked_is (is_free n) (sym c.is_locked.ensures ∙ c.if-is_locked.false) in
+    let early : c.ticket-ticket.result ≤ a.extension.bound = omega (arith, c.if-ticket-self.false) in
+    record { number = n; value = pos 0; tells = c.open-found.ensures.tells; leads = reopen_reads_is m f (reader_of a) c.args.part n (pos 0) c.ticket-ticket.result c.make_room.new.words.items free c.ticket-ticket.ensures.ticket early c.make_room.ensures }

@@ -20,6 +20,8 @@ use Rattle.sto_core.specs.Allowed.{IsIdle}
 use Rattle.sto_attempt_log.proofs.Prefix.{prefix}
 use Rattle.sto_attempt_log.proofs.Spanning.{left_idle}
 use Rattle.sto_attempt_log.specs.Standing.{HasBegun}
+use Rattle.sto_attempt_log.proofs.ReadSteps.{reread_is}
+use Rattle.sto_attempt.specs.Attempts.{reader_of}
 use Rattle.sto_attempt.proofs.attempt.Attempt.reread.Goals as goal
 
 pub word-value-requires : goal.word-value-requires
@@ -74,6 +76,7 @@ returns g c =
       err = search rules;
       one = search rules;
       longer = search rules;
+      reads = record { number = 0; value = x; tells = tells; leads = reread_is m f (reader_of a) c.args.part c.args.ticket 0 x c.push.new.self.items c.requires.more pushed };
       log = refl;
       extension = refl;
       same = c.word-value.ensures.same;
@@ -107,6 +110,7 @@ returns-in_err-push g c =
           (left_idle m g.T.Naming.valid sizes a.at a.extension.bound a.log.base.items fresh f rs w h.0 (subst IsIdle (sym h.1) tt), prefix m f w a.at a.log.base.items a.log.set.items a.log.set.updates rs c.requires.before.log.log h.0.claimed);
       one = search rules;
       longer = search rules;
+      reads = search rules;
       log = refl;
       extension = refl;
       same = c.word-value.ensures.same;

@@ -1,5 +1,5 @@
 -- It goes on as after a read: what the view tells was told before.
-use Rattle.std.proofs.Common.{◌≡◌, ℕ, List, ap, sym, subst, map, rules}
+use Rattle.std.proofs.Common.{◌≡◌, ℕ, List, ap, sym, subst, map, refl, rules}
 use Rattle.sto_part.specs.Listed.{Listed}
 use Rattle.sto_model.specs.Told.{told}
 use Rattle.sto_attempt_log.specs.declared.read_entry.ReadEntry.{ReadEntry}
@@ -9,6 +9,10 @@ use Rattle.std.proofs.Common.{false}
 use Rattle.sto_attempt_log.proofs.Claimed.{claims_fit, part_of_claims}
 use Rattle.sto_attempt_log.proofs.Reading.{turned}
 use Rattle.sto_attempt_log.proofs.Stepping.{led_alone, led_begun}
+use Rattle.sto_item.specs.Recorded.{Recorded}
+use Rattle.sto_attempt_log.specs.Doing.{Reader, HasComeTo}
+use Rattle.sto_attempt_log.proofs.ReadSteps.{runs_on_is}
+use Rattle.sto_attempt.specs.Attempts.{reader_of}
 use Rattle.sto_attempt.proofs.attempt.Attempt.resume.Goals as goal
 
 pub go_on-requires-clause-some : goal.go_on-requires-clause-some
@@ -42,6 +46,19 @@ returns g c =
           h.claimed h.only h.below fresh (λ e. cc) c.in_ok-reached.ensures.log.log c.in_ok-reached.reached c.lead-read_phase.result.0 c.lead-read_phase.result.1
           c.in_ok-reached.ensures.reached c.lead-read_phase.ensures));
       grown = search rules;
+      comes = (let a = c.args.self.now in
+          let m = g.T.TxType.meaning a.log.ty.now in
+          let f = g.B.Body.script a.log.body in
+          let rs = map told c.go_on.new.self.replies.items in
+          let same : c.go_on.new.self.base.items ≡ a.log.base.items = ap (λ (l : Listed ReadEntry). l.items) c.in_ok-reached.ensures.base in
+          let r : Reader = record (reader_of a) { extended = false } in
+          let set : Recorded = c.go_on.new.self.set in
+          let phase = c.lead-read_phase.result.0 in
+          let turn = c.lead-read_phase.result.1 in
+          let s : Reader = record r { phase = phase; base = c.go_on.new.self.base.items; set = set; heard = rs } in
+          let here : s ≡ record r { set = set; heard = rs; extended = s.extended; phase = s.phase } = λ i. record r { phase = phase; base = same i; set = set; heard = rs } in
+          let come : HasComeTo m f r set rs c.in_ok-reached.reached = c.in_ok-reached.ensures.comes r (refl, refl, refl) in
+          runs_on_is m f r s set rs c.in_ok-reached.reached turn come.0 come.1 c.lead-read_phase.ensures here ((λ e. cc), λ e. let no = e.0 in cc));
       begun = led_begun c.args.self.now.at c.go_on.new.self.set.updates c.in_ok-reached.reached c.lead-read_phase.result.0 c.lead-read_phase.result.1 c.lead-read_phase.ensures;
       alone = led_alone c.args.self.now.at c.go_on.new.self.set.updates c.in_ok-reached.reached c.lead-read_phase.result.0 c.lead-read_phase.result.1 c.lead-read_phase.ensures;
       at = search rules;

@@ -2,7 +2,7 @@ use Rattle.std.proofs.Common.{ℕ, List, subst, ap, ◌∙◌, map, refl, rules}
 use Rattle.sto_model.specs.Told.{told}
 use Rattle.sto_attempt_log.proofs.Claimed.{claims_fit, part_of_claims}
 use Rattle.sto_attempt_log.proofs.Sealed.{gathered_sealed}
-use Rattle.sto_attempt.specs.Commits.{reader_of}
+use Rattle.sto_attempt.specs.Attempts.{reader_of}
 use Rattle.sto_attempt.proofs.attempt.Attempt.seal.Goals as goal
 
 pub stock-requires-clause-some : goal.stock-requires-clause-some

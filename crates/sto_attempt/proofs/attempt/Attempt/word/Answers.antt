@@ -18,6 +18,8 @@ use Rattle.sto_attempt_log.proofs.Reading.{word_stops, always_err}
 use Rattle.sto_attempt_log.specs.Standing.{HasBegun}
 use Rattle.sto_attempt_log.proofs.Reading.{may_read}
 use Rattle.sto_core.specs.Allowed.{Allowed}
+use Rattle.sto_attempt_log.proofs.ReadSteps.{word_is}
+use Rattle.sto_attempt.specs.Attempts.{reader_of}
 use Rattle.sto_attempt.proofs.attempt.Attempt.word.Goals as goal
 
 pub word-value-requires : goal.word-value-requires
@@ -66,6 +68,7 @@ returns g c =
       err = search rules;
       one = search rules;
       longer = search rules;
+      reads = record { number = 0; value = x; tells = tells; leads = word_is m f (reader_of a) c.args.part c.args.ticket 0 x c.push.new.self.items c.requires.more pushed };
       log = refl;
       extension = refl;
       same = c.word-value.ensures.same;
@@ -95,6 +98,7 @@ returns-in_err-push g c =
           (word_stops m valid sizes f a.at c.args.part c.args.ticket a.words.items base a.log.set.items a.log.set.updates rs v c.requires.before.goes.0 w passes 0 x tells c.requires.more c.requires.before.log.log);
       one = search rules;
       longer = search rules;
+      reads = search rules;
       log = refl;
       extension = refl;
       same = c.word-value.ensures.same;

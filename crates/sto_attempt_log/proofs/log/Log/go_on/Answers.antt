@@ -3,6 +3,9 @@ use Rattle.sto_model.specs.Told.{told}
 use Rattle.sto_type.specs.Known.{known}
 use Rattle.sto_attempt_log.specs.ReadSet.{words_in}
 use Rattle.sto_attempt_log.proofs.Onward.{heard_none, need_touched}
+use Rattle.sto_attempt_log.specs.Doing.{Reader}
+use Rattle.sto_attempt_log.proofs.Onward.{pending_of}
+use Rattle.sto_attempt_log.proofs.ReadRuns.{ran_none, ran_halts}
 use Rattle.sto_attempt_log.proofs.log.Log.go_on.Goals as goal
 
 pub take_in-requires-clause-log : goal.take_in-requires-clause-log
@@ -32,6 +35,7 @@ loop-call-preserved g c =
       log = rw (e.ty, e.base, ← i.script) k.log;
       some = rw (e.ty, e.base) i.some;
       grown = rw (e.ty, e.base, ← i.script) (k.grown (map told c.args.self.now.replies.items) c.args.self.now.set (rw i.script i.grown));
+      ran = rw (e.ty, e.base, ← i.script) (λ r base set heard. k.ran r base (rw i.script (i.ran r base set heard)));
       left = omega (arith, i.left, e.left);
       script = e.script ∙ i.script;
       left_at_reset = e.left_at_reset ∙ i.left_at_reset;
@@ -45,6 +49,7 @@ loop-call-init g c = record {
   log = c.requires.log;
   some = c.requires.some;
   grown = heard_none (g.T.TxType.meaning c.args.self.now.ty.now) (g.B.Body.script c.args.self.now.body) (words_in c.args.self.now.base.items) (map told c.args.self.now.replies.items) c.args.self.now.set;
+  ran = λ r base set heard. ran_none (g.T.TxType.meaning c.args.self.now.ty.now) (g.B.Body.script c.args.self.now.body) r c.args.self.now.set (map told c.args.self.now.replies.items) set heard;
   left = omega arith;
   script = refl;
   left_at_reset = refl;
@@ -73,6 +78,53 @@ returns-in-Need g c =
       };
       grown = search rules;
       runs = search rules;
+      comes = rw (← i.ty, ← i.base) (λ r at.
+          let ran = i.ran r at.0 at.1 at.2 in
+          (ran, ran_halts (g.T.TxType.meaning l.ty.now) (g.met.T.TxType.lawful l.ty.now) f r l.base.items l.set rs at.0 ran
+          (pending_of (g.T.TxType.meaning l.ty.now) f (words_in l.base.items) l.set.items l.set.updates rs i.log.log i.some) (known c.ask.new.cache) c.in_ok-part-in-Ask.ensures.cache c.in-Ask.call asks
+          c.in-Need.part (rw c.in-Need.is at c.in_ok-part-in-Ask.ensures.plan) unknown.0 unknown.1));
+      left = search rules;
+      asks = search rules;
+      script = search rules;
+      left_at_reset = search rules;
+      may = search rules;
+      ty = search rules;
+      base = search rules;
+    }
+
+pub returns-in-Commit : goal.returns-in-Commit
+returns-in-Commit g c =
+    let f = g.B.Body.script c.args.self.now.body in
+    let i = c.loop-call.invariant in
+    let rs = map told c.loop-call.self.replies.items in
+    let ends = ap f (sym (append-nil rs)) ∙ sym (c.in-Commit.ensures.next ∙ i.log.then []) in
+    record {
+      log = search rules;
+      reached = search rules;
+      grown = search rules;
+      runs = search rules;
+      comes = rw (← i.ty, ← i.base) (λ r at. let ran = i.ran r at.0 at.1 at.2 in (ran, ap f (ap (λ (x : Reader). x.heard) ran.kept) ∙ ends));
+      left = search rules;
+      asks = search rules;
+      script = search rules;
+      left_at_reset = search rules;
+      may = search rules;
+      ty = search rules;
+      base = search rules;
+    }
+
+pub returns-in-Cancel : goal.returns-in-Cancel
+returns-in-Cancel g c =
+    let f = g.B.Body.script c.args.self.now.body in
+    let i = c.loop-call.invariant in
+    let rs = map told c.loop-call.self.replies.items in
+    let ends = ap f (sym (append-nil rs)) ∙ sym (c.in-Cancel.ensures.next ∙ i.log.then []) in
+    record {
+      log = search rules;
+      reached = search rules;
+      grown = search rules;
+      runs = search rules;
+      comes = rw (← i.ty, ← i.base) (λ r at. let ran = i.ran r at.0 at.1 at.2 in (ran, ap f (ap (λ (x : Reader). x.heard) ran.kept) ∙ ends));
       left = search rules;
       asks = search rules;
       script = search rules;

@@ -6,6 +6,10 @@ use Rattle.sto_item.specs.Rebase.{rebased}
 use Rattle.sto_type.specs.Known.{known}
 use Rattle.sto_attempt_log.specs.ReadSet.{words_in}
 use Rattle.sto_attempt_log.proofs.Onward.{may_compose, may_refresh, log_next, answered, answer, answer_adds, answer_updates, heard_more}
+use Rattle.sto_item.specs.Pending.{with_updates}
+use Rattle.sto_item.proofs.Added.{AddsItems-updates}
+use Rattle.sto_attempt_log.proofs.Onward.{pending_of}
+use Rattle.sto_attempt_log.proofs.ReadRuns.{ran_answer}
 use Rattle.sto_attempt_log.proofs.log.Log.take_in.Goals as goal
 
 pub add_updates-requires : goal.add_updates-requires
@@ -66,6 +70,12 @@ returns g c =
           (answer m law f base c.args.self.now.set rs says.call (known c.args.self.now.cache) was.log was.known_above c.requires.some says.taken says.asks (told c.args.reply) c.args.items.now.items c.args.updates.now.items says.plan) was.known_above
           (answer_adds m law f base c.args.self.now.set rs says.call (known c.args.self.now.cache) was.log was.known_above c.requires.some says.taken says.asks (told c.args.reply) c.args.items.now.items c.args.updates.now.items says.plan (rebased c.args.self.now.set.updates c.args.items.now.items) refl c.add_items.new.set c.add_updates.new.set c.in_ok-add_items.ensures c.in_ok-add_updates.ensures.ok)
           (answer_updates m law f base c.args.self.now.set rs says.call (known c.args.self.now.cache) was.log was.known_above c.requires.some says.taken says.asks (told c.args.reply) c.args.items.now.items c.args.updates.now.items says.plan (rebased c.args.self.now.set.updates c.args.items.now.items) c.add_items.new.set c.add_updates.new.set c.in_ok-add_items.ensures c.in_ok-add_updates.ensures.ok));
+      ran = λ r same ran.
+          let pending = pending_of m f base c.args.self.now.set.items c.args.self.now.set.updates rs was.log c.requires.some in
+          let kept : c.add_items.new.set.updates ≡ c.args.self.now.set.updates = AddsItems-updates c.args.self.now.set (rebased c.args.self.now.set.updates c.args.items.now.items) c.add_items.new.set c.in_ok-add_items.ensures in
+          rw more (ran_answer m law f r c.args.self.now.base.items c.args.self.now.set rs same ran pending (known c.args.self.now.cache) was.known_above says.call says.asks (told c.args.reply) c.args.items.now.items c.args.updates.now.items says.plan
+          c.add_items.new.set c.add_updates.new.set c.in_ok-add_items.ensures
+          (c.in_ok-add_updates.ensures.ok ∙ (λ i. record { items = c.add_items.new.set.items; updates = with_updates (kept i) c.args.updates.now.items })));
       fewer = search rules;
       kept = search rules;
       left = omega (arith, c.hear.ensures.left, ap length c.in_ok-push.ensures.ok, length-append c.args.self.now.replies.items (c.args.reply ∷ []));
