@@ -5,12 +5,8 @@ ghost use Rattle.std.specs.Prelude.{IfOk};
 ghost use Rattle.sto_example_queue.specs.Line.{put, take, IsServed};
 
 use std::alloc::Global;
-use std::io;
 use std::thread::Threads;
-use sto_library::{
-    Code, CounterId, Schema, State, Stop, StoreError, Times, Tx, VectorId, total_of, value_of,
-    wrapping_difference,
-};
+use sto_library::{Code, CounterId, Schema, State, Stop, StoreError, Times, Tx, VectorId};
 
 /// Puts an amount at the end of the line, where there is room, and notes it as sent. It gives the amount.
 #[derive(Clone, Copy)]
@@ -72,7 +68,7 @@ impl Code for Take {
 }
 
 /// A day of a line with room for 64 amounts, on so many threads. What was sent, in sum, was received or waits at the end.
-fn run_line<R: Threads + Sync>(rt: &R, alloc: Global, threads: u32) -> Result<State, StoreError>
+pub fn run_line<R: Threads + Sync>(rt: &R, alloc: Global, threads: u32) -> Result<State, StoreError>
     ensures { IfOk result (λ rows. IsServed rows.items) }
 {
     let mut schema = Schema::new(alloc);
@@ -90,18 +86,4 @@ fn run_line<R: Threads + Sync>(rt: &R, alloc: Global, threads: u32) -> Result<St
     let takes = Times(20, Take { received, line });
     let _told = store.run_four(rt, alloc, threads, &sevens, &fives, &takes, &takes)?;
     Ok(store.close(alloc)?)
-}
-
-fn main(rt: HostRuntime) -> io::Result<()> {
-    for threads in [1, 2, 4] {
-        let Ok(rows) = run_line(&rt, rt.alloc(), threads) else {
-            return println!(rt; "no answer: memory was wanting");
-        };
-        let sent = value_of(&rows, 0).unwrap_or(0);
-        let received = value_of(&rows, 1).unwrap_or(0);
-        let waiting = total_of(&rows, 2).unwrap_or(0);
-        let lost = wrapping_difference(wrapping_difference(sent, received), waiting);
-        println!(rt; "threads {threads}: lost {lost}")?;
-    }
-    Ok(())
 }

@@ -6,10 +6,9 @@ ghost use Rattle.sto_example_bank.specs.Accounts.{withdraw, deposit, transfer, I
 ghost use Rattle.sto_code.specs.Progs.{Follows};
 
 use std::alloc::Global;
-use std::io;
 use std::thread::Threads;
 use sto_library::{
-    BoxId, Code, Done, Held, Schema, Snapshot, State, Stop, StoreError, Times, Tx, Unrun, value_of,
+    BoxId, Code, Done, Held, Schema, Snapshot, State, Stop, StoreError, Times, Tx, Unrun,
     wrapping_difference, wrapping_sum,
 };
 
@@ -61,13 +60,13 @@ impl Code for Transfer {
 }
 
 /// What an audit led to: what all accounts have at one time.
-type Audited = Result<Done<Held<3, 0>>, Unrun>;
+pub type Audited = Result<Done<Held<3, 0>>, Unrun>;
 
 /// What both auditors' last audits led to, and the rows at the end.
-type Day = (Audited, Audited, State);
+pub type Day = (Audited, Audited, State);
 
 /// A day of the bank on so many threads, with three accounts of 100 each. Each audit sees 300, and 300 is there at the end.
-fn run_bank<R: Threads + Sync>(rt: &R, alloc: Global, threads: u32) -> Result<Day, StoreError>
+pub fn run_bank<R: Threads + Sync>(rt: &R, alloc: Global, threads: u32) -> Result<Day, StoreError>
     ensures { IfOk result IsDay }
 {
     let mut schema = Schema::new(alloc);
@@ -95,21 +94,6 @@ fn run_bank<R: Threads + Sync>(rt: &R, alloc: Global, threads: u32) -> Result<Da
 }
 
 /// What three accounts have together.
-fn together(accounts: &[i64; 3]) -> i64 {
+pub fn together(accounts: &[i64; 3]) -> i64 {
     wrapping_sum(wrapping_sum(accounts[0], accounts[1]), accounts[2])
-}
-
-fn main(rt: HostRuntime) -> io::Result<()> {
-    for threads in [1, 2, 4] {
-        let Ok((Ok(Done::Gave(x)), Ok(Done::Gave(y)), rows)) = run_bank(&rt, rt.alloc(), threads)
-        else {
-            return println!(rt; "no answer: memory was wanting, or others were in the way");
-        };
-        let (x, y) = (together(&x.boxes), together(&y.boxes));
-        let a = value_of(&rows, 0).unwrap_or(0);
-        let b = value_of(&rows, 1).unwrap_or(0);
-        let c = value_of(&rows, 2).unwrap_or(0);
-        println!(rt; "threads {threads}: audits told {x} and {y}; accounts have {a}, {b}, {c}")?;
-    }
-    Ok(())
 }

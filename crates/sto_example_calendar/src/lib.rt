@@ -6,7 +6,6 @@ ghost use Rattle.sto_library.specs.Doings.{HasRunOnly};
 ghost use Rattle.sto_example_calendar.specs.Bookings.{book, IsBooked};
 
 use std::alloc::Global;
-use std::io;
 use std::thread::Threads;
 use sto_library::{
     Code, Schema, State, Stop, StoreError, StoreWorker, Task, TreeId, Tx, TxType,
@@ -65,7 +64,11 @@ impl<T: TxType> Task<T> for Guest {
 }
 
 /// All bookings of four guests, on so many threads, of which no two overlap.
-fn run_calendar<R: Threads + Sync>(rt: &R, alloc: Global, threads: u32) -> Result<State, StoreError>
+pub fn run_calendar<R: Threads + Sync>(
+    rt: &R,
+    alloc: Global,
+    threads: u32,
+) -> Result<State, StoreError>
     ensures { IfOk result (λ rows. IsBooked rows.items) }
 {
     let mut schema = Schema::new(alloc);
@@ -80,7 +83,7 @@ fn run_calendar<R: Threads + Sync>(rt: &R, alloc: Global, threads: u32) -> Resul
 }
 
 /// Whether each booking begins three days after the one before it, or later.
-fn are_apart(rows: &State) -> bool {
+pub fn are_apart(rows: &State) -> bool {
     if rows.len() == 0 {
         return true;
     }
@@ -91,15 +94,4 @@ fn are_apart(rows: &State) -> bool {
         }
     }
     true
-}
-
-fn main(rt: HostRuntime) -> io::Result<()> {
-    for threads in [1, 2, 4] {
-        let Ok(rows) = run_calendar(&rt, rt.alloc(), threads) else {
-            return println!(rt; "no answer: memory was wanting");
-        };
-        let apart = are_apart(&rows);
-        println!(rt; "threads {threads}: bookings are apart: {apart}")?;
-    }
-    Ok(())
 }

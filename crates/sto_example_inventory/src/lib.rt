@@ -5,11 +5,9 @@ ghost use Rattle.std.specs.Prelude.{pos, IfOk};
 ghost use Rattle.sto_example_inventory.specs.Stock.{sale, count, IsDay};
 
 use std::alloc::Global;
-use std::io;
 use std::thread::Threads;
 use sto_library::{
-    Code, CounterId, Done, HashId, Schema, State, Stop, StoreError, Times, Tx, Unrun, total_of,
-    value_of, wrapping_sum,
+    Code, CounterId, Done, HashId, Schema, State, Stop, StoreError, Times, Tx, Unrun, wrapping_sum,
 };
 
 /// Takes pieces from the stock, where they are there, and notes them for a customer. It gives what that one has bought so far.
@@ -72,10 +70,10 @@ impl Code for Count {
 }
 
 /// What a clerk counted last, and what all objects hold at the end.
-type Day = (Result<Done<(i64, i64)>, Unrun>, State);
+pub type Day = (Result<Done<(i64, i64)>, Unrun>, State);
 
 /// A day of the shop on so many threads, with 50 pieces in stock: two sellers want 60 each, 3 at a time. The stock is never below zero.
-fn run_sales<R: Threads + Sync>(rt: &R, alloc: Global, threads: u32) -> Result<Day, StoreError>
+pub fn run_sales<R: Threads + Sync>(rt: &R, alloc: Global, threads: u32) -> Result<Day, StoreError>
     ensures { IfOk result IsDay }
 {
     let mut schema = Schema::new(alloc);
@@ -93,16 +91,4 @@ fn run_sales<R: Threads + Sync>(rt: &R, alloc: Global, threads: u32) -> Result<D
     let (one, two) = (Times(20, one), Times(20, two));
     let (_, _, count, _) = store.run_four(rt, alloc, threads, &one, &two, &clerk, &clerk)?;
     Ok((count, store.close(alloc)?))
-}
-
-fn main(rt: HostRuntime) -> io::Result<()> {
-    for threads in [1, 2, 4] {
-        let Ok((_, rows)) = run_sales(&rt, rt.alloc(), threads) else {
-            return println!(rt; "no answer: memory was wanting");
-        };
-        let left = value_of(&rows, 0).unwrap_or(0);
-        let sold = total_of(&rows, 1).unwrap_or(0);
-        println!(rt; "threads {threads}: sold {sold}, left {left}")?;
-    }
-    Ok(())
 }
