@@ -1,5 +1,5 @@
 //! A store, in which its workers rest.
-ghost use Rattle.std.specs.Prelude.{◌≡◌, ◌^◌, [], ◌∷◌, ◌++◌, map, length, IfOk, IfErr, MatchOption};
+ghost use Rattle.std.specs.Prelude.{◌≡◌, ◌^◌, [], ◌∷◌, ◌++◌, map, length, IfOk, IfErr, OnErr, MatchOption};
 ghost use Rattle.std.specs.List.{All};
 ghost use Rattle.sto_serial_history.specs.Done.{HaveHistory};
 ghost use Rattle.sto_open.specs.Working.{AreRowsAfter};
@@ -134,6 +134,7 @@ impl<T: TxType> SharedStore<T> {
         requires { Serves T.TxType self.old.words worker.rest.seat }
         ensures words { (self.new.words ≡ self.old.words) × (self.new.shapes ≡ self.old.shapes) }
         ensures worker { IfOk result (λ _. self.new.views ≡ self.old.views ++ worker.rest.seat.me.0.view ∷ []) }
+        ensures lost { OnErr result (self.new.views ≡ self.old.views) }
     {
         if self.idle.len() == u32::MAX {
             return Err(NoMemory);

@@ -21,7 +21,7 @@ fn all_entries(version: u32, rest: &[u8]) -> bool
 }
 
 /// Words that are entries.
-#[derive(Clone, Copy, Debug)]
+#[derive(Clone, Copy)]
 pub struct Entries<'a> {
     version: u32,
     bytes: &'a [u8],

@@ -8,14 +8,14 @@ use crate::Name;
 use crate::word::number;
 
 /// The thread of an entry: a number, where it is one, or a name.
-#[derive(Clone, Copy, Debug)]
+#[derive(Clone, Copy)]
 pub enum ThreadWord<'a> {
     Numbered(Option<i64>),
     Named(Name<'a>),
 }
 
 /// The two parts of an entry; one that is no number is `None`.
-#[derive(Clone, Copy, Debug)]
+#[derive(Clone, Copy)]
 pub struct ScheduleEntry<'a> {
     pub thread: ThreadWord<'a>,
     pub steps: Option<i64>,

@@ -13,7 +13,7 @@ use crate::{Declared, Name, Operand, Operands, OperationWord, next_word};
 use sto_part::Test;
 
 /// A line that has a form.
-#[derive(Clone, Copy, Debug)]
+#[derive(Clone, Copy)]
 pub enum Form<'a> {
     Declare {
         name: Name<'a>,

@@ -6,7 +6,7 @@ ghost use Rattle.sto_syntax.specs.Words.{is_name};
 use crate::word::is_name;
 
 /// A word that is a name.
-#[derive(Clone, Copy, Debug)]
+#[derive(Clone, Copy)]
 pub struct Name<'a> {
     bytes: &'a [u8],
     ghost valid: { is_name bytes.now ≡ true },

@@ -10,7 +10,7 @@ use crate::word::number;
 use crate::{Name, OperationWord, next_word};
 
 /// A word in the place of an argument: a number, one that begins as a number and is none, or the name of a variable.
-#[derive(Clone, Copy, Debug)]
+#[derive(Clone, Copy)]
 pub enum Operand<'a> {
     Number(i64),
     BadNumber,
@@ -18,7 +18,7 @@ pub enum Operand<'a> {
 }
 
 /// The arguments of a call.
-#[derive(Clone, Copy, Debug)]
+#[derive(Clone, Copy)]
 pub enum Operands<'a> {
     None,
     One(Operand<'a>),

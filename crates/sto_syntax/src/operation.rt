@@ -5,7 +5,7 @@ ghost use Rattle.sto_syntax.specs.Operations.{operation_of, late_operation_of, t
 use sto_part::Test;
 
 /// What is asked of an object. `Compare` is the word `test` with its comparison.
-#[derive(Clone, Copy, PartialEq, Eq, Debug)]
+#[derive(Clone, Copy, PartialEq, Eq)]
 pub enum OperationWord {
     Get,
     Set,

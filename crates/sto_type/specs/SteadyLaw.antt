@@ -37,7 +37,3 @@ reading_done (Read q f) k more w e = elim (by_known (k q)) [
       let on : need_of (f known.0) k ≡ None = rw known.1 at e in
       rw (w q known.0 known.1, known.1) (reading_done (f known.0) k more w on)
 ]
-
--- a part that is asked for where it is not known
-pub part_steady : (q : ℕ) (k more : Known) (p : ℕ) → IsWithin k more → more p ≡ None → when_known (k q) (Some q) (λ ws. None) ≡ Some p → when_known (more q) (Some q) (λ ws. None) ≡ Some p
-part_steady q k more p w none e = reading_steady (Read q (λ ws. Say [] [])) k more p w none e
