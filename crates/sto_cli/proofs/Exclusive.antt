@@ -8,16 +8,16 @@ use Rattle.sto_args.specs.declared.command.Command.{Command}
 use Rattle.sto_args.specs.declared.command.Command.TheVariants.{Run, Step, Trace, Draw, Explore, Upgrade, Gen, Bench}
 use Rattle.sto_cli_common.specs.declared.refusal.InputFault.{InputFault}
 use Rattle.sto_cli_common.specs.declared.refusal.InputFault.TheVariants.{Script, NoReport, LongTrace, LongRun, ManySchedules}
-use Rattle.sto_cli_common.specs.Statuses.{done_status}
 use Rattle.sto_cli_common.specs.Outcomes.{IsOwn}
 use Rattle.sto_cli_common.proofs.Causes.{IsExclusive}
+use Rattle.sto_cli_common.proofs.Faultless.{no_fault}
 use Rattle.sto_lang.specs.Drafts.{transaction_count}
 use Rattle.sto_cli_common.specs.declared.refusal.ScheduleCounts.{ScheduleCounts}
 use Rattle.sto_cli.specs.Traces.{IsTraceable, IsTraceFault, HasLongRun, IsRunFault, NeverMany}
 use Rattle.sto_run_schedules.specs.Leading.{HasSomeLongRun}
 use Rattle.sto_cli.specs.Explorations.{HasManySchedules}
 use Rattle.sto_draw.specs.Drawn.{IsTooLong}
-use Rattle.sto_cli.specs.Outputs.{IsOutput, IsScriptFault, HasFault}
+use Rattle.sto_cli.specs.Outputs.{IsOutput, HasFault}
 use Rattle.sto_cli.specs.Programs.{reads_script, program}
 
 reads : (command : Command) (bytes : List ℕ) (fault : InputFault) → HasFault command bytes fault → reads_script command ≡ true
@@ -29,13 +29,6 @@ reads (Explore switches tries json) bytes fault h = refl
 reads Upgrade bytes fault h = refl
 reads (Gen number) bytes fault h = absurd h
 reads (Bench number threads) bytes fault h = absurd h
-
-pub no_fault : (bytes : List ℕ) (file : File) (fault : InputFault) → file_of bytes ≡ Ok file → IsScriptFault bytes fault → ⊥
-no_fault bytes file (Script fault) e f = true≢false (ap is_ok (sym e ∙ f))
-no_fault bytes file NoReport e f = f
-no_fault bytes file LongTrace e f = f
-no_fault bytes file LongRun e f = f
-no_fault bytes file (ManySchedules counts) e f = f
 
 same_file : (x y : File) → ◌≡◌ {A = Result File ScriptFault} (Ok x) (Ok y) → x ≡ y
 same_file x y e = cc
@@ -70,6 +63,3 @@ faultless (Bench number threads) bytes text fault own h f = f
 
 pub exclusive : IsExclusive program
 exclusive = record { read = reads; faultless = λ command bytes fault done text own h f. faultless command bytes text fault own h f }
-
-pub few_statuses : (done : Unit {0}) → done_status done < 2
-few_statuses done = omega arith

@@ -1,9 +1,10 @@
 -- What a command may print for the bytes that it reads, and the fault that it tells of them.
-use Rattle.std.specs.Prelude.{◌≡◌, ℕ, min, max, List, [], length, Bool, Option, None, Some, Ok, Err}
+use Rattle.std.specs.Prelude.{◌≡◌, ℕ, List, length, Bool, Option, Ok}
 use Rattle.sto_lang.specs.Files.{file_of}
 use Rattle.sto_lang.specs.Scripts.{File}
 use Rattle.sto_cli_common.specs.declared.refusal.InputFault.{InputFault}
-use Rattle.sto_cli_common.specs.declared.refusal.InputFault.TheVariants.{Script, NoReport, LongTrace, LongRun, ManySchedules}
+use Rattle.sto_cli_common.specs.Faults.{IsScriptFault}
+use Rattle.sto_cli_common.specs.Workers.{workers_of}
 use Rattle.sto_write.specs.Texts.{text_of, upgraded}
 use Rattle.sto_gen.specs.Generated.{file_of as generated}
 use Rattle.sto_report_spec.specs.Lawful.{IsLawfulIn}
@@ -21,12 +22,6 @@ use Rattle.sto_draw.specs.Drawn.{IsPicture, IsTooLong}
 use Rattle.sto_run_schedules.specs.Leading.{HasSomeLongRun}
 use Rattle.sto_cli.specs.Traces.{IsTraceable, IsTrace, HasLongRun, IsRunFault, NeverMany}
 use Rattle.sto_cli.specs.Explorations.{IsExploration, HasManySchedules}
-
--- how many workers run a file with so many script threads: as many as are asked for, else 16, but no more than there are script
--- threads, and at least one
-abbrev pub workers_of : Option ℕ → ℕ → ℕ
-workers_of None count = max (min 16 count) 1
-workers_of (Some threads) count = max (min threads count) 1
 
 -- a lawful report of the file that the bytes are, for so many tries and in the form that is asked for, with what the types of
 -- objects say of updates; where one worker runs it, it is the one report of a run beside which nothing runs
@@ -54,14 +49,6 @@ IsOutput (Explore switches tries json) bytes text = (file : File) × IsTraceable
 IsOutput Upgrade bytes text = (file : File) × (file_of bytes ≡ Ok file) × (text ≡ text_of (upgraded file))
 IsOutput (Gen number) bytes text = (text ≡ text_of (generated number)) × (file_of text ≡ Ok (generated number))
 IsOutput (Bench number threads) bytes text = IsSummary number text
-
--- the bytes are no script, for this fault
-abbrev pub IsScriptFault : List ℕ → InputFault → Type 0
-IsScriptFault bytes (Script fault) = file_of bytes ≡ Err fault
-IsScriptFault bytes NoReport = ⊥
-IsScriptFault bytes LongTrace = ⊥
-IsScriptFault bytes LongRun = ⊥
-IsScriptFault bytes (ManySchedules counts) = ⊥
 
 -- the bytes have this fault
 abbrev pub HasFault : Command → List ℕ → InputFault → Type 0

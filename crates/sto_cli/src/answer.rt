@@ -1,39 +1,20 @@
 //! The texts of the commands.
-ghost use Rattle.std.specs.Prelude.{◌≡◌, [], length, IfOk, IfErr};
+ghost use Rattle.std.specs.Prelude.{[], IfOk, IfErr};
 ghost use Rattle.sto_args.specs.declared.command.Command.TheVariants as commands;
 ghost use Rattle.sto_args.specs.Commands.{HasThreads};
 ghost use Rattle.sto_lang.specs.Sound.{IsFromTo};
-ghost use Rattle.sto_lang.specs.Views.{file as view};
 ghost use Rattle.sto_cli_common.specs.Ends.{IsFileRefusal};
-ghost use Rattle.sto_cli.specs.Outputs.{IsOutput, workers_of};
+ghost use Rattle.sto_cli.specs.Outputs.{IsOutput};
 
 use std::alloc::Global;
 use std::mem;
 use std::thread::Threads;
 use sto_bench::run_generated;
-use sto_cli_common::{Refusal, file_in};
-use sto_journal::Journal;
-use sto_lang::{File, Text};
+use sto_cli_common::{Refusal, file_in, leave, workers_for};
+use sto_lang::Text;
 use sto_lawful_report::report;
 use sto_part::NoMemory;
 use sto_run::{Gate, run_file, step_file};
-
-/// How many workers run a file: as many as the words ask for, else 16, but no more than the file has script threads, and at least
-/// one.
-pub fn workers_for(file: &File, threads: Option<u32>) -> u32
-    requires { HasThreads threads }
-    ensures count { result ≡ workers_of threads (length (view file.now).threads) }
-    ensures few { IsFromTo 1 16 result }
-{
-    threads.unwrap_or(16).min(file.threads.len()).max(1)
-}
-
-/// Leaves a file and a journal to the system, which takes them back sooner. It is for a program whose text is made and that is about to
-/// end.
-pub fn leave(file: File, journal: Journal) {
-    mem::forget(file);
-    mem::forget(journal);
-}
 
 /// What `run` prints for these bytes.
 pub(crate) fn run_text<R: Threads + Sync, G: Gate>(

@@ -1,7 +1,6 @@
 //! The program: its words, its source and its sinks, and all that a call of it does.
 //!
-//! What it shares with the other programs is in `sto_cli_common`. [`workers_for`] and [`leave`] are public, for a program that runs
-//! its script in another way.
+//! What it shares with the other programs is in `sto_cli_common`.
 #![tactic(auto)]
 
 mod answer;
@@ -11,7 +10,6 @@ mod top;
 mod traced;
 mod work;
 
-pub use answer::{leave, workers_for};
 pub use sto_cli_common::{WordsFault, refuse_words, words_of};
 pub use sto_io::{
     Failed, MemSink, MemSource, QuietSink, QuietSource, Sink, Source, StdSink, StdSource,

@@ -4,3 +4,4 @@ pub mod Reading
 pub mod Scripts
 pub mod Endings
 pub mod Causes
+pub mod Faultless

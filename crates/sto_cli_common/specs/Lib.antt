@@ -6,6 +6,10 @@ pub mod Programs
 pub mod Ends
 pub mod Outcomes
 pub mod Causes
+pub mod Workers
+pub mod Faults
+pub use Rattle.sto_journal.specs.Journals
+pub use Rattle.sto_args.specs.Commands
 pub use Rattle.sto_lang.specs.Files
 pub use Rattle.sto_lang.specs.Views
 pub use Rattle.sto_io.specs.Told

@@ -6,8 +6,10 @@ mod beside;
 mod refusal;
 mod streams;
 mod words;
+mod workers;
 
 pub use beside::{fault_line, say, say_refusal, schedules_line, write_line};
 pub use refusal::{InputFault, Refusal, ScheduleCounts, status};
 pub use streams::{bytes_left, file_in, script_left, write_text};
 pub use words::{WordsFault, refuse_words, words_of};
+pub use workers::{leave, workers_for};

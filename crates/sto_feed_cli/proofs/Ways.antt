@@ -8,7 +8,7 @@ use Rattle.sto_cli_common.specs.declared.refusal.Refusal.TheVariants.{Usage, Inp
 use Rattle.sto_cli_common.specs.Ends.{IsFileRefusal, Unmade}
 use Rattle.sto_cli_common.proofs.Scripts.{told_fault}
 use Rattle.sto_cli_common.proofs.Causes.{IsExclusive}
-use Rattle.sto_cli.proofs.Exclusive.{no_fault}
+use Rattle.sto_cli_common.proofs.Faultless.{no_fault}
 use Rattle.sto_feed_cli.specs.Programs.{feed_program}
 
 -- the bytes that were taken are no script, or there is no memory

@@ -6,4 +6,5 @@ pub use Rattle.sto_cli_common.specs.Statuses
 pub use Rattle.sto_cli_common.specs.Ends
 pub use Rattle.sto_cli_common.specs.Outcomes
 pub use Rattle.sto_cli_common.specs.Causes
-pub use Rattle.sto_cli.specs.Outputs
+pub use Rattle.sto_cli_common.specs.Workers
+pub use Rattle.sto_cli_common.specs.Faults

@@ -3,7 +3,8 @@ use Rattle.sto_cli_common.specs.Statuses.{done_status}
 use Rattle.sto_cli_common.proofs.Endings.{ended, read_so, write_so}
 use Rattle.sto_cli_common.proofs.Causes.{causes}
 use Rattle.sto_cli.specs.Programs.{program}
-use Rattle.sto_cli.proofs.Exclusive.{exclusive, few_statuses}
+use Rattle.sto_cli_common.proofs.Faultless.{few_statuses}
+use Rattle.sto_cli.proofs.Exclusive.{exclusive}
 use Rattle.sto_cli.proofs.top.sto.Goals as goal
 
 pub returns : goal.returns
