@@ -82,7 +82,7 @@ pub tasks_gathered : (v : Laid) (held ps : List ℕ) (xs : List Held) → map pl
 tasks_gathered v held ps xs same rises holds is =
     same_parts ps (gathered adding_part held xs) is.rises (gathered_rises adding_part held xs holds.rises)
     (λ q. is.each q ∙ sym (has_gathered adding_part held xs q ∙ ap (λ (b : Bool). b || any_adding q xs) (holds.each q)
-        ∙ ap (λ (b : Bool). is_meant v HeldParts q || b) (adds_any 0 q xs (subst IsRising (sym same) rises) ∙ ap (λ (es : List Entry). list_any desk_is_add (changes_of es q)) same)))
+    ∙ ap (λ (b : Bool). is_meant v HeldParts q || b) (adds_any 0 q xs (subst IsRising (sym same) rises) ∙ ap (λ (es : List Entry). list_any desk_is_add (changes_of es q)) same)))
 
 -- the parts that no update is of
 has_changes : (cs : List Change) → list_all is_keep cs ≡ false → nat_lt 0 (length cs) ≡ true
@@ -129,12 +129,12 @@ pub checks_gathered : (v : Laid) (seen held ps : List ℕ) (xs : List Held) → 
 checks_gathered v seen held ps xs same changes sights holds is =
     same_parts ps (gathered (unwritten_part xs) seen held) is.rises (gathered_rises (unwritten_part xs) seen held sights.rises)
     (λ q.
-        let updated : list_any (is_of_part q) xs ≡ is_updated v q =
-            written_is xs q (subst EachChanges (sym same) changes) ∙ ap (λ (es : List Entry). nat_lt 0 (length (changes_of es q))) same in
-        is.each q ∙ sym (has_gathered (unwritten_part xs) seen held q
-            ∙ ap (λ (b : Bool). b || list_any (λ (p : ℕ). is_some q (unwritten_part xs p)) held) (sights.each q)
-            ∙ ap (λ (b : Bool). sees q v.set.items || b) (unwritten_any xs held q ∙ ap (λ (b : Bool). not b && has_part held q) updated ∙ ap (λ (b : Bool). not (is_updated v q) && b) (holds.each q))
-            ∙ checked_is (sees q v.set.items) (is_updated v q) (is_tested v q)))
+    let updated : list_any (is_of_part q) xs ≡ is_updated v q =
+    written_is xs q (subst EachChanges (sym same) changes) ∙ ap (λ (es : List Entry). nat_lt 0 (length (changes_of es q))) same in
+    is.each q ∙ sym (has_gathered (unwritten_part xs) seen held q
+    ∙ ap (λ (b : Bool). b || list_any (λ (p : ℕ). is_some q (unwritten_part xs p)) held) (sights.each q)
+    ∙ ap (λ (b : Bool). sees q v.set.items || b) (unwritten_any xs held q ∙ ap (λ (b : Bool). not b && has_part held q) updated ∙ ap (λ (b : Bool). not (is_updated v q) && b) (holds.each q))
+    ∙ checked_is (sees q v.set.items) (is_updated v q) (is_tested v q)))
 
 -- so the parts that a desk tells are lists of a commit, whatever holds its updates
 pub are_gathered : (v : Laid) (seen held loaded checked : List ℕ) (xs : List Held) → map plain xs ≡ v.set.updates → AreUpdates v.set.updates → ArePartsOf v SeenParts seen → ArePartsOf v HeldParts held
