@@ -34,9 +34,9 @@ module _ (n : ℕ) (c : Parts) (q : ℕ) where
       elim (push_reads v pushed) [
         | inl one ↦ elim (pop_reads a popped) [ inl zero ↦ omega (arith, one, zero) | inr place ↦ omega (arith, one, place) ]
         | inr last ↦ elim (pop_reads a popped) [
-            | inl zero ↦ omega (arith, last, zero)
-            | inr place ↦
-                let same : tail_of c ≡ head_of c = omega (arith, last, place) in
-                differ (sym tail ∙ same ∙ head)
-          ]
+          | inl zero ↦ omega (arith, last, zero)
+          | inr place ↦
+              let same : tail_of c ≡ head_of c = omega (arith, last, place) in
+              differ (sym tail ∙ same ∙ head)
+        ]
       ]
