@@ -6,7 +6,7 @@ use Rattle.std.proofs.Common.{◌≡◌, ℕ, List, [], length, Bool, true, fals
 use Rattle.sto_lang.specs.Files.{file_of}
 use Rattle.sto_lang.specs.Scripts.{File}
 use Rattle.sto_write.specs.Texts.{text_of, upgraded}
-use Rattle.sto_report_spec.specs.Lawful.{IsLawful}
+use Rattle.sto_report_spec.specs.Lawful.{IsLawful, IsLawfulJson}
 use Rattle.sto_report_spec.specs.declared.form.ReportForm.TheVariants.{Text}
 use Rattle.sto_run.specs.Meanings.{updating_by}
 use Rattle.sto_run.specs.Stores.{means}
@@ -36,6 +36,9 @@ read_as f reads = let e = sym reads ∙ reads_file in cc
 -- what `run` and `step` print of it is lawful
 pub run_lawful : (threads : Option ℕ) (text : List ℕ) → IsOutput (Run threads 64 false) script text → IsLawful (updating_by means) file 64 text
 run_lawful threads text o = subst (λ (f : File). IsLawful (updating_by means) f 64 text) (read_as o.0 o.1) o.2
+
+pub run_lawful_json : (threads : Option ℕ) (text : List ℕ) → IsOutput (Run threads 64 true) script text → IsLawfulJson (updating_by means) file 64 text
+run_lawful_json threads text o = subst (λ (f : File). IsLawfulJson (updating_by means) f 64 text) (read_as o.0 o.1) o.2
 
 pub step_lawful : (text : List ℕ) → IsOutput (Step 64 false) script text → IsLawful (updating_by means) file 64 text
 step_lawful text o = subst (λ (f : File). IsLawful (updating_by means) f 64 text) (read_as o.0 o.1) o.2.report.lawful

@@ -94,7 +94,7 @@ not_over count tries s some try new over =
       | inr out ↦ omega (arith, out, left, try)
     ]
 
-some_seat : {X : Type 0} (thread : ℕ) (seats : List X) → thread < length seats → (s : X) × (slice_get seats thread ≡ Some s)
+pub some_seat : {X : Type 0} (thread : ℕ) (seats : List X) → thread < length seats → (s : X) × (slice_get seats thread ≡ Some s)
 some_seat thread [] less = absurd (omega (arith, less))
 some_seat thread (s ∷ ss) less = (_, slice_get-get_or (s ∷ ss) thread s less)
 

@@ -1,12 +1,15 @@
 //! What `sto` does not print or tell.
-ghost use Rattle.std.specs.Prelude.{◌≡◌, ℕ, List, [], Bool, false, Option, Some};
-ghost use Rattle.sto_args.specs.declared.command.Command.TheVariants.{Run, Step, Trace, Explore, Upgrade, Gen, Bench};
+ghost use Rattle.std.specs.Prelude.{◌≡◌, ℕ, List, [], Bool, true, false, Option, Some};
+ghost use Rattle.sto_args.specs.declared.command.Command.{Command};
+ghost use Rattle.sto_args.specs.declared.command.Command.TheVariants.{Run, Step, Trace, Draw, Explore, Upgrade, Gen, Bench};
+ghost use Rattle.sto_cli_common.specs.Ends.{Ends};
+ghost use Rattle.sto_cli_common.specs.Statuses.{done_status, EndsWith};
 ghost use Rattle.sto_cli_common.specs.Outcomes.{IsDone, IsFaulty};
 ghost use Rattle.sto_draw.specs.Drawn.{IsPicture};
 ghost use Rattle.sto_cli.specs.Outputs.{IsOutput};
 ghost use Rattle.sto_cli.specs.Programs.{program};
 ghost use Rattle.sto_test_premises.specs.Adding.{script};
-ghost use Rattle.sto_test_refusals.specs.Texts.{right, exchanged, left_out, other_reply, other_part, other_writer, other_rows};
+ghost use Rattle.sto_test_refusals.specs.Texts.{right, exchanged, left_out, other_reply, other_part, other_writer, other_rows, json_left_out, json_other_reply};
 ghost use Rattle.sto_test_program_refusals.specs.Inputs.{lost_update, lost_update_file, alone_changed, alone_reversed, one_less, one_left_out};
 
 /// What `run` does not print of two transactions that each add 1 to a box, and how it does not end.
@@ -17,6 +20,9 @@ pub fn not_run()
     ensures other_part { (threads : Option ℕ) → IsOutput (Run threads 64 false) script other_part → ⊥ }
     ensures other_writer { (threads : Option ℕ) → IsOutput (Run threads 64 false) script other_writer → ⊥ }
     ensures other_rows { (threads : Option ℕ) → IsOutput (Run threads 64 false) script other_rows → ⊥ }
+    // As JSON.
+    ensures json_left_out { (threads : Option ℕ) → IsOutput (Run threads 64 true) script json_left_out → ⊥ }
+    ensures json_other_reply { (threads : Option ℕ) → IsOutput (Run threads 64 true) script json_other_reply → ⊥ }
     // With one worker: another number, another order, and an aborted attempt.
     ensures alone_changed { IsOutput (Run (Some 1) 64 false) script alone_changed → ⊥ }
     ensures alone_reversed { IsOutput (Run (Some 1) 64 false) script alone_reversed → ⊥ }
@@ -28,7 +34,7 @@ pub fn not_run()
     ensures fault { (threads : Option ℕ) (tries : ℕ) (json : Bool) → IsFaulty program (Some (Run threads tries json)) (Some script) (Some []) → ⊥ }
 {}
 
-/// What `step`, `trace`, `draw` and `explore` do not print.
+/// What `step`, `trace`, `draw` and `explore` do not print or tell.
 pub fn not_stepped()
     // A report in which a commit is left out, and one of which a reply is another.
     ensures left_out { IsOutput (Step 64 false) script left_out → ⊥ }
@@ -39,6 +45,9 @@ pub fn not_stepped()
     ensures explore_nothing { (switches tries : ℕ) (json : Bool) (bytes : List ℕ) → IsOutput (Explore switches tries json) bytes [] → ⊥ }
     // A picture of two threads without an event.
     ensures no_event { (text : List ℕ) (p : IsPicture 64 lost_update_file text) → p.steps ≡ [] → ⊥ }
+    // That a run of two threads has too many events, or any other fault.
+    ensures trace_fault { (json : Bool) → IsFaulty program (Some (Trace 64 json)) (Some lost_update) (Some []) → ⊥ }
+    ensures draw_fault { IsFaulty program (Some (Draw 64)) (Some lost_update) (Some []) → ⊥ }
 {}
 
 /// What `upgrade`, `gen` and `bench` do not print.
@@ -52,4 +61,14 @@ pub fn not_generated()
     // A summary of which the accounts hold 1 less than all, and one of which a transaction is left out.
     ensures one_less { (threads : Option ℕ) (bytes : List ℕ) → IsOutput (Bench 1 threads) bytes one_less → ⊥ }
     ensures one_left_out { (threads : Option ℕ) (bytes : List ℕ) → IsOutput (Bench 1 threads) bytes one_left_out → ⊥ }
+{}
+
+/// How a call with words that are a command does not end.
+pub fn not_ended()
+    // With the status of words that are none.
+    ensures usage { (command : Command) (left rest held now : Option (List ℕ))
+        → EndsWith done_status 2 (λ outcome. Ends program outcome (Some command) left rest held now) → ⊥ }
+    // With the status of a fault and something written.
+    ensures written { (command : Command) (left rest held now : Option (List ℕ))
+        → EndsWith done_status 3 (λ outcome. Ends program outcome (Some command) left rest held now) → (now ≡ held → ⊥) → ⊥ }
 {}

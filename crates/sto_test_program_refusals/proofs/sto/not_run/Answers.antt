@@ -1,8 +1,8 @@
 use Rattle.sto_run.specs.Meanings.{updating_by}
 use Rattle.sto_run.specs.Stores.{means}
-use Rattle.sto_test_refusals.specs.Texts.{exchanged, left_out, other_reply, other_part, other_writer, other_rows}
-use Rattle.sto_test_refusals.proofs.Unlawful.{exchanged_is_none, left_out_is_none, other_reply_is_none, other_part_is_none, other_writer_is_none, other_rows_is_none}
-use Rattle.sto_test_program_refusals.proofs.Outputs.{run_lawful, not_changed, not_reversed, not_aborted, run_silent, run_fault}
+use Rattle.sto_test_refusals.specs.Texts.{exchanged, left_out, other_reply, other_part, other_writer, other_rows, json_left_out, json_other_reply}
+use Rattle.sto_test_refusals.proofs.Unlawful.{exchanged_is_none, left_out_is_none, other_reply_is_none, other_part_is_none, other_writer_is_none, other_rows_is_none, json_left_out_is_none, json_other_reply_is_none}
+use Rattle.sto_test_program_refusals.proofs.Outputs.{run_lawful, run_lawful_json, not_changed, not_reversed, not_aborted, run_silent, run_fault}
 use Rattle.sto_test_program_refusals.proofs.sto.not_run.Goals as goal
 
 pub returns-clause-exchanged : goal.returns-clause-exchanged
@@ -22,6 +22,12 @@ returns-clause-other_writer c = λ threads o. other_writer_is_none (updating_by 
 
 pub returns-clause-other_rows : goal.returns-clause-other_rows
 returns-clause-other_rows c = λ threads o. other_rows_is_none (updating_by means) (run_lawful threads other_rows o)
+
+pub returns-clause-json_left_out : goal.returns-clause-json_left_out
+returns-clause-json_left_out c = λ threads o. json_left_out_is_none (updating_by means) (run_lawful_json threads json_left_out o)
+
+pub returns-clause-json_other_reply : goal.returns-clause-json_other_reply
+returns-clause-json_other_reply c = λ threads o. json_other_reply_is_none (updating_by means) (run_lawful_json threads json_other_reply o)
 
 pub returns-clause-alone_changed : goal.returns-clause-alone_changed
 returns-clause-alone_changed c = not_changed
