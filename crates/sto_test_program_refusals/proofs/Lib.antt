@@ -1,6 +1,7 @@
 pub mod Texts
 pub mod FirstEvents
 pub mod Runs
+pub mod InTurn
 pub mod NotLong
 pub mod Traces
 pub mod Faults

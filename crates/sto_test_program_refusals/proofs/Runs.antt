@@ -2,7 +2,7 @@
 use Rattle.std.specs.Prelude.{slice_get, slice_set, max, nat_lt, if◌then◌else◌}
 use Rattle.std.specs.List.{flat_map}
 use Rattle.std.proofs.Common.{◌≡◌, ℕ, zero, suc, ◌+◌, ◌<◌, ◌≤◌, List, [], ◌∷◌, ◌++◌, length, Bool, true, false, Option, None, Some, refl, sym, ap, ◌∙◌, subst, arith, inl, inr, length-append}
-use Rattle.std.proofs.lemmas.List.{nil_from_length}
+use Rattle.std.proofs.lemmas.List.{nil_from_length, append-nil, append_assoc}
 use Rattle.std.proofs.lemmas.Option.{slice_get-get_or, same_Some, none-some}
 use Rattle.sto_model.specs.Told.{Told}
 use Rattle.sto_lang.specs.declared.file.Turns.{Turns}
@@ -16,7 +16,7 @@ use Rattle.sto_attempt_facts.specs.Counted.{aborted_times}
 use Rattle.sto_run_threads.specs.Orders.{Place, count_in}
 use Rattle.sto_run_threads.specs.Running.{ended_of}
 use Rattle.sto_run_threads.specs.Plans.{Plan, thread_count}
-use Rattle.sto_run_steps.specs.Seated.{IsNew, IsOver, IsAt, BetweenAt, WithinAt, records_of}
+use Rattle.sto_run_steps.specs.Seated.{IsNew, IsOver, IsAt, BetweenAt, WithinAt, IsOverAt, records_of}
 use Rattle.sto_run_steps.specs.Logged.{Log, most_kept}
 use Rattle.sto_run_steps.specs.Turning.{HaveTurns, WereStepped, entry_turns, round_turns}
 
@@ -61,6 +61,16 @@ module _ {M : Type 0} (valid : Validity) (heard : M → List Told) where
       | inr idle ↦ no_fewer threads h.0 h.1 xs (subst (λ (o : Log). HaveTurns valid heard threads h.0 h.1 o d later (Some ys)) idle.3 h.4)
     ]
 
+    -- steps that are kept stay the first ones
+    pub extends : (threads : List ℕ) (c : Core) (seats : _) (xs : List Step) → HaveTurns valid heard threads c seats (Some xs) d later (Some ys) → (more : List Step) × (ys ≡ xs ++ more)
+    extends [] c seats xs h = ([], same_Some ys xs h.2 ∙ sym (append-nil xs))
+    extends (thread ∷ threads) c seats xs h = elim h.3 [
+      | inl one ↦
+          let rest = extends threads h.0 h.1 (xs ++ one.logged.0 ∷ []) (one_more threads h.0 h.1 xs one.logged.0 h.2 one.logged.2 h.4) in
+          (one.logged.0 ∷ rest.0, rest.1 ∙ append_assoc xs (one.logged.0 ∷ []) rest.0)
+      | inr idle ↦ extends threads h.0 h.1 xs (subst (λ (o : Log). HaveTurns valid heard threads h.0 h.1 o d later (Some ys)) idle.3 h.4)
+    ]
+
     -- without one more step no thread has made an event
     quiet : (threads : List ℕ) (c : Core) (seats : _) (xs : List Step) → length ys ≤ length xs → HaveTurns valid heard threads c seats (Some xs) d later (Some ys) → later ≡ seats
     quiet [] c seats xs few h = h.1
@@ -86,7 +96,7 @@ module _ {M : Type 0} (valid : Validity) (heard : M → List Told) where
     ]
 
 -- a thread that has a transaction, and a try for it, is not over before it has begun
-not_over : {M : Type 0} (count tries : ℕ) (s : _) → 0 < count → 0 < tries → IsNew {M = M} count tries s → IsOver s → ⊥
+pub not_over : {M : Type 0} (count tries : ℕ) (s : _) → 0 < count → 0 < tries → IsNew {M = M} count tries s → IsOver s → ⊥
 not_over count tries s some try new over =
     let none = new.none_ended in let counted = new.counted in let left = new.all_left in
     elim over [
@@ -97,6 +107,17 @@ not_over count tries s some try new over =
 pub some_seat : {X : Type 0} (thread : ℕ) (seats : List X) → thread < length seats → (s : X) × (slice_get seats thread ≡ Some s)
 some_seat thread [] less = absurd (omega (arith, less))
 some_seat thread (s ∷ ss) less = (_, slice_get-get_or (s ∷ ss) thread s less)
+
+-- the first step is that of the first thread that has a turn, where it is not over
+pub first_step : {M : Type 0} (valid : Validity) (heard : M → List Told) (d : Core) (later : _) (x : Step) (xs : List Step) (thread : ℕ) (threads : List ℕ) (c : Core) (seats : _)
+    → HaveTurns valid heard (thread ∷ threads) c seats (Some []) d later (Some (x ∷ xs)) → (IsOverAt thread seats → ⊥) → x.thread ≡ thread
+first_step valid heard d later x xs thread threads c seats h going = elim h.3 [
+  | inl one ↦
+      let rest = extends valid heard d later (x ∷ xs) threads h.0 h.1 (one.logged.0 ∷ []) (one_more valid heard d later (x ∷ xs) threads h.0 h.1 [] one.logged.0 h.2 one.logged.2 h.4) in
+      let same : x ≡ one.logged.0 = let e = rest.1 in cc in
+      ap (λ (s : Step). s.thread) same ∙ one.logged.1.last.of_thread
+  | inr idle ↦ absurd (going idle.0)
+]
 
 -- a thread that has left no record has ended nothing and used no try
 module _ {M : Type 0} (plan : Plan) (fits : ℕ → Place → M → View → View → Type 0) (passes thread : ℕ) (s : _) (none : records_of {M = M} s ≡ []) where

@@ -10,6 +10,10 @@ lost_update = script ++ codes "schedule 0:4 1:10\n"
 abbrev pub lost_update_file : File
 lost_update_file = record file { schedule = Some (record { thread = 0; steps = 4 } ∷ record { thread = 1; steps = 10 } ∷ []) }
 
+-- what it says where the second thread has the first ten turns
+abbrev pub second_first_file : File
+second_first_file = record file { schedule = Some (record { thread = 1; steps = 10 } ∷ []) }
+
 -- what the checker reads: the script, and a report of it
 abbrev pub with_report : List ℕ → List ℕ
 with_report report = script ++ (codes "report\n" ++ report)

@@ -13,7 +13,7 @@ ghost use Rattle.sto_run_steps.specs.Logged.{Log};
 ghost use Rattle.sto_run_steps.specs.Proceeding.{heard_by};
 ghost use Rattle.sto_run_steps.specs.Turning.{MakesOne};
 ghost use Rattle.sto_run.specs.Traced.{IsRunFrom, IsTraceOf, of_objects};
-ghost use Rattle.sto_test_program_refusals.specs.Inputs.{lost_update_file};
+ghost use Rattle.sto_test_program_refusals.specs.Inputs.{lost_update_file, second_first_file};
 
 /// What is no run of two threads with a transaction each, and what is no event.
 pub fn no_run()
@@ -21,6 +21,9 @@ pub fn no_run()
     ensures nothing { (journal : Journal) (homes : List (ℕ × ℕ)) → IsTraceOf lost_update_file 64 journal homes (Some []) → ⊥ }
     // One of one event.
     ensures one_event { (journal : Journal) (homes : List (ℕ × ℕ)) (step : Step) → IsTraceOf lost_update_file 64 journal homes (Some (step ∷ [])) → ⊥ }
+    // By the schedule `1:10` one that begins with an event of the first thread.
+    ensures other_thread_first { (journal : Journal) (homes : List (ℕ × ℕ)) (step : Step) (steps : List Step)
+        → IsTraceOf second_first_file 64 journal homes (Some (step ∷ steps)) → step.thread ≡ 0 → ⊥ }
     // One that leaves the words of its threads as they were opened, as where all is handed back and nothing stepped.
     ensures still { (objects : Objects) (schedule : List Turns) (first last : Log) (journal : Journal)
         (r : IsRunFrom of_objects objects lost_update_file 64 schedule first journal last)

@@ -1,5 +1,6 @@
 use Rattle.sto_run.specs.Traced.{of_objects}
 use Rattle.sto_test_program_refusals.proofs.FirstEvents.{clock_same, parts_same}
+use Rattle.sto_test_program_refusals.proofs.InTurn.{not_first}
 use Rattle.sto_test_program_refusals.proofs.Traces.{no_events, one_event, not_still_words}
 use Rattle.sto_test_program_refusals.proofs.steps.no_run.Goals as goal
 
@@ -17,3 +18,6 @@ returns-clause-invented_clock c = λ sizes opening many seats later log next d o
 
 pub returns-clause-invented_parts : goal.returns-clause-invented_parts
 returns-clause-invented_parts c = λ sizes opening many seats later log next d one changed. changed (parts_same of_objects.valid sizes opening many d one.steps)
+
+pub returns-clause-other_thread_first : goal.returns-clause-other_thread_first
+returns-clause-other_thread_first c = not_first
