@@ -1,5 +1,5 @@
 //! What `explore` tells of scripts over boxes: as many schedules and outcomes as `.ci/outcomes` counts, which shares nothing with the
-//! program, and each outcome is what `step` prints by the schedule that is told with it.
+//! program, each outcome is what `step` prints by the schedule that is told with it, and both forms have one order.
 use crate::outcome::outcome_of;
 use std::alloc::AllocError;
 use std::thread::Threads;
@@ -111,6 +111,39 @@ fn is_stepped<R: Threads + Sync>(
     Ok(stepped.report() == Some(report))
 }
 
+// Whether the schedules that are told as JSON are those that are told as text, in the same order.
+fn are_in_one_order(text: &str, json: &str) -> bool {
+    let mut rest = json;
+    for line in text.lines() {
+        if !line.starts_with("schedule ") {
+            continue;
+        }
+        let Some((_, told)) = rest.split_once("\"schedule\":\"") else {
+            return false;
+        };
+        match told.strip_prefix(line) {
+            Some(after) if after.starts_with('"') => rest = after,
+            _ => return false,
+        }
+    }
+    !rest.contains("\"schedule\":\"")
+}
+
+// Whether both forms have one order, also where the script has a schedule, which is not looked at.
+fn has_one_order<R: Threads + Sync>(
+    rt: &HostRuntime,
+    threads: &R,
+    script: &str,
+    words: &str,
+    told: &str,
+) -> Result<bool, AllocError> {
+    let alloc = rt.alloc();
+    let scheduled = format!(in alloc; "{script}schedule 1:1\n")?;
+    let words = format!(in alloc; "{words} --json")?;
+    let json = outcome_of(threads, alloc, words.as_str(), scheduled.as_str(), &NoGate)?;
+    Ok(are_in_one_order(told, json.written.as_str()))
+}
+
 // Explores a script, and gives how many outcomes `step` prints by their schedules.
 fn explore<R: Threads + Sync>(
     rt: &HostRuntime,
@@ -124,6 +157,12 @@ fn explore<R: Threads + Sync>(
     )?;
     let words = format!(in alloc; "explore --switches {} --tries 2", explored.switches)?;
     let told = outcome_of(threads, alloc, words.as_str(), script.as_str(), &NoGate)?.written;
+    if !has_one_order(rt, threads, script.as_str(), words.as_str(), told.as_str())? {
+        println!(rt;
+            "examples/explored/{}.sto: another order is told as JSON",
+            explored.name
+        )?;
+    }
     let (outcomes, sum) = told.rsplit_once("sum ").unwrap_or(("", ""));
     if format!(in alloc; "sum {sum}")? != format!(in alloc; "{}\n", explored.sum)? {
         println!(rt;
