@@ -88,6 +88,19 @@ fn add_each(
     Ok(())
 }
 
+fn any_late(steps: &[Step], lines: &[Line]) -> bool
+    ensures { result ≡ list_any (λ line. is_late steps.now (entry line)) lines.now }
+{
+    lines.iter().any(|line| is_late(steps, line))
+}
+
+/// Whether one of the transactions is of that kind.
+fn has_late(steps: &[Step], lines: &[Line]) -> bool
+    ensures { result ≡ list_any (is_late steps.now) (map entry lines.now) }
+{
+    any_late(steps, lines)
+}
+
 /// Adds the heading of these lines, where there is one.
 fn add_heading(
     out: &mut List<Text>,
@@ -98,13 +111,12 @@ fn add_heading(
     ensures { OnOk result (bytes_of out.new.items ≡ bytes_of out.old.items
         ++ (if list_any (is_late steps.now) (map entry lines.now) then codes "handed back, and run after the events above:" ∷ [] else [])) }
 {
-    if !lines.iter().any(|line| is_late(steps, line)) {
+    if !has_late(steps, lines) {
         return Ok(());
     }
-    add_line(
-        out,
-        Text::of(alloc, "handed back, and run after the events above:")?,
-    )
+    let mut heading = Text::new(alloc);
+    heading.append("handed back, and run after the events above:")?;
+    add_line(out, heading)
 }
 
 /// Adds the lines of the transactions that were handed back, below a heading.

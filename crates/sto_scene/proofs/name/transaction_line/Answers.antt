@@ -10,5 +10,5 @@ pub without_end-requires : goal.without_end-requires
 without_end-requires c =
     let names = names_of c.args.threads.now in
     let ascii = entries_ascii names c.requires.names (entry c.args.line.now ∷ []) (c.in-Ok.ensures.short, tt) in
-    rw (c.in-Ok.ensures.text, c.new-text.ensures.bytes)
+    rw (c.as_str.ensures.value, c.in-Ok.ensures.text, c.new-text.ensures.bytes)
     (subst IsAscii (append-nil (line_text names (entry c.args.line.now))) ascii)
