@@ -1,5 +1,5 @@
 //! The transactions that were handed back, of which no event is drawn.
-ghost use Rattle.std.specs.Prelude.{◌≡◌, ◌<◌, ◌++◌, [], ◌∷◌, map, flat_map, length, OnOk, if◌then◌else◌, codes};
+ghost use Rattle.std.specs.Prelude.{◌≡◌, ◌<◌, ◌++◌, [], ◌∷◌, map, flat_map, length, IfOk, OnOk, if◌then◌else◌, codes};
 ghost use Rattle.std.specs.List.{list_any};
 ghost use Rattle.sto_lang.specs.Views.{names_of};
 ghost use Rattle.sto_report_spec.specs.Named.{AreNames};
@@ -101,6 +101,14 @@ fn has_late(steps: &[Step], lines: &[Line]) -> bool
     any_late(steps, lines)
 }
 
+fn heading(alloc: Global) -> Result<Text, NoMemory>
+    ensures { IfOk result (λ text. text.items ≡ codes "handed back, and run after the events above:") }
+{
+    let mut heading = Text::new(alloc);
+    heading.append("handed back, and run after the events above:")?;
+    Ok(heading)
+}
+
 /// Adds the heading of these lines, where there is one.
 fn add_heading(
     out: &mut List<Text>,
@@ -114,9 +122,7 @@ fn add_heading(
     if !has_late(steps, lines) {
         return Ok(());
     }
-    let mut heading = Text::new(alloc);
-    heading.append("handed back, and run after the events above:")?;
-    add_line(out, heading)
+    add_line(out, heading(alloc)?)
 }
 
 /// Adds the lines of the transactions that were handed back, below a heading.
