@@ -1,5 +1,5 @@
 -- What may be planned: objects in the order of their kinds, each with room for what it is to hold, of parts whose numbers are in u32.
-use Rattle.std.specs.Prelude.{◌≡◌, ◌<◌, ◌≤◌, ◌+◌, ◌*◌, ◌^◌, ℕ, max, nat_lt, Bool, true, false, ◌&&◌, ◌⊎◌, List, [], ◌∷◌, length, sum_by}
+use Rattle.std.specs.Prelude.{◌≡◌, ◌<◌, ◌≤◌, ◌+◌, ◌*◌, ◌^◌, ℕ, max, nat_lt, Bool, true, false, ◌&&◌, ◌⊎◌, List, [], ◌∷◌, ◌++◌, length, sum_by}
 use Rattle.sto_model.specs.declared.shape.Shape.{Shape}
 use Rattle.sto_model.specs.declared.shape.Shape.TheVariants.{Single, Counter, Array, Hash, Tree, Vector}
 use Rattle.sto_model.specs.Sizes.{part_count}
@@ -26,6 +26,18 @@ has_room (Array len v) = true
 has_room (Hash buckets places) = nat_lt 0 buckets && (nat_lt (buckets * (1 + places)) (2 ^ 32) && nat_lt (2 * places) (2 ^ 32))
 has_room (Tree leaves) = nat_lt 0 leaves && nat_lt (2 + 9 * leaves) (2 ^ 32)
 has_room (Vector capacity) = nat_lt (1 + capacity) (2 ^ 32)
+
+-- an object of a shape breaks no rule after these
+pub record CanStand (shapes : List Shape) (shape : Shape) : Type 0 where
+  pub order : last_rank shapes ≤ rank shape
+  pub room : has_room shape ≡ true
+  pub parts : sum_by part_count shapes + part_count shape < 2 ^ 32
+  pub few : length shapes + 1 < 2 ^ 32
+
+-- each of these shapes does so after those before it, the first of which are given
+abbrev pub AllStand : List Shape → List Shape → Type 0
+AllStand before [] = Unit {0}
+AllStand before (s ∷ ss) = CanStand before s × AllStand (before ++ s ∷ []) ss
 
 -- why an object of a shape cannot be planned after these
 abbrev pub IsReason : Unplanned → List Shape → Shape → Type 0

@@ -3,7 +3,7 @@ ghost use Rattle.std.specs.Prelude.{◌≡◌, [], ◌∷◌, ◌++◌, length, 
 ghost use Rattle.sto_model.specs.declared.call.Call.{Call};
 ghost use Rattle.sto_model.specs.Objects.{machines_of, IsTaken};
 ghost use Rattle.sto_store.specs.StoresLaw.{IsFitting};
-ghost use Rattle.sto_open.specs.Plans.{IsPlan, IsReason};
+ghost use Rattle.sto_open.specs.Plans.{IsPlan, IsReason, CanStand};
 
 use crate::sizes::{is_fit, part_count, rank};
 use crate::unplanned::Unplanned;
@@ -71,6 +71,7 @@ impl Plan {
     pub fn add(&mut self, shape: Shape) -> Result<u32, Unplanned>
         ensures number { IfOk result (λ number. number ≡ length self.old) }
         ensures added { OnOk result (self.new ≡ self.old ++ shape ∷ []) }
+        ensures stands { OnOk result (CanStand self.old shape) }
         ensures kept { OnErr result (self.new ≡ self.old) }
         ensures reason { IfErr result (λ error. IsReason error self.old shape) }
     {

@@ -4,7 +4,7 @@ ghost use Rattle.std.specs.Prelude.{◌≡◌, ◌+◌, IfOk};
 use sto_part::NoMemory;
 
 /// How many attempts were aborted, by cause: a part was locked, or it was changed.
-#[derive(Clone, Copy, PartialEq, Eq, Debug)]
+#[derive(Clone, Copy, PartialEq, Eq)]
 pub struct Aborted {
     pub locked: u64,
     pub changed: u64,

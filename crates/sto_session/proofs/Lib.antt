@@ -1,3 +1,4 @@
 pub mod Passing
 pub mod Keeping
 pub mod Hearing
+pub mod Refutations

@@ -147,7 +147,7 @@ module _ {T : Type 0} {n : naming.Ghosts T} (t : OfType T) (ty : T) (s : Shared 
 
   pub given_up : (calls : List Call) (rs : List Told) (begun : View) (y : Session T n) (e : Ended Asked) → IsFree t ty s y
       → lives.HasCancelled t (passes_of s) ty calls rs e begun (view_of y) → HasCancelledAfter t ty s calls rs begun (place_of e.verdict) y
-  given_up calls rs begun y e free h = subst (λ (x : Verdict). HasCancelledAfter t ty s calls rs begun (place_of x) y) (sym h.verdict) (record { free = free; ended = e; told = h })
+  given_up calls rs begun y e free h = subst (λ (x : Verdict). HasCancelledAfter t ty s calls rs begun (place_of x) y) (sym h.verdict) (record { free = free; ended = e; told = h; stands = h.verdict })
 
   pub commits : (calls : List Call) (rs : List Told) (begun : View) (y : Session T n) (d : Pass) (e : Ended Asked) (k : ℕ) → k ≡ passes_of s → y.live ≡ None → y.rest.seat ≡ d → IsOf s d
       → lives.HasCommitted t k ty calls rs e begun d.me.0.view → HasCommittedAfter t ty s calls rs begun (place_of e.verdict) y

@@ -104,14 +104,15 @@ module _ {T : Type 0} {n : naming.Ghosts T} (t : OfType T) (ty : T) (s : Shared 
   HasCommittedAfter calls rs begun (Err uncommitted.Aborted) y = WasAborted calls y begun
   HasCommittedAfter calls rs begun (Err uncommitted.NoMemory) y = HasFailed begun y
 
-  -- it was given up, and its record tells so
-  pub record WasGivenUp (calls : List Call) (rs : List Told) (y : Session T n) (begun : View) : Type 0 where
+  -- it was given up, and its record tells so: it has read as of this place in the order
+  pub record WasGivenUp (calls : List Call) (rs : List Told) (place : ℕ) (y : Session T n) (begun : View) : Type 0 where
     pub free : IsFree t ty s y
     pub ended : Ended Asked
     pub told : HasCancelled t (passes_of s) ty calls rs ended begun (view_of y)
+    pub stands : ended.verdict ≡ Cancelled place
 
   abbrev pub HasCancelledAfter : List Call → List Told → View → Result ℕ Uncommitted → Session T n → Type 0
-  HasCancelledAfter calls rs begun (Ok place) y = WasGivenUp calls rs y begun
+  HasCancelledAfter calls rs begun (Ok place) y = WasGivenUp calls rs place y begun
   HasCancelledAfter calls rs begun (Err uncommitted.NoTransaction) y = ⊥
   HasCancelledAfter calls rs begun (Err uncommitted.Aborted) y = ⊥
   HasCancelledAfter calls rs begun (Err uncommitted.NoMemory) y = HasFailed begun y

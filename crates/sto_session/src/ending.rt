@@ -53,7 +53,7 @@ impl<T: TxType> Session<T> {
         }
     }
 
-    /// Gives the transaction up: nothing of it takes effect.
+    /// Gives the transaction up: nothing of it takes effect. It answers the number as of which the transaction has read.
     pub fn cancel(
         self,
         alloc: Global,

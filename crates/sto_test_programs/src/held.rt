@@ -29,8 +29,8 @@ const ON_FOUR: &str = "run --threads 4";
 // How often the generated script is run.
 const REPORTS: u32 = 100;
 
-/// Two threads raise one box.
-pub const LOST_UPDATE: &str = "box a 0
+// Two threads raise one box.
+const LOST_UPDATE: &str = "box a 0
 thread
 begin
 x = get a

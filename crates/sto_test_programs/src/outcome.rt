@@ -1,11 +1,11 @@
 //! What a program does with words and a script.
+use crate::calls::{Called, NONE, call, call_feed};
 use std::alloc::{AllocError, Global};
 use std::str;
 use std::sync::Wait;
 use std::thread::Threads;
 use sto_cli::Gate;
 use sto_part::NoMemory;
-use sto_test_calls::{Called, NONE, call, call_feed};
 
 /// What a run wrote on standard output and on standard error, and its exit status.
 #[derive(Drop)]

@@ -1,6 +1,4 @@
-//! The examples and worked cases that the pages show, each row of their tables of mistakes and of faults, and scripts at the
-//! limits of version 2.
-use crate::limits::{LIMITS, limits_events, limits_transactions};
+//! The examples and worked cases that the pages show, and each row of their tables of mistakes and of faults.
 use crate::outcome::outcome_of;
 use crate::page::{Example, Fault, Mistake, Page};
 use std::alloc::AllocError;
@@ -17,36 +15,6 @@ pub const PAGES: [&str; 7] = [
     "steps.md",
     "cases.md",
     "explore.md",
-];
-
-/// The examples, each a script and the report of its run.
-pub const EXAMPLES: [&str; 13] = [
-    "one_get",
-    "transfer",
-    "boxes",
-    "counters",
-    "arrays",
-    "hash_tables",
-    "trees",
-    "vectors",
-    "choices",
-    "repetitions",
-    "cancel",
-    "everything",
-    "named",
-];
-
-/// An example with a schedule, and the report of its steps.
-pub const STEPPED: &str = "schedule";
-
-/// The examples with a schedule, and the pictures of their runs.
-const DRAWN: [&str; 6] = [
-    "lost_update",
-    "write_skew",
-    "extension_keeps",
-    "extension_breaks",
-    "kept_predicate",
-    "phantom",
 ];
 
 // Whether a run writes what stands in a file, and nothing beside.
@@ -144,56 +112,10 @@ fn go_over<R: Threads + Sync>(rt: &HostRuntime, threads: &R, name: &str) -> io::
     )
 }
 
-// Runs or steps the script.
-fn run_example<R: Threads + Sync>(
-    rt: &HostRuntime,
-    threads: &R,
-    command: &str,
-    name: &str,
-) -> io::Result<()> {
-    let script = fs::read_to_string(rt, format!(in rt.alloc(); "examples/{name}.sto")?)?;
-    let report = fs::read_to_string(rt, format!(in rt.alloc(); "examples/{name}.report")?)?;
-    let outcome = outcome_of(threads, rt.alloc(), command, script.as_str(), &NoGate)?;
-    if outcome.report() != Some(report.as_str()) {
-        println!(rt; "examples/{name}.sto: the report is not as written")?;
-    }
-    Ok(())
-}
-
-// Draws the script.
-fn draw_example<R: Threads + Sync>(rt: &HostRuntime, threads: &R, name: &str) -> io::Result<()> {
-    let script = fs::read_to_string(rt, format!(in rt.alloc(); "examples/pictures/{name}.sto")?)?;
-    let picture = format!(in rt.alloc(); "examples/pictures/{name}.svg")?;
-    if !is_as_stored(rt, threads, "draw", script.as_str(), picture.as_str())? {
-        println!(rt; "{picture}: the picture is another")?;
-    }
-    Ok(())
-}
-
-/// Goes over all pages, examples, pictures and limits.
+/// Goes over all pages.
 pub fn go_over_all<R: Threads + Sync>(rt: &HostRuntime, threads: &R) -> io::Result<()> {
     for name in PAGES {
         go_over(rt, threads, name)?;
-    }
-    for name in EXAMPLES {
-        run_example(rt, threads, "run", name)?;
-    }
-    run_example(rt, threads, "step", STEPPED)?;
-    for name in DRAWN {
-        draw_example(rt, threads, name)?;
-    }
-    for limit in LIMITS {
-        if !limit.holds(threads, rt.alloc())? {
-            println!(rt; "the limit on {} is another", limit.name)?;
-        }
-    }
-    for command in ["trace", "draw", "explore"] {
-        if !limits_transactions(threads, rt.alloc(), command)? {
-            println!(rt; "the limit on transactions of {command} is another")?;
-        }
-    }
-    if !limits_events(threads, rt.alloc())? {
-        println!(rt; "the limit on events of a picture or of an exploration is another")?;
     }
     Ok(())
 }

@@ -1,7 +1,8 @@
 //! The reports of each script of the pages and examples, and of a generated one: those of the script compared with
 //! those of its upgrade, and each text with what the JSON of the same report says when it is read back.
+use crate::cases::{Case, file_of, written_out};
 use crate::made::{Reports, output_of};
-use crate::pages::{EXAMPLES, PAGES, STEPPED};
+use crate::pages::PAGES;
 use crate::report::members;
 use std::alloc::AllocError;
 use std::thread::Threads;
@@ -11,7 +12,7 @@ use std::{fs, io};
 const COMMANDS: [&str; 3] = ["run --threads 1", "step", "step --tries 1"];
 
 // A script whose transactions disturb each other.
-const CONTENDED: &str = "contended";
+const CONTENDED: &str = "<file examples/contended.sto>";
 
 // How much was compared.
 #[derive(Drop)]
@@ -92,16 +93,30 @@ fn compare_shown<R: Threads + Sync>(
     Ok(())
 }
 
-// Compares the reports of an example.
+// Compares the reports of the script that an example names.
 fn compare_example<R: Threads + Sync>(
     rt: &HostRuntime,
     threads: &R,
     name: &str,
     tally: &mut Tally,
 ) -> io::Result<()> {
-    let path = format!(in rt.alloc(); "examples/{name}.sto")?;
-    let script = fs::read_to_string(rt, path.as_str())?;
-    compare(rt, threads, path.as_str(), script.as_str(), tally)
+    let script = written_out(rt, name)?;
+    compare(rt, threads, name, script.as_str(), tally)
+}
+
+// Compares the reports of the scripts of the examples.
+fn compare_examples<R: Threads + Sync>(
+    rt: &HostRuntime,
+    threads: &R,
+    tally: &mut Tally,
+) -> io::Result<()> {
+    let file = file_of(rt, "examples")?;
+    for block in file.as_str().split("$ ") {
+        if let Some(case) = Case::read(block) {
+            compare_example(rt, threads, case.input, tally)?;
+        }
+    }
+    Ok(())
 }
 
 fn compare_scripts<R: Threads + Sync>(
@@ -112,10 +127,7 @@ fn compare_scripts<R: Threads + Sync>(
     for page in PAGES {
         compare_shown(rt, threads, page, tally)?;
     }
-    for name in EXAMPLES {
-        compare_example(rt, threads, name, tally)?;
-    }
-    compare_example(rt, threads, STEPPED, tally)?;
+    compare_examples(rt, threads, tally)?;
     compare_example(rt, threads, CONTENDED, tally)?;
     match output_of(threads, rt.alloc(), "gen 1", "")? {
         Some(script) => compare(rt, threads, "the generated script", script.as_str(), tally),

@@ -1,12 +1,12 @@
 //! The traces of the examples, in both forms, beside the reports of the same scripts: all tell as many attempts.
+use crate::cases::{Case, file_of, written_out};
 use crate::outcome::outcome_of;
-use crate::pages::{EXAMPLES, STEPPED};
+use std::io;
 use std::thread::Threads;
-use std::{fs, io};
 use sto_cli::NoGate;
 
 /// How many attempts ended, and how many were aborted.
-#[derive(Clone, Copy, PartialEq, Eq, Debug)]
+#[derive(Clone, Copy, PartialEq, Eq)]
 struct Attempts {
     ended: usize,
     aborted: usize,
@@ -67,10 +67,10 @@ impl Attempts {
     }
 }
 
-// Traces and steps an example, and gives the number of its events.
+// Traces and steps the script that an example names, and gives the number of its events.
 fn compare<R: Threads + Sync>(rt: &HostRuntime, threads: &R, name: &str) -> io::Result<usize> {
     let alloc = rt.alloc();
-    let script = fs::read_to_string(rt, format!(in alloc; "examples/{name}.sto")?)?;
+    let script = written_out(rt, name)?;
     let trace = outcome_of(threads, alloc, "trace", script.as_str(), &NoGate)?.written;
     let json = outcome_of(threads, alloc, "trace --json", script.as_str(), &NoGate)?.written;
     let report = outcome_of(threads, alloc, "step", script.as_str(), &NoGate)?.written;
@@ -78,21 +78,23 @@ fn compare<R: Threads + Sync>(rt: &HostRuntime, threads: &R, name: &str) -> io::
     if Attempts::traced(trace.as_str(), &TEXT) != reported
         || Attempts::traced(json.as_str(), &JSON) != reported
     {
-        println!(rt; "examples/{name}.sto: the trace tells other attempts than the report")?;
+        println!(rt; "{name}: the trace tells other attempts than the report")?;
     }
     let events = trace.lines().count();
     if events == 0 || json.lines().count() != events {
-        println!(rt; "examples/{name}.sto: the JSON of the trace tells other events")?;
+        println!(rt; "{name}: the JSON of the trace tells other events")?;
     }
     Ok(events)
 }
 
 /// Compares those of all examples.
 pub fn compare_all<R: Threads + Sync>(rt: &HostRuntime, threads: &R) -> io::Result<()> {
+    let file = file_of(rt, "examples")?;
     let mut events: usize = 0;
-    for name in EXAMPLES {
-        events = events.saturating_add(compare(rt, threads, name)?);
+    for block in file.as_str().split("$ ") {
+        if let Some(case) = Case::read(block) {
+            events = events.saturating_add(compare(rt, threads, case.input)?);
+        }
     }
-    events = events.saturating_add(compare(rt, threads, STEPPED)?);
     println!(rt; "the traces of the examples: {events} events")
 }

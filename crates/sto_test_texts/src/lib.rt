@@ -1,4 +1,4 @@
-//! Tests of words, scripts, canonical texts, the generated file, journals and summaries: what no clause says.
+//! Tests of words, scripts, canonical texts, the generated file, journals, summaries and outcomes: what no clause says.
 #![tactic(auto)]
 
 #[cfg(test)]
@@ -9,6 +9,8 @@ mod canonical;
 mod generated;
 #[cfg(test)]
 mod journal;
+#[cfg(test)]
+mod outcomes;
 #[cfg(test)]
 mod summary;
 #[cfg(test)]

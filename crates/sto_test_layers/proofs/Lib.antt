@@ -1,0 +1,4 @@
+pub mod Additions
+pub mod Declared
+pub mod Ended
+pub mod Passes

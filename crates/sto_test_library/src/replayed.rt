@@ -1,0 +1,56 @@
+//! Code that is run over replies by hand.
+use crate::codes::{GiveUp, Swap};
+use sto_library::{BoxId, Call, Code, ShortReply, Stop, Tx};
+use sto_model::Reply;
+
+// What a call on the first object asks.
+fn call(code: u8, a: i64) -> Call {
+    Call {
+        object: 0,
+        code,
+        a,
+        b: 0,
+    }
+}
+
+#[test]
+fn code_stops_at_a_call_without_a_reply(rt: HostRuntime) {
+    let of = BoxId { number: 0 };
+    let swap = Swap(of, 8);
+    assert_eq!(rt;
+        swap.run(&mut Tx::of_heard(&[])),
+        Err(Stop::Asks(call(0, 0)))
+    );
+    assert_eq!(rt;
+        swap.run(&mut Tx::of_heard(&[ShortReply::Value(7)])),
+        Err(Stop::Asks(call(1, 8)))
+    );
+    let all = [ShortReply::Value(7), ShortReply::Done];
+    assert_eq!(rt; swap.run(&mut Tx::of_heard(&all)), Ok(7));
+}
+
+#[test]
+fn code_hears_replies(rt: HostRuntime) {
+    let all = [Reply::Value(7), Reply::Done];
+    assert_eq!(rt;
+        Swap(BoxId { number: 0 }, 8).run(&mut Tx::of_replies(&all)),
+        Ok(7)
+    );
+}
+
+#[test]
+fn code_gives_up(rt: HostRuntime) {
+    let done = [ShortReply::Done];
+    assert_eq!(rt;
+        GiveUp(BoxId { number: 0 }).run(&mut Tx::of_heard(&done)),
+        Err(Stop::Cancels)
+    );
+}
+
+#[test]
+fn a_call_is_answered_by_what_was_heard(rt: HostRuntime) {
+    let heard = [ShortReply::Flag(true)];
+    let mut tx = Tx::of_heard(&heard);
+    assert_eq!(rt; tx.ask(call(4, 3)), Ok(ShortReply::Flag(true)));
+    assert_eq!(rt; tx.ask(call(4, 3)), Err(Stop::Asks(call(4, 3))));
+}

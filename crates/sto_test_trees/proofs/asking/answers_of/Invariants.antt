@@ -1,4 +1,0 @@
-use Rattle.sto_test_trees.proofs.asking.answers_of.Given as goal
-
-abbrev pub invariant-loop-call : goal.invariant-loop-call
-invariant-loop-call g l = (g.T.TxType.meaning l.ty).valid l.contents.items

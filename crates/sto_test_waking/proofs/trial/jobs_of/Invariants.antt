@@ -1,6 +1,0 @@
-use Rattle.std.specs.List.{All}
-use Rattle.sto_queue.specs.Queues.{IsRun}
-use Rattle.sto_test_waking.proofs.trial.jobs_of.Given as goal
-
-abbrev pub invariant-loop-position : goal.invariant-loop-position
-invariant-loop-position l = record { runs : All IsRun l.jobs.items }

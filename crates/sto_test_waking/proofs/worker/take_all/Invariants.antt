@@ -1,6 +1,0 @@
-use Rattle.sto_queue.specs.Passes.{IsPass, known}
-use Rattle.sto_queue.specs.Queues.{working}
-use Rattle.sto_test_waking.proofs.worker.take_all.Given as goal
-
-abbrev pub invariant-loop : goal.invariant-loop
-invariant-loop g l = record { pass : IsPass l.queue l.worker (working (known l.worker).jobs (known l.worker).taken) }
