@@ -31,4 +31,4 @@ returns c =
     (λ text. text.items ≡ picture_of (scene_view c.in_ok-scene.scene))
     (λ text. text.items ≡ picture_of (scene_for (view c.args.file.now).names (view c.args.file.now).declarations (map home_pair c.args.homes.now) c.args.steps.items (map entry c.args.journal.now.lines.items) c.args.journal.now.state.items))
     (λ text is. is ∙ ap picture_of c.in_ok-scene.ensures)
-    c.picture.ensures
+    c.picture.ensures.text
