@@ -5,6 +5,7 @@ use crate::cases::Case;
 use crate::cases::ending::Ending;
 use crate::cases::group::Group;
 use crate::cases::text::written_out;
+use std::alloc::{AllocError, Global};
 use std::sync::Wait;
 use std::thread::Threads;
 use std::{io, str};
@@ -43,25 +44,32 @@ fn compare_forms<R: Threads + Wait + Sync>(
     };
     let called = call.on(group.threads, alloc, script, NONE)?;
     let json = str::from_utf8(called.out.as_slice()).unwrap_or("");
-    group.add(words.as_str(), are_in_one_order(told, json))
+    let schedules = schedules_of_json(alloc, json)?;
+    let are_same = schedules == schedules_of_text(alloc, told)?;
+    group.add(words.as_str(), are_same)
 }
 
-// Whether JSON tells the schedules of a text, in the same order.
-fn are_in_one_order(text: &str, json: &str) -> bool {
-    let mut rest = json;
+// The schedules that a text tells, a line each.
+fn schedules_of_text(alloc: Global, text: &str) -> Result<String, AllocError> {
+    let mut told = String::new(alloc);
     for line in text.lines() {
-        if !line.starts_with("schedule ") {
-            continue;
-        }
-        let Some((_, told)) = rest.split_once("\"schedule\":\"") else {
-            return false;
-        };
-        match told.strip_prefix(line) {
-            Some(after) if after.starts_with('"') => rest = after,
-            _ => return false,
+        if line.starts_with("schedule ") {
+            told.push_str(line)?;
+            told.push('\n')?;
         }
     }
-    !rest.contains("\"schedule\":\"")
+    Ok(told)
+}
+
+// The schedules that JSON tells, a line each.
+fn schedules_of_json(alloc: Global, json: &str) -> Result<String, AllocError> {
+    let mut told = String::new(alloc);
+    for part in json.split("\"schedule\":\"").skip(1) {
+        let (schedule, _) = part.split_once('"').unwrap_or((part, ""));
+        told.push_str(schedule)?;
+        told.push('\n')?;
+    }
+    Ok(told)
 }
 
 // The schedule and the report of an outcome, after its first word.
