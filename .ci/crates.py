@@ -7,11 +7,10 @@ import signal
 import subprocess
 import sys
 import tempfile
+import threading
 
 CI = os.path.dirname(os.path.realpath(__file__))
 TOP = os.path.dirname(CI)
-IS_DONE = re.compile(r"rt: (\w+) (proved|is kept)\b")
-IS_REFUSED = re.compile(r"rt: (\w+)(: its tests are)? NOT PROVED$")
 FAILED = re.compile(r"rt: FAILED: (.*)")
 
 
@@ -25,9 +24,35 @@ def listed(text=None):
     return {name: (line, [it for it in below if it in found]) for name, (line, below) in found.items()}
 
 
+def groups():
+    """Returns the headings of crates.txt, each with the crates below it. Of several comments before crates the first is their heading."""
+    found, heading, is_first = [], "Crates", True
+    for line in read(f"{TOP}/crates.txt").splitlines():
+        comment = re.match(r"#+ *(.*?)[ .:]*$", line)
+        if comment and is_first and comment[1]:
+            heading, is_first = comment[1], False
+        elif not comment:
+            is_first, name = True, line.split("#")[0].partition(":")[0].split()
+            if name and (not found or found[-1][0] != heading):
+                found.append((heading, []))
+            if name:
+                found[-1][1].append(name[0])
+    return found
+
+
 def read(path):
     with open(path, encoding="utf-8") as file:
         return file.read()
+
+
+def names_in(folder, ending):
+    """Returns the names of a folder that end so, none where there is no such folder."""
+    return sorted(it for it in os.listdir(folder) if it.endswith(ending)) if os.path.isdir(folder) else []
+
+
+def makes_library(crate):
+    """Returns whether other crates can stand on a crate: it is no program, and no library for C."""
+    return not os.path.exists(f"{TOP}/crates/{crate}/src/main.rt") and "staticlib" not in listed()[crate][0].split(":")[0].split()
 
 
 def all_below(named):
@@ -67,23 +92,24 @@ def copy_without_edits(names, to):
         shutil.copytree(f"{TOP}/crates/{it}", f"{to}/crates/{it}", ignore=shutil.ignore_patterns("must-fail", "out"))
 
 
-def run_gate(copy, tell, stops_early=False):
-    """Has rt prove and run the crates of a copy, and tells how many are proved. Returns its status, its lines, and what failed, which is at
-    most one crate where it stops early. What was proved until then is kept."""
-    done, lines, failed = 0, [], []
+def run_gate(copy, progress, stops_early=False, seconds=None):
+    """Has rt prove and run the crates of a copy, as a progress hears. Returns its status, its lines, and what failed, which is at most one crate
+    where it stops early. What was proved until then is kept. After so many seconds rt is ended, and the status is None."""
+    lines, failed, late = [], [], threading.Event()
     how = {"stdin": subprocess.DEVNULL, "stdout": subprocess.PIPE, "stderr": subprocess.STDOUT, "text": True, "errors": "replace"}
-    with subprocess.Popen(["rt", "ci"], cwd=copy, **how) as rt:
+    with subprocess.Popen(["rt", "ci"], cwd=copy, **how) as rt, progress:
+        timer = threading.Timer(seconds or 0, lambda: (late.set(), rt.terminate()))
         try:
-            tell(0)
+            if seconds is not None:
+                timer.start()
             for line in rt.stdout:
                 lines.append(line)
-                done += bool(IS_DONE.match(line))
-                refused, last = IS_REFUSED.match(line), FAILED.match(line)
+                progress.hear(line)
+                last = FAILED.match(line)
                 failed = re.findall(r"\S+(?: \(\w+\))?", last[1]) if last else failed
-                if refused and stops_early:
-                    failed = [refused[1]]
+                if progress.refused and stops_early:
+                    failed = progress.refused[:1]
                     break
-                tell(done)
             if failed and stops_early:
                 rt.terminate()
             # (a pipe that is full would hold up its end)
@@ -91,7 +117,9 @@ def run_gate(copy, tell, stops_early=False):
         except BaseException:
             rt.terminate()
             raise
-    return rt.returncode, lines, failed
+        finally:
+            timer.cancel()
+    return None if late.is_set() else rt.returncode, lines, failed
 
 
 def keep_lines(lines):

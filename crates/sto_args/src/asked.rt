@@ -13,14 +13,14 @@ use std::alloc::Global;
 use sto_part::NoMemory;
 
 /// What the checker of reports is asked: whether a report is lawful for a script and so many tries of each transaction.
-#[derive(Clone, Copy, PartialEq, Eq, Debug)]
+#[derive(Clone, Copy, PartialEq, Eq)]
 pub struct Checking {
     pub tries: u32,
 }
 
 /// What the feed is asked: to run a script on so many threads, with so many tries of each transaction. Where no number of
 /// threads is given, the script says it.
-#[derive(Clone, Copy, PartialEq, Eq, Debug)]
+#[derive(Clone, Copy, PartialEq, Eq)]
 pub struct Feeding {
     pub threads: Option<u32>,
     pub tries: u32,

@@ -15,7 +15,7 @@ use std::alloc::Global;
 use sto_part::NoMemory;
 
 /// What the program is asked to do.
-#[derive(Clone, Copy, PartialEq, Eq, Debug)]
+#[derive(Clone, Copy, PartialEq, Eq)]
 pub enum Command {
     /// Reads a script and runs it, on so many threads, with so many tries of each transaction, and
     /// prints its report, as JSON or as text. Where no number of threads is given, the script says it.

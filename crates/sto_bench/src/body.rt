@@ -15,7 +15,7 @@ use sto_part::{Test, compare};
 use sto_script::taken;
 
 /// How far a transaction is.
-#[derive(Clone, Copy, PartialEq, Eq, Debug)]
+#[derive(Clone, Copy, PartialEq, Eq)]
 pub(crate) enum TransferStage {
     /// The balance is asked for.
     Balance,

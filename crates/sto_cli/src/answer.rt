@@ -7,6 +7,7 @@ ghost use Rattle.sto_cli_common.specs.Ends.{IsFileRefusal};
 ghost use Rattle.sto_cli.specs.Outputs.{IsOutput};
 
 use std::alloc::Global;
+use std::mem;
 use std::thread::Threads;
 use sto_bench::run_generated;
 use sto_cli_common::{Refusal, file_in, leave, workers_for};

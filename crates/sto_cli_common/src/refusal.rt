@@ -7,7 +7,7 @@ use std::alloc::AllocError;
 use sto_lang::ScriptFault;
 
 /// How many schedules a script has with at most no, one and two switches; `None` where they are more than 1,000,000.
-#[derive(Clone, Copy, PartialEq, Eq, Debug)]
+#[derive(Clone, Copy, PartialEq, Eq)]
 pub struct ScheduleCounts {
     pub none: Option<u64>,
     pub one: Option<u64>,
@@ -15,7 +15,7 @@ pub struct ScheduleCounts {
 }
 
 /// What is wrong with the bytes that were read.
-#[derive(Clone, Copy, PartialEq, Eq, Debug)]
+#[derive(Clone, Copy, PartialEq, Eq)]
 pub enum InputFault {
     /// They are too many, or no script stands where one must.
     Script(ScriptFault),
@@ -30,7 +30,7 @@ pub enum InputFault {
 }
 
 /// Why a call of a program was refused.
-#[derive(Clone, Copy, PartialEq, Eq, Debug)]
+#[derive(Clone, Copy, PartialEq, Eq)]
 pub enum Refusal {
     /// The words are not in the grammar.
     Usage,

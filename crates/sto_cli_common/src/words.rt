@@ -12,7 +12,7 @@ use std::io::ErrorKind;
 use sto_io::Sink;
 
 /// Why the words of a call cannot be read.
-#[derive(Clone, Copy, PartialEq, Eq, Debug)]
+#[derive(Clone, Copy, PartialEq, Eq)]
 pub enum WordsFault {
     /// A word is not UTF-8.
     NotText,

@@ -6,7 +6,7 @@ ghost use Rattle.std.specs.Prelude.{◌≡◌, ◌<◌, ◌≤◌, ℕ, List, Op
 ghost use Rattle.sto_io.specs.Told.{Takes, Gains, AtEnd, Rose};
 
 /// A call that was not done: it has taken nothing, and the count of faults rose.
-#[derive(Clone, Copy, PartialEq, Eq, Debug)]
+#[derive(Clone, Copy, PartialEq, Eq)]
 pub struct Failed;
 
 /// Bytes that are read piece by piece.

@@ -8,7 +8,7 @@ use std::alloc::Global;
 use sto_part::Bytes;
 
 /// Why an input was not read: the source failed, or memory could not be had.
-#[derive(Clone, Copy, PartialEq, Eq, Debug)]
+#[derive(Clone, Copy, PartialEq, Eq)]
 pub enum ReadAllError {
     Fault,
     NoMemory,

@@ -10,7 +10,7 @@ use crate::word::{first_piece, number};
 use sto_lang::Thread;
 
 /// A transaction: the number of its thread, from 0, and its position, from 1.
-#[derive(Clone, Copy, PartialEq, Eq, Debug)]
+#[derive(Clone, Copy, PartialEq, Eq)]
 pub struct TransactionPlace {
     pub thread: u32,
     pub position: u32,

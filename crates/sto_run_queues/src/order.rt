@@ -9,7 +9,7 @@ use sto_part::{Naming, NoMemory};
 use sto_run_threads::Work;
 
 /// A transaction, by the number of its thread, from 0, and its position in the thread, from 1.
-#[derive(Clone, Copy, PartialEq, Eq, Debug)]
+#[derive(Clone, Copy, PartialEq, Eq)]
 pub struct TransactionPlace {
     pub thread: u32,
     pub position: u32,

@@ -1,0 +1,99 @@
+//! A bank: two tellers move money, and two auditors look at the same time whether all of it is there.
+#![tactic(auto)]
+
+ghost use Rattle.std.specs.Prelude.{IfOk};
+ghost use Rattle.sto_example_bank.specs.Accounts.{withdraw, deposit, transfer, IsDay};
+ghost use Rattle.sto_code.specs.Progs.{Follows};
+
+use std::alloc::Global;
+use std::thread::Threads;
+use sto_library::{
+    BoxId, Code, Done, Held, Schema, Snapshot, State, Stop, StoreError, Times, Tx, Unrun,
+    wrapping_difference, wrapping_sum,
+};
+
+/// Takes an amount from an account, where it is there; it gives what was there.
+fn withdraw(tx: &mut Tx<'_>, from: BoxId, amount: i64) -> Result<i64, Stop>
+    ensures { Follows (withdraw from amount) tx.old tx.new result }
+{
+    let x = from.get(tx)?;
+    if x < amount {
+        return tx.cancel();
+    }
+    from.set(tx, wrapping_difference(x, amount))?;
+    Ok(x)
+}
+
+/// Adds an amount to an account.
+fn deposit(tx: &mut Tx<'_>, to: BoxId, amount: i64) -> Result<(), Stop>
+    ensures { Follows (deposit to amount) tx.old tx.new result }
+{
+    let y = to.get(tx)?;
+    to.set(tx, wrapping_sum(y, amount))
+}
+
+/// Takes an amount from one account, where it is there, and adds it to another. It gives what was there.
+#[derive(Clone, Copy)]
+struct Transfer {
+    from: BoxId,
+    to: BoxId,
+    amount: i64,
+}
+
+impl Code for Transfer {
+    type Out = i64;
+
+    ghost does = { λ t. transfer t.from t.to t.amount };
+
+    ghost most = { λ _. 4 };
+
+    fn most(&self) -> u32 {
+        4
+    }
+
+    #[tactic(auto, using(sto_code::proofs::Following::then_follows, sto_code::proofs::Following::stop_follows))]
+    fn run(&self, tx: &mut Tx<'_>) -> Result<i64, Stop> {
+        let x = withdraw(tx, self.from, self.amount)?;
+        deposit(tx, self.to, self.amount)?;
+        Ok(x)
+    }
+}
+
+/// What an audit led to: what all accounts have at one time.
+pub type Audited = Result<Done<Held<3, 0>>, Unrun>;
+
+/// What both auditors' last audits led to, and the rows at the end.
+pub type Day = (Audited, Audited, State);
+
+/// A day of the bank on so many threads, with three accounts of 100 each. Each audit sees 300, and 300 is there at the end.
+pub fn run_bank<R: Threads + Sync>(rt: &R, alloc: Global, threads: u32) -> Result<Day, StoreError>
+    ensures { IfOk result IsDay }
+{
+    let mut schema = Schema::new(alloc);
+    let a = schema.boxed(100)?;
+    let b = schema.boxed(100)?;
+    let c = schema.boxed(100)?;
+    let mut store = schema.open(alloc, 4)?;
+    let one = Transfer {
+        from: a,
+        to: b,
+        amount: 3,
+    };
+    let two = Transfer {
+        from: b,
+        to: c,
+        amount: 2,
+    };
+    let audit = Snapshot {
+        boxes: [a, b, c],
+        counters: [],
+    };
+    let (one, two, audit) = (Times(20, one), Times(20, two), Times(20, audit));
+    let (_, _, first, other) = store.run_four(rt, alloc, threads, &one, &two, &audit, &audit)?;
+    Ok((first, other, store.close(alloc)?))
+}
+
+/// What three accounts have together.
+pub fn together(accounts: &[i64; 3]) -> i64 {
+    wrapping_sum(wrapping_sum(accounts[0], accounts[1]), accounts[2])
+}

@@ -1,0 +1,94 @@
+//! An inventory: two sellers sell from one stock, never what is not there, and two clerks count at the same time.
+#![tactic(auto)]
+
+ghost use Rattle.std.specs.Prelude.{pos, IfOk};
+ghost use Rattle.sto_example_inventory.specs.Stock.{sale, count, IsDay};
+
+use std::alloc::Global;
+use std::thread::Threads;
+use sto_library::{
+    Code, CounterId, Done, HashId, Schema, State, Stop, StoreError, Times, Tx, Unrun, wrapping_sum,
+};
+
+/// Takes pieces from the stock, where they are there, and notes them for a customer. It gives what that one has bought so far.
+#[derive(Clone, Copy)]
+struct Sale {
+    stock: CounterId,
+    book: HashId,
+    customer: i64,
+    pieces: i64,
+}
+
+impl Code for Sale {
+    type Out = i64;
+
+    ghost does = { λ s. sale s.stock s.book s.customer s.pieces };
+
+    ghost most = { λ _. 3 };
+
+    fn most(&self) -> u32 {
+        3
+    }
+
+    fn run(&self, tx: &mut Tx<'_>) -> Result<i64, Stop> {
+        if !self.stock.take(tx, self.pieces)? {
+            return tx.cancel();
+        }
+        let line = self.book.get(tx, self.customer)?;
+        let bought = wrapping_sum(line.unwrap_or(0), self.pieces);
+        if !self.book.put(tx, self.customer, bought)? {
+            return tx.cancel();
+        }
+        Ok(bought)
+    }
+}
+
+/// Gives what is in stock, and what both customers have bought.
+#[derive(Clone, Copy)]
+struct Count {
+    stock: CounterId,
+    book: HashId,
+}
+
+impl Code for Count {
+    type Out = (i64, i64);
+
+    ghost does = { λ c. count c.stock c.book (pos 1) (pos 2) };
+
+    ghost most = { λ _. 3 };
+
+    fn most(&self) -> u32 {
+        3
+    }
+
+    fn run(&self, tx: &mut Tx<'_>) -> Result<(i64, i64), Stop> {
+        let left = self.stock.get(tx)?;
+        let x = self.book.get(tx, 1)?;
+        let y = self.book.get(tx, 2)?;
+        Ok((left, wrapping_sum(x.unwrap_or(0), y.unwrap_or(0))))
+    }
+}
+
+/// What a clerk counted last, and what all objects hold at the end.
+pub type Day = (Result<Done<(i64, i64)>, Unrun>, State);
+
+/// A day of the shop on so many threads, with 50 pieces in stock: two sellers want 60 each, 3 at a time. The stock is never below zero.
+pub fn run_sales<R: Threads + Sync>(rt: &R, alloc: Global, threads: u32) -> Result<Day, StoreError>
+    ensures { IfOk result IsDay }
+{
+    let mut schema = Schema::new(alloc);
+    let stock = schema.counter(50)?;
+    let book = schema.hash(4, 2)?;
+    let mut store = schema.open(alloc, 4)?;
+    let one = Sale {
+        stock,
+        book,
+        customer: 1,
+        pieces: 3,
+    };
+    let two = Sale { customer: 2, ..one };
+    let clerk = Times(20, Count { stock, book });
+    let (one, two) = (Times(20, one), Times(20, two));
+    let (_, _, count, _) = store.run_four(rt, alloc, threads, &one, &two, &clerk, &clerk)?;
+    Ok((count, store.close(alloc)?))
+}

@@ -1,0 +1,14 @@
+pub mod Counts
+pub mod Mapped
+pub mod Widths
+pub mod Finding
+pub mod Placing
+pub mod Removing
+pub mod Adding
+pub mod Putting
+pub mod PutFacts
+pub mod MappedLaw
+pub mod Looked
+pub mod Opening
+pub mod Roomed
+pub mod Sized

@@ -1,0 +1,70 @@
+-- What one attempt of code leads to that is run over a transaction whose calls come one by one.
+use Rattle.std.specs.Prelude.{◌≡◌, ◌≤◌, ◌+◌, ◌^◌, ℕ, Bool, true, false, List, [], map, Option, Some, None, Result, Ok, Err, IfOk, IsSome}
+use Rattle.sto_part.specs.declared.NoMemory.{NoMemory}
+use Rattle.sto_model.specs.declared.call.Call.{Call}
+use Rattle.sto_model.specs.declared.shape.Shape.{Shape}
+use Rattle.sto_model.specs.Told.{Told}
+use Rattle.sto_type.specs.Meaning.{Meaning}
+use Rattle.sto_type.specs.Traits.{OfType}
+use Rattle.sto_core.specs.declared.cells.Cells as cells
+use Rattle.sto_core.specs.declared.view.View.{View}
+use Rattle.sto_attempt_facts.specs.Added.{Grows}
+use Rattle.sto_transaction.specs.Resting.{IsAtRest}
+use Rattle.sto_live.specs.Lives.{IsLive}
+use Rattle.sto_live.specs.declared.live.Live.{Live}
+use Rattle.sto_live.specs.declared.live.Stopped.{Stopped}
+use Rattle.sto_live.specs.declared.live.Stopped.TheVariants as stops
+use Rattle.sto_code.specs.Shortened.{short_of}
+use Rattle.sto_code.specs.Progs.{Prog, IsTakenCall, is_taken, IsGiven, IsCancelled, IsAsked}
+use Rattle.sto_code.specs.declared.short_reply.ShortReply.{ShortReply}
+use Rattle.sto_atomically.specs.Atomic.{IsAtomic, HaveAborted, TakesNoEffect}
+use Rattle.sto_once.specs.declared.code.Halt.{Halt}
+use Rattle.sto_once.specs.declared.code.Halt.TheVariants as halts
+use Rattle.sto_once.specs.Once.{Heard, Gave, GaveUp, Wants}
+use Rattle.sto_once.specs.Agreeing.{paired, AllTaken}
+use Rattle.sto_once.specs.Over.{OverKey, StandsBy}
+
+-- it met an abort
+abbrev pub is_aborted : Stopped → Bool
+is_aborted (stops.Aborted x) = true
+is_aborted _ = false
+
+abbrev pub key_of : {T C : Type 0} → T → View → C → List Shape → OverKey T C
+key_of ty begun start shapes = record { ty = ty; begun = begun; start = start; shapes = shapes }
+
+-- a transaction that has asked nothing, on a type that takes what objects of these shapes take
+abbrev pub MayRun : {T C : Type 0} → OfType T → OverKey T C → Live T → View → Type 0
+MayRun t k l v = IsLive t k.ty [] [] l k.begun v × ((call : Call) → IsTakenCall k.shapes call → (t.meaning k.ty).takes call)
+
+-- it waits, and its calls, so answered, are such
+abbrev pub WaitsSo : {T C : Type 0} → OfType T → OverKey T C → (List Heard → Type 0) → Live T → View → Type 0
+WaitsSo t k P l v = (calls : List Call) × (rs : List Told) × IsLive t k.ty calls rs l k.begun v × AllTaken k.shapes calls × P (paired calls (map short_of rs))
+
+module _ {T C : Type 0} (t : OfType T) (c : cells.Ghosts C T) where
+  -- how it stands after code that does p
+  abbrev pub After : {A : Type 0} → OverKey T C → Prog A → Option Stopped → Result A Halt → Live T → View → Type 0
+  After k p (Some stop) said l v = StandsBy t c k (Some stop) l v
+  After k p None (Ok a) l v = WaitsSo t k (λ hs. Gave p hs a) l v
+  After k p None (Err halts.Over) l v = ⊥
+  After k p None (Err (halts.Untaken call)) l v = WaitsSo t k (λ hs. Wants p hs call) l v × (is_taken k.shapes call ≡ false)
+  After k p None (Err halts.Cancels) l v = WaitsSo t k (GaveUp p) l v
+
+-- the code, run alone, hears these replies and then says this, however many calls it may ask from 2^32 on
+abbrev pub IsAtomicOnce : {A : Type 0} → Meaning → (v w : View) → List Shape → Prog A → (List ShortReply → Type 0) → Type 0
+IsAtomicOnce m v w shapes p says = (most : ℕ) → 2 ^ 32 ≤ most → IsAtomic m v w shapes most p says
+
+abbrev pub Says : {A : Type 0} → Meaning → (v w : View) → List Shape → Prog A → Result (Option (Result A Halt)) NoMemory → Type 0
+Says m v w shapes p (Ok (Some (Ok a))) = IsAtomicOnce m v w shapes p (λ hs. IsGiven p hs a)
+Says m v w shapes p (Ok (Some (Err halts.Cancels))) = IsAtomicOnce m v w shapes p (λ hs. IsCancelled p hs)
+Says m v w shapes p (Ok (Some (Err (halts.Untaken call)))) = IsAtomicOnce m v w shapes p (λ hs. IsAsked p hs call)
+Says m v w shapes p (Ok (Some (Err halts.Over))) = ⊥
+Says m v w shapes p (Ok None) = HaveAborted v w 1
+Says m v w shapes p (Err error) = TakesNoEffect v w
+
+-- what one attempt led to, from the view v to the view w
+pub record HasTriedOnce {A : Type 0} (m : Meaning) (sizes : List ℕ) (passes : ℕ) (v w : View) (shapes : List Shape) (p : Prog A) (result : Result (Option (Result A Halt)) NoMemory) : Type 0 where
+  pub rests : IsAtRest m sizes w
+  pub draws : v.draws ≤ w.draws + 1
+  pub grows : Grows v w
+  pub says : Says m v w shapes p result
+  pub alone : passes ≡ 1 → IfOk result IsSome

@@ -1,0 +1,173 @@
+//! One attempt of code, which is run once.
+ghost use Rattle.std.specs.Prelude.{◌≡◌, ◌<◌, ℕ, None, Ok, Err};
+ghost use Rattle.sto_model.specs.declared.call.Call.{Call};
+ghost use Rattle.sto_attempt_facts.specs.Records.{is_abort};
+ghost use Rattle.sto_core.specs.declared.view.View.{View};
+ghost use Rattle.sto_transaction.specs.Plain.{verdict};
+ghost use Rattle.sto_transaction.specs.Resting.{IsAtRest};
+ghost use Rattle.sto_code.specs.Progs.{IsTakenCall, Prog};
+ghost use Rattle.sto_once.specs.Over.{OverKey};
+ghost use Rattle.sto_once.specs.Attempts.{After, HasTriedOnce, MayRun, is_aborted, key_of};
+
+use crate::code::{Code, Halt};
+use crate::over::OverLive;
+use std::alloc::Global;
+use sto_attempt::Verdict;
+use sto_core::Cells;
+use sto_live::{Live, LiveMemory, Stopped};
+use sto_model::Shapes;
+use sto_part::NoMemory;
+use sto_type::TxType;
+
+/// Makes one attempt of code, which may draw one ticket. It answers what the code said at its end, or none where it was aborted. The
+/// pass is handed back.
+pub(crate) fn attempt<T: TxType, K: Code, C: Cells<T>>(
+    alloc: Global,
+    ty: &T,
+    shapes: &Shapes,
+    cells: C,
+    memory: &mut LiveMemory,
+    code: &K,
+) -> (C, Result<Option<Result<K::Out, Halt>>, NoMemory>)
+where
+    K::Out: Drop,
+    requires takes { (call : Call) → IsTakenCall shapes.now.items call → (T.meaning ty.now).takes call }
+    requires rests { IsAtRest (T.meaning ty.now) (T.sizes ty.now) (C.view cells) }
+    requires draws { 0 < (C.view cells).draws }
+    ensures tried { HasTriedOnce (T.meaning ty.now) (T.sizes ty.now) (C.passes cells) (C.view cells) (C.view result.0)
+        shapes.now.items (K.does code.now) result.1 }
+    ensures same { C.same cells result.0 }
+{
+    let mut cells = cells;
+    let live = match Live::begin(alloc, ty, &mut cells, memory) {
+        Ok(live) => live,
+        Err(NoMemory) => return (cells, Err(NoMemory)),
+    };
+    let (live, cells, stopped, said) = run_over(alloc, live, shapes, cells, code);
+    let mut cells = cells;
+    let said = end(alloc, live, &mut cells, memory, stopped, said);
+    (cells, said)
+}
+
+// Runs code over a transaction that has asked nothing.
+fn run_over<'t, T: TxType, K: Code, C: Cells<T>>(
+    alloc: Global,
+    live: Live<'t, T>,
+    shapes: &Shapes,
+    cells: C,
+    code: &K,
+) -> (Live<'t, T>, C, Option<Stopped>, Result<K::Out, Halt>)
+    requires { (ty : T) × (begun : View) × MayRun T.TxType (key_of ty begun cells shapes.now.items) live (C.view cells) }
+    ensures ran { (ty : T) (begun : View) → MayRun T.TxType (key_of ty begun cells shapes.now.items) live.entry (C.view cells)
+        → After T.TxType C.Cells (key_of ty begun cells shapes.now.items) (K.does code.now) result.2 result.3 result.0 (C.view result.1) }
+    ensures same { C.same cells result.1 }
+{
+    let mut over = OverLive {
+        live,
+        cells,
+        alloc,
+        shapes,
+        stopped: None,
+    };
+    let said = code.run(&mut over);
+    let OverLive {
+        live,
+        cells,
+        alloc: _alloc,
+        shapes: _shapes,
+        stopped,
+    } = over;
+    (live, cells, stopped, said)
+}
+
+// Ends a transaction by what its code said.
+fn end<T: TxType, C: Cells<T>, A: Drop>(
+    alloc: Global,
+    live: Live<'_, T>,
+    cells: &mut C,
+    memory: &mut LiveMemory,
+    stopped: Option<Stopped>,
+    said: Result<A, Halt>,
+) -> Result<Option<Result<A, Halt>>, NoMemory>
+    requires { (k : OverKey T C) × (p : Prog A) × After T.TxType C.Cells k p stopped said live (C.view cells.old) × C.same k.start cells.old }
+    ensures tried { (k : OverKey T C) (p : Prog A) → After T.TxType C.Cells k p stopped said live.entry (C.view cells.old)
+        → C.same k.start cells.old
+        → HasTriedOnce (T.meaning k.ty) (T.sizes k.ty) (C.passes k.start) k.begun (C.view cells.new) k.shapes p result }
+    ensures same { C.same cells.old cells.new }
+{
+    match stopped {
+        Some(stop) => {
+            *memory = live.into_memory();
+            if is_aborted(stop) {
+                Ok(None)
+            } else {
+                Err(NoMemory)
+            }
+        }
+        None => match said {
+            Ok(value) => commit(alloc, live, cells, memory, value),
+            Err(halt) => cancel::<T, C, A>(alloc, live, memory, halt),
+        },
+    }
+}
+
+// Commits a transaction whose code gave a value.
+fn commit<T: TxType, C: Cells<T>, A: Drop>(
+    alloc: Global,
+    live: Live<'_, T>,
+    cells: &mut C,
+    memory: &mut LiveMemory,
+    value: A,
+) -> Result<Option<Result<A, Halt>>, NoMemory>
+    requires { (k : OverKey T C) × (p : Prog A) × After T.TxType C.Cells k p None (Ok value) live (C.view cells.old) }
+    ensures tried { (k : OverKey T C) (p : Prog A) → After T.TxType C.Cells k p None (Ok value) live.entry (C.view cells.old)
+        → HasTriedOnce (T.meaning k.ty) (T.sizes k.ty) (C.passes cells.old) k.begun (C.view cells.new) k.shapes p result }
+    ensures same { C.same cells.old cells.new }
+{
+    match live.commit(alloc, cells, memory) {
+        Ok(ended) => {
+            let aborted = is_abort(ended.verdict);
+            memory.keep(ended);
+            if aborted {
+                Ok(None)
+            } else {
+                Ok(Some(Ok(value)))
+            }
+        }
+        Err(NoMemory) => Err(NoMemory),
+    }
+}
+
+// Gives up a transaction whose code gave it up, or asked what is not taken.
+fn cancel<T: TxType, C: Cells<T>, A: Drop>(
+    alloc: Global,
+    live: Live<'_, T>,
+    memory: &mut LiveMemory,
+    halt: Halt,
+) -> Result<Option<Result<A, Halt>>, NoMemory>
+    requires { (k : OverKey T C) × (p : Prog A) × (v : View) × After T.TxType C.Cells k p None (Err halt) live v }
+    ensures { (k : OverKey T C) (p : Prog A) (v : View) (passes : ℕ) → After T.TxType C.Cells k p None (Err halt) live.entry v
+        → HasTriedOnce (T.meaning k.ty) (T.sizes k.ty) passes k.begun v k.shapes p result }
+{
+    match live.cancel(alloc, memory) {
+        Ok(ended) => {
+            memory.keep(ended);
+            Ok(Some(Err(halt)))
+        }
+        Err(NoMemory) => Err(NoMemory),
+    }
+}
+
+// Whether it met an abort.
+fn is_aborted(stop: Stopped) -> bool
+    ensures { result ≡ is_aborted stop }
+{
+    matches!(stop, Stopped::Aborted(_))
+}
+
+// Whether the attempt was aborted.
+fn is_abort(end: Verdict) -> bool
+    ensures { result ≡ is_abort (verdict end) }
+{
+    matches!(end, Verdict::Locked { .. } | Verdict::Changed { .. })
+}

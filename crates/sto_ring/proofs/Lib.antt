@@ -1,0 +1,3 @@
+pub mod AtEnds
+pub mod Among
+pub mod Refutations

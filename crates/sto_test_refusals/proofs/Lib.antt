@@ -1,0 +1,5 @@
+pub mod Lists
+pub mod Unlawful
+pub mod Lines
+pub mod Unrun
+pub mod Closings

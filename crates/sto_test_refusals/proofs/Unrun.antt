@@ -1,0 +1,69 @@
+-- What a worker and a store do not answer.
+use Rattle.std.proofs.Common.{◌≡◌, ℕ, zero, suc, pos, List, [], ◌∷◌, ◌++◌, map, length, false, Ok, Err, refl, sym, ap, ◌∙◌, arith}
+use Rattle.sto_model.specs.Told.{Told}
+use Rattle.sto_model.specs.Run.{IsRun}
+use Rattle.sto_type.specs.Traits.{OfType}
+use Rattle.sto_core.specs.declared.view.View.{View}
+use Rattle.sto_core.proofs.Lists.{each_one}
+use Rattle.sto_attempt_facts.specs.Records.{Verdict, Wrote, Read, Cancelled as CancelledAt, Locked, Changed, is_abort}
+use Rattle.sto_attempt_facts.specs.Told.{IsTold}
+use Rattle.sto_code.specs.Shortened.{short_of}
+use Rattle.sto_code.specs.declared.short_reply.ShortReply.{ShortReply}
+use Rattle.sto_code.specs.declared.short_reply.ShortReply.TheVariants as H
+use Rattle.sto_code.specs.Progs.{Prog, Asks, Gives, Cancels, IsGiven, IsCancelled}
+use Rattle.sto_atomically.specs.Atomic.{steps_of, HasLed}
+use Rattle.sto_atomically.specs.declared.outcome.Done.TheVariants.{Gave}
+use Rattle.sto_atomically.specs.declared.outcome.Unrun.TheVariants.{Busy}
+use Rattle.sto_library.specs.Values.{Stored}
+use Rattle.sto_library.specs.Looks.{HasLooked}
+use Rattle.sto_library.specs.declared.store.LookError.TheVariants as unlooked
+use Rattle.sto_test_premises.specs.Adding.{box}
+use Rattle.sto_test_premises.proofs.Adding.{box_opened}
+use Rattle.sto_test_refusals.specs.Runs.{AlwaysGives, gets, shapes, unused, has_read, opening_rows}
+use Rattle.sto_test_refusals.proofs.Lists.{none_behind, last_same}
+
+-- Code that always gives does not cancel
+
+pub gives_no_cancel : {A : Type 0} (p : Prog A) (hs : List ShortReply) → AlwaysGives p → IsCancelled p hs → ⊥
+gives_no_cancel (Asks call k) [] gives cancelled = cancelled
+gives_no_cancel (Asks call k) (h ∷ hs) gives cancelled = gives_no_cancel (k h) hs (gives h) cancelled
+gives_no_cancel (Gives value) hs gives cancelled = cancelled
+gives_no_cancel Cancels hs gives cancelled = gives
+
+-- A get of a box that holds 0 does not give 1
+
+-- what it is answered is 0
+run_hears : (most : ℕ) (r : Told) (rs : List Told) → IsRun box.machines (steps_of shapes most gets) opening_rows (r ∷ rs) → H.Value (pos 1) ≡ short_of r → ⊥
+run_hears zero r rs run given = run.0
+run_hears (suc most) r rs run given =
+    let one : H.Value (pos 1) ≡ H.Value (pos 0) = given ∙ ap short_of (sym run.0) in absurd cc
+
+heard_by : (most : ℕ) (verdict : Verdict) (r : Told) (rs : List Told) → is_abort verdict ≡ false → IsTold box has_read (steps_of shapes most gets) (r ∷ rs) verdict
+    → H.Value (pos 1) ≡ short_of r → ⊥
+heard_by most (Wrote ticket) r rs ended told given = absurd cc
+heard_by most (Read n) r rs ended told given = run_hears most r rs (told.runs box.opened box_opened (each_one _ _ (λ same. refl))).run given
+heard_by most (CancelledAt n) r rs ended told given = run_hears most r rs (told.runs box.opened box_opened (each_one _ _ (λ same. refl))) given
+heard_by most (Locked n part) r rs ended told given = absurd cc
+heard_by most (Changed n part ticket) r rs ended told given = absurd cc
+
+given_by : (most : ℕ) (verdict : Verdict) (replies : List Told) → is_abort verdict ≡ false → IsTold box has_read (steps_of shapes most gets) replies verdict
+    → IsGiven gets (map short_of replies) (H.Value (pos 1)) → ⊥
+given_by most verdict [] ended told given = given
+given_by most verdict (r ∷ rs) ended told given = heard_by most verdict r rs ended told given
+
+pub get_not_1 : (tries left most : ℕ) → HasLed box unused has_read tries left shapes most gets (Ok (Gave (H.Value (pos 1)))) → ⊥
+get_not_1 tries left most led = given_by most led.verdict led.replies led.ended led.told led.said
+
+-- A look of which nothing was begun is not refused as busy
+
+pub look_not_busy : {T A : Type 0} (t : OfType T) (old new : Stored T) (most : ℕ) (p : Prog A) → HasLooked t old new most p (Err (unlooked.Unrun Busy)) → new.views ≡ old.views → ⊥
+look_not_busy t old new most p looked same =
+    let one : looked.from ≡ looked.to = last_same looked.others looked.from looked.to (sym looked.were ∙ sym same ∙ looked.are) in
+    let from = looked.done.from in let to = looked.done.to in
+    let many = looked.done.gave.1.starts in
+    let alike = ap (λ (v : View). v.starts) (looked.done.to ∙ sym one ∙ sym looked.done.from) in
+    omega (arith, many, alike)
+
+pub look_not_done : (views others : List View) (v : View) → views ≡ others ++ v ∷ [] → views ≡ [] → ⊥
+look_not_done views others v were none =
+    let rest : [] ≡ v ∷ [] = none_behind others (v ∷ []) (sym none ∙ were) in let n : 0 ≡ 1 = ap length rest in omega (arith, n)

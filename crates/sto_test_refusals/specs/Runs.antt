@@ -1,0 +1,51 @@
+-- What `run` of a worker says, code that is asked of it, and one transaction that adds 1 to a box which holds 0.
+use Rattle.std.specs.Prelude.{◌^◌, ℕ, pos, List, [], ◌∷◌, Result}
+use Rattle.sto_model.specs.declared.shape.Shape.{Shape}
+use Rattle.sto_model.specs.declared.shape.Shape.TheVariants.{Single}
+use Rattle.sto_model.specs.Run.{State}
+use Rattle.sto_model.specs.Machine.{opening_of}
+use Rattle.sto_type.specs.Traits.{OfType}
+use Rattle.sto_core.specs.Opened.{opened_core, opened_view}
+use Rattle.sto_core.specs.declared.view.View.{View}
+use Rattle.sto_code.specs.declared.short_reply.ShortReply.{ShortReply}
+use Rattle.sto_code.specs.Progs.{Prog, Asks, Gives, Cancels}
+use Rattle.sto_atomically.specs.declared.outcome.Done.{Done}
+use Rattle.sto_atomically.specs.declared.outcome.Unrun.{Unrun}
+use Rattle.sto_atomically.specs.Atomic.{HasLed}
+use Rattle.sto_library.specs.Values.{Working}
+use Rattle.sto_test_premises.specs.Turns.{view_at, after_turns}
+use Rattle.sto_test_premises.specs.Adding.{box, reads, adds, by}
+
+-- the clause `led` of `run`, of a worker before and after it
+abbrev pub HasRun : {T A : Type 0} → OfType T → (before after : Working T) → (most : ℕ) → Prog A → Result (Done A) Unrun → Type 0
+HasRun t before after most p result =
+    HasLed (t.meaning before.words.ty) before.seat.me.0.view after.seat.me.0.view (2 ^ 16) after.left before.shapes most p result
+
+-- whatever it hears, the code gives a value in the end
+abbrev pub AlwaysGives : {A : Type 0} → Prog A → Type 0
+AlwaysGives (Asks call k) = (h : ShortReply) → AlwaysGives (k h)
+AlwaysGives (Gives value) = Unit {0}
+AlwaysGives Cancels = ⊥
+
+-- code that gives what a get of the first object answers
+abbrev pub gets : Prog ShortReply
+gets = Asks (record { object = 0; code = 0; a = pos 0; b = pos 0 }) (λ h. Gives h)
+
+-- a store of one box
+abbrev pub shapes : List Shape
+shapes = Single (pos 0) ∷ []
+
+-- the view of a worker that has done nothing, and after it has read the box
+abbrev pub unused : View
+unused = opened_view [] box.opened 0
+
+abbrev pub has_read : View
+has_read = view_at (after_turns (by 0 reads) (opened_core [] box.opened 1)) 0
+
+-- and after it has added 1 to the box
+abbrev pub has_added : View
+has_added = view_at (after_turns (by 0 (adds (pos 1))) (opened_core [] box.opened 1)) 0
+
+-- the rows of the box as it was opened
+abbrev pub opening_rows : State
+opening_rows = opening_of box.machines

@@ -1,0 +1,57 @@
+//! What a worker of the library and a store do not answer.
+ghost use Rattle.std.specs.Prelude.{◌≡◌, ℕ, pos, List, [], ◌∷◌, length, Ok, Err};
+ghost use Rattle.sto_serial_history.specs.Done.{HaveHistory};
+ghost use Rattle.sto_code.specs.Progs.{Prog};
+ghost use Rattle.sto_code.specs.declared.short_reply.ShortReply.TheVariants.{Value};
+ghost use Rattle.sto_atomically.specs.Atomic.{HasLed};
+ghost use Rattle.sto_atomically.specs.declared.outcome.Done.{Done};
+ghost use Rattle.sto_atomically.specs.declared.outcome.Done.TheVariants.{Gave, Cancelled};
+ghost use Rattle.sto_atomically.specs.declared.outcome.Unrun.{Unrun};
+ghost use Rattle.sto_atomically.specs.declared.outcome.Unrun.TheVariants.{Busy, Worn};
+ghost use Rattle.sto_open.specs.Working.{AreRowsAfter};
+ghost use Rattle.sto_library.specs.declared.store.CloseError.TheVariants.{Missing};
+ghost use Rattle.sto_library.specs.declared.store.LookError.TheVariants as unlooked;
+ghost use Rattle.sto_library.specs.Values.{Stored, Working};
+ghost use Rattle.sto_library.specs.Closings.{ComesBack};
+ghost use Rattle.sto_library.specs.Looks.{HasLooked};
+ghost use Rattle.sto_test_premises.specs.Adding.{box, valid};
+ghost use Rattle.sto_test_refusals.specs.Runs.{HasRun, AlwaysGives, gets, shapes, unused, has_read, has_added, opening_rows};
+
+use sto_library::TxType;
+
+/// What `run` of a worker does not answer.
+pub fn not_run<T: TxType, A>()
+    // `Busy`, where no attempt was begun.
+    ensures busy_after_no_start { (before after : Working T) (most : ℕ) (p : Prog A) → HasRun T.TxType before after most p (Err Busy)
+        → after.seat.me.0.view.starts ≡ before.seat.me.0.view.starts → ⊥ }
+    // `Worn`, with tickets left.
+    ensures worn_with_tickets_left { (before after : Working T) (most : ℕ) (p : Prog A) → HasRun T.TxType before after most p (Err Worn)
+        → (after.left ≡ 0 → ⊥) → ⊥ }
+    // That code cancelled which always gives a value.
+    ensures cancelled { (before after : Working T) (most : ℕ) (p : Prog A) → HasRun T.TxType before after most p (Ok Cancelled) → AlwaysGives p → ⊥ }
+    // 1 as what a get of a box answers that holds 0, where nothing was written.
+    ensures other_value { (tries left most : ℕ) → HasLed box unused has_read tries left shapes most gets (Ok (Gave (Value (pos 1)))) → ⊥ }
+{}
+
+/// What `look` at a store does not answer.
+pub fn not_looked<T: TxType, A>()
+    // That no worker rests, where one does.
+    ensures workers { (old new : Stored T) (most : ℕ) (p : Prog A) → HasLooked T.TxType old new most p (Err unlooked.Workers) → (old.views ≡ [] → ⊥) → ⊥ }
+    // Anything else, where none does.
+    ensures done { (old new : Stored T) (most : ℕ) (p : Prog A) (d : Done A) → HasLooked T.TxType old new most p (Ok d) → old.views ≡ [] → ⊥ }
+    ensures unrun { (old new : Stored T) (most : ℕ) (p : Prog A) (e : Unrun) → HasLooked T.TxType old new most p (Err (unlooked.Unrun e))
+        → old.views ≡ [] → ⊥ }
+    // That others were in the way, where no worker has begun anything.
+    ensures busy_after_no_start { (old new : Stored T) (most : ℕ) (p : Prog A) → HasLooked T.TxType old new most p (Err (unlooked.Unrun Busy))
+        → new.views ≡ old.views → ⊥ }
+{}
+
+/// What `close` of a store does not answer.
+pub fn not_closed<T: TxType>()
+    // The rows that it was opened with, where its worker has committed another value: they are not those after all commits, ...
+    ensures opening_rows { AreRowsAfter valid box (has_added ∷ []) opening_rows → ⊥ }
+    // ... and no serial history of what the worker did ends with them.
+    ensures opening_history { HaveHistory box (has_added ∷ []) opening_rows → ⊥ }
+    // That a worker is missing, where all rest.
+    ensures missing { (s store : Stored T) → ComesBack s (Missing store) → length s.views ≡ s.words.passes → ⊥ }
+{}
