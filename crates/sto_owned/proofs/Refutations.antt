@@ -1,6 +1,5 @@
 -- What is no gathering of workers that came back: one that loses a worker, and one in which a worker has forgotten a commit.
-use Rattle.std.proofs.Common.{◌≡◌, ◌+◌, ℕ, zero, suc, length, length-append, ap, ◌∙◌, subst, arith}
-use Rattle.std.specs.Arc.{arc_value}
+use Rattle.std.proofs.Common.{◌≡◌, ◌+◌, ℕ, length, length-append, ap, arith}
 use Rattle.sto_part.specs.declared.naming.Naming as naming
 use Rattle.sto_type.specs.Traits.{OfType}
 use Rattle.sto_core.specs.declared.view.Entry.{Entry}

@@ -28,14 +28,15 @@ use Rattle.sto_owned.specs.declared.given.Hired.{Hired}
 use Rattle.sto_owned.specs.Back.{HasComeBack}
 use Rattle.sto_owned.specs.Owned.{StandsSince, IsAt}
 
-module _ {T : Type 0} {n : naming.Ghosts T} (t : OfType T) (s : Store T) (v : View) where
+module _ {T : Type 0} (t : OfType T) (s : Store T) (v : View) where
   -- it is a session of the words
   stands : (o : Option PausedLive) (seat : Seat (Unit {0}) Stance) (left : ℕ) → StandsSince t s v o seat left → Stands t s.ty s.shared o seat left
   stands None seat left h = h.0
   stands (Some p) seat left h = (h.0, h.1, h.2, h.3)
 
+module _ {T : Type 0} {n : naming.Ghosts T} (t : OfType T) (s : Store T) (v : View) where
   pub is_session : (x : Session T n) → IsAt t s v (Some x) → IsSessionOf t s.ty s.shared x
-  is_session x h = stands x.live x.rest.seat x.left h
+  is_session x h = stands t s v x.live x.rest.seat x.left h
 
   free_since : (y : Session T n) → IsFree t s.ty s.shared y → Grows v (view_of y) → IsAt t s v (Some y)
   free_since y free grows = subst (λ (o : Option PausedLive). StandsSince t s v o y.rest.seat y.left) (sym free.none) (free.rests, grows)

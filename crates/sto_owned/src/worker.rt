@@ -44,6 +44,19 @@ pub enum StillOut<T: TxType + Drop> {
     Busy(OwnedWorker<T>),
 }
 
+// The worker of a session, and its memory.
+fn idle_of<T: TxType + Drop>(session: Session<T>) -> (IdleWorker<T>, LiveMemory)
+    ensures { (result.0.rest ≡ session.rest) × (result.0.left ≡ session.left) }
+{
+    let Session {
+        rest,
+        left,
+        live: _live,
+        memory,
+    } = session;
+    (IdleWorker { rest, left }, memory)
+}
+
 impl<T: TxType + Drop> OwnedWorker<T> {
     /// A worker that is given out.
     pub(crate) fn new(
@@ -181,13 +194,8 @@ impl<T: TxType + Drop> OwnedWorker<T> {
         let Some(session) = session else {
             unreachable!()
         };
-        let Session {
-            rest,
-            left,
-            memory,
-            ..
-        } = session;
-        match give(&*slot, IdleWorker { rest, left }) {
+        let (worker, memory) = idle_of(session);
+        match give(&*slot, worker) {
             Ok(()) => Ok(()),
             Err(IdleWorker { rest, left }) => Err(StillOut::Busy(OwnedWorker {
                 store,

@@ -1,5 +1,5 @@
 -- The slots that are left, and the room for their workers.
-use Rattle.std.proofs.Common.{◌≡◌, ◌≤◌, ◌<◌, ◌+◌, ◌^◌, ℕ, length}
+use Rattle.std.proofs.Common.{◌≤◌, ◌<◌, ◌+◌, ◌^◌, ℕ, length}
 use Rattle.sto_type.specs.Traits.{of_type}
 use Rattle.sto_owned.specs.Owned.{IsOwnedStore}
 use Rattle.sto_owned.specs.Endings.{HasGathered}
