@@ -1,6 +1,5 @@
 -- A store to which workers came back.
-use Rattle.std.proofs.Common.{◌≡◌, ◌≤◌, ◌+◌, ℕ, length, length-append, refl, ap, arith}
-use Rattle.sto_owned.specs.Endings.{HasGathered}
+use Rattle.std.proofs.Common.{length, length-append, refl, ap, arith}
 use Rattle.sto_owned.proofs.Gathered.{rest_still, same_store}
 use Rattle.sto_c.specs.declared.content.HeldStore.{HeldStore}
 use Rattle.sto_c.specs.Content.{objects}

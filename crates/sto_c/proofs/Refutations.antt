@@ -1,7 +1,7 @@
 -- What the clauses of the library refuse.
 use Rattle.std.specs.Prelude.{if◌then◌else◌, IfSome}
 use Rattle.std.specs.Arc.{arc_value}
-use Rattle.std.proofs.Common.{◌≡◌, ◌≢◌, ◌+◌, ◌<◌, ◌≤◌, ◌⊎◌, ℕ, zero, suc, ℤ, pos, Bool, true, false, true≢false, List, [], ◌∷◌, ◌++◌, length, length-append, map, Option, Some, None, Ok, Err, refl, sym, ap, ◌∙◌, subst, arith, ne_eqb, append-nil, append_assoc, inl, inr}
+use Rattle.std.proofs.Common.{◌≡◌, ◌≢◌, ◌+◌, ◌<◌, ◌≤◌, ℕ, zero, suc, pos, Bool, true, false, true≢false, List, [], ◌∷◌, ◌++◌, length, length-append, map, Option, Some, None, Ok, refl, sym, ap, ◌∙◌, subst, arith, ne_eqb, append-nil, append_assoc, inl, inr}
 use Rattle.sto_model.specs.Machine.{opening_of}
 use Rattle.sto_model.specs.Run.{State, state_along}
 use Rattle.sto_model.specs.declared.shape.Shape.{Shape}

@@ -1,5 +1,5 @@
 -- The rows of a store that was closed are told of the store that was to be closed, to which its workers came back.
-use Rattle.std.proofs.Common.{ℕ, subst}
+use Rattle.std.proofs.Common.{subst}
 use Rattle.sto_objects.specs.declared.objects.Objects.{Objects}
 use Rattle.sto_objects.specs.contracts.objects.ObjectsNaming.TheImpl.{ghosts as naming_ghosts}
 use Rattle.sto_owned.specs.declared.store.OwnedStore.{OwnedStore}
@@ -14,7 +14,7 @@ returns-in-Ok-all_rows-clause-closed c =
       state = c.in-Ok.state.items;
       many = back.0;
       last = c.gather.new.self;
-      gathered = subst (λ (o : OwnedStore Objects naming_ghosts). HasGathered objects back.0 o c.gather.new.self) c.into_parts.ensures.0 back.1;
+      gathered = subst (λ (o : OwnedStore Objects naming_ghosts). HasGathered objects back.0 o c.gather.new.self) c.into_parts-store.ensures.0 back.1;
       own = c.gather.ensures.owned.rest;
       all = c.in-Ok.ensures.all;
       leave = c.in-Ok.ensures.rows;
