@@ -1,7 +1,7 @@
 -- What the clauses of the library refuse.
 use Rattle.std.specs.Prelude.{if◌then◌else◌, IfSome}
 use Rattle.std.specs.Arc.{arc_value}
-use Rattle.std.proofs.Common.{◌≡◌, ◌≢◌, ◌+◌, ◌<◌, ◌≤◌, ℕ, zero, suc, pos, Bool, true, false, true≢false, List, [], ◌∷◌, ◌++◌, length, length-append, map, Option, Some, None, Ok, refl, sym, ap, ◌∙◌, subst, arith, ne_eqb, append-nil, append_assoc, inl, inr}
+use Rattle.std.proofs.Common.{◌≡◌, ◌≢◌, ◌+◌, ◌<◌, ◌≤◌, ℕ, zero, suc, ℤ, pos, Bool, true, false, true≢false, List, [], ◌∷◌, ◌++◌, length, length-append, map, Option, Some, None, Ok, refl, sym, ap, ◌∙◌, subst, arith, ne_eqb, append-nil, append_assoc, inl, inr}
 use Rattle.sto_model.specs.Machine.{opening_of}
 use Rattle.sto_model.specs.Run.{State, state_along}
 use Rattle.sto_model.specs.declared.shape.Shape.{Shape}
@@ -57,6 +57,13 @@ nothing_more : {X : Type 0} (x : X) (xs back : List X) → xs ≡ (x ∷ []) ++ 
 nothing_more x xs [] same one = same
 nothing_more x xs (y ∷ ys) same one = let long = ap length same in absurd (omega (arith, long, one))
 
+first_value : List RowOut → ℤ
+first_value [] = pos 0
+first_value (row ∷ rows) = row.value
+
+one_is_not_five : pos 1 ≡ pos 5 → ⊥
+one_is_not_five same = cc same
+
 module _ (h : HeldStore) (rows : List RowOut) (closed : AreClosedRows h rows) where
   -- a store of one worker, which rested there and had committed one transaction
   module _ (w : IdleWorker Objects naming_ghosts) (rests : h.store.idle.items ≡ w ∷ []) (one : (arc_value h.store.store).shared.table.shared.key.passes ≡ 1)
@@ -81,7 +88,8 @@ module _ (h : HeldStore) (rows : List RowOut) (closed : AreClosedRows h rows) wh
 
     -- the rows that it opened with
     pub no_opening_rows : rows ≡ rows_out 0 (opening_of boxes) → ⊥
-    no_opening_rows opening = cc (sym opening ∙ rows_of_five)
+    unfolding first_value
+    no_opening_rows opening = let same : pos 1 ≡ pos 5 = ap first_value (sym opening ∙ rows_of_five) in one_is_not_five same
 
   -- a store of which a worker was lost: it neither rests there nor is out
   pub no_lost_worker : length h.store.idle.items + length h.store.slots.items < (arc_value closed.last.store).shared.table.shared.key.passes → ⊥
@@ -125,8 +133,8 @@ pub no_give_back_within : (h : HeldWorker) (y : HandleContent) → IfSome h.work
 no_give_back_within h y within there given = both h.worker.session there within given.1
   where
     both : (o : Option (Session Objects naming_ghosts)) → o ≢ None → IfSome o (λ x. x.live ≢ None) → IfSome o (λ x. x.live ≡ None) → ⊥
-    both None there no yes = there refl
-    both (Some x) there no yes = no yes
+    both None there within free = there refl
+    both (Some x) there within free = within free
 
 -- the worker is in the handle still
 pub no_give_back_that_keeps : (h k : HeldWorker) → HasGivenBack (Worker h) (Ok tt) (Worker k) → ⊥
