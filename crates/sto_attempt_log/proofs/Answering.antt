@@ -83,8 +83,10 @@ module _ (m : Meaning) (law : IsLawful m) (base : List ReadEntry) (us : List Upd
     alike d e v w part too =
         let k = known_now m base us in
         agrees_known m.homes call.object k (applied_updates us d) (applied_updates us e) (known_above d v part) (known_above e w too)
-        (λ p l. (omega (arith, l, law.homes, length-applied_updates us d, ap (λ (x : List ℕ). length x) (law.widths d v), length-map d length),
-        omega (arith, l, law.homes, length-applied_updates us e, ap (λ (x : List ℕ). length x) (law.widths e w), length-map e length)))
+        (λ p l. (
+          omega (arith, l, law.homes, length-applied_updates us d, ap (λ (x : List ℕ). length x) (law.widths d v), length-map d length),
+          omega (arith, l, law.homes, length-applied_updates us e, ap (λ (x : List ℕ). length x) (law.widths e w), length-map e length),
+        ))
         (m.items call k) (law.knows call k (applied_updates us d) (ready d v part)) (law.holds call k (applied_updates us e) (ready e w too))
 
 -- the call that the body asks is answered
@@ -139,6 +141,7 @@ same_test s t e = sym (there s) ∙ ap of_code e ∙ there t
     of_code (suc (suc (suc zero))) = Le
     of_code (suc (suc (suc (suc zero)))) = Gt
     of_code (suc (suc (suc (suc (suc n))))) = Ge
+
     there : (t : Test) → of_code (test_code t) ≡ t
     there Eq = refl
     there Ne = refl
@@ -210,6 +213,7 @@ pending_next m law base us v h call takes is = record {
   where
     now : (d : Parts) (w : m.valid d) (part : IsPartOf base d) → IsUpdated m call (applied_updates us d) (m.updates call (applied_updates us d))
     now d w part = law.updated call (applied_updates us d) takes (h.fits d w part).1
+
     fit : (d : Parts) → m.valid d → IsPartOf base d → HasWidths v d
     fit d w part = HasWidths-below us v d (subst (λ (l : List Update). HasWidths l (applied_updates us d)) (sym (is d w part)) (now d w part).widths)
 

@@ -50,6 +50,7 @@ same_course r s a b e = (first r s a b e, second r s a b e)
   where
     first : (r s : Reader) (a b : Turn) → Stays r a ≡ Stays s b → r ≡ s
     first r s a b e = cc
+
     second : (r s : Reader) (a b : Turn) → Stays r a ≡ Stays s b → a ≡ b
     second r s a b e = cc
 

@@ -48,9 +48,13 @@ pub runs_on_is : (m : Meaning) (f : Script) (r s : Reader) (set : Recorded) (hea
 runs_on_is m f r s set heard reached turn ran halts is_led kept extended =
     let same : s.extended ≡ ran.now.extended = true_both s.extended ran.now.extended ((λ e. ran.extended.1 (extended.0 e)), λ e. extended.1 (ran.extended.0 e)) in
     let here : s ≡ record ran.now { phase = s.phase } = kept ∙ (λ i. record r { set = set; heard = heard; extended = same i; phase = s.phase }) ∙ (λ i. record (sym ran.kept i) { phase = s.phase }) in
-    let at : r.at ≡ ran.now.at = ap (λ (x : Reader). x.at) (sym ran.kept) in
-    (ran.count, ran.now, reached, runs_on_to m f ran.count r ran.now reached ran.answered halts,
-    (λ i. Stays (here i) turn) ∙ led_is ran.now set.updates reached s.phase turn (ap (λ (x : Reader). x.set.updates) ran.kept) (subst (λ (n : ℕ). IsLed n set.updates reached s.phase turn) at is_led))
+    let at : r.at ≡ ran.now.at = ap (λ (x : Reader). x.at) (sym ran.kept) in (
+      ran.count,
+      ran.now,
+      reached,
+      runs_on_to m f ran.count r ran.now reached ran.answered halts,
+      (λ i. Stays (here i) turn) ∙ led_is ran.now set.updates reached s.phase turn (ap (λ (x : Reader). x.set.updates) ran.kept) (subst (λ (n : ℕ). IsLed n set.updates reached s.phase turn) at is_led),
+    )
 
 -- An open.
 module _ (m : Meaning) (f : Script) (r : Reader) (p n : ℕ) (x : ℤ) where

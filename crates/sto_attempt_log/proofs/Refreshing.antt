@@ -83,6 +83,7 @@ cache_outside m base es us k ordered more fits c = record {
     inside_case : (p : ℕ) (o : Option (List ℤ)) → outside us k p ≡ o → IsSome o → p < length m.widths
     inside_case p None is some = cc
     inside_case p (Some ws) is some = c.inside p (subst (λ (o : Option (List ℤ)). IsSome o) (sym (outside_known us k p ws is).1) refl)
+
     from_case : (p : ℕ) (o : Option (List ℤ)) → outside us k p ≡ o → IsSome o → IsSome (base p) ⊎ (overwrites (changes_of (with_updates es us) p) ≡ true)
     from_case p None is some = cc
     from_case p (Some ws) is some =

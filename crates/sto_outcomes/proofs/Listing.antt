@@ -1,7 +1,7 @@
 -- The ways of a tally as a list of outcomes.
 use Rattle.std.specs.Prelude.{◌⊎◌, count_by, sum_by, string_bytes, Option, None, Some}
 use Rattle.std.specs.List.{AllByRecursion, list_any}
-use Rattle.std.specs.List.Sorted.{IsStrictlySortedBy}
+use Rattle.std.specs.List.Sorted.{IsStrictlySortedBy, IsPermutation}
 use Rattle.std.specs.Ordering.{nat_cmp, is_eq}
 use Rattle.std.specs.Cmp.Lexicographic.{slice_cmp}
 use Rattle.std.specs.Str.{bytes_eq}
@@ -12,12 +12,14 @@ use Rattle.std.specs.declared.alloc.Global.{Global}
 use Rattle.std.proofs.Common.{◌≡◌, ◌+◌, ℕ, List, [], ◌∷◌, length, map, refl, sym, ap, ◌∙◌, subst, arith, cond, true, false, inl, inr, zero-add, Less, Equal}
 use Rattle.std.proofs.lemmas.Bool.{cases_Bool, cond-true, cond-false, both_ways, or_cases, or_left, or_right, false≢true, false_from_ne_true}
 use Rattle.std.proofs.lemmas.List.Sums.{sum_by-cons}
+use Rattle.std.proofs.lemmas.List.Elements.{All-from_recursion, recursion_from_All}
+use Rattle.std.proofs.lemmas.List.Sorted.{sum_by-IsPermutation, All-permutation}
 use Rattle.std.proofs.lemmas.Slice.Eq.{bytes_eq-Decides}
 use Rattle.std.proofs.lemmas.Map.Text.{is_eq-slice_cmp}
 use Rattle.std.proofs.lemmas.Cmp.{tied_itself, nat_list_cmp_total}
 use Rattle.sto_explore.specs.Explored.{Found}
-use Rattle.sto_outcomes.specs.Outcomes.{leads_to, IsOutcome, AreRising}
-use Rattle.sto_outcomes.specs.Tallied.{Ways, IsWay, AreWays, outcome_of}
+use Rattle.sto_outcomes.specs.Outcomes.{leads_to, IsOutcome}
+use Rattle.sto_outcomes.specs.Tallied.{Ways, IsWay, AreWays, AreRising, outcome_of}
 use Rattle.sto_outcomes.specs.declared.outcome.Reported.{Reported}
 use Rattle.sto_outcomes.specs.declared.outcome.Outcome.{Outcome}
 use Rattle.sto_outcomes.specs.declared.way.Way.{Way}
@@ -184,10 +186,18 @@ sum_counts xs (o ∷ os) h = omega (
   sum_counts xs os h.1,
 )
 
+-- each run leads to exactly one of them
+abbrev IsOnceIn : List Outcome → Found Reported → Type 0
+IsOnceIn os x = count_by (λ (o : Outcome). leads_to (text_in o) x) os ≡ 1
+
+all_once : (os : List Outcome) (xs : List (Found Reported)) → AreRising os → AllByRecursion (IsIn os) xs → AllByRecursion (IsOnceIn os) xs
+all_once os [] rising any = tt
+all_once os (x ∷ xs) rising any = (once x os rising any.0, all_once os xs rising any.1)
+
 -- the ways of runs are their outcomes
 pub record AreListed (xs : List (Found Reported)) (os : List Outcome) : Type 0 where
   pub each : AllByRecursion (IsOutcome xs) os
-  pub all : AllByRecursion (λ x. list_any (λ o. leads_to (string_bytes o.text) x) os ≡ true) xs
+  pub once : AllByRecursion (λ x. count_by (λ o. leads_to (string_bytes o.text) x) os ≡ 1) xs
   pub sum : sum_by (λ o. o.schedules) os ≡ length xs
 
 pub listed : (xs : List (Found Reported)) (ways : Ways) → AreWays xs ways → AreRising (map outcome_of ways.entries) → AreListed xs (map outcome_of ways.entries)
@@ -195,4 +205,21 @@ listed xs ways h order =
     let es = ways.entries in
     let each = each_of xs es es h (found es order) in
     let all = all_in (map outcome_of es) xs (λ text. in_or_elsewhere xs es text (at_text text es) refl (h text)) in
-    record { each = each; all = all; sum = sum_counts xs (map outcome_of es) each ∙ counted (map outcome_of es) xs order all }
+    record {
+      each = each;
+      once = all_once (map outcome_of es) xs order all;
+      sum = sum_counts xs (map outcome_of es) each ∙ counted (map outcome_of es) xs order all;
+    }
+
+-- the same in another order
+once_in_order : (os ps : List Outcome) (xs : List (Found Reported)) → IsPermutation os ps → AllByRecursion (IsOnceIn os) xs → AllByRecursion (IsOnceIn ps) xs
+once_in_order os ps [] same h = tt
+once_in_order os ps (x ∷ xs) same h =
+    (sum_by-IsPermutation (λ (o : Outcome). cond (leads_to (text_in o) x) 1 0) os ps same ∙ h.0, once_in_order os ps xs same h.1)
+
+pub listed_in_order : (xs : List (Found Reported)) (os ps : List Outcome) → IsPermutation os ps → AreListed xs os → AreListed xs ps
+listed_in_order xs os ps same h = record {
+  each = recursion_from_All (IsOutcome xs) ps (All-permutation (IsOutcome xs) os ps same (All-from_recursion (IsOutcome xs) os h.each));
+  once = once_in_order os ps xs same h.once;
+  sum = sum_by-IsPermutation (λ (o : Outcome). o.schedules) os ps same ∙ h.sum;
+}

@@ -1,7 +1,7 @@
 -- What runs lead to, each report once.
-use Rattle.std.specs.Prelude.{◌≡◌, ◌+◌, ◌≤◌, ℕ, List, ◌∷◌, ◌++◌, length, map, sum_by, count_by, Bool, true, string_bytes}
-use Rattle.std.specs.List.{AllByRecursion, list_any}
-use Rattle.std.specs.List.Sorted.{IsStrictlySortedBy}
+use Rattle.std.specs.Prelude.{◌≡◌, ◌+◌, ◌≤◌, ℕ, List, [], ◌∷◌, ◌++◌, length, flat_map, sum_by, count_by, Bool, true, string_bytes}
+use Rattle.std.specs.List.{AllByRecursion}
+use Rattle.std.specs.List.Sorted.{IsSortedByKey}
 use Rattle.std.specs.Ordering.{nat_cmp}
 use Rattle.std.specs.Cmp.Lexicographic.{slice_cmp}
 use Rattle.std.specs.Str.{bytes_eq}
@@ -35,15 +35,22 @@ pub record IsOutcome (xs : List (Found Reported)) (o : Outcome) : Type 0 where
   pub schedules : o.schedules ≡ count_by (leads_to (string_bytes o.text)) xs
   pub legs : AreFirstFewest xs (string_bytes o.text) o.legs.items
 
--- the texts of outcomes rise, so that none comes twice
-abbrev pub AreRising : List Outcome → Type 0
-AreRising outcomes = IsStrictlySortedBy (slice_cmp nat_cmp) (map (λ o. string_bytes o.text) outcomes)
+-- what outcomes are ordered by: how many legs lead to them, and then the thread and the turns of each leg
+abbrev pub leg_rank : Leg → List ℕ
+leg_rank leg = leg.thread ∷ leg.turns ∷ []
 
--- these are the outcomes of the runs: each report that one leads to is among them, and none else. They add up to all runs
+abbrev pub rank_of : List Leg → List ℕ
+rank_of legs = length legs ∷ flat_map leg_rank legs
+
+-- those with the fewest legs come first, and of as many legs those of lower threads and then of fewer turns, leg by leg
+abbrev pub AreInOrder : List Outcome → Type 0
+AreInOrder outcomes = IsSortedByKey (λ o. rank_of o.legs.items) (slice_cmp nat_cmp) outcomes
+
+-- these are the outcomes of the runs: each run leads to exactly one of them, and to each leads one. They add up to all runs
 pub record AreOutcomes (xs : List (Found Reported)) (outcomes : Outcomes) : Type 0 where
   pub each : AllByRecursion (IsOutcome xs) outcomes.each.items
-  pub all : AllByRecursion (λ x. list_any (λ o. leads_to (string_bytes o.text) x) outcomes.each.items ≡ true) xs
-  pub rising : AreRising outcomes.each.items
+  pub once : AllByRecursion (λ x. count_by (λ o. leads_to (string_bytes o.text) x) outcomes.each.items ≡ 1) xs
+  pub in_order : AreInOrder outcomes.each.items
   pub sum : sum_by (λ o. o.schedules) outcomes.each.items ≡ length xs
   pub schedules : outcomes.schedules ≡ length xs
   pub locked : outcomes.aborted.locked ≡ sum_by (λ x. x.report.aborted.locked) xs

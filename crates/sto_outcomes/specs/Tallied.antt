@@ -1,6 +1,9 @@
 -- Runs gathered by their reports, as the code has them.
-use Rattle.std.specs.Prelude.{◌≡◌, ◌+◌, ℕ, List, length, sum_by, count_by, false, nat_lt, if◌then◌else◌, Option, None, Some}
+use Rattle.std.specs.Prelude.{◌≡◌, ◌+◌, ℕ, List, length, map, sum_by, count_by, false, nat_lt, string_bytes, if◌then◌else◌, Option, None, Some}
 use Rattle.std.specs.List.{AllByRecursion}
+use Rattle.std.specs.List.Sorted.{IsStrictlySortedBy}
+use Rattle.std.specs.Ordering.{nat_cmp}
+use Rattle.std.specs.Cmp.Lexicographic.{slice_cmp}
 use Rattle.std.specs.Str.{bytes_eq}
 use Rattle.std.specs.BTreeMap.{BTreeMap, get_by_text}
 use Rattle.std.specs.declared.string.String.{String}
@@ -55,3 +58,7 @@ pub record HasTallied (tally : Tally) (xs : List (Found Reported)) : Type 0 wher
 -- a way and its report as an outcome
 abbrev pub outcome_of : String Global × Way → Outcome
 outcome_of e = record { text = e.0; schedules = e.1.schedules; legs = e.1.legs }
+
+-- the texts of outcomes rise, so that none comes twice
+abbrev pub AreRising : List Outcome → Type 0
+AreRising outcomes = IsStrictlySortedBy (slice_cmp nat_cmp) (map (λ o. string_bytes o.text) outcomes)

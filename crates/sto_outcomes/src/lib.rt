@@ -5,6 +5,7 @@
 #![tactic(auto)]
 
 mod aborted;
+mod order;
 mod outcome;
 mod tally;
 mod way;

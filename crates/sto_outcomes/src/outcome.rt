@@ -18,7 +18,7 @@ pub struct Outcome {
     pub legs: Vec<Leg>,
 }
 
-/// The outcomes of runs by rising text, how many runs there were, and how many attempts of all were aborted.
+/// The outcomes of runs, those with the simplest schedules first, how many runs there were, and how many attempts of all were aborted.
 #[derive(Drop)]
 pub struct Outcomes {
     pub each: Vec<Outcome>,

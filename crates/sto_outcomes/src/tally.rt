@@ -1,10 +1,11 @@
 //! Runs gathered by what they lead to.
 ghost use Rattle.std.specs.Prelude.{◌≡◌, [], OnOk, IfOk, List, map, string_bytes};
 ghost use Rattle.sto_explore.specs.Explored.{Found};
-ghost use Rattle.sto_outcomes.specs.Outcomes.{AreOutcomes, AreRising};
-ghost use Rattle.sto_outcomes.specs.Tallied.{outcome_of, HasOneMoreWay};
+ghost use Rattle.sto_outcomes.specs.Outcomes.{AreOutcomes};
+ghost use Rattle.sto_outcomes.specs.Tallied.{outcome_of, AreRising, HasOneMoreWay};
 
 use crate::aborted::Aborted;
+use crate::order::sort;
 use crate::outcome::{Outcome, Outcomes, Reported};
 use crate::way::Way;
 use std::alloc::{AllocError, Global};
@@ -43,8 +44,10 @@ impl Tally {
             schedules,
             aborted,
         } = self;
+        let mut each = outcomes_of(alloc, ways)?;
+        sort(&mut each)?;
         Ok(Outcomes {
-            each: outcomes_of(alloc, ways)?,
+            each,
             schedules,
             aborted,
         })
@@ -81,7 +84,7 @@ fn add_way(ways: &mut BTreeMap<String, Way>, text: String, legs: Vec<Leg>) -> Re
     }
 }
 
-// The outcome of each way.
+// The outcome of each way, by rising text.
 fn outcomes_of(alloc: Global, ways: BTreeMap<String, Way>) -> Result<Vec<Outcome>, NoMemory>
     ensures each { IfOk result (λ outcomes. outcomes.items ≡ map outcome_of ways.entries) }
     ensures rising { IfOk result (λ outcomes. AreRising outcomes.items) }

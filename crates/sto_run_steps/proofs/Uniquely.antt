@@ -108,14 +108,14 @@ module _ (plan : Plan) (valid : Validity) where
       let same = step_once 0 f now c h.0 k.0 h.1 k.1 h.2 k.2 h.3 k.3 h.4 k.4 h.5 k.5 in
       elim h.6 [
         | inl done ↦ elim k.6 [
-            | inl too ↦ record { core = done.2 ∙ same.core ∙ sym too.2; led = done.3 ∙ same.led ∙ sym too.3; end = same_verdict a b (sym done.1 ∙ same.end ∙ too.1) }
-            | inr on ↦ absurd (some_none a (sym done.1 ∙ same.end ∙ on.0))
-          ]
+          | inl too ↦ record { core = done.2 ∙ same.core ∙ sym too.2; led = done.3 ∙ same.led ∙ sym too.3; end = same_verdict a b (sym done.1 ∙ same.end ∙ too.1) }
+          | inr on ↦ absurd (some_none a (sym done.1 ∙ same.end ∙ on.0))
+        ]
         | inr on ↦ elim k.6 [
-            | inl done ↦ absurd (some_none b (sym done.1 ∙ sym same.end ∙ on.0))
-            | inr too ↦ ends_once n m f h.3 h.0 d e later next a b on.1
-                (subst (λ (x : Core). EndsIn plan valid m f h.3 x e next b) (sym same.core) (subst (λ (x : Doing). EndsIn plan valid m f x k.0 e next b) (sym same.led) too.1))
-          ]
+          | inl done ↦ absurd (some_none b (sym done.1 ∙ sym same.end ∙ on.0))
+          | inr too ↦ ends_once n m f h.3 h.0 d e later next a b on.1
+              (subst (λ (x : Core). EndsIn plan valid m f h.3 x e next b) (sym same.core) (subst (λ (x : Doing). EndsIn plan valid m f x k.0 e next b) (sym same.led) too.1))
+        ]
       ]
 
   pub each_once : (places : List Place) (c d e : Core) (rs ss : List Record) → RunsEach plan valid places c d rs → RunsEach plan valid places c e ss → (d ≡ e) × (rs ≡ ss)
@@ -134,8 +134,7 @@ module _ (plan : Plan) (valid : Validity) where
       let stepped : k.stepped ≡ h.stepped =
       rounds_once k.rounds h.rounds h.followed k.stepped h.stepped (subst (λ (s : Scene). RoundsBy plan valid k.rounds s k.stepped) followed k.finishes) h.finishes in
       let rest = each_once (places_left plan valid 0 h.stepped.threads) (reopened_core plan.sizes plan.meaning.opened h.stepped.core) last end h.others k.others h.runs
-      (subst (λ (s : Scene). RunsEach plan valid (places_left plan valid 0 s.threads) (reopened_core plan.sizes plan.meaning.opened s.core) end k.others) stepped k.runs) in
-      (
+      (subst (λ (s : Scene). RunsEach plan valid (places_left plan valid 0 s.threads) (reopened_core plan.sizes plan.meaning.opened s.core) end k.others) stepped k.runs) in (
         h.events ∙ ap (λ (s : Scene). s.made) (sym stepped) ∙ sym k.events,
         h.records ∙ (λ i. flat_map (λ (t : Thread). t.records) (sym stepped i).threads ++ rest.1 i) ∙ sym k.records,
         rest.0,

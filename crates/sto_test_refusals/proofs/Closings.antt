@@ -21,7 +21,7 @@ use Rattle.sto_serial_history.specs.Done.{IsToldOf, AreDoneBy, HaveHistory}
 use Rattle.sto_open.specs.Working.{gathered_onto, AreLastRows, AreRowsAfter}
 use Rattle.sto_test_premises.specs.Adding.{adding, box, valid, heard}
 use Rattle.sto_test_premises.proofs.Adding.{committed, has_written, run_on_0}
-use Rattle.sto_test_refusals.specs.Runs.{has_added, opening_rows}
+use Rattle.sto_test_refusals.specs.Runs.{has_added, opening_rows, rows_with}
 use Rattle.sto_test_refusals.proofs.Lists.{none_behind, one_is}
 
 -- By the history of what it did
@@ -30,15 +30,11 @@ use Rattle.sto_test_refusals.proofs.Lists.{none_behind, one_is}
 abbrev added : Transaction
 added = record { steps = meaning_of adding; replies = heard (pos 0); verdict = Wrote 1 }
 
--- the rows after it
-abbrev after_rows : State
-after_rows = ((pos 0, pos 1) ∷ []) ∷ []
-
 -- the value of the box
 abbrev value : State → ℤ
 value rows = (slice_index_or (slice_index_or rows 0 []) 0 (pos 0, pos 0)).1
 
-after_is_no_opening : opening_rows ≡ after_rows → ⊥
+after_is_no_opening : opening_rows ≡ rows_with 1 → ⊥
 after_is_no_opening e = let same : pos 0 ≡ pos 1 = ap value e in absurd cc
 
 counted : (n : ℕ) → times_committed n has_added.entries ≡ times_numbered n (added ∷ [])
@@ -56,7 +52,7 @@ module _ (clock : ℕ) (states : ℕ → State) (h : IsSerialHistory box.machine
   step : IsStep box.machines clock states (meaning_of adding) (heard (pos 0)) 1
   step = All-head (λ (t : Transaction). StandsIn box.machines clock states t.steps t.replies t.verdict) added [] h.each
 
-  at_first : states 1 ≡ after_rows
+  at_first : states 1 ≡ rows_with 1
   unfolding int_wrap
   at_first =
       let first : step.before ≡ 0 = let n = step.next in omega (arith, n) in
@@ -65,11 +61,11 @@ module _ (clock : ℕ) (states : ℕ → State) (h : IsSerialHistory box.machine
   numbered : (k : ℕ) → times_numbered (suc (suc k)) (added ∷ []) ≡ 0
   numbered k = grind (arith, nat_tests)
 
-  at_later : (k : ℕ) → suc k ≤ clock → states (suc k) ≡ after_rows
+  at_later : (k : ℕ) → suc k ≤ clock → states (suc k) ≡ rows_with 1
   at_later zero within = at_first
   at_later (suc k) within = h.still (suc k) (omega (arith, within)) (numbered k) ∙ at_later k (omega (arith, within))
 
-  at_end : (n : ℕ) → clock ≡ n → states clock ≡ after_rows
+  at_end : (n : ℕ) → clock ≡ n → states clock ≡ rows_with 1
   at_end zero same = let within = step.within in absurd (omega (arith, within, same))
   at_end (suc k) same = ap states same ∙ at_later k (omega (arith, same))
 
@@ -101,7 +97,7 @@ added_to opening log same logged =
     ap (λ (e : Entry). applied_updates (committed_updates e) opening) logged ∙ ap (λ (c : Contents). applied_updates (committed_updates entry) c) (sym same)
 
 -- the rows after all commits are those with 1
-rows_are : (rows : State) → AreLastRows valid box has_added rows → rows ≡ after_rows
+rows_are : (rows : State) → AreLastRows valid box has_added rows → rows ≡ rows_with 1
 rows_are rows a =
     let rule = a.now.rule in
     let tickets : (t : ℕ) → total (λ (v : View). times t v.entries) (closed ∷ []) ≡ once t a.core.clock =
@@ -122,6 +118,8 @@ last_is [] last e = sym (one_is has_added last e)
 last_is (v ∷ others) last e =
     let rest : [] ≡ others ++ last ∷ [] = cc in let n : 0 ≡ 1 = ap length (none_behind others (last ∷ []) rest) in absurd (omega (arith, n))
 
+pub added_rows : (rows : State) → AreRowsAfter valid box (has_added ∷ []) rows → rows ≡ rows_with 1
+added_rows rows a = rows_are rows (subst (λ (v : View). AreLastRows valid box v rows) (last_is a.others a.last a.all) a.leave)
+
 pub no_opening_rows : AreRowsAfter valid box (has_added ∷ []) opening_rows → ⊥
-no_opening_rows a =
-    after_is_no_opening (rows_are opening_rows (subst (λ (v : View). AreLastRows valid box v opening_rows) (last_is a.others a.last a.all) a.leave))
+no_opening_rows a = after_is_no_opening (added_rows opening_rows a)

@@ -3,3 +3,4 @@ pub mod Unlawful
 pub mod Lines
 pub mod Unrun
 pub mod Closings
+pub mod TwoWorkers

@@ -5,6 +5,8 @@ use Rattle.std.specs.List.{flat_map}
 use Rattle.std.specs.Prelude.{codes}
 use Rattle.std.proofs.Common.{◌≡◌, ℕ, pos, ◌<◌, ◌≤◌, List, [], ◌∷◌, ◌++◌, length, Some, refl, sym, ap, subst, arith}
 use Rattle.std.proofs.lemmas.List.Elements.{All-head}
+use Rattle.json.specs.Print.{escape_byte}
+use Rattle.json.proofs.OnLiterals.{json_on_literals}
 use Rattle.serde_json.specs.Written.{compact_text}
 use Rattle.sto_model.specs.Told.{Value, Done}
 use Rattle.sto_model.specs.Sizes.{part_count}
@@ -19,12 +21,12 @@ use Rattle.sto_report_spec.specs.Report.{line_text, abort_text, object_text}
 use Rattle.sto_report_spec.specs.Json.{report_data}
 use Rattle.sto_report_spec.specs.Updated.{Updating}
 use Rattle.sto_report_spec.specs.LawfulAborts.{IsLawfulAbort, declared_as}
-use Rattle.sto_report_spec.specs.Lawful.{IsLawful, IsLawfulIn}
+use Rattle.sto_report_spec.specs.Lawful.{IsLawful, IsLawfulJson, IsLawfulIn}
 use Rattle.sto_report_spec.specs.declared.form.ReportForm.{ReportForm}
 use Rattle.sto_report_spec.specs.declared.form.ReportForm.TheVariants.{Text, Json}
 use Rattle.sto_test_premises.specs.Adding.{file}
 use Rattle.sto_test_refusals.proofs.Lists.{differ, none_behind, some_is}
-use Rattle.sto_test_refusals.specs.Texts.{exchanged, left_out, other_reply, other_part, other_writer, other_rows}
+use Rattle.sto_test_refusals.specs.Texts.{exchanged, left_out, other_reply, other_part, other_writer, other_rows, json_left_out, json_other_reply}
 
 -- what the line of the attempt tells that was aborted by part 1 of the box, and by the second writer
 abbrev pub by_other_part : Abort
@@ -77,6 +79,14 @@ module _ (u : Updating) where
   pub other_writer_is_none : IsLawful u file 64 other_writer → ⊥
   unfolding digits int_wrap
   other_writer_is_none l = writer_is_none (All-head (IsLawfulAbort u file order) by_other_writer [] l.aborts.each)
+
+  pub json_left_out_is_none : IsLawfulJson u file 64 json_left_out → ⊥
+  unfolding digits int_wrap json_on_literals
+  json_left_out_is_none l = let none : 0 ≡ 1 = ap length (l.order 0) in omega (arith, none)
+
+  pub json_other_reply_is_none : IsLawfulJson u file 64 json_other_reply → ⊥
+  unfolding digits int_wrap escape_byte json_on_literals
+  json_other_reply_is_none l = differ _ _ 142 50 49 refl refl (λ e. omega (arith, e)) l.report
 
   -- a report says at least `state`
   pub nothing_is_none : (form : ReportForm) (f : File) (tries : ℕ) → IsLawfulIn form u f tries [] → ⊥

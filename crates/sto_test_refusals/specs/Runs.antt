@@ -14,6 +14,7 @@ use Rattle.sto_atomically.specs.declared.outcome.Unrun.{Unrun}
 use Rattle.sto_atomically.specs.Atomic.{HasLed}
 use Rattle.sto_library.specs.Values.{Working}
 use Rattle.sto_test_premises.specs.Turns.{view_at, after_turns}
+use Rattle.sto_test_premises.specs.LostUpdate.{third_core}
 use Rattle.sto_test_premises.specs.Adding.{box, reads, adds, by}
 
 -- the clause `led` of `run`, of a worker before and after it
@@ -46,6 +47,16 @@ has_read = view_at (after_turns (by 0 reads) (opened_core [] box.opened 1)) 0
 abbrev pub has_added : View
 has_added = view_at (after_turns (by 0 (adds (pos 1))) (opened_core [] box.opened 1)) 0
 
--- the rows of the box as it was opened
+-- the views of two workers that have each added 1, the first one after it had lost an attempt
+abbrev pub first_worker : View
+first_worker = view_at third_core 0
+
+abbrev pub second_worker : View
+second_worker = view_at third_core 1
+
+-- the rows of the box as it was opened, and where it holds this number
 abbrev pub opening_rows : State
 opening_rows = opening_of box.machines
+
+abbrev pub rows_with : ℕ → State
+rows_with n = ((pos 0, pos n) ∷ []) ∷ []

@@ -27,3 +27,10 @@ other_writer = codes "1 t1.1 commit 0 ok\n2 t0.1 commit 1 ok\nabort t0.1 at 0 sa
 -- the box holds 3 at the end
 abbrev pub other_rows : List ℕ
 other_rows = codes "1 t1.1 commit 0 ok\n2 t0.1 commit 1 ok\nabort t0.1 at 0 saw 0 ok changed a 0 by 1\nstate\na = 3\n"
+
+-- as JSON: the second commit is left out, and the second transaction found 2, not 1
+abbrev pub json_left_out : List ℕ
+json_left_out = codes "{\"aborts\":[],\"journal\":[{\"end\":\"commit\",\"k\":1,\"position\":1,\"replies\":[\"0\",\"ok\"],\"thread\":\"t1\"}],\"state\":[{\"name\":\"a\",\"text\":\"1\"}]}\n"
+
+abbrev pub json_other_reply : List ℕ
+json_other_reply = codes "{\"aborts\":[],\"journal\":[{\"end\":\"commit\",\"k\":1,\"position\":1,\"replies\":[\"0\",\"ok\"],\"thread\":\"t1\"},{\"end\":\"commit\",\"k\":2,\"position\":1,\"replies\":[\"2\",\"ok\"],\"thread\":\"t0\"}],\"state\":[{\"name\":\"a\",\"text\":\"2\"}]}\n"

@@ -1,5 +1,6 @@
 //! What a worker of the library and a store do not answer.
 ghost use Rattle.std.specs.Prelude.{◌≡◌, ℕ, pos, List, [], ◌∷◌, length, Ok, Err};
+ghost use Rattle.sto_model.specs.Run.{State};
 ghost use Rattle.sto_serial_history.specs.Done.{HaveHistory};
 ghost use Rattle.sto_code.specs.Progs.{Prog};
 ghost use Rattle.sto_code.specs.declared.short_reply.ShortReply.TheVariants.{Value};
@@ -15,7 +16,7 @@ ghost use Rattle.sto_library.specs.Values.{Stored, Working};
 ghost use Rattle.sto_library.specs.Closings.{ComesBack};
 ghost use Rattle.sto_library.specs.Looks.{HasLooked};
 ghost use Rattle.sto_test_premises.specs.Adding.{box, valid};
-ghost use Rattle.sto_test_refusals.specs.Runs.{HasRun, AlwaysGives, gets, shapes, unused, has_read, has_added, opening_rows};
+ghost use Rattle.sto_test_refusals.specs.Runs.{HasRun, AlwaysGives, gets, shapes, unused, has_read, has_added, opening_rows, first_worker, second_worker, rows_with};
 
 use sto_library::TxType;
 
@@ -52,6 +53,10 @@ pub fn not_closed<T: TxType>()
     ensures opening_rows { AreRowsAfter valid box (has_added ∷ []) opening_rows → ⊥ }
     // ... and no serial history of what the worker did ends with them.
     ensures opening_history { HaveHistory box (has_added ∷ []) opening_rows → ⊥ }
+    // Any other rows than with what it added.
+    ensures other_rows { (rows : State) → AreRowsAfter valid box (has_added ∷ []) rows → (rows ≡ rows_with 1 → ⊥) → ⊥ }
+    // The rows after one commit, where each of two workers has made one.
+    ensures lost_commit { HaveHistory box (first_worker ∷ second_worker ∷ []) (rows_with 1) → ⊥ }
     // That a worker is missing, where all rest.
     ensures missing { (s store : Stored T) → ComesBack s (Missing store) → length s.views ≡ s.words.passes → ⊥ }
 {}

@@ -1,14 +1,14 @@
 //! Texts that are no reports of two transactions that each add 1 to a box, with 64 tries.
-ghost use Rattle.std.specs.Prelude.{[]};
+ghost use Rattle.std.specs.Prelude.{ℕ, []};
 ghost use Rattle.sto_lang.specs.Scripts.{File};
-ghost use Rattle.sto_report_spec.specs.Lawful.{IsLawful, IsLawfulIn};
+ghost use Rattle.sto_report_spec.specs.Lawful.{IsLawful, IsLawfulJson, IsLawfulIn};
 ghost use Rattle.sto_report_spec.specs.declared.form.ReportForm.{ReportForm};
 ghost use Rattle.sto_report_lines.specs.Answer.{IsFound};
 ghost use Rattle.sto_report_lines.specs.declared.found.Found.TheVariants.{Lawful, Not};
 ghost use Rattle.sto_serializability.specs.Meanings.{updating_by};
 ghost use Rattle.sto_store.specs.Stores.{means};
 ghost use Rattle.sto_test_premises.specs.Adding.{file};
-ghost use Rattle.sto_test_refusals.specs.Texts.{right, exchanged, left_out, other_reply, other_part, other_writer, other_rows};
+ghost use Rattle.sto_test_refusals.specs.Texts.{right, exchanged, left_out, other_reply, other_part, other_writer, other_rows, json_left_out, json_other_reply};
 
 /// They are not lawful.
 pub fn no_lawful_report()
@@ -24,8 +24,11 @@ pub fn no_lawful_report()
     ensures other_writer { IsLawful (updating_by means) file 64 other_writer → ⊥ }
     // A row is greater by one.
     ensures other_rows { IsLawful (updating_by means) file 64 other_rows → ⊥ }
+    // As JSON: a commit is left out, and a reply is greater by one.
+    ensures json_left_out { IsLawfulJson (updating_by means) file 64 json_left_out → ⊥ }
+    ensures json_other_reply { IsLawfulJson (updating_by means) file 64 json_other_reply → ⊥ }
     // Nothing is a report of no file, in no form.
-    ensures nothing { (form : ReportForm) (f : File) (tries : _) → IsLawfulIn form (updating_by means) f tries [] → ⊥ }
+    ensures nothing { (form : ReportForm) (f : File) (tries : ℕ) → IsLawfulIn form (updating_by means) f tries [] → ⊥ }
 {}
 
 /// And they are not found lawful by the checker; the right one is not found wrong.

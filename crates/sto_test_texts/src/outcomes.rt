@@ -43,9 +43,9 @@ fn each_report_is_kept_once(rt: HostRuntime) -> Result<(), Fail> {
     let aborted = outcomes.aborted;
     assert_eq!(rt; (aborted.locked, aborted.changed), (4, 8));
     assert_eq!(rt; outcomes.each.len(), 2);
-    let (a, b) = (&outcomes.each[0], &outcomes.each[1]);
-    assert_eq!(rt; (a.text.as_str(), a.schedules, a.legs.len()), ("a", 1, 2));
+    let (b, a) = (&outcomes.each[0], &outcomes.each[1]);
     assert_eq!(rt; (b.text.as_str(), b.schedules, b.legs.len()), ("b", 3, 1));
+    assert_eq!(rt; (a.text.as_str(), a.schedules, a.legs.len()), ("a", 1, 2));
     Ok(())
 }
 

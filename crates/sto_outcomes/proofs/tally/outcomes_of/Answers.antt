@@ -1,6 +1,5 @@
 use Rattle.std.proofs.Common.{◌≡◌, map, rules, sym, subst}
-use Rattle.sto_outcomes.specs.Outcomes.{AreRising}
-use Rattle.sto_outcomes.specs.Tallied.{outcome_of}
+use Rattle.sto_outcomes.specs.Tallied.{AreRising, outcome_of}
 use Rattle.sto_outcomes.proofs.Listing.{rising}
 use Rattle.sto_outcomes.proofs.tally.outcomes_of.Goals as goal
 

@@ -463,9 +463,10 @@ returns-clause-reads g c =
     let here : s ≡ record r { set = set; heard = heard; extended = s.extended; phase = s.phase } = λ i. record r { phase = phase; base = kept i; set = set; heard = heard; extended = c.still-self.result } in
     let before : length (map told a.log.replies.items) ≡ length a.log.replies.items = length-map a.log.replies.items told in
     let now : length heard ≡ length c.go_on.new.self.replies.items = length-map c.go_on.new.self.replies.items told in
-    let extended : IsTrue c.still-self.result ↔ (IsTrue a.extension.extended × (length heard ≡ length (map told a.log.replies.items))) =
-    ((λ e. let h = c.still-self.ensures.0 e in (h.0, omega (arith, h.1, before, now, c.len-heard.ensures, c.len-2.ensures))),
-    (λ h. c.still-self.ensures.1 (h.0, omega (arith, h.1, before, now, c.len-heard.ensures, c.len-2.ensures)))) in
+    let extended : IsTrue c.still-self.result ↔ (IsTrue a.extension.extended × (length heard ≡ length (map told a.log.replies.items))) = (
+      (λ e. let h = c.still-self.ensures.0 e in (h.0, omega (arith, h.1, before, now, c.len-heard.ensures, c.len-2.ensures))),
+      (λ h. c.still-self.ensures.1 (h.0, omega (arith, h.1, before, now, c.len-heard.ensures, c.len-2.ensures))),
+    ) in
     let come : HasComeTo m f r set heard c.in_ok-reached.reached = c.in_ok-reached.ensures.comes r (refl, refl, refl) in
     let runs : ComesTo m f (Runs r) s turn = runs_on_is m f r s set heard c.in_ok-reached.reached turn come.0 come.1 c.lead-read_phase.ensures here extended in
     record {

@@ -63,7 +63,7 @@ returns-then-not-is_written g c =
             let h = c.requires.stands.1 in
             λ one quiet. absurd (not_busy v p n (c.check-found.ensures.tells.learns.alone one) (check_unheld d law c.args.place c.args.ticket a.found_tickets a.loaded_words.items v h p c.get-part.ensures other) busy);
         by = search rules;
-        commits = record { number = n; value = pos 0; tells = subst (λ (q : ℕ). Tells g.T.Naming.valid (g.C.Cells.passes c.args.cells.now) (Check q) v n (pos 0) w) (sym (get_or_from_slice_get a.checks.items k p 0 c.get-part.ensures)) c.check-found.ensures.tells; leads = check_busy (g.T.TxType.meaning a.log.ty.now) (committer_of a) k c.args.ticket n (pos 0) p busy (ap (writes a.updates.items) (get_or_from_slice_get a.checks.items k p 0 c.get-part.ensures) ∙ other) (sym (get_or_from_slice_get a.checks.items k p 0 c.get-part.ensures)); };
+        commits = record { number = n; value = pos 0; tells = subst (λ (q : ℕ). Tells g.T.Naming.valid (g.C.Cells.passes c.args.cells.now) (Check q) v n (pos 0) w) (sym (get_or_from_slice_get a.checks.items k p 0 c.get-part.ensures)) c.check-found.ensures.tells; leads = check_busy (g.T.TxType.meaning a.log.ty.now) (committer_of a) k c.args.ticket n (pos 0) p busy (ap (writes a.updates.items) (get_or_from_slice_get a.checks.items k p 0 c.get-part.ensures) ∙ other) (sym (get_or_from_slice_get a.checks.items k p 0 c.get-part.ensures)) };
         kept = refl;
       };
       kept = refl;
@@ -118,10 +118,15 @@ returns-then-newer-expected g c =
             let it = check_changed d law c.args.place c.args.ticket a.found_tickets a.loaded_words.items v h p c.get-part.ensures w _ n _ c.check-found.ensures.tells own c.expected.result is ne in
             λ one quiet. absurd (omega (arith, it.ends.1.later, (c.check-found.ensures.tells.learns.alone one).1, h.sealed.number));
         by = search rules;
-        commits = record { number = n; value = pos 0; tells = subst (λ (q : ℕ). Tells g.T.Naming.valid (g.C.Cells.passes c.args.cells.now) (Check q) v n (pos 0) w) (sym (get_or_from_slice_get a.checks.items k p 0 c.get-part.ensures)) c.check-found.ensures.tells; leads = check_newer (g.T.TxType.meaning a.log.ty.now) (committer_of a) k c.args.ticket n (pos 0) p c.ticket-newer.result (elim c.else-is_locked.branch [
-          | else-is_locked-via-then-is_locked+else-not-is_written x ↦ inr (ap (writes a.updates.items) (get_or_from_slice_get a.checks.items k p 0 c.get-part.ensures) ∙ is_in x.as_slice.result.now a.updates.items p x.is_written.result true x.as_slice.ensures.items x.is_written.ensures x.if-not-is_written.false)
-          | else-is_locked-via-else-is_locked x ↦ inl (locked_is (is_free n) (sym c.is_locked.ensures ∙ x.if-is_locked.false))
-        ]) (λ e. ne (e ∙ ap (expected_of a.log.base.items a.found_tickets.items a.seen.items) (get_or_from_slice_get a.checks.items k p 0 c.get-part.ensures) ∙ sym c.expected.ensures)) (sym (get_or_from_slice_get a.checks.items k p 0 c.get-part.ensures)) c.ticket-newer.ensures.ticket; };
+        commits = record {
+          number = n;
+          value = pos 0;
+          tells = subst (λ (q : ℕ). Tells g.T.Naming.valid (g.C.Cells.passes c.args.cells.now) (Check q) v n (pos 0) w) (sym (get_or_from_slice_get a.checks.items k p 0 c.get-part.ensures)) c.check-found.ensures.tells;
+          leads = check_newer (g.T.TxType.meaning a.log.ty.now) (committer_of a) k c.args.ticket n (pos 0) p c.ticket-newer.result (elim c.else-is_locked.branch [
+            | else-is_locked-via-then-is_locked+else-not-is_written x ↦ inr (ap (writes a.updates.items) (get_or_from_slice_get a.checks.items k p 0 c.get-part.ensures) ∙ is_in x.as_slice.result.now a.updates.items p x.is_written.result true x.as_slice.ensures.items x.is_written.ensures x.if-not-is_written.false)
+            | else-is_locked-via-else-is_locked x ↦ inl (locked_is (is_free n) (sym c.is_locked.ensures ∙ x.if-is_locked.false))
+          ]) (λ e. ne (e ∙ ap (expected_of a.log.base.items a.found_tickets.items a.seen.items) (get_or_from_slice_get a.checks.items k p 0 c.get-part.ensures) ∙ sym c.expected.ensures)) (sym (get_or_from_slice_get a.checks.items k p 0 c.get-part.ensures)) c.ticket-newer.ensures.ticket;
+        };
         kept = refl;
       };
       kept = refl;
@@ -158,10 +163,15 @@ returns g c =
         reason = λ y e. absurd (checks_on a.checks.items (c.args.place + 1) c.args.ticket c.next_check-self.result c.next_check-self.ensures y e);
         alone = λ one quiet. record { early = quiet.early; unaborted = λ y e. absurd (checks_on a.checks.items (c.args.place + 1) c.args.ticket c.next_check-self.result c.next_check-self.ensures y e) };
         by = search rules;
-        commits = record { number = n; value = pos 0; tells = subst (λ (q : ℕ). Tells g.T.Naming.valid (g.C.Cells.passes c.args.cells.now) (Check q) v n (pos 0) w) (sym (get_or_from_slice_get a.checks.items k p 0 c.get-part.ensures)) c.check-found.ensures.tells; leads = check_on (g.T.TxType.meaning a.log.ty.now) (committer_of a) k c.args.ticket n (pos 0) c.next_check-self.result (elim c.else-is_locked.branch [
-          | else-is_locked-via-then-is_locked+else-not-is_written x ↦ inr (ap (writes a.updates.items) (get_or_from_slice_get a.checks.items k p 0 c.get-part.ensures) ∙ is_in x.as_slice.result.now a.updates.items p x.is_written.result true x.as_slice.ensures.items x.is_written.ensures x.if-not-is_written.false)
-          | else-is_locked-via-else-is_locked x ↦ inl (locked_is (is_free n) (sym c.is_locked.ensures ∙ x.if-is_locked.false))
-        ]) (same ∙ c.expected.ensures ∙ sym (ap (expected_of a.log.base.items a.found_tickets.items a.seen.items) (get_or_from_slice_get a.checks.items k p 0 c.get-part.ensures))) c.next_check-self.ensures; };
+        commits = record {
+          number = n;
+          value = pos 0;
+          tells = subst (λ (q : ℕ). Tells g.T.Naming.valid (g.C.Cells.passes c.args.cells.now) (Check q) v n (pos 0) w) (sym (get_or_from_slice_get a.checks.items k p 0 c.get-part.ensures)) c.check-found.ensures.tells;
+          leads = check_on (g.T.TxType.meaning a.log.ty.now) (committer_of a) k c.args.ticket n (pos 0) c.next_check-self.result (elim c.else-is_locked.branch [
+            | else-is_locked-via-then-is_locked+else-not-is_written x ↦ inr (ap (writes a.updates.items) (get_or_from_slice_get a.checks.items k p 0 c.get-part.ensures) ∙ is_in x.as_slice.result.now a.updates.items p x.is_written.result true x.as_slice.ensures.items x.is_written.ensures x.if-not-is_written.false)
+            | else-is_locked-via-else-is_locked x ↦ inl (locked_is (is_free n) (sym c.is_locked.ensures ∙ x.if-is_locked.false))
+          ]) (same ∙ c.expected.ensures ∙ sym (ap (expected_of a.log.base.items a.found_tickets.items a.seen.items) (get_or_from_slice_get a.checks.items k p 0 c.get-part.ensures))) c.next_check-self.ensures;
+        };
         kept = refl;
       };
       kept = refl;

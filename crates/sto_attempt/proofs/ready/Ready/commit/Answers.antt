@@ -33,7 +33,7 @@ returns g c =
         reason = λ y e. absurd (puts_on a.places.items 0 c.args.ticket c.next_put-self.result c.next_put-self.ensures y e);
         alone = λ one quiet. record { early = quiet.early; unaborted = λ y e. absurd (puts_on a.places.items 0 c.args.ticket c.next_put-self.result c.next_put-self.ensures y e) };
         by = search rules;
-        commits = record { number = 0; value = pos 0; tells = c.decide.ensures.tells; leads = decide_on (g.T.TxType.meaning a.log.ty.now) (committer_of a) c.args.ticket 0 (pos 0) c.next_put-self.result c.next_put-self.ensures; };
+        commits = record { number = 0; value = pos 0; tells = c.decide.ensures.tells; leads = decide_on (g.T.TxType.meaning a.log.ty.now) (committer_of a) c.args.ticket 0 (pos 0) c.next_put-self.result c.next_put-self.ensures };
         kept = refl;
       };
       kept = refl;

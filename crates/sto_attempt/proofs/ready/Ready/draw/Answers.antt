@@ -44,7 +44,7 @@ returns g c =
         reason = λ y e. absurd (checks_on a.checks.items 0 c.draw-ticket.result c.next_check-self.result c.next_check-self.ensures y e);
         alone = λ one quiet. record { early = quiet.early; unaborted = λ y e. absurd (checks_on a.checks.items 0 c.draw-ticket.result c.next_check-self.result c.next_check-self.ensures y e) };
         by = search rules;
-        commits = record { number = tells.0; value = pos 0; tells = tells.2; leads = draw_on (g.T.TxType.meaning a.log.ty.now) (committer_of a) tells.0 (pos 0) c.draw-ticket.result c.next_check-self.result tells.1 c.next_check-self.ensures; };
+        commits = record { number = tells.0; value = pos 0; tells = tells.2; leads = draw_on (g.T.TxType.meaning a.log.ty.now) (committer_of a) tells.0 (pos 0) c.draw-ticket.result c.next_check-self.result tells.1 c.next_check-self.ensures };
         kept = refl;
       };
       kept = refl;

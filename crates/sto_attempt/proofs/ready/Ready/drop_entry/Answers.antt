@@ -22,7 +22,7 @@ returns g c =
         reason = λ y e. inl e;
         alone = λ one quiet. record { early = quiet.early; unaborted = quiet.unaborted };
         by = search rules;
-        commits = record { number = 0; value = pos 0; tells = c.decide.ensures.tells; leads = drop_on (g.T.TxType.meaning a.log.ty.now) (committer_of a) c.args.ticket 0 (pos 0) c.args.verdict c.len.result c.len.ensures; };
+        commits = record { number = 0; value = pos 0; tells = c.decide.ensures.tells; leads = drop_on (g.T.TxType.meaning a.log.ty.now) (committer_of a) c.args.ticket 0 (pos 0) c.args.verdict c.len.result c.len.ensures };
         kept = refl;
       };
       kept = refl;

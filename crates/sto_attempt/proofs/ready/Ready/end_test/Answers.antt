@@ -69,7 +69,7 @@ returns-then-is_locked-clause-advanced g c =
         reason = λ y e. inr (subst (λ z. HasReason (S.Tested c.args.place c.args.word c.args.ticket) a.log.set.items w z) e tt);
         alone = λ one quiet. absurd (not_busy v (task d n) k (tells.learns.0.alone one) (end_unheld d law n i t a.found_tickets a.loaded_words.items v h all) busy);
         by = search rules;
-        commits = record { number = k; value = pos 0; tells = subst (λ (e : Event). Tells valid passes e v k (pos 0) w) (sym (tested_end (g.T.TxType.meaning a.log.ty.now) (committer_of a) n i t all)) tells; leads = tested_busy (g.T.TxType.meaning a.log.ty.now) (committer_of a) n i t k (pos 0) p c.len.result all busy (sym at) c.len.ensures; };
+        commits = record { number = k; value = pos 0; tells = subst (λ (e : Event). Tells valid passes e v k (pos 0) w) (sym (tested_end (g.T.TxType.meaning a.log.ty.now) (committer_of a) n i t all)) tells; leads = tested_busy (g.T.TxType.meaning a.log.ty.now) (committer_of a) n i t k (pos 0) p c.len.result all busy (sym at) c.len.ensures };
         kept = refl;
       };
       kept = refl;
@@ -107,7 +107,7 @@ returns-then-newer-ticket-clause-advanced g c =
         reason = λ y e. inr (subst (λ z. HasReason (S.Tested c.args.place c.args.word c.args.ticket) a.log.set.items w z) e (inr (inr (subst (λ (q : ℕ). IsByTest a.log.set.items w q c.ticket-newer.result) at (subst (λ (r : ℕ). IsByTest a.log.set.items w (task d n) r) found (newer_reason d law n i t a.found_tickets a.loaded_words.items v h all w _ k _ tells (other_version k t differs) differs))))));
         alone = λ one quiet. absurd (omega (arith, it.ends.1.later, (tells.learns.0.alone one).1, h.going.sealed.number));
         by = search rules;
-        commits = record { number = k; value = pos 0; tells = subst (λ (e : Event). Tells valid passes e v k (pos 0) w) (sym (tested_end (g.T.TxType.meaning a.log.ty.now) (committer_of a) n i t all)) tells; leads = tested_newer (g.T.TxType.meaning a.log.ty.now) (committer_of a) n i t k (pos 0) p c.ticket-newer.result c.len-then-newer-ticket.result all free differs (sym at) (sym found) c.len-then-newer-ticket.ensures; };
+        commits = record { number = k; value = pos 0; tells = subst (λ (e : Event). Tells valid passes e v k (pos 0) w) (sym (tested_end (g.T.TxType.meaning a.log.ty.now) (committer_of a) n i t all)) tells; leads = tested_newer (g.T.TxType.meaning a.log.ty.now) (committer_of a) n i t k (pos 0) p c.ticket-newer.result c.len-then-newer-ticket.result all free differs (sym at) (sym found) c.len-then-newer-ticket.ensures };
         kept = refl;
       };
       kept = refl;
@@ -149,7 +149,7 @@ returns-then-all_so-clause-advanced g c =
         reason = λ y e. absurd (aimed_on a.updates.items a.tasks.items (n + 1) c.aim-self.result c.aim-self.ensures y e);
         alone = λ one quiet. record { early = quiet.early; unaborted = λ y e. absurd (aimed_on a.updates.items a.tasks.items (n + 1) c.aim-self.result c.aim-self.ensures y e) };
         by = search rules;
-        commits = record { number = k; value = pos 0; tells = subst (λ (e : Event). Tells valid passes e v k (pos 0) w) (sym (tested_end (g.T.TxType.meaning a.log.ty.now) (committer_of a) n i t all)) tells; leads = tested_on (g.T.TxType.meaning a.log.ty.now) (committer_of a) n i t k (pos 0) c.aim-self.result all free same (goes_where_so a.seen.items a.log.set.items a.loaded_words.items (task d n) good) c.aim-self.ensures; };
+        commits = record { number = k; value = pos 0; tells = subst (λ (e : Event). Tells valid passes e v k (pos 0) w) (sym (tested_end (g.T.TxType.meaning a.log.ty.now) (committer_of a) n i t all)) tells; leads = tested_on (g.T.TxType.meaning a.log.ty.now) (committer_of a) n i t k (pos 0) c.aim-self.result all free same (goes_where_so a.seen.items a.log.set.items a.loaded_words.items (task d n) good) c.aim-self.ensures };
         kept = refl;
       };
       kept = refl;
@@ -192,7 +192,7 @@ returns-clause-advanced g c =
         reason = λ y e. inr (subst (λ z. HasReason (S.Tested c.args.place c.args.word c.args.ticket) a.log.set.items w z) e (inr (inl (subst (λ (q : ℕ). IsByPredicate a.log.set.items w q t) at (fails_reason d law n i t a.found_tickets a.loaded_words.items v h all w _ k _ tells again here f.pred f.there f.on f.fails)))));
         alone = λ one quiet. absurd (omega (arith, it.ends.1.later, same, (tells.learns.0.alone one).1, h.going.sealed.number));
         by = search rules;
-        commits = record { number = k; value = pos 0; tells = subst (λ (e : Event). Tells valid passes e v k (pos 0) w) (sym (tested_end (g.T.TxType.meaning a.log.ty.now) (committer_of a) n i t all)) tells; leads = tested_fails (g.T.TxType.meaning a.log.ty.now) (committer_of a) n i t k (pos 0) p t c.len-2.result all free same (stops_where_not d h.going.planned (task d n) a.loaded_words.items (task_loaded d law n v h.going.sealed h.going.planned h.below h.unwritten) bad) (sym at) (sym h.ticket) c.len-2.ensures; };
+        commits = record { number = k; value = pos 0; tells = subst (λ (e : Event). Tells valid passes e v k (pos 0) w) (sym (tested_end (g.T.TxType.meaning a.log.ty.now) (committer_of a) n i t all)) tells; leads = tested_fails (g.T.TxType.meaning a.log.ty.now) (committer_of a) n i t k (pos 0) p t c.len-2.result all free same (stops_where_not d h.going.planned (task d n) a.loaded_words.items (task_loaded d law n v h.going.sealed h.going.planned h.below h.unwritten) bad) (sym at) (sym h.ticket) c.len-2.ensures };
         kept = refl;
       };
       kept = refl;

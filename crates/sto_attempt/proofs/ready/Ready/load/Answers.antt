@@ -97,7 +97,7 @@ returns-then-word-width g c =
         reason = λ y e. absurd e;
         alone = λ one quiet. record { early = quiet.early; unaborted = λ y e. absurd e };
         by = search rules;
-        commits = record { number = 0; value = x; tells = tells; leads = load_more m (committer_of a) n i 0 x loaded_words.items items (omega (arith, c.if-word-width.true, width)); };
+        commits = record { number = 0; value = x; tells = tells; leads = load_more m (committer_of a) n i 0 x loaded_words.items items (omega (arith, c.if-word-width.true, width)) };
         kept = refl;
       };
       kept = refl;
@@ -142,7 +142,7 @@ returns-then-goes_on g c =
         reason = λ y e. absurd (aimed_on a.updates.items a.tasks.items (n + 1) c.aim-self.result c.aim-self.ensures y e);
         alone = λ one quiet. record { early = quiet.early; unaborted = λ y e. absurd (aimed_on a.updates.items a.tasks.items (n + 1) c.aim-self.result c.aim-self.ensures y e) };
         by = search rules;
-        commits = record { number = 0; value = x; tells = tells; leads = load_all m (committer_of a) n i 0 x loaded_words.items c.aim-self.result items (omega (arith, c.if-word-width.false, width)) good c.aim-self.ensures; };
+        commits = record { number = 0; value = x; tells = tells; leads = load_all m (committer_of a) n i 0 x loaded_words.items c.aim-self.result items (omega (arith, c.if-word-width.false, width)) good c.aim-self.ensures };
         kept = refl;
       };
       kept = refl;
@@ -189,7 +189,7 @@ returns g c =
         reason = λ y e. inr (subst (λ z. HasReason (S.Loading c.args.place c.args.word) a.log.set.items w z) e (inr (inl (subst (λ (q : ℕ). IsByPredicate a.log.set.items w q c.ticket-ticket.result) at (subst (λ (k : ℕ). IsByPredicate a.log.set.items w (task d n) k) ticket (load_reason d law n i a.found_tickets a.loaded_words.items v h w _ _ x tells last here f.pred f.there f.on f.fails unseen))))));
         alone = λ one quiet. let early = early_ticket a.at a.found_tickets.items (task d n) 0 (omega arith) quiet.early in absurd (omega (arith, it.ends.1.later, early));
         by = search rules;
-        commits = record { number = 0; value = x; tells = tells; leads = load_stops m (committer_of a) n i 0 x loaded_words.items p c.ticket-ticket.result c.len.result items (omega (arith, c.if-word-width.false, width)) bad (sym at) (sym ticket) c.len.ensures; };
+        commits = record { number = 0; value = x; tells = tells; leads = load_stops m (committer_of a) n i 0 x loaded_words.items p c.ticket-ticket.result c.len.result items (omega (arith, c.if-word-width.false, width)) bad (sym at) (sym ticket) c.len.ensures };
         kept = refl;
       };
       kept = refl;

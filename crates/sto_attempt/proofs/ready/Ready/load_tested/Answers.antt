@@ -63,7 +63,7 @@ returns g c =
         reason = λ y e. absurd e;
         alone = λ one quiet. record { early = quiet.early; unaborted = λ y e. absurd e };
         by = search rules;
-        commits = record { number = 0; value = x; tells = subst (λ (e : Event). Tells g.T.Naming.valid passes e v 0 x w) (sym (tested_word (g.T.TxType.meaning a.log.ty.now) (committer_of a) n i c.args.ticket (omega (arith, c.requires.more, c.requires.width)))) tells; leads = tested_more (g.T.TxType.meaning a.log.ty.now) (committer_of a) n i c.args.ticket 0 x loaded_words.items items (omega (arith, c.requires.more, c.requires.width)); };
+        commits = record { number = 0; value = x; tells = subst (λ (e : Event). Tells g.T.Naming.valid passes e v 0 x w) (sym (tested_word (g.T.TxType.meaning a.log.ty.now) (committer_of a) n i c.args.ticket (omega (arith, c.requires.more, c.requires.width)))) tells; leads = tested_more (g.T.TxType.meaning a.log.ty.now) (committer_of a) n i c.args.ticket 0 x loaded_words.items items (omega (arith, c.requires.more, c.requires.width)) };
         kept = refl;
       };
       kept = refl;

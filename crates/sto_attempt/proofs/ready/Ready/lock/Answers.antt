@@ -62,7 +62,7 @@ returns-then-is_locked g c =
         reason = λ y e. inr (subst (λ z. HasReason (Locking c.args.place) a.log.set.items w z) (given c.args.place (Locked a.at u.0) c.give_up.new.self.commit_phase c.give_up.result c.give_up.ensures.over c.give_up.ensures.more y e) tt);
         alone = λ one quiet. absurd (not_busy v u.0 n (c.lock-found.ensures.tells.learns.alone one) (lock_unheld d law c.args.place a.found_tickets a.loaded_words.items v c.requires.stands u c.get.ensures) busy);
         by = give_by c.args.place a.at c.get.result.now.0 v c.give_up.new.self.commit_phase c.give_up.result c.give_up.ensures.over c.give_up.ensures.more c.requires.stands.phase;
-        commits = record { number = n; value = pos 0; tells = subst (λ (q : ℕ). Tells g.T.Naming.valid (g.C.Cells.passes c.args.cells.now) (Lock q) v n (pos 0) w) (sym (written_part a.updates.items k u c.get.ensures)) c.lock-found.ensures.tells; leads = (λ j. (committer_of (c.give_up.ensures.kept j), c.give_up.result)) ∙ lock_busy (g.T.TxType.meaning a.log.ty.now) (committer_of a) k n (pos 0) c.give_up.new.self.commit_phase c.give_up.result u.0 (sym (written_part a.updates.items k u c.get.ensures)) busy c.give_up.ensures.over c.give_up.ensures.more; };
+        commits = record { number = n; value = pos 0; tells = subst (λ (q : ℕ). Tells g.T.Naming.valid (g.C.Cells.passes c.args.cells.now) (Lock q) v n (pos 0) w) (sym (written_part a.updates.items k u c.get.ensures)) c.lock-found.ensures.tells; leads = (λ j. (committer_of (c.give_up.ensures.kept j), c.give_up.result)) ∙ lock_busy (g.T.TxType.meaning a.log.ty.now) (committer_of a) k n (pos 0) c.give_up.new.self.commit_phase c.give_up.result u.0 (sym (written_part a.updates.items k u c.get.ensures)) busy c.give_up.ensures.over c.give_up.ensures.more };
         kept = kept_commit_phase a c.give_up.new.self c.give_up.ensures.kept;
       };
       kept = kept_but_phase a c.give_up.new.self c.give_up.ensures.kept;
@@ -114,12 +114,17 @@ returns g c =
           ];
         };
         by = search rules;
-        commits = record { number = n; value = pos 0; tells = subst (λ (q : ℕ). Tells g.T.Naming.valid (g.C.Cells.passes c.args.cells.now) (Lock q) v n (pos 0) w) (sym (written_part a.updates.items k u c.get.ensures)) c.lock-found.ensures.tells; leads = elim c.if-next-len.branch [
-          | then-next-len x ↦ subst (λ (s : CommitPhase). now_at (committer_of a) c.push_spare.new.self.items a.loaded_words.items s None ≡ after_commit (g.T.TxType.meaning a.log.ty.now) (Locking k) (committer_of a) n (pos 0)) (sym x.self-is)
-              ((λ j. now_at (committer_of a) (ap (λ (l : Listed FoundTicket). l.items) c.push_spare.ensures j) a.loaded_words.items (Locking (k + 1)) None) ∙ lock_more (g.T.TxType.meaning a.log.ty.now) (committer_of a) k n (pos 0) u.0 c.ticket-ticket.result (sym (written_part a.updates.items k u c.get.ensures)) free c.ticket-ticket.ensures.ticket (omega (arith, x.if-next-len.true, c.len.ensures)))
-          | else-next-len x ↦ subst (λ (s : CommitPhase). now_at (committer_of a) c.push_spare.new.self.items a.loaded_words.items s None ≡ after_commit (g.T.TxType.meaning a.log.ty.now) (Locking k) (committer_of a) n (pos 0)) (sym x.self-is)
-              ((λ j. now_at (committer_of a) (ap (λ (l : Listed FoundTicket). l.items) c.push_spare.ensures j) a.loaded_words.items x.aim-self.result None) ∙ lock_all (g.T.TxType.meaning a.log.ty.now) (committer_of a) k n (pos 0) u.0 c.ticket-ticket.result x.aim-self.result (sym (written_part a.updates.items k u c.get.ensures)) free c.ticket-ticket.ensures.ticket (omega (arith, x.if-next-len.false, c.len.ensures)) x.aim-self.ensures)
-        ]; };
+        commits = record {
+          number = n;
+          value = pos 0;
+          tells = subst (λ (q : ℕ). Tells g.T.Naming.valid (g.C.Cells.passes c.args.cells.now) (Lock q) v n (pos 0) w) (sym (written_part a.updates.items k u c.get.ensures)) c.lock-found.ensures.tells;
+          leads = elim c.if-next-len.branch [
+            | then-next-len x ↦ subst (λ (s : CommitPhase). now_at (committer_of a) c.push_spare.new.self.items a.loaded_words.items s None ≡ after_commit (g.T.TxType.meaning a.log.ty.now) (Locking k) (committer_of a) n (pos 0)) (sym x.self-is)
+                ((λ j. now_at (committer_of a) (ap (λ (l : Listed FoundTicket). l.items) c.push_spare.ensures j) a.loaded_words.items (Locking (k + 1)) None) ∙ lock_more (g.T.TxType.meaning a.log.ty.now) (committer_of a) k n (pos 0) u.0 c.ticket-ticket.result (sym (written_part a.updates.items k u c.get.ensures)) free c.ticket-ticket.ensures.ticket (omega (arith, x.if-next-len.true, c.len.ensures)))
+            | else-next-len x ↦ subst (λ (s : CommitPhase). now_at (committer_of a) c.push_spare.new.self.items a.loaded_words.items s None ≡ after_commit (g.T.TxType.meaning a.log.ty.now) (Locking k) (committer_of a) n (pos 0)) (sym x.self-is)
+                ((λ j. now_at (committer_of a) (ap (λ (l : Listed FoundTicket). l.items) c.push_spare.ensures j) a.loaded_words.items x.aim-self.result None) ∙ lock_all (g.T.TxType.meaning a.log.ty.now) (committer_of a) k n (pos 0) u.0 c.ticket-ticket.result x.aim-self.result (sym (written_part a.updates.items k u c.get.ensures)) free c.ticket-ticket.ensures.ticket (omega (arith, x.if-next-len.false, c.len.ensures)) x.aim-self.ensures)
+          ];
+        };
         kept = refl;
       };
       kept = refl;

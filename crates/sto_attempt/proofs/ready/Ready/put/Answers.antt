@@ -70,7 +70,7 @@ returns g c =
         reason = λ y e. absurd (puts_on a.places.items (c.args.place + 1) c.args.ticket c.next_put-self.result c.next_put-self.ensures y e);
         alone = λ one quiet. record { early = quiet.early; unaborted = λ y e. absurd (puts_on a.places.items (c.args.place + 1) c.args.ticket c.next_put-self.result c.next_put-self.ensures y e) };
         by = search rules;
-        commits = record { number = 0; value = pos 0; tells = subst (λ (q : ℕ × ℕ). Tells g.T.Naming.valid (g.C.Cells.passes c.args.cells.now) (Put q.0 q.1 (value_put (committer_of a) q)) v 0 (pos 0) w) (sym (get_or_from_slice_get a.places.items k y (0, 0) c.get.ensures)) (subst (λ (z : ℤ). Tells g.T.Naming.valid (g.C.Cells.passes c.args.cells.now) (Put y.0 y.1 z) v 0 (pos 0) w) (same ∙ c.install-value.ensures ∙ ap (λ (ch : Change). applied ch old) (c.pending-change.ensures.change ∙ ap (λ (l : List Update). change_at l y.0 y.1) c.requires.copy) ∙ ap (applied (change_at a.updates.items y.0 y.1)) (old_same ∙ c.value.ensures)) c.put.ensures.tells); leads = put_on (g.T.TxType.meaning a.log.ty.now) (committer_of a) k c.args.ticket 0 (pos 0) c.next_put-self.result c.next_put-self.ensures; };
+        commits = record { number = 0; value = pos 0; tells = subst (λ (q : ℕ × ℕ). Tells g.T.Naming.valid (g.C.Cells.passes c.args.cells.now) (Put q.0 q.1 (value_put (committer_of a) q)) v 0 (pos 0) w) (sym (get_or_from_slice_get a.places.items k y (0, 0) c.get.ensures)) (subst (λ (z : ℤ). Tells g.T.Naming.valid (g.C.Cells.passes c.args.cells.now) (Put y.0 y.1 z) v 0 (pos 0) w) (same ∙ c.install-value.ensures ∙ ap (λ (ch : Change). applied ch old) (c.pending-change.ensures.change ∙ ap (λ (l : List Update). change_at l y.0 y.1) c.requires.copy) ∙ ap (applied (change_at a.updates.items y.0 y.1)) (old_same ∙ c.value.ensures)) c.put.ensures.tells); leads = put_on (g.T.TxType.meaning a.log.ty.now) (committer_of a) k c.args.ticket 0 (pos 0) c.next_put-self.result c.next_put-self.ensures };
         kept = refl;
       };
       kept = refl;

@@ -40,7 +40,7 @@ returns-then-next-len g c =
         reason = λ y e. absurd e;
         alone = λ one quiet. record { early = quiet.early; unaborted = λ y e. absurd e };
         by = search rules;
-        commits = record { number = 0; value = pos 0; tells = subst (λ (q : ℕ). Tells g.T.Naming.valid (g.C.Cells.passes c.args.cells.now) (Release q) v 0 (pos 0) w) (sym (written_part a.updates.items k (plain c.get.result.now) c.get.ensures)) c.release.ensures.tells; leads = release_more (g.T.TxType.meaning a.log.ty.now) (committer_of a) k c.args.ticket 0 (pos 0) (omega (arith, c.if-next-len.true, c.len.ensures)); };
+        commits = record { number = 0; value = pos 0; tells = subst (λ (q : ℕ). Tells g.T.Naming.valid (g.C.Cells.passes c.args.cells.now) (Release q) v 0 (pos 0) w) (sym (written_part a.updates.items k (plain c.get.result.now) c.get.ensures)) c.release.ensures.tells; leads = release_more (g.T.TxType.meaning a.log.ty.now) (committer_of a) k c.args.ticket 0 (pos 0) (omega (arith, c.if-next-len.true, c.len.ensures)) };
         kept = refl;
       };
       kept = refl;
@@ -69,7 +69,7 @@ returns g c =
         reason = λ y e. inr (subst (λ z. HasReason (S.Releasing c.args.place c.args.ticket) a.log.set.items w z) e tt);
         alone = λ one quiet. record { early = quiet.early; unaborted = λ y e. subst IsWrote e tt };
         by = release_by d (length a.places.items) c.args.place c.args.ticket c.requires.stands.1.0 a.loaded_words.items v c.requires.stands.1.1;
-        commits = record { number = 0; value = pos 0; tells = subst (λ (q : ℕ). Tells g.T.Naming.valid (g.C.Cells.passes c.args.cells.now) (Release q) v 0 (pos 0) w) (sym (written_part a.updates.items k (plain c.get.result.now) c.get.ensures)) c.release.ensures.tells; leads = release_all (g.T.TxType.meaning a.log.ty.now) (committer_of a) k c.args.ticket 0 (pos 0) (omega (arith, c.if-next-len.false, c.len.ensures)); };
+        commits = record { number = 0; value = pos 0; tells = subst (λ (q : ℕ). Tells g.T.Naming.valid (g.C.Cells.passes c.args.cells.now) (Release q) v 0 (pos 0) w) (sym (written_part a.updates.items k (plain c.get.result.now) c.get.ensures)) c.release.ensures.tells; leads = release_all (g.T.TxType.meaning a.log.ty.now) (committer_of a) k c.args.ticket 0 (pos 0) (omega (arith, c.if-next-len.false, c.len.ensures)) };
         kept = refl;
       };
       kept = refl;

@@ -57,7 +57,7 @@ returns-then-is_locked g c =
         reason = λ y e. inr (subst (λ z. HasReason (S.Testing c.args.place) a.log.set.items w z) e tt);
         alone = λ one quiet. absurd (not_busy v (task d n) m (tells.learns.alone one) (test_unheld d law n a.found_tickets a.loaded_words.items v c.requires.stands) busy);
         by = search rules;
-        commits = record { number = m; value = pos 0; tells = tells; leads = test_busy (g.T.TxType.meaning a.log.ty.now) (committer_of a) n m (pos 0) p c.len.result busy (sym at) c.len.ensures; };
+        commits = record { number = m; value = pos 0; tells = tells; leads = test_busy (g.T.TxType.meaning a.log.ty.now) (committer_of a) n m (pos 0) p c.len.result busy (sym at) c.len.ensures };
         kept = refl;
       };
       kept = refl;
@@ -91,7 +91,7 @@ returns g c =
         reason = λ y e. absurd e;
         alone = λ one quiet. record { early = early_more a.at a.found_tickets c.push_spare.new.self (record { part = task d n; ticket = c.ticket-ticket.result }) (ap (λ (l : Listed FoundTicket). l.items) pushed) quiet.early (omega (arith, (tells.learns.alone one).1, c.ticket-ticket.ensures.ticket, c.requires.stands.loading.going.sealed.number)); unaborted = λ y e. absurd e };
         by = search rules;
-        commits = record { number = m; value = pos 0; tells = tells; leads = test_on (g.T.TxType.meaning a.log.ty.now) (committer_of a) n m (pos 0) c.push_spare.new.self.items c.ticket-ticket.result free (ap (λ (l : Listed FoundTicket). l.items) pushed) c.ticket-ticket.ensures.ticket; };
+        commits = record { number = m; value = pos 0; tells = tells; leads = test_on (g.T.TxType.meaning a.log.ty.now) (committer_of a) n m (pos 0) c.push_spare.new.self.items c.ticket-ticket.result free (ap (λ (l : Listed FoundTicket). l.items) pushed) c.ticket-ticket.ensures.ticket };
         kept = refl;
       };
       kept = refl;

@@ -79,10 +79,12 @@ returns-in-Need g c =
       grown = search rules;
       runs = search rules;
       comes = rw (← i.ty, ← i.base) (λ r at.
-          let ran = i.ran r at.0 at.1 at.2 in
-          (ran, ran_halts (g.T.TxType.meaning l.ty.now) (g.met.T.TxType.lawful l.ty.now) f r l.base.items l.set rs at.0 ran
-          (pending_of (g.T.TxType.meaning l.ty.now) f (words_in l.base.items) l.set.items l.set.updates rs i.log.log i.some) (known c.ask.new.cache) c.in_ok-part-in-Ask.ensures.cache c.in-Ask.call asks
-          c.in-Need.part (rw c.in-Need.is at c.in_ok-part-in-Ask.ensures.plan) unknown.0 unknown.1));
+          let ran = i.ran r at.0 at.1 at.2 in (
+            ran,
+            ran_halts (g.T.TxType.meaning l.ty.now) (g.met.T.TxType.lawful l.ty.now) f r l.base.items l.set rs at.0 ran
+                (pending_of (g.T.TxType.meaning l.ty.now) f (words_in l.base.items) l.set.items l.set.updates rs i.log.log i.some) (known c.ask.new.cache) c.in_ok-part-in-Ask.ensures.cache c.in-Ask.call asks
+                c.in-Need.part (rw c.in-Need.is at c.in_ok-part-in-Ask.ensures.plan) unknown.0 unknown.1,
+          ));
       left = search rules;
       asks = search rules;
       script = search rules;

@@ -1,0 +1,12 @@
+pub mod Texts
+pub mod FirstEvents
+pub mod Runs
+pub mod InTurn
+pub mod NotLong
+pub mod Traces
+pub mod Faults
+pub mod Endings
+pub mod Outputs
+pub mod Summaries
+pub mod Feeds
+pub mod Findings

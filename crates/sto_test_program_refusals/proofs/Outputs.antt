@@ -1,0 +1,107 @@
+-- What `sto` does not print.
+use Rattle.std.specs.Fmt.{digits}
+use Rattle.std.specs.Int.{int_wrap}
+use Rattle.std.specs.List.{flat_map, enumerate_from}
+use Rattle.std.proofs.Common.{◌≡◌, ℕ, List, [], length, Bool, true, false, Option, Some, Ok, refl, sym, ap, ◌∙◌, subst, arith}
+use Rattle.sto_lang.specs.Files.{file_of}
+use Rattle.sto_lang.specs.Scripts.{File}
+use Rattle.sto_write.specs.Texts.{text_of, upgraded}
+use Rattle.sto_report_spec.specs.Lawful.{IsLawful, IsLawfulJson}
+use Rattle.sto_report_spec.specs.declared.form.ReportForm.TheVariants.{Text}
+use Rattle.sto_run.specs.Meanings.{updating_by}
+use Rattle.sto_run.specs.Stores.{means}
+use Rattle.sto_lawful_report.specs.Forms.{form_for, IsAlone}
+use Rattle.sto_outcomes.specs.declared.outcome.Outcomes.{Outcomes}
+use Rattle.sto_outcome_text.specs.Texts.{outcome_text, sum_line, outcomes_in}
+use Rattle.sto_args.specs.declared.command.Command.TheVariants.{Run, Step, Explore, Upgrade, Gen}
+use Rattle.sto_cli_common.specs.declared.refusal.InputFault.{InputFault}
+use Rattle.sto_cli_common.specs.declared.refusal.InputFault.TheVariants.{Script, NoReport, LongTrace, LongRun, ManySchedules}
+use Rattle.sto_cli_common.specs.Outcomes.{IsDone, IsFaulty}
+use Rattle.sto_cli_common.specs.Faults.{IsScriptFault}
+use Rattle.sto_cli_common.specs.Workers.{workers_of}
+use Rattle.sto_cli.specs.Outputs.{IsOutput}
+use Rattle.sto_cli.specs.Programs.{program}
+use Rattle.sto_test_premises.specs.Adding.{script, file}
+use Rattle.sto_test_premises.proofs.Adding.{reads_file}
+use Rattle.sto_test_refusals.specs.Texts.{right}
+use Rattle.sto_test_refusals.proofs.Lists.{differ, none_behind}
+use Rattle.sto_test_refusals.proofs.Unlawful.{nothing_is_none}
+use Rattle.sto_test_program_refusals.specs.Inputs.{alone_changed, alone_reversed}
+use Rattle.sto_test_program_refusals.proofs.Texts.{no_front, none_gained}
+
+-- the script says one file
+pub read_as : (f : File) → file_of script ≡ Ok f → f ≡ file
+read_as f reads = let e = sym reads ∙ reads_file in cc
+
+-- what `run` and `step` print of it is lawful
+pub run_lawful : (threads : Option ℕ) (text : List ℕ) → IsOutput (Run threads 64 false) script text → IsLawful (updating_by means) file 64 text
+run_lawful threads text o = subst (λ (f : File). IsLawful (updating_by means) f 64 text) (read_as o.0 o.1) o.2
+
+pub run_lawful_json : (threads : Option ℕ) (text : List ℕ) → IsOutput (Run threads 64 true) script text → IsLawfulJson (updating_by means) file 64 text
+run_lawful_json threads text o = subst (λ (f : File). IsLawfulJson (updating_by means) f 64 text) (read_as o.0 o.1) o.2
+
+pub step_lawful : (text : List ℕ) → IsOutput (Step 64 false) script text → IsLawful (updating_by means) file 64 text
+step_lawful text o = subst (λ (f : File). IsLawful (updating_by means) f 64 text) (read_as o.0 o.1) o.2.report.lawful
+
+-- with one worker it is one text
+by_one : (f : File) (text : List ℕ) → f ≡ file → (workers_of (Some 1) (length f.threads) ≡ 1 → IsAlone Text f text) → IsAlone Text file text
+by_one f text same alone =
+    subst (λ (g : File). workers_of (Some 1) (length g.threads) ≡ 1 → IsAlone Text g text) same alone refl
+
+run_alone : (text : List ℕ) → IsOutput (Run (Some 1) 64 false) script text → IsAlone Text file text
+run_alone text o = by_one o.0 text (read_as o.0 o.1) o.3
+
+pub not_changed : IsOutput (Run (Some 1) 64 false) script alone_changed → ⊥
+unfolding digits int_wrap
+not_changed o = differ _ _ 48 51 50 refl refl (λ e. omega (arith, e)) (run_alone alone_changed o).report
+
+pub not_reversed : IsOutput (Run (Some 1) 64 false) script alone_reversed → ⊥
+unfolding digits int_wrap
+not_reversed o = differ _ _ 3 49 48 refl refl (λ e. omega (arith, e)) (run_alone alone_reversed o).report
+
+pub not_aborted : IsOutput (Run (Some 1) 64 false) script right → ⊥
+unfolding digits int_wrap
+not_aborted o = let n : 1 ≡ 0 = ap length (run_alone right o).none in omega (arith, n)
+
+-- no report is nothing
+pub run_nothing : (threads : Option ℕ) (tries : ℕ) (json : Bool) (bytes : List ℕ) → IsOutput (Run threads tries json) bytes [] → ⊥
+run_nothing threads tries json bytes o = nothing_is_none (updating_by means) (form_for json) o.0 tries o.2
+
+pub run_silent : (threads : Option ℕ) (tries : ℕ) (json : Bool) (bytes held : List ℕ)
+    → IsDone program tt (Some (Run threads tries json)) (Some bytes) (Some []) (Some held) (Some held) → ⊥
+run_silent threads tries json bytes held done =
+    run_nothing threads tries json done.made.bytes
+    (subst (λ (text : List ℕ). IsOutput (Run threads tries json) done.made.bytes text) (sym (none_gained held done.text done.gained)) done.made.output)
+
+pub step_nothing : (tries : ℕ) (json : Bool) (bytes : List ℕ) → IsOutput (Step tries json) bytes [] → ⊥
+step_nothing tries json bytes o = nothing_is_none (updating_by means) (form_for json) o.0 tries o.2.report.lawful
+
+-- the script has no fault
+no_fault : (fault : InputFault) → IsScriptFault script fault → ⊥
+no_fault (Script fault) h = let e = sym h ∙ reads_file in absurd cc
+no_fault NoReport h = h
+no_fault LongTrace h = h
+no_fault LongRun h = h
+no_fault (ManySchedules counts) h = h
+
+pub run_fault : (threads : Option ℕ) (tries : ℕ) (json : Bool) → IsFaulty program (Some (Run threads tries json)) (Some script) (Some []) → ⊥
+run_fault threads tries json faulty = no_fault faulty.0 faulty.1.1
+
+-- an exploration has at least the line of its sums
+told_nothing : (json : Bool) (f : File) (outcomes : Outcomes) → [] ≡ outcomes_in json f outcomes → ⊥
+told_nothing true f outcomes e = no_front e
+told_nothing false f outcomes e = no_front (none_behind (flat_map (outcome_text f) (enumerate_from 1 outcomes.each.items)) (sum_line outcomes) e)
+
+pub explore_nothing : (switches tries : ℕ) (json : Bool) (bytes : List ℕ) → IsOutput (Explore switches tries json) bytes [] → ⊥
+explore_nothing switches tries json bytes o = told_nothing json o.0 o.2.outcomes o.2.told
+
+-- what `upgrade` prints begins with its version
+pub upgrade_same : IsOutput Upgrade script script → ⊥
+unfolding digits int_wrap
+upgrade_same o = differ script (text_of (upgraded file)) 0 98 115 refl refl (λ e. omega (arith, e)) (o.2 ∙ ap (λ (f : File). text_of (upgraded f)) (read_as o.0 o.1))
+
+pub gen_nothing : (number : ℕ) (bytes : List ℕ) → IsOutput (Gen number) bytes [] → ⊥
+gen_nothing number bytes o = no_front o.0
+
+pub gen_other : (number : ℕ) (bytes others text other : List ℕ) → IsOutput (Gen number) bytes text → IsOutput (Gen number) others other → (other ≡ text → ⊥) → ⊥
+gen_other number bytes others text other o p apart = apart (p.0 ∙ sym o.0)
