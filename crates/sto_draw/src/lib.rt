@@ -5,7 +5,7 @@ ghost use Rattle.std.specs.Prelude.{◌≡◌, ◌≤◌, ℕ, length, map, IfOk
 ghost use Rattle.std.specs.Option.{option_map};
 ghost use Rattle.sto_lang.specs.Sound.{IsSound, IsFromTo};
 ghost use Rattle.sto_lang.specs.Views.{file as view};
-ghost use Rattle.sto_journal.specs.Journals.{home_pair};
+ghost use Rattle.sto_journal.specs.Journals.{home_pair, entry};
 ghost use Rattle.sto_picture.specs.Pictures.{picture_of};
 ghost use Rattle.sto_scene.specs.Scenes.{scene_for};
 ghost use Rattle.sto_run.specs.Meanings.{updating_by};
@@ -35,9 +35,9 @@ fn draw_run(
     requires lawful { (tries : ℕ) × IsLawfulJournal (updating_by means) (view file.now) tries journal.now }
     requires few { length steps.items ≤ 20000 }
     ensures { IfOk result (λ text. text.items ≡ picture_of (scene_for (view file.now).names (view file.now).declarations
-        (map home_pair homes.now) steps.items journal.now.state.items)) }
+        (map home_pair homes.now) steps.items (map entry journal.now.lines.items) journal.now.state.items)) }
 {
-    let scene = scene_of(alloc, file, homes, steps, &journal.state)?;
+    let scene = scene_of(alloc, file, homes, steps, journal)?;
     picture(alloc, &scene)
 }
 

@@ -1,5 +1,6 @@
 pub mod Elements
 pub mod Told
+pub mod Arrows
 pub mod Places
 pub mod Views
 pub mod Lanes

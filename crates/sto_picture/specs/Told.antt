@@ -50,15 +50,6 @@ abbrev pub released_part : Deed → Option ℕ
 released_part (Release part) = Some part
 released_part deed = None
 
--- the part whose version it looked at
-abbrev pub seen_part : Deed → Option ℕ
-seen_part (Open part version) = Some part
-seen_part (Close part version) = Some part
-seen_part (Recheck part version) = Some part
-seen_part (Test part version) = Some part
-seen_part (Check part version) = Some part
-seen_part deed = None
-
 -- it is this part
 abbrev pub is_part : ℕ → Option ℕ → Bool
 is_part part None = false
@@ -75,10 +66,6 @@ starts_of thread s = (s.thread == thread) && starts s.deed
 -- a thread locked a part with a step
 abbrev pub locks_of : ℕ → ℕ → Step → Bool
 locks_of thread part s = (s.thread == thread) && is_part part (locked_part s.deed)
-
--- a thread looked at the version of a part
-abbrev pub sees_of : ℕ → ℕ → Step → Bool
-sees_of thread part s = (s.thread == thread) && is_part part (seen_part s.deed)
 
 -- a step released a part
 abbrev pub releases : ℕ → Step → Bool

@@ -5,7 +5,7 @@ use Rattle.sto_trace.specs.declared.Step.{Step}
 use Rattle.sto_picture.specs.declared.scene.Scene as whole
 use Rattle.sto_picture.specs.declared.frame.Frame as measured
 
--- the names of threads and of parts, the steps of a run, and a line for each object at the end
+-- the names of threads and of parts, the steps of a run, and the lines below the heading "at the end"
 pub record Scene : Type 0 where
   pub threads : List (List ℕ)
   pub parts : List (List ℕ)

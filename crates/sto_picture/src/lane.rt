@@ -3,12 +3,13 @@ ghost use Rattle.std.specs.Prelude.{◌≡◌, ◌+◌, ◌++◌, ◌<◌, ◌�
 ghost use Rattle.std.specs.List.{list_all};
 ghost use Rattle.sto_lang.specs.Ascii.{is_ascii};
 ghost use Rattle.sto_picture.specs.Views.{frame_view};
-ghost use Rattle.sto_picture.specs.Lanes.{held_text, lock_text, found_text, seen_text, change_text, lane_text};
+ghost use Rattle.sto_picture.specs.Lanes.{held_text, lock_text, found_text, change_text, lane_text};
 
+use crate::arrow::ends_of;
 use crate::element::{Arrow, push_arrow, push_box, push_words};
 use crate::frame::Frame;
 use crate::place::{bar_bottom, lane_of, left, middle, part_top, right};
-use crate::told::{last_lock, last_look, last_release};
+use crate::told::last_lock;
 use sto_attempt_log::Verdict;
 use sto_lang::Text;
 use sto_part::NoMemory;
@@ -52,18 +53,17 @@ pub(crate) fn push_lock(
     push_held(out, frame, lane_of(frame, part), from, n)
 }
 
-/// Adds an arrow from a release of a part to the bar of a thread.
+/// Adds an arrow from the release of a part to the step that found it, in the bar of a thread.
 fn push_found(
     out: &mut Text,
     frame: &Frame,
     thread: u32,
     lane: Option<u32>,
-    from: Option<u32>,
-    n: u32,
+    ends: Option<(u32, u32)>,
 ) -> Result<(), NoMemory>
-    ensures { OnOk result (out.new.items ≡ out.old.items ++ found_text (frame_view frame.now) thread lane from n) }
+    ensures { OnOk result (out.new.items ≡ out.old.items ++ found_text (frame_view frame.now) thread lane ends) }
 {
-    let (Some(lane), Some(from)) = (lane, from) else {
+    let (Some(lane), Some((from, found))) = (lane, ends) else {
         return Ok(());
     };
     let top = part_top(frame, lane);
@@ -73,7 +73,7 @@ fn push_found(
             x: middle(frame, from),
             y: top + 10,
             line: top + 5,
-            to: middle(frame, n),
+            to: middle(frame, found),
             head: bar_bottom(thread) + 2,
         },
     )
@@ -92,14 +92,11 @@ pub(crate) fn push_change(
     requires few { length steps.now < 2 ^ 32 }
     ensures { OnOk result (out.new.items ≡ out.old.items ++ change_text (frame_view frame.now) steps.now n thread end) }
 {
-    let Some(Verdict::Changed { part, .. }) = end else {
+    let Some(Verdict::Changed { part, ticket, .. }) = end else {
         return Ok(());
     };
-    let Some(seen) = last_look(steps, thread, part, n + 1) else {
-        return Ok(());
-    };
-    let from = last_release(steps, part, seen);
-    push_found(out, frame, thread, lane_of(frame, part), from, seen)
+    let ends = ends_of(steps, thread, part, ticket, n);
+    push_found(out, frame, thread, lane_of(frame, part), ends)
 }
 
 /// Adds the name of a lane, and a line above it across the picture.

@@ -1,6 +1,7 @@
 //! Pictures of runs: what each event did, as lanes, bars, locks and arrows, in SVG.
 #![tactic(auto)]
 
+mod arrow;
 mod attempt;
 mod element;
 mod frame;

@@ -3,7 +3,7 @@ ghost use Rattle.std.specs.Prelude.{◌≡◌, ◌-◌, ◌<◌, ◌≤◌, ◌^
 ghost use Rattle.std.specs.Option.{option_map};
 ghost use Rattle.std.specs.List.{list_all};
 ghost use Rattle.sto_lang.specs.Ascii.{is_ascii};
-ghost use Rattle.sto_picture.specs.Told.{sign, starts, tries_lock, locked_part, freed_part, released_part, seen_part, is_part, last_before, starts_of, locks_of, sees_of, releases, commits_of, start_of, commit_of};
+ghost use Rattle.sto_picture.specs.Told.{sign, starts, tries_lock, locked_part, freed_part, released_part, is_part, last_before, starts_of, locks_of, releases, commits_of, start_of, commit_of};
 
 use sto_trace::{Deed, Step};
 
@@ -72,20 +72,6 @@ fn released_part(deed: Deed) -> Option<u32>
     }
 }
 
-/// The part whose version a deed looked at.
-fn seen_part(deed: Deed) -> Option<u32>
-    ensures { result ≡ seen_part deed }
-{
-    match deed {
-        Deed::Open { part, .. }
-        | Deed::Close { part, .. }
-        | Deed::Recheck { part, .. }
-        | Deed::Test { part, .. }
-        | Deed::Check { part, .. } => Some(part),
-        _ => None,
-    }
-}
-
 fn is_part(part: u32, other: Option<u32>) -> bool
     ensures { result ≡ is_part part other }
 {
@@ -96,7 +82,7 @@ fn is_part(part: u32, other: Option<u32>) -> bool
 }
 
 /// The place of a step that stands so far before n.
-fn place_before(n: u32, back: Option<usize>) -> Option<u32>
+pub(crate) fn place_before(n: u32, back: Option<usize>) -> Option<u32>
     ensures { result ≡ option_map (λ back. n - 1 - back) back }
 {
     match back {
@@ -135,20 +121,6 @@ pub(crate) fn last_lock(steps: &[Step], thread: u32, part: u32, n: u32) -> Optio
     ensures { result ≡ last_before (locks_of thread part) steps.now n }
 {
     place_before(n, lock_back(&steps[..n as usize], thread, part))
-}
-
-fn look_back(steps: &[Step], thread: u32, part: u32) -> Option<usize>
-    ensures { result ≡ position (sees_of thread part) (reverse steps.now) }
-{
-    steps.iter().rev().position(|step| step.thread == thread && is_part(part, seen_part(step.deed)))
-}
-
-/// The last step before n with which a thread looked at the version of a part.
-pub(crate) fn last_look(steps: &[Step], thread: u32, part: u32, n: u32) -> Option<u32>
-    requires { n ≤ length steps.now }
-    ensures { result ≡ last_before (sees_of thread part) steps.now n }
-{
-    place_before(n, look_back(&steps[..n as usize], thread, part))
 }
 
 fn release_back(steps: &[Step], part: u32) -> Option<usize>

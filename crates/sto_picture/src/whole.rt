@@ -5,6 +5,7 @@ ghost use Rattle.sto_picture.specs.Views.{scene_view, frame_view, bytes_of, text
 ghost use Rattle.sto_picture.specs.Told.{freed_part};
 ghost use Rattle.sto_picture.specs.Places.{thread_top, part_top, value_line, picture_width};
 ghost use Rattle.sto_picture.specs.Lanes.{lane_text, lock_text, change_text};
+ghost use Rattle.sto_picture.specs.Arrows.{AreArrows};
 ghost use Rattle.sto_picture.specs.Attempts.{attempt_bar, end_words, sign_text};
 ghost use Rattle.sto_picture.specs.Pictures.{by_step, tick_text, ticks_text, lanes_text, steps_text, values_text, style_text, signs_text, opening_text, head_text, legend_text, drawn, picture_of};
 
@@ -234,7 +235,9 @@ fn push_picture(out: &mut Text, scene: &Scene, frame: &Frame) -> Result<(), NoMe
 /// for each part that is locked, and what the objects hold at the end.
 pub fn picture(alloc: Global, scene: &Scene) -> Result<Text, NoMemory>
     requires { length scene.now.steps.items ≤ 20000 }
-    ensures { IfOk result (λ text. text.items ≡ picture_of (scene_view scene.now)) }
+    ensures text { IfOk result (λ text. text.items ≡ picture_of (scene_view scene.now)) }
+    // Both ends of each arrow name the part and the ticket that the aborted attempt tells.
+    ensures arrows { AreArrows scene.now.steps.items }
 {
     let frame = frame_of(alloc, scene)?;
     let mut out = Text::new(alloc);

@@ -1,6 +1,7 @@
 //! What a picture of a run of a file shows.
 #![tactic(auto)]
 
+mod late;
 mod name;
 mod scene;
 

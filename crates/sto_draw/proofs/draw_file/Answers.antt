@@ -1,6 +1,6 @@
 use Rattle.std.proofs.Common.{map, ap, ◌∙◌, subst}
 use Rattle.sto_lang.specs.Views.{file as view}
-use Rattle.sto_journal.specs.Journals.{home_pair}
+use Rattle.sto_journal.specs.Journals.{home_pair, entry}
 use Rattle.sto_picture.specs.Pictures.{picture_of}
 use Rattle.sto_scene.specs.Scenes.{scene_for}
 use Rattle.sto_run.specs.Logged.{Log, kept}
@@ -22,7 +22,7 @@ returns c =
           c.in_ok-journal.ensures.traced;
       drawn =
           c.in_ok-text.ensures
-          ∙ (λ i. picture_of (scene_for file.names file.declarations (map home_pair (homes i)) steps run.journal.state.items));
+          ∙ (λ i. picture_of (scene_for file.names file.declarations (map home_pair (homes i)) steps (map entry run.journal.lines.items) run.journal.state.items));
       lawful = c.in_ok-journal.ensures.lawful;
       alone = c.in_ok-journal.ensures.alone;
     }

@@ -1,5 +1,5 @@
 //! Scripts that are run by every schedule: the sums that a case tells, as `.ci/outcomes` counts them, which shares nothing with the
-//! program; and each outcome is what `step` prints by the schedule that is told with it.
+//! program; each outcome is what `step` prints by the schedule that is told with it, and both forms have one order.
 use crate::calls::{Call, NONE, Program};
 use crate::cases::Case;
 use crate::cases::ending::Ending;
@@ -9,7 +9,7 @@ use std::sync::Wait;
 use std::thread::Threads;
 use std::{io, str};
 
-/// Explores the script of a case, and steps each outcome.
+/// Explores the script of a case in both forms, and steps each outcome.
 pub fn explore<R: Threads + Wait + Sync>(
     group: &mut Group<'_, R>,
     case: &Case<'_>,
@@ -21,10 +21,47 @@ pub fn explore<R: Threads + Wait + Sync>(
     let (outcomes, sums) = told.rsplit_once("sum ").unwrap_or((told, ""));
     let is_summed = case.text.strip_prefix("sum ") == Some(sums);
     group.add(case.call.words, called.status == case.status && is_summed)?;
+    compare_forms(group, case, script.as_str(), told)?;
     for outcome in outcomes.split("outcome ").skip(1) {
         step(group, script.as_str(), outcome)?;
     }
     Ok(())
+}
+
+// Explores a script once more, as JSON, which must tell the schedules of the text in their order.
+fn compare_forms<R: Threads + Wait + Sync>(
+    group: &mut Group<'_, R>,
+    case: &Case<'_>,
+    script: &str,
+    told: &str,
+) -> io::Result<()> {
+    let alloc = group.rt.alloc();
+    let words = format!(in alloc; "{} --json", case.call.words)?;
+    let call = Call {
+        program: Program::Sto,
+        words: words.as_str(),
+    };
+    let called = call.on(group.threads, alloc, script, NONE)?;
+    let json = str::from_utf8(called.out.as_slice()).unwrap_or("");
+    group.add(words.as_str(), are_in_one_order(told, json))
+}
+
+// Whether JSON tells the schedules of a text, in the same order.
+fn are_in_one_order(text: &str, json: &str) -> bool {
+    let mut rest = json;
+    for line in text.lines() {
+        if !line.starts_with("schedule ") {
+            continue;
+        }
+        let Some((_, told)) = rest.split_once("\"schedule\":\"") else {
+            return false;
+        };
+        match told.strip_prefix(line) {
+            Some(after) if after.starts_with('"') => rest = after,
+            _ => return false,
+        }
+    }
+    !rest.contains("\"schedule\":\"")
 }
 
 // The schedule and the report of an outcome, after its first word.
