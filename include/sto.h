@@ -14,7 +14,9 @@
  * program with threads has forked.
  *
  * Every number that is given is tested: what will not do is answered by a status. Pointers are not, and cannot be: each must be
- * one to memory of its type, for its length, and no two that are written through may overlap.
+ * one to memory of its type, for its length. What a call writes may overlap nothing else that the call was given: neither what
+ * it writes too nor what it only reads, which has a pointer to const (the shapes of sto_open, the call of sto_ask, the calls of
+ * sto_run). What it only reads no other thread may write meanwhile.
  */
 #ifndef STO_H
 #define STO_H
@@ -159,13 +161,15 @@ typedef struct sto_row {
     int64_t value;
 } sto_row;
 
-/* Opens a store of these objects, for so many workers, and puts it into a handle that holds nothing. */
+/* Opens a store of these objects, for so many workers, which all rest in it, and puts it into a handle that holds nothing. Where
+ * objects cannot be, the status is that of the first one. */
 uint32_t sto_open(sto_handle *store, const sto_shape *shapes, size_t count, uint32_t workers);
 
 /* Takes a worker that rests in a store, and puts it into a handle that holds nothing: the two handles are different ones. */
 uint32_t sto_worker(sto_handle *store, sto_handle *worker);
 
-/* Gives a worker that is in no transaction back to its store, and leaves the handle holding nothing. It can be taken again. */
+/* Gives a worker back to its store, and leaves the handle holding nothing. It can be taken again. One that is in a transaction is
+ * refused (STO_IN_TRANSACTION), and stays in it. */
 uint32_t sto_give_back(sto_handle *worker);
 
 /* Closes a store in which all its workers rest: its handle then holds the rows of its objects, as the last commit left them.
@@ -185,7 +189,7 @@ uint32_t sto_free(sto_handle *handle);
 uint32_t sto_begin(sto_handle *worker);
 
 /* Asks a call of the transaction that the worker is in, and writes what it answered. The answers so far are those of one state
- * of the objects, also where the transaction is aborted later. */
+ * of the objects, also where the transaction is aborted later. The call and the reply may not overlap. */
 uint32_t sto_ask(sto_handle *worker, const sto_call *call, sto_reply *reply);
 
 /* Copies the pairs of the last reply of the transaction that the worker is in, and writes how many they are. Where there is
@@ -203,7 +207,8 @@ uint32_t sto_cancel(sto_handle *worker);
 /* Runs a whole transaction of calls that do not depend on one another's replies, tries it a few times where it is aborted, and
  * writes the replies: there is to be room for as many as there are calls. Of pairs it writes only how many they are. Where a
  * call is not taken nothing takes effect. A worker that is in a transaction already stays in it: STO_IN_TRANSACTION. Where the
- * answer is not STO_OK, some replies may have been written, and they count for nothing. */
+ * answer is not STO_OK, some replies may have been written, and they count for nothing. The calls, the replies and the place may
+ * not overlap. */
 uint32_t sto_run(sto_handle *worker, const sto_call *calls, size_t count, sto_reply *replies, size_t room, uint64_t *place);
 
 /* How many more transactions a worker may begin. */

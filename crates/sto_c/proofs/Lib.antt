@@ -4,3 +4,5 @@ pub mod Planned
 pub mod Replies
 pub mod Sending
 pub mod Whole
+pub mod Gathering
+pub mod Refutations

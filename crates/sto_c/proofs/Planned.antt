@@ -1,12 +1,12 @@
 -- What was planned of the shapes that were given, and why a shape was not.
 use Rattle.std.proofs.Common.{◌≡◌, ◌+◌, ◌≤◌, ℕ, suc, List, [], ◌∷◌, ◌++◌, length, map, take, drop, slice_get, Option, Some, sym, ap, ◌∙◌, subst, arith}
-use Rattle.std.proofs.lemmas.List.{take-append-drop, take_all, map-append}
+use Rattle.std.proofs.lemmas.List.{take-append-drop, take_all, map-append, append-nil, append_assoc}
 use Rattle.sto_model.specs.declared.shape.Shape.{Shape}
 use Rattle.sto_open.specs.declared.unplanned.Unplanned.{Unplanned}
 use Rattle.sto_open.specs.declared.unplanned.Unplanned.TheVariants as unplanned
 use Rattle.sto_open.specs.declared.unopened.Unopened.{Unopened}
 use Rattle.sto_open.specs.declared.unopened.Unopened.TheVariants as unopened
-use Rattle.sto_open.specs.Plans.{IsReason}
+use Rattle.sto_open.specs.Plans.{IsReason, CanStand, AllStand}
 use Rattle.sto_open.specs.Refusals.{IsCause}
 use Rattle.sto_c.specs.declared.crossing.ShapeIn.{ShapeIn}
 use Rattle.sto_c.specs.declared.status.Status.{Status}
@@ -18,27 +18,34 @@ use Rattle.sto_c.proofs.Copying.{drop_next, take_next}
 
 -- the shape at the place i cannot stand behind those before it
 pub refused_at : (shapes : List ShapeIn) (given : ShapeIn) (planned : List Shape) (i : ℕ) (why : Status) → slice_get shapes i ≡ Some given
-    → map shape_in (take i shapes) ≡ map Some planned → IsUnfit why planned (shape_in given) → IsRefused shapes why
-refused_at shapes given planned i why here fit reason = record {
+    → map shape_in (take i shapes) ≡ map Some planned → AllStand [] planned → IsUnfit why planned (shape_in given) → IsRefused shapes why
+refused_at shapes given planned i why here fit first reason = record {
   before = take i shapes;
   given = given;
   after = drop (suc i) shapes;
   planned = planned;
   all = sym (take-append-drop i shapes) ∙ ap (λ (d : List ShapeIn). take i shapes ++ d) (drop_next shapes given i here);
   fit = fit;
+  first = first;
   reason = reason;
 }
 
 -- the same by what the plan answered
 pub unplanned_at : (shapes : List ShapeIn) (given : ShapeIn) (planned : List Shape) (shape : Shape) (i : ℕ) (error : Unplanned) → slice_get shapes i ≡ Some given
-    → map shape_in (take i shapes) ≡ map Some planned → Some shape ≡ shape_in given → IsReason error planned shape → IsUnplanned shapes (of_unplanned error)
-unplanned_at shapes given planned shape i unplanned.OutOfOrder here fit is reason =
-    refused_at shapes given planned i status.BadOrder here fit (subst (λ (o : Option Shape). IsUnfit status.BadOrder planned o) is reason)
-unplanned_at shapes given planned shape i unplanned.NoRoom here fit is reason =
-    refused_at shapes given planned i status.BadSize here fit (subst (λ (o : Option Shape). IsUnfit status.BadSize planned o) is reason)
-unplanned_at shapes given planned shape i unplanned.TooMany here fit is reason =
-    refused_at shapes given planned i status.TooMany here fit (subst (λ (o : Option Shape). IsUnfit status.TooMany planned o) is reason)
-unplanned_at shapes given planned shape i unplanned.NoMemory here fit is reason = tt
+    → map shape_in (take i shapes) ≡ map Some planned → AllStand [] planned → Some shape ≡ shape_in given → IsReason error planned shape → IsUnplanned shapes (of_unplanned error)
+unplanned_at shapes given planned shape i unplanned.OutOfOrder here fit first is reason =
+    refused_at shapes given planned i status.BadOrder here fit first (subst (λ (o : Option Shape). IsUnfit status.BadOrder planned o) is reason)
+unplanned_at shapes given planned shape i unplanned.NoRoom here fit first is reason =
+    refused_at shapes given planned i status.BadSize here fit first (subst (λ (o : Option Shape). IsUnfit status.BadSize planned o) is reason)
+unplanned_at shapes given planned shape i unplanned.TooMany here fit first is reason =
+    refused_at shapes given planned i status.TooMany here fit first (subst (λ (o : Option Shape). IsUnfit status.TooMany planned o) is reason)
+unplanned_at shapes given planned shape i unplanned.NoMemory here fit first is reason = tt
+
+-- one more stands behind those before it
+pub stand_more : (before shapes : List Shape) (s : Shape) → AllStand before shapes → CanStand (before ++ shapes) s → AllStand before (shapes ++ s ∷ [])
+stand_more before [] s h k = (subst (λ (l : List Shape). CanStand l s) (append-nil before) k, tt)
+stand_more before (x ∷ xs) s h k =
+    (h.0, stand_more (before ++ x ∷ []) xs s h.1 (subst (λ (l : List Shape). CanStand l s) (sym (append_assoc before (x ∷ []) xs)) k))
 
 -- one more is planned
 pub planned_next : (shapes : List ShapeIn) (given : ShapeIn) (planned new : List Shape) (shape : Shape) (i : ℕ) → slice_get shapes i ≡ Some given

@@ -9,17 +9,19 @@ use Rattle.sto_objects.specs.declared.objects.Objects.{Objects}
 use Rattle.sto_objects.specs.contracts.objects.ObjectsNaming.TheImpl.{ghosts as naming_ghosts}
 use Rattle.sto_open.specs.declared.worker.IdleWorker.{IdleWorker}
 use Rattle.sto_open.specs.declared.unplanned.Unplanned.TheVariants as unplanned
-use Rattle.sto_open.specs.Plans.{IsReason}
+use Rattle.sto_open.specs.Plans.{IsReason, AllStand}
 use Rattle.sto_serial_history.specs.Done.{HaveHistory}
 use Rattle.sto_open.specs.Working.{IsWorker, AreRowsAfter}
 use Rattle.sto_session.specs.Steps.{IsUnchanged}
 use Rattle.sto_owned.specs.Owned.{Leads}
-use Rattle.sto_owned.specs.Endings.{AllRest}
+use Rattle.sto_owned.specs.declared.store.OwnedStore.{OwnedStore}
+use Rattle.sto_owned.specs.Endings.{HasGathered, HasGivenOut, AllRest, IsFreeWorker}
 use Rattle.sto_c.specs.declared.crossing.ShapeIn.{ShapeIn}
 use Rattle.sto_c.specs.declared.crossing.RowOut.{RowOut}
 use Rattle.sto_c.specs.declared.content.HandleContent.{HandleContent}
 use Rattle.sto_c.specs.declared.content.HandleContent.TheVariants.{Nothing, Store, Worker, Closed}
 use Rattle.sto_c.specs.declared.content.HeldStore.{HeldStore}
+use Rattle.sto_c.specs.declared.content.HeldWorker.{HeldWorker}
 use Rattle.sto_c.specs.declared.status.Status.{Status}
 use Rattle.sto_c.specs.declared.status.Status.TheVariants as status
 use Rattle.sto_c.specs.Content.{objects}
@@ -31,16 +33,19 @@ Fills P Q Nothing (Ok done) y = P y
 Fills P Q Nothing (Err why) y = (y ≡ Nothing) × Q why
 Fills P Q x done y = (done ≡ Err status.Taken) × (y ≡ x)
 
--- a store of objects of these shapes
-pub record HasShapes (shapes : List ShapeIn) (h : HeldStore) : Type 0 where
+-- a store of objects of these shapes, opened for so many workers, who all rest in it
+pub record HasShapes (shapes : List ShapeIn) (workers : ℕ) (h : HeldStore) : Type 0 where
   pub planned : List Shape
   pub all : map shape_in shapes ≡ map Some planned
   pub machines : (objects.meaning (arc_value h.store.store).ty).machines ≡ machines_of planned
   pub count : h.objects ≡ length shapes
+  pub passes : (arc_value h.store.store).shared.table.shared.key.passes ≡ workers
+  pub rest : length h.store.idle.items ≡ workers
+  pub none_out : h.store.slots.items ≡ []
 
-abbrev pub IsStoreOf : List ShapeIn → HandleContent → Type 0
-IsStoreOf shapes (Store h) = HasShapes shapes h
-IsStoreOf shapes _ = ⊥
+abbrev pub IsStoreOf : List ShapeIn → ℕ → HandleContent → Type 0
+IsStoreOf shapes workers (Store h) = HasShapes shapes workers h
+IsStoreOf shapes workers _ = ⊥
 
 -- why a shape cannot stand behind these
 abbrev pub IsUnfit : Status → List Shape → Option Shape → Type 0
@@ -50,7 +55,7 @@ IsUnfit status.BadSize planned (Some shape) = IsReason unplanned.NoRoom planned 
 IsUnfit status.TooMany planned (Some shape) = IsReason unplanned.TooMany planned shape
 IsUnfit _ planned shape = ⊥
 
--- one of the shapes cannot stand behind those before it
+-- one of the shapes cannot stand behind those before it, and is the first such
 pub record IsRefused (shapes : List ShapeIn) (why : Status) : Type 0 where
   pub before : List ShapeIn
   pub given : ShapeIn
@@ -58,6 +63,7 @@ pub record IsRefused (shapes : List ShapeIn) (why : Status) : Type 0 where
   pub planned : List Shape
   pub all : shapes ≡ before ++ given ∷ after
   pub fit : map shape_in before ≡ map Some planned
+  pub first : AllStand [] planned
   pub reason : IsUnfit why planned (shape_in given)
 
 -- why objects of these shapes were not planned
@@ -74,10 +80,22 @@ IsUnopened shapes workers why = IsUnplanned shapes why
 abbrev pub IsSameStore : ℕ → HeldStore → HeldStore → Type 0
 IsSameStore out h k = (k.store.store ≡ h.store.store) × (k.objects ≡ h.objects) × (length h.store.idle.items ≤ length k.store.idle.items + out)
 
--- a worker was given out of the store: it is of the same store
-abbrev pub IsHiredOf : HandleContent → HandleContent → Type 0
-IsHiredOf (Store h) (Worker k) = (arc_value k.worker.store ≡ arc_value h.store.store) × (k.objects ≡ h.objects)
-IsHiredOf _ _ = ⊥
+-- the same store: some of the workers that were out came back to it, and nothing else has changed
+abbrev pub IsGathered : HeldStore → HeldStore → Type 0
+IsGathered h k = (k.objects ≡ h.objects) × ((many : ℕ) × HasGathered objects many h.store k.store)
+
+-- a worker was given out of the store: it is of the same store, and was the last that rested there once some had come back
+pub record HasHired (h g : HeldStore) (k : HeldWorker) : Type 0 where
+  pub same : arc_value k.worker.store ≡ arc_value h.store.store
+  pub objects_same : k.objects ≡ h.objects
+  pub before : HeldStore
+  pub back : IsGathered h before
+  pub out : HasGivenOut before.store g.store k.worker
+
+-- the same of what handles hold
+abbrev pub IsHiredOf : HandleContent → HandleContent → HandleContent → Type 0
+IsHiredOf (Store h) (Store g) (Worker k) = HasHired h g k
+IsHiredOf _ _ _ = ⊥
 
 -- why no worker was given out of the store h, which is k then: none rests in it, or memory was wanting
 abbrev pub IsUnhiredOf : HeldStore → Status → HeldStore → Type 0
@@ -103,34 +121,36 @@ abbrev pub HasFreed : HandleContent → Result (Unit {0}) Status → HandleConte
 HasFreed Nothing done y = (done ≡ Err status.Empty) × (y ≡ Nothing)
 HasFreed _ done y = (done ≡ Ok tt) × (y ≡ Nothing)
 
--- a worker was given back to its store, or why it was not: then it is as it was
+-- a worker, which was in no transaction, was given back to its store, or why it was not: then it is as it was
 abbrev pub HasGivenBack : HandleContent → Result (Unit {0}) Status → HandleContent → Type 0
 HasGivenBack Nothing done y = (done ≡ Err status.Empty) × (y ≡ Nothing)
-HasGivenBack (Worker h) (Ok done) y = y ≡ Nothing
+HasGivenBack (Worker h) (Ok done) y = (y ≡ Nothing) × IsFreeWorker h.worker
 HasGivenBack (Worker h) (Err status.InTransaction) y = (y ≡ Worker h) × IfSome h.worker.session (λ x. x.live ≢ None)
 HasGivenBack (Worker h) (Err status.Busy) (Worker k) = (k.worker.store ≡ h.worker.store) × (k.objects ≡ h.objects)
-    × Leads IsUnchanged h.worker.session k.worker.session × IfSome h.worker.session (λ x. x.live ≡ None)
+    × Leads IsUnchanged h.worker.session k.worker.session × IsFreeWorker h.worker
 HasGivenBack (Worker h) (Err _) y = ⊥
 HasGivenBack x done y = (done ≡ Err status.OtherHandle) × (y ≡ x)
 
--- these are the rows of the contents after all commits of the workers of a store, who all came back to it, and the last state of a
--- serial history of all that they have done
+-- these are the rows of the contents after all commits of all workers of a store, and the last state of a serial history of all that
+-- they have done: those that rested in it, as they were, and those that were out, who came back to it
 pub record AreClosedRows (h : HeldStore) (rows : List RowOut) : Type 0 where
   pub state : List (List Row)
-  pub workers : List (IdleWorker Objects naming_ghosts)
-  pub own : All (λ (w : IdleWorker Objects naming_ghosts). IsWorker (objects.meaning (arc_value h.store.store).ty) (objects.sizes (arc_value h.store.store).ty) (arc_value h.store.store).shared w.rest.seat) workers
-  pub all : length workers ≡ (arc_value h.store.store).shared.table.shared.key.passes
-  pub leave : AreRowsAfter objects.valid (objects.meaning (arc_value h.store.store).ty) (map (λ w. w.rest.seat.me.0.view) workers) state
-  pub history : HaveHistory (objects.meaning (arc_value h.store.store).ty) (map (λ w. w.rest.seat.me.0.view) workers) state
+  pub many : ℕ
+  pub last : OwnedStore Objects naming_ghosts
+  pub gathered : HasGathered objects many h.store last
+  pub own : All (λ (w : IdleWorker Objects naming_ghosts). IsWorker (objects.meaning (arc_value last.store).ty) (objects.sizes (arc_value last.store).ty) (arc_value last.store).shared w.rest.seat) last.idle.items
+  pub all : length last.idle.items ≡ (arc_value last.store).shared.table.shared.key.passes
+  pub leave : AreRowsAfter objects.valid (objects.meaning (arc_value last.store).ty) (map (λ w. w.rest.seat.me.0.view) last.idle.items) state
+  pub history : HaveHistory (objects.meaning (arc_value last.store).ty) (map (λ w. w.rest.seat.me.0.view) last.idle.items) state
   pub told : rows ≡ rows_out 0 state
 
 -- a store was closed, or why it was not: fewer workers rest in it than it was opened for, or all do and another call has not let it go
 -- yet; where memory was wanting it may be lost
 abbrev pub HasClosedStore : HeldStore → Result (Unit {0}) Status → HandleContent → Type 0
 HasClosedStore h (Ok done) (Closed rows) = AreClosedRows h rows.items
-HasClosedStore h (Err status.WorkersOut) (Store k) = IsSameStore 0 h k × (AllRest k.store → ⊥)
-HasClosedStore h (Err status.Busy) (Store k) = IsSameStore 0 h k × AllRest k.store
-HasClosedStore h (Err status.NoMemory) (Store k) = IsSameStore 0 h k
+HasClosedStore h (Err status.WorkersOut) (Store k) = IsGathered h k × (AllRest k.store → ⊥)
+HasClosedStore h (Err status.Busy) (Store k) = IsGathered h k × AllRest k.store
+HasClosedStore h (Err status.NoMemory) (Store k) = IsGathered h k
 HasClosedStore h (Err status.NoMemory) Nothing = Unit {0}
 HasClosedStore h done y = ⊥
 

@@ -140,7 +140,7 @@ pub(crate) fn give_back(held: HeldWorker) -> (HandleContent, Result<(), Status>)
     ensures held { IsHeld result.0 }
     ensures given { HasGivenBack (Worker held) result.1 result.0 }
 {
-    let HeldWorker { worker, objects } = held;
+    let (worker, objects) = held.into_parts();
     match worker.give_back() {
         Ok(()) => (HandleContent::Nothing, Ok(())),
         Err(StillOut::InTransaction(worker)) => (

@@ -60,7 +60,7 @@ pub(crate) fn open(
     shapes: &[ShapeIn],
     workers: u32,
 ) -> Result<(), Status>
-    ensures { Fills (IsStoreOf shapes.now) (IsUnopened shapes.now workers) (held store.old) result (held store.new) }
+    ensures { Fills (IsStoreOf shapes.now workers) (IsUnopened shapes.now workers) (held store.old) result (held store.new) }
 {
     if store.is_full() {
         return Err(Status::Taken);
@@ -79,7 +79,7 @@ pub(crate) fn open(
 fn boxed_worker(alloc: Global, held: &mut HandleContent) -> Result<Box<HandleContent>, Status>
     requires { IsFull held.old }
     ensures full { IsFull held.new }
-    ensures hired { IfOk result (λ b. IsFull b.value × IsHiredOf held.old b.value) }
+    ensures hired { IfOk result (λ b. IsFull b.value × IsHiredOf held.old held.new b.value) }
     ensures unhired { IfErr result (IsUnhired held.old held.new) }
     ensures store { KeepsStore held.old held.new }
 {
@@ -96,8 +96,8 @@ fn boxed_worker(alloc: Global, held: &mut HandleContent) -> Result<Box<HandleCon
 
 /// Takes a worker of a store.
 pub(crate) fn hire(alloc: Global, store: &mut Handle, worker: &mut Handle) -> Result<(), Status>
-    ensures worker { Fills (IsHiredOf (held store.old)) (IsUnhired (held store.old) (held store.new)) (held worker.old) result
-        (held worker.new) }
+    ensures worker { Fills (IsHiredOf (held store.old) (held store.new)) (IsUnhired (held store.old) (held store.new))
+        (held worker.old) result (held worker.new) }
     ensures store { KeepsStore (held store.old) (held store.new) }
 {
     if worker.is_full() {

@@ -28,7 +28,7 @@ pub(crate) fn hire(alloc: Global, held: &mut HandleContent) -> Result<HeldWorker
     requires { IsFull held.old }
     ensures full { IsFull held.new }
     ensures worker { IfOk result IsWorker }
-    ensures hired { IfOk result (λ k. IsHiredOf held.old (Worker k)) }
+    ensures hired { IfOk result (λ k. IsHiredOf held.old held.new (Worker k)) }
     ensures unhired { IfErr result (IsUnhired held.old held.new) }
     ensures store { KeepsStore held.old held.new }
 {

@@ -54,7 +54,7 @@ pub extern "C" fn sto_open(
     shapes: &[ShapeIn],
     workers: u32,
 ) -> u32
-    ensures { Answers result (λ done. Fills (IsStoreOf shapes.now) (IsUnopened shapes.now workers) (held store.old) done
+    ensures { Answers result (λ done. Fills (IsStoreOf shapes.now workers) (IsUnopened shapes.now workers) (held store.old) done
         (held store.new)) }
 {
     number_of(handles::open(alloc, store, shapes, workers))
@@ -63,8 +63,8 @@ pub extern "C" fn sto_open(
 /// Takes a worker of a store.
 #[unsafe(no_mangle)]
 pub extern "C" fn sto_worker(alloc: Global, store: &mut Handle, worker: &mut Handle) -> u32
-    ensures worker { Answers result (λ done. Fills (IsHiredOf (held store.old)) (IsUnhired (held store.old) (held store.new))
-        (held worker.old) done (held worker.new)) }
+    ensures worker { Answers result (λ done. Fills (IsHiredOf (held store.old) (held store.new))
+        (IsUnhired (held store.old) (held store.new)) (held worker.old) done (held worker.new)) }
     ensures store { KeepsStore (held store.old) (held store.new) }
 {
     number_of(handles::hire(alloc, store, worker))

@@ -1,10 +1,18 @@
 //! A store is opened and closed, and its workers are given out.
 ghost use Rattle.std.specs.Prelude.{◌≡◌, Some, map, IfOk, IfErr};
-ghost use Rattle.std.specs.Arc.{arc_value};
 ghost use Rattle.sto_c.specs.declared.content.HandleContent.TheVariants.{Store};
 ghost use Rattle.sto_c.specs.Content.{IsHeld, IsStore, IsWorker};
 ghost use Rattle.sto_c.specs.Crossing.{shape_in};
-ghost use Rattle.sto_c.specs.Stores.{HasShapes, IsUnplanned, IsUnopened, IsSameStore, IsUnhiredOf, HasClosedStore};
+ghost use Rattle.sto_c.specs.Stores.{
+  HasShapes,
+  IsUnplanned,
+  IsUnopened,
+  IsSameStore,
+  IsGathered,
+  HasHired,
+  IsUnhiredOf,
+  HasClosedStore,
+};
 
 use crate::content::{HandleContent, HeldStore, HeldWorker};
 use crate::crossing::ShapeIn;
@@ -33,7 +41,7 @@ fn plan_of(alloc: Global, shapes: &[ShapeIn]) -> Result<Plan, Status>
 /// Opens a store of these objects, for so many workers.
 pub(crate) fn open(alloc: Global, shapes: &[ShapeIn], workers: u32) -> Result<HeldStore, Status>
     ensures store { IfOk result IsStore }
-    ensures shapes { IfOk result (HasShapes shapes.now) }
+    ensures shapes { IfOk result (HasShapes shapes.now workers) }
     ensures unopened { IfErr result (IsUnopened shapes.now workers) }
 {
     let plan = plan_of(alloc, shapes)?;
@@ -50,6 +58,7 @@ fn refill(held: &mut HeldStore) -> Result<(), NoMemory>
     requires { IsStore held.old }
     ensures store { IsStore held.new }
     ensures same { IsSameStore 0 held.old held.new }
+    ensures gathered { IsGathered held.old held.new }
 {
     if held.store.idle.is_empty() {
         held.store.gather()
@@ -63,8 +72,7 @@ pub(crate) fn hire(alloc: Global, held: &mut HeldStore) -> Result<HeldWorker, St
     requires { IsStore held.old }
     ensures store { IsStore held.new }
     ensures worker { IfOk result IsWorker }
-    ensures hired { IfOk result (λ k. (arc_value k.worker.store ≡ arc_value held.old.store.store)
-        × (k.objects ≡ held.old.objects)) }
+    ensures hired { IfOk result (HasHired held.old held.new) }
     ensures kept { IsSameStore 1 held.old held.new }
     ensures unhired { IfErr result (λ why. IsUnhiredOf held.old why held.new) }
 {
@@ -87,7 +95,7 @@ pub(crate) fn close(alloc: Global, held: HeldStore) -> (HandleContent, Result<()
     ensures held { IsHeld result.0 }
     ensures closed { HasClosedStore held result.1 result.0 }
 {
-    let HeldStore { store, objects } = held;
+    let (store, objects) = held.into_parts();
     let mut store = store;
     if store.gather().is_err() {
         return (

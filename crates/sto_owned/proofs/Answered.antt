@@ -7,20 +7,22 @@ use Rattle.sto_part.specs.declared.naming.Naming as naming
 use Rattle.sto_model.specs.declared.call.Call.{Call}
 use Rattle.sto_model.specs.declared.reply.Reply.{Reply}
 use Rattle.sto_type.specs.Traits.{OfType}
+use Rattle.sto_core.specs.declared.view.View.{View}
 use Rattle.sto_open.specs.declared.store.Store.{Store}
 use Rattle.sto_session.specs.declared.session.Session.{Session}
 use Rattle.sto_session.specs.Steps.{HasAsked}
 use Rattle.sto_session.proofs.Hearing.{asked_last}
 use Rattle.sto_owned.specs.declared.worker.OwnedWorker.{OwnedWorker}
-use Rattle.sto_owned.specs.Owned.{Leads, IsAt, IsOwnedWorker, replies_of}
+use Rattle.sto_owned.specs.Owned.{Leads, IsAt, IsOwnedWorker, view_at, replies_of}
+use Rattle.sto_owned.proofs.Since.{is_session}
 
 module _ {T : Type 0} {n : naming.Ghosts T} (t : OfType T) where
-  by_session : (s : Store T) (call : Call) (a b : Option (Session T n)) → IsAt t s a → Leads (λ x y. HasAsked t s.ty s.shared x call (Ok tt) y) a b
+  by_session : (s : Store T) (v : View) (call : Call) (a b : Option (Session T n)) → IsAt t s v a → Leads (λ x y. HasAsked t s.ty s.shared x call (Ok tt) y) a b
       → (rs : Listed Reply) × (option_and_then (λ x. option_map (λ p. p.attempt.replies) x.live) b ≡ Some rs) × (0 < length rs.items)
-  by_session s call None b h l = absurd h
-  by_session s call (Some x) None h l = absurd l
-  by_session s call (Some x) (Some y) h l = asked_last t s.ty s.shared x y call x.live refl h l
+  by_session s v call None b h l = absurd h
+  by_session s v call (Some x) None h l = absurd l
+  by_session s v call (Some x) (Some y) h l = asked_last t s.ty s.shared x y call x.live refl (is_session t s v x h) l
 
   pub answered_last : (w v : OwnedWorker T n) (call : Call) → IsOwnedWorker t w → Leads (λ x y. HasAsked t (arc_value w.store).ty (arc_value w.store).shared x call (Ok tt) y) w.session v.session
       → (rs : Listed Reply) × (replies_of v ≡ Some rs) × (0 < length rs.items)
-  answered_last w v call is l = by_session (arc_value w.store) call w.session v.session is.at l
+  answered_last w v call is l = by_session (arc_value w.store) (view_at w.slot) call w.session v.session is.at l

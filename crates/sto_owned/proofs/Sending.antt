@@ -25,6 +25,7 @@ use Rattle.sto_open.specs.contracts.worker.IdleWorker as IdleWorker
 use Rattle.sto_open.proofs.worker.IdleWorker.TheSendSync as idle_crosses
 use Rattle.sto_session.specs.contracts.session.Session as Session
 use Rattle.sto_session.proofs.session.Session.TheSendSync as session_crosses
+use Rattle.sto_owned.specs.contracts.given.Hired as Hired
 use Rattle.sto_owned.specs.contracts.given.GivenBack as GivenBack
 use Rattle.sto_owned.specs.contracts.given.GivenBackFits.TheImpl as given_fits
 use Rattle.sto_owned.proofs.given.GivenBack.TheSendSync as given_crosses
@@ -48,17 +49,17 @@ module _ (T : RattleType) (g : naming.Ghosts T.Denot) where
     abbrev Given : RattleType
     Given = Option.the_row (GivenBack.the_row T g)
 
-    abbrev slot_fits : fits.Ghosts Given.Denot (Store.the_row T g).Denot
-    slot_fits = option_fits.ghosts (GivenBack.the_row T g) (Store.the_row T g) (given_fits.ghosts T t given_fits.no_dict g given_fits.no_dict) option_fits.no_dict
+    abbrev slot_fits : fits.Ghosts Given.Denot (Hired.the_row T g).Denot
+    slot_fits = option_fits.ghosts (GivenBack.the_row T g) (Hired.the_row T g) (given_fits.ghosts T t given_fits.no_dict g given_fits.no_dict) option_fits.no_dict
 
     abbrev Slot : RattleType
-    Slot = Arc.the_row (Counted.the_row Given (Store.the_row T g) slot_fits) Global.the_row ghosts
+    Slot = Arc.the_row (Counted.the_row Given (Hired.the_row T g) slot_fits) Global.the_row ghosts
 
     slot_send : IsSend Slot
     slot_send =
         let s : IsSend Given = option_crosses.the_send (GivenBack.the_row T g) (given_crosses.the_send T g) in
         let y : IsSync Given = option_crosses.the_sync (GivenBack.the_row T g) given_sync in
-        heap.Arc-send (Counted.the_row Given (Store.the_row T g) slot_fits) (counted_crosses.the_send Given (Store.the_row T g) slot_fits s) (counted_crosses.the_sync Given (Store.the_row T g) slot_fits s y)
+        heap.Arc-send (Counted.the_row Given (Hired.the_row T g) slot_fits) (counted_crosses.the_send Given (Hired.the_row T g) slot_fits s) (counted_crosses.the_sync Given (Hired.the_row T g) slot_fits s y)
 
     module _ (s : IsSend T) (y : IsSync T) where
       store_send : IsSend (Arc.the_row (Store.the_row T g) Global.the_row ghosts)

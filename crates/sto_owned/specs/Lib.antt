@@ -1,3 +1,4 @@
+pub mod Back
 pub mod Owned
 pub mod Endings
 pub use Rattle.sto_open.specs.Working

@@ -1,10 +1,20 @@
 //! Where a worker that comes back waits until its store takes it.
 ghost use Rattle.std.specs.Prelude.{◌≡◌, IfSome, IfErr};
-ghost use Rattle.sto_open.specs.Working.{IsWorker};
+ghost use Rattle.std.specs.Arc.{arc_value};
+ghost use Rattle.sto_owned.specs.Back.{HasComeBack};
 
 use counted_slot::{Counted, FREE, Fits, TAKEN};
+use std::alloc::Global;
+use std::sync::Arc;
 use sto_open::{IdleWorker, Store};
 use sto_type::TxType;
+
+/// A worker as it was given out, and its store.
+#[derive(Drop)]
+pub struct Hired<T: TxType> {
+    pub store: Arc<Store<T>, Global>,
+    pub worker: IdleWorker<T>,
+}
 
 /// A worker that was given back.
 #[derive(Drop)]
@@ -13,12 +23,13 @@ pub struct GivenBack<T: TxType> {
 }
 
 impl<T: TxType> Fits for GivenBack<T> {
-    type Tag = Store<T>;
+    type Tag = Hired<T>;
 
-    ghost fits = { λ store given. IsWorker (T.meaning store.ty) (T.sizes store.ty) store.shared given.worker.rest.seat };
+    ghost fits = { λ hired given. HasComeBack (T.meaning (arc_value hired.store).ty) (T.sizes (arc_value hired.store).ty)
+        (arc_value hired.store).shared hired.worker given.worker };
 }
 
-/// Where a worker of a store that comes back waits until the store takes it. Contracts see the store.
+/// Where a worker of a store that comes back waits until the store takes it. Contracts see the worker as it was given out.
 pub type ReturnSlot<T> = Counted<Option<GivenBack<T>>>;
 
 // The word of a slot in which a worker waits; that of an empty one is `FREE`.
@@ -29,7 +40,8 @@ pub(crate) fn give<T: TxType + Drop>(
     slot: &ReturnSlot<T>,
     worker: IdleWorker<T>,
 ) -> Result<(), IdleWorker<T>>
-    requires { IsWorker (T.meaning slot.now.ty) (T.sizes slot.now.ty) slot.now.shared worker.rest.seat }
+    requires { HasComeBack (T.meaning (arc_value slot.now.store).ty) (T.sizes (arc_value slot.now.store).ty)
+        (arc_value slot.now.store).shared slot.now.worker worker }
     ensures { IfErr result (λ w. w ≡ worker) }
 {
     let (found, claim) = slot.turn(FREE, TAKEN);
@@ -43,7 +55,8 @@ pub(crate) fn give<T: TxType + Drop>(
 
 /// Takes the worker that waits in a slot, if there is one.
 pub(crate) fn take<T: TxType + Drop>(slot: &ReturnSlot<T>) -> Option<IdleWorker<T>>
-    ensures { IfSome result (λ w. IsWorker (T.meaning slot.now.ty) (T.sizes slot.now.ty) slot.now.shared w.rest.seat) }
+    ensures { IfSome result (λ w. HasComeBack (T.meaning (arc_value slot.now.store).ty) (T.sizes (arc_value slot.now.store).ty)
+        (arc_value slot.now.store).shared slot.now.worker w) }
 {
     if slot.load() != WAITS {
         return None;

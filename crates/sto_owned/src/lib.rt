@@ -5,6 +5,6 @@ mod given;
 mod store;
 mod worker;
 
-pub use given::{GivenBack, ReturnSlot};
+pub use given::{GivenBack, Hired, ReturnSlot};
 pub use store::{OwnedStore, StillOpen, Unhired};
 pub use worker::{OwnedWorker, StillOut};

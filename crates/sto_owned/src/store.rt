@@ -1,13 +1,13 @@
 //! A store, and the workers of it that were not given out.
-ghost use Rattle.std.specs.Prelude.{◌≡◌, ◌+◌, ◌≤◌, ◌<◌, ◌^◌, [], length, map, IfOk, IfErr, OnErr};
+ghost use Rattle.std.specs.Prelude.{◌≡◌, ◌+◌, ◌≤◌, ◌<◌, ◌^◌, ◌⊎◌, ℕ, [], length, map, IfOk, IfErr, OnErr};
 ghost use Rattle.std.specs.List.{All};
 ghost use Rattle.std.specs.Arc.{arc_value};
 ghost use Rattle.sto_serial_history.specs.Done.{HaveHistory};
 ghost use Rattle.sto_open.specs.Working.{IsWorker, AreRowsAfter};
 ghost use Rattle.sto_owned.specs.Owned.{IsOwnedStore, IsOwnedWorker};
-ghost use Rattle.sto_owned.specs.Endings.{IsUnhired, StaysOpen};
+ghost use Rattle.sto_owned.specs.Endings.{HasTakenIn, HasGathered, HasLent, HasGivenOut, IsUnhired, StaysOpen};
 
-use crate::given::{ReturnSlot, take};
+use crate::given::{Hired, ReturnSlot, take};
 use crate::worker::OwnedWorker;
 use counted_slot::Counted;
 use std::alloc::Global;
@@ -19,12 +19,21 @@ use sto_session::Session;
 use sto_type::TxType;
 
 /// A store, and the workers of it that rest in it. The store lives until this and all its workers are dropped.
-#[derive(Drop)]
 pub struct OwnedStore<T: TxType + Drop> {
     pub store: Arc<Store<T>, Global>,
     pub idle: IdleWorkers<T>,
     /// Where the workers that were given out come back, each in a slot of its own.
     pub slots: List<Arc<ReturnSlot<T>, Global>>,
+}
+
+impl<T: TxType + Drop> Drop for OwnedStore<T> {
+    fn drop(self) {
+        let OwnedStore {
+            store: _store,
+            idle: _idle,
+            slots: _slots,
+        } = self;
+    }
 }
 
 /// Why no worker was given out.
@@ -54,6 +63,7 @@ impl<T: TxType + Drop> OwnedStore<T> {
             opened.workers.items }
         ensures store { IfOk result (λ o. arc_value o.store ≡ opened.store) }
         ensures idle { IfOk result (λ o. o.idle ≡ opened.workers) }
+        ensures slots { IfOk result (λ o. o.slots.items ≡ []) }
         ensures owned { IfOk result (IsOwnedStore T.TxType) }
     {
         let OpenedStore { store, workers } = opened;
@@ -67,10 +77,16 @@ impl<T: TxType + Drop> OwnedStore<T> {
         }
     }
 
-    // A new slot for a worker, which the store keeps too.
-    fn lend_slot(&mut self, alloc: Global) -> Result<Arc<ReturnSlot<T>, Global>, NoMemory>
-        requires { IsOwnedStore T.TxType self.old }
-        ensures slot { IfOk result (λ slot. arc_value slot ≡ arc_value self.old.store) }
+    // A slot for a worker that is given out, which the store keeps too.
+    fn lend_slot(
+        &mut self,
+        alloc: Global,
+        hired: &Hired<T>,
+    ) -> Result<Arc<ReturnSlot<T>, Global>, NoMemory>
+        requires owned { IsOwnedStore T.TxType self.old }
+        requires home { arc_value hired.now.store ≡ arc_value self.old.store }
+        ensures slot { IfOk result (λ slot. arc_value slot ≡ hired.now) }
+        ensures lent { IfOk result (λ _. HasLent hired.now self.old self.new) }
         ensures owned { IsOwnedStore T.TxType self.new }
         ensures kept { (self.new.store ≡ self.old.store) × (self.new.idle ≡ self.old.idle) }
         ensures err { OnErr result (self.new ≡ self.old) }
@@ -78,7 +94,7 @@ impl<T: TxType + Drop> OwnedStore<T> {
         if self.slots.len() == u32::MAX {
             return Err(NoMemory);
         }
-        let Ok(slot) = Arc::new(alloc, Counted::new(None, &*self.store)) else {
+        let Ok(slot) = Arc::new(alloc, Counted::new(None, hired)) else {
             return Err(NoMemory);
         };
         let Ok(kept) = Arc::try_clone(&slot) else {
@@ -90,28 +106,37 @@ impl<T: TxType + Drop> OwnedStore<T> {
         }
     }
 
-    /// Gives a worker out that rests here.
+    /// Gives the worker out that rests here last.
     pub fn hire(&mut self, alloc: Global) -> Result<OwnedWorker<T>, Unhired>
         requires { IsOwnedStore T.TxType self.old }
         ensures store { self.new.store ≡ self.old.store }
         ensures same { IfOk result (λ w. arc_value w.store ≡ arc_value self.old.store) }
-        ensures one { IfOk result (λ _. length self.new.idle.items + 1 ≡ length self.old.idle.items) }
+        ensures out { IfOk result (HasGivenOut self.old self.new) }
         ensures owned { IsOwnedStore T.TxType self.new }
         ensures worker { IfOk result (IsOwnedWorker T.TxType) }
         ensures unhired { IfErr result (λ why. IsUnhired why self.old self.new) }
     {
-        if self.idle.is_empty() {
+        let many = self.idle.len();
+        if many == 0 {
             return Err(Unhired::NoneLeft);
         }
         let Ok(store) = Arc::try_clone(&self.store) else {
             return Err(Unhired::NoMemory);
         };
-        let Ok(slot) = self.lend_slot(alloc) else {
-            return Err(Unhired::NoMemory);
+        let Some(worker) = self.idle.pop() else {
+            unreachable!()
         };
-        match self.idle.pop() {
-            Some(worker) => Ok(OwnedWorker::new(alloc, store, slot, worker)),
-            None => unreachable!(),
+        let hired = Hired { store, worker };
+        match self.lend_slot(alloc, &hired) {
+            Ok(slot) => Ok(OwnedWorker::new(alloc, hired, slot)),
+            Err(NoMemory) => {
+                let Hired {
+                    store: _store,
+                    worker: idle,
+                } = hired;
+                self.idle.push_spare(idle);
+                Err(Unhired::NoMemory)
+            }
         }
     }
 
@@ -122,10 +147,9 @@ impl<T: TxType + Drop> OwnedStore<T> {
         requires room { 1 ≤ self.old.idle.spare }
         requires few { length self.old.idle.items + 1 < 2 ^ 32 }
         ensures owned { IsOwnedStore T.TxType self.new }
-        ensures store { self.new.store ≡ self.old.store }
+        ensures taken { (self.new ≡ self.old) ⊎ HasTakenIn T.TxType self.old self.new }
         ensures slots { place ≤ length self.new.slots.items }
         ensures room { self.old.idle.spare ≤ self.new.idle.spare + 1 }
-        ensures idle { length self.old.idle.items ≤ length self.new.idle.items }
         ensures one { length self.new.idle.items ≤ length self.old.idle.items + 1 }
     {
         if let Some(worker) = take(&**self.slots.get(place)) {
@@ -134,10 +158,11 @@ impl<T: TxType + Drop> OwnedStore<T> {
         }
     }
 
-    /// Takes in the workers that were given back. Where memory is wanting they wait.
+    /// Takes in the workers that were given back: they rest behind those that rest here already. Where memory is wanting they wait.
     pub fn gather(&mut self) -> Result<(), NoMemory>
         requires { IsOwnedStore T.TxType self.old }
         ensures owned { IsOwnedStore T.TxType self.new }
+        ensures gathered { (many : ℕ) × HasGathered T.TxType many self.old self.new }
         ensures store { self.new.store ≡ self.old.store }
         ensures idle { length self.old.idle.items ≤ length self.new.idle.items }
         ensures err { OnErr result ((self.new.idle ≡ self.old.idle) × (self.new.slots ≡ self.old.slots)) }

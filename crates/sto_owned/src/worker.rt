@@ -1,13 +1,12 @@
 //! A worker of a store.
-ghost use Rattle.std.specs.Prelude.{◌≡◌, IfSome, IfErr, None, is_some, option_map};
+ghost use Rattle.std.specs.Prelude.{◌≡◌, IfSome, IfOk, IfErr, is_some, option_map};
 ghost use Rattle.std.specs.Arc.{arc_value};
 ghost use Rattle.sto_open.specs.Working.{IsWorker};
-ghost use Rattle.sto_session.specs.Sessions.{IsSessionOf};
 ghost use Rattle.sto_session.specs.Steps.{HasBegun, HasAsked, HasEndedBy, HasCommittedAfter, HasCancelledAfter};
 ghost use Rattle.sto_owned.specs.Owned.{Leads, IsOwnedWorker, replies_of};
-ghost use Rattle.sto_owned.specs.Endings.{StaysOut, worker_of};
+ghost use Rattle.sto_owned.specs.Endings.{IsOfWorker, IsFreeWorker, StaysOut, worker_of};
 
-use crate::given::{ReturnSlot, give};
+use crate::given::{Hired, ReturnSlot, give};
 use std::alloc::Global;
 use std::mem;
 use std::sync::Arc;
@@ -18,13 +17,22 @@ use sto_session::{Session, Unanswered, Unbegun, Uncommitted};
 use sto_type::TxType;
 
 /// A worker of a store, which owns a part of it. It may go to another thread.
-#[derive(Drop)]
 pub struct OwnedWorker<T: TxType + Drop> {
     pub store: Arc<Store<T>, Global>,
     /// Where it waits when it is given back.
     pub slot: Arc<ReturnSlot<T>, Global>,
     /// What it is at.
     pub session: Option<Session<T>>,
+}
+
+impl<T: TxType + Drop> Drop for OwnedWorker<T> {
+    fn drop(self) {
+        let OwnedWorker {
+            store: _store,
+            slot: _slot,
+            session: _session,
+        } = self;
+    }
 }
 
 /// Why a worker was not given back. Here it is.
@@ -36,21 +44,34 @@ pub enum StillOut<T: TxType + Drop> {
     Busy(OwnedWorker<T>),
 }
 
+// The worker of a session, and its memory.
+fn idle_of<T: TxType + Drop>(session: Session<T>) -> (IdleWorker<T>, LiveMemory)
+    ensures { (result.0.rest ≡ session.rest) × (result.0.left ≡ session.left) }
+{
+    let Session {
+        rest,
+        left,
+        live: _live,
+        memory,
+    } = session;
+    (IdleWorker { rest, left }, memory)
+}
+
 impl<T: TxType + Drop> OwnedWorker<T> {
-    /// A worker that was at rest.
+    /// A worker that is given out.
     pub(crate) fn new(
         alloc: Global,
-        store: Arc<Store<T>, Global>,
+        hired: Hired<T>,
         slot: Arc<ReturnSlot<T>, Global>,
-        worker: IdleWorker<T>,
     ) -> OwnedWorker<T>
-        requires rests { IsWorker (T.meaning (arc_value store).ty) (T.sizes (arc_value store).ty) (arc_value store).shared
-            worker.rest.seat }
-        requires same { arc_value slot ≡ arc_value store }
-        ensures store { (result.store ≡ store) × (result.slot ≡ slot) }
+        requires rests { IsWorker (T.meaning (arc_value hired.store).ty) (T.sizes (arc_value hired.store).ty)
+            (arc_value hired.store).shared hired.worker.rest.seat }
+        requires slot { arc_value slot ≡ hired }
+        ensures store { (result.store ≡ hired.store) × (result.slot ≡ slot) }
         ensures worker { IsOwnedWorker T.TxType result }
-        ensures free { IfSome result.session (λ x. (x.rest ≡ worker.rest) × (x.left ≡ worker.left) × (x.live ≡ None)) }
+        ensures session { IfSome result.session (IsOfWorker hired.worker) }
     {
+        let Hired { store, worker } = hired;
         let IdleWorker { rest, left } = worker;
         OwnedWorker {
             store,
@@ -155,9 +176,10 @@ impl<T: TxType + Drop> OwnedWorker<T> {
         }
     }
 
-    /// Gives the worker back to its store, where it waits until `OwnedStore::gather` takes it in.
+    /// Gives the worker back to its store, where it waits until `OwnedStore::gather` takes it in. Only one that is in no transaction is.
     pub fn give_back(self) -> Result<(), StillOut<T>>
         requires { IsOwnedWorker T.TxType self }
+        ensures free { IfOk result (λ _. IsFreeWorker self) }
         ensures worker { IfErr result (λ why. IsOwnedWorker T.TxType (worker_of why)) }
         ensures out { IfErr result (StaysOut self) }
     {
@@ -172,13 +194,8 @@ impl<T: TxType + Drop> OwnedWorker<T> {
         let Some(session) = session else {
             unreachable!()
         };
-        let Session {
-            rest,
-            left,
-            memory,
-            ..
-        } = session;
-        match give(&*slot, IdleWorker { rest, left }) {
+        let (worker, memory) = idle_of(session);
+        match give(&*slot, worker) {
             Ok(()) => Ok(()),
             Err(IdleWorker { rest, left }) => Err(StillOut::Busy(OwnedWorker {
                 store,

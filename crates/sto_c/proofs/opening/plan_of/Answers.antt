@@ -1,16 +1,17 @@
 -- The next shape is planned, or is the first that cannot stand behind those before it.
-use Rattle.std.proofs.Common.{◌≡◌, get_or, slice_get, List, Result, Ok, Err, pos, sym, subst, arith}
+use Rattle.std.proofs.Common.{◌≡◌, get_or, slice_get, List, [], Result, Ok, Err, pos, sym, subst, arith}
 use Rattle.std.specs.Prelude.{IfErr}
 use Rattle.std.specs.Result.{IsErrAnd}
 use Rattle.std.proofs.lemmas.Option.{slice_get-get_or}
 use Rattle.sto_model.specs.declared.shape.Shape.{Shape}
 use Rattle.sto_open.specs.declared.unplanned.Unplanned.{Unplanned}
+use Rattle.sto_open.specs.Plans.{AllStand}
 use Rattle.sto_c.specs.declared.crossing.ShapeIn.{ShapeIn}
 use Rattle.sto_c.specs.declared.status.Status.{Status}
 use Rattle.sto_c.specs.declared.status.Status.TheVariants.{BadKind}
 use Rattle.sto_c.specs.Statuses.{of_unplanned}
 use Rattle.sto_c.specs.Stores.{IsUnplanned}
-use Rattle.sto_c.proofs.Planned.{refused_at, unplanned_at, planned_next}
+use Rattle.sto_c.proofs.Planned.{refused_at, unplanned_at, stand_more, planned_next}
 use Rattle.sto_c.proofs.opening.plan_of.Goals as goal
 
 abbrev any_shape : ShapeIn
@@ -24,7 +25,7 @@ pub returns-in_default-clause-refused : goal.returns-in_default-clause-refused
 returns-in_default-clause-refused c =
     let gs = c.args.shapes.now in
     let i = c.loop-given.given-index in
-    refused_at gs (get_or gs i any_shape) c.loop-given.plan i BadKind (slice_get-get_or gs i any_shape (omega arith)) c.loop-given.invariant (sym c.in_default.ensures)
+    refused_at gs (get_or gs i any_shape) c.loop-given.plan i BadKind (slice_get-get_or gs i any_shape (omega arith)) c.loop-given.invariant.planned c.loop-given.invariant.stand (sym c.in_default.ensures)
 
 pub returns-in_err-add-clause-refused : goal.returns-in_err-add-clause-refused
 returns-in_err-add-clause-refused c =
@@ -32,10 +33,13 @@ returns-in_err-add-clause-refused c =
     let i = c.loop-given.given-index in
     let error = c.in_err-add.field-0.0 in
     by_error c.from_residual.result error (λ why. IsUnplanned gs why) c.from_residual.ensures.1
-    (unplanned_at gs (get_or gs i any_shape) c.loop-given.plan c.in-Some.shape i error (slice_get-get_or gs i any_shape (omega arith)) c.loop-given.invariant c.in-Some.ensures c.in_err-add.ensures.reason)
+    (unplanned_at gs (get_or gs i any_shape) c.loop-given.plan c.in-Some.shape i error (slice_get-get_or gs i any_shape (omega arith)) c.loop-given.invariant.planned c.loop-given.invariant.stand c.in-Some.ensures c.in_err-add.ensures.reason)
 
 pub loop-given-preserved : goal.loop-given-preserved
 loop-given-preserved c =
     let gs = c.args.shapes.now in
     let i = c.loop-given.given-index in
-    planned_next gs (get_or gs i any_shape) c.loop-given.plan c.add.new.self c.in-Some.shape i (slice_get-get_or gs i any_shape (omega arith)) c.loop-given.invariant c.in-Some.ensures c.in_ok-add.ensures.added
+    record {
+      planned = planned_next gs (get_or gs i any_shape) c.loop-given.plan c.add.new.self c.in-Some.shape i (slice_get-get_or gs i any_shape (omega arith)) c.loop-given.invariant.planned c.in-Some.ensures c.in_ok-add.ensures.added;
+      stand = subst (λ (l : List Shape). AllStand [] l) (sym c.in_ok-add.ensures.added) (stand_more [] c.loop-given.plan c.in-Some.shape c.loop-given.invariant.stand c.in_ok-add.ensures.stands);
+    }

@@ -1,7 +1,11 @@
--- All that were taken are planned.
-use Rattle.std.proofs.Common.{◌≡◌, map, take, Some}
+-- All that were taken are planned, each behind those before it.
+use Rattle.std.proofs.Common.{◌≡◌, [], map, take, Some}
+use Rattle.sto_open.specs.Plans.{AllStand}
 use Rattle.sto_c.specs.Crossing.{shape_in}
 use Rattle.sto_c.proofs.opening.plan_of.Given as goal
 
 abbrev pub invariant-loop-given : goal.invariant-loop-given
-invariant-loop-given l = map shape_in (take l.given-index l.shapes) ≡ map Some l.plan
+invariant-loop-given l = record {
+  planned : map shape_in (take l.given-index l.shapes) ≡ map Some l.plan;
+  stand : AllStand [] l.plan;
+}

@@ -1,17 +1,17 @@
--- The others are those that were there before.
-use Rattle.std.proofs.Common.{Some}
-use Rattle.std.proofs.lemmas.List.Elements.{All-pop}
+-- The worker is the one that rested last.
+use Rattle.std.proofs.Common.{◌∷◌, ◌++◌, [], sym, ap, ◌∙◌}
 use Rattle.std.specs.Arc.{arc_value}
+use Rattle.sto_part.specs.Listed.{Listed}
 use Rattle.sto_open.specs.declared.worker.IdleWorker.{IdleWorker}
-use Rattle.sto_open.specs.Working.{IsWorker}
 use Rattle.sto_owned.proofs.store.OwnedStore.hire.Goals as goal
 
-pub returns-clause-owned : goal.returns-clause-owned
-returns-clause-owned g c =
-    let o = c.lend_slot.new.self in
-    let s = arc_value o.store in
-    let P : IdleWorker g.row.T.Denot g.T.Naming → Type 0 = λ w. IsWorker {T = g.row.T.Denot} (g.T.TxType.meaning s.ty) (g.T.Naming.sizes s.ty) s.shared w.rest.seat in
+pub returns-in-Ok-lend_slot-clause-out : goal.returns-in-Ok-lend_slot-clause-out
+returns-in-Ok-lend_slot-clause-out g c =
+    let lent = c.in-Ok-lend_slot.ensures.lent in
     record {
-      rest = (All-pop P o.idle.items c.pop.new.self.items (Some c.in-Some.worker) c.in-Some.ensures.0 c.lend_slot.ensures.owned.rest).0;
-      home = c.lend_slot.ensures.owned.home;
+      hired = record { store = c.in-Ok.store; worker = c.in-Some.worker };
+      idle = c.in-Some.ensures.0 ∙ ap (λ (l : Listed (IdleWorker g.row.T.Denot g.T.Naming)). l.items ++ c.in-Some.worker ∷ []) (sym c.lend_slot.ensures.kept.1);
+      lent = record { slot = lent.slot; to = lent.to; slots = lent.slots };
+      slot = ap arc_value c.new.ensures.store.1 ∙ c.in-Ok-lend_slot.ensures.slot;
+      session = c.new.ensures.session;
     }
