@@ -5,7 +5,6 @@ use sto_library::{
     BoxId, CloseError, CounterId, Done, Held, LookError, Objects, Schema, SharedStore, Snapshot,
     Unplanned, Waits, total_of, value_of,
 };
-use sto_open::OpenedStore;
 
 // A store of a box that holds 7 and a counter that holds 5, with so many workers.
 fn opened(alloc: Global, workers: u32) -> Option<(SharedStore<Objects>, BoxId, CounterId)> {
@@ -117,24 +116,5 @@ fn closed_by_hand(alloc: Global) -> Option<(bool, Option<i64>, Option<i64>)> {
     match store.close(alloc) {
         Ok(rows) => Some((lacked, value_of(&rows, 0), total_of(&rows, 1))),
         Err(_) => None,
-    }
-}
-
-#[test]
-fn a_store_is_made_of_what_was_opened(rt: HostRuntime) {
-    assert_eq!(rt; made_by_hand(rt.alloc()), Some((1, 7)));
-}
-
-// How many workers rest in a store that was made of an opened plan, and what its box holds.
-fn made_by_hand(alloc: Global) -> Option<(u32, i64)> {
-    let mut schema = Schema::new(alloc);
-    let of = schema.boxed(7).ok()?;
-    let Schema { objects } = schema;
-    let OpenedStore { store, workers } = objects.open(alloc, 1).ok()?;
-    let mut made = SharedStore::new(store, objects.into_shapes(), workers);
-    let resting = made.resting();
-    match made.look(alloc, &Swap(of, 8)) {
-        Ok(Done::Gave(held)) => Some((resting, held)),
-        _ => None,
     }
 }
