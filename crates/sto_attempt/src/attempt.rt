@@ -7,11 +7,9 @@ ghost use Rattle.sto_attempt_log.specs.declared.read_phase.ReadPhase.TheVariants
 ghost use Rattle.sto_attempt_log.specs.ReadSet.{IsTrueIn, AllTrueIn};
 ghost use Rattle.sto_attempt.specs.Attempts.{IsNew, IsOwnLog, IsUnderWay, IsBeforeWord, IsPrefixOf, FitsAt, IsExtending, HasGoneOn, MakesNext, HasStarted, HasStepped, HasReadOne, HasReadWord, ReadsAs, part_width, words_left};
 
-use std::alloc::Global;
 use std::mem;
-use sto_attempt_log::{
-    Extension, Heard, Log, Memory, ReadPhase, Turn, Verdict, lead, learn_updated,
-};
+use std::alloc::Global;
+use sto_attempt_log::{Extension, Heard, Log, Memory, ReadPhase, Turn, Verdict, lead, learn_updated};
 use sto_core::Cells;
 use sto_model::{Body, Replies};
 use sto_part::{NoMemory, PartWords, Pred};

@@ -6,10 +6,7 @@ ghost use Rattle.sto_attempt_log.specs.CommitPhases.{IsAim, IsNextCheck, IsNextP
 ghost use Rattle.sto_core.specs.Allowed.{Rises};
 ghost use Rattle.sto_attempt.specs.Commits.{MovesOnly, IsBefore, AdvancesNext, HasAdvanced, HasPrefix};
 
-use sto_attempt_log::{
-    CommitPhase, FoundTicket, FoundTickets, Heard, Lists, LoadedWord, LoadedWords, Log, Memory,
-    Verdict, is_seen, is_written,
-};
+use sto_attempt_log::{CommitPhase, FoundTicket, FoundTickets, Heard, Lists, LoadedWord, LoadedWords, Log, Memory, Verdict, is_seen, is_written};
 use sto_core::Cells;
 use sto_item::Updates;
 use sto_model::{Body, Replies};

@@ -16,7 +16,7 @@ use Rattle.sto_core.specs.History.{Contents, Validity, Updates, Log, if_committe
 use Rattle.sto_core.specs.Views.{times}
 use Rattle.sto_core.specs.Rule.{Past, Rule, IsLogged, total}
 use Rattle.sto_core.proofs.Entries.{time_at, once_within}
-use Rattle.sto_attempt_facts.specs.Counted.{if_won, times_committed}
+use Rattle.sto_history.specs.Counted.{if_won, times_committed}
 
 -- a committed entry is counted
 count_one : (e : Entry) → e.fate ≡ Committed → (t : ℕ) → e.ticket ≡ t → (if nat_eq t e.ticket then if_won e.fate else 0) ≡ 1

@@ -3,9 +3,9 @@ use Rattle.std.specs.List.{All}
 use Rattle.std.specs.Prelude.{if◌then◌else◌, ◌==◌, ◌&&◌}
 use Rattle.std.proofs.Common.{◌≡◌, ℕ, List, [], ◌∷◌, ◌++◌, length, map, refl, ap, ◌∙◌, arith, Bool, true, false, eq-eqb}
 use Rattle.std.proofs.lemmas.List.Elements.{All-head, All-tail}
-use Rattle.sto_attempt_facts.specs.Records as plainly
-use Rattle.sto_attempt_facts.specs.Records.{Place, is_abort, is_finished}
-use Rattle.sto_attempt_facts.specs.Counted.{aborted_times, finished_places}
+use Rattle.sto_history.specs.Records as plainly
+use Rattle.sto_history.specs.Records.{Place, is_abort, is_finished}
+use Rattle.sto_history.specs.Counted.{aborted_times, finished_places}
 use Rattle.sto_transaction.specs.declared.record.Record.{Record}
 use Rattle.sto_transaction.specs.Plain.{plain}
 

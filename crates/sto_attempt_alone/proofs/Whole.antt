@@ -16,10 +16,10 @@ use Rattle.sto_core.specs.History.{Contents, Validity, Updates, committed_update
 use Rattle.sto_core.specs.Rule.{Past, Rule, IsLogged, total}
 use Rattle.sto_core.proofs.Valid.{all_valid, part_after}
 use Rattle.sto_type.specs.Meaning.{Meaning}
-use Rattle.sto_attempt_facts.specs.Records.{Place, Verdict, Wrote, Read, Cancelled, Locked, Changed, is_abort, wrote_with, IsSince}
-use Rattle.sto_attempt_facts.specs.Counted.{times_committed}
-use Rattle.sto_attempt_facts.specs.Added.{Grows, IsAdded, IsKnown}
-use Rattle.sto_attempt_facts.specs.Told.{HasClaimed}
+use Rattle.sto_history.specs.Records.{Place, Verdict, Wrote, Read, Cancelled, Locked, Changed, is_abort, wrote_with, IsSince}
+use Rattle.sto_history.specs.Counted.{times_committed}
+use Rattle.sto_history.specs.Added.{Grows, IsAdded, IsKnown}
+use Rattle.sto_history.specs.Told.{HasClaimed}
 use Rattle.sto_plain.specs.Kept.{AreUpToDate}
 use Rattle.sto_plain.specs.Passes.{view_at, view_of}
 use Rattle.sto_transaction.specs.Resting.{IsAtRest}

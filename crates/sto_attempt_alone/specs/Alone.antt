@@ -8,7 +8,7 @@ use Rattle.sto_model.specs.declared.run.End.TheVariants.{Commit, Cancel}
 use Rattle.sto_core.specs.History.{Contents}
 use Rattle.sto_type.specs.Meaning.{Meaning}
 use Rattle.sto_type.specs.Runs.{contents_along}
-use Rattle.sto_attempt_facts.specs.Records.{Verdict, Wrote, Read, Cancelled, Locked, Changed, is_abort, is_wrote}
+use Rattle.sto_history.specs.Records.{Verdict, Wrote, Read, Cancelled, Locked, Changed, is_abort, is_wrote}
 
 -- how the body of an attempt ends that ended so
 abbrev pub end_of : Verdict → End

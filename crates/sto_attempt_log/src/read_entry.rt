@@ -2,15 +2,14 @@
 ghost use Rattle.std.specs.Prelude.{◌≡◌, ◌+◌, ◌^◌, ◌<◌, ◌≤◌, ℕ, [], ◌∷◌, ◌++◌, length, OnOk, OnErr, IfSome};
 ghost use Rattle.std.specs.List.{Contains, slice_range};
 ghost use Rattle.std.specs.Option.{option_map, option_map_or};
-ghost use Rattle.sto_index.specs.Index.{place_at};
+ghost use Rattle.sto_part.specs.Index.{place_at};
 ghost use Rattle.sto_attempt_log.specs.Placed.{placed};
 ghost use Rattle.sto_attempt_log.specs.ReadSet.{words_in, ticket_in};
 ghost use Rattle.sto_attempt_log.specs.Flat.{entry_with};
 
 use std::alloc::Global;
 use std::marker::Model;
-use sto_index::PartIndex;
-use sto_part::{List, NoMemory, PartWords};
+use sto_part::{List, NoMemory, PartIndex, PartWords};
 
 /// A part as an attempt has found it, as contracts see it.
 #[derive(Drop)]
@@ -61,7 +60,7 @@ impl Model for ReadSet {
     ghost use Rattle.std.specs.Prelude.{◌≡◌, ℕ};
     ghost use Rattle.std.specs.List.{All};
     ghost use Rattle.sto_part.specs.Listed.{Listed};
-    ghost use Rattle.sto_index.specs.Index.{place_at};
+    ghost use Rattle.sto_part.specs.Index.{place_at};
     ghost use Rattle.sto_attempt_log.specs.declared.read_entry.ReadEntry.{ReadEntry};
     ghost use Rattle.sto_attempt_log.specs.Placed.{place_in};
     ghost use Rattle.sto_attempt_log.specs.Flat.{entries_of, IsWithin};

@@ -1,6 +1,8 @@
+pub mod Summary
 pub mod Stages
 pub mod Bodies
 pub mod Files
+pub use Rattle.sto_report_spec.specs.Report
 pub use Rattle.sto_script.specs.Meaning
 pub use Rattle.sto_gen.specs.Generated
 pub use Rattle.sto_run.specs.Meanings

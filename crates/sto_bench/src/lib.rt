@@ -4,7 +4,9 @@
 mod body;
 mod file;
 mod run;
+mod text;
 
 pub use body::GeneratedBody;
 pub use file::GeneratedFile;
 pub use run::run_generated;
+pub use text::summary;

@@ -1,6 +1,6 @@
 -- A store to which workers came back.
 use Rattle.std.proofs.Common.{length, length-append, refl, ap, arith}
-use Rattle.sto_owned.proofs.Gathered.{rest_still, same_store}
+use Rattle.sto_shared_store.proofs.GatheredOwned.{rest_still, same_store}
 use Rattle.sto_c.specs.declared.content.HeldStore.{HeldStore}
 use Rattle.sto_c.specs.Content.{objects}
 use Rattle.sto_c.specs.Stores.{IsSameStore, IsGathered}

@@ -2,12 +2,12 @@
 use Rattle.std.proofs.Common.{◌≡◌, ◌+◌, ◌≤◌, ℕ, suc, List, [], ◌∷◌, ◌++◌, length, map, take, drop, slice_get, Option, Some, sym, ap, ◌∙◌, subst, arith}
 use Rattle.std.proofs.lemmas.List.{take-append-drop, take_all, map-append, append-nil, append_assoc}
 use Rattle.sto_model.specs.declared.shape.Shape.{Shape}
-use Rattle.sto_open.specs.declared.unplanned.Unplanned.{Unplanned}
-use Rattle.sto_open.specs.declared.unplanned.Unplanned.TheVariants as unplanned
-use Rattle.sto_open.specs.declared.unopened.Unopened.{Unopened}
-use Rattle.sto_open.specs.declared.unopened.Unopened.TheVariants as unopened
-use Rattle.sto_open.specs.Plans.{IsReason, CanStand, AllStand}
-use Rattle.sto_open.specs.Refusals.{IsCause}
+use Rattle.sto_shared_store.specs.declared.unplanned.Unplanned.{Unplanned}
+use Rattle.sto_shared_store.specs.declared.unplanned.Unplanned.TheVariants as unplanned
+use Rattle.sto_shared_store.specs.declared.unopened.Unopened.{Unopened}
+use Rattle.sto_shared_store.specs.declared.unopened.Unopened.TheVariants as unopened
+use Rattle.sto_shared_store.specs.Plans.{IsReason, CanStand, AllStand}
+use Rattle.sto_shared_store.specs.Refusals.{IsCause}
 use Rattle.sto_c.specs.declared.crossing.ShapeIn.{ShapeIn}
 use Rattle.sto_c.specs.declared.status.Status.{Status}
 use Rattle.sto_c.specs.declared.status.Status.TheVariants as status

@@ -5,18 +5,18 @@ use Rattle.std.proofs.Common.{◌≡◌, ◌≢◌, ◌+◌, ◌<◌, ◌≤◌,
 use Rattle.sto_model.specs.Machine.{opening_of}
 use Rattle.sto_model.specs.Run.{State, state_along}
 use Rattle.sto_model.specs.declared.shape.Shape.{Shape}
-use Rattle.sto_objects.specs.declared.objects.Objects.{Objects}
-use Rattle.sto_objects.specs.contracts.objects.ObjectsNaming.TheImpl.{ghosts as naming_ghosts}
-use Rattle.sto_serial_history.specs.Done.{AreAllDone, AreDoneBy}
-use Rattle.sto_serial_history.specs.History.{times_numbered, StandsIn, LeadTo}
-use Rattle.sto_serial_history.proofs.Examples.{boxes, set_five}
-use Rattle.sto_open.specs.declared.store.Store.{Store}
-use Rattle.sto_open.specs.declared.worker.IdleWorker.{IdleWorker}
-use Rattle.sto_open.specs.declared.unplanned.Unplanned.{Unplanned}
-use Rattle.sto_open.specs.declared.unplanned.Unplanned.TheVariants as unplanned
-use Rattle.sto_open.specs.Plans.{CanStand, AllStand, IsReason}
-use Rattle.sto_session.specs.declared.session.Session.{Session}
-use Rattle.sto_owned.proofs.Gathered.{rest_still, slots_left, same_store}
+use Rattle.sto_store.specs.declared.objects.Objects.{Objects}
+use Rattle.sto_store.specs.contracts.objects.ObjectsNaming.TheImpl.{ghosts as naming_ghosts}
+use Rattle.sto_history.specs.Done.{AreAllDone, AreDoneBy}
+use Rattle.sto_history.specs.History.{times_numbered, StandsIn, LeadTo}
+use Rattle.sto_history.proofs.Examples.{boxes, set_five}
+use Rattle.sto_shared_store.specs.declared.store.Store.{Store}
+use Rattle.sto_shared_store.specs.declared.worker.IdleWorker.{IdleWorker}
+use Rattle.sto_shared_store.specs.declared.unplanned.Unplanned.{Unplanned}
+use Rattle.sto_shared_store.specs.declared.unplanned.Unplanned.TheVariants as unplanned
+use Rattle.sto_shared_store.specs.Plans.{CanStand, AllStand, IsReason}
+use Rattle.sto_interactive.specs.declared.session.Session.{Session}
+use Rattle.sto_shared_store.proofs.GatheredOwned.{rest_still, slots_left, same_store}
 use Rattle.sto_c.specs.declared.content.HandleContent.{HandleContent}
 use Rattle.sto_c.specs.declared.content.HandleContent.TheVariants.{Worker}
 use Rattle.sto_c.specs.declared.content.HeldStore.{HeldStore}

@@ -5,7 +5,7 @@ use Rattle.std.proofs.lemmas.Option.{slice_get-get_or}
 use Rattle.sto_part.specs.Listed.{Listed}
 use Rattle.sto_model.specs.declared.call.Call.{Call}
 use Rattle.sto_model.specs.declared.reply.Reply.{Reply}
-use Rattle.sto_owned.proofs.Answered.{answered_last}
+use Rattle.sto_shared_store.proofs.Answered.{answered_last}
 use Rattle.sto_c.specs.declared.content.HeldWorker.{HeldWorker}
 use Rattle.sto_c.specs.declared.crossing.ReplyOut.{ReplyOut}
 use Rattle.sto_c.specs.Content.{objects, IsWorker}

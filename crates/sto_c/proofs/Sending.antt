@@ -3,15 +3,15 @@ use denote.Struct.Declared.{shape}
 use denote.Enum.Declared as enum
 use denote.Param.Send.{IsSend, EachSend, recorded_send, struct_send, enum_send, sendable}
 use Rattle.sto_part.proofs.list.List.TheSendSync as list_crosses
-use Rattle.sto_objects.specs.contracts.objects.Objects as Objects
-use Rattle.sto_objects.specs.contracts.objects.ObjectsNaming.TheImpl.{ghosts as naming_ghosts}
-use Rattle.sto_objects.specs.contracts.objects.ObjectsTxType.TheImpl.{ghosts as type_ghosts}
-use Rattle.sto_objects.proofs.objects.Objects.TheSendSync as objects_cross
+use Rattle.sto_store.specs.contracts.objects.Objects as Objects
+use Rattle.sto_store.specs.contracts.objects.ObjectsNaming.TheImpl.{ghosts as naming_ghosts}
+use Rattle.sto_store.specs.contracts.objects.ObjectsTxType.TheImpl.{ghosts as type_ghosts}
+use Rattle.sto_store.proofs.objects.Objects.TheSendSync as objects_cross
 use Rattle.sto_c.specs.contracts.content.HandleContent as HandleContent
 use Rattle.sto_c.specs.contracts.content.HeldStore as HeldStore
 use Rattle.sto_c.specs.contracts.content.HeldWorker as HeldWorker
 use Rattle.sto_c.specs.contracts.crossing.RowOut as RowOut
-use Rattle.sto_owned.proofs.Sending.{owned_store_send, owned_worker_send}
+use Rattle.sto_shared_store.proofs.Sending.{owned_store_send, owned_worker_send}
 
 held_store_send : IsSend HeldStore.the_field.row
 held_store_send = struct_send (shape HeldStore.the_type)

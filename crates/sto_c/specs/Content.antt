@@ -1,10 +1,10 @@
 -- What a handle may hold.
 use Rattle.std.specs.Prelude.{◌≢◌}
 use Rattle.sto_type.specs.Traits.{OfType, of_type}
-use Rattle.sto_objects.specs.declared.objects.Objects.{Objects}
-use Rattle.sto_objects.specs.contracts.objects.ObjectsNaming.TheImpl.{ghosts as naming_ghosts}
-use Rattle.sto_objects.specs.contracts.objects.ObjectsTxType.TheImpl.{ghosts as type_ghosts}
-use Rattle.sto_owned.specs.Owned.{IsOwnedStore, IsOwnedWorker}
+use Rattle.sto_store.specs.declared.objects.Objects.{Objects}
+use Rattle.sto_store.specs.contracts.objects.ObjectsNaming.TheImpl.{ghosts as naming_ghosts}
+use Rattle.sto_store.specs.contracts.objects.ObjectsTxType.TheImpl.{ghosts as type_ghosts}
+use Rattle.sto_shared_store.specs.Owned.{IsOwnedStore, IsOwnedWorker}
 use Rattle.sto_c.specs.declared.content.HandleContent.{HandleContent}
 use Rattle.sto_c.specs.declared.content.HandleContent.TheVariants.{Nothing, Store, Worker, Closed}
 use Rattle.sto_c.specs.declared.content.HeldStore.{HeldStore}

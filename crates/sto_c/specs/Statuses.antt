@@ -1,9 +1,9 @@
 -- The number of each status, as include/sto.h has it.
 use Rattle.std.specs.Prelude.{◌≡◌, ℕ, Result, Ok, Err}
-use Rattle.sto_open.specs.declared.unplanned.Unplanned.{Unplanned}
-use Rattle.sto_open.specs.declared.unplanned.Unplanned.TheVariants as unplanned
-use Rattle.sto_open.specs.declared.unopened.Unopened.{Unopened}
-use Rattle.sto_open.specs.declared.unopened.Unopened.TheVariants as unopened
+use Rattle.sto_shared_store.specs.declared.unplanned.Unplanned.{Unplanned}
+use Rattle.sto_shared_store.specs.declared.unplanned.Unplanned.TheVariants as unplanned
+use Rattle.sto_shared_store.specs.declared.unopened.Unopened.{Unopened}
+use Rattle.sto_shared_store.specs.declared.unopened.Unopened.TheVariants as unopened
 use Rattle.sto_c.specs.declared.status.Status.{Status}
 use Rattle.sto_c.specs.declared.status.Status.TheVariants as status
 

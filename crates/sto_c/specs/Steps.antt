@@ -4,14 +4,14 @@ use Rattle.std.specs.Arc.{arc_value}
 use Rattle.sto_model.specs.declared.call.Call.{Call}
 use Rattle.sto_model.specs.declared.reply.Reply.{Reply}
 use Rattle.sto_model.specs.Operations.{operation_of}
-use Rattle.sto_session.specs.declared.starting.Unbegun.{Unbegun}
-use Rattle.sto_session.specs.declared.starting.Unbegun.TheVariants as unbegun
-use Rattle.sto_session.specs.declared.asking.Unanswered.{Unanswered}
-use Rattle.sto_session.specs.declared.asking.Unanswered.TheVariants as unanswered
-use Rattle.sto_session.specs.declared.ending.Uncommitted.{Uncommitted}
-use Rattle.sto_session.specs.declared.ending.Uncommitted.TheVariants as uncommitted
-use Rattle.sto_session.specs.Steps as session
-use Rattle.sto_owned.specs.Owned.{Leads, replies_of}
+use Rattle.sto_interactive.specs.declared.starting.Unbegun.{Unbegun}
+use Rattle.sto_interactive.specs.declared.starting.Unbegun.TheVariants as unbegun
+use Rattle.sto_interactive.specs.declared.asking.Unanswered.{Unanswered}
+use Rattle.sto_interactive.specs.declared.asking.Unanswered.TheVariants as unanswered
+use Rattle.sto_interactive.specs.declared.ending.Uncommitted.{Uncommitted}
+use Rattle.sto_interactive.specs.declared.ending.Uncommitted.TheVariants as uncommitted
+use Rattle.sto_interactive.specs.Steps as session
+use Rattle.sto_shared_store.specs.Owned.{Leads, replies_of}
 use Rattle.sto_c.specs.declared.crossing.CallIn.{CallIn}
 use Rattle.sto_c.specs.declared.crossing.PairOut.{PairOut}
 use Rattle.sto_c.specs.declared.crossing.ReplyOut.{ReplyOut}

@@ -5,17 +5,17 @@ use Rattle.std.specs.List.{All}
 use Rattle.sto_model.specs.declared.shape.Shape.{Shape}
 use Rattle.sto_model.specs.Objects.{machines_of}
 use Rattle.sto_model.specs.Rows.{Row}
-use Rattle.sto_objects.specs.declared.objects.Objects.{Objects}
-use Rattle.sto_objects.specs.contracts.objects.ObjectsNaming.TheImpl.{ghosts as naming_ghosts}
-use Rattle.sto_open.specs.declared.worker.IdleWorker.{IdleWorker}
-use Rattle.sto_open.specs.declared.unplanned.Unplanned.TheVariants as unplanned
-use Rattle.sto_open.specs.Plans.{IsReason, AllStand}
-use Rattle.sto_serial_history.specs.Done.{HaveHistory}
-use Rattle.sto_open.specs.Working.{IsWorker, AreRowsAfter}
-use Rattle.sto_session.specs.Steps.{IsUnchanged}
-use Rattle.sto_owned.specs.Owned.{Leads}
-use Rattle.sto_owned.specs.declared.store.OwnedStore.{OwnedStore}
-use Rattle.sto_owned.specs.Endings.{HasGathered, HasGivenOut, AllRest, IsFreeWorker}
+use Rattle.sto_store.specs.declared.objects.Objects.{Objects}
+use Rattle.sto_store.specs.contracts.objects.ObjectsNaming.TheImpl.{ghosts as naming_ghosts}
+use Rattle.sto_shared_store.specs.declared.worker.IdleWorker.{IdleWorker}
+use Rattle.sto_shared_store.specs.declared.unplanned.Unplanned.TheVariants as unplanned
+use Rattle.sto_shared_store.specs.Plans.{IsReason, AllStand}
+use Rattle.sto_history.specs.Done.{HaveHistory}
+use Rattle.sto_shared_store.specs.Working.{IsWorker, AreRowsAfter}
+use Rattle.sto_interactive.specs.Steps.{IsUnchanged}
+use Rattle.sto_shared_store.specs.Owned.{Leads}
+use Rattle.sto_shared_store.specs.declared.owned_store.OwnedStore.{OwnedStore}
+use Rattle.sto_shared_store.specs.Endings.{HasGathered, HasGivenOut, AllRest, IsFreeWorker}
 use Rattle.sto_c.specs.declared.crossing.ShapeIn.{ShapeIn}
 use Rattle.sto_c.specs.declared.crossing.RowOut.{RowOut}
 use Rattle.sto_c.specs.declared.content.HandleContent.{HandleContent}

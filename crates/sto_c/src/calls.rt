@@ -12,9 +12,9 @@ use crate::crossing::{CallIn, ReplyOut};
 use crate::status::Status;
 use crossbeam_utils::Backoff;
 use std::alloc::Global;
+use sto_interactive::{Unanswered, Unbegun, Uncommitted};
 use sto_model::{Replies, Reply};
-use sto_owned::StillOut;
-use sto_session::{Unanswered, Unbegun, Uncommitted};
+use sto_shared_store::StillOut;
 
 // How often a whole transaction is tried before it is busy.
 const TRIES: u32 = 8;

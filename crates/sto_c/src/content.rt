@@ -2,8 +2,8 @@
 ghost use Rattle.std.specs.Prelude.{◌≡◌};
 
 use crate::crossing::RowsOut;
-use sto_objects::Objects;
-use sto_owned::{OwnedStore, OwnedWorker};
+use sto_shared_store::{OwnedStore, OwnedWorker};
+use sto_store::Objects;
 
 /// A store, with how many objects it has.
 pub struct HeldStore {

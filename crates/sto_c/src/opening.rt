@@ -19,9 +19,8 @@ use crate::crossing::ShapeIn;
 use crate::status::Status;
 use crate::telling::all_rows;
 use std::alloc::Global;
-use sto_open::Plan;
-use sto_owned::{OwnedStore, StillOpen, Unhired};
 use sto_part::NoMemory;
+use sto_shared_store::{OwnedStore, Plan, StillOpen, Unhired};
 
 // The plan of these objects.
 fn plan_of(alloc: Global, shapes: &[ShapeIn]) -> Result<Plan, Status>

@@ -2,7 +2,7 @@
 ghost use Rattle.std.specs.Prelude.{◌≡◌};
 ghost use Rattle.sto_c.specs.Statuses.{number, number_of, of_unplanned, of_unopened};
 
-use sto_open::{Unopened, Unplanned};
+use sto_shared_store::{Unopened, Unplanned};
 
 /// Why a call was not done.
 #[derive(Clone, Copy, PartialEq, Eq, Debug)]

@@ -3,7 +3,7 @@ use Rattle.std.proofs.Common.{◌≡◌, ℕ, ◌+◌, ◌<◌, ◌≤◌, List,
 use Rattle.std.specs.List.{list_any, concat}
 use Rattle.std.proofs.lemmas.List.{drop-drop}
 use Rattle.std.proofs.Math.Seq.{take-add, drop-append_seam, take-append_seam}
-use Rattle.sto_report_lines.specs.Lines.{is_line_feed, onto_line, lines_of}
+use Rattle.sto_checker.specs.Lines.{is_line_feed, onto_line, lines_of}
 use Rattle.sto_check_cli.specs.Inputs.{is_report_line, has_report, lines_before, lines_behind, script_in, report_in}
 
 onto_all : (b : ℕ) (lines : List (List ℕ)) → concat (onto_line b lines) ≡ b ∷ concat lines

@@ -2,18 +2,18 @@
 use Rattle.std.proofs.Common.{◌≡◌, ◌<◌, ℕ, List, ◌++◌, ◌⊎◌, inl, inr, refl, sym, ap, ◌∙◌, subst, append-nil, arith, Option, None, Some, Result, Ok, Err, true≢false}
 use Rattle.std.specs.Result.{is_ok}
 use Rattle.std.specs.Option.{is_some}
-use Rattle.sto_io.specs.Told.{Rose}
+use Rattle.sto_console.specs.Told.{Rose}
 use Rattle.sto_args.specs.declared.asked.Checking.{Checking}
-use Rattle.sto_report_lines.specs.declared.found.Found.{Found}
-use Rattle.sto_report_lines.specs.declared.found.Found.TheVariants.{Lawful, Not}
-use Rattle.sto_report_lines.specs.Answer.{IsFound}
-use Rattle.sto_cli_common.specs.declared.refusal.InputFault.{InputFault}
-use Rattle.sto_cli_common.specs.declared.refusal.Refusal.{Refusal}
-use Rattle.sto_cli_common.specs.declared.refusal.Refusal.TheVariants.{Usage, ReadFault, WriteFault, NoMemory}
-use Rattle.sto_cli_common.specs.declared.refusal.Refusal.TheVariants as refusals
-use Rattle.sto_cli_common.specs.Statuses.{status_of}
-use Rattle.sto_cli_common.specs.Ends.{Made, Ends, RoseFor}
-use Rattle.sto_cli_common.proofs.Causes.{IsExclusive}
+use Rattle.sto_checker.specs.declared.found.Found.{Found}
+use Rattle.sto_checker.specs.declared.found.Found.TheVariants.{Lawful, Not}
+use Rattle.sto_checker.specs.Answer.{IsFound}
+use Rattle.sto_console.specs.declared.refusal.InputFault.{InputFault}
+use Rattle.sto_console.specs.declared.refusal.Refusal.{Refusal}
+use Rattle.sto_console.specs.declared.refusal.Refusal.TheVariants.{Usage, ReadFault, WriteFault, NoMemory}
+use Rattle.sto_console.specs.declared.refusal.Refusal.TheVariants as refusals
+use Rattle.sto_console.specs.Statuses.{status_of}
+use Rattle.sto_console.specs.Ends.{Made, Ends, RoseFor}
+use Rattle.sto_console.proofs.Causes.{IsExclusive}
 use Rattle.sto_check_cli.specs.Inputs.{Input, input_of}
 use Rattle.sto_check_cli.specs.Programs.{program, found_status}
 use Rattle.sto_check_cli.specs.Findings.{IsToldFound}

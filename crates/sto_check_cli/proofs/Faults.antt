@@ -4,20 +4,20 @@ use Rattle.std.specs.Prelude.{nat_lt, if◌then◌else◌}
 use Rattle.std.specs.Result.{is_ok}
 use Rattle.std.proofs.lemmas.Bool.{lt-ltb, le-ltb}
 use Rattle.std.proofs.lemmas.Bool.Decides.{nat_tests}
-use Rattle.sto_io.specs.Told.{Takes, AtEnd}
+use Rattle.sto_console.specs.Told.{Takes, AtEnd}
 use Rattle.sto_lang.specs.Scripts.{File}
 use Rattle.sto_lang.specs.Files.{file_of}
 use Rattle.sto_lang.specs.declared.fault.ScriptFault.{ScriptFault}
 use Rattle.sto_lang.specs.declared.fault.FaultKind.TheVariants.{TooLarge}
 use Rattle.sto_check_cli.specs.Inputs.{Input, has_report, script_in, report_in, with_report, divided, input_of}
 use Rattle.sto_args.specs.declared.asked.Checking.{Checking}
-use Rattle.sto_cli_common.specs.declared.refusal.InputFault.{InputFault}
-use Rattle.sto_cli_common.specs.declared.refusal.InputFault.TheVariants.{Script, NoReport}
-use Rattle.sto_cli_common.specs.declared.refusal.Refusal.{Refusal}
-use Rattle.sto_cli_common.specs.declared.refusal.Refusal.TheVariants.{Usage, ReadFault, WriteFault, NoMemory}
-use Rattle.sto_cli_common.specs.declared.refusal.Refusal.TheVariants as refusals
-use Rattle.sto_cli_common.specs.Ends.{Unmade}
-use Rattle.sto_cli_common.proofs.Reading.{if_told}
+use Rattle.sto_console.specs.declared.refusal.InputFault.{InputFault}
+use Rattle.sto_console.specs.declared.refusal.InputFault.TheVariants.{Script, NoReport}
+use Rattle.sto_console.specs.declared.refusal.Refusal.{Refusal}
+use Rattle.sto_console.specs.declared.refusal.Refusal.TheVariants.{Usage, ReadFault, WriteFault, NoMemory}
+use Rattle.sto_console.specs.declared.refusal.Refusal.TheVariants as refusals
+use Rattle.sto_console.specs.Ends.{Unmade}
+use Rattle.sto_console.proofs.Reading.{if_told}
 use Rattle.sto_check_cli.specs.Answers.{IsInputRefusal}
 use Rattle.sto_check_cli.specs.Programs.{program}
 

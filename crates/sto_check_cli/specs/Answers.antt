@@ -1,17 +1,17 @@
 -- What is said of a report, and why nothing is.
 use Rattle.std.specs.Prelude.{◌≡◌, ℕ, List, Ok, Err}
 use Rattle.sto_lang.specs.Scripts.{File}
-use Rattle.sto_report_checker.specs.Lawful.{IsLawful}
-use Rattle.sto_report_lines.specs.declared.found.Found.{Found}
-use Rattle.sto_report_lines.specs.declared.found.Found.TheVariants.{Lawful}
-use Rattle.sto_report_lines.specs.Answer.{IsFound}
-use Rattle.sto_report_lines.specs.Exact.{IsRightReport, UpdatesAlone, touching_all, UpdatesWritten}
+use Rattle.sto_checker.specs.Lawful.{IsLawful}
+use Rattle.sto_checker.specs.declared.found.Found.{Found}
+use Rattle.sto_checker.specs.declared.found.Found.TheVariants.{Lawful}
+use Rattle.sto_checker.specs.Answer.{IsFound}
+use Rattle.sto_checker.specs.Exact.{IsRightReport, UpdatesAlone, touching_all, UpdatesWritten}
 use Rattle.sto_run.specs.Meanings.{updating_by}
 use Rattle.sto_run.specs.Stores.{means}
 use Rattle.sto_check_cli.specs.Inputs.{Input, input_of}
-use Rattle.sto_cli_common.specs.declared.refusal.Refusal.{Refusal}
-use Rattle.sto_cli_common.specs.declared.refusal.Refusal.TheVariants.{Usage, ReadFault, WriteFault, NoMemory}
-use Rattle.sto_cli_common.specs.declared.refusal.Refusal.TheVariants as refusals
+use Rattle.sto_console.specs.declared.refusal.Refusal.{Refusal}
+use Rattle.sto_console.specs.declared.refusal.Refusal.TheVariants.{Usage, ReadFault, WriteFault, NoMemory}
+use Rattle.sto_console.specs.declared.refusal.Refusal.TheVariants as refusals
 
 -- the answer for a report, which no other is; each text that is lawful by what the types of objects say is found so, and by what any
 -- types say that update only objects that were written, whatever part they let a call touch; and what is found so is the report of an

@@ -1,10 +1,10 @@
 -- What is known of a call by what was found, and which calls find it.
 use Rattle.std.specs.Prelude.{◌≡◌, ℕ, List, Option, Ok}
 use Rattle.sto_args.specs.declared.asked.Checking.{Checking}
-use Rattle.sto_report_lines.specs.declared.found.Found.{Found}
-use Rattle.sto_report_lines.specs.declared.found.Found.TheVariants.{Not}
-use Rattle.sto_report_lines.specs.Answer.{IsFound}
-use Rattle.sto_cli_common.specs.Outcomes.{IsDone, IsTold}
+use Rattle.sto_checker.specs.declared.found.Found.{Found}
+use Rattle.sto_checker.specs.declared.found.Found.TheVariants.{Not}
+use Rattle.sto_checker.specs.Answer.{IsFound}
+use Rattle.sto_console.specs.Outcomes.{IsDone, IsTold}
 use Rattle.sto_check_cli.specs.Inputs.{Input, input_of}
 use Rattle.sto_check_cli.specs.Programs.{program}
 

@@ -6,9 +6,9 @@ use Rattle.sto_lang.specs.Scripts.{File}
 use Rattle.sto_lang.specs.Files.{file_of}
 use Rattle.sto_lang.specs.declared.fault.ScriptFault.{ScriptFault}
 use Rattle.sto_lang.specs.declared.fault.FaultKind.TheVariants.{TooLarge}
-use Rattle.sto_report_lines.specs.Lines.{lines_of}
-use Rattle.sto_cli_common.specs.declared.refusal.InputFault.{InputFault}
-use Rattle.sto_cli_common.specs.declared.refusal.InputFault.TheVariants.{Script, NoReport}
+use Rattle.sto_checker.specs.Lines.{lines_of}
+use Rattle.sto_console.specs.declared.refusal.InputFault.{InputFault}
+use Rattle.sto_console.specs.declared.refusal.InputFault.TheVariants.{Script, NoReport}
 
 -- a line of exactly these six bytes; the last line of what is read may lack its line feed
 abbrev pub is_report_line : List ℕ → Bool

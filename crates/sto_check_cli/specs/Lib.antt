@@ -5,9 +5,9 @@ pub mod Findings
 pub use Rattle.sto_lang.specs.Files
 pub use Rattle.sto_lang.specs.Views
 pub use Rattle.sto_args.specs.Asked
-pub use Rattle.sto_io.specs.Told
-pub use Rattle.sto_cli_common.specs.Said
-pub use Rattle.sto_cli_common.specs.Statuses
-pub use Rattle.sto_cli_common.specs.Ends
-pub use Rattle.sto_cli_common.specs.Outcomes
-pub use Rattle.sto_cli_common.specs.Causes
+pub use Rattle.sto_console.specs.Told
+pub use Rattle.sto_console.specs.Said
+pub use Rattle.sto_console.specs.Statuses
+pub use Rattle.sto_console.specs.Ends
+pub use Rattle.sto_console.specs.Outcomes
+pub use Rattle.sto_console.specs.Causes

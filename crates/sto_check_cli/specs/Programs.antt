@@ -1,9 +1,9 @@
 -- What the program does with what its words ask.
 use Rattle.std.specs.Prelude.{◌≡◌, ℕ, List, ◌++◌, codes, decimal, true, Err}
 use Rattle.sto_args.specs.declared.asked.Checking.{Checking}
-use Rattle.sto_report_lines.specs.declared.found.Found.{Found}
-use Rattle.sto_report_lines.specs.declared.found.Found.TheVariants.{Lawful, Not}
-use Rattle.sto_cli_common.specs.Programs.{Program}
+use Rattle.sto_checker.specs.declared.found.Found.{Found}
+use Rattle.sto_checker.specs.declared.found.Found.TheVariants.{Lawful, Not}
+use Rattle.sto_console.specs.Programs.{Program}
 use Rattle.sto_check_cli.specs.Inputs.{input_of}
 use Rattle.sto_check_cli.specs.Answers.{IsFoundIn}
 

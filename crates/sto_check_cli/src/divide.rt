@@ -2,7 +2,7 @@
 ghost use Rattle.std.specs.Prelude.{◌≡◌, ◌<◌, length, true, false, MatchOption, IfSome};
 ghost use Rattle.sto_check_cli.specs.Inputs.{is_report_line, has_report, script_in, report_in};
 
-use sto_report_lines::first_line;
+use sto_checker::first_line;
 
 fn is_report_line(line: &[u8]) -> bool
     ensures { result ≡ is_report_line line.now }

@@ -4,11 +4,11 @@ ghost use Rattle.sto_check_cli.specs.Inputs.{script_in, has_report};
 ghost use Rattle.sto_check_cli.specs.Answers.{IsInputRefusal, IsFoundIn};
 
 use crate::divide::divide;
-use std::alloc::Global;
 use std::mem;
-use sto_cli_common::{InputFault, Refusal, file_in};
+use std::alloc::Global;
+use sto_checker::{Found, check_report};
+use sto_console::{InputFault, Refusal, file_in};
 use sto_lang::{FaultKind, ScriptFault};
-use sto_report_checker::{Found, check_report};
 
 // How many bytes may be read.
 const MOST: usize = 16_777_216;

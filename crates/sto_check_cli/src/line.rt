@@ -3,7 +3,7 @@ ghost use Rattle.std.specs.Prelude.{◌≡◌, IfOk, string_bytes};
 ghost use Rattle.sto_check_cli.specs.Programs.{text_of};
 
 use std::alloc::{AllocError, Global};
-use sto_report_checker::Found;
+use sto_checker::Found;
 
 /// The line of what was found.
 pub(crate) fn text_of(alloc: Global, found: Found) -> Result<String, AllocError>

@@ -1,21 +1,20 @@
 //! The top call.
 ghost use Rattle.std.specs.Prelude.{◌≡◌, ◌⊎◌};
-ghost use Rattle.sto_io.specs.Told.{Rose};
+ghost use Rattle.sto_console.specs.Told.{Rose};
 ghost use Rattle.sto_args.specs.Asked.{checking_in};
-ghost use Rattle.sto_report_lines.specs.declared.found.Found.TheVariants as found;
-ghost use Rattle.sto_cli_common.specs.Said.{Says};
-ghost use Rattle.sto_cli_common.specs.Statuses.{status_of, line_of, EndsWith};
-ghost use Rattle.sto_cli_common.specs.Ends.{Ends};
-ghost use Rattle.sto_cli_common.specs.Outcomes.{IsDone};
-ghost use Rattle.sto_cli_common.specs.Causes.{HasCauses};
+ghost use Rattle.sto_checker.specs.declared.found.Found.TheVariants as found;
+ghost use Rattle.sto_console.specs.Said.{Says};
+ghost use Rattle.sto_console.specs.Statuses.{status_of, line_of, EndsWith};
+ghost use Rattle.sto_console.specs.Ends.{Ends};
+ghost use Rattle.sto_console.specs.Outcomes.{IsDone};
+ghost use Rattle.sto_console.specs.Causes.{HasCauses};
 ghost use Rattle.sto_check_cli.specs.Programs.{program, found_status};
 ghost use Rattle.sto_check_cli.specs.Findings.{IsWrong, IsToldFound};
 
 use crate::work::perform;
 use std::alloc::Global;
-use sto_cli_common::{Refusal, say};
-use sto_io::{Sink, Source};
-use sto_report_checker::Found;
+use sto_checker::Found;
+use sto_console::{Refusal, Sink, Source, say};
 
 fn status(outcome: Result<Found, Refusal>) -> u8
     ensures { result ≡ status_of found_status outcome }

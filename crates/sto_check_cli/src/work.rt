@@ -1,17 +1,16 @@
 //! The order of work: the words, the source, the script, the report, the line, the writing.
 ghost use Rattle.std.specs.Prelude.{IfOk, IfErr};
 ghost use Rattle.sto_args.specs.Asked.{checking_in, HasTries};
-ghost use Rattle.sto_cli_common.specs.declared.refusal.Refusal.TheVariants.{ReadFault, WriteFault};
-ghost use Rattle.sto_cli_common.specs.Ends.{Made, Unmade, Ends, RoseFor};
+ghost use Rattle.sto_console.specs.declared.refusal.Refusal.TheVariants.{ReadFault, WriteFault};
+ghost use Rattle.sto_console.specs.Ends.{Made, Unmade, Ends, RoseFor};
 ghost use Rattle.sto_check_cli.specs.Programs.{program, text_of};
 
 use crate::judge::found_in;
 use crate::line::text_of;
 use std::alloc::Global;
 use sto_args::{Checking, find_checking};
-use sto_cli_common::{Refusal, bytes_left, write_text};
-use sto_io::{Sink, Source};
-use sto_report_checker::Found;
+use sto_checker::Found;
+use sto_console::{Refusal, Sink, Source, bytes_left, write_text};
 
 /// Reads the source to its end or past the limit, and checks the report in it.
 fn found_of<S: Source>(alloc: Global, asked: Checking, source: &mut S) -> Result<Found, Refusal>
@@ -25,7 +24,7 @@ fn found_of<S: Source>(alloc: Global, asked: Checking, source: &mut S) -> Result
 }
 
 /// Does what the words say: checks the report, and writes what was found.
-#[tactic(auto, using(sto_cli_common::proofs::Making::refused_making, sto_cli_common::proofs::Making::refused_writing, sto_cli_common::proofs::Making::unwritten, sto_cli_common::proofs::Making::unread))]
+#[tactic(auto, using(sto_console::proofs::Making::refused_making, sto_console::proofs::Making::refused_writing, sto_console::proofs::Making::unwritten, sto_console::proofs::Making::unread))]
 pub(crate) fn perform<S: Source, K: Sink>(
     alloc: Global,
     words: &[String],

@@ -6,13 +6,13 @@ use Rattle.sto_lang.specs.Scripts.{File}
 use Rattle.sto_lang.specs.declared.fault.ScriptFault.{ScriptFault}
 use Rattle.sto_args.specs.declared.command.Command.{Command}
 use Rattle.sto_args.specs.declared.command.Command.TheVariants.{Run, Step, Trace, Draw, Explore, Upgrade, Gen, Bench}
-use Rattle.sto_cli_common.specs.declared.refusal.InputFault.{InputFault}
-use Rattle.sto_cli_common.specs.declared.refusal.InputFault.TheVariants.{Script, NoReport, LongTrace, LongRun, ManySchedules}
-use Rattle.sto_cli_common.specs.Outcomes.{IsOwn}
-use Rattle.sto_cli_common.proofs.Causes.{IsExclusive}
-use Rattle.sto_cli_common.proofs.Faultless.{no_fault}
+use Rattle.sto_console.specs.declared.refusal.InputFault.{InputFault}
+use Rattle.sto_console.specs.declared.refusal.InputFault.TheVariants.{Script, NoReport, LongTrace, LongRun, ManySchedules}
+use Rattle.sto_console.specs.Outcomes.{IsOwn}
+use Rattle.sto_console.proofs.Causes.{IsExclusive}
+use Rattle.sto_console.proofs.Faultless.{no_fault}
 use Rattle.sto_lang.specs.Drafts.{transaction_count}
-use Rattle.sto_cli_common.specs.declared.refusal.ScheduleCounts.{ScheduleCounts}
+use Rattle.sto_console.specs.declared.refusal.ScheduleCounts.{ScheduleCounts}
 use Rattle.sto_cli.specs.Traces.{IsTraceable, IsTraceFault, HasLongRun, IsRunFault, NeverMany}
 use Rattle.sto_run_schedules.specs.Leading.{HasSomeLongRun}
 use Rattle.sto_cli.specs.Explorations.{HasManySchedules}

@@ -6,13 +6,13 @@ use Rattle.std.proofs.lemmas.List.{map-append}
 use Rattle.sto_lang.specs.Scripts.{File}
 use Rattle.sto_report_spec.specs.declared.form.ReportForm.{ReportForm}
 use Rattle.sto_run_steps.specs.Turning.{entry_turns}
-use Rattle.sto_lawful_report.specs.Stepped.{IsStepReport}
+use Rattle.sto_run.specs.Stepped.{IsStepReport}
 use Rattle.sto_explore.specs.Legs.{turns_of, turns_with, schedule_of}
 use Rattle.sto_explore.specs.Schedules.{Turn}
 use Rattle.sto_explore.specs.declared.leg.Leg.{Leg}
 use Rattle.sto_explore.proofs.Following.{threads_with}
-use Rattle.sto_outcomes.specs.declared.outcome.Outcome.{Outcome}
-use Rattle.sto_outcome_text.specs.Texts.{entries_of}
+use Rattle.sto_explore.specs.declared.outcome.Outcome.{Outcome}
+use Rattle.sto_explore.specs.Texts.{entries_of}
 use Rattle.sto_run_schedules.specs.Leading.{Gives}
 use Rattle.sto_lang.specs.declared.file.Turns.{Turns}
 

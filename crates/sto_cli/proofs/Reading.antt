@@ -1,21 +1,21 @@
 -- Why no text of a command that reads a script was made.
 use Rattle.std.proofs.Common.{◌≡◌, ℕ, ◌<◌, List, ◌++◌, length, append-nil, refl, sym, ap, ◌∙◌, subst, Bool, true, Option, Ok, Err, true≢false}
-use Rattle.sto_io.specs.Told.{Takes, AtEnd}
+use Rattle.sto_console.specs.Told.{Takes, AtEnd}
 use Rattle.sto_lang.specs.Files.{file_of}
 use Rattle.sto_lang.specs.Scripts.{File}
 use Rattle.sto_lang.specs.declared.fault.ScriptFault.{ScriptFault}
 use Rattle.sto_args.specs.declared.command.Command.{Command}
 use Rattle.sto_args.specs.declared.command.Command.TheVariants.{Run, Step, Trace, Draw, Explore, Upgrade, Gen, Bench}
-use Rattle.sto_cli_common.specs.declared.refusal.InputFault.{InputFault}
-use Rattle.sto_cli_common.specs.declared.refusal.InputFault.TheVariants.{Script, NoReport, LongTrace, LongRun, ManySchedules}
-use Rattle.sto_cli_common.specs.declared.refusal.Refusal.{Refusal}
-use Rattle.sto_cli_common.specs.declared.refusal.Refusal.TheVariants.{Usage, Input, ReadFault, WriteFault, NoMemory}
-use Rattle.sto_cli_common.specs.Read.{IfTold}
-use Rattle.sto_cli_common.specs.Ends.{IsFileRefusal, Faulty, Unmade}
-use Rattle.sto_cli_common.proofs.Reading.{if_told}
-use Rattle.sto_cli_common.proofs.Scripts.{small_file, told_fault}
+use Rattle.sto_console.specs.declared.refusal.InputFault.{InputFault}
+use Rattle.sto_console.specs.declared.refusal.InputFault.TheVariants.{Script, NoReport, LongTrace, LongRun, ManySchedules}
+use Rattle.sto_console.specs.declared.refusal.Refusal.{Refusal}
+use Rattle.sto_console.specs.declared.refusal.Refusal.TheVariants.{Usage, Input, ReadFault, WriteFault, NoMemory}
+use Rattle.sto_console.specs.Read.{IfTold}
+use Rattle.sto_console.specs.Ends.{IsFileRefusal, Faulty, Unmade}
+use Rattle.sto_console.proofs.Reading.{if_told}
+use Rattle.sto_console.proofs.Scripts.{small_file, told_fault}
 use Rattle.sto_draw.specs.Drawn.{IsTooLong}
-use Rattle.sto_cli_common.specs.declared.refusal.ScheduleCounts.{ScheduleCounts}
+use Rattle.sto_console.specs.declared.refusal.ScheduleCounts.{ScheduleCounts}
 use Rattle.sto_cli.specs.Traces.{HasLongRun, IsTraceFault, IsRunFault, NeverMany, IsRefusalFor}
 use Rattle.sto_run_schedules.specs.Leading.{HasSomeLongRun}
 use Rattle.sto_cli.specs.Explorations.{HasManySchedules}

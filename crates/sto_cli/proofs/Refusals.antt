@@ -2,12 +2,12 @@
 use Rattle.std.specs.Prelude.{None}
 use Rattle.std.proofs.Common.{◌≡◌, ℕ, List, Bool, sym, subst}
 use Rattle.sto_lang.specs.Scripts.{File}
-use Rattle.sto_cli_common.specs.declared.refusal.InputFault.{InputFault}
-use Rattle.sto_cli_common.specs.declared.refusal.ScheduleCounts.{ScheduleCounts}
-use Rattle.sto_cli_common.specs.declared.refusal.InputFault.TheVariants.{Script, NoReport, LongTrace, LongRun, ManySchedules}
-use Rattle.sto_cli_common.specs.declared.refusal.Refusal.{Refusal}
-use Rattle.sto_cli_common.specs.declared.refusal.Refusal.TheVariants.{Usage, Input, ReadFault, WriteFault, NoMemory}
-use Rattle.sto_cli_common.specs.Ends.{IsFileRefusal}
+use Rattle.sto_console.specs.declared.refusal.InputFault.{InputFault}
+use Rattle.sto_console.specs.declared.refusal.ScheduleCounts.{ScheduleCounts}
+use Rattle.sto_console.specs.declared.refusal.InputFault.TheVariants.{Script, NoReport, LongTrace, LongRun, ManySchedules}
+use Rattle.sto_console.specs.declared.refusal.Refusal.{Refusal}
+use Rattle.sto_console.specs.declared.refusal.Refusal.TheVariants.{Usage, Input, ReadFault, WriteFault, NoMemory}
+use Rattle.sto_console.specs.Ends.{IsFileRefusal}
 use Rattle.sto_journal.specs.declared.journal.Journal.{Journal}
 use Rattle.sto_run.specs.Logged.{Log}
 use Rattle.sto_run.specs.Traced.{IsTraceOf}

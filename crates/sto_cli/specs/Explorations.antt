@@ -3,15 +3,15 @@ use Rattle.std.specs.Prelude.{◌≡◌, ◌≤◌, ℕ, List, Bool, Option, Non
 use Rattle.std.specs.List.{AllByRecursion}
 use Rattle.sto_lang.specs.Scripts.{File}
 use Rattle.sto_report_spec.specs.declared.form.ReportForm.{ReportForm}
-use Rattle.sto_cli_common.specs.declared.refusal.InputFault.{InputFault}
-use Rattle.sto_cli_common.specs.declared.refusal.InputFault.TheVariants.{Script, NoReport, LongTrace, LongRun, ManySchedules}
-use Rattle.sto_cli_common.specs.declared.refusal.ScheduleCounts.{ScheduleCounts}
-use Rattle.sto_lawful_report.specs.Forms.{form_for}
-use Rattle.sto_outcomes.specs.declared.outcome.Outcomes.{Outcomes}
-use Rattle.sto_lawful_report.specs.Stepped.{IsStepReport}
+use Rattle.sto_console.specs.declared.refusal.InputFault.{InputFault}
+use Rattle.sto_console.specs.declared.refusal.InputFault.TheVariants.{Script, NoReport, LongTrace, LongRun, ManySchedules}
+use Rattle.sto_console.specs.declared.refusal.ScheduleCounts.{ScheduleCounts}
+use Rattle.sto_run.specs.Forms.{form_for}
+use Rattle.sto_explore.specs.declared.outcome.Outcomes.{Outcomes}
+use Rattle.sto_run.specs.Stepped.{IsStepReport}
 use Rattle.sto_run_schedules.specs.Leading.{HasSomeLongRun}
 use Rattle.sto_run_schedules.specs.Explored.{AreOutcomesOf, HasTooMany}
-use Rattle.sto_outcome_text.specs.Texts.{entries_of, outcomes_in}
+use Rattle.sto_explore.specs.Texts.{entries_of, outcomes_in}
 
 -- how many schedules a script may have of which every outcome is told
 abbrev pub most_schedules : ℕ

@@ -2,18 +2,18 @@
 use Rattle.std.specs.Prelude.{◌≡◌, ℕ, List, length, Bool, Option, Ok}
 use Rattle.sto_lang.specs.Files.{file_of}
 use Rattle.sto_lang.specs.Scripts.{File}
-use Rattle.sto_cli_common.specs.declared.refusal.InputFault.{InputFault}
-use Rattle.sto_cli_common.specs.Faults.{IsScriptFault}
-use Rattle.sto_cli_common.specs.Workers.{workers_of}
+use Rattle.sto_console.specs.declared.refusal.InputFault.{InputFault}
+use Rattle.sto_console.specs.Faults.{IsScriptFault}
+use Rattle.sto_console.specs.Workers.{workers_of}
 use Rattle.sto_write.specs.Texts.{text_of, upgraded}
 use Rattle.sto_gen.specs.Generated.{file_of as generated}
 use Rattle.sto_report_spec.specs.Lawful.{IsLawfulIn}
-use Rattle.sto_lawful_report.specs.Forms.{form_for, IsAlone}
-use Rattle.sto_lawful_report.specs.Stepped.{IsStepReport}
+use Rattle.sto_run.specs.Forms.{form_for, IsAlone}
+use Rattle.sto_run.specs.Stepped.{IsStepReport}
 use Rattle.sto_run.specs.Meanings.{updating_by}
 use Rattle.sto_run.specs.Stores.{means}
 use Rattle.sto_journal.specs.declared.journal.Journal.{Journal}
-use Rattle.sto_summary.specs.Summary.{summary_of, HasTotals}
+use Rattle.sto_bench.specs.Summary.{summary_of, HasTotals}
 use Rattle.sto_run.specs.Lawful.{IsLawfulJournal}
 use Rattle.sto_run.specs.Traced.{turns_in}
 use Rattle.sto_args.specs.declared.command.Command.{Command}

@@ -2,7 +2,7 @@
 use Rattle.std.specs.Prelude.{Bool, true, false}
 use Rattle.sto_args.specs.declared.command.Command.{Command}
 use Rattle.sto_args.specs.declared.command.Command.TheVariants.{Run, Step, Trace, Draw, Explore, Upgrade, Gen, Bench}
-use Rattle.sto_cli_common.specs.Programs.{Program}
+use Rattle.sto_console.specs.Programs.{Program}
 use Rattle.sto_cli.specs.Outputs.{IsOutput, HasFault}
 
 -- `run`, `step`, `trace`, `draw`, `explore` and `upgrade` read a script, `gen` and `bench` nothing

@@ -3,18 +3,17 @@ ghost use Rattle.std.specs.Prelude.{[], IfOk, IfErr};
 ghost use Rattle.sto_args.specs.declared.command.Command.TheVariants as commands;
 ghost use Rattle.sto_args.specs.Commands.{HasThreads};
 ghost use Rattle.sto_lang.specs.Sound.{IsFromTo};
-ghost use Rattle.sto_cli_common.specs.Ends.{IsFileRefusal};
+ghost use Rattle.sto_console.specs.Ends.{IsFileRefusal};
 ghost use Rattle.sto_cli.specs.Outputs.{IsOutput};
 
-use std::alloc::Global;
 use std::mem;
+use std::alloc::Global;
 use std::thread::Threads;
 use sto_bench::run_generated;
-use sto_cli_common::{Refusal, file_in, leave, workers_for};
+use sto_console::{Refusal, file_in, leave, workers_for};
 use sto_lang::Text;
-use sto_lawful_report::report;
 use sto_part::NoMemory;
-use sto_run::{Gate, run_file, step_file};
+use sto_run::{Gate, report, run_file, step_file};
 
 /// What `run` prints for these bytes.
 pub(crate) fn run_text<R: Threads + Sync, G: Gate>(
@@ -88,7 +87,7 @@ pub(crate) fn bench_text<R: Threads + Sync, G: Gate>(
     ensures { IfOk result (λ text. IsOutput (commands.Bench number threads) [] text.items) }
 {
     let journal = run_generated(rt, alloc, number, threads.unwrap_or(16), 64, gate)?;
-    let text = sto_summary::summary(alloc, number, &journal)?;
+    let text = sto_bench::summary(alloc, number, &journal)?;
     mem::forget(journal);
     Ok(text)
 }

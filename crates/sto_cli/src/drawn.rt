@@ -8,7 +8,7 @@ ghost use Rattle.sto_cli.specs.Outputs.{IsOutput};
 
 use crate::traced::traceable_in;
 use std::alloc::Global;
-use sto_cli_common::{InputFault, Refusal};
+use sto_console::{InputFault, Refusal};
 use sto_draw::draw_file;
 use sto_lang::Text;
 

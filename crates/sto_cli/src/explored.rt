@@ -1,10 +1,10 @@
 //! The text of `explore`: every outcome of a script.
 ghost use Rattle.std.specs.Prelude.{◌≡◌, ◌≤◌, ◌⊎◌, true, None, IfOk, IfErr};
 ghost use Rattle.sto_args.specs.declared.command.Command.TheVariants as commands;
-ghost use Rattle.sto_cli_common.specs.declared.refusal.InputFault.TheVariants.{LongRun};
+ghost use Rattle.sto_console.specs.declared.refusal.InputFault.TheVariants.{LongRun};
 ghost use Rattle.sto_lang.specs.Sound.{IsSound, IsFromTo};
 ghost use Rattle.sto_lang.specs.Views.{file as view};
-ghost use Rattle.sto_lawful_report.specs.Forms.{form_for};
+ghost use Rattle.sto_run.specs.Forms.{form_for};
 ghost use Rattle.sto_run_schedules.specs.Leading.{HasSomeLongRun};
 ghost use Rattle.sto_run_schedules.specs.Explored.{AreOutcomesOf, AreReports, HasTooMany};
 ghost use Rattle.sto_cli.specs.Traces.{IsRunFault, IsRefusalFor};
@@ -13,9 +13,9 @@ ghost use Rattle.sto_cli.specs.Outputs.{IsOutput};
 
 use crate::traced::traceable_in;
 use std::alloc::Global;
-use sto_cli_common::{InputFault, Refusal, ScheduleCounts};
+use sto_console::{InputFault, Refusal, ScheduleCounts};
+use sto_explore::outcomes_text;
 use sto_lang::{File, Text};
-use sto_outcome_text::outcomes_text;
 use sto_run_schedules::{Meter, Outcomes, Stopped, explore_file};
 
 // How many schedules a script may have of which every outcome is told.

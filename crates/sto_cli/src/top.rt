@@ -1,18 +1,17 @@
 //! The top call.
 ghost use Rattle.std.specs.Prelude.{◌≡◌};
 ghost use Rattle.sto_args.specs.Commands.{command_in};
-ghost use Rattle.sto_cli_common.specs.Said.{Says};
-ghost use Rattle.sto_cli_common.specs.Statuses.{line_of, done_status, EndsWith};
-ghost use Rattle.sto_cli_common.specs.Ends.{Ends};
-ghost use Rattle.sto_cli_common.specs.Outcomes.{IsDone};
-ghost use Rattle.sto_cli_common.specs.Causes.{HasCauses};
+ghost use Rattle.sto_console.specs.Said.{Says};
+ghost use Rattle.sto_console.specs.Statuses.{line_of, done_status, EndsWith};
+ghost use Rattle.sto_console.specs.Ends.{Ends};
+ghost use Rattle.sto_console.specs.Outcomes.{IsDone};
+ghost use Rattle.sto_console.specs.Causes.{HasCauses};
 ghost use Rattle.sto_cli.specs.Programs.{program};
 
 use crate::work::perform;
 use std::alloc::Global;
 use std::thread::Threads;
-use sto_cli_common::{say, status};
-use sto_io::{Sink, Source};
+use sto_console::{Sink, Source, say, status};
 use sto_run::Gate;
 use sto_run_schedules::Meter;
 

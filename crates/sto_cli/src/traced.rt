@@ -1,7 +1,7 @@
 //! The scripts that can be traced, and the text of `trace`: a line for each event of a run.
 ghost use Rattle.std.specs.Prelude.{◌≡◌, map, string_bytes, None, Some, IfOk, IfErr};
 ghost use Rattle.sto_args.specs.declared.command.Command.TheVariants as commands;
-ghost use Rattle.sto_cli_common.specs.declared.refusal.InputFault.TheVariants.{LongRun};
+ghost use Rattle.sto_console.specs.declared.refusal.InputFault.TheVariants.{LongRun};
 ghost use Rattle.sto_lang.specs.Drafts.{transaction_count};
 ghost use Rattle.sto_lang.specs.Sound.{IsSound, IsFromTo};
 ghost use Rattle.sto_lang.specs.Views.{file as view};
@@ -12,7 +12,7 @@ ghost use Rattle.sto_cli.specs.Traces.{IsTraceable, IsTraceFault, HasLongRun, Is
 ghost use Rattle.sto_cli.specs.Outputs.{IsOutput};
 
 use std::alloc::Global;
-use sto_cli_common::{InputFault, Refusal, file_in};
+use sto_console::{InputFault, Refusal, file_in};
 use sto_lang::{File, Text};
 use sto_part::NoMemory;
 use sto_run::{TracedRun, trace_file};

@@ -3,8 +3,8 @@ ghost use Rattle.std.specs.Prelude.{IfOk, IfErr};
 ghost use Rattle.sto_lang.specs.Sound.{IsFromTo};
 ghost use Rattle.sto_args.specs.Commands.{HasThreads, HasRange, command_in};
 ghost use Rattle.sto_args.specs.declared.command.Command.TheVariants as commands;
-ghost use Rattle.sto_cli_common.specs.declared.refusal.Refusal.TheVariants.{ReadFault, WriteFault};
-ghost use Rattle.sto_cli_common.specs.Ends.{Made, Unmade, Ends, RoseFor};
+ghost use Rattle.sto_console.specs.declared.refusal.Refusal.TheVariants.{ReadFault, WriteFault};
+ghost use Rattle.sto_console.specs.Ends.{Made, Unmade, Ends, RoseFor};
 ghost use Rattle.sto_cli.specs.Programs.{program};
 
 use crate::answer::{bench_text, gen_text, run_text, step_text, upgrade_text};
@@ -14,8 +14,7 @@ use crate::traced::trace_text;
 use std::alloc::Global;
 use std::thread::Threads;
 use sto_args::{Command, find_command};
-use sto_cli_common::{Refusal, script_left, write_text};
-use sto_io::{Sink, Source};
+use sto_console::{Refusal, Sink, Source, script_left, write_text};
 use sto_lang::Text;
 use sto_run::Gate;
 use sto_run_schedules::Meter;
@@ -149,7 +148,7 @@ fn text_for<R: Threads + Sync, S: Source, G: Gate, W: Meter>(
 }
 
 /// Does what the words say: makes the whole text, and writes it.
-#[tactic(auto, using(sto_cli_common::proofs::Making::refused_making, sto_cli_common::proofs::Making::refused_writing, sto_cli_common::proofs::Making::unwritten, sto_cli_common::proofs::Making::unread))]
+#[tactic(auto, using(sto_console::proofs::Making::refused_making, sto_console::proofs::Making::refused_writing, sto_console::proofs::Making::unwritten, sto_console::proofs::Making::unread))]
 pub(crate) fn perform<R: Threads + Sync, S: Source, K: Sink, G: Gate, W: Meter>(
     rt: &R,
     alloc: Global,

@@ -29,9 +29,8 @@ use crate::seen::ReadRef;
 use crate::touched::{NONE, Touched};
 use std::alloc::Global;
 use std::marker::Model;
-use sto_index::PartIndex;
 use sto_item::Item;
-use sto_part::{Change, List, NoMemory, Parts, Pred, apply_word};
+use sto_part::{Change, List, NoMemory, PartIndex, Parts, Pred, apply_word};
 
 /// All that an attempt has read, observed and is to write.
 #[derive(Drop)]

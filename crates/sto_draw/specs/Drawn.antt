@@ -5,7 +5,7 @@ use Rattle.sto_trace.specs.declared.Step.{Step}
 use Rattle.sto_journal.specs.declared.journal.Journal.{Journal}
 use Rattle.sto_journal.specs.Journals.{entry}
 use Rattle.sto_picture.specs.Pictures.{picture_of}
-use Rattle.sto_scene.specs.Scenes.{scene_for}
+use Rattle.sto_draw.specs.Scenes.{scene_for}
 use Rattle.sto_run.specs.Meanings.{updating_by}
 use Rattle.sto_run.specs.Stores.{means}
 use Rattle.sto_run.specs.Lawful.{IsLawfulJournal}

@@ -7,21 +7,26 @@ ghost use Rattle.sto_lang.specs.Sound.{IsSound, IsFromTo};
 ghost use Rattle.sto_lang.specs.Views.{file as view};
 ghost use Rattle.sto_journal.specs.Journals.{home_pair, entry};
 ghost use Rattle.sto_picture.specs.Pictures.{picture_of};
-ghost use Rattle.sto_scene.specs.Scenes.{scene_for};
+ghost use Rattle.sto_draw.specs.Scenes.{scene_for};
 ghost use Rattle.sto_run.specs.Meanings.{updating_by};
 ghost use Rattle.sto_run.specs.Stores.{means};
 ghost use Rattle.sto_run.specs.Lawful.{IsLawfulJournal};
 ghost use Rattle.sto_draw.specs.Drawn.{IsDrawing};
 
+mod late;
+mod name;
+mod scene;
+
+use crate::scene::scene_of;
 use std::alloc::Global;
 use sto_journal::Journal;
 use sto_lang::{File, Text};
 use sto_part::NoMemory;
 use sto_picture::{MOST_STEPS, picture};
 use sto_run::{TracedRun, trace_file};
-use sto_scene::scene_of;
 use sto_trace::Steps;
 use sto_type::Home;
+pub use scene::scene_of;
 
 /// The picture of a run with this journal.
 fn draw_run(

@@ -5,8 +5,8 @@ use Rattle.std.proofs.lemmas.Int.{ints}
 use Rattle.sto_part.specs.Changes.{wrapped_sum, wrapped_difference}
 use Rattle.sto_model.specs.Objects.{machines_of}
 use Rattle.sto_model.proofs.RowFacts.{not_below_of}
-use Rattle.sto_code.specs.declared.handles.BoxId.{BoxId}
-use Rattle.sto_code.specs.Snapshots.{snapshot}
+use Rattle.sto_action.specs.declared.handles.BoxId.{BoxId}
+use Rattle.sto_action.specs.Snapshots.{snapshot}
 use Rattle.sto_library.specs.Keeping.{Keeps}
 use Rattle.sto_library.proofs.Keeping.{at_two, at_three, on_state, unless_then}
 use Rattle.sto_library.proofs.Wrapping.{moved}

@@ -6,12 +6,12 @@ use Rattle.sto_model.specs.declared.shape.Shape.{Shape}
 use Rattle.sto_model.specs.declared.shape.Shape.TheVariants.{Single}
 use Rattle.sto_model.specs.Rows.{Row}
 use Rattle.sto_model.specs.Run.{State}
-use Rattle.sto_code.specs.declared.handles.BoxId.{BoxId}
-use Rattle.sto_code.specs.declared.snapshot.Held.{Held}
-use Rattle.sto_code.specs.Progs.{Prog, Gives, Cancels, chain}
-use Rattle.sto_code.specs.Steps.{box_get, box_set}
-use Rattle.sto_atomically.specs.declared.outcome.Done.{Done}
-use Rattle.sto_atomically.specs.declared.outcome.Unrun.{Unrun}
+use Rattle.sto_action.specs.declared.handles.BoxId.{BoxId}
+use Rattle.sto_action.specs.declared.snapshot.Held.{Held}
+use Rattle.sto_action.specs.Progs.{Prog, Gives, Cancels, chain}
+use Rattle.sto_action.specs.Steps.{box_get, box_set}
+use Rattle.sto_action.specs.declared.outcome.Done.{Done}
+use Rattle.sto_action.specs.declared.outcome.Unrun.{Unrun}
 use Rattle.sto_library.specs.Keeping.{IfGave}
 
 -- it takes an amount from an account, where it is there; it gives what was there

@@ -3,7 +3,7 @@
 
 ghost use Rattle.std.specs.Prelude.{IfOk};
 ghost use Rattle.sto_example_bank.specs.Accounts.{withdraw, deposit, transfer, IsDay};
-ghost use Rattle.sto_code.specs.Progs.{Follows};
+ghost use Rattle.sto_action.specs.Progs.{Follows};
 
 use std::alloc::Global;
 use std::thread::Threads;
@@ -51,7 +51,7 @@ impl Code for Transfer {
         4
     }
 
-    #[tactic(auto, using(sto_code::proofs::Following::then_follows, sto_code::proofs::Following::stop_follows))]
+    #[tactic(auto, using(sto_action::proofs::Following::then_follows, sto_action::proofs::Following::stop_follows))]
     fn run(&self, tx: &mut Tx<'_>) -> Result<i64, Stop> {
         let x = withdraw(tx, self.from, self.amount)?;
         deposit(tx, self.to, self.amount)?;

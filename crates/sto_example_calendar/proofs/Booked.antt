@@ -4,8 +4,8 @@ use Rattle.std.proofs.Common.{◌≡◌, ℕ, ℤ, pos, ◌+ℤ◌, ◌-ℤ◌, 
 use Rattle.sto_model.specs.Rows.{Row, rows_between}
 use Rattle.sto_model.specs.Objects.{machines_of}
 use Rattle.sto_model.specs.Run.{State}
-use Rattle.sto_code.specs.declared.handles.TreeId.{TreeId}
-use Rattle.sto_code.specs.Progs.{Gives}
+use Rattle.sto_action.specs.declared.handles.TreeId.{TreeId}
+use Rattle.sto_action.specs.Progs.{Gives}
 use Rattle.sto_library.specs.Keeping.{Keeps}
 use Rattle.sto_library.proofs.Keeping.{on_state, where_so}
 use Rattle.sto_library.proofs.Trees.{put_leaves}

@@ -6,9 +6,9 @@ use Rattle.sto_model.specs.declared.shape.Shape.{Shape}
 use Rattle.sto_model.specs.declared.shape.Shape.TheVariants.{Tree}
 use Rattle.sto_model.specs.Rows.{Row}
 use Rattle.sto_model.specs.Run.{State}
-use Rattle.sto_code.specs.declared.handles.TreeId.{TreeId}
-use Rattle.sto_code.specs.Progs.{Prog, Gives, Cancels}
-use Rattle.sto_code.specs.Steps.{tree_count, tree_put}
+use Rattle.sto_action.specs.declared.handles.TreeId.{TreeId}
+use Rattle.sto_action.specs.Progs.{Prog, Gives, Cancels}
+use Rattle.sto_action.specs.Steps.{tree_count, tree_put}
 
 -- it notes the guest at a day, where there is room, and gives the day
 abbrev pub note : TreeId → ℤ → ℤ → Prog ℤ

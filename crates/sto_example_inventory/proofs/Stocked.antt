@@ -6,11 +6,11 @@ use Rattle.sto_part.specs.Changes.{wrapped_sum}
 use Rattle.sto_model.specs.Objects.{machines_of, value_or_absent}
 use Rattle.sto_model.specs.Rows.{Row, value_at}
 use Rattle.sto_model.specs.Run.{State}
-use Rattle.sto_code.specs.declared.handles.CounterId.{CounterId}
-use Rattle.sto_code.specs.declared.handles.HashId.{HashId}
-use Rattle.sto_code.specs.Calls.{perhaps}
-use Rattle.sto_code.specs.Progs.{Gives}
-use Rattle.sto_code.specs.Shortened.{short_of}
+use Rattle.sto_action.specs.declared.handles.CounterId.{CounterId}
+use Rattle.sto_action.specs.declared.handles.HashId.{HashId}
+use Rattle.sto_action.specs.Calls.{perhaps}
+use Rattle.sto_action.specs.Progs.{Gives}
+use Rattle.sto_action.specs.Shortened.{short_of}
 use Rattle.sto_library.specs.Keeping.{Keeps}
 use Rattle.sto_library.proofs.Keeping.{at_two, on_state, where_so}
 use Rattle.sto_library.proofs.Counters.{take_leaves}

@@ -6,12 +6,12 @@ use Rattle.sto_model.specs.declared.shape.Shape.{Shape}
 use Rattle.sto_model.specs.declared.shape.Shape.TheVariants.{Counter, Hash}
 use Rattle.sto_model.specs.Rows.{Row}
 use Rattle.sto_model.specs.Run.{State}
-use Rattle.sto_code.specs.declared.handles.CounterId.{CounterId}
-use Rattle.sto_code.specs.declared.handles.HashId.{HashId}
-use Rattle.sto_code.specs.Progs.{Prog, Gives, Cancels}
-use Rattle.sto_code.specs.Steps.{counter_get, counter_take, hash_get, hash_put}
-use Rattle.sto_atomically.specs.declared.outcome.Done.{Done}
-use Rattle.sto_atomically.specs.declared.outcome.Unrun.{Unrun}
+use Rattle.sto_action.specs.declared.handles.CounterId.{CounterId}
+use Rattle.sto_action.specs.declared.handles.HashId.{HashId}
+use Rattle.sto_action.specs.Progs.{Prog, Gives, Cancels}
+use Rattle.sto_action.specs.Steps.{counter_get, counter_take, hash_get, hash_put}
+use Rattle.sto_action.specs.declared.outcome.Done.{Done}
+use Rattle.sto_action.specs.declared.outcome.Unrun.{Unrun}
 use Rattle.sto_library.specs.Keeping.{IfGave}
 
 -- it adds pieces to the line of a customer; it gives what that line says then

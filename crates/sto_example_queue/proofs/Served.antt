@@ -5,12 +5,12 @@ use Rattle.std.proofs.lemmas.Int.{ints}
 use Rattle.sto_model.specs.Objects.{Effect, machines_of}
 use Rattle.sto_model.specs.Rows.{Row}
 use Rattle.sto_model.specs.Run.{State}
-use Rattle.sto_code.specs.declared.handles.CounterId.{CounterId}
-use Rattle.sto_code.specs.declared.handles.VectorId.{VectorId}
-use Rattle.sto_code.specs.Calls.{perhaps}
-use Rattle.sto_code.specs.Progs.{Gives}
-use Rattle.sto_code.specs.Shortened.{short_of}
-use Rattle.sto_code.specs.Alone.{run_of}
+use Rattle.sto_action.specs.declared.handles.CounterId.{CounterId}
+use Rattle.sto_action.specs.declared.handles.VectorId.{VectorId}
+use Rattle.sto_action.specs.Calls.{perhaps}
+use Rattle.sto_action.specs.Progs.{Gives}
+use Rattle.sto_action.specs.Shortened.{short_of}
+use Rattle.sto_action.specs.Alone.{run_of}
 use Rattle.sto_library.specs.Contents.{total}
 use Rattle.sto_library.specs.Keeping.{Keeps}
 use Rattle.sto_library.specs.Vectors.{placed}

@@ -3,10 +3,10 @@ use Rattle.std.specs.Prelude.{◌≡◌, ℤ, pos, ◌+ℤ◌, List, [], ◌∷�
 use Rattle.sto_model.specs.declared.shape.Shape.{Shape}
 use Rattle.sto_model.specs.declared.shape.Shape.TheVariants.{Counter, Vector}
 use Rattle.sto_model.specs.Run.{State}
-use Rattle.sto_code.specs.declared.handles.CounterId.{CounterId}
-use Rattle.sto_code.specs.declared.handles.VectorId.{VectorId}
-use Rattle.sto_code.specs.Progs.{Prog, Gives, Cancels}
-use Rattle.sto_code.specs.Steps.{counter_add, vector_push, vector_pop}
+use Rattle.sto_action.specs.declared.handles.CounterId.{CounterId}
+use Rattle.sto_action.specs.declared.handles.VectorId.{VectorId}
+use Rattle.sto_action.specs.Progs.{Prog, Gives, Cancels}
+use Rattle.sto_action.specs.Steps.{counter_add, vector_push, vector_pop}
 use Rattle.sto_library.specs.Contents.{total}
 use Rattle.sto_library.specs.Vectors.{placed}
 

@@ -1,3 +1,8 @@
+pub mod AddedText
+pub mod Lists
+pub mod Ways
+pub mod Adding
+pub mod Listing
 pub mod Offers
 pub mod Following
 pub mod Among

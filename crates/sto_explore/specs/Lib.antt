@@ -1,6 +1,10 @@
+pub mod Texts
+pub mod Outcomes
+pub mod Tallied
 pub mod Schedules
 pub mod Legs
 pub mod Explored
 pub mod Branches
 pub mod Exploring
 pub mod NotMade
+pub use Rattle.sto_lang.specs.Views

@@ -4,11 +4,25 @@
 //! could go on. It knows the threads by the trait [`Runs`] alone.
 #![tactic(auto)]
 
+mod aborted;
 mod branch;
+mod entries;
 mod exploration;
+mod json;
 mod leg;
+mod order;
+mod outcome;
+mod printed;
 mod runs;
+mod tally;
+mod text;
+mod way;
+mod words;
 
+pub use aborted::Aborted;
 pub use exploration::{Stopped, explore};
 pub use leg::Leg;
+pub use outcome::{Outcome, Outcomes, Reported};
+pub use printed::outcomes_text;
 pub use runs::{Gathers, NotMade, Ran, Runs};
+pub use tally::Tally;

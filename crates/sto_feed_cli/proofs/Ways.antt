@@ -1,14 +1,14 @@
 -- Why no report was made, and that none is made of bytes with a fault.
 use Rattle.std.proofs.Common.{◌≡◌, ◌<◌, ℕ, List, length, refl, Option}
-use Rattle.sto_io.specs.Told.{Takes, AtEnd}
+use Rattle.sto_console.specs.Told.{Takes, AtEnd}
 use Rattle.sto_args.specs.declared.asked.Feeding.{Feeding}
-use Rattle.sto_cli_common.specs.declared.refusal.InputFault.TheVariants.{Script, NoReport, LongTrace, LongRun, ManySchedules}
-use Rattle.sto_cli_common.specs.declared.refusal.Refusal.{Refusal}
-use Rattle.sto_cli_common.specs.declared.refusal.Refusal.TheVariants.{Usage, Input, ReadFault, WriteFault, NoMemory}
-use Rattle.sto_cli_common.specs.Ends.{IsFileRefusal, Unmade}
-use Rattle.sto_cli_common.proofs.Scripts.{told_fault}
-use Rattle.sto_cli_common.proofs.Causes.{IsExclusive}
-use Rattle.sto_cli_common.proofs.Faultless.{no_fault}
+use Rattle.sto_console.specs.declared.refusal.InputFault.TheVariants.{Script, NoReport, LongTrace, LongRun, ManySchedules}
+use Rattle.sto_console.specs.declared.refusal.Refusal.{Refusal}
+use Rattle.sto_console.specs.declared.refusal.Refusal.TheVariants.{Usage, Input, ReadFault, WriteFault, NoMemory}
+use Rattle.sto_console.specs.Ends.{IsFileRefusal, Unmade}
+use Rattle.sto_console.proofs.Scripts.{told_fault}
+use Rattle.sto_console.proofs.Causes.{IsExclusive}
+use Rattle.sto_console.proofs.Faultless.{no_fault}
 use Rattle.sto_feed_cli.specs.Programs.{feed_program}
 
 -- the bytes that were taken are no script, or there is no memory

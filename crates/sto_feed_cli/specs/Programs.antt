@@ -7,9 +7,9 @@ use Rattle.sto_report_spec.specs.Lawful.{IsLawful}
 use Rattle.sto_report_spec.specs.NamedAborts.{aborts_named}
 use Rattle.sto_run.specs.Meanings.{updating_by}
 use Rattle.sto_run.specs.Stores.{means}
-use Rattle.sto_cli_common.specs.Programs.{Program}
-use Rattle.sto_cli_common.specs.Faults.{IsScriptFault}
-use Rattle.sto_cli_common.specs.Workers.{workers_of}
+use Rattle.sto_console.specs.Programs.{Program}
+use Rattle.sto_console.specs.Faults.{IsScriptFault}
+use Rattle.sto_console.specs.Workers.{workers_of}
 
 -- a lawful report of the script that the bytes are, for the tries that are asked; it names no aborted attempt where one worker runs it
 pub record IsFed (asked : Feeding) (bytes text : List ℕ) : Type 0 where

@@ -1,16 +1,16 @@
 //! The text of a feed.
 ghost use Rattle.std.specs.Prelude.{IfOk, IfErr};
 ghost use Rattle.sto_args.specs.Asked.{HasNumbers};
-ghost use Rattle.sto_cli_common.specs.Ends.{IsFileRefusal};
+ghost use Rattle.sto_console.specs.Ends.{IsFileRefusal};
 ghost use Rattle.sto_feed_cli.specs.Programs.{IsFed};
 
 use std::alloc::Global;
 use std::sync::Wait;
 use std::thread::Threads;
 use sto_args::Feeding;
-use sto_cli_common::{Refusal, file_in, leave, workers_for};
+use sto_console::{Refusal, file_in, leave, workers_for};
 use sto_lang::Text;
-use sto_lawful_report::report;
+use sto_run::report;
 use sto_run_feed::{Gate, feed_file};
 
 /// What is printed for these bytes: the report of a run in which a feeder sends the transactions to the workers.

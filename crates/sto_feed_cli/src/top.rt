@@ -1,19 +1,18 @@
 //! The top call.
 ghost use Rattle.std.specs.Prelude.{◌≡◌};
 ghost use Rattle.sto_args.specs.Asked.{feeding_in};
-ghost use Rattle.sto_cli_common.specs.Said.{Says};
-ghost use Rattle.sto_cli_common.specs.Statuses.{line_of, done_status, EndsWith};
-ghost use Rattle.sto_cli_common.specs.Ends.{Ends};
-ghost use Rattle.sto_cli_common.specs.Outcomes.{IsDone};
-ghost use Rattle.sto_cli_common.specs.Causes.{HasCauses};
+ghost use Rattle.sto_console.specs.Said.{Says};
+ghost use Rattle.sto_console.specs.Statuses.{line_of, done_status, EndsWith};
+ghost use Rattle.sto_console.specs.Ends.{Ends};
+ghost use Rattle.sto_console.specs.Outcomes.{IsDone};
+ghost use Rattle.sto_console.specs.Causes.{HasCauses};
 ghost use Rattle.sto_feed_cli.specs.Programs.{feed_program};
 
 use crate::work::perform;
 use std::alloc::Global;
 use std::sync::Wait;
 use std::thread::Threads;
-use sto_cli_common::{say, status};
-use sto_io::{Sink, Source};
+use sto_console::{Sink, Source, say, status};
 use sto_run_feed::Gate;
 
 /// All that the program does with the words after its name, `[--threads N] [--tries N]`: it reads a script, runs it on N workers,

@@ -1,8 +1,8 @@
 //! The order of work: the words, the source, the script, the run, the text, the writing.
 ghost use Rattle.std.specs.Prelude.{IfOk, IfErr};
 ghost use Rattle.sto_args.specs.Asked.{HasNumbers, feeding_in};
-ghost use Rattle.sto_cli_common.specs.declared.refusal.Refusal.TheVariants.{ReadFault, WriteFault};
-ghost use Rattle.sto_cli_common.specs.Ends.{Made, Unmade, Ends, RoseFor};
+ghost use Rattle.sto_console.specs.declared.refusal.Refusal.TheVariants.{ReadFault, WriteFault};
+ghost use Rattle.sto_console.specs.Ends.{Made, Unmade, Ends, RoseFor};
 ghost use Rattle.sto_feed_cli.specs.Programs.{feed_program};
 
 use crate::answer::feed_text;
@@ -10,8 +10,7 @@ use std::alloc::Global;
 use std::sync::Wait;
 use std::thread::Threads;
 use sto_args::{Feeding, find_feeding};
-use sto_cli_common::{Refusal, script_left, write_text};
-use sto_io::{Sink, Source};
+use sto_console::{Refusal, Sink, Source, script_left, write_text};
 use sto_lang::Text;
 use sto_run_feed::Gate;
 
@@ -33,7 +32,7 @@ fn feed_source<R: Threads + Wait + Sync, S: Source, G: Gate>(
 }
 
 /// Does what the words say: makes the whole report, and writes it.
-#[tactic(auto, using(sto_cli_common::proofs::Making::refused_making, sto_cli_common::proofs::Making::refused_writing, sto_cli_common::proofs::Making::unwritten, sto_cli_common::proofs::Making::unread))]
+#[tactic(auto, using(sto_console::proofs::Making::refused_making, sto_console::proofs::Making::refused_writing, sto_console::proofs::Making::unwritten, sto_console::proofs::Making::unread))]
 pub(crate) fn perform<R: Threads + Wait + Sync, S: Source, K: Sink, G: Gate>(
     rt: &R,
     alloc: Global,

@@ -7,7 +7,7 @@ use Rattle.std.proofs.lemmas.List.Sums.{sum_by-cons}
 use Rattle.std.proofs.lemmas.List.Sorted.{sum_by-IsPermutation}
 use Rattle.std.specs.List.{sum_by}
 use Rattle.std.specs.List.Sorted.{IsPermutation}
-use Rattle.sto_attempt_facts.specs.Records.{Verdict, Wrote, Read, Cancelled, Locked, Changed, Record, is_abort, is_finished, wrote_with, wrote_within, times_written, writers_up_to}
+use Rattle.sto_history.specs.Records.{Verdict, Wrote, Read, Cancelled, Locked, Changed, Record, is_abort, is_finished, wrote_with, wrote_within, times_written, writers_up_to}
 
 -- one number more
 within_next : (n : ℕ) (v : Verdict) → wrote_within (suc n) v ≡ wrote_within n v + wrote_with (suc n) v

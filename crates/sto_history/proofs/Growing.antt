@@ -5,8 +5,8 @@ use Rattle.sto_core.specs.declared.view.View.{View}
 use Rattle.sto_core.specs.History.{Contents}
 use Rattle.sto_core.specs.Gathered.{gathered_into}
 use Rattle.sto_core.specs.Reopened.{greatest_at, reopened_view}
-use Rattle.sto_attempt_facts.specs.Added.{Grows}
-use Rattle.sto_attempt_facts.proofs.Among.{among_first, among_second}
+use Rattle.sto_history.specs.Added.{Grows}
+use Rattle.sto_history.proofs.Among.{among_first, among_second}
 
 pub grows_same : (v : View) → Grows v v
 grows_same v = record { at = le_refl v.at; entries = λ e h c. h; claims = λ c h. h; wrote = λ c h. h; findings = λ f h. h }

@@ -12,7 +12,7 @@ use Rattle.sto_type.specs.Meaning.{Meaning}
 use Rattle.sto_type.specs.Runs.{IsRunOn}
 use Rattle.sto_type.specs.Touching.{HasTouched}
 use Rattle.sto_core.specs.History.{writes}
-use Rattle.sto_attempt_facts.specs.Records.{Verdict, Wrote, Read, Cancelled, Locked, Changed, Record, times_written, writers_up_to}
+use Rattle.sto_history.specs.Records.{Verdict, Wrote, Read, Cancelled, Locked, Changed, Record, times_written, writers_up_to}
 use Rattle.sto_history.proofs.Counts.{writers_next, same_to, writers_rise}
 
 -- the contents after each number up to the clock: only the tickets of writers change them, and each is that of one writer

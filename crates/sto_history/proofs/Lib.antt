@@ -1,4 +1,15 @@
+pub mod Doing
+pub mod Serial
+pub mod Keeping
+pub mod Examples
 pub mod Counts
 pub mod Histories
 pub mod Standing
 pub mod Growing
+pub mod Among
+pub mod Events
+pub mod Later
+pub mod Above
+pub mod Progress
+pub mod Ended
+pub mod Tries

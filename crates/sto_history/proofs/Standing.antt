@@ -25,9 +25,9 @@ use Rattle.sto_core.proofs.Entries.{times_at, time_at, once_one, once_within}
 use Rattle.sto_core.proofs.Valid.{part_after, all_valid}
 use Rattle.sto_core.proofs.Stated.{claim_in_contents}
 use Rattle.sto_core.proofs.Closing.{closes_whole}
-use Rattle.sto_attempt_facts.specs.Records.{Verdict, Wrote, Read, Cancelled, Locked, Changed, Record, times_written}
-use Rattle.sto_attempt_facts.specs.Told.{HasClaimed, HasWritten, HasRead, HasCancelled, WasAborted, HasWrote, WasChanged, IsTold}
-use Rattle.sto_attempt_facts.specs.Counted.{if_won, times_committed}
+use Rattle.sto_history.specs.Records.{Verdict, Wrote, Read, Cancelled, Locked, Changed, Record, times_written}
+use Rattle.sto_history.specs.Told.{HasClaimed, HasWritten, HasRead, HasCancelled, WasAborted, HasWrote, WasChanged, IsTold}
+use Rattle.sto_history.specs.Counted.{if_won, times_committed}
 use Rattle.sto_history.proofs.Histories.{IsHistory, WroteAt, ReadAt, CancelledAt, AbortedAt, ChangedAt, StandsAt}
 
 -- committed entries are entries

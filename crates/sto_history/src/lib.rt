@@ -1,4 +1,6 @@
-//! The history of contents: what the contents are after each number, and that what a pass was told of stands there.
+//! What the records of attempts tell of the view of their pass, and what a run of one transaction adds to it.
 //!
-//! Lemmas, no code.
+//! The definitions stand in `specs/`.
 #![tactic(auto)]
+
+

@@ -13,10 +13,10 @@ ghost use Rattle.sto_report_spec.specs.NamedJson.{json_order_named, json_aborts_
 ghost use Rattle.sto_report_spec.specs.Short.{IsShortEntry, IsShortAbort};
 ghost use Rattle.sto_journal.specs.Journals.{IsShortlyTold, told_data, entry, abort, places, HaveRows, HaveThreads, IsAbortOf, AreAbortsOf};
 
+use crate::{AbortLine, Cause, Journal, Line};
 use crate::names::{object_name, thread_name};
 use crate::replies::push_reply;
 use crate::rows::push_rows;
-use crate::{AbortLine, Cause, Journal, Line};
 use serde_json::{Value, json};
 use std::alloc::{AllocError, Global};
 use sto_lang::{Decl, File, Text, Thread};

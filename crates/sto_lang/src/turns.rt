@@ -11,12 +11,12 @@ ghost use Rattle.sto_lang.specs.Shapes.{in_order};
 ghost use Rattle.sto_lang.specs.Weighed.{begun_weight, ended_weight, AreWeighed};
 ghost use Rattle.sto_lang.specs.Views.{names_of};
 
+use crate::{Schedule, Thread, Turns};
 use crate::begun::Begun;
 use crate::draft::Draft;
 use crate::range::natural;
 use crate::thread::thread_number;
 use crate::weight::TOO_HEAVY;
-use crate::{Schedule, Thread, Turns};
 use std::alloc::Global;
 use sto_part::{List, NoMemory};
 use sto_syntax::{Entries, Form};

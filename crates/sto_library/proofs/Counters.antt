@@ -5,8 +5,8 @@ use Rattle.std.proofs.lemmas.Int.{ints}
 use Rattle.sto_model.specs.Objects.{in_range, least, greatest, done_in_range, effect, with_only, counter_effect}
 use Rattle.sto_model.specs.Told.{Done, Flag}
 use Rattle.sto_model.specs.declared.operation.Operation.TheVariants.{Add, Take}
-use Rattle.sto_code.specs.Shortened.{short_of}
-use Rattle.sto_code.specs.Calls.{is_yes, is_done}
+use Rattle.sto_action.specs.Shortened.{short_of}
+use Rattle.sto_action.specs.Calls.{is_yes, is_done}
 
 range_is : (b : Bool) (z y : ℤ) → (if b then Some z else None) ≡ Some y → y ≡ z
 range_is true z y h = cc

@@ -6,20 +6,20 @@ use Rattle.std.proofs.lemmas.List.Elements.{All-nil, All-cons, All-append, All-w
 use Rattle.sto_model.specs.declared.shape.Shape.{Shape}
 use Rattle.sto_type.specs.Traits.{OfType}
 use Rattle.sto_type.specs.Meaning.{Meaning}
-use Rattle.sto_attempt_facts.specs.Added.{Grows}
-use Rattle.sto_attempt_facts.proofs.Among.{among_second}
-use Rattle.sto_serial_history.specs.History.{Transaction}
-use Rattle.sto_serial_history.specs.Done.{IsToldOf, HasDone}
-use Rattle.sto_serial_history.proofs.Doing.{done_none, done_more}
-use Rattle.sto_code.specs.declared.short_reply.ShortReply.{ShortReply}
-use Rattle.sto_code.specs.Progs.{Prog, IsGiven, IsCancelled, IsAsked}
-use Rattle.sto_open.specs.declared.store.Store.{Store as Words}
-use Rattle.sto_atomically.specs.declared.outcome.Done.{Done}
-use Rattle.sto_atomically.specs.declared.outcome.Done.TheVariants.{Gave, Cancelled}
-use Rattle.sto_atomically.specs.declared.outcome.Unrun.{Unrun}
-use Rattle.sto_atomically.specs.declared.outcome.Unrun.TheVariants.{Busy, Refused, Worn, NoMemory}
-use Rattle.sto_atomically.specs.Atomic.{steps_of, TakesNoEffect, IsAtomic, HasLed}
-use Rattle.sto_atomically.proofs.Tried.{seen_later}
+use Rattle.sto_history.specs.Added.{Grows}
+use Rattle.sto_history.proofs.Among.{among_second}
+use Rattle.sto_history.specs.History.{Transaction}
+use Rattle.sto_history.specs.Done.{IsToldOf, HasDone}
+use Rattle.sto_history.proofs.Doing.{done_none, done_more}
+use Rattle.sto_action.specs.declared.short_reply.ShortReply.{ShortReply}
+use Rattle.sto_action.specs.Progs.{Prog, IsGiven, IsCancelled, IsAsked}
+use Rattle.sto_shared_store.specs.declared.store.Store.{Store as Words}
+use Rattle.sto_action.specs.declared.outcome.Done.{Done}
+use Rattle.sto_action.specs.declared.outcome.Done.TheVariants.{Gave, Cancelled}
+use Rattle.sto_action.specs.declared.outcome.Unrun.{Unrun}
+use Rattle.sto_action.specs.declared.outcome.Unrun.TheVariants.{Busy, Refused, Worn, NoMemory}
+use Rattle.sto_action.specs.Atomic.{steps_of, TakesNoEffect, IsAtomic, HasLed}
+use Rattle.sto_action.proofs.Tried.{seen_later}
 use Rattle.sto_library.specs.Values.{Working}
 use Rattle.sto_library.specs.Doings.{HasRunOnly, HasRepeated, HasHeard, IsLedBy, HasGiven, HasCause}
 

@@ -11,19 +11,19 @@ use Rattle.sto_type.specs.Traits.{OfType}
 use Rattle.sto_type.specs.Meaning.{Meaning}
 use Rattle.sto_core.specs.declared.view.View.{View}
 use Rattle.sto_core.specs.Lists.{Among}
-use Rattle.sto_serial_history.specs.History.{Transaction}
-use Rattle.sto_serial_history.specs.Done.{HasDone, HaveHistory}
-use Rattle.sto_serial_history.specs.Keeping.{KeepsState, RanWithin, HasKept, IsKeeping, HaveKept}
-use Rattle.sto_serial_history.proofs.Keeping.{new_kept, kept_on, one_kept, none_kept, others_kept, first_all, second_all, kept_by_all}
-use Rattle.sto_code.specs.Shortened.{short_of}
-use Rattle.sto_code.specs.Progs.{Prog, Cancels, IsGiven, chain}
-use Rattle.sto_code.specs.Alone.{run_of}
-use Rattle.sto_code.proofs.Alone.{run_gives, run_commits}
-use Rattle.sto_open.specs.declared.store.Store.{Store as Words}
-use Rattle.sto_atomically.specs.declared.outcome.Done.{Done}
-use Rattle.sto_atomically.specs.declared.outcome.Done.TheVariants.{Gave, Cancelled}
-use Rattle.sto_atomically.specs.declared.outcome.Unrun.{Unrun}
-use Rattle.sto_atomically.specs.Atomic.{steps_of}
+use Rattle.sto_history.specs.History.{Transaction}
+use Rattle.sto_history.specs.Done.{HasDone, HaveHistory}
+use Rattle.sto_history.specs.Keeping.{KeepsState, RanWithin, HasKept, IsKeeping, HaveKept}
+use Rattle.sto_history.proofs.Keeping.{new_kept, kept_on, one_kept, none_kept, others_kept, first_all, second_all, kept_by_all}
+use Rattle.sto_action.specs.Shortened.{short_of}
+use Rattle.sto_action.specs.Progs.{Prog, Cancels, IsGiven, chain}
+use Rattle.sto_action.specs.Alone.{run_of}
+use Rattle.sto_action.proofs.Alone.{run_gives, run_commits}
+use Rattle.sto_shared_store.specs.declared.store.Store.{Store as Words}
+use Rattle.sto_action.specs.declared.outcome.Done.{Done}
+use Rattle.sto_action.specs.declared.outcome.Done.TheVariants.{Gave, Cancelled}
+use Rattle.sto_action.specs.declared.outcome.Unrun.{Unrun}
+use Rattle.sto_action.specs.Atomic.{steps_of}
 use Rattle.sto_library.specs.Values.{Working, Stored}
 use Rattle.sto_library.specs.Tasks.{IsDone, AreFourDone}
 use Rattle.sto_library.specs.Doings.{HasRunOnly, IsLedBy, HasGiven}

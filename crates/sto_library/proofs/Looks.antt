@@ -1,9 +1,9 @@
 -- A look is answered by its transaction.
 use Rattle.std.proofs.Common.{ℕ, Result, Ok, Err}
 use Rattle.sto_type.specs.Traits.{OfType}
-use Rattle.sto_code.specs.Progs.{Prog}
-use Rattle.sto_atomically.specs.declared.outcome.Done.{Done}
-use Rattle.sto_atomically.specs.declared.outcome.Unrun.{Unrun}
+use Rattle.sto_action.specs.Progs.{Prog}
+use Rattle.sto_action.specs.declared.outcome.Done.{Done}
+use Rattle.sto_action.specs.declared.outcome.Unrun.{Unrun}
 use Rattle.sto_library.specs.Values.{Stored}
 use Rattle.sto_library.specs.Looks.{IsLookOf, HasLooked, looked_by}
 

@@ -8,8 +8,8 @@ use Rattle.sto_core.specs.declared.view.View.{View}
 use Rattle.sto_table.specs.declared.stance.Stance.{Stance}
 use Rattle.sto_table.specs.declared.shared.Shared.{Shared}
 use Rattle.sto_part.specs.declared.naming.Naming as naming
-use Rattle.sto_open.specs.declared.worker.IdleWorker.{IdleWorker}
-use Rattle.sto_open.specs.Working.{IsFresh}
+use Rattle.sto_shared_store.specs.declared.worker.IdleWorker.{IdleWorker}
+use Rattle.sto_shared_store.specs.Working.{IsFresh}
 
 pub all_new : {T X : Type 0} (m : Meaning) (sizes : List ℕ) (s : Shared T) (seat : X → Seat (Unit {0}) Stance) (ws : List X) → All (λ w. IsFresh m sizes s (seat w)) ws
     → All (λ (v : View). v.entries ≡ []) (map (λ w. (seat w).me.0.view) ws)

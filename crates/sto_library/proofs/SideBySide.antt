@@ -2,7 +2,7 @@
 use Rattle.std.proofs.Common.{◌≡◌, List, [], ◌∷◌, ◌++◌, ap, ◌∙◌, append_assoc}
 use Rattle.sto_model.specs.declared.shape.Shape.{Shape}
 use Rattle.sto_core.specs.declared.view.View.{View}
-use Rattle.sto_open.specs.declared.store.Store.{Store as Words}
+use Rattle.sto_shared_store.specs.declared.store.Store.{Store as Words}
 use Rattle.sto_library.specs.Values.{Stored, Working}
 use Rattle.sto_library.specs.Tasks.{IsDone, AreBothDone, AreFourDone}
 

@@ -9,8 +9,8 @@ use Rattle.sto_model.specs.Rows.{Row, with_row, rows_between, has_key}
 use Rattle.sto_model.specs.Objects.{effect, put_effect}
 use Rattle.sto_model.specs.Told.{Done, Full}
 use Rattle.sto_model.proofs.RowFacts.{by_test, with_row-below, with_row-same, with_row-above}
-use Rattle.sto_code.specs.Shortened.{short_of}
-use Rattle.sto_code.specs.Calls.{is_done}
+use Rattle.sto_action.specs.Shortened.{short_of}
+use Rattle.sto_action.specs.Calls.{is_done}
 
 -- the row of a key before the first one or after the last one
 abbrev pub IsOutside : ℤ → ℤ → Row → Type 0

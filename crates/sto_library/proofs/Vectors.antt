@@ -8,8 +8,8 @@ use Rattle.sto_model.specs.Objects.{effect, push_effect, popped, pop_effect, vec
 use Rattle.sto_model.specs.Told.{Value}
 use Rattle.sto_model.specs.declared.operation.Operation.TheVariants.{Push, Pop}
 use Rattle.sto_model.proofs.RowFacts.{AllBelow, with_row-below, without-here, without-past, not_equal_of, equal_of}
-use Rattle.sto_code.specs.Shortened.{short_of}
-use Rattle.sto_code.specs.Calls.{is_done}
+use Rattle.sto_action.specs.Shortened.{short_of}
+use Rattle.sto_action.specs.Calls.{is_done}
 use Rattle.sto_library.specs.Vectors.{placed}
 
 pub many_placed : (xs : List ℤ) → length (placed xs) ≡ length xs

@@ -3,17 +3,17 @@ use Rattle.std.specs.Prelude.{◌≡◌, ◌≤◌, ◌<◌, ℕ, List, length, 
 use Rattle.std.specs.List.{All}
 use Rattle.sto_type.specs.Traits.{OfType}
 use Rattle.sto_core.specs.Lists.{Among}
-use Rattle.sto_attempt_facts.specs.Records.{IsSince}
-use Rattle.sto_serial_history.specs.History.{Transaction}
-use Rattle.sto_serial_history.specs.Done.{HasDone}
-use Rattle.sto_code.specs.Shortened.{short_of}
-use Rattle.sto_code.specs.declared.short_reply.ShortReply.{ShortReply}
-use Rattle.sto_code.specs.Progs.{Prog, IsGiven, IsCancelled, IsAsked}
-use Rattle.sto_atomically.specs.declared.outcome.Done.{Done}
-use Rattle.sto_atomically.specs.declared.outcome.Done.TheVariants.{Gave, Cancelled}
-use Rattle.sto_atomically.specs.declared.outcome.Unrun.{Unrun}
-use Rattle.sto_atomically.specs.declared.outcome.Unrun.TheVariants.{Busy, Refused, Worn, NoMemory}
-use Rattle.sto_atomically.specs.Atomic.{steps_of, HasSeen, HaveAborted}
+use Rattle.sto_history.specs.Records.{IsSince}
+use Rattle.sto_history.specs.History.{Transaction}
+use Rattle.sto_history.specs.Done.{HasDone}
+use Rattle.sto_action.specs.Shortened.{short_of}
+use Rattle.sto_action.specs.declared.short_reply.ShortReply.{ShortReply}
+use Rattle.sto_action.specs.Progs.{Prog, IsGiven, IsCancelled, IsAsked}
+use Rattle.sto_action.specs.declared.outcome.Done.{Done}
+use Rattle.sto_action.specs.declared.outcome.Done.TheVariants.{Gave, Cancelled}
+use Rattle.sto_action.specs.declared.outcome.Unrun.{Unrun}
+use Rattle.sto_action.specs.declared.outcome.Unrun.TheVariants.{Busy, Refused, Worn, NoMemory}
+use Rattle.sto_action.specs.Atomic.{steps_of, HasSeen, HaveAborted}
 use Rattle.sto_library.specs.Values.{Working}
 
 -- from one time to a later one the worker ran code of this family again and again, each time another one, and nothing else

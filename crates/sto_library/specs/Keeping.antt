@@ -2,11 +2,11 @@
 use Rattle.std.specs.Prelude.{List, IfSome, Result, Ok, Err}
 use Rattle.sto_model.specs.Machine.{Machine}
 use Rattle.sto_model.specs.Run.{State}
-use Rattle.sto_code.specs.Progs.{Prog}
-use Rattle.sto_code.specs.Alone.{run_of}
-use Rattle.sto_atomically.specs.declared.outcome.Done.{Done}
-use Rattle.sto_atomically.specs.declared.outcome.Done.TheVariants.{Gave, Cancelled}
-use Rattle.sto_atomically.specs.declared.outcome.Unrun.{Unrun}
+use Rattle.sto_action.specs.Progs.{Prog}
+use Rattle.sto_action.specs.Alone.{run_of}
+use Rattle.sto_action.specs.declared.outcome.Done.{Done}
+use Rattle.sto_action.specs.declared.outcome.Done.TheVariants.{Gave, Cancelled}
+use Rattle.sto_action.specs.declared.outcome.Unrun.{Unrun}
 
 -- run alone on a state with the invariant, the code leaves one with the invariant, and gives a good value. One that gives the transaction
 -- up leaves the state as it was

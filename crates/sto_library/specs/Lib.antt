@@ -7,10 +7,10 @@ pub mod Values
 pub mod Closings
 pub mod Tasks
 pub mod Looks
-pub use Rattle.sto_atomically.specs.Atomic
-pub use Rattle.sto_code.specs.Alone
-pub use Rattle.sto_code.specs.Calls
-pub use Rattle.sto_code.specs.Progs
-pub use Rattle.sto_code.specs.Steps
-pub use Rattle.sto_serial_history.specs.Done
-pub use Rattle.sto_serial_history.specs.History
+pub use Rattle.sto_action.specs.Atomic
+pub use Rattle.sto_action.specs.Alone
+pub use Rattle.sto_action.specs.Calls
+pub use Rattle.sto_action.specs.Progs
+pub use Rattle.sto_action.specs.Steps
+pub use Rattle.sto_history.specs.Done
+pub use Rattle.sto_history.specs.History

@@ -2,9 +2,9 @@
 use Rattle.std.specs.Prelude.{◌≡◌, ◌^◌, ℕ, List, [], ◌∷◌, ◌++◌, Result, Ok, Err}
 use Rattle.sto_type.specs.Traits.{OfType}
 use Rattle.sto_core.specs.declared.view.View.{View}
-use Rattle.sto_code.specs.Progs.{Prog}
-use Rattle.sto_atomically.specs.declared.outcome.Done.{Done}
-use Rattle.sto_atomically.specs.declared.outcome.Unrun.{Unrun}
+use Rattle.sto_action.specs.Progs.{Prog}
+use Rattle.sto_action.specs.declared.outcome.Done.{Done}
+use Rattle.sto_action.specs.declared.outcome.Unrun.{Unrun}
 use Rattle.sto_library.specs.Values.{Stored, Working}
 use Rattle.sto_library.specs.Doings.{HasGiven, HasCause}
 use Rattle.sto_library.specs.Tasks.{IsDone}

@@ -1,8 +1,8 @@
 -- What a plan answers.
 use Rattle.std.specs.Prelude.{◌≡◌, ℕ, List, [], ◌∷◌, ◌++◌, length, Result, Ok, Err}
 use Rattle.sto_model.specs.declared.shape.Shape.{Shape}
-use Rattle.sto_open.specs.declared.unplanned.Unplanned.{Unplanned}
-use Rattle.sto_open.specs.Plans.{IsReason}
+use Rattle.sto_shared_store.specs.declared.unplanned.Unplanned.{Unplanned}
+use Rattle.sto_shared_store.specs.Plans.{IsReason}
 
 -- the object was added, and its number is how many were added before; or it was not, for this reason
 abbrev pub HasPlanned : {Id : Type 0} → Shape → (Id → ℕ) → (old new : List Shape) → Result Id Unplanned → Type 0

@@ -4,8 +4,8 @@ use Rattle.sto_model.specs.declared.shape.Shape.{Shape}
 use Rattle.sto_part.specs.declared.naming.Naming as naming
 use Rattle.sto_type.specs.Traits.{OfType}
 use Rattle.sto_core.specs.declared.view.View.{View}
-use Rattle.sto_open.specs.declared.store.Store.{Store as Words}
-use Rattle.sto_open.specs.declared.worker.IdleWorker.{IdleWorker}
+use Rattle.sto_shared_store.specs.declared.store.Store.{Store as Words}
+use Rattle.sto_shared_store.specs.declared.worker.IdleWorker.{IdleWorker}
 use Rattle.sto_library.specs.Values.{Stored, Working, Serves}
 use Rattle.sto_library.specs.declared.task.Finished.{Finished}
 use Rattle.sto_library.specs.declared.task.TaskError.{TaskError}

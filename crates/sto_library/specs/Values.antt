@@ -6,9 +6,9 @@ use Rattle.sto_model.specs.declared.call.Call.{Call}
 use Rattle.sto_type.specs.Traits.{OfType}
 use Rattle.sto_core.specs.declared.view.View.{View}
 use Rattle.sto_table.specs.declared.stance.Stance.{Stance}
-use Rattle.sto_code.specs.Progs.{IsTakenCall}
-use Rattle.sto_open.specs.declared.store.Store.{Store as Words}
-use Rattle.sto_open.specs.Working.{IsWorker}
+use Rattle.sto_action.specs.Progs.{IsTakenCall}
+use Rattle.sto_shared_store.specs.declared.store.Store.{Store as Words}
+use Rattle.sto_shared_store.specs.Working.{IsWorker}
 
 -- a store: its objects with their words, their shapes, and what the workers know that rest in it
 pub record Stored (T : Type 0) : Type 0 where

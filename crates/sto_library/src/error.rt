@@ -4,8 +4,8 @@ ghost use Rattle.sto_library.specs.declared.error.StoreError.TheVariants as why;
 
 use crate::store::{CloseError, LookError};
 use crate::task::TaskError;
-use sto_atomically::Unrun;
-use sto_open::{Unopened, Unplanned};
+use sto_action::Unrun;
+use sto_shared_store::{Unopened, Unplanned};
 use sto_type::TxType;
 
 /// Why a program with a store came to no answer: the error of any call of this library, for a `?` behind each.

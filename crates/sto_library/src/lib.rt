@@ -14,14 +14,11 @@ mod worker;
 pub use contents::{total_of, value_of};
 pub use error::StoreError;
 pub use schema::Schema;
-pub use sto_atomically::{Done, Unrun};
-pub use sto_code::{
-    ArrayId, BoxId, Code, CounterId, HashId, Held, ShortReply, Snapshot, Stop, TreeId, Tx, VectorId,
-};
-pub use sto_model::{Call, Rows, State};
-pub use sto_objects::Objects;
-pub use sto_open::{IdleWorker, Unopened, Unplanned};
+pub use sto_action::{ArrayId, BoxId, Code, CounterId, Done, HashId, Held, ShortReply, Snapshot, Stop, TreeId, Tx, Unrun, VectorId};
 pub use sto_part::{NoMemory, Test, wrapping_difference, wrapping_sum};
+pub use sto_shared_store::{IdleWorker, Unopened, Unplanned};
+pub use sto_store::Objects;
+pub use sto_model::{Call, Rows, State};
 pub use sto_transaction::AttemptWatch;
 pub use sto_type::TxType;
 pub use store::{CloseError, LookError, SharedStore};

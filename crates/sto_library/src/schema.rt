@@ -3,21 +3,21 @@ ghost use Rattle.std.specs.Prelude.{◌≡◌, [], length, IfOk, IfErr};
 ghost use Rattle.std.specs.List.{All};
 ghost use Rattle.sto_model.specs.declared.shape.Shape.TheVariants.{Single, Counter, Array, Hash, Tree, Vector};
 ghost use Rattle.sto_model.specs.Objects.{machines_of};
-ghost use Rattle.sto_open.specs.Refusals.{IsCause};
+ghost use Rattle.sto_shared_store.specs.Refusals.{IsCause};
 ghost use Rattle.sto_library.specs.Planned.{HasPlanned};
 
 use crate::store::SharedStore;
 use std::alloc::Global;
-use sto_code::{ArrayId, BoxId, CounterId, HashId, TreeId, VectorId};
+use sto_action::{ArrayId, BoxId, CounterId, HashId, TreeId, VectorId};
 use sto_model::Shape;
-use sto_objects::Objects;
-use sto_open::{OpenedStore, Unopened, Unplanned};
+use sto_shared_store::{OpenedStore, Unopened, Unplanned};
+use sto_store::Objects;
 use sto_type::TxType;
 
 /// The objects that a store is to hold: first its boxes, then counters, arrays, hash tables, trees and vectors.
 #[derive(Drop)]
 pub struct Schema {
-    pub objects: sto_open::Plan,
+    pub objects: sto_shared_store::Plan,
 }
 
 impl Schema {
@@ -26,7 +26,7 @@ impl Schema {
         ensures { result.objects ≡ [] }
     {
         Schema {
-            objects: sto_open::Plan::new(alloc),
+            objects: sto_shared_store::Plan::new(alloc),
         }
     }
 

@@ -1,8 +1,8 @@
 //! A store, in which its workers rest.
 ghost use Rattle.std.specs.Prelude.{◌≡◌, ◌^◌, [], ◌∷◌, ◌++◌, map, length, IfOk, IfErr, OnErr, MatchOption};
 ghost use Rattle.std.specs.List.{All};
-ghost use Rattle.sto_serial_history.specs.Done.{HaveHistory};
-ghost use Rattle.sto_open.specs.Working.{AreRowsAfter};
+ghost use Rattle.sto_history.specs.Done.{HaveHistory};
+ghost use Rattle.sto_shared_store.specs.Working.{AreRowsAfter};
 ghost use Rattle.sto_library.specs.Values.{Serves, TakeCalls};
 ghost use Rattle.sto_library.specs.Closings.{ComesBack};
 ghost use Rattle.sto_library.specs.Doings.{HasGiven, HasCause};
@@ -12,11 +12,10 @@ ghost use Rattle.sto_library.specs.Looks.{HasLooked, looked_by};
 use crate::worker::StoreWorker;
 use std::alloc::Global;
 use std::marker::Model;
-use sto_atomically::{Done, Unrun};
-use sto_code::Code;
+use sto_action::{Code, Done, Unrun};
 use sto_model::{Shapes, State};
-use sto_open::{IdleWorker, IdleWorkers};
 use sto_part::NoMemory;
+use sto_shared_store::{IdleWorker, IdleWorkers};
 use sto_type::TxType;
 
 /// Objects that threads share, and the workers that rest.
@@ -24,7 +23,7 @@ use sto_type::TxType;
 /// A worker is hired, goes to a thread, runs transactions there, and comes back. Contracts see the objects, their shapes, and what the
 /// workers know that rest here.
 pub struct SharedStore<T: TxType> {
-    words: sto_open::Store<T>,
+    words: sto_shared_store::Store<T>,
     shapes: Shapes,
     idle: IdleWorkers<T>,
 }
@@ -77,7 +76,7 @@ type Looked<T, O> = (IdleWorker<T>, Result<Done<O>, Unrun>);
 // Has a worker run code as one transaction.
 fn look_by<T: TxType, K: Code>(
     alloc: Global,
-    words: &sto_open::Store<T>,
+    words: &sto_shared_store::Store<T>,
     shapes: &Shapes,
     worker: IdleWorker<T>,
     code: &K,
@@ -108,7 +107,7 @@ fn looked<O: Drop>(told: Result<Done<O>, Unrun>) -> Result<Done<O>, LookError>
 
 impl<T: TxType> SharedStore<T> {
     /// A store of objects of these shapes, with its workers.
-    pub fn new(words: sto_open::Store<T>, shapes: Shapes, idle: IdleWorkers<T>) -> SharedStore<T>
+    pub fn new(words: sto_shared_store::Store<T>, shapes: Shapes, idle: IdleWorkers<T>) -> SharedStore<T>
         requires workers { All (λ w. Serves T.TxType words w.rest.seat) idle.items }
         requires takes { TakeCalls T.TxType words shapes.items }
         ensures { (result.words ≡ words) × (result.shapes ≡ shapes.items) × (result.views ≡ map (λ w. w.rest.seat.me.0.view) idle.items) }
@@ -172,7 +171,7 @@ impl<T: TxType> SharedStore<T> {
     }
 
     /// Its objects with their words, and their shapes.
-    pub(crate) fn parts(&self) -> (&sto_open::Store<T>, &Shapes)
+    pub(crate) fn parts(&self) -> (&sto_shared_store::Store<T>, &Shapes)
         ensures words { result.0.now ≡ self.now.words }
         ensures shapes { result.1.now.items ≡ self.now.shapes }
         ensures takes { TakeCalls T.TxType result.0.now result.1.now.items }
@@ -208,10 +207,10 @@ impl<T: TxType + Drop> SharedStore<T> {
         } = self;
         match words.close(alloc, idle) {
             Ok(rows) => Ok(rows),
-            Err(sto_open::Unclosed::Missing(words, idle)) => {
+            Err(sto_shared_store::Unclosed::Missing(words, idle)) => {
                 Err(CloseError::Missing(SharedStore::new(words, shapes, idle)))
             }
-            Err(sto_open::Unclosed::NoMemory) => Err(CloseError::NoMemory),
+            Err(sto_shared_store::Unclosed::NoMemory) => Err(CloseError::NoMemory),
         }
     }
 }

@@ -6,7 +6,7 @@ ghost use Rattle.sto_library.specs.Tasks.{DoesTask};
 use crate::worker::StoreWorker;
 use std::alloc::Global;
 use sto_model::Shapes;
-use sto_open::IdleWorker;
+use sto_shared_store::IdleWorker;
 use sto_type::TxType;
 
 /// What a worker does at its store: transactions, one after the other, and what it makes of what they give.
@@ -44,7 +44,7 @@ pub(crate) struct Finished<T: TxType, O> {
 /// Does a task in this thread.
 pub(crate) fn work_alone<T: TxType, K: Task<T>>(
     alloc: Global,
-    words: &sto_open::Store<T>,
+    words: &sto_shared_store::Store<T>,
     shapes: &Shapes,
     worker: IdleWorker<T>,
     task: &K,

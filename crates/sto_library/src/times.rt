@@ -4,8 +4,7 @@ ghost use Rattle.sto_library.specs.Doings.{HasGiven};
 
 use crate::task::Task;
 use crate::worker::StoreWorker;
-use sto_atomically::{Done, Unrun};
-use sto_code::Code;
+use sto_action::{Code, Done, Unrun};
 use sto_type::TxType;
 
 /// So many times the same code, once at least: `Times(20, code)`. It gives how the last time went, or the first error, after which it

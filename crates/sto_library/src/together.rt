@@ -9,8 +9,8 @@ use crate::task::{Finished, Task, TaskError, work_alone};
 use std::alloc::Global;
 use std::thread::{Threads, join};
 use sto_model::Shapes;
-use sto_open::IdleWorker;
 use sto_part::NoMemory;
+use sto_shared_store::IdleWorker;
 use sto_type::TxType;
 
 // Two workers.
@@ -90,7 +90,7 @@ fn back_four<T: TxType>(
 fn work_both<R: Threads, T: TxType + Drop + Send + Sync, A: Task<T> + Sync, B: Task<T> + Sync>(
     rt: &R,
     alloc: Global,
-    words: &sto_open::Store<T>,
+    words: &sto_shared_store::Store<T>,
     shapes: &Shapes,
     workers: Pair<T>,
     a: &A,
@@ -122,7 +122,7 @@ where
 // Does two tasks, one after the other.
 fn work_in_turn<T: TxType, A: Task<T>, B: Task<T>>(
     alloc: Global,
-    words: &sto_open::Store<T>,
+    words: &sto_shared_store::Store<T>,
     shapes: &Shapes,
     workers: Pair<T>,
     a: &A,
@@ -141,7 +141,7 @@ fn work_in_turn<T: TxType, A: Task<T>, B: Task<T>>(
 fn work_two<R: Threads, T: TxType + Drop + Send + Sync, A: Task<T> + Sync, B: Task<T> + Sync>(
     rt: &R,
     alloc: Global,
-    words: &sto_open::Store<T>,
+    words: &sto_shared_store::Store<T>,
     shapes: &Shapes,
     threads: u32,
     workers: Pair<T>,
@@ -172,7 +172,7 @@ fn work_four<
 >(
     rt: &R,
     alloc: Global,
-    words: &sto_open::Store<T>,
+    words: &sto_shared_store::Store<T>,
     shapes: &Shapes,
     threads: u32,
     workers: (Pair<T>, Pair<T>),

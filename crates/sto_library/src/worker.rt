@@ -1,17 +1,16 @@
 //! A worker at its store.
 ghost use Rattle.std.specs.Prelude.{◌≡◌, ◌≤◌, ◌^◌};
-ghost use Rattle.sto_attempt_facts.specs.Added.{Grows};
-ghost use Rattle.sto_atomically.specs.Atomic.{HasLed, IsUndisturbed};
+ghost use Rattle.sto_history.specs.Added.{Grows};
+ghost use Rattle.sto_action.specs.Atomic.{HasLed, IsUndisturbed};
 ghost use Rattle.sto_library.specs.Values.{Serves, TakeCalls};
 ghost use Rattle.sto_library.specs.Doings.{HasGiven};
 
 use crate::waits::Waits;
 use std::alloc::Global;
 use std::marker::Model;
-use sto_atomically::{CodeMemory, Done, Unrun, atomically};
-use sto_code::Code;
+use sto_action::{Code, CodeMemory, Done, Unrun, atomically};
 use sto_model::Shapes;
-use sto_open::{BusyWorker, IdleWorker};
+use sto_shared_store::{BusyWorker, IdleWorker};
 use sto_transaction::AttemptWatch;
 use sto_type::TxType;
 
@@ -22,7 +21,7 @@ const TRIES: u32 = 1 << 16;
 #[derive(Drop)]
 pub struct StoreWorker<'s, T: TxType> {
     alloc: Global,
-    words: &'s sto_open::Store<T>,
+    words: &'s sto_shared_store::Store<T>,
     shapes: &'s Shapes,
     busy: BusyWorker<'s, T>,
     memory: CodeMemory,
@@ -47,7 +46,7 @@ impl<'s, T: TxType> StoreWorker<'s, T> {
     /// A worker at its store.
     pub(crate) fn new(
         alloc: Global,
-        words: &'s sto_open::Store<T>,
+        words: &'s sto_shared_store::Store<T>,
         shapes: &'s Shapes,
         idle: IdleWorker<T>,
     ) -> StoreWorker<'s, T>

@@ -11,26 +11,26 @@ use Rattle.sto_type.specs.Meaning.{Meaning}
 use Rattle.sto_type.specs.Traits.{OfType}
 use Rattle.sto_core.specs.declared.cells.Cells as cells
 use Rattle.sto_core.specs.declared.view.View.{View}
-use Rattle.sto_attempt_facts.specs.Records.{Place, Record, is_abort}
-use Rattle.sto_attempt_facts.specs.Told.{IsFound}
-use Rattle.sto_attempt_facts.specs.Counted.{times_committed}
-use Rattle.sto_attempt_facts.specs.Tried.{HasTried}
+use Rattle.sto_history.specs.Records.{Place, Record, is_abort}
+use Rattle.sto_history.specs.Told.{IsFound}
+use Rattle.sto_history.specs.Counted.{times_committed}
+use Rattle.sto_history.specs.Tried.{HasTried}
 use Rattle.sto_transaction.specs.Plain.{verdict}
 use Rattle.sto_transaction.specs.Machines.{HasStopped, HasEnded}
 use Rattle.sto_transaction.specs.declared.machine.Ended.{Ended}
-use Rattle.sto_live.specs.Scripts.{script_of}
-use Rattle.sto_live.specs.Bodies.{next_of, script_in, left_of, MayAskOf}
-use Rattle.sto_live.specs.Lives.{IsLive, HasCommitted, HasCancelled}
-use Rattle.sto_live.specs.declared.asked.Asked.{Asked}
-use Rattle.sto_live.specs.declared.live.Live.{Live}
-use Rattle.sto_live.specs.declared.live.Stopped.{Stopped}
-use Rattle.sto_live.specs.declared.live.Stopped.TheVariants as stops
-use Rattle.sto_code.specs.Shortened.{short_of}
-use Rattle.sto_code.specs.declared.short_reply.ShortReply.{ShortReply}
-use Rattle.sto_code.specs.Progs.{Prog, is_taken, IsGiven, IsCancelled, IsAsked}
-use Rattle.sto_atomically.specs.Atomic.{IsAtomic, HasSeen, HaveAborted, TakesNoEffect, steps_of}
-use Rattle.sto_attempt_facts.specs.Added.{IsKnown}
-use Rattle.sto_atomically.proofs.Counts.{abort_wrote}
+use Rattle.sto_interactive.specs.Scripts.{script_of}
+use Rattle.sto_interactive.specs.Bodies.{next_of, script_in, left_of, MayAskOf}
+use Rattle.sto_interactive.specs.Lives.{IsLive, HasCommitted, HasCancelled}
+use Rattle.sto_interactive.specs.declared.asked.Asked.{Asked}
+use Rattle.sto_interactive.specs.declared.live.Live.{Live}
+use Rattle.sto_interactive.specs.declared.live.Stopped.{Stopped}
+use Rattle.sto_interactive.specs.declared.live.Stopped.TheVariants as stops
+use Rattle.sto_action.specs.Shortened.{short_of}
+use Rattle.sto_action.specs.declared.short_reply.ShortReply.{ShortReply}
+use Rattle.sto_action.specs.Progs.{Prog, is_taken, IsGiven, IsCancelled, IsAsked}
+use Rattle.sto_action.specs.Atomic.{IsAtomic, HasSeen, HaveAborted, TakesNoEffect, steps_of}
+use Rattle.sto_history.specs.Added.{IsKnown}
+use Rattle.sto_action.proofs.Counts.{abort_wrote}
 use Rattle.sto_once.specs.declared.code.Halt.{Halt}
 use Rattle.sto_once.specs.declared.code.Halt.TheVariants as halts
 use Rattle.sto_once.specs.Once.{Gave, GaveUp, Wants}

@@ -3,10 +3,10 @@ use Rattle.std.proofs.Common.{◌≤◌, ◌^◌, ℕ, List, Some, Result, Ok, E
 use Rattle.sto_model.specs.declared.shape.Shape.{Shape}
 use Rattle.sto_type.specs.Meaning.{Meaning}
 use Rattle.sto_core.specs.declared.view.View.{View}
-use Rattle.sto_attempt_facts.specs.Added.{Grows}
-use Rattle.sto_code.specs.Progs.{Prog}
-use Rattle.sto_atomically.specs.Atomic.{TakesNoEffect, HasLed, IsUndisturbed}
-use Rattle.sto_atomically.proofs.Led.{atomic_since}
+use Rattle.sto_history.specs.Added.{Grows}
+use Rattle.sto_action.specs.Progs.{Prog}
+use Rattle.sto_action.specs.Atomic.{TakesNoEffect, HasLed, IsUndisturbed}
+use Rattle.sto_action.proofs.Led.{atomic_since}
 use Rattle.sto_once.specs.declared.code.Halt.{Halt}
 use Rattle.sto_once.specs.declared.code.Halt.TheVariants as halts
 use Rattle.sto_once.specs.Attempts.{Says}

@@ -1,8 +1,8 @@
 -- Parts of code over a history, one after the other.
 use Rattle.std.proofs.Common.{◌≡◌, List, [], ◌∷◌, ◌++◌, Result, Ok, Err, refl, sym, ap, ◌∙◌, subst, append_assoc, append-nil}
 use Rattle.sto_model.specs.declared.call.Call.{Call}
-use Rattle.sto_code.specs.declared.short_reply.ShortReply.{ShortReply}
-use Rattle.sto_code.specs.Progs.{Prog, Asks, Gives, Cancels, chain}
+use Rattle.sto_action.specs.declared.short_reply.ShortReply.{ShortReply}
+use Rattle.sto_action.specs.Progs.{Prog, Asks, Gives, Cancels, chain}
 use Rattle.sto_once.specs.declared.code.Halt.{Halt}
 use Rattle.sto_once.specs.declared.code.Halt.TheVariants as halts
 use Rattle.sto_once.specs.Once.{Heard, Answering, Ready, Leads, Adds, Goes, Gave, GaveUp, Wants}

@@ -4,12 +4,12 @@ use Rattle.sto_model.specs.declared.call.Call.{Call}
 use Rattle.sto_model.specs.declared.shape.Shape.{Shape}
 use Rattle.sto_type.specs.Meaning.{Meaning}
 use Rattle.sto_core.specs.declared.view.View.{View}
-use Rattle.sto_code.specs.Progs.{Prog, Asks, Gives}
-use Rattle.sto_code.specs.Calls.{number}
-use Rattle.sto_code.specs.declared.short_reply.ShortReply.{ShortReply}
-use Rattle.sto_code.specs.declared.short_reply.ShortReply.TheVariants.{Value}
-use Rattle.sto_atomically.specs.Atomic.{HasLed}
-use Rattle.sto_atomically.specs.declared.outcome.Unrun.TheVariants.{Busy}
+use Rattle.sto_action.specs.Progs.{Prog, Asks, Gives}
+use Rattle.sto_action.specs.Calls.{number}
+use Rattle.sto_action.specs.declared.short_reply.ShortReply.{ShortReply}
+use Rattle.sto_action.specs.declared.short_reply.ShortReply.TheVariants.{Value}
+use Rattle.sto_action.specs.Atomic.{HasLed}
+use Rattle.sto_action.specs.declared.outcome.Unrun.TheVariants.{Busy}
 use Rattle.sto_once.specs.Once.{Heard, Answering, Goes, Gave}
 
 -- what answers calls, seen as what it has answered

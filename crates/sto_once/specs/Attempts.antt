@@ -8,16 +8,16 @@ use Rattle.sto_type.specs.Meaning.{Meaning}
 use Rattle.sto_type.specs.Traits.{OfType}
 use Rattle.sto_core.specs.declared.cells.Cells as cells
 use Rattle.sto_core.specs.declared.view.View.{View}
-use Rattle.sto_attempt_facts.specs.Added.{Grows}
+use Rattle.sto_history.specs.Added.{Grows}
 use Rattle.sto_transaction.specs.Resting.{IsAtRest}
-use Rattle.sto_live.specs.Lives.{IsLive}
-use Rattle.sto_live.specs.declared.live.Live.{Live}
-use Rattle.sto_live.specs.declared.live.Stopped.{Stopped}
-use Rattle.sto_live.specs.declared.live.Stopped.TheVariants as stops
-use Rattle.sto_code.specs.Shortened.{short_of}
-use Rattle.sto_code.specs.Progs.{Prog, IsTakenCall, is_taken, IsGiven, IsCancelled, IsAsked}
-use Rattle.sto_code.specs.declared.short_reply.ShortReply.{ShortReply}
-use Rattle.sto_atomically.specs.Atomic.{IsAtomic, HaveAborted, TakesNoEffect}
+use Rattle.sto_interactive.specs.Lives.{IsLive}
+use Rattle.sto_interactive.specs.declared.live.Live.{Live}
+use Rattle.sto_interactive.specs.declared.live.Stopped.{Stopped}
+use Rattle.sto_interactive.specs.declared.live.Stopped.TheVariants as stops
+use Rattle.sto_action.specs.Shortened.{short_of}
+use Rattle.sto_action.specs.Progs.{Prog, IsTakenCall, is_taken, IsGiven, IsCancelled, IsAsked}
+use Rattle.sto_action.specs.declared.short_reply.ShortReply.{ShortReply}
+use Rattle.sto_action.specs.Atomic.{IsAtomic, HaveAborted, TakesNoEffect}
 use Rattle.sto_once.specs.declared.code.Halt.{Halt}
 use Rattle.sto_once.specs.declared.code.Halt.TheVariants as halts
 use Rattle.sto_once.specs.Once.{Heard, Gave, GaveUp, Wants}

@@ -1,8 +1,8 @@
 -- Code that is run once an attempt: what its calls were answered is its history, to which each call adds itself and its reply.
 use Rattle.std.specs.Prelude.{◌≡◌, List, [], ◌∷◌, ◌++◌, Result, Ok, Err}
 use Rattle.sto_model.specs.declared.call.Call.{Call}
-use Rattle.sto_code.specs.Progs.{Prog, Asks, Gives, Cancels}
-use Rattle.sto_code.specs.declared.short_reply.ShortReply.{ShortReply}
+use Rattle.sto_action.specs.Progs.{Prog, Asks, Gives, Cancels}
+use Rattle.sto_action.specs.declared.short_reply.ShortReply.{ShortReply}
 use Rattle.sto_once.specs.declared.code.Halt.{Halt}
 use Rattle.sto_once.specs.declared.code.Halt.TheVariants as halts
 

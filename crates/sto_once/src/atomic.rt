@@ -1,18 +1,18 @@
 //! Code that is run until an attempt is not aborted, once an attempt.
 ghost use Rattle.std.specs.Prelude.{◌≡◌, ◌≤◌, ◌^◌, ℕ};
 ghost use Rattle.sto_model.specs.declared.call.Call.{Call};
-ghost use Rattle.sto_attempt_facts.specs.Added.{Grows};
+ghost use Rattle.sto_history.specs.Added.{Grows};
 ghost use Rattle.sto_transaction.specs.Resting.{IsAtRest};
-ghost use Rattle.sto_code.specs.Progs.{IsTakenCall};
-ghost use Rattle.sto_atomically.specs.Atomic.{HasLed, IsUndisturbed};
+ghost use Rattle.sto_action.specs.Progs.{IsTakenCall};
+ghost use Rattle.sto_action.specs.Atomic.{HasLed, IsUndisturbed};
 ghost use Rattle.sto_once.specs.Telling.{told_once};
 
 use crate::attempt::attempt;
 use crate::code::{Code, Halt};
 use std::alloc::Global;
-use sto_atomically::{Done, Unrun};
+use sto_action::{Done, Unrun};
 use sto_core::Cells;
-use sto_live::LiveMemory;
+use sto_interactive::LiveMemory;
 use sto_model::Shapes;
 use sto_part::NoMemory;
 use sto_transaction::AttemptWatch;

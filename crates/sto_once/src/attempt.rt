@@ -1,11 +1,11 @@
 //! One attempt of code, which is run once.
 ghost use Rattle.std.specs.Prelude.{◌≡◌, ◌<◌, ℕ, None, Ok, Err};
 ghost use Rattle.sto_model.specs.declared.call.Call.{Call};
-ghost use Rattle.sto_attempt_facts.specs.Records.{is_abort};
+ghost use Rattle.sto_history.specs.Records.{is_abort};
 ghost use Rattle.sto_core.specs.declared.view.View.{View};
 ghost use Rattle.sto_transaction.specs.Plain.{verdict};
 ghost use Rattle.sto_transaction.specs.Resting.{IsAtRest};
-ghost use Rattle.sto_code.specs.Progs.{IsTakenCall, Prog};
+ghost use Rattle.sto_action.specs.Progs.{IsTakenCall, Prog};
 ghost use Rattle.sto_once.specs.Over.{OverKey};
 ghost use Rattle.sto_once.specs.Attempts.{After, HasTriedOnce, MayRun, is_aborted, key_of};
 
@@ -14,7 +14,7 @@ use crate::over::OverLive;
 use std::alloc::Global;
 use sto_attempt::Verdict;
 use sto_core::Cells;
-use sto_live::{Live, LiveMemory, Stopped};
+use sto_interactive::{Live, LiveMemory, Stopped};
 use sto_model::Shapes;
 use sto_part::NoMemory;
 use sto_type::TxType;

@@ -3,6 +3,7 @@
 
 mod change;
 mod contents;
+mod index;
 mod list;
 mod naming;
 mod pred;
@@ -10,6 +11,7 @@ mod words;
 
 pub use change::{Change, Update, apply_word, then, wrapping_difference, wrapping_sum};
 pub use contents::{Contents, PartWords};
+pub use index::PartIndex;
 pub use list::List;
 pub use naming::Naming;
 pub use pred::{Pred, Test, compare, holds, negate};

@@ -21,10 +21,7 @@ use sto_container::absent;
 use sto_item::Item;
 use sto_model::{Call, Operation, Reply, State};
 use sto_part::{Change, Contents, Naming, NoMemory, PartWords, Test};
-use sto_type::{
-    Answer, AnswerPool, Home, KnownParts, TxType, compares, index_in, one_change, one_item,
-    pairs_of, rows_of, word_at,
-};
+use sto_type::{Answer, AnswerPool, Home, KnownParts, TxType, compares, index_in, one_change, one_item, pairs_of, rows_of, word_at};
 
 /// A record of so many words. Its contents are one part.
 #[derive(Drop)]

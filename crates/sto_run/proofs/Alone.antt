@@ -13,8 +13,8 @@ use Rattle.sto_journal.specs.declared.journal.Journal.{Journal}
 use Rattle.sto_journal.specs.Journals.{abort}
 use Rattle.sto_type.specs.Meaning.{Meaning}
 use Rattle.sto_core.specs.declared.view.View.{View}
-use Rattle.sto_attempt_facts.specs.Records.{Record}
-use Rattle.sto_attempt_facts.specs.Counted.{aborted_times}
+use Rattle.sto_history.specs.Records.{Record}
+use Rattle.sto_history.specs.Counted.{aborted_times}
 use Rattle.sto_serializability.specs.Finished.{AreFinished}
 use Rattle.sto_run.specs.Lawful.{IsLawfulJournal}
 

@@ -9,8 +9,8 @@ use Rattle.std.proofs.lemmas.List.Sums.{sum_by-cons}
 use Rattle.std.proofs.lemmas.Option.{slice_get_within}
 use Rattle.sto_lang.specs.Scripts.{Script, File}
 use Rattle.sto_report_spec.specs.Orders.{Place, at_position, transaction_at, count_in, positions_of, numbers_from, IsOrder}
-use Rattle.sto_attempt_facts.specs.Records.{Record, is_abort, is_finished}
-use Rattle.sto_attempt_facts.specs.Counted.{aborted_times, finished_places}
+use Rattle.sto_history.specs.Records.{Record, is_abort, is_finished}
+use Rattle.sto_history.specs.Counted.{aborted_times, finished_places}
 use Rattle.sto_type.specs.Meaning.{Meaning}
 use Rattle.sto_core.specs.declared.view.View.{View}
 use Rattle.sto_serializability.specs.Finished.{IsRecord}

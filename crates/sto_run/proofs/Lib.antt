@@ -1,3 +1,9 @@
+pub mod Reports
+pub mod Sorted
+pub mod Counted
+pub mod Merging
+pub mod AbortSteps
+pub mod Threads
 pub mod Alone
 pub mod Draws
 pub mod Few

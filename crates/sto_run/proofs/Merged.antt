@@ -16,7 +16,7 @@ use Rattle.sto_report_spec.specs.Aborts.{Abort}
 use Rattle.sto_report_spec.specs.LawfulAborts.{AreLawful}
 use Rattle.sto_journal.specs.declared.journal.Journal.{Journal}
 use Rattle.sto_journal.specs.Journals.{entry, places, abort}
-use Rattle.sto_attempt_facts.specs.Records.{Record}
+use Rattle.sto_history.specs.Records.{Record}
 use Rattle.sto_serializability.specs.Finished.{AreFinished}
 use Rattle.sto_serializability.specs.Merged.{line_of, aborts_from}
 use Rattle.sto_serializability.specs.Meanings.{updating_by, IsTypeOf}
@@ -26,7 +26,7 @@ use Rattle.sto_history.proofs.Standing as standing
 use Rattle.sto_serializability.proofs.Journal.{IsClosed}
 use Rattle.sto_serializability.proofs.Replaying.{places_of}
 use Rattle.sto_serializability.proofs.Usable.{sound_usable}
-use Rattle.sto_journal_merge.specs.PlainLines.{AreLines}
+use Rattle.sto_run.specs.PlainLines.{AreLines}
 use Rattle.sto_run.specs.Lawful.{IsLawfulJournal}
 
 pub places_told : (rs ordered : List Record) → map (λ (e : Entry). e.place) (map (line_of rs) ordered) ≡ places_of ordered

@@ -3,7 +3,7 @@ use Rattle.std.proofs.Common.{◌≡◌}
 use Rattle.sto_model.specs.declared.shape.Shape.TheVariants.{Single, Counter, Array, Hash, Tree, Vector}
 use Rattle.sto_lang.specs.Objects.{shapes_of}
 use Rattle.sto_lang.specs.Scripts.{File}
-use Rattle.sto_objects.specs.declared.objects.Objects.{Objects}
+use Rattle.sto_store.specs.declared.objects.Objects.{Objects}
 use Rattle.sto_store.specs.ObjectShapes.{AreOf}
 use Rattle.sto_store.proofs.ObjectMeanings.{meaning_of}
 use Rattle.sto_run_threads.specs.Taken.{IsTaken}

@@ -12,14 +12,14 @@ use Rattle.sto_type.specs.Touching.{HasTouched}
 use Rattle.sto_type.proofs.Touching.{touched_of}
 use Rattle.sto_core.specs.declared.view.View.{View}
 use Rattle.sto_report_spec.specs.Orders.{at_position}
-use Rattle.sto_attempt_facts.specs.Told.{IsTold}
-use Rattle.sto_attempt_facts.specs.Records as plainly
+use Rattle.sto_history.specs.Told.{IsTold}
+use Rattle.sto_history.specs.Records as plainly
 use Rattle.sto_serializability.specs.Finished.{IsRecord}
 use Rattle.sto_attempt_log.specs.declared.verdict.Verdict.{Verdict}
 use Rattle.sto_attempt_log.specs.declared.verdict.Verdict.TheVariants.{Wrote, Read, Cancelled, Locked, Changed}
 use Rattle.sto_transaction.specs.declared.record.Record.{Record}
 use Rattle.sto_transaction.specs.Plain.{verdict, plain}
-use Rattle.sto_journal_merge.specs.PlainAborts.{IsPartIn, IsInRange}
+use Rattle.sto_run.specs.PlainAborts.{IsPartIn, IsInRange}
 
 -- a transaction is one of a thread
 pub has_thread : (threads : List (List Script)) (thread position : ℕ) (s : Script) → option_and_then (at_position position) (slice_get threads thread) ≡ Some s → thread < length threads

@@ -3,7 +3,7 @@ use Rattle.std.proofs.Common.{◌≡◌, ℕ, ap, ◌∙◌, subst}
 use Rattle.sto_lang.specs.Objects.{shapes_of}
 use Rattle.sto_lang.specs.Scripts.{File}
 use Rattle.sto_journal.specs.declared.journal.Journal.{Journal}
-use Rattle.sto_objects.specs.declared.objects.Objects.{Objects}
+use Rattle.sto_store.specs.declared.objects.Objects.{Objects}
 use Rattle.sto_serializability.specs.Meanings.{updating_by}
 use Rattle.sto_store.specs.Stores.{means}
 use Rattle.sto_run.specs.Lawful.{IsLawfulJournal}

@@ -11,9 +11,9 @@ use Rattle.sto_report_spec.specs.Orders.{Place, positions_of, numbers_from, coun
 use Rattle.sto_report_spec.specs.Replay.{Entry}
 use Rattle.sto_journal.specs.declared.journal.Journal.{Journal}
 use Rattle.sto_journal.specs.Journals.{entry, places}
-use Rattle.sto_journal_merge.specs.PlainLines.{AreLines}
-use Rattle.sto_attempt_facts.specs.Records.{Record, is_abort, is_finished, known_after, IsSince}
-use Rattle.sto_attempt_facts.specs.Counted.{finished_places, InThreads}
+use Rattle.sto_run.specs.PlainLines.{AreLines}
+use Rattle.sto_history.specs.Records.{Record, is_abort, is_finished, known_after, IsSince}
+use Rattle.sto_history.specs.Counted.{finished_places, InThreads}
 use Rattle.sto_serializability.specs.Merged.{key_of, is_before, AreInOrder, AreMerged}
 use Rattle.sto_serializability.proofs.Chains.{Every, every}
 use Rattle.sto_serializability.proofs.Pairs.{every_weaker, every_both, every_append, Later, later_append, all_pairs}

@@ -1,15 +1,15 @@
 -- The steps of a run of a file in one thread.
 use Rattle.std.specs.Prelude.{◌≡◌, ℕ, max, List, [], length, Option, None, Some}
 use Rattle.sto_type.specs.Traits.{OfType, of_type}
-use Rattle.sto_objects.specs.declared.objects.Objects.{Objects}
-use Rattle.sto_objects.specs.contracts.objects.ObjectsTxType.TheImpl.{ghosts as type_ghosts}
-use Rattle.sto_objects.specs.contracts.objects.ObjectsNaming.TheImpl.{ghosts as naming_ghosts}
+use Rattle.sto_store.specs.declared.objects.Objects.{Objects}
+use Rattle.sto_store.specs.contracts.objects.ObjectsTxType.TheImpl.{ghosts as type_ghosts}
+use Rattle.sto_store.specs.contracts.objects.ObjectsNaming.TheImpl.{ghosts as naming_ghosts}
 use Rattle.sto_store.specs.ObjectShapes.{AreOf}
 use Rattle.sto_lang.specs.Objects.{shapes_of}
 use Rattle.sto_core.specs.Opened.{opened_core}
 use Rattle.sto_lang.specs.declared.file.Turns.{Turns}
 use Rattle.sto_lang.specs.Scripts.{File}
-use Rattle.sto_attempt_facts.specs.Records.{Record}
+use Rattle.sto_history.specs.Records.{Record}
 use Rattle.sto_script.specs.declared.body.ScriptBody.{ScriptBody}
 use Rattle.sto_transaction.specs.declared.machine.Machine.{Machine}
 use Rattle.sto_journal.specs.declared.journal.Journal.{Journal}

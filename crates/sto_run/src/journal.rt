@@ -3,7 +3,7 @@ ghost use Rattle.std.specs.Prelude.{◌≡◌, ◌≤◌, ℕ, [], length, map, 
 ghost use Rattle.sto_lang.specs.Objects.{shapes_of};
 ghost use Rattle.sto_lang.specs.Sound.{IsSound};
 ghost use Rattle.sto_plain.specs.Passes.{view_of};
-ghost use Rattle.sto_attempt_facts.specs.Records.{Place};
+ghost use Rattle.sto_history.specs.Records.{Place};
 ghost use Rattle.sto_journal.specs.Journals.{places};
 ghost use Rattle.sto_run_threads.specs.Ordered.{RunsInOrder};
 ghost use Rattle.sto_serializability.specs.Finished.{AreFinished};
@@ -14,10 +14,10 @@ ghost use Rattle.sto_run.specs.Lawful.{IsLawfulJournal};
 ghost use Rattle.sto_run.specs.OfRecords.{IsOfRecords};
 ghost use Rattle.sto_run.specs.Alone.{all_places};
 
+use crate::merging::merge;
 use crate::whole::{homes_of, rows_of};
 use std::alloc::Global;
 use sto_journal::Journal;
-use sto_journal_merge::merge;
 use sto_part::NoMemory;
 use sto_plain::Plain;
 use sto_run_threads::Workload;

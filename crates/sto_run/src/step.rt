@@ -14,11 +14,11 @@ use crate::stored::objects_of;
 use std::alloc::Global;
 use sto_journal::Journal;
 use sto_lang::{File, Turns};
-use sto_objects::Objects;
 use sto_part::NoMemory;
 use sto_run_steps::{SteppedWork, step_threads};
 use sto_run_threads::{LentFile, NoGate, RetryTurn};
 use sto_script::ScriptBody;
+use sto_store::Objects;
 use sto_transaction::Machine;
 
 /// The entries of a file's schedule; none where it has no schedule.

@@ -7,10 +7,9 @@ ghost use Rattle.sto_run_threads.specs.Taken.{IsTaken};
 ghost use Rattle.sto_store.specs.ObjectShapes.{AreOf};
 
 use std::alloc::Global;
-use sto_objects::Objects;
 use sto_part::NoMemory;
 use sto_run_threads::Workload;
-use sto_store::build;
+use sto_store::{Objects, build};
 use sto_type::TxType;
 
 /// The objects of a file.

@@ -16,9 +16,9 @@ use Rattle.sto_run_steps.specs.Turning.{entry_turns}
 use Rattle.sto_explore.specs.Legs.{turns_of, schedule_of, LeadToEnds, AreTold}
 use Rattle.sto_explore.specs.declared.leg.Leg.{Leg}
 use Rattle.sto_run.specs.Traced.{IsRunBy}
-use Rattle.sto_run_legs.specs.Parted.{turns_to_ends, past, ends_of}
-use Rattle.sto_run_legs.specs.Telling.{tells_of, opened_for}
-use Rattle.sto_run_legs.proofs.Stepping.{stepped}
+use Rattle.sto_run_schedules.specs.Parted.{turns_to_ends, past, ends_of}
+use Rattle.sto_run_schedules.specs.Telling.{tells_of, opened_for}
+use Rattle.sto_run_schedules.proofs.Stepping.{stepped}
 use Rattle.sto_run_schedules.specs.Leading.{Gives}
 
 -- what it tells, and that it is the run by each schedule of the same turns

@@ -1,3 +1,9 @@
+pub mod Turned
+pub mod Fronts
+pub mod Ending
+pub mod Stepping
+pub mod BusyThreads
+pub mod Inside
 pub mod Alike
 pub mod FileStepping
 pub mod Telling

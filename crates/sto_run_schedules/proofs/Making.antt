@@ -2,7 +2,7 @@
 use Rattle.std.specs.Prelude.{length}
 use Rattle.std.specs.List.{All, AllByRecursion}
 use Rattle.std.proofs.Common.{◌≡◌, ◌<◌, ℕ, List, ◌++◌, map, refl, subst, zero-add}
-use Rattle.sto_objects.specs.declared.objects.Objects.{Objects}
+use Rattle.sto_store.specs.declared.objects.Objects.{Objects}
 use Rattle.sto_store.specs.ObjectShapes.{AreOf}
 use Rattle.sto_store.proofs.ObjectMeanings.{meaning_of, objects_mean}
 use Rattle.sto_lang.specs.declared.file.Turns.{Turns}
@@ -15,9 +15,9 @@ use Rattle.sto_run.specs.Lawful.{IsLawfulJournal}
 use Rattle.sto_run.proofs.RunJournals.{lawful_run}
 use Rattle.sto_explore.specs.Legs.{IsAmong}
 use Rattle.sto_explore.specs.declared.leg.Leg.{Leg}
-use Rattle.sto_run_legs.specs.Telling.{busy_threads}
-use Rattle.sto_run_legs.proofs.BusyThreads.{busy_inside}
-use Rattle.sto_run_legs.proofs.Inside.{entries_inside}
+use Rattle.sto_run_schedules.specs.Telling.{busy_threads}
+use Rattle.sto_run_schedules.proofs.BusyThreads.{busy_inside}
+use Rattle.sto_run_schedules.proofs.Inside.{entries_inside}
 
 -- each entry of the schedule of such a run is of a thread of the file
 pub inside_file : (file : File) (busy : List ℕ) (entries : List Turns) (decided : List Leg) (order : List ℕ) → busy ≡ busy_threads file

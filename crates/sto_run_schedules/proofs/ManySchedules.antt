@@ -4,7 +4,7 @@ use Rattle.sto_lang.specs.Scripts.{File}
 use Rattle.sto_report_spec.specs.declared.form.ReportForm.{ReportForm}
 use Rattle.sto_run.specs.Traced.{of_objects}
 use Rattle.sto_explore.proofs.MoreSwitches.{too_many_more}
-use Rattle.sto_run_legs.specs.Telling.{tells_of, busy_threads}
+use Rattle.sto_run_schedules.specs.Telling.{tells_of, busy_threads}
 use Rattle.sto_run_schedules.specs.Leading.{LeadsTo}
 use Rattle.sto_run_schedules.specs.Explored.{HasTooMany}
 

@@ -7,13 +7,13 @@ use Rattle.sto_transaction.specs.declared.record.Record as code
 use Rattle.sto_run_threads.specs.Told.{told_in}
 use Rattle.sto_run_schedules.specs.Keeping.{Remembered}
 use Rattle.sto_run_schedules.specs.declared.kept.KeptReport.{KeptReport}
-use Rattle.sto_attempt_facts.specs.Records.{Record}
-use Rattle.sto_lawful_report.specs.Forms.{form_for}
-use Rattle.sto_lawful_report.specs.Stepped.{IsReportOf}
+use Rattle.sto_history.specs.Records.{Record}
+use Rattle.sto_run.specs.Forms.{form_for}
+use Rattle.sto_run.specs.Stepped.{IsReportOf}
 use Rattle.sto_run.specs.OfRecords.{IsOfRecords}
 use Rattle.sto_run.specs.Traced.{of_objects}
-use Rattle.sto_outcomes.specs.declared.aborted.Aborted.{Aborted}
-use Rattle.sto_outcomes.specs.declared.outcome.Reported.{Reported}
+use Rattle.sto_explore.specs.declared.aborted.Aborted.{Aborted}
+use Rattle.sto_explore.specs.declared.outcome.Reported.{Reported}
 use Rattle.sto_run_schedules.specs.Ready.{objects_of, file_of, tries_of}
 use Rattle.sto_run_schedules.specs.Remembered.{MakesReport, AreRemembered}
 use Rattle.sto_run_schedules.specs.declared.runs.FileRuns.{FileRuns}

@@ -3,7 +3,7 @@ use Rattle.std.specs.Prelude.{string_bytes, Bool, Some}
 use Rattle.std.specs.List.{AllByRecursion}
 use Rattle.std.proofs.Common.{◌≡◌, ℕ, List, ◌∷◌, [], ◌++◌, ap, sym, ◌∙◌, subst}
 use Rattle.std.proofs.lemmas.Slice.Eq.{bytes_eq-Decides}
-use Rattle.sto_objects.specs.declared.objects.Objects.{Objects}
+use Rattle.sto_store.specs.declared.objects.Objects.{Objects}
 use Rattle.sto_store.specs.ObjectShapes.{AreOf}
 use Rattle.sto_lang.specs.declared.file.Turns.{Turns}
 use Rattle.sto_lang.specs.Objects.{shapes_of}
@@ -18,14 +18,14 @@ use Rattle.sto_run.specs.Stores.{means}
 use Rattle.sto_run.specs.Alone.{RanAlone}
 use Rattle.sto_run.specs.Traced.{of_objects}
 use Rattle.sto_run.proofs.TracedRuns.{untold}
-use Rattle.sto_run_legs.specs.Telling.{tells_of, busy_threads}
-use Rattle.sto_lawful_report.specs.Forms.{IsAlone}
-use Rattle.sto_lawful_report.specs.Stepped.{IsStepReport, IsReportOf}
-use Rattle.sto_lawful_report.proofs.Reports.{one_report}
-use Rattle.sto_outcomes.specs.Outcomes.{IsOutcome}
-use Rattle.sto_outcomes.specs.declared.outcome.Outcome.{Outcome}
-use Rattle.sto_outcomes.specs.declared.outcome.Outcomes.{Outcomes}
-use Rattle.sto_outcomes.specs.declared.outcome.Reported.{Reported}
+use Rattle.sto_run_schedules.specs.Telling.{tells_of, busy_threads}
+use Rattle.sto_run.specs.Forms.{IsAlone}
+use Rattle.sto_run.specs.Stepped.{IsStepReport, IsReportOf}
+use Rattle.sto_run.proofs.Reports.{one_report}
+use Rattle.sto_explore.specs.Outcomes.{IsOutcome}
+use Rattle.sto_explore.specs.declared.outcome.Outcome.{Outcome}
+use Rattle.sto_explore.specs.declared.outcome.Outcomes.{Outcomes}
+use Rattle.sto_explore.specs.declared.outcome.Reported.{Reported}
 use Rattle.sto_run_schedules.specs.Leading.{LeadsTo, Gives}
 use Rattle.sto_run_schedules.specs.Explored.{AreOutcomesOf, AreReports}
 

@@ -1,7 +1,7 @@
 -- Every outcome of a file, where at most so many switches are made.
 use Rattle.std.specs.Prelude.{ℕ, List, string_bytes}
 use Rattle.std.specs.List.{AllByRecursion}
-use Rattle.sto_objects.specs.declared.objects.Objects.{Objects}
+use Rattle.sto_store.specs.declared.objects.Objects.{Objects}
 use Rattle.sto_store.specs.ObjectShapes.{AreOf}
 use Rattle.sto_lang.specs.declared.file.Turns.{Turns}
 use Rattle.sto_lang.specs.Objects.{shapes_of}
@@ -10,11 +10,11 @@ use Rattle.sto_report_spec.specs.declared.form.ReportForm.{ReportForm}
 use Rattle.sto_run.specs.Traced.{of_objects}
 use Rattle.sto_explore.specs.Explored.{Found, AreExplored, AreTooMany, start_of}
 use Rattle.sto_explore.specs.Legs.{schedule_of}
-use Rattle.sto_outcomes.specs.Outcomes.{AreOutcomes}
-use Rattle.sto_outcomes.specs.declared.outcome.Reported.{Reported}
-use Rattle.sto_outcomes.specs.declared.outcome.Outcomes.{Outcomes}
-use Rattle.sto_run_legs.specs.Telling.{tells_of, busy_threads}
-use Rattle.sto_lawful_report.specs.Stepped.{IsStepReport}
+use Rattle.sto_explore.specs.Outcomes.{AreOutcomes}
+use Rattle.sto_explore.specs.declared.outcome.Reported.{Reported}
+use Rattle.sto_explore.specs.declared.outcome.Outcomes.{Outcomes}
+use Rattle.sto_run_schedules.specs.Telling.{tells_of, busy_threads}
+use Rattle.sto_run.specs.Stepped.{IsStepReport}
 use Rattle.sto_run_schedules.specs.Leading.{LeadsTo, Gives}
 
 -- the outcomes of runs of a file: on its objects, one by each schedule with at most so many switches, and none else

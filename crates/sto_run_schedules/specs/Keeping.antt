@@ -2,7 +2,7 @@
 use Rattle.std.specs.Prelude.{◌≡◌, ◌⊎◌, List, [], ◌∷◌, ◌++◌, Vec, map, string_bytes}
 use Rattle.sto_transaction.specs.Plain.{plain}
 use Rattle.sto_transaction.specs.declared.record.Record.{Record}
-use Rattle.sto_outcomes.specs.declared.outcome.Reported.{Reported}
+use Rattle.sto_explore.specs.declared.outcome.Reported.{Reported}
 use Rattle.sto_run_schedules.specs.declared.kept.KeptReport.{KeptReport}
 
 -- a report of the same records that says the same

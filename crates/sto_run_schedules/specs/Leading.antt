@@ -1,7 +1,7 @@
 -- What a run of a file by turns of its threads leads to.
 use Rattle.std.specs.Prelude.{◌≡◌, ◌≤◌, ℕ, List, length, count_by, None, Bool, true, false, not, string_bytes}
 use Rattle.std.specs.List.{flat_map}
-use Rattle.sto_objects.specs.declared.objects.Objects.{Objects}
+use Rattle.sto_store.specs.declared.objects.Objects.{Objects}
 use Rattle.sto_store.specs.ObjectShapes.{AreOf}
 use Rattle.sto_lang.specs.declared.file.Turns.{Turns}
 use Rattle.sto_lang.specs.Objects.{shapes_of}
@@ -18,8 +18,8 @@ use Rattle.sto_run.specs.Stores.{means}
 use Rattle.sto_run.specs.Lawful.{IsLawfulJournal}
 use Rattle.sto_run.specs.Alone.{RanAlone}
 use Rattle.sto_run.specs.Traced.{IsRunBy, of_objects}
-use Rattle.sto_lawful_report.specs.Stepped.{IsReportOf}
-use Rattle.sto_outcomes.specs.declared.outcome.Reported.{Reported}
+use Rattle.sto_run.specs.Stepped.{IsReportOf}
+use Rattle.sto_explore.specs.declared.outcome.Reported.{Reported}
 
 -- the journal is that of a run of the file by a schedule, whose steps are told or were too many
 abbrev pub IsJournalBy : Objects → File → ℕ → List Turns → Journal → Type 0

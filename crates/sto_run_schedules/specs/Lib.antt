@@ -1,6 +1,11 @@
+pub mod Parted
+pub mod Telling
 pub mod Keeping
 pub mod Leading
 pub mod Ready
 pub mod Remembered
 pub mod Explored
-pub use Rattle.sto_outcomes.specs.Outcomes
+pub use Rattle.sto_lang.specs.Views
+pub use Rattle.sto_run_steps.specs.Turning
+pub use Rattle.sto_explore.specs.Legs
+pub use Rattle.sto_explore.specs.Outcomes

@@ -1,6 +1,6 @@
 -- Files that can be run by any schedule, as the code has them.
 use Rattle.std.specs.Prelude.{◌≡◌, ℕ, List, Bool}
-use Rattle.sto_objects.specs.declared.objects.Objects.{Objects}
+use Rattle.sto_store.specs.declared.objects.Objects.{Objects}
 use Rattle.sto_store.specs.ObjectShapes.{AreOf}
 use Rattle.sto_lang.specs.Objects.{shapes_of}
 use Rattle.sto_lang.specs.Scripts.{File}
@@ -8,9 +8,9 @@ use Rattle.sto_lang.specs.Views.{file as view}
 use Rattle.sto_run_threads.specs.Plans.{plan_of}
 use Rattle.sto_run.specs.Runnable.{IsRunnable}
 use Rattle.sto_run.specs.Traced.{of_objects}
-use Rattle.sto_lawful_report.specs.Forms.{form_for}
-use Rattle.sto_outcomes.specs.declared.outcome.Reported.{Reported}
-use Rattle.sto_run_legs.specs.Telling.{tells_of, busy_threads}
+use Rattle.sto_run.specs.Forms.{form_for}
+use Rattle.sto_explore.specs.declared.outcome.Reported.{Reported}
+use Rattle.sto_run_schedules.specs.Telling.{tells_of, busy_threads}
 use Rattle.sto_run_schedules.specs.Leading.{LeadsTo, HasSomeLongRun}
 use Rattle.sto_run_schedules.specs.declared.runs.FileRuns.{FileRuns}
 

@@ -1,7 +1,7 @@
 -- Reports that records make, and those that are kept from one run of a file to the next.
 use Rattle.std.specs.Prelude.{◌≡◌, ◌≤◌, List, length, count_by, not, string_bytes}
 use Rattle.std.specs.List.{All}
-use Rattle.sto_attempt_facts.specs.Records.{Record}
+use Rattle.sto_history.specs.Records.{Record}
 use Rattle.sto_journal.specs.declared.journal.Journal.{Journal}
 use Rattle.sto_run_threads.specs.Told.{told_in}
 use Rattle.sto_run.specs.Meanings.{updating_by}
@@ -10,9 +10,9 @@ use Rattle.sto_run.specs.Lawful.{IsLawfulJournal}
 use Rattle.sto_run.specs.OfRecords.{IsOfRecords}
 use Rattle.sto_run.specs.Alone.{RanAlone}
 use Rattle.sto_run.specs.Traced.{of_objects}
-use Rattle.sto_lawful_report.specs.Forms.{form_for}
-use Rattle.sto_lawful_report.specs.Stepped.{IsReportOf}
-use Rattle.sto_outcomes.specs.declared.outcome.Reported.{Reported}
+use Rattle.sto_run.specs.Forms.{form_for}
+use Rattle.sto_run.specs.Stepped.{IsReportOf}
+use Rattle.sto_explore.specs.declared.outcome.Reported.{Reported}
 use Rattle.sto_run_schedules.specs.Leading.{is_locked}
 use Rattle.sto_run_schedules.specs.Ready.{objects_of, file_of, tries_of}
 use Rattle.sto_run_schedules.specs.declared.runs.FileRuns.{FileRuns}

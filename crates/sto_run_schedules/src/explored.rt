@@ -7,23 +7,22 @@ ghost use Rattle.sto_lang.specs.Views.{file as view};
 ghost use Rattle.sto_run_threads.specs.Plans.{plan_of};
 ghost use Rattle.sto_run.specs.Runnable.{IsRunnable};
 ghost use Rattle.sto_run.specs.Traced.{of_objects};
-ghost use Rattle.sto_lawful_report.specs.Forms.{form_for};
+ghost use Rattle.sto_run.specs.Forms.{form_for};
 ghost use Rattle.sto_explore.specs.declared.exploration.Stopped.TheVariants.{TooLong, TooMany};
 ghost use Rattle.sto_run_schedules.specs.Explored.{AreOutcomesOf, AreReports, HasTooMany};
 ghost use Rattle.sto_run_schedules.specs.Leading.{HasSomeLongRun};
 
+use crate::busy::busy_threads;
 use crate::kept::Kept;
 use crate::meter::Meter;
 use crate::runs::FileRuns;
 use std::alloc::Global;
-use sto_explore::{Stopped, explore};
+use sto_explore::{Outcomes, Stopped, Tally, explore};
 use sto_lang::File;
-use sto_objects::Objects;
-use sto_outcomes::{Outcomes, Tally};
 use sto_part::NoMemory;
 use sto_run::{LentFile, NoGate, OpenedRun, objects_of};
-use sto_run_legs::busy_threads;
 use sto_run_threads::RetryTurn;
+use sto_store::Objects;
 
 /// Runs a file in one thread by every schedule with at most so many switches away from a thread that could go on, and gathers the reports.
 ///

@@ -4,7 +4,7 @@ ghost use Rattle.sto_transaction.specs.Plain.{plain};
 ghost use Rattle.sto_run_schedules.specs.Keeping.{Remembered};
 
 use std::alloc::Global;
-use sto_outcomes::Reported;
+use sto_explore::Reported;
 use sto_part::NoMemory;
 use sto_run_steps::Spare;
 use sto_trace::replies_past;

@@ -3,13 +3,18 @@
 //! [`explore_file`] runs a file in one thread again and again, by one schedule after another, and gathers the reports.
 #![tactic(auto)]
 
+mod busy;
+mod entries;
 mod explored;
 mod kept;
+mod legs;
 mod meter;
 mod reported;
 mod runs;
 
+pub use busy::busy_threads;
+pub use entries::entries_to_ends;
 pub use explored::explore_file;
+pub use legs::{ends, past};
 pub use meter::{Meter, NoMeter};
-pub use sto_explore::Stopped;
-pub use sto_outcomes::{Outcome, Outcomes};
+pub use sto_explore::{Outcome, Outcomes, Stopped};

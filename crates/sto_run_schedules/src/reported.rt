@@ -5,16 +5,16 @@ ghost use Rattle.sto_lang.specs.Views.{file as view};
 ghost use Rattle.sto_run.specs.Meanings.{updating_by};
 ghost use Rattle.sto_run.specs.Stores.{means};
 ghost use Rattle.sto_run.specs.Lawful.{IsLawfulJournal};
-ghost use Rattle.sto_lawful_report.specs.Forms.{form_for};
-ghost use Rattle.sto_lawful_report.specs.Stepped.{IsReportOf};
+ghost use Rattle.sto_run.specs.Forms.{form_for};
+ghost use Rattle.sto_run.specs.Stepped.{IsReportOf};
 ghost use Rattle.sto_run_schedules.specs.Leading.{is_locked};
 
 use std::alloc::Global;
+use sto_explore::{Aborted, Reported};
 use sto_journal::{AbortLine, Cause, Journal};
 use sto_lang::File;
-use sto_lawful_report::report;
-use sto_outcomes::{Aborted, Reported};
 use sto_part::NoMemory;
+use sto_run::report;
 
 // Whether an attempt was aborted because a part was locked.
 fn is_locked(line: &AbortLine) -> bool

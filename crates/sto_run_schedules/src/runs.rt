@@ -7,19 +7,19 @@ ghost use Rattle.sto_run_threads.specs.Worked.{AbortsNone};
 ghost use Rattle.sto_run_steps.specs.Logged.{most_kept};
 ghost use Rattle.sto_run.specs.Traced.{of_objects};
 
+use crate::entries::entries_to_ends;
 use crate::kept::{Kept, all_copied, report_again};
+use crate::legs::{ends, past};
 use crate::meter::Meter;
 use crate::reported::reported;
 use std::alloc::Global;
-use sto_explore::{Leg, NotMade, Ran, Runs};
-use sto_objects::Objects;
-use sto_outcomes::Reported;
+use sto_explore::{Leg, NotMade, Ran, Reported, Runs};
 use sto_part::NoMemory;
 use sto_run::{LentFile, NoGate, OpenedRun};
-use sto_run_legs::{ends, entries_to_ends, past};
 use sto_run_steps::{SteppedWork, trace_threads};
 use sto_run_threads::FinishedRun;
 use sto_script::ScriptBody;
+use sto_store::Objects;
 use sto_transaction::Machine;
 
 /// A file that can be run in one thread by any schedule, again and again, and the threads that have a transaction.

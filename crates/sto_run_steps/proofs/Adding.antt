@@ -7,12 +7,12 @@ use Rattle.sto_script.specs.Meaning.{meaning_of}
 use Rattle.sto_type.specs.Meaning.{Meaning}
 use Rattle.sto_core.specs.declared.view.View.{View}
 use Rattle.sto_run_threads.specs.Orders.{Place, count_in}
-use Rattle.sto_attempt_facts.specs.Records.{Record, is_abort}
-use Rattle.sto_attempt_facts.specs.Counted.{aborted_times, finished_places}
-use Rattle.sto_attempt_facts.specs.Added.{IsAdded, HasAdded}
-use Rattle.sto_attempt_facts.specs.Tried.{HasTried}
-use Rattle.sto_attempt_facts.specs.Trying.{AreFound}
-use Rattle.sto_attempt_facts.specs.Told.{IsFound}
+use Rattle.sto_history.specs.Records.{Record, is_abort}
+use Rattle.sto_history.specs.Counted.{aborted_times, finished_places}
+use Rattle.sto_history.specs.Added.{IsAdded, HasAdded}
+use Rattle.sto_history.specs.Tried.{HasTried}
+use Rattle.sto_history.specs.Trying.{AreFound}
+use Rattle.sto_history.specs.Told.{IsFound}
 use Rattle.sto_serializability.proofs.Chains.{Every}
 use Rattle.sto_serializability.proofs.Working.{times_append, aborted_append}
 use Rattle.sto_run_threads.specs.Running.{ended_of}

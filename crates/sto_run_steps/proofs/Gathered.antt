@@ -13,12 +13,12 @@ use Rattle.sto_core.specs.Lists.{Each, weight}
 use Rattle.sto_core.specs.Gathered.{gathered_into}
 use Rattle.sto_core.specs.Reopened.{reopened_view}
 use Rattle.sto_core.proofs.Lists.{each_append, each_nothing}
-use Rattle.sto_claims.specs.Taken.{times}
+use Rattle.sto_table.specs.Taken.{times}
 use Rattle.sto_run_threads.specs.Orders.{numbers_from}
-use Rattle.sto_attempt_facts.specs.Records.{Record, times_written}
-use Rattle.sto_attempt_facts.specs.Counted.{times_committed}
-use Rattle.sto_attempt_facts.specs.Added.{Grows}
-use Rattle.sto_attempt_facts.proofs.Progress.{committed_append}
+use Rattle.sto_history.specs.Records.{Record, times_written}
+use Rattle.sto_history.specs.Counted.{times_committed}
+use Rattle.sto_history.specs.Added.{Grows}
+use Rattle.sto_history.proofs.Progress.{committed_append}
 use Rattle.sto_serializability.proofs.Working.{times_append, aborted_append}
 use Rattle.sto_serializability.proofs.Gathering.{later_record}
 use Rattle.sto_run_threads.specs.Running.{HasNone}

@@ -11,7 +11,7 @@ use Rattle.sto_core.specs.History.{Contents}
 use Rattle.sto_core.specs.Opened.{opened_core, opened_view, opened_views, opening_draws}
 use Rattle.sto_plain.specs.Passes.{view_at}
 use Rattle.sto_run_threads.specs.Orders.{Place, count_in}
-use Rattle.sto_attempt_facts.specs.Records.{Record}
+use Rattle.sto_history.specs.Records.{Record}
 use Rattle.sto_transaction.specs.Plain.{plain}
 use Rattle.sto_run_threads.specs.Counts.{scripts_from}
 use Rattle.sto_run_threads.proofs.Claiming.{thread_within, times_le}

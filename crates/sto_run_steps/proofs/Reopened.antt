@@ -15,8 +15,8 @@ use Rattle.sto_core.specs.Lists.{Each}
 use Rattle.sto_core.specs.Rule.{total}
 use Rattle.sto_plain.specs.Passes.{view_at, view_of}
 use Rattle.sto_run_threads.specs.Orders.{Place}
-use Rattle.sto_attempt_facts.specs.Records.{Record, times_written}
-use Rattle.sto_attempt_facts.specs.Counted.{times_committed}
+use Rattle.sto_history.specs.Records.{Record, times_written}
+use Rattle.sto_history.specs.Counted.{times_committed}
 use Rattle.sto_transaction.specs.Plain.{plain}
 use Rattle.sto_run_threads.specs.Worked.{HasWorked, AbortsNone}
 use Rattle.sto_run_steps.specs.Seated.{IsBetween, IsAt, IsSeated, IsOver, AreSeated, AreOver, records_of, WithinAt, BetweenAt}

@@ -8,7 +8,7 @@ use Rattle.sto_core.specs.declared.view.View.{View}
 use Rattle.sto_core.specs.Core.{Core}
 use Rattle.sto_plain.specs.Passes.{view_of, IsSame}
 use Rattle.sto_run_threads.specs.Orders.{Place, count_in}
-use Rattle.sto_attempt_facts.specs.Records.{Record, is_abort}
+use Rattle.sto_history.specs.Records.{Record, is_abort}
 use Rattle.sto_run_steps.specs.Counts.{attempts_left, events_left}
 use Rattle.sto_run_steps.specs.Stepped.{HasMadeOne}
 use Rattle.sto_run_steps.specs.Seated.{IsBetween, IsWithin, IsAt, IsIn, IsSeated, IsOverAt, AreOver, HasKept, AreSeated, events_of, WithinAt, BetweenAt, events_with, records_of}

@@ -12,7 +12,7 @@ use Rattle.sto_plain.specs.Passes.{Steps}
 use Rattle.sto_attempt_log.specs.Doing.{Doing, begun, event_next, heard_in, DoesNext}
 use Rattle.sto_attempt_log.specs.declared.verdict.Verdict.{Verdict}
 use Rattle.sto_attempt_log.proofs.Doings.{steps_once}
-use Rattle.sto_attempt_facts.specs.Records.{Record}
+use Rattle.sto_history.specs.Records.{Record}
 use Rattle.sto_run_threads.specs.Orders.{Place, numbers_from, transaction_at}
 use Rattle.sto_run_threads.specs.Plans.{Plan}
 use Rattle.sto_run_steps.specs.Turning.{entry_turns}

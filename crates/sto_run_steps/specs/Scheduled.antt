@@ -14,7 +14,7 @@ use Rattle.sto_core.specs.Reopened.{reopened_core}
 use Rattle.sto_plain.specs.Passes.{Steps}
 use Rattle.sto_attempt_log.specs.Doing.{Doing, begun, event_next, heard_in, DoesNext}
 use Rattle.sto_attempt_log.specs.declared.verdict.Verdict.{Verdict}
-use Rattle.sto_attempt_facts.specs.Records.{Record, is_abort}
+use Rattle.sto_history.specs.Records.{Record, is_abort}
 use Rattle.sto_transaction.specs.Plain.{verdict}
 use Rattle.sto_run_threads.specs.Orders.{Place, transaction_at, count_in, numbers_from}
 use Rattle.sto_run_threads.specs.Plans.{Plan, thread_count}

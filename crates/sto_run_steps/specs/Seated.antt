@@ -4,8 +4,8 @@ use Rattle.sto_core.specs.declared.view.View.{View}
 use Rattle.sto_core.specs.Core.{Core}
 use Rattle.sto_plain.specs.Passes.{view_of}
 use Rattle.sto_run_threads.specs.Orders.{Place, count_in}
-use Rattle.sto_attempt_facts.specs.Records.{Record, is_abort, times_written}
-use Rattle.sto_attempt_facts.specs.Counted.{times_committed, aborted_times}
+use Rattle.sto_history.specs.Records.{Record, is_abort, times_written}
+use Rattle.sto_history.specs.Counted.{times_committed, aborted_times}
 use Rattle.sto_run_threads.specs.Plans.{Plan, Rests, draws_of}
 use Rattle.sto_run_threads.specs.Told.{told_in}
 use Rattle.sto_run_threads.specs.Running.{ended_of, HasNone}

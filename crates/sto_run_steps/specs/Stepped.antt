@@ -5,8 +5,8 @@ use Rattle.sto_lang.specs.Scripts.{Script}
 use Rattle.sto_script.specs.Meaning.{meaning_of}
 use Rattle.sto_core.specs.declared.view.View.{View}
 use Rattle.sto_run_threads.specs.Orders.{Place, transaction_at}
-use Rattle.sto_attempt_facts.specs.Records.{Record, is_abort}
-use Rattle.sto_attempt_facts.specs.Tried.{HasTried}
+use Rattle.sto_history.specs.Records.{Record, is_abort}
+use Rattle.sto_history.specs.Tried.{HasTried}
 use Rattle.sto_transaction.specs.Plain.{verdict}
 use Rattle.sto_run_steps.specs.declared.attempts.Stepped.{Stepped}
 use Rattle.sto_run_steps.specs.declared.attempts.Stepped.TheVariants.{More, Ended}

@@ -9,7 +9,7 @@ use Rattle.sto_core.specs.Event.{Event}
 use Rattle.sto_core.specs.History.{Validity}
 use Rattle.sto_plain.specs.Passes.{view_of, IsSame, Steps}
 use Rattle.sto_run_threads.specs.Orders.{Place, numbers_from}
-use Rattle.sto_attempt_facts.specs.Records.{Record}
+use Rattle.sto_history.specs.Records.{Record}
 use Rattle.sto_transaction.specs.Answers.{OneEvent}
 use Rattle.sto_run_threads.specs.Plans.{Plan, thread_count}
 use Rattle.sto_run_threads.specs.Worked.{AbortsNone}

@@ -4,8 +4,8 @@ ghost use Rattle.sto_run_threads.specs.Plans.{transaction_count};
 
 use crate::attempts::{Attempts, Stepped};
 use crate::log::{Log, with_step};
-use std::alloc::Global;
 use std::mem;
+use std::alloc::Global;
 use sto_attempt::Verdict;
 use sto_core::Cells;
 use sto_model::Replies;

@@ -1,8 +1,8 @@
 //! What one run after the other is lent.
 ghost use Rattle.std.specs.Prelude.{◌≡◌, []};
 
-use std::alloc::Global;
 use std::mem;
+use std::alloc::Global;
 use sto_part::{List, NoMemory};
 use sto_trace::Steps;
 use sto_transaction::Memory;

@@ -11,9 +11,9 @@ use Rattle.sto_core.specs.Opened.{opening_draws}
 use Rattle.sto_core.specs.Reopened.{reopened_view}
 use Rattle.sto_core.specs.Rule.{total}
 use Rattle.sto_table.specs.Openings.{opened_down}
-use Rattle.sto_attempt_facts.specs.Records.{Place, Record, times_written}
-use Rattle.sto_attempt_facts.specs.Counted.{times_committed}
-use Rattle.sto_attempt_facts.proofs.Progress.{committed_append}
+use Rattle.sto_history.specs.Records.{Place, Record, times_written}
+use Rattle.sto_history.specs.Counted.{times_committed}
+use Rattle.sto_history.proofs.Progress.{committed_append}
 use Rattle.sto_transaction.specs.Ran.{HasRun}
 use Rattle.sto_serializability.proofs.Working.{times_append}
 use Rattle.sto_run_threads.specs.Accounts.{AddsUp, HasGathered, HasAll}

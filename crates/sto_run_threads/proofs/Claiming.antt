@@ -10,7 +10,7 @@ use Rattle.std.proofs.lemmas.Bool.{cases_eq}
 use Rattle.std.proofs.lemmas.List.Sums.{sum_by-cons}
 use Rattle.sto_core.specs.declared.view.View.{View}
 use Rattle.sto_core.specs.Lists.{weight}
-use Rattle.sto_claims.specs.Taken.{times, past, once_below}
+use Rattle.sto_table.specs.Taken.{times, past, once_below}
 use Rattle.std.proofs.Common.{map, take, get_or, sum_by, eq-eqb}
 use Rattle.sto_transaction.specs.declared.record.Record as code
 use Rattle.sto_transaction.specs.Plain.{plain}
@@ -20,8 +20,8 @@ use Rattle.sto_run_threads.specs.Running.{AreUnderWay}
 use Rattle.std.specs.Prelude.{nat_le}
 use Rattle.std.proofs.lemmas.Bool.Decides.{nat_tests}
 use Rattle.sto_report_spec.specs.Orders.{count_in}
-use Rattle.sto_attempt_facts.specs.Records.{Record}
-use Rattle.sto_attempt_facts.specs.Counted.{aborted_times}
+use Rattle.sto_history.specs.Records.{Record}
+use Rattle.sto_history.specs.Counted.{aborted_times}
 use Rattle.sto_serializability.proofs.Working.{aborted_append}
 use Rattle.sto_run_threads.specs.Running.{ended_of}
 use Rattle.sto_run_threads.specs.Worked.{AreOf, AreDone, IsDone, IsScriptRun}

@@ -3,10 +3,10 @@ use Rattle.std.specs.List.{All}
 use Rattle.std.proofs.Common.{ℕ, ◌+◌, ◌++◌, List, [], ◌∷◌}
 use Rattle.std.proofs.lemmas.List.Elements.{All-append, All-weaker, All-cons, All-nil}
 use Rattle.sto_core.specs.declared.view.View.{View}
-use Rattle.sto_attempt_facts.specs.Records.{Record}
-use Rattle.sto_attempt_facts.specs.Added.{Grows}
-use Rattle.sto_attempt_facts.specs.Trying.{AreFound}
-use Rattle.sto_attempt_facts.proofs.Tries.{found_later}
+use Rattle.sto_history.specs.Records.{Record}
+use Rattle.sto_history.specs.Added.{Grows}
+use Rattle.sto_history.specs.Trying.{AreFound}
+use Rattle.sto_history.proofs.Tries.{found_later}
 use Rattle.sto_run_threads.specs.Worked.{WasFound}
 
 pub all_found_later : (v w : View) (rs : List Record) → Grows v w → All (WasFound v) rs → All (WasFound w) rs

@@ -8,10 +8,10 @@ use Rattle.sto_table.specs.declared.stance.Stance.{Stance}
 use Rattle.sto_table.specs.declared.shared.Shared.{Shared}
 use Rattle.sto_table.specs.declared.shared.Rest.{Rest}
 use Rattle.sto_table.specs.Rests.{IsOf}
-use Rattle.sto_claims.specs.declared.taken.Taken.{Taken}
-use Rattle.sto_claims.specs.declared.numbers.Claims.{Claims}
-use Rattle.sto_claims.specs.Taken.{times, both}
-use Rattle.sto_attempt_facts.specs.Records.{Record}
+use Rattle.sto_table.specs.declared.taken.Taken.{Taken}
+use Rattle.sto_table.specs.declared.numbers.Claims.{Claims}
+use Rattle.sto_table.specs.Taken.{times, both}
+use Rattle.sto_history.specs.Records.{Record}
 use Rattle.sto_run_threads.specs.Plans.{Plan, Rests}
 use Rattle.sto_run_threads.specs.Told.{told_in}
 use Rattle.sto_run_threads.specs.Worked.{HasWorked, AreOf, AreDone, AbortsNone}

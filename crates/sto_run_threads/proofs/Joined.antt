@@ -8,10 +8,10 @@ use Rattle.sto_lang.specs.Scripts.{File}
 use Rattle.sto_core.specs.declared.view.View.{View}
 use Rattle.sto_core.specs.Lists.{Each, weight}
 use Rattle.sto_core.specs.Gathered.{gathered_into}
-use Rattle.sto_claims.specs.Taken.{times}
+use Rattle.sto_table.specs.Taken.{times}
 use Rattle.sto_report_spec.specs.Orders.{Place, positions_of, numbers_from, count_in, IsOrder}
-use Rattle.sto_attempt_facts.specs.Records.{Record}
-use Rattle.sto_attempt_facts.specs.Counted.{finished_places, aborted_times}
+use Rattle.sto_history.specs.Records.{Record}
+use Rattle.sto_history.specs.Counted.{finished_places, aborted_times}
 use Rattle.sto_serializability.proofs.Chains.{Every, every}
 use Rattle.sto_serializability.proofs.Pairs.{every_weaker}
 use Rattle.sto_serializability.proofs.Working.{none_aborted, aborted_append}

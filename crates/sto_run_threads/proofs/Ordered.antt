@@ -8,10 +8,10 @@ use Rattle.std.proofs.lemmas.List.Elements.{All-nil, All-cons, All-head, All-tai
 use Rattle.sto_type.specs.Meaning.{Meaning}
 use Rattle.sto_lang.specs.Scripts.{Script, File}
 use Rattle.sto_script.specs.Meaning.{meaning_of}
-use Rattle.sto_attempt_facts.specs.Records.{Place, Record, known_after, IsSince}
-use Rattle.sto_attempt_facts.specs.Counted.{finished_places, Follows, InThreads}
-use Rattle.sto_attempt_facts.specs.Added.{IsAdded, HasAdded}
-use Rattle.sto_attempt_facts.proofs.Later.{told_known}
+use Rattle.sto_history.specs.Records.{Place, Record, known_after, IsSince}
+use Rattle.sto_history.specs.Counted.{finished_places, Follows, InThreads}
+use Rattle.sto_history.specs.Added.{IsAdded, HasAdded}
+use Rattle.sto_history.proofs.Later.{told_known}
 use Rattle.sto_core.specs.declared.view.View.{View}
 use Rattle.sto_serializability.specs.Finished.{IsRecord}
 use Rattle.sto_serializability.proofs.Working.{finished_append}

@@ -7,7 +7,7 @@ use Rattle.sto_core.specs.Core.{Core}
 use Rattle.sto_core.specs.Closed.{ClosedWords, live_view, reopened_from}
 use Rattle.sto_core.specs.Reopened.{reopened_view}
 use Rattle.sto_plain.specs.Passes.{view_of}
-use Rattle.sto_attempt_facts.specs.Records.{Record}
+use Rattle.sto_history.specs.Records.{Record}
 use Rattle.sto_history.proofs.Growing.{reopened_grows}
 use Rattle.sto_serializability.proofs.Gathering.{reopened_so_far}
 use Rattle.sto_run_threads.specs.Worked.{HasWorked}

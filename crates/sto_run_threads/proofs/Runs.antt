@@ -9,10 +9,10 @@ use Rattle.sto_script.specs.Meaning.{meaning_of}
 use Rattle.sto_type.specs.Meaning.{Meaning}
 use Rattle.sto_core.specs.declared.view.View.{View}
 use Rattle.sto_report_spec.specs.Orders.{Place, transaction_at, positions_of, numbers_from, count_in}
-use Rattle.sto_attempt_facts.specs.Records.{Record, is_abort}
-use Rattle.sto_attempt_facts.specs.Counted.{finished_places, aborted_times}
-use Rattle.sto_attempt_facts.specs.Added.{IsAdded, HasAdded}
-use Rattle.sto_attempt_facts.specs.Trying.{AreFound}
+use Rattle.sto_history.specs.Records.{Record, is_abort}
+use Rattle.sto_history.specs.Counted.{finished_places, aborted_times}
+use Rattle.sto_history.specs.Added.{IsAdded, HasAdded}
+use Rattle.sto_history.specs.Trying.{AreFound}
 use Rattle.sto_serializability.specs.Working.{AreSoFar}
 use Rattle.sto_serializability.proofs.Chains.{Every, every}
 use Rattle.sto_serializability.proofs.Pairs.{all_of, every_weaker, every_append}

@@ -3,7 +3,7 @@ use Rattle.std.specs.Prelude.{slice_get, Some}
 use Rattle.std.proofs.Common.{◌≡◌, ℕ, zero, suc, ◌+◌, ◌<◌, List, [], ◌∷◌, length, refl, sym, ◌∙◌, subst, arith, Bool, false, true≢false}
 use Rattle.sto_lang.specs.Scripts.{Script, File}
 use Rattle.sto_report_spec.specs.Orders.{transaction_at, count_in}
-use Rattle.sto_attempt_facts.specs.Records.{Place, Record}
+use Rattle.sto_history.specs.Records.{Place, Record}
 use Rattle.sto_type.specs.Meaning.{Meaning}
 use Rattle.sto_core.specs.declared.view.View.{View}
 use Rattle.sto_run_threads.specs.Running.{ended_of}

@@ -3,8 +3,8 @@ use Rattle.std.specs.Prelude.{filter, not}
 use Rattle.std.proofs.Common.{◌≡◌, ℕ, zero, suc, ◌+◌, List, [], ◌∷◌, ◌++◌, map, length, refl, ap, ◌∙◌, arith, Bool, true, false, cond, eq-eqb, ne_eqb}
 use Rattle.std.proofs.lemmas.List.{length-append}
 use Rattle.sto_report_spec.specs.Orders.{Place, positions_of, numbers_from}
-use Rattle.sto_attempt_facts.specs.Records.{Record, is_abort, is_finished}
-use Rattle.sto_attempt_facts.specs.Counted.{finished_places}
+use Rattle.sto_history.specs.Records.{Record, is_abort, is_finished}
+use Rattle.sto_history.specs.Counted.{finished_places}
 use Rattle.sto_serializability.proofs.Chains.{Every}
 use Rattle.sto_serializability.proofs.Working.{finished_append, positions_append}
 use Rattle.sto_run_threads.specs.Running.{ended_of}

@@ -2,8 +2,8 @@
 use Rattle.std.proofs.Common.{◌≡◌, ℕ, suc, ◌+◌, ◌<◌, ◌≤◌, List, [], ◌∷◌, ◌++◌, map, length, refl, sym, ap, ◌∙◌, subst, arith, Bool, true, cond, append-nil, eq-eqb, ◌==◌, ◌&&◌, inl, inr}
 use Rattle.sto_lang.specs.Scripts.{File}
 use Rattle.sto_report_spec.specs.Orders.{Place, positions_of, count_in, IsOrder}
-use Rattle.sto_attempt_facts.specs.Records.{Record, is_abort}
-use Rattle.sto_attempt_facts.specs.Counted.{finished_places, aborted_times}
+use Rattle.sto_history.specs.Records.{Record, is_abort}
+use Rattle.sto_history.specs.Counted.{finished_places, aborted_times}
 use Rattle.sto_serializability.proofs.Chains.{Every}
 use Rattle.sto_serializability.proofs.Working.{aborted_append}
 use Rattle.sto_run_threads.specs.Plans.{Plan, thread_count}

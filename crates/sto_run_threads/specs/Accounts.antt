@@ -2,8 +2,8 @@
 use Rattle.std.specs.Prelude.{◌≡◌, ◌≤◌, ℕ, ◌+◌, ◌*◌, List, length}
 use Rattle.sto_core.specs.declared.view.View.{View}
 use Rattle.sto_core.specs.Rule.{total}
-use Rattle.sto_attempt_facts.specs.Records.{Record, times_written}
-use Rattle.sto_attempt_facts.specs.Counted.{times_committed}
+use Rattle.sto_history.specs.Records.{Record, times_written}
+use Rattle.sto_history.specs.Counted.{times_committed}
 use Rattle.sto_run_threads.specs.Plans.{Plan, Rests}
 
 -- from the view v to the view w records were added: as many as there were starts, and those that wrote are the new committed entries

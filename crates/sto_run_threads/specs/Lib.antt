@@ -13,8 +13,8 @@ pub use Rattle.sto_core.specs.Gathered
 pub use Rattle.sto_plain.specs.Passes
 pub use Rattle.sto_table.specs.Rests
 pub use Rattle.sto_type.specs.Meaning
-pub use Rattle.sto_attempt_facts.specs.Counted
-pub use Rattle.sto_attempt_facts.specs.Records
+pub use Rattle.sto_history.specs.Counted
+pub use Rattle.sto_history.specs.Records
 pub use Rattle.sto_transaction.specs.Plain
 pub use Rattle.sto_transaction.specs.Resting
 pub use Rattle.sto_lang.specs.Scripts

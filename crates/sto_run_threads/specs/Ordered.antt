@@ -1,8 +1,8 @@
 -- In which order transactions are run on one pass.
 use Rattle.std.specs.Prelude.{◌≡◌, ◌<◌, ◌≤◌, ◌⊎◌, List, [], ◌∷◌, ◌++◌}
 use Rattle.std.specs.List.{All}
-use Rattle.sto_attempt_facts.specs.Records.{Place, Record, known_after, IsSince}
-use Rattle.sto_attempt_facts.specs.Counted.{finished_places}
+use Rattle.sto_history.specs.Records.{Place, Record, known_after, IsSince}
+use Rattle.sto_history.specs.Counted.{finished_places}
 use Rattle.sto_run_threads.specs.Plans.{Plan, thread_count}
 
 -- the place is in an earlier thread than another, or at an earlier position of the same one

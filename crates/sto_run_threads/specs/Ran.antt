@@ -7,7 +7,7 @@ use Rattle.sto_script.specs.Meaning.{meaning_of}
 use Rattle.sto_script.specs.Asks.{Asks}
 use Rattle.sto_core.specs.declared.view.View.{View}
 use Rattle.sto_report_spec.specs.Orders.{Place, transaction_at}
-use Rattle.sto_attempt_facts.specs.Records.{Record}
+use Rattle.sto_history.specs.Records.{Record}
 use Rattle.sto_transaction.specs.Pace.{KeepsPace}
 use Rattle.sto_transaction.specs.Ran.{HasRun, HasBroken}
 use Rattle.sto_run_threads.specs.Plans.{Plan, pace_of}

@@ -3,8 +3,8 @@ use Rattle.std.specs.Prelude.{◌≡◌, ◌≤◌, ℕ, suc, List, length, true
 use Rattle.std.specs.List.{All}
 use Rattle.sto_lang.specs.Scripts.{File}
 use Rattle.sto_report_spec.specs.Orders.{positions_of, numbers_from, count_in}
-use Rattle.sto_attempt_facts.specs.Records.{Record, is_abort}
-use Rattle.sto_attempt_facts.specs.Counted.{finished_places}
+use Rattle.sto_history.specs.Records.{Record, is_abort}
+use Rattle.sto_history.specs.Counted.{finished_places}
 
 -- how many transactions of the thread have ended
 abbrev pub ended_of : ℕ → List Record → ℕ

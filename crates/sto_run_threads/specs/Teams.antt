@@ -6,10 +6,10 @@ use Rattle.sto_core.specs.Gathered.{gathered_into}
 use Rattle.sto_table.specs.declared.shared.Shared.{Shared}
 use Rattle.sto_table.specs.declared.shared.Rest.{Rest}
 use Rattle.sto_table.specs.Rests.{IsOf}
-use Rattle.sto_claims.specs.declared.numbers.Claims.{Claims}
-use Rattle.sto_claims.specs.declared.numbers.Claimer.{Claimer}
-use Rattle.sto_claims.specs.Taken.{taken, times}
-use Rattle.sto_attempt_facts.specs.Records.{Record}
+use Rattle.sto_table.specs.declared.numbers.Claims.{Claims}
+use Rattle.sto_table.specs.declared.numbers.Claimer.{Claimer}
+use Rattle.sto_table.specs.Taken.{taken, times}
+use Rattle.sto_history.specs.Records.{Record}
 use Rattle.sto_run_threads.specs.Plans.{Plan, Rests, MayDraw, draws_of, IsPaced}
 use Rattle.sto_run_threads.specs.Accounts.{HasGathered}
 use Rattle.sto_run_threads.specs.Told.{told_in}

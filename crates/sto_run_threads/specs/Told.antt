@@ -1,6 +1,6 @@
 -- Records of the code as plain data.
 use Rattle.std.specs.Prelude.{List, Vec, map}
-use Rattle.sto_attempt_facts.specs.Records as plainly
+use Rattle.sto_history.specs.Records as plainly
 use Rattle.sto_transaction.specs.declared.record.Record.{Record}
 use Rattle.sto_transaction.specs.Plain.{plain}
 

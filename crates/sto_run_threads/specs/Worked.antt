@@ -2,11 +2,11 @@
 use Rattle.std.specs.Prelude.{◌≡◌, ◌⊎◌, ◌<◌, ◌≤◌, ℕ, suc, List, length, Bool, true, false}
 use Rattle.std.specs.List.{All}
 use Rattle.sto_core.specs.declared.view.View.{View}
-use Rattle.sto_claims.specs.Taken.{times}
+use Rattle.sto_table.specs.Taken.{times}
 use Rattle.sto_report_spec.specs.Orders.{Place, count_in}
-use Rattle.sto_attempt_facts.specs.Records.{Record}
-use Rattle.sto_attempt_facts.specs.Told.{IsFound}
-use Rattle.sto_attempt_facts.specs.Counted.{aborted_times}
+use Rattle.sto_history.specs.Records.{Record}
+use Rattle.sto_history.specs.Told.{IsFound}
+use Rattle.sto_history.specs.Counted.{aborted_times}
 use Rattle.sto_serializability.specs.Working.{AreSoFar}
 use Rattle.sto_serializability.specs.Finished.{AreFinished}
 use Rattle.sto_run_threads.specs.Plans.{Plan, IsPaced}

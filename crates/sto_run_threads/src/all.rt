@@ -14,9 +14,8 @@ use crate::one::Work;
 use crate::worker::{Team, Worker};
 use std::alloc::Global;
 use std::thread::Threads;
-use sto_claims::{Claimer, Claims, OpenedClaims, close_claims, open_claims};
 use sto_part::{List, Naming, NoMemory};
-use sto_table::{Rest, Rests, Shared};
+use sto_table::{Claimer, Claims, OpenedClaims, Rest, Rests, Shared, close_claims, open_claims};
 use sto_transaction::Record;
 
 /// What workers have done: the records of all attempts, and the one pass that has gathered all.

@@ -10,9 +10,8 @@ use crate::one::Work;
 use crate::worker::{Team, Worker, work_alone};
 use std::alloc::Global;
 use std::thread::{Threads, join};
-use sto_claims::Claims;
 use sto_part::{Naming, NoMemory};
-use sto_table::Shared;
+use sto_table::{Claims, Shared};
 
 /// Gathers what two teams have done, which claimed different threads.
 pub fn gather<T: Naming, W: Work<T>>(

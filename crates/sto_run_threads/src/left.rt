@@ -2,8 +2,8 @@
 ghost use Rattle.std.specs.Prelude.{◌≡◌, ◌<◌, ◌^◌, ℕ, [], ◌∷◌, if◌then◌else◌, map, OnOk};
 ghost use Rattle.std.specs.List.{All};
 ghost use Rattle.sto_transaction.specs.Plain.{plain};
-ghost use Rattle.sto_attempt_facts.specs.Records.{times_written};
-ghost use Rattle.sto_attempt_facts.specs.Counted.{times_committed};
+ghost use Rattle.sto_history.specs.Records.{times_written};
+ghost use Rattle.sto_history.specs.Counted.{times_committed};
 ghost use Rattle.sto_run_threads.specs.Accounts.{AddsUp};
 ghost use Rattle.sto_run_threads.specs.Plans.{Rests, MayDraw, IsPaced, draws_of, thread_count};
 ghost use Rattle.sto_run_threads.specs.Told.{told_in};

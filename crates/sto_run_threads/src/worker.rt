@@ -6,9 +6,8 @@ ghost use Rattle.sto_run_threads.specs.Plans.{thread_count};
 use crate::one::Work;
 use crate::script::run_script;
 use std::alloc::Global;
-use sto_claims::{Claimer, Claims};
 use sto_part::{Naming, NoMemory};
-use sto_table::{Rest, Shared};
+use sto_table::{Claimer, Claims, Rest, Shared};
 use sto_transaction::{Memory, Record};
 
 /// A pass at rest, and a claimer of script threads.

@@ -20,9 +20,9 @@ use Rattle.sto_core.specs.Rule.{Past}
 use Rattle.sto_report_spec.specs.Orders.{Place, transaction_at}
 use Rattle.sto_report_spec.specs.Aborts.{Abort}
 use Rattle.sto_report_spec.specs.LawfulAborts.{IsLawfulAbort, known_at_end, MayPrecede, IsSorted, count_at, AreLawful}
-use Rattle.sto_attempt_facts.specs.Records.{Verdict, Wrote, Read, Cancelled, Locked, Changed, Record, is_abort, stands_at, known_after, IsSince, writers_up_to}
+use Rattle.sto_history.specs.Records.{Verdict, Wrote, Read, Cancelled, Locked, Changed, Record, is_abort, stands_at, known_after, IsSince, writers_up_to}
 use Rattle.sto_serializability.specs.Finished.{IsRecord, AreFinished}
-use Rattle.sto_attempt_facts.specs.Counted.{Follows, InThreads, aborted_times}
+use Rattle.sto_history.specs.Counted.{Follows, InThreads, aborted_times}
 use Rattle.sto_serializability.specs.Merged.{AreMerged, lines_of_abort, aborts_of_thread, aborts_from}
 use Rattle.sto_serializability.specs.Meanings.{updating_by, IsTypeOf, IsUsable}
 use Rattle.sto_history.proofs.Counts.{writers_rise}

@@ -27,9 +27,9 @@ use Rattle.sto_report_spec.specs.Updated.{updated, updated_from}
 use Rattle.sto_report_spec.specs.Aborts.{LocalPart, Abort, name_of, part_by_home}
 use Rattle.sto_report_spec.specs.Aborts as aborts
 use Rattle.sto_report_spec.specs.LawfulAborts.{IsFront, writers_before, IsBefore, IsAfterOwn, declared_as, part_number, IsPartAsked, IsPartTouched, IsLawfulAbort}
-use Rattle.sto_attempt_facts.specs.Records.{Verdict, Wrote, Read, Cancelled, Locked, Changed, Record, is_abort, is_finished, stands_at, known_after, IsSince, wrote_with, times_written, writers_up_to}
+use Rattle.sto_history.specs.Records.{Verdict, Wrote, Read, Cancelled, Locked, Changed, Record, is_abort, is_finished, stands_at, known_after, IsSince, wrote_with, times_written, writers_up_to}
 use Rattle.sto_serializability.specs.Finished.{AreFinished}
-use Rattle.sto_attempt_facts.specs.Counted.{Follows, InThreads}
+use Rattle.sto_history.specs.Counted.{Follows, InThreads}
 use Rattle.sto_serializability.specs.Merged.{ending_of, line_of, part_named, AreMerged}
 use Rattle.sto_serializability.specs.Meanings.{updating_by, IsHomeAt, IsTypeOf, IsNamedObject, IsUsable}
 use Rattle.sto_serializability.proofs.Bodies.{few_replies}

@@ -5,7 +5,7 @@ use Rattle.std.proofs.lemmas.Bool.{cases_lt, cases_Bool}
 use Rattle.std.proofs.lemmas.Bool.Decides.{nat_tests}
 use Rattle.std.proofs.lemmas.List.Elements.{All-head, All-tail}
 use Rattle.std.specs.List.{All}
-use Rattle.sto_attempt_facts.specs.Records.{Verdict, Wrote, Read, Cancelled, Locked, Changed, Record, is_abort, is_finished, stands_at, IsSince, wrote_with, times_written}
+use Rattle.sto_history.specs.Records.{Verdict, Wrote, Read, Cancelled, Locked, Changed, Record, is_abort, is_finished, stands_at, IsSince, wrote_with, times_written}
 use Rattle.sto_serializability.specs.Merged.{key_of, is_before, AreInOrder}
 
 -- each item of a list, by recursion

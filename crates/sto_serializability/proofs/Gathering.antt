@@ -12,14 +12,14 @@ use Rattle.sto_core.specs.Gathered.{gathered_into}
 use Rattle.sto_core.specs.Opened.{opened_view}
 use Rattle.sto_core.specs.Reopened.{reopened_view}
 use Rattle.sto_report_spec.specs.Orders.{Place, IsOrder}
-use Rattle.sto_attempt_facts.specs.Records.{Record, times_written}
+use Rattle.sto_history.specs.Records.{Record, times_written}
 use Rattle.sto_serializability.specs.Finished.{IsRecord, AreFinished}
-use Rattle.sto_attempt_facts.specs.Counted.{times_committed, Follows, InThreads, aborted_times, finished_places}
-use Rattle.sto_attempt_facts.specs.Added.{Grows}
+use Rattle.sto_history.specs.Counted.{times_committed, Follows, InThreads, aborted_times, finished_places}
+use Rattle.sto_history.specs.Added.{Grows}
 use Rattle.sto_serializability.proofs.Chains.{Every}
 use Rattle.sto_serializability.proofs.Pairs.{every_weaker}
 use Rattle.sto_serializability.proofs.Working.{AreSoFar, aborted_append, in_threads_append}
-use Rattle.sto_attempt_facts.proofs.Later.{told_later}
+use Rattle.sto_history.proofs.Later.{told_later}
 use Rattle.sto_history.proofs.Growing.{first_grows, second_grows, reopened_grows}
 
 -- records that a view is told of stay told

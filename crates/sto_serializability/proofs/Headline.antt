@@ -32,7 +32,7 @@ use Rattle.sto_report_spec.specs.declared.form.ReportForm.{ReportForm}
 use Rattle.sto_report_spec.specs.declared.form.ReportForm.TheVariants.{Text, Json}
 use Rattle.sto_report_spec.proofs.NamingTexts.{text_names_order, text_names_aborts}
 use Rattle.sto_report_spec.proofs.NamingJson.{json_names_order, json_names_aborts}
-use Rattle.sto_attempt_facts.specs.Records.{Verdict, Wrote, Read, Cancelled, Locked, Changed, Record, is_finished, stands_at, wrote_within, writers_up_to}
+use Rattle.sto_history.specs.Records.{Verdict, Wrote, Read, Cancelled, Locked, Changed, Record, is_finished, stands_at, wrote_within, writers_up_to}
 use Rattle.sto_serializability.specs.Finished.{IsRecord, AreFinished}
 use Rattle.sto_serializability.specs.Merged.{line_of, AreMerged, part_named, lines_of_abort, aborts_from}
 use Rattle.sto_serializability.specs.Meanings.{updating_by, IsHomeAt, IsTypeOf, IsNamedObject, IsUsable}

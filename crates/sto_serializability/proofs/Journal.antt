@@ -21,7 +21,7 @@ use Rattle.sto_core.specs.Core.{Core}
 use Rattle.sto_core.specs.Rule.{Past, Rule}
 use Rattle.sto_report_spec.specs.Orders.{Place, transaction_at, IsOrder}
 use Rattle.sto_report_spec.specs.Replay.{Entry, machines_for, opening_state, entries_from, state_from, shown_from, entries_of, final_state, shown}
-use Rattle.sto_attempt_facts.specs.Records.{Record, is_abort, is_finished, times_written, writers_up_to}
+use Rattle.sto_history.specs.Records.{Record, is_abort, is_finished, times_written, writers_up_to}
 use Rattle.sto_serializability.specs.Finished.{IsRecord, AreFinished}
 use Rattle.sto_serializability.specs.Merged.{line_of, AreMerged}
 use Rattle.sto_serializability.specs.Meanings.{IsTypeOf, IsUsable}

@@ -17,7 +17,7 @@ use Rattle.sto_type.specs.Meaning.{Meaning}
 use Rattle.sto_type.specs.Runs.{IsRunOn}
 use Rattle.sto_report_spec.specs.Orders.{Place, transaction_at}
 use Rattle.sto_report_spec.specs.Replay.{Entry, machines_for, run_at, is_writer, ending_by, counted, entry_at, entries_from, state_from, shown_from}
-use Rattle.sto_attempt_facts.specs.Records.{Verdict, Wrote, Read, Cancelled, Locked, Changed, Record, is_abort, is_wrote, stands_at, IsSince, wrote_with, times_written, writers_up_to}
+use Rattle.sto_history.specs.Records.{Verdict, Wrote, Read, Cancelled, Locked, Changed, Record, is_abort, is_wrote, stands_at, IsSince, wrote_with, times_written, writers_up_to}
 use Rattle.sto_serializability.specs.Merged.{ending_of, line_of}
 use Rattle.sto_serializability.proofs.Bodies.{few_replies}
 use Rattle.sto_serializability.proofs.Runs.{after_is, replies_are, writer_is, entry_is}

@@ -8,7 +8,7 @@ use Rattle.std.proofs.lemmas.Bool.{cases_order}
 use Rattle.std.proofs.lemmas.Bool.Decides.{nat_tests}
 use Rattle.std.proofs.lemmas.List.Elements.{All-from_get_or}
 use Rattle.std.proofs.lemmas.List.Sorted.{sorted_far}
-use Rattle.sto_attempt_facts.specs.Records.{Record}
+use Rattle.sto_history.specs.Records.{Record}
 use Rattle.sto_serializability.specs.Merged.{key_of, is_before, AreInOrder}
 
 -- three numbers, the first counting most

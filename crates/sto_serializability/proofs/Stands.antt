@@ -12,8 +12,8 @@ use Rattle.sto_core.specs.History.{Contents, Validity}
 use Rattle.sto_core.specs.Core.{Core}
 use Rattle.sto_core.specs.Rule.{Past, Rule}
 use Rattle.sto_report_spec.specs.Orders.{transaction_at}
-use Rattle.sto_attempt_facts.specs.Records.{Record, times_written}
-use Rattle.sto_attempt_facts.specs.Counted.{times_committed}
+use Rattle.sto_history.specs.Records.{Record, times_written}
+use Rattle.sto_history.specs.Counted.{times_committed}
 use Rattle.sto_history.proofs.Histories.{StandsAt}
 use Rattle.sto_history.proofs.Standing as standing
 use Rattle.sto_serializability.specs.Finished.{IsRecord}

@@ -9,7 +9,7 @@ use Rattle.sto_report_spec.specs.Replay.{Entry}
 use Rattle.sto_report_spec.specs.declared.ending.Ending.TheVariants as endings
 use Rattle.sto_report_spec.specs.Aborts.{Abort}
 use Rattle.sto_report_spec.specs.Aborts as aborts
-use Rattle.sto_attempt_facts.specs.Records.{Record, Wrote, Read, Locked, Changed, is_finished}
+use Rattle.sto_history.specs.Records.{Record, Wrote, Read, Locked, Changed, is_finished}
 use Rattle.sto_serializability.specs.Merged.{line_of, aborts_from, is_before}
 
 -- Two transactions read a box and write it. The first one's attempt with ticket 2 finds the other's ticket 1 and is dropped; its

@@ -10,12 +10,12 @@ use Rattle.sto_script.specs.Meaning.{meaning_of}
 use Rattle.sto_type.specs.Meaning.{Meaning}
 use Rattle.sto_core.specs.declared.view.View.{View}
 use Rattle.sto_report_spec.specs.Orders.{Place, at_position, transaction_at, positions_of, numbers_from}
-use Rattle.sto_attempt_facts.specs.Records.{Record, is_abort, is_finished, known_after, times_written}
+use Rattle.sto_history.specs.Records.{Record, is_abort, is_finished, known_after, times_written}
 use Rattle.sto_serializability.specs.Finished.{IsRecord, HandsBack}
-use Rattle.sto_attempt_facts.specs.Counted.{Follows, InThreads, aborted_times, finished_places}
-use Rattle.sto_attempt_facts.specs.Added.{IsAdded, HasAdded}
+use Rattle.sto_history.specs.Counted.{Follows, InThreads, aborted_times, finished_places}
+use Rattle.sto_history.specs.Added.{IsAdded, HasAdded}
 pub use Rattle.sto_serializability.specs.Working.{AreSoFar}
-use Rattle.sto_attempt_facts.proofs.Later.{told_later, told_known}
+use Rattle.sto_history.proofs.Later.{told_later, told_known}
 use Rattle.sto_serializability.proofs.Chains.{Every, every}
 use Rattle.sto_serializability.proofs.Pairs.{all_of, every_weaker, every_both}
 

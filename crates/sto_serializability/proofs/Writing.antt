@@ -17,7 +17,7 @@ use Rattle.sto_core.specs.History.{writes}
 use Rattle.sto_report_spec.specs.Orders.{Place, transaction_at}
 use Rattle.sto_report_spec.specs.Replay.{machines_for, run_at, counted}
 use Rattle.sto_report_spec.specs.Updated.{Updates, updates_along, updates_in, updates_at, at_writer, updated_from}
-use Rattle.sto_attempt_facts.specs.Records.{Verdict, Wrote, Read, Cancelled, Locked, Changed, Record, is_abort, is_wrote, stands_at, IsSince, wrote_with, times_written, writers_up_to}
+use Rattle.sto_history.specs.Records.{Verdict, Wrote, Read, Cancelled, Locked, Changed, Record, is_abort, is_wrote, stands_at, IsSince, wrote_with, times_written, writers_up_to}
 use Rattle.sto_serializability.specs.Meanings.{updating_by}
 use Rattle.sto_history.proofs.Histories.{IsHistory, WroteAt, StandsAt, same_contents, rank_rises}
 use Rattle.sto_serializability.proofs.Chains.{Every, IsChain}

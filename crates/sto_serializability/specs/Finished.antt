@@ -9,9 +9,9 @@ use Rattle.sto_core.specs.declared.view.Fate.{Fate}
 use Rattle.sto_core.specs.declared.view.Fate.TheVariants.{Pending, Committed, Dropped}
 use Rattle.sto_core.specs.declared.view.View.{View}
 use Rattle.sto_report_spec.specs.Orders.{Place, transaction_at, IsOrder}
-use Rattle.sto_attempt_facts.specs.Records.{Verdict, Record, is_abort, is_finished, known_after, IsSince, times_written}
-use Rattle.sto_attempt_facts.specs.Counted.{times_committed, InThreads, aborted_times, finished_places}
-use Rattle.sto_attempt_facts.specs.Told.{IsTold}
+use Rattle.sto_history.specs.Records.{Verdict, Record, is_abort, is_finished, known_after, IsSince, times_written}
+use Rattle.sto_history.specs.Counted.{times_committed, InThreads, aborted_times, finished_places}
+use Rattle.sto_history.specs.Told.{IsTold}
 
 -- a record of a transaction of the file, and what is told of it
 pub record IsRecord (m : Meaning) (file : File) (v : View) (r : Record) : Type 0 where

@@ -2,7 +2,7 @@
 use Rattle.std.specs.Prelude.{◌<◌, ◌^◌, List, length}
 use Rattle.std.specs.List.{All}
 use Rattle.sto_report_spec.specs.Short.{AreShortReplies}
-use Rattle.sto_attempt_facts.specs.Records.{Record}
+use Rattle.sto_history.specs.Records.{Record}
 
 -- those of a record are
 pub record IsShortRecord (r : Record) : Type 0 where

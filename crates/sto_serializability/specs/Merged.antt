@@ -10,7 +10,7 @@ use Rattle.sto_report_spec.specs.declared.ending.Ending.{Ending}
 use Rattle.sto_report_spec.specs.declared.ending.Ending.TheVariants as endings
 use Rattle.sto_report_spec.specs.Aborts.{LocalPart, Abort, part_by_home}
 use Rattle.sto_report_spec.specs.Aborts as aborts
-use Rattle.sto_attempt_facts.specs.Records.{Verdict, Wrote, Read, Cancelled, Locked, Changed, Record, is_finished, stands_at, writers_up_to}
+use Rattle.sto_history.specs.Records.{Verdict, Wrote, Read, Cancelled, Locked, Changed, Record, is_finished, stands_at, writers_up_to}
 
 -- where a record stands: a writer at its ticket, and what only read or cancelled after the writer with the number that it read as of
 abbrev pub key_of : Verdict → ℕ

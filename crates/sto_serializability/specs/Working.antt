@@ -5,8 +5,8 @@ use Rattle.sto_lang.specs.Scripts.{File}
 use Rattle.sto_type.specs.Meaning.{Meaning}
 use Rattle.sto_core.specs.declared.view.View.{View}
 use Rattle.sto_report_spec.specs.Orders.{Place}
-use Rattle.sto_attempt_facts.specs.Records.{Record}
-use Rattle.sto_attempt_facts.specs.Counted.{InThreads, aborted_times}
+use Rattle.sto_history.specs.Records.{Record}
+use Rattle.sto_history.specs.Counted.{InThreads, aborted_times}
 use Rattle.sto_serializability.specs.Finished.{IsRecord, HandsBack}
 
 -- records that a pass has made so far, all told of its view

@@ -5,7 +5,7 @@ use Rattle.sto_model.specs.declared.shape.Shape.{Shape}
 use Rattle.sto_model.specs.declared.shape.Shape.TheVariants.{Single, Counter, Array, Hash, Tree, Vector}
 use Rattle.sto_type.specs.Meaning.{Meaning}
 use Rattle.sto_type.specs.Joined.{joined, all_joined}
-use Rattle.sto_objects.specs.declared.objects.Objects.{Objects}
+use Rattle.sto_store.specs.declared.objects.Objects.{Objects}
 use Rattle.sto_store.specs.Stores.{mean_of, means}
 use Rattle.sto_store.specs.StoresLaw.{means_is}
 use Rattle.sto_store.specs.ObjectShapes.{AreOf}

@@ -2,7 +2,7 @@
 use Rattle.std.specs.Prelude.{List, map}
 use Rattle.sto_model.specs.declared.shape.Shape.{Shape}
 use Rattle.sto_model.specs.declared.shape.Shape.TheVariants.{Single, Counter, Array, Hash, Tree, Vector}
-use Rattle.sto_objects.specs.declared.objects.Objects.{Objects}
+use Rattle.sto_store.specs.declared.objects.Objects.{Objects}
 use Rattle.sto_store.specs.Stores.{AreKinds}
 
 -- the objects are of these shapes

@@ -9,13 +9,15 @@ ghost use Rattle.sto_store.specs.StoresLaw.{IsFitting};
 ghost use Rattle.sto_model.specs.declared.shape.Shape.TheVariants.{Single, Counter, Array, Hash, Tree, Vector};
 ghost use Rattle.sto_store.specs.Stores.{means, means_of, of_kind, AreFit, AreInOrder, AreKinds, AreSized, AreWide};
 
+use crate::kinds::{Arrays, Boxes, Counters, Hashes, Sized, Trees, Vectors};
+use crate::objects::Objects;
+use crate::wide::Wide;
 use std::alloc::Global;
 use sto_array::TArray;
 use sto_box::TBox;
 use sto_counter::TCounter;
 use sto_hash::THash;
 use sto_model::{Shape, Shapes};
-use sto_objects::{Arrays, Boxes, Counters, Hashes, Objects, Sized, Trees, Vectors, Wide};
 use sto_part::NoMemory;
 use sto_tree::TTree;
 use sto_type::{Both, Many, TxType};

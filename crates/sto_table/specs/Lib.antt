@@ -1,3 +1,4 @@
+pub mod Taken
 pub mod Laid
 pub mod Placed
 pub mod Shows

@@ -1,11 +1,11 @@
 -- What a pass knows, where it is known another way.
 use Rattle.std.proofs.Common.{◌≡◌, ℕ, List, sym, subst, ◌+◌, Some, slice_get}
-use Rattle.sto_queue.specs.declared.job.Job.{Job}
-use Rattle.sto_queue.specs.declared.known.Known.{Known}
-use Rattle.sto_queue.specs.declared.pass.JobQueue.{JobQueue}
-use Rattle.sto_queue.specs.declared.pass.JobPass.{JobPass}
-use Rattle.sto_queue.specs.Queues.{feeding, working}
-use Rattle.sto_queue.specs.Passes.{IsPass, known}
+use Rattle.sto_run_feed.specs.declared.job.Job.{Job}
+use Rattle.sto_run_feed.specs.declared.known.Known.{Known}
+use Rattle.sto_run_feed.specs.declared.pass.JobQueue.{JobQueue}
+use Rattle.sto_run_feed.specs.declared.pass.JobPass.{JobPass}
+use Rattle.sto_run_feed.specs.Queues.{feeding, working}
+use Rattle.sto_run_feed.specs.Passes.{IsPass, known}
 
 pub taking : (q : JobQueue) (p : JobPass) (jobs : List Job) (taken : ℕ) → IsPass q p (working jobs taken) → IsPass q p (working (known p).jobs (known p).taken)
 taking q p jobs taken h = subst (λ (v : Known). IsPass q p (working v.jobs v.taken)) (sym h.known) h

@@ -1,14 +1,14 @@
 -- Code that asks each call of one kind of objects, and gives what was answered.
 use Rattle.std.specs.Prelude.{ℤ, pos, Bool, Option}
 use Rattle.sto_part.specs.declared.pred.Test.TheVariants.{Lt, Ge}
-use Rattle.sto_code.specs.declared.handles.BoxId.{BoxId}
-use Rattle.sto_code.specs.declared.handles.CounterId.{CounterId}
-use Rattle.sto_code.specs.declared.handles.ArrayId.{ArrayId}
-use Rattle.sto_code.specs.declared.handles.HashId.{HashId}
-use Rattle.sto_code.specs.declared.handles.TreeId.{TreeId}
-use Rattle.sto_code.specs.declared.handles.VectorId.{VectorId}
-use Rattle.sto_code.specs.Progs.{Prog, Gives, Cancels}
-use Rattle.sto_code.specs.Steps.{box_get, box_set, counter_get, counter_add, counter_test, counter_take, array_get, array_set, array_add, hash_get, hash_put, hash_remove, hash_has, hash_len, tree_get, tree_put, tree_remove, tree_len, tree_next, tree_count, vector_get, vector_test, vector_len, vector_push, vector_pop}
+use Rattle.sto_action.specs.declared.handles.BoxId.{BoxId}
+use Rattle.sto_action.specs.declared.handles.CounterId.{CounterId}
+use Rattle.sto_action.specs.declared.handles.ArrayId.{ArrayId}
+use Rattle.sto_action.specs.declared.handles.HashId.{HashId}
+use Rattle.sto_action.specs.declared.handles.TreeId.{TreeId}
+use Rattle.sto_action.specs.declared.handles.VectorId.{VectorId}
+use Rattle.sto_action.specs.Progs.{Prog, Gives, Cancels}
+use Rattle.sto_action.specs.Steps.{box_get, box_set, counter_get, counter_add, counter_test, counter_take, array_get, array_set, array_add, hash_get, hash_put, hash_remove, hash_has, hash_len, tree_get, tree_put, tree_remove, tree_len, tree_next, tree_count, vector_get, vector_test, vector_len, vector_push, vector_pop}
 
 abbrev pub box_calls : BoxId → Prog (ℤ × ℤ)
 box_calls x = box_get x (λ was. box_set x (pos 8) (box_get x (λ is. Gives (was, is))))

@@ -30,8 +30,8 @@ use Rattle.sto_core.specs.Core.{Core}
 use Rattle.sto_core.proofs.Lists.{each_one, each_nothing}
 use Rattle.sto_report_spec.specs.Lawful.{made_in, IsLawfulIn}
 use Rattle.sto_report_spec.specs.declared.form.ReportForm.{ReportForm}
-use Rattle.sto_attempt_facts.specs.Records.{Record}
-use Rattle.sto_attempt_facts.specs.Told.{HasWritten}
+use Rattle.sto_history.specs.Records.{Record}
+use Rattle.sto_history.specs.Told.{HasWritten}
 use Rattle.sto_serializability.specs.Meanings.{updating_by, IsHomeAt, IsTypeOf, IsUsable}
 use Rattle.sto_serializability.specs.Merged.{aborts_from}
 use Rattle.sto_serializability.proofs.Headline.{report_lawful}

@@ -13,9 +13,9 @@ use Rattle.sto_core.proofs.Lists.{each_one, each_append}
 use Rattle.sto_core.proofs.Opened.{opened_holds}
 use Rattle.sto_core.proofs.Reopening.{reopened_past, reopen_keeps}
 use Rattle.sto_report_spec.specs.Orders.{Place, IsOrder}
-use Rattle.sto_attempt_facts.specs.Records.{Record, times_written}
-use Rattle.sto_attempt_facts.specs.Counted.{Follows, InThreads, aborted_times, finished_places, times_committed}
-use Rattle.sto_attempt_facts.specs.Told.{WasAborted}
+use Rattle.sto_history.specs.Records.{Record, times_written}
+use Rattle.sto_history.specs.Counted.{Follows, InThreads, aborted_times, finished_places, times_committed}
+use Rattle.sto_history.specs.Told.{WasAborted}
 use Rattle.sto_serializability.specs.Finished.{IsRecord, HandsBack, AreFinished}
 use Rattle.sto_serializability.specs.Merged.{is_before, AreMerged}
 use Rattle.sto_serializability.specs.Headline.{IsShortRecord, AreShortRecords}

@@ -13,9 +13,9 @@ use Rattle.sto_core.proofs.Gathering.{gather_keeps}
 use Rattle.sto_core.proofs.Lists.{each_one}
 use Rattle.sto_core.proofs.Opened.{opened_holds}
 use Rattle.sto_report_spec.specs.Orders.{Place, IsOrder}
-use Rattle.sto_attempt_facts.specs.Records.{Record, is_finished, times_written}
-use Rattle.sto_attempt_facts.specs.Counted.{Follows, InThreads, aborted_times, finished_places, times_committed}
-use Rattle.sto_attempt_facts.specs.Told.{WasChanged}
+use Rattle.sto_history.specs.Records.{Record, is_finished, times_written}
+use Rattle.sto_history.specs.Counted.{Follows, InThreads, aborted_times, finished_places, times_committed}
+use Rattle.sto_history.specs.Told.{WasChanged}
 use Rattle.sto_serializability.specs.Finished.{IsRecord, AreFinished}
 use Rattle.sto_serializability.specs.Merged.{is_before, AreMerged}
 use Rattle.sto_serializability.specs.Headline.{IsShortRecord, AreShortRecords}

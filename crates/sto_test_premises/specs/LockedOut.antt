@@ -7,7 +7,7 @@ use Rattle.sto_report_spec.specs.Aborts as aborts
 use Rattle.sto_core.specs.declared.view.View.{View}
 use Rattle.sto_core.specs.Core.{Core}
 use Rattle.sto_core.specs.Reopened.{reopened_core}
-use Rattle.sto_attempt_facts.specs.Records.{Record, Wrote, Locked}
+use Rattle.sto_history.specs.Records.{Record, Wrote, Locked}
 use Rattle.sto_test_premises.specs.Turns.{Turn, view_at, after_turns}
 use Rattle.sto_test_premises.specs.Adding.{box, opened, heard, reads, locks, draws, installs, adds, finds_locked, by}
 

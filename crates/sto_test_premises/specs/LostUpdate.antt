@@ -6,7 +6,7 @@ use Rattle.sto_report_spec.specs.Aborts as aborts
 use Rattle.sto_core.specs.declared.view.View.{View}
 use Rattle.sto_core.specs.Core.{Core}
 use Rattle.sto_core.specs.Gathered.{gathered_into, core_gathered}
-use Rattle.sto_attempt_facts.specs.Records.{Record, Wrote, Changed}
+use Rattle.sto_history.specs.Records.{Record, Wrote, Changed}
 use Rattle.sto_test_premises.specs.Turns.{Turn, view_at, after_turns}
 use Rattle.sto_test_premises.specs.Adding.{opened, heard, reads, locks, draws, drops, adds, by}
 

@@ -7,7 +7,7 @@ use Rattle.sto_core.specs.declared.view.View.{View}
 use Rattle.sto_core.specs.History.{Contents, Validity}
 use Rattle.sto_core.specs.Core.{Core}
 use Rattle.sto_core.specs.Rule.{Past}
-use Rattle.sto_attempt_facts.specs.Records.{Record}
+use Rattle.sto_history.specs.Records.{Record}
 use Rattle.sto_serializability.specs.Finished.{AreFinished}
 use Rattle.sto_serializability.specs.Merged.{AreMerged}
 use Rattle.sto_serializability.specs.Meanings.{IsTypeOf, IsUsable}

@@ -1,10 +1,10 @@
 -- What a status says of a call whose words are a command.
 use Rattle.std.proofs.Common.{◌≡◌, ℕ, List, Option, Some, Result, Ok, Err, arith}
-use Rattle.sto_cli_common.specs.declared.refusal.Refusal.{Refusal}
-use Rattle.sto_cli_common.specs.declared.refusal.Refusal.TheVariants.{Usage, Input, ReadFault, WriteFault, NoMemory}
-use Rattle.sto_cli_common.specs.Programs.{Program}
-use Rattle.sto_cli_common.specs.Ends.{Ends}
-use Rattle.sto_cli_common.specs.Statuses.{status_of, done_status}
+use Rattle.sto_console.specs.declared.refusal.Refusal.{Refusal}
+use Rattle.sto_console.specs.declared.refusal.Refusal.TheVariants.{Usage, Input, ReadFault, WriteFault, NoMemory}
+use Rattle.sto_console.specs.Programs.{Program}
+use Rattle.sto_console.specs.Ends.{Ends}
+use Rattle.sto_console.specs.Statuses.{status_of, done_status}
 
 module _ {C : Type 0} (p : Program C (Unit {0})) (command : C) (left rest held now : Option (List ℕ)) where
   pub no_usage : (outcome : Result (Unit {0}) Refusal) → 2 ≡ status_of done_status outcome → Ends p outcome (Some command) left rest held now → ⊥

@@ -5,9 +5,9 @@ use Rattle.sto_lang.specs.Scripts.{File}
 use Rattle.sto_lang.specs.Drafts.{transaction_count}
 use Rattle.sto_draw.specs.Drawn.{IsTooLong}
 use Rattle.sto_args.specs.declared.command.Command.TheVariants.{Trace, Draw}
-use Rattle.sto_cli_common.specs.declared.refusal.InputFault.{InputFault}
-use Rattle.sto_cli_common.specs.declared.refusal.InputFault.TheVariants.{Script, NoReport, LongTrace, LongRun, ManySchedules}
-use Rattle.sto_cli_common.specs.Outcomes.{IsFaulty}
+use Rattle.sto_console.specs.declared.refusal.InputFault.{InputFault}
+use Rattle.sto_console.specs.declared.refusal.InputFault.TheVariants.{Script, NoReport, LongTrace, LongRun, ManySchedules}
+use Rattle.sto_console.specs.Outcomes.{IsFaulty}
 use Rattle.sto_cli.specs.Traces.{HasLongRun, IsRunFault, NeverMany}
 use Rattle.sto_cli.specs.Programs.{program}
 use Rattle.sto_test_program_refusals.specs.Inputs.{lost_update, lost_update_file}

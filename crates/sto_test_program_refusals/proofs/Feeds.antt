@@ -8,8 +8,8 @@ use Rattle.sto_report_spec.specs.NamedAborts.{aborts_named}
 use Rattle.sto_report_spec.specs.declared.form.ReportForm.TheVariants.{Text}
 use Rattle.sto_run.specs.Meanings.{updating_by}
 use Rattle.sto_run.specs.Stores.{means}
-use Rattle.sto_cli_common.specs.Outcomes.{IsDone}
-use Rattle.sto_cli_common.specs.Workers.{workers_of}
+use Rattle.sto_console.specs.Outcomes.{IsDone}
+use Rattle.sto_console.specs.Workers.{workers_of}
 use Rattle.sto_feed_cli.specs.Programs.{IsFed, feed_program}
 use Rattle.sto_test_premises.specs.Adding.{script, file}
 use Rattle.sto_test_refusals.specs.Texts.{right}

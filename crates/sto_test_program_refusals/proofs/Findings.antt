@@ -3,9 +3,9 @@ use Rattle.std.specs.Fmt.{digits}
 use Rattle.std.specs.Int.{int_wrap}
 use Rattle.std.specs.Prelude.{codes}
 use Rattle.std.proofs.Common.{◌≡◌, ℕ, List, Ok, refl, sym, ◌∙◌, subst, arith}
-use Rattle.sto_report_lines.specs.Answer.{IsFound}
-use Rattle.sto_report_lines.specs.declared.found.Found.{Found}
-use Rattle.sto_report_lines.specs.declared.found.Found.TheVariants.{Lawful, Not}
+use Rattle.sto_checker.specs.Answer.{IsFound}
+use Rattle.sto_checker.specs.declared.found.Found.{Found}
+use Rattle.sto_checker.specs.declared.found.Found.TheVariants.{Lawful, Not}
 use Rattle.sto_check_cli.specs.Inputs.{Input, input_of}
 use Rattle.sto_check_cli.specs.Answers.{IsFoundIn}
 use Rattle.sto_check_cli.specs.Programs.{program}

@@ -13,14 +13,14 @@ use Rattle.sto_lang.specs.Objects.{shapes_of}
 use Rattle.sto_type.specs.Meaning.{Meaning}
 use Rattle.sto_store.specs.ObjectShapes.{AreOf}
 use Rattle.sto_store.proofs.ObjectMeanings.{objects_mean}
-use Rattle.sto_objects.specs.declared.objects.Objects.{Objects}
+use Rattle.sto_store.specs.declared.objects.Objects.{Objects}
 use Rattle.sto_core.specs.declared.view.View.{View}
 use Rattle.sto_core.specs.Core.{Core}
 use Rattle.sto_core.specs.History.{Validity}
 use Rattle.sto_plain.specs.Passes.{view_of}
 use Rattle.sto_report_spec.specs.Orders.{transaction_at, at_position, positions_of, count_in}
-use Rattle.sto_attempt_facts.specs.Records.{Record, Verdict, Wrote, Read, Cancelled, Locked, Changed}
-use Rattle.sto_attempt_facts.specs.Counted.{aborted_times, finished_places}
+use Rattle.sto_history.specs.Records.{Record, Verdict, Wrote, Read, Cancelled, Locked, Changed}
+use Rattle.sto_history.specs.Counted.{aborted_times, finished_places}
 use Rattle.sto_trace.specs.declared.Step.{Step}
 use Rattle.sto_transaction.specs.declared.machine.Machine.{Machine}
 use Rattle.sto_transaction.specs.Pace.{most_steps}

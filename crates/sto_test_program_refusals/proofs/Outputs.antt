@@ -10,15 +10,15 @@ use Rattle.sto_report_spec.specs.Lawful.{IsLawful, IsLawfulJson}
 use Rattle.sto_report_spec.specs.declared.form.ReportForm.TheVariants.{Text}
 use Rattle.sto_run.specs.Meanings.{updating_by}
 use Rattle.sto_run.specs.Stores.{means}
-use Rattle.sto_lawful_report.specs.Forms.{form_for, IsAlone}
-use Rattle.sto_outcomes.specs.declared.outcome.Outcomes.{Outcomes}
-use Rattle.sto_outcome_text.specs.Texts.{outcome_text, sum_line, outcomes_in}
+use Rattle.sto_run.specs.Forms.{form_for, IsAlone}
+use Rattle.sto_explore.specs.declared.outcome.Outcomes.{Outcomes}
+use Rattle.sto_explore.specs.Texts.{outcome_text, sum_line, outcomes_in}
 use Rattle.sto_args.specs.declared.command.Command.TheVariants.{Run, Step, Explore, Upgrade, Gen}
-use Rattle.sto_cli_common.specs.declared.refusal.InputFault.{InputFault}
-use Rattle.sto_cli_common.specs.declared.refusal.InputFault.TheVariants.{Script, NoReport, LongTrace, LongRun, ManySchedules}
-use Rattle.sto_cli_common.specs.Outcomes.{IsDone, IsFaulty}
-use Rattle.sto_cli_common.specs.Faults.{IsScriptFault}
-use Rattle.sto_cli_common.specs.Workers.{workers_of}
+use Rattle.sto_console.specs.declared.refusal.InputFault.{InputFault}
+use Rattle.sto_console.specs.declared.refusal.InputFault.TheVariants.{Script, NoReport, LongTrace, LongRun, ManySchedules}
+use Rattle.sto_console.specs.Outcomes.{IsDone, IsFaulty}
+use Rattle.sto_console.specs.Faults.{IsScriptFault}
+use Rattle.sto_console.specs.Workers.{workers_of}
 use Rattle.sto_cli.specs.Outputs.{IsOutput}
 use Rattle.sto_cli.specs.Programs.{program}
 use Rattle.sto_test_premises.specs.Adding.{script, file}

@@ -9,10 +9,10 @@ use Rattle.sto_lang.specs.declared.file.Turns.{Turns}
 use Rattle.sto_core.specs.declared.view.View.{View}
 use Rattle.sto_core.specs.Core.{Core}
 use Rattle.sto_core.specs.History.{Validity}
-use Rattle.sto_attempt_facts.specs.Records.{Record}
+use Rattle.sto_history.specs.Records.{Record}
 use Rattle.sto_trace.specs.declared.Step.{Step}
 use Rattle.sto_plain.specs.Passes.{view_of}
-use Rattle.sto_attempt_facts.specs.Counted.{aborted_times}
+use Rattle.sto_history.specs.Counted.{aborted_times}
 use Rattle.sto_run_threads.specs.Orders.{Place, count_in}
 use Rattle.sto_run_threads.specs.Running.{ended_of}
 use Rattle.sto_run_threads.specs.Plans.{Plan, thread_count}

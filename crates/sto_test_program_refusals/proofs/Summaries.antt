@@ -4,7 +4,7 @@ use Rattle.std.specs.Int.{int_wrap}
 use Rattle.std.specs.Prelude.{codes, decimal}
 use Rattle.std.proofs.Common.{◌≡◌, ℕ, ℤ, pos, List, ◌++◌, Option, refl, ◌∙◌, arith}
 use Rattle.sto_model.specs.Run.{State}
-use Rattle.sto_summary.specs.Summary.{summary_of, line_of, HasTotals}
+use Rattle.sto_bench.specs.Summary.{summary_of, line_of, HasTotals}
 use Rattle.sto_args.specs.declared.command.Command.TheVariants.{Bench}
 use Rattle.sto_cli.specs.Outputs.{IsOutput}
 use Rattle.sto_test_refusals.proofs.Lists.{differ}

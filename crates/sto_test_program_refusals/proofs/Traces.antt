@@ -14,7 +14,7 @@ use Rattle.sto_trace_text.specs.Texts.{Names}
 use Rattle.sto_trace_text.specs.Events.{event_after, events_after}
 use Rattle.sto_trace_text.specs.Json.{event_data, json_line}
 use Rattle.sto_journal.specs.declared.journal.Journal.{Journal}
-use Rattle.sto_objects.specs.declared.objects.Objects.{Objects}
+use Rattle.sto_store.specs.declared.objects.Objects.{Objects}
 use Rattle.sto_run_threads.specs.Plans.{plan_of}
 use Rattle.sto_run_steps.specs.Logged.{Log}
 use Rattle.sto_run_steps.specs.Proceeding.{heard_by, ProceedsAt}

@@ -1,6 +1,6 @@
 //! What `check` does not find.
 ghost use Rattle.std.specs.Prelude.{ℕ, List, codes};
-ghost use Rattle.sto_report_lines.specs.declared.found.Found.TheVariants.{Lawful, Not};
+ghost use Rattle.sto_checker.specs.declared.found.Found.TheVariants.{Lawful, Not};
 ghost use Rattle.sto_check_cli.specs.Answers.{IsFoundIn};
 ghost use Rattle.sto_check_cli.specs.Programs.{program};
 ghost use Rattle.sto_test_refusals.specs.Texts.{right, exchanged, left_out, other_reply, other_part, other_writer, other_rows};

@@ -1,6 +1,6 @@
 //! What `feed` does not print.
 ghost use Rattle.std.specs.Prelude.{ℕ, List, [], Option, Some};
-ghost use Rattle.sto_cli_common.specs.Outcomes.{IsDone};
+ghost use Rattle.sto_console.specs.Outcomes.{IsDone};
 ghost use Rattle.sto_feed_cli.specs.Programs.{IsFed, feed_program};
 ghost use Rattle.sto_test_premises.specs.Adding.{script};
 ghost use Rattle.sto_test_refusals.specs.Texts.{right, exchanged, left_out, other_reply, other_part};

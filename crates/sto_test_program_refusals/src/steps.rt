@@ -6,7 +6,7 @@ ghost use Rattle.sto_core.specs.Opened.{opened_core};
 ghost use Rattle.sto_trace.specs.declared.Step.{Step};
 ghost use Rattle.sto_transaction.specs.declared.machine.Machine.{Machine};
 ghost use Rattle.sto_script.specs.declared.body.ScriptBody.{ScriptBody};
-ghost use Rattle.sto_objects.specs.declared.objects.Objects.{Objects};
+ghost use Rattle.sto_store.specs.declared.objects.Objects.{Objects};
 ghost use Rattle.sto_lang.specs.declared.file.Turns.{Turns};
 ghost use Rattle.sto_journal.specs.declared.journal.Journal.{Journal};
 ghost use Rattle.sto_run_steps.specs.Logged.{Log};

@@ -2,9 +2,9 @@
 ghost use Rattle.std.specs.Prelude.{◌≡◌, ℕ, List, [], Bool, true, false, Option, Some};
 ghost use Rattle.sto_args.specs.declared.command.Command.{Command};
 ghost use Rattle.sto_args.specs.declared.command.Command.TheVariants.{Run, Step, Trace, Draw, Explore, Upgrade, Gen, Bench};
-ghost use Rattle.sto_cli_common.specs.Ends.{Ends};
-ghost use Rattle.sto_cli_common.specs.Statuses.{done_status, EndsWith};
-ghost use Rattle.sto_cli_common.specs.Outcomes.{IsDone, IsFaulty};
+ghost use Rattle.sto_console.specs.Ends.{Ends};
+ghost use Rattle.sto_console.specs.Statuses.{done_status, EndsWith};
+ghost use Rattle.sto_console.specs.Outcomes.{IsDone, IsFaulty};
 ghost use Rattle.sto_draw.specs.Drawn.{IsPicture};
 ghost use Rattle.sto_cli.specs.Outputs.{IsOutput};
 ghost use Rattle.sto_cli.specs.Programs.{program};

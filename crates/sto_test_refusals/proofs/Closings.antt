@@ -14,11 +14,11 @@ use Rattle.sto_core.specs.History.{Contents, Log, committed_updates, contents_as
 use Rattle.sto_core.specs.Views.{times}
 use Rattle.sto_core.specs.Rule.{Fits, Settled, once, total, world_of}
 use Rattle.sto_core.specs.Reopened.{reopened_view}
-use Rattle.sto_attempt_facts.specs.Records.{Wrote}
-use Rattle.sto_attempt_facts.specs.Counted.{times_committed}
-use Rattle.sto_serial_history.specs.History.{Transaction, times_numbered, StandsIn, IsStep, IsSerialHistory, LeadTo}
-use Rattle.sto_serial_history.specs.Done.{IsToldOf, AreDoneBy, HaveHistory}
-use Rattle.sto_open.specs.Working.{gathered_onto, AreLastRows, AreRowsAfter}
+use Rattle.sto_history.specs.Records.{Wrote}
+use Rattle.sto_history.specs.Counted.{times_committed}
+use Rattle.sto_history.specs.History.{Transaction, times_numbered, StandsIn, IsStep, IsSerialHistory, LeadTo}
+use Rattle.sto_history.specs.Done.{IsToldOf, AreDoneBy, HaveHistory}
+use Rattle.sto_shared_store.specs.Working.{gathered_onto, AreLastRows, AreRowsAfter}
 use Rattle.sto_test_premises.specs.Adding.{adding, box, valid, heard}
 use Rattle.sto_test_premises.proofs.Adding.{committed, has_written, run_on_0}
 use Rattle.sto_test_refusals.specs.Runs.{has_added, opening_rows, rows_with}

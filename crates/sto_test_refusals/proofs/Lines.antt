@@ -10,10 +10,10 @@ use Rattle.sto_report_spec.specs.Report.{line_text, object_text}
 use Rattle.sto_report_spec.specs.Replay.{final_state}
 use Rattle.sto_report_spec.specs.Named.{order_named}
 use Rattle.sto_report_spec.specs.NamedAborts.{aborts_named}
-use Rattle.sto_report_lines.specs.Lines.{lines_of}
-use Rattle.sto_report_lines.specs.Right.{IsRightAfter, IsJournalLine, IsObjectLine, IsRightAlone, entry_after}
-use Rattle.sto_report_lines.specs.Answer.{IsRightAt, IsFound}
-use Rattle.sto_report_lines.specs.declared.found.Found.TheVariants.{Lawful, Not}
+use Rattle.sto_checker.specs.Lines.{lines_of}
+use Rattle.sto_checker.specs.Right.{IsRightAfter, IsJournalLine, IsObjectLine, IsRightAlone, entry_after}
+use Rattle.sto_checker.specs.Answer.{IsRightAt, IsFound}
+use Rattle.sto_checker.specs.declared.found.Found.TheVariants.{Lawful, Not}
 use Rattle.sto_test_premises.specs.Adding.{file, adding}
 use Rattle.sto_test_refusals.specs.Texts.{right, exchanged, left_out, other_reply, other_part, other_writer, other_rows}
 use Rattle.sto_test_refusals.proofs.Unlawful.{order, by_other_part, by_other_writer, no_part, no_entry}

@@ -6,10 +6,10 @@ use Rattle.std.proofs.lemmas.Bool.Decides.{nat_tests}
 use Rattle.std.proofs.lemmas.List.Elements.{All-from_recursion, All-head, All-tail}
 use Rattle.sto_model.specs.Run.{State, state_along}
 use Rattle.sto_script.specs.Meaning.{meaning_of}
-use Rattle.sto_attempt_facts.specs.Records.{Wrote}
-use Rattle.sto_attempt_facts.specs.Counted.{times_committed}
-use Rattle.sto_serial_history.specs.History.{Transaction, times_numbered, StandsIn, IsStep, IsSerialHistory}
-use Rattle.sto_serial_history.specs.Done.{IsToldOf, AreDoneBy, HaveHistory}
+use Rattle.sto_history.specs.Records.{Wrote}
+use Rattle.sto_history.specs.Counted.{times_committed}
+use Rattle.sto_history.specs.History.{Transaction, times_numbered, StandsIn, IsStep, IsSerialHistory}
+use Rattle.sto_history.specs.Done.{IsToldOf, AreDoneBy, HaveHistory}
 use Rattle.sto_test_premises.specs.Adding.{adding, box, heard}
 use Rattle.sto_test_premises.proofs.Adding.{has_written, run_on_0, run_on_1}
 use Rattle.sto_test_refusals.specs.Runs.{first_worker, second_worker, rows_with}

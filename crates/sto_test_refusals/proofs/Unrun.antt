@@ -5,15 +5,15 @@ use Rattle.sto_model.specs.Run.{IsRun}
 use Rattle.sto_type.specs.Traits.{OfType}
 use Rattle.sto_core.specs.declared.view.View.{View}
 use Rattle.sto_core.proofs.Lists.{each_one}
-use Rattle.sto_attempt_facts.specs.Records.{Verdict, Wrote, Read, Cancelled as CancelledAt, Locked, Changed, is_abort}
-use Rattle.sto_attempt_facts.specs.Told.{IsTold}
-use Rattle.sto_code.specs.Shortened.{short_of}
-use Rattle.sto_code.specs.declared.short_reply.ShortReply.{ShortReply}
-use Rattle.sto_code.specs.declared.short_reply.ShortReply.TheVariants as H
-use Rattle.sto_code.specs.Progs.{Prog, Asks, Gives, Cancels, IsGiven, IsCancelled}
-use Rattle.sto_atomically.specs.Atomic.{steps_of, HasLed}
-use Rattle.sto_atomically.specs.declared.outcome.Done.TheVariants.{Gave}
-use Rattle.sto_atomically.specs.declared.outcome.Unrun.TheVariants.{Busy}
+use Rattle.sto_history.specs.Records.{Verdict, Wrote, Read, Cancelled as CancelledAt, Locked, Changed, is_abort}
+use Rattle.sto_history.specs.Told.{IsTold}
+use Rattle.sto_action.specs.Shortened.{short_of}
+use Rattle.sto_action.specs.declared.short_reply.ShortReply.{ShortReply}
+use Rattle.sto_action.specs.declared.short_reply.ShortReply.TheVariants as H
+use Rattle.sto_action.specs.Progs.{Prog, Asks, Gives, Cancels, IsGiven, IsCancelled}
+use Rattle.sto_action.specs.Atomic.{steps_of, HasLed}
+use Rattle.sto_action.specs.declared.outcome.Done.TheVariants.{Gave}
+use Rattle.sto_action.specs.declared.outcome.Unrun.TheVariants.{Busy}
 use Rattle.sto_library.specs.Values.{Stored}
 use Rattle.sto_library.specs.Looks.{HasLooked}
 use Rattle.sto_library.specs.declared.store.LookError.TheVariants as unlooked

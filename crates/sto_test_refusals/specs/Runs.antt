@@ -7,11 +7,11 @@ use Rattle.sto_model.specs.Machine.{opening_of}
 use Rattle.sto_type.specs.Traits.{OfType}
 use Rattle.sto_core.specs.Opened.{opened_core, opened_view}
 use Rattle.sto_core.specs.declared.view.View.{View}
-use Rattle.sto_code.specs.declared.short_reply.ShortReply.{ShortReply}
-use Rattle.sto_code.specs.Progs.{Prog, Asks, Gives, Cancels}
-use Rattle.sto_atomically.specs.declared.outcome.Done.{Done}
-use Rattle.sto_atomically.specs.declared.outcome.Unrun.{Unrun}
-use Rattle.sto_atomically.specs.Atomic.{HasLed}
+use Rattle.sto_action.specs.declared.short_reply.ShortReply.{ShortReply}
+use Rattle.sto_action.specs.Progs.{Prog, Asks, Gives, Cancels}
+use Rattle.sto_action.specs.declared.outcome.Done.{Done}
+use Rattle.sto_action.specs.declared.outcome.Unrun.{Unrun}
+use Rattle.sto_action.specs.Atomic.{HasLed}
 use Rattle.sto_library.specs.Values.{Working}
 use Rattle.sto_test_premises.specs.Turns.{view_at, after_turns}
 use Rattle.sto_test_premises.specs.LostUpdate.{third_core}

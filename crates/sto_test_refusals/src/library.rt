@@ -1,15 +1,15 @@
 //! What a worker of the library and a store do not answer.
 ghost use Rattle.std.specs.Prelude.{◌≡◌, ℕ, pos, List, [], ◌∷◌, length, Ok, Err};
 ghost use Rattle.sto_model.specs.Run.{State};
-ghost use Rattle.sto_serial_history.specs.Done.{HaveHistory};
-ghost use Rattle.sto_code.specs.Progs.{Prog};
-ghost use Rattle.sto_code.specs.declared.short_reply.ShortReply.TheVariants.{Value};
-ghost use Rattle.sto_atomically.specs.Atomic.{HasLed};
-ghost use Rattle.sto_atomically.specs.declared.outcome.Done.{Done};
-ghost use Rattle.sto_atomically.specs.declared.outcome.Done.TheVariants.{Gave, Cancelled};
-ghost use Rattle.sto_atomically.specs.declared.outcome.Unrun.{Unrun};
-ghost use Rattle.sto_atomically.specs.declared.outcome.Unrun.TheVariants.{Busy, Worn};
-ghost use Rattle.sto_open.specs.Working.{AreRowsAfter};
+ghost use Rattle.sto_history.specs.Done.{HaveHistory};
+ghost use Rattle.sto_action.specs.Progs.{Prog};
+ghost use Rattle.sto_action.specs.declared.short_reply.ShortReply.TheVariants.{Value};
+ghost use Rattle.sto_action.specs.Atomic.{HasLed};
+ghost use Rattle.sto_action.specs.declared.outcome.Done.{Done};
+ghost use Rattle.sto_action.specs.declared.outcome.Done.TheVariants.{Gave, Cancelled};
+ghost use Rattle.sto_action.specs.declared.outcome.Unrun.{Unrun};
+ghost use Rattle.sto_action.specs.declared.outcome.Unrun.TheVariants.{Busy, Worn};
+ghost use Rattle.sto_shared_store.specs.Working.{AreRowsAfter};
 ghost use Rattle.sto_library.specs.declared.store.CloseError.TheVariants.{Missing};
 ghost use Rattle.sto_library.specs.declared.store.LookError.TheVariants as unlooked;
 ghost use Rattle.sto_library.specs.Values.{Stored, Working};

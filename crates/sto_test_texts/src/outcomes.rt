@@ -1,10 +1,8 @@
 //! Outcomes gathered run by run, and how they are printed.
 use std::alloc::Global;
 use std::test::Fail;
-use sto_explore::{Gathers, Leg};
+use sto_explore::{Aborted, Gathers, Leg, Outcome, Outcomes, Reported, Tally, outcomes_text};
 use sto_lang::Text;
-use sto_outcome_text::outcomes_text;
-use sto_outcomes::{Aborted, Outcome, Outcomes, Reported, Tally};
 
 fn leg(thread: u32, turns: u64) -> Leg {
     Leg {

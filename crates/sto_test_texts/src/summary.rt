@@ -2,10 +2,10 @@
 ghost use Rattle.std.specs.Prelude.{◌≤◌, length, IfOk};
 
 use std::alloc::Global;
+use sto_bench::summary;
 use sto_journal::{Aborts, Journal, Lines};
 use sto_model::{Shape, Shapes, State};
 use sto_part::NoMemory;
-use sto_summary::summary;
 
 // The sum of the two accounts is above every i64 and u64 but one.
 fn rich(alloc: Global) -> Result<State, NoMemory>

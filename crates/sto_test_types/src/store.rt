@@ -4,9 +4,8 @@ ghost use Rattle.sto_type.specs.Known.{known, IsPartOf};
 
 use std::alloc::Global;
 use sto_model::{Call, Reply, Shape, Shapes};
-use sto_objects::Objects;
 use sto_part::NoMemory;
-use sto_store::build;
+use sto_store::{Objects, build};
 use sto_type::{Answer, AnswerPool, Cache, TxType};
 
 // The codes of two calls.

@@ -3,9 +3,9 @@ use Rattle.std.specs.Prelude.{◌&&◌, ◌==◌, not, if◌then◌else◌, cond
 use Rattle.std.specs.List.{All, filter}
 use Rattle.std.proofs.Common.{◌≡◌, ℕ, suc, ◌+◌, List, [], ◌∷◌, ◌++◌, map, length, Bool, true, false, refl, ap, ap₂, ◌∙◌, arith, eq-eqb}
 use Rattle.std.proofs.lemmas.List.Elements.{All-head, All-tail}
-use Rattle.sto_attempt_facts.specs.Records.{Place, Record, is_abort, is_finished}
-use Rattle.sto_attempt_facts.specs.Counted.{aborted_times, finished_places}
-use Rattle.sto_attempt_facts.specs.Trying.{AreAborted}
+use Rattle.sto_history.specs.Records.{Place, Record, is_abort, is_finished}
+use Rattle.sto_history.specs.Counted.{aborted_times, finished_places}
+use Rattle.sto_history.specs.Trying.{AreAborted}
 
 -- 1 where a record of the place is aborted
 if_hit : Place → Place → Bool → ℕ

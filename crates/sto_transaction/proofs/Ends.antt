@@ -19,13 +19,13 @@ use Rattle.sto_attempt_log.specs.Answers.{OneEvent, IsCommitEvent}
 use Rattle.sto_attempt_log.specs.Standing.{Ends, IsLeft, IsUnaborted}
 use Rattle.sto_attempt_log.specs.CommitPhases.{Deal, EndsWith, EndsIn}
 use Rattle.sto_attempt_log.specs.Verdicts.{IsWrote}
-use Rattle.sto_attempt_facts.specs.Records.{Place, IsSince, IsAbove, is_abort, wrote_with}
-use Rattle.sto_attempt_facts.specs.Counted.{times_committed}
-use Rattle.sto_attempt_facts.specs.Added.{IsKnown}
-use Rattle.sto_attempt_facts.specs.Running.{HasNoMore, HasOneMore, HasDrawn, HasDrawnAbove, IsRunning}
-use Rattle.sto_attempt_facts.specs.Tried.{HasTried}
-use Rattle.sto_attempt_facts.proofs.Ended.{IsUnwon, tried, counted_none, counted_won, won_keeps, lost_keeps}
-use Rattle.sto_attempt_facts.proofs.Progress.{keeps_running}
+use Rattle.sto_history.specs.Records.{Place, IsSince, IsAbove, is_abort, wrote_with}
+use Rattle.sto_history.specs.Counted.{times_committed}
+use Rattle.sto_history.specs.Added.{IsKnown}
+use Rattle.sto_history.specs.Running.{HasNoMore, HasOneMore, HasDrawn, HasDrawnAbove, IsRunning}
+use Rattle.sto_history.specs.Tried.{HasTried}
+use Rattle.sto_history.proofs.Ended.{IsUnwon, tried, counted_none, counted_won, won_keeps, lost_keeps}
+use Rattle.sto_history.proofs.Progress.{keeps_running}
 use Rattle.sto_transaction.specs.Going.{InBody}
 use Rattle.sto_transaction.specs.Plain.{verdict}
 use Rattle.sto_transaction.proofs.Telling.{ends_told, ends_found, ends_since, said_told, said_found}

@@ -16,11 +16,11 @@ use Rattle.sto_attempt_log.specs.declared.read_phase.ReadPhase.{ReadPhase}
 use Rattle.sto_attempt_log.specs.declared.read_phase.ReadPhase.TheVariants.{Unstarted, Opening, Reading, Renewing, Rechecking, Reopening, Rereading, Committing, Over}
 use Rattle.sto_attempt_log.specs.Answers.{OneEvent}
 use Rattle.sto_attempt_log.specs.Standing.{Goes, HasBegun, Moves, IsLeft, next_event, reading_event}
-use Rattle.sto_attempt_facts.specs.Added.{IsKnown}
-use Rattle.sto_attempt_facts.specs.Running.{HasNoMore, IsRunning}
-use Rattle.sto_attempt_facts.proofs.Events.{covers_known}
-use Rattle.sto_attempt_facts.proofs.Progress.{begun_runs, keeps_running}
-use Rattle.sto_attempt_facts.proofs.Ended.{IsPlain, undrawn_keeps}
+use Rattle.sto_history.specs.Added.{IsKnown}
+use Rattle.sto_history.specs.Running.{HasNoMore, IsRunning}
+use Rattle.sto_history.proofs.Events.{covers_known}
+use Rattle.sto_history.proofs.Progress.{begun_runs, keeps_running}
+use Rattle.sto_history.proofs.Ended.{IsPlain, undrawn_keeps}
 use Rattle.sto_transaction.specs.Going.{InBody, HasGone}
 use Rattle.sto_transaction.specs.Resting.{IsAtRest}
 use Rattle.sto_transaction.specs.Machines.{HasStopped}

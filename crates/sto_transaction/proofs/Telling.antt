@@ -11,9 +11,9 @@ use Rattle.sto_attempt_log.specs.Standing.{Ends}
 use Rattle.sto_attempt_log.specs.declared.verdict.Verdict.{Verdict}
 use Rattle.sto_attempt_log.specs.declared.verdict.Verdict.TheVariants.{Wrote, Read, Cancelled, Locked, Changed}
 use Rattle.sto_attempt_log.specs.CommitPhases.{Deal, EndsWith}
-use Rattle.sto_attempt_facts.specs.Told.{HasFound, IsLockedFinding, IsTicketFinding, HasClaimed, IsTold, IsFound, HasRead, HasCancelled, WasAborted, WasChanged}
-use Rattle.sto_attempt_facts.specs.Added.{IsKnown}
-use Rattle.sto_attempt_facts.specs.Records.{IsSince}
+use Rattle.sto_history.specs.Told.{HasFound, IsLockedFinding, IsTicketFinding, HasClaimed, IsTold, IsFound, HasRead, HasCancelled, WasAborted, WasChanged}
+use Rattle.sto_history.specs.Added.{IsKnown}
+use Rattle.sto_history.specs.Records.{IsSince}
 use Rattle.sto_transaction.specs.Plain.{verdict}
 
 -- the claims of the running attempt are among all of a number

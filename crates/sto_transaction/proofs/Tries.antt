@@ -6,13 +6,13 @@ use Rattle.sto_model.specs.Run.{Script}
 use Rattle.sto_type.specs.Meaning.{Meaning}
 use Rattle.sto_core.specs.declared.view.View.{View}
 use Rattle.sto_core.specs.Lists.{Among}
-use Rattle.sto_attempt_facts.specs.Records.{Place, Record, is_abort}
-use Rattle.sto_attempt_facts.specs.Counted.{aborted_times, times_committed}
-use Rattle.sto_attempt_facts.specs.Added.{HasAdded, IsAdded}
-use Rattle.sto_attempt_facts.specs.Tried.{HasTried}
-use Rattle.sto_attempt_facts.specs.Trying.{HasMade, AreAborted}
-use Rattle.sto_attempt_facts.proofs.Events.{grows_on}
-use Rattle.sto_attempt_facts.proofs.Tries.{none_made, one_more, still_added, longer, are_found_later}
+use Rattle.sto_history.specs.Records.{Place, Record, is_abort}
+use Rattle.sto_history.specs.Counted.{aborted_times, times_committed}
+use Rattle.sto_history.specs.Added.{HasAdded, IsAdded}
+use Rattle.sto_history.specs.Tried.{HasTried}
+use Rattle.sto_history.specs.Trying.{HasMade, AreAborted}
+use Rattle.sto_history.proofs.Events.{grows_on}
+use Rattle.sto_history.proofs.Tries.{none_made, one_more, still_added, longer, are_found_later}
 use Rattle.sto_transaction.specs.Ran.{HasRun, HasBroken}
 use Rattle.sto_transaction.specs.Resting.{IsAtRest}
 use Rattle.sto_transaction.specs.Machines.{HasStopped}

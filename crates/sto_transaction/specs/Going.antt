@@ -3,8 +3,8 @@ use Rattle.std.specs.Prelude.{◌≡◌, ◌≤◌, ℕ}
 use Rattle.sto_core.specs.declared.view.View.{View}
 use Rattle.sto_attempt_log.specs.declared.read_phase.ReadPhase.{ReadPhase}
 use Rattle.sto_attempt_log.specs.declared.read_phase.ReadPhase.TheVariants.{Unstarted}
-use Rattle.sto_attempt_facts.specs.Added.{IsKnown}
-use Rattle.sto_attempt_facts.specs.Running.{HasNoMore, IsRunning}
+use Rattle.sto_history.specs.Added.{IsKnown}
+use Rattle.sto_history.specs.Running.{HasNoMore, IsRunning}
 
 -- a body that runs: nothing was drawn, and the attempt reads as of a number that is not below all that was known
 pub record InBody (begun v : View) (at : ℕ) : Type 0 where

@@ -9,7 +9,7 @@ use Rattle.sto_core.specs.declared.view.View.{View}
 use Rattle.sto_attempt_log.specs.Answers.{OneEvent}
 use Rattle.sto_attempt_log.specs.declared.verdict.Verdict.{Verdict}
 use Rattle.sto_attempt_log.specs.declared.verdict.Turn.{Turn}
-use Rattle.sto_attempt_facts.specs.Records.{Record}
+use Rattle.sto_history.specs.Records.{Record}
 use Rattle.sto_transaction.specs.declared.machine.Machine.{Machine}
 use Rattle.sto_transaction.specs.declared.machine.Ended.{Ended}
 use Rattle.sto_transaction.specs.declared.transaction.Transaction.{Transaction}

@@ -6,6 +6,6 @@ pub mod Going
 pub mod Machines
 pub mod Leading
 pub use Rattle.sto_model.specs.Run
-pub use Rattle.sto_attempt_facts.specs.Records
+pub use Rattle.sto_history.specs.Records
 pub use Rattle.sto_attempt_log.specs.Answers
 pub use Rattle.sto_attempt_log.specs.Bounds

@@ -21,10 +21,10 @@ use Rattle.sto_attempt_log.specs.CommitPhases.{Deal, deal, Stands, SpaceAt}
 use Rattle.sto_attempt_log.specs.Verdicts.{IsUndisturbed}
 use Rattle.sto_attempt_log.specs.Bounds.{events_left}
 use Rattle.sto_attempt_log.specs.Remaining.{commit_left}
-use Rattle.sto_attempt_facts.specs.Records.{Place, is_abort}
-use Rattle.sto_attempt_facts.specs.Added.{Grows, IsKnown}
-use Rattle.sto_attempt_facts.specs.Running.{IsRunning}
-use Rattle.sto_attempt_facts.specs.Tried.{HasTried}
+use Rattle.sto_history.specs.Records.{Place, is_abort}
+use Rattle.sto_history.specs.Added.{Grows, IsKnown}
+use Rattle.sto_history.specs.Running.{IsRunning}
+use Rattle.sto_history.specs.Tried.{HasTried}
 use Rattle.sto_transaction.specs.Going.{HasGone, InBody}
 use Rattle.sto_transaction.specs.Plain.{verdict}
 use Rattle.sto_transaction.specs.Resting.{IsAtRest}

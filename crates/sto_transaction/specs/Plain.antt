@@ -1,7 +1,7 @@
 -- Records of the code as plain data.
 use Rattle.std.specs.Prelude.{map}
 use Rattle.sto_model.specs.Told.{told}
-use Rattle.sto_attempt_facts.specs.Records as plainly
+use Rattle.sto_history.specs.Records as plainly
 use Rattle.sto_attempt_log.specs.declared.verdict.Verdict.{Verdict}
 use Rattle.sto_attempt_log.specs.declared.verdict.Verdict.TheVariants.{Wrote, Read, Cancelled, Locked, Changed}
 use Rattle.sto_transaction.specs.declared.record.Record.{Record}

@@ -5,10 +5,10 @@ use Rattle.sto_type.specs.Meaning.{Meaning}
 use Rattle.sto_core.specs.declared.view.Entry.{Entry}
 use Rattle.sto_core.specs.declared.view.View.{View}
 use Rattle.sto_core.specs.Lists.{Among}
-use Rattle.sto_attempt_facts.specs.Records.{Place, Record}
-use Rattle.sto_attempt_facts.specs.Counted.{aborted_times, finished_places}
-use Rattle.sto_attempt_facts.specs.Added.{HasAdded}
-use Rattle.sto_attempt_facts.specs.Trying.{AreFound}
+use Rattle.sto_history.specs.Records.{Place, Record}
+use Rattle.sto_history.specs.Counted.{aborted_times, finished_places}
+use Rattle.sto_history.specs.Added.{HasAdded}
+use Rattle.sto_history.specs.Trying.{AreFound}
 use Rattle.sto_transaction.specs.Resting.{IsAtRest}
 
 -- from the view v to the view w, on words with so many passes, a transaction that does f was run with so many tries. It has

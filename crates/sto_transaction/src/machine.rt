@@ -6,8 +6,8 @@ ghost use Rattle.sto_attempt_log.specs.Bounds.{bound, words_of};
 ghost use Rattle.sto_transaction.specs.Resting.{IsAtRest};
 ghost use Rattle.sto_transaction.specs.Leading.{IsLedTo, MayGoOn, MakesOne, Turns, Advances, Steps, MaySeal, Seals, MayEnd, Ends, left_of, left_past, calls_at, KeepsCalls};
 
-use std::alloc::Global;
 use std::mem;
+use std::alloc::Global;
 use sto_attempt::{Attempt, Memory, Ready, Turn, Verdict};
 use sto_core::Cells;
 use sto_model::{Body, Replies};

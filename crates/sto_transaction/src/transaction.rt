@@ -1,7 +1,7 @@
 //! One transaction: attempts of a body until one is not aborted.
 ghost use Rattle.std.specs.Prelude.{◌≡◌, ◌<◌, ◌≤◌, ◌+◌, map, IfOk, OnOk, OnErr};
 ghost use Rattle.sto_model.specs.declared.call.Call.{Call};
-ghost use Rattle.sto_attempt_facts.specs.Records.{is_abort};
+ghost use Rattle.sto_history.specs.Records.{is_abort};
 ghost use Rattle.sto_transaction.specs.declared.machine.Machine.TheVariants.{Running};
 ghost use Rattle.sto_transaction.specs.Plain.{plain, verdict};
 ghost use Rattle.sto_transaction.specs.Pace.{most_steps, KeepsPace};
@@ -11,8 +11,8 @@ ghost use Rattle.sto_transaction.specs.Leading.{IsEndOf, MayGoOn, GoesOn, Stops,
 
 use crate::machine::{Ended, Machine};
 use crate::record::Record;
-use std::alloc::{AllocError, Global};
 use std::mem;
+use std::alloc::{AllocError, Global};
 use sto_attempt::{Attempt, Memory, Verdict};
 use sto_core::Cells;
 use sto_model::Body;

@@ -7,11 +7,11 @@ use Rattle.sto_part.specs.declared.change.Change.{Change}
 use Rattle.sto_part.specs.declared.change.Change.TheVariants.{Keep, Put}
 use Rattle.sto_item.specs.Pending.{Entry, IsRisingFrom, EachChanges, AreUpdates}
 use Rattle.sto_model.specs.Rows.{Row}
-use Rattle.sto_tree_spec.specs.Layout.{listed, key_part, value_part}
-use Rattle.sto_tree_spec.specs.Said.{key_changes, value_is}
-use Rattle.sto_tree_spec.specs.Split.{in_threes}
-use Rattle.sto_tree_spec.specs.Repack.{rows_of_leaf, filled, row_values, packed_leaves}
-use Rattle.sto_tree_spec.specs.RowLists.{row_at}
+use Rattle.sto_tree.specs.Layout.{listed, key_part, value_part}
+use Rattle.sto_tree.specs.Said.{key_changes, value_is}
+use Rattle.sto_tree.specs.Split.{in_threes}
+use Rattle.sto_tree.specs.Repack.{rows_of_leaf, filled, row_values, packed_leaves}
+use Rattle.sto_tree.specs.RowLists.{row_at}
 
 -- the first of updates that are in order are in order
 rising_front : (n : ℕ) (es fs : List Entry) → IsRisingFrom n (es ++ fs) → IsRisingFrom n es

@@ -14,18 +14,18 @@ use Rattle.sto_type.specs.Known.{Parts, Known, IsPartOf}
 use Rattle.sto_type.specs.Plans.{Ask, Say, IsPlan}
 use Rattle.sto_type.specs.Reading.{Reading, Read, Say as Nothing, need_of, items_of, updates_at, IsRead, when_known}
 use Rattle.sto_type.specs.Readings.{ReadsWithin, read_is_known}
-use Rattle.sto_tree_spec.specs.Layout.{directory, keys, key, key_part, value_part, parts_of, is_live, is_present, covers, place_of, tree_rows}
-use Rattle.sto_tree_spec.specs.Valid.{IsTree}
-use Rattle.sto_tree_spec.specs.Meaning.{tree_meaning, reading}
-use Rattle.sto_tree_spec.specs.Between.{meets, leaves_between, from_in, to_in, key_rows, value_part_of, values_between, leaf_values, between_each, between_reading}
-use Rattle.sto_tree_spec.specs.BetweenLaw.{none_between, key_row_there, reads_keys, reads_values, within, between_true, between_false, between_updates}
-use Rattle.sto_tree_spec.specs.LeavesBetween.{lies_in_part, listed_meets, meets_listed}
-use Rattle.sto_tree_spec.specs.Lookup.{place_is}
-use Rattle.sto_tree_spec.specs.Members.{IsIn, key_in}
-use Rattle.sto_tree_spec.specs.Observing.{a_call}
-use Rattle.sto_tree_spec.specs.RowsBetween.{lies, value_at-between}
-use Rattle.sto_tree_spec.specs.Sized.{tree_length}
-use Rattle.sto_tree_spec.specs.Tests.{and_true, true_equal}
+use Rattle.sto_tree.specs.Layout.{directory, keys, key, key_part, value_part, parts_of, is_live, is_present, covers, place_of, tree_rows}
+use Rattle.sto_tree.specs.Valid.{IsTree}
+use Rattle.sto_tree.specs.Meaning.{tree_meaning, reading}
+use Rattle.sto_tree.specs.Between.{meets, leaves_between, from_in, to_in, key_rows, value_part_of, values_between, leaf_values, between_each, between_reading}
+use Rattle.sto_tree.specs.BetweenLaw.{none_between, key_row_there, reads_keys, reads_values, within, between_true, between_false, between_updates}
+use Rattle.sto_tree.specs.LeavesBetween.{lies_in_part, listed_meets, meets_listed}
+use Rattle.sto_tree.specs.Lookup.{place_is}
+use Rattle.sto_tree.specs.Members.{IsIn, key_in}
+use Rattle.sto_tree.specs.Observing.{a_call}
+use Rattle.sto_tree.specs.RowsBetween.{lies, value_at-between}
+use Rattle.sto_tree.specs.Sized.{tree_length}
+use Rattle.sto_tree.specs.Tests.{and_true, true_equal}
 use Rattle.sto_tree.specs.KnownRows.{known_rows}
 use Rattle.sto_tree.specs.KnownCount.{known_told}
 use Rattle.sto_tree.specs.Walked.{IsSaid, told_of}

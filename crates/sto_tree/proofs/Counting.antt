@@ -4,13 +4,13 @@ use Rattle.sto_model.specs.Rows.{Row, rows_between}
 use Rattle.sto_model.specs.Told.{Value}
 use Rattle.sto_model.proofs.RowFacts.{by_test}
 use Rattle.sto_type.specs.Known.{Parts, Known, IsPartOf}
-use Rattle.sto_tree_spec.specs.Slots.{Slots, held, count_held, AreApart}
-use Rattle.sto_tree_spec.specs.SlotFacts.{length-gathered}
-use Rattle.sto_tree_spec.specs.Layout.{key, key_part, value_part, is_present, slot_of, tree_slot}
-use Rattle.sto_tree_spec.specs.Valid.{IsTree}
-use Rattle.sto_tree_spec.specs.Between.{meets}
-use Rattle.sto_tree_spec.specs.Lookup.{tree_apart}
-use Rattle.sto_tree_spec.specs.RowsBetween.{lies, bare}
+use Rattle.sto_tree.specs.Slots.{Slots, held, count_held, AreApart}
+use Rattle.sto_tree.specs.SlotFacts.{length-gathered}
+use Rattle.sto_tree.specs.Layout.{key, key_part, value_part, is_present, slot_of, tree_slot}
+use Rattle.sto_tree.specs.Valid.{IsTree}
+use Rattle.sto_tree.specs.Between.{meets}
+use Rattle.sto_tree.specs.Lookup.{tree_apart}
+use Rattle.sto_tree.specs.RowsBetween.{lies, bare}
 use Rattle.sto_tree.specs.KnownRows.{known_slot, known_place, known_value, known_rows}
 use Rattle.sto_tree.specs.KnownCount.{is_counted, counted_keys, counted_part, counted_leaf, known_count, known_told}
 use Rattle.sto_tree.specs.Walked.{told_of}

@@ -10,12 +10,12 @@ use Rattle.sto_model.specs.Told.{Value, Absent}
 use Rattle.sto_type.specs.Known.{Known}
 use Rattle.sto_type.specs.Plans.{Ask, Say, IsPlan}
 use Rattle.sto_type.specs.Reading.{Reading, need_of, items_of, updates_at, when_known}
-use Rattle.sto_tree_spec.specs.Layout.{key_part, value_part, place_of, word}
-use Rattle.sto_tree_spec.specs.Said.{cover, here}
-use Rattle.sto_tree_spec.specs.Get.{get_there}
+use Rattle.sto_tree.specs.Layout.{key_part, value_part, place_of, word}
+use Rattle.sto_tree.specs.Said.{cover, here}
+use Rattle.sto_tree.specs.Get.{get_there}
 use Rattle.sto_tree.specs.Found.{IsAtLeaf, NeedsFirst}
-use Rattle.sto_tree_spec.specs.Meaning.{tree_meaning}
-use Rattle.sto_tree_spec.specs.Observing.{a_call, value_found, value_absent}
+use Rattle.sto_tree.specs.Meaning.{tree_meaning}
+use Rattle.sto_tree.specs.Observing.{a_call, value_found, value_absent}
 use Rattle.sto_tree.proofs.Parts.{known_part}
 use Rattle.sto_tree.proofs.Leaves.{leaf_in, leaf_says, leaf_asks, plan_as, place_below}
 

@@ -7,13 +7,13 @@ use Rattle.sto_model.specs.Told.{Value, Pairs}
 use Rattle.sto_model.proofs.RowFacts.{by_test, with_row-below, with_row-same, with_row-above}
 use Rattle.sto_part.specs.Parts.{part_of}
 use Rattle.sto_type.specs.Known.{Parts, Known, IsPartOf}
-use Rattle.sto_tree_spec.specs.Slots.{Slots, gathered, with_slot}
-use Rattle.sto_tree_spec.specs.SlotFacts.{gathered_same}
-use Rattle.sto_tree_spec.specs.Layout.{directory, keys, value, key, key_part, value_part, is_live, is_present, word, slot_of, tree_slot, tree_rows}
-use Rattle.sto_tree_spec.specs.Valid.{IsTree}
-use Rattle.sto_tree_spec.specs.Between.{meets}
-use Rattle.sto_tree_spec.specs.RowsBetween.{lies, bare}
-use Rattle.sto_tree_spec.specs.Tests.{both_true}
+use Rattle.sto_tree.specs.Slots.{Slots, gathered, with_slot}
+use Rattle.sto_tree.specs.SlotFacts.{gathered_same}
+use Rattle.sto_tree.specs.Layout.{directory, keys, value, key, key_part, value_part, is_live, is_present, word, slot_of, tree_slot, tree_rows}
+use Rattle.sto_tree.specs.Valid.{IsTree}
+use Rattle.sto_tree.specs.Between.{meets}
+use Rattle.sto_tree.specs.RowsBetween.{lies, bare}
+use Rattle.sto_tree.specs.Tests.{both_true}
 use Rattle.sto_tree.specs.KnownRows.{known_slot, known_place, known_value, known_rows}
 use Rattle.sto_tree.specs.Walked.{told_of}
 use Rattle.sto_tree.proofs.Parts.{known_part}

@@ -2,9 +2,9 @@
 use Rattle.std.proofs.Common.{◌≡◌, ◌<◌, ◌+◌, ◌*◌, ◌/◌, ◌%◌, ℕ, zero, suc, ℤ, true, false, if◌then◌else◌, Option, Some, None, List, ◌∙◌, ap, arith}
 use Rattle.sto_model.specs.Rows.{Row}
 use Rattle.sto_type.specs.Known.{Known}
-use Rattle.sto_tree_spec.specs.Slots.{Slots, with_slot, gathered}
-use Rattle.sto_tree_spec.specs.Layout.{key_part, place_slot}
-use Rattle.sto_tree_spec.specs.Between.{meets}
+use Rattle.sto_tree.specs.Slots.{Slots, with_slot, gathered}
+use Rattle.sto_tree.specs.Layout.{key_part, place_slot}
+use Rattle.sto_tree.specs.Between.{meets}
 use Rattle.sto_tree.specs.KnownRows.{known_place, known_slot, known_values, with_places, with_part}
 
 -- slots that are those of a key part, from one on

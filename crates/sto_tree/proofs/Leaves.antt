@@ -10,15 +10,15 @@ use Rattle.sto_model.specs.Machine.{reply_to}
 use Rattle.sto_type.specs.Known.{Parts, Known, IsPartOf}
 use Rattle.sto_type.specs.Plans.{Plan, Ask, Say, IsPlan}
 use Rattle.sto_type.specs.Reading.{Reading, need_of, items_of, updates_at, when_known}
-use Rattle.sto_tree_spec.specs.Layout.{directory, keys, key_part, value_part, leaf_of, place_of, holds_key, covers}
-use Rattle.sto_tree_spec.specs.Said.{in_leaf, at_leaf}
-use Rattle.sto_tree_spec.specs.Valid.{IsTree}
+use Rattle.sto_tree.specs.Layout.{directory, keys, key_part, value_part, leaf_of, place_of, holds_key, covers}
+use Rattle.sto_tree.specs.Said.{in_leaf, at_leaf}
+use Rattle.sto_tree.specs.Valid.{IsTree}
 use Rattle.sto_tree.specs.Found.{IsAtLeaf, NeedsFirst}
-use Rattle.sto_tree_spec.specs.Meaning.{tree_meaning, reading}
-use Rattle.sto_tree_spec.specs.Searches.{first_some}
-use Rattle.sto_tree_spec.specs.Lookup.{leaf_there}
-use Rattle.sto_tree_spec.specs.Observing.{a_call}
-use Rattle.sto_tree_spec.specs.Sized.{tree_length, key_width, value_width}
+use Rattle.sto_tree.specs.Meaning.{tree_meaning, reading}
+use Rattle.sto_tree.specs.Searches.{first_some}
+use Rattle.sto_tree.specs.Lookup.{leaf_there}
+use Rattle.sto_tree.specs.Observing.{a_call}
+use Rattle.sto_tree.specs.Sized.{tree_length, key_width, value_width}
 use Rattle.sto_tree.proofs.Parts.{known_part, known_width}
 
 -- the leaf of a key is there, and its parts are wide enough

@@ -8,10 +8,10 @@ use Rattle.sto_model.specs.Told.{Value}
 use Rattle.sto_type.specs.Known.{Known}
 use Rattle.sto_type.specs.Plans.{Say, IsPlan}
 use Rattle.sto_type.specs.Reading.{when_known}
-use Rattle.sto_tree_spec.specs.Layout.{word}
-use Rattle.sto_tree_spec.specs.Meaning.{tree_meaning}
-use Rattle.sto_tree_spec.specs.Observing.{a_call}
-use Rattle.sto_tree_spec.specs.LenLaw.{size_is}
+use Rattle.sto_tree.specs.Layout.{word}
+use Rattle.sto_tree.specs.Meaning.{tree_meaning}
+use Rattle.sto_tree.specs.Observing.{a_call}
+use Rattle.sto_tree.specs.LenLaw.{size_is}
 use Rattle.sto_tree.proofs.Parts.{known_part}
 
 pub says_size : (leaves : ℕ) (k : Known) (a b : ℤ) (is : List Item) (ws : List ℤ) → k 0 ≡ Some ws → is ≡ Seen 0 ∷ [] → IsPlan (tree_meaning leaves) (a_call 8 a b) k (Say (Value (word ws 0)) is [])

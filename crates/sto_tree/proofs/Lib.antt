@@ -1,3 +1,4 @@
+mod Worked
 pub mod RisingRows
 pub mod Adding
 pub mod Parts

@@ -11,15 +11,15 @@ use Rattle.sto_model.specs.Told.{Told}
 use Rattle.sto_type.specs.Known.{Parts, Known, IsPartOf}
 use Rattle.sto_type.specs.Plans.{Ask, Say, IsPlan}
 use Rattle.sto_type.specs.Reading.{need_of, items_of, when_known}
-use Rattle.sto_tree_spec.specs.Layout.{directory, keys, key_part, greatest, tree_rows}
-use Rattle.sto_tree_spec.specs.Valid.{IsTree}
-use Rattle.sto_tree_spec.specs.Meaning.{tree_meaning}
-use Rattle.sto_tree_spec.specs.Between.{leaves_between, key_rows}
-use Rattle.sto_tree_spec.specs.LeavesBetween.{listed_meets}
-use Rattle.sto_tree_spec.specs.Members.{IsIn}
-use Rattle.sto_tree_spec.specs.Next.{all_between, next_each}
-use Rattle.sto_tree_spec.specs.NextLaw.{found_first, first_in, next_is, next_updates}
-use Rattle.sto_tree_spec.specs.Tests.{by_option}
+use Rattle.sto_tree.specs.Layout.{directory, keys, key_part, greatest, tree_rows}
+use Rattle.sto_tree.specs.Valid.{IsTree}
+use Rattle.sto_tree.specs.Meaning.{tree_meaning}
+use Rattle.sto_tree.specs.Between.{leaves_between, key_rows}
+use Rattle.sto_tree.specs.LeavesBetween.{listed_meets}
+use Rattle.sto_tree.specs.Members.{IsIn}
+use Rattle.sto_tree.specs.Next.{all_between, next_each}
+use Rattle.sto_tree.specs.NextLaw.{found_first, first_in, next_is, next_updates}
+use Rattle.sto_tree.specs.Tests.{by_option}
 use Rattle.sto_tree.specs.Walked.{next_need, next_found}
 use Rattle.sto_tree.proofs.Parts.{known_part}
 use Rattle.sto_tree.proofs.Leaves.{plan_as}

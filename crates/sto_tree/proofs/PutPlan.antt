@@ -11,14 +11,14 @@ use Rattle.sto_model.specs.Told.{Done, Full}
 use Rattle.sto_type.specs.Known.{Parts, Known, IsPartOf}
 use Rattle.sto_type.specs.Plans.{Ask, Say, IsPlan}
 use Rattle.sto_type.specs.Reading.{Reading, need_of, items_of, updates_at, when_known}
-use Rattle.sto_tree_spec.specs.Layout.{value, size, tree_rows, key_part, place_of, free_place, word}
-use Rattle.sto_tree_spec.specs.Said.{cover, here, value_is, new_row, has_room, is_full}
-use Rattle.sto_tree_spec.specs.Put.{put_there, put_new, put_free, put_crowded, free_leaf}
-use Rattle.sto_tree_spec.specs.Valid.{IsTree}
+use Rattle.sto_tree.specs.Layout.{value, size, tree_rows, key_part, place_of, free_place, word}
+use Rattle.sto_tree.specs.Said.{cover, here, value_is, new_row, has_room, is_full}
+use Rattle.sto_tree.specs.Put.{put_there, put_new, put_free, put_crowded, free_leaf}
+use Rattle.sto_tree.specs.Valid.{IsTree}
 use Rattle.sto_tree.specs.Found.{IsAtLeaf, NeedsFirst}
-use Rattle.sto_tree_spec.specs.Meaning.{tree_meaning}
-use Rattle.sto_tree_spec.specs.Observing.{a_call, value_found, value_absent}
-use Rattle.sto_tree_spec.specs.PutLaw.{put_over, put_more, put_full, full_is}
+use Rattle.sto_tree.specs.Meaning.{tree_meaning}
+use Rattle.sto_tree.specs.Observing.{a_call, value_found, value_absent}
+use Rattle.sto_tree.specs.PutLaw.{put_over, put_more, put_full, full_is}
 use Rattle.sto_tree.proofs.Parts.{known_part}
 use Rattle.sto_tree.proofs.Leaves.{leaf_says, leaf_asks, plan_as}
 

@@ -5,14 +5,14 @@ use Rattle.sto_model.specs.Rows.{Row, IsRising, value_at, with_row, rows_between
 use Rattle.sto_model.proofs.RowFacts.{by_test, same_of, equal_of, IsRising-with_row}
 use Rattle.sto_model.proofs.Maps.{same_maps, value_at-with_row_same, value_at-with_row_other}
 use Rattle.sto_type.specs.Known.{Parts}
-use Rattle.sto_tree_spec.specs.Slots.{Slots, gathered, with_slot}
-use Rattle.sto_tree_spec.specs.SlotFacts.{gathered_rises}
-use Rattle.sto_tree_spec.specs.Layout.{directory, keys, value, key, is_live, is_present, covers, slot_of, tree_slot, tree_rows}
-use Rattle.sto_tree_spec.specs.Valid.{IsShaped}
-use Rattle.sto_tree_spec.specs.Between.{meets}
-use Rattle.sto_tree_spec.specs.Tests.{both_true}
-use Rattle.sto_tree_spec.specs.RowsBetween.{lies, value_at-between, value_at-beyond, IsRising-between, same_between}
-use Rattle.sto_tree_spec.specs.LeavesBetween.{leaf_meets}
+use Rattle.sto_tree.specs.Slots.{Slots, gathered, with_slot}
+use Rattle.sto_tree.specs.SlotFacts.{gathered_rises}
+use Rattle.sto_tree.specs.Layout.{directory, keys, value, key, is_live, is_present, covers, slot_of, tree_slot, tree_rows}
+use Rattle.sto_tree.specs.Valid.{IsShaped}
+use Rattle.sto_tree.specs.Between.{meets}
+use Rattle.sto_tree.specs.Tests.{both_true}
+use Rattle.sto_tree.specs.RowsBetween.{lies, value_at-between, value_at-beyond, IsRising-between, same_between}
+use Rattle.sto_tree.specs.LeavesBetween.{leaf_meets}
 
 -- a row whose key lies from a to b, and no other
 abbrev pub kept : ℤ → ℤ → Option Row → Option Row

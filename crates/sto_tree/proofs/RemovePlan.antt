@@ -9,13 +9,13 @@ use Rattle.sto_model.specs.Told.{Flag}
 use Rattle.sto_type.specs.Known.{Known}
 use Rattle.sto_type.specs.Plans.{Ask, Say, IsPlan}
 use Rattle.sto_type.specs.Reading.{Reading, need_of, items_of, updates_at}
-use Rattle.sto_tree_spec.specs.Layout.{value, tree_rows, key_part, place_of}
-use Rattle.sto_tree_spec.specs.Said.{cover, here, size_grows, key_changes, at_place}
-use Rattle.sto_tree_spec.specs.Remove.{remove_there}
+use Rattle.sto_tree.specs.Layout.{value, tree_rows, key_part, place_of}
+use Rattle.sto_tree.specs.Said.{cover, here, size_grows, key_changes, at_place}
+use Rattle.sto_tree.specs.Remove.{remove_there}
 use Rattle.sto_tree.specs.Found.{IsAtLeaf, NeedsFirst}
-use Rattle.sto_tree_spec.specs.Meaning.{tree_meaning}
-use Rattle.sto_tree_spec.specs.Observing.{a_call, value_found, value_absent}
-use Rattle.sto_tree_spec.specs.RemoveLaw.{removed_none, removed_some}
+use Rattle.sto_tree.specs.Meaning.{tree_meaning}
+use Rattle.sto_tree.specs.Observing.{a_call, value_found, value_absent}
+use Rattle.sto_tree.specs.RemoveLaw.{removed_none, removed_some}
 use Rattle.sto_tree.proofs.Leaves.{leaf_says, plan_as}
 
 module _ (leaves : ℕ) (k : Known) (call : Call) (object : call.object ≡ 0) (code : call.code ≡ 6) where

@@ -15,18 +15,18 @@ use Rattle.sto_model.proofs.RowFacts.{by_test}
 use Rattle.sto_type.specs.Known.{Parts, Known, IsPartOf}
 use Rattle.sto_type.specs.Plans.{Ask, Say, IsPlan}
 use Rattle.sto_type.specs.Reading.{Reading, need_of, items_of, updates_at, read_each, when_known, Say as Said}
-use Rattle.sto_tree_spec.specs.SlotFacts.{gathered_same}
-use Rattle.sto_tree_spec.specs.Layout.{listed, parts_of, directory, keys, key, key_part, value, value_part, word, size, low, high, is_live, is_present, place_of, free_place, slot_of, leaf_of, least, greatest, tree_slot, tree_rows}
-use Rattle.sto_tree_spec.specs.Valid.{IsTree}
-use Rattle.sto_tree_spec.specs.Said.{has_room}
-use Rattle.sto_tree_spec.specs.Put.{free_leaf}
-use Rattle.sto_tree_spec.specs.Between.{all_seen, meets}
-use Rattle.sto_tree_spec.specs.Repack.{present_values_in, present_values, key_parts, leaves_for, ends, repack_items, rows_read, packed_updates}
-use Rattle.sto_tree_spec.specs.RepackLaw.{all_is, all_ordered, all_ends, key_listed, value_listed}
-use Rattle.sto_tree_spec.specs.Members.{IsIn}
-use Rattle.sto_tree_spec.specs.Meaning.{tree_meaning}
-use Rattle.sto_tree_spec.specs.Tests.{and_true, true_le, fits_at}
-use Rattle.sto_tree_spec.specs.Threes.{words_on, words_on_part, updates_read_each}
+use Rattle.sto_tree.specs.SlotFacts.{gathered_same}
+use Rattle.sto_tree.specs.Layout.{listed, parts_of, directory, keys, key, key_part, value, value_part, word, size, low, high, is_live, is_present, place_of, free_place, slot_of, leaf_of, least, greatest, tree_slot, tree_rows}
+use Rattle.sto_tree.specs.Valid.{IsTree}
+use Rattle.sto_tree.specs.Said.{has_room}
+use Rattle.sto_tree.specs.Put.{free_leaf}
+use Rattle.sto_tree.specs.Between.{all_seen, meets}
+use Rattle.sto_tree.specs.Repack.{present_values_in, present_values, key_parts, leaves_for, ends, repack_items, rows_read, packed_updates}
+use Rattle.sto_tree.specs.RepackLaw.{all_is, all_ordered, all_ends, key_listed, value_listed}
+use Rattle.sto_tree.specs.Members.{IsIn}
+use Rattle.sto_tree.specs.Meaning.{tree_meaning}
+use Rattle.sto_tree.specs.Tests.{and_true, true_le, fits_at}
+use Rattle.sto_tree.specs.Threes.{words_on, words_on_part, updates_read_each}
 use Rattle.sto_tree.specs.Found.{IsAtLeaf, IsCrowded}
 use Rattle.sto_tree.specs.KnownRows.{known_slot, known_place, known_value, known_rows}
 use Rattle.sto_tree.specs.Walked.{first_unknown, known_words}

@@ -16,20 +16,20 @@ use Rattle.sto_model.proofs.RowFacts.{by_test}
 use Rattle.sto_type.specs.Known.{Parts, Known, IsPartOf}
 use Rattle.sto_type.specs.Plans.{Ask, Say, IsPlan}
 use Rattle.sto_type.specs.Reading.{Reading, updates_at, read_each, Say as Said}
-use Rattle.sto_tree_spec.specs.Search.{first_below}
-use Rattle.sto_tree_spec.specs.Slots.{gathered}
-use Rattle.sto_tree_spec.specs.SlotFacts.{gathered_same}
-use Rattle.sto_tree_spec.specs.Layout.{parts_of, directory, keys, key, value_part, word, size, is_present, place_of, free_place, place_slot, slot_of, leaf_of}
-use Rattle.sto_tree_spec.specs.Valid.{IsTree}
-use Rattle.sto_tree_spec.specs.Said.{new_row}
-use Rattle.sto_tree_spec.specs.Put.{free_leaf}
-use Rattle.sto_tree_spec.specs.Repack.{rows_of_leaf}
-use Rattle.sto_tree_spec.specs.Split.{middle, moves, moved_values, upper_rows, move_updates, split_place, split_items, split_updates}
-use Rattle.sto_tree_spec.specs.SplitMove.{IsCrowded as IsFullLeaf, moved_listed, l_below_m, eight, down_fits, move_widths}
-use Rattle.sto_tree_spec.specs.SplitLaw.{w, move_ordered, more_widths, target}
-use Rattle.sto_tree_spec.specs.Members.{IsIn}
-use Rattle.sto_tree_spec.specs.Meaning.{tree_meaning}
-use Rattle.sto_tree_spec.specs.Threes.{words_on, words_on_part, updates_read_each}
+use Rattle.sto_tree.specs.Search.{first_below}
+use Rattle.sto_tree.specs.Slots.{gathered}
+use Rattle.sto_tree.specs.SlotFacts.{gathered_same}
+use Rattle.sto_tree.specs.Layout.{parts_of, directory, keys, key, value_part, word, size, is_present, place_of, free_place, place_slot, slot_of, leaf_of}
+use Rattle.sto_tree.specs.Valid.{IsTree}
+use Rattle.sto_tree.specs.Said.{new_row}
+use Rattle.sto_tree.specs.Put.{free_leaf}
+use Rattle.sto_tree.specs.Repack.{rows_of_leaf}
+use Rattle.sto_tree.specs.Split.{middle, moves, moved_values, upper_rows, move_updates, split_place, split_items, split_updates}
+use Rattle.sto_tree.specs.SplitMove.{IsCrowded as IsFullLeaf, moved_listed, l_below_m, eight, down_fits, move_widths}
+use Rattle.sto_tree.specs.SplitLaw.{w, move_ordered, more_widths, target}
+use Rattle.sto_tree.specs.Members.{IsIn}
+use Rattle.sto_tree.specs.Meaning.{tree_meaning}
+use Rattle.sto_tree.specs.Threes.{words_on, words_on_part, updates_read_each}
 use Rattle.sto_tree.specs.Found.{IsAtLeaf, IsCrowded}
 use Rattle.sto_tree.specs.KnownRows.{known_value}
 use Rattle.sto_tree.specs.Walked.{first_unknown, moved_value}

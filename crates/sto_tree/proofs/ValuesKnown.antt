@@ -5,11 +5,11 @@ use Rattle.std.specs.Ordering.{int_eq}
 use Rattle.sto_model.specs.Rows.{Row, rows_between}
 use Rattle.sto_type.specs.Known.{Known}
 use Rattle.sto_type.specs.Reading.{when_known}
-use Rattle.sto_tree_spec.specs.Layout.{key_part, value_part, is_present, key, holds_key, place_of, place_slot}
-use Rattle.sto_tree_spec.specs.Tests.{both_true, and_true, true_equal, slot_some}
-use Rattle.sto_tree_spec.specs.Searches.{first_some, first_found}
-use Rattle.sto_tree_spec.specs.Members.{AllRows, all_gathered}
-use Rattle.sto_tree_spec.specs.Between.{key_rows, value_part_of, values_between, leaf_values}
+use Rattle.sto_tree.specs.Layout.{key_part, value_part, is_present, key, holds_key, place_of, place_slot}
+use Rattle.sto_tree.specs.Tests.{both_true, and_true, true_equal, slot_some}
+use Rattle.sto_tree.specs.Searches.{first_some, first_found}
+use Rattle.sto_tree.specs.Members.{AllRows, all_gathered}
+use Rattle.sto_tree.specs.Between.{key_rows, value_part_of, values_between, leaf_values}
 use Rattle.sto_tree.specs.Walked.{first_unknown, leaf_need, AreValuesKnown}
 use Rattle.sto_tree.proofs.Walks.{unknown_past}
 

@@ -4,16 +4,16 @@ use Rattle.std.specs.Prelude.{if◌then◌else◌}
 use Rattle.sto_item.specs.declared.item.Item.{Item}
 use Rattle.sto_model.specs.Rows.{least_from}
 use Rattle.sto_type.specs.Known.{Parts, Known}
-use Rattle.sto_tree_spec.specs.Slots.{gathered}
-use Rattle.sto_tree_spec.specs.Tests.{by_option, slot_some}
+use Rattle.sto_tree.specs.Slots.{gathered}
+use Rattle.sto_tree.specs.Tests.{by_option, slot_some}
 use Rattle.sto_type.specs.Reading.{Reading, need_of, items_of, read_all, read_each, when_known}
-use Rattle.sto_tree_spec.specs.Layout.{key_part, low, greatest}
-use Rattle.sto_tree_spec.specs.Members.{IsIn, AllRows, all_gathered}
-use Rattle.sto_tree_spec.specs.Threes.{words_on}
+use Rattle.sto_tree.specs.Layout.{key_part, low, greatest}
+use Rattle.sto_tree.specs.Members.{IsIn, AllRows, all_gathered}
+use Rattle.sto_tree.specs.Threes.{words_on}
 use Rattle.sto_part.specs.Parts.{part_of}
-use Rattle.sto_tree_spec.specs.Between.{key_rows, leaf_slots, leaf_values, leaf_items, between_each, meets}
-use Rattle.sto_tree_spec.specs.Next.{all_between, next_in, next_each}
-use Rattle.sto_tree_spec.specs.NextLaw.{found_first}
+use Rattle.sto_tree.specs.Between.{key_rows, leaf_slots, leaf_values, leaf_items, between_each, meets}
+use Rattle.sto_tree.specs.Next.{all_between, next_in, next_each}
+use Rattle.sto_tree.specs.NextLaw.{found_first}
 use Rattle.sto_tree.specs.Walked.{first_unknown, leaf_need, leaf_observed, needed_after, next_need, next_found, IsNumbered}
 
 -- rows that stand for leaves

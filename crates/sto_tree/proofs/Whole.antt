@@ -5,9 +5,9 @@ use Rattle.sto_part.specs.Parts.{part_of, zeros}
 use Rattle.sto_type.specs.Known.{Parts}
 use Rattle.std.specs.Ordering.{int_eq}
 use Rattle.sto_model.specs.Rows.{Row}
-use Rattle.sto_tree_spec.specs.Tests.{true_equal}
-use Rattle.sto_tree_spec.specs.Layout.{listed, parts_of, width_of, word, slot_of}
-use Rattle.sto_tree_spec.specs.Sized.{HasTreeWidths, length-listed, tree_length, tree_width}
+use Rattle.sto_tree.specs.Tests.{true_equal}
+use Rattle.sto_tree.specs.Layout.{listed, parts_of, width_of, word, slot_of}
+use Rattle.sto_tree.specs.Sized.{HasTreeWidths, length-listed, tree_length, tree_width}
 
 -- one part more
 pub zeros_more : (f : ℕ → ℕ) (i n : ℕ) → zeros (listed f i (suc n)) ≡ zeros (listed f i n) ++ replicate (f (i + n)) (pos 0) ∷ []

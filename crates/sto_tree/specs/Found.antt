@@ -2,8 +2,8 @@
 use Rattle.std.specs.Prelude.{◌≡◌, ◌*◌, ℕ, ℤ, pos, int_le, false, Some, None, List}
 use Rattle.sto_type.specs.Known.{Known}
 use Rattle.sto_type.specs.Reading.{Reading, need_of}
-use Rattle.sto_tree_spec.specs.Layout.{key_part, leaf_of, place_of, free_place, word}
-use Rattle.sto_tree_spec.specs.Said.{at_leaf}
+use Rattle.sto_tree.specs.Layout.{key_part, leaf_of, place_of, free_place, word}
+use Rattle.sto_tree.specs.Said.{at_leaf}
 
 -- the directory is known, leaf l has the key, and its key part is known
 pub record IsAtLeaf (leaves : ℕ) (k : Known) (key : ℤ) (dir : List ℤ) (l : ℕ) (ks : List ℤ) : Type 0 where

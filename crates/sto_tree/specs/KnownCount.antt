@@ -3,9 +3,9 @@ use Rattle.std.specs.Prelude.{◌+◌, ℕ, zero, suc, ℤ, pos, Bool, true, fal
 use Rattle.sto_model.specs.Rows.{rows_between}
 use Rattle.sto_model.specs.Told.{Told, Value, Pairs}
 use Rattle.sto_type.specs.Known.{Known}
-use Rattle.sto_tree_spec.specs.Layout.{key_part, is_present, key}
-use Rattle.sto_tree_spec.specs.Between.{meets}
-use Rattle.sto_tree_spec.specs.RowsBetween.{lies}
+use Rattle.sto_tree.specs.Layout.{key_part, is_present, key}
+use Rattle.sto_tree.specs.Between.{meets}
+use Rattle.sto_tree.specs.RowsBetween.{lies}
 use Rattle.sto_tree.specs.KnownRows.{known_rows}
 
 -- whether place i of a key part is present with a key from a to b

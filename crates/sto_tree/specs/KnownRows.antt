@@ -2,9 +2,9 @@
 use Rattle.std.specs.Prelude.{◌/◌, ◌%◌, ◌*◌, ℕ, zero, suc, ℤ, pos, Option, Some, None, List, if◌then◌else◌}
 use Rattle.sto_model.specs.Rows.{Row}
 use Rattle.sto_type.specs.Known.{Known}
-use Rattle.sto_tree_spec.specs.Slots.{Slots, with_slot, gathered}
-use Rattle.sto_tree_spec.specs.Layout.{key_part, value_part, is_present, key, word, slot_of, place_slot}
-use Rattle.sto_tree_spec.specs.Between.{meets}
+use Rattle.sto_tree.specs.Slots.{Slots, with_slot, gathered}
+use Rattle.sto_tree.specs.Layout.{key_part, value_part, is_present, key, word, slot_of, place_slot}
+use Rattle.sto_tree.specs.Between.{meets}
 
 -- a value that is known, else 0
 abbrev pub known_value : Option (List ℤ) → ℤ

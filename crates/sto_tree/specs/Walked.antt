@@ -5,11 +5,11 @@ use Rattle.sto_model.specs.Rows.{Row, least_from}
 use Rattle.sto_model.specs.Told.{Told, Value, Pairs}
 use Rattle.sto_type.specs.Known.{Known}
 use Rattle.sto_type.specs.Reading.{Reading, need_of, items_of, when_known}
-use Rattle.sto_tree_spec.specs.Layout.{key_part, value_part, is_present}
-use Rattle.sto_tree_spec.specs.Split.{moves}
+use Rattle.sto_tree.specs.Layout.{key_part, value_part, is_present}
+use Rattle.sto_tree.specs.Split.{moves}
 use Rattle.sto_tree.specs.KnownRows.{known_value}
-use Rattle.sto_tree_spec.specs.NextLaw.{found_first}
-use Rattle.sto_tree_spec.specs.Between.{key_rows, leaf_values, leaf_items}
+use Rattle.sto_tree.specs.NextLaw.{found_first}
+use Rattle.sto_tree.specs.Between.{key_rows, leaf_values, leaf_items}
 
 -- the first of these parts that is not known
 abbrev pub first_unknown : Known → List ℕ → Option ℕ

@@ -3,9 +3,9 @@ ghost use Rattle.std.specs.Prelude.{◌≡◌, ◌<◌, ◌*◌, ◌^◌, ℤ, L
 ghost use Rattle.sto_model.specs.Told.{told};
 ghost use Rattle.sto_type.specs.Known.{known, IsPartOf};
 ghost use Rattle.sto_type.specs.Plans.{planned, IsPlan};
-ghost use Rattle.sto_tree_spec.specs.Layout.{parts_of};
-ghost use Rattle.sto_tree_spec.specs.Valid.{IsTree};
-ghost use Rattle.sto_tree_spec.specs.Meaning.{tree_meaning, TreeTakes};
+ghost use Rattle.sto_tree.specs.Layout.{parts_of};
+ghost use Rattle.sto_tree.specs.Valid.{IsTree};
+ghost use Rattle.sto_tree.specs.Meaning.{tree_meaning, TreeTakes};
 ghost use Rattle.sto_tree.specs.KnownCount.{known_told};
 ghost use Rattle.sto_tree.specs.Walked.{told_of};
 

@@ -1,9 +1,9 @@
 //! Changes of parts.
 ghost use Rattle.std.specs.Prelude.{◌≡◌, ◌+◌, ◌*◌, ◌^◌, ◌<◌, [], ◌∷◌, ◌++◌, length, IfOk, OnOk};
-ghost use Rattle.sto_tree_spec.specs.Said.{key_changes, at_place as only_at, new_row as the_new_row};
+ghost use Rattle.sto_tree.specs.Said.{key_changes, at_place as only_at, new_row as the_new_row};
 ghost use Rattle.sto_item.specs.Pending.{AreUpdates};
-ghost use Rattle.sto_tree_spec.specs.Layout.{value_part as the_value_part};
-ghost use Rattle.sto_tree_spec.specs.Repack.{filled, rows_of_leaf, row_values};
+ghost use Rattle.sto_tree.specs.Layout.{value_part as the_value_part};
+ghost use Rattle.sto_tree.specs.Repack.{filled, rows_of_leaf, row_values};
 
 use crate::said::{key_part, value_part};
 use sto_item::Updates;
@@ -12,7 +12,7 @@ use sto_part::{Change, NoMemory, Update};
 use sto_type::AnswerPool;
 
 /// The changes of a key part of which one place changes: its present word, and its key.
-#[tactic(auto, using(sto_tree_spec::specs::Sized::in_pairs_more))]
+#[tactic(auto, using(crate::specs::Sized::in_pairs_more))]
 pub(crate) fn place_changes(
     pool: &mut AnswerPool,
     place: u32,

@@ -1,8 +1,8 @@
 //! How many keys a range has, as far as they are known.
 ghost use Rattle.std.specs.Prelude.{◌≡◌, ◌*◌, ◌+◌, ◌^◌, ◌<◌, ◌≤◌, ℤ, List, length};
 ghost use Rattle.sto_type.specs.Known.{known, IsPartOf};
-ghost use Rattle.sto_tree_spec.specs.Layout.{parts_of};
-ghost use Rattle.sto_tree_spec.specs.Valid.{IsTree};
+ghost use Rattle.sto_tree.specs.Layout.{parts_of};
+ghost use Rattle.sto_tree.specs.Valid.{IsTree};
 ghost use Rattle.sto_tree.specs.KnownCount.{is_counted as is_counted_at, counted_keys, counted_leaf, known_count as the_known_count};
 
 use crate::listing::{key_at, meets};

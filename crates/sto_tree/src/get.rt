@@ -2,9 +2,9 @@
 ghost use Rattle.std.specs.Prelude.{◌≡◌, ◌<◌, ◌^◌, ℤ, List, length, IfOk};
 ghost use Rattle.sto_type.specs.Known.{known, IsPartOf};
 ghost use Rattle.sto_type.specs.Plans.{planned, IsPlan};
-ghost use Rattle.sto_tree_spec.specs.Layout.{parts_of, word};
-ghost use Rattle.sto_tree_spec.specs.Valid.{IsTree};
-ghost use Rattle.sto_tree_spec.specs.Meaning.{tree_meaning, TreeTakes};
+ghost use Rattle.sto_tree.specs.Layout.{parts_of, word};
+ghost use Rattle.sto_tree.specs.Valid.{IsTree};
+ghost use Rattle.sto_tree.specs.Meaning.{tree_meaning, TreeTakes};
 
 use crate::leaf::find_leaf;
 use crate::said::{leaf_items, value_items, value_part};

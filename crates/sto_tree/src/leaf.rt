@@ -1,8 +1,8 @@
 //! The leaf of a key, in what is known.
 ghost use Rattle.std.specs.Prelude.{◌≡◌, ◌<◌, ◌*◌, ◌^◌, ℤ, List, length, IfOk, IfErr};
 ghost use Rattle.sto_type.specs.Known.{known, IsPartOf};
-ghost use Rattle.sto_tree_spec.specs.Layout.{parts_of};
-ghost use Rattle.sto_tree_spec.specs.Valid.{IsTree};
+ghost use Rattle.sto_tree.specs.Layout.{parts_of};
+ghost use Rattle.sto_tree.specs.Valid.{IsTree};
 ghost use Rattle.sto_tree.specs.Found.{IsAtLeaf, NeedsFirst};
 
 use crate::said::key_part;

@@ -1,7 +1,7 @@
 //! The plan of a len.
 ghost use Rattle.std.specs.Prelude.{◌≡◌, ℤ, List, IfOk};
-ghost use Rattle.sto_tree_spec.specs.Meaning.{TreeTakes, tree_meaning};
-ghost use Rattle.sto_tree_spec.specs.Valid.{IsTree};
+ghost use Rattle.sto_tree.specs.Meaning.{TreeTakes, tree_meaning};
+ghost use Rattle.sto_tree.specs.Valid.{IsTree};
 ghost use Rattle.sto_type.specs.Known.{IsPartOf, known};
 ghost use Rattle.sto_type.specs.Plans.{IsPlan, planned};
 

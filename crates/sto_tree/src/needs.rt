@@ -2,9 +2,9 @@
 ghost use Rattle.std.specs.Prelude.{◌≡◌, ◌<◌, ◌*◌, ◌+◌, ◌^◌, ℕ, ℤ, true, Some, List as Seq, [], length, slice_index, IfOk, IsTrue};
 ghost use Rattle.sto_type.specs.Known.{known, IsPartOf};
 ghost use Rattle.sto_type.specs.Reading.{need_of};
-ghost use Rattle.sto_tree_spec.specs.Layout.{parts_of, is_present as is_present_at, key_part as the_key_part, value_part as the_value_part};
-ghost use Rattle.sto_tree_spec.specs.Valid.{IsTree};
-ghost use Rattle.sto_tree_spec.specs.Between.{between_each};
+ghost use Rattle.sto_tree.specs.Layout.{parts_of, is_present as is_present_at, key_part as the_key_part, value_part as the_value_part};
+ghost use Rattle.sto_tree.specs.Valid.{IsTree};
+ghost use Rattle.sto_tree.specs.Between.{between_each};
 ghost use Rattle.sto_tree.specs.Walked.{leaf_need, AreValuesKnown};
 
 use crate::listing::{from_in, to_in};

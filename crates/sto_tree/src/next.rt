@@ -2,10 +2,10 @@
 ghost use Rattle.std.specs.Prelude.{◌≡◌, ◌<◌, ◌*◌, ◌^◌, ℕ, ℤ, Some, None, List as Seq, length, slice_index, IfOk, MatchResult};
 ghost use Rattle.sto_type.specs.Known.{known, IsPartOf};
 ghost use Rattle.sto_type.specs.Plans.{planned, IsPlan};
-ghost use Rattle.sto_tree_spec.specs.Layout.{parts_of};
-ghost use Rattle.sto_tree_spec.specs.Valid.{IsTree};
-ghost use Rattle.sto_tree_spec.specs.Next.{all_between as the_all_between};
-ghost use Rattle.sto_tree_spec.specs.Meaning.{tree_meaning, TreeTakes};
+ghost use Rattle.sto_tree.specs.Layout.{parts_of};
+ghost use Rattle.sto_tree.specs.Valid.{IsTree};
+ghost use Rattle.sto_tree.specs.Next.{all_between as the_all_between};
+ghost use Rattle.sto_tree.specs.Meaning.{tree_meaning, TreeTakes};
 ghost use Rattle.sto_tree.specs.Walked.{next_need, next_found};
 
 use crate::listing::{key_rows, listed_leaves};

@@ -3,11 +3,11 @@ ghost use Rattle.std.specs.Prelude.{◌≡◌, ◌<◌, ◌*◌, ◌^◌, ℤ, p
 ghost use Rattle.sto_item.specs.declared.item.Item.TheVariants.{Seen as SeenPart};
 ghost use Rattle.sto_type.specs.Known.{known, IsPartOf};
 ghost use Rattle.sto_type.specs.Plans.{planned, IsPlan};
-ghost use Rattle.sto_tree_spec.specs.Layout.{parts_of, word, key_part as the_key_part};
-ghost use Rattle.sto_tree_spec.specs.Said.{compared, cover as the_cover};
-ghost use Rattle.sto_tree_spec.specs.Valid.{IsTree};
+ghost use Rattle.sto_tree.specs.Layout.{parts_of, word, key_part as the_key_part};
+ghost use Rattle.sto_tree.specs.Said.{compared, cover as the_cover};
+ghost use Rattle.sto_tree.specs.Valid.{IsTree};
 ghost use Rattle.sto_tree.specs.Found.{IsAtLeaf, IsCrowded};
-ghost use Rattle.sto_tree_spec.specs.Meaning.{tree_meaning, TreeTakes};
+ghost use Rattle.sto_tree.specs.Meaning.{tree_meaning, TreeTakes};
 
 use crate::changes::new_row;
 use crate::get::only_word;

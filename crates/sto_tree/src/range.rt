@@ -1,8 +1,8 @@
 //! The rows of a range, as far as they are known.
 ghost use Rattle.std.specs.Prelude.{◌≡◌, ◌*◌, ◌+◌, ◌^◌, ◌<◌, ℤ, List, length, IfOk, OnOk};
 ghost use Rattle.sto_type.specs.Known.{known, IsPartOf};
-ghost use Rattle.sto_tree_spec.specs.Layout.{parts_of, key_part as the_key_part, value_part as the_value_part, place_slot};
-ghost use Rattle.sto_tree_spec.specs.Valid.{IsTree};
+ghost use Rattle.sto_tree.specs.Layout.{parts_of, key_part as the_key_part, value_part as the_value_part, place_slot};
+ghost use Rattle.sto_tree.specs.Valid.{IsTree};
 ghost use Rattle.sto_tree.specs.KnownRows.{known_value, known_values, with_places, with_part, known_rows as the_known_rows};
 
 use crate::get::only_word;

@@ -2,11 +2,11 @@
 ghost use Rattle.std.specs.Prelude.{◌≡◌, ◌<◌, ◌^◌, ℤ, List, IfOk, [], ◌∷◌, pos, negsuc};
 ghost use Rattle.sto_type.specs.Known.{known, IsPartOf};
 ghost use Rattle.sto_type.specs.Plans.{planned, IsPlan};
-ghost use Rattle.sto_tree_spec.specs.Layout.{parts_of, key_part as the_key_part};
-ghost use Rattle.sto_tree_spec.specs.Said.{key_changes, at_place, size_grows, cover as the_cover, here as place_here};
+ghost use Rattle.sto_tree.specs.Layout.{parts_of, key_part as the_key_part};
+ghost use Rattle.sto_tree.specs.Said.{key_changes, at_place, size_grows, cover as the_cover, here as place_here};
 ghost use Rattle.sto_part.specs.declared.change.Change.TheVariants.{Put as PutWord, Keep as KeepWord};
-ghost use Rattle.sto_tree_spec.specs.Valid.{IsTree};
-ghost use Rattle.sto_tree_spec.specs.Meaning.{tree_meaning, TreeTakes};
+ghost use Rattle.sto_tree.specs.Valid.{IsTree};
+ghost use Rattle.sto_tree.specs.Meaning.{tree_meaning, TreeTakes};
 
 use crate::changes::{place_changes, word_change};
 use crate::leaf::find_leaf;

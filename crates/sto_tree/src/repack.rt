@@ -5,12 +5,12 @@ ghost use Rattle.std.specs.Int.RustNames.{FitsSigned};
 ghost use Rattle.sto_item.specs.Pending.{AreUpdates};
 ghost use Rattle.sto_type.specs.Known.{known, IsPartOf};
 ghost use Rattle.sto_type.specs.Plans.{planned, IsPlan};
-ghost use Rattle.sto_tree_spec.specs.Layout.{parts_of, key_part as the_key_part, value_part as the_value_part};
-ghost use Rattle.sto_tree_spec.specs.Valid.{IsTree};
-ghost use Rattle.sto_tree_spec.specs.Put.{free_leaf as the_free_leaf};
-ghost use Rattle.sto_tree_spec.specs.Split.{in_threes};
-ghost use Rattle.sto_tree_spec.specs.Repack.{key_parts as the_key_parts, present_values_in, present_values as the_present_values, leaves_for, begins, ends, packed_ranges, packed_leaves, packed_updates};
-ghost use Rattle.sto_tree_spec.specs.Meaning.{tree_meaning, TreeTakes};
+ghost use Rattle.sto_tree.specs.Layout.{parts_of, key_part as the_key_part, value_part as the_value_part};
+ghost use Rattle.sto_tree.specs.Valid.{IsTree};
+ghost use Rattle.sto_tree.specs.Put.{free_leaf as the_free_leaf};
+ghost use Rattle.sto_tree.specs.Split.{in_threes};
+ghost use Rattle.sto_tree.specs.Repack.{key_parts as the_key_parts, present_values_in, present_values as the_present_values, leaves_for, begins, ends, packed_ranges, packed_leaves, packed_updates};
+ghost use Rattle.sto_tree.specs.Meaning.{tree_meaning, TreeTakes};
 ghost use Rattle.sto_tree.specs.Found.{IsAtLeaf, IsCrowded};
 ghost use Rattle.sto_tree.specs.Walked.{known_words};
 

@@ -1,8 +1,8 @@
 //! What operations observe.
 ghost use Rattle.std.specs.Prelude.{◌≡◌, ◌<◌, ◌≤◌, ◌^◌, ◌*◌, ◌+◌, [], ◌∷◌, length, IfOk};
 ghost use Rattle.sto_item.specs.declared.item.Item.TheVariants.{Seen as SeenPart};
-ghost use Rattle.sto_tree_spec.specs.Layout.{parts_of, key_part as the_key_part, value_part as the_value_part};
-ghost use Rattle.sto_tree_spec.specs.Said.{compared, cover as the_cover, here as at_place};
+ghost use Rattle.sto_tree.specs.Layout.{parts_of, key_part as the_key_part, value_part as the_value_part};
+ghost use Rattle.sto_tree.specs.Said.{compared, cover as the_cover, here as at_place};
 
 use sto_item::{Item, Items};
 use sto_part::{NoMemory, Pred, Test};

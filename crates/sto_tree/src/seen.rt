@@ -1,7 +1,7 @@
 //! Parts that are seen one after the other.
 ghost use Rattle.std.specs.Prelude.{◌≡◌, ◌++◌, ◌∷◌, [], None, IfOk, OnOk};
 ghost use Rattle.sto_type.specs.Known.{known};
-ghost use Rattle.sto_tree_spec.specs.Between.{all_seen};
+ghost use Rattle.sto_tree.specs.Between.{all_seen};
 ghost use Rattle.sto_tree.specs.Walked.{first_unknown};
 
 use sto_item::{Item, Items};

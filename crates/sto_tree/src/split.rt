@@ -9,21 +9,19 @@ ghost use Rattle.sto_item.specs.Agreement.{HasWidths};
 ghost use Rattle.sto_item.specs.Pending.{AreUpdates, with_updates};
 ghost use Rattle.sto_type.specs.Known.{known, IsPartOf};
 ghost use Rattle.sto_type.specs.Plans.{planned, IsPlan};
-ghost use Rattle.sto_tree_spec.specs.Layout.{parts_of, place_slot, high as the_high, key_part as the_key_part, value_part as the_value_part};
-ghost use Rattle.sto_tree_spec.specs.Slots.{gathered};
-ghost use Rattle.sto_tree_spec.specs.Search.{first_below};
-ghost use Rattle.sto_tree_spec.specs.Valid.{IsTree};
-ghost use Rattle.sto_tree_spec.specs.Said.{compared, key_changes, new_row as the_new_row};
-ghost use Rattle.sto_tree_spec.specs.Put.{free_leaf as the_free_leaf};
-ghost use Rattle.sto_tree_spec.specs.Repack.{rows_of_leaf};
-ghost use Rattle.sto_tree_spec.specs.Split.{in_threes, middle as the_middle, moves as moves_at, moved_values, split_ranges, split_place as the_split_place, move_updates as the_move_updates};
-ghost use Rattle.sto_tree_spec.specs.Meaning.{tree_meaning, TreeTakes};
+ghost use Rattle.sto_tree.specs.Layout.{parts_of, place_slot, high as the_high, key_part as the_key_part, value_part as the_value_part};
+ghost use Rattle.sto_tree.specs.Slots.{gathered};
+ghost use Rattle.sto_tree.specs.Search.{first_below};
+ghost use Rattle.sto_tree.specs.Valid.{IsTree};
+ghost use Rattle.sto_tree.specs.Said.{compared, key_changes, new_row as the_new_row};
+ghost use Rattle.sto_tree.specs.Put.{free_leaf as the_free_leaf};
+ghost use Rattle.sto_tree.specs.Repack.{rows_of_leaf};
+ghost use Rattle.sto_tree.specs.Split.{in_threes, middle as the_middle, moves as moves_at, moved_values, split_ranges, split_place as the_split_place, move_updates as the_move_updates};
+ghost use Rattle.sto_tree.specs.Meaning.{tree_meaning, TreeTakes};
 ghost use Rattle.sto_tree.specs.Found.{IsAtLeaf, IsCrowded};
 ghost use Rattle.sto_tree.specs.Walked.{moved_value};
 
-use crate::changes::{
-    filled_changes, place_changes, push_pair, push_three, push_update, push_values, word_change,
-};
+use crate::changes::{filled_changes, place_changes, push_pair, push_three, push_update, push_values, word_change};
 use crate::get::only_word;
 use crate::leaf::Leaf;
 use crate::listing::{key_at, key_rows};
@@ -310,7 +308,7 @@ fn place_after(found: Leaf<'_>, free: u32, middle: i64, key: i64) -> (u32, u32)
 }
 
 // The lowest place that moves.
-#[tactic(auto, using(sto_tree_spec::specs::Searches::first_further, sto_tree_spec::specs::Searches::first_stop))]
+#[tactic(auto, using(crate::specs::Searches::first_further, crate::specs::Searches::first_stop))]
 fn first_moved(keys: &[i64], middle: i64) -> Option<u32>
     requires keys { length keys.now ≡ 16 }
     requires middle { middle ≡ the_middle keys.now }

@@ -1,8 +1,8 @@
 //! The type of a tree.
 ghost use Rattle.std.specs.Prelude.{◌≡◌, ◌<◌, ◌≤◌, ◌^◌, [], ◌∷◌};
-ghost use Rattle.sto_tree_spec.specs.Layout.{parts_of};
-ghost use Rattle.sto_tree_spec.specs.Meaning.{tree_meaning};
-ghost use Rattle.sto_tree_spec.specs.Lawful.{tree_is_lawful};
+ghost use Rattle.sto_tree.specs.Layout.{parts_of};
+ghost use Rattle.sto_tree.specs.Meaning.{tree_meaning};
+ghost use Rattle.sto_tree.specs.Lawful.{tree_is_lawful};
 ghost use Rattle.sto_tree.specs.Named.{IsTreeOf};
 
 use crate::between::plan_between;

@@ -2,10 +2,10 @@
 ghost use Rattle.std.specs.Prelude.{◌≡◌, ◌<◌, ◌*◌, ◌+◌, ◌^◌, ℕ, ℤ, Some, None, List as Seq, [], ◌++◌, length, map, slice_index, IfOk, OnOk, MatchResult};
 ghost use Rattle.sto_type.specs.Known.{known, IsPartOf};
 ghost use Rattle.sto_type.specs.Reading.{need_of, items_of};
-ghost use Rattle.sto_tree_spec.specs.Layout.{parts_of, key_part as the_key_part};
-ghost use Rattle.sto_tree_spec.specs.Valid.{IsTree};
-ghost use Rattle.sto_tree_spec.specs.Next.{leaf_seen};
-ghost use Rattle.sto_tree_spec.specs.Between.{value_part_of, values_between as the_values_between, between_each};
+ghost use Rattle.sto_tree.specs.Layout.{parts_of, key_part as the_key_part};
+ghost use Rattle.sto_tree.specs.Valid.{IsTree};
+ghost use Rattle.sto_tree.specs.Next.{leaf_seen};
+ghost use Rattle.sto_tree.specs.Between.{value_part_of, values_between as the_values_between, between_each};
 ghost use Rattle.sto_tree.specs.Walked.{IsSaid, leaf_need, leaf_observed};
 
 use crate::listing::{from_in, key_rows, to_in};

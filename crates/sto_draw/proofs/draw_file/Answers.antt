@@ -2,7 +2,7 @@ use Rattle.std.proofs.Common.{map, ap, ◌∙◌, subst}
 use Rattle.sto_lang.specs.Views.{file as view}
 use Rattle.sto_journal.specs.Journals.{home_pair, entry}
 use Rattle.sto_picture.specs.Pictures.{picture_of}
-use Rattle.sto_scene.specs.Scenes.{scene_for}
+use Rattle.sto_draw.specs.Scenes.{scene_for}
 use Rattle.sto_run.specs.Logged.{Log, kept}
 use Rattle.sto_run.specs.Traced.{IsTraceOf}
 use Rattle.sto_draw.proofs.draw_file.Goals as goal

@@ -6,7 +6,7 @@ use Rattle.sto_lang.specs.Views.{file as view, script}
 use Rattle.sto_journal.specs.Journals.{home_pair, entry, HaveThreads}
 use Rattle.sto_picture.specs.Pictures.{picture_of}
 use Rattle.sto_picture.specs.Views.{scene_view}
-use Rattle.sto_scene.specs.Scenes.{scene_for}
+use Rattle.sto_draw.specs.Scenes.{scene_for}
 use Rattle.sto_run.specs.Meanings.{updating_by}
 use Rattle.sto_run.specs.Stores.{means}
 use Rattle.sto_run.proofs.Printed.{names_of_sound, lawful_rows, lawful_threads}

@@ -1,14 +1,14 @@
 //! Journals of records that may be any.
 ghost use Rattle.std.specs.Prelude.{◌≡◌, ◌↔◌, IsTrue, length};
 ghost use Rattle.std.specs.List.{All};
-ghost use Rattle.sto_journal_merge.specs.PlainAborts.{IsInRange};
+ghost use Rattle.sto_run.specs.PlainAborts.{IsInRange};
 
 use std::alloc::Global;
 use sto_attempt::Verdict;
 use sto_journal::Journal;
-use sto_journal_merge::merge;
 use sto_model::State;
 use sto_part::NoMemory;
+use sto_run::merge;
 use sto_transaction::Record;
 use sto_type::Home;
 

@@ -1,18 +1,18 @@
 //! A feeder and a worker on a queue of their own.
 ghost use Rattle.std.specs.Prelude.{IfOk};
 ghost use Rattle.std.specs.Arc.{arc_value};
-ghost use Rattle.sto_queue.specs.Passes.{IsPass, known};
-ghost use Rattle.sto_queue.specs.Queues.{EndsWithLast, working};
+ghost use Rattle.sto_run_feed.specs.Passes.{IsPass, known};
+ghost use Rattle.sto_run_feed.specs.Queues.{EndsWithLast, working};
 
 use crate::waking::feeder::{Pace, send_all};
 use crate::waking::seen::Seen;
 use crate::waking::worker::take_all;
+use std::thread;
 use std::alloc::{AllocError, Global};
 use std::sync::{Arc, Wait};
-use std::thread;
 use std::thread::Threads;
 use std::time::Clock;
-use sto_queue::{Job, Jobs, OpenedQueue, open_queue};
+use sto_run_feed::{Job, Jobs, OpenedQueue, open_queue};
 
 /// What was seen of a feeder and a worker.
 #[derive(Drop)]

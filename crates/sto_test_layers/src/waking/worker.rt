@@ -1,10 +1,10 @@
 //! The worker.
-ghost use Rattle.sto_queue.specs.Passes.{IsPass, known};
-ghost use Rattle.sto_queue.specs.Queues.{working};
+ghost use Rattle.sto_run_feed.specs.Passes.{IsPass, known};
+ghost use Rattle.sto_run_feed.specs.Queues.{working};
 
 use crate::waking::seen::Seen;
 use std::sync::Wait;
-use sto_queue::{Job, JobPass, JobQueue};
+use sto_run_feed::{Job, JobPass, JobQueue};
 
 /// Takes jobs until the end mark, and sleeps where there is none.
 pub fn take_all<R: Wait>(rt: &R, queue: &JobQueue, worker: JobPass, seen: &Seen)

@@ -1,8 +1,8 @@
 //! Calls of the checker of reports.
 ghost use Rattle.std.specs.Prelude.{ℕ, List, Option, Some, map, IfOk};
 ghost use Rattle.sto_args.specs.Asked.{checking_of};
-ghost use Rattle.sto_cli_common.specs.Statuses.{EndsWith};
-ghost use Rattle.sto_cli_common.specs.Ends.{Ends};
+ghost use Rattle.sto_console.specs.Statuses.{EndsWith};
+ghost use Rattle.sto_console.specs.Ends.{Ends};
 ghost use Rattle.sto_check_cli.specs.Programs.{program, found_status};
 
 use crate::calls::streams::{Called, Failing, Streams, called_with, owned, streams_for};

@@ -2,8 +2,8 @@
 ghost use Rattle.std.specs.Prelude.{ℕ, List, Option, Some, map, IfOk};
 ghost use Rattle.sto_args.specs.Commands.{command_of};
 ghost use Rattle.sto_args.specs.Asked.{feeding_of};
-ghost use Rattle.sto_cli_common.specs.Statuses.{EndsWith, done_status};
-ghost use Rattle.sto_cli_common.specs.Ends.{Ends};
+ghost use Rattle.sto_console.specs.Statuses.{EndsWith, done_status};
+ghost use Rattle.sto_console.specs.Ends.{Ends};
 ghost use Rattle.sto_cli.specs.Programs.{program};
 ghost use Rattle.sto_feed_cli.specs.Programs.{feed_program};
 

@@ -2,7 +2,7 @@
 ghost use Rattle.std.specs.Prelude.{◌≡◌, drop, string_bytes, map, IfOk};
 
 use std::alloc::Global;
-use sto_io::{MemSink, MemSource};
+use sto_console::{MemSink, MemSource};
 use sto_part::{Bytes, Calls, NoMemory};
 
 // Room for the longest output of a call. One that is longer ends as where the output fails.

@@ -7,10 +7,10 @@ use Rattle.sto_model.specs.Told.{told}
 use Rattle.sto_core.specs.Core.{Core}
 use Rattle.sto_core.specs.declared.view.View.{View}
 use Rattle.sto_plain.specs.Passes.{view_of}
-use Rattle.sto_attempt_facts.specs.Records as plainly
-use Rattle.sto_attempt_facts.specs.Records.{Place, is_abort, wrote_with, times_written}
-use Rattle.sto_attempt_facts.specs.Counted.{times_committed}
-use Rattle.sto_attempt_facts.specs.Added.{IsAdded}
+use Rattle.sto_history.specs.Records as plainly
+use Rattle.sto_history.specs.Records.{Place, is_abort, wrote_with, times_written}
+use Rattle.sto_history.specs.Counted.{times_committed}
+use Rattle.sto_history.specs.Added.{IsAdded}
 use Rattle.sto_transaction.specs.declared.record.Record.{Record}
 use Rattle.sto_transaction.specs.Plain.{plain, verdict}
 use Rattle.sto_transaction.specs.Ran.{HasRun}

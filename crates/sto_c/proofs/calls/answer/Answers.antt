@@ -2,8 +2,8 @@
 use Rattle.std.proofs.Common.{◌<◌, Ok, refl, subst, arith}
 use Rattle.std.specs.Arc.{arc_value}
 use Rattle.sto_model.specs.declared.call.Call.{Call}
-use Rattle.sto_session.specs.Steps as session
-use Rattle.sto_owned.specs.Owned.{Leads}
+use Rattle.sto_interactive.specs.Steps as session
+use Rattle.sto_shared_store.specs.Owned.{Leads}
 use Rattle.sto_c.specs.Content.{objects}
 use Rattle.sto_c.proofs.calls.answer.Goals as goal
 

@@ -1,9 +1,9 @@
 -- The rows of a store that was closed are told of the store that was to be closed, to which its workers came back.
 use Rattle.std.proofs.Common.{subst}
-use Rattle.sto_objects.specs.declared.objects.Objects.{Objects}
-use Rattle.sto_objects.specs.contracts.objects.ObjectsNaming.TheImpl.{ghosts as naming_ghosts}
-use Rattle.sto_owned.specs.declared.store.OwnedStore.{OwnedStore}
-use Rattle.sto_owned.specs.Endings.{HasGathered}
+use Rattle.sto_store.specs.declared.objects.Objects.{Objects}
+use Rattle.sto_store.specs.contracts.objects.ObjectsNaming.TheImpl.{ghosts as naming_ghosts}
+use Rattle.sto_shared_store.specs.declared.owned_store.OwnedStore.{OwnedStore}
+use Rattle.sto_shared_store.specs.Endings.{HasGathered}
 use Rattle.sto_c.specs.Content.{objects}
 use Rattle.sto_c.proofs.opening.close.Goals as goal
 

@@ -1,11 +1,11 @@
 -- All shapes are planned.
 use Rattle.std.proofs.Common.{length, Some, sym, ap, ◌∙◌}
 use Rattle.std.proofs.lemmas.List.{length-map}
-use Rattle.sto_objects.specs.declared.objects.Objects.{Objects}
-use Rattle.sto_objects.specs.contracts.objects.ObjectsNaming.TheImpl.{ghosts as naming_ghosts}
+use Rattle.sto_store.specs.declared.objects.Objects.{Objects}
+use Rattle.sto_store.specs.contracts.objects.ObjectsNaming.TheImpl.{ghosts as naming_ghosts}
 use Rattle.sto_part.specs.Listed.{Listed}
-use Rattle.sto_open.specs.declared.store.Store.{Store}
-use Rattle.sto_open.specs.declared.worker.IdleWorker.{IdleWorker}
+use Rattle.sto_shared_store.specs.declared.store.Store.{Store}
+use Rattle.sto_shared_store.specs.declared.worker.IdleWorker.{IdleWorker}
 use Rattle.sto_c.specs.Content.{objects}
 use Rattle.sto_c.specs.Crossing.{shape_in}
 use Rattle.sto_c.proofs.opening.open.Goals as goal

@@ -4,8 +4,8 @@ use Rattle.std.specs.Prelude.{IfErr}
 use Rattle.std.specs.Result.{IsErrAnd}
 use Rattle.std.proofs.lemmas.Option.{slice_get-get_or}
 use Rattle.sto_model.specs.declared.shape.Shape.{Shape}
-use Rattle.sto_open.specs.declared.unplanned.Unplanned.{Unplanned}
-use Rattle.sto_open.specs.Plans.{AllStand}
+use Rattle.sto_shared_store.specs.declared.unplanned.Unplanned.{Unplanned}
+use Rattle.sto_shared_store.specs.Plans.{AllStand}
 use Rattle.sto_c.specs.declared.crossing.ShapeIn.{ShapeIn}
 use Rattle.sto_c.specs.declared.status.Status.{Status}
 use Rattle.sto_c.specs.declared.status.Status.TheVariants.{BadKind}

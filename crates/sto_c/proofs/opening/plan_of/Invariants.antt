@@ -1,6 +1,6 @@
 -- All that were taken are planned, each behind those before it.
 use Rattle.std.proofs.Common.{◌≡◌, [], map, take, Some}
-use Rattle.sto_open.specs.Plans.{AllStand}
+use Rattle.sto_shared_store.specs.Plans.{AllStand}
 use Rattle.sto_c.specs.Crossing.{shape_in}
 use Rattle.sto_c.proofs.opening.plan_of.Given as goal
 

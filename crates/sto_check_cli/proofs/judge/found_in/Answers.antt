@@ -3,8 +3,8 @@ use Rattle.sto_lang.specs.Views.{file as view}
 use Rattle.sto_lang.proofs.SoundFiles.{readable_sound}
 use Rattle.sto_run.specs.Meanings.{updating_by}
 use Rattle.sto_run.specs.Stores.{means}
-use Rattle.sto_report_lines.proofs.AllTouched.{updates_alone, written_all, lawful_all}
-use Rattle.sto_checker_complete.proofs.Meant.{means_written}
+use Rattle.sto_checker.proofs.AllTouched.{updates_alone, written_all, lawful_all}
+use Rattle.sto_check_cli.proofs.Meant.{means_written}
 use Rattle.sto_check_cli.proofs.Faults.{read_so}
 use Rattle.sto_check_cli.proofs.judge.found_in.Goals as goal
 

@@ -1,9 +1,9 @@
 use Rattle.std.proofs.Common.{◌≡◌, ◌∙◌, ◌⊎◌, ℕ, sym, subst}
-use Rattle.sto_report_lines.specs.declared.found.Found.TheVariants.{Lawful, Not}
+use Rattle.sto_checker.specs.declared.found.Found.TheVariants.{Lawful, Not}
 use Rattle.sto_args.specs.Asked.{checking_in}
-use Rattle.sto_cli_common.specs.Outcomes.{IsDone}
-use Rattle.sto_cli_common.proofs.Endings.{ended, read_so, write_so}
-use Rattle.sto_cli_common.proofs.Causes.{causes}
+use Rattle.sto_console.specs.Outcomes.{IsDone}
+use Rattle.sto_console.proofs.Endings.{ended, read_so, write_so}
+use Rattle.sto_console.proofs.Causes.{causes}
 use Rattle.sto_check_cli.specs.Programs.{program, found_status}
 use Rattle.sto_check_cli.proofs.Endings.{exact, exclusive, few_statuses, by_lawful, by_wrong}
 use Rattle.sto_check_cli.proofs.top.check.Goals as goal

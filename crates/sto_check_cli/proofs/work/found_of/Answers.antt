@@ -1,6 +1,6 @@
 use Rattle.std.proofs.Common.{ℕ, List, refl, subst}
 use Rattle.std.proofs.lemmas.Result.{IfOk-weaker, IfErr-weaker}
-use Rattle.sto_cli_common.specs.Ends.{Made, Unmade}
+use Rattle.sto_console.specs.Ends.{Made, Unmade}
 use Rattle.sto_check_cli.specs.Answers.{IsFoundIn, IsInputRefusal}
 use Rattle.sto_check_cli.specs.Programs.{program, text_of}
 use Rattle.sto_check_cli.proofs.Faults.{small_input, unmade}

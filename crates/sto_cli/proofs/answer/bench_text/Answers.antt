@@ -3,9 +3,9 @@ use Rattle.std.proofs.lemmas.List.{length-map}
 use Rattle.sto_model.specs.Run.{State}
 use Rattle.sto_report_spec.specs.Replay.{Entry}
 use Rattle.sto_journal.specs.Journals.{entry, places}
-use Rattle.sto_summary.specs.Summary.{summary_of, HasTotals}
-use Rattle.sto_summary.proofs.Orders.{order_long}
-use Rattle.sto_summary.proofs.Totals.{four_objects, totals}
+use Rattle.sto_bench.specs.Summary.{summary_of, HasTotals}
+use Rattle.sto_bench.proofs.Orders.{order_long}
+use Rattle.sto_bench.proofs.Totals.{four_objects, totals}
 use Rattle.sto_cli.proofs.answer.bench_text.Goals as goal
 
 pub summary-requires : goal.summary-requires

@@ -1,7 +1,7 @@
 use Rattle.sto_run.specs.Meanings.{updating_by}
 use Rattle.sto_run.specs.Stores.{means}
-use Rattle.sto_lawful_report.specs.Forms.{form_for}
-use Rattle.sto_lawful_report.proofs.Reports.{one_report}
+use Rattle.sto_run.specs.Forms.{form_for}
+use Rattle.sto_run.proofs.Reports.{one_report}
 use Rattle.sto_lang.specs.Views.{file as view}
 use Rattle.sto_lang.proofs.SoundFiles.{readable_sound}
 use Rattle.sto_cli.proofs.answer.step_text.Goals as goal

@@ -1,7 +1,7 @@
 use Rattle.std.specs.Prelude.{None, Option}
 use Rattle.std.proofs.Common.{◌≡◌, ◌≤◌, ℕ, rules, subst, arith, inl, inr}
 use Rattle.sto_lang.specs.Views.{file as view}
-use Rattle.sto_lawful_report.specs.Forms.{form_for}
+use Rattle.sto_run.specs.Forms.{form_for}
 use Rattle.sto_run_schedules.specs.Explored.{HasTooMany}
 use Rattle.sto_run_schedules.proofs.ManySchedules.{many_with_more}
 use Rattle.sto_cli.specs.Explorations.{most_schedules, IsCountAt}

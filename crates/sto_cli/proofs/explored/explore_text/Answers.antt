@@ -1,6 +1,6 @@
 use Rattle.sto_lang.specs.Views.{file as view}
 use Rattle.sto_lang.proofs.SoundFiles.{readable_sound}
-use Rattle.sto_lawful_report.specs.Forms.{form_for}
+use Rattle.sto_run.specs.Forms.{form_for}
 use Rattle.sto_cli.proofs.Printed.{printed}
 use Rattle.sto_cli.proofs.explored.explore_text.Goals as goal
 

@@ -1,9 +1,9 @@
 use Rattle.sto_args.specs.Commands.{command_in}
-use Rattle.sto_cli_common.specs.Statuses.{done_status}
-use Rattle.sto_cli_common.proofs.Endings.{ended, read_so, write_so}
-use Rattle.sto_cli_common.proofs.Causes.{causes}
+use Rattle.sto_console.specs.Statuses.{done_status}
+use Rattle.sto_console.proofs.Endings.{ended, read_so, write_so}
+use Rattle.sto_console.proofs.Causes.{causes}
 use Rattle.sto_cli.specs.Programs.{program}
-use Rattle.sto_cli_common.proofs.Faultless.{few_statuses}
+use Rattle.sto_console.proofs.Faultless.{few_statuses}
 use Rattle.sto_cli.proofs.Exclusive.{exclusive}
 use Rattle.sto_cli.proofs.top.sto.Goals as goal
 

@@ -2,7 +2,7 @@ use Rattle.std.specs.Prelude.{None}
 use Rattle.std.proofs.Common.{◌≡◌, map}
 use Rattle.std.proofs.lemmas.Result.{IfOk-weaker, IfErr-weaker}
 use Rattle.sto_args.specs.declared.command.Command.TheVariants as commands
-use Rattle.sto_cli_common.specs.declared.refusal.InputFault.TheVariants.{LongRun}
+use Rattle.sto_console.specs.declared.refusal.InputFault.TheVariants.{LongRun}
 use Rattle.sto_lang.specs.Views.{file as view}
 use Rattle.sto_lang.proofs.SoundFiles.{readable_sound}
 use Rattle.sto_journal.specs.Journals.{home_pair}

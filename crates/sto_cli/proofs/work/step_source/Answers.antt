@@ -1,8 +1,8 @@
 use Rattle.std.proofs.Common.{ℕ, List, refl, subst}
 use Rattle.std.proofs.lemmas.Result.{IfOk-weaker, IfErr-weaker}
 use Rattle.sto_args.specs.declared.command.Command.TheVariants as commands
-use Rattle.sto_cli_common.specs.Ends.{Made, Unmade, IsFileRefusal}
-use Rattle.sto_cli_common.proofs.Scripts.{small_file}
+use Rattle.sto_console.specs.Ends.{Made, Unmade, IsFileRefusal}
+use Rattle.sto_console.proofs.Scripts.{small_file}
 use Rattle.sto_cli.specs.Outputs.{IsOutput}
 use Rattle.sto_cli.specs.Programs.{program}
 use Rattle.sto_cli.proofs.Reading.{unmade}

@@ -2,9 +2,9 @@
 use Rattle.std.specs.Int.{w64}
 use Rattle.std.proofs.Common.{rules, ◌≡◌, ℤ, Err, Result, to_z, of_z, sym, subst}
 use Rattle.std.proofs.lemmas.Int.{to_z-of_z}
-use Rattle.sto_code.specs.Progs.{Gives, Runs, Leaves, Follows, chain}
-use Rattle.sto_code.specs.declared.tx.Stop.{Stop}
-use Rattle.sto_code.proofs.Following.{then_follows, stop_follows}
+use Rattle.sto_action.specs.Progs.{Gives, Runs, Leaves, Follows, chain}
+use Rattle.sto_action.specs.declared.tx.Stop.{Stop}
+use Rattle.sto_action.proofs.Following.{then_follows, stop_follows}
 use Rattle.sto_example_bank.specs.Accounts.{withdraw, deposit, transfer}
 use Rattle.sto_example_bank.proofs.TransferCode.run.Goals as goal
 

@@ -1,7 +1,7 @@
 use Rattle.std.proofs.Common.{◌∙◌, ap, map}
 use Rattle.sto_lang.specs.Views.{file as view}
 use Rattle.sto_lang.proofs.SoundFiles.{readable_sound}
-use Rattle.sto_cli_common.specs.Journals.{abort}
+use Rattle.sto_console.specs.Journals.{abort}
 use Rattle.sto_feed_cli.proofs.answer.feed_text.Goals as goal
 
 pub feed_file-requires-clause-sound : goal.feed_file-requires-clause-sound

@@ -1,8 +1,8 @@
-use Rattle.sto_cli_common.specs.Statuses.{done_status}
-use Rattle.sto_cli_common.proofs.Endings.{ended, read_so, write_so}
-use Rattle.sto_cli_common.proofs.Causes.{causes}
+use Rattle.sto_console.specs.Statuses.{done_status}
+use Rattle.sto_console.proofs.Endings.{ended, read_so, write_so}
+use Rattle.sto_console.proofs.Causes.{causes}
 use Rattle.sto_args.specs.Asked.{feeding_in}
-use Rattle.sto_cli_common.proofs.Faultless.{few_statuses}
+use Rattle.sto_console.proofs.Faultless.{few_statuses}
 use Rattle.sto_feed_cli.specs.Programs.{feed_program}
 use Rattle.sto_feed_cli.proofs.Ways.{exclusive}
 use Rattle.sto_feed_cli.proofs.top.feed.Goals as goal

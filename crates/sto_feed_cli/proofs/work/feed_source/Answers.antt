@@ -1,7 +1,7 @@
 use Rattle.std.proofs.Common.{ℕ, List, subst}
 use Rattle.std.proofs.lemmas.Result.{IfOk-weaker, IfErr-weaker}
-use Rattle.sto_cli_common.specs.Ends.{Made, Unmade, IsFileRefusal}
-use Rattle.sto_cli_common.proofs.Scripts.{small_file}
+use Rattle.sto_console.specs.Ends.{Made, Unmade, IsFileRefusal}
+use Rattle.sto_console.proofs.Scripts.{small_file}
 use Rattle.sto_feed_cli.specs.Programs.{IsFed, feed_program}
 use Rattle.sto_feed_cli.proofs.Ways.{unmade}
 use Rattle.sto_feed_cli.proofs.work.feed_source.Goals as goal

@@ -3,11 +3,11 @@ use Rattle.std.proofs.Common.{Result, ◌-◌, sym, ◌∙◌, subst, arith, tru
 use Rattle.std.specs.Prelude.{Option, Ok, IsSome, IfOk}
 use Rattle.sto_part.specs.declared.NoMemory.{NoMemory}
 use Rattle.sto_once.specs.declared.code.Halt.{Halt}
-use Rattle.sto_atomically.specs.declared.outcome.Done.{Done}
-use Rattle.sto_atomically.specs.declared.outcome.Unrun.{Unrun}
-use Rattle.sto_atomically.specs.Atomic.{HasLed}
-use Rattle.sto_attempt_facts.proofs.Events.{grows_on}
-use Rattle.sto_atomically.proofs.Led.{aborted_more}
+use Rattle.sto_action.specs.declared.outcome.Done.{Done}
+use Rattle.sto_action.specs.declared.outcome.Unrun.{Unrun}
+use Rattle.sto_action.specs.Atomic.{HasLed}
+use Rattle.sto_history.proofs.Events.{grows_on}
+use Rattle.sto_action.proofs.Led.{aborted_more}
 use Rattle.sto_once.specs.Attempts.{Says}
 use Rattle.sto_once.proofs.Led.{led_by}
 use Rattle.sto_once.proofs.atomic.atomically.Goals as goal

@@ -1,7 +1,7 @@
 use Rattle.std.proofs.Common.{◌≡◌, ◌≤◌}
-use Rattle.sto_attempt_facts.specs.Added.{Grows}
+use Rattle.sto_history.specs.Added.{Grows}
 use Rattle.sto_transaction.specs.Resting.{IsAtRest}
-use Rattle.sto_atomically.specs.Atomic.{HaveAborted}
+use Rattle.sto_action.specs.Atomic.{HaveAborted}
 use Rattle.sto_once.proofs.atomic.atomically.Given as goal
 
 abbrev pub invariant-loop-aborted : goal.invariant-loop-aborted

@@ -2,7 +2,7 @@ use Rattle.std.proofs.Common.{◌≡◌, ℕ, List, length, map, sym, ap, ◌∙
 use Rattle.std.proofs.lemmas.List.{length-map}
 use Rattle.sto_lang.specs.Scripts.{File}
 use Rattle.sto_model.specs.declared.state.State.{State}
-use Rattle.sto_attempt_facts.specs.Records as plainly
+use Rattle.sto_history.specs.Records as plainly
 use Rattle.sto_type.specs.Meaning.{Meaning}
 use Rattle.sto_type.specs.declared.answer.Home.{Home}
 use Rattle.sto_plain.specs.Passes.{view_of}

@@ -1,11 +1,11 @@
 use Rattle.std.proofs.Common.{ap, sym, subst}
 use Rattle.std.proofs.lemmas.Result.{IfOk-weaker, IfErr-weaker}
-use Rattle.sto_objects.specs.declared.objects.Objects.{Objects}
+use Rattle.sto_store.specs.declared.objects.Objects.{Objects}
 use Rattle.sto_store.specs.ObjectShapes.{AreOf}
 use Rattle.sto_lang.specs.Objects.{shapes_of}
 use Rattle.sto_lang.specs.Scripts.{File}
 use Rattle.sto_lang.specs.Views.{file as view}
-use Rattle.sto_lawful_report.specs.Forms.{form_for}
+use Rattle.sto_run.specs.Forms.{form_for}
 use Rattle.sto_run_threads.specs.declared.workload.LentFile.{LentFile}
 use Rattle.sto_run.proofs.TracedRuns.{moved}
 use Rattle.sto_run_schedules.specs.Explored.{AreOutcomesOf, HasTooMany}

@@ -3,8 +3,8 @@ use Rattle.std.proofs.lemmas.Result.{err_from_is_err_and}
 use Rattle.sto_lang.specs.Views.{file as view}
 use Rattle.sto_explore.specs.Explored.{AreExplored, AreTooMany, start_of}
 use Rattle.sto_run.specs.Traced.{of_objects}
-use Rattle.sto_run_legs.specs.Telling.{tells_of}
-use Rattle.sto_lawful_report.specs.Forms.{form_for}
+use Rattle.sto_run_schedules.specs.Telling.{tells_of}
+use Rattle.sto_run.specs.Forms.{form_for}
 use Rattle.sto_run_schedules.specs.Leading.{LeadsTo}
 use Rattle.sto_run_schedules.proofs.explored.explore_opened.Goals as goal
 

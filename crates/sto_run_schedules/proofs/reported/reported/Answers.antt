@@ -1,8 +1,8 @@
 use Rattle.std.specs.Prelude.{string_bytes}
 use Rattle.std.proofs.Common.{◌≡◌, ◌∙◌, sym, subst}
 use Rattle.sto_lang.specs.Views.{file as view}
-use Rattle.sto_lawful_report.specs.Forms.{form_for}
-use Rattle.sto_lawful_report.specs.Stepped.{IsReportOf}
+use Rattle.sto_run.specs.Forms.{form_for}
+use Rattle.sto_run.specs.Stepped.{IsReportOf}
 use Rattle.sto_run_schedules.proofs.reported.reported.Goals as goal
 
 pub returns-clause-report : goal.returns-clause-report

@@ -1,8 +1,8 @@
 use Rattle.std.specs.List.{flat_map}
 use Rattle.std.proofs.Common.{rules, ◌≡◌, ℕ, List, ◌++◌, map, length, sym, ap, ◌∙◌, subst, arith}
 use Rattle.sto_transaction.specs.Plain.{plain}
-use Rattle.sto_attempt_facts.specs.Records.{Record, times_written}
-use Rattle.sto_attempt_facts.specs.Counted.{times_committed, aborted_times}
+use Rattle.sto_history.specs.Records.{Record, times_written}
+use Rattle.sto_history.specs.Counted.{times_committed, aborted_times}
 use Rattle.sto_core.specs.Core.{Core}
 use Rattle.sto_core.specs.Opened.{opened_core}
 use Rattle.sto_plain.specs.Passes.{view_of}

@@ -5,8 +5,8 @@ use Rattle.std.proofs.lemmas.List.Elements.{All-append}
 use Rattle.sto_core.specs.declared.view.View.{View}
 use Rattle.sto_run_threads.specs.Accounts.{HasGathered}
 use Rattle.sto_run_threads.proofs.Accounts.{gathered_moved}
-use Rattle.sto_claims.specs.declared.taken.Taken.{Taken}
-use Rattle.sto_claims.specs.declared.numbers.Claimer.{Claimer}
+use Rattle.sto_table.specs.declared.taken.Taken.{Taken}
+use Rattle.sto_table.specs.declared.numbers.Claimer.{Claimer}
 use Rattle.sto_table.specs.declared.shared.Rest.{Rest}
 use Rattle.sto_run_threads.specs.declared.worker.Worker.{Worker}
 use Rattle.sto_run_threads.specs.Teams.{IsReady, IsHired, view_at, IsNew}

@@ -1,7 +1,7 @@
 use Rattle.std.proofs.Common.{rules, ◌≡◌, length, ℕ, sym, ap, ◌∙◌, subst}
 use Rattle.std.proofs.lemmas.List.{length-map}
-use Rattle.sto_attempt_facts.specs.Records.{times_written}
-use Rattle.sto_attempt_facts.specs.Counted.{times_committed}
+use Rattle.sto_history.specs.Records.{times_written}
+use Rattle.sto_history.specs.Counted.{times_committed}
 use Rattle.sto_transaction.specs.Plain.{plain}
 use Rattle.sto_plain.specs.Passes.{view_of}
 use Rattle.std.specs.List.{All}

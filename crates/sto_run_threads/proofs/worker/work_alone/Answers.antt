@@ -1,8 +1,8 @@
 use Rattle.std.proofs.Common.{◌≡◌, length, ℕ, suc, ◌+◌, ◌-◌, ◌*◌, ◌<◌, ◌≤◌, List, [], ◌∷◌, ◌++◌, sym, ap, ◌∙◌, subst, arith, inl}
 use Rattle.atomic_table.specs.declared.shared.Seat.{Seat}
 use Rattle.sto_table.specs.declared.stance.Stance.{Stance}
-use Rattle.sto_claims.specs.declared.taken.Taken.{Taken}
-use Rattle.sto_claims.specs.Taken.{times, past}
+use Rattle.sto_table.specs.declared.taken.Taken.{Taken}
+use Rattle.sto_table.specs.Taken.{times, past}
 use Rattle.sto_run_threads.specs.Counts.{scripts_from, next_after}
 use Rattle.sto_run_threads.specs.Worked.{AreOf, AreDone}
 use Rattle.sto_run_threads.proofs.Joined.{times_append, once_self, above_all, none_has_ended, none_is_fresh, claimed_more}

@@ -1,5 +1,5 @@
 use Rattle.std.proofs.Common.{◌≡◌, [], ◌≤◌, ◌+◌, ◌-◌, ◌*◌, length}
-use Rattle.sto_claims.specs.Taken.{past}
+use Rattle.sto_table.specs.Taken.{past}
 use Rattle.sto_table.specs.Rests.{IsOf}
 use Rattle.sto_run_threads.specs.Accounts.{AddsUp}
 use Rattle.sto_run_threads.specs.Counts.{scripts_from, next_after}

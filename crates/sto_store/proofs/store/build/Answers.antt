@@ -15,8 +15,8 @@ use Rattle.sto_vector.specs.VectoredLaw.{vector_lawful}
 use Rattle.sto_store.specs.Stores.{of_kind, mean_of, means, AreKinds, AreWide}
 use Rattle.sto_store.specs.StoresLaw.{means_is, takes_all}
 use Rattle.sto_store.proofs.Built.{sum_kinds, kind_objects, kind_widths, wide_objects, wide_widths, whole_widths, same_parts, means_lawful, kind_lawful}
-use Rattle.sto_objects.specs.declared.objects.Objects.{Objects}
-use Rattle.sto_objects.specs.declared.wide.Wide.{Wide}
+use Rattle.sto_store.specs.declared.objects.Objects.{Objects}
+use Rattle.sto_store.specs.declared.wide.Wide.{Wide}
 use Rattle.sto_store.proofs.store.build.Goals as goal
 
 -- what stands in this type is of these shapes

@@ -6,7 +6,7 @@ use Rattle.std.proofs.lemmas.Int.{to_z-of_z}
 use Rattle.sto_model.specs.declared.call.Call.{Call}
 use Rattle.sto_type.specs.Known.{Known, known}
 use Rattle.sto_type.specs.Reading.{need_of}
-use Rattle.sto_tree_spec.specs.Between.{leaves_between, between_each}
+use Rattle.sto_tree.specs.Between.{leaves_between, between_each}
 use Rattle.sto_tree.specs.Walked.{IsSaid}
 use Rattle.sto_tree.proofs.Leaves.{directory_wide}
 use Rattle.sto_tree.proofs.BetweenPlan.{known_is_told, says_empty, needs_part, says_range}

@@ -1,8 +1,8 @@
 use Rattle.std.proofs.Common.{◌≡◌, ◌+◌, ℕ, [], ◌∷◌, ◌++◌, length, refl, ap, sym, ◌∙◌, arith, length-append}
 use Rattle.sto_part.specs.declared.change.Change.{Change}
-use Rattle.sto_tree_spec.specs.Said.{in_pairs}
-use Rattle.sto_tree_spec.specs.Sized.{in_pairs_more}
-use Rattle.sto_tree_spec.specs.Repack.{filled, rows_of_leaf}
+use Rattle.sto_tree.specs.Said.{in_pairs}
+use Rattle.sto_tree.specs.Sized.{in_pairs_more}
+use Rattle.sto_tree.specs.Repack.{filled, rows_of_leaf}
 use Rattle.sto_tree.proofs.changes.filled_changes.Goals as goal
 
 pub loop-place-preserved : goal.loop-place-preserved

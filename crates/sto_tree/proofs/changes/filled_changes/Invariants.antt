@@ -1,6 +1,6 @@
 use Rattle.std.proofs.Common.{◌≡◌, ◌*◌, length}
-use Rattle.sto_tree_spec.specs.Said.{in_pairs}
-use Rattle.sto_tree_spec.specs.Repack.{filled, rows_of_leaf}
+use Rattle.sto_tree.specs.Said.{in_pairs}
+use Rattle.sto_tree.specs.Repack.{filled, rows_of_leaf}
 use Rattle.sto_tree.proofs.changes.filled_changes.Given as goal
 
 abbrev pub invariant-loop-place : goal.invariant-loop-place

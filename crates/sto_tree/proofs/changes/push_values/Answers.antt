@@ -3,9 +3,9 @@ use Rattle.std.specs.Int.RustNames.{FitsSigned}
 use Rattle.std.proofs.lemmas.Int.{to_z-of_z}
 use Rattle.sto_item.specs.Pending.{Entry, AreUpdates}
 use Rattle.sto_model.specs.Rows.{Row}
-use Rattle.sto_tree_spec.specs.Said.{value_is}
-use Rattle.sto_tree_spec.specs.Repack.{rows_of_leaf, row_values}
-use Rattle.sto_tree_spec.specs.RowLists.{row_at}
+use Rattle.sto_tree.specs.Said.{value_is}
+use Rattle.sto_tree.specs.Repack.{rows_of_leaf, row_values}
+use Rattle.sto_tree.specs.RowLists.{row_at}
 use Rattle.sto_tree.proofs.Adding.{row_there, leaf_row, leaf_has_row, leaf_has_no_row, value_ordered, value_next, values_done, entry_is}
 use Rattle.sto_tree.proofs.changes.push_values.Goals.{then-first-place+in_ok-value+in_ok-push_update, else-first-place}
 use Rattle.sto_tree.proofs.changes.push_values.Goals as goal

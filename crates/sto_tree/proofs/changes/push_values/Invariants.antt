@@ -1,5 +1,5 @@
 use Rattle.std.proofs.Common.{◌≡◌, ◌++◌, take}
-use Rattle.sto_tree_spec.specs.Repack.{row_values, rows_of_leaf}
+use Rattle.sto_tree.specs.Repack.{row_values, rows_of_leaf}
 use Rattle.sto_tree.proofs.changes.push_values.Given as goal
 
 abbrev pub invariant-loop-place : goal.invariant-loop-place

@@ -2,7 +2,7 @@ use Rattle.std.proofs.Common.{◌≡◌, ℕ, ℤ, Some, sym, ap, ◌∙◌, sub
 use Rattle.std.specs.Int.RustNames.{FitsSigned}
 use Rattle.std.proofs.lemmas.Int.{to_z-of_z}
 use Rattle.sto_type.specs.Known.{Known, known}
-use Rattle.sto_tree_spec.specs.Layout.{key_part}
+use Rattle.sto_tree.specs.Layout.{key_part}
 use Rattle.sto_tree.specs.KnownCount.{counted_part}
 use Rattle.sto_tree.proofs.Leaves.{keys_wide}
 use Rattle.sto_tree.proofs.count.count_leaf.Goals as goal

@@ -2,7 +2,7 @@ use Rattle.std.proofs.Common.{◌≡◌, ◌<◌, ℕ, ℤ, Some, sym, ◌∙◌
 use Rattle.std.specs.Int.RustNames.{FitsSigned}
 use Rattle.std.proofs.lemmas.Int.{to_z-of_z}
 use Rattle.sto_type.specs.Known.{known}
-use Rattle.sto_tree_spec.specs.Layout.{value_part}
+use Rattle.sto_tree.specs.Layout.{value_part}
 use Rattle.sto_tree.specs.Found.{NeedsFirst}
 use Rattle.sto_tree.proofs.Leaves.{place_below, value_wide}
 use Rattle.sto_tree.proofs.GetPlan.{get_first, says_absent, says_value}

@@ -6,8 +6,8 @@ use Rattle.sto_model.specs.declared.call.Call.{Call}
 use Rattle.sto_model.specs.Told.{Value}
 use Rattle.sto_type.specs.Known.{Known, known}
 use Rattle.sto_type.specs.Plans.{Say, IsPlan}
-use Rattle.sto_tree_spec.specs.Layout.{word}
-use Rattle.sto_tree_spec.specs.Meaning.{tree_meaning}
+use Rattle.sto_tree.specs.Layout.{word}
+use Rattle.sto_tree.specs.Meaning.{tree_meaning}
 use Rattle.sto_tree.proofs.LenPlan.{says_size, as_len}
 use Rattle.sto_tree.proofs.Leaves.{size_wide}
 use Rattle.sto_tree.proofs.len.plan_len.Goals as goal

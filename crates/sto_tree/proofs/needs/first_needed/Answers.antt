@@ -5,7 +5,7 @@ use Rattle.std.proofs.lemmas.List.{at_drop_more, at_drop_all}
 use Rattle.sto_item.specs.declared.item.Item.{Item}
 use Rattle.sto_type.specs.Known.{Known, known}
 use Rattle.sto_type.specs.Reading.{need_of}
-use Rattle.sto_tree_spec.specs.Between.{between_each}
+use Rattle.sto_tree.specs.Between.{between_each}
 use Rattle.sto_tree.specs.Walked.{leaf_need, leaf_observed}
 use Rattle.sto_tree.proofs.Leaves.{keys_wide}
 use Rattle.sto_tree.proofs.Walks.{leaf_stops, leaf_need_past}

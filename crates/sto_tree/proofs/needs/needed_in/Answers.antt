@@ -1,7 +1,7 @@
 use Rattle.std.proofs.Common.{◌≡◌, ℕ, ℤ, Bool, Some, List, ap, ◌∙◌, subst}
 use Rattle.sto_type.specs.Known.{Known, known}
-use Rattle.sto_tree_spec.specs.Layout.{key_part}
-use Rattle.sto_tree_spec.specs.Between.{from_in, to_in, leaf_values}
+use Rattle.sto_tree.specs.Layout.{key_part}
+use Rattle.sto_tree.specs.Between.{from_in, to_in, leaf_values}
 use Rattle.sto_tree.specs.Walked.{first_unknown, AreValuesKnown}
 use Rattle.sto_tree.proofs.ValuesKnown.{values_known, leaf_known}
 use Rattle.sto_tree.proofs.needs.needed_in.Goals as goal

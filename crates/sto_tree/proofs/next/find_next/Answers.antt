@@ -4,8 +4,8 @@ use Rattle.std.proofs.lemmas.Int.{to_z-of_z}
 use Rattle.std.proofs.lemmas.List.{at_drop_more, at_drop_all}
 use Rattle.sto_model.specs.Rows.{Row, least_from}
 use Rattle.sto_type.specs.Known.{Known, known}
-use Rattle.sto_tree_spec.specs.Layout.{key_part}
-use Rattle.sto_tree_spec.specs.Between.{key_rows}
+use Rattle.sto_tree.specs.Layout.{key_part}
+use Rattle.sto_tree.specs.Between.{key_rows}
 use Rattle.sto_tree.specs.Walked.{next_need, next_found}
 use Rattle.sto_tree.proofs.Leaves.{keys_wide}
 use Rattle.sto_tree.proofs.Walks.{next_stops, next_need_past, next_found_past}

@@ -4,8 +4,8 @@ use Rattle.std.proofs.lemmas.Int.{to_z-of_z}
 use Rattle.sto_model.specs.declared.call.Call.{Call}
 use Rattle.sto_model.specs.Told.{Value, Absent}
 use Rattle.sto_type.specs.Known.{Known, known}
-use Rattle.sto_tree_spec.specs.Layout.{greatest}
-use Rattle.sto_tree_spec.specs.Between.{leaves_between}
+use Rattle.sto_tree.specs.Layout.{greatest}
+use Rattle.sto_tree.specs.Between.{leaves_between}
 use Rattle.sto_tree.specs.Walked.{next_need, next_found}
 use Rattle.sto_tree.proofs.Leaves.{directory_wide}
 use Rattle.sto_tree.proofs.NextPlan.{next_needs, says_next}

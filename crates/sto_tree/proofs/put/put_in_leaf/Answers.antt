@@ -4,8 +4,8 @@ use Rattle.std.proofs.lemmas.Int.{to_z-of_z}
 use Rattle.sto_part.specs.declared.change.Change.TheVariants.{Put}
 use Rattle.sto_item.specs.Pending.{Entry}
 use Rattle.sto_type.specs.Known.{known}
-use Rattle.sto_tree_spec.specs.Layout.{word}
-use Rattle.sto_tree_spec.specs.Said.{value_is}
+use Rattle.sto_tree.specs.Layout.{word}
+use Rattle.sto_tree.specs.Said.{value_is}
 use Rattle.sto_tree.proofs.Leaves.{place_below, size_wide}
 use Rattle.sto_tree.proofs.PutPlan.{says_over, needs_size, says_full, says_new}
 use Rattle.sto_tree.proofs.put.put_in_leaf.Goals as goal

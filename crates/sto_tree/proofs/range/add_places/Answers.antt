@@ -2,8 +2,8 @@ use Rattle.std.proofs.Common.{◌≡◌, ◌+◌, ℕ, suc, ℤ, List, Some, Non
 use Rattle.std.specs.Int.RustNames.{FitsSigned}
 use Rattle.std.proofs.lemmas.Int.{to_z-of_z}
 use Rattle.sto_model.specs.Rows.{Row, with_row}
-use Rattle.sto_tree_spec.specs.Slots.{Slots, with_slot}
-use Rattle.sto_tree_spec.specs.Layout.{place_slot}
+use Rattle.sto_tree.specs.Slots.{Slots, with_slot}
+use Rattle.sto_tree.specs.Layout.{place_slot}
 use Rattle.sto_type.specs.Known.{known}
 use Rattle.sto_tree.specs.KnownRows.{known_values, with_places}
 use Rattle.sto_tree.proofs.range.add_places.Goals.{in-Some+in_ok-put_row, in_default}

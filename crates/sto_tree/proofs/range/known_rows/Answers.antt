@@ -1,8 +1,8 @@
 use Rattle.std.proofs.Common.{◌≡◌, ℕ, ℤ, List, true, false, ap, sym, ◌∙◌, w64, to_z, of_z}
 use Rattle.sto_model.specs.Rows.{Row}
 use Rattle.sto_type.specs.Known.{Known, known}
-use Rattle.sto_tree_spec.specs.Layout.{key_part}
-use Rattle.sto_tree_spec.specs.Between.{meets}
+use Rattle.sto_tree.specs.Layout.{key_part}
+use Rattle.sto_tree.specs.Between.{meets}
 use Rattle.sto_tree.specs.KnownRows.{known_values, with_part}
 use Rattle.sto_tree.proofs.LeafRows.{leaf_met, leaf_apart}
 use Rattle.sto_tree.proofs.range.known_rows.Goals.{then-meets+in_ok-add_leaf, else-meets}

@@ -1,6 +1,6 @@
 use Rattle.std.proofs.Common.{◌≡◌, ◌*◌}
 use Rattle.sto_type.specs.Known.{known}
-use Rattle.sto_tree_spec.specs.Slots.{gathered}
+use Rattle.sto_tree.specs.Slots.{gathered}
 use Rattle.sto_tree.specs.KnownRows.{known_slot}
 use Rattle.sto_tree.proofs.range.known_rows.Given as goal
 

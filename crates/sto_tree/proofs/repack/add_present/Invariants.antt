@@ -1,5 +1,5 @@
 use Rattle.std.proofs.Common.{◌≡◌, ◌++◌}
-use Rattle.sto_tree_spec.specs.Repack.{present_values_in}
+use Rattle.sto_tree.specs.Repack.{present_values_in}
 use Rattle.sto_tree.proofs.repack.add_present.Given as goal
 
 abbrev pub invariant-loop-place : goal.invariant-loop-place

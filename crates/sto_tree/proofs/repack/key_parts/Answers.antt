@@ -1,6 +1,6 @@
 use Rattle.std.proofs.Common.{◌≡◌, ◌+◌, ℕ, [], ◌∷◌, ◌++◌, length, refl, ap, sym, ◌∙◌, arith}
-use Rattle.sto_tree_spec.specs.Layout.{listed, key_part}
-use Rattle.sto_tree_spec.specs.Sized.{length-listed}
+use Rattle.sto_tree.specs.Layout.{listed, key_part}
+use Rattle.sto_tree.specs.Sized.{length-listed}
 use Rattle.sto_tree.proofs.Adding.{listed_more}
 use Rattle.sto_tree.proofs.repack.key_parts.Goals as goal
 

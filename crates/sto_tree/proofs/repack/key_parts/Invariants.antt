@@ -1,5 +1,5 @@
 use Rattle.std.proofs.Common.{◌≡◌}
-use Rattle.sto_tree_spec.specs.Layout.{listed, key_part}
+use Rattle.sto_tree.specs.Layout.{listed, key_part}
 use Rattle.sto_tree.proofs.repack.key_parts.Given as goal
 
 abbrev pub invariant-loop-leaf : goal.invariant-loop-leaf

@@ -1,8 +1,8 @@
 use Rattle.std.proofs.Common.{◌≡◌, ◌+◌, ℕ, [], ◌∷◌, ◌++◌, length, refl, ap, sym, ◌∙◌, arith, length-append}
 use Rattle.sto_part.specs.declared.change.Change.{Change}
-use Rattle.sto_tree_spec.specs.Split.{in_threes}
+use Rattle.sto_tree.specs.Split.{in_threes}
 use Rattle.sto_tree.proofs.Adding.{in_threes_more}
-use Rattle.sto_tree_spec.specs.Repack.{packed_ranges}
+use Rattle.sto_tree.specs.Repack.{packed_ranges}
 use Rattle.sto_tree.proofs.repack.packed_directory.Goals as goal
 
 pub loop-leaf-preserved : goal.loop-leaf-preserved

@@ -1,6 +1,6 @@
 use Rattle.std.proofs.Common.{◌≡◌, ◌*◌, length}
-use Rattle.sto_tree_spec.specs.Split.{in_threes}
-use Rattle.sto_tree_spec.specs.Repack.{packed_ranges}
+use Rattle.sto_tree.specs.Split.{in_threes}
+use Rattle.sto_tree.specs.Repack.{packed_ranges}
 use Rattle.sto_tree.proofs.repack.packed_directory.Given as goal
 
 abbrev pub invariant-loop-leaf : goal.invariant-loop-leaf

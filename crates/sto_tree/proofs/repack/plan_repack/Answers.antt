@@ -7,9 +7,9 @@ use Rattle.sto_item.specs.declared.item.Item.TheVariants.{Seen}
 use Rattle.sto_item.specs.Pending.{AreUpdates}
 use Rattle.sto_model.specs.Rows.{Row, with_row}
 use Rattle.sto_type.specs.Known.{known}
-use Rattle.sto_tree_spec.specs.Said.{compared}
-use Rattle.sto_tree_spec.specs.Between.{all_seen}
-use Rattle.sto_tree_spec.specs.Repack.{key_parts, present_values, leaves_for, ends, packed_updates}
+use Rattle.sto_tree.specs.Said.{compared}
+use Rattle.sto_tree.specs.Between.{all_seen}
+use Rattle.sto_tree.specs.Repack.{key_parts, present_values, leaves_for, ends, packed_updates}
 use Rattle.sto_tree.specs.Walked.{first_unknown, known_words}
 use Rattle.sto_tree.proofs.RepackPlan.{all_rows, asks_keys, asks_values, rows_ordered, rows_end, says_packed}
 use Rattle.sto_tree.proofs.repack.plan_repack.Goals as goal

@@ -2,8 +2,8 @@ use Rattle.std.proofs.Common.{◌≡◌, ◌+◌, ℕ, suc, ℤ, Option, Some, N
 use Rattle.std.proofs.lemmas.List.{append-nil}
 use Rattle.sto_type.specs.Known.{Known, known}
 use Rattle.sto_type.specs.Reading.{when_known}
-use Rattle.sto_tree_spec.specs.Layout.{key_part}
-use Rattle.sto_tree_spec.specs.Repack.{present_values_in, present_values}
+use Rattle.sto_tree.specs.Layout.{key_part}
+use Rattle.sto_tree.specs.Repack.{present_values_in, present_values}
 use Rattle.sto_tree.specs.Walked.{known_words}
 use Rattle.sto_tree.proofs.Leaves.{keys_wide}
 use Rattle.sto_tree.proofs.repack.present_values.Goals.{in-Some+in_ok-add_present, in_default}

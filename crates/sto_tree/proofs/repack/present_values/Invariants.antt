@@ -1,6 +1,6 @@
 use Rattle.std.proofs.Common.{◌≡◌}
 use Rattle.sto_type.specs.Known.{known}
-use Rattle.sto_tree_spec.specs.Repack.{present_values}
+use Rattle.sto_tree.specs.Repack.{present_values}
 use Rattle.sto_tree.specs.Walked.{known_words}
 use Rattle.sto_tree.proofs.repack.present_values.Given as goal
 

@@ -1,7 +1,7 @@
 use Rattle.std.proofs.Common.{◌≡◌, ◌<◌, ℕ, List, [], ◌∷◌, ◌++◌, ap, sym, ◌∙◌, subst, arith, append_assoc}
 use Rattle.sto_item.specs.Pending.{Entry, AreUpdates}
 use Rattle.sto_model.specs.Rows.{Row}
-use Rattle.sto_tree_spec.specs.Repack.{rows_of_leaf, row_values, packed_leaves}
+use Rattle.sto_tree.specs.Repack.{rows_of_leaf, row_values, packed_leaves}
 use Rattle.sto_tree.proofs.Adding.{leaf_keys, leaf_updates, keys_entry, leaves_more, keys_ordered, values_ordered}
 use Rattle.sto_tree.proofs.repack.push_leaves.Goals as goal
 

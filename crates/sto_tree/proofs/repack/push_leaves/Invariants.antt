@@ -1,5 +1,5 @@
 use Rattle.std.proofs.Common.{◌≡◌, ◌++◌}
-use Rattle.sto_tree_spec.specs.Repack.{packed_leaves}
+use Rattle.sto_tree.specs.Repack.{packed_leaves}
 use Rattle.sto_tree.proofs.repack.push_leaves.Given as goal
 
 abbrev pub invariant-loop-leaf : goal.invariant-loop-leaf

@@ -1,5 +1,5 @@
 use Rattle.std.proofs.Common.{◌≡◌, ◌++◌, take}
-use Rattle.sto_tree_spec.specs.Between.{all_seen}
+use Rattle.sto_tree.specs.Between.{all_seen}
 use Rattle.sto_tree.proofs.seen.see_all.Given as goal
 
 abbrev pub invariant-loop-part : goal.invariant-loop-part

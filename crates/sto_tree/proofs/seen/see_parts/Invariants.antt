@@ -1,6 +1,6 @@
 use Rattle.std.proofs.Common.{◌≡◌, ◌++◌, take, drop}
 use Rattle.sto_type.specs.Known.{known}
-use Rattle.sto_tree_spec.specs.Between.{all_seen}
+use Rattle.sto_tree.specs.Between.{all_seen}
 use Rattle.sto_tree.specs.Walked.{first_unknown}
 use Rattle.sto_tree.proofs.seen.see_parts.Given as goal
 

@@ -1,7 +1,7 @@
 use Rattle.std.proofs.Common.{◌≡◌, ℕ, None, sym, ◌∙◌, subst, arith}
-use Rattle.sto_tree_spec.specs.Search.{first_below}
-use Rattle.sto_tree_spec.specs.Searches.{first_stop}
-use Rattle.sto_tree_spec.specs.Split.{moves}
+use Rattle.sto_tree.specs.Search.{first_below}
+use Rattle.sto_tree.specs.Searches.{first_stop}
+use Rattle.sto_tree.specs.Split.{moves}
 use Rattle.sto_tree.proofs.split.first_moved.Goals as goal
 
 pub returns-then-moves : goal.returns-then-moves

@@ -2,9 +2,9 @@ use Rattle.std.proofs.Common.{◌≡◌, ◌+◌, ℕ, pos, Bool, [], ◌∷◌,
 use Rattle.std.specs.Prelude.{if◌then◌else◌}
 use Rattle.sto_part.specs.declared.change.Change.{Change}
 use Rattle.sto_part.specs.declared.change.Change.TheVariants.{Put, Keep}
-use Rattle.sto_tree_spec.specs.Said.{in_pairs}
-use Rattle.sto_tree_spec.specs.Sized.{in_pairs_more}
-use Rattle.sto_tree_spec.specs.Split.{moves}
+use Rattle.sto_tree.specs.Said.{in_pairs}
+use Rattle.sto_tree.specs.Sized.{in_pairs_more}
+use Rattle.sto_tree.specs.Split.{moves}
 use Rattle.sto_tree.proofs.split.lower_changes.Goals as goal
 
 pub loop-place-preserved : goal.loop-place-preserved

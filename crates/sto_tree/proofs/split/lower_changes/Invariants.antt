@@ -1,8 +1,8 @@
 use Rattle.std.proofs.Common.{◌≡◌, ◌*◌, length, pos}
 use Rattle.std.specs.Prelude.{if◌then◌else◌}
 use Rattle.sto_part.specs.declared.change.Change.TheVariants.{Keep, Put}
-use Rattle.sto_tree_spec.specs.Said.{in_pairs}
-use Rattle.sto_tree_spec.specs.Split.{moves}
+use Rattle.sto_tree.specs.Said.{in_pairs}
+use Rattle.sto_tree.specs.Split.{moves}
 use Rattle.sto_tree.proofs.split.lower_changes.Given as goal
 
 abbrev pub invariant-loop-place : goal.invariant-loop-place

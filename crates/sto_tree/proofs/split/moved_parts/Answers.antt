@@ -1,8 +1,8 @@
 use Rattle.std.proofs.Common.{◌≡◌, ◌+◌, ℕ, suc, Bool, true, false, List, [], ◌∷◌, ◌++◌, length, ap, sym, ◌∙◌, subst, arith, length-append}
 use Rattle.std.specs.Prelude.{if◌then◌else◌}
 use Rattle.std.proofs.lemmas.List.{append-nil}
-use Rattle.sto_tree_spec.specs.Layout.{value_part}
-use Rattle.sto_tree_spec.specs.Split.{moves, moved_values}
+use Rattle.sto_tree.specs.Layout.{value_part}
+use Rattle.sto_tree.specs.Split.{moves, moved_values}
 use Rattle.sto_tree.proofs.split.moved_parts.Goals.{then-moves+in_ok-push, else-moves}
 use Rattle.sto_tree.proofs.split.moved_parts.Goals as goal
 

@@ -1,5 +1,5 @@
 use Rattle.std.proofs.Common.{◌≡◌, ◌≤◌, length}
-use Rattle.sto_tree_spec.specs.Split.{moved_values}
+use Rattle.sto_tree.specs.Split.{moved_values}
 use Rattle.sto_tree.proofs.split.moved_parts.Given as goal
 
 abbrev pub invariant-loop-place : goal.invariant-loop-place

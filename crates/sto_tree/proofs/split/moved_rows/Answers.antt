@@ -3,8 +3,8 @@ use Rattle.std.specs.Int.RustNames.{FitsSigned}
 use Rattle.std.proofs.lemmas.Int.{to_z-of_z}
 use Rattle.sto_model.specs.Rows.{Row, with_row}
 use Rattle.sto_type.specs.Known.{known}
-use Rattle.sto_tree_spec.specs.Slots.{Slots, gathered, with_slot}
-use Rattle.sto_tree_spec.specs.Layout.{is_present, key, slot_of, place_slot}
+use Rattle.sto_tree.specs.Slots.{Slots, gathered, with_slot}
+use Rattle.sto_tree.specs.Layout.{is_present, key, slot_of, place_slot}
 use Rattle.sto_tree.specs.Walked.{moved_value}
 use Rattle.sto_tree.proofs.split.moved_rows.Goals.{then-is_present+in_ok-put, else-is_present}
 use Rattle.sto_tree.proofs.split.moved_rows.Goals as goal

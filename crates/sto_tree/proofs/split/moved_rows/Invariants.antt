@@ -1,7 +1,7 @@
 use Rattle.std.proofs.Common.{◌≡◌}
 use Rattle.sto_type.specs.Known.{known}
-use Rattle.sto_tree_spec.specs.Slots.{gathered}
-use Rattle.sto_tree_spec.specs.Layout.{place_slot}
+use Rattle.sto_tree.specs.Slots.{gathered}
+use Rattle.sto_tree.specs.Layout.{place_slot}
 use Rattle.sto_tree.specs.Walked.{moved_value}
 use Rattle.sto_tree.proofs.split.moved_rows.Given as goal
 

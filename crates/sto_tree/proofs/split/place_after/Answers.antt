@@ -2,8 +2,8 @@ use Rattle.std.proofs.Common.{◌≡◌, ℕ, Bool, true, false, int_lt, ap, sym
 use Rattle.std.specs.Prelude.{if◌then◌else◌, unwrap_or}
 use Rattle.std.specs.Int.RustNames.{FitsSigned}
 use Rattle.std.proofs.lemmas.Int.{to_z-of_z}
-use Rattle.sto_tree_spec.specs.Search.{first_below}
-use Rattle.sto_tree_spec.specs.Split.{middle, moves}
+use Rattle.sto_tree.specs.Search.{first_below}
+use Rattle.sto_tree.specs.Split.{middle, moves}
 use Rattle.sto_tree.proofs.split.place_after.Goals as goal
 
 pub returns-then-key-middle : goal.returns-then-key-middle

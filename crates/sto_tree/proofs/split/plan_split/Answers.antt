@@ -8,11 +8,11 @@ use Rattle.sto_item.specs.Agreement.{HasWidths}
 use Rattle.sto_item.specs.Pending.{Entry, AreUpdates, with_updates}
 use Rattle.sto_model.specs.Rows.{Row}
 use Rattle.sto_type.specs.Known.{Parts, known}
-use Rattle.sto_tree_spec.specs.Layout.{key_part, high}
-use Rattle.sto_tree_spec.specs.Said.{compared, new_row}
-use Rattle.sto_tree_spec.specs.Between.{all_seen}
-use Rattle.sto_tree_spec.specs.Repack.{rows_of_leaf}
-use Rattle.sto_tree_spec.specs.Split.{moved_values, move_updates}
+use Rattle.sto_tree.specs.Layout.{key_part, high}
+use Rattle.sto_tree.specs.Said.{compared, new_row}
+use Rattle.sto_tree.specs.Between.{all_seen}
+use Rattle.sto_tree.specs.Repack.{rows_of_leaf}
+use Rattle.sto_tree.specs.Split.{moved_values, move_updates}
 use Rattle.sto_tree.specs.Walked.{first_unknown}
 use Rattle.sto_tree.proofs.SplitPlan.{leaf_rows, other_in, above, below_fits, target_in, target_below, eight_rows, moving_ordered, moving_widths, row_widths, split_asks, split_says}
 use Rattle.sto_tree.proofs.split.plan_split.Goals as goal

@@ -2,7 +2,7 @@ use Rattle.std.proofs.Common.{◌≡◌, ◌+◌, ℕ, ℤ, pos, [], ◌∷◌, 
 use Rattle.std.specs.Prelude.{if◌then◌else◌, ◌-ℤ◌}
 use Rattle.sto_part.specs.declared.change.Change.{Change}
 use Rattle.sto_part.specs.declared.change.Change.TheVariants.{Put, Keep}
-use Rattle.sto_tree_spec.specs.Split.{in_threes, split_ranges}
+use Rattle.sto_tree.specs.Split.{in_threes, split_ranges}
 use Rattle.sto_tree.proofs.Adding.{in_threes_more}
 use Rattle.std.specs.Int.RustNames.{FitsSigned}
 use Rattle.std.proofs.lemmas.Int.{to_z-of_z}

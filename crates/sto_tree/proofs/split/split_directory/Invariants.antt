@@ -1,5 +1,5 @@
 use Rattle.std.proofs.Common.{◌≡◌, ◌*◌, length}
-use Rattle.sto_tree_spec.specs.Split.{in_threes, split_ranges}
+use Rattle.sto_tree.specs.Split.{in_threes, split_ranges}
 use Rattle.sto_tree.proofs.split.split_directory.Given as goal
 
 abbrev pub invariant-loop-other : goal.invariant-loop-other

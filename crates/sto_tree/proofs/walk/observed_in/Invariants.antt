@@ -1,7 +1,7 @@
 use Rattle.std.proofs.Common.{◌≡◌, None, [], drop}
 use Rattle.sto_type.specs.Known.{known}
 use Rattle.sto_type.specs.Reading.{need_of, items_of}
-use Rattle.sto_tree_spec.specs.Between.{between_each}
+use Rattle.sto_tree.specs.Between.{between_each}
 use Rattle.sto_tree.proofs.walk.observed_in.Given as goal
 
 abbrev pub invariant-loop-leaf : goal.invariant-loop-leaf

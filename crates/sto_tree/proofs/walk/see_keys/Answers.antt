@@ -4,9 +4,9 @@ use Rattle.std.proofs.lemmas.Int.{to_z-of_z}
 use Rattle.sto_part.specs.declared.pred.Test.TheVariants.{Eq, Le, Ge}
 use Rattle.sto_item.specs.declared.item.Item.{Item}
 use Rattle.sto_item.specs.declared.item.Item.TheVariants.{Seen}
-use Rattle.sto_tree_spec.specs.Said.{compared}
-use Rattle.sto_tree_spec.specs.Between.{from_in, to_in}
-use Rattle.sto_tree_spec.specs.Next.{leaf_seen}
+use Rattle.sto_tree.specs.Said.{compared}
+use Rattle.sto_tree.specs.Between.{from_in, to_in}
+use Rattle.sto_tree.specs.Next.{leaf_seen}
 use Rattle.sto_tree.proofs.Adding.{four_more}
 use Rattle.sto_tree.proofs.walk.see_keys.Goals as goal
 

@@ -6,10 +6,10 @@ use Rattle.sto_item.specs.declared.item.Item.{Item}
 use Rattle.sto_item.specs.declared.item.Item.TheVariants.{Seen}
 use Rattle.sto_type.specs.Known.{Known, known}
 use Rattle.sto_type.specs.Reading.{when_known}
-use Rattle.sto_tree_spec.specs.Layout.{key_part}
-use Rattle.sto_tree_spec.specs.Said.{cover}
-use Rattle.sto_tree_spec.specs.Next.{leaf_seen}
-use Rattle.sto_tree_spec.specs.Between.{from_in, to_in, all_seen, values_between, leaf_items}
+use Rattle.sto_tree.specs.Layout.{key_part}
+use Rattle.sto_tree.specs.Said.{cover}
+use Rattle.sto_tree.specs.Next.{leaf_seen}
+use Rattle.sto_tree.specs.Between.{from_in, to_in, all_seen, values_between, leaf_items}
 use Rattle.sto_tree.specs.Walked.{leaf_observed}
 use Rattle.sto_tree.proofs.walk.see_leaf.Goals as goal
 

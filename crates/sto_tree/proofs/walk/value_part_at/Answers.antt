@@ -2,7 +2,7 @@ use Rattle.std.proofs.Common.{◌<◌, ap, sym, ◌∙◌, arith, w64}
 use Rattle.std.specs.Prelude.{unwrap_or}
 use Rattle.std.specs.Int.RustNames.{FitsSigned}
 use Rattle.std.proofs.lemmas.Int.{to_z-of_z}
-use Rattle.sto_tree_spec.specs.Layout.{value_part}
+use Rattle.sto_tree.specs.Layout.{value_part}
 use Rattle.sto_tree.proofs.Leaves.{place_below}
 use Rattle.sto_tree.proofs.walk.value_part_at.Goals as goal
 

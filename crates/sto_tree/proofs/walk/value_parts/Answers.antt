@@ -3,8 +3,8 @@ use Rattle.std.specs.Int.RustNames.{FitsSigned}
 use Rattle.std.proofs.lemmas.Int.{to_z-of_z}
 use Rattle.std.proofs.lemmas.List.{take_more, map-append}
 use Rattle.sto_model.specs.Rows.{Row}
-use Rattle.sto_tree_spec.specs.Between.{value_part_of}
-use Rattle.sto_tree_spec.specs.RowLists.{row_at}
+use Rattle.sto_tree.specs.Between.{value_part_of}
+use Rattle.sto_tree.specs.RowLists.{row_at}
 use Rattle.sto_tree.proofs.Adding.{row_there}
 use Rattle.sto_tree.proofs.walk.value_parts.Goals as goal
 

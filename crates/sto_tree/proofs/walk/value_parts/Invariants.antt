@@ -1,5 +1,5 @@
 use Rattle.std.proofs.Common.{◌≡◌, map, take}
-use Rattle.sto_tree_spec.specs.Between.{value_part_of}
+use Rattle.sto_tree.specs.Between.{value_part_of}
 use Rattle.sto_tree.proofs.walk.value_parts.Given as goal
 
 abbrev pub invariant-loop-place : goal.invariant-loop-place

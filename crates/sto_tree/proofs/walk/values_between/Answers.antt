@@ -3,7 +3,7 @@ use Rattle.std.specs.Int.RustNames.{FitsSigned}
 use Rattle.std.proofs.lemmas.Int.{to_z-of_z}
 use Rattle.std.proofs.lemmas.Result.{IfOk-weaker}
 use Rattle.sto_model.specs.Rows.{Row, rows_between}
-use Rattle.sto_tree_spec.specs.Between.{value_part_of}
+use Rattle.sto_tree.specs.Between.{value_part_of}
 use Rattle.sto_tree.proofs.walk.values_between.Goals as goal
 
 pub returns : goal.returns

@@ -1,5 +1,5 @@
 use Rattle.std.proofs.Common.{◌≡◌, ◌∷◌, ◌++◌, [], ap, ◌∙◌, sym, List, ℤ, length, refl}
-use Rattle.sto_index.specs.Index.{place_at}
+use Rattle.sto_part.specs.Index.{place_at}
 use Rattle.sto_attempt_log.specs.declared.read_entry.ReadEntry.{ReadEntry}
 use Rattle.sto_attempt_log.specs.declared.read_entry.ReadHead.{ReadHead}
 use Rattle.sto_attempt_log.specs.Flat.{entry_with, entries_of}

@@ -2,7 +2,7 @@ use Rattle.std.specs.Prelude.{MatchOption}
 use Rattle.std.proofs.Common.{◌≡◌, [], ◌∷◌, ◌++◌, map, subst}
 use Rattle.sto_core.specs.declared.view.View.{View}
 use Rattle.sto_type.specs.Traits.{of_type}
-use Rattle.sto_open.specs.declared.worker.IdleWorker.{IdleWorker}
+use Rattle.sto_shared_store.specs.declared.worker.IdleWorker.{IdleWorker}
 use Rattle.sto_library.specs.Values.{Stored, Serves}
 use Rattle.sto_library.proofs.Hired.{hired_last}
 use Rattle.sto_library.proofs.store.SharedStore.hire.Goals as goal

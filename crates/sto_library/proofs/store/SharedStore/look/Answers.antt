@@ -5,8 +5,8 @@ use Rattle.std.proofs.lemmas.List.{map-append}
 use Rattle.std.proofs.lemmas.List.Elements.{All-push, All-pop}
 use Rattle.sto_core.specs.declared.view.View.{View}
 use Rattle.sto_type.specs.Traits.{of_type}
-use Rattle.sto_atomically.specs.declared.outcome.Done.{Done}
-use Rattle.sto_open.specs.declared.worker.IdleWorker.{IdleWorker}
+use Rattle.sto_action.specs.declared.outcome.Done.{Done}
+use Rattle.sto_shared_store.specs.declared.worker.IdleWorker.{IdleWorker}
 use Rattle.sto_library.specs.declared.store.LookError.{LookError}
 use Rattle.sto_library.specs.Values.{Stored, Serves}
 use Rattle.sto_library.specs.Doings.{HasGiven, HasCause}

@@ -1,6 +1,6 @@
 -- The worker is what its parts are.
 use Rattle.std.proofs.Common.{subst}
-use Rattle.sto_atomically.specs.Atomic.{HasLed}
+use Rattle.sto_action.specs.Atomic.{HasLed}
 use Rattle.sto_library.specs.Values.{Working}
 use Rattle.sto_library.proofs.worker.StoreWorker.lead.Goals as goal
 

@@ -5,14 +5,14 @@ use Rattle.std.specs.Prelude.{slice_get}
 use Rattle.std.specs.Option.{option_copied}
 use Rattle.sto_part.specs.Listed.{Listed}
 use Rattle.sto_model.specs.declared.reply.Reply.{Reply}
-use Rattle.sto_code.specs.declared.short_reply.ShortReply.{ShortReply}
+use Rattle.sto_action.specs.declared.short_reply.ShortReply.{ShortReply}
 use Rattle.std.specs.Int.{w64}
 use Rattle.std.specs.Int.RustNames.{FitsSigned}
 use Rattle.sto_model.specs.declared.shape.Shape.{Shape}
 use Rattle.sto_type.specs.Traits.{of_type}
-use Rattle.sto_live.specs.declared.live.Stopped.{Stopped}
-use Rattle.sto_code.specs.Shortened.{short_of}
-use Rattle.sto_code.specs.Progs.{is_taken}
+use Rattle.sto_interactive.specs.declared.live.Stopped.{Stopped}
+use Rattle.sto_action.specs.Shortened.{short_of}
+use Rattle.sto_action.specs.Progs.{is_taken}
 use Rattle.sto_once.specs.Over.{StandsBy, heard_of}
 use Rattle.sto_once.proofs.Waited.{all_taken_more, heard_more, last_told, some_told, stop_stands, stopped_some}
 use Rattle.sto_once.proofs.over.OverLiveAnswers.ask.Goals as goal

@@ -1,6 +1,6 @@
 use Rattle.std.proofs.Common.{sym, subst}
 use Rattle.sto_explore.specs.Legs.{AreApart}
-use Rattle.sto_run_legs.proofs.BusyThreads.{busy_apart}
+use Rattle.sto_run_schedules.proofs.BusyThreads.{busy_apart}
 use Rattle.sto_run_schedules.specs.Ready.{file_of}
 use Rattle.sto_run_schedules.proofs.runs.FileRunsRunsReportedKept.threads.Goals as goal
 

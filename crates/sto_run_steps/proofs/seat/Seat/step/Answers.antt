@@ -2,7 +2,7 @@ use Rattle.std.specs.Prelude.{None}
 use Rattle.std.proofs.Common.{◌+◌, map, ap, ◌∙◌, OnOk, subst, arith}
 use Rattle.std.proofs.lemmas.Result.{on_ok_weaker}
 use Rattle.sto_model.specs.Told.{told}
-use Rattle.sto_attempt_facts.specs.Records.{Record}
+use Rattle.sto_history.specs.Records.{Record}
 use Rattle.sto_transaction.specs.Plain.{verdict}
 use Rattle.sto_run_steps.specs.Stepped.{HasStepped}
 use Rattle.sto_run_steps.specs.Seated.{HasKept, WithinAt}

@@ -1,6 +1,6 @@
 use Rattle.std.proofs.Common.{slice_index_or}
 use Rattle.std.proofs.lemmas.Option.{slice_get-get_or}
-use Rattle.sto_queue.specs.declared.job.Job.TheVariants.{Run}
+use Rattle.sto_run_feed.specs.declared.job.Job.TheVariants.{Run}
 use Rattle.sto_test_layers.proofs.Passes.{may_send, comes, has_sent}
 use Rattle.sto_test_layers.proofs.waking.feeder.send_all.Goals as goal
 

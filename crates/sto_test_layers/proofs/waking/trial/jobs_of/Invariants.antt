@@ -1,5 +1,5 @@
 use Rattle.std.specs.List.{All}
-use Rattle.sto_queue.specs.Queues.{IsRun}
+use Rattle.sto_run_feed.specs.Queues.{IsRun}
 use Rattle.sto_test_layers.proofs.waking.trial.jobs_of.Given as goal
 
 abbrev pub invariant-loop-position : goal.invariant-loop-position

@@ -1,5 +1,5 @@
-use Rattle.sto_queue.specs.Passes.{IsPass, known}
-use Rattle.sto_queue.specs.Queues.{working}
+use Rattle.sto_run_feed.specs.Passes.{IsPass, known}
+use Rattle.sto_run_feed.specs.Queues.{working}
 use Rattle.sto_test_layers.proofs.waking.worker.take_all.Given as goal
 
 abbrev pub invariant-loop : goal.invariant-loop

@@ -1,7 +1,7 @@
 use Rattle.std.specs.Prelude.{drop}
 use Rattle.std.proofs.Common.{◌∙◌, ℕ, List, Option, Some, string_bytes, map, ap, sym}
 use Rattle.sto_args.specs.Asked.{feeding_of}
-use Rattle.sto_cli_common.specs.Ends.{Ends}
+use Rattle.sto_console.specs.Ends.{Ends}
 use Rattle.sto_feed_cli.specs.Programs.{feed_program}
 use Rattle.sto_test_programs.proofs.Moved.{moved}
 use Rattle.sto_test_programs.proofs.calls.running.call_feed.Goals as goal

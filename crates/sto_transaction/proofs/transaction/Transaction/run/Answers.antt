@@ -5,8 +5,8 @@ use Rattle.std.proofs.lemmas.List.{map-append}
 use Rattle.sto_model.specs.Run.{Script}
 use Rattle.sto_model.specs.Told.{told}
 use Rattle.sto_attempt_log.proofs.Reading.{always_err}
-use Rattle.sto_attempt_facts.specs.Records.{Place, Record as Told, is_abort}
-use Rattle.sto_attempt_facts.specs.Tried.{HasTried}
+use Rattle.sto_history.specs.Records.{Place, Record as Told, is_abort}
+use Rattle.sto_history.specs.Tried.{HasTried}
 use Rattle.sto_transaction.specs.Pace.{most_steps}
 use Rattle.sto_transaction.specs.Plain.{plain, verdict}
 use Rattle.sto_transaction.specs.Ran.{HasRun, HasBroken}

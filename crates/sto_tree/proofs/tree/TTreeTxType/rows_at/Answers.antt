@@ -1,8 +1,8 @@
 use Rattle.std.proofs.Common.{ℕ, List, ◌++◌, ◌∷◌, [], take, drop, subst, ap, ◌∙◌, sym}
 use Rattle.sto_model.specs.Rows.{Row}
-use Rattle.sto_tree_spec.specs.Layout.{parts_of, width_of, tree_rows}
-use Rattle.sto_tree_spec.specs.Valid.{IsTree}
-use Rattle.sto_tree_spec.specs.Sized.{length-listed}
+use Rattle.sto_tree.specs.Layout.{parts_of, width_of, tree_rows}
+use Rattle.sto_tree.specs.Valid.{IsTree}
+use Rattle.sto_tree.specs.Sized.{length-listed}
 use Rattle.sto_tree.proofs.tree.TTreeTxType.rows_at.Goals as goal
 
 pub rows_from-requires-clause-tree : goal.rows_from-requires-clause-tree

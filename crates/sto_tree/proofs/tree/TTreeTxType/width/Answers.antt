@@ -1,6 +1,6 @@
 use Rattle.std.proofs.Common.{ℕ, arith, sym}
-use Rattle.sto_tree_spec.specs.Layout.{parts_of, width_of}
-use Rattle.sto_tree_spec.specs.Sized.{length-listed}
+use Rattle.sto_tree.specs.Layout.{parts_of, width_of}
+use Rattle.sto_tree.specs.Sized.{length-listed}
 use Rattle.sto_tree.proofs.Parts.{width_at}
 use Rattle.sto_tree.proofs.tree.TTreeTxType.width.Goals as goal
 

@@ -1,0 +1,7 @@
+pub mod Counts
+pub mod Tried
+pub mod Led
+pub mod Alone
+pub mod Following
+pub mod Snapshots
+pub mod Stepping

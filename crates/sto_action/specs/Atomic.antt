@@ -1,0 +1,96 @@
+-- What a transaction that was run atomically tells of its value.
+use Rattle.std.specs.Prelude.{◌≡◌, ◌⊎◌, ◌≤◌, ◌<◌, ◌+◌, ℕ, List, [], ◌∷◌, length, map, true, false, Option, Some, None, Result, Ok, Err}
+use Rattle.sto_part.specs.declared.NoMemory.{NoMemory}
+use Rattle.sto_model.specs.declared.shape.Shape.{Shape}
+use Rattle.sto_model.specs.Told.{Told}
+use Rattle.sto_model.specs.Run.{Script as Steps}
+use Rattle.sto_type.specs.Meaning.{Meaning}
+use Rattle.sto_core.specs.declared.view.View.{View}
+use Rattle.sto_core.specs.declared.view.Entry.{Entry}
+use Rattle.sto_core.specs.declared.view.Fate.TheVariants.{Committed}
+use Rattle.sto_core.specs.Lists.{Among}
+use Rattle.sto_history.specs.Records.{Verdict, IsSince, is_abort, wrote_with}
+use Rattle.sto_history.specs.Counted.{times_committed}
+use Rattle.sto_history.specs.Told.{IsTold, IsFound}
+use Rattle.sto_history.specs.Added.{IsSeenTicket}
+use Rattle.sto_action.specs.Shortened.{short_of}
+use Rattle.sto_action.specs.declared.short_reply.ShortReply.{ShortReply}
+use Rattle.sto_action.specs.declared.tx.Stop.{Stop}
+use Rattle.sto_action.specs.declared.tx.Stop.TheVariants as stops
+use Rattle.sto_action.specs.Progs.{Prog, next_within, Runs, IsGiven, IsCancelled, IsAsked}
+use Rattle.sto_action.specs.declared.outcome.Done.{Done}
+use Rattle.sto_action.specs.declared.outcome.Done.TheVariants.{Gave, Cancelled}
+use Rattle.sto_action.specs.declared.outcome.Unrun.{Unrun}
+use Rattle.sto_action.specs.declared.outcome.Unrun.TheVariants.{Busy, Refused, Worn, NoMemory as WantsMemory}
+
+-- the number is that of a transaction that the pass committed
+pub record IsCommittedTicket (v : View) (n : ℕ) : Type 0 where
+  pub entry : Entry
+  pub there : Among entry v.entries
+  pub committed : entry.fate ≡ Committed
+  pub ticket : entry.ticket ≡ n
+
+-- the pass saw the number of the history: by its clock, by a transaction of its own, or by the writer of what it found
+abbrev pub HasSeen : View → ℕ → Type 0
+HasSeen v n = (n ≤ v.at) ⊎ IsCommittedTicket v n ⊎ IsSeenTicket v n
+
+-- aborted attempts, the first one of this start: each has its finding
+abbrev pub EachFound : View → ℕ → List Verdict → Type 0
+EachFound w start [] = Unit {0}
+EachFound w start (v ∷ vs) = (is_abort v ≡ true) × IsFound w start v × EachFound w (start + 1) vs
+
+-- no transaction of the pass took effect in between
+abbrev pub TakesNoEffect : View → View → Type 0
+TakesNoEffect v w = (t : ℕ) → times_committed t w.entries ≡ times_committed t v.entries
+
+-- so many attempts were made from v to w, one after the other, and each was aborted: it has its finding under the number of its start, of
+-- a part that was locked, or that had been changed by another one. None took effect
+pub record HaveAborted (v w : View) (many : ℕ) : Type 0 where
+  pub none : TakesNoEffect v w
+  pub verdicts : List Verdict
+  pub all : length verdicts ≡ many
+  pub starts : w.starts ≡ v.starts + many
+  pub found : EachFound w (v.starts + 1) verdicts
+
+-- what code does next after each list of replies, on objects of these shapes, where it may ask so many calls
+abbrev pub steps_of : {A : Type 0} → List Shape → ℕ → Prog A → Steps
+steps_of shapes most p = λ rs. next_within shapes most p (map short_of rs)
+
+-- The code, run alone, hears these replies and then says this. It is run on all valid contents that have what the pass w looked at: for
+-- a writer those right before its ticket, for a reader those as of its number (`IsTold`). It stands after all that the pass had seen, and
+-- is all that the pass committed from v to w
+pub record IsAtomic {A : Type 0} (m : Meaning) (v w : View) (shapes : List Shape) (most : ℕ) (p : Prog A) (says : List ShortReply → Type 0) : Type 0 where
+  pub replies : List Told
+  pub verdict : Verdict
+  pub ended : is_abort verdict ≡ false
+  pub told : IsTold m w (steps_of shapes most p) replies verdict
+  pub since : (n : ℕ) → HasSeen v n → IsSince n verdict
+  pub entries : (t : ℕ) → times_committed t w.entries ≡ times_committed t v.entries + wrote_with t verdict
+  pub said : says (map short_of replies)
+
+-- what one attempt led to: the code said this at its end; or it was aborted, or memory was wanting
+abbrev pub HasTried : {A : Type 0} → Meaning → (v w : View) → List Shape → ℕ → Prog A → Result (Option (Result A Stop)) NoMemory → Type 0
+HasTried m v w shapes most p (Ok (Some said)) = IsAtomic m v w shapes most p (λ hs. Runs p hs said)
+HasTried m v w shapes most p (Ok None) = HaveAborted v w 1
+HasTried m v w shapes most p (Err error) = TakesNoEffect v w
+
+-- what a transaction led to, which had so many tries and left so many tickets: all tries were made and aborted; or tries were made, fewer,
+-- and none is left
+abbrev pub HasLed : {A : Type 0} → Meaning → (v w : View) → (tries left : ℕ) → List Shape → ℕ → Prog A → Result (Done A) Unrun → Type 0
+HasLed m v w tries left shapes most p (Ok (Gave value)) = IsAtomic m v w shapes most p (λ hs. IsGiven p hs value)
+HasLed m v w tries left shapes most p (Ok Cancelled) = IsAtomic m v w shapes most p (λ hs. IsCancelled p hs)
+HasLed m v w tries left shapes most p (Err (Refused call)) = IsAtomic m v w shapes most p (λ hs. IsAsked p hs call)
+HasLed m v w tries left shapes most p (Err Busy) = HaveAborted v w tries
+HasLed m v w tries left shapes most p (Err Worn) = (left ≡ 0) × ((many : ℕ) × (many < tries) × HaveAborted v w many)
+HasLed m v w tries left shapes most p (Err WantsMemory) = TakesNoEffect v w
+
+-- others were not in its way
+abbrev pub IsUndisturbed : {A : Type 0} → Result (Done A) Unrun → Type 0
+IsUndisturbed (Err Busy) = ⊥
+IsUndisturbed r = Unit {0}
+
+-- what a transaction gave by what its code said at its end
+abbrev pub told_by : {A : Type 0} → Result A Stop → Result (Done A) Unrun
+told_by (Ok value) = Ok (Gave value)
+told_by (Err stops.Cancels) = Ok Cancelled
+told_by (Err (stops.Asks call)) = Err (Refused call)

@@ -1,0 +1,10 @@
+pub mod Atomic
+pub mod Shortened
+pub mod Progs
+pub mod Calls
+pub mod Steps
+pub mod Alone
+pub mod Snapshots
+pub use Rattle.sto_history.specs.Added
+pub use Rattle.sto_transaction.specs.Resting
+pub use Rattle.sto_model.specs.Told

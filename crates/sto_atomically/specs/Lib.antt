@@ -1,3 +1,0 @@
-pub mod Atomic
-pub use Rattle.sto_attempt_facts.specs.Added
-pub use Rattle.sto_transaction.specs.Resting

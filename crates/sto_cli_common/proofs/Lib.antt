@@ -1,7 +1,0 @@
-pub mod Saying
-pub mod Making
-pub mod Reading
-pub mod Scripts
-pub mod Endings
-pub mod Causes
-pub mod Faultless

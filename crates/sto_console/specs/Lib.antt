@@ -1,0 +1,15 @@
+pub mod Told
+pub mod Said
+pub mod Read
+pub mod Statuses
+pub mod Words
+pub mod Programs
+pub mod Ends
+pub mod Outcomes
+pub mod Causes
+pub mod Workers
+pub mod Faults
+pub use Rattle.sto_journal.specs.Journals
+pub use Rattle.sto_args.specs.Commands
+pub use Rattle.sto_lang.specs.Files
+pub use Rattle.sto_lang.specs.Views

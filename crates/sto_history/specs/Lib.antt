@@ -1,0 +1,10 @@
+pub mod History
+pub mod Done
+pub mod Keeping
+pub mod Records
+pub mod Told
+pub mod Counted
+pub mod Added
+pub mod Running
+pub mod Tried
+pub mod Trying

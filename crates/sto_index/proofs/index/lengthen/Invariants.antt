@@ -1,6 +1,0 @@
-use Rattle.std.proofs.Common.{◌≡◌, ◌+◌, ◌++◌, replicate}
-use Rattle.sto_index.specs.Stamps.{fresh}
-use Rattle.sto_index.proofs.index.lengthen.Given as goal
-
-abbrev pub invariant-loop : goal.invariant-loop
-invariant-loop l = (l.stamps.items ≡ l.initial.stamps.items ++ replicate l.counter fresh) × (l.stamps.spare + l.counter ≡ l.initial.stamps.spare)

@@ -1,0 +1,14 @@
+pub mod Passing
+pub mod Keeping
+pub mod LastReply
+pub mod Refutations
+pub mod Alike
+pub mod Extending
+pub mod Adding
+pub mod AtEnd
+pub mod Coming
+pub mod Hearing
+pub mod Beginning
+pub mod Lasting
+pub mod Pausing
+pub mod Committing

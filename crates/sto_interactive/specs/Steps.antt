@@ -1,0 +1,123 @@
+-- What the calls of a session lead to: from the session x to the session y, or from a view of its pass.
+use Rattle.std.specs.Prelude.{◌≡◌, ◌≢◌, ◌+◌, ℕ, true, List, [], ◌∷◌, ◌++◌, None, Result, Ok, Err}
+use Rattle.sto_part.specs.declared.naming.Naming as naming
+use Rattle.sto_model.specs.declared.call.Call.{Call}
+use Rattle.sto_model.specs.declared.run.End.TheVariants.{Commit}
+use Rattle.sto_model.specs.Told.{Told}
+use Rattle.sto_type.specs.Traits.{OfType}
+use Rattle.sto_core.specs.declared.view.View.{View}
+use Rattle.sto_table.specs.declared.shared.Shared.{Shared}
+use Rattle.sto_attempt_log.specs.Answers.{IsPrefix}
+use Rattle.sto_attempt_log.specs.declared.verdict.Verdict.{Verdict}
+use Rattle.sto_attempt_log.specs.declared.verdict.Verdict.TheVariants.{Wrote, Read, Cancelled, Locked, Changed}
+use Rattle.sto_history.specs.Records.{is_abort}
+use Rattle.sto_transaction.specs.Plain.{verdict}
+use Rattle.sto_transaction.specs.Machines.{HasStopped, HasEnded}
+use Rattle.sto_transaction.specs.declared.machine.Ended.{Ended}
+use Rattle.sto_interactive.specs.declared.asked.Asked.{Asked}
+use Rattle.sto_interactive.specs.Scripts.{script_of}
+use Rattle.sto_interactive.specs.Bodies.{next_of, script_in, left_of, MayAskOf}
+use Rattle.sto_interactive.specs.Lives.{HasCommitted, HasCancelled}
+use Rattle.sto_interactive.specs.declared.session.Session.{Session}
+use Rattle.sto_interactive.specs.declared.starting.Unbegun.{Unbegun}
+use Rattle.sto_interactive.specs.declared.starting.Unbegun.TheVariants as unbegun
+use Rattle.sto_interactive.specs.declared.asking.Unanswered.{Unanswered}
+use Rattle.sto_interactive.specs.declared.asking.Unanswered.TheVariants as unanswered
+use Rattle.sto_interactive.specs.declared.ending.Uncommitted.{Uncommitted}
+use Rattle.sto_interactive.specs.declared.ending.Uncommitted.TheVariants as uncommitted
+use Rattle.sto_interactive.specs.Sessions.{view_of, IsFree, IsAsking}
+
+-- the place in the order of a transaction that ended so: its ticket, or the number as of which it read
+abbrev pub place_of : Verdict → Result ℕ Uncommitted
+place_of (Wrote ticket) = Ok ticket
+place_of (Read at) = Ok at
+place_of (Cancelled at) = Ok at
+place_of (Locked at part) = Err uncommitted.Aborted
+place_of (Changed at part ticket) = Err uncommitted.Aborted
+
+-- the pass, the tickets left and the transaction are as before
+abbrev pub IsUnchanged : {T : Type 0} {n : naming.Ghosts T} → Session T n → Session T n → Type 0
+IsUnchanged x y = (y.rest ≡ x.rest) × (y.left ≡ x.left) × (y.live ≡ x.live)
+
+abbrev pub passes_of : {T : Type 0} → Shared T → ℕ
+passes_of s = s.table.shared.key.passes
+
+-- t is what the trait of the type says
+module _ {T : Type 0} {n : naming.Ghosts T} (t : OfType T) (ty : T) (s : Shared T) where
+  -- memory was wanting: the session is free, and nothing was drawn
+  pub record HasFailed (begun : View) (y : Session T n) : Type 0 where
+    pub free : IsFree t ty s y
+    pub stopped : HasStopped (t.meaning ty) (t.sizes ty) begun (view_of y)
+
+  -- a transaction was to begin on a pass that was at rest
+  abbrev pub HasStarted : View → ℕ → Result (Unit {0}) Unbegun → Session T n → Type 0
+  HasStarted begun left (Ok started) y = IsAsking t ty s [] [] y begun × (y.left ≡ left)
+  HasStarted begun left (Err unbegun.InTransaction) y = ⊥
+  HasStarted begun left (Err unbegun.Worn) y = ⊥
+  HasStarted begun left (Err unbegun.NoMemory) y = HasFailed begun y × (y.left ≡ left)
+
+  -- one ticket less is left where it was begun, and where memory was wanting
+  abbrev pub HasBegun : Session T n → Result (Unit {0}) Unbegun → Session T n → Type 0
+  HasBegun x (Ok started) y = (x.live ≡ None) × IsAsking t ty s [] [] y (view_of x) × (y.left + 1 ≡ x.left)
+  HasBegun x (Err unbegun.InTransaction) y = (x.live ≢ None) × IsUnchanged x y
+  HasBegun x (Err unbegun.Worn) y = (x.live ≡ None) × (x.left ≡ 0) × IsUnchanged x y
+  HasBegun x (Err unbegun.NoMemory) y = (x.live ≡ None) × HasFailed (view_of x) y × (y.left + 1 ≡ x.left)
+
+  -- a call was answered: it and its reply come last. On all valid contents that have the claims of the pass as of a number of the clock,
+  -- the calls, run one after the other, answer exactly these replies
+  pub record IsAnswered (calls : List Call) (rs : List Told) (call : Call) (y : Session T n) (begun : View) : Type 0 where
+    pub reply : Told
+    pub at : ℕ
+    pub asking : IsAsking t ty s (calls ++ call ∷ []) (rs ++ reply ∷ []) y begun
+    pub answers : IsPrefix (t.meaning ty) (script_of (calls ++ call ∷ []) Commit) (view_of y) at (rs ++ reply ∷ [])
+
+  -- it met an abort: nothing of the transaction took effect, and what is left of it tells so
+  pub record WasAborted (calls : List Call) (y : Session T n) (begun : View) : Type 0 where
+    pub free : IsFree t ty s y
+    pub ended : Ended Asked
+    pub abort : is_abort (verdict ended.verdict) ≡ true
+    pub told : HasEnded t.meaning t.valid t.sizes script_in next_of left_of MayAskOf (passes_of s) ty (script_of calls Commit) ended begun (view_of y)
+
+  -- where these calls had been asked
+  abbrev pub HasAskedAfter : List Call → List Told → View → Call → Result (Unit {0}) Unanswered → Session T n → Type 0
+  HasAskedAfter calls rs begun call (Ok answered) y = IsAnswered calls rs call y begun
+  HasAskedAfter calls rs begun call (Err unanswered.NoTransaction) y = ⊥
+  HasAskedAfter calls rs begun call (Err unanswered.Untaken) y = IsAsking t ty s calls rs y begun × ((t.meaning ty).takes call → ⊥)
+  HasAskedAfter calls rs begun call (Err unanswered.Aborted) y = WasAborted (calls ++ call ∷ []) y begun
+  HasAskedAfter calls rs begun call (Err unanswered.NoMemory) y = HasFailed begun y
+
+  pub record HasAsked (x : Session T n) (call : Call) (result : Result (Unit {0}) Unanswered) (y : Session T n) : Type 0 where
+    pub free : x.live ≡ None → (result ≡ Err unanswered.NoTransaction) × IsUnchanged x y
+    pub asking : (calls : List Call) (rs : List Told) (begun : View) → IsAsking t ty s calls rs x begun → HasAskedAfter calls rs begun call result y
+    pub left : y.left ≡ x.left
+
+  -- its record tells of these calls and of exactly these replies, and it stands in the order at this place
+  pub record HasTakenPlace (calls : List Call) (rs : List Told) (place : ℕ) (y : Session T n) (begun : View) : Type 0 where
+    pub free : IsFree t ty s y
+    pub ended : Ended Asked
+    pub told : HasCommitted t (passes_of s) ty calls rs ended begun (view_of y)
+    pub stands : place_of ended.verdict ≡ Ok place
+
+  abbrev pub HasCommittedAfter : List Call → List Told → View → Result ℕ Uncommitted → Session T n → Type 0
+  HasCommittedAfter calls rs begun (Ok place) y = HasTakenPlace calls rs place y begun
+  HasCommittedAfter calls rs begun (Err uncommitted.NoTransaction) y = ⊥
+  HasCommittedAfter calls rs begun (Err uncommitted.Aborted) y = WasAborted calls y begun
+  HasCommittedAfter calls rs begun (Err uncommitted.NoMemory) y = HasFailed begun y
+
+  -- it was given up, and its record tells so: it has read as of this place in the order
+  pub record WasGivenUp (calls : List Call) (rs : List Told) (place : ℕ) (y : Session T n) (begun : View) : Type 0 where
+    pub free : IsFree t ty s y
+    pub ended : Ended Asked
+    pub told : HasCancelled t (passes_of s) ty calls rs ended begun (view_of y)
+    pub stands : ended.verdict ≡ Cancelled place
+
+  abbrev pub HasCancelledAfter : List Call → List Told → View → Result ℕ Uncommitted → Session T n → Type 0
+  HasCancelledAfter calls rs begun (Ok place) y = WasGivenUp calls rs place y begun
+  HasCancelledAfter calls rs begun (Err uncommitted.NoTransaction) y = ⊥
+  HasCancelledAfter calls rs begun (Err uncommitted.Aborted) y = ⊥
+  HasCancelledAfter calls rs begun (Err uncommitted.NoMemory) y = HasFailed begun y
+
+  pub record HasEndedBy (x : Session T n) (result : Result ℕ Uncommitted) (y : Session T n) (ends : List Call → List Told → View → Result ℕ Uncommitted → Session T n → Type 0) : Type 0 where
+    pub free : x.live ≡ None → (result ≡ Err uncommitted.NoTransaction) × IsUnchanged x y
+    pub asking : (calls : List Call) (rs : List Told) (begun : View) → IsAsking t ty s calls rs x begun → ends calls rs begun result y
+    pub left : y.left ≡ x.left

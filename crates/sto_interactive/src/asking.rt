@@ -1,0 +1,121 @@
+//! A call of a transaction is asked.
+ghost use Rattle.std.specs.Prelude.{◌≡◌, ◌≤◌, ◌<◌, Some, None, List, option_map};
+ghost use Rattle.sto_model.specs.declared.call.Call.{Call};
+ghost use Rattle.sto_model.specs.Told.{Told};
+ghost use Rattle.sto_core.specs.declared.view.View.{View};
+ghost use Rattle.sto_interactive.specs.Sessions.{IsSessionOf, Waits};
+ghost use Rattle.sto_interactive.specs.Steps.{HasAsked, HasAskedAfter};
+
+use crate::live::Stopped;
+use crate::memory::LiveMemory;
+use crate::pause::PausedLive;
+use crate::session::Session;
+use std::alloc::Global;
+use sto_model::{Call, Replies};
+use sto_table::{Rest, Shared};
+use sto_type::TxType;
+
+/// Why a call was not answered.
+#[derive(Clone, Copy, PartialEq, Eq, Debug)]
+pub enum Unanswered {
+    /// The session is in no transaction. Nothing changed.
+    NoTransaction,
+    /// The objects do not take the call. The transaction waits as before.
+    Untaken,
+    /// The transaction was aborted: nothing of it took effect. The session is free.
+    Aborted,
+    /// Memory was wanting: nothing of the transaction took effect. The session is free.
+    NoMemory,
+}
+
+impl<T: TxType> Session<T> {
+    /// Asks the next call of the transaction. Its reply is the last one of `replies`.
+    pub fn ask(
+        self,
+        alloc: Global,
+        ty: &T,
+        shared: &Shared<T>,
+        call: Call,
+    ) -> (Session<T>, Result<(), Unanswered>)
+        requires { IsSessionOf T.TxType ty.now shared.now self }
+        ensures { HasAsked T.TxType ty.now shared.now self call result.1 result.0 }
+    {
+        let Session {
+            rest,
+            left,
+            live,
+            memory,
+        } = self;
+        match live {
+            Some(live) => ask(alloc, ty, shared, rest, left, live, memory, call),
+            None => (
+                Session::new(rest, left, memory),
+                Err(Unanswered::NoTransaction),
+            ),
+        }
+    }
+
+    /// What the calls of the transaction were answered, in order; none where it is in no transaction.
+    pub fn replies(&self) -> Option<&Replies>
+        ensures { option_map (λ r. r.now) result ≡ option_map (λ p. p.attempt.replies) self.now.live }
+    {
+        match &self.live {
+            Some(live) => Some(live.replies()),
+            None => None,
+        }
+    }
+}
+
+// Asks a call of a transaction that waits.
+fn ask<T: TxType>(
+    alloc: Global,
+    ty: &T,
+    shared: &Shared<T>,
+    rest: Rest<T>,
+    left: u64,
+    live: PausedLive,
+    memory: LiveMemory,
+    call: Call,
+) -> (Session<T>, Result<(), Unanswered>)
+    requires waits { (calls : List Call) × (rs : List Told) × (begun : View)
+        × Waits T.TxType ty.now shared.now calls rs live begun rest.seat left }
+    requires one { rest.seat.me.0.view.gathered ≡ 1 }
+    ensures left { result.0.left ≡ left }
+    ensures asked { (calls : List Call) (rs : List Told) (begun : View)
+        → Waits T.TxType ty.now shared.now calls rs live begun rest.seat left
+        → HasAskedAfter T.TxType ty.now shared.now calls rs begun call result.1 result.0 }
+{
+    let mut pass = shared.pass(rest);
+    let mut live = live.go_on(ty);
+    match live.ask(alloc, &mut pass, call) {
+        Ok(()) => (waiting(pass.rest(), left, live.pause(), memory), Ok(())),
+        Err(Stopped::Untaken) => (
+            waiting(pass.rest(), left, live.pause(), memory),
+            Err(Unanswered::Untaken),
+        ),
+        Err(Stopped::Aborted(_)) => (
+            Session::new(pass.rest(), left, live.into_memory()),
+            Err(Unanswered::Aborted),
+        ),
+        Err(Stopped::NoMemory) => (
+            Session::new(pass.rest(), left, live.into_memory()),
+            Err(Unanswered::NoMemory),
+        ),
+    }
+}
+
+// A session in a transaction.
+fn waiting<T: TxType>(rest: Rest<T>, left: u64, live: PausedLive, memory: LiveMemory) -> Session<T>
+    requires enough { left ≤ rest.seat.me.0.view.draws }
+    requires one { rest.seat.me.0.view.gathered ≡ 1 }
+    ensures rest { result.rest ≡ rest }
+    ensures left { result.left ≡ left }
+    ensures live { result.live ≡ Some live }
+{
+    Session {
+        rest,
+        left,
+        live: Some(live),
+        memory,
+    }
+}

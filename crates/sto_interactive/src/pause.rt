@@ -1,0 +1,53 @@
+//! A transaction that rests between two calls without the borrow of its type.
+ghost use Rattle.std.specs.Prelude.{◌≡◌, List};
+ghost use Rattle.sto_model.specs.declared.call.Call.{Call};
+ghost use Rattle.sto_model.specs.Told.{Told};
+ghost use Rattle.sto_core.specs.declared.view.View.{View};
+ghost use Rattle.sto_interactive.specs.Lives.{IsLive};
+ghost use Rattle.sto_interactive.specs.Pausing.{IsPaused};
+
+use crate::asked::Asked;
+use crate::live::Live;
+use sto_attempt::Paused;
+use sto_model::Replies;
+use sto_type::TxType;
+
+/// All of a transaction that waits but its type, which it borrows no more.
+#[derive(Drop)]
+pub struct PausedLive {
+    pub(crate) attempt: Paused<Asked>,
+}
+
+impl<T: TxType> Live<'_, T> {
+    /// Lets its type go. It makes no event: the pass is left as it is, and may rest too.
+    pub fn pause(self) -> PausedLive
+        ensures paused { (ty : T) (calls : List Call) (rs : List Told) (begun v : View)
+            → IsLive T.TxType ty calls rs self.entry begun v → IsPaused T.TxType ty calls rs result begun v }
+    {
+        let Live { attempt, .. } = self;
+        PausedLive {
+            attempt: attempt.pause(),
+        }
+    }
+}
+
+impl PausedLive {
+    /// Goes on from where it was, on the type that it had.
+    pub fn go_on<'t, T: TxType>(self, ty: &'t T) -> Live<'t, T>
+        ensures live { (calls : List Call) (rs : List Told) (begun v : View)
+            → IsPaused T.TxType ty.now calls rs self begun v → IsLive T.TxType ty.now calls rs result begun v }
+    {
+        let PausedLive { attempt } = self;
+        Live {
+            ty,
+            attempt: attempt.go_on(ty),
+        }
+    }
+
+    /// What its calls were answered, in order.
+    pub fn replies(&self) -> &Replies
+        ensures { result.now ≡ self.now.attempt.replies }
+    {
+        self.attempt.replies()
+    }
+}

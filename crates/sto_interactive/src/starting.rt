@@ -1,0 +1,86 @@
+//! A transaction is begun.
+ghost use Rattle.std.specs.Prelude.{◌≡◌, ◌<◌};
+ghost use Rattle.sto_table.specs.Rests.{IsOf};
+ghost use Rattle.sto_transaction.specs.Resting.{IsAtRest};
+ghost use Rattle.sto_interactive.specs.Sessions.{IsSessionOf};
+ghost use Rattle.sto_interactive.specs.Steps.{HasBegun, HasStarted};
+
+use crate::live::Live;
+use crate::memory::LiveMemory;
+use crate::session::Session;
+use std::alloc::Global;
+use sto_part::NoMemory;
+use sto_table::{Rest, Shared};
+use sto_type::TxType;
+
+/// Why a transaction was not begun.
+#[derive(Clone, Copy, PartialEq, Eq, Debug)]
+pub enum Unbegun {
+    /// The session is in a transaction. Nothing changed.
+    InTransaction,
+    /// No ticket is left. Nothing changed.
+    Worn,
+    /// Memory was wanting. The session is free.
+    NoMemory,
+}
+
+impl<T: TxType> Session<T> {
+    /// Begins a transaction on the words of a type.
+    pub fn begin(
+        self,
+        alloc: Global,
+        ty: &T,
+        shared: &Shared<T>,
+    ) -> (Session<T>, Result<(), Unbegun>)
+        requires { IsSessionOf T.TxType ty.now shared.now self }
+        ensures { HasBegun T.TxType ty.now shared.now self result.1 result.0 }
+    {
+        if self.live.is_some() {
+            return (self, Err(Unbegun::InTransaction));
+        }
+        if self.left == 0 {
+            return (self, Err(Unbegun::Worn));
+        }
+        let Session {
+            rest,
+            left,
+            memory,
+            ..
+        } = self;
+        start(alloc, ty, shared, rest, left - 1, memory)
+    }
+}
+
+// Begins a transaction on a pass that is at rest and has a ticket more than is left.
+fn start<T: TxType>(
+    alloc: Global,
+    ty: &T,
+    shared: &Shared<T>,
+    rest: Rest<T>,
+    left: u64,
+    memory: LiveMemory,
+) -> (Session<T>, Result<(), Unbegun>)
+    requires of { IsOf shared.now rest.seat }
+    requires rests { IsAtRest (T.meaning ty.now) (T.sizes ty.now) rest.seat.me.0.view }
+    requires left { left < rest.seat.me.0.view.draws }
+    requires one { rest.seat.me.0.view.gathered ≡ 1 }
+    ensures { HasStarted T.TxType ty.now shared.now rest.seat.me.0.view left result.1 result.0 }
+{
+    let mut pass = shared.pass(rest);
+    let mut memory = memory;
+    match Live::begin(alloc, ty, &mut pass, &mut memory) {
+        Ok(live) => {
+            let session = Session {
+                rest: pass.rest(),
+                left,
+                live: Some(live.pause()),
+                memory,
+            };
+            (session, Ok(()))
+        }
+        Err(NoMemory) => (
+            Session::new(pass.rest(), left, memory),
+            Err(Unbegun::NoMemory),
+        ),
+    }
+}

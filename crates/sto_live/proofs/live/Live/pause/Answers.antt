@@ -1,9 +1,0 @@
--- It is the same attempt on the same type.
-use Rattle.sto_type.specs.Traits.{of_type}
-use Rattle.sto_live.proofs.Pausing.{is_paused}
-use Rattle.sto_live.proofs.live.Live.pause.Goals as goal
-
-pub returns : goal.returns
-returns g c = record {
-  paused = λ ty calls rs begun v live. is_paused (of_type g.T.Naming g.T.TxType) ty calls rs c.args.self begun v c.pause.result c.pause.ensures live;
-}

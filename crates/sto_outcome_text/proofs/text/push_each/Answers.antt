@@ -1,9 +1,0 @@
-use Rattle.sto_lang.specs.Views.{file as view}
-use Rattle.sto_outcome_text.specs.Texts.{outcome_text}
-use Rattle.sto_outcome_text.proofs.Adding.{numbered_more}
-use Rattle.sto_outcome_text.proofs.text.push_each.Goals as goal
-
-pub loop-place-preserved : goal.loop-place-preserved
-loop-place-preserved c =
-    numbered_more (outcome_text (view c.args.file.now)) c.args.outcomes.now c.loop-place.place c.index-outcomes-place.result c.args.out.now.items c.loop-place.out.items c.push_outcome.new.out.items
-    c.loop-place-test.true c.index-outcomes-place.is c.loop-place.invariant c.in_ok-push_outcome.ensures

@@ -1,5 +1,0 @@
-use Rattle.sto_lang.proofs.AsciiLemmas.{tested}
-use Rattle.sto_outcome_text.proofs.words.push_report.Goals as goal
-
-pub append-requires : goal.append-requires
-append-requires c = tested c.args.report.now c.if-is_ascii.ensures.cases

@@ -1,2 +1,0 @@
-pub mod Texts
-pub use Rattle.sto_lang.specs.Views

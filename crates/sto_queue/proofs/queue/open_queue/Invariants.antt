@@ -1,4 +1,0 @@
-use Rattle.sto_queue.proofs.queue.open_queue.Given as goal
-
-abbrev pub ghosts-opened : goal.ghosts-opened
-ghosts-opened a = record { jobs = a.jobs.now.items }

@@ -1,4 +1,0 @@
-pub mod Walks
-pub mod Replayed
-pub mod Places
-pub mod Sound

@@ -1,6 +1,0 @@
-pub mod Turned
-pub mod Fronts
-pub mod Ending
-pub mod Stepping
-pub mod BusyThreads
-pub mod Inside

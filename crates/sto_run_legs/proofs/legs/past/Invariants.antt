@@ -1,9 +1,0 @@
-use Rattle.std.proofs.Common.{◌≡◌, ◌<◌, ◌^◌, length, drop}
-use Rattle.sto_run_legs.specs.Parted.{past}
-use Rattle.sto_run_legs.proofs.legs.past.Given as goal
-
-abbrev pub invariant-loop-leg : goal.invariant-loop-leg
-invariant-loop-leg l = record {
-  left : past (drop l.leg-index l.decided) l.rest ≡ past l.decided l.steps;
-  few : length l.rest < 2 ^ 32;
-}

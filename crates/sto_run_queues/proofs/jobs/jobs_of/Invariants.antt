@@ -1,7 +1,0 @@
-use Rattle.std.proofs.Common.{◌≡◌, map, take}
-use Rattle.sto_run_queues.specs.Orders.{place_of}
-use Rattle.sto_run_queues.specs.Jobs.{run_of, going_to}
-use Rattle.sto_run_queues.proofs.jobs.jobs_of.Given as goal
-
-abbrev pub invariant-loop-place : goal.invariant-loop-place
-invariant-loop-place l = record { jobs : l.jobs.items ≡ map run_of (going_to l.queues l.number (map place_of (take l.place-index l.order))) }

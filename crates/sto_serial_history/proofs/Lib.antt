@@ -1,4 +1,0 @@
-pub mod Doing
-pub mod Serial
-pub mod Keeping
-pub mod Examples

@@ -1,3 +1,0 @@
-pub mod History
-pub mod Done
-pub mod Keeping

@@ -1,4 +1,0 @@
-pub mod Passing
-pub mod Keeping
-pub mod Hearing
-pub mod Refutations

@@ -1,0 +1,12 @@
+pub mod Same
+pub mod Lists
+pub mod Since
+pub mod Answered
+pub mod Sending
+pub mod GatheredOwned
+pub mod Refutations
+pub mod Ordered
+pub mod Roomy
+pub mod Opened
+pub mod Gathered
+pub mod Closed

@@ -1,0 +1,16 @@
+pub mod Back
+pub mod Owned
+pub mod Endings
+pub mod Plans
+pub mod Refusals
+pub mod Closings
+pub mod Working
+pub use Rattle.sto_interactive.specs.Sessions
+pub use Rattle.sto_interactive.specs.Steps
+pub use Rattle.sto_core.specs.Allowed
+pub use Rattle.sto_history.specs.Done
+pub use Rattle.sto_history.specs.History
+pub use Rattle.sto_model.specs.Objects
+pub use Rattle.sto_store.specs.StoresLaw
+pub use Rattle.sto_table.specs.Rests
+pub use Rattle.sto_transaction.specs.Resting

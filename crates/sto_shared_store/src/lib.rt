@@ -1,0 +1,26 @@
+//! A store of shared objects, from the plan of what it is to hold to the rows that it holds at its end.
+#![tactic(auto)]
+
+mod closing;
+mod given;
+mod opening;
+mod owned_store;
+mod owned_worker;
+mod plan;
+mod sizes;
+mod store;
+mod unclosed;
+mod unopened;
+mod unplanned;
+mod worker;
+
+pub use given::{GivenBack, Hired, ReturnSlot};
+pub use opening::OpenedStore;
+pub use owned_store::{OwnedStore, StillOpen, Unhired};
+pub use owned_worker::{OwnedWorker, StillOut};
+pub use plan::Plan;
+pub use store::Store;
+pub use unclosed::Unclosed;
+pub use unopened::Unopened;
+pub use unplanned::Unplanned;
+pub use worker::{BusyWorker, IdleWorker, IdleWorkers};

@@ -1,2 +1,0 @@
-pub mod Summary
-pub use Rattle.sto_report_spec.specs.Report
