@@ -20,8 +20,8 @@ use Rattle.sto_action.specs.declared.tx.Stop.TheVariants as stops
 use Rattle.sto_action.specs.Progs.{Prog, next_within, Runs, IsGiven, IsCancelled, IsAsked}
 use Rattle.sto_action.specs.declared.outcome.Done.{Done}
 use Rattle.sto_action.specs.declared.outcome.Done.TheVariants.{Gave, Cancelled}
-use Rattle.sto_action.specs.declared.outcome.Unrun.{Unrun}
-use Rattle.sto_action.specs.declared.outcome.Unrun.TheVariants.{Busy, Refused, Worn, NoMemory as WantsMemory}
+use Rattle.sto_action.specs.declared.outcome.TransactionError.{TransactionError}
+use Rattle.sto_action.specs.declared.outcome.TransactionError.TheVariants.{Busy, Refused, Worn, NoMemory as WantsMemory}
 
 -- the number is that of a transaction that the pass committed
 pub record IsCommittedTicket (v : View) (n : ℕ) : Type 0 where
@@ -76,7 +76,7 @@ HasTried m v w shapes most p (Err error) = TakesNoEffect v w
 
 -- what a transaction led to, which had so many tries and left so many tickets: all tries were made and aborted; or tries were made, fewer,
 -- and none is left
-abbrev pub HasLed : {A : Type 0} → Meaning → (v w : View) → (tries left : ℕ) → List Shape → ℕ → Prog A → Result (Done A) Unrun → Type 0
+abbrev pub HasLed : {A : Type 0} → Meaning → (v w : View) → (tries left : ℕ) → List Shape → ℕ → Prog A → Result (Done A) TransactionError → Type 0
 HasLed m v w tries left shapes most p (Ok (Gave value)) = IsAtomic m v w shapes most p (λ hs. IsGiven p hs value)
 HasLed m v w tries left shapes most p (Ok Cancelled) = IsAtomic m v w shapes most p (λ hs. IsCancelled p hs)
 HasLed m v w tries left shapes most p (Err (Refused call)) = IsAtomic m v w shapes most p (λ hs. IsAsked p hs call)
@@ -85,12 +85,12 @@ HasLed m v w tries left shapes most p (Err Worn) = (left ≡ 0) × ((many : ℕ)
 HasLed m v w tries left shapes most p (Err WantsMemory) = TakesNoEffect v w
 
 -- others were not in its way
-abbrev pub IsUndisturbed : {A : Type 0} → Result (Done A) Unrun → Type 0
+abbrev pub IsUndisturbed : {A : Type 0} → Result (Done A) TransactionError → Type 0
 IsUndisturbed (Err Busy) = ⊥
 IsUndisturbed r = Unit {0}
 
 -- what a transaction gave by what its code said at its end
-abbrev pub told_by : {A : Type 0} → Result A Stop → Result (Done A) Unrun
+abbrev pub told_by : {A : Type 0} → Result A Stop → Result (Done A) TransactionError
 told_by (Ok value) = Ok (Gave value)
 told_by (Err stops.Cancels) = Ok Cancelled
 told_by (Err (stops.Asks call)) = Err (Refused call)

@@ -1,4 +1,4 @@
-//! Code that is run until an attempt is not aborted.
+//! Action that is run until an attempt is not aborted.
 ghost use Rattle.std.specs.Prelude.{◌≡◌, ◌≤◌};
 ghost use Rattle.sto_model.specs.declared.call.Call.{Call};
 ghost use Rattle.sto_history.specs.Added.{Grows};
@@ -7,9 +7,9 @@ ghost use Rattle.sto_action.specs.Progs.{IsTakenCall};
 ghost use Rattle.sto_action.specs.Atomic.{HasLed, IsUndisturbed, told_by};
 
 use crate::attempt::attempt;
-use crate::code::Code;
-use crate::memory::CodeMemory;
-use crate::outcome::{Done, Unrun};
+use crate::code::Action;
+use crate::memory::ActionLists;
+use crate::outcome::{Done, TransactionError};
 use crate::tx::Stop;
 use std::alloc::Global;
 use sto_core::Cells;
@@ -20,7 +20,7 @@ use sto_type::TxType;
 
 /// Runs code as one transaction on a pass that is at rest, on objects of these shapes: attempts are made until one is not aborted, or
 /// so many were. Each takes one off the tickets that are left. The memory is lent to each in turn.
-pub fn atomically<T: TxType, K: Code, C: Cells<T>, W: AttemptWatch>(
+pub fn atomically<T: TxType, K: Action, C: Cells<T>, W: AttemptWatch>(
     alloc: Global,
     ty: &T,
     shapes: &Shapes,
@@ -28,9 +28,9 @@ pub fn atomically<T: TxType, K: Code, C: Cells<T>, W: AttemptWatch>(
     left: &mut u64,
     tries: u32,
     watch: &mut W,
-    memory: &mut CodeMemory,
+    memory: &mut ActionLists,
     code: &K,
-) -> Result<Done<K::Out>, Unrun>
+) -> Result<Done<K::Out>, TransactionError>
 where
     K::Out: Drop,
     requires takes { (call : Call) → IsTakenCall shapes.now.items call → (T.meaning ty.now).takes call }
@@ -49,25 +49,25 @@ where
             watch.before_retry();
         }
         if *left == 0 {
-            return Err(Unrun::Worn);
+            return Err(TransactionError::Worn);
         }
         *left -= 1;
         match attempt(alloc, ty, shapes, cells, watch, memory, code) {
             Ok(Some(said)) => return told(said),
             Ok(None) => {}
-            Err(NoMemory) => return Err(Unrun::NoMemory),
+            Err(NoMemory) => return Err(TransactionError::NoMemory),
         }
     }
-    Err(Unrun::Busy)
+    Err(TransactionError::Busy)
 }
 
 // What a transaction gave by what its code said at its end.
-fn told<A: Drop>(said: Result<A, Stop>) -> Result<Done<A>, Unrun>
+fn told<A: Drop>(said: Result<A, Stop>) -> Result<Done<A>, TransactionError>
     ensures { result ≡ told_by said }
 {
     match said {
         Ok(value) => Ok(Done::Gave(value)),
         Err(Stop::Cancels) => Ok(Done::Cancelled),
-        Err(Stop::Asks(call)) => Err(Unrun::Refused(call)),
+        Err(Stop::Asks(call)) => Err(TransactionError::Refused(call)),
     }
 }

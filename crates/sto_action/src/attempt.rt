@@ -10,9 +10,9 @@ ghost use Rattle.sto_action.specs.Shortened.{short_of};
 ghost use Rattle.sto_action.specs.Progs.{Runs, IsTakenCall};
 ghost use Rattle.sto_action.specs.Atomic.{HasTried};
 
-use crate::body::CodeBody;
-use crate::code::Code;
-use crate::memory::CodeMemory;
+use crate::body::ActionBody;
+use crate::code::Action;
+use crate::memory::ActionLists;
 use crate::tx::{Stop, Tx};
 use std::alloc::Global;
 use sto_attempt::Verdict;
@@ -23,13 +23,13 @@ use sto_transaction::{AttemptWatch, Record, Transaction};
 use sto_type::TxType;
 
 /// Makes one attempt of code, which may draw one ticket. It answers what the code said at its end, or none where it was aborted.
-pub(crate) fn attempt<T: TxType, K: Code, C: Cells<T>, W: AttemptWatch>(
+pub(crate) fn attempt<T: TxType, K: Action, C: Cells<T>, W: AttemptWatch>(
     alloc: Global,
     ty: &T,
     shapes: &Shapes,
     cells: &mut C,
     watch: &mut W,
-    memory: &mut CodeMemory,
+    memory: &mut ActionLists,
     code: &K,
 ) -> Result<Option<Result<K::Out, Stop>>, NoMemory>
 where
@@ -45,7 +45,7 @@ where
     ensures alone { C.passes cells.old ≡ 1 → IfOk result IsSome }
     ensures same { C.same cells.old cells.new }
 {
-    let body = CodeBody::new(memory.take_heard(), code, shapes)?;
+    let body = ActionBody::new(memory.take_heard(), code, shapes)?;
     let mut records = memory.take_records();
     let transaction = Transaction {
         ty,
@@ -76,7 +76,7 @@ where
 
 // What the code says at its end by the record of an attempt; none where that was aborted.
 #[tactic(auto, using(sto_action::proofs::Following::runs_of))]
-fn said_by<K: Code>(code: &K, last: &Record) -> Option<Result<K::Out, Stop>>
+fn said_by<K: Action>(code: &K, last: &Record) -> Option<Result<K::Out, Stop>>
 where
     K::Out: Drop,
     ensures { MatchOption result (is_abort (verdict last.now.verdict) ≡ true) (λ said. (is_abort (verdict last.now.verdict) ≡ false)

@@ -1,17 +1,17 @@
-//! Code as the body of a transaction.
+//! Action as the body of a transaction.
 ghost use Rattle.std.specs.Prelude.{◌≡◌, ◌-◌, ◌+◌, ◌≤◌, ◌++◌, ◌<◌, ◌^◌, map, length};
 ghost use Rattle.sto_model.specs.Run.{MayAsk};
 ghost use Rattle.sto_action.specs.Progs.{is_taken, next_by as by_run, IsTakenCall};
 
-use crate::code::Code;
+use crate::code::Action;
 use crate::short_reply::{ShortReply, shortened};
 use crate::tx::{Stop, Tx};
 use sto_model::{Body, Call, Next, Reply, Shapes, takes_code};
 use sto_part::{List, NoMemory};
 
-/// Code with what its calls were answered so far.
+/// Action with what its calls were answered so far.
 #[derive(Drop)]
-pub struct CodeBody<'c, K> {
+pub struct ActionBody<'c, K> {
     pub code: &'c K,
     /// The shapes of the objects that it asks.
     pub shapes: &'c Shapes,
@@ -23,7 +23,7 @@ pub struct CodeBody<'c, K> {
     ghost small: { most < 2 ^ 32 },
 }
 
-impl<'c, K: Code> CodeBody<'c, K> {
+impl<'c, K: Action> ActionBody<'c, K> {
     ghost use Rattle.std.specs.Prelude.{IfOk};
 
     /// The code, at its beginning. What it hears goes into this list, which is cleared; where memory is wanting its room is lost.
@@ -31,14 +31,14 @@ impl<'c, K: Code> CodeBody<'c, K> {
         heard: List<ShortReply>,
         code: &'c K,
         shapes: &'c Shapes,
-    ) -> Result<CodeBody<'c, K>, NoMemory>
+    ) -> Result<ActionBody<'c, K>, NoMemory>
         ensures { IfOk result (λ b. (b.code.now ≡ code.entry.now) × (b.shapes.now ≡ shapes.entry.now) × (b.most ≡ K.most code.entry.now)) }
     {
         let most = code.most();
         let mut heard = heard;
         heard.clear();
         heard.reserve(most)?;
-        Ok(CodeBody {
+        Ok(ActionBody {
             code,
             shapes,
             heard,
@@ -47,7 +47,7 @@ impl<'c, K: Code> CodeBody<'c, K> {
     }
 }
 
-impl<K: Code> Body for CodeBody<'_, K>
+impl<K: Action> Body for ActionBody<'_, K>
 where
     K::Out: Drop,
 {

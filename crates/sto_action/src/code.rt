@@ -1,14 +1,14 @@
-//! Code that may be run as a transaction.
+//! Action that may be run as a transaction.
 ghost use Rattle.std.specs.Prelude.{◌≡◌, ℕ};
 ghost use Rattle.sto_action.specs.Progs.{Prog, Follows};
 
 use crate::tx::{Stop, Tx};
 
-/// Code that may be run as a transaction.
+/// Action that may be run as a transaction.
 ///
 /// It is run again from its beginning after each reply, over all replies so far. So it looks at nothing but itself and what its calls
 /// are answered.
-pub trait Code {
+pub trait Action {
     /// What it gives.
     type Out;
 

@@ -1,4 +1,4 @@
-//! Code that is run as a transaction: what it may ask of objects, and what it means.
+//! Action that is run as a transaction: what it may ask of objects, and what it means.
 #![tactic(auto)]
 
 mod atomic;
@@ -13,11 +13,11 @@ mod snapshot;
 mod tx;
 
 pub use atomic::atomically;
-pub use body::CodeBody;
-pub use code::Code;
+pub use body::ActionBody;
+pub use code::Action;
 pub use handles::{ArrayId, BoxId, CounterId, HashId, TreeId, VectorId};
-pub use memory::CodeMemory;
-pub use outcome::{Done, Unrun};
+pub use memory::ActionLists;
+pub use outcome::{Done, TransactionError};
 pub use short_reply::ShortReply;
 pub use snapshot::{Held, Snapshot};
 pub use tx::{Stop, Tx};

@@ -14,14 +14,14 @@ use sto_transaction::{Memory, Record};
 /// Who runs transactions lends it to one after the other. So nothing is allocated for a transaction that is no larger than those before
 /// it. After want of memory the room of some lists may be lost. Contracts see nothing of it.
 #[derive(Drop)]
-pub struct CodeMemory {
+pub struct ActionLists {
     alloc: Global,
     pub(crate) attempts: Memory,
     records: Vec<Record>,
     heard: List<ShortReply>,
 }
 
-impl Model for CodeMemory {
+impl Model for ActionLists {
     ghost use Rattle.std.specs.Prelude.{◌≡◌, []};
 
     ghost Value = { Unit {0} };
@@ -31,10 +31,10 @@ impl Model for CodeMemory {
     ghost invariant = { λ m. m.records.items ≡ [] };
 }
 
-impl CodeMemory {
+impl ActionLists {
     /// Memory with no room yet. It takes none.
-    pub fn new(alloc: Global) -> CodeMemory {
-        CodeMemory {
+    pub fn new(alloc: Global) -> ActionLists {
+        ActionLists {
             alloc,
             attempts: Memory::new(alloc),
             records: Vec::new(alloc),

@@ -12,7 +12,7 @@ pub enum Done<A> {
 
 /// Why a transaction was not run to its end. Nothing of it took effect, and the worker can go on with others.
 #[derive(Clone, Copy)]
-pub enum Unrun {
+pub enum TransactionError {
     /// All tries were aborted, since others changed what it looked at.
     Busy,
     /// Its code asked this call, which its object does not take; or more calls than it may.

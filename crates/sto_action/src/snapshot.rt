@@ -1,8 +1,8 @@
-//! Code that is ready made: what many objects hold at one time.
+//! Action that is ready made: what many objects hold at one time.
 ghost use Rattle.std.specs.Prelude.{◌≡◌, ◌+◌, ◌<◌, ◌^◌, length, map};
 ghost use Rattle.sto_action.specs.Snapshots.{HasGot};
 
-use crate::code::Code;
+use crate::code::Action;
 use crate::handles::{BoxId, CounterId};
 use crate::tx::{Stop, Tx};
 
@@ -21,7 +21,7 @@ pub struct Held<const B: usize, const C: usize> {
     pub counters: [i64; C],
 }
 
-impl<const B: usize, const C: usize> Code for Snapshot<B, C> {
+impl<const B: usize, const C: usize> Action for Snapshot<B, C> {
     ghost use Rattle.std.specs.Prelude.{◌+◌, length};
     ghost use Rattle.sto_action.specs.Snapshots.{snapshot};
 

@@ -11,16 +11,16 @@ use Rattle.sto_history.specs.Done.{AreAllDone, AreDoneBy}
 use Rattle.sto_history.specs.History.{times_numbered, StandsIn, LeadTo}
 use Rattle.sto_history.proofs.Examples.{boxes, set_five}
 use Rattle.sto_shared_store.specs.declared.store.Store.{Store}
-use Rattle.sto_shared_store.specs.declared.worker.IdleWorker.{IdleWorker}
-use Rattle.sto_shared_store.specs.declared.unplanned.Unplanned.{Unplanned}
-use Rattle.sto_shared_store.specs.declared.unplanned.Unplanned.TheVariants as unplanned
+use Rattle.sto_shared_store.specs.declared.worker.CountedRest.{CountedRest}
+use Rattle.sto_shared_store.specs.declared.unplanned.PlanError.{PlanError}
+use Rattle.sto_shared_store.specs.declared.unplanned.PlanError.TheVariants as unplanned
 use Rattle.sto_shared_store.specs.Plans.{CanStand, AllStand, IsReason}
 use Rattle.sto_interactive.specs.declared.session.Session.{Session}
 use Rattle.sto_shared_store.proofs.GatheredOwned.{rest_still, slots_left, same_store}
 use Rattle.sto_c.specs.declared.content.HandleContent.{HandleContent}
 use Rattle.sto_c.specs.declared.content.HandleContent.TheVariants.{Worker}
-use Rattle.sto_c.specs.declared.content.HeldStore.{HeldStore}
-use Rattle.sto_c.specs.declared.content.HeldWorker.{HeldWorker}
+use Rattle.sto_c.specs.declared.content.StoreHandle.{StoreHandle}
+use Rattle.sto_c.specs.declared.content.WorkerHandle.{WorkerHandle}
 use Rattle.sto_c.specs.declared.crossing.RowOut.{RowOut}
 use Rattle.sto_c.specs.declared.crossing.ShapeIn.{ShapeIn}
 use Rattle.sto_c.specs.declared.status.Status.{Status}
@@ -64,9 +64,9 @@ first_value (row ∷ rows) = row.value
 one_is_not_five : pos 1 ≡ pos 5 → ⊥
 one_is_not_five same = cc same
 
-module _ (h : HeldStore) (rows : List RowOut) (closed : AreClosedRows h rows) where
+module _ (h : StoreHandle) (rows : List RowOut) (closed : AreClosedRows h rows) where
   -- a store of one worker, which rested there and had committed one transaction
-  module _ (w : IdleWorker Objects naming_ghosts) (rests : h.store.idle.items ≡ w ∷ []) (one : (arc_value h.store.store).shared.table.shared.key.passes ≡ 1)
+  module _ (w : CountedRest Objects naming_ghosts) (rests : h.store.idle.items ≡ w ∷ []) (one : (arc_value h.store.store).shared.table.shared.key.passes ≡ 1)
       (box : (objects.meaning (arc_value h.store.store).ty).machines ≡ boxes) (done : AreAllDone (objects.meaning (arc_value h.store.store).ty) w.rest.seat.me.0.view (set_five ∷ [])) where
     same : arc_value closed.last.store ≡ arc_value h.store.store
     same = ap arc_value (same_store objects closed.many h.store closed.last closed.gathered)
@@ -74,13 +74,13 @@ module _ (h : HeldStore) (rows : List RowOut) (closed : AreClosedRows h rows) wh
     alone : closed.last.idle.items ≡ w ∷ []
     alone =
         let back = rest_still objects closed.many h.store closed.last closed.gathered in
-        nothing_more w closed.last.idle.items back.0 (back.1 ∙ ap (λ (l : List (IdleWorker Objects naming_ghosts)). l ++ back.0) rests)
+        nothing_more w closed.last.idle.items back.0 (back.1 ∙ ap (λ (l : List (CountedRest Objects naming_ghosts)). l ++ back.0) rests)
         (closed.all ∙ ap (λ (s : Store Objects). s.shared.table.shared.key.passes) same ∙ one)
 
     history : LeadTo boxes (set_five ∷ []) closed.state
     history =
         subst (λ ms. LeadTo ms (set_five ∷ []) closed.state) (ap (λ (s : Store Objects). (objects.meaning s.ty).machines) same ∙ box)
-        (closed.history (set_five ∷ []) (subst (λ (l : List (IdleWorker Objects naming_ghosts)). AreDoneBy (objects.meaning (arc_value closed.last.store).ty) (map (λ x. x.rest.seat.me.0.view) l) (set_five ∷ [])) (sym alone)
+        (closed.history (set_five ∷ []) (subst (λ (l : List (CountedRest Objects naming_ghosts)). AreDoneBy (objects.meaning (arc_value closed.last.store).ty) (map (λ x. x.rest.seat.me.0.view) l) (set_five ∷ [])) (sym alone)
         (set_five ∷ [], [], refl, subst (λ (s : Store Objects). AreAllDone (objects.meaning s.ty) w.rest.seat.me.0.view (set_five ∷ [])) (sym same) done, refl)))
 
     pub rows_of_five : rows ≡ rows_out 0 fives
@@ -103,11 +103,11 @@ module _ (h : HeldStore) (rows : List RowOut) (closed : AreClosedRows h rows) wh
       omega (arith, lost, many, long, count, left, all)
 
 -- a store that was opened for one worker, where two were asked
-pub no_store_for_two : (shapes : List ShapeIn) (h : HeldStore) → HasShapes shapes 1 h → HasShapes shapes 2 h → ⊥
+pub no_store_for_two : (shapes : List ShapeIn) (h : StoreHandle) → HasShapes shapes 1 h → HasShapes shapes 2 h → ⊥
 no_store_for_two shapes h one two = let a = one.passes in let b = two.passes in omega (arith, a, b)
 
 -- a store of two workers, where one of them rests
-pub no_missing_worker : (shapes : List ShapeIn) (h : HeldStore) → HasShapes shapes 2 h → length h.store.idle.items ≡ 1 → ⊥
+pub no_missing_worker : (shapes : List ShapeIn) (h : StoreHandle) → HasShapes shapes 2 h → length h.store.idle.items ≡ 1 → ⊥
 no_missing_worker shapes h two rest = let b = two.rest in omega (arith, rest, b)
 
 -- one of the shapes is at a place that it cannot stand at
@@ -115,7 +115,7 @@ one_stands : (before first : List Shape) (s : Shape) (after : List Shape) → Al
 one_stands before [] s after h = subst (λ (l : List Shape). CanStand l s) (sym (append-nil before)) h.0
 one_stands before (x ∷ first) s after h = subst (λ (l : List Shape). CanStand l s) (append_assoc before (x ∷ []) first) (one_stands (before ++ x ∷ []) first s after h.1)
 
-no_reason : (error : Unplanned) (shapes : List Shape) (s : Shape) → CanStand shapes s → error ≢ unplanned.NoMemory → IsReason error shapes s → ⊥
+no_reason : (error : PlanError) (shapes : List Shape) (s : Shape) → CanStand shapes s → error ≢ unplanned.NoMemory → IsReason error shapes s → ⊥
 no_reason unplanned.OutOfOrder shapes s h broken why = let o = h.order in omega (arith, o, why)
 no_reason unplanned.NoRoom shapes s h broken why = true≢false (sym h.room ∙ why)
 no_reason unplanned.TooMany shapes s h broken (inl parts) = let p = h.parts in omega (arith, p, parts)
@@ -124,12 +124,12 @@ no_reason unplanned.NoMemory shapes s h broken why = broken refl
 
 -- an earlier shape breaks a rule too
 pub no_second_fault : (shapes : List ShapeIn) (why : Status) (h : IsRefused shapes why) (first after : List Shape) (s : Shape) → h.planned ≡ first ++ s ∷ after
-    → (error : Unplanned) → error ≢ unplanned.NoMemory → IsReason error first s → ⊥
+    → (error : PlanError) → error ≢ unplanned.NoMemory → IsReason error first s → ⊥
 no_second_fault shapes why h first after s here error broken fault =
     no_reason error first s (one_stands [] first s after (subst (λ (l : List Shape). AllStand [] l) here h.first)) broken fault
 
 -- a worker that is in a transaction
-pub no_give_back_within : (h : HeldWorker) (y : HandleContent) → IfSome h.worker.session (λ x. x.live ≢ None) → h.worker.session ≢ None → HasGivenBack (Worker h) (Ok tt) y → ⊥
+pub no_give_back_within : (h : WorkerHandle) (y : HandleContent) → IfSome h.worker.session (λ x. x.live ≢ None) → h.worker.session ≢ None → HasGivenBack (Worker h) (Ok tt) y → ⊥
 no_give_back_within h y within there given = both h.worker.session there within given.1
   where
     both : (o : Option (Session Objects naming_ghosts)) → o ≢ None → IfSome o (λ x. x.live ≢ None) → IfSome o (λ x. x.live ≡ None) → ⊥
@@ -137,5 +137,5 @@ no_give_back_within h y within there given = both h.worker.session there within 
     both (Some x) there within free = within free
 
 -- the worker is in the handle still
-pub no_give_back_that_keeps : (h k : HeldWorker) → HasGivenBack (Worker h) (Ok tt) (Worker k) → ⊥
+pub no_give_back_that_keeps : (h k : WorkerHandle) → HasGivenBack (Worker h) (Ok tt) (Worker k) → ⊥
 no_give_back_that_keeps h k given = cc (given.0)

@@ -6,7 +6,7 @@ use Rattle.sto_part.specs.Listed.{Listed}
 use Rattle.sto_model.specs.declared.call.Call.{Call}
 use Rattle.sto_model.specs.declared.reply.Reply.{Reply}
 use Rattle.sto_shared_store.proofs.Answered.{answered_last}
-use Rattle.sto_c.specs.declared.content.HeldWorker.{HeldWorker}
+use Rattle.sto_c.specs.declared.content.WorkerHandle.{WorkerHandle}
 use Rattle.sto_c.specs.declared.crossing.ReplyOut.{ReplyOut}
 use Rattle.sto_c.specs.Content.{objects, IsWorker}
 use Rattle.sto_c.specs.Crossing.{reply_out, last_of}
@@ -16,7 +16,7 @@ last_there : {X : Type 0} (xs : List X) → 0 < length xs → (x : X) × (last_o
 last_there [] less = absurd (omega arith)
 last_there (y ∷ ys) less = (get_or (y ∷ ys) (length (y ∷ ys) - 1) y, slice_get-get_or (y ∷ ys) (length (y ∷ ys) - 1) y (omega arith))
 
-pub has_heard : (h k : HeldWorker) (call : Call) (old new : ReplyOut) → IsWorker h → Asks h k call (Ok tt) → new ≡ unwrap_or (option_map reply_out (last_reply_of k)) old → HasHeard new k
+pub has_heard : (h k : WorkerHandle) (call : Call) (old new : ReplyOut) → IsWorker h → Asks h k call (Ok tt) → new ≡ unwrap_or (option_map reply_out (last_reply_of k)) old → HasHeard new k
 has_heard h k call old new is asked same =
     let a = answered_last objects h.worker k.worker call is asked.1 in
     let z = last_there a.0.items a.2 in

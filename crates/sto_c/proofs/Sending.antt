@@ -8,17 +8,17 @@ use Rattle.sto_store.specs.contracts.objects.ObjectsNaming.TheImpl.{ghosts as na
 use Rattle.sto_store.specs.contracts.objects.ObjectsTxType.TheImpl.{ghosts as type_ghosts}
 use Rattle.sto_store.proofs.objects.Objects.TheSendSync as objects_cross
 use Rattle.sto_c.specs.contracts.content.HandleContent as HandleContent
-use Rattle.sto_c.specs.contracts.content.HeldStore as HeldStore
-use Rattle.sto_c.specs.contracts.content.HeldWorker as HeldWorker
+use Rattle.sto_c.specs.contracts.content.StoreHandle as StoreHandle
+use Rattle.sto_c.specs.contracts.content.WorkerHandle as WorkerHandle
 use Rattle.sto_c.specs.contracts.crossing.RowOut as RowOut
 use Rattle.sto_shared_store.proofs.Sending.{owned_store_send, owned_worker_send}
 
-held_store_send : IsSend HeldStore.the_field.row
-held_store_send = struct_send (shape HeldStore.the_type)
+held_store_send : IsSend StoreHandle.the_field.row
+held_store_send = struct_send (shape StoreHandle.the_type)
     (owned_store_send Objects.the_row naming_ghosts type_ghosts objects_cross.the_send objects_cross.the_sync, (search sendable, tt))
 
-held_worker_send : IsSend HeldWorker.the_field.row
-held_worker_send = struct_send (shape HeldWorker.the_type)
+held_worker_send : IsSend WorkerHandle.the_field.row
+held_worker_send = struct_send (shape WorkerHandle.the_type)
     (owned_worker_send Objects.the_row naming_ghosts type_ghosts objects_cross.the_send objects_cross.the_sync, (search sendable, tt))
 
 row_send : IsSend RowOut.the_row

@@ -7,17 +7,17 @@ use Rattle.sto_store.specs.contracts.objects.ObjectsTxType.TheImpl.{ghosts as ty
 use Rattle.sto_shared_store.specs.Owned.{IsOwnedStore, IsOwnedWorker}
 use Rattle.sto_c.specs.declared.content.HandleContent.{HandleContent}
 use Rattle.sto_c.specs.declared.content.HandleContent.TheVariants.{Nothing, Store, Worker, Closed}
-use Rattle.sto_c.specs.declared.content.HeldStore.{HeldStore}
-use Rattle.sto_c.specs.declared.content.HeldWorker.{HeldWorker}
+use Rattle.sto_c.specs.declared.content.StoreHandle.{StoreHandle}
+use Rattle.sto_c.specs.declared.content.WorkerHandle.{WorkerHandle}
 
 -- what the traits say of objects
 abbrev pub objects : OfType Objects
 objects = of_type naming_ghosts type_ghosts
 
-abbrev pub IsStore : HeldStore → Type 0
+abbrev pub IsStore : StoreHandle → Type 0
 IsStore h = IsOwnedStore objects h.store
 
-abbrev pub IsWorker : HeldWorker → Type 0
+abbrev pub IsWorker : WorkerHandle → Type 0
 IsWorker h = IsOwnedWorker objects h.worker
 
 -- a store whose workers are at rest, a worker of its store, or the rows of a store that was closed

@@ -1,9 +1,9 @@
 -- The number of each status, as include/sto.h has it.
 use Rattle.std.specs.Prelude.{◌≡◌, ℕ, Result, Ok, Err}
-use Rattle.sto_shared_store.specs.declared.unplanned.Unplanned.{Unplanned}
-use Rattle.sto_shared_store.specs.declared.unplanned.Unplanned.TheVariants as unplanned
-use Rattle.sto_shared_store.specs.declared.unopened.Unopened.{Unopened}
-use Rattle.sto_shared_store.specs.declared.unopened.Unopened.TheVariants as unopened
+use Rattle.sto_shared_store.specs.declared.unplanned.PlanError.{PlanError}
+use Rattle.sto_shared_store.specs.declared.unplanned.PlanError.TheVariants as unplanned
+use Rattle.sto_shared_store.specs.declared.unopened.OpenError.{OpenError}
+use Rattle.sto_shared_store.specs.declared.unopened.OpenError.TheVariants as unopened
 use Rattle.sto_c.specs.declared.status.Status.{Status}
 use Rattle.sto_c.specs.declared.status.Status.TheVariants as status
 
@@ -40,12 +40,12 @@ pub record Answers (answer : ℕ) (P : Result (Unit {0}) Status → Type 0) : Ty
   pub so : P done
 
 -- what tells why an object could not be planned, and why a store was not opened
-abbrev pub of_unplanned : Unplanned → Status
+abbrev pub of_unplanned : PlanError → Status
 of_unplanned unplanned.OutOfOrder = status.BadOrder
 of_unplanned unplanned.NoRoom = status.BadSize
 of_unplanned unplanned.TooMany = status.TooMany
 of_unplanned unplanned.NoMemory = status.NoMemory
 
-abbrev pub of_unopened : Unopened → Status
+abbrev pub of_unopened : OpenError → Status
 of_unopened unopened.Workers = status.BadWorkers
 of_unopened unopened.NoMemory = status.NoMemory

@@ -4,12 +4,12 @@ use Rattle.std.specs.Arc.{arc_value}
 use Rattle.sto_model.specs.declared.call.Call.{Call}
 use Rattle.sto_model.specs.declared.reply.Reply.{Reply}
 use Rattle.sto_model.specs.Operations.{operation_of}
-use Rattle.sto_interactive.specs.declared.starting.Unbegun.{Unbegun}
-use Rattle.sto_interactive.specs.declared.starting.Unbegun.TheVariants as unbegun
-use Rattle.sto_interactive.specs.declared.asking.Unanswered.{Unanswered}
-use Rattle.sto_interactive.specs.declared.asking.Unanswered.TheVariants as unanswered
-use Rattle.sto_interactive.specs.declared.ending.Uncommitted.{Uncommitted}
-use Rattle.sto_interactive.specs.declared.ending.Uncommitted.TheVariants as uncommitted
+use Rattle.sto_interactive.specs.declared.starting.BeginError.{BeginError}
+use Rattle.sto_interactive.specs.declared.starting.BeginError.TheVariants as unbegun
+use Rattle.sto_interactive.specs.declared.asking.AskError.{AskError}
+use Rattle.sto_interactive.specs.declared.asking.AskError.TheVariants as unanswered
+use Rattle.sto_interactive.specs.declared.ending.CommitError.{CommitError}
+use Rattle.sto_interactive.specs.declared.ending.CommitError.TheVariants as uncommitted
 use Rattle.sto_interactive.specs.Steps as session
 use Rattle.sto_shared_store.specs.Owned.{Leads, replies_of}
 use Rattle.sto_c.specs.declared.crossing.CallIn.{CallIn}
@@ -19,7 +19,7 @@ use Rattle.sto_c.specs.declared.crossing.RowOut.{RowOut}
 use Rattle.sto_c.specs.declared.handle.Handle.{Handle}
 use Rattle.sto_c.specs.declared.content.HandleContent.{HandleContent}
 use Rattle.sto_c.specs.declared.content.HandleContent.TheVariants.{Nothing, Store, Worker, Closed}
-use Rattle.sto_c.specs.declared.content.HeldWorker.{HeldWorker}
+use Rattle.sto_c.specs.declared.content.WorkerHandle.{WorkerHandle}
 use Rattle.sto_c.specs.declared.status.Status.{Status}
 use Rattle.sto_c.specs.declared.status.Status.TheVariants as status
 use Rattle.sto_c.specs.Content.{objects}
@@ -30,28 +30,28 @@ abbrev pub held : Handle → HandleContent
 held handle = handle.raw.value
 
 -- from the worker h to the worker k
-module _ (h k : HeldWorker) where
+module _ (h k : WorkerHandle) where
   -- of the same store
   abbrev pub IsOfSameStore : Type 0
   IsOfSameStore = (k.worker.store ≡ h.worker.store) × (k.objects ≡ h.objects)
 
   -- its session was led as sto_session has it
-  abbrev pub Begins : Result (Unit {0}) Unbegun → Type 0
+  abbrev pub Begins : Result (Unit {0}) BeginError → Type 0
   Begins r = IsOfSameStore × Leads (λ x y. session.HasBegun objects (arc_value h.worker.store).ty (arc_value h.worker.store).shared x r y) h.worker.session k.worker.session
 
-  abbrev pub Asks : Call → Result (Unit {0}) Unanswered → Type 0
+  abbrev pub Asks : Call → Result (Unit {0}) AskError → Type 0
   Asks call r = IsOfSameStore × Leads (λ x y. session.HasAsked objects (arc_value h.worker.store).ty (arc_value h.worker.store).shared x call r y) h.worker.session k.worker.session
 
-  abbrev pub Commits : Result ℕ Uncommitted → Type 0
+  abbrev pub Commits : Result ℕ CommitError → Type 0
   Commits r = IsOfSameStore × Leads (λ x y. session.HasEndedBy objects (arc_value h.worker.store).ty (arc_value h.worker.store).shared x r y
       (session.HasCommittedAfter objects (arc_value h.worker.store).ty (arc_value h.worker.store).shared)) h.worker.session k.worker.session
 
-  abbrev pub Cancels : Result ℕ Uncommitted → Type 0
+  abbrev pub Cancels : Result ℕ CommitError → Type 0
   Cancels r = IsOfSameStore × Leads (λ x y. session.HasEndedBy objects (arc_value h.worker.store).ty (arc_value h.worker.store).shared x r y
       (session.HasCancelledAfter objects (arc_value h.worker.store).ty (arc_value h.worker.store).shared)) h.worker.session k.worker.session
 
 -- a transaction was begun, or why it was not
-abbrev pub HasBegun : HeldWorker → Result (Unit {0}) Status → HeldWorker → Type 0
+abbrev pub HasBegun : WorkerHandle → Result (Unit {0}) Status → WorkerHandle → Type 0
 HasBegun h (Ok done) k = Begins h k (Ok done)
 HasBegun h (Err status.InTransaction) k = Begins h k (Err unbegun.InTransaction)
 HasBegun h (Err status.NoTickets) k = Begins h k (Err unbegun.Worn)
@@ -59,15 +59,15 @@ HasBegun h (Err status.NoMemory) k = Begins h k (Err unbegun.NoMemory)
 HasBegun h (Err _) k = ⊥
 
 -- the last reply of its transaction, if there is one
-abbrev pub last_reply_of : HeldWorker → Option Reply
+abbrev pub last_reply_of : WorkerHandle → Option Reply
 last_reply_of h = option_and_then (λ rs. last_of rs.items) (replies_of h.worker)
 
 -- this is what C is told of the last reply of its transaction
-abbrev pub HasHeard : ReplyOut → HeldWorker → Type 0
+abbrev pub HasHeard : ReplyOut → WorkerHandle → Type 0
 HasHeard reply k = option_map reply_out (last_reply_of k) ≡ Some reply
 
 -- a call was asked, or why it was not
-abbrev pub HasAnswered : CallIn → HeldWorker → Result (Unit {0}) Status → HeldWorker → Type 0
+abbrev pub HasAnswered : CallIn → WorkerHandle → Result (Unit {0}) Status → WorkerHandle → Type 0
 HasAnswered given h (Ok done) k = (given.object < h.objects) × Asks h k (call_in given) (Ok done)
 HasAnswered given h (Err status.NoObject) k = (h.objects ≤ given.object) × (k ≡ h)
 HasAnswered given h (Err status.NoCall) k = (given.object < h.objects)
@@ -78,11 +78,11 @@ HasAnswered given h (Err status.NoMemory) k = (given.object < h.objects) × Asks
 HasAnswered given h (Err _) k = ⊥
 
 -- the reply was told where it was answered
-abbrev pub HasAsked : CallIn → ReplyOut → HeldWorker → Result (Unit {0}) Status → HeldWorker → Type 0
+abbrev pub HasAsked : CallIn → ReplyOut → WorkerHandle → Result (Unit {0}) Status → WorkerHandle → Type 0
 HasAsked given reply h done k = HasAnswered given h done k × OnOk done (HasHeard reply k)
 
 -- the transaction was committed at this place in the order, or why it was not
-abbrev pub HasCommitted : ℕ → HeldWorker → Result (Unit {0}) Status → HeldWorker → Type 0
+abbrev pub HasCommitted : ℕ → WorkerHandle → Result (Unit {0}) Status → WorkerHandle → Type 0
 HasCommitted place h (Ok done) k = Commits h k (Ok place)
 HasCommitted place h (Err status.NoTransaction) k = Commits h k (Err uncommitted.NoTransaction)
 HasCommitted place h (Err status.Aborted) k = Commits h k (Err uncommitted.Aborted)
@@ -90,7 +90,7 @@ HasCommitted place h (Err status.NoMemory) k = Commits h k (Err uncommitted.NoMe
 HasCommitted place h (Err _) k = ⊥
 
 -- the transaction was given up, or why it was not
-abbrev pub HasCancelled : HeldWorker → Result (Unit {0}) Status → HeldWorker → Type 0
+abbrev pub HasCancelled : WorkerHandle → Result (Unit {0}) Status → WorkerHandle → Type 0
 HasCancelled h (Ok done) k = (at : ℕ) × Cancels h k (Ok at)
 HasCancelled h (Err status.NoTransaction) k = Cancels h k (Err uncommitted.NoTransaction)
 HasCancelled h (Err status.Aborted) k = Cancels h k (Err uncommitted.Aborted)
@@ -98,7 +98,7 @@ HasCancelled h (Err status.NoMemory) k = Cancels h k (Err uncommitted.NoMemory)
 HasCancelled h (Err _) k = ⊥
 
 -- nothing changed, and so many more transactions may be begun
-abbrev pub HasToldLeft : ℕ → HeldWorker → Result (Unit {0}) Status → HeldWorker → Type 0
+abbrev pub HasToldLeft : ℕ → WorkerHandle → Result (Unit {0}) Status → WorkerHandle → Type 0
 HasToldLeft left h (Ok done) k = (k ≡ h) × IfSome h.worker.session (λ x. left ≡ x.left)
 HasToldLeft left h (Err _) k = ⊥
 
@@ -109,13 +109,13 @@ HasCopied items old (Err status.NoRoom) new count = (new ≡ old) × (count ≡ 
 HasCopied items old (Err _) new count = ⊥
 
 -- nothing changed; in a transaction the pairs of the last reply were copied
-abbrev pub HasToldPairs : (old new : List PairOut) → (counted count : ℕ) → HeldWorker → Result (Unit {0}) Status → HeldWorker → Type 0
+abbrev pub HasToldPairs : (old new : List PairOut) → (counted count : ℕ) → WorkerHandle → Result (Unit {0}) Status → WorkerHandle → Type 0
 HasToldPairs old new counted count h done k = (k ≡ h)
     × MatchOption (replies_of h.worker) ((done ≡ Err status.NoTransaction) × (new ≡ old) × (count ≡ counted))
     (λ rs. HasCopied (map pair_out (pairs_of (last_of rs.items))) old done new count)
 
 -- a call of a worker; where a handle holds something else, nothing changes
-abbrev pub OfWorker : (HeldWorker → Result (Unit {0}) Status → HeldWorker → Type 0) → HandleContent → Result (Unit {0}) Status → HandleContent → Type 0
+abbrev pub OfWorker : (WorkerHandle → Result (Unit {0}) Status → WorkerHandle → Type 0) → HandleContent → Result (Unit {0}) Status → HandleContent → Type 0
 OfWorker to Nothing done y = (done ≡ Err status.Empty) × (y ≡ Nothing)
 OfWorker to (Store h) done y = (done ≡ Err status.OtherHandle) × (y ≡ Store h)
 OfWorker to (Closed rows) done y = (done ≡ Err status.OtherHandle) × (y ≡ Closed rows)

@@ -7,8 +7,8 @@ use Rattle.sto_model.specs.Objects.{machines_of}
 use Rattle.sto_model.specs.Rows.{Row}
 use Rattle.sto_store.specs.declared.objects.Objects.{Objects}
 use Rattle.sto_store.specs.contracts.objects.ObjectsNaming.TheImpl.{ghosts as naming_ghosts}
-use Rattle.sto_shared_store.specs.declared.worker.IdleWorker.{IdleWorker}
-use Rattle.sto_shared_store.specs.declared.unplanned.Unplanned.TheVariants as unplanned
+use Rattle.sto_shared_store.specs.declared.worker.CountedRest.{CountedRest}
+use Rattle.sto_shared_store.specs.declared.unplanned.PlanError.TheVariants as unplanned
 use Rattle.sto_shared_store.specs.Plans.{IsReason, AllStand}
 use Rattle.sto_history.specs.Done.{HaveHistory}
 use Rattle.sto_shared_store.specs.Working.{IsWorker, AreRowsAfter}
@@ -20,8 +20,8 @@ use Rattle.sto_c.specs.declared.crossing.ShapeIn.{ShapeIn}
 use Rattle.sto_c.specs.declared.crossing.RowOut.{RowOut}
 use Rattle.sto_c.specs.declared.content.HandleContent.{HandleContent}
 use Rattle.sto_c.specs.declared.content.HandleContent.TheVariants.{Nothing, Store, Worker, Closed}
-use Rattle.sto_c.specs.declared.content.HeldStore.{HeldStore}
-use Rattle.sto_c.specs.declared.content.HeldWorker.{HeldWorker}
+use Rattle.sto_c.specs.declared.content.StoreHandle.{StoreHandle}
+use Rattle.sto_c.specs.declared.content.WorkerHandle.{WorkerHandle}
 use Rattle.sto_c.specs.declared.status.Status.{Status}
 use Rattle.sto_c.specs.declared.status.Status.TheVariants as status
 use Rattle.sto_c.specs.Content.{objects}
@@ -34,7 +34,7 @@ Fills P Q Nothing (Err why) y = (y ≡ Nothing) × Q why
 Fills P Q x done y = (done ≡ Err status.Taken) × (y ≡ x)
 
 -- a store of objects of these shapes, opened for so many workers, who all rest in it
-pub record HasShapes (shapes : List ShapeIn) (workers : ℕ) (h : HeldStore) : Type 0 where
+pub record HasShapes (shapes : List ShapeIn) (workers : ℕ) (h : StoreHandle) : Type 0 where
   pub planned : List Shape
   pub all : map shape_in shapes ≡ map Some planned
   pub machines : (objects.meaning (arc_value h.store.store).ty).machines ≡ machines_of planned
@@ -77,18 +77,18 @@ IsUnopened shapes workers status.BadWorkers = (workers ≡ 0) ⊎ (65536 < worke
 IsUnopened shapes workers why = IsUnplanned shapes why
 
 -- the same store, in which at least as many workers rest but so many
-abbrev pub IsSameStore : ℕ → HeldStore → HeldStore → Type 0
+abbrev pub IsSameStore : ℕ → StoreHandle → StoreHandle → Type 0
 IsSameStore out h k = (k.store.store ≡ h.store.store) × (k.objects ≡ h.objects) × (length h.store.idle.items ≤ length k.store.idle.items + out)
 
 -- the same store: some of the workers that were out came back to it, and nothing else has changed
-abbrev pub IsGathered : HeldStore → HeldStore → Type 0
+abbrev pub IsGathered : StoreHandle → StoreHandle → Type 0
 IsGathered h k = (k.objects ≡ h.objects) × ((many : ℕ) × HasGathered objects many h.store k.store)
 
 -- a worker was given out of the store: it is of the same store, and was the last that rested there once some had come back
-pub record HasHired (h g : HeldStore) (k : HeldWorker) : Type 0 where
+pub record HasHired (h g : StoreHandle) (k : WorkerHandle) : Type 0 where
   pub same : arc_value k.worker.store ≡ arc_value h.store.store
   pub objects_same : k.objects ≡ h.objects
-  pub before : HeldStore
+  pub before : StoreHandle
   pub back : IsGathered h before
   pub out : HasGivenOut before.store g.store k.worker
 
@@ -98,7 +98,7 @@ IsHiredOf (Store h) (Store g) (Worker k) = HasHired h g k
 IsHiredOf _ _ _ = ⊥
 
 -- why no worker was given out of the store h, which is k then: none rests in it, or memory was wanting
-abbrev pub IsUnhiredOf : HeldStore → Status → HeldStore → Type 0
+abbrev pub IsUnhiredOf : StoreHandle → Status → StoreHandle → Type 0
 IsUnhiredOf h status.NoWorker k = (h.store.idle.items ≡ []) × (k.store.idle.items ≡ [])
 IsUnhiredOf h status.NoMemory k = IsSameStore 0 h k
 IsUnhiredOf h _ k = ⊥
@@ -133,12 +133,12 @@ HasGivenBack x done y = (done ≡ Err status.OtherHandle) × (y ≡ x)
 
 -- these are the rows of the contents after all commits of all workers of a store, and the last state of a serial history of all that
 -- they have done: those that rested in it, as they were, and those that were out, who came back to it
-pub record AreClosedRows (h : HeldStore) (rows : List RowOut) : Type 0 where
+pub record AreClosedRows (h : StoreHandle) (rows : List RowOut) : Type 0 where
   pub state : List (List Row)
   pub many : ℕ
   pub last : OwnedStore Objects naming_ghosts
   pub gathered : HasGathered objects many h.store last
-  pub own : All (λ (w : IdleWorker Objects naming_ghosts). IsWorker (objects.meaning (arc_value last.store).ty) (objects.sizes (arc_value last.store).ty) (arc_value last.store).shared w.rest.seat) last.idle.items
+  pub own : All (λ (w : CountedRest Objects naming_ghosts). IsWorker (objects.meaning (arc_value last.store).ty) (objects.sizes (arc_value last.store).ty) (arc_value last.store).shared w.rest.seat) last.idle.items
   pub all : length last.idle.items ≡ (arc_value last.store).shared.table.shared.key.passes
   pub leave : AreRowsAfter objects.valid (objects.meaning (arc_value last.store).ty) (map (λ w. w.rest.seat.me.0.view) last.idle.items) state
   pub history : HaveHistory (objects.meaning (arc_value last.store).ty) (map (λ w. w.rest.seat.me.0.view) last.idle.items) state
@@ -146,7 +146,7 @@ pub record AreClosedRows (h : HeldStore) (rows : List RowOut) : Type 0 where
 
 -- a store was closed, or why it was not: fewer workers rest in it than it was opened for, or all do and another call has not let it go
 -- yet; where memory was wanting it may be lost
-abbrev pub HasClosedStore : HeldStore → Result (Unit {0}) Status → HandleContent → Type 0
+abbrev pub HasClosedStore : StoreHandle → Result (Unit {0}) Status → HandleContent → Type 0
 HasClosedStore h (Ok done) (Closed rows) = AreClosedRows h rows.items
 HasClosedStore h (Err status.WorkersOut) (Store k) = IsGathered h k × (AllRest k.store → ⊥)
 HasClosedStore h (Err status.Busy) (Store k) = IsGathered h k × AllRest k.store

@@ -7,20 +7,20 @@ ghost use Rattle.sto_c.specs.Stores.{HasGivenBack};
 ghost use Rattle.sto_c.specs.Steps.{IsOfSameStore, HasBegun, HasAnswered, HasAsked, HasCommitted, HasCancelled, last_reply_of};
 ghost use Rattle.sto_c.specs.Whole.{HaveAsked, HasNotAnswered, HasTriedWhole, HasRunWhole};
 
-use crate::content::{HandleContent, HeldWorker};
+use crate::content::{HandleContent, WorkerHandle};
 use crate::crossing::{CallIn, ReplyOut};
 use crate::status::Status;
 use crossbeam_utils::Backoff;
 use std::alloc::Global;
-use sto_interactive::{Unanswered, Unbegun, Uncommitted};
+use sto_interactive::{AskError, BeginError, CommitError};
 use sto_model::{Replies, Reply};
-use sto_shared_store::StillOut;
+use sto_shared_store::GiveBackError;
 
 // How often a whole transaction is tried before it is busy.
 const TRIES: u32 = 8;
 
 /// Begins a transaction.
-pub(crate) fn begin(alloc: Global, held: &mut HeldWorker) -> Result<(), Status>
+pub(crate) fn begin(alloc: Global, held: &mut WorkerHandle) -> Result<(), Status>
     requires { IsWorker held.old }
     ensures worker { IsWorker held.new }
     ensures store { IsOfSameStore held.old held.new }
@@ -28,9 +28,9 @@ pub(crate) fn begin(alloc: Global, held: &mut HeldWorker) -> Result<(), Status>
 {
     match held.worker.begin(alloc) {
         Ok(()) => Ok(()),
-        Err(Unbegun::InTransaction) => Err(Status::InTransaction),
-        Err(Unbegun::Worn) => Err(Status::NoTickets),
-        Err(Unbegun::NoMemory) => Err(Status::NoMemory),
+        Err(BeginError::InTransaction) => Err(Status::InTransaction),
+        Err(BeginError::Worn) => Err(Status::NoTickets),
+        Err(BeginError::NoMemory) => Err(Status::NoMemory),
     }
 }
 
@@ -45,7 +45,7 @@ pub(crate) fn last_of(replies: &Replies) -> Option<&Reply>
 }
 
 // Writes the last reply of the transaction that it is in, if there is one.
-fn tell_last(held: &HeldWorker, reply: &mut ReplyOut)
+fn tell_last(held: &WorkerHandle, reply: &mut ReplyOut)
     ensures { reply.new ≡ unwrap_or (option_map reply_out (last_reply_of held.now)) reply.old }
 {
     let Some(replies) = held.worker.replies() else {
@@ -57,7 +57,7 @@ fn tell_last(held: &HeldWorker, reply: &mut ReplyOut)
 }
 
 // Asks a call of the transaction that it is in: of an object that is there, and by an operation that is one.
-fn answer(alloc: Global, held: &mut HeldWorker, given: &CallIn) -> Result<(), Status>
+fn answer(alloc: Global, held: &mut WorkerHandle, given: &CallIn) -> Result<(), Status>
     requires { IsWorker held.old }
     ensures worker { IsWorker held.new }
     ensures store { IsOfSameStore held.old held.new }
@@ -71,17 +71,17 @@ fn answer(alloc: Global, held: &mut HeldWorker, given: &CallIn) -> Result<(), St
     };
     match held.worker.ask(alloc, call) {
         Ok(()) => Ok(()),
-        Err(Unanswered::NoTransaction) => Err(Status::NoTransaction),
-        Err(Unanswered::Untaken) => Err(Status::NoCall),
-        Err(Unanswered::Aborted) => Err(Status::Aborted),
-        Err(Unanswered::NoMemory) => Err(Status::NoMemory),
+        Err(AskError::NoTransaction) => Err(Status::NoTransaction),
+        Err(AskError::Untaken) => Err(Status::NoCall),
+        Err(AskError::Aborted) => Err(Status::Aborted),
+        Err(AskError::NoMemory) => Err(Status::NoMemory),
     }
 }
 
 /// Asks a call of the transaction that it is in, and tells the reply.
 pub(crate) fn ask(
     alloc: Global,
-    held: &mut HeldWorker,
+    held: &mut WorkerHandle,
     given: &CallIn,
     reply: &mut ReplyOut,
 ) -> Result<(), Status>
@@ -101,7 +101,7 @@ pub(crate) fn ask(
 }
 
 /// Commits the transaction that it is in.
-pub(crate) fn commit(alloc: Global, held: &mut HeldWorker, place: &mut u64) -> Result<(), Status>
+pub(crate) fn commit(alloc: Global, held: &mut WorkerHandle, place: &mut u64) -> Result<(), Status>
     requires { IsWorker held.old }
     ensures worker { IsWorker held.new }
     ensures store { IsOfSameStore held.old held.new }
@@ -113,14 +113,14 @@ pub(crate) fn commit(alloc: Global, held: &mut HeldWorker, place: &mut u64) -> R
             *place = number;
             Ok(())
         }
-        Err(Uncommitted::NoTransaction) => Err(Status::NoTransaction),
-        Err(Uncommitted::Aborted) => Err(Status::Aborted),
-        Err(Uncommitted::NoMemory) => Err(Status::NoMemory),
+        Err(CommitError::NoTransaction) => Err(Status::NoTransaction),
+        Err(CommitError::Aborted) => Err(Status::Aborted),
+        Err(CommitError::NoMemory) => Err(Status::NoMemory),
     }
 }
 
 /// Gives the transaction up that it is in.
-pub(crate) fn cancel(alloc: Global, held: &mut HeldWorker) -> Result<(), Status>
+pub(crate) fn cancel(alloc: Global, held: &mut WorkerHandle) -> Result<(), Status>
     requires { IsWorker held.old }
     ensures worker { IsWorker held.new }
     ensures store { IsOfSameStore held.old held.new }
@@ -128,14 +128,14 @@ pub(crate) fn cancel(alloc: Global, held: &mut HeldWorker) -> Result<(), Status>
 {
     match held.worker.cancel(alloc) {
         Ok(_) => Ok(()),
-        Err(Uncommitted::NoTransaction) => Err(Status::NoTransaction),
-        Err(Uncommitted::Aborted) => Err(Status::Aborted),
-        Err(Uncommitted::NoMemory) => Err(Status::NoMemory),
+        Err(CommitError::NoTransaction) => Err(Status::NoTransaction),
+        Err(CommitError::Aborted) => Err(Status::Aborted),
+        Err(CommitError::NoMemory) => Err(Status::NoMemory),
     }
 }
 
 /// Gives the worker back to its store, and answers what is left of it.
-pub(crate) fn give_back(held: HeldWorker) -> (HandleContent, Result<(), Status>)
+pub(crate) fn give_back(held: WorkerHandle) -> (HandleContent, Result<(), Status>)
     requires { IsWorker held }
     ensures held { IsHeld result.0 }
     ensures given { HasGivenBack (Worker held) result.1 result.0 }
@@ -143,12 +143,12 @@ pub(crate) fn give_back(held: HeldWorker) -> (HandleContent, Result<(), Status>)
     let (worker, objects) = held.into_parts();
     match worker.give_back() {
         Ok(()) => (HandleContent::Nothing, Ok(())),
-        Err(StillOut::InTransaction(worker)) => (
-            HandleContent::Worker(HeldWorker { worker, objects }),
+        Err(GiveBackError::InTransaction(worker)) => (
+            HandleContent::Worker(WorkerHandle { worker, objects }),
             Err(Status::InTransaction),
         ),
-        Err(StillOut::Busy(worker)) => (
-            HandleContent::Worker(HeldWorker { worker, objects }),
+        Err(GiveBackError::Busy(worker)) => (
+            HandleContent::Worker(WorkerHandle { worker, objects }),
             Err(Status::Busy),
         ),
     }
@@ -157,7 +157,7 @@ pub(crate) fn give_back(held: HeldWorker) -> (HandleContent, Result<(), Status>)
 // Asks the calls of a whole transaction, which was begun.
 fn ask_all(
     alloc: Global,
-    held: &mut HeldWorker,
+    held: &mut WorkerHandle,
     calls: &[CallIn],
     replies: &mut [ReplyOut],
 ) -> Result<(), Status>
@@ -181,7 +181,7 @@ fn ask_all(
 // Tries a whole transaction once. Where it was in none, it is in none then.
 fn try_once(
     alloc: Global,
-    held: &mut HeldWorker,
+    held: &mut WorkerHandle,
     calls: &[CallIn],
     replies: &mut [ReplyOut],
     place: &mut u64,
@@ -211,7 +211,7 @@ fn try_once(
 /// Runs a whole transaction.
 pub(crate) fn run(
     alloc: Global,
-    held: &mut HeldWorker,
+    held: &mut WorkerHandle,
     calls: &[CallIn],
     replies: &mut [ReplyOut],
     place: &mut u64,

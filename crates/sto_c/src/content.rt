@@ -6,24 +6,24 @@ use sto_shared_store::{OwnedStore, OwnedWorker};
 use sto_store::Objects;
 
 /// A store, with how many objects it has.
-pub struct HeldStore {
+pub struct StoreHandle {
     pub(crate) store: OwnedStore<Objects>,
     pub(crate) objects: u32,
 }
 
-impl HeldStore {
+impl StoreHandle {
     /// The store, and how many objects it has.
     pub(crate) fn into_parts(self) -> (OwnedStore<Objects>, u32)
         ensures { (result.0 ≡ self.store) × (result.1 ≡ self.objects) }
     {
-        let HeldStore { store, objects } = self;
+        let StoreHandle { store, objects } = self;
         (store, objects)
     }
 }
 
-impl Drop for HeldStore {
+impl Drop for StoreHandle {
     fn drop(self) {
-        let HeldStore {
+        let StoreHandle {
             store: _store,
             objects: _,
         } = self;
@@ -31,24 +31,24 @@ impl Drop for HeldStore {
 }
 
 /// A worker, with how many objects its store has.
-pub struct HeldWorker {
+pub struct WorkerHandle {
     pub(crate) worker: OwnedWorker<Objects>,
     pub(crate) objects: u32,
 }
 
-impl HeldWorker {
+impl WorkerHandle {
     /// The worker, and how many objects its store has.
     pub(crate) fn into_parts(self) -> (OwnedWorker<Objects>, u32)
         ensures { (result.0 ≡ self.worker) × (result.1 ≡ self.objects) }
     {
-        let HeldWorker { worker, objects } = self;
+        let WorkerHandle { worker, objects } = self;
         (worker, objects)
     }
 }
 
-impl Drop for HeldWorker {
+impl Drop for WorkerHandle {
     fn drop(self) {
-        let HeldWorker {
+        let WorkerHandle {
             worker: _worker,
             objects: _,
         } = self;
@@ -59,8 +59,8 @@ impl Drop for HeldWorker {
 #[derive(Drop)]
 pub enum HandleContent {
     Nothing,
-    Store(HeldStore),
-    Worker(HeldWorker),
+    Store(StoreHandle),
+    Worker(WorkerHandle),
     /// The rows of a store that was closed.
     Closed(RowsOut),
 }

@@ -16,7 +16,7 @@ ghost use Rattle.sto_c.specs.Steps.{
 };
 ghost use Rattle.sto_c.specs.Whole.{HasRunWhole};
 
-use crate::content::{HandleContent, HeldWorker};
+use crate::content::{HandleContent, WorkerHandle};
 use crate::crossing::{CallIn, PairOut, ReplyOut, RowOut};
 use crate::status::Status;
 use crate::{calls, opening, telling};
@@ -24,7 +24,7 @@ use std::alloc::Global;
 use std::mem;
 
 /// Gives a worker out of a store.
-pub(crate) fn hire(alloc: Global, held: &mut HandleContent) -> Result<HeldWorker, Status>
+pub(crate) fn hire(alloc: Global, held: &mut HandleContent) -> Result<WorkerHandle, Status>
     requires { IsFull held.old }
     ensures full { IsFull held.new }
     ensures worker { IfOk result IsWorker }

@@ -14,13 +14,13 @@ ghost use Rattle.sto_c.specs.Stores.{
   HasClosedStore,
 };
 
-use crate::content::{HandleContent, HeldStore, HeldWorker};
+use crate::content::{HandleContent, StoreHandle, WorkerHandle};
 use crate::crossing::ShapeIn;
 use crate::status::Status;
 use crate::telling::all_rows;
 use std::alloc::Global;
 use sto_part::NoMemory;
-use sto_shared_store::{OwnedStore, Plan, StillOpen, Unhired};
+use sto_shared_store::{OwnedStore, Plan, OwnedCloseError, HireError};
 
 // The plan of these objects.
 fn plan_of(alloc: Global, shapes: &[ShapeIn]) -> Result<Plan, Status>
@@ -38,7 +38,7 @@ fn plan_of(alloc: Global, shapes: &[ShapeIn]) -> Result<Plan, Status>
 }
 
 /// Opens a store of these objects, for so many workers.
-pub(crate) fn open(alloc: Global, shapes: &[ShapeIn], workers: u32) -> Result<HeldStore, Status>
+pub(crate) fn open(alloc: Global, shapes: &[ShapeIn], workers: u32) -> Result<StoreHandle, Status>
     ensures store { IfOk result IsStore }
     ensures shapes { IfOk result (HasShapes shapes.now workers) }
     ensures unopened { IfErr result (IsUnopened shapes.now workers) }
@@ -47,13 +47,13 @@ pub(crate) fn open(alloc: Global, shapes: &[ShapeIn], workers: u32) -> Result<He
     let objects = plan.len();
     let opened = plan.open(alloc, workers)?;
     match OwnedStore::new(alloc, opened) {
-        Ok(store) => Ok(HeldStore { store, objects }),
+        Ok(store) => Ok(StoreHandle { store, objects }),
         Err(NoMemory) => Err(Status::NoMemory),
     }
 }
 
 // Takes in the workers that came back, where none rests in the store.
-fn refill(held: &mut HeldStore) -> Result<(), NoMemory>
+fn refill(held: &mut StoreHandle) -> Result<(), NoMemory>
     requires { IsStore held.old }
     ensures store { IsStore held.new }
     ensures same { IsSameStore 0 held.old held.new }
@@ -67,7 +67,7 @@ fn refill(held: &mut HeldStore) -> Result<(), NoMemory>
 }
 
 /// Gives a worker out that rests in the store, or has come back to it.
-pub(crate) fn hire(alloc: Global, held: &mut HeldStore) -> Result<HeldWorker, Status>
+pub(crate) fn hire(alloc: Global, held: &mut StoreHandle) -> Result<WorkerHandle, Status>
     requires { IsStore held.old }
     ensures store { IsStore held.new }
     ensures worker { IfOk result IsWorker }
@@ -79,17 +79,17 @@ pub(crate) fn hire(alloc: Global, held: &mut HeldStore) -> Result<HeldWorker, St
         return Err(Status::NoMemory);
     };
     match held.store.hire(alloc) {
-        Ok(worker) => Ok(HeldWorker {
+        Ok(worker) => Ok(WorkerHandle {
             worker,
             objects: held.objects,
         }),
-        Err(Unhired::NoneLeft) => Err(Status::NoWorker),
-        Err(Unhired::NoMemory) => Err(Status::NoMemory),
+        Err(HireError::NoneLeft) => Err(Status::NoWorker),
+        Err(HireError::NoMemory) => Err(Status::NoMemory),
     }
 }
 
 /// Closes a store, and answers what is left of it.
-pub(crate) fn close(alloc: Global, held: HeldStore) -> (HandleContent, Result<(), Status>)
+pub(crate) fn close(alloc: Global, held: StoreHandle) -> (HandleContent, Result<(), Status>)
     requires { IsStore held }
     ensures held { IsHeld result.0 }
     ensures closed { HasClosedStore held result.1 result.0 }
@@ -98,7 +98,7 @@ pub(crate) fn close(alloc: Global, held: HeldStore) -> (HandleContent, Result<()
     let mut store = store;
     if store.gather().is_err() {
         return (
-            HandleContent::Store(HeldStore { store, objects }),
+            HandleContent::Store(StoreHandle { store, objects }),
             Err(Status::NoMemory),
         );
     }
@@ -107,14 +107,14 @@ pub(crate) fn close(alloc: Global, held: HeldStore) -> (HandleContent, Result<()
             Ok(rows) => (HandleContent::Closed(rows), Ok(())),
             Err(NoMemory) => (HandleContent::Nothing, Err(Status::NoMemory)),
         },
-        Err(StillOpen::Missing(store)) => (
-            HandleContent::Store(HeldStore { store, objects }),
+        Err(OwnedCloseError::Missing(store)) => (
+            HandleContent::Store(StoreHandle { store, objects }),
             Err(Status::WorkersOut),
         ),
-        Err(StillOpen::Busy(store)) => (
-            HandleContent::Store(HeldStore { store, objects }),
+        Err(OwnedCloseError::Busy(store)) => (
+            HandleContent::Store(StoreHandle { store, objects }),
             Err(Status::Busy),
         ),
-        Err(StillOpen::NoMemory) => (HandleContent::Nothing, Err(Status::NoMemory)),
+        Err(OwnedCloseError::NoMemory) => (HandleContent::Nothing, Err(Status::NoMemory)),
     }
 }

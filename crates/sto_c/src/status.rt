@@ -2,7 +2,7 @@
 ghost use Rattle.std.specs.Prelude.{◌≡◌};
 ghost use Rattle.sto_c.specs.Statuses.{number, number_of, of_unplanned, of_unopened};
 
-use sto_shared_store::{Unopened, Unplanned};
+use sto_shared_store::{OpenError, PlanError};
 
 /// Why a call was not done.
 #[derive(Clone, Copy, PartialEq, Eq, Debug)]
@@ -67,26 +67,26 @@ pub(crate) fn number_of(done: Result<(), Status>) -> u32
     }
 }
 
-impl From<Unplanned> for Status {
+impl From<PlanError> for Status {
     ghost from_gives = { λ error status. status ≡ of_unplanned error };
 
-    fn from(error: Unplanned) -> Status {
+    fn from(error: PlanError) -> Status {
         match error {
-            Unplanned::OutOfOrder => Status::BadOrder,
-            Unplanned::NoRoom => Status::BadSize,
-            Unplanned::TooMany => Status::TooMany,
-            Unplanned::NoMemory => Status::NoMemory,
+            PlanError::OutOfOrder => Status::BadOrder,
+            PlanError::NoRoom => Status::BadSize,
+            PlanError::TooMany => Status::TooMany,
+            PlanError::NoMemory => Status::NoMemory,
         }
     }
 }
 
-impl From<Unopened> for Status {
+impl From<OpenError> for Status {
     ghost from_gives = { λ error status. status ≡ of_unopened error };
 
-    fn from(error: Unopened) -> Status {
+    fn from(error: OpenError) -> Status {
         match error {
-            Unopened::Workers => Status::BadWorkers,
-            Unopened::NoMemory => Status::NoMemory,
+            OpenError::Workers => Status::BadWorkers,
+            OpenError::NoMemory => Status::NoMemory,
         }
     }
 }

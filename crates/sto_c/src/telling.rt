@@ -5,7 +5,7 @@ ghost use Rattle.sto_c.specs.Crossing.{pair_out, pairs_of, row_out, rows_out};
 ghost use Rattle.sto_c.specs.Steps.{HasCopied, HasToldPairs};
 
 use crate::calls::last_of;
-use crate::content::HeldWorker;
+use crate::content::WorkerHandle;
 use crate::crossing::{PairOut, RowOut, RowsOut};
 use crate::status::Status;
 use std::alloc::Global;
@@ -56,7 +56,7 @@ fn tell_pairs(pairs: &Pairs, out: &mut [PairOut], count: &mut usize) -> Result<(
 
 /// Copies the pairs of the last reply, where they have room. Any other reply has none.
 pub(crate) fn last_pairs(
-    held: &HeldWorker,
+    held: &WorkerHandle,
     out: &mut [PairOut],
     count: &mut usize,
 ) -> Result<(), Status>

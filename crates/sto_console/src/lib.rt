@@ -22,5 +22,5 @@ pub use standard::{StdSink, StdSource};
 pub use stream::{Failed, Sink, Source};
 pub use streams::{bytes_left, file_in, script_left, write_text};
 pub use whole::{ReadAllError, read_all, write_all};
-pub use words::{WordsFault, refuse_words, words_of};
+pub use words::{WordsError, refuse_words, words_of};
 pub use workers::{leave, workers_for};

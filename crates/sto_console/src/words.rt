@@ -13,23 +13,23 @@ use std::io::ErrorKind;
 
 /// Why the words of a call cannot be read.
 #[derive(Clone, Copy, PartialEq, Eq)]
-pub enum WordsFault {
+pub enum WordsError {
     /// A word is not UTF-8.
     NotText,
     NoMemory,
 }
 
 /// The words after the program's name.
-pub fn words_of(rt: &HostRuntime) -> Result<Vec<String>, WordsFault> {
+pub fn words_of(rt: &HostRuntime) -> Result<Vec<String>, WordsError> {
     let args = match env::args(rt) {
         Ok(args) => args,
-        Err(error) if error.kind() == ErrorKind::InvalidData => return Err(WordsFault::NotText),
-        Err(_) => return Err(WordsFault::NoMemory),
+        Err(error) if error.kind() == ErrorKind::InvalidData => return Err(WordsError::NotText),
+        Err(_) => return Err(WordsError::NoMemory),
     };
     let mut words = Vec::new(rt.alloc());
     for word in args.skip(1) {
         if words.push(word).is_err() {
-            return Err(WordsFault::NoMemory);
+            return Err(WordsError::NoMemory);
         }
     }
     Ok(words)
@@ -37,13 +37,13 @@ pub fn words_of(rt: &HostRuntime) -> Result<Vec<String>, WordsFault> {
 
 /// Says beside why the words cannot be read, and gives the exit status: 2 where one of them is not
 /// UTF-8, since such a word is in no grammar, and 6 for want of memory.
-pub fn refuse_words<E: Sink>(alloc: Global, fault: WordsFault, diag: &mut E) -> u8
+pub fn refuse_words<E: Sink>(alloc: Global, fault: WordsError, diag: &mut E) -> u8
     ensures status { result ≡ refusal_status (refusal_of fault) }
     ensures says { Says (refusal_line (refusal_of fault)) (E.held diag.old) (E.held diag.new) (E.faults diag.old) (E.faults diag.new) }
 {
     let refusal = match fault {
-        WordsFault::NotText => Refusal::Usage,
-        WordsFault::NoMemory => Refusal::NoMemory,
+        WordsError::NotText => Refusal::Usage,
+        WordsError::NoMemory => Refusal::NoMemory,
     };
     say_refusal(alloc, diag, refusal).status()
 }

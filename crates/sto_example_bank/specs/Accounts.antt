@@ -11,7 +11,7 @@ use Rattle.sto_action.specs.declared.snapshot.Held.{Held}
 use Rattle.sto_action.specs.Progs.{Prog, Gives, Cancels, chain}
 use Rattle.sto_action.specs.Steps.{box_get, box_set}
 use Rattle.sto_action.specs.declared.outcome.Done.{Done}
-use Rattle.sto_action.specs.declared.outcome.Unrun.{Unrun}
+use Rattle.sto_action.specs.declared.outcome.TransactionError.{TransactionError}
 use Rattle.sto_library.specs.Keeping.{IfGave}
 
 -- it takes an amount from an account, where it is there; it gives what was there
@@ -50,5 +50,5 @@ abbrev pub IsAll : Held 3 0 → Type 0
 IsAll held = fold (λ (sum x : ℤ). sum +ℤ x) (pos 0) held.boxes ≡ pos 300
 
 -- both audits saw all, and the accounts are so at the end
-abbrev pub IsDay : Result (Done (Held 3 0)) Unrun × Result (Done (Held 3 0)) Unrun × Listed (List Row) → Type 0
+abbrev pub IsDay : Result (Done (Held 3 0)) TransactionError × Result (Done (Held 3 0)) TransactionError × Listed (List Row) → Type 0
 IsDay (first, other, rows) = IfGave IsAll first × IfGave IsAll other × HoldAll rows.items

@@ -8,7 +8,7 @@ ghost use Rattle.sto_action.specs.Progs.{Follows};
 use std::alloc::Global;
 use std::thread::Threads;
 use sto_library::{
-    BoxId, Code, Done, Held, Schema, Snapshot, State, Stop, StoreError, Times, Tx, Unrun,
+    BoxId, Action, Done, Held, Schema, Snapshot, State, Stop, StoreError, Times, Tx, TransactionError,
     wrapping_difference, wrapping_sum,
 };
 
@@ -40,7 +40,7 @@ struct Transfer {
     amount: i64,
 }
 
-impl Code for Transfer {
+impl Action for Transfer {
     type Out = i64;
 
     ghost does = { λ t. transfer t.from t.to t.amount };
@@ -60,7 +60,7 @@ impl Code for Transfer {
 }
 
 /// What an audit led to: what all accounts have at one time.
-pub type Audited = Result<Done<Held<3, 0>>, Unrun>;
+pub type Audited = Result<Done<Held<3, 0>>, TransactionError>;
 
 /// What both auditors' last audits led to, and the rows at the end.
 pub type Day = (Audited, Audited, State);

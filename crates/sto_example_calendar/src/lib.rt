@@ -8,7 +8,7 @@ ghost use Rattle.sto_example_calendar.specs.Bookings.{book, IsBooked};
 use std::alloc::Global;
 use std::thread::Threads;
 use sto_library::{
-    Code, Schema, State, Stop, StoreError, StoreWorker, Task, TreeId, Tx, TxType,
+    Action, Schema, State, Stop, StoreError, StoreWorker, Task, TreeId, Tx, TxType,
     wrapping_difference,
 };
 
@@ -20,7 +20,7 @@ struct Booking {
     guest: u32,
 }
 
-impl Code for Booking {
+impl Action for Booking {
     type Out = i64;
 
     ghost does = { λ b. book b.room (pos b.day) (pos b.guest) };

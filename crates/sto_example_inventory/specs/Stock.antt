@@ -11,7 +11,7 @@ use Rattle.sto_action.specs.declared.handles.HashId.{HashId}
 use Rattle.sto_action.specs.Progs.{Prog, Gives, Cancels}
 use Rattle.sto_action.specs.Steps.{counter_get, counter_take, hash_get, hash_put}
 use Rattle.sto_action.specs.declared.outcome.Done.{Done}
-use Rattle.sto_action.specs.declared.outcome.Unrun.{Unrun}
+use Rattle.sto_action.specs.declared.outcome.TransactionError.{TransactionError}
 use Rattle.sto_library.specs.Keeping.{IfGave}
 
 -- it adds pieces to the line of a customer; it gives what that line says then
@@ -45,5 +45,5 @@ pub record IsStocked (state : State) : Type 0 where
   pub some : pos 0 ≤ℤ left
 
 -- what a clerk counted in stock is not below zero, and what is left at the end is not
-abbrev pub IsDay : Result (Done (ℤ × ℤ)) Unrun × Listed (List Row) → Type 0
+abbrev pub IsDay : Result (Done (ℤ × ℤ)) TransactionError × Listed (List Row) → Type 0
 IsDay (count, rows) = IfGave (λ c. pos 0 ≤ℤ c.0) count × IsStocked rows.items

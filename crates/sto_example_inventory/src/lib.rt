@@ -7,7 +7,7 @@ ghost use Rattle.sto_example_inventory.specs.Stock.{sale, count, IsDay};
 use std::alloc::Global;
 use std::thread::Threads;
 use sto_library::{
-    Code, CounterId, Done, HashId, Schema, State, Stop, StoreError, Times, Tx, Unrun, wrapping_sum,
+    Action, CounterId, Done, HashId, Schema, State, Stop, StoreError, Times, Tx, TransactionError, wrapping_sum,
 };
 
 /// Takes pieces from the stock, where they are there, and notes them for a customer. It gives what that one has bought so far.
@@ -19,7 +19,7 @@ struct Sale {
     pieces: i64,
 }
 
-impl Code for Sale {
+impl Action for Sale {
     type Out = i64;
 
     ghost does = { λ s. sale s.stock s.book s.customer s.pieces };
@@ -50,7 +50,7 @@ struct Count {
     book: HashId,
 }
 
-impl Code for Count {
+impl Action for Count {
     type Out = (i64, i64);
 
     ghost does = { λ c. count c.stock c.book (pos 1) (pos 2) };
@@ -70,7 +70,7 @@ impl Code for Count {
 }
 
 /// What a clerk counted last, and what all objects hold at the end.
-pub type Day = (Result<Done<(i64, i64)>, Unrun>, State);
+pub type Day = (Result<Done<(i64, i64)>, TransactionError>, State);
 
 /// A day of the shop on so many threads, with 50 pieces in stock: two sellers want 60 each, 3 at a time. The stock is never below zero.
 pub fn run_sales<R: Threads + Sync>(rt: &R, alloc: Global, threads: u32) -> Result<Day, StoreError>

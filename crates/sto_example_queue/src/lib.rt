@@ -6,7 +6,7 @@ ghost use Rattle.sto_example_queue.specs.Line.{put, take, IsServed};
 
 use std::alloc::Global;
 use std::thread::Threads;
-use sto_library::{Code, CounterId, Schema, State, Stop, StoreError, Times, Tx, VectorId};
+use sto_library::{Action, CounterId, Schema, State, Stop, StoreError, Times, Tx, VectorId};
 
 /// Puts an amount at the end of the line, where there is room, and notes it as sent. It gives the amount.
 #[derive(Clone, Copy)]
@@ -16,7 +16,7 @@ struct Put {
     amount: i64,
 }
 
-impl Code for Put {
+impl Action for Put {
     type Out = i64;
 
     ghost does = { λ p. put p.sent p.line p.amount };
@@ -45,7 +45,7 @@ struct Take {
     line: VectorId,
 }
 
-impl Code for Take {
+impl Action for Take {
     type Out = i64;
 
     ghost does = { λ t. take t.received t.line };

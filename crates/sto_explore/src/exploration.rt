@@ -1,8 +1,8 @@
 //! One run by each schedule.
 ghost use Rattle.std.specs.Prelude.{◌≡◌, ◌≤◌, [], OnOk, IfOk, IfErr, List, map, length, max};
 ghost use Rattle.std.specs.List.{AllByRecursion};
-ghost use Rattle.sto_explore.specs.declared.exploration.Stopped.TheVariants.{TooLong, TooMany};
-ghost use Rattle.sto_explore.specs.declared.runs.NotMade.TheVariants as not_made;
+ghost use Rattle.sto_explore.specs.declared.exploration.ExploreError.TheVariants.{TooLong, TooMany};
+ghost use Rattle.sto_explore.specs.declared.runs.RunError.TheVariants as not_made;
 ghost use Rattle.sto_explore.specs.NotMade.{stopped_by};
 ghost use Rattle.sto_explore.specs.Schedules.{Place};
 ghost use Rattle.sto_explore.specs.Legs.{IsAmong};
@@ -12,12 +12,12 @@ ghost use Rattle.sto_explore.specs.Explored.{Found, AreExplored, AreTooMany, sta
 
 use crate::branch::{Branch, offer_all, offer_others, order_of};
 use crate::leg::Leg;
-use crate::runs::{Gathers, NotMade, Ran, Runs};
+use crate::runs::{Gathers, RunError, Ran, Runs};
 use std::alloc::Global;
 
 /// Why an exploration was given up.
 #[derive(Clone, Copy)]
-pub enum Stopped {
+pub enum ExploreError {
     NoMemory,
     /// A run is too long to be told.
     TooLong,
@@ -25,13 +25,13 @@ pub enum Stopped {
     TooMany,
 }
 
-impl From<NotMade> for Stopped {
+impl From<RunError> for ExploreError {
     ghost from_gives = { λ why e. e ≡ stopped_by why };
 
-    fn from(why: NotMade) -> Stopped {
+    fn from(why: RunError) -> ExploreError {
         match why {
-            NotMade::NoMemory => Stopped::NoMemory,
-            NotMade::TooLong => Stopped::TooLong,
+            RunError::NoMemory => ExploreError::NoMemory,
+            RunError::TooLong => ExploreError::TooLong,
         }
     }
 }
@@ -46,7 +46,7 @@ fn visit<P: Drop, K, R: Runs<P, K>, G: Gathers<P>>(
     decided: Vec<Leg>,
     left: u32,
     order: &[u32],
-) -> Result<(), NotMade>
+) -> Result<(), RunError>
     requires ready { R.ready runs.now }
     requires keeps { R.keeps runs.now kept.old }
     requires decided { AllByRecursion (λ leg. IsAmong (R.threads runs.now) leg.thread) decided.items }
@@ -74,7 +74,7 @@ fn take_up<P: Drop, K, R: Runs<P, K>, G: Gathers<P>>(
     todo: &mut Vec<Branch>,
     found: &mut G,
     branch: Branch,
-) -> Result<(), NotMade>
+) -> Result<(), RunError>
     requires ready { R.ready runs.now }
     requires keeps { R.keeps runs.now kept.old }
     requires offered { (start : Place) × (start.going ≡ R.threads runs.now) × IsOffer start (R.tells runs.now) (offer_of branch) }
@@ -104,7 +104,7 @@ fn begin<P: Drop, K, R: Runs<P, K>, G: Gathers<P>>(
     kept: &mut K,
     switches: u32,
     found: &mut G,
-) -> Result<Vec<Branch>, NotMade>
+) -> Result<Vec<Branch>, RunError>
     requires ready { R.ready runs.now }
     requires keeps { R.keeps runs.now kept.old }
     requires none { G.holds found.old [] }
@@ -133,7 +133,7 @@ pub fn explore<P: Drop, K, R: Runs<P, K>, G: Gathers<P>>(
     limit: u32,
     kept: &mut K,
     found: &mut G,
-) -> Result<(), Stopped>
+) -> Result<(), ExploreError>
     requires ready { R.ready runs.now }
     requires keeps { R.keeps runs.now kept.old }
     requires none { G.holds found.old [] }
@@ -153,6 +153,6 @@ pub fn explore<P: Drop, K, R: Runs<P, K>, G: Gathers<P>>(
     if todo.is_empty() {
         Ok(())
     } else {
-        Err(Stopped::TooMany)
+        Err(ExploreError::TooMany)
     }
 }

@@ -20,9 +20,9 @@ mod way;
 mod words;
 
 pub use aborted::Aborted;
-pub use exploration::{Stopped, explore};
+pub use exploration::{ExploreError, explore};
 pub use leg::Leg;
 pub use outcome::{Outcome, Outcomes, Reported};
 pub use printed::outcomes_text;
-pub use runs::{Gathers, NotMade, Ran, Runs};
+pub use runs::{Gathers, RunError, Ran, Runs};
 pub use tally::Tally;

@@ -2,7 +2,7 @@
 ghost use Rattle.std.specs.Prelude.{◌≡◌, ◌++◌, ℕ, List, Bool, OnOk, IfOk, IfErr, [], ◌∷◌, true};
 ghost use Rattle.std.specs.List.{AllByRecursion};
 ghost use Rattle.sto_explore.specs.Explored.{Found};
-ghost use Rattle.sto_explore.specs.declared.runs.NotMade.TheVariants as not_made;
+ghost use Rattle.sto_explore.specs.declared.runs.RunError.TheVariants as not_made;
 ghost use Rattle.sto_explore.specs.Legs.{turns_of, schedule_of, AreApart, IsAmong, LeadToEnds, AreTold};
 
 use crate::leg::Leg;
@@ -11,17 +11,17 @@ use sto_part::NoMemory;
 
 /// Why a run was not made.
 #[derive(Clone, Copy)]
-pub enum NotMade {
+pub enum RunError {
     NoMemory,
     /// It is too long to be told.
     TooLong,
 }
 
-impl From<NoMemory> for NotMade {
+impl From<NoMemory> for RunError {
     ghost from_gives = { λ _ e. e ≡ not_made.NoMemory };
 
-    fn from(_no: NoMemory) -> NotMade {
-        NotMade::NoMemory
+    fn from(_no: NoMemory) -> RunError {
+        RunError::NoMemory
     }
 }
 
@@ -67,7 +67,7 @@ pub trait Runs<P, K> {
         kept: &mut K,
         decided: &[Leg],
         order: &[u32],
-    ) -> Result<Ran<P>, NotMade>
+    ) -> Result<Ran<P>, RunError>
         requires ready { ready self.now }
         requires keeps { keeps self.now kept.old }
         requires decided { AllByRecursion (λ leg. IsAmong (threads self.now) leg.thread) decided.now }

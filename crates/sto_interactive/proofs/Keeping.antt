@@ -7,73 +7,73 @@ use Rattle.sto_type.specs.Traits.{OfType}
 use Rattle.sto_core.specs.declared.view.View.{View}
 use Rattle.sto_table.specs.declared.shared.Rest.{Rest}
 use Rattle.sto_table.specs.declared.shared.Shared.{Shared}
-use Rattle.sto_interactive.specs.declared.pause.PausedLive.{PausedLive}
+use Rattle.sto_interactive.specs.declared.pause.RestingTransaction.{RestingTransaction}
 use Rattle.sto_interactive.specs.declared.session.Session.{Session}
-use Rattle.sto_interactive.specs.declared.starting.Unbegun.{Unbegun}
-use Rattle.sto_interactive.specs.declared.starting.Unbegun.TheVariants as unbegun
-use Rattle.sto_interactive.specs.declared.asking.Unanswered.{Unanswered}
-use Rattle.sto_interactive.specs.declared.asking.Unanswered.TheVariants as unanswered
-use Rattle.sto_interactive.specs.declared.ending.Uncommitted.{Uncommitted}
-use Rattle.sto_interactive.specs.declared.ending.Uncommitted.TheVariants as uncommitted
+use Rattle.sto_interactive.specs.declared.starting.BeginError.{BeginError}
+use Rattle.sto_interactive.specs.declared.starting.BeginError.TheVariants as unbegun
+use Rattle.sto_interactive.specs.declared.asking.AskError.{AskError}
+use Rattle.sto_interactive.specs.declared.asking.AskError.TheVariants as unanswered
+use Rattle.sto_interactive.specs.declared.ending.CommitError.{CommitError}
+use Rattle.sto_interactive.specs.declared.ending.CommitError.TheVariants as uncommitted
 use Rattle.sto_interactive.specs.Sessions.{Stands, IsSessionOf, IsFree, IsAsking}
 use Rattle.sto_interactive.specs.Steps.{IsUnchanged, HasBegun, HasAsked, HasAskedAfter, HasEndedBy, HasCommittedAfter, HasCancelledAfter}
 
 module _ {T : Type 0} {n : naming.Ghosts T} (t : OfType T) (ty : T) (s : Shared T) where
   pub free_stands : (y : Session T n) → IsFree t ty s y → IsSessionOf t ty s y
-  free_stands y free = subst (λ (o : Option PausedLive). Stands t ty s o y.rest.seat y.left) (sym free.none) free.rests
+  free_stands y free = subst (λ (o : Option RestingTransaction). Stands t ty s o y.rest.seat y.left) (sym free.none) free.rests
 
   pub asking_stands : (calls : List Call) (rs : List Told) (y : Session T n) (begun : View) → IsAsking t ty s calls rs y begun → IsSessionOf t ty s y
-  asking_stands calls rs y begun h = subst (λ (o : Option PausedLive). Stands t ty s o y.rest.seat y.left) (sym h.live) (calls, rs, begun, h.waits)
+  asking_stands calls rs y begun h = subst (λ (o : Option RestingTransaction). Stands t ty s o y.rest.seat y.left) (sym h.live) (calls, rs, begun, h.waits)
 
   pub unchanged_stands : (x y : Session T n) → IsUnchanged x y → IsSessionOf t ty s x → IsSessionOf t ty s y
   unchanged_stands x y u h =
-      subst (λ (o : Option PausedLive). Stands t ty s o y.rest.seat y.left) (sym u.2)
+      subst (λ (o : Option RestingTransaction). Stands t ty s o y.rest.seat y.left) (sym u.2)
       (subst (λ (r : Rest T n). Stands t ty s x.live r.seat y.left) (sym u.0)
       (subst (λ (k : ℕ). Stands t ty s x.live x.rest.seat k) (sym u.1) h))
 
-  pub begun_stands : (x y : Session T n) (r : Result (Unit {0}) Unbegun) → IsSessionOf t ty s x → HasBegun t ty s x r y → IsSessionOf t ty s y
+  pub begun_stands : (x y : Session T n) (r : Result (Unit {0}) BeginError) → IsSessionOf t ty s x → HasBegun t ty s x r y → IsSessionOf t ty s y
   begun_stands x y (Ok begun) h b = asking_stands [] [] y (x.rest.seat.me.0.view) b.1
   begun_stands x y (Err unbegun.InTransaction) h b = unchanged_stands x y b.1 h
   begun_stands x y (Err unbegun.Worn) h b = unchanged_stands x y b.2 h
   begun_stands x y (Err unbegun.NoMemory) h b = free_stands y b.1.free
 
-  pub after_asked : (calls : List Call) (rs : List Told) (begun : View) (call : Call) (r : Result (Unit {0}) Unanswered) (y : Session T n) → HasAskedAfter t ty s calls rs begun call r y → IsSessionOf t ty s y
+  pub after_asked : (calls : List Call) (rs : List Told) (begun : View) (call : Call) (r : Result (Unit {0}) AskError) (y : Session T n) → HasAskedAfter t ty s calls rs begun call r y → IsSessionOf t ty s y
   after_asked calls rs begun call (Ok answered) y h = asking_stands (calls ++ call ∷ []) (rs ++ h.reply ∷ []) y begun h.asking
   after_asked calls rs begun call (Err unanswered.NoTransaction) y h = absurd h
   after_asked calls rs begun call (Err unanswered.Untaken) y h = asking_stands calls rs y begun h.0
   after_asked calls rs begun call (Err unanswered.Aborted) y h = free_stands y h.free
   after_asked calls rs begun call (Err unanswered.NoMemory) y h = free_stands y h.free
 
-  pub after_committed : (calls : List Call) (rs : List Told) (begun : View) (r : Result ℕ Uncommitted) (y : Session T n) → HasCommittedAfter t ty s calls rs begun r y → IsSessionOf t ty s y
+  pub after_committed : (calls : List Call) (rs : List Told) (begun : View) (r : Result ℕ CommitError) (y : Session T n) → HasCommittedAfter t ty s calls rs begun r y → IsSessionOf t ty s y
   after_committed calls rs begun (Ok place) y h = free_stands y h.free
   after_committed calls rs begun (Err uncommitted.NoTransaction) y h = absurd h
   after_committed calls rs begun (Err uncommitted.Aborted) y h = free_stands y h.free
   after_committed calls rs begun (Err uncommitted.NoMemory) y h = free_stands y h.free
 
-  pub after_cancelled : (calls : List Call) (rs : List Told) (begun : View) (r : Result ℕ Uncommitted) (y : Session T n) → HasCancelledAfter t ty s calls rs begun r y → IsSessionOf t ty s y
+  pub after_cancelled : (calls : List Call) (rs : List Told) (begun : View) (r : Result ℕ CommitError) (y : Session T n) → HasCancelledAfter t ty s calls rs begun r y → IsSessionOf t ty s y
   after_cancelled calls rs begun (Ok place) y h = free_stands y h.free
   after_cancelled calls rs begun (Err uncommitted.NoTransaction) y h = absurd h
   after_cancelled calls rs begun (Err uncommitted.Aborted) y h = absurd h
   after_cancelled calls rs begun (Err uncommitted.NoMemory) y h = free_stands y h.free
 
   -- by whether it was in a transaction
-  pub asked_by : (x y : Session T n) (call : Call) (r : Result (Unit {0}) Unanswered) (o : Option PausedLive) → x.live ≡ o → Stands t ty s o x.rest.seat x.left → IsSessionOf t ty s x → HasAsked t ty s x call r y → IsSessionOf t ty s y
+  pub asked_by : (x y : Session T n) (call : Call) (r : Result (Unit {0}) AskError) (o : Option RestingTransaction) → x.live ≡ o → Stands t ty s o x.rest.seat x.left → IsSessionOf t ty s x → HasAsked t ty s x call r y → IsSessionOf t ty s y
   asked_by x y call r None e h stands a = unchanged_stands x y (a.free e).1 stands
   asked_by x y call r (Some p) e h stands a = after_asked h.0 h.1 h.2 call r y (a.asking h.0 h.1 h.2 (record { paused = p; live = e; waits = h.3 }))
 
-  pub asked_stands : (x y : Session T n) (call : Call) (r : Result (Unit {0}) Unanswered) → IsSessionOf t ty s x → HasAsked t ty s x call r y → IsSessionOf t ty s y
+  pub asked_stands : (x y : Session T n) (call : Call) (r : Result (Unit {0}) AskError) → IsSessionOf t ty s x → HasAsked t ty s x call r y → IsSessionOf t ty s y
   asked_stands x y call r h a = asked_by x y call r x.live refl h h a
 
-  pub committed_by : (x y : Session T n) (r : Result ℕ Uncommitted) (o : Option PausedLive) → x.live ≡ o → Stands t ty s o x.rest.seat x.left → IsSessionOf t ty s x → HasEndedBy t ty s x r y (HasCommittedAfter t ty s) → IsSessionOf t ty s y
+  pub committed_by : (x y : Session T n) (r : Result ℕ CommitError) (o : Option RestingTransaction) → x.live ≡ o → Stands t ty s o x.rest.seat x.left → IsSessionOf t ty s x → HasEndedBy t ty s x r y (HasCommittedAfter t ty s) → IsSessionOf t ty s y
   committed_by x y r None e h stands a = unchanged_stands x y (a.free e).1 stands
   committed_by x y r (Some p) e h stands a = after_committed h.0 h.1 h.2 r y (a.asking h.0 h.1 h.2 (record { paused = p; live = e; waits = h.3 }))
 
-  pub committed_stands : (x y : Session T n) (r : Result ℕ Uncommitted) → IsSessionOf t ty s x → HasEndedBy t ty s x r y (HasCommittedAfter t ty s) → IsSessionOf t ty s y
+  pub committed_stands : (x y : Session T n) (r : Result ℕ CommitError) → IsSessionOf t ty s x → HasEndedBy t ty s x r y (HasCommittedAfter t ty s) → IsSessionOf t ty s y
   committed_stands x y r h a = committed_by x y r x.live refl h h a
 
-  pub cancelled_by : (x y : Session T n) (r : Result ℕ Uncommitted) (o : Option PausedLive) → x.live ≡ o → Stands t ty s o x.rest.seat x.left → IsSessionOf t ty s x → HasEndedBy t ty s x r y (HasCancelledAfter t ty s) → IsSessionOf t ty s y
+  pub cancelled_by : (x y : Session T n) (r : Result ℕ CommitError) (o : Option RestingTransaction) → x.live ≡ o → Stands t ty s o x.rest.seat x.left → IsSessionOf t ty s x → HasEndedBy t ty s x r y (HasCancelledAfter t ty s) → IsSessionOf t ty s y
   cancelled_by x y r None e h stands a = unchanged_stands x y (a.free e).1 stands
   cancelled_by x y r (Some p) e h stands a = after_cancelled h.0 h.1 h.2 r y (a.asking h.0 h.1 h.2 (record { paused = p; live = e; waits = h.3 }))
 
-  pub cancelled_stands : (x y : Session T n) (r : Result ℕ Uncommitted) → IsSessionOf t ty s x → HasEndedBy t ty s x r y (HasCancelledAfter t ty s) → IsSessionOf t ty s y
+  pub cancelled_stands : (x y : Session T n) (r : Result ℕ CommitError) → IsSessionOf t ty s x → HasEndedBy t ty s x r y (HasCancelledAfter t ty s) → IsSessionOf t ty s y
   cancelled_stands x y r h a = cancelled_by x y r x.live refl h h a

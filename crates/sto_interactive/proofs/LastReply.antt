@@ -10,7 +10,7 @@ use Rattle.sto_model.specs.Told.{Told, told}
 use Rattle.sto_type.specs.Traits.{OfType}
 use Rattle.sto_core.specs.declared.view.View.{View}
 use Rattle.sto_table.specs.declared.shared.Shared.{Shared}
-use Rattle.sto_interactive.specs.declared.pause.PausedLive.{PausedLive}
+use Rattle.sto_interactive.specs.declared.pause.RestingTransaction.{RestingTransaction}
 use Rattle.sto_interactive.specs.Pausing.{IsPaused}
 use Rattle.sto_interactive.specs.declared.session.Session.{Session}
 use Rattle.sto_interactive.specs.Sessions.{Stands}
@@ -20,11 +20,11 @@ some_heard : (rs : List Told) (reply : Told) (xs : List Reply) → map told xs �
 some_heard rs reply xs e = omega (arith, ap length e, length-map xs told, length-append rs (reply ∷ []))
 
 module _ {T : Type 0} (t : OfType T) (ty : T) where
-  heard_now : (calls : List Call) (rs : List Told) (p : PausedLive) (begun v : View) → IsPaused t ty calls rs p begun v → map told p.attempt.replies.items ≡ rs
+  heard_now : (calls : List Call) (rs : List Told) (p : RestingTransaction) (begun v : View) → IsPaused t ty calls rs p begun v → map told p.attempt.replies.items ≡ rs
   heard_now calls rs p begun v h = (h (record { ref_ptr = (0, 0); now = ty }) refl).replies
 
 module _ {T : Type 0} {n : naming.Ghosts T} (t : OfType T) (ty : T) (s : Shared T) where
-  pub asked_last : (x y : Session T n) (call : Call) (o : Option PausedLive) → x.live ≡ o → Stands t ty s o x.rest.seat x.left → HasAsked t ty s x call (Ok tt) y
+  pub asked_last : (x y : Session T n) (call : Call) (o : Option RestingTransaction) → x.live ≡ o → Stands t ty s o x.rest.seat x.left → HasAsked t ty s x call (Ok tt) y
       → (rs : Listed Reply) × (option_map (λ p. p.attempt.replies) y.live ≡ Some rs) × (0 < length rs.items)
   asked_last x y call None e h a = cc ((a.free e).0)
   asked_last x y call (Some p) e h a =
@@ -32,6 +32,6 @@ module _ {T : Type 0} {n : naming.Ghosts T} (t : OfType T) (ty : T) (s : Shared 
       let q = b.asking.paused in
       let heard = heard_now t ty (h.0 ++ call ∷ []) (h.1 ++ b.reply ∷ []) q h.2 y.rest.seat.me.0.view b.asking.waits.paused in (
         q.attempt.replies,
-        ap (λ (r : Option PausedLive). option_map (λ p. p.attempt.replies) r) b.asking.live,
+        ap (λ (r : Option RestingTransaction). option_map (λ p. p.attempt.replies) r) b.asking.live,
         some_heard h.1 b.reply q.attempt.replies.items heard,
       )

@@ -27,8 +27,8 @@ use Rattle.sto_interactive.specs.Bodies.{next_of, script_in, left_of, MayAskOf}
 use Rattle.sto_transaction.specs.Resting.{IsAtRest}
 use Rattle.sto_interactive.specs.declared.asked.Asked.{Asked}
 use Rattle.sto_interactive.specs.declared.live.Live.{Live}
-use Rattle.sto_interactive.specs.declared.live.Stopped.{Stopped}
-use Rattle.sto_interactive.specs.declared.pause.PausedLive.{PausedLive}
+use Rattle.sto_interactive.specs.declared.live.StepError.{StepError}
+use Rattle.sto_interactive.specs.declared.pause.RestingTransaction.{RestingTransaction}
 use Rattle.sto_interactive.specs.Lives as lives
 use Rattle.sto_interactive.specs.Pausing.{IsPaused}
 use Rattle.sto_interactive.specs.declared.session.Session.{Session}
@@ -46,9 +46,9 @@ pub never_both : {X : Type 0} (o : Option X) (x : X) → o ≡ None → o ≡ So
 never_both o x none some = subst (λ (p : Option _). There p) (sym some ∙ none) tt
 
 -- what a call tells that was not answered, by why it was not
-pub stopped : {T : Type 0} (t : OfType T) (k : ℕ) (ty : T) (calls : List Call) (rs : List Told) (call : Call) (old new : Live T) (begun v w : View) (e x : Stopped) → e ≡ x
+pub stopped : {T : Type 0} (t : OfType T) (k : ℕ) (ty : T) (calls : List Call) (rs : List Told) (call : Call) (old new : Live T) (begun v w : View) (e x : StepError) → e ≡ x
     → lives.HasAsked t k ty calls rs call (Err e) old new begun v w → lives.HasAsked t k ty calls rs call (Err x) old new begun v w
-stopped t k ty calls rs call old new begun v w e x same h = subst (λ (y : Stopped). lives.HasAsked t k ty calls rs call (Err y) old new begun v w) same h
+stopped t k ty calls rs call old new begun v w e x same h = subst (λ (y : StepError). lives.HasAsked t k ty calls rs call (Err y) old new begun v w) same h
 
 module _ {T : Type 0} (s : Shared T) where
   -- it is a pass of the same words
@@ -61,7 +61,7 @@ module _ {T : Type 0} (t : OfType T) (ty : T) (s : Shared T) where
   undrawn calls rs l begun v live = live.waiting.in_body.undrawn.left
 
   -- it waits, where it was live and was paused
-  pub waits : (calls : List Call) (rs : List Told) (l : Live T) (p : PausedLive) (begun : View) (a : Pass) (left : ℕ) → IsOf s a
+  pub waits : (calls : List Call) (rs : List Told) (l : Live T) (p : RestingTransaction) (begun : View) (a : Pass) (left : ℕ) → IsOf s a
       → lives.IsLive t ty calls rs l begun a.me.0.view → IsPaused t ty calls rs p begun a.me.0.view → left < begun.draws → Waits t ty s calls rs p begun a left
   waits calls rs l p begun a left of live paused less =
       record { of = of; paused = paused; enough = subst (λ (k : ℕ). left < k) (sym (undrawn calls rs l begun a.me.0.view live)) less }
@@ -71,13 +71,13 @@ module _ {T : Type 0} (t : OfType T) (ty : T) (s : Shared T) where
   enough calls rs l begun v left live less = subst (λ (k : ℕ). left < k) (undrawn calls rs l begun v live) less
 
   -- given its type again it is live, on the same pass
-  pub goes_on : (calls : List Call) (rs : List Told) (p : PausedLive) (l : Live T) (begun : View) (a b : Pass) (left : ℕ) → Waits t ty s calls rs p begun a left
+  pub goes_on : (calls : List Call) (rs : List Told) (p : RestingTransaction) (l : Live T) (begun : View) (a b : Pass) (left : ℕ) → Waits t ty s calls rs p begun a left
       → ((cs : List Call) (ss : List Told) (u v : View) → IsPaused t ty cs ss p u v → lives.IsLive t ty cs ss l u v) → b ≡ a → lives.IsLive t ty calls rs l begun b.me.0.view
   goes_on calls rs p l begun a b left w lives_on same =
       subst (λ (e : Pass). lives.IsLive t ty calls rs l begun e.me.0.view) (sym same) (lives_on calls rs begun a.me.0.view w.paused)
 
   -- more tickets than are left were there when it began
-  pub more_left : (calls : List Call) (rs : List Told) (p : PausedLive) (l : Live T) (begun : View) (a b : Pass) (left : ℕ) → Waits t ty s calls rs p begun a left
+  pub more_left : (calls : List Call) (rs : List Told) (p : RestingTransaction) (l : Live T) (begun : View) (a b : Pass) (left : ℕ) → Waits t ty s calls rs p begun a left
       → lives.IsLive t ty calls rs l begun b.me.0.view → b ≡ a → left < begun.draws
   more_left calls rs p l begun a b left w live same = subst (λ (k : ℕ). left < k) (ap (λ (e : Pass). e.me.0.view.draws) (sym same) ∙ undrawn calls rs l begun b.me.0.view live) w.enough
 
@@ -100,7 +100,7 @@ module _ {T : Type 0} (t : OfType T) (ty : T) where
 
 module _ {T : Type 0} {n : naming.Ghosts T} (t : OfType T) (ty : T) (s : Shared T) where
   -- where a pass waits within a transaction, so does a session on it
-  pub asking_on : (calls : List Call) (rs : List Told) (begun : View) (y : Session T n) (p : PausedLive) (l : Live T) (d : Pass) (left : ℕ) → y.live ≡ Some p → y.rest.seat ≡ d → y.left ≡ left → IsOf s d → left < begun.draws
+  pub asking_on : (calls : List Call) (rs : List Told) (begun : View) (y : Session T n) (p : RestingTransaction) (l : Live T) (d : Pass) (left : ℕ) → y.live ≡ Some p → y.rest.seat ≡ d → y.left ≡ left → IsOf s d → left < begun.draws
       → lives.IsLive t ty calls rs l begun d.me.0.view → IsPaused t ty calls rs p begun d.me.0.view → IsAsking t ty s calls rs y begun
   asking_on calls rs begun y p l d left live same so_many of less lives_on paused = record {
     paused = p;
@@ -110,7 +110,7 @@ module _ {T : Type 0} {n : naming.Ghosts T} (t : OfType T) (ty : T) (s : Shared 
   }
 
   -- a call was answered
-  pub answered : (calls : List Call) (rs : List Told) (call : Call) (begun : View) (y : Session T n) (p : PausedLive) (l : Live T) (d : Pass) (left : ℕ) → y.live ≡ Some p → y.rest.seat ≡ d → y.left ≡ left → IsOf s d
+  pub answered : (calls : List Call) (rs : List Told) (call : Call) (begun : View) (y : Session T n) (p : RestingTransaction) (l : Live T) (d : Pass) (left : ℕ) → y.live ≡ Some p → y.rest.seat ≡ d → y.left ≡ left → IsOf s d
       → left < begun.draws → ((x : T) (cs : List Call) (ss : List Told) (u v : View) → lives.IsLive t x cs ss l u v → IsPaused t x cs ss p u v)
       → lives.IsAnswered t ty calls rs call l begun d.me.0.view → IsAnswered t ty s calls rs call y begun
   answered calls rs call begun y p l d left live same so_many of less pauses h = record {
@@ -121,7 +121,7 @@ module _ {T : Type 0} {n : naming.Ghosts T} (t : OfType T) (ty : T) (s : Shared 
   }
 
   -- a call was not taken: all is as before
-  pub untaken : (calls : List Call) (rs : List Told) (begun : View) (y : Session T n) (p : PausedLive) (old new : Live T) (b d : Pass) (left : ℕ) → y.live ≡ Some p → y.rest.seat ≡ d → y.left ≡ left → IsOf s d
+  pub untaken : (calls : List Call) (rs : List Told) (begun : View) (y : Session T n) (p : RestingTransaction) (old new : Live T) (b d : Pass) (left : ℕ) → y.live ≡ Some p → y.rest.seat ≡ d → y.left ≡ left → IsOf s d
       → left < begun.draws → ((x : T) (cs : List Call) (ss : List Told) (u v : View) → lives.IsLive t x cs ss new u v → IsPaused t x cs ss p u v)
       → lives.IsLive t ty calls rs old begun b.me.0.view → new ≡ old → d.me.0.view ≡ b.me.0.view → IsAsking t ty s calls rs y begun
   untaken calls rs begun y p old new b d left live same so_many of less pauses on kept still =

@@ -15,8 +15,8 @@ use Rattle.sto_transaction.specs.Machines.{HasStopped, HasEnded}
 use Rattle.sto_transaction.specs.declared.machine.Ended.{Ended}
 use Rattle.sto_interactive.specs.declared.asked.Asked.{Asked}
 use Rattle.sto_interactive.specs.declared.live.Live.{Live}
-use Rattle.sto_interactive.specs.declared.live.Stopped.{Stopped}
-use Rattle.sto_interactive.specs.declared.live.Stopped.TheVariants.{Aborted, Untaken, NoMemory}
+use Rattle.sto_interactive.specs.declared.live.StepError.{StepError}
+use Rattle.sto_interactive.specs.declared.live.StepError.TheVariants.{Aborted, Untaken, NoMemory}
 use Rattle.sto_interactive.specs.Scripts.{script_of}
 use Rattle.sto_interactive.specs.Bodies.{next_of, script_in, left_of, MayAskOf, asked}
 use Rattle.sto_interactive.specs.Waiting.{IsWaiting, EndsSo}
@@ -39,7 +39,7 @@ module _ {T : Type 0} (t : OfType T) where
     pub answers : IsPrefix (t.meaning ty) (script_of (calls ++ call ∷ []) Commit) w new.attempt.at (rs ++ reply ∷ [])
 
   -- what a call leads to
-  abbrev pub HasAsked : ℕ → T → List Call → List Told → Call → Result (Unit {0}) Stopped → (old new : Live T) (begun v w : View) → Type 0
+  abbrev pub HasAsked : ℕ → T → List Call → List Told → Call → Result (Unit {0}) StepError → (old new : Live T) (begun v w : View) → Type 0
   HasAsked passes ty calls rs call (Ok answered) old new begun v w = IsAnswered ty calls rs call new begun w
   HasAsked passes ty calls rs call (Err (Aborted x)) old new begun v w =
       (is_abort (verdict x) ≡ true) × EndsSo t asked passes ty (script_of (calls ++ call ∷ []) Commit) new.attempt x begun w

@@ -10,7 +10,7 @@ use Rattle.sto_table.specs.declared.stance.Stance.{Stance}
 use Rattle.sto_table.specs.declared.shared.Shared.{Shared}
 use Rattle.sto_table.specs.Rests.{IsOf}
 use Rattle.sto_transaction.specs.Resting.{IsAtRest}
-use Rattle.sto_interactive.specs.declared.pause.PausedLive.{PausedLive}
+use Rattle.sto_interactive.specs.declared.pause.RestingTransaction.{RestingTransaction}
 use Rattle.sto_interactive.specs.Pausing.{IsPaused}
 use Rattle.sto_interactive.specs.declared.session.Session.{Session}
 
@@ -27,13 +27,13 @@ module _ {T : Type 0} (t : OfType T) (ty : T) (s : Shared T) where
 
   -- a pass of these words within a transaction, which began at the view `begun`; these calls of it were asked, and answered so. More
   -- tickets than these are left
-  pub record Waits (calls : List Call) (rs : List Told) (p : PausedLive) (begun : View) (seat : Seat (Unit {0}) Stance) (left : ℕ) : Type 0 where
+  pub record Waits (calls : List Call) (rs : List Told) (p : RestingTransaction) (begun : View) (seat : Seat (Unit {0}) Stance) (left : ℕ) : Type 0 where
     pub of : IsOf s seat
     pub paused : IsPaused t ty calls rs p begun seat.me.0.view
     pub enough : left < seat.me.0.view.draws
 
   -- a pass within a transaction, or between two
-  abbrev pub Stands : Option PausedLive → Seat (Unit {0}) Stance → ℕ → Type 0
+  abbrev pub Stands : Option RestingTransaction → Seat (Unit {0}) Stance → ℕ → Type 0
   Stands None seat left = Rests seat
   Stands (Some p) seat left = (calls : List Call) × (rs : List Told) × (begun : View) × Waits calls rs p begun seat left
 
@@ -48,6 +48,6 @@ module _ {T : Type 0} {n : naming.Ghosts T} (t : OfType T) (ty : T) (s : Shared 
 
   -- it is in a transaction, of which these calls were asked, and answered so
   pub record IsAsking (calls : List Call) (rs : List Told) (x : Session T n) (begun : View) : Type 0 where
-    pub paused : PausedLive
+    pub paused : RestingTransaction
     pub live : x.live ≡ Some paused
     pub waits : Waits t ty s calls rs paused begun x.rest.seat x.left

@@ -19,16 +19,16 @@ use Rattle.sto_interactive.specs.Scripts.{script_of}
 use Rattle.sto_interactive.specs.Bodies.{next_of, script_in, left_of, MayAskOf}
 use Rattle.sto_interactive.specs.Lives.{HasCommitted, HasCancelled}
 use Rattle.sto_interactive.specs.declared.session.Session.{Session}
-use Rattle.sto_interactive.specs.declared.starting.Unbegun.{Unbegun}
-use Rattle.sto_interactive.specs.declared.starting.Unbegun.TheVariants as unbegun
-use Rattle.sto_interactive.specs.declared.asking.Unanswered.{Unanswered}
-use Rattle.sto_interactive.specs.declared.asking.Unanswered.TheVariants as unanswered
-use Rattle.sto_interactive.specs.declared.ending.Uncommitted.{Uncommitted}
-use Rattle.sto_interactive.specs.declared.ending.Uncommitted.TheVariants as uncommitted
+use Rattle.sto_interactive.specs.declared.starting.BeginError.{BeginError}
+use Rattle.sto_interactive.specs.declared.starting.BeginError.TheVariants as unbegun
+use Rattle.sto_interactive.specs.declared.asking.AskError.{AskError}
+use Rattle.sto_interactive.specs.declared.asking.AskError.TheVariants as unanswered
+use Rattle.sto_interactive.specs.declared.ending.CommitError.{CommitError}
+use Rattle.sto_interactive.specs.declared.ending.CommitError.TheVariants as uncommitted
 use Rattle.sto_interactive.specs.Sessions.{view_of, IsFree, IsAsking}
 
 -- the place in the order of a transaction that ended so: its ticket, or the number as of which it read
-abbrev pub place_of : Verdict → Result ℕ Uncommitted
+abbrev pub place_of : Verdict → Result ℕ CommitError
 place_of (Wrote ticket) = Ok ticket
 place_of (Read at) = Ok at
 place_of (Cancelled at) = Ok at
@@ -50,14 +50,14 @@ module _ {T : Type 0} {n : naming.Ghosts T} (t : OfType T) (ty : T) (s : Shared 
     pub stopped : HasStopped (t.meaning ty) (t.sizes ty) begun (view_of y)
 
   -- a transaction was to begin on a pass that was at rest
-  abbrev pub HasStarted : View → ℕ → Result (Unit {0}) Unbegun → Session T n → Type 0
+  abbrev pub HasStarted : View → ℕ → Result (Unit {0}) BeginError → Session T n → Type 0
   HasStarted begun left (Ok started) y = IsAsking t ty s [] [] y begun × (y.left ≡ left)
   HasStarted begun left (Err unbegun.InTransaction) y = ⊥
   HasStarted begun left (Err unbegun.Worn) y = ⊥
   HasStarted begun left (Err unbegun.NoMemory) y = HasFailed begun y × (y.left ≡ left)
 
   -- one ticket less is left where it was begun, and where memory was wanting
-  abbrev pub HasBegun : Session T n → Result (Unit {0}) Unbegun → Session T n → Type 0
+  abbrev pub HasBegun : Session T n → Result (Unit {0}) BeginError → Session T n → Type 0
   HasBegun x (Ok started) y = (x.live ≡ None) × IsAsking t ty s [] [] y (view_of x) × (y.left + 1 ≡ x.left)
   HasBegun x (Err unbegun.InTransaction) y = (x.live ≢ None) × IsUnchanged x y
   HasBegun x (Err unbegun.Worn) y = (x.live ≡ None) × (x.left ≡ 0) × IsUnchanged x y
@@ -79,14 +79,14 @@ module _ {T : Type 0} {n : naming.Ghosts T} (t : OfType T) (ty : T) (s : Shared 
     pub told : HasEnded t.meaning t.valid t.sizes script_in next_of left_of MayAskOf (passes_of s) ty (script_of calls Commit) ended begun (view_of y)
 
   -- where these calls had been asked
-  abbrev pub HasAskedAfter : List Call → List Told → View → Call → Result (Unit {0}) Unanswered → Session T n → Type 0
+  abbrev pub HasAskedAfter : List Call → List Told → View → Call → Result (Unit {0}) AskError → Session T n → Type 0
   HasAskedAfter calls rs begun call (Ok answered) y = IsAnswered calls rs call y begun
   HasAskedAfter calls rs begun call (Err unanswered.NoTransaction) y = ⊥
   HasAskedAfter calls rs begun call (Err unanswered.Untaken) y = IsAsking t ty s calls rs y begun × ((t.meaning ty).takes call → ⊥)
   HasAskedAfter calls rs begun call (Err unanswered.Aborted) y = WasAborted (calls ++ call ∷ []) y begun
   HasAskedAfter calls rs begun call (Err unanswered.NoMemory) y = HasFailed begun y
 
-  pub record HasAsked (x : Session T n) (call : Call) (result : Result (Unit {0}) Unanswered) (y : Session T n) : Type 0 where
+  pub record HasAsked (x : Session T n) (call : Call) (result : Result (Unit {0}) AskError) (y : Session T n) : Type 0 where
     pub free : x.live ≡ None → (result ≡ Err unanswered.NoTransaction) × IsUnchanged x y
     pub asking : (calls : List Call) (rs : List Told) (begun : View) → IsAsking t ty s calls rs x begun → HasAskedAfter calls rs begun call result y
     pub left : y.left ≡ x.left
@@ -98,7 +98,7 @@ module _ {T : Type 0} {n : naming.Ghosts T} (t : OfType T) (ty : T) (s : Shared 
     pub told : HasCommitted t (passes_of s) ty calls rs ended begun (view_of y)
     pub stands : place_of ended.verdict ≡ Ok place
 
-  abbrev pub HasCommittedAfter : List Call → List Told → View → Result ℕ Uncommitted → Session T n → Type 0
+  abbrev pub HasCommittedAfter : List Call → List Told → View → Result ℕ CommitError → Session T n → Type 0
   HasCommittedAfter calls rs begun (Ok place) y = HasTakenPlace calls rs place y begun
   HasCommittedAfter calls rs begun (Err uncommitted.NoTransaction) y = ⊥
   HasCommittedAfter calls rs begun (Err uncommitted.Aborted) y = WasAborted calls y begun
@@ -111,13 +111,13 @@ module _ {T : Type 0} {n : naming.Ghosts T} (t : OfType T) (ty : T) (s : Shared 
     pub told : HasCancelled t (passes_of s) ty calls rs ended begun (view_of y)
     pub stands : ended.verdict ≡ Cancelled place
 
-  abbrev pub HasCancelledAfter : List Call → List Told → View → Result ℕ Uncommitted → Session T n → Type 0
+  abbrev pub HasCancelledAfter : List Call → List Told → View → Result ℕ CommitError → Session T n → Type 0
   HasCancelledAfter calls rs begun (Ok place) y = WasGivenUp calls rs place y begun
   HasCancelledAfter calls rs begun (Err uncommitted.NoTransaction) y = ⊥
   HasCancelledAfter calls rs begun (Err uncommitted.Aborted) y = ⊥
   HasCancelledAfter calls rs begun (Err uncommitted.NoMemory) y = HasFailed begun y
 
-  pub record HasEndedBy (x : Session T n) (result : Result ℕ Uncommitted) (y : Session T n) (ends : List Call → List Told → View → Result ℕ Uncommitted → Session T n → Type 0) : Type 0 where
+  pub record HasEndedBy (x : Session T n) (result : Result ℕ CommitError) (y : Session T n) (ends : List Call → List Told → View → Result ℕ CommitError → Session T n → Type 0) : Type 0 where
     pub free : x.live ≡ None → (result ≡ Err uncommitted.NoTransaction) × IsUnchanged x y
     pub asking : (calls : List Call) (rs : List Told) (begun : View) → IsAsking t ty s calls rs x begun → ends calls rs begun result y
     pub left : y.left ≡ x.left

@@ -6,9 +6,9 @@ ghost use Rattle.sto_core.specs.declared.view.View.{View};
 ghost use Rattle.sto_interactive.specs.Sessions.{IsSessionOf, Waits};
 ghost use Rattle.sto_interactive.specs.Steps.{HasAsked, HasAskedAfter};
 
-use crate::live::Stopped;
-use crate::memory::LiveMemory;
-use crate::pause::PausedLive;
+use crate::live::StepError;
+use crate::memory::StepLists;
+use crate::pause::RestingTransaction;
 use crate::session::Session;
 use std::alloc::Global;
 use sto_model::{Call, Replies};
@@ -17,7 +17,7 @@ use sto_type::TxType;
 
 /// Why a call was not answered.
 #[derive(Clone, Copy, PartialEq, Eq, Debug)]
-pub enum Unanswered {
+pub enum AskError {
     /// The session is in no transaction. Nothing changed.
     NoTransaction,
     /// The objects do not take the call. The transaction waits as before.
@@ -36,7 +36,7 @@ impl<T: TxType> Session<T> {
         ty: &T,
         shared: &Shared<T>,
         call: Call,
-    ) -> (Session<T>, Result<(), Unanswered>)
+    ) -> (Session<T>, Result<(), AskError>)
         requires { IsSessionOf T.TxType ty.now shared.now self }
         ensures { HasAsked T.TxType ty.now shared.now self call result.1 result.0 }
     {
@@ -50,7 +50,7 @@ impl<T: TxType> Session<T> {
             Some(live) => ask(alloc, ty, shared, rest, left, live, memory, call),
             None => (
                 Session::new(rest, left, memory),
-                Err(Unanswered::NoTransaction),
+                Err(AskError::NoTransaction),
             ),
         }
     }
@@ -73,10 +73,10 @@ fn ask<T: TxType>(
     shared: &Shared<T>,
     rest: Rest<T>,
     left: u64,
-    live: PausedLive,
-    memory: LiveMemory,
+    live: RestingTransaction,
+    memory: StepLists,
     call: Call,
-) -> (Session<T>, Result<(), Unanswered>)
+) -> (Session<T>, Result<(), AskError>)
     requires waits { (calls : List Call) × (rs : List Told) × (begun : View)
         × Waits T.TxType ty.now shared.now calls rs live begun rest.seat left }
     requires one { rest.seat.me.0.view.gathered ≡ 1 }
@@ -89,23 +89,23 @@ fn ask<T: TxType>(
     let mut live = live.go_on(ty);
     match live.ask(alloc, &mut pass, call) {
         Ok(()) => (waiting(pass.rest(), left, live.pause(), memory), Ok(())),
-        Err(Stopped::Untaken) => (
+        Err(StepError::Untaken) => (
             waiting(pass.rest(), left, live.pause(), memory),
-            Err(Unanswered::Untaken),
+            Err(AskError::Untaken),
         ),
-        Err(Stopped::Aborted(_)) => (
+        Err(StepError::Aborted(_)) => (
             Session::new(pass.rest(), left, live.into_memory()),
-            Err(Unanswered::Aborted),
+            Err(AskError::Aborted),
         ),
-        Err(Stopped::NoMemory) => (
+        Err(StepError::NoMemory) => (
             Session::new(pass.rest(), left, live.into_memory()),
-            Err(Unanswered::NoMemory),
+            Err(AskError::NoMemory),
         ),
     }
 }
 
 // A session in a transaction.
-fn waiting<T: TxType>(rest: Rest<T>, left: u64, live: PausedLive, memory: LiveMemory) -> Session<T>
+fn waiting<T: TxType>(rest: Rest<T>, left: u64, live: RestingTransaction, memory: StepLists) -> Session<T>
     requires enough { left ≤ rest.seat.me.0.view.draws }
     requires one { rest.seat.me.0.view.gathered ≡ 1 }
     ensures rest { result.rest ≡ rest }

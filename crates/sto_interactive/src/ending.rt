@@ -6,8 +6,8 @@ ghost use Rattle.sto_core.specs.declared.view.View.{View};
 ghost use Rattle.sto_interactive.specs.Sessions.{IsSessionOf, Waits};
 ghost use Rattle.sto_interactive.specs.Steps.{place_of, HasEndedBy, HasCommittedAfter, HasCancelledAfter};
 
-use crate::memory::LiveMemory;
-use crate::pause::PausedLive;
+use crate::memory::StepLists;
+use crate::pause::RestingTransaction;
 use crate::session::Session;
 use std::alloc::Global;
 use sto_attempt::Verdict;
@@ -17,7 +17,7 @@ use sto_type::TxType;
 
 /// Why a transaction was not committed or given up.
 #[derive(Clone, Copy, PartialEq, Eq, Debug)]
-pub enum Uncommitted {
+pub enum CommitError {
     /// The session is in no transaction. Nothing changed.
     NoTransaction,
     /// The transaction was aborted: nothing of it took effect. The session is free.
@@ -34,7 +34,7 @@ impl<T: TxType> Session<T> {
         alloc: Global,
         ty: &T,
         shared: &Shared<T>,
-    ) -> (Session<T>, Result<u64, Uncommitted>)
+    ) -> (Session<T>, Result<u64, CommitError>)
         requires { IsSessionOf T.TxType ty.now shared.now self }
         ensures { HasEndedBy T.TxType ty.now shared.now self result.1 result.0
             (HasCommittedAfter T.TxType ty.now shared.now) }
@@ -49,7 +49,7 @@ impl<T: TxType> Session<T> {
             Some(live) => commit(alloc, ty, shared, rest, left, live, memory),
             None => (
                 Session::new(rest, left, memory),
-                Err(Uncommitted::NoTransaction),
+                Err(CommitError::NoTransaction),
             ),
         }
     }
@@ -60,7 +60,7 @@ impl<T: TxType> Session<T> {
         alloc: Global,
         ty: &T,
         shared: &Shared<T>,
-    ) -> (Session<T>, Result<u64, Uncommitted>)
+    ) -> (Session<T>, Result<u64, CommitError>)
         requires { IsSessionOf T.TxType ty.now shared.now self }
         ensures { HasEndedBy T.TxType ty.now shared.now self result.1 result.0
             (HasCancelledAfter T.TxType ty.now shared.now) }
@@ -75,7 +75,7 @@ impl<T: TxType> Session<T> {
             Some(live) => cancel(alloc, ty, shared, rest, left, live, memory),
             None => (
                 Session::new(rest, left, memory),
-                Err(Uncommitted::NoTransaction),
+                Err(CommitError::NoTransaction),
             ),
         }
     }
@@ -88,9 +88,9 @@ fn commit<T: TxType>(
     shared: &Shared<T>,
     rest: Rest<T>,
     left: u64,
-    live: PausedLive,
-    memory: LiveMemory,
-) -> (Session<T>, Result<u64, Uncommitted>)
+    live: RestingTransaction,
+    memory: StepLists,
+) -> (Session<T>, Result<u64, CommitError>)
     requires waits { (calls : List Call) × (rs : List Told) × (begun : View)
         × Waits T.TxType ty.now shared.now calls rs live begun rest.seat left }
     requires one { rest.seat.me.0.view.gathered ≡ 1 }
@@ -110,7 +110,7 @@ fn commit<T: TxType>(
         }
         Err(NoMemory) => (
             Session::new(pass.rest(), left, memory),
-            Err(Uncommitted::NoMemory),
+            Err(CommitError::NoMemory),
         ),
     }
 }
@@ -122,9 +122,9 @@ fn cancel<T: TxType>(
     shared: &Shared<T>,
     rest: Rest<T>,
     left: u64,
-    live: PausedLive,
-    memory: LiveMemory,
-) -> (Session<T>, Result<u64, Uncommitted>)
+    live: RestingTransaction,
+    memory: StepLists,
+) -> (Session<T>, Result<u64, CommitError>)
     requires waits { (calls : List Call) × (rs : List Told) × (begun : View)
         × Waits T.TxType ty.now shared.now calls rs live begun rest.seat left }
     requires one { rest.seat.me.0.view.gathered ≡ 1 }
@@ -141,17 +141,17 @@ fn cancel<T: TxType>(
             memory.keep(ended);
             (Session::new(rest, left, memory), place)
         }
-        Err(NoMemory) => (Session::new(rest, left, memory), Err(Uncommitted::NoMemory)),
+        Err(NoMemory) => (Session::new(rest, left, memory), Err(CommitError::NoMemory)),
     }
 }
 
 // Where a transaction stands in the order that ended with a verdict; one that was aborted stands nowhere.
-fn place_of(verdict: Verdict) -> Result<u64, Uncommitted>
+fn place_of(verdict: Verdict) -> Result<u64, CommitError>
     ensures { result ≡ place_of verdict }
 {
     match verdict {
         Verdict::Wrote { ticket } => Ok(ticket),
         Verdict::Read { at } | Verdict::Cancelled { at } => Ok(at),
-        Verdict::Locked { .. } | Verdict::Changed { .. } => Err(Uncommitted::Aborted),
+        Verdict::Locked { .. } | Verdict::Changed { .. } => Err(CommitError::Aborted),
     }
 }

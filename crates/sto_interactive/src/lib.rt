@@ -12,10 +12,10 @@ mod session;
 mod starting;
 
 pub use asked::Asked;
-pub use asking::Unanswered;
-pub use ending::Uncommitted;
-pub use live::{Live, Stopped};
-pub use memory::LiveMemory;
-pub use pause::PausedLive;
+pub use asking::AskError;
+pub use ending::CommitError;
+pub use live::{Live, StepError};
+pub use memory::StepLists;
+pub use pause::RestingTransaction;
 pub use session::Session;
-pub use starting::Unbegun;
+pub use starting::BeginError;

@@ -13,7 +13,7 @@ ghost use Rattle.sto_interactive.specs.Waiting.{IsWaiting, abort_of};
 ghost use Rattle.sto_interactive.specs.Lives.{IsLive, HasAsked, HasCommitted, HasCancelled};
 
 use crate::asked::Asked;
-use crate::memory::LiveMemory;
+use crate::memory::StepLists;
 use crate::run_on::{finish, run_on};
 use std::mem;
 use std::alloc::Global;
@@ -26,7 +26,7 @@ use sto_type::TxType;
 
 /// Why a call was not answered.
 #[derive(Clone, Copy)]
-pub enum Stopped {
+pub enum StepError {
     /// The transaction was aborted: it has ended, and nothing of it took effect.
     Aborted(Verdict),
     /// The type does not take the call. The transaction waits as before.
@@ -50,7 +50,7 @@ impl<'t, T: TxType> Live<'t, T> {
         alloc: Global,
         ty: &'t T,
         cells: &mut C,
-        memory: &mut LiveMemory,
+        memory: &mut StepLists,
     ) -> Result<Live<'t, T>, NoMemory>
         requires rests { IsAtRest (T.meaning ty.now) (T.sizes ty.now) (C.view cells.old) }
         requires draws { 0 < (C.view cells.old).draws }
@@ -79,7 +79,7 @@ impl<'t, T: TxType> Live<'t, T> {
         alloc: Global,
         cells: &mut C,
         call: Call,
-    ) -> Result<(), Stopped>
+    ) -> Result<(), StepError>
         requires { (ty : T) × (calls : List Call) × (rs : List Told) × (begun : View)
             × IsLive T.TxType ty calls rs self.old begun (C.view cells.old) }
         ensures asked { (ty : T) (calls : List Call) (rs : List Told) (begun : View)
@@ -88,25 +88,25 @@ impl<'t, T: TxType> Live<'t, T> {
         ensures same { C.same cells.old cells.new }
     {
         if !self.ty.takes(&call) {
-            return Err(Stopped::Untaken);
+            return Err(StepError::Untaken);
         }
         if let Err(NoMemory) = self.add(alloc, call) {
-            return Err(Stopped::NoMemory);
+            return Err(StepError::NoMemory);
         }
         match run_on(alloc, &mut self.attempt, cells) {
             Ok(turn) => match abort_of(turn) {
-                Some(verdict) => Err(Stopped::Aborted(verdict)),
+                Some(verdict) => Err(StepError::Aborted(verdict)),
                 None => Ok(()),
             },
-            Err(NoMemory) => Err(Stopped::NoMemory),
+            Err(NoMemory) => Err(StepError::NoMemory),
         }
     }
 
     /// Gives back the memory that it was lent, where it has ended by an abort or for want of memory.
-    pub fn into_memory(self) -> LiveMemory {
+    pub fn into_memory(self) -> StepLists {
         let Live { attempt, .. } = self;
         let (heard, memory) = attempt.end();
-        LiveMemory::of_ended(memory, heard)
+        StepLists::of_ended(memory, heard)
     }
 
     // Gives the body one more call.
@@ -125,14 +125,14 @@ impl<'t, T: TxType> Live<'t, T> {
         added
     }
 
-    /// Commits. The replies of what is left of it are those that were answered. `LiveMemory::keep` keeps their room.
+    /// Commits. The replies of what is left of it are those that were answered. `StepLists::keep` keeps their room.
     ///
     /// After `NoMemory` nothing of it took effect.
     pub fn commit<C: Cells<T>>(
         self,
         alloc: Global,
         cells: &mut C,
-        memory: &mut LiveMemory,
+        memory: &mut StepLists,
     ) -> Result<Ended<Asked>, NoMemory>
         requires { (ty : T) × (calls : List Call) × (rs : List Told) × (begun : View)
             × IsLive T.TxType ty calls rs self begun (C.view cells.old) }
@@ -168,7 +168,7 @@ impl<'t, T: TxType> Live<'t, T> {
     }
 
     /// Gives it up. It makes no event: the pass is left as it is, at rest.
-    pub fn cancel(self, alloc: Global, memory: &mut LiveMemory) -> Result<Ended<Asked>, NoMemory>
+    pub fn cancel(self, alloc: Global, memory: &mut StepLists) -> Result<Ended<Asked>, NoMemory>
         requires { (ty : T) × (calls : List Call) × (rs : List Told) × (begun : View) × (v : View)
             × IsLive T.TxType ty calls rs self begun v }
         ensures cancelled { (passes : ℕ) (ty : T) (calls : List Call) (rs : List Told) (begun v : View)

@@ -15,12 +15,12 @@ use sto_transaction::Ended;
 /// So nothing is allocated for a transaction that is no larger than those before it. After want of memory the room of some lists may be
 /// lost. Contracts see nothing of it.
 #[derive(Drop)]
-pub struct LiveMemory {
+pub struct StepLists {
     pub(crate) attempts: Memory,
     calls: List<Call>,
 }
 
-impl Model for LiveMemory {
+impl Model for StepLists {
     ghost use Rattle.std.specs.Prelude.{◌≡◌, []};
 
     ghost Value = { Unit {0} };
@@ -30,23 +30,23 @@ impl Model for LiveMemory {
     ghost invariant = { λ m. m.calls.items ≡ [] };
 }
 
-impl LiveMemory {
+impl StepLists {
     /// Memory with no room yet. It takes none.
-    pub fn new(alloc: Global) -> LiveMemory {
-        LiveMemory {
+    pub fn new(alloc: Global) -> StepLists {
+        StepLists {
             attempts: Memory::new(alloc),
             calls: List::new(alloc),
         }
     }
 
     /// The memory of an attempt that has ended, with the room of what it heard.
-    pub(crate) fn of_ended(attempts: Memory, heard: Heard<Asked>) -> LiveMemory {
+    pub(crate) fn of_ended(attempts: Memory, heard: Heard<Asked>) -> StepLists {
         let Heard { body, replies } = heard;
         let mut attempts = attempts;
         attempts.keep_replies(replies);
         let mut calls = body.calls;
         calls.clear();
-        LiveMemory { attempts, calls }
+        StepLists { attempts, calls }
     }
 
     /// A list for calls.

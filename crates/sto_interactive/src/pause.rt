@@ -14,30 +14,30 @@ use sto_type::TxType;
 
 /// All of a transaction that waits but its type, which it borrows no more.
 #[derive(Drop)]
-pub struct PausedLive {
+pub struct RestingTransaction {
     pub(crate) attempt: Paused<Asked>,
 }
 
 impl<T: TxType> Live<'_, T> {
     /// Lets its type go. It makes no event: the pass is left as it is, and may rest too.
-    pub fn pause(self) -> PausedLive
+    pub fn pause(self) -> RestingTransaction
         ensures paused { (ty : T) (calls : List Call) (rs : List Told) (begun v : View)
             → IsLive T.TxType ty calls rs self.entry begun v → IsPaused T.TxType ty calls rs result begun v }
     {
         let Live { attempt, .. } = self;
-        PausedLive {
+        RestingTransaction {
             attempt: attempt.pause(),
         }
     }
 }
 
-impl PausedLive {
+impl RestingTransaction {
     /// Goes on from where it was, on the type that it had.
     pub fn go_on<'t, T: TxType>(self, ty: &'t T) -> Live<'t, T>
         ensures live { (calls : List Call) (rs : List Told) (begun v : View)
             → IsPaused T.TxType ty.now calls rs self begun v → IsLive T.TxType ty.now calls rs result begun v }
     {
-        let PausedLive { attempt } = self;
+        let RestingTransaction { attempt } = self;
         Live {
             ty,
             attempt: attempt.go_on(ty),

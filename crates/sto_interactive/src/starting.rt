@@ -6,7 +6,7 @@ ghost use Rattle.sto_interactive.specs.Sessions.{IsSessionOf};
 ghost use Rattle.sto_interactive.specs.Steps.{HasBegun, HasStarted};
 
 use crate::live::Live;
-use crate::memory::LiveMemory;
+use crate::memory::StepLists;
 use crate::session::Session;
 use std::alloc::Global;
 use sto_part::NoMemory;
@@ -15,7 +15,7 @@ use sto_type::TxType;
 
 /// Why a transaction was not begun.
 #[derive(Clone, Copy, PartialEq, Eq, Debug)]
-pub enum Unbegun {
+pub enum BeginError {
     /// The session is in a transaction. Nothing changed.
     InTransaction,
     /// No ticket is left. Nothing changed.
@@ -31,15 +31,15 @@ impl<T: TxType> Session<T> {
         alloc: Global,
         ty: &T,
         shared: &Shared<T>,
-    ) -> (Session<T>, Result<(), Unbegun>)
+    ) -> (Session<T>, Result<(), BeginError>)
         requires { IsSessionOf T.TxType ty.now shared.now self }
         ensures { HasBegun T.TxType ty.now shared.now self result.1 result.0 }
     {
         if self.live.is_some() {
-            return (self, Err(Unbegun::InTransaction));
+            return (self, Err(BeginError::InTransaction));
         }
         if self.left == 0 {
-            return (self, Err(Unbegun::Worn));
+            return (self, Err(BeginError::Worn));
         }
         let Session {
             rest,
@@ -58,8 +58,8 @@ fn start<T: TxType>(
     shared: &Shared<T>,
     rest: Rest<T>,
     left: u64,
-    memory: LiveMemory,
-) -> (Session<T>, Result<(), Unbegun>)
+    memory: StepLists,
+) -> (Session<T>, Result<(), BeginError>)
     requires of { IsOf shared.now rest.seat }
     requires rests { IsAtRest (T.meaning ty.now) (T.sizes ty.now) rest.seat.me.0.view }
     requires left { left < rest.seat.me.0.view.draws }
@@ -80,7 +80,7 @@ fn start<T: TxType>(
         }
         Err(NoMemory) => (
             Session::new(pass.rest(), left, memory),
-            Err(Unbegun::NoMemory),
+            Err(BeginError::NoMemory),
         ),
     }
 }

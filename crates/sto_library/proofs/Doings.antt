@@ -16,8 +16,8 @@ use Rattle.sto_action.specs.Progs.{Prog, IsGiven, IsCancelled, IsAsked}
 use Rattle.sto_shared_store.specs.declared.store.Store.{Store as Words}
 use Rattle.sto_action.specs.declared.outcome.Done.{Done}
 use Rattle.sto_action.specs.declared.outcome.Done.TheVariants.{Gave, Cancelled}
-use Rattle.sto_action.specs.declared.outcome.Unrun.{Unrun}
-use Rattle.sto_action.specs.declared.outcome.Unrun.TheVariants.{Busy, Refused, Worn, NoMemory}
+use Rattle.sto_action.specs.declared.outcome.TransactionError.{TransactionError}
+use Rattle.sto_action.specs.declared.outcome.TransactionError.TheVariants.{Busy, Refused, Worn, NoMemory}
 use Rattle.sto_action.specs.Atomic.{steps_of, TakesNoEffect, IsAtomic, HasLed}
 use Rattle.sto_action.proofs.Tried.{seen_later}
 use Rattle.sto_library.specs.Values.{Working}
@@ -65,7 +65,7 @@ module _ {T A : Type 0} (t : OfType T) (before after : Working T) (most : ℕ) (
     each = All-nil (Ran before.shapes most p);
   }
 
-  pub led_given : (tries : ℕ) (r : Result (Done A) Unrun) → HasLed (t.meaning before.words.ty) before.seat.me.0.view after.seat.me.0.view tries after.left before.shapes most p r
+  pub led_given : (tries : ℕ) (r : Result (Done A) TransactionError) → HasLed (t.meaning before.words.ty) before.seat.me.0.view after.seat.me.0.view tries after.left before.shapes most p r
       → HasGiven t before after 1 most p r
   unfolding none
   led_given tries (Ok (Gave value)) h = let e = ended (λ hs. IsGiven p hs value) h in let one : length e.0.did ≡ 1 = e.1.0 in record { repeated = e.0; at_most = omega (arith, one); each_time = omega (arith, one); led = e.1.1 }
@@ -76,7 +76,7 @@ module _ {T A : Type 0} (t : OfType T) (before after : Working T) (most : ℕ) (
   led_given tries (Err NoMemory) h = record { repeated = none h; at_most = omega (arith); each_time = tt; led = tt }
 
 -- why it was not run to its end
-pub led_cause : {T A : Type 0} (m : Meaning) (before after : Working T) (tries most : ℕ) (p : Prog A) (r : Result (Done A) Unrun)
+pub led_cause : {T A : Type 0} (m : Meaning) (before after : Working T) (tries most : ℕ) (p : Prog A) (r : Result (Done A) TransactionError)
     → HasLed m before.seat.me.0.view after.seat.me.0.view tries after.left before.shapes most p r → HasCause before after tries r
 led_cause m before after tries most p (Ok (Gave value)) h = tt
 led_cause m before after tries most p (Ok Cancelled) h = tt
@@ -129,7 +129,7 @@ module _ {T I A : Type 0} (t : OfType T) where
   run_more {p = p} i h k = run_on h (run_one {p = p} i k)
 
 module _ {T A : Type 0} (t : OfType T) where
-  led_more : (u v : Working T) (did more : List Transaction) (p : Prog A) (r : Result (Done A) Unrun) → Grows u.seat.me.0.view v.seat.me.0.view → IsLedBy v more p r → IsLedBy u (did ++ more) p r
+  led_more : (u v : Working T) (did more : List Transaction) (p : Prog A) (r : Result (Done A) TransactionError) → Grows u.seat.me.0.view v.seat.me.0.view → IsLedBy v more p r → IsLedBy u (did ++ more) p r
   led_more u v did more p (Ok (Gave value)) g h = heard_more u v did more (λ hs. IsGiven p hs value) g h
   led_more u v did more p (Ok Cancelled) g h = heard_more u v did more (λ hs. IsCancelled p hs) g h
   led_more u v did more p (Err (Refused call)) g h = heard_more u v did more (λ hs. IsAsked p hs call) g h
@@ -138,7 +138,7 @@ module _ {T A : Type 0} (t : OfType T) where
   led_more u v did more p (Err NoMemory) g h = tt
 
   -- some runs, and then one that led to this
-  pub given_more : {u v w : Working T} {before most : ℕ} {p : Prog A} {r : Result (Done A) Unrun} → (h : HasRepeated t u v most p) → length h.did ≡ before → HasGiven t v w 1 most p r
+  pub given_more : {u v w : Working T} {before most : ℕ} {p : Prog A} {r : Result (Done A) TransactionError} → (h : HasRepeated t u v most p) → length h.did ≡ before → HasGiven t v w 1 most p r
       → HasGiven t u w (before + 1) most p r
   unfolding run_on
   given_more {u} {v} {w} {before} {most} {p} {r} h many k =
@@ -150,7 +150,7 @@ module _ {T A : Type 0} (t : OfType T) where
         led = led_more u v h.did k.repeated.did p r h.done.grows k.led;
       }
     where
-      each_more : (o : Result (Done A) Unrun) → OnOk o (1 ≤ length k.repeated.did) → OnOk o (before + 1 ≤ length (h.did ++ k.repeated.did))
+      each_more : (o : Result (Done A) TransactionError) → OnOk o (1 ≤ length k.repeated.did) → OnOk o (before + 1 ≤ length (h.did ++ k.repeated.did))
       each_more (Ok done) one = let all = length-append h.did k.repeated.did in omega (arith, all, one, many)
       each_more (Err error) one = tt
 
@@ -163,7 +163,7 @@ module _ {T A : Type 0} (t : OfType T) where
   ran_none w most p = (run_none t w most (λ (once : Unit {0}). p), refl)
 
   -- once more, not in vain
-  pub ran_once_more : {u v w : Working T} {times most : ℕ} {p : Prog A} {r : Result (Done A) Unrun} → RanTimes u v times most p → is_err r ≡ false → HasGiven t v w 1 most p r → RanTimes u w (times + 1) most p
+  pub ran_once_more : {u v w : Working T} {times most : ℕ} {p : Prog A} {r : Result (Done A) TransactionError} → RanTimes u v times most p → is_err r ≡ false → HasGiven t v w 1 most p r → RanTimes u w (times + 1) most p
   unfolding run_on
   ran_once_more {times = times} {r = Ok done} h fine k =
       let all = length-append h.0.did k.repeated.did in
@@ -171,6 +171,6 @@ module _ {T A : Type 0} (t : OfType T) where
   ran_once_more {r = Err error} h fine k = absurd (true≢false fine)
 
   -- a run in vain ended it before so many times
-  pub given_in_vain : {u w : Working T} {times more most : ℕ} {p : Prog A} {r : Result (Done A) Unrun} → times ≤ more → is_err r ≡ true → HasGiven t u w times most p r → HasGiven t u w more most p r
+  pub given_in_vain : {u w : Working T} {times more most : ℕ} {p : Prog A} {r : Result (Done A) TransactionError} → times ≤ more → is_err r ≡ true → HasGiven t u w times most p r → HasGiven t u w more most p r
   given_in_vain {r = Ok done} few vain k = absurd (true≢false (sym vain))
   given_in_vain {r = Err error} few vain k = let most = k.at_most in record { repeated = k.repeated; at_most = omega (arith, few, most); each_time = tt; led = k.led }

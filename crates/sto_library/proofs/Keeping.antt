@@ -22,7 +22,7 @@ use Rattle.sto_action.proofs.Alone.{run_gives, run_commits}
 use Rattle.sto_shared_store.specs.declared.store.Store.{Store as Words}
 use Rattle.sto_action.specs.declared.outcome.Done.{Done}
 use Rattle.sto_action.specs.declared.outcome.Done.TheVariants.{Gave, Cancelled}
-use Rattle.sto_action.specs.declared.outcome.Unrun.{Unrun}
+use Rattle.sto_action.specs.declared.outcome.TransactionError.{TransactionError}
 use Rattle.sto_action.specs.Atomic.{steps_of}
 use Rattle.sto_library.specs.Values.{Working, Stored}
 use Rattle.sto_library.specs.Tasks.{IsDone, AreFourDone}
@@ -109,7 +109,7 @@ run_keeping {t = t} {Inv = Inv} Good {words = words} {v = v} {w = w} {most = mos
 
 -- what one of the transactions gave, which were of this code
 given_good : {T A : Type 0} (ms : List Machine) (Inv : State → Type 0) (Good : A → Type 0) (most : ℕ) (p : Prog A) (before : Working T) (did : List Transaction) → Keeps ms Inv Good p
-    → All (RanSome before.shapes most (λ (once : Unit {0}). p)) did → (o : Result (Done A) Unrun) → IsLedBy before did p o → All (RanWithin ms Inv) did → IfGave Good o
+    → All (RanSome before.shapes most (λ (once : Unit {0}). p)) did → (o : Result (Done A) TransactionError) → IsLedBy before did p o → All (RanWithin ms Inv) did → IfGave Good o
 given_good ms Inv Good most p before did law each (Ok (Gave value)) k ran =
     code_good ms Inv Good before.shapes most p law k.transaction (all_among (RanSome before.shapes most (λ (once : Unit {0}). p)) did k.transaction k.there each).1 value
     (all_among (RanWithin ms Inv) did k.transaction k.there ran) k.said
@@ -117,7 +117,7 @@ given_good ms Inv Good most p before did law each (Ok Cancelled) k ran = tt
 given_good ms Inv Good most p before did law each (Err error) k ran = tt
 
 -- a task that ran code which keeps the invariant, and gave what one of the runs led to
-pub given_keeping : {T A : Type 0} {t : OfType T} {Inv : State → Type 0} (Good : A → Type 0) {words : Words T} {shapes : List Shape} {v w : View} {times most : ℕ} {p : Prog A} {out : Result (Done A) Unrun} {ms : List Machine}
+pub given_keeping : {T A : Type 0} {t : OfType T} {Inv : State → Type 0} (Good : A → Type 0) {words : Words T} {shapes : List Shape} {v w : View} {times most : ℕ} {p : Prog A} {out : Result (Done A) TransactionError} {ms : List Machine}
     → (t.meaning words.ty).machines ≡ ms → Keeps ms Inv Good p → IsDone words shapes v w (λ before after o. HasGiven t before after times most p o) out
     → IsKeeping (t.meaning words.ty) Inv v w (IfGave Good out)
 given_keeping {t = t} {Inv = Inv} Good {words = words} {v = v} {w = w} {most = most} {p = p} {out = out} same law h =
@@ -171,10 +171,10 @@ kept_to_rows {T} {P} t Inv ms old new rows same words kept history opening =
 pub all_kept : (m : Meaning) (Inv : State → Type 0) (views : List View) → All (λ v. v.entries ≡ []) views → All (λ v. HasKept m Inv v (Unit {0})) views
 all_kept m Inv views new = All-weaker (λ (v : View). v.entries ≡ []) (λ (v : View). HasKept m Inv v (Unit {0})) (λ v none. new_kept m Inv v none) views new
 
--- Code that four workers of a store ran that was just opened, each its own, and that keeps an invariant: it holds of the rows at the end, and what was given is good
+-- Action that four workers of a store ran that was just opened, each its own, and that keeps an invariant: it holds of the rows at the end, and what was given is good
 pub four_keep : {T A B C D : Type 0} {t : OfType T} {Inv : State → Type 0} {ms : List Machine} {old new : Stored T} {rows : State} {a_times a_most b_times b_most c_times c_most d_times d_most : ℕ}
     {a : Prog A} {b : Prog B} {c : Prog C} {d : Prog D}
-    {x : Result (Done A) Unrun} {y : Result (Done B) Unrun} {z : Result (Done C) Unrun} {u : Result (Done D) Unrun}
+    {x : Result (Done A) TransactionError} {y : Result (Done B) TransactionError} {z : Result (Done C) TransactionError} {u : Result (Done D) TransactionError}
     (GoodA : A → Type 0) (GoodB : B → Type 0) (GoodC : C → Type 0) (GoodD : D → Type 0)
     → (t.meaning old.words.ty).machines ≡ ms → All (λ v. v.entries ≡ []) old.views → new.words ≡ old.words
     → AreFourDone old new (λ p q o. HasGiven t p q a_times a_most a o) (λ p q o. HasGiven t p q b_times b_most b o) (λ p q o. HasGiven t p q c_times c_most c o) (λ p q o. HasGiven t p q d_times d_most d o) x y z u

@@ -11,8 +11,8 @@ use Rattle.sto_action.specs.declared.short_reply.ShortReply.{ShortReply}
 use Rattle.sto_action.specs.Progs.{Prog, IsGiven, IsCancelled, IsAsked}
 use Rattle.sto_action.specs.declared.outcome.Done.{Done}
 use Rattle.sto_action.specs.declared.outcome.Done.TheVariants.{Gave, Cancelled}
-use Rattle.sto_action.specs.declared.outcome.Unrun.{Unrun}
-use Rattle.sto_action.specs.declared.outcome.Unrun.TheVariants.{Busy, Refused, Worn, NoMemory}
+use Rattle.sto_action.specs.declared.outcome.TransactionError.{TransactionError}
+use Rattle.sto_action.specs.declared.outcome.TransactionError.TheVariants.{Busy, Refused, Worn, NoMemory}
 use Rattle.sto_action.specs.Atomic.{steps_of, HasSeen, HaveAborted}
 use Rattle.sto_library.specs.Values.{Working}
 
@@ -36,7 +36,7 @@ pub record HasHeard {T : Type 0} (before : Working T) (did : List Transaction) (
   pub said : says (map short_of transaction.replies)
 
 -- one of the transactions, which were of this code, led to this
-abbrev pub IsLedBy : {T A : Type 0} → Working T → List Transaction → Prog A → Result (Done A) Unrun → Type 0
+abbrev pub IsLedBy : {T A : Type 0} → Working T → List Transaction → Prog A → Result (Done A) TransactionError → Type 0
 IsLedBy before did p (Ok (Gave value)) = HasHeard before did (λ hs. IsGiven p hs value)
 IsLedBy before did p (Ok Cancelled) = HasHeard before did (λ hs. IsCancelled p hs)
 IsLedBy before did p (Err (Refused call)) = HasHeard before did (λ hs. IsAsked p hs call)
@@ -45,14 +45,14 @@ IsLedBy before did p (Err Worn) = Unit {0}
 IsLedBy before did p (Err NoMemory) = Unit {0}
 
 -- the worker ran this code alone, at most so many times, and so many where none of them was in vain; and one of the runs led to this
-pub record HasGiven {T A : Type 0} (t : OfType T) (before after : Working T) (times most : ℕ) (p : Prog A) (outcome : Result (Done A) Unrun) : Type 0 where
+pub record HasGiven {T A : Type 0} (t : OfType T) (before after : Working T) (times most : ℕ) (p : Prog A) (outcome : Result (Done A) TransactionError) : Type 0 where
   pub repeated : HasRepeated t before after most p
   pub at_most : length repeated.did ≤ times
   pub each_time : OnOk outcome (times ≤ length repeated.did)
   pub led : IsLedBy before repeated.did p outcome
 
 -- why it was not run to its end, where it had so many tries: each was made and aborted; or fewer were, and no attempt is left to the worker
-abbrev pub HasCause : {T A : Type 0} → (before after : Working T) → (tries : ℕ) → Result (Done A) Unrun → Type 0
+abbrev pub HasCause : {T A : Type 0} → (before after : Working T) → (tries : ℕ) → Result (Done A) TransactionError → Type 0
 HasCause before after tries (Err Busy) = HaveAborted before.seat.me.0.view after.seat.me.0.view tries
 HasCause before after tries (Err Worn) = (after.left ≡ 0) × ((many : ℕ) × (many < tries) × HaveAborted before.seat.me.0.view after.seat.me.0.view many)
 HasCause before after tries (Err NoMemory) = Unit {0}

@@ -4,7 +4,7 @@ use Rattle.sto_type.specs.Traits.{OfType}
 use Rattle.sto_core.specs.declared.view.View.{View}
 use Rattle.sto_action.specs.Progs.{Prog}
 use Rattle.sto_action.specs.declared.outcome.Done.{Done}
-use Rattle.sto_action.specs.declared.outcome.Unrun.{Unrun}
+use Rattle.sto_action.specs.declared.outcome.TransactionError.{TransactionError}
 use Rattle.sto_library.specs.Values.{Stored, Working}
 use Rattle.sto_library.specs.Doings.{HasGiven, HasCause}
 use Rattle.sto_library.specs.Tasks.{IsDone}
@@ -22,16 +22,16 @@ pub record IsOneDone {T Out : Type 0} (old new : Stored T) (gives : Working T �
 
 module _ {T A : Type 0} (t : OfType T) (old new : Stored T) (most : ℕ) (p : Prog A) where
   -- a worker ran this code and nothing else, and one of the runs led to this; where it was not run to its end, that has its cause
-  abbrev pub IsLookOf : Result (Done A) Unrun → Type 0
+  abbrev pub IsLookOf : Result (Done A) TransactionError → Type 0
   IsLookOf outcome = IsOneDone old new (λ before after o. HasGiven t before after 1 most p o × HasCause before after (2 ^ 16) o) outcome
 
   -- what a look answers; where no worker rests, the store is as it was
   abbrev pub HasLooked : Result (Done A) LookError → Type 0
   HasLooked (Ok done) = IsLookOf (Ok done)
-  HasLooked (Err (unlooked.Unrun error)) = IsLookOf (Err error)
+  HasLooked (Err (unlooked.TransactionError error)) = IsLookOf (Err error)
   HasLooked (Err unlooked.Workers) = (old.views ≡ []) × (new ≡ old)
 
 -- what a look answers by what its transaction led to
-abbrev pub looked_by : {A : Type 0} → Result (Done A) Unrun → Result (Done A) LookError
+abbrev pub looked_by : {A : Type 0} → Result (Done A) TransactionError → Result (Done A) LookError
 looked_by (Ok done) = Ok done
-looked_by (Err error) = Err (unlooked.Unrun error)
+looked_by (Err error) = Err (unlooked.TransactionError error)

@@ -5,7 +5,7 @@ use Rattle.sto_part.specs.declared.naming.Naming as naming
 use Rattle.sto_type.specs.Traits.{OfType}
 use Rattle.sto_core.specs.declared.view.View.{View}
 use Rattle.sto_shared_store.specs.declared.store.Store.{Store as Words}
-use Rattle.sto_shared_store.specs.declared.worker.IdleWorker.{IdleWorker}
+use Rattle.sto_shared_store.specs.declared.worker.CountedRest.{CountedRest}
 use Rattle.sto_library.specs.Values.{Stored, Working, Serves}
 use Rattle.sto_library.specs.declared.task.Finished.{Finished}
 use Rattle.sto_library.specs.declared.task.TaskError.{TaskError}
@@ -23,16 +23,16 @@ pub record IsDone {T Out : Type 0} (words : Words T) (shapes : List Shape) (v w 
 
 module _ {T : Type 0} {n : naming.Ghosts T} (t : OfType T) (words : Words T) where
   -- both workers of a pair are the store's
-  abbrev pub ServeBoth : IdleWorker T n × IdleWorker T n → Type 0
+  abbrev pub ServeBoth : CountedRest T n × CountedRest T n → Type 0
   ServeBoth pair = Serves t words pair.0.rest.seat × Serves t words pair.1.rest.seat
 
   -- a worker did a task, and is the store's still
-  abbrev pub DoesTask : {Out : Type 0} → List Shape → IdleWorker T n → (Working T → Working T → Out → Type 0) → Finished T Out n → Type 0
+  abbrev pub DoesTask : {Out : Type 0} → List Shape → CountedRest T n → (Working T → Working T → Out → Type 0) → Finished T Out n → Type 0
   DoesTask shapes worker gives done =
       Serves t words done.worker.rest.seat × IsDone words shapes worker.rest.seat.me.0.view done.worker.rest.seat.me.0.view gives done.out
 
   -- a pair of workers did two tasks, each one of them
-  abbrev pub DoBoth : {A B : Type 0} → List Shape → IdleWorker T n × IdleWorker T n → (Working T → Working T → A → Type 0) → (Working T → Working T → B → Type 0)
+  abbrev pub DoBoth : {A B : Type 0} → List Shape → CountedRest T n × CountedRest T n → (Working T → Working T → A → Type 0) → (Working T → Working T → B → Type 0)
       → Finished T A n × Finished T B n → Type 0
   DoBoth shapes pair a b done = DoesTask shapes pair.0 a done.0 × DoesTask shapes pair.1 b done.1
 

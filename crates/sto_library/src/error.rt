@@ -4,40 +4,40 @@ ghost use Rattle.sto_library.specs.declared.error.StoreError.TheVariants as why;
 
 use crate::store::{CloseError, LookError};
 use crate::task::TaskError;
-use sto_action::Unrun;
-use sto_shared_store::{Unopened, Unplanned};
+use sto_action::TransactionError;
+use sto_shared_store::{OpenError, PlanError};
 use sto_type::TxType;
 
 /// Why a program with a store came to no answer: the error of any call of this library, for a `?` behind each.
 #[derive(Clone, Copy)]
 pub enum StoreError {
     /// An object was not declared.
-    Unplanned(Unplanned),
+    PlanError(PlanError),
     /// The store was not opened.
-    Unopened(Unopened),
+    OpenError(OpenError),
     /// Tasks were not done, or what they gave is lost.
     Task(TaskError),
     /// A transaction was not run to its end.
-    Unrun(Unrun),
+    TransactionError(TransactionError),
     /// A look at the store gave nothing.
     Look(LookError),
     /// The store was not closed.
-    Unclosed,
+    StoreCloseError,
 }
 
-impl From<Unplanned> for StoreError {
-    ghost from_gives = { λ error e. e ≡ why.Unplanned error };
+impl From<PlanError> for StoreError {
+    ghost from_gives = { λ error e. e ≡ why.PlanError error };
 
-    fn from(error: Unplanned) -> StoreError {
-        StoreError::Unplanned(error)
+    fn from(error: PlanError) -> StoreError {
+        StoreError::PlanError(error)
     }
 }
 
-impl From<Unopened> for StoreError {
-    ghost from_gives = { λ error e. e ≡ why.Unopened error };
+impl From<OpenError> for StoreError {
+    ghost from_gives = { λ error e. e ≡ why.OpenError error };
 
-    fn from(error: Unopened) -> StoreError {
-        StoreError::Unopened(error)
+    fn from(error: OpenError) -> StoreError {
+        StoreError::OpenError(error)
     }
 }
 
@@ -49,11 +49,11 @@ impl From<TaskError> for StoreError {
     }
 }
 
-impl From<Unrun> for StoreError {
-    ghost from_gives = { λ error e. e ≡ why.Unrun error };
+impl From<TransactionError> for StoreError {
+    ghost from_gives = { λ error e. e ≡ why.TransactionError error };
 
-    fn from(error: Unrun) -> StoreError {
-        StoreError::Unrun(error)
+    fn from(error: TransactionError) -> StoreError {
+        StoreError::TransactionError(error)
     }
 }
 
@@ -66,9 +66,9 @@ impl From<LookError> for StoreError {
 }
 
 impl<T: TxType + Drop> From<CloseError<T>> for StoreError {
-    ghost from_gives = { λ _ e. e ≡ why.Unclosed };
+    ghost from_gives = { λ _ e. e ≡ why.StoreCloseError };
 
     fn from(_error: CloseError<T>) -> StoreError {
-        StoreError::Unclosed
+        StoreError::StoreCloseError
     }
 }

@@ -10,7 +10,7 @@ use crate::store::SharedStore;
 use std::alloc::Global;
 use sto_action::{ArrayId, BoxId, CounterId, HashId, TreeId, VectorId};
 use sto_model::Shape;
-use sto_shared_store::{OpenedStore, Unopened, Unplanned};
+use sto_shared_store::{OpenedStore, OpenError, PlanError};
 use sto_store::Objects;
 use sto_type::TxType;
 
@@ -31,7 +31,7 @@ impl Schema {
     }
 
     /// Adds a box that holds this value.
-    pub fn boxed(&mut self, value: i64) -> Result<BoxId, Unplanned>
+    pub fn boxed(&mut self, value: i64) -> Result<BoxId, PlanError>
         ensures { HasPlanned (Single value) (λ id. id.number) self.old.objects self.new.objects result }
     {
         match self.objects.add(Shape::Single(value)) {
@@ -41,7 +41,7 @@ impl Schema {
     }
 
     /// Adds a counter that holds this value.
-    pub fn counter(&mut self, value: i64) -> Result<CounterId, Unplanned>
+    pub fn counter(&mut self, value: i64) -> Result<CounterId, PlanError>
         ensures { HasPlanned (Counter value) (λ id. id.number) self.old.objects self.new.objects result }
     {
         match self.objects.add(Shape::Counter(value)) {
@@ -51,7 +51,7 @@ impl Schema {
     }
 
     /// Adds an array with this value in each of its places.
-    pub fn array(&mut self, len: u32, value: i64) -> Result<ArrayId, Unplanned>
+    pub fn array(&mut self, len: u32, value: i64) -> Result<ArrayId, PlanError>
         ensures { HasPlanned (Array len value) (λ id. id.number) self.old.objects self.new.objects result }
     {
         match self.objects.add(Shape::Array { len, value }) {
@@ -61,7 +61,7 @@ impl Schema {
     }
 
     /// Adds a hash table without keys, with so many places in each of its buckets.
-    pub fn hash(&mut self, buckets: u32, places: u32) -> Result<HashId, Unplanned>
+    pub fn hash(&mut self, buckets: u32, places: u32) -> Result<HashId, PlanError>
         ensures { HasPlanned (Hash buckets places) (λ id. id.number) self.old.objects self.new.objects result }
     {
         match self.objects.add(Shape::Hash { buckets, places }) {
@@ -71,7 +71,7 @@ impl Schema {
     }
 
     /// Adds a tree without keys, which has room for four keys in each of its leaves.
-    pub fn tree(&mut self, leaves: u32) -> Result<TreeId, Unplanned>
+    pub fn tree(&mut self, leaves: u32) -> Result<TreeId, PlanError>
         ensures { HasPlanned (Tree leaves) (λ id. id.number) self.old.objects self.new.objects result }
     {
         match self.objects.add(Shape::Tree { leaves }) {
@@ -81,7 +81,7 @@ impl Schema {
     }
 
     /// Adds a vector without values, which has room for so many.
-    pub fn vector(&mut self, capacity: u32) -> Result<VectorId, Unplanned>
+    pub fn vector(&mut self, capacity: u32) -> Result<VectorId, PlanError>
         ensures { HasPlanned (Vector capacity) (λ id. id.number) self.old.objects self.new.objects result }
     {
         match self.objects.add(Shape::Vector { capacity }) {
@@ -91,7 +91,7 @@ impl Schema {
     }
 
     /// Opens a store of these objects, with so many workers, from 1 to 65,536.
-    pub fn open(self, alloc: Global, workers: u32) -> Result<SharedStore<Objects>, Unopened>
+    pub fn open(self, alloc: Global, workers: u32) -> Result<SharedStore<Objects>, OpenError>
         ensures shapes { IfOk result (λ store. store.shapes ≡ self.objects) }
         ensures machines { IfOk result (λ store. (⟦<Objects as TxType>⟧.meaning store.words.ty).machines ≡ machines_of self.objects) }
         ensures fresh { IfOk result (λ store. All (λ v. v.entries ≡ []) store.views) }

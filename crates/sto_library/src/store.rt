@@ -12,10 +12,10 @@ ghost use Rattle.sto_library.specs.Looks.{HasLooked, looked_by};
 use crate::worker::StoreWorker;
 use std::alloc::Global;
 use std::marker::Model;
-use sto_action::{Code, Done, Unrun};
+use sto_action::{Action, Done, TransactionError};
 use sto_model::{Shapes, State};
 use sto_part::NoMemory;
-use sto_shared_store::{IdleWorker, IdleWorkers};
+use sto_shared_store::{CountedRest, CountedRests};
 use sto_type::TxType;
 
 /// Objects that threads share, and the workers that rest.
@@ -25,7 +25,7 @@ use sto_type::TxType;
 pub struct SharedStore<T: TxType> {
     words: sto_shared_store::Store<T>,
     shapes: Shapes,
-    idle: IdleWorkers<T>,
+    idle: CountedRests<T>,
 }
 
 impl<T: TxType> Model for SharedStore<T> {
@@ -67,18 +67,18 @@ pub enum LookError {
     /// No worker rests in it.
     Workers,
     /// The transaction was not run to its end.
-    Unrun(Unrun),
+    TransactionError(TransactionError),
 }
 
 // What a worker gave of which a look was asked, which rests again.
-type Looked<T, O> = (IdleWorker<T>, Result<Done<O>, Unrun>);
+type Looked<T, O> = (CountedRest<T>, Result<Done<O>, TransactionError>);
 
 // Has a worker run code as one transaction.
-fn look_by<T: TxType, K: Code>(
+fn look_by<T: TxType, K: Action>(
     alloc: Global,
     words: &sto_shared_store::Store<T>,
     shapes: &Shapes,
-    worker: IdleWorker<T>,
+    worker: CountedRest<T>,
     code: &K,
 ) -> Looked<T, K::Out>
 where
@@ -96,18 +96,18 @@ where
 }
 
 // What a look answers by what its transaction led to.
-fn looked<O: Drop>(told: Result<Done<O>, Unrun>) -> Result<Done<O>, LookError>
+fn looked<O: Drop>(told: Result<Done<O>, TransactionError>) -> Result<Done<O>, LookError>
     ensures { result ≡ looked_by told }
 {
     match told {
         Ok(done) => Ok(done),
-        Err(error) => Err(LookError::Unrun(error)),
+        Err(error) => Err(LookError::TransactionError(error)),
     }
 }
 
 impl<T: TxType> SharedStore<T> {
     /// A store of objects of these shapes, with its workers.
-    pub fn new(words: sto_shared_store::Store<T>, shapes: Shapes, idle: IdleWorkers<T>) -> SharedStore<T>
+    pub fn new(words: sto_shared_store::Store<T>, shapes: Shapes, idle: CountedRests<T>) -> SharedStore<T>
         requires workers { All (λ w. Serves T.TxType words w.rest.seat) idle.items }
         requires takes { TakeCalls T.TxType words shapes.items }
         ensures { (result.words ≡ words) × (result.shapes ≡ shapes.items) × (result.views ≡ map (λ w. w.rest.seat.me.0.view) idle.items) }
@@ -120,7 +120,7 @@ impl<T: TxType> SharedStore<T> {
     }
 
     /// A worker that rests here, if there is one.
-    pub fn hire(&mut self) -> Option<IdleWorker<T>>
+    pub fn hire(&mut self) -> Option<CountedRest<T>>
         ensures words { (self.new.words ≡ self.old.words) × (self.new.shapes ≡ self.old.shapes) }
         ensures worker { MatchOption result (self.old.views ≡ []) (λ w. Serves T.TxType self.old.words w.rest.seat
             × (self.old.views ≡ self.new.views ++ w.rest.seat.me.0.view ∷ [])) }
@@ -129,7 +129,7 @@ impl<T: TxType> SharedStore<T> {
     }
 
     /// Takes a worker back that was hired here. Where memory is wanting it is lost.
-    pub fn back(&mut self, worker: IdleWorker<T>) -> Result<(), NoMemory>
+    pub fn back(&mut self, worker: CountedRest<T>) -> Result<(), NoMemory>
         requires { Serves T.TxType self.old.words worker.rest.seat }
         ensures words { (self.new.words ≡ self.old.words) × (self.new.shapes ≡ self.old.shapes) }
         ensures worker { IfOk result (λ _. self.new.views ≡ self.old.views ++ worker.rest.seat.me.0.view ∷ []) }
@@ -146,8 +146,8 @@ impl<T: TxType> SharedStore<T> {
     /// again.
     ///
     /// What it gives is told as of `StoreWorker::run`: it is that of one state of all objects, after all that this worker had seen.
-    /// `Snapshot` is such code. Code that writes is taken, too.
-    pub fn look<K: Code>(&mut self, alloc: Global, code: &K) -> Result<Done<K::Out>, LookError>
+    /// `Snapshot` is such code. Action that writes is taken, too.
+    pub fn look<K: Action>(&mut self, alloc: Global, code: &K) -> Result<Done<K::Out>, LookError>
     where
         K::Out: Drop,
         ensures words { (self.new.words ≡ self.old.words) × (self.new.shapes ≡ self.old.shapes) }
@@ -180,7 +180,7 @@ impl<T: TxType> SharedStore<T> {
     }
 
     /// Lends the store to a worker that was hired here.
-    pub fn worker(&self, alloc: Global, idle: IdleWorker<T>) -> StoreWorker<'_, T>
+    pub fn worker(&self, alloc: Global, idle: CountedRest<T>) -> StoreWorker<'_, T>
         requires { Serves T.TxType self.now.words idle.rest.seat }
         ensures { (result.words ≡ self.now.words) × (result.shapes ≡ self.now.shapes) × (result.seat ≡ idle.rest.seat)
             × (result.left ≡ idle.left) }
@@ -207,10 +207,10 @@ impl<T: TxType + Drop> SharedStore<T> {
         } = self;
         match words.close(alloc, idle) {
             Ok(rows) => Ok(rows),
-            Err(sto_shared_store::Unclosed::Missing(words, idle)) => {
+            Err(sto_shared_store::StoreCloseError::Missing(words, idle)) => {
                 Err(CloseError::Missing(SharedStore::new(words, shapes, idle)))
             }
-            Err(sto_shared_store::Unclosed::NoMemory) => Err(CloseError::NoMemory),
+            Err(sto_shared_store::StoreCloseError::NoMemory) => Err(CloseError::NoMemory),
         }
     }
 }

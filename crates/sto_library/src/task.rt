@@ -6,7 +6,7 @@ ghost use Rattle.sto_library.specs.Tasks.{DoesTask};
 use crate::worker::StoreWorker;
 use std::alloc::Global;
 use sto_model::Shapes;
-use sto_shared_store::IdleWorker;
+use sto_shared_store::CountedRest;
 use sto_type::TxType;
 
 /// What a worker does at its store: transactions, one after the other, and what it makes of what they give.
@@ -37,7 +37,7 @@ pub enum TaskError {
 /// A worker that has done a task, and what that gave.
 #[derive(Drop)]
 pub(crate) struct Finished<T: TxType, O> {
-    pub(crate) worker: IdleWorker<T>,
+    pub(crate) worker: CountedRest<T>,
     pub(crate) out: O,
 }
 
@@ -46,7 +46,7 @@ pub(crate) fn work_alone<T: TxType, K: Task<T>>(
     alloc: Global,
     words: &sto_shared_store::Store<T>,
     shapes: &Shapes,
-    worker: IdleWorker<T>,
+    worker: CountedRest<T>,
     task: &K,
 ) -> Finished<T, K::Out>
     requires takes { TakeCalls T.TxType words.now shapes.now.items }

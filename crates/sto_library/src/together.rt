@@ -10,11 +10,11 @@ use std::alloc::Global;
 use std::thread::{Threads, join};
 use sto_model::Shapes;
 use sto_part::NoMemory;
-use sto_shared_store::IdleWorker;
+use sto_shared_store::CountedRest;
 use sto_type::TxType;
 
 // Two workers.
-type Pair<T> = (IdleWorker<T>, IdleWorker<T>);
+type Pair<T> = (CountedRest<T>, CountedRest<T>);
 
 // What two tasks gave, with their workers.
 type FinishedPair<T, A, B> = (Finished<T, A>, Finished<T, B>);
@@ -57,8 +57,8 @@ fn hire_four<T: TxType>(store: &mut SharedStore<T>) -> Option<(Pair<T>, Pair<T>)
 #[tactic(auto, using(crate::proofs::Hired::two_back))]
 fn back_two<T: TxType>(
     store: &mut SharedStore<T>,
-    first: IdleWorker<T>,
-    other: IdleWorker<T>,
+    first: CountedRest<T>,
+    other: CountedRest<T>,
 ) -> Result<(), NoMemory>
     requires first { Serves T.TxType store.old.words first.rest.seat }
     requires other { Serves T.TxType store.old.words other.rest.seat }

@@ -8,9 +8,9 @@ ghost use Rattle.sto_library.specs.Doings.{HasGiven};
 use crate::waits::Waits;
 use std::alloc::Global;
 use std::marker::Model;
-use sto_action::{Code, CodeMemory, Done, Unrun, atomically};
+use sto_action::{Action, ActionLists, Done, TransactionError, atomically};
 use sto_model::Shapes;
-use sto_shared_store::{BusyWorker, IdleWorker};
+use sto_shared_store::{CountedPass, CountedRest};
 use sto_transaction::AttemptWatch;
 use sto_type::TxType;
 
@@ -23,8 +23,8 @@ pub struct StoreWorker<'s, T: TxType> {
     alloc: Global,
     words: &'s sto_shared_store::Store<T>,
     shapes: &'s Shapes,
-    busy: BusyWorker<'s, T>,
-    memory: CodeMemory,
+    busy: CountedPass<'s, T>,
+    memory: ActionLists,
 }
 
 impl<'s, T: TxType> Model for StoreWorker<'s, T> {
@@ -48,7 +48,7 @@ impl<'s, T: TxType> StoreWorker<'s, T> {
         alloc: Global,
         words: &'s sto_shared_store::Store<T>,
         shapes: &'s Shapes,
-        idle: IdleWorker<T>,
+        idle: CountedRest<T>,
     ) -> StoreWorker<'s, T>
         requires serves { Serves T.TxType words.now idle.rest.seat }
         requires takes { TakeCalls T.TxType words.now shapes.now.items }
@@ -60,7 +60,7 @@ impl<'s, T: TxType> StoreWorker<'s, T> {
             words,
             shapes,
             busy: words.resume(idle),
-            memory: CodeMemory::new(alloc),
+            memory: ActionLists::new(alloc),
         }
     }
 
@@ -69,7 +69,7 @@ impl<'s, T: TxType> StoreWorker<'s, T> {
     /// The value is that of the code run alone on the contents right before the transaction's ticket, or of a transaction that only
     /// reads, on those of the time as of which it read; after all that this worker had seen. On each error nothing took effect, and the
     /// worker can go on. Whatever happened, the worker ran this code and nothing else (clause `given`).
-    pub fn run<K: Code>(&mut self, code: &K) -> Result<Done<K::Out>, Unrun>
+    pub fn run<K: Action>(&mut self, code: &K) -> Result<Done<K::Out>, TransactionError>
     where
         K::Out: Drop,
         ensures led { HasLed (T.meaning self.old.words.ty) self.old.seat.me.0.view self.new.seat.me.0.view (2 ^ 16) self.new.left
@@ -83,12 +83,12 @@ impl<'s, T: TxType> StoreWorker<'s, T> {
     }
 
     /// The same with at most so many attempts, and with something else to do between them.
-    pub fn run_with<K: Code, W: AttemptWatch>(
+    pub fn run_with<K: Action, W: AttemptWatch>(
         &mut self,
         tries: u32,
         watch: &mut W,
         code: &K,
-    ) -> Result<Done<K::Out>, Unrun>
+    ) -> Result<Done<K::Out>, TransactionError>
     where
         K::Out: Drop,
         ensures led { HasLed (T.meaning self.old.words.ty) self.old.seat.me.0.view self.new.seat.me.0.view tries self.new.left
@@ -102,12 +102,12 @@ impl<'s, T: TxType> StoreWorker<'s, T> {
     }
 
     // Runs code as one transaction.
-    fn lead<K: Code, W: AttemptWatch>(
+    fn lead<K: Action, W: AttemptWatch>(
         &mut self,
         tries: u32,
         watch: &mut W,
         code: &K,
-    ) -> Result<Done<K::Out>, Unrun>
+    ) -> Result<Done<K::Out>, TransactionError>
     where
         K::Out: Drop,
         ensures led { HasLed (T.meaning self.old.words.ty) self.old.seat.me.0.view self.new.seat.me.0.view tries self.new.left
@@ -138,7 +138,7 @@ impl<'s, T: TxType> StoreWorker<'s, T> {
     }
 
     /// Ends its work at the store. It can be given back, or come again.
-    pub fn rest(self) -> IdleWorker<T>
+    pub fn rest(self) -> CountedRest<T>
         ensures serves { Serves T.TxType self.entry.words result.rest.seat }
         ensures seat { (result.rest.seat ≡ self.entry.seat) × (result.left ≡ self.entry.left) }
     {

@@ -9,7 +9,7 @@ use Rattle.sto_action.specs.Calls.{number}
 use Rattle.sto_action.specs.declared.short_reply.ShortReply.{ShortReply}
 use Rattle.sto_action.specs.declared.short_reply.ShortReply.TheVariants.{Value}
 use Rattle.sto_action.specs.Atomic.{HasLed}
-use Rattle.sto_action.specs.declared.outcome.Unrun.TheVariants.{Busy}
+use Rattle.sto_action.specs.declared.outcome.TransactionError.TheVariants.{Busy}
 use Rattle.sto_once.specs.Once.{Heard, Answering, Goes, Gave}
 
 -- what answers calls, seen as what it has answered

@@ -10,9 +10,9 @@ ghost use Rattle.sto_once.specs.Telling.{told_once};
 use crate::attempt::attempt;
 use crate::code::{Code, Halt};
 use std::alloc::Global;
-use sto_action::{Done, Unrun};
+use sto_action::{Done, TransactionError};
 use sto_core::Cells;
-use sto_interactive::LiveMemory;
+use sto_interactive::StepLists;
 use sto_model::Shapes;
 use sto_part::NoMemory;
 use sto_transaction::AttemptWatch;
@@ -28,9 +28,9 @@ pub fn atomically<T: TxType, K: Code, C: Cells<T>, W: AttemptWatch>(
     left: &mut u64,
     tries: u32,
     watch: &mut W,
-    memory: &mut LiveMemory,
+    memory: &mut StepLists,
     code: &K,
-) -> (C, Result<Done<K::Out>, Unrun>)
+) -> (C, Result<Done<K::Out>, TransactionError>)
 where
     K::Out: Drop,
     requires takes { (call : Call) → IsTakenCall shapes.now.items call → (T.meaning ty.now).takes call }
@@ -50,7 +50,7 @@ where
             watch.before_retry();
         }
         if *left == 0 {
-            return (pass, Err(Unrun::Worn));
+            return (pass, Err(TransactionError::Worn));
         }
         *left -= 1;
         let (back, said) = attempt(alloc, ty, shapes, pass, memory, code);
@@ -58,20 +58,20 @@ where
         match said {
             Ok(Some(said)) => return (pass, told(said)),
             Ok(None) => {}
-            Err(NoMemory) => return (pass, Err(Unrun::NoMemory)),
+            Err(NoMemory) => return (pass, Err(TransactionError::NoMemory)),
         }
     }
-    (pass, Err(Unrun::Busy))
+    (pass, Err(TransactionError::Busy))
 }
 
 // What a transaction gave by what its code said at its end.
-fn told<A: Drop>(said: Result<A, Halt>) -> Result<Done<A>, Unrun>
+fn told<A: Drop>(said: Result<A, Halt>) -> Result<Done<A>, TransactionError>
     ensures { result ≡ told_once said }
 {
     match said {
         Ok(value) => Ok(Done::Gave(value)),
         Err(Halt::Cancels) => Ok(Done::Cancelled),
-        Err(Halt::Untaken(call)) => Err(Unrun::Refused(call)),
-        Err(Halt::Over) => Err(Unrun::Busy),
+        Err(Halt::Untaken(call)) => Err(TransactionError::Refused(call)),
+        Err(Halt::Over) => Err(TransactionError::Busy),
     }
 }

@@ -14,7 +14,7 @@ use crate::over::OverLive;
 use std::alloc::Global;
 use sto_attempt::Verdict;
 use sto_core::Cells;
-use sto_interactive::{Live, LiveMemory, Stopped};
+use sto_interactive::{Live, StepLists, Stopped};
 use sto_model::Shapes;
 use sto_part::NoMemory;
 use sto_type::TxType;
@@ -26,7 +26,7 @@ pub(crate) fn attempt<T: TxType, K: Code, C: Cells<T>>(
     ty: &T,
     shapes: &Shapes,
     cells: C,
-    memory: &mut LiveMemory,
+    memory: &mut StepLists,
     code: &K,
 ) -> (C, Result<Option<Result<K::Out, Halt>>, NoMemory>)
 where
@@ -85,7 +85,7 @@ fn end<T: TxType, C: Cells<T>, A: Drop>(
     alloc: Global,
     live: Live<'_, T>,
     cells: &mut C,
-    memory: &mut LiveMemory,
+    memory: &mut StepLists,
     stopped: Option<Stopped>,
     said: Result<A, Halt>,
 ) -> Result<Option<Result<A, Halt>>, NoMemory>
@@ -116,7 +116,7 @@ fn commit<T: TxType, C: Cells<T>, A: Drop>(
     alloc: Global,
     live: Live<'_, T>,
     cells: &mut C,
-    memory: &mut LiveMemory,
+    memory: &mut StepLists,
     value: A,
 ) -> Result<Option<Result<A, Halt>>, NoMemory>
     requires { (k : OverKey T C) × (p : Prog A) × After T.TxType C.Cells k p None (Ok value) live (C.view cells.old) }
@@ -142,7 +142,7 @@ fn commit<T: TxType, C: Cells<T>, A: Drop>(
 fn cancel<T: TxType, C: Cells<T>, A: Drop>(
     alloc: Global,
     live: Live<'_, T>,
-    memory: &mut LiveMemory,
+    memory: &mut StepLists,
     halt: Halt,
 ) -> Result<Option<Result<A, Halt>>, NoMemory>
     requires { (k : OverKey T C) × (p : Prog A) × (v : View) × After T.TxType C.Cells k p None (Err halt) live v }

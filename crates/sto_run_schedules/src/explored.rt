@@ -8,7 +8,7 @@ ghost use Rattle.sto_run_threads.specs.Plans.{plan_of};
 ghost use Rattle.sto_run.specs.Runnable.{IsRunnable};
 ghost use Rattle.sto_run.specs.Traced.{of_objects};
 ghost use Rattle.sto_run.specs.Forms.{form_for};
-ghost use Rattle.sto_explore.specs.declared.exploration.Stopped.TheVariants.{TooLong, TooMany};
+ghost use Rattle.sto_explore.specs.declared.exploration.ExploreError.TheVariants.{TooLong, TooMany};
 ghost use Rattle.sto_run_schedules.specs.Explored.{AreOutcomesOf, AreReports, HasTooMany};
 ghost use Rattle.sto_run_schedules.specs.Leading.{HasSomeLongRun};
 
@@ -17,7 +17,7 @@ use crate::kept::Kept;
 use crate::meter::Meter;
 use crate::runs::FileRuns;
 use std::alloc::Global;
-use sto_explore::{Outcomes, Stopped, Tally, explore};
+use sto_explore::{Outcomes, ExploreError, Tally, explore};
 use sto_lang::File;
 use sto_part::NoMemory;
 use sto_run::{LentFile, NoGate, OpenedRun, objects_of};
@@ -36,7 +36,7 @@ pub fn explore_file<W: Meter>(
     limit: u32,
     json: bool,
     meter: &W,
-) -> Result<Outcomes, Stopped>
+) -> Result<Outcomes, ExploreError>
     requires sound { IsSound (view file.now) }
     requires tries { IsFromTo 1 64 tries }
     ensures outcomes { IfOk result (AreOutcomesOf (form_for json) (view file.now) tries switches) }
@@ -47,12 +47,12 @@ pub fn explore_file<W: Meter>(
     ensures too_long { IfErr result (λ why. why ≡ TooLong → HasSomeLongRun tries (view file.now)) }
 {
     let Ok(objects) = objects_of(alloc, &LentFile { file }) else {
-        return Err(Stopped::NoMemory);
+        return Err(ExploreError::NoMemory);
     };
     let turn = RetryTurn::new();
     let lent = LentFile { file };
     let Ok(run) = OpenedRun::new(alloc, lent, &objects, tries, &NoGate, &turn) else {
-        return Err(Stopped::NoMemory);
+        return Err(ExploreError::NoMemory);
     };
     explore_opened(alloc, &run, switches, limit, json, meter)
 }
@@ -65,7 +65,7 @@ fn explore_opened<'f, W: Meter>(
     limit: u32,
     json: bool,
     meter: &'f W,
-) -> Result<Outcomes, Stopped>
+) -> Result<Outcomes, ExploreError>
     requires runnable { IsRunnable (plan_of of_objects run.now.work.ty.now (view run.now.work.workload.file.now) run.now.work.tries)
         of_objects.valid run.now.opening.items }
     requires kinds { AreOf run.now.work.ty.now (shapes_of (view run.now.work.workload.file.now).declarations) }
@@ -76,7 +76,7 @@ fn explore_opened<'f, W: Meter>(
     ensures too_long { IfErr result (λ why. why ≡ TooLong → HasSomeLongRun run.now.work.tries (view run.now.work.workload.file.now)) }
 {
     let Ok(threads) = busy_threads(alloc, run.work.workload.file) else {
-        return Err(Stopped::NoMemory);
+        return Err(ExploreError::NoMemory);
     };
     let runs = FileRuns {
         run,
@@ -89,6 +89,6 @@ fn explore_opened<'f, W: Meter>(
     explore(&runs, alloc, switches, limit, &mut kept, &mut tally)?;
     match tally.outcomes(alloc) {
         Ok(outcomes) => Ok(outcomes),
-        Err(NoMemory) => Err(Stopped::NoMemory),
+        Err(NoMemory) => Err(ExploreError::NoMemory),
     }
 }

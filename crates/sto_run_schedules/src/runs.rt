@@ -13,7 +13,7 @@ use crate::legs::{ends, past};
 use crate::meter::Meter;
 use crate::reported::reported;
 use std::alloc::Global;
-use sto_explore::{Leg, NotMade, Ran, Reported, Runs};
+use sto_explore::{Leg, RunError, Ran, Reported, Runs};
 use sto_part::NoMemory;
 use sto_run::{LentFile, NoGate, OpenedRun};
 use sto_run_steps::{SteppedWork, trace_threads};
@@ -115,7 +115,7 @@ impl<W: Meter> Runs<Reported, Kept> for FileRuns<'_, W> {
         kept: &mut Kept,
         decided: &[Leg],
         order: &[u32],
-    ) -> Result<Ran<Reported>, NotMade> {
+    ) -> Result<Ran<Reported>, RunError> {
         let run = self.run;
         let most = enough();
         let entries = entries_to_ends(alloc, decided, order, most)?;
@@ -130,7 +130,7 @@ impl<W: Meter> Runs<Reported, Kept> for FileRuns<'_, W> {
         let Some(steps) = steps else {
             // Only of a run with its journal it is said that it was too long.
             run.journal(alloc, finished)?;
-            return Err(NotMade::TooLong);
+            return Err(RunError::TooLong);
         };
         let further = past(steps.as_slice(), decided);
         let legs = ends(alloc, further, order, most)?;

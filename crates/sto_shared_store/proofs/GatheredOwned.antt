@@ -5,7 +5,7 @@ use Rattle.std.proofs.lemmas.List.Edits.{length-remove}
 use Rattle.std.proofs.lemmas.Option.{slice_get_within}
 use Rattle.sto_part.specs.declared.naming.Naming as naming
 use Rattle.sto_type.specs.Traits.{OfType}
-use Rattle.sto_shared_store.specs.declared.worker.IdleWorker.{IdleWorker}
+use Rattle.sto_shared_store.specs.declared.worker.CountedRest.{CountedRest}
 use Rattle.sto_shared_store.specs.declared.owned_store.OwnedStore.{OwnedStore}
 use Rattle.sto_shared_store.specs.Endings.{HasTakenIn, HasGathered}
 
@@ -20,13 +20,13 @@ module _ {T : Type 0} {n : naming.Ghosts T} (t : OfType T) where
   same_store (suc many) x y h = h.2.store ∙ same_store many x h.0 h.1
 
   -- those that rested rest as they were, before those that came back
-  pub rest_still : (many : ℕ) (x y : OwnedStore T n) → HasGathered t many x y → (back : List (IdleWorker T n)) × (y.idle.items ≡ x.idle.items ++ back) × (length back ≡ many)
+  pub rest_still : (many : ℕ) (x y : OwnedStore T n) → HasGathered t many x y → (back : List (CountedRest T n)) × (y.idle.items ≡ x.idle.items ++ back) × (length back ≡ many)
   rest_still zero x y h = ([], h.0 ∙ sym (append-nil x.idle.items), refl)
   rest_still (suc many) x y h =
       let k = rest_still many x h.0 h.1 in
       let one = k.2 in (
         k.0 ++ h.2.worker ∷ [],
-        h.2.idle ∙ ap (λ (l : List (IdleWorker T n)). l ++ h.2.worker ∷ []) k.1 ∙ append_assoc x.idle.items k.0 (h.2.worker ∷ []),
+        h.2.idle ∙ ap (λ (l : List (CountedRest T n)). l ++ h.2.worker ∷ []) k.1 ∙ append_assoc x.idle.items k.0 (h.2.worker ∷ []),
         (let long = length-append k.0 (h.2.worker ∷ []) in omega (arith, long, one)),
       )
 

@@ -21,8 +21,8 @@ use Rattle.sto_type.specs.declared.tx_type.TxType as tx_type
 use Rattle.sto_table.specs.contracts.shared.Rest as Rest
 use Rattle.sto_shared_store.specs.contracts.store.Store as Store
 use Rattle.sto_shared_store.proofs.store.Store.TheSendSync as store_crosses
-use Rattle.sto_shared_store.specs.contracts.worker.IdleWorker as IdleWorker
-use Rattle.sto_shared_store.proofs.worker.IdleWorker.TheSendSync as idle_crosses
+use Rattle.sto_shared_store.specs.contracts.worker.CountedRest as CountedRest
+use Rattle.sto_shared_store.proofs.worker.CountedRest.TheSendSync as idle_crosses
 use Rattle.sto_interactive.specs.contracts.session.Session as Session
 use Rattle.sto_interactive.proofs.session.Session.TheSendSync as session_crosses
 use Rattle.sto_shared_store.specs.contracts.given.Hired as Hired
@@ -39,11 +39,11 @@ module _ (T : RattleType) (g : naming.Ghosts T.Denot) where
   rest_sync : IsSync (Rest.the_field T g).row
   rest_sync = search (sendable, seat_sync) depth 20
 
-  idle_sync : IsSync (IdleWorker.the_field T g).row
+  idle_sync : IsSync (CountedRest.the_field T g).row
   idle_sync = let r : IsSync (Rest.the_field T g).row = rest_sync in search sendable depth 20
 
   given_sync : IsSync (GivenBack.the_row T g)
-  given_sync = let w : IsSync (IdleWorker.the_field T g).row = idle_sync in search sendable depth 20
+  given_sync = let w : IsSync (CountedRest.the_field T g).row = idle_sync in search sendable depth 20
 
   module _ (t : tx_type.Ghosts T.Denot) where
     abbrev Given : RattleType
@@ -67,7 +67,7 @@ module _ (T : RattleType) (g : naming.Ghosts T.Denot) where
 
       pub owned_store_send : IsSend (OwnedStore.the_field T g t).row
       owned_store_send = struct_send (shape (OwnedStore.the_type T g t))
-          (store_send, (list_crosses.the_send (IdleWorker.the_row T g) (idle_crosses.the_send T g), (list_crosses.the_send Slot slot_send, tt)))
+          (store_send, (list_crosses.the_send (CountedRest.the_row T g) (idle_crosses.the_send T g), (list_crosses.the_send Slot slot_send, tt)))
 
       pub owned_worker_send : IsSend (OwnedWorker.the_field T g t).row
       owned_worker_send = struct_send (shape (OwnedWorker.the_type T g t))

@@ -10,19 +10,19 @@ use Rattle.sto_history.specs.Added.{Grows}
 use Rattle.sto_history.proofs.Events.{grows_on}
 use Rattle.sto_table.specs.declared.stance.Stance.{Stance}
 use Rattle.sto_table.specs.declared.shared.Rest.{Rest}
-use Rattle.sto_interactive.specs.declared.pause.PausedLive.{PausedLive}
+use Rattle.sto_interactive.specs.declared.pause.RestingTransaction.{RestingTransaction}
 use Rattle.sto_interactive.specs.declared.session.Session.{Session}
-use Rattle.sto_interactive.specs.declared.starting.Unbegun.{Unbegun}
-use Rattle.sto_interactive.specs.declared.starting.Unbegun.TheVariants as unbegun
-use Rattle.sto_interactive.specs.declared.asking.Unanswered.{Unanswered}
-use Rattle.sto_interactive.specs.declared.asking.Unanswered.TheVariants as unanswered
-use Rattle.sto_interactive.specs.declared.ending.Uncommitted.{Uncommitted}
-use Rattle.sto_interactive.specs.declared.ending.Uncommitted.TheVariants as uncommitted
+use Rattle.sto_interactive.specs.declared.starting.BeginError.{BeginError}
+use Rattle.sto_interactive.specs.declared.starting.BeginError.TheVariants as unbegun
+use Rattle.sto_interactive.specs.declared.asking.AskError.{AskError}
+use Rattle.sto_interactive.specs.declared.asking.AskError.TheVariants as unanswered
+use Rattle.sto_interactive.specs.declared.ending.CommitError.{CommitError}
+use Rattle.sto_interactive.specs.declared.ending.CommitError.TheVariants as uncommitted
 use Rattle.sto_interactive.specs.Sessions.{Stands, IsSessionOf, IsFree, IsAsking, view_of}
 use Rattle.sto_interactive.specs.Steps.{IsUnchanged, HasFailed, HasBegun, HasAsked, HasAskedAfter, HasEndedBy, HasCommittedAfter, HasCancelledAfter}
 use Rattle.sto_shared_store.specs.declared.store.Store.{Store}
 use Rattle.std.specs.Arc.{arc_value}
-use Rattle.sto_shared_store.specs.declared.worker.IdleWorker.{IdleWorker}
+use Rattle.sto_shared_store.specs.declared.worker.CountedRest.{CountedRest}
 use Rattle.sto_shared_store.specs.Working.{IsWorker}
 use Rattle.sto_shared_store.specs.declared.given.Hired.{Hired}
 use Rattle.sto_shared_store.specs.Back.{HasComeBack}
@@ -30,7 +30,7 @@ use Rattle.sto_shared_store.specs.Owned.{StandsSince, IsAt}
 
 module _ {T : Type 0} (t : OfType T) (s : Store T) (v : View) where
   -- it is a session of the words
-  stands : (o : Option PausedLive) (seat : Seat (Unit {0}) Stance) (left : ℕ) → StandsSince t s v o seat left → Stands t s.ty s.shared o seat left
+  stands : (o : Option RestingTransaction) (seat : Seat (Unit {0}) Stance) (left : ℕ) → StandsSince t s v o seat left → Stands t s.ty s.shared o seat left
   stands None seat left h = h.0
   stands (Some p) seat left h = (h.0, h.1, h.2, h.3)
 
@@ -39,32 +39,32 @@ module _ {T : Type 0} {n : naming.Ghosts T} (t : OfType T) (s : Store T) (v : Vi
   is_session x h = stands t s v x.live x.rest.seat x.left h
 
   free_since : (y : Session T n) → IsFree t s.ty s.shared y → Grows v (view_of y) → IsAt t s v (Some y)
-  free_since y free grows = subst (λ (o : Option PausedLive). StandsSince t s v o y.rest.seat y.left) (sym free.none) (free.rests, grows)
+  free_since y free grows = subst (λ (o : Option RestingTransaction). StandsSince t s v o y.rest.seat y.left) (sym free.none) (free.rests, grows)
 
   asking_since : (calls : List Call) (rs : List Told) (y : Session T n) (begun : View) → IsAsking t s.ty s.shared calls rs y begun → Grows v begun → IsAt t s v (Some y)
   asking_since calls rs y begun h grows =
-      subst (λ (o : Option PausedLive). StandsSince t s v o y.rest.seat y.left) (sym h.live) (calls, rs, begun, h.waits, grows)
+      subst (λ (o : Option RestingTransaction). StandsSince t s v o y.rest.seat y.left) (sym h.live) (calls, rs, begun, h.waits, grows)
 
   failed_since : (y : Session T n) (begun : View) → Grows v begun → HasFailed t s.ty s.shared begun y → IsAt t s v (Some y)
   failed_since y begun grows h = free_since y h.free (grows_on v begun (view_of y) grows h.stopped.grows)
 
   pub unchanged_since : (x y : Session T n) → IsUnchanged x y → IsAt t s v (Some x) → IsAt t s v (Some y)
   unchanged_since x y u h =
-      subst (λ (o : Option PausedLive). StandsSince t s v o y.rest.seat y.left) (sym u.2)
+      subst (λ (o : Option RestingTransaction). StandsSince t s v o y.rest.seat y.left) (sym u.2)
       (subst (λ (r : Rest T n). StandsSince t s v x.live r.seat y.left) (sym u.0)
       (subst (λ (k : ℕ). StandsSince t s v x.live x.rest.seat k) (sym u.1) h))
 
   -- what it knows where it is in no transaction
   pub grown : (x : Session T n) → x.live ≡ None → IsAt t s v (Some x) → Grows v (view_of x)
-  grown x none h = (subst (λ (o : Option PausedLive). StandsSince t s v o x.rest.seat x.left) none h).1
+  grown x none h = (subst (λ (o : Option RestingTransaction). StandsSince t s v o x.rest.seat x.left) none h).1
 
-  pub begun_since : (x y : Session T n) (r : Result (Unit {0}) Unbegun) → IsAt t s v (Some x) → HasBegun t s.ty s.shared x r y → IsAt t s v (Some y)
+  pub begun_since : (x y : Session T n) (r : Result (Unit {0}) BeginError) → IsAt t s v (Some x) → HasBegun t s.ty s.shared x r y → IsAt t s v (Some y)
   begun_since x y (Ok begun) h b = asking_since [] [] y (view_of x) b.1 (grown x b.0 h)
   begun_since x y (Err unbegun.InTransaction) h b = unchanged_since x y b.1 h
   begun_since x y (Err unbegun.Worn) h b = unchanged_since x y b.2 h
   begun_since x y (Err unbegun.NoMemory) h b = failed_since y (view_of x) (grown x b.0 h) b.1
 
-  after_asked : (calls : List Call) (rs : List Told) (begun : View) (call : Call) (r : Result (Unit {0}) Unanswered) (y : Session T n) → Grows v begun
+  after_asked : (calls : List Call) (rs : List Told) (begun : View) (call : Call) (r : Result (Unit {0}) AskError) (y : Session T n) → Grows v begun
       → HasAskedAfter t s.ty s.shared calls rs begun call r y → IsAt t s v (Some y)
   after_asked calls rs begun call (Ok answered) y grows h = asking_since (calls ++ call ∷ []) (rs ++ h.reply ∷ []) y begun h.asking grows
   after_asked calls rs begun call (Err unanswered.NoTransaction) y grows h = absurd h
@@ -72,14 +72,14 @@ module _ {T : Type 0} {n : naming.Ghosts T} (t : OfType T) (s : Store T) (v : Vi
   after_asked calls rs begun call (Err unanswered.Aborted) y grows h = free_since y h.free (grows_on v begun (view_of y) grows (h.told.tried (0, 0)).grows)
   after_asked calls rs begun call (Err unanswered.NoMemory) y grows h = failed_since y begun grows h
 
-  after_committed : (calls : List Call) (rs : List Told) (begun : View) (r : Result ℕ Uncommitted) (y : Session T n) → Grows v begun
+  after_committed : (calls : List Call) (rs : List Told) (begun : View) (r : Result ℕ CommitError) (y : Session T n) → Grows v begun
       → HasCommittedAfter t s.ty s.shared calls rs begun r y → IsAt t s v (Some y)
   after_committed calls rs begun (Ok place) y grows h = free_since y h.free (grows_on v begun (view_of y) grows (h.told.ended.tried (0, 0)).grows)
   after_committed calls rs begun (Err uncommitted.NoTransaction) y grows h = absurd h
   after_committed calls rs begun (Err uncommitted.Aborted) y grows h = free_since y h.free (grows_on v begun (view_of y) grows (h.told.tried (0, 0)).grows)
   after_committed calls rs begun (Err uncommitted.NoMemory) y grows h = failed_since y begun grows h
 
-  after_cancelled : (calls : List Call) (rs : List Told) (begun : View) (r : Result ℕ Uncommitted) (y : Session T n) → Grows v begun
+  after_cancelled : (calls : List Call) (rs : List Told) (begun : View) (r : Result ℕ CommitError) (y : Session T n) → Grows v begun
       → HasCancelledAfter t s.ty s.shared calls rs begun r y → IsAt t s v (Some y)
   after_cancelled calls rs begun (Ok place) y grows h = free_since y h.free (grows_on v begun (view_of y) grows (h.told.ended.tried (0, 0)).grows)
   after_cancelled calls rs begun (Err uncommitted.NoTransaction) y grows h = absurd h
@@ -87,35 +87,35 @@ module _ {T : Type 0} {n : naming.Ghosts T} (t : OfType T) (s : Store T) (v : Vi
   after_cancelled calls rs begun (Err uncommitted.NoMemory) y grows h = failed_since y begun grows h
 
   -- by whether it was in a transaction
-  asked_by : (x y : Session T n) (call : Call) (r : Result (Unit {0}) Unanswered) (o : Option PausedLive) → x.live ≡ o → StandsSince t s v o x.rest.seat x.left → IsAt t s v (Some x)
+  asked_by : (x y : Session T n) (call : Call) (r : Result (Unit {0}) AskError) (o : Option RestingTransaction) → x.live ≡ o → StandsSince t s v o x.rest.seat x.left → IsAt t s v (Some x)
       → HasAsked t s.ty s.shared x call r y → IsAt t s v (Some y)
   asked_by x y call r None e h is a = unchanged_since x y (a.free e).1 is
   asked_by x y call r (Some p) e h is a = after_asked h.0 h.1 h.2 call r y h.4 (a.asking h.0 h.1 h.2 (record { paused = p; live = e; waits = h.3 }))
 
-  pub asked_since : (x y : Session T n) (call : Call) (r : Result (Unit {0}) Unanswered) → IsAt t s v (Some x) → HasAsked t s.ty s.shared x call r y → IsAt t s v (Some y)
+  pub asked_since : (x y : Session T n) (call : Call) (r : Result (Unit {0}) AskError) → IsAt t s v (Some x) → HasAsked t s.ty s.shared x call r y → IsAt t s v (Some y)
   asked_since x y call r h a = asked_by x y call r x.live refl h h a
 
-  committed_by : (x y : Session T n) (r : Result ℕ Uncommitted) (o : Option PausedLive) → x.live ≡ o → StandsSince t s v o x.rest.seat x.left → IsAt t s v (Some x)
+  committed_by : (x y : Session T n) (r : Result ℕ CommitError) (o : Option RestingTransaction) → x.live ≡ o → StandsSince t s v o x.rest.seat x.left → IsAt t s v (Some x)
       → HasEndedBy t s.ty s.shared x r y (HasCommittedAfter t s.ty s.shared) → IsAt t s v (Some y)
   committed_by x y r None e h is a = unchanged_since x y (a.free e).1 is
   committed_by x y r (Some p) e h is a = after_committed h.0 h.1 h.2 r y h.4 (a.asking h.0 h.1 h.2 (record { paused = p; live = e; waits = h.3 }))
 
-  pub committed_since : (x y : Session T n) (r : Result ℕ Uncommitted) → IsAt t s v (Some x) → HasEndedBy t s.ty s.shared x r y (HasCommittedAfter t s.ty s.shared) → IsAt t s v (Some y)
+  pub committed_since : (x y : Session T n) (r : Result ℕ CommitError) → IsAt t s v (Some x) → HasEndedBy t s.ty s.shared x r y (HasCommittedAfter t s.ty s.shared) → IsAt t s v (Some y)
   committed_since x y r h a = committed_by x y r x.live refl h h a
 
-  cancelled_by : (x y : Session T n) (r : Result ℕ Uncommitted) (o : Option PausedLive) → x.live ≡ o → StandsSince t s v o x.rest.seat x.left → IsAt t s v (Some x)
+  cancelled_by : (x y : Session T n) (r : Result ℕ CommitError) (o : Option RestingTransaction) → x.live ≡ o → StandsSince t s v o x.rest.seat x.left → IsAt t s v (Some x)
       → HasEndedBy t s.ty s.shared x r y (HasCancelledAfter t s.ty s.shared) → IsAt t s v (Some y)
   cancelled_by x y r None e h is a = unchanged_since x y (a.free e).1 is
   cancelled_by x y r (Some p) e h is a = after_cancelled h.0 h.1 h.2 r y h.4 (a.asking h.0 h.1 h.2 (record { paused = p; live = e; waits = h.3 }))
 
-  pub cancelled_since : (x y : Session T n) (r : Result ℕ Uncommitted) → IsAt t s v (Some x) → HasEndedBy t s.ty s.shared x r y (HasCancelledAfter t s.ty s.shared) → IsAt t s v (Some y)
+  pub cancelled_since : (x y : Session T n) (r : Result ℕ CommitError) → IsAt t s v (Some x) → HasEndedBy t s.ty s.shared x r y (HasCancelledAfter t s.ty s.shared) → IsAt t s v (Some y)
   cancelled_since x y r h a = cancelled_by x y r x.live refl h h a
 
   -- where it is in no transaction it comes back
-  pub comes_back : (hired : Hired T n) (x : Session T n) (w : IdleWorker T n) → arc_value hired.store ≡ s → hired.worker.rest.seat.me.0.view ≡ v → w.rest ≡ x.rest → x.live ≡ None → IsAt t s v (Some x)
+  pub comes_back : (hired : Hired T n) (x : Session T n) (w : CountedRest T n) → arc_value hired.store ≡ s → hired.worker.rest.seat.me.0.view ≡ v → w.rest ≡ x.rest → x.live ≡ None → IsAt t s v (Some x)
       → HasComeBack (t.meaning (arc_value hired.store).ty) (t.sizes (arc_value hired.store).ty) (arc_value hired.store).shared hired.worker w
   comes_back hired x w home was same none h =
-      let r : StandsSince t s v None x.rest.seat x.left = subst (λ (o : Option PausedLive). StandsSince t s v o x.rest.seat x.left) none h in
+      let r : StandsSince t s v None x.rest.seat x.left = subst (λ (o : Option RestingTransaction). StandsSince t s v o x.rest.seat x.left) none h in
       let own : IsWorker (t.meaning s.ty) (t.sizes s.ty) s.shared x.rest.seat = record { of = r.0.of; rests = r.0.at_rest } in
       subst (λ (z : Store T). HasComeBack (t.meaning z.ty) (t.sizes z.ty) z.shared hired.worker w) (sym home) (record {
         own = subst (λ (q : Rest T n). IsWorker (t.meaning s.ty) (t.sizes s.ty) s.shared q.seat) (sym same) own;

@@ -7,18 +7,18 @@ use Rattle.std.specs.declared.alloc.Global.{Global}
 use Rattle.std.specs.declared.sync.Arc.{Arc}
 use Rattle.sto_part.specs.declared.naming.Naming as naming
 use Rattle.sto_type.specs.Traits.{OfType}
-use Rattle.sto_shared_store.specs.declared.worker.IdleWorker.{IdleWorker}
+use Rattle.sto_shared_store.specs.declared.worker.CountedRest.{CountedRest}
 use Rattle.sto_interactive.specs.declared.session.Session.{Session}
 use Rattle.sto_interactive.specs.Steps.{IsUnchanged}
 use Rattle.sto_shared_store.specs.declared.given.Hired.{Hired}
 use Rattle.sto_shared_store.specs.declared.owned_store.OwnedStore.{OwnedStore}
-use Rattle.sto_shared_store.specs.declared.owned_store.Unhired.{Unhired}
-use Rattle.sto_shared_store.specs.declared.owned_store.Unhired.TheVariants as unhired
-use Rattle.sto_shared_store.specs.declared.owned_store.StillOpen.{StillOpen}
-use Rattle.sto_shared_store.specs.declared.owned_store.StillOpen.TheVariants as open_still
+use Rattle.sto_shared_store.specs.declared.owned_store.HireError.{HireError}
+use Rattle.sto_shared_store.specs.declared.owned_store.HireError.TheVariants as unhired
+use Rattle.sto_shared_store.specs.declared.owned_store.OwnedCloseError.{OwnedCloseError}
+use Rattle.sto_shared_store.specs.declared.owned_store.OwnedCloseError.TheVariants as open_still
 use Rattle.sto_shared_store.specs.declared.owned_worker.OwnedWorker.{OwnedWorker}
-use Rattle.sto_shared_store.specs.declared.owned_worker.StillOut.{StillOut}
-use Rattle.sto_shared_store.specs.declared.owned_worker.StillOut.TheVariants as out_still
+use Rattle.sto_shared_store.specs.declared.owned_worker.GiveBackError.{GiveBackError}
+use Rattle.sto_shared_store.specs.declared.owned_worker.GiveBackError.TheVariants as out_still
 use Rattle.sto_shared_store.specs.Back.{HasComeBack}
 use Rattle.sto_shared_store.specs.Owned.{Leads}
 
@@ -27,7 +27,7 @@ module _ {T : Type 0} {n : naming.Ghosts T} (t : OfType T) where
   pub record HasTakenIn (x y : OwnedStore T n) : Type 0 where
     pub place : ℕ
     pub slot : Arc (Hired T n) Global
-    pub worker : IdleWorker T n
+    pub worker : CountedRest T n
     pub out : slice_get x.slots.items place ≡ Some slot
     pub back : HasComeBack (t.meaning (arc_value x.store).ty) (t.sizes (arc_value x.store).ty) (arc_value x.store).shared (arc_value slot).worker worker
     pub idle : y.idle.items ≡ x.idle.items ++ worker ∷ []
@@ -41,7 +41,7 @@ module _ {T : Type 0} {n : naming.Ghosts T} (t : OfType T) where
 
 module _ {T : Type 0} {n : naming.Ghosts T} where
   -- the session of this worker, which is in no transaction
-  pub record IsOfWorker (worker : IdleWorker T n) (x : Session T n) : Type 0 where
+  pub record IsOfWorker (worker : CountedRest T n) (x : Session T n) : Type 0 where
     pub rest : x.rest ≡ worker.rest
     pub left : x.left ≡ worker.left
     pub free : x.live ≡ None
@@ -61,7 +61,7 @@ module _ {T : Type 0} {n : naming.Ghosts T} where
     pub session : IfSome w.session (IsOfWorker hired.worker)
 
   -- none rests in the store, or memory was wanting; the store is as it was
-  abbrev pub IsUnhired : Unhired → OwnedStore T n → OwnedStore T n → Type 0
+  abbrev pub IsUnhired : HireError → OwnedStore T n → OwnedStore T n → Type 0
   IsUnhired unhired.NoneLeft x y = (x.idle.items ≡ []) × (y ≡ x)
   IsUnhired unhired.NoMemory x y = (x.idle.items ≢ []) × (y.idle.items ≡ x.idle.items) × (y.slots ≡ x.slots) × (y.store ≡ x.store)
 
@@ -70,13 +70,13 @@ module _ {T : Type 0} {n : naming.Ghosts T} where
   AllRest x = length x.idle.items ≡ (arc_value x.store).passes
 
   -- the store comes back as it was, unless memory was wanting: not all its workers rest in it, or all do
-  abbrev pub StaysOpen : OwnedStore T n → StillOpen T n → Type 0
+  abbrev pub StaysOpen : OwnedStore T n → OwnedCloseError T n → Type 0
   StaysOpen x (open_still.Missing y) = (y ≡ x) × (AllRest x → ⊥)
   StaysOpen x (open_still.Busy y) = (y ≡ x) × AllRest x
   StaysOpen x open_still.NoMemory = Unit {0}
 
   -- the worker that comes back
-  abbrev pub worker_of : StillOut T n → OwnedWorker T n
+  abbrev pub worker_of : GiveBackError T n → OwnedWorker T n
   worker_of (out_still.InTransaction w) = w
   worker_of (out_still.Busy w) = w
 
@@ -85,6 +85,6 @@ module _ {T : Type 0} {n : naming.Ghosts T} where
   IsFreeWorker x = IfSome x.session (λ s. s.live ≡ None)
 
   -- it is as it was: in a transaction, or, where another call is at its slot, in none
-  abbrev pub StaysOut : OwnedWorker T n → StillOut T n → Type 0
+  abbrev pub StaysOut : OwnedWorker T n → GiveBackError T n → Type 0
   StaysOut x (out_still.InTransaction y) = (y ≡ x) × IfSome x.session (λ s. s.live ≢ None)
   StaysOut x (out_still.Busy y) = (y.store ≡ x.store) × (y.slot ≡ x.slot) × Leads IsUnchanged x.session y.session × IsFreeWorker x

@@ -14,9 +14,9 @@ use Rattle.sto_type.specs.Traits.{OfType}
 use Rattle.sto_core.specs.declared.view.View.{View}
 use Rattle.sto_history.specs.Added.{Grows}
 use Rattle.sto_table.specs.declared.stance.Stance.{Stance}
-use Rattle.sto_interactive.specs.declared.pause.PausedLive.{PausedLive}
+use Rattle.sto_interactive.specs.declared.pause.RestingTransaction.{RestingTransaction}
 use Rattle.sto_shared_store.specs.declared.store.Store.{Store}
-use Rattle.sto_shared_store.specs.declared.worker.IdleWorker.{IdleWorker}
+use Rattle.sto_shared_store.specs.declared.worker.CountedRest.{CountedRest}
 use Rattle.sto_shared_store.specs.Working.{IsWorker}
 use Rattle.sto_interactive.specs.declared.session.Session.{Session}
 use Rattle.sto_interactive.specs.Sessions.{Rests, Waits}
@@ -39,7 +39,7 @@ view_at slot = (arc_value slot).worker.rest.seat.me.0.view
 
 module _ {T : Type 0} (t : OfType T) where
   -- a pass of a store's words, free or in a transaction. It knows all that the view v has, and knew it when the transaction began
-  abbrev pub StandsSince : Store T → View → Option PausedLive → Seat (Unit {0}) Stance → ℕ → Type 0
+  abbrev pub StandsSince : Store T → View → Option RestingTransaction → Seat (Unit {0}) Stance → ℕ → Type 0
   StandsSince s v None seat left = Rests t s.ty s.shared seat × Grows v seat.me.0.view
   StandsSince s v (Some p) seat left =
       (calls : List Call) × (rs : List Told) × (begun : View) × Waits t s.ty s.shared calls rs p begun seat left × Grows v begun
@@ -57,5 +57,5 @@ module _ {T : Type 0} {n : naming.Ghosts T} (t : OfType T) where
 
   -- the workers that rest in it are its own, and so are those that come back to it
   pub record IsOwnedStore (o : OwnedStore T n) : Type 0 where
-    pub rest : All (λ (w : IdleWorker T n). IsWorker (t.meaning (arc_value o.store).ty) (t.sizes (arc_value o.store).ty) (arc_value o.store).shared w.rest.seat) o.idle.items
+    pub rest : All (λ (w : CountedRest T n). IsWorker (t.meaning (arc_value o.store).ty) (t.sizes (arc_value o.store).ty) (arc_value o.store).shared w.rest.seat) o.idle.items
     pub home : All (λ (slot : Arc (Hired T n) Global). arc_value (arc_value slot).store ≡ arc_value o.store) o.slots.items

@@ -4,8 +4,8 @@ use Rattle.sto_model.specs.declared.shape.Shape.{Shape}
 use Rattle.sto_model.specs.declared.shape.Shape.TheVariants.{Single, Counter, Array, Hash, Tree, Vector}
 use Rattle.sto_model.specs.Sizes.{part_count}
 use Rattle.sto_store.specs.Stores.{rank, AreFit, AreInOrder}
-use Rattle.sto_shared_store.specs.declared.unplanned.Unplanned.{Unplanned}
-use Rattle.sto_shared_store.specs.declared.unplanned.Unplanned.TheVariants.{OutOfOrder, NoRoom, TooMany, NoMemory}
+use Rattle.sto_shared_store.specs.declared.unplanned.PlanError.{PlanError}
+use Rattle.sto_shared_store.specs.declared.unplanned.PlanError.TheVariants.{OutOfOrder, NoRoom, TooMany, NoMemory}
 
 -- the shapes of a store that can be opened
 pub record IsPlan (shapes : List Shape) : Type 0 where
@@ -40,7 +40,7 @@ AllStand before [] = Unit {0}
 AllStand before (s ∷ ss) = CanStand before s × AllStand (before ++ s ∷ []) ss
 
 -- why an object of a shape cannot be planned after these
-abbrev pub IsReason : Unplanned → List Shape → Shape → Type 0
+abbrev pub IsReason : PlanError → List Shape → Shape → Type 0
 IsReason OutOfOrder shapes shape = rank shape < last_rank shapes
 IsReason NoRoom shapes shape = has_room shape ≡ false
 IsReason TooMany shapes shape = (2 ^ 32 ≤ sum_by part_count shapes + part_count shape) ⊎ (2 ^ 32 ≤ length shapes + 1)

@@ -1,9 +1,9 @@
 -- Why a store was not opened or not closed.
 use Rattle.std.specs.Prelude.{◌≡◌, ◌<◌, ◌⊎◌, ℕ}
-use Rattle.sto_shared_store.specs.declared.unopened.Unopened.{Unopened}
-use Rattle.sto_shared_store.specs.declared.unopened.Unopened.TheVariants.{Workers, NoMemory}
+use Rattle.sto_shared_store.specs.declared.unopened.OpenError.{OpenError}
+use Rattle.sto_shared_store.specs.declared.unopened.OpenError.TheVariants.{Workers, NoMemory}
 
 -- why a store was not opened with so many workers
-abbrev pub IsCause : Unopened → ℕ → Type 0
+abbrev pub IsCause : OpenError → ℕ → Type 0
 IsCause Workers workers = (workers ≡ 0) ⊎ (65536 < workers)
 IsCause NoMemory workers = Unit {0}

@@ -7,8 +7,8 @@ ghost use Rattle.sto_shared_store.specs.Working.{gathered_onto, IsWorker, AreLas
 ghost use Rattle.sto_shared_store.specs.Closings.{ComesBack};
 
 use crate::store::Store;
-use crate::unclosed::Unclosed;
-use crate::worker::{IdleWorker, IdleWorkers};
+use crate::unclosed::StoreCloseError;
+use crate::worker::{CountedRest, CountedRests};
 use std::alloc::Global;
 use sto_model::State;
 use sto_part::NoMemory;
@@ -20,8 +20,8 @@ use sto_type::TxType;
 fn gather_all<T: TxType>(
     ty: &T,
     shared: &Shared<T>,
-    last: IdleWorker<T>,
-    others: IdleWorkers<T>,
+    last: CountedRest<T>,
+    others: CountedRests<T>,
 ) -> Rest<T>
     requires last { IsWorker (T.meaning ty.now) (T.sizes ty.now) shared.now last.rest.seat }
     requires others { All (λ w. IsWorker (T.meaning ty.now) (T.sizes ty.now) shared.now w.rest.seat) others.items }
@@ -66,7 +66,7 @@ impl<T: TxType + Drop> Store<T> {
     /// is in that history its serial run, from the state right before its number, or on the state as of the number that it read.
     ///
     /// Where a worker is missing, the store and the workers come back. Where memory is wanting they are lost.
-    pub fn close(self, alloc: Global, workers: IdleWorkers<T>) -> Result<State, Unclosed<T>>
+    pub fn close(self, alloc: Global, workers: CountedRests<T>) -> Result<State, StoreCloseError<T>>
         requires { All (λ w. IsWorker (T.meaning self.ty) (T.sizes self.ty) self.shared w.rest.seat) workers.items }
         ensures rows { IfOk result (λ rows. AreRowsAfter T.valid (T.meaning self.ty)
             (map (λ w. w.rest.seat.me.0.view) workers.items) rows.items) }
@@ -77,7 +77,7 @@ impl<T: TxType + Drop> Store<T> {
     {
         let mut workers = workers;
         if workers.len() != self.passes {
-            return Err(Unclosed::Missing(self, workers));
+            return Err(StoreCloseError::Missing(self, workers));
         }
         let Some(last) = workers.pop() else {
             unreachable!()
@@ -86,7 +86,7 @@ impl<T: TxType + Drop> Store<T> {
         let rest = gather_all(&ty, &shared, last, workers);
         match last_rows(alloc, &ty, shared, rest) {
             Ok(rows) => Ok(rows),
-            Err(NoMemory) => Err(Unclosed::NoMemory),
+            Err(NoMemory) => Err(StoreCloseError::NoMemory),
         }
     }
 }

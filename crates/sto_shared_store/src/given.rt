@@ -5,7 +5,7 @@ ghost use Rattle.sto_shared_store.specs.Back.{HasComeBack};
 
 use counted_slot::{Counted, FREE, Fits, TAKEN};
 use crate::store::Store;
-use crate::worker::IdleWorker;
+use crate::worker::CountedRest;
 use std::alloc::Global;
 use std::sync::Arc;
 use sto_type::TxType;
@@ -14,13 +14,13 @@ use sto_type::TxType;
 #[derive(Drop)]
 pub struct Hired<T: TxType> {
     pub store: Arc<Store<T>, Global>,
-    pub worker: IdleWorker<T>,
+    pub worker: CountedRest<T>,
 }
 
 /// A worker that was given back.
 #[derive(Drop)]
 pub struct GivenBack<T: TxType> {
-    pub worker: IdleWorker<T>,
+    pub worker: CountedRest<T>,
 }
 
 impl<T: TxType> Fits for GivenBack<T> {
@@ -39,8 +39,8 @@ const WAITS: u64 = 1 << 32;
 /// Has a worker wait in its slot, or hands it back where another call is at the slot.
 pub(crate) fn give<T: TxType + Drop>(
     slot: &ReturnSlot<T>,
-    worker: IdleWorker<T>,
-) -> Result<(), IdleWorker<T>>
+    worker: CountedRest<T>,
+) -> Result<(), CountedRest<T>>
     requires { HasComeBack (T.meaning (arc_value slot.now.store).ty) (T.sizes (arc_value slot.now.store).ty)
         (arc_value slot.now.store).shared slot.now.worker worker }
     ensures { IfErr result (λ w. w ≡ worker) }
@@ -55,7 +55,7 @@ pub(crate) fn give<T: TxType + Drop>(
 }
 
 /// Takes the worker that waits in a slot, if there is one.
-pub(crate) fn take<T: TxType + Drop>(slot: &ReturnSlot<T>) -> Option<IdleWorker<T>>
+pub(crate) fn take<T: TxType + Drop>(slot: &ReturnSlot<T>) -> Option<CountedRest<T>>
     ensures { IfSome result (λ w. HasComeBack (T.meaning (arc_value slot.now.store).ty) (T.sizes (arc_value slot.now.store).ty)
         (arc_value slot.now.store).shared slot.now.worker w) }
 {

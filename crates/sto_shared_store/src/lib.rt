@@ -16,11 +16,11 @@ mod worker;
 
 pub use given::{GivenBack, Hired, ReturnSlot};
 pub use opening::OpenedStore;
-pub use owned_store::{OwnedStore, StillOpen, Unhired};
-pub use owned_worker::{OwnedWorker, StillOut};
+pub use owned_store::{OwnedStore, OwnedCloseError, HireError};
+pub use owned_worker::{OwnedWorker, GiveBackError};
 pub use plan::Plan;
 pub use store::Store;
-pub use unclosed::Unclosed;
-pub use unopened::Unopened;
-pub use unplanned::Unplanned;
-pub use worker::{BusyWorker, IdleWorker, IdleWorkers};
+pub use unclosed::StoreCloseError;
+pub use unopened::OpenError;
+pub use unplanned::PlanError;
+pub use worker::{CountedPass, CountedRest, CountedRests};

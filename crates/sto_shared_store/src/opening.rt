@@ -9,8 +9,8 @@ ghost use Rattle.sto_shared_store.specs.Refusals.{IsCause};
 
 use crate::plan::Plan;
 use crate::store::Store;
-use crate::unopened::Unopened;
-use crate::worker::{IdleWorker, IdleWorkers};
+use crate::unopened::OpenError;
+use crate::worker::{CountedRest, CountedRests};
 use std::alloc::Global;
 use sto_part::{List, NoMemory};
 use sto_store::{Objects, build};
@@ -27,7 +27,7 @@ const TICKETS: u64 = 1 << 40;
 #[derive(Drop)]
 pub struct OpenedStore<T: TxType> {
     pub store: Store<T>,
-    pub workers: IdleWorkers<T>,
+    pub workers: CountedRests<T>,
 }
 
 // Makes a worker of each pass that was just opened.
@@ -36,7 +36,7 @@ fn hire<T: TxType>(
     ty: &T,
     shared: &Shared<T>,
     rests: Rests<T>,
-) -> Result<IdleWorkers<T>, NoMemory>
+) -> Result<CountedRests<T>, NoMemory>
     requires fresh { All (λ r. IsFresh (T.meaning ty.now) (T.sizes ty.now) shared.now r.seat) rests.items }
     requires few { length rests.items ≤ 65536 }
     ensures fresh { IfOk result (λ l. All (λ w. IsFresh (T.meaning ty.now) (T.sizes ty.now) shared.now w.rest.seat) l.items) }
@@ -46,7 +46,7 @@ fn hire<T: TxType>(
     let mut rests = rests;
     let mut workers = List::new(alloc);
     while let Some(rest) = rests.pop() {
-        workers.push(IdleWorker {
+        workers.push(CountedRest {
             rest,
             left: TICKETS,
         })?;
@@ -84,7 +84,7 @@ fn open_store<T: TxType + Drop>(
 
 impl<T: TxType + Drop> Store<T> {
     /// Opens the objects of a type, with so many workers. Each worker may draw 2^40 tickets.
-    pub fn open(alloc: Global, ty: T, workers: u32) -> Result<OpenedStore<T>, Unopened>
+    pub fn open(alloc: Global, ty: T, workers: u32) -> Result<OpenedStore<T>, OpenError>
         ensures ty { IfOk result (λ o. o.store.ty ≡ ty) }
         ensures passes { IfOk result (λ o. o.store.shared.table.shared.key.passes ≡ workers) }
         ensures many { IfOk result (λ o. length o.workers.items ≡ workers) }
@@ -96,18 +96,18 @@ impl<T: TxType + Drop> Store<T> {
         ensures cause { IfErr result (λ error. IsCause error workers) }
     {
         if workers == 0 || MOST_WORKERS < workers {
-            return Err(Unopened::Workers);
+            return Err(OpenError::Workers);
         }
         match open_store(alloc, ty, workers) {
             Ok(opened) => Ok(opened),
-            Err(NoMemory) => Err(Unopened::NoMemory),
+            Err(NoMemory) => Err(OpenError::NoMemory),
         }
     }
 }
 
 impl Plan {
     /// Opens a store of the planned objects, with so many workers. Each worker may draw 2^40 tickets.
-    pub fn open(&self, alloc: Global, workers: u32) -> Result<OpenedStore<Objects>, Unopened>
+    pub fn open(&self, alloc: Global, workers: u32) -> Result<OpenedStore<Objects>, OpenError>
         ensures machines { IfOk result (λ o. (⟦<Objects as TxType>⟧.meaning o.store.ty).machines ≡ machines_of self.now) }
         ensures takes { IfOk result (λ o. (call : Call) → IsTaken self.now call → IsFitting call
             → (⟦<Objects as TxType>⟧.meaning o.store.ty).takes call) }
@@ -122,7 +122,7 @@ impl Plan {
     {
         match self.objects(alloc) {
             Ok(objects) => Store::open(alloc, objects, workers),
-            Err(NoMemory) => Err(Unopened::NoMemory),
+            Err(NoMemory) => Err(OpenError::NoMemory),
         }
     }
 }

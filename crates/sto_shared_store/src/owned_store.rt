@@ -12,8 +12,8 @@ use crate::given::{Hired, ReturnSlot, take};
 use crate::opening::OpenedStore;
 use crate::owned_worker::OwnedWorker;
 use crate::store::Store;
-use crate::unclosed::Unclosed;
-use crate::worker::{IdleWorker, IdleWorkers};
+use crate::unclosed::StoreCloseError;
+use crate::worker::{CountedRest, CountedRests};
 use std::alloc::Global;
 use std::sync::Arc;
 use sto_interactive::Session;
@@ -24,7 +24,7 @@ use sto_type::TxType;
 /// A store, and the workers of it that rest in it. The store lives until this and all its workers are dropped.
 pub struct OwnedStore<T: TxType + Drop> {
     pub store: Arc<Store<T>, Global>,
-    pub idle: IdleWorkers<T>,
+    pub idle: CountedRests<T>,
     /// Where the workers that were given out come back, each in a slot of its own.
     pub slots: List<Arc<ReturnSlot<T>, Global>>,
 }
@@ -41,7 +41,7 @@ impl<T: TxType + Drop> Drop for OwnedStore<T> {
 
 /// Why no worker was given out.
 #[derive(Clone, Copy, PartialEq, Eq, Debug)]
-pub enum Unhired {
+pub enum HireError {
     /// None rests in the store.
     NoneLeft,
     /// Memory was wanting, or there are as many owners of the store as can be counted.
@@ -50,7 +50,7 @@ pub enum Unhired {
 
 /// Why a store was not closed.
 #[derive(Drop)]
-pub enum StillOpen<T: TxType + Drop> {
+pub enum OwnedCloseError<T: TxType + Drop> {
     /// Not all its workers rest in it. Here it is.
     Missing(OwnedStore<T>),
     /// All its workers rest in it, and a call that gave one back has not let the store go yet. Here it is.
@@ -110,7 +110,7 @@ impl<T: TxType + Drop> OwnedStore<T> {
     }
 
     /// Gives the worker out that rests here last.
-    pub fn hire(&mut self, alloc: Global) -> Result<OwnedWorker<T>, Unhired>
+    pub fn hire(&mut self, alloc: Global) -> Result<OwnedWorker<T>, HireError>
         requires { IsOwnedStore T.TxType self.old }
         ensures store { self.new.store ≡ self.old.store }
         ensures same { IfOk result (λ w. arc_value w.store ≡ arc_value self.old.store) }
@@ -121,10 +121,10 @@ impl<T: TxType + Drop> OwnedStore<T> {
     {
         let many = self.idle.len();
         if many == 0 {
-            return Err(Unhired::NoneLeft);
+            return Err(HireError::NoneLeft);
         }
         let Ok(store) = Arc::try_clone(&self.store) else {
-            return Err(Unhired::NoMemory);
+            return Err(HireError::NoMemory);
         };
         let Some(worker) = self.idle.pop() else {
             unreachable!()
@@ -138,7 +138,7 @@ impl<T: TxType + Drop> OwnedStore<T> {
                     worker: idle,
                 } = hired;
                 self.idle.push_spare(idle);
-                Err(Unhired::NoMemory)
+                Err(HireError::NoMemory)
             }
         }
     }
@@ -185,7 +185,7 @@ impl<T: TxType + Drop> OwnedStore<T> {
 
     /// Closes the store, in which all its workers rest, and answers the rows that its objects hold: the last state of a serial
     /// history of all that its workers have done. Where not all rest in it, or one is just being given back, it comes back as it was.
-    pub fn close(self, alloc: Global) -> Result<State, StillOpen<T>>
+    pub fn close(self, alloc: Global) -> Result<State, OwnedCloseError<T>>
         requires { IsOwnedStore T.TxType self }
         ensures rows { IfOk result (λ rows. AreRowsAfter T.valid (T.meaning (arc_value self.store).ty)
             (map (λ w. w.rest.seat.me.0.view) self.idle.items) rows.items) }
@@ -195,16 +195,16 @@ impl<T: TxType + Drop> OwnedStore<T> {
         ensures stays { IfErr result (StaysOpen self) }
     {
         if self.idle.len() != self.store.passes {
-            return Err(StillOpen::Missing(self));
+            return Err(OwnedCloseError::Missing(self));
         }
         let OwnedStore { store, idle, slots } = self;
         match Arc::try_unwrap(store) {
             Ok(store) => match store.close(alloc, idle) {
                 Ok(rows) => Ok(rows),
-                Err(Unclosed::Missing(_, _)) => unreachable!(),
-                Err(Unclosed::NoMemory) => Err(StillOpen::NoMemory),
+                Err(StoreCloseError::Missing(_, _)) => unreachable!(),
+                Err(StoreCloseError::NoMemory) => Err(OwnedCloseError::NoMemory),
             },
-            Err(store) => Err(StillOpen::Busy(OwnedStore { store, idle, slots })),
+            Err(store) => Err(OwnedCloseError::Busy(OwnedStore { store, idle, slots })),
         }
     }
 }

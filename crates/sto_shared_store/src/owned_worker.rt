@@ -8,11 +8,11 @@ ghost use Rattle.sto_shared_store.specs.Endings.{IsOfWorker, IsFreeWorker, Stays
 
 use crate::given::{Hired, ReturnSlot, give};
 use crate::store::Store;
-use crate::worker::IdleWorker;
+use crate::worker::CountedRest;
 use std::mem;
 use std::alloc::Global;
 use std::sync::Arc;
-use sto_interactive::{LiveMemory, Session, Unanswered, Unbegun, Uncommitted};
+use sto_interactive::{StepLists, Session, AskError, BeginError, CommitError};
 use sto_model::{Call, Replies};
 use sto_type::TxType;
 
@@ -37,7 +37,7 @@ impl<T: TxType + Drop> Drop for OwnedWorker<T> {
 
 /// Why a worker was not given back. Here it is.
 #[derive(Drop)]
-pub enum StillOut<T: TxType + Drop> {
+pub enum GiveBackError<T: TxType + Drop> {
     /// It is in a transaction.
     InTransaction(OwnedWorker<T>),
     /// Another call is at its slot.
@@ -45,7 +45,7 @@ pub enum StillOut<T: TxType + Drop> {
 }
 
 // The worker of a session, and its memory.
-fn idle_of<T: TxType + Drop>(session: Session<T>) -> (IdleWorker<T>, LiveMemory)
+fn idle_of<T: TxType + Drop>(session: Session<T>) -> (CountedRest<T>, StepLists)
     ensures { (result.0.rest ≡ session.rest) × (result.0.left ≡ session.left) }
 {
     let Session {
@@ -54,7 +54,7 @@ fn idle_of<T: TxType + Drop>(session: Session<T>) -> (IdleWorker<T>, LiveMemory)
         live: _live,
         memory,
     } = session;
-    (IdleWorker { rest, left }, memory)
+    (CountedRest { rest, left }, memory)
 }
 
 impl<T: TxType + Drop> OwnedWorker<T> {
@@ -72,16 +72,16 @@ impl<T: TxType + Drop> OwnedWorker<T> {
         ensures session { IfSome result.session (IsOfWorker hired.worker) }
     {
         let Hired { store, worker } = hired;
-        let IdleWorker { rest, left } = worker;
+        let CountedRest { rest, left } = worker;
         OwnedWorker {
             store,
             slot,
-            session: Some(Session::new(rest, left, LiveMemory::new(alloc))),
+            session: Some(Session::new(rest, left, StepLists::new(alloc))),
         }
     }
 
     /// Begins a transaction.
-    pub fn begin(&mut self, alloc: Global) -> Result<(), Unbegun>
+    pub fn begin(&mut self, alloc: Global) -> Result<(), BeginError>
         requires { IsOwnedWorker T.TxType self.old }
         ensures worker { IsOwnedWorker T.TxType self.new }
         ensures store { (self.new.store ≡ self.old.store) × (self.new.slot ≡ self.old.slot) }
@@ -97,7 +97,7 @@ impl<T: TxType + Drop> OwnedWorker<T> {
     }
 
     /// Asks the next call of the transaction.
-    pub fn ask(&mut self, alloc: Global, call: Call) -> Result<(), Unanswered>
+    pub fn ask(&mut self, alloc: Global, call: Call) -> Result<(), AskError>
         requires { IsOwnedWorker T.TxType self.old }
         ensures worker { IsOwnedWorker T.TxType self.new }
         ensures store { (self.new.store ≡ self.old.store) × (self.new.slot ≡ self.old.slot) }
@@ -113,7 +113,7 @@ impl<T: TxType + Drop> OwnedWorker<T> {
     }
 
     /// Commits the transaction, and answers its place in the order.
-    pub fn commit(&mut self, alloc: Global) -> Result<u64, Uncommitted>
+    pub fn commit(&mut self, alloc: Global) -> Result<u64, CommitError>
         requires { IsOwnedWorker T.TxType self.old }
         ensures worker { IsOwnedWorker T.TxType self.new }
         ensures store { (self.new.store ≡ self.old.store) × (self.new.slot ≡ self.old.slot) }
@@ -130,7 +130,7 @@ impl<T: TxType + Drop> OwnedWorker<T> {
     }
 
     /// Gives the transaction up.
-    pub fn cancel(&mut self, alloc: Global) -> Result<u64, Uncommitted>
+    pub fn cancel(&mut self, alloc: Global) -> Result<u64, CommitError>
         requires { IsOwnedWorker T.TxType self.old }
         ensures worker { IsOwnedWorker T.TxType self.new }
         ensures store { (self.new.store ≡ self.old.store) × (self.new.slot ≡ self.old.slot) }
@@ -177,14 +177,14 @@ impl<T: TxType + Drop> OwnedWorker<T> {
     }
 
     /// Gives the worker back to its store, where it waits until `OwnedStore::gather` takes it in. Only one that is in no transaction is.
-    pub fn give_back(self) -> Result<(), StillOut<T>>
+    pub fn give_back(self) -> Result<(), GiveBackError<T>>
         requires { IsOwnedWorker T.TxType self }
         ensures free { IfOk result (λ _. IsFreeWorker self) }
         ensures worker { IfErr result (λ why. IsOwnedWorker T.TxType (worker_of why)) }
         ensures out { IfErr result (StaysOut self) }
     {
         if self.is_in_transaction() {
-            return Err(StillOut::InTransaction(self));
+            return Err(GiveBackError::InTransaction(self));
         }
         let OwnedWorker {
             store,
@@ -197,7 +197,7 @@ impl<T: TxType + Drop> OwnedWorker<T> {
         let (worker, memory) = idle_of(session);
         match give(&*slot, worker) {
             Ok(()) => Ok(()),
-            Err(IdleWorker { rest, left }) => Err(StillOut::Busy(OwnedWorker {
+            Err(CountedRest { rest, left }) => Err(GiveBackError::Busy(OwnedWorker {
                 store,
                 slot,
                 session: Some(Session::new(rest, left, memory)),

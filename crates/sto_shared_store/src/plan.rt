@@ -6,7 +6,7 @@ ghost use Rattle.sto_store.specs.StoresLaw.{IsFitting};
 ghost use Rattle.sto_shared_store.specs.Plans.{IsPlan, IsReason, CanStand};
 
 use crate::sizes::{is_fit, part_count, rank};
-use crate::unplanned::Unplanned;
+use crate::unplanned::PlanError;
 use std::alloc::Global;
 use std::marker::Model;
 use sto_model::{Shape, Shapes};
@@ -67,7 +67,7 @@ impl Plan {
     }
 
     /// Adds an object, and answers its number: how many were added before.
-    pub fn add(&mut self, shape: Shape) -> Result<u32, Unplanned>
+    pub fn add(&mut self, shape: Shape) -> Result<u32, PlanError>
         ensures number { IfOk result (λ number. number ≡ length self.old) }
         ensures added { OnOk result (self.new ≡ self.old ++ shape ∷ []) }
         ensures stands { OnOk result (CanStand self.old shape) }
@@ -76,15 +76,15 @@ impl Plan {
     {
         let kind = rank(&shape);
         if kind < self.last {
-            return Err(Unplanned::OutOfOrder);
+            return Err(PlanError::OutOfOrder);
         }
         if !is_fit(&shape) {
-            return Err(Unplanned::NoRoom);
+            return Err(PlanError::NoRoom);
         }
         let count = part_count(&shape);
         let number = self.shapes.len();
         if u64::from(u32::MAX - self.parts) < count || number == u32::MAX {
-            return Err(Unplanned::TooMany);
+            return Err(PlanError::TooMany);
         }
         match self.shapes.push(shape) {
             Ok(()) => {
@@ -92,7 +92,7 @@ impl Plan {
                 self.last = kind;
                 Ok(number)
             }
-            Err(_) => Err(Unplanned::NoMemory),
+            Err(_) => Err(PlanError::NoMemory),
         }
     }
 

@@ -2,7 +2,7 @@
 ghost use Rattle.std.specs.Prelude.{◌≡◌, ◌+◌, ◌<◌, IfOk, IfErr};
 ghost use Rattle.sto_table.specs.Rests.{IsOf};
 
-use crate::worker::{BusyWorker, IdleWorker};
+use crate::worker::{CountedPass, CountedRest};
 use sto_part::Naming;
 use sto_table::Shared;
 
@@ -21,7 +21,7 @@ pub struct Store<T: Naming> {
 
 impl<T: Naming> Store<T> {
     /// Begins a transaction of a worker: its pass is at rest, and has a ticket left to draw. A worker that has none left comes back.
-    pub fn begin(&self, worker: IdleWorker<T>) -> Result<BusyWorker<'_, T>, IdleWorker<T>>
+    pub fn begin(&self, worker: CountedRest<T>) -> Result<CountedPass<'_, T>, CountedRest<T>>
         requires { IsOf self.now.shared worker.rest.seat }
         ensures seat { IfOk result (λ busy. busy.pass.seat ≡ worker.rest.seat) }
         ensures passes { IfOk result (λ busy. busy.pass.shared.now.table.shared.key.passes ≡ self.now.shared.table.shared.key.passes) }
@@ -32,22 +32,22 @@ impl<T: Naming> Store<T> {
         if worker.is_worn() {
             return Err(worker);
         }
-        let IdleWorker { rest, left } = worker;
-        Ok(BusyWorker {
+        let CountedRest { rest, left } = worker;
+        Ok(CountedPass {
             pass: self.shared.pass(rest),
             left: left - 1,
         })
     }
 
     /// Goes on with a transaction of a worker, which was begun and waits.
-    pub fn resume(&self, worker: IdleWorker<T>) -> BusyWorker<'_, T>
+    pub fn resume(&self, worker: CountedRest<T>) -> CountedPass<'_, T>
         requires { IsOf self.now.shared worker.rest.seat }
         ensures seat { result.pass.seat ≡ worker.rest.seat }
         ensures passes { result.pass.shared.now.table.shared.key.passes ≡ self.now.shared.table.shared.key.passes }
         ensures left { result.left ≡ worker.left }
     {
-        let IdleWorker { rest, left } = worker;
-        BusyWorker {
+        let CountedRest { rest, left } = worker;
+        CountedPass {
             pass: self.shared.pass(rest),
             left,
         }

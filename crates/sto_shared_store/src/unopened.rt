@@ -2,7 +2,7 @@
 
 /// Why a store was not opened.
 #[derive(Clone, Copy, PartialEq, Eq, Debug)]
-pub enum Unopened {
+pub enum OpenError {
     /// A store has from 1 to 65,536 workers.
     Workers,
     /// Memory was wanting.

@@ -2,7 +2,7 @@
 
 /// Why an object cannot be planned. The plan is as it was.
 #[derive(Clone, Copy, PartialEq, Eq, Debug)]
-pub enum Unplanned {
+pub enum PlanError {
     /// An object of a later kind was planned before it: the order is boxes, counters, arrays, hash tables, trees, vectors.
     OutOfOrder,
     /// It has no room: a hash table without buckets or a tree without leaves; or its own parts or words are too many.

@@ -7,7 +7,7 @@ use sto_table::{Pass, Rest};
 
 /// A worker that rests, and borrows nothing. It may go to another thread.
 #[derive(Drop)]
-pub struct IdleWorker<T: Naming> {
+pub struct CountedRest<T: Naming> {
     /// Its pass.
     pub rest: Rest<T>,
     /// How many tickets it may still draw. A transaction draws at most one in each attempt.
@@ -17,11 +17,11 @@ pub struct IdleWorker<T: Naming> {
 }
 
 /// Workers that rest.
-pub type IdleWorkers<T> = List<IdleWorker<T>>;
+pub type CountedRests<T> = List<CountedRest<T>>;
 
 /// A worker that runs a transaction.
 #[derive(Drop)]
-pub struct BusyWorker<'s, T: Naming> {
+pub struct CountedPass<'s, T: Naming> {
     /// Its pass.
     pub pass: Pass<'s, T>,
     /// How many tickets it may draw after this transaction.
@@ -29,7 +29,7 @@ pub struct BusyWorker<'s, T: Naming> {
     ghost one: { pass.seat.me.0.view.gathered ≡ 1 },
 }
 
-impl<T: Naming> IdleWorker<T> {
+impl<T: Naming> CountedRest<T> {
     /// Whether it has no ticket left.
     pub fn is_worn(&self) -> bool
         ensures { IsTrue result ↔ (self.now.left ≡ 0) }
@@ -38,16 +38,16 @@ impl<T: Naming> IdleWorker<T> {
     }
 }
 
-impl<T: Naming> BusyWorker<'_, T> {
+impl<T: Naming> CountedPass<'_, T> {
     /// Rests, as between two transactions, or while one waits for its next call.
-    pub fn rest(self) -> IdleWorker<T>
+    pub fn rest(self) -> CountedRest<T>
         requires idle { IsIdle self.pass.seat.me.0.view.phase }
         requires enough { self.left ≤ self.pass.seat.me.0.view.draws }
         ensures seat { result.rest.seat ≡ self.entry.pass.seat }
         ensures left { result.left ≡ self.entry.left }
     {
-        let BusyWorker { pass, left } = self;
-        IdleWorker {
+        let CountedPass { pass, left } = self;
+        CountedRest {
             rest: pass.rest(),
             left,
         }

@@ -3,7 +3,7 @@ use crate::codes::{GiveUp, Swap};
 use std::alloc::Global;
 use sto_library::{
     BoxId, CloseError, CounterId, Done, Held, LookError, Objects, Schema, SharedStore, Snapshot,
-    Unplanned, Waits, total_of, value_of,
+    PlanError, Waits, total_of, value_of,
 };
 
 // A store of a box that holds 7 and a counter that holds 5, with so many workers.
@@ -19,7 +19,7 @@ fn opened(alloc: Global, workers: u32) -> Option<(SharedStore<Objects>, BoxId, C
 fn an_array_before_a_counter_is_refused(rt: HostRuntime) {
     let mut schema = Schema::new(rt.alloc());
     assert!(rt; schema.array(3, 2).is_ok());
-    assert_eq!(rt; schema.counter(1), Err(Unplanned::OutOfOrder));
+    assert_eq!(rt; schema.counter(1), Err(PlanError::OutOfOrder));
     assert!(rt; schema.array(1, 0).is_ok_and(|of| of.number == 1));
 }
 

@@ -10,7 +10,7 @@ use Rattle.sto_core.specs.declared.view.View.{View}
 use Rattle.sto_action.specs.declared.short_reply.ShortReply.{ShortReply}
 use Rattle.sto_action.specs.Progs.{Prog, Asks, Gives, Cancels}
 use Rattle.sto_action.specs.declared.outcome.Done.{Done}
-use Rattle.sto_action.specs.declared.outcome.Unrun.{Unrun}
+use Rattle.sto_action.specs.declared.outcome.TransactionError.{TransactionError}
 use Rattle.sto_action.specs.Atomic.{HasLed}
 use Rattle.sto_library.specs.Values.{Working}
 use Rattle.sto_test_premises.specs.Turns.{view_at, after_turns}
@@ -18,7 +18,7 @@ use Rattle.sto_test_premises.specs.LostUpdate.{third_core}
 use Rattle.sto_test_premises.specs.Adding.{box, reads, adds, by}
 
 -- the clause `led` of `run`, of a worker before and after it
-abbrev pub HasRun : {T A : Type 0} → OfType T → (before after : Working T) → (most : ℕ) → Prog A → Result (Done A) Unrun → Type 0
+abbrev pub HasRun : {T A : Type 0} → OfType T → (before after : Working T) → (most : ℕ) → Prog A → Result (Done A) TransactionError → Type 0
 HasRun t before after most p result =
     HasLed (t.meaning before.words.ty) before.seat.me.0.view after.seat.me.0.view (2 ^ 16) after.left before.shapes most p result
 

@@ -7,8 +7,8 @@ ghost use Rattle.sto_action.specs.declared.short_reply.ShortReply.TheVariants.{V
 ghost use Rattle.sto_action.specs.Atomic.{HasLed};
 ghost use Rattle.sto_action.specs.declared.outcome.Done.{Done};
 ghost use Rattle.sto_action.specs.declared.outcome.Done.TheVariants.{Gave, Cancelled};
-ghost use Rattle.sto_action.specs.declared.outcome.Unrun.{Unrun};
-ghost use Rattle.sto_action.specs.declared.outcome.Unrun.TheVariants.{Busy, Worn};
+ghost use Rattle.sto_action.specs.declared.outcome.TransactionError.{TransactionError};
+ghost use Rattle.sto_action.specs.declared.outcome.TransactionError.TheVariants.{Busy, Worn};
 ghost use Rattle.sto_shared_store.specs.Working.{AreRowsAfter};
 ghost use Rattle.sto_library.specs.declared.store.CloseError.TheVariants.{Missing};
 ghost use Rattle.sto_library.specs.declared.store.LookError.TheVariants as unlooked;
@@ -40,10 +40,10 @@ pub fn not_looked<T: TxType, A>()
     ensures workers { (old new : Stored T) (most : ℕ) (p : Prog A) → HasLooked T.TxType old new most p (Err unlooked.Workers) → (old.views ≡ [] → ⊥) → ⊥ }
     // Anything else, where none does.
     ensures done { (old new : Stored T) (most : ℕ) (p : Prog A) (d : Done A) → HasLooked T.TxType old new most p (Ok d) → old.views ≡ [] → ⊥ }
-    ensures unrun { (old new : Stored T) (most : ℕ) (p : Prog A) (e : Unrun) → HasLooked T.TxType old new most p (Err (unlooked.Unrun e))
+    ensures unrun { (old new : Stored T) (most : ℕ) (p : Prog A) (e : TransactionError) → HasLooked T.TxType old new most p (Err (unlooked.TransactionError e))
         → old.views ≡ [] → ⊥ }
     // That others were in the way, where no worker has begun anything.
-    ensures busy_after_no_start { (old new : Stored T) (most : ℕ) (p : Prog A) → HasLooked T.TxType old new most p (Err (unlooked.Unrun Busy))
+    ensures busy_after_no_start { (old new : Stored T) (most : ℕ) (p : Prog A) → HasLooked T.TxType old new most p (Err (unlooked.TransactionError Busy))
         → new.views ≡ old.views → ⊥ }
 {}
 

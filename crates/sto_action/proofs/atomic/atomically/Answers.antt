@@ -3,7 +3,7 @@ use Rattle.std.proofs.Common.{Result, ◌-◌, sym, ◌∙◌, subst, arith, tru
 use Rattle.std.specs.Prelude.{Option, Ok, IsSome}
 use Rattle.sto_action.specs.declared.tx.Stop.{Stop}
 use Rattle.sto_action.specs.declared.outcome.Done.{Done}
-use Rattle.sto_action.specs.declared.outcome.Unrun.{Unrun}
+use Rattle.sto_action.specs.declared.outcome.TransactionError.{TransactionError}
 use Rattle.sto_action.specs.Atomic.{HasLed, HasTried}
 use Rattle.sto_history.proofs.Events.{grows_on}
 use Rattle.sto_action.proofs.Led.{atomic_since, aborted_more, said_led}
@@ -18,9 +18,9 @@ returns-in-Ok-Some-clause-led g c =
     let u = g.C.Cells.view c.args.cells.now in
     let v = g.C.Cells.view c.loop-aborted.cells in
     let w = g.C.Cells.view c.attempt.new.cells in
-    let ss = c.args.shapes.now.items in let most = g.K.Code.most c.args.code.now in let p = g.K.Code.does c.args.code.now in
+    let ss = c.args.shapes.now.items in let most = g.K.Action.most c.args.code.now in let p = g.K.Action.does c.args.code.now in
     let tried = subst (λ (o : Option (Result g.row.K-Out.Denot Stop)). HasTried m v w ss most p (Ok o)) c.in-Ok-Some.field-0-is c.in-Ok-Some.ensures.tried in
-    subst (λ (r : Result (Done g.row.K-Out.Denot) Unrun). HasLed m u w c.args.tries (c.loop-aborted.left - 1) ss most p r) (sym c.told.ensures)
+    subst (λ (r : Result (Done g.row.K-Out.Denot) TransactionError). HasLed m u w c.args.tries (c.loop-aborted.left - 1) ss most p r) (sym c.told.ensures)
     (said_led m u w c.args.tries (c.loop-aborted.left - 1) ss most p c.in-Ok-Some.said (atomic_since m u v w ss most p _ c.loop-aborted.invariant.grows c.loop-aborted.invariant.made.none tried))
 
 pub returns-in-Err-clause-grows : goal.returns-in-Err-clause-grows
@@ -32,7 +32,7 @@ loop-aborted-preserved g c =
     let m = g.T.TxType.meaning c.args.ty.now in
     let v = g.C.Cells.view c.loop-aborted.cells in
     let w = g.C.Cells.view c.attempt.new.cells in
-    let ss = c.args.shapes.now.items in let most = g.K.Code.most c.args.code.now in let p = g.K.Code.does c.args.code.now in
+    let ss = c.args.shapes.now.items in let most = g.K.Action.most c.args.code.now in let p = g.K.Action.does c.args.code.now in
     record {
       rests = c.attempt.ensures.rests;
       left = (let a = c.attempt.ensures.draws in let b = inv.left in let n = c.if-left-eq0.false in omega (arith, a, b, n));

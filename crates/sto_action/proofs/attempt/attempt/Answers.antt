@@ -14,10 +14,10 @@ returns-clause-tried g c =
     let v = g.C.Cells.view c.args.cells.now in let w = g.C.Cells.view c.run.new.cells in
     let body = c.in_ok-body.body in let ended = c.in-Ok.transacted.ended in
     let same = c.in_ok-body.ensures in
-    let ran = same_run g.K.Code.does m sizes passes v w (0, 1) c.take_records-records.result.items c.run.new.records.items ended
-    body.code.now c.args.code.now body.shapes.now c.args.shapes.now body.most (g.K.Code.most c.args.code.now) same.0 same.1 same.2 c.take_records-records.ensures c.in-Ok.ensures.ran in
+    let ran = same_run g.K.Action.does m sizes passes v w (0, 1) c.take_records-records.result.items c.run.new.records.items ended
+    body.code.now c.args.code.now body.shapes.now c.args.shapes.now body.most (g.K.Action.most c.args.code.now) same.0 same.1 same.2 c.take_records-records.ensures c.in-Ok.ensures.ran in
     let all : c.run.new.records.items ≡ c.pop.new.self.items ++ c.in-Some.last ∷ [] = search rules in
-    told_tried m sizes passes v w c.args.shapes.now.items (g.K.Code.most c.args.code.now) (g.K.Code.does c.args.code.now) (0, 1) c.pop.new.self.items c.in-Some.last c.run.new.records.items ended
+    told_tried m sizes passes v w c.args.shapes.now.items (g.K.Action.most c.args.code.now) (g.K.Action.does c.args.code.now) (0, 1) c.pop.new.self.items c.in-Some.last c.run.new.records.items ended
     c.said_by-said.result all ran c.said_by-said.ensures
 
 pub returns-clause-alone : goal.returns-clause-alone
@@ -27,7 +27,7 @@ returns-clause-alone g c =
     let v = g.C.Cells.view c.args.cells.now in let w = g.C.Cells.view c.run.new.cells in
     let body = c.in_ok-body.body in let ended = c.in-Ok.transacted.ended in
     let same = c.in_ok-body.ensures in
-    let ran = same_run g.K.Code.does m sizes passes v w (0, 1) c.take_records-records.result.items c.run.new.records.items ended
-    body.code.now c.args.code.now body.shapes.now c.args.shapes.now body.most (g.K.Code.most c.args.code.now) same.0 same.1 same.2 c.take_records-records.ensures c.in-Ok.ensures.ran in
+    let ran = same_run g.K.Action.does m sizes passes v w (0, 1) c.take_records-records.result.items c.run.new.records.items ended
+    body.code.now c.args.code.now body.shapes.now c.args.shapes.now body.most (g.K.Action.most c.args.code.now) same.0 same.1 same.2 c.take_records-records.ensures c.in-Ok.ensures.ran in
     let all : c.run.new.records.items ≡ c.pop.new.self.items ++ c.in-Some.last ∷ [] = search rules in
     told_alone m sizes passes v w _ (0, 1) c.pop.new.self.items c.in-Some.last c.run.new.records.items ended c.said_by-said.result _ all ran c.said_by-said.ensures

@@ -5,7 +5,7 @@ use Rattle.sto_store.specs.declared.objects.Objects.{Objects}
 use Rattle.sto_store.specs.contracts.objects.ObjectsNaming.TheImpl.{ghosts as naming_ghosts}
 use Rattle.sto_part.specs.Listed.{Listed}
 use Rattle.sto_shared_store.specs.declared.store.Store.{Store}
-use Rattle.sto_shared_store.specs.declared.worker.IdleWorker.{IdleWorker}
+use Rattle.sto_shared_store.specs.declared.worker.CountedRest.{CountedRest}
 use Rattle.sto_c.specs.Content.{objects}
 use Rattle.sto_c.specs.Crossing.{shape_in}
 use Rattle.sto_c.proofs.opening.open.Goals as goal
@@ -21,6 +21,6 @@ returns-in-Ok-clause-shapes c =
       machines = ap (λ (s : Store Objects). (objects.meaning s.ty).machines) c.in-Ok.ensures.store ∙ c.in_ok-opened.ensures.machines;
       count = c.len-objects.ensures ∙ sym (length-map plan Some) ∙ ap length (sym all) ∙ length-map gs shape_in;
       passes = ap (λ (s : Store Objects). s.shared.table.shared.key.passes) c.in-Ok.ensures.store ∙ c.in_ok-opened.ensures.passes;
-      rest = ap (λ (l : Listed (IdleWorker Objects naming_ghosts)). length l.items) c.in-Ok.ensures.idle ∙ c.in_ok-opened.ensures.many;
+      rest = ap (λ (l : Listed (CountedRest Objects naming_ghosts)). length l.items) c.in-Ok.ensures.idle ∙ c.in_ok-opened.ensures.many;
       none_out = c.in-Ok.ensures.slots;
     }

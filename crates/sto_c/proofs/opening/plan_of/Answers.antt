@@ -4,7 +4,7 @@ use Rattle.std.specs.Prelude.{IfErr}
 use Rattle.std.specs.Result.{IsErrAnd}
 use Rattle.std.proofs.lemmas.Option.{slice_get-get_or}
 use Rattle.sto_model.specs.declared.shape.Shape.{Shape}
-use Rattle.sto_shared_store.specs.declared.unplanned.Unplanned.{Unplanned}
+use Rattle.sto_shared_store.specs.declared.unplanned.PlanError.{PlanError}
 use Rattle.sto_shared_store.specs.Plans.{AllStand}
 use Rattle.sto_c.specs.declared.crossing.ShapeIn.{ShapeIn}
 use Rattle.sto_c.specs.declared.status.Status.{Status}
@@ -17,7 +17,7 @@ use Rattle.sto_c.proofs.opening.plan_of.Goals as goal
 abbrev any_shape : ShapeIn
 any_shape = record { kind = 0; size = 0; places = 0; unused = 0; value = pos 0 }
 
-by_error : (r : Result (List Shape) Status) (error : Unplanned) (P : Status → Type 0) → IsErrAnd r (λ why. why ≡ of_unplanned error) → P (of_unplanned error) → IfErr r P
+by_error : (r : Result (List Shape) Status) (error : PlanError) (P : Status → Type 0) → IsErrAnd r (λ why. why ≡ of_unplanned error) → P (of_unplanned error) → IfErr r P
 by_error (Ok plan) error P is h = absurd is
 by_error (Err why) error P is h = subst P (sym is) h
 

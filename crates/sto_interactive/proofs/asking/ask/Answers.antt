@@ -3,7 +3,7 @@ use Rattle.std.proofs.Common.{[], ◌∷◌, ◌++◌, ap, sym, ◌∙◌, subst
 use Rattle.sto_type.specs.Traits.{of_type}
 use Rattle.sto_core.specs.declared.view.View.{View}
 use Rattle.sto_table.specs.Rests.{IsOf}
-use Rattle.sto_interactive.specs.declared.live.Stopped.TheVariants.{Aborted, Untaken, NoMemory}
+use Rattle.sto_interactive.specs.declared.live.StepError.TheVariants.{Aborted, Untaken, NoMemory}
 use Rattle.sto_table.specs.declared.shared.Rest.{Rest}
 use Rattle.sto_interactive.proofs.Passing.{Pass, same_words, goes_on, more_left, still_left, all_left, fails, waits_now, waits_still, answered, untaken, aborted, stopped}
 use Rattle.sto_interactive.proofs.asking.ask.Goals as goal

@@ -2,7 +2,7 @@
 use Rattle.std.proofs.Common.{ap, sym, subst}
 use Rattle.sto_type.specs.Traits.{of_type}
 use Rattle.sto_table.specs.declared.shared.Rest.{Rest}
-use Rattle.sto_interactive.specs.declared.ending.Uncommitted.{Uncommitted}
+use Rattle.sto_interactive.specs.declared.ending.CommitError.{CommitError}
 use Rattle.sto_interactive.specs.Steps.{HasCancelledAfter, passes_of}
 use Rattle.std.specs.Prelude.{ℕ, Result}
 use Rattle.sto_interactive.proofs.Passing.{fails, cancels}
@@ -26,7 +26,7 @@ returns-in-Ok-clause-cancelled g c calls rs begun w =
     let s = c.args.shared.now in
     let a = c.args.rest.seat in
     let on = c.go_on-live.ensures.live calls rs begun a.me.0.view w.paused in
-    subst (λ (r : Result ℕ Uncommitted). HasCancelledAfter t ty s calls rs begun r c.new.result) (sym c.place_of-place.ensures)
+    subst (λ (r : Result ℕ CommitError). HasCancelledAfter t ty s calls rs begun r c.new.result) (sym c.place_of-place.ensures)
     (cancels t ty s calls rs begun c.new.result a c.in-Ok.ended c.new.ensures.free (ap (λ (r : Rest g.row.T.Denot g.T.Naming). r.seat) c.new.ensures.rest) w.of (c.in-Ok.ensures.cancelled (passes_of s) ty calls rs begun a.me.0.view on))
 
 pub returns-in-Err-clause-cancelled : goal.returns-in-Err-clause-cancelled

@@ -3,7 +3,7 @@ use Rattle.std.proofs.Common.{ap, sym, ◌∙◌, subst}
 use Rattle.sto_type.specs.Traits.{of_type}
 use Rattle.sto_table.specs.Rests.{IsOf}
 use Rattle.sto_table.specs.declared.shared.Rest.{Rest}
-use Rattle.sto_interactive.specs.declared.ending.Uncommitted.{Uncommitted}
+use Rattle.sto_interactive.specs.declared.ending.CommitError.{CommitError}
 use Rattle.sto_interactive.specs.Steps.{HasCommittedAfter}
 use Rattle.std.specs.Prelude.{ℕ, Result}
 use Rattle.sto_interactive.proofs.Passing.{Pass, same_words, goes_on, more_left, still_left, all_left, fails, commits}
@@ -58,7 +58,7 @@ returns-in-Ok-clause-committed g c calls rs begun w =
     let on = goes_on t ty s calls rs c.args.live c.go_on-live.result begun c.args.rest.seat b c.args.left w c.go_on-live.ensures.live c.pass-pass.ensures.seat in
     let of = same_words s c.pass-pass.result.shared.now.table.shared.key.passes c.commit.new.cells.shared.now.table.shared.key.passes b d c.in-Ok.ensures.same (subst (λ (e : Pass). IsOf s e) (sym c.pass-pass.ensures.seat) w.of) in
     let same = ap (λ (r : Rest g.row.T.Denot g.T.Naming). r.seat) c.new.ensures.rest ∙ c.rest.ensures in
-    subst (λ (r : Result ℕ Uncommitted). HasCommittedAfter t ty s calls rs begun r y) (sym c.place_of-place.ensures)
+    subst (λ (r : Result ℕ CommitError). HasCommittedAfter t ty s calls rs begun r y) (sym c.place_of-place.ensures)
     (commits t ty s calls rs begun y d c.in-Ok.ended c.pass-pass.result.shared.now.table.shared.key.passes c.pass-pass.ensures.passes c.new.ensures.free same of (c.in-Ok.ensures.committed ty calls rs begun on))
 
 pub returns-in-Err-clause-committed : goal.returns-in-Err-clause-committed

@@ -15,5 +15,5 @@ returns-clause-done g c =
       same_shapes = c.new-busy.ensures.1;
       from = ap view c.new-busy.ensures.2;
       to = sym (ap view c.rest.ensures.seat.0);
-      gave = (c.run-told.ensures.given, led_cause _ c.new-busy.result c.run-told.new.self (2 ^ 16) (g.K.Code.most c.args.code.now) (g.K.Code.does c.args.code.now) c.run-told.result c.run-told.ensures.led);
+      gave = (c.run-told.ensures.given, led_cause _ c.new-busy.result c.run-told.new.self (2 ^ 16) (g.K.Action.most c.args.code.now) (g.K.Action.does c.args.code.now) c.run-told.result c.run-told.ensures.led);
     }

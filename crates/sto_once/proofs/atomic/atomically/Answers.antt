@@ -4,7 +4,7 @@ use Rattle.std.specs.Prelude.{Option, Ok, IsSome, IfOk}
 use Rattle.sto_part.specs.declared.NoMemory.{NoMemory}
 use Rattle.sto_once.specs.declared.code.Halt.{Halt}
 use Rattle.sto_action.specs.declared.outcome.Done.{Done}
-use Rattle.sto_action.specs.declared.outcome.Unrun.{Unrun}
+use Rattle.sto_action.specs.declared.outcome.TransactionError.{TransactionError}
 use Rattle.sto_action.specs.Atomic.{HasLed}
 use Rattle.sto_history.proofs.Events.{grows_on}
 use Rattle.sto_action.proofs.Led.{aborted_more}
@@ -24,7 +24,7 @@ returns-in-Ok-Some-clause-led g c most large =
     let ss = c.args.shapes.now.items in let p = g.K.Code.does c.args.code.now in
     let ok = subst (λ (r : Result (Option (Result g.row.K-Out.Denot Halt)) NoMemory). Says m v w ss p r) c.in-Ok-Some.is c.attempt-back.ensures.tried.says in
     let said = subst (λ (o : Option (Result g.row.K-Out.Denot Halt)). Says m v w ss p (Ok o)) c.in-Ok-Some.field-0-is ok in
-    subst (λ (r : Result (Done g.row.K-Out.Denot) Unrun). HasLed m u w c.args.tries (c.loop-aborted.left - 1) ss most p r) (sym c.told.ensures)
+    subst (λ (r : Result (Done g.row.K-Out.Denot) TransactionError). HasLed m u w c.args.tries (c.loop-aborted.left - 1) ss most p r) (sym c.told.ensures)
     (led_by m u v w c.args.tries (c.loop-aborted.left - 1) ss p c.in-Ok-Some.said c.loop-aborted.invariant.grows c.loop-aborted.invariant.made.none said most large)
 
 pub returns-in-Err-clause-grows : goal.returns-in-Err-clause-grows

@@ -6,7 +6,7 @@ use Rattle.std.proofs.lemmas.List.Elements.{All-push, All-pop}
 use Rattle.sto_core.specs.declared.view.View.{View}
 use Rattle.sto_type.specs.Traits.{of_type}
 use Rattle.sto_action.specs.declared.outcome.Done.{Done}
-use Rattle.sto_shared_store.specs.declared.worker.IdleWorker.{IdleWorker}
+use Rattle.sto_shared_store.specs.declared.worker.CountedRest.{CountedRest}
 use Rattle.sto_library.specs.declared.store.LookError.{LookError}
 use Rattle.sto_library.specs.Values.{Stored, Serves}
 use Rattle.sto_library.specs.Doings.{HasGiven, HasCause}
@@ -24,7 +24,7 @@ push_spare-requires-clause-few g c =
 pub invariant_of-self-2 : goal.invariant_of-self-2
 invariant_of-self-2 g c =
     let t = of_type g.T.Naming g.T.TxType in
-    let P : IdleWorker g.row.T.Denot g.T.Naming → Type 0 = λ w. Serves t c.self.inside.words w.rest.seat in
+    let P : CountedRest g.row.T.Denot g.T.Naming → Type 0 = λ w. Serves t c.self.inside.words w.rest.seat in
     let all : c.self.inside.idle.items ≡ c.pop.new.self.items ++ c.in-Some.worker ∷ [] = c.in-Some.ensures.0 in
     let back : c.push_spare.new.self.items ≡ c.pop.new.self.items ++ c.look_by-worker.result.0 ∷ [] = ap (λ l. l.items) c.push_spare.ensures in
     let others = (All-pop P c.self.inside.idle.items c.pop.new.self.items (Some c.in-Some.worker) all c.self.invariant.0).0 in
@@ -33,8 +33,8 @@ invariant_of-self-2 g c =
 pub returns-clause-looked : goal.returns-clause-looked
 returns-clause-looked g c =
     let t = of_type g.T.Naming g.T.TxType in
-    let V : IdleWorker g.row.T.Denot g.T.Naming → View = λ w. w.rest.seat.me.0.view in
-    let most = g.K.Code.most c.args.code.now in let p = g.K.Code.does c.args.code.now in
+    let V : CountedRest g.row.T.Denot g.T.Naming → View = λ w. w.rest.seat.me.0.view in
+    let most = g.K.Action.most c.args.code.now in let p = g.K.Action.does c.args.code.now in
     let old : Stored g.row.T.Denot = c.args.self.now in
     let out = c.look_by-worker.result.1 in
     let others = c.pop.new.self.items in let worker = c.in-Some.worker in let again = c.look_by-worker.result.0 in

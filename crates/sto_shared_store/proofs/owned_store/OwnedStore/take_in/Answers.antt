@@ -6,7 +6,7 @@ use Rattle.std.specs.declared.alloc.Global.{Global}
 use Rattle.std.specs.declared.sync.Arc.{Arc}
 use Rattle.sto_part.specs.Listed.{Listed}
 use Rattle.sto_shared_store.specs.declared.store.Store.{Store}
-use Rattle.sto_shared_store.specs.declared.worker.IdleWorker.{IdleWorker}
+use Rattle.sto_shared_store.specs.declared.worker.CountedRest.{CountedRest}
 use Rattle.sto_shared_store.specs.Working.{IsWorker}
 use Rattle.sto_shared_store.specs.declared.given.Hired.{Hired}
 use Rattle.sto_shared_store.specs.Back.{HasComeBack}
@@ -19,7 +19,7 @@ returns-in-Some-clause-owned g c =
     let H : Type 0 = Hired T g.T.Naming in
     let old = c.args.self.now in
     let s = arc_value old.store in
-    let W : Type 0 = IdleWorker T g.T.Naming in
+    let W : Type 0 = CountedRest T g.T.Naming in
     let A : Type 0 = Arc H Global in
     let Of : Store T → W → Type 0 = λ z w. IsWorker {T = T} (g.T.TxType.meaning z.ty) (g.T.Naming.sizes z.ty) z.shared w.rest.seat in
     let Q : A → Type 0 = λ slot. arc_value (arc_value slot).store ≡ s in
@@ -38,7 +38,7 @@ returns-in-Some-clause-taken g c =
     let old = c.args.self.now in
     let s = arc_value old.store in
     let slot = c.get.result.now in
-    let W : Type 0 = IdleWorker T g.T.Naming in
+    let W : Type 0 = CountedRest T g.T.Naming in
     let A : Type 0 = Arc H Global in
     let Back : Store T → H → Type 0 = λ z h. HasComeBack {T = T} (g.T.TxType.meaning z.ty) (g.T.Naming.sizes z.ty) z.shared h.worker c.in-Some.worker in
     let Q : A → Type 0 = λ a. arc_value (arc_value a).store ≡ s in

@@ -4,7 +4,7 @@ use Rattle.sto_part.specs.declared.naming.Naming as naming
 use Rattle.std.specs.Prelude.{is_some, IfSome}
 use Rattle.std.specs.Arc.{arc_value}
 use Rattle.sto_type.specs.Traits.{of_type}
-use Rattle.sto_shared_store.specs.declared.worker.IdleWorker.{IdleWorker}
+use Rattle.sto_shared_store.specs.declared.worker.CountedRest.{CountedRest}
 use Rattle.sto_interactive.specs.declared.session.Session.{Session}
 use Rattle.sto_interactive.specs.Steps.{IsUnchanged}
 use Rattle.sto_shared_store.specs.declared.given.Hired.{Hired}
@@ -60,8 +60,8 @@ returns-in-Err-clause-worker g c =
     let told : c.is_in_transaction.result ≡ is_some x.live =
     subst (λ (o : Option (Session g.row.T.Denot g.T.Naming)). IfSome o (λ z. c.is_in_transaction.result ≡ is_some z.live)) c.in-Some.is c.is_in_transaction.ensures in
     let free : x.live ≡ None = not_some x.live (sym told ∙ c.if-is_in_transaction.false) in
-    let rest : y.rest ≡ x.rest = c.new.ensures.rest ∙ ap (λ (w : IdleWorker g.row.T.Denot g.T.Naming). w.rest) c.in-Err.ensures ∙ c.idle_of-worker.ensures.0 in
-    let left : y.left ≡ x.left = c.new.ensures.left ∙ ap (λ (w : IdleWorker g.row.T.Denot g.T.Naming). w.left) c.in-Err.ensures ∙ c.idle_of-worker.ensures.1 in
+    let rest : y.rest ≡ x.rest = c.new.ensures.rest ∙ ap (λ (w : CountedRest g.row.T.Denot g.T.Naming). w.rest) c.in-Err.ensures ∙ c.idle_of-worker.ensures.0 in
+    let left : y.left ≡ x.left = c.new.ensures.left ∙ ap (λ (w : CountedRest g.row.T.Denot g.T.Naming). w.left) c.in-Err.ensures ∙ c.idle_of-worker.ensures.1 in
     let v = view_at c.args.self.slot in
     let at : IsAt t s v (Some x) = subst (λ (o : Option (Session g.row.T.Denot g.T.Naming)). IsAt t s v o) c.in-Some.is c.requires.at in
     record {
@@ -76,8 +76,8 @@ returns-in-Err-clause-out g c =
     let told : c.is_in_transaction.result ≡ is_some x.live =
     subst (λ (o : Option (Session g.row.T.Denot g.T.Naming)). IfSome o (λ z. c.is_in_transaction.result ≡ is_some z.live)) c.in-Some.is c.is_in_transaction.ensures in
     let free : x.live ≡ None = not_some x.live (sym told ∙ c.if-is_in_transaction.false) in
-    let rest : y.rest ≡ x.rest = c.new.ensures.rest ∙ ap (λ (w : IdleWorker g.row.T.Denot g.T.Naming). w.rest) c.in-Err.ensures ∙ c.idle_of-worker.ensures.0 in
-    let left : y.left ≡ x.left = c.new.ensures.left ∙ ap (λ (w : IdleWorker g.row.T.Denot g.T.Naming). w.left) c.in-Err.ensures ∙ c.idle_of-worker.ensures.1 in (
+    let rest : y.rest ≡ x.rest = c.new.ensures.rest ∙ ap (λ (w : CountedRest g.row.T.Denot g.T.Naming). w.rest) c.in-Err.ensures ∙ c.idle_of-worker.ensures.0 in
+    let left : y.left ≡ x.left = c.new.ensures.left ∙ ap (λ (w : CountedRest g.row.T.Denot g.T.Naming). w.left) c.in-Err.ensures ∙ c.idle_of-worker.ensures.1 in (
       refl,
       refl,
       subst (λ (o : Option (Session g.row.T.Denot g.T.Naming)). Leads IsUnchanged o (Some y)) (sym c.in-Some.is) (rest, left, c.new.ensures.free ∙ sym free),

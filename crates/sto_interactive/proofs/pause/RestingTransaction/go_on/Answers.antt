@@ -4,7 +4,7 @@ use Rattle.sto_type.specs.Traits.{of_type}
 use Rattle.sto_attempt.specs.declared.attempt.Attempt.{Attempt}
 use Rattle.sto_interactive.specs.declared.asked.Asked.{Asked}
 use Rattle.sto_interactive.specs.Lives.{IsLive}
-use Rattle.sto_interactive.proofs.pause.PausedLive.go_on.Goals as goal
+use Rattle.sto_interactive.proofs.pause.RestingTransaction.go_on.Goals as goal
 
 pub returns : goal.returns
 returns g c = record {
