@@ -7,7 +7,7 @@ use lib.ListN.{get_elem?}
 use Rattle.crossbeam_queue.specs.Fifo.{Pushes, Pops, Forks, Merges, Learns}
 use Rattle.sto_run_feed.specs.declared.job.Job.{Job}
 use Rattle.sto_run_feed.specs.declared.known.Side.{Side}
-use Rattle.sto_run_feed.specs.declared.known.Side.TheVariants.{OpenError, Feeder, Worker, Joined, Spent}
+use Rattle.sto_run_feed.specs.declared.known.Side.TheVariants.{Unopened, Feeder, Worker, Joined, Spent}
 use Rattle.sto_run_feed.specs.declared.known.Known.{Known}
 use Rattle.sto_run_feed.specs.Queues.{unopened, feeding, working, joined, spent, AreBetween, IsUnopened, Keeps, HasSent, HasTaken, AreFew, AreNext}
 
@@ -66,7 +66,7 @@ feeder_knows : (items : List Job) (views : List Known) (id : ℕ) (jobs : List J
     → (taken : ℕ) × (id ≡ 0) × (views ≡ feeding jobs sent ∷ working jobs taken ∷ []) × AreBetween jobs sent taken items
 feeder_knows items views id jobs sent (inl k) at =
     let e = (one unopened (feeding jobs sent) id (subst (λ (l : List Known). get_elem? l id ≡ some (feeding jobs sent)) k.known at)).1 in
-    let s : OpenError ≡ Feeder = ap (λ (u : Known). u.side) e in absurd (cc)
+    let s : Unopened ≡ Feeder = ap (λ (u : Known). u.side) e in absurd (cc)
 feeder_knows items views id jobs sent (inr (inl k)) at =
     elim (two (feeding k.jobs k.sent) (working k.jobs k.taken) (feeding jobs sent) id (subst (λ (l : List Known). get_elem? l id ≡ some (feeding jobs sent)) k.known at)) [
       | inl e ↦
@@ -84,7 +84,7 @@ worker_knows : (items : List Job) (views : List Known) (id : ℕ) (jobs : List J
     → (sent : ℕ) × (id ≡ 1) × (views ≡ feeding jobs sent ∷ working jobs taken ∷ []) × AreBetween jobs sent taken items
 worker_knows items views id jobs taken (inl k) at =
     let e = (one unopened (working jobs taken) id (subst (λ (l : List Known). get_elem? l id ≡ some (working jobs taken)) k.known at)).1 in
-    let s : OpenError ≡ Worker = ap (λ (u : Known). u.side) e in absurd (cc)
+    let s : Unopened ≡ Worker = ap (λ (u : Known). u.side) e in absurd (cc)
 worker_knows items views id jobs taken (inr (inl k)) at =
     elim (two (feeding k.jobs k.sent) (working k.jobs k.taken) (working jobs taken) id (subst (λ (l : List Known). get_elem? l id ≡ some (working jobs taken)) k.known at)) [
       | inl e ↦ (let s : Feeder ≡ Worker = ap (λ (u : Known). u.side) e.1 in absurd (cc))
@@ -103,13 +103,13 @@ unopened_knows items views id (inl k) at =
     ((one unopened unopened id (subst (λ (l : List Known). get_elem? l id ≡ some unopened) k.known at)).0, k)
 unopened_knows items views id (inr (inl k)) at =
     elim (two (feeding k.jobs k.sent) (working k.jobs k.taken) unopened id (subst (λ (l : List Known). get_elem? l id ≡ some unopened) k.known at)) [
-      | inl e ↦ (let s : Feeder ≡ OpenError = ap (λ (u : Known). u.side) e.1 in absurd (cc))
-      | inr e ↦ (let s : Worker ≡ OpenError = ap (λ (u : Known). u.side) e.1 in absurd (cc))
+      | inl e ↦ (let s : Feeder ≡ Unopened = ap (λ (u : Known). u.side) e.1 in absurd (cc))
+      | inr e ↦ (let s : Worker ≡ Unopened = ap (λ (u : Known). u.side) e.1 in absurd (cc))
     ]
 unopened_knows items views id (inr (inr k)) at =
     elim (two (joined k.jobs k.sent k.taken) spent unopened id (subst (λ (l : List Known). get_elem? l id ≡ some unopened) k.known at)) [
-      | inl e ↦ (let s : Joined ≡ OpenError = ap (λ (u : Known). u.side) e.1 in absurd (cc))
-      | inr e ↦ (let s : Spent ≡ OpenError = ap (λ (u : Known). u.side) e.1 in absurd (cc))
+      | inl e ↦ (let s : Joined ≡ Unopened = ap (λ (u : Known). u.side) e.1 in absurd (cc))
+      | inr e ↦ (let s : Spent ≡ Unopened = ap (λ (u : Known). u.side) e.1 in absurd (cc))
     ]
 
 pub begins : Keeps [] (unopened ∷ [])

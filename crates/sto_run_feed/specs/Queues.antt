@@ -3,7 +3,7 @@ use Rattle.std.specs.Prelude.{◌≡◌, ◌⊎◌, ◌≤◌, ◌+◌, ◌-◌,
 use Rattle.std.specs.List.{All}
 use Rattle.sto_run_feed.specs.declared.job.Job.{Job}
 use Rattle.sto_run_feed.specs.declared.job.Job.TheVariants.{Run, Last}
-use Rattle.sto_run_feed.specs.declared.known.Side.TheVariants.{OpenError, Feeder, Worker, Joined, Spent}
+use Rattle.sto_run_feed.specs.declared.known.Side.TheVariants.{Unopened, Feeder, Worker, Joined, Spent}
 use Rattle.sto_run_feed.specs.declared.known.Known.{Known}
 
 abbrev pub IsRun : Job → Type 0
@@ -16,7 +16,7 @@ EndsWithLast jobs = (runs : List Job) × All IsRun runs × (jobs ≡ runs ++ Las
 
 -- the one pass of a queue that is not open yet knows nothing
 abbrev pub unopened : Known
-unopened = record { side = OpenError; jobs = []; sent = 0; taken = 0 }
+unopened = record { side = Unopened; jobs = []; sent = 0; taken = 0 }
 
 -- the feeder knows the jobs, and how many of them it has sent
 abbrev pub feeding : List Job → ℕ → Known

@@ -5,7 +5,7 @@ use std::collections::LinkedList;
 /// Which steps a pass may make.
 pub enum Side {
     /// It is to be split into a feeder's and a worker's pass.
-    OpenError,
+    Unopened,
     /// It may send.
     Feeder,
     /// It may take.
