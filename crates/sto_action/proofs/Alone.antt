@@ -1,8 +1,8 @@
 -- A serial run by replies is the run that is computed.
 use Rattle.std.specs.Prelude.{if◌then◌else◌, Some}
 use Rattle.std.proofs.Common.{◌≡◌, ℕ, zero, suc, List, [], ◌∷◌, map, Bool, true, false, sym, ap, ◌∙◌, refl}
-use Rattle.sto_model.specs.Told.{Told}
-use Rattle.sto_model.specs.Machine.{Machine, reply_to, state_after}
+use Rattle.sto_model.specs.PlainReplies.{PlainReply}
+use Rattle.sto_model.specs.SequentialObjects.{SequentialObject, reply_to, state_after}
 use Rattle.sto_model.specs.Run.{State, IsRun, IsReplyTo, stepped, state_along}
 use Rattle.sto_model.specs.declared.call.Call.{Call}
 use Rattle.sto_model.specs.declared.body.Next.{Next}
@@ -26,13 +26,13 @@ cancel_commit : Cancel ≡ Commit → ⊥
 cancel_commit h = let k : false ≡ true = ap is_commit h in cc
 
 -- a call that was answered is one that may be asked, and the reply is that of its object
-asked_reply : (ms : List Machine) (b : Bool) (call : Call) (st : State) (r : Told) → IsReplyTo ms (if b then Ask call else Cancel) st r
+asked_reply : (ms : List SequentialObject) (b : Bool) (call : Call) (st : State) (r : PlainReply) → IsReplyTo ms (if b then Ask call else Cancel) st r
     → (reply_to ms call st ≡ r) × (stepped ms (if b then Ask call else Cancel) st ≡ state_after ms call st)
 asked_reply ms true call st r h = (h, refl)
 asked_reply ms false call st r h = absurd h
 
 -- code that heard the replies of a serial run, and then gave a value, gives it where it is run alone, and leaves the state of that run
-pub run_gives : {A : Type 0} (ms : List Machine) (shapes : List Shape) (n : ℕ) (p : Prog A) (st : State) (rs : List Told) (a : A)
+pub run_gives : {A : Type 0} (ms : List SequentialObject) (shapes : List Shape) (n : ℕ) (p : Prog A) (st : State) (rs : List PlainReply) (a : A)
     → IsRun ms (λ xs. next_within shapes n p (map short_of xs)) st rs → IsGiven p (map short_of rs) a
     → run_of ms p st ≡ Some (a, state_along ms (λ xs. next_within shapes n p (map short_of xs)) st rs)
 run_gives ms shapes n (Gives b) st [] a h k = ap (λ x. Some (x, st)) (sym k)
@@ -43,11 +43,11 @@ run_gives ms shapes zero (Asks call f) st (r ∷ rs) a h k = absurd h.0
 run_gives {A} ms shapes (suc n) (Asks call f) st (r ∷ rs) a h k =
     let both = asked_reply ms (is_taken shapes call) call st r h.0 in
     let run = run_gives ms shapes n (f (short_of r)) (stepped ms (if is_taken shapes call then Ask call else Cancel) st) rs a h.1 k in
-    ap (λ (x : Told). run_of ms (f (short_of x)) (state_after ms call st)) both.0
+    ap (λ (x : PlainReply). run_of ms (f (short_of x)) (state_after ms call st)) both.0
     ∙ ap (run_of ms (f (short_of r))) (sym both.1) ∙ run
 
 -- code that commits after the replies of a serial run gives a value
-pub run_commits : {A : Type 0} (ms : List Machine) (shapes : List Shape) (n : ℕ) (p : Prog A) (st : State) (rs : List Told)
+pub run_commits : {A : Type 0} (ms : List SequentialObject) (shapes : List Shape) (n : ℕ) (p : Prog A) (st : State) (rs : List PlainReply)
     → IsRun ms (λ xs. next_within shapes n p (map short_of xs)) st rs → next_within shapes n p (map short_of rs) ≡ Commit
     → (a : A) × IsGiven p (map short_of rs) a
 run_commits ms shapes n (Gives b) st rs h k = (b, refl)

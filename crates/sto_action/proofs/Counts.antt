@@ -3,7 +3,7 @@ use Rattle.std.specs.List.{All}
 use Rattle.std.specs.Prelude.{◌==◌, ◌&&◌, if◌then◌else◌}
 use Rattle.std.proofs.Common.{◌≡◌, ◌<◌, ◌≤◌, ℕ, Bool, true, false, List, [], ◌∷◌, ◌++◌, length, refl, sym, ap, ◌∙◌, arith, eq-eqb, true≢false}
 use Rattle.std.proofs.lemmas.List.Elements.{All-nil, All-cons, All-head, All-tail}
-use Rattle.sto_history.specs.Records.{Place, Record, Verdict, Wrote, Read, Cancelled, Locked, Changed, is_abort, wrote_with, times_written}
+use Rattle.sto_history.specs.Records.{TransactionPlace, Record, Verdict, Wrote, Read, Cancelled, Locked, Changed, is_abort, wrote_with, times_written}
 use Rattle.sto_history.specs.Counted.{Follows, InThreads, aborted_times}
 
 by_test : {P : Type 0} (b : Bool) → (b ≡ true → P) → (b ≡ false → P) → P
@@ -32,14 +32,14 @@ one_abort true true false h = absurd (omega (arith, h))
 one_abort true false c h = absurd (omega (arith, h))
 one_abort false b c h = absurd (omega (arith, h))
 
-aborted_few : (place : Place) (rs : List Record) → aborted_times place rs ≤ length rs
+aborted_few : (place : TransactionPlace) (rs : List Record) → aborted_times place rs ≤ length rs
 aborted_few place [] = omega arith
 aborted_few place (r ∷ rs) =
     let here = one_few (r.place.0 == place.0) (r.place.1 == place.1) (is_abort r.verdict) in
     let rest = aborted_few place rs in omega (arith, here, rest)
 
 -- where as many are aborted as there are, none wrote
-pub all_aborted : (place : Place) (t : ℕ) (rs : List Record) → aborted_times place rs ≡ length rs → times_written t rs ≡ 0
+pub all_aborted : (place : TransactionPlace) (t : ℕ) (rs : List Record) → aborted_times place rs ≡ length rs → times_written t rs ≡ 0
 all_aborted place t [] h = refl
 all_aborted place t (r ∷ rs) h =
     let few = one_few (r.place.0 == place.0) (r.place.1 == place.1) (is_abort r.verdict) in
@@ -54,15 +54,15 @@ last_item P [] x h = All-head P x [] h
 last_item P (y ∷ xs) x h = last_item P xs x (All-tail P y (xs ++ x ∷ []) h)
 
 -- an aborted one at the place is counted
-counted_one : (place : Place) (x : Record) → is_abort x.verdict ≡ true → x.place ≡ place → counted ((x.place.0 == place.0) && ((x.place.1 == place.1) && is_abort x.verdict)) ≡ 1
+counted_one : (place : TransactionPlace) (x : Record) → is_abort x.verdict ≡ true → x.place ≡ place → counted ((x.place.0 == place.0) && ((x.place.1 == place.1) && is_abort x.verdict)) ≡ 1
 counted_one place x abort at =
-    let a : (x.place.0 == place.0) ≡ true = eq-eqb x.place.0 place.0 (ap (λ (p : Place). p.0) at) in
-    let b : (x.place.1 == place.1) ≡ true = eq-eqb x.place.1 place.1 (ap (λ (p : Place). p.1) at) in
+    let a : (x.place.0 == place.0) ≡ true = eq-eqb x.place.0 place.0 (ap (λ (p : TransactionPlace). p.0) at) in
+    let b : (x.place.1 == place.1) ≡ true = eq-eqb x.place.1 place.1 (ap (λ (p : TransactionPlace). p.1) at) in
     ap (λ (c : Bool). counted (c && ((x.place.1 == place.1) && is_abort x.verdict))) a
     ∙ ap (λ (c : Bool). counted (true && (c && is_abort x.verdict))) b
     ∙ ap (λ (c : Bool). counted (true && (true && c))) abort
 
-module _ (place : Place) (x : Record) where
+module _ (place : TransactionPlace) (x : Record) where
   -- those before the last one at a place are aborted
   pub all_before : (rs : List Record) → All (λ r. r.place ≡ place) (rs ++ x ∷ []) → InThreads (rs ++ x ∷ []) → All (λ r. is_abort r.verdict ≡ true) rs
   all_before [] at threads = All-nil (λ (r : Record). is_abort r.verdict ≡ true)
@@ -72,8 +72,8 @@ module _ (place : Place) (x : Record) where
       let here : r.place ≡ place = All-head P r (rs ++ x ∷ []) at in
       let there : x.place ≡ place = last_item P (r ∷ rs) x at in
       let same : r.place ≡ x.place = here ∙ sym there in
-      let follows : Follows r x = last_item (λ (s : Record). r.place.0 ≡ s.place.0 → Follows r s) rs x threads.0 (ap (λ (p : Place). p.0) same) in
-      All-cons Q r rs (follows.again (ap (λ (p : Place). p.1) same)) (all_before rs (All-tail P r (rs ++ x ∷ []) at) threads.1)
+      let follows : Follows r x = last_item (λ (s : Record). r.place.0 ≡ s.place.0 → Follows r s) rs x threads.0 (ap (λ (p : TransactionPlace). p.0) same) in
+      All-cons Q r rs (follows.again (ap (λ (p : TransactionPlace). p.1) same)) (all_before rs (All-tail P r (rs ++ x ∷ []) at) threads.1)
 
   -- so the last one alone wrote
   pub last_wrote : (t : ℕ) (rs : List Record) → All (λ r. is_abort r.verdict ≡ true) rs → times_written t (rs ++ x ∷ []) ≡ wrote_with t x.verdict

@@ -5,12 +5,12 @@ use Rattle.std.specs.Prelude.{Option, Some, None, Result, Ok, MatchOption, IsSom
 use Rattle.sto_part.specs.Listed.{Listed}
 use Rattle.std.proofs.lemmas.List.{map-append}
 use Rattle.std.proofs.lemmas.List.Elements.{All-weaker}
-use Rattle.sto_model.specs.Told.{told}
-use Rattle.sto_model.specs.Run.{Script as Steps}
+use Rattle.sto_model.specs.PlainReplies.{plain_reply}
+use Rattle.sto_model.specs.Run.{Behaviour}
 use Rattle.sto_model.specs.declared.shape.Shape.{Shape}
 use Rattle.sto_type.specs.Meaning.{Meaning}
 use Rattle.sto_core.specs.declared.view.View.{View}
-use Rattle.sto_history.specs.Records.{Place, Record as Told, is_abort, wrote_with, times_written}
+use Rattle.sto_history.specs.Records.{TransactionPlace, Record as Told, is_abort, wrote_with, times_written}
 use Rattle.sto_history.specs.Counted.{InThreads, times_committed, aborted_times, finished_places}
 use Rattle.sto_history.specs.Added.{IsAdded, IsKnown, Grows}
 use Rattle.sto_history.specs.Trying.{AreFound}
@@ -29,7 +29,7 @@ seen_known v n (inl h) = inl h
 seen_known v n (inr (inl h)) = inr (inl (record { entry = h.entry; there = h.there; ticket = h.ticket }))
 seen_known v n (inr (inr h)) = inr (inr h)
 
-module _ (m : Meaning) (sizes : List ℕ) (passes : ℕ) (v w : View) (f : Steps) (place : Place) (left : List Record) (x : Record) (rs : List Record) (ended : Bool)
+module _ (m : Meaning) (sizes : List ℕ) (passes : ℕ) (v w : View) (f : Behaviour) (place : TransactionPlace) (left : List Record) (x : Record) (rs : List Record) (ended : Bool)
     (all : rs ≡ left ++ x ∷ []) (ran : HasRun m sizes 1 passes v w f place [] (map plain rs) ended) where
   new_is : ran.new ≡ map plain left ++ plain x ∷ []
   new_is = sym ran.whole ∙ ap (map plain) all ∙ map-append plain left (x ∷ [])
@@ -74,7 +74,7 @@ module _ (m : Meaning) (sizes : List ℕ) (passes : ℕ) (v w : View) (f : Steps
       let same = ap (aborted_times place) new_is in
       let k = (ran.alone one).1 in omega (arith, some, same, k)
 
-pub some_record : (m : Meaning) (sizes : List ℕ) (passes : ℕ) (v w : View) (f : Steps) (place : Place) (rs : List Record) (ended : Bool)
+pub some_record : (m : Meaning) (sizes : List ℕ) (passes : ℕ) (v w : View) (f : Behaviour) (place : TransactionPlace) (rs : List Record) (ended : Bool)
     → HasRun m sizes 1 passes v w f place [] (map plain rs) ended → rs ≡ [] → ⊥
 some_record m sizes passes v w f place rs true ran none =
     let new : ran.new ≡ [] = sym ran.whole ∙ ap (map plain) none in
@@ -84,7 +84,7 @@ some_record m sizes passes v w f place rs false ran none =
     let new : ran.new ≡ [] = sym ran.whole ∙ ap (map plain) none in
     let one = ran.used refl in let k = ap (aborted_times place) new in absurd (omega (arith, one, k))
 
-pub broken_none : (m : Meaning) (sizes : List ℕ) (v w : View) (f : Steps) (place : Place) (before later : List Told) → HasBroken m sizes 1 v w f place before later → TakesNoEffect v w
+pub broken_none : (m : Meaning) (sizes : List ℕ) (v w : View) (f : Behaviour) (place : TransactionPlace) (before later : List Told) → HasBroken m sizes 1 v w f place before later → TakesNoEffect v w
 broken_none m sizes v w f place before later h t = let a = all_aborted place t h.new h.aborted in let e = h.added.entries t in omega (arith, a, e)
 
 -- what was seen stays seen
@@ -93,22 +93,22 @@ seen_later v w g n (inl h) = inl (let a = g.at in omega (arith, a, h))
 seen_later v w g n (inr (inl h)) = inr (inl (record { entry = h.entry; there = g.entries h.entry h.there h.committed; committed = h.committed; ticket = h.ticket }))
 seen_later v w g n (inr (inr h)) = inr (inr (record { claim = h.claim; there = g.wrote h.claim h.there; ticket = h.ticket }))
 
-pub record_atomic : {A : Type 0} (m : Meaning) (v w : View) (shapes : List Shape) (most : ℕ) (p : Prog A) (place : Place) (x : Record) (says : List ShortReply → Type 0)
+pub record_atomic : {A : Type 0} (m : Meaning) (v w : View) (shapes : List Shape) (most : ℕ) (p : Prog A) (place : TransactionPlace) (x : Record) (says : List ShortReply → Type 0)
     → IsAdded m v w (λ rs. next_within shapes most p (map short_of rs)) place (plain x)
-    → ((t : ℕ) → times_committed t w.entries ≡ times_committed t v.entries + wrote_with t (verdict x.verdict)) → is_abort (verdict x.verdict) ≡ false → says (map short_of (map told x.replies.items))
+    → ((t : ℕ) → times_committed t w.entries ≡ times_committed t v.entries + wrote_with t (verdict x.verdict)) → is_abort (verdict x.verdict) ≡ false → says (map short_of (map plain_reply x.replies.items))
     → IsAtomic m v w shapes most p says
 record_atomic m v w shapes most p place x says added entries ended said = record {
-  replies = map told x.replies.items;
+  replies = map plain_reply x.replies.items;
   verdict = verdict x.verdict;
   ended = ended;
-  told = added.told;
+  plain_reply = added.plain_reply;
   since = λ n h. added.since n (seen_known v n h);
   entries = entries;
   said = said;
 }
 
 -- a run of the code that was given, which added the first records
-pub same_run : {A K : Type 0} (does : K → Prog A) (m : Meaning) (sizes : List ℕ) (passes : ℕ) (v w : View) (place : Place) (before later : List Record) (ended : Bool)
+pub same_run : {A K : Type 0} (does : K → Prog A) (m : Meaning) (sizes : List ℕ) (passes : ℕ) (v w : View) (place : TransactionPlace) (before later : List Record) (ended : Bool)
     (c code : K) (s shapes : Listed Shape) (n most : ℕ) → c ≡ code → s ≡ shapes → n ≡ most → before ≡ []
     → HasRun m sizes 1 passes v w (λ rs. next_within s.items n (does c) (map short_of rs)) place (map plain before) (map plain later) ended
     → HasRun m sizes 1 passes v w (λ rs. next_within shapes.items most (does code) (map short_of rs)) place [] (map plain later) ended
@@ -118,11 +118,11 @@ same_run {A} {K} does m sizes passes v w place before later ended c code s shape
     (subst (λ (k : ℕ). HasRun m sizes 1 passes v w (λ rs. next_within s.items k (does c) (map short_of rs)) place [] (map plain later) ended) e
     (subst (λ (k : List Record). HasRun m sizes 1 passes v w (λ rs. next_within s.items n (does c) (map short_of rs)) place (map plain k) (map plain later) ended) none ran)))
 
--- what is so by the record that is told, where it is aborted and where it is not
-pub told_tried : {A : Type 0} (m : Meaning) (sizes : List ℕ) (passes : ℕ) (v w : View) (shapes : List Shape) (most : ℕ) (p : Prog A) (place : Place) (left : List Record) (x : Record)
+-- what is so by the record that is plain_reply, where it is aborted and where it is not
+pub told_tried : {A : Type 0} (m : Meaning) (sizes : List ℕ) (passes : ℕ) (v w : View) (shapes : List Shape) (most : ℕ) (p : Prog A) (place : TransactionPlace) (left : List Record) (x : Record)
     (rs : List Record) (ended : Bool) (said : Option (Result A Stop)) → rs ≡ left ++ x ∷ []
     → HasRun m sizes 1 passes v w (λ rs. next_within shapes most p (map short_of rs)) place [] (map plain rs) ended
-    → MatchOption said (is_abort (verdict x.verdict) ≡ true) (λ said. (is_abort (verdict x.verdict) ≡ false) × Runs p (map short_of (map told x.replies.items)) said)
+    → MatchOption said (is_abort (verdict x.verdict) ≡ true) (λ said. (is_abort (verdict x.verdict) ≡ false) × Runs p (map short_of (map plain_reply x.replies.items)) said)
     → HasTried m v w shapes most p (Ok said)
 told_tried m sizes passes v w shapes most p place left x rs ended None all ran h =
     once_aborted m sizes passes v w (λ rs. next_within shapes most p (map short_of rs)) place left x rs ended all ran h
@@ -131,7 +131,7 @@ told_tried m sizes passes v w shapes most p place left x rs ended (Some said) al
     (last_added m sizes passes v w (λ rs. next_within shapes most p (map short_of rs)) place left x rs ended all ran)
     (last_entries m sizes passes v w (λ rs. next_within shapes most p (map short_of rs)) place left x rs ended all ran) h.0 h.1
 
-pub told_alone : {A : Type 0} (m : Meaning) (sizes : List ℕ) (passes : ℕ) (v w : View) (f : Steps) (place : Place) (left : List Record) (x : Record)
+pub told_alone : {A : Type 0} (m : Meaning) (sizes : List ℕ) (passes : ℕ) (v w : View) (f : Behaviour) (place : TransactionPlace) (left : List Record) (x : Record)
     (rs : List Record) (ended : Bool) (said : Option (Result A Stop)) (Q : Result A Stop → Type 0) → rs ≡ left ++ x ∷ [] → HasRun m sizes 1 passes v w f place [] (map plain rs) ended
     → MatchOption said (is_abort (verdict x.verdict) ≡ true) Q → passes ≡ 1 → IsSome said
 told_alone m sizes passes v w f place left x rs ended None Q all ran h one = absurd (not_alone m sizes passes v w f place left x rs ended all ran h one)

@@ -2,8 +2,8 @@
 use Rattle.std.specs.Prelude.{◌≡◌, ◌⊎◌, ◌≤◌, ◌<◌, ◌+◌, ℕ, List, [], ◌∷◌, length, map, true, false, Option, Some, None, Result, Ok, Err}
 use Rattle.sto_part.specs.declared.NoMemory.{NoMemory}
 use Rattle.sto_model.specs.declared.shape.Shape.{Shape}
-use Rattle.sto_model.specs.Told.{Told}
-use Rattle.sto_model.specs.Run.{Script as Steps}
+use Rattle.sto_model.specs.PlainReplies.{PlainReply}
+use Rattle.sto_model.specs.Run.{Behaviour}
 use Rattle.sto_type.specs.Meaning.{Meaning}
 use Rattle.sto_core.specs.declared.view.View.{View}
 use Rattle.sto_core.specs.declared.view.Entry.{Entry}
@@ -53,14 +53,14 @@ pub record HaveAborted (v w : View) (many : ℕ) : Type 0 where
   pub found : EachFound w (v.starts + 1) verdicts
 
 -- what code does next after each list of replies, on objects of these shapes, where it may ask so many calls
-abbrev pub steps_of : {A : Type 0} → List Shape → ℕ → Prog A → Steps
+abbrev pub steps_of : {A : Type 0} → List Shape → ℕ → Prog A → Behaviour
 steps_of shapes most p = λ rs. next_within shapes most p (map short_of rs)
 
 -- The code, run alone, hears these replies and then says this. It is run on all valid contents that have what the pass w looked at: for
 -- a writer those right before its ticket, for a reader those as of its number (`IsTold`). It stands after all that the pass had seen, and
 -- is all that the pass committed from v to w
 pub record IsAtomic {A : Type 0} (m : Meaning) (v w : View) (shapes : List Shape) (most : ℕ) (p : Prog A) (says : List ShortReply → Type 0) : Type 0 where
-  pub replies : List Told
+  pub replies : List PlainReply
   pub verdict : Verdict
   pub ended : is_abort verdict ≡ false
   pub told : IsTold m w (steps_of shapes most p) replies verdict

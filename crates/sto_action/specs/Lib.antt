@@ -7,4 +7,4 @@ pub mod Alone
 pub mod Snapshots
 pub use Rattle.sto_history.specs.Added
 pub use Rattle.sto_transaction.specs.Resting
-pub use Rattle.sto_model.specs.Told
+pub use Rattle.sto_model.specs.PlainReplies

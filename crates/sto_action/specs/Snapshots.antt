@@ -6,7 +6,7 @@ use Rattle.sto_action.specs.Steps.{box_get, counter_get}
 use Rattle.sto_action.specs.declared.handles.BoxId.{BoxId}
 use Rattle.sto_action.specs.declared.handles.CounterId.{CounterId}
 use Rattle.sto_action.specs.declared.short_reply.ShortReply.{ShortReply}
-use Rattle.sto_action.specs.declared.snapshot.Held.{Held}
+use Rattle.sto_action.specs.declared.snapshot.SnapshotValues.{SnapshotValues}
 use Rattle.sto_action.specs.declared.tx.Stop.{Stop}
 use Rattle.sto_action.specs.declared.tx.Stop.TheVariants.{Asks}
 
@@ -16,7 +16,7 @@ each_got get [] then = then []
 each_got get (x ∷ xs) then = get x (λ v. each_got get xs (λ vs. then (v ∷ vs)))
 
 -- it gives what boxes and counters hold
-abbrev pub snapshot : {b c : ℕ} → List BoxId → List CounterId → Prog (Held b c)
+abbrev pub snapshot : {b c : ℕ} → List BoxId → List CounterId → Prog (SnapshotValues b c)
 snapshot boxes counters =
     each_got box_get boxes (λ xs. each_got counter_get counters (λ ys. Gives (record { boxes = xs; counters = ys })))
 

@@ -1,7 +1,7 @@
 //! One attempt of code.
 ghost use Rattle.std.specs.Prelude.{◌≡◌, ◌≤◌, ◌+◌, map, true, false, IfOk, IsSome, MatchOption};
 ghost use Rattle.sto_model.specs.declared.call.Call.{Call};
-ghost use Rattle.sto_model.specs.Told.{told};
+ghost use Rattle.sto_model.specs.PlainReplies.{plain_reply};
 ghost use Rattle.sto_history.specs.Added.{Grows};
 ghost use Rattle.sto_history.specs.Records.{is_abort};
 ghost use Rattle.sto_transaction.specs.Plain.{verdict};
@@ -80,7 +80,7 @@ fn said_by<K: Action>(code: &K, last: &Record) -> Option<Result<K::Out, Stop>>
 where
     K::Out: Drop,
     ensures { MatchOption result (is_abort (verdict last.now.verdict) ≡ true) (λ said. (is_abort (verdict last.now.verdict) ≡ false)
-        × Runs (K.does code.now) (map short_of (map told last.now.replies.items)) said) }
+        × Runs (K.does code.now) (map short_of (map plain_reply last.now.replies.items)) said) }
 {
     match last.verdict {
         Verdict::Locked { .. } | Verdict::Changed { .. } => None,

@@ -19,5 +19,5 @@ pub use handles::{ArrayId, BoxId, CounterId, HashId, TreeId, VectorId};
 pub use memory::ActionLists;
 pub use outcome::{Done, TransactionError};
 pub use short_reply::ShortReply;
-pub use snapshot::{Held, Snapshot};
+pub use snapshot::{Snapshot, SnapshotValues};
 pub use tx::{Stop, Tx};

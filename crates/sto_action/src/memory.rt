@@ -2,12 +2,12 @@
 ghost use Rattle.std.specs.Prelude.{◌≡◌, []};
 
 use crate::short_reply::ShortReply;
-use std::mem;
 use std::alloc::Global;
 use std::marker::Model;
+use std::mem;
 use sto_model::Replies;
 use sto_part::List;
-use sto_transaction::{Memory, Record};
+use sto_transaction::{AttemptLists, Record};
 
 /// The lists of a transaction of code while none uses them: each is empty, and has the room that earlier transactions have made.
 ///
@@ -16,7 +16,7 @@ use sto_transaction::{Memory, Record};
 #[derive(Drop)]
 pub struct ActionLists {
     alloc: Global,
-    pub(crate) attempts: Memory,
+    pub(crate) attempts: AttemptLists,
     records: Vec<Record>,
     heard: List<ShortReply>,
 }
@@ -32,11 +32,11 @@ impl Model for ActionLists {
 }
 
 impl ActionLists {
-    /// Memory with no room yet. It takes none.
+    /// AttemptLists with no room yet. It takes none.
     pub fn new(alloc: Global) -> ActionLists {
         ActionLists {
             alloc,
-            attempts: Memory::new(alloc),
+            attempts: AttemptLists::new(alloc),
             records: Vec::new(alloc),
             heard: List::new(alloc),
         }

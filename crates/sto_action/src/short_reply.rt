@@ -1,6 +1,6 @@
 //! What code hears of a reply.
 ghost use Rattle.std.specs.Prelude.{◌≡◌};
-ghost use Rattle.sto_model.specs.Told.{told};
+ghost use Rattle.sto_model.specs.PlainReplies.{plain_reply};
 ghost use Rattle.sto_action.specs.Shortened.{short_of};
 ghost use Rattle.sto_action.specs.Calls.{number, perhaps, is_yes, is_done};
 
@@ -20,7 +20,7 @@ pub enum ShortReply {
 
 /// What code hears of a reply.
 pub(crate) fn shortened(reply: &Reply) -> ShortReply
-    ensures { result ≡ short_of (told reply.now) }
+    ensures { result ≡ short_of (plain_reply reply.now) }
 {
     match reply {
         Reply::Done => ShortReply::Done,

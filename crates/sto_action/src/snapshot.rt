@@ -16,7 +16,7 @@ pub struct Snapshot<const B: usize, const C: usize> {
 
 /// What objects held at one time, each in the place of its object.
 #[derive(Clone, Copy, PartialEq, Eq, Debug)]
-pub struct Held<const B: usize, const C: usize> {
+pub struct SnapshotValues<const B: usize, const C: usize> {
     pub boxes: [i64; B],
     pub counters: [i64; C],
 }
@@ -25,7 +25,7 @@ impl<const B: usize, const C: usize> Action for Snapshot<B, C> {
     ghost use Rattle.std.specs.Prelude.{◌+◌, length};
     ghost use Rattle.sto_action.specs.Snapshots.{snapshot};
 
-    type Out = Held<B, C>;
+    type Out = SnapshotValues<B, C>;
 
     ghost does = { λ s. snapshot s.boxes s.counters };
 
@@ -35,10 +35,10 @@ impl<const B: usize, const C: usize> Action for Snapshot<B, C> {
         (self.boxes.len() + self.counters.len()) as u32
     }
 
-    fn run(&self, tx: &mut Tx<'_>) -> Result<Held<B, C>, Stop> {
+    fn run(&self, tx: &mut Tx<'_>) -> Result<SnapshotValues<B, C>, Stop> {
         let boxes = boxes_held(&self.boxes, tx)?;
         let counters = counters_held(&self.counters, tx)?;
-        Ok(Held { boxes, counters })
+        Ok(SnapshotValues { boxes, counters })
     }
 }
 

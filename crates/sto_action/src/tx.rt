@@ -1,6 +1,6 @@
 //! The objects, as the code of a transaction sees them.
 ghost use Rattle.std.specs.Prelude.{◌≡◌, map, Err};
-ghost use Rattle.sto_model.specs.Told.{told};
+ghost use Rattle.sto_model.specs.PlainReplies.{plain_reply};
 ghost use Rattle.sto_action.specs.Shortened.{short_of};
 ghost use Rattle.sto_action.specs.Progs.{HasAsked};
 ghost use Rattle.sto_action.specs.declared.tx.Stop.TheVariants.{Cancels};
@@ -28,13 +28,13 @@ pub struct Tx<'h> {
 
 impl<'h> Model for Tx<'h> {
     ghost use Rattle.std.specs.Prelude.{◌++◌, List, map};
-    ghost use Rattle.sto_model.specs.Told.{told};
+    ghost use Rattle.sto_model.specs.PlainReplies.{plain_reply};
     ghost use Rattle.sto_action.specs.Shortened.{short_of};
     ghost use Rattle.sto_action.specs.declared.short_reply.ShortReply.{ShortReply};
 
     ghost Value = { List ShortReply };
 
-    ghost view = { λ t. t.heard.now ++ map short_of (map told t.replies.now) };
+    ghost view = { λ t. t.heard.now ++ map short_of (map plain_reply t.replies.now) };
 }
 
 impl<'h> Tx<'h> {
@@ -50,7 +50,7 @@ impl<'h> Tx<'h> {
 
     /// Answers the next calls by these replies.
     pub fn of_replies(replies: &'h [Reply]) -> Tx<'h>
-        ensures { result ≡ map short_of (map told replies.entry.now) }
+        ensures { result ≡ map short_of (map plain_reply replies.entry.now) }
     {
         Tx {
             heard: &[],

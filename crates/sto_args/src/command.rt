@@ -6,7 +6,9 @@ ghost use Rattle.sto_args.specs.Given.{given_by, is_refused};
 ghost use Rattle.sto_args.specs.Commands.{HasThreads, HasRange, command_in, command_from, run_takes, run_of, step_takes, stepping_of, step_of, trace_of, draw_takes, draw_of, explore_takes, explore_of, upgrade_of, gen_takes, gen_of, bench_takes, bench_of, threads_of, tries_of, switches_of, decimal_of};
 
 use crate::asked::{Checking, checking_from};
-use crate::grammar::{bench_grammar, explore_grammar, gen_grammar, matches_in, run_grammar, step_grammar};
+use crate::grammar::{
+    bench_grammar, explore_grammar, gen_grammar, matches_in, run_grammar, step_grammar,
+};
 use crate::number::{decimal_of, number_in};
 use crate::word::{as_options, has_flag_value, has_refused};
 use std::alloc::Global;

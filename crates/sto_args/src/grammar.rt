@@ -6,8 +6,8 @@ ghost use Rattle.sto_args.specs.Asked.{check_takes, feed_takes};
 ghost use Rattle.sto_args.specs.Commands.{run_takes, step_takes, explore_takes, gen_takes, bench_takes};
 ghost use Rattle.sto_args.specs.Grammars.{Finds, app_for, option_rule, nothing};
 
-use clap::{Arg, ArgMatches, Command};
 use clap::error::ErrorKind;
+use clap::{Arg, ArgMatches, Command};
 use std::alloc::{AllocError, Global};
 use sto_part::NoMemory;
 

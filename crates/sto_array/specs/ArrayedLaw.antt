@@ -16,11 +16,11 @@ use Rattle.sto_model.specs.declared.operation.Operation.{Operation}
 use Rattle.sto_model.specs.declared.operation.Operation.TheVariants.{Get, Set, Add, Test as TestWord, Take, Put, Remove, Has, Len, Next, Count, Scan, Push, Pop}
 use Rattle.sto_model.specs.declared.shape.Shape.TheVariants.{Array}
 use Rattle.sto_model.specs.Rows.{Row, value_at, with_row}
-use Rattle.sto_model.specs.Told.{Told, is_write}
-use Rattle.sto_model.specs.Told as T
+use Rattle.sto_model.specs.PlainReplies.{PlainReply, is_write}
+use Rattle.sto_model.specs.PlainReplies as T
 use Rattle.sto_model.specs.Operations.{operation_of}
 use Rattle.sto_model.specs.Objects.{Effect, effect, effect_by, value_or_absent, added_at, in_range, takes_by}
-use Rattle.sto_model.specs.Machine.{reply_to, state_after}
+use Rattle.sto_model.specs.SequentialObjects.{reply_to, state_after}
 use Rattle.sto_type.specs.Known.{Parts, Known, IsPartOf}
 use Rattle.sto_type.specs.Meaning.{Meaning, IsLawful, IsUpdated, IsPartOfObject, EachKnown, EachInside, EachOwner}
 use Rattle.sto_type.specs.Plans.{IsSaid, IsPlan, planned, said_is_plan}

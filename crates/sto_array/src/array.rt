@@ -6,7 +6,7 @@ ghost use Rattle.sto_part.specs.declared.change.Change.TheVariants.{Put};
 ghost use Rattle.sto_item.specs.declared.item.Item.TheVariants.{Seen};
 ghost use Rattle.sto_model.specs.Objects.{takes_by};
 ghost use Rattle.sto_model.specs.Operations.{operation_of};
-ghost use Rattle.sto_model.specs.Told.{Absent as ToldAbsent, Value as ToldValue, Done as ToldDone};
+ghost use Rattle.sto_model.specs.PlainReplies.{Absent as ToldAbsent, Value as ToldValue, Done as ToldDone};
 ghost use Rattle.sto_model.specs.declared.shape.Shape.TheVariants.{Array};
 ghost use Rattle.sto_type.specs.Known.{known};
 ghost use Rattle.sto_type.specs.Plans.{IsSaid};

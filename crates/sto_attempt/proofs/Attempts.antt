@@ -4,7 +4,7 @@ use Rattle.sto_part.specs.declared.NoMemory.{NoMemory}
 use Rattle.sto_core.specs.declared.view.View.{View}
 use Rattle.sto_core.specs.declared.cells.Cells as cells
 use Rattle.sto_core.specs.Event.{Event}
-use Rattle.sto_model.specs.Told.{told}
+use Rattle.sto_model.specs.PlainReplies.{plain_reply}
 use Rattle.sto_attempt_log.specs.declared.read_phase.ReadPhase.{ReadPhase}
 use Rattle.sto_attempt_log.specs.declared.read_phase.ReadPhase.TheVariants.{Renewing}
 use Rattle.sto_attempt_log.specs.declared.verdict.Turn.{Turn}
@@ -46,7 +46,7 @@ pub stepped_prefix : {T B C : Type 0} (t : OfType T) (b : OfBody B) (c : cells.G
 stepped_prefix t b c s e a d x y r h =
     let m = t.meaning a.log.ty.now in
     let f = b.script a.log.body in
-    let now = map told d.log.replies.items in
+    let now = map plain_reply d.log.replies.items in
     let w = c.view y in
     any_prefix m t.valid (t.sizes a.log.ty.now) f d.at d.words.items d.extension d.log.base.items d.log.set.items d.log.set.updates now w d.read_phase r (IsLeft w) h.steps.turned
     (ok_map r (IsLogOf t b a d) (IsLog m f (words_in d.log.base.items) d.log.set.items d.log.set.updates now) (λ k. k.log) h.steps.log)

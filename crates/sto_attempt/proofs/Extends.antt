@@ -4,7 +4,7 @@ use Rattle.std.specs.List.{slice_get, list_all}
 use Rattle.std.proofs.Common.{◌≡◌, ◌≢◌, ◌≤◌, ℕ, zero, suc, ℤ, true, false, List, [], ◌∷◌, ◌++◌, length, drop, slice_index_or, refl, ap, sym, ◌∙◌, subst, arith, eq-eqb}
 use Rattle.std.proofs.lemmas.Bool.Decides.{nat_tests}
 use Rattle.sto_item.specs.Observed.{Watched}
-use Rattle.sto_model.specs.Run.{Script}
+use Rattle.sto_model.specs.Run.{Behaviour}
 use Rattle.sto_core.specs.Versions.{ticket_of, is_free}
 use Rattle.sto_type.specs.Meaning.{Meaning}
 use Rattle.sto_attempt_log.specs.Flat.{entry_with}
@@ -26,7 +26,7 @@ none_left [] (suc i) l = refl
 none_left (x ∷ ws) zero l = absurd (omega (arith, l))
 none_left (x ∷ ws) (suc i) l = none_left ws i (omega (arith, l))
 
-module _ (m : Meaning) (f : Script) (r : Reader) where
+module _ (m : Meaning) (f : Behaviour) (r : Reader) where
   -- to the next watch
   pub goes_seen_is : (w : Watched) → slice_get r.watches (length r.fresh) ≡ Some w → w.seen ≡ true → ComesTo m f (goes_on_extending r) (record r { phase = R.Rechecking w.part }) More
   goes_seen_is w e seen =

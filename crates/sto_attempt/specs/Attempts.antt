@@ -1,8 +1,8 @@
 -- An attempt that reads, on its pass, before an event and after it. Where two attempts are named, they are the one before and the one after.
 use Rattle.std.specs.Prelude.{◌≡◌, ◌≤◌, ◌<◌, ◌+◌, ◌-◌, ◌^◌, ℕ, ℤ, true, false, List, [], length, drop, map, slice_index_or, Option, Result, IfSome, IfOk, OnOk, OnErr}
 use Rattle.sto_part.specs.declared.NoMemory.{NoMemory}
-use Rattle.sto_model.specs.Told.{Told, told}
-use Rattle.sto_model.specs.Run.{Script}
+use Rattle.sto_model.specs.PlainReplies.{PlainReply, plain_reply}
+use Rattle.sto_model.specs.Run.{Behaviour}
 use Rattle.sto_core.specs.declared.view.View.{View}
 use Rattle.sto_core.specs.declared.view.Phase.TheVariants as P
 use Rattle.sto_core.specs.declared.cells.Cells as cells
@@ -37,8 +37,8 @@ use Rattle.sto_attempt_log.specs.Doing.{Reader, ReadsBy, ComesTo, Runs, goes_on_
 use Rattle.sto_attempt.specs.declared.attempt.Attempt.{Attempt}
 
 -- the replies that the body has heard
-abbrev pub heard : {T B : Type 0} → Attempt T B → List Told
-heard a = map told a.log.replies.items
+abbrev pub heard : {T B : Type 0} → Attempt T B → List PlainReply
+heard a = map plain_reply a.log.replies.items
 
 -- an attempt whose body is not at its commit, as plain data
 abbrev pub reader_of : {T B : Type 0} → Attempt T B → Reader
@@ -48,7 +48,7 @@ reader_of a = record {
   words = a.words.items;
   base = a.log.base.items;
   set = record { items = a.log.set.items; updates = a.log.set.updates };
-  heard = map told a.log.replies.items;
+  heard = map plain_reply a.log.replies.items;
   extended = a.extension.extended;
   bound = a.extension.bound;
   fresh = a.extension.fresh.items;
@@ -64,7 +64,7 @@ unread widths _ words = 0
 -- t and b are what the traits of the type and of the body say
 module _ {T B : Type 0} (t : OfType T) (b : OfBody B) where
   -- what an attempt has found out is on the log of a script and a type
-  abbrev pub IsLogBy : T → Script → Attempt T B → Type 0
+  abbrev pub IsLogBy : T → Behaviour → Attempt T B → Type 0
   IsLogBy ty f a =
       IsOnLog (t.meaning ty) (b.then a.log.body) f (b.left a.log.body) (b.may_ask a.log.body) a.log.base.items a.log.set a.log.cache a.log.replies.items
 

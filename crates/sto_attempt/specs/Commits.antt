@@ -1,6 +1,6 @@
 -- A commit on its pass, before an event and after it.
 use Rattle.std.specs.Prelude.{◌≡◌, ◌≤◌, ◌<◌, ◌⊎◌, ℕ, ℤ, Option, None, map, slice_index_or}
-use Rattle.sto_model.specs.Told.{told}
+use Rattle.sto_model.specs.PlainReplies.{plain_reply}
 use Rattle.sto_core.specs.declared.view.View.{View}
 use Rattle.sto_core.specs.History.{Validity}
 use Rattle.sto_core.specs.Tells.{Tells}
@@ -41,7 +41,7 @@ committer_of r = record {
   base = r.log.base.items;
   items = r.log.set.items;
   us = r.updates.items;
-  heard = map told r.log.replies.items;
+  heard = map plain_reply r.log.replies.items;
   seen = r.seen.items;
   loaded = r.loaded.items;
   tasks = r.tasks.items;
@@ -64,7 +64,7 @@ module _ {T B : Type 0} (t : OfType T) (b : OfBody B) where
   -- what a commit is to do, which no event changes
   abbrev pub deal_of : Ready T B → Deal
   deal_of r =
-      deal (t.meaning r.log.ty.now) t.valid (t.sizes r.log.ty.now) (b.script r.log.body) r.at r.log.base.items r.log.set.items (map told r.log.replies.items)
+      deal (t.meaning r.log.ty.now) t.valid (t.sizes r.log.ty.now) (b.script r.log.body) r.at r.log.base.items r.log.set.items (map plain_reply r.log.replies.items)
       r.updates.items r.seen.items r.loaded.items r.tasks.items r.checks.items r.places.items
 
   -- the event of this phase is next, and there is room for what it finds
@@ -105,7 +105,7 @@ module _ {T B : Type 0} (t : OfType T) (b : OfBody B) where
 
   -- the replies are the first ones of the body's serial run on all valid contents that have the attempt's claims
   abbrev pub HasPrefix : Ready T B → View → Type 0
-  HasPrefix r v = IsPrefix (t.meaning r.log.ty.now) (b.script r.log.body) v r.at (map told r.log.replies.items)
+  HasPrefix r v = IsPrefix (t.meaning r.log.ty.now) (b.script r.log.body) v r.at (map plain_reply r.log.replies.items)
 
   -- how many words the part at a place of the tasks has
   abbrev pub task_width : Ready T B → ℕ → ℕ

@@ -7,9 +7,11 @@ ghost use Rattle.sto_attempt_log.specs.declared.read_phase.ReadPhase.TheVariants
 ghost use Rattle.sto_attempt_log.specs.ReadSet.{IsTrueIn, AllTrueIn};
 ghost use Rattle.sto_attempt.specs.Attempts.{IsNew, IsOwnLog, IsUnderWay, IsBeforeWord, IsPrefixOf, FitsAt, IsExtending, HasGoneOn, MakesNext, HasStarted, HasStepped, HasReadOne, HasReadWord, ReadsAs, part_width, words_left};
 
-use std::mem;
 use std::alloc::Global;
-use sto_attempt_log::{Extension, Heard, Log, Memory, ReadPhase, Turn, Verdict, lead, learn_updated};
+use std::mem;
+use sto_attempt_log::{
+    AttemptLists, Extension, Heard, Log, ReadPhase, Turn, Verdict, lead, learn_updated,
+};
 use sto_core::Cells;
 use sto_model::{Body, Replies};
 use sto_part::{NoMemory, PartWords, Pred};
@@ -30,7 +32,7 @@ pub struct Attempt<'t, T: TxType, B: Body> {
     /// Of the running or the last extension.
     pub(crate) extension: Extension,
     /// The lists that are not in use.
-    pub(crate) memory: Memory,
+    pub(crate) memory: AttemptLists,
 }
 
 impl<'t, T: TxType, B: Body> Attempt<'t, T, B> {
@@ -38,7 +40,7 @@ impl<'t, T: TxType, B: Body> Attempt<'t, T, B> {
     ///
     /// The type is to take every call that the body may ask. The memory is given back at the end.
     #[inline(always)]
-    pub fn new(alloc: Global, ty: &'t T, body: B, memory: Memory) -> Attempt<'t, T, B>
+    pub fn new(alloc: Global, ty: &'t T, body: B, memory: AttemptLists) -> Attempt<'t, T, B>
         requires { (call : Call) → B.may_ask body call → (T.meaning ty.now).takes call }
         ensures { IsNew T.TxType B.Body ty.now body result }
     {
@@ -75,7 +77,7 @@ impl<'t, T: TxType, B: Body> Attempt<'t, T, B> {
 
     /// The body and what it heard, of an attempt that has ended or is given up before its commit, and the memory that it was lent.
     #[inline(always)]
-    pub fn end(self) -> (Heard<B>, Memory)
+    pub fn end(self) -> (Heard<B>, AttemptLists)
         ensures body { result.0.body ≡ self.entry.log.body }
         ensures replies { result.0.replies ≡ self.entry.log.replies }
     {

@@ -3,7 +3,7 @@ ghost use Rattle.std.specs.Prelude.{◌≡◌};
 ghost use Rattle.sto_attempt.specs.Pausing.{with_type};
 
 use crate::attempt::Attempt;
-use sto_attempt_log::{Extension, Log, Memory, Observed, ReadPhase, ReadSet};
+use sto_attempt_log::{AttemptLists, Extension, Log, Observed, ReadPhase, ReadSet};
 use sto_model::{Body, Replies};
 use sto_part::PartWords;
 use sto_type::{AnswerPool, Cache, TxType};
@@ -22,7 +22,7 @@ pub struct Paused<B: Body> {
     pub(crate) read_phase: ReadPhase,
     pub(crate) words: PartWords,
     pub(crate) extension: Extension,
-    pub(crate) memory: Memory,
+    pub(crate) memory: AttemptLists,
 }
 
 impl<T: TxType, B: Body> Attempt<'_, T, B> {

@@ -6,7 +6,10 @@ ghost use Rattle.sto_attempt_log.specs.CommitPhases.{IsAim, IsNextCheck, IsNextP
 ghost use Rattle.sto_core.specs.Allowed.{Rises};
 ghost use Rattle.sto_attempt.specs.Commits.{MovesOnly, IsBefore, AdvancesNext, HasAdvanced, HasPrefix};
 
-use sto_attempt_log::{CommitPhase, FoundTicket, FoundTickets, Heard, Lists, LoadedWord, LoadedWords, Log, Memory, Verdict, is_seen, is_written};
+use sto_attempt_log::{
+    AttemptLists, CommitPhase, FoundTicket, FoundTickets, Heard, Lists, LoadedWord, LoadedWords,
+    Log, Verdict, is_seen, is_written,
+};
 use sto_core::Cells;
 use sto_item::Updates;
 use sto_model::{Body, Replies};
@@ -36,7 +39,7 @@ pub struct Ready<'t, T: TxType, B: Body> {
     pub(crate) loaded_words: LoadedWords,
     pub(crate) commit_phase: CommitPhase,
     /// The lists that are not in use.
-    pub(crate) memory: Memory,
+    pub(crate) memory: AttemptLists,
 }
 
 impl<T: TxType, B: Body> Ready<'_, T, B> {
@@ -49,7 +52,7 @@ impl<T: TxType, B: Body> Ready<'_, T, B> {
 
     /// The body and what it heard, and the memory that the attempt was lent.
     #[inline(always)]
-    pub fn end(self) -> (Heard<B>, Memory)
+    pub fn end(self) -> (Heard<B>, AttemptLists)
         ensures body { result.0.body ≡ self.entry.log.body }
         ensures replies { result.0.replies ≡ self.entry.log.replies }
     {

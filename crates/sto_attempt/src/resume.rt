@@ -4,8 +4,8 @@ ghost use Rattle.sto_core.specs.declared.view.View.{View};
 ghost use Rattle.sto_attempt.specs.Attempts.{IsOwnLog, Waits, HasResumed};
 
 use crate::attempt::Attempt;
-use std::mem;
 use std::alloc::Global;
+use std::mem;
 use sto_attempt_log::{Turn, lead};
 use sto_model::Body;
 use sto_part::NoMemory;

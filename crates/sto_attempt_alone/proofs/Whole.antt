@@ -7,8 +7,8 @@ use Rattle.std.proofs.lemmas.Bool.{cases_lt}
 use Rattle.std.proofs.lemmas.Bool.Decides.{nat_tests}
 use Rattle.sto_part.specs.Parts.{part_of}
 use Rattle.sto_item.specs.Pending.{applied_updates}
-use Rattle.sto_model.specs.Told.{Told}
-use Rattle.sto_model.specs.Run.{Script as Steps}
+use Rattle.sto_model.specs.PlainReplies.{PlainReply}
+use Rattle.sto_model.specs.Run.{Behaviour}
 use Rattle.sto_core.specs.declared.view.View.{View}
 use Rattle.sto_core.specs.Core.{Core}
 use Rattle.sto_core.specs.Lists.{Each}
@@ -16,7 +16,7 @@ use Rattle.sto_core.specs.History.{Contents, Validity, Updates, committed_update
 use Rattle.sto_core.specs.Rule.{Past, Rule, IsLogged, total}
 use Rattle.sto_core.proofs.Valid.{all_valid, part_after}
 use Rattle.sto_type.specs.Meaning.{Meaning}
-use Rattle.sto_history.specs.Records.{Place, Verdict, Wrote, Read, Cancelled, Locked, Changed, is_abort, wrote_with, IsSince}
+use Rattle.sto_history.specs.Records.{TransactionPlace, Verdict, Wrote, Read, Cancelled, Locked, Changed, is_abort, wrote_with, IsSince}
 use Rattle.sto_history.specs.Counted.{times_committed}
 use Rattle.sto_history.specs.Added.{Grows, IsAdded, IsKnown}
 use Rattle.sto_history.specs.Told.{HasClaimed}
@@ -71,7 +71,7 @@ since_none t (Changed n p u) l ended = absurd cc
 
 -- From the state c and the view v to the state d and the view w, by one record that is not aborted.
 module _ {valid : Validity} (m : Meaning) (sizes : List ℕ) (is : (c : Contents) → valid sizes c → m.valid c) (c d : Core) (v w : View) (old new : Contents) (was : IsOne valid m sizes c v old)
-    (now : IsOne valid m sizes d w new) (f : Steps) (place : Place) (replies : List Told) (r : Verdict) (added : IsAdded m v w f place (record { place = place; replies = replies; verdict = r })) (grows : Grows v w)
+    (now : IsOne valid m sizes d w new) (f : Behaviour) (place : TransactionPlace) (replies : List PlainReply) (r : Verdict) (added : IsAdded m v w f place (record { place = place; replies = replies; verdict = r })) (grows : Grows v w)
     (entries : (t : ℕ) → times_committed t w.entries ≡ times_committed t v.entries + wrote_with t r) (ended : is_abort r ≡ false) where
   seat : get_elem? d.views 0 ≡ some w
   seat = ap (λ (l : List View). get_elem? l 0) now.views
@@ -128,7 +128,7 @@ module _ {valid : Validity} (m : Meaning) (sizes : List ℕ) (is : (c : Contents
   at_clock = (now.rule.each 0 w seat).at
 
 module _ {valid : Validity} (m : Meaning) (sizes : List ℕ) (is : (c : Contents) → valid sizes c → m.valid c) (c d : Core) (v w : View) (old new : Contents) (was : IsOne valid m sizes c v old)
-    (now : IsOne valid m sizes d w new) (f : Steps) (place : Place) (replies : List Told) (grows : Grows v w) where
+    (now : IsOne valid m sizes d w new) (f : Behaviour) (place : TransactionPlace) (replies : List PlainReply) (grows : Grows v w) where
   read_alone : (n : ℕ) → IsAdded m v w f place (record { place = place; replies = replies; verdict = Read n }) → ((t : ℕ) → times_committed t w.entries ≡ times_committed t v.entries + 0)
       → RunsAlone m f old new replies (Read n)
   read_alone n added entries =

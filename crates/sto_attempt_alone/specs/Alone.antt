@@ -1,7 +1,7 @@
 -- What a transaction does that runs beside nothing.
 use Rattle.std.specs.Prelude.{◌≡◌, List, false, if◌then◌else◌}
-use Rattle.sto_model.specs.Told.{Told}
-use Rattle.sto_model.specs.Run.{Script as Steps}
+use Rattle.sto_model.specs.PlainReplies.{PlainReply}
+use Rattle.sto_model.specs.Run.{Behaviour}
 use Rattle.sto_model.specs.Serial.{IsSerialRun, is_writer_run}
 use Rattle.sto_model.specs.declared.run.End.{End}
 use Rattle.sto_model.specs.declared.run.End.TheVariants.{Commit, Cancel}
@@ -20,7 +20,7 @@ end_of (Changed at part ticket) = Commit
 
 -- It is not aborted. The replies, the end and the rows after are those of the serial run on what the contents stood for. It wrote exactly
 -- where that run commits and has written something. Then the updates of its calls are installed; else the contents are as they were
-pub record RunsAlone (m : Meaning) (f : Steps) (before after : Contents) (replies : List Told) (verdict : Verdict) : Type 0 where
+pub record RunsAlone (m : Meaning) (f : Behaviour) (before after : Contents) (replies : List PlainReply) (verdict : Verdict) : Type 0 where
   pub unaborted : is_abort verdict ≡ false
   pub serial : IsSerialRun m.machines f (m.rows before) replies (end_of verdict) (m.rows after)
   pub writes : is_wrote verdict ≡ is_writer_run f replies (end_of verdict)

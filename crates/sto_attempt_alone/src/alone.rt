@@ -1,7 +1,7 @@
 //! The run of a transaction beside nothing.
 ghost use Rattle.std.specs.Prelude.{◌≡◌, ◌<◌, ℤ, List, length, map, IfOk};
 ghost use Rattle.sto_model.specs.declared.call.Call.{Call};
-ghost use Rattle.sto_model.specs.Told.{told};
+ghost use Rattle.sto_model.specs.PlainReplies.{plain_reply};
 ghost use Rattle.sto_plain.specs.Kept.{AreUpToDate};
 ghost use Rattle.sto_plain.specs.Passes.{view_of};
 ghost use Rattle.sto_transaction.specs.Plain.{verdict};
@@ -12,10 +12,10 @@ use std::alloc::Global;
 use sto_model::Body;
 use sto_part::NoMemory;
 use sto_plain::Plain;
-use sto_transaction::{AttemptWatch, Memory, Record, Transaction};
+use sto_transaction::{AttemptLists, AttemptWatch, Record, Transaction};
 use sto_type::TxType;
 
-// Is told how far the transaction is, and does nothing.
+// Is plain_reply how far the transaction is, and does nothing.
 #[derive(Drop)]
 struct Unwatched;
 
@@ -39,13 +39,13 @@ pub fn run_alone<T: TxType, B: Body + Drop>(
     requires rests { IsAtRest (T.meaning ty.now) (T.sizes ty.now) (view_of words 0) }
     requires draws { 0 < (view_of words 0).draws }
     ensures alone { IfOk result.1 (λ r. (before after : List (List ℤ)) → AreUpToDate T.valid words before
-        → AreUpToDate T.valid result.0 after → RunsAlone (T.meaning ty.now) (B.script body) before after (map told r.replies.items)
+        → AreUpToDate T.valid result.0 after → RunsAlone (T.meaning ty.now) (B.script body) before after (map plain_reply r.replies.items)
         (verdict r.verdict)) }
     ensures one { (length result.0.statuses ≡ 1) × (length result.0.views ≡ 1) }
     ensures rests { IsAtRest (T.meaning ty.now) (T.sizes ty.now) (view_of result.0 0) }
 {
     let mut records = Vec::new(alloc);
-    let mut memory = Memory::new(alloc);
+    let mut memory = AttemptLists::new(alloc);
     let mut pass = words.at(0);
     let transaction = Transaction {
         ty,

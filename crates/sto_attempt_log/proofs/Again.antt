@@ -8,8 +8,8 @@ use Rattle.sto_part.specs.declared.pred.Pred.{Pred}
 use Rattle.sto_item.specs.declared.item.Item.{Item}
 use Rattle.sto_item.specs.Observed.{Watched, IsObserved, watch_at, sees, preds_on, parts_of_items}
 use Rattle.sto_item.specs.Pending.{Entry as Update}
-use Rattle.sto_model.specs.Told.{Told}
-use Rattle.sto_model.specs.Run.{Script}
+use Rattle.sto_model.specs.PlainReplies.{PlainReply}
+use Rattle.sto_model.specs.Run.{Behaviour}
 use Rattle.sto_core.specs.declared.view.Claim.{Claim}
 use Rattle.sto_core.specs.declared.view.Finding.{Finding}
 use Rattle.sto_core.specs.declared.view.OpenRead.{OpenRead}
@@ -67,7 +67,7 @@ pub some_none : (o : Option (List ℤ)) → IsSome o → o ≡ None → ⊥
 some_none None h e = cc
 some_none (Some ws) h e = cc
 
-module _ (m : Meaning) (law : IsLawful m) (valid : Validity) (sizes : List ℕ) (is : (d : Parts) → valid sizes d → m.valid d) (f : Script) (at bound p : ℕ) (seen : Bool) (base fresh : List ReadEntry) (items : List Item) (watches : List Watched) (es : List Update) (rs : List Told) (v : View)
+module _ (m : Meaning) (law : IsLawful m) (valid : Validity) (sizes : List ℕ) (is : (d : Parts) → valid sizes d → m.valid d) (f : Behaviour) (at bound p : ℕ) (seen : Bool) (base fresh : List ReadEntry) (items : List Item) (watches : List Watched) (es : List Update) (rs : List PlainReply) (v : View)
     (spans : Spans m valid sizes at bound base fresh v) (observed : IsObserved items watches) (next : IsNext (length m.widths) (words_in base) fresh watches seen p) (log : IsLog m f (words_in base) items es rs) where
   abbrev long : ℕ
   long = length m.widths

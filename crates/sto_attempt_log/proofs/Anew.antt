@@ -13,8 +13,8 @@ use Rattle.sto_item.specs.declared.item.Item.TheVariants.{Seen, Holds}
 use Rattle.sto_item.specs.Observed.{Watched, IsObserved, watch_at, preds_on, pred_on, part_of_item, parts_of_items}
 use Rattle.sto_item.specs.Agreement.{Agrees}
 use Rattle.sto_item.specs.Pending.{Entry as Update}
-use Rattle.sto_model.specs.Told.{Told}
-use Rattle.sto_model.specs.Run.{Script}
+use Rattle.sto_model.specs.PlainReplies.{PlainReply}
+use Rattle.sto_model.specs.Run.{Behaviour}
 use Rattle.sto_type.specs.Known.{Parts, Known, IsPartOf}
 use Rattle.sto_type.specs.Meaning.{Meaning, IsLawful}
 use Rattle.sto_attempt_log.specs.declared.read_entry.ReadEntry.{ReadEntry}
@@ -159,7 +159,7 @@ preds_were_true old p ws (Holds q ∷ is) e h = true_both ws (pred_on p (Holds q
     ]
 
 -- the log of an attempt whose observed parts were all read anew
-module _ (m : Meaning) (law : IsLawful m) (f : Script) (base : List ReadEntry) (items : List Item) (es : List Update) (rs : List Told) (log : IsLog m f (words_in base) items es rs)
+module _ (m : Meaning) (law : IsLawful m) (f : Behaviour) (base : List ReadEntry) (items : List Item) (es : List Update) (rs : List PlainReply) (log : IsLog m f (words_in base) items es rs)
     (c : Parts) (valid : m.valid c) (part : IsPartOf (words_in base) c) where
   abbrev long : ℕ
   long = length m.widths

@@ -18,9 +18,9 @@ use Rattle.sto_item.proofs.Widths.{length-applied_updates, HasWidths-below, HasW
 use Rattle.sto_model.specs.declared.call.Call.{Call}
 use Rattle.sto_model.specs.declared.body.Next.TheVariants.{Ask, Commit, Cancel}
 use Rattle.sto_model.specs.declared.body.Next.{Next}
-use Rattle.sto_model.specs.Told.{Told}
-use Rattle.sto_model.specs.Machine.{reply_to}
-use Rattle.sto_model.specs.Run.{Script, IsAsk, MayAsk}
+use Rattle.sto_model.specs.PlainReplies.{PlainReply}
+use Rattle.sto_model.specs.SequentialObjects.{reply_to}
+use Rattle.sto_model.specs.Run.{Behaviour, IsAsk, MayAsk}
 use Rattle.sto_type.specs.Known.{Parts, Known, IsPartOf}
 use Rattle.sto_type.specs.Meaning.{Meaning, IsLawful, IsReady, IsUpdated, EachKnown}
 use Rattle.sto_attempt_log.specs.declared.log.Reached.{Reached}
@@ -90,7 +90,7 @@ module _ (m : Meaning) (law : IsLawful m) (base : List ReadEntry) (us : List Upd
         (m.items call k) (law.knows call k (applied_updates us d) (ready d v part)) (law.holds call k (applied_updates us e) (ready e w too))
 
 -- the call that the body asks is answered
-pub answers_now : (m : Meaning) → IsLawful m → (f : Script) (r : Reader) → IsPending m (words_in r.base) r.set.updates → (call : Call) → f r.heard ≡ Ask call → m.takes call
+pub answers_now : (m : Meaning) → IsLawful m → (f : Behaviour) (r : Reader) → IsPending m (words_in r.base) r.set.updates → (call : Call) → f r.heard ≡ Ask call → m.takes call
     → m.need call (known_now m r.base r.set.updates) ≡ None → (observed : Recorded) → AddsItems r.set (rebased r.set.updates (m.items call (known_now m r.base r.set.updates))) observed
     → (s : Reader) × Answers m f r s
 answers_now m law f r h call asks takes needless observed adds =
@@ -217,10 +217,10 @@ pending_next m law base us v h call takes is = record {
     fit : (d : Parts) → m.valid d → IsPartOf base d → HasWidths v d
     fit d w part = HasWidths-below us v d (subst (λ (l : List Update). HasWidths l (applied_updates us d)) (sym (is d w part)) (now d w part).widths)
 
-abbrev HasRun : Meaning → Script → Reader → Type 0
+abbrev HasRun : Meaning → Behaviour → Reader → Type 0
 HasRun m f r = (k : ℕ) × (s : Reader) × (reached : Reached) × RunsOn m f k r s reached
 
-module _ (m : Meaning) (law : IsLawful m) (f : Script) (may : (rs : List Told) → MayAsk m.takes (f rs)) where
+module _ (m : Meaning) (law : IsLawful m) (f : Behaviour) (may : (rs : List PlainReply) → MayAsk m.takes (f rs)) where
   by_need : (r : Reader) → IsPending m (words_in r.base) r.set.updates → (call : Call) → f r.heard ≡ Ask call
       → ((s : Reader) → IsPending m (words_in s.base) s.set.updates → length s.heard ≡ length r.heard + 1 → HasRun m f s)
       → (o : Option ℕ) → m.need call (known_now m r.base r.set.updates) ≡ o → HasRun m f r
@@ -245,6 +245,6 @@ module _ (m : Meaning) (law : IsLawful m) (f : Script) (may : (rs : List Told) �
   by_next r h (Ask call) e on = by_need r h call e (on tt) (m.need call (known_now m r.base r.set.updates)) refl
 
   -- a body that asks only what the type takes, and at most n calls more, runs on to a part that it needs or to its end
-  pub runs_now : (n : ℕ) (r : Reader) → IsPending m (words_in r.base) r.set.updates → ((rs : List Told) → length rs ≡ length r.heard + n → IsAsk (f rs) → ⊥) → HasRun m f r
+  pub runs_now : (n : ℕ) (r : Reader) → IsPending m (words_in r.base) r.set.updates → ((rs : List PlainReply) → length rs ≡ length r.heard + n → IsAsk (f rs) → ⊥) → HasRun m f r
   runs_now zero r h ends = by_next r h (f r.heard) refl (λ a s p l. absurd (ends r.heard (omega arith) a))
   runs_now (suc n) r h ends = by_next r h (f r.heard) refl (λ a s p l. runs_now n s p (λ rs k. ends rs (omega (arith, k, l))))

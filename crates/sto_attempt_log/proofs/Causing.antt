@@ -9,7 +9,7 @@ use Rattle.sto_part.specs.Preds.{holds_of}
 use Rattle.sto_item.specs.declared.item.Item.{Item}
 use Rattle.sto_item.specs.declared.item.Item.TheVariants.{Seen, Holds}
 use Rattle.sto_item.specs.Observed.{sees, is_sight_of, preds_on, pred_on}
-use Rattle.sto_model.specs.Told.{Told, told}
+use Rattle.sto_model.specs.PlainReplies.{PlainReply, plain_reply}
 use Rattle.sto_model.specs.declared.reply.Reply.{Reply}
 use Rattle.sto_core.specs.declared.view.View.{View}
 use Rattle.sto_core.specs.Event.{Event, Open, Close, Recheck}
@@ -120,18 +120,18 @@ err_both (Ok x) P Q a b = tt
 err_both (Err e) P Q a b = (a, b)
 
 -- as many replies are the same ones
-no_more : (xs : List Told) → length xs ≡ 0 → xs ≡ []
+no_more : (xs : List PlainReply) → length xs ≡ 0 → xs ≡ []
 no_more [] e = refl
 no_more (x ∷ xs) e = absurd (omega (arith, e))
 
-pub same_replies : (all rs more : List Told) → all ≡ rs ++ more → length all ≡ length rs → all ≡ rs
+pub same_replies : (all rs more : List PlainReply) → all ≡ rs ++ more → length all ≡ length rs → all ≡ rs
 same_replies all rs more e l =
     let none : length more ≡ 0 = omega (arith, l, ap length e, length-append rs more) in
-    e ∙ ap (λ (x : List Told). rs ++ x) (no_more more none) ∙ append-nil rs
+    e ∙ ap (λ (x : List PlainReply). rs ++ x) (no_more more none) ∙ append-nil rs
 
 -- replies that others come after are not more
-pub replies_on : (xs ys : List Reply) (more : List Told) → map told ys ≡ map told xs ++ more → length xs ≤ length ys
-replies_on xs ys more e = omega (arith, sym (length-map xs told), sym (length-map ys told), ap length e, length-append (map told xs) more)
+pub replies_on : (xs ys : List Reply) (more : List PlainReply) → map plain_reply ys ≡ map plain_reply xs ++ more → length xs ≤ length ys
+replies_on xs ys more e = omega (arith, sym (length-map xs plain_reply), sym (length-map ys plain_reply), ap length e, length-append (map plain_reply xs) more)
 
-pub replies_same : (xs ys : List Reply) (more : List Told) → map told ys ≡ map told xs ++ more → length ys ≡ length xs → map told ys ≡ map told xs
-replies_same xs ys more e l = same_replies (map told ys) (map told xs) more e (length-map ys told ∙ l ∙ sym (length-map xs told))
+pub replies_same : (xs ys : List Reply) (more : List PlainReply) → map plain_reply ys ≡ map plain_reply xs ++ more → length ys ≡ length xs → map plain_reply ys ≡ map plain_reply xs
+replies_same xs ys more e l = same_replies (map plain_reply ys) (map plain_reply xs) more e (length-map ys plain_reply ∙ l ∙ sym (length-map xs plain_reply))

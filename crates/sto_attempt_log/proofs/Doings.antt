@@ -7,8 +7,8 @@ use Rattle.sto_item.specs.Rebase.{rebased}
 use Rattle.sto_item.specs.Recorded.{Recorded, AddsItem, AddsItems}
 use Rattle.sto_model.specs.declared.call.Call.{Call}
 use Rattle.sto_model.specs.declared.body.Next.TheVariants.{Ask, Commit, Cancel}
-use Rattle.sto_model.specs.Machine.{reply_to}
-use Rattle.sto_model.specs.Run.{Script}
+use Rattle.sto_model.specs.SequentialObjects.{reply_to}
+use Rattle.sto_model.specs.Run.{Behaviour}
 use Rattle.sto_type.specs.Meaning.{Meaning}
 use Rattle.sto_attempt_log.specs.declared.log.Reached.{Reached}
 use Rattle.sto_attempt_log.specs.declared.log.Reached.TheVariants.{Needs, Commits, Cancels}
@@ -54,7 +54,7 @@ same_course r s a b e = (first r s a b e, second r s a b e)
     second : (r s : Reader) (a b : Turn) → Stays r a ≡ Stays s b → a ≡ b
     second r s a b e = cc
 
-module _ (m : Meaning) (f : Script) where
+module _ (m : Meaning) (f : Behaviour) where
   -- a call is answered in one way
   answers_once : (r s t : Reader) → Answers m f r s → Answers m f r t → s ≡ t
   answers_once r s t h k =

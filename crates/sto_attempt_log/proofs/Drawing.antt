@@ -10,8 +10,8 @@ use Rattle.sto_item.specs.Agreement.{Agrees, AreTrueOf}
 use Rattle.std.specs.Prelude.{IsSome, if◌then◌else◌}
 use Rattle.sto_attempt_log.proofs.Observing.{WasTrue}
 use Rattle.sto_item.specs.Pending.{Entry as Update, applied_updates}
-use Rattle.sto_model.specs.Told.{Told}
-use Rattle.sto_model.specs.Run.{Script}
+use Rattle.sto_model.specs.PlainReplies.{PlainReply}
+use Rattle.sto_model.specs.Run.{Behaviour}
 use Rattle.sto_core.specs.declared.view.Claim.{Claim}
 use Rattle.sto_core.specs.declared.view.Looked.{Looked}
 use Rattle.sto_core.specs.declared.view.View.{View}
@@ -88,7 +88,7 @@ seen_ticket v at base p number only seen =
 
 -- the draw keeps validity where its looked parts are what the items observe
 pub draw_keeps_valid :
-    (m : Meaning) (law : IsLawful m) (valid : Validity) (sizes : List ℕ) (f : Script) (base : Known) (items : List Item) (es : List Update) (rs : List Told) (looked : List Looked) (d : Parts)
+    (m : Meaning) (law : IsLawful m) (valid : Validity) (sizes : List ℕ) (f : Behaviour) (base : Known) (items : List Item) (es : List Update) (rs : List PlainReply) (looked : List Looked) (d : Parts)
     → ((c : Parts) → valid sizes c → m.valid c) → ((c : Parts) → m.valid c → valid sizes c) → m.valid d → IsPartOf base d
     → IsLog m f base items es rs → AllOf (LooksAt base looked) items → KeepsValid valid sizes looked es
 draw_keeps_valid m law valid sizes f base items es rs looked d here there v part log looks = λ c w shows.

@@ -6,8 +6,8 @@ use Rattle.sto_item.specs.declared.item.Item.{Item}
 use Rattle.sto_item.specs.declared.item.Item.TheVariants.{Seen, Holds}
 use Rattle.sto_item.specs.Pending.{Entry}
 use Rattle.sto_item.specs.Agreement.{Agrees, AreTrueOf}
-use Rattle.sto_model.specs.Told.{Told}
-use Rattle.sto_model.specs.Run.{Script}
+use Rattle.sto_model.specs.PlainReplies.{PlainReply}
+use Rattle.sto_model.specs.Run.{Behaviour}
 use Rattle.sto_type.specs.Known.{Parts, Known, IsPartOf}
 use Rattle.sto_type.specs.Meaning.{Meaning}
 use Rattle.sto_type.specs.Runs.{IsCarried}
@@ -36,7 +36,7 @@ module _ (m : Meaning) (old new : Known) where
       by (Holds p ∷ is) h =
           (subst (λ (ws : List ℤ). IsTrue (holds_of p (slice_index_or ws p.word (pos 0)))) (sym (n.same p.part h.0.words (subst (λ (l : ℕ). p.part < l) (sym ld) h.0.range) h.0.now)) h.0.holds, by is h.1)
 
-  pub carried_over : (f : Script) (items : List Item) (es : List Entry) (rs : List Told) (long : ℕ) (c : Parts) → ((d : Parts) → m.valid d → length d ≡ long) → m.valid c → IsPartOf old c
+  pub carried_over : (f : Behaviour) (items : List Item) (es : List Entry) (rs : List PlainReply) (long : ℕ) (c : Parts) → ((d : Parts) → m.valid d → length d ≡ long) → m.valid c → IsPartOf old c
       → AllOf (StaysSo long old new) items → IsCarried m f old items es rs → IsCarried m f new items es rs
   carried_over f items es rs long c wide v o s h = record {
     holds = λ d w n. true_over long items d (wide d w) s n;

@@ -6,8 +6,8 @@ use Rattle.sto_item.specs.declared.item.Item.{Item}
 use Rattle.sto_item.specs.declared.item.Item.TheVariants.{Seen, Holds}
 use Rattle.sto_item.specs.Pending.{Entry as Update, applied_updates}
 use Rattle.sto_item.specs.Agreement.{Agrees}
-use Rattle.sto_model.specs.Told.{Told}
-use Rattle.sto_model.specs.Run.{Script}
+use Rattle.sto_model.specs.PlainReplies.{PlainReply}
+use Rattle.sto_model.specs.Run.{Behaviour}
 use Rattle.sto_core.specs.declared.view.Looked.{Looked}
 use Rattle.sto_core.specs.Lists.{Each, Among}
 use Rattle.sto_core.specs.History.{Shows}
@@ -30,7 +30,7 @@ use Rattle.sto_attempt_log.specs.Looking.{IsLooked, LooksAt}
 pub shown : (looked : List Looked) (p : ℕ) (ws : List ℤ) (c : Parts) → IsLooked looked p ws → Each (Shows c) looked → part_of c p ≡ ws
 shown looked p ws c l h = ap (part_of c) (sym l.of_part) ∙ h l.among.0 l.one l.among.1 ∙ l.with_words
 
-module _ (m : Meaning) (law : IsLawful m) (f : Script) (base : Known) (rs : List Told) (d : Parts) (v : m.valid d) (part : IsPartOf base d) where
+module _ (m : Meaning) (law : IsLawful m) (f : Behaviour) (base : Known) (rs : List PlainReply) (d : Parts) (v : m.valid d) (part : IsPartOf base d) where
   -- they agree with the items relative to what was read
   looked_agrees : (looked : List Looked) (c : Parts) (is : List Item) → Each (Shows c) looked → AllOf (λ (i : Item). HasTouched m f rs (part_of_item i)) is → AllOf (LooksAt base looked) is → Agrees c is d
   looked_agrees looked c [] h r l = tt
@@ -52,7 +52,7 @@ module _ (m : Meaning) (law : IsLawful m) (f : Script) (base : Known) (rs : List
 
 -- what a committed entry tells, which looks at what the items observe
 pub has_written_of :
-    (m : Meaning) (law : IsLawful m) (f : Script) (base : Known) (items : List Item) (us : List Update) (rs : List Told) (v : View) (ticket : ℕ) (e : Entry) (d : Parts) → m.valid d → IsPartOf base d
+    (m : Meaning) (law : IsLawful m) (f : Behaviour) (base : Known) (items : List Item) (us : List Update) (rs : List PlainReply) (v : View) (ticket : ℕ) (e : Entry) (d : Parts) → m.valid d → IsPartOf base d
     → IsLog m f base items us rs → AllOf (LooksAt base e.looked) items → Among e v.entries → e.ticket ≡ ticket → e.fate ≡ Committed → e.updates ≡ us → f rs ≡ Commit → is_empty us ≡ false → HasWritten m f v ticket rs
 has_written_of m law f base items us rs v ticket e d w part log looks among drawn fate same ends some = record {
   entry = e;

@@ -4,8 +4,8 @@ use Rattle.std.specs.List.{Contains}
 use Rattle.sto_item.specs.declared.item.Item.{Item}
 use Rattle.sto_item.specs.Observed.{Watched, IsObserved, parts_of_items}
 use Rattle.sto_item.specs.Pending.{Entry as Update}
-use Rattle.sto_model.specs.Told.{Told}
-use Rattle.sto_model.specs.Run.{Script}
+use Rattle.sto_model.specs.PlainReplies.{PlainReply}
+use Rattle.sto_model.specs.Run.{Behaviour}
 use Rattle.sto_type.specs.Known.{Known}
 use Rattle.sto_type.specs.Meaning.{Meaning, IsLawful}
 use Rattle.sto_attempt_log.specs.declared.read_entry.ReadEntry.{ReadEntry}
@@ -45,7 +45,7 @@ began_fewer at es reached read_phase turn led before calls widths words extensio
     (λ p e. first_left before calls widths extension.extended (words_in base) (subst (λ (r : Reached). IsByCall calls r) e by) l)
 
 -- an open
-module _ (m : Meaning) (law : IsLawful m) (f : Script) (rs : List Told) (p : ℕ) (base : List ReadEntry) (pending : List Update) (needed : IsNeeded m (f rs) (words_in base) pending p) where
+module _ (m : Meaning) (law : IsLawful m) (f : Behaviour) (rs : List PlainReply) (p : ℕ) (base : List ReadEntry) (pending : List Update) (needed : IsNeeded m (f rs) (words_in base) pending p) where
   range : p < length m.widths
   range = omega (arith, touched_range m law f rs p (touched_next m f rs p needed.by_next), law.homes)
 

@@ -10,9 +10,9 @@ use Rattle.sto_item.specs.Agreement.{Agrees, AreTrueOf}
 use Rattle.sto_model.specs.declared.call.Call.{Call}
 use Rattle.sto_model.specs.declared.body.Next.{Next}
 use Rattle.sto_model.specs.declared.body.Next.TheVariants.{Ask}
-use Rattle.sto_model.specs.Told.{Told, is_write}
-use Rattle.sto_model.specs.Machine.{reply_to}
-use Rattle.sto_model.specs.Run.{Script}
+use Rattle.sto_model.specs.PlainReplies.{PlainReply, is_write}
+use Rattle.sto_model.specs.SequentialObjects.{reply_to}
+use Rattle.sto_model.specs.Run.{Behaviour}
 use Rattle.sto_model.specs.Serial.{is_written, has_written}
 use Rattle.sto_type.specs.Known.{Parts, Known, IsPartOf, known}
 use Rattle.sto_type.specs.Meaning.{Meaning, IsLawful, IsReady, is_empty}
@@ -33,7 +33,7 @@ pub cache_none : (m : Meaning) (base : Known) (es : List Entry) → IsCache m ba
 cache_none m base es = record { above = λ d v p. IsPartOf-none (applied_updates es d); from = λ p h. cc; inside = λ p h. cc }
 
 -- the run on contents that what was read is part of
-pub run_on : (m : Meaning) (f : Script) (base : Known) (items : List Item) (es : List Entry) (rs : List Told) (d : Parts) → IsCarried m f base items es rs → m.valid d → IsPartOf base d → IsRunOn m f d es rs
+pub run_on : (m : Meaning) (f : Behaviour) (base : Known) (items : List Item) (es : List Entry) (rs : List PlainReply) (d : Parts) → IsCarried m f base items es rs → m.valid d → IsPartOf base d → IsRunOn m f d es rs
 run_on m f base items es rs d h v p = h.runs d d v p v (h.holds d v p)
 
 -- what is so of each part that items name, and that updates name
@@ -46,7 +46,7 @@ all_updated P [] h = tt
 all_updated P (e ∷ es) h = (h e.0 (0, omega arith, refl), all_updated P es (λ p c. h p (suc c.0, omega (arith, c.1), c.2)))
 
 -- the same of a set that agrees alike
-pub carried_alike : (m : Meaning) (f : Script) (base : Known) (items js : List Item) (es : List Entry) (rs : List Told) → IsCarried m f base items es rs
+pub carried_alike : (m : Meaning) (f : Behaviour) (base : Known) (items js : List Item) (es : List Entry) (rs : List PlainReply) → IsCarried m f base items es rs
     → ((e d : Parts) → Agrees e items d → Agrees e js d) → ((e d : Parts) → Agrees e js d → Agrees e items d) → IsCarried m f base js es rs
 carried_alike m f base items js es rs h there here = record {
   holds = λ d v p. there d d (h.holds d v p);
@@ -54,7 +54,7 @@ carried_alike m f base items js es rs h there here = record {
 }
 
 -- One call that is answered on the cache.
-module _ (m : Meaning) (law : IsLawful m) (f : Script) (base : Known) (items : List Item) (es : List Entry) (rs : List Told) (call : Call) (k : Known)
+module _ (m : Meaning) (law : IsLawful m) (f : Behaviour) (base : Known) (items : List Item) (es : List Entry) (rs : List PlainReply) (call : Call) (k : Known)
     (was : IsLog m f base items es rs) (cache : IsCache m base es k) (d : Parts) (valid : m.valid d) (part : IsPartOf base d)
     (t : m.takes call) (done : m.need call k ≡ None) (asks : f rs ≡ Ask call) where
   pub here : IsRunOn m f d es rs
@@ -80,7 +80,7 @@ module _ (m : Meaning) (law : IsLawful m) (f : Script) (base : Known) (items : L
   updates : (p : ℕ) → Contains (map (λ e. e.0) (m.updates call (applied_updates es d))) p → Touches m p call
   updates p there = record { takes = t; contents = applied_updates es d; valid = here.valid; knowledge = k; known = cache.above d valid part; does = inr (inr there) }
 
-  module _ (reply : Told) (v : List Entry) (ordered : AreUpdates v) (says : (c : Parts) → m.valid c → IsPartOf k c → (reply ≡ reply_to m.machines call (m.rows c)) × (v ≡ m.updates call c)) where
+  module _ (reply : PlainReply) (v : List Entry) (ordered : AreUpdates v) (says : (c : Parts) → m.valid c → IsPartOf k c → (reply ≡ reply_to m.machines call (m.rows c)) × (v ≡ m.updates call c)) where
     said : (reply ≡ reply_to m.machines call (m.rows (applied_updates es d))) × (v ≡ m.updates call (applied_updates es d))
     said = says (applied_updates es d) here.valid (cache.above d valid part)
 

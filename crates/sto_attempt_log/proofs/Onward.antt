@@ -8,8 +8,8 @@ use Rattle.sto_item.specs.Recorded.{Recorded}
 use Rattle.sto_model.specs.declared.call.Call.{Call}
 use Rattle.sto_model.specs.declared.body.Next.{Next}
 use Rattle.sto_model.specs.declared.body.Next.TheVariants.{Ask}
-use Rattle.sto_model.specs.Told.{Told}
-use Rattle.sto_model.specs.Run.{Script}
+use Rattle.sto_model.specs.PlainReplies.{PlainReply}
+use Rattle.sto_model.specs.Run.{Behaviour}
 use Rattle.sto_type.specs.Known.{Parts, Known, IsPartOf}
 use Rattle.sto_type.specs.Meaning.{Meaning, IsLawful}
 use Rattle.sto_type.specs.Touching.{Touches, NextTouches}
@@ -27,7 +27,7 @@ use Rattle.sto_attempt_log.proofs.OneReply.{run_on, log_more}
 use Rattle.sto_attempt_log.proofs.Refreshing.{cache_outside}
 
 -- the pending updates fit what was read
-pub pending_of : (m : Meaning) (f : Script) (base : Known) (items : List Item) (es : List Entry) (rs : List Told) → IsLog m f base items es rs → (d : Parts) × m.valid d × IsPartOf base d → IsPending m base es
+pub pending_of : (m : Meaning) (f : Behaviour) (base : Known) (items : List Item) (es : List Entry) (rs : List PlainReply) → IsLog m f base items es rs → (d : Parts) × m.valid d × IsPartOf base d → IsPending m base es
 pending_of m f base items es rs h some = record {
   ordered = (run_on m f base items es rs some.0 h.carried some.1 some.2).ordered;
   fits = λ d v p. let on : IsRunOn m f d es rs = run_on m f base items es rs d h.carried v p in (on.widths, on.valid);
@@ -35,7 +35,7 @@ pending_of m f base items es rs h some = record {
 }
 
 -- the next call may touch the part that it needs
-pub need_touched : (m : Meaning) (f : Script) (base : Known) (items : List Item) (es : List Entry) (rs : List Told) (call : Call) (k : Known) (p : ℕ)
+pub need_touched : (m : Meaning) (f : Behaviour) (base : Known) (items : List Item) (es : List Entry) (rs : List PlainReply) (call : Call) (k : Known) (p : ℕ)
     → IsLog m f base items es rs → IsCache m base es k → ((d : Parts) × m.valid d × IsPartOf base d) → m.takes call → f rs ≡ Ask call → m.need call k ≡ Some p → NextTouches m (f rs) p
 need_touched m f base items es rs call k p log cache some takes asks needs =
     let touches : Touches m p call = record {
@@ -48,9 +48,9 @@ need_touched m f base items es rs call k p log cache some takes asks needs =
     } in
     subst (λ (n : Next). NextTouches m n p) (sym asks) touches
 
-module _ (m : Meaning) (law : IsLawful m) (f : Script) (base : Known) (old : Recorded) (rs : List Told) (call : Call) (k : Known)
+module _ (m : Meaning) (law : IsLawful m) (f : Behaviour) (base : Known) (old : Recorded) (rs : List PlainReply) (call : Call) (k : Known)
     (was : IsLog m f base old.items old.updates rs) (cache : IsCache m base old.updates k) (some : (d : Parts) × m.valid d × IsPartOf base d)
-    (t : m.takes call) (asks : f rs ≡ Ask call) (reply : Told) (is : List Item) (v : List Entry) (plan : IsPlan m call k (Say reply is v)) where
+    (t : m.takes call) (asks : f rs ≡ Ask call) (reply : PlainReply) (is : List Item) (v : List Entry) (plan : IsPlan m call k (Say reply is v)) where
   on : IsRunOn m f some.0 old.updates rs
   on = run_on m f base old.items old.updates rs some.0 was.carried some.1 some.2
 
@@ -115,7 +115,7 @@ module _ (m : Meaning) (law : IsLawful m) (f : Script) (base : Known) (old : Rec
       let says : v ≡ m.updates call (applied_updates old.updates some.0) = (plan.2 (applied_updates old.updates some.0) on.valid (cache.above some.0 some.1 some.2)).1 in
       ap (λ (s : Recorded). s.updates) after ∙ ap (λ l. with_updates l v) same ∙ ap (with_updates old.updates) says
 
-pub heard_none : (m : Meaning) (f : Script) (base : Known) (rs : List Told) (old : Recorded) → HasHeard m f base rs old rs old
+pub heard_none : (m : Meaning) (f : Behaviour) (base : Known) (rs : List PlainReply) (old : Recorded) → HasHeard m f base rs old rs old
 heard_none m f base rs old = record { grown = HasGrown-none m f rs old; known = tt }
 
 known_more : (m : Meaning) (base : Known) (es : List Entry) (ans : List Answered) (a : Answered) → AreKnown m base es ans → IsCache m base (updates_along m es ans) a.known → AreKnown m base es (ans ++ a ∷ [])
@@ -123,7 +123,7 @@ known_more m base es [] a h e = (e, tt)
 known_more m base es (b ∷ bs) a h e = (h.0, known_more m base (with_updates es (m.updates b.call b.found)) bs a h.1 e)
 
 -- one call more
-pub heard_more : (m : Meaning) (f : Script) (base : Known) (rs : List Told) (old : Recorded) (all : List Told) (mid : Recorded) (t : Told) (a : Answered) (new : Recorded)
+pub heard_more : (m : Meaning) (f : Behaviour) (base : Known) (rs : List PlainReply) (old : Recorded) (all : List PlainReply) (mid : Recorded) (t : PlainReply) (a : Answered) (new : Recorded)
     → HasHeard m f base rs old all mid → IsAnswer m f all t a → IsCache m base mid.updates a.known → AddsItems mid (rebased mid.updates (m.items a.call a.known)) (record new { updates = mid.updates })
     → new.updates ≡ with_updates mid.updates (m.updates a.call a.found) → HasHeard m f base rs old (all ++ t ∷ []) new
 heard_more m f base rs old all mid t a new h given cache adds after = record {

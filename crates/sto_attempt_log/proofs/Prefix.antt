@@ -3,8 +3,8 @@ use Rattle.std.proofs.Common.{◌≡◌, ℕ, not, List, [], ap, sym, ◌∙◌,
 use Rattle.sto_item.specs.declared.item.Item.{Item}
 use Rattle.sto_item.specs.Pending.{Entry}
 use Rattle.sto_model.specs.declared.body.Next.TheVariants.{Commit, Cancel}
-use Rattle.sto_model.specs.Told.{Told}
-use Rattle.sto_model.specs.Run.{Script, IsRun}
+use Rattle.sto_model.specs.PlainReplies.{PlainReply}
+use Rattle.sto_model.specs.Run.{Behaviour, IsRun}
 use Rattle.sto_core.specs.declared.view.Claim.{Claim}
 use Rattle.sto_core.specs.declared.view.View.{View}
 use Rattle.sto_core.specs.Lists.{Among}
@@ -20,7 +20,7 @@ use Rattle.sto_attempt_log.specs.Answers.{IsPrefix, HasRead, HasCancelled}
 use Rattle.sto_attempt_log.proofs.OneReply.{run_on}
 use Rattle.sto_attempt_log.proofs.Claimed.{part_of_claims, claims_fit}
 
-module _ (m : Meaning) (f : Script) (v : View) (at : ℕ) (base : List ReadEntry) (items : List Item) (es : List Entry) (rs : List Told) (h : IsLog m f (words_in base) items es rs) (a : AreClaimed v at base) where
+module _ (m : Meaning) (f : Behaviour) (v : View) (at : ℕ) (base : List ReadEntry) (items : List Item) (es : List Entry) (rs : List PlainReply) (h : IsLog m f (words_in base) items es rs) (a : AreClaimed v at base) where
   on_claims : (d : Parts) → m.valid d → HasClaims v at d → IsRunOn m f d es rs
   on_claims d w c = run_on m f (words_in base) items es rs d h.carried w (part_of_claims v at base d a c)
 
@@ -44,10 +44,10 @@ some_contents m valid v at base is fit a =
     (f.0, is f.0 f.1, part_of_claims v at base f.0 a f.2)
 
 -- the replies that run on all that was read, on contents that have the claims
-pub prefix_of : (m : Meaning) (f : Script) (v : View) (at : ℕ) (base : List ReadEntry) (rs : List Told) → ((d : Parts) → m.valid d → IsPartOf (words_in base) d → IsRun m.machines f (m.rows d) rs) → AreClaimed v at base → IsPrefix m f v at rs
+pub prefix_of : (m : Meaning) (f : Behaviour) (v : View) (at : ℕ) (base : List ReadEntry) (rs : List PlainReply) → ((d : Parts) → m.valid d → IsPartOf (words_in base) d → IsRun m.machines f (m.rows d) rs) → AreClaimed v at base → IsPrefix m f v at rs
 prefix_of m f v at base rs runs a d valid c = runs d valid (part_of_claims v at base d a c)
 
 -- with more claims they are a prefix still
-pub prefix_on : (m : Meaning) (f : Script) (v w : View) (at : ℕ) (rs : List Told) → w.starts ≡ v.starts → ((c : Claim) → Among c v.claims → Among c w.claims) → IsPrefix m f v at rs → IsPrefix m f w at rs
+pub prefix_on : (m : Meaning) (f : Behaviour) (v w : View) (at : ℕ) (rs : List PlainReply) → w.starts ≡ v.starts → ((c : Claim) → Among c v.claims → Among c w.claims) → IsPrefix m f v at rs → IsPrefix m f w at rs
 prefix_on m f v w at rs starts more h d valid c =
     h d valid (λ j k there start number. let a : Among k w.claims = more k (j, there) in c a.0 k a.1 (start ∙ sym starts) number)

@@ -3,8 +3,8 @@ use Rattle.std.proofs.Common.{◌<◌, ◌≤◌, List, [], ◌∷◌, ◌++◌,
 use Rattle.sto_part.specs.Changes.{applied_all}
 use Rattle.sto_item.specs.declared.item.Item.{Item}
 use Rattle.sto_item.specs.Pending.{Entry, changes_of}
-use Rattle.sto_model.specs.Told.{Told}
-use Rattle.sto_model.specs.Run.{Script}
+use Rattle.sto_model.specs.PlainReplies.{PlainReply}
+use Rattle.sto_model.specs.Run.{Behaviour}
 use Rattle.sto_type.specs.Known.{Parts, Known, IsPartOf, learnt}
 use Rattle.sto_type.specs.Meaning.{Meaning, IsLawful}
 use Rattle.sto_attempt_log.specs.declared.read_entry.ReadEntry.{ReadEntry}
@@ -16,7 +16,7 @@ use Rattle.sto_attempt_log.proofs.Onward.{pending_of}
 use Rattle.sto_attempt_log.proofs.Reading.{log_wider, cache_wider}
 use Rattle.sto_attempt_log.proofs.Recalling.{cache_learnt, fits_read, recalled_read}
 
-module _ (m : Meaning) (law : IsLawful m) (f : Script) (base : List ReadEntry) (x : ReadEntry) (items : List Item) (es : List Entry) (rs : List Told)
+module _ (m : Meaning) (law : IsLawful m) (f : Behaviour) (base : List ReadEntry) (x : ReadEntry) (items : List Item) (es : List Entry) (rs : List PlainReply)
     (was : IsLog m f (words_in base) items es rs) (awaits : IsNeeded m (f rs) (words_in base) es x.part)
     (some : (d : Parts) × m.valid d × IsPartOf (words_in (base ++ x ∷ [])) d) where
   pending : IsPending m (words_in (base ++ x ∷ [])) es

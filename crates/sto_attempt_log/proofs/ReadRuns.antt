@@ -12,8 +12,8 @@ use Rattle.sto_item.specs.Recorded.{Recorded, AddsItems}
 use Rattle.sto_item.proofs.Widths.{length-applied_updates}
 use Rattle.sto_model.specs.declared.call.Call.{Call}
 use Rattle.sto_model.specs.declared.body.Next.TheVariants.{Ask as Asks}
-use Rattle.sto_model.specs.Told.{Told}
-use Rattle.sto_model.specs.Run.{Script}
+use Rattle.sto_model.specs.PlainReplies.{PlainReply}
+use Rattle.sto_model.specs.Run.{Behaviour}
 use Rattle.sto_type.specs.Known.{Known, IsWithin}
 use Rattle.sto_type.specs.Meaning.{Meaning, IsLawful}
 use Rattle.sto_type.specs.Plans.{Ask, Say, IsPlan}
@@ -56,13 +56,13 @@ module _ (m : Meaning) (law : IsLawful m) (base : List ReadEntry) (us : List Upd
       let two : part_of (applied_updates us d) p ≡ ws = (c.above d h.some.1 h.some.2).same p ws range is in
       there.1 ∙ ap (λ (x : List ℤ). Some x) (sym one ∙ two)
 
-module _ (m : Meaning) (law : IsLawful m) (f : Script) (r : Reader) (h : IsPending m (words_in r.base) r.set.updates)
+module _ (m : Meaning) (law : IsLawful m) (f : Behaviour) (r : Reader) (h : IsPending m (words_in r.base) r.set.updates)
     (k : Known) (c : IsCache m (words_in r.base) r.set.updates k) (call : Call) (asks : f r.heard ≡ Asks call) where
   within : IsWithin k (known_now m r.base r.set.updates)
   within = known_within m law r.base r.set.updates h k c
 
   -- a call that is answered on the cache is answered
-  pub answers_is : (reply : Told) (is : List Item) (es : List Update) → IsPlan m call k (Say reply is es) → (mid : Recorded) → AddsItems r.set (rebased r.set.updates is) mid
+  pub answers_is : (reply : PlainReply) (is : List Item) (es : List Update) → IsPlan m call k (Say reply is es) → (mid : Recorded) → AddsItems r.set (rebased r.set.updates is) mid
       → Answers m f r (record r { set = record { items = mid.items; updates = with_updates r.set.updates es }; heard = r.heard ++ reply ∷ []; extended = false })
   answers_is reply is es plan mid adds =
       let on = law.steady.done call k (known_now m r.base r.set.updates) within plan.0 in
@@ -84,7 +84,7 @@ module _ (m : Meaning) (law : IsLawful m) (f : Script) (r : Reader) (h : IsPendi
   halts_is p plan unread unput =
       (call, asks, law.steady.steady call k (known_now m r.base r.set.updates) p within (none_known (words_in r.base p) (changes_of r.set.updates p) (slice_index_or m.widths p 0) unread unput) plan)
 
-module _ (m : Meaning) (f : Script) where
+module _ (m : Meaning) (f : Behaviour) where
   answers_more : (n : ℕ) (r s t : Reader) → AnswersAll m f n r s → Answers m f s t → AnswersAll m f (suc n) r t
   answers_more zero r s t h a = (t, subst (λ (x : Reader). Answers m f x t) h a, refl)
   answers_more (suc n) r s t h a = (h.0, h.1, answers_more n h.0 s t h.2 a)
@@ -98,17 +98,17 @@ module _ (m : Meaning) (f : Script) where
   answers_longer (suc n) r s h = omega (arith, answers_longer n h.0 s h.2, ap (λ (x : Reader). length x.heard) h.1.after, length-append r.heard (h.1.reply ∷ []))
 
   -- no call was answered yet
-  pub ran_none : (r : Reader) (set : Recorded) (heard : List Told) → r.set ≡ set → r.heard ≡ heard → RanTo m f r set heard
+  pub ran_none : (r : Reader) (set : Recorded) (heard : List PlainReply) → r.set ≡ set → r.heard ≡ heard → RanTo m f r set heard
   ran_none r set heard same told = record {
     count = 0;
     now = r;
     answered = refl;
     kept = λ i. record r { set = same i; heard = told i };
-    extended = ((λ e. (e, ap (λ (l : List Told). length l) (sym told))), λ e. e.0);
+    extended = ((λ e. (e, ap (λ (l : List PlainReply). length l) (sym told))), λ e. e.0);
   }
 
 -- One call more is answered on the cache, or the body has come to a part that it needs.
-module _ (m : Meaning) (law : IsLawful m) (f : Script) (r : Reader) (base : List ReadEntry) (old : Recorded) (rs : List Told) (same : r.base ≡ base) (ran : RanTo m f r old rs)
+module _ (m : Meaning) (law : IsLawful m) (f : Behaviour) (r : Reader) (base : List ReadEntry) (old : Recorded) (rs : List PlainReply) (same : r.base ≡ base) (ran : RanTo m f r old rs)
     (h : IsPending m (words_in base) old.updates) (k : Known) (c : IsCache m (words_in base) old.updates k) (call : Call) (asks : f rs ≡ Asks call) where
   abbrev at_set : Reader
   at_set = record r { base = base; set = old; heard = rs; extended = ran.now.extended }
@@ -116,7 +116,7 @@ module _ (m : Meaning) (law : IsLawful m) (f : Script) (r : Reader) (base : List
   now_is : ran.now ≡ at_set
   now_is = ran.kept ∙ (λ i. record r { base = same i; set = old; heard = rs; extended = ran.now.extended })
 
-  pub ran_answer : (reply : Told) (is : List Item) (es : List Update) → IsPlan m call k (Say reply is es) → (mid new : Recorded) → AddsItems old (rebased old.updates is) mid
+  pub ran_answer : (reply : PlainReply) (is : List Item) (es : List Update) → IsPlan m call k (Say reply is es) → (mid new : Recorded) → AddsItems old (rebased old.updates is) mid
       → new ≡ record { items = mid.items; updates = with_updates old.updates es } → RanTo m f r new (rs ++ reply ∷ [])
   ran_answer reply is es plan mid new adds after =
       let a : Answers m f at_set (record at_set { set = record { items = mid.items; updates = with_updates old.updates es }; heard = rs ++ reply ∷ []; extended = false }) =
@@ -130,7 +130,7 @@ module _ (m : Meaning) (law : IsLawful m) (f : Script) (r : Reader) (base : List
         now = next;
         answered = answers_more m f ran.count r ran.now next ran.answered b;
         kept = λ i. record r { base = sym same i; set = new; heard = rs ++ reply ∷ []; extended = false };
-        extended = ((λ e. cc), λ e. absurd (omega (arith, e.1, long, ap (λ (l : List Told). length l) told, length-append rs (reply ∷ []))));
+        extended = ((λ e. cc), λ e. absurd (omega (arith, e.1, long, ap (λ (l : List PlainReply). length l) told, length-append rs (reply ∷ []))));
       }
 
   pub ran_halts : (p : ℕ) → IsPlan m call k (Ask p) → words_in base p ≡ None → overwrites (changes_of old.updates p) ≡ false → Halts m f ran.now (Needs p)

@@ -3,8 +3,8 @@ use Rattle.std.specs.Prelude.{Option, Some, None, if◌then◌else◌, nat_eq, n
 use Rattle.std.proofs.Common.{◌≡◌, ◌≢◌, ◌≤◌, ◌<◌, ◌⊎◌, ℕ, ℤ, true, false, List, [], ◌∷◌, ◌++◌, length, slice_index_or, refl, ap, sym, ◌∙◌, subst, arith, eq-eqb, inl, inr}
 use Rattle.std.proofs.lemmas.Bool.Decides.{nat_tests}
 use Rattle.sto_item.specs.Recorded.{Recorded}
-use Rattle.sto_model.specs.Told.{Told}
-use Rattle.sto_model.specs.Run.{Script}
+use Rattle.sto_model.specs.PlainReplies.{PlainReply}
+use Rattle.sto_model.specs.Run.{Behaviour}
 use Rattle.sto_core.specs.Versions.{ticket_of, is_free}
 use Rattle.sto_type.specs.Meaning.{Meaning, is_empty}
 use Rattle.sto_item.specs.Pending.{Entry as Update}
@@ -42,7 +42,7 @@ true_both true false h = let e = h.0 refl in cc
 true_both false true h = let e = h.1 refl in cc
 
 -- the body of a reader was run on, and where it has come to has led it on
-pub runs_on_is : (m : Meaning) (f : Script) (r s : Reader) (set : Recorded) (heard : List Told) (reached : Reached) (turn : Turn) (ran : RanTo m f r set heard) → Halts m f ran.now reached
+pub runs_on_is : (m : Meaning) (f : Behaviour) (r s : Reader) (set : Recorded) (heard : List PlainReply) (reached : Reached) (turn : Turn) (ran : RanTo m f r set heard) → Halts m f ran.now reached
     → IsLed r.at set.updates reached s.phase turn → s ≡ record r { set = set; heard = heard; extended = s.extended; phase = s.phase } → (IsTrue s.extended ↔ (IsTrue r.extended × (length heard ≡ length r.heard)))
     → ComesTo m f (Runs r) s turn
 runs_on_is m f r s set heard reached turn ran halts is_led kept extended =
@@ -57,7 +57,7 @@ runs_on_is m f r s set heard reached turn ran halts is_led kept extended =
     )
 
 -- An open.
-module _ (m : Meaning) (f : Script) (r : Reader) (p n : ℕ) (x : ℤ) where
+module _ (m : Meaning) (f : Behaviour) (r : Reader) (p n : ℕ) (x : ℤ) where
   pub open_locked_is : is_free n ≡ false → ComesTo m f (after_read m (R.Opening p) r n x) (record r { phase = R.Over }) (Ended (Locked r.at p))
   open_locked_is busy = rw busy (refl, refl)
 
@@ -93,7 +93,7 @@ module _ (m : Meaning) (f : Script) (r : Reader) (p n : ℕ) (x : ℤ) where
       rw (free, high) (refl, λ i. Ended (Changed r.at p (same i)))
 
 -- A word.
-module _ (m : Meaning) (f : Script) (r : Reader) (p t n : ℕ) (x : ℤ) where
+module _ (m : Meaning) (f : Behaviour) (r : Reader) (p t n : ℕ) (x : ℤ) where
   pub word_is : (ws : List ℤ) → length r.words < slice_index_or m.widths p 0 → ws ≡ r.words ++ x ∷ [] → ComesTo m f (after_read m (R.Reading p t) r n x) (record r { words = ws }) More
   word_is ws left one =
       let low : nat_lt (length r.words) (slice_index_or m.widths p 0) ≡ true = grind (arith, nat_tests) in

@@ -6,8 +6,8 @@ use mathlib.Core.Option.{some, some-ne-none}
 use lib.ListN.{get_elem?}
 use Rattle.sto_item.specs.declared.item.Item.{Item}
 use Rattle.sto_item.specs.Pending.{Entry as Update}
-use Rattle.sto_model.specs.Told.{Told}
-use Rattle.sto_model.specs.Run.{Script}
+use Rattle.sto_model.specs.PlainReplies.{PlainReply}
+use Rattle.sto_model.specs.Run.{Behaviour}
 use Rattle.sto_core.specs.declared.view.Claim.{Claim}
 use Rattle.sto_core.specs.declared.view.Finding.{Finding}
 use Rattle.sto_core.specs.declared.view.OpenRead.{OpenRead}
@@ -113,7 +113,7 @@ start_rests m valid sizes is passes v w n sizes_are draws t =
     }
 
 -- where the body's end, or the part that it needs, leads
-module _ (m : Meaning) (valid : Validity) (sizes : List ℕ) (f : Script) (at : ℕ) (ws : List ℤ) (base : List ReadEntry) (items : List Item) (es : List Update) (rs : List Told) (v : View)
+module _ (m : Meaning) (valid : Validity) (sizes : List ℕ) (f : Behaviour) (at : ℕ) (ws : List ℤ) (base : List ReadEntry) (items : List Item) (es : List Update) (rs : List PlainReply) (v : View)
     (rest : AtRest m valid sizes at v) (claimed : AreClaimed v at base) (only : AreOnly v at base) (below : AreBelow v at) (extension : Extension) (as_of : IsAsOf at extension) (log : IsLog m f (words_in base) items es rs) where
   abbrev To : ReadPhase → Turn → Type 0
   To read_phase turn = Turned m valid sizes f at read_phase ws extension base items es rs v turn
@@ -144,7 +144,7 @@ module _ (m : Meaning) (valid : Validity) (sizes : List ℕ) (f : Script) (at : 
   turned Cancels read_phase turn r l = moved_to read_phase S.Over turn (Ended (Cancelled at)) l.0 l.1 (refl, left, within, (refl, has_cancelled m f v at base items es rs log claimed r))
 
 -- An open of a needed part
-module _ (m : Meaning) (valid : Validity) (sizes : List ℕ) (f : Script) (at p : ℕ) (ws : List ℤ) (base : List ReadEntry) (items : List Item) (es : List Update) (rs : List Told) (v w : View) (passes n : ℕ)
+module _ (m : Meaning) (valid : Validity) (sizes : List ℕ) (f : Behaviour) (at p : ℕ) (ws : List ℤ) (base : List ReadEntry) (items : List Item) (es : List Update) (rs : List PlainReply) (v w : View) (passes n : ℕ)
     (fits : Fits m valid sizes f at (S.Opening p) ws base es rs v) (log : IsLog m f (words_in base) items es rs) (t : Tells valid passes (Open p) v n (pos 0) w) where
   abbrev u : View
   u = after (Open p) v n (pos 0)
@@ -252,7 +252,7 @@ module _ (m : Meaning) (valid : Validity) (sizes : List ℕ) (f : Script) (at p 
       claimed_u = claimed_still v u at base refl (λ c h. h) fits.claimed
 
 -- what a part that is needed asks of the view
-module _ (m : Meaning) (law : IsLawful m) (valid : Validity) (sizes : List ℕ) (f : Script) (at p : ℕ) (rs : List Told) (v : View) (own : IsOwn m sizes v) (touched : HasTouched m f rs p) where
+module _ (m : Meaning) (law : IsLawful m) (valid : Validity) (sizes : List ℕ) (f : Behaviour) (at p : ℕ) (rs : List PlainReply) (v : View) (own : IsOwn m sizes v) (touched : HasTouched m f rs p) where
   pub has_part : HasPart v p
   has_part = touched_there m law f rs p v.opening own.opening touched
 
@@ -260,7 +260,7 @@ module _ (m : Meaning) (law : IsLawful m) (valid : Validity) (sizes : List ℕ) 
   width_is = sym (width_of v.opening p) ∙ ap (λ (l : List ℕ). slice_index_or l p 0) (law.widths v.opening own.opening)
 
 -- A word of an open read
-module _ (m : Meaning) (valid : Validity) (sizes : List ℕ) (f : Script) (at p s : ℕ) (ws : List ℤ) (base : List ReadEntry) (items : List Item) (es : List Update) (rs : List Told) (v : View)
+module _ (m : Meaning) (valid : Validity) (sizes : List ℕ) (f : Behaviour) (at p s : ℕ) (ws : List ℤ) (base : List ReadEntry) (items : List Item) (es : List Update) (rs : List PlainReply) (v : View)
     (fits : Fits m valid sizes f at (S.Reading p s) ws base es rs v) where
   abbrev pub the_read : OpenRead
   the_read = record { part = p; ticket = s; reads = numbered 0 ws }
@@ -464,7 +464,7 @@ pub start_only : (valid : Validity) (passes : ℕ) (v w : View) (n : ℕ) → Te
 start_only valid passes v w n t j c there start number = absurd (omega (arith, t.learns.1.claims j c there, start))
 
 -- one more part that was read leaves the log
-pub log_wider : (m : Meaning) (f : Script) (base : List ReadEntry) (x : ReadEntry) (items : List Item) (es : List Update) (rs : List Told) → IsLog m f (words_in base) items es rs → IsLog m f (words_in (base ++ x ∷ [])) items es rs
+pub log_wider : (m : Meaning) (f : Behaviour) (base : List ReadEntry) (x : ReadEntry) (items : List Item) (es : List Update) (rs : List PlainReply) → IsLog m f (words_in base) items es rs → IsLog m f (words_in (base ++ x ∷ [])) items es rs
 log_wider m f base x items es rs h = record {
   carried = record {
     holds = λ d v p. h.carried.holds d v (part_of_fewer base x d p);

@@ -12,8 +12,8 @@ use Rattle.sto_core.specs.Event.{Recheck, found, is_own_or_free, is_claimed_stil
 use Rattle.sto_core.specs.Allowed.{WasClaimed}
 use Rattle.sto_core.specs.Tells.{Tells, ClaimsFit}
 use Rattle.sto_core.proofs.Lists.{among_snoc, both_true}
-use Rattle.sto_model.specs.Told.{Told}
-use Rattle.sto_model.specs.Run.{Script}
+use Rattle.sto_model.specs.PlainReplies.{PlainReply}
+use Rattle.sto_model.specs.Run.{Behaviour}
 use Rattle.sto_type.specs.Meaning.{Meaning}
 use Rattle.sto_attempt_log.specs.declared.read_entry.ReadEntry.{ReadEntry}
 use Rattle.sto_attempt_log.specs.ReadSet.{claim_of, IsClaimed}
@@ -26,7 +26,7 @@ use Rattle.sto_attempt_log.proofs.Reading.{AtRest, own_still, idle_reading, amon
 use Rattle.sto_model.specs.Asked.{IsUnsettled}
 
 -- The recheck of a part that was seen as of the number `at`, while the view has the number `now`
-module _ (m : Meaning) (valid : Validity) (sizes : List ℕ) (f : Script) (at now : ℕ) (rs : List Told) (v : View) (rest : AtRest m valid sizes now v) (s : ReadEntry) (claim : IsClaimed v at s) where
+module _ (m : Meaning) (valid : Validity) (sizes : List ℕ) (f : Behaviour) (at now : ℕ) (rs : List PlainReply) (v : View) (rest : AtRest m valid sizes now v) (s : ReadEntry) (claim : IsClaimed v at s) where
   recent : is_recent v s.part (claim_of v at s) ≡ true
   recent = both_true (nat_eq s.part s.part) (nat_eq v.starts v.starts) (eq-eqb s.part s.part refl) (eq-eqb v.starts v.starts refl)
 

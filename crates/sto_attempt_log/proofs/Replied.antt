@@ -3,8 +3,8 @@ use Rattle.std.specs.Prelude.{◌*◌, if◌then◌else◌, nat_eq}
 use Rattle.std.proofs.Common.{◌≡◌, ℕ, ℤ, Bool, true, false, List, [], ◌∷◌, ◌++◌, refl, sym, ◌∙◌, subst}
 use Rattle.sto_part.specs.Listed.{Listed}
 use Rattle.sto_item.specs.Pending.{Entry as Update}
-use Rattle.sto_model.specs.Told.{Told}
-use Rattle.sto_model.specs.Run.{Script}
+use Rattle.sto_model.specs.PlainReplies.{PlainReply}
+use Rattle.sto_model.specs.Run.{Behaviour}
 use Rattle.sto_core.specs.declared.view.Claim.{Claim}
 use Rattle.sto_core.specs.declared.view.Phase.{Phase}
 use Rattle.sto_core.specs.declared.view.Phase.TheVariants.{Looking, Testing}
@@ -72,7 +72,7 @@ event_keeps us (Put p i y) k v n x = record { starts = refl; claims = λ c a. a 
 event_keeps us (Release p) k v n x = record { starts = refl; claims = λ c a. a }
 event_keeps us (Unlock p) k v n x = record { starts = refl; claims = λ c a. a }
 
-prefix_kept : (m : Meaning) (f : Script) (v w : View) (at : ℕ) (rs : List Told) → Keeps v w → IsPrefix m f v at rs → IsPrefix m f w at rs
+prefix_kept : (m : Meaning) (f : Behaviour) (v w : View) (at : ℕ) (rs : List PlainReply) → Keeps v w → IsPrefix m f v at rs → IsPrefix m f w at rs
 prefix_kept m f v w at rs k h d valid has =
     h d valid (λ j c e start number. let a = k.claims c (j, e) in has a.0 c a.1 (start ∙ sym k.starts) number)
 

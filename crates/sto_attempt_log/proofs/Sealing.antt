@@ -8,8 +8,8 @@ use Rattle.sto_item.specs.declared.item.Item.TheVariants.{Seen}
 use Rattle.sto_item.specs.Observed.{part_of_item}
 use Rattle.sto_item.specs.Pending.{Entry as Update, plain}
 use Rattle.sto_item.specs.Agreement.{HasWidths}
-use Rattle.sto_model.specs.Told.{Told}
-use Rattle.sto_model.specs.Run.{Script}
+use Rattle.sto_model.specs.PlainReplies.{PlainReply}
+use Rattle.sto_model.specs.Run.{Behaviour}
 use Rattle.sto_core.specs.declared.view.View.{View}
 use Rattle.sto_core.specs.declared.view.Held.{Held}
 use Rattle.sto_core.specs.Lists.{Each, Among}
@@ -39,7 +39,7 @@ use Rattle.sto_attempt_log.proofs.Planning as plan
 use Rattle.sto_attempt_log.proofs.Placing.{own_writes, plan_places, plan_all}
 use Rattle.sto_attempt_log.proofs.Leaving.{some_update}
 
-module _ (m : Meaning) (law : IsLawful m) (valid : Validity) (sizes : List ℕ) (f : Script) (at : ℕ) (base : List ReadEntry) (items : List Item) (rs : List Told)
+module _ (m : Meaning) (law : IsLawful m) (valid : Validity) (sizes : List ℕ) (f : Behaviour) (at : ℕ) (base : List ReadEntry) (items : List Item) (rs : List PlainReply)
     (xs : List (ℕ × Listed Change)) (h : IsLog m f (words_in base) items (map plain xs) rs) (some : (d : Parts) × m.valid d × IsPartOf (words_in base) d) where
   abbrev us : List Update
   us = map plain xs
@@ -100,7 +100,7 @@ module _ (m : Meaning) (law : IsLawful m) (valid : Validity) (sizes : List ℕ) 
   }
 
 -- the same of lists that are known to be these
-module _ (m : Meaning) (law : IsLawful m) (valid : Validity) (sizes : List ℕ) (f : Script) (at : ℕ) (base : List ReadEntry) (items : List Item) (rs : List Told) (us : List Update)
+module _ (m : Meaning) (law : IsLawful m) (valid : Validity) (sizes : List ℕ) (f : Behaviour) (at : ℕ) (base : List ReadEntry) (items : List Item) (rs : List PlainReply) (us : List Update)
     (h : IsLog m f (words_in base) items us rs) (some : (d : Parts) × m.valid d × IsPartOf (words_in base) d) where
   pub gathered_planned : (seen loaded tasks checks : List ℕ) (places : List (ℕ × ℕ)) → AreGathered items us seen loaded tasks checks places
       → length checks < 2 ^ 32 → length places < 2 ^ 32 → length us + length tasks < 2 ^ 32 → IsPlanned (deal m valid sizes f at base items rs us seen loaded tasks checks places)

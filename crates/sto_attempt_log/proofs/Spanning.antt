@@ -1,8 +1,8 @@
 -- The events of an extension, by what they tell, with the two numbers that the pass then has.
 use Rattle.std.proofs.Common.{◌≡◌, ◌+◌, ◌≤◌, ◌<◌, ℕ, ℤ, true, Some, None, List, [], ◌∷◌, ◌++◌, refl, sym, subst, arith}
 use Rattle.sto_item.specs.Pending.{Entry as Update}
-use Rattle.sto_model.specs.Told.{Told}
-use Rattle.sto_model.specs.Run.{Script}
+use Rattle.sto_model.specs.PlainReplies.{PlainReply}
+use Rattle.sto_model.specs.Run.{Behaviour}
 use Rattle.sto_core.specs.declared.view.Claim.{Claim}
 use Rattle.sto_core.specs.declared.view.Wrote.{Wrote}
 use Rattle.sto_core.specs.declared.view.Finding.{Finding}
@@ -74,7 +74,7 @@ spans_more m valid sizes at bound base fresh v found wrote phase x fit early unr
     }
 
 -- A renew
-pub renew_spans : (m : Meaning) (valid : Validity) (sizes : List ℕ) (f : Script) (at p s : ℕ) (ws : List ℤ) (base : List ReadEntry) (es : List Update) (rs : List Told) (v w : View) (passes n : ℕ) (x : ℤ)
+pub renew_spans : (m : Meaning) (valid : Validity) (sizes : List ℕ) (f : Behaviour) (at p s : ℕ) (ws : List ℤ) (base : List ReadEntry) (es : List Update) (rs : List PlainReply) (v w : View) (passes n : ℕ) (x : ℤ)
     → Fits m valid sizes f at (S.Renewing p s) ws base es rs v → Tells valid passes Renew v n x w → Spans m valid sizes at n base [] w × (w.phase ≡ P.Reading)
 renew_spans m valid sizes f at p s ws base es rs v w passes n x fits t =
     let u : View = record v { steps = v.steps + 1; at = n } in
@@ -98,7 +98,7 @@ renew_spans m valid sizes f at p s ws base es rs v w passes n x fits t =
     let rest : (u.phase ≡ P.Reading) = fits.stands.0 in
     (subst (λ (y : View). Spans m valid sizes at n base [] y) (sym t.after) h, subst (λ (y : View). y.phase ≡ P.Reading) (sym t.after) rest)
 
-module _ (m : Meaning) (valid : Validity) (sizes : List ℕ) (at bound : ℕ) (base fresh : List ReadEntry) (f : Script) (rs : List Told) (v : View) (spans : Spans m valid sizes at bound base fresh v) where
+module _ (m : Meaning) (valid : Validity) (sizes : List ℕ) (at bound : ℕ) (base fresh : List ReadEntry) (f : Behaviour) (rs : List PlainReply) (v : View) (spans : Spans m valid sizes at bound base fresh v) where
   pub rests : v.phase ≡ P.Reading → AtRest m valid sizes bound v
   rests e = record { own = spans.own; unheld = spans.unheld; decided = spans.decided; draws = spans.draws; number = spans.number; fit = spans.fit; phase = e }
 

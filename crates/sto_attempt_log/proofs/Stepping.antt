@@ -5,8 +5,8 @@ use Rattle.std.proofs.lemmas.Option.{get_or_from_slice_get}
 use Rattle.sto_part.specs.declared.NoMemory.{NoMemory}
 use Rattle.sto_item.specs.declared.item.Item.{Item}
 use Rattle.sto_item.specs.Pending.{Entry as Update}
-use Rattle.sto_model.specs.Told.{Told}
-use Rattle.sto_model.specs.Run.{Script}
+use Rattle.sto_model.specs.PlainReplies.{PlainReply}
+use Rattle.sto_model.specs.Run.{Behaviour}
 use Rattle.sto_core.specs.declared.view.View.{View}
 use Rattle.sto_core.specs.History.{Validity}
 use Rattle.sto_type.specs.Meaning.{Meaning}
@@ -31,7 +31,7 @@ use Rattle.sto_attempt_log.specs.Led.{IsLed}
 use Rattle.sto_attempt_log.proofs.Prefix.{prefix}
 
 -- what a turn tells of its verdict
-pub ends_of : (m : Meaning) (valid : Validity) (sizes : List ℕ) (f : Script) (at : ℕ) (ws : List ℤ) (base : List ReadEntry) (es : List Update) (rs : List Told) (v : View) (verdict : Verdict)
+pub ends_of : (m : Meaning) (valid : Validity) (sizes : List ℕ) (f : Behaviour) (at : ℕ) (ws : List ℤ) (base : List ReadEntry) (es : List Update) (rs : List PlainReply) (v : View) (verdict : Verdict)
     → EndsAs m valid sizes f at ws base es rs v verdict → Ends m f v at rs verdict
 ends_of m valid sizes f at ws base es rs v (Wrote t) h = h
 ends_of m valid sizes f at ws base es rs v (Read n) h = h.0
@@ -39,7 +39,7 @@ ends_of m valid sizes f at ws base es rs v (Cancelled n) h = h
 ends_of m valid sizes f at ws base es rs v (Locked n p) h = h
 ends_of m valid sizes f at ws base es rs v (Changed n p t) h = h
 
-module _ (m : Meaning) (valid : Validity) (sizes : List ℕ) (f : Script) (at : ℕ) (ws : List ℤ) (extension : Extension) (base : List ReadEntry) (items : List Item) (es : List Update) (rs : List Told) (v : View) where
+module _ (m : Meaning) (valid : Validity) (sizes : List ℕ) (f : Behaviour) (at : ℕ) (ws : List ℤ) (extension : Extension) (base : List ReadEntry) (items : List Item) (es : List Update) (rs : List PlainReply) (v : View) where
   goes_prefix : (read_phase : ReadPhase) → Goes m valid sizes f at read_phase ws extension base items es rs v → IsLog m f (words_in base) items es rs → IsPrefix m f v at rs
   goes_prefix Unstarted h log =
       let claimed : AreClaimed v at base = subst (λ (l : List ReadEntry). AreClaimed v at l) (sym h.3) tt in
@@ -155,8 +155,8 @@ fresh_not : (old new : Extension) → new ≡ old → old.extended ≡ false →
 fresh_not old new e fresh x = let h : true ≡ false = sym x ∙ (ap (λ (r : Extension). r.extended) e ∙ fresh) in cc
 
 -- an extension that stays tells truly whether the running call has extended
-pub keeps_fresh : (w : View) (old new : Extension) (rs now : List Told) → new ≡ old → old.extended ≡ false → KeepsExtension Unstarted w old rs new now
+pub keeps_fresh : (w : View) (old new : Extension) (rs now : List PlainReply) → new ≡ old → old.extended ≡ false → KeepsExtension Unstarted w old rs new now
 keeps_fresh w old new rs now e fresh = (ap (λ (r : Extension). r.bound) e, λ x. absurd (fresh_not old new e fresh x))
 
-pub keeps_same : (old new : Extension) (rs now : List Told) → new ≡ old → now ≡ rs → (new.bound ≡ old.bound) × (new.extended ≡ true → (old.extended ≡ true) × (now ≡ rs))
+pub keeps_same : (old new : Extension) (rs now : List PlainReply) → new ≡ old → now ≡ rs → (new.bound ≡ old.bound) × (new.extended ≡ true → (old.extended ≡ true) × (now ≡ rs))
 keeps_same old new rs now e same = (ap (λ (r : Extension). r.bound) e, λ x. (sym (ap (λ (r : Extension). r.extended) e) ∙ x, same))

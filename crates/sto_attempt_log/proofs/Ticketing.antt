@@ -8,8 +8,8 @@ use Rattle.sto_item.specs.declared.item.Item.{Item}
 use Rattle.sto_item.specs.Pending.{Entry as Update}
 use Rattle.sto_item.specs.Agreement.{HasWidths}
 use Rattle.sto_item.proofs.Widths.{HasWidths-same}
-use Rattle.sto_model.specs.Told.{Told}
-use Rattle.sto_model.specs.Run.{Script}
+use Rattle.sto_model.specs.PlainReplies.{PlainReply}
+use Rattle.sto_model.specs.Run.{Behaviour}
 use Rattle.sto_core.specs.declared.view.Held.{Held}
 use Rattle.sto_core.specs.declared.view.Phase.TheVariants as P
 use Rattle.sto_core.specs.declared.view.View.{View}
@@ -57,7 +57,7 @@ widths_each [] c h j u e = absurd (some-ne-none u (sym e))
 widths_each (x ∷ us) c h zero u e = subst (λ (y : Update). (y.0 < length c) × (length y.1 ≡ length (part_of c y.0))) (some-injective x u e) (h.0, sym h.1)
 widths_each (x ∷ us) c h (suc j) u e = widths_each us c h.2 j u e
 
-module _ (m : Meaning) (law : IsLawful m) (valid : Validity) (sizes : List ℕ) (f : Script) (at : ℕ) (base : List ReadEntry) (items : List Item) (us : List Update) (rs : List Told) (v : View)
+module _ (m : Meaning) (law : IsLawful m) (valid : Validity) (sizes : List ℕ) (f : Behaviour) (at : ℕ) (base : List ReadEntry) (items : List Item) (us : List Update) (rs : List PlainReply) (v : View)
     (sealed : IsSealed m valid sizes f at base items us rs v) (here : (c : Parts) → valid v.sizes c → m.valid c) (there : (c : Parts) → m.valid c → valid v.sizes c) where
   claims : (d : Parts) × valid v.sizes d × HasClaims v at d
   claims = claims_fit valid v at sealed.fit

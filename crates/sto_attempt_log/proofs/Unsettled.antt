@@ -6,8 +6,8 @@ use Rattle.sto_core.specs.declared.view.View.{View}
 use Rattle.sto_core.specs.History.{Validity}
 use Rattle.sto_model.specs.declared.body.Next.{Next}
 use Rattle.sto_model.specs.declared.body.Next.TheVariants.{Ask, Commit, Cancel}
-use Rattle.sto_model.specs.Told.{Told}
-use Rattle.sto_model.specs.Run.{Script}
+use Rattle.sto_model.specs.PlainReplies.{PlainReply}
+use Rattle.sto_model.specs.Run.{Behaviour}
 use Rattle.sto_model.specs.Serial.{has_written}
 use Rattle.sto_model.specs.Asked.{MayAbort, IsUnsettled}
 use Rattle.sto_type.specs.Meaning.{Meaning}
@@ -26,10 +26,10 @@ may_abort (Ask call) written h = tt
 may_abort Commit written h = absurd h
 may_abort Cancel written h = absurd h
 
-pub unsettled_calling : (f : Script) (rs : List Told) → IsCalling (f rs) → IsUnsettled f rs
+pub unsettled_calling : (f : Behaviour) (rs : List PlainReply) → IsCalling (f rs) → IsUnsettled f rs
 unsettled_calling f rs h = may_abort (f rs) (has_written f rs) h
 
-pub unsettled_sealed : (m : Meaning) (valid : Validity) (sizes : List ℕ) (f : Script) (at : ℕ) (base : List ReadEntry) (items : List Item) (us : List Update) (rs : List Told) (v : View)
+pub unsettled_sealed : (m : Meaning) (valid : Validity) (sizes : List ℕ) (f : Behaviour) (at : ℕ) (base : List ReadEntry) (items : List Item) (us : List Update) (rs : List PlainReply) (v : View)
     → IsSealed m valid sizes f at base items us rs v → IsUnsettled f rs
 unsettled_sealed m valid sizes f at base items us rs v h =
     subst (λ (n : Next). MayAbort n (has_written f rs)) (sym h.ends) (h.log.written ∙ ap not h.some)

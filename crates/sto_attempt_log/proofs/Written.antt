@@ -4,8 +4,8 @@ use Rattle.std.specs.List.{list_all}
 use Rattle.std.proofs.lemmas.Bool.{cases_Bool}
 use Rattle.sto_part.specs.declared.change.Change.{Change}
 use Rattle.sto_item.specs.Pending.{Entry, EachChanges, inserted, with_update, with_updates, is_keep}
-use Rattle.sto_model.specs.Told.{Told}
-use Rattle.sto_model.specs.Run.{Script}
+use Rattle.sto_model.specs.PlainReplies.{PlainReply}
+use Rattle.sto_model.specs.Run.{Behaviour}
 use Rattle.sto_model.specs.Serial.{is_written, has_written}
 use Rattle.sto_type.specs.Meaning.{is_empty}
 use Rattle.sto_attempt_log.specs.Every.{AllOf}
@@ -18,7 +18,7 @@ or_false : (a : Bool) → (a || false) ≡ a
 or_false true = refl
 or_false false = refl
 
-pub written_more : (f : Script) (rs : List Told) (r : Told) → has_written f (rs ++ r ∷ []) ≡ (has_written f rs || is_written (f rs) r)
+pub written_more : (f : Behaviour) (rs : List PlainReply) (r : PlainReply) → has_written f (rs ++ r ∷ []) ≡ (has_written f rs || is_written (f rs) r)
 written_more f [] r = or_false (is_written (f []) r)
 written_more f (x ∷ rs) r =
     ap (λ b. is_written (f []) x || b) (written_more (λ xs. f (x ∷ xs)) rs r)

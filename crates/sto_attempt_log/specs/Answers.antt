@@ -1,8 +1,8 @@
 -- What the answers of an attempt tell of the view of its pass.
 use Rattle.std.specs.Prelude.{◌≡◌, ◌<◌, ◌⊎◌, ℕ, ℤ, true, false, List, []}
 use Rattle.sto_model.specs.declared.body.Next.TheVariants.{Commit, Cancel}
-use Rattle.sto_model.specs.Told.{Told}
-use Rattle.sto_model.specs.Run.{Script, IsRun}
+use Rattle.sto_model.specs.PlainReplies.{PlainReply}
+use Rattle.sto_model.specs.Run.{Behaviour, IsRun}
 use Rattle.sto_model.specs.Serial.{has_written}
 use Rattle.sto_model.specs.Asked.{IsUnsettled}
 use Rattle.sto_item.specs.Pending.{Entry as Update}
@@ -39,23 +39,23 @@ IsCommitEvent es (Draw us seen loaded) = us ≡ es
 IsCommitEvent es _ = Unit {0}
 
 -- on all valid contents that have the running attempt's claims as of a number, the replies are the first ones of the script's serial run
-abbrev pub IsPrefix : Meaning → Script → View → ℕ → List Told → Type 0
+abbrev pub IsPrefix : Meaning → Behaviour → View → ℕ → List PlainReply → Type 0
 IsPrefix m f v at rs = (d : Parts) → m.valid d → HasClaims v at d → IsRun m.machines f (m.rows d) rs
 
 -- it only read: they are all of them, and the run commits and has written nothing
-pub record HasRead (m : Meaning) (f : Script) (v : View) (at : ℕ) (rs : List Told) : Type 0 where
+pub record HasRead (m : Meaning) (f : Behaviour) (v : View) (at : ℕ) (rs : List PlainReply) : Type 0 where
   pub runs : (d : Parts) → m.valid d → HasClaims v at d → IsRunOn m f d [] rs
   pub ends : f rs ≡ Commit
   pub writes : has_written f rs ≡ false
 
 -- it cancelled: they are all of them, and the run cancels
-pub record HasCancelled (m : Meaning) (f : Script) (v : View) (at : ℕ) (rs : List Told) : Type 0 where
+pub record HasCancelled (m : Meaning) (f : Behaviour) (v : View) (at : ℕ) (rs : List PlainReply) : Type 0 where
   pub runs : IsPrefix m f v at rs
   pub ends : f rs ≡ Cancel
 
 -- it wrote: the view has the committed entry, and on all valid contents that have what the entry looked at, the replies and the updates are those of the
 -- script's serial run, which commits and has written
-pub record HasWritten (m : Meaning) (f : Script) (v : View) (ticket : ℕ) (rs : List Told) : Type 0 where
+pub record HasWritten (m : Meaning) (f : Behaviour) (v : View) (ticket : ℕ) (rs : List PlainReply) : Type 0 where
   pub entry : Entry
   pub among : Among entry v.entries
   pub drawn : entry.ticket ≡ ticket
@@ -80,14 +80,14 @@ pub record HasFound (v : View) (part ticket : ℕ) : Type 0 where
   pub own : (is_free finding.version ≡ true) ⊎ (finding.held ≡ true)
 
 -- it was aborted, as of the number at, by a part that was locked
-pub record WasLocked (m : Meaning) (f : Script) (v : View) (at part : ℕ) (rs : List Told) : Type 0 where
+pub record WasLocked (m : Meaning) (f : Behaviour) (v : View) (at part : ℕ) (rs : List PlainReply) : Type 0 where
   pub runs : IsPrefix m f v at rs
   pub touched : HasTouched m f rs part
   pub unsettled : IsUnsettled f rs
   pub found : HasFoundLocked v part
 
 -- it was aborted, as of the number at, by a part that a later ticket has written
-pub record WasChanged (m : Meaning) (f : Script) (v : View) (at part ticket : ℕ) (rs : List Told) : Type 0 where
+pub record WasChanged (m : Meaning) (f : Behaviour) (v : View) (at part ticket : ℕ) (rs : List PlainReply) : Type 0 where
   pub runs : IsPrefix m f v at rs
   pub touched : HasTouched m f rs part
   pub unsettled : IsUnsettled f rs

@@ -11,8 +11,8 @@ use Rattle.sto_part.specs.declared.change.Change.TheVariants.{Add}
 use Rattle.sto_item.specs.declared.item.Item.{Item}
 use Rattle.sto_item.specs.declared.item.Item.TheVariants.{Seen, Holds}
 use Rattle.sto_item.specs.Pending.{Entry as Update, change_at, is_keep, AreUpdates}
-use Rattle.sto_model.specs.Told.{Told}
-use Rattle.sto_model.specs.Run.{Script}
+use Rattle.sto_model.specs.PlainReplies.{PlainReply}
+use Rattle.sto_model.specs.Run.{Behaviour}
 use Rattle.sto_core.specs.declared.view.Claim.{Claim}
 use Rattle.sto_core.specs.declared.view.Held.{Held}
 use Rattle.sto_core.specs.declared.view.Looked.{Looked}
@@ -46,11 +46,11 @@ pub record Deal : Type 1 where
   pub m : Meaning
   pub valid : Validity
   pub sizes : List ℕ
-  pub f : Script
+  pub f : Behaviour
   pub at : ℕ
   pub base : List ReadEntry
   pub items : List Item
-  pub rs : List Told
+  pub rs : List PlainReply
   pub us : List Update
   -- the parts that are seen
   pub seen : List ℕ
@@ -63,7 +63,7 @@ pub record Deal : Type 1 where
   -- the words that are put
   pub places : List (ℕ × ℕ)
 
-abbrev pub deal : Meaning → Validity → List ℕ → Script → ℕ → List ReadEntry → List Item → List Told → List Update → List ℕ → List ℕ → List ℕ → List ℕ → List (ℕ × ℕ) → Deal
+abbrev pub deal : Meaning → Validity → List ℕ → Behaviour → ℕ → List ReadEntry → List Item → List PlainReply → List Update → List ℕ → List ℕ → List ℕ → List ℕ → List (ℕ × ℕ) → Deal
 deal m valid sizes f at base items rs us seen loaded tasks checks places =
     record { m = m; valid = valid; sizes = sizes; f = f; at = at; base = base; items = items; rs = rs; us = us; seen = seen; loaded = loaded; tasks = tasks; checks = checks; places = places }
 

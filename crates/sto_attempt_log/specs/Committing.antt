@@ -3,8 +3,8 @@ use Rattle.std.specs.Prelude.{◌≡◌, ℕ, false, List, map, take}
 use Rattle.sto_item.specs.declared.item.Item.{Item}
 use Rattle.sto_item.specs.Pending.{Entry as Update}
 use Rattle.sto_model.specs.declared.body.Next.TheVariants.{Commit}
-use Rattle.sto_model.specs.Told.{Told}
-use Rattle.sto_model.specs.Run.{Script}
+use Rattle.sto_model.specs.PlainReplies.{PlainReply}
+use Rattle.sto_model.specs.Run.{Behaviour}
 use Rattle.sto_core.specs.declared.view.Held.{Held}
 use Rattle.sto_core.specs.declared.view.View.{View}
 use Rattle.sto_core.specs.History.{Validity}
@@ -20,7 +20,7 @@ abbrev pub written : List Update → List ℕ
 written us = map (λ (u : Update). u.0) us
 
 -- what stays so from the first lock to the last event: what was read, and that it carries the replies
-pub record IsSealed (m : Meaning) (valid : Validity) (sizes : List ℕ) (f : Script) (at : ℕ) (base : List ReadEntry) (items : List Item) (us : List Update) (rs : List Told) (v : View) : Type 0 where
+pub record IsSealed (m : Meaning) (valid : Validity) (sizes : List ℕ) (f : Behaviour) (at : ℕ) (base : List ReadEntry) (items : List Item) (us : List Update) (rs : List PlainReply) (v : View) : Type 0 where
   pub own : IsOwn m sizes v
   pub number : v.at ≡ at
   pub claimed : AreClaimed v at base

@@ -14,9 +14,9 @@ use Rattle.sto_item.specs.Rebase.{overwrites, rebased}
 use Rattle.sto_item.specs.Recorded.{Recorded, AddsItems}
 use Rattle.sto_model.specs.declared.call.Call.{Call}
 use Rattle.sto_model.specs.declared.body.Next.TheVariants.{Ask, Commit, Cancel}
-use Rattle.sto_model.specs.Machine.{reply_to}
-use Rattle.sto_model.specs.Told.{Told}
-use Rattle.sto_model.specs.Run.{Script}
+use Rattle.sto_model.specs.SequentialObjects.{reply_to}
+use Rattle.sto_model.specs.PlainReplies.{PlainReply}
+use Rattle.sto_model.specs.Run.{Behaviour}
 use Rattle.sto_core.specs.Versions.{ticket_of, is_free}
 use Rattle.sto_core.specs.History.{writes}
 use Rattle.sto_core.specs.Reads.{value_read}
@@ -67,7 +67,7 @@ pub record Reader : Type 0 where
   -- the items and the pending updates of the calls that were answered
   pub set : Recorded
   -- what they were answered
-  pub heard : List Told
+  pub heard : List PlainReply
   -- whether the running call has extended
   pub extended : Bool
   -- the number as of which an extension reads anew
@@ -78,11 +78,11 @@ pub record Reader : Type 0 where
   pub watches : List Watched
 
 -- the next call of the body is answered on what is known: its items and updates are added, and the body hears the reply
-pub record Answers (m : Meaning) (f : Script) (r s : Reader) : Type 0 where
+pub record Answers (m : Meaning) (f : Behaviour) (r s : Reader) : Type 0 where
   pub call : Call
   pub asks : f r.heard ≡ Ask call
   pub needless : m.need call (known_now m r.base r.set.updates) ≡ None
-  pub reply : Told
+  pub reply : PlainReply
   pub updates : List Update
   -- on some valid contents that have the parts that were read, and the same on all of them
   pub some : (d : Parts) × m.valid d × IsPartOf (words_in r.base) d
@@ -93,13 +93,13 @@ pub record Answers (m : Meaning) (f : Script) (r s : Reader) : Type 0 where
   pub after : s ≡ record r { set = record { items = observed.items; updates = with_updates r.set.updates updates }; heard = r.heard ++ reply ∷ []; extended = false }
 
 -- the body has come to a part that it needs, or to its end
-abbrev pub Halts : Meaning → Script → Reader → Reached → Type 0
+abbrev pub Halts : Meaning → Behaviour → Reader → Reached → Type 0
 Halts m f r (Needs p) = (call : Call) × (f r.heard ≡ Ask call) × (m.need call (known_now m r.base r.set.updates) ≡ Some p)
 Halts m f r Commits = f r.heard ≡ Commit
 Halts m f r Cancels = f r.heard ≡ Cancel
 
 -- the body runs on without an event, over so many calls
-abbrev pub RunsOn : Meaning → Script → ℕ → Reader → Reader → Reached → Type 0
+abbrev pub RunsOn : Meaning → Behaviour → ℕ → Reader → Reader → Reached → Type 0
 RunsOn m f zero r s reached = (s ≡ r) × Halts m f r reached
 RunsOn m f (suc n) r s reached = (q : Reader) × Answers m f r q × RunsOn m f n q s reached
 
@@ -194,12 +194,12 @@ after_read m R.Committing r n x = Stays r Ready
 after_read m R.Over r n x = Stays r More
 
 -- a course comes to this reader with this turn
-abbrev pub ComesTo : Meaning → Script → Course → Reader → Turn → Type 0
+abbrev pub ComesTo : Meaning → Behaviour → Course → Reader → Turn → Type 0
 ComesTo m f (Stays r turn) s end = (s ≡ r) × (end ≡ turn)
 ComesTo m f (Runs r) s end = (n : ℕ) × (q : Reader) × (reached : Reached) × RunsOn m f n r q reached × (Stays s end ≡ led q reached)
 
 -- a step of a reader, whose event found the number n or the value x
-abbrev pub ReadsOn : Meaning → Script → Reader → ℕ → ℤ → Reader → Turn → Type 0
+abbrev pub ReadsOn : Meaning → Behaviour → Reader → ℕ → ℤ → Reader → Turn → Type 0
 ReadsOn m f r n x s turn = ComesTo m f (after_read m r.phase r n x) s turn
 
 -- the commit of an attempt
@@ -210,7 +210,7 @@ pub record Committer : Type 0 where
   pub base : List ReadEntry
   pub items : List Item
   pub us : List Update
-  pub heard : List Told
+  pub heard : List PlainReply
   -- the parts that are seen, the other parts that are observed, the parts whose words are loaded, the parts that are checked, and the words that are put
   pub seen : List ℕ
   pub loaded : List ℕ
@@ -372,7 +372,7 @@ abbrev pub begun : Doing
 begun = Reads (record { at = 0; phase = R.Unstarted; words = []; base = []; set = record { items = []; updates = [] }; heard = []; extended = false; bound = 0; fresh = []; watches = [] })
 
 -- what its calls were answered so far
-abbrev pub heard_in : Doing → List Told
+abbrev pub heard_in : Doing → List PlainReply
 heard_in (Reads r) = r.heard
 heard_in (Committing c) = c.heard
 
@@ -388,24 +388,24 @@ turned r Ready = (Committing (sealed r), None)
 turned r (Ended verdict) = (Reads r, Some verdict)
 
 -- a step, whose event found the number n or the value x, leads to this attempt, with the verdict where it has ended
-abbrev pub DoesNext : Meaning → Script → Doing → ℕ → ℤ → Doing → Option Verdict → Type 0
+abbrev pub DoesNext : Meaning → Behaviour → Doing → ℕ → ℤ → Doing → Option Verdict → Type 0
 DoesNext m f (Reads r) n x later end = (s : Reader) × (turn : Turn) × ReadsOn m f r n x s turn × ((later, end) ≡ turned s turn)
 DoesNext m f (Committing c) n x later end = (s : Committer) × ((s, end) ≡ after_commit m c.phase c n x) × (later ≡ Committing s)
 
 -- the event e of a read phase found what leads from the one reader to the other, with this turn
-pub record ReadsBy (m : Meaning) (f : Script) (valid : Validity) (passes : ℕ) (read_phase : ReadPhase) (e : Event) (r s : Reader) (v w : View) (turn : Turn) : Type 0 where
+pub record ReadsBy (m : Meaning) (f : Behaviour) (valid : Validity) (passes : ℕ) (read_phase : ReadPhase) (e : Event) (r s : Reader) (v w : View) (turn : Turn) : Type 0 where
   pub number : ℕ
   pub value : ℤ
   pub tells : Tells valid passes e v number value w
   pub leads : ComesTo m f (after_read m read_phase r number value) s turn
 
 -- so many calls of the body were answered
-abbrev pub AnswersAll : Meaning → Script → ℕ → Reader → Reader → Type 0
+abbrev pub AnswersAll : Meaning → Behaviour → ℕ → Reader → Reader → Type 0
 AnswersAll m f zero r s = s ≡ r
 AnswersAll m f (suc n) r s = (q : Reader) × Answers m f r q × AnswersAll m f n q s
 
 -- the body of a reader has run on to this set and these replies; the running call has extended where it had, and was not answered
-pub record RanTo (m : Meaning) (f : Script) (r : Reader) (set : Recorded) (heard : List Told) : Type 0 where
+pub record RanTo (m : Meaning) (f : Behaviour) (r : Reader) (set : Recorded) (heard : List PlainReply) : Type 0 where
   pub count : ℕ
   pub now : Reader
   pub answered : AnswersAll m f count r now
@@ -413,5 +413,5 @@ pub record RanTo (m : Meaning) (f : Script) (r : Reader) (set : Recorded) (heard
   pub extended : IsTrue now.extended ↔ (IsTrue r.extended × (length heard ≡ length r.heard))
 
 -- the body of a reader has run on to this set and these replies, and has come to its end or to a part that it needs
-abbrev pub HasComeTo : Meaning → Script → Reader → Recorded → List Told → Reached → Type 0
+abbrev pub HasComeTo : Meaning → Behaviour → Reader → Recorded → List PlainReply → Reached → Type 0
 HasComeTo m f r set heard reached = (ran : RanTo m f r set heard) × Halts m f ran.now reached

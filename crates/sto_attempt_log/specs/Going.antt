@@ -3,7 +3,7 @@ use Rattle.std.specs.Prelude.{◌≡◌, ◌≤◌, ◌<◌, ◌+◌, ℤ, List,
 use Rattle.sto_part.specs.declared.NoMemory.{NoMemory}
 use Rattle.sto_item.specs.Recorded.{Recorded}
 use Rattle.sto_model.specs.declared.call.Call.{Call}
-use Rattle.sto_model.specs.Told.{Told, told}
+use Rattle.sto_model.specs.PlainReplies.{PlainReply, plain_reply}
 use Rattle.sto_model.specs.Run.{IsRun}
 use Rattle.sto_model.specs.Bodies.{OfBody}
 use Rattle.sto_type.specs.Known.{IsPartOf}
@@ -17,8 +17,8 @@ use Rattle.sto_attempt_log.specs.Doing.{Reader, RanTo, HasComeTo}
 use Rattle.sto_attempt_log.specs.Reached.{IsReached, IsByCall}
 
 -- the replies that the body has heard
-abbrev pub replies_of : {T B : Type 0} → Log T B → List Told
-replies_of l = map told l.replies.items
+abbrev pub replies_of : {T B : Type 0} → Log T B → List PlainReply
+replies_of l = map plain_reply l.replies.items
 
 -- t and b are what the traits of the type and of the body say
 module _ {T B : Type 0} (t : OfType T) (b : OfBody B) where
@@ -31,7 +31,7 @@ module _ {T B : Type 0} (t : OfType T) (b : OfBody B) where
   IsInOrder old new = IsOnLog (t.meaning old.ty.now) (b.then new.body) (b.script old.body) (b.left new.body) (b.may_ask new.body) old.base.items new.set new.cache new.replies.items
 
   -- from these replies and this set the body has heard on, while the parts of the log before were read
-  abbrev pub HasHeardSince : List Told → Recorded → Log T B → Log T B → Type 0
+  abbrev pub HasHeardSince : List PlainReply → Recorded → Log T B → Log T B → Type 0
   HasHeardSince rs set old l = HasHeard (t.meaning old.ty.now) (b.script old.body) (words_in old.base.items) rs set (replies_of l) l.set
 
   -- a reader stands where the log does
@@ -58,7 +58,7 @@ module _ {T B : Type 0} (t : OfType T) (b : OfBody B) where
   -- the body has heard one reply more, and its items and updates were noted
   pub record HasTakenIn {A : Type 0} (old new : Log T B) (result : Result A NoMemory) : Type 0 where
     pub log : OnOk result (IsInOrder old new)
-    pub grown : OnOk result ((rs : List Told) → (set : Recorded) → HasHeardSince rs set old old → HasHeardSince rs set old new)
+    pub grown : OnOk result ((rs : List PlainReply) → (set : Recorded) → HasHeardSince rs set old old → HasHeardSince rs set old new)
     -- from where the body of a reader has run to, it has run on
     pub ran : (r : Reader) → r.base ≡ old.base.items → RanTo (t.meaning old.ty.now) (b.script old.body) r old.set (replies_of old)
         → OnOk result (RanTo (t.meaning old.ty.now) (b.script old.body) r new.set (replies_of new))

@@ -2,8 +2,8 @@
 use Rattle.std.specs.Prelude.{List, [], ◌∷◌}
 use Rattle.sto_item.specs.Pending.{Entry, with_updates}
 use Rattle.sto_item.specs.Recorded.{Recorded}
-use Rattle.sto_model.specs.Told.{Told}
-use Rattle.sto_model.specs.Run.{Script}
+use Rattle.sto_model.specs.PlainReplies.{PlainReply}
+use Rattle.sto_model.specs.Run.{Behaviour}
 use Rattle.sto_type.specs.Known.{Known}
 use Rattle.sto_type.specs.Meaning.{Meaning}
 use Rattle.sto_type.specs.Runs.{Answered}
@@ -16,6 +16,6 @@ AreKnown m base es [] = Unit {0}
 AreKnown m base es (a ∷ ans) = IsCache m base es a.known × AreKnown m base (with_updates es (m.updates a.call a.found)) ans
 
 -- after the replies rs and one set come further replies and another set, while these parts were read
-pub record HasHeard (m : Meaning) (f : Script) (base : Known) (rs : List Told) (old : Recorded) (all : List Told) (new : Recorded) : Type 0 where
+pub record HasHeard (m : Meaning) (f : Behaviour) (base : Known) (rs : List PlainReply) (old : Recorded) (all : List PlainReply) (new : Recorded) : Type 0 where
   pub grown : HasGrown m f rs old all new
   pub known : AreKnown m base old.updates grown.calls

@@ -36,7 +36,7 @@ pub use Rattle.sto_item.specs.Rebase
 pub use Rattle.sto_item.specs.Recorded
 pub use Rattle.sto_item.specs.Watched
 pub use Rattle.sto_model.specs.Run
-pub use Rattle.sto_model.specs.Told
+pub use Rattle.sto_model.specs.PlainReplies
 pub use Rattle.sto_core.specs.Allowed
 pub use Rattle.sto_core.specs.Reads
 pub use Rattle.sto_type.specs.Known

@@ -7,8 +7,8 @@ use Rattle.sto_item.specs.Observed.{part_of_item}
 use Rattle.sto_item.specs.Rebase.{overwrites}
 use Rattle.sto_model.specs.declared.call.Call.{Call}
 use Rattle.sto_model.specs.declared.body.Next.{Next}
-use Rattle.sto_model.specs.Told.{Told, told}
-use Rattle.sto_model.specs.Run.{Script}
+use Rattle.sto_model.specs.PlainReplies.{PlainReply, plain_reply}
+use Rattle.sto_model.specs.Run.{Behaviour}
 use Rattle.sto_model.specs.Serial.{has_written}
 use Rattle.sto_type.specs.Known.{Parts, Known, known, IsPartOf}
 use Rattle.sto_type.specs.Meaning.{Meaning, is_empty}
@@ -34,7 +34,7 @@ IsInside widths (Holds p) = p.word < slice_index_or widths p.part 0
 
 -- the items and updates carry the replies; each item names a word of a part that was read; the calls may touch the parts of items and updates;
 -- there are updates exactly where a call has written
-pub record IsLog (m : Meaning) (f : Script) (base : Known) (items : List Item) (es : List Entry) (rs : List Told) : Type 0 where
+pub record IsLog (m : Meaning) (f : Behaviour) (base : Known) (items : List Item) (es : List Entry) (rs : List PlainReply) : Type 0 where
   pub carried : IsCarried m f base items es rs
   pub read : AllOf (IsRead base) items
   pub inside : AllOf (IsInside m.widths) items
@@ -61,11 +61,11 @@ pub record IsRecalled (m : Meaning) (base : Known) (es : List Entry) (p : ℕ) (
   pub inside : p < length m.widths
 
 -- all that is kept between two events: f is the script of the body, which waits where the replies have led it
-pub record IsOnLog (m : Meaning) (next : List Told → Next) (f : Script) (left : ℕ) (may : Call → Type 0) (base : List ReadEntry) (set : Recorded) (cache : List (ℕ × List ℤ)) (replies : List Reply) : Type 0 where
-  pub then : (xs : List Told) → next xs ≡ f (map told replies ++ xs)
+pub record IsOnLog (m : Meaning) (next : List PlainReply → Next) (f : Behaviour) (left : ℕ) (may : Call → Type 0) (base : List ReadEntry) (set : Recorded) (cache : List (ℕ × List ℤ)) (replies : List Reply) : Type 0 where
+  pub then : (xs : List PlainReply) → next xs ≡ f (map plain_reply replies ++ xs)
   pub taken : (call : Call) → may call → m.takes call
   pub few : length replies + left < 2 ^ 32
-  pub log : IsLog m f (words_in base) set.items set.updates (map told replies)
+  pub log : IsLog m f (words_in base) set.items set.updates (map plain_reply replies)
   pub known_above : IsCache m (words_in base) set.updates (known cache)
 
 -- the part is needed by the call that is next, was not read, and is not put whole by the pending updates

@@ -2,8 +2,8 @@
 use Rattle.std.specs.Prelude.{◌≡◌, ◌<◌, ℕ, List}
 use Rattle.sto_model.specs.declared.body.Next.TheVariants.{Commit, Cancel}
 use Rattle.sto_item.specs.Pending.{Entry}
-use Rattle.sto_model.specs.Told.{Told}
-use Rattle.sto_model.specs.Run.{Script}
+use Rattle.sto_model.specs.PlainReplies.{PlainReply}
+use Rattle.sto_model.specs.Run.{Behaviour}
 use Rattle.sto_type.specs.Meaning.{Meaning}
 use Rattle.sto_attempt_log.specs.declared.read_entry.ReadEntry.{ReadEntry}
 use Rattle.sto_attempt_log.specs.declared.log.Reached.{Reached}
@@ -11,7 +11,7 @@ use Rattle.sto_attempt_log.specs.declared.log.Reached.TheVariants.{Needs, Commit
 use Rattle.sto_attempt_log.specs.ReadSet.{words_in}
 use Rattle.sto_attempt_log.specs.Log.{IsNeeded}
 
-abbrev pub IsReached : Meaning → Script → List ReadEntry → List Entry → List Told → Reached → Type 0
+abbrev pub IsReached : Meaning → Behaviour → List ReadEntry → List Entry → List PlainReply → Reached → Type 0
 IsReached m f base es rs (Needs p) = IsNeeded m (f rs) (words_in base) es p
 IsReached m f base es rs Commits = f rs ≡ Commit
 IsReached m f base es rs Cancels = f rs ≡ Cancel

@@ -4,14 +4,14 @@ use Rattle.sto_item.specs.declared.item.Item.{Item}
 use Rattle.sto_item.specs.Pending.{Entry}
 use Rattle.sto_model.specs.declared.call.Call.{Call}
 use Rattle.sto_model.specs.declared.body.Next.TheVariants.{Ask}
-use Rattle.sto_model.specs.Told.{Told}
-use Rattle.sto_model.specs.Run.{Script}
+use Rattle.sto_model.specs.PlainReplies.{PlainReply}
+use Rattle.sto_model.specs.Run.{Behaviour}
 use Rattle.sto_type.specs.Known.{Known}
 use Rattle.sto_type.specs.Meaning.{Meaning}
 use Rattle.sto_type.specs.Plans.{Say, IsPlan}
 
 -- the type says this of the call that is next, on what is known
-pub record SaysNext (m : Meaning) (f : Script) (k : Known) (rs : List Told) (reply : Told) (items : List Item) (es : List Entry) : Type 0 where
+pub record SaysNext (m : Meaning) (f : Behaviour) (k : Known) (rs : List PlainReply) (reply : PlainReply) (items : List Item) (es : List Entry) : Type 0 where
   pub call : Call
   pub taken : m.takes call
   pub asks : f rs ≡ Ask call

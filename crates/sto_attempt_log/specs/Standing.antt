@@ -4,8 +4,8 @@ use Rattle.sto_item.specs.Pending.{Entry as Update}
 use Rattle.sto_model.specs.declared.body.Next.{Next}
 use Rattle.sto_model.specs.declared.body.Next.TheVariants.{Commit}
 use Rattle.sto_model.specs.Asked.{AsksSuch}
-use Rattle.sto_model.specs.Told.{Told}
-use Rattle.sto_model.specs.Run.{Script}
+use Rattle.sto_model.specs.PlainReplies.{PlainReply}
+use Rattle.sto_model.specs.Run.{Behaviour}
 use Rattle.sto_core.specs.declared.view.Phase.TheVariants as P
 use Rattle.sto_core.specs.declared.view.Entry.{Entry}
 use Rattle.sto_core.specs.declared.view.Fate.TheVariants.{Pending}
@@ -63,7 +63,7 @@ InReadPhase m at Committing ws v = v.phase ≡ P.Reading
 InReadPhase m at Over ws v = IsIdle v.phase
 
 -- what the body waits for
-abbrev pub Awaits : Meaning → Script → List ReadEntry → List Update → List Told → ReadPhase → Type 0
+abbrev pub Awaits : Meaning → Behaviour → List ReadEntry → List Update → List PlainReply → ReadPhase → Type 0
 Awaits m f base es rs (Opening p) = IsNeeded m (f rs) (words_in base) es p
 Awaits m f base es rs (Reading p t) = IsNeeded m (f rs) (words_in base) es p
 Awaits m f base es rs (Renewing p t) = IsNeeded m (f rs) (words_in base) es p
@@ -75,7 +75,7 @@ Awaits m f base es rs Unstarted = Unit {0}
 Awaits m f base es rs Over = Unit {0}
 
 -- the view is as the earlier steps left it: the parts that were read are claimed as of `at`, and the phase is that of the read phase
-pub record Fits (m : Meaning) (valid : Validity) (sizes : List ℕ) (f : Script) (at : ℕ) (read_phase : ReadPhase) (words : List ℤ) (base : List ReadEntry) (es : List Update) (rs : List Told) (v : View) : Type 0 where
+pub record Fits (m : Meaning) (valid : Validity) (sizes : List ℕ) (f : Behaviour) (at : ℕ) (read_phase : ReadPhase) (words : List ℤ) (base : List ReadEntry) (es : List Update) (rs : List PlainReply) (v : View) : Type 0 where
   pub own : IsOwn m sizes v
   pub unheld : v.held ≡ []
   pub decided : AreDecided v
@@ -89,7 +89,7 @@ pub record Fits (m : Meaning) (valid : Validity) (sizes : List ℕ) (f : Script)
   pub awaits : Awaits m f base es rs read_phase
 
 -- what a verdict of a reading attempt tells
-abbrev pub Ends : Meaning → Script → View → ℕ → List Told → Verdict → Type 0
+abbrev pub Ends : Meaning → Behaviour → View → ℕ → List PlainReply → Verdict → Type 0
 Ends m f v at rs (Wrote t) = ⊥
 Ends m f v at rs (Read n) = (n ≡ at) × HasRead m f v at rs
 Ends m f v at rs (Cancelled n) = (n ≡ at) × HasCancelled m f v at rs
@@ -157,7 +157,7 @@ abbrev pub IsAsOf : ℕ → Extension → Type 0
 IsAsOf at extension = extension.extended ≡ true → at ≡ extension.bound
 
 -- what the next step asks of the view: of the first one, of one of a first reading, of one of an extension
-abbrev pub Goes : Meaning → Validity → List ℕ → Script → ℕ → ReadPhase → List ℤ → Extension → List ReadEntry → List Item → List Update → List Told → View → Type 0
+abbrev pub Goes : Meaning → Validity → List ℕ → Behaviour → ℕ → ReadPhase → List ℤ → Extension → List ReadEntry → List Item → List Update → List PlainReply → View → Type 0
 Goes m valid sizes f at Unstarted words extension base items es rs v = IsIdle v.phase × (v.sizes ≡ sizes) × (0 < v.draws) × (base ≡ []) × (extension.extended ≡ false)
 Goes m valid sizes f at (Opening p) words extension base items es rs v = Fits m valid sizes f at (Opening p) words base es rs v × IsAsOf at extension
 Goes m valid sizes f at (Reading p t) words extension base items es rs v = Fits m valid sizes f at (Reading p t) words base es rs v × IsAsOf at extension
@@ -169,16 +169,16 @@ Goes m valid sizes f at Committing words extension base items es rs v = ⊥
 Goes m valid sizes f at Over words extension base items es rs v = ⊥
 
 -- the body is at its end, and the pass stands as between two reads: where the body is given more to do, the attempt may go on
-abbrev pub MayGoOn : Meaning → Validity → List ℕ → Script → ℕ → List ℤ → List ReadEntry → List Update → List Told → View → Type 0
+abbrev pub MayGoOn : Meaning → Validity → List ℕ → Behaviour → ℕ → List ℤ → List ReadEntry → List Update → List PlainReply → View → Type 0
 MayGoOn m valid sizes f at words base es rs v = Fits m valid sizes f at Over words base es rs v × (v.phase ≡ P.Reading)
 
 -- what an end tells, and that after one without an update the attempt may go on
-abbrev pub EndsAs : Meaning → Validity → List ℕ → Script → ℕ → List ℤ → List ReadEntry → List Update → List Told → View → Verdict → Type 0
+abbrev pub EndsAs : Meaning → Validity → List ℕ → Behaviour → ℕ → List ℤ → List ReadEntry → List Update → List PlainReply → View → Verdict → Type 0
 EndsAs m valid sizes f at words base es rs v (Read n) = Ends m f v at rs (Read n) × MayGoOn m valid sizes f at words base es rs v
 EndsAs m valid sizes f at words base es rs v verdict = Ends m f v at rs verdict
 
 -- what a turn tells; after an end the number of the verdict is not above that of the view
-abbrev pub Turned : Meaning → Validity → List ℕ → Script → ℕ → ReadPhase → List ℤ → Extension → List ReadEntry → List Item → List Update → List Told → View → Turn → Type 0
+abbrev pub Turned : Meaning → Validity → List ℕ → Behaviour → ℕ → ReadPhase → List ℤ → Extension → List ReadEntry → List Item → List Update → List PlainReply → View → Turn → Type 0
 Turned m valid sizes f at read_phase words extension base items es rs v More = Goes m valid sizes f at read_phase words extension base items es rs v
 Turned m valid sizes f at read_phase words extension base items es rs v Ready = Fits m valid sizes f at read_phase words base es rs v × (read_phase ≡ Committing)
 Turned m valid sizes f at read_phase words extension base items es rs v (Ended verdict) = (read_phase ≡ Over) × IsLeft v × (at ≤ v.at) × EndsAs m valid sizes f at words base es rs v verdict
@@ -200,7 +200,7 @@ next_event widths Committing words = Start
 next_event widths Over words = Start
 
 -- whether the running call of the body has extended is told truly: a renew alone makes it so, and the next reply ends it; and the number is that of the last renew
-abbrev pub KeepsExtension : ReadPhase → View → Extension → List Told → Extension → List Told → Type 0
+abbrev pub KeepsExtension : ReadPhase → View → Extension → List PlainReply → Extension → List PlainReply → Type 0
 KeepsExtension (Renewing p t) v old rs new now = (new.bound ≡ v.at) × (new.extended ≡ true → now ≡ rs)
 KeepsExtension _ v old rs new now = (new.bound ≡ old.bound) × (new.extended ≡ true → (old.extended ≡ true) × (now ≡ rs))
 

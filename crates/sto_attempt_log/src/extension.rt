@@ -1,7 +1,7 @@
 //! What an extension of the snapshot keeps while it is under way.
 ghost use Rattle.std.specs.Prelude.{◌≡◌, [], false};
 
-use crate::memory::Memory;
+use crate::memory::AttemptLists;
 use crate::read_entry::ReadSet;
 use std::alloc::Global;
 use sto_item::Watches;
@@ -21,7 +21,7 @@ pub struct Extension {
 
 impl Extension {
     /// Nothing to read anew.
-    pub fn new(alloc: Global, memory: &mut Memory) -> Extension
+    pub fn new(alloc: Global, memory: &mut AttemptLists) -> Extension
         ensures fresh { result.fresh.items ≡ [] }
         ensures extended { result.extended ≡ false }
     {

@@ -23,7 +23,7 @@ pub use found_tickets::FoundTickets;
 pub use lists::{Lists, is_seen, is_written, lists_of, width_of_all};
 pub use loaded_words::LoadedWords;
 pub use log::{Log, Reached};
-pub use memory::Memory;
+pub use memory::AttemptLists;
 pub use observed::Observed;
 pub use predicates::Predicates;
 pub use read_entry::{ReadEntry, ReadRef, ReadSet};

@@ -1,5 +1,5 @@
 //! The log of an attempt between two events: the body is run on what is known, up to the next part that has to be read, or to its end.
-ghost use Rattle.sto_model.specs.Told.{told};
+ghost use Rattle.sto_model.specs.PlainReplies.{plain_reply};
 ghost use Rattle.sto_type.specs.Known.{known};
 ghost use Rattle.sto_attempt_log.specs.Says.{SaysNext};
 ghost use Rattle.sto_attempt_log.specs.Going.{CanBe, IsInOrder, HasRunOn, HasTakenIn, replies_of};
@@ -84,7 +84,7 @@ impl<T: TxType, B: Body> Log<'_, T, B> {
         requires some { CanBe T.TxType B.Body self.old }
         requires log { IsInOrder T.TxType B.Body self.old self.old }
         requires says { SaysNext (T.meaning self.old.ty.now) (B.script self.old.body) (known self.old.cache)
-            (replies_of self.old) (told reply) items.now.items updates.now.items }
+            (replies_of self.old) (plain_reply reply) items.now.items updates.now.items }
         ensures { HasTakenIn T.TxType B.Body self.old self.new result }
     {
         add_items(&mut self.set, items)?;

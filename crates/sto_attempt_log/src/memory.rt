@@ -7,9 +7,9 @@ use crate::lists::Lists;
 use crate::loaded_words::LoadedWords;
 use crate::observed::Observed;
 use crate::read_entry::ReadSet;
-use std::mem;
 use std::alloc::Global;
 use std::marker::Model;
+use std::mem;
 use sto_item::Updates;
 use sto_model::Replies;
 use sto_part::{List, PartWords, Parts};
@@ -20,7 +20,7 @@ use sto_type::{AnswerPool, Cache};
 /// Who runs attempts lends it to one after the other. An attempt takes lists out of it, of which each leaves one without room in its
 /// place, and what it gives back is cleared. So it is empty whenever it can be seen, and contracts see nothing of it.
 #[derive(Drop)]
-pub struct Memory {
+pub struct AttemptLists {
     alloc: Global,
     // None before the first are kept. They stand on the heap, since memory is moved with each attempt.
     kept: Option<Box<KeptLists>>,
@@ -47,7 +47,7 @@ pub struct KeptLists {
     loaded_words: LoadedWords,
 }
 
-impl Model for Memory {
+impl Model for AttemptLists {
     ghost use Rattle.std.specs.Prelude.{IfSome};
     ghost use Rattle.sto_attempt_log.specs.Kept.{AreEmpty};
 
@@ -84,15 +84,15 @@ impl KeptLists {
     }
 }
 
-impl Memory {
-    /// Memory with no room yet. It takes none.
-    pub fn new(alloc: Global) -> Memory {
-        Memory { alloc, kept: None }
+impl AttemptLists {
+    /// AttemptLists with no room yet. It takes none.
+    pub fn new(alloc: Global) -> AttemptLists {
+        AttemptLists { alloc, kept: None }
     }
 
-    /// Takes all of it. Memory with no room stays in its place.
-    pub fn take(&mut self) -> Memory {
-        Memory {
+    /// Takes all of it. AttemptLists with no room stays in its place.
+    pub fn take(&mut self) -> AttemptLists {
+        AttemptLists {
             alloc: self.alloc,
             kept: self.take_kept(),
         }

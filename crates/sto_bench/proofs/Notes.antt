@@ -4,7 +4,7 @@ use Rattle.std.proofs.Common.{◌≡◌, ◌≤◌, ◌+◌, ◌*◌, ◌/◌, �
 use Rattle.std.proofs.lemmas.Bool.{cases_eq}
 use Rattle.std.proofs.lemmas.Bool.Decides.{nat_tests}
 use Rattle.std.proofs.lemmas.Int.{ints}
-use Rattle.sto_report_spec.specs.Orders.{Place, positions_of, numbers_from}
+use Rattle.sto_report_spec.specs.Orders.{TransactionPlace, positions_of, numbers_from}
 use Rattle.sto_model.specs.Rows.{Row, with_row, bucket_of}
 use Rattle.sto_bench.proofs.Orders.{Kind, own_first, other_same, total_of_kind}
 use Rattle.sto_bench.proofs.Pairs.{IsAbsent, absent_still}
@@ -32,7 +32,7 @@ abbrev pub bump : ℕ → (ℕ → ℕ) → ℕ → ℕ
 bump thread next t = cond (thread == t) (suc (next t)) (next t)
 
 -- the transactions that are left of a thread
-pub record IsNext (next : ℕ → ℕ) (rest : List Place) (t : ℕ) : Type 0 where
+pub record IsNext (next : ℕ → ℕ) (rest : List TransactionPlace) (t : ℕ) : Type 0 where
   pub left : ℕ
   pub positions : positions_of t rest ≡ numbers_from (next t) left
   pub first : 1 ≤ next t
@@ -55,11 +55,11 @@ first_of x a zero xs e = absurd cc
 first_of x a (suc c) xs e = (cc, (c, refl, cc))
 
 -- the next transaction of its thread is run
-pub runs_next : (next : ℕ → ℕ) (p : Place) (rest : List Place) → IsNext next (p ∷ rest) p.0 → (p.1 ≡ next p.0) × (p.1 ≤ 200)
+pub runs_next : (next : ℕ → ℕ) (p : TransactionPlace) (rest : List TransactionPlace) → IsNext next (p ∷ rest) p.0 → (p.1 ≡ next p.0) × (p.1 ≤ 200)
 runs_next next p rest h =
     let at = first_of p.1 (next p.0) h.left (positions_of p.0 rest) (sym (own_first p rest) ∙ h.positions) in (at.0, omega (arith, at.0, at.1.1, h.last))
 
-pub next_on : (next : ℕ → ℕ) (p : Place) (rest : List Place) (t : ℕ) → IsNext next (p ∷ rest) t → IsNext (bump p.0 next) rest t
+pub next_on : (next : ℕ → ℕ) (p : TransactionPlace) (rest : List TransactionPlace) (t : ℕ) → IsNext next (p ∷ rest) t → IsNext (bump p.0 next) rest t
 next_on next p rest t h = elim (cases_eq p.0 t) [
   | inl same ↦
       let own : positions_of t (p ∷ rest) ≡ p.1 ∷ positions_of t rest = subst (λ (u : ℕ). positions_of u (p ∷ rest) ≡ p.1 ∷ positions_of u rest) same (own_first p rest) in

@@ -2,14 +2,14 @@
 use Rattle.std.proofs.Common.{◌≡◌, ℕ, zero, suc, ◌+◌, ◌-◌, ◌*◌, ◌≤◌, ◌<◌, List, [], ◌∷◌, length, Option, None, Some, slice_get, option_and_then, ap, sym, ◌∙◌, arith}
 use Rattle.std.proofs.lemmas.Option.{slice_get_within}
 use Rattle.sto_lang.specs.Scripts.{Script, File}
-use Rattle.sto_report_spec.specs.Orders.{Place, at_position, transaction_at, count_in}
+use Rattle.sto_report_spec.specs.Orders.{TransactionPlace, at_position, transaction_at, count_in}
 use Rattle.sto_gen.specs.Draws.{transfer_after, state_after}
 use Rattle.sto_gen.specs.Generated.{file_of, transaction, transactions, state_before, threads}
 use Rattle.sto_gen.proofs.Places.{thread_there, transaction_there}
 use Rattle.sto_gen.proofs.Sound.{thread_count, transaction_length}
 
 -- where a transaction stands
-pub record IsWithin (place : Place) : Type 0 where
+pub record IsWithin (place : TransactionPlace) : Type 0 where
   pub thread : place.0 < 16
   pub first : 1 ≤ place.1
   pub position : place.1 ≤ 200
@@ -25,7 +25,7 @@ found_position (suc p) scripts s e = let within = slice_get_within scripts p s e
 pub some_same : {X : Type 0} (x y : X) → Some x ≡ Some y → x ≡ y
 some_same x y e = cc
 
-pub is_within : (n : ℕ) (place : Place) (s : Script) → transaction_at (file_of n) place ≡ Some s → IsWithin place
+pub is_within : (n : ℕ) (place : TransactionPlace) (s : Script) → transaction_at (file_of n) place ≡ Some s → IsWithin place
 is_within n place s there =
     let found = found_thread (slice_get (threads n 16) place.0) place.1 s there in
     let within = slice_get_within (threads n 16) place.0 found.0 found.1 in
@@ -37,7 +37,7 @@ is_within n place s there =
     record { thread = thread; first = positions.0; position = (let p = positions.1 in omega (arith, p, many)) }
 
 at_suc : (f : File) (thread p q : ℕ) → p ≡ suc q → transaction_at f (thread, p) ≡ option_and_then (at_position (suc q)) (slice_get f.threads thread)
-at_suc f thread p q e = ap (λ (n : ℕ). let place : Place = (thread, n) in transaction_at f place) e
+at_suc f thread p q e = ap (λ (n : ℕ). let place : TransactionPlace = (thread, n) in transaction_at f place) e
 
 -- the transaction that is made of a transfer
 pub made_there : (n thread position : ℕ) → IsWithin (thread, position)

@@ -5,7 +5,7 @@ use Rattle.std.proofs.lemmas.Int.{fits_signed_from_abs}
 use Rattle.std.proofs.Common.{◌≡◌, ℕ, ◌==◌, ◌%◌, ◌+◌, ◌*◌, ◌/◌, ◌<◌, ◌≤◌, List, [], ◌∷◌, Bool, true, false, refl, ◌∙◌, arith, ◌^◌, inl, inr}
 use Rattle.sto_part.specs.Preds.{compares}
 use Rattle.sto_part.specs.declared.pred.Test.TheVariants.{Ge}
-use Rattle.sto_model.specs.Told.{Told}
+use Rattle.sto_model.specs.PlainReplies.{PlainReply}
 use Rattle.sto_model.specs.Run.{IsAsk, MayAsk}
 use Rattle.sto_model.specs.declared.call.Call.{Call}
 use Rattle.sto_model.specs.declared.body.Next.{Next}
@@ -24,41 +24,41 @@ use Rattle.sto_bench.specs.declared.body.TransferStage.TheVariants.{Balance, Out
 abbrev note_if : Bool → ℕ → Arg → Arg → Statements
 note_if b object key value = if b then Ask None object 5 key value Nothing else Nothing
 
-note_heard : (b c : Bool) (k v l w : Arg) (x : Values) (r : Told) (rs : List Told) → IsAsk (doing (note_if b 3 k v then note_if c 2 l w) committing x [])
+note_heard : (b c : Bool) (k v l w : Arg) (x : Values) (r : PlainReply) (rs : List PlainReply) → IsAsk (doing (note_if b 3 k v then note_if c 2 l w) committing x [])
     → (if b then doing (note_if c 2 l w) committing x rs else next.Commit) ≡ doing (note_if b 3 k v then note_if c 2 l w) committing x (r ∷ rs)
 note_heard true c k v l w x r rs asked = refl
 note_heard false true k v l w x r rs asked = refl
 note_heard false false k v l w x r rs asked = absurd asked
 
-after_note : (b : Bool) (thread position : ℕ) (t : Transfer) (x : Values) (rs : List Told)
+after_note : (b : Bool) (thread position : ℕ) (t : Transfer) (x : Values) (rs : List PlainReply)
     → doing_from (if b then Owner else End) thread position t x rs ≡ (if b then doing (owner_note thread position) committing x rs else next.Commit)
 after_note true thread position t x rs = refl
 after_note false thread position t x rs = refl
 
 -- the log's stage
-pub log_heard : (thread position : ℕ) (t : Transfer) (x : Values) (r : Told) (rs : List Told) → IsAsk (doing_from Log thread position t x [])
+pub log_heard : (thread position : ℕ) (t : Transfer) (x : Values) (r : PlainReply) (rs : List PlainReply) → IsAsk (doing_from Log thread position t x [])
     → doing_from (if position % 20 == 0 then Owner else End) thread position t x rs ≡ doing_from Log thread position t x (r ∷ rs)
 log_heard thread position t x r rs asked =
     after_note (position % 20 == 0) thread position t x rs
     ∙ note_heard (position % 20 == 0) (position % 25 == 0) (number (1000 * thread + position)) (number t.amount) (number (8 * thread + position / 25)) (number thread) x r rs asked
 
-owner_none_left : (c : Bool) (l w : Arg) (x : Values) (r : Told) (rs : List Told) → IsAsk (doing (note_if c 2 l w) committing x []) → next.Commit ≡ doing (note_if c 2 l w) committing x (r ∷ rs)
+owner_none_left : (c : Bool) (l w : Arg) (x : Values) (r : PlainReply) (rs : List PlainReply) → IsAsk (doing (note_if c 2 l w) committing x []) → next.Commit ≡ doing (note_if c 2 l w) committing x (r ∷ rs)
 owner_none_left true l w x r rs asked = refl
 owner_none_left false l w x r rs asked = absurd asked
 
 -- that of the owners
-pub owner_heard : (thread position : ℕ) (t : Transfer) (x : Values) (r : Told) (rs : List Told) → IsAsk (doing_from Owner thread position t x [])
+pub owner_heard : (thread position : ℕ) (t : Transfer) (x : Values) (r : PlainReply) (rs : List PlainReply) → IsAsk (doing_from Owner thread position t x [])
     → doing_from End thread position t x rs ≡ doing_from Owner thread position t x (r ∷ rs)
 owner_heard thread position t x r rs asked = owner_none_left (position % 25 == 0) (number (8 * thread + position / 25)) (number thread) x r rs asked
 
-moves_or_log : (b : Bool) (thread position : ℕ) (t : Transfer) (x : Values) (rs : List Told)
+moves_or_log : (b : Bool) (thread position : ℕ) (t : Transfer) (x : Values) (rs : List PlainReply)
     → doing_from (if b then Out else Log) thread position t x rs
     ≡ (if b then doing (moves t) (doing (notes thread position t) committing) x rs else doing Nothing (doing (notes thread position t) committing) x rs)
 moves_or_log true thread position t x rs = refl
 moves_or_log false thread position t x rs = refl
 
 -- that of the balance
-pub balance_heard : (thread position : ℕ) (t : Transfer) (old : ℤ) (r : Told) (rs : List Told)
+pub balance_heard : (thread position : ℕ) (t : Transfer) (old : ℤ) (r : PlainReply) (rs : List PlainReply)
     → doing_from (if compares Ge (taken r) (pos t.amount) then Out else Log) thread position t (taken r ∷ []) rs ≡ doing_from Balance thread position t (old ∷ []) (r ∷ rs)
 balance_heard thread position t old r rs = moves_or_log (compares Ge (taken r) (pos t.amount)) thread position t (taken r ∷ []) rs
 

@@ -9,7 +9,7 @@ use Rattle.std.proofs.lemmas.Int.{ints, int_rem_euclid_is}
 use Rattle.sto_model.specs.Rows.{Row, bucket_of, keys_beside}
 use Rattle.sto_model.specs.Run.{State}
 use Rattle.sto_lang.specs.Scripts.{Script}
-use Rattle.sto_report_spec.specs.Orders.{Place, IsOrder, at_position, numbers_from, transaction_at}
+use Rattle.sto_report_spec.specs.Orders.{TransactionPlace, IsOrder, at_position, numbers_from, transaction_at}
 use Rattle.sto_report_spec.specs.Replay.{script_run, run_at, opening_state, state_from, final_state}
 use Rattle.sto_gen.specs.declared.draws.Transfer.{Transfer}
 use Rattle.sto_gen.specs.Draws.{state_after, transfer_after}
@@ -23,7 +23,7 @@ use Rattle.sto_bench.proofs.Notes.{logs, log_key, owns, owner_key, owns_in, bump
 use Rattle.sto_bench.proofs.Transfers.{machines, owners_after, log_after, AreLeft, noted_left}
 
 -- between two transactions: what was noted and what is still to be noted make the whole, and no key comes twice
-record IsSoFar (next : ℕ → ℕ) (rest : List Place) (st : State) : Type 0 where
+record IsSoFar (next : ℕ → ℕ) (rest : List TransactionPlace) (st : State) : Type 0 where
   owners : List Row
   log : List Row
   left : AreLeft owners log st
@@ -94,7 +94,7 @@ owner_step true next rows thread position owner e firsts here last room fresh =
     }
 
 -- the transaction at a place of an order
-at_place : (n : ℕ) (p : Place) → p.0 < 16 → 1 ≤ p.1 → p.1 ≤ 200 → (state : ℕ) × (transaction_at (file_of n) p ≡ Some (transaction p.0 p.1 (transfer_after state)))
+at_place : (n : ℕ) (p : TransactionPlace) → p.0 < 16 → 1 ≤ p.1 → p.1 ≤ 200 → (state : ℕ) × (transaction_at (file_of n) p ≡ Some (transaction p.0 p.1 (transfer_after state)))
 at_place n p thread from to = by p.1 from to
   where
     by : (position : ℕ) → 1 ≤ position → position ≤ 200
@@ -107,7 +107,7 @@ at_place n p thread from to = by p.1 from to
               ∙ ap (λ (k : ℕ). Some (transaction p.0 k (transfer_after (state_after (200 * p.0 + earlier) n)))) same,
         )
 
-one_more : (n : ℕ) (next : ℕ → ℕ) (p : Place) (rest : List Place) (st : State) → IsSoFar next (p ∷ rest) st → IsSoFar (bump p.0 next) rest (run_at (file_of n) st p).after
+one_more : (n : ℕ) (next : ℕ → ℕ) (p : TransactionPlace) (rest : List TransactionPlace) (st : State) → IsSoFar next (p ∷ rest) st → IsSoFar (bump p.0 next) rest (run_at (file_of n) st p).after
 one_more n next p rest st h =
     let runs = runs_next next p rest (h.nexts p.0) in
     let firsts : (t : ℕ) → 1 ≤ next t = λ t. (h.nexts t).first in
@@ -137,17 +137,17 @@ one_more n next p rest st h =
       buckets = λ c l. omega (arith, owned.buckets c, h.buckets c l);
     }
 
-all_more : (n : ℕ) (next : ℕ → ℕ) (order : List Place) (st : State) → IsSoFar next order st → (last : ℕ → ℕ) × IsSoFar last [] (state_from (file_of n) st order)
+all_more : (n : ℕ) (next : ℕ → ℕ) (order : List TransactionPlace) (st : State) → IsSoFar next order st → (last : ℕ → ℕ) × IsSoFar last [] (state_from (file_of n) st order)
 all_more n next [] st h = (next, h)
 all_more n next (p ∷ order) st h = all_more n (bump p.0 next) order (run_at (file_of n) st p).after (one_more n next p order st h)
 
-nexts_at : (n : ℕ) (order : List Place) → IsOrder (file_of n) order → (t : ℕ) → IsNext (λ _. 1) order t
+nexts_at : (n : ℕ) (order : List TransactionPlace) → IsOrder (file_of n) order → (t : ℕ) → IsNext (λ _. 1) order t
 nexts_at n order is t = elim (cases_lt t 16) [
   | inl below ↦ record { left = 200; positions = thread_positions n order is t below; first = omega arith; last = omega arith }
   | inr past ↦ record { left = 0; positions = past_positions n order is t past; first = omega arith; last = omega arith }
 ]
 
-opened : (n : ℕ) (order : List Place) → IsOrder (file_of n) order → IsSoFar (λ _. 1) order (opening_state (file_of n))
+opened : (n : ℕ) (order : List TransactionPlace) → IsOrder (file_of n) order → IsSoFar (λ _. 1) order (opening_state (file_of n))
 opened n order is = record {
   owners = [];
   log = [];
@@ -161,14 +161,14 @@ opened n order is = record {
   buckets = λ c l. let all = count_is (owns_in (pos c)) n order is ∙ bucket_total c l in omega (arith, all);
 }
 
-left_at_end : (n : ℕ) (order : List Place) → IsOrder (file_of n) order → (last : ℕ → ℕ) × IsSoFar last [] (final_state (file_of n) order)
+left_at_end : (n : ℕ) (order : List TransactionPlace) → IsOrder (file_of n) order → (last : ℕ → ℕ) × IsSoFar last [] (final_state (file_of n) order)
 left_at_end n order is = all_more n (λ _. 1) order (opening_state (file_of n)) (opened n order is)
 
 -- it leaves rows of four objects
-pub four_objects : (n : ℕ) (order : List Place) → IsOrder (file_of n) order → length (final_state (file_of n) order) ≡ 4
+pub four_objects : (n : ℕ) (order : List TransactionPlace) → IsOrder (file_of n) order → length (final_state (file_of n) order) ≡ 4
 four_objects n order is = ap (λ (st : State). length st) (left_at_end n order is).1.left.is
 
-pub totals : (n : ℕ) (order : List Place) → IsOrder (file_of n) order → HasTotals (final_state (file_of n) order)
+pub totals : (n : ℕ) (order : List TransactionPlace) → IsOrder (file_of n) order → HasTotals (final_state (file_of n) order)
 totals n order is =
     let h = (left_at_end n order is).1 in
     record {

@@ -4,7 +4,7 @@ use Rattle.std.proofs.Common.{◌≡◌, ◌≤◌, ◌<◌, ◌-◌, ℕ, zero,
 use Rattle.std.proofs.lemmas.Int.{ints}
 use Rattle.sto_model.specs.Rows.{Row, value_at, keys_beside}
 use Rattle.sto_model.specs.Run.{State}
-use Rattle.sto_model.specs.Machine.{Machine}
+use Rattle.sto_model.specs.SequentialObjects.{SequentialObject}
 use Rattle.sto_model.specs.Objects.{machines_of, added_at, value_or_absent, put_effect}
 use Rattle.sto_model.specs.Serial.{SerialRun, run_within, settled}
 use Rattle.sto_model.specs.declared.run.End.{End}
@@ -18,7 +18,7 @@ use Rattle.sto_gen.specs.Generated.{objects, moves}
 use Rattle.sto_gen.proofs.Sound.{note_if, noted}
 use Rattle.sto_bench.proofs.Balances.{rows_from, sum_of, value_is, added_is, sum_set, one_of}
 
-abbrev pub machines : List Machine
+abbrev pub machines : List SequentialObject
 machines = machines_of (shapes_of objects)
 
 -- the rows of the table of owners after a note, where there is one

@@ -2,7 +2,7 @@
 use Rattle.std.specs.Prelude.{if◌then◌else◌, IfSome}
 use Rattle.std.specs.Arc.{arc_value}
 use Rattle.std.proofs.Common.{◌≡◌, ◌≢◌, ◌+◌, ◌<◌, ◌≤◌, ℕ, zero, suc, ℤ, pos, Bool, true, false, true≢false, List, [], ◌∷◌, ◌++◌, length, length-append, map, Option, Some, None, Ok, refl, sym, ap, ◌∙◌, subst, arith, ne_eqb, append-nil, append_assoc, inl, inr}
-use Rattle.sto_model.specs.Machine.{opening_of}
+use Rattle.sto_model.specs.SequentialObjects.{opening_of}
 use Rattle.sto_model.specs.Run.{State, state_along}
 use Rattle.sto_model.specs.declared.shape.Shape.{Shape}
 use Rattle.sto_store.specs.declared.objects.Objects.{Objects}

@@ -20,14 +20,14 @@ use crate::status::Status;
 use crate::telling::all_rows;
 use std::alloc::Global;
 use sto_part::NoMemory;
-use sto_shared_store::{OwnedStore, Plan, OwnedCloseError, HireError};
+use sto_shared_store::{HireError, ObjectPlan, OwnedCloseError, OwnedStore};
 
 // The plan of these objects.
-fn plan_of(alloc: Global, shapes: &[ShapeIn]) -> Result<Plan, Status>
+fn plan_of(alloc: Global, shapes: &[ShapeIn]) -> Result<ObjectPlan, Status>
     ensures plan { IfOk result (λ plan. map shape_in shapes.now ≡ map Some plan) }
     ensures refused { IfErr result (λ why. IsUnplanned shapes.now why) }
 {
-    let mut plan = Plan::new(alloc);
+    let mut plan = ObjectPlan::new(alloc);
     for given in shapes {
         let Some(shape) = given.shape() else {
             return Err(Status::BadKind);

@@ -3,9 +3,9 @@ use Rattle.std.proofs.Common.{◌≡◌, ◌⊎◌, ℕ, zero, suc, List, [], �
 use Rattle.std.specs.List.{Contains}
 use Rattle.std.proofs.lemmas.List.Elements.{Contains-append_cases}
 use Rattle.sto_type.specs.Pending.{Entry}
-use Rattle.sto_model.specs.Told.{Told, is_write}
-use Rattle.sto_model.specs.Machine.{reply_to, state_after}
-use Rattle.sto_model.specs.Run.{Script as Steps, State, MayAsk}
+use Rattle.sto_model.specs.PlainReplies.{PlainReply, is_write}
+use Rattle.sto_model.specs.SequentialObjects.{reply_to, state_after}
+use Rattle.sto_model.specs.Run.{Behaviour, State, MayAsk}
 use Rattle.sto_model.specs.Serial.{SerialRun, by_next, ended, heard, run_within}
 use Rattle.sto_model.specs.declared.call.Call.{Call}
 use Rattle.sto_model.specs.declared.body.Next.{Next}
@@ -62,7 +62,7 @@ module _ (means : List Shape → Meaning) (shapes : List Shape) (law : IsLawful 
   asked_first call st done rest new after t v r more =
       let es : List Entry = m.updates call done.contents in
       let up : IsUpdated m call done.contents es = law.updated call done.contents t v in
-      let reply : Told = reply_to m.machines call st in
+      let reply : PlainReply = reply_to m.machines call st in
       let wrote : is_write call.code reply ≡ not (is_empty es) = ap (λ (s : State). is_write call.code (reply_to m.machines call s)) (sym r) ∙ up.writes in
       record {
         valid = more.valid;
@@ -78,7 +78,7 @@ module _ (means : List Shape → Meaning) (shapes : List Shape) (law : IsLawful 
       }
 
   -- a whole run
-  pub ran : (n : ℕ) (f : Steps) (st : State) (done : Updates) → m.valid done.contents → m.rows done.contents ≡ st → AreTaken m f (run_within m.machines n f st).replies
+  pub ran : (n : ℕ) (f : Behaviour) (st : State) (done : Updates) → m.valid done.contents → m.rows done.contents ≡ st → AreTaken m f (run_within m.machines n f st).replies
       → Ran done (updates_along (updating_by means) shapes f (run_within m.machines n f st).replies done) (objects_along f (run_within m.machines n f st).replies) (run_within m.machines n f st).after
   ran zero f st done v r t = by (f [])
     where
@@ -96,13 +96,13 @@ module _ (means : List Shape → Meaning) (shapes : List Shape) (law : IsLawful 
       still = record { valid = v; rows = r; parts = λ p k. inl k }
 
       by : (z : Next) → f [] ≡ z → AreTaken m f (by_next z (λ call. heard (reply_to m.machines call st) (run_within m.machines n (λ rs. f (reply_to m.machines call st ∷ rs)) (state_after m.machines call st))) (ended st)).replies
-          → ((x : Told) (s : State) (d : Updates) → m.valid d.contents → m.rows d.contents ≡ s → AreTaken m (λ rs. f (x ∷ rs)) (run_within m.machines n (λ rs. f (x ∷ rs)) s).replies
+          → ((x : PlainReply) (s : State) (d : Updates) → m.valid d.contents → m.rows d.contents ≡ s → AreTaken m (λ rs. f (x ∷ rs)) (run_within m.machines n (λ rs. f (x ∷ rs)) s).replies
           → Ran d (updates_along (updating_by means) shapes (λ rs. f (x ∷ rs)) (run_within m.machines n (λ rs. f (x ∷ rs)) s).replies d) (objects_along (λ rs. f (x ∷ rs)) (run_within m.machines n (λ rs. f (x ∷ rs)) s).replies) (run_within m.machines n (λ rs. f (x ∷ rs)) s).after)
           → Ran done (updates_along (updating_by means) shapes f (by_next z (λ call. heard (reply_to m.machines call st) (run_within m.machines n (λ rs. f (reply_to m.machines call st ∷ rs)) (state_after m.machines call st))) (ended st)).replies done)
           (objects_along f (by_next z (λ call. heard (reply_to m.machines call st) (run_within m.machines n (λ rs. f (reply_to m.machines call st ∷ rs)) (state_after m.machines call st))) (ended st)).replies)
           (by_next z (λ call. heard (reply_to m.machines call st) (run_within m.machines n (λ rs. f (reply_to m.machines call st ∷ rs)) (state_after m.machines call st))) (ended st)).after
       by (Ask call) e h more =
-          let x : Told = reply_to m.machines call st in
+          let x : PlainReply = reply_to m.machines call st in
           let s : State = state_after m.machines call st in
           let rest : SerialRun = run_within m.machines n (λ rs. f (x ∷ rs)) s in
           let takes : m.takes call = subst (MayAsk m.takes) e h.0 in

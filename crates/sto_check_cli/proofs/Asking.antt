@@ -6,8 +6,8 @@ use Rattle.std.proofs.lemmas.Int.{SFits-int_wrap}
 use Rattle.std.proofs.lemmas.List.Elements.{All-nil, All-cons, All-head, All-tail, All-set, All-replicate}
 use Rattle.sto_part.specs.Changes.{wrapped_sum, wrapped_difference}
 use Rattle.sto_part.specs.Preds.{compares}
-use Rattle.sto_model.specs.Told.{Told, Done, Value, Flag, Absent, Full, Range, Pairs}
-use Rattle.sto_model.specs.Run.{Script as Steps, MayAsk}
+use Rattle.sto_model.specs.PlainReplies.{PlainReply, Done, Value, Flag, Absent, Full, Range, Pairs}
+use Rattle.sto_model.specs.Run.{Behaviour, MayAsk}
 use Rattle.sto_model.specs.declared.call.Call.{Call}
 use Rattle.sto_model.specs.declared.body.Next.{Next}
 use Rattle.sto_model.specs.declared.body.Next.TheVariants as next
@@ -45,11 +45,11 @@ pub record IsFittingOf (P : Call → Type 0) (call : Call) : Type 0 where
 
 -- all that is asked next is such a call, where the values of the variables and the replies have numbers of 64 bits
 abbrev AsksOf : (Call → Type 0) → Doing → Type 0
-AsksOf P d = (vs : Values) (replies : List Told) → All Fits vs → All ToldFits replies → MayAsk (IsFittingOf P) (d vs replies)
+AsksOf P d = (vs : Values) (replies : List PlainReply) → All Fits vs → All ToldFits replies → MayAsk (IsFittingOf P) (d vs replies)
 
 -- all that is asked after such replies
-abbrev pub StepsOf : (Call → Type 0) → Steps → Type 0
-StepsOf P steps = (replies : List Told) → All ToldFits replies → MayAsk (IsFittingOf P) (steps replies)
+abbrev pub StepsOf : (Call → Type 0) → Behaviour → Type 0
+StepsOf P steps = (replies : List PlainReply) → All ToldFits replies → MayAsk (IsFittingOf P) (steps replies)
 
 -- Values of variables.
 
@@ -61,7 +61,7 @@ value_fits vs (Var place) h f = by (slice_get vs place) refl
     by None e = zero_fits
     by (Some x) e = all_get Fits vs place x h e
 
-taken_fits : (reply : Told) → ToldFits reply → Fits (taken reply)
+taken_fits : (reply : PlainReply) → ToldFits reply → Fits (taken reply)
 taken_fits Done f = count_fits 1 (omega arith)
 taken_fits (Value x) f = f
 taken_fits (Flag true) f = count_fits 1 (omega arith)
@@ -71,7 +71,7 @@ taken_fits Full f = zero_fits
 taken_fits Range f = zero_fits
 taken_fits (Pairs rows) f = count_fits (length rows) f
 
-reply_kept : (vs : Values) (to : Option ℕ) (reply : Told) → All Fits vs → ToldFits reply → All Fits (with_reply vs to reply)
+reply_kept : (vs : Values) (to : Option ℕ) (reply : PlainReply) → All Fits vs → ToldFits reply → All Fits (with_reply vs to reply)
 reply_kept vs None reply h f = h
 reply_kept vs (Some to) reply h f = All-set Fits vs to (taken reply) (taken_fits reply f) h
 
@@ -126,7 +126,7 @@ taken_next P next.Commit h = tt
 taken_next P next.Cancel h = tt
 
 -- such calls are taken
-pub taken_along : (m : Meaning) (steps : Steps) (replies : List Told) → StepsOf m.takes steps → All ToldFits replies → AreTaken m steps replies
+pub taken_along : (m : Meaning) (steps : Behaviour) (replies : List PlainReply) → StepsOf m.takes steps → All ToldFits replies → AreTaken m steps replies
 taken_along m steps [] h r = tt
 taken_along m steps (x ∷ replies) h r = (
   taken_next m.takes (steps []) (h [] (All-nil ToldFits)),

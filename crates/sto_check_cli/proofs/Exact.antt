@@ -15,7 +15,7 @@ use Rattle.sto_lang.specs.Sound.{IsNumbered, HasRanges, IsSound}
 use Rattle.sto_lang.proofs.SoundFiles.{readable_sound}
 use Rattle.sto_lang.proofs.SoundLines.{all_get}
 use Rattle.sto_script.specs.Asks.{Asks}
-use Rattle.sto_checker.specs.Orders.{Place, IsOrder, at_position, transaction_at}
+use Rattle.sto_checker.specs.Orders.{TransactionPlace, IsOrder, at_position, transaction_at}
 use Rattle.sto_checker.specs.Replay.{opening_state}
 use Rattle.sto_checker.specs.LawfulAborts.{declared_as, part_number}
 use Rattle.sto_checker.specs.Updated.{updated}
@@ -61,7 +61,7 @@ found_among P p (x ∷ ds) d h e = by (p x) e (All-head P x ds h) (found_among P
     by false e h more = more e
 
 -- what is true of each transaction
-transaction_is : (P : Script → Type 0) (file : File) → All (All P) file.threads → (place : Place) (s : Script) → transaction_at file place ≡ Some s → P s
+transaction_is : (P : Script → Type 0) (file : File) → All (All P) file.threads → (place : TransactionPlace) (s : Script) → transaction_at file place ≡ Some s → P s
 transaction_is P file h place s = by (slice_get file.threads place.0) refl place.1
   where
     by : (o : Option (List Script)) → slice_get file.threads place.0 ≡ o → (position : ℕ) → option_and_then (at_position position) o ≡ Some s → P s
@@ -70,7 +70,7 @@ transaction_is P file h place s = by (slice_get file.threads place.0) refl place
     by (Some scripts) e (suc position) k = all_get P scripts position s (all_get (All P) file.threads place.0 scripts h e) k
 
 module _ (means : List Shape → Meaning) (bytes : List ℕ) (file : File) (reads : file_of bytes ≡ Ok file) (type_of : IsTypeOf (shapes_of file.declarations) (means (shapes_of file.declarations)))
-    (takes : (place : Place) (s : Script) → transaction_at file place ≡ Some s → (call : Call) → Asks s.body call → (means (shapes_of file.declarations)).takes call) where
+    (takes : (place : TransactionPlace) (s : Script) → transaction_at file place ≡ Some s → (call : Call) → Asks s.body call → (means (shapes_of file.declarations)).takes call) where
   abbrev m : Meaning
   m = means (shapes_of file.declarations)
 
@@ -80,7 +80,7 @@ module _ (means : List Shape → Meaning) (bytes : List ℕ) (file : File) (read
   fits : FileFits file
   fits = readable_fits bytes file reads
 
-  small : (place : Place) (s : Script) → transaction_at file place ≡ Some s → IsSmall s
+  small : (place : TransactionPlace) (s : Script) → transaction_at file place ≡ Some s → IsSmall s
   small = transaction_is IsSmall file (λ k d l i e m. record { numbers = fits.scripts k d l i e m; light = (sound.sound_scripts k d l i e m).light })
 
   opened : AreFew 16384 (opening_state file)
@@ -89,7 +89,7 @@ module _ (means : List Shape → Meaning) (bytes : List ℕ) (file : File) (read
       in_order_all (HasRanges file.version) (map (λ d. d.shape) file.declarations) (All-map (HasRanges file.version) (λ (d : Declaration). d.shape) file.declarations sound.in_ranges) in
       opening_few file.version (shapes_of file.declarations) (λ k d l. (fits.shapes k d l, ranges k d l))
 
-  short : (order : List Place) → IsOrder file order → 16384 + 4096 * length order < 2 ^ 63
+  short : (order : List TransactionPlace) → IsOrder file order → 16384 + 4096 * length order < 2 ^ 63
   short order is = let few = order_few file order sound is in omega (arith, few)
 
   -- the object of a part is the one that was declared by the name
@@ -106,7 +106,7 @@ module _ (means : List Shape → Meaning) (bytes : List ℕ) (file : File) (read
       let p : ℕ = part_number file.declarations d part in
       let among : Contains (updated (updating_by means) file order by) p =
       subst (λ (ps : List ℕ). Contains ps p) (sym e) (Contains-append_right before (p ∷ after) p (here p after)) in
-      let opening = type_of.lawful.opening_rows ∙ ap (λ ms. Rattle.sto_model.specs.Machine.opening_of ms) type_of.machines in
+      let opening = type_of.lawful.opening_rows ∙ ap (λ ms. Rattle.sto_model.specs.SequentialObjects.opening_of ms) type_of.machines in
       let w : IsWriterOf m.homes (written_of file order) by p =
       writers_own means file type_of.lawful (sym type_of.machines) takes small order (opening_state file) m.opened type_of.lawful.opening opening 16384 (short order is) opened by p among in
       subst (WroteAt (written_of file order) by) (home_is name d declared part w.object p l refl w.part) w.wrote

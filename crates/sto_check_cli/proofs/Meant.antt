@@ -8,7 +8,7 @@ use Rattle.sto_lang.specs.Files.{file_of}
 use Rattle.sto_lang.specs.Sound.{IsSound}
 use Rattle.sto_lang.proofs.SoundFiles.{readable_sound}
 use Rattle.sto_script.specs.Asks.{Asks}
-use Rattle.sto_checker.specs.Orders.{Place, transaction_at}
+use Rattle.sto_checker.specs.Orders.{TransactionPlace, transaction_at}
 use Rattle.sto_checker.specs.Exact.{UpdatesWritten}
 use Rattle.sto_store.specs.Stores.{of_kind, means, AreKinds}
 use Rattle.sto_store.proofs.Meant.{fit_lawful}
@@ -32,7 +32,7 @@ kinds_of ss = record {
 }
 
 -- what the objects of a sound file mean takes each call of its transactions
-means_take : (file : File) → IsSound file → (place : Place) (script : Script) → transaction_at file place ≡ Some script → (call : Call) → Asks script.body call
+means_take : (file : File) → IsSound file → (place : TransactionPlace) (script : Script) → transaction_at file place ≡ Some script → (call : Call) → Asks script.body call
     → (means (shapes_of file.declarations)).takes call
 means_take file sound place script at call asks =
     let ss : List Shape = shapes_of file.declarations in

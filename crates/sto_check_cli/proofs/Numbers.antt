@@ -7,10 +7,10 @@ use Rattle.std.specs.Int.RustNames.{FitsSigned}
 use Rattle.std.specs.List.{All}
 use Rattle.std.proofs.lemmas.Int.{ints}
 use Rattle.std.proofs.lemmas.List.Elements.{All-nil, All-cons, All-head, All-tail, All-weaker}
-use Rattle.sto_model.specs.Told.{Told, Done, Value, Flag, Absent, Full, Range, Pairs}
+use Rattle.sto_model.specs.PlainReplies.{PlainReply, Done, Value, Flag, Absent, Full, Range, Pairs}
 use Rattle.sto_model.specs.Rows.{Row, value_at, has_key, with_row, without, least_from, rows_between}
 use Rattle.sto_model.specs.Operations.{operation_of}
-use Rattle.sto_model.specs.Machine.{answered, changed}
+use Rattle.sto_model.specs.SequentialObjects.{answered, changed}
 use Rattle.sto_model.specs.Objects.{Effect, effect, only_value, with_only, value_or_absent, in_range, done_in_range, box_effect, counter_effect, added_at, array_effect, put_effect, remove_effect, hash_effect, tree_effect, push_effect, popped, pop_effect, vector_effect, effect_by, machines_of}
 use Rattle.sto_model.specs.Ranges.{in_range-cases}
 use Rattle.sto_model.specs.declared.call.Call.{Call}
@@ -32,7 +32,7 @@ pub record HasFew (n : ℕ) (rows : List Row) : Type 0 where
   pub each : All RowFits rows
 
 -- a reply whose number is such a number
-abbrev pub ToldFits : Told → Type 0
+abbrev pub ToldFits : PlainReply → Type 0
 ToldFits (Value x) = Fits x
 ToldFits (Pairs rows) = length rows < 2 ^ 63
 ToldFits reply = Unit {0}
@@ -123,13 +123,13 @@ still n rows h = record { few = (let l = h.few in omega (arith, l)); each = h.ea
 -- Effects.
 
 module _ (n : ℕ) (small : n < 2 ^ 63) (rows : List Row) (h : HasFew n rows) where
-  same : (reply : Told) → ToldFits reply → EffectFits n (effect reply rows)
+  same : (reply : PlainReply) → ToldFits reply → EffectFits n (effect reply rows)
   same reply f = record { reply = f; after = still n rows h }
 
-  with_at : (reply : Told) (k v : ℤ) → ToldFits reply → Fits k → Fits v → EffectFits n (effect reply (with_row rows k v))
+  with_at : (reply : PlainReply) (k v : ℤ) → ToldFits reply → Fits k → Fits v → EffectFits n (effect reply (with_row rows k v))
   with_at reply k v f a b = record { reply = f; after = with_row_fits n rows k v a b h }
 
-  fewer : (reply : Told) (k : ℤ) → ToldFits reply → EffectFits n (effect reply (without rows k))
+  fewer : (reply : PlainReply) (k : ℤ) → ToldFits reply → EffectFits n (effect reply (without rows k))
   fewer reply k f = record { reply = f; after = without_fits n rows k h }
 
   counts : (m : ℕ) → m ≤ length rows → m < 2 ^ 63
@@ -149,7 +149,7 @@ module _ (n : ℕ) (small : n < 2 ^ 63) (rows : List Row) (h : HasFew n rows) wh
   shown_fits (Some x) f = f
   shown_fits None f = tt
 
-  in_range_fits : (reply : Told) (k x : ℤ) → ToldFits reply → Fits k → EffectFits n (done_in_range (in_range x) (λ y. effect reply (with_row rows k y)) rows)
+  in_range_fits : (reply : PlainReply) (k x : ℤ) → ToldFits reply → Fits k → EffectFits n (done_in_range (in_range x) (λ y. effect reply (with_row rows k y)) rows)
   in_range_fits reply k x f g = elim (in_range-cases x) [
     | inl c ↦ rw c.1 (with_at reply k x f g c.0)
     | inr c ↦ rw c.1 (same Range tt)

@@ -22,7 +22,7 @@ use Rattle.sto_lang.specs.Statements.{Statements, Nothing, Ask, Sum, Diff, Choos
 use Rattle.sto_lang.specs.Scripts.{Script, File}
 use Rattle.sto_lang.specs.Shapes.{integer, shape_of, rank_of, of_rank, in_order}
 use Rattle.sto_lang.specs.Objects.{Object, shapes_in, declarations_of, shapes_of}
-use Rattle.sto_lang.specs.Drafts.{Draft, Begun, OpenBlock, FirstBranch, SecondBranch, Repetition, opening, argument, ask, object_of, closed, with_else, with_end, with_inner, script_of, with_script, with_commit, with_form}
+use Rattle.sto_lang.specs.Drafts.{Draft, OpenTransaction, OpenBlock, FirstBranch, SecondBranch, Repetition, opening, argument, ask, object_of, closed, with_else, with_end, with_inner, script_of, with_script, with_commit, with_form}
 use Rattle.sto_lang.specs.Faults.{fault_of}
 use Rattle.sto_lang.specs.Files.{fault, is_allowed, unless, with_line_of, with_words, with_line, whole, ◌>>=◌, with_lines, file_of}
 use Rattle.sto_lang.proofs.Branches.{Where}
@@ -42,11 +42,11 @@ abbrev BlocksFit : List OpenBlock → Type 0
 BlocksFit [] = Unit {0}
 BlocksFit (block ∷ blocks) = BlockFits block × BlocksFit blocks
 
-record BegunFits (t : Begun) : Type 0 where
+record BegunFits (t : OpenTransaction) : Type 0 where
   blocks : BlocksFit t.blocks
   statements : HaveNumbers t.statements
 
-abbrev InsideFits : Option Begun → Type 0
+abbrev InsideFits : Option OpenTransaction → Type 0
 InsideFits inside = IfSome inside BegunFits
 
 abbrev ScriptFits : Script → Type 0
@@ -104,17 +104,17 @@ closed_fits (FirstBranch before a test b) inner h k = then_fits before (Choose a
 closed_fits (SecondBranch before a test b first) inner h k = then_fits before (Choose a test b first inner Nothing) h.0 (h.1, h.2, h.3, k, tt)
 closed_fits (Repetition before times) inner h k = then_fits before (Repeat times inner Nothing) h (k, tt)
 
-else_fits : (t : Begun) (blocks : List OpenBlock) → BlocksFit blocks → BegunFits t → BegunFits (with_else t blocks)
+else_fits : (t : OpenTransaction) (blocks : List OpenBlock) → BlocksFit blocks → BegunFits t → BegunFits (with_else t blocks)
 else_fits t [] b h = h
 else_fits t (FirstBranch before a test c ∷ blocks) b h = record { blocks = ((b.0.0, b.0.1, b.0.2, h.statements), b.1); statements = tt }
 else_fits t (SecondBranch before a test c first ∷ blocks) b h = h
 else_fits t (Repetition before times ∷ blocks) b h = h
 
-end_fits : (t : Begun) (blocks : List OpenBlock) → BlocksFit blocks → BegunFits t → BegunFits (with_end t blocks)
+end_fits : (t : OpenTransaction) (blocks : List OpenBlock) → BlocksFit blocks → BegunFits t → BegunFits (with_end t blocks)
 end_fits t [] b h = h
 end_fits t (block ∷ blocks) b h = record { blocks = b.1; statements = closed_fits block t.statements b.0 h.statements }
 
-inner_fits : (objects : List Object) (t : Begun) (form : Form) → FormFits form → BegunFits t → BegunFits (with_inner objects t form)
+inner_fits : (objects : List Object) (t : OpenTransaction) (form : Form) → FormFits form → BegunFits t → BegunFits (with_inner objects t form)
 inner_fits objects t (CallLine to operation object operands) f h =
     record {
       blocks = h.blocks;
@@ -155,11 +155,11 @@ scripts_fit (thread ∷ []) script h p = All-cons (All ScriptFits) (thread ++ sc
 scripts_fit (thread ∷ next ∷ threads) script h p =
     All-cons (All ScriptFits) thread (with_script (next ∷ threads) script) (All-head (All ScriptFits) thread (next ∷ threads) h) (scripts_fit (next ∷ threads) script (All-tail (All ScriptFits) thread (next ∷ threads) h) p)
 
-commit_fits : (d : Draft) (inside : Option Begun) → InsideFits inside → DraftFits d → DraftFits (with_commit d inside)
+commit_fits : (d : Draft) (inside : Option OpenTransaction) → InsideFits inside → DraftFits d → DraftFits (with_commit d inside)
 commit_fits d None i h = h
 commit_fits d (Some t) i h = record { objects = h.objects; scripts = scripts_fit d.threads (script_of d.objects t) h.scripts i.statements; inside = tt }
 
-within_fits : (objects : List Object) (form : Form) (inside : Option Begun) → FormFits form → InsideFits inside → InsideFits (option_map (λ t. with_inner objects t form) inside)
+within_fits : (objects : List Object) (form : Form) (inside : Option OpenTransaction) → FormFits form → InsideFits inside → InsideFits (option_map (λ t. with_inner objects t form) inside)
 within_fits objects form None f h = tt
 within_fits objects form (Some t) f h = inner_fits objects t form f h
 
@@ -214,7 +214,7 @@ in_order_all P shapes h = more _ 5 (more _ 4 (more _ 3 (more _ 2 (more _ 1 (kept
     more : (front : List Shape) (r : ℕ) → All P front → All P (front ++ of_rank r shapes)
     more front r k = All-append P front (of_rank r shapes) k (kept r)
 
-whole_fits : (d : Draft) (number : ℕ) (inside : Option Begun) (file : File) → DraftFits d → whole d number inside ≡ Ok file → FileFits file
+whole_fits : (d : Draft) (number : ℕ) (inside : Option OpenTransaction) (file : File) → DraftFits d → whole d number inside ≡ Ok file → FileFits file
 whole_fits d number None file h e =
     let same : record { version = d.version; declarations = declarations_of d.objects; names = d.names; threads = d.threads; schedule = d.schedule } ≡ file = cc in
     subst FileFits same (record {

@@ -3,11 +3,11 @@ use Rattle.std.proofs.Common.{◌≡◌, ℕ, zero, suc, pos, ℤ, ◌+◌, ◌�
 use Rattle.std.specs.List.{All}
 use Rattle.std.proofs.lemmas.List.{length_push}
 use Rattle.std.proofs.lemmas.List.Elements.{All-nil, All-cons, All-head, All-tail, All-push, All-weaker}
-use Rattle.sto_model.specs.Told.{Told}
+use Rattle.sto_model.specs.PlainReplies.{PlainReply}
 use Rattle.sto_model.specs.Rows.{rows_below}
-use Rattle.sto_model.specs.Machine.{reply_to, state_after, opening_of}
+use Rattle.sto_model.specs.SequentialObjects.{reply_to, state_after, opening_of}
 use Rattle.sto_model.specs.Objects.{opening_rows, machines_of}
-use Rattle.sto_model.specs.Run.{Script as Steps, State, MayAsk}
+use Rattle.sto_model.specs.Run.{Behaviour, State, MayAsk}
 use Rattle.sto_model.specs.Serial.{SerialRun, by_next, ended, heard, run_within}
 use Rattle.sto_model.specs.declared.call.Call.{Call}
 use Rattle.sto_model.specs.declared.body.Next.{Next}
@@ -80,7 +80,7 @@ opening_few version (s ∷ shapes) h =
 at_once : (n m : ℕ) → n ≤ m → (end : End) (st : State) → AreFew n st → RunFits m (ended st end)
 at_once n m l end st h = record { replies = All-nil ToldFits; after = few_more n m l st h }
 
-pub run_fits : (P : Call → Type 0) (shapes : List Shape) (limit calls n : ℕ) (f : Steps) (st : State) → n + calls ≤ limit → limit < 2 ^ 63 → StepsOf P f → AreFew n st
+pub run_fits : (P : Call → Type 0) (shapes : List Shape) (limit calls n : ℕ) (f : Behaviour) (st : State) → n + calls ≤ limit → limit < 2 ^ 63 → StepsOf P f → AreFew n st
     → RunFits limit (run_within (machines_of shapes) calls f st)
 run_fits P shapes limit zero n f st l s asks h = by (f [])
   where
@@ -91,10 +91,10 @@ run_fits P shapes limit zero n f st l s asks h = by (f [])
 run_fits P shapes limit (suc calls) n f st l s asks h = by (f []) (asks [] (All-nil ToldFits)) (λ x t. run_fits P shapes limit calls (suc n) (λ rs. f (x ∷ rs)) t (omega (arith, l)) s)
   where
     by : (z : Next) → MayAsk (IsFittingOf P) z
-        → ((x : Told) (t : State) → StepsOf P (λ rs. f (x ∷ rs)) → AreFew (suc n) t → RunFits limit (run_within (machines_of shapes) calls (λ rs. f (x ∷ rs)) t))
+        → ((x : PlainReply) (t : State) → StepsOf P (λ rs. f (x ∷ rs)) → AreFew (suc n) t → RunFits limit (run_within (machines_of shapes) calls (λ rs. f (x ∷ rs)) t))
         → RunFits limit (by_next z (λ call. heard (reply_to (machines_of shapes) call st) (run_within (machines_of shapes) calls (λ rs. f (reply_to (machines_of shapes) call st ∷ rs)) (state_after (machines_of shapes) call st))) (ended st))
     by (Ask call) k more =
-        let x : Told = reply_to (machines_of shapes) call st in
+        let x : PlainReply = reply_to (machines_of shapes) call st in
         let small : n < 2 ^ 63 = omega (arith, l, s) in
         let reply : ToldFits x = reply_fits n small shapes call.object call st h k.fits.first k.fits.second in
         let after : AreFew (suc n) (state_after (machines_of shapes) call st) = state_fits n small shapes call.object call st h k.fits.first k.fits.second in

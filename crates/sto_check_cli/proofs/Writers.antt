@@ -2,8 +2,8 @@
 use Rattle.std.proofs.Common.{◌≡◌, ◌⊎◌, ℕ, zero, suc, ◌+◌, ◌-◌, ◌*◌, ◌≤◌, ◌<◌, ◌^◌, List, [], ◌∷◌, length, refl, sym, ap, ◌∙◌, subst, Bool, true, false, cond, arith, inl, inr, Option, None, Some, slice_get}
 use Rattle.std.specs.List.{All, Contains}
 use Rattle.std.proofs.lemmas.List.Elements.{All-nil}
-use Rattle.sto_model.specs.Machine.{Machine}
-use Rattle.sto_model.specs.Run.{Script as Steps, State}
+use Rattle.sto_model.specs.SequentialObjects.{SequentialObject}
+use Rattle.sto_model.specs.Run.{Behaviour, State}
 use Rattle.sto_model.specs.Serial.{SerialRun, is_writer_run, run_within, settled}
 use Rattle.sto_model.specs.declared.call.Call.{Call}
 use Rattle.sto_model.specs.declared.run.End.{End}
@@ -13,7 +13,7 @@ use Rattle.sto_lang.specs.Objects.{shapes_of}
 use Rattle.sto_lang.specs.Scripts.{Script, File}
 use Rattle.sto_script.specs.Asks.{Asks}
 use Rattle.sto_script.specs.Meaning.{meaning_of}
-use Rattle.sto_checker.specs.Orders.{Place, transaction_at}
+use Rattle.sto_checker.specs.Orders.{TransactionPlace, transaction_at}
 use Rattle.sto_checker.specs.Replay.{machines_for, script_run, run_at, is_writer}
 use Rattle.sto_checker.specs.Updated.{Updates, updates_along, updates_in, updates_at, at_writer, updated_from}
 use Rattle.sto_type.specs.Known.{Parts}
@@ -63,12 +63,12 @@ none_in p (k, l, e) = omega (arith, l)
 
 module _ (means : List Shape → Meaning) (file : File) (law : IsLawful (means (shapes_of file.declarations)))
     (same : machines_for file ≡ (means (shapes_of file.declarations)).machines)
-    (takes : (place : Place) (s : Script) → transaction_at file place ≡ Some s → (call : Call) → Asks s.body call → (means (shapes_of file.declarations)).takes call)
-    (small : (place : Place) (s : Script) → transaction_at file place ≡ Some s → IsSmall s) where
+    (takes : (place : TransactionPlace) (s : Script) → transaction_at file place ≡ Some s → (call : Call) → Asks s.body call → (means (shapes_of file.declarations)).takes call)
+    (small : (place : TransactionPlace) (s : Script) → transaction_at file place ≡ Some s → IsSmall s) where
   abbrev m : Meaning
   m = means (shapes_of file.declarations)
 
-  asks : (place : Place) (s : Script) → transaction_at file place ≡ Some s → StepsOf m.takes (meaning_of s)
+  asks : (place : TransactionPlace) (s : Script) → transaction_at file place ≡ Some s → StepsOf m.takes (meaning_of s)
   asks place s at = script_asks m.takes s (small place s at).numbers (takes place s at)
 
   settled_few : (n : ℕ) (end : End) (before along : State) → AreFew n before → AreFew n along → AreFew n (settled end before along)
@@ -76,7 +76,7 @@ module _ (means : List Shape → Meaning) (file : File) (law : IsLawful (means (
   settled_few n E.Cancel before along h k = h
 
   -- the run of a transaction keeps to numbers of 64 bits
-  one_fits : (n : ℕ) (st : State) (place : Place) → n + 4096 < 2 ^ 63 → AreFew n st → RunFits (n + 4096) (run_at file st place)
+  one_fits : (n : ℕ) (st : State) (place : TransactionPlace) → n + 4096 < 2 ^ 63 → AreFew n st → RunFits (n + 4096) (run_at file st place)
   one_fits n st place l h = by (transaction_at file place) refl
     where
       more : AreFew (n + 4096) st
@@ -96,15 +96,15 @@ module _ (means : List Shape → Meaning) (file : File) (law : IsLawful (means (
   abbrev HasRun : State → Parts → Option Script → SerialRun → Type 0
   HasRun st c t run = Ran means (shapes_of file.declarations) law (none_yet c) (updates_in (updating_by means) (shapes_of file.declarations) t run.replies c) (objects_in t run) run.after
 
-  within : (ms : List Machine) → ms ≡ m.machines → (n : ℕ) (f : Steps) (st : State) (c : Parts) → m.valid c → m.rows c ≡ st → AreTaken m f (run_within ms n f st).replies
+  within : (ms : List SequentialObject) → ms ≡ m.machines → (n : ℕ) (f : Behaviour) (st : State) (c : Parts) → m.valid c → m.rows c ≡ st → AreTaken m f (run_within ms n f st).replies
       → Ran means (shapes_of file.declarations) law (none_yet c) (updates_along (updating_by means) (shapes_of file.declarations) f (run_within ms n f st).replies (none_yet c)) (objects_along f (run_within ms n f st).replies) (run_within ms n f st).after
   within ms e n f st c v r =
-      subst (λ (xs : List Machine). AreTaken m f (run_within xs n f st).replies
+      subst (λ (xs : List SequentialObject). AreTaken m f (run_within xs n f st).replies
       → Ran means (shapes_of file.declarations) law (none_yet c) (updates_along (updating_by means) (shapes_of file.declarations) f (run_within xs n f st).replies (none_yet c)) (objects_along f (run_within xs n f st).replies) (run_within xs n f st).after)
       (sym e) (ran means (shapes_of file.declarations) law n f st (none_yet c) v r)
 
   -- a writer's run leads to contents that stand for the state after it
-  writer_ran : (place : Place) (st : State) (c : Parts) → m.valid c → m.rows c ≡ st → (t : Option Script) → transaction_at file place ≡ t
+  writer_ran : (place : TransactionPlace) (st : State) (c : Parts) → m.valid c → m.rows c ≡ st → (t : Option Script) → transaction_at file place ≡ t
       → is_writer t (script_run (machines_for file) st t) ≡ true → All ToldFits (script_run (machines_for file) st t).replies → HasRun st c t (script_run (machines_for file) st t)
   writer_ran place st c v r None at w f = absurd cc
   writer_ran place st c v r (Some s) at w f =
@@ -125,7 +125,7 @@ module _ (means : List Shape → Meaning) (file : File) (law : IsLawful (means (
   at_one zero p here objects others written own rest k = elim (own p k) [ inl x ↦ absurd (none_in p x) | inr x ↦ first_wrote m.homes objects written p x ]
   at_one (suc more) p here objects others written own rest k = later_wrote m.homes objects written more p (rest more k)
 
-  pub writers_own : (order : List Place) (st : State) (c : Parts) → m.valid c → m.rows c ≡ st → (n : ℕ) → n + 4096 * length order < 2 ^ 63 → AreFew n st
+  pub writers_own : (order : List TransactionPlace) (st : State) (c : Parts) → m.valid c → m.rows c ≡ st → (n : ℕ) → n + 4096 * length order < 2 ^ 63 → AreFew n st
       → (by p : ℕ) → Contains (updated_from (updating_by means) file st c order by) p → IsWriterOf m.homes (written_from file st order) by p
   writers_own [] st c v r n l f number p k = absurd (none_in p k)
   writers_own (place ∷ order) st c v r n l f zero p k = absurd (none_in p k)

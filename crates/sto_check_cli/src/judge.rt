@@ -4,8 +4,8 @@ ghost use Rattle.sto_check_cli.specs.Inputs.{script_in, has_report};
 ghost use Rattle.sto_check_cli.specs.Answers.{IsInputRefusal, IsFoundIn};
 
 use crate::divide::divide;
-use std::mem;
 use std::alloc::Global;
+use std::mem;
 use sto_checker::{Found, check_report};
 use sto_console::{InputFault, Refusal, file_in};
 use sto_lang::{FaultKind, ScriptFault};

@@ -7,5 +7,8 @@ mod line;
 mod top;
 mod work;
 
-pub use sto_console::{Failed, MemSink, MemSource, QuietSink, QuietSource, Sink, Source, StdSink, StdSource, WordsError, refuse_words, words_of};
+pub use sto_console::{
+    Failed, MemSink, MemSource, QuietSink, QuietSource, Sink, Source, StdSink, StdSource,
+    WordsError, refuse_words, words_of,
+};
 pub use top::check;

@@ -2,7 +2,7 @@
 use Rattle.std.proofs.Common.{◌≡◌, ℕ, zero, suc, ◌+◌, ◌<◌, ◌≤◌, List, [], ◌∷◌, ◌++◌, length, take, drop, refl, sym, ap, ◌∙◌, subst, Bool, true, false, cond, arith}
 use Rattle.sto_model.specs.Run.{State}
 use Rattle.sto_lang.specs.Scripts.{File}
-use Rattle.sto_report_spec.specs.Orders.{Place, transaction_at}
+use Rattle.sto_report_spec.specs.Orders.{TransactionPlace, transaction_at}
 use Rattle.sto_report_spec.specs.Replay.{run_at, is_writer, counted, entry_at, state_from, shown_from}
 use Rattle.sto_checker.specs.Runs.{writers_from}
 use Rattle.sto_checker.proofs.Unwritten.{unwritten}
@@ -12,7 +12,7 @@ counted_up true w = omega arith
 counted_up false w = omega arith
 
 -- the number of writers does not fall
-pub writers_up : (f : File) (w : ℕ) (st : State) (order : List Place) → w ≤ writers_from f w st order
+pub writers_up : (f : File) (w : ℕ) (st : State) (order : List TransactionPlace) → w ≤ writers_from f w st order
 writers_up f w st [] = omega arith
 writers_up f w st (p ∷ order) =
     let here = counted_up (is_writer (transaction_at f p) (run_at f st p)) w in
@@ -20,7 +20,7 @@ writers_up f w st (p ∷ order) =
     omega (arith, here, more)
 
 -- after some transactions, with as many writers as there are among them
-pub shown_after : (f : File) (st : State) (done rest : List Place) (w k : ℕ) → writers_from f w st done ≡ w + k → shown_from f st (done ++ rest) k ≡ state_from f st done
+pub shown_after : (f : File) (st : State) (done rest : List TransactionPlace) (w k : ℕ) → writers_from f w st done ≡ w + k → shown_from f st (done ++ rest) k ≡ state_from f st done
 shown_after f st [] rest w zero e = refl
 shown_after f st [] rest w (suc k) e = absurd (omega (arith, e))
 shown_after f st (p ∷ done) rest w k e =
@@ -42,7 +42,7 @@ shown_after f st (p ∷ done) rest w k e =
         ∙ more w (suc k) e
 
 -- where there are no more writers
-pub shown_all : (f : File) (st : State) (order : List Place) (w k : ℕ) → writers_from f w st order ≤ w + k → shown_from f st order k ≡ state_from f st order
+pub shown_all : (f : File) (st : State) (order : List TransactionPlace) (w k : ℕ) → writers_from f w st order ≤ w + k → shown_from f st order k ≡ state_from f st order
 shown_all f st [] w zero e = refl
 shown_all f st [] w (suc k) e = refl
 shown_all f st (p ∷ order) w k e =

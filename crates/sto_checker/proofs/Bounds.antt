@@ -8,7 +8,7 @@ use Rattle.sto_model.specs.Run.{State}
 use Rattle.sto_model.specs.Sizes.{part_count}
 use Rattle.sto_lang.specs.Scripts.{Script, File}
 use Rattle.sto_lang.specs.Sound.{IsSound}
-use Rattle.sto_report_spec.specs.Orders.{Place, transaction_at, count_in, positions_of, numbers_from, IsOrder}
+use Rattle.sto_report_spec.specs.Orders.{TransactionPlace, transaction_at, count_in, positions_of, numbers_from, IsOrder}
 use Rattle.sto_report_spec.specs.Replay.{Entry, run_at, is_writer, counted, entry_at, entries_from, opening_state}
 use Rattle.sto_report_spec.specs.Aborts.{Cause, Locked, Changed, Abort, part_in}
 use Rattle.sto_report_spec.specs.LawfulAborts.{writers_before, IsBefore}
@@ -25,7 +25,7 @@ Has : ℕ → List ℕ → Type 0
 Has n [] = ⊥
 Has n (m ∷ ns) = (m ≡ n) ⊎ Has n ns
 
-Occurs : Place → List Place → Type 0
+Occurs : TransactionPlace → List TransactionPlace → Type 0
 Occurs place [] = ⊥
 Occurs place (p ∷ order) = (p ≡ place) ⊎ Occurs place order
 
@@ -51,7 +51,7 @@ has_number first (suc count) n l k = by (eq_or first n l) (has_number (suc first
 same_number : (a b : ℕ) → (a == b) ≡ true → a ≡ b
 same_number a b e = grind (arith, nat_tests)
 
-occurs : (t n : ℕ) (order : List Place) → Has n (positions_of t order) → Occurs (t, n) order
+occurs : (t n : ℕ) (order : List TransactionPlace) → Has n (positions_of t order) → Occurs (t, n) order
 unfolding Has Occurs
 occurs t n [] h = absurd h
 occurs t n (p ∷ order) h = by (p.0 == t) refl h (occurs t n order)
@@ -71,7 +71,7 @@ before_most e endings.Read = omega arith
 before_most e endings.Cancel = omega arith
 
 -- so many writers are before the transaction's own entry at most
-bounded : (f : File) (w : ℕ) (st : State) (order : List Place) (place : Place) (k : ℕ) → Occurs place order → IsBefore (entries_from f w st order) place k → k ≤ w + length order
+bounded : (f : File) (w : ℕ) (st : State) (order : List TransactionPlace) (place : TransactionPlace) (k : ℕ) → Occurs place order → IsBefore (entries_from f w st order) place k → k ≤ w + length order
 unfolding Occurs
 bounded f w st [] place k o h = absurd o
 bounded f w st (p ∷ order) place k o h = by o (bounded f (entry_at f w st p).writers (run_at f st p).after order place k)
@@ -87,7 +87,7 @@ bounded f w st (p ∷ order) place k o h = by o (bounded f (entry_at f w st p).w
         let one = up_to (is_writer (transaction_at f p) (run_at f st p)) w in
         omega (arith, rest, one)
 
-pub seen_few : (f : File) (order : List Place) (place : Place) (s : Script) (k : ℕ) → IsOrder f order → transaction_at f place ≡ Some s → IsBefore (entries_from f 0 (opening_state f) order) place k → k ≤ length order
+pub seen_few : (f : File) (order : List TransactionPlace) (place : TransactionPlace) (s : Script) (k : ℕ) → IsOrder f order → transaction_at f place ≡ Some s → IsBefore (entries_from f 0 (opening_state f) order) place k → k ≤ length order
 seen_few f order place s k whole at h =
     let i = is_inside f place s at in
     let has = has_number 1 (count_in f.threads place.0) place.1 i.first (let l = i.last in omega (arith, l)) in
@@ -95,7 +95,7 @@ seen_few f order place s k whole at h =
     (let b = bounded f 0 (opening_state f) order place k there h in omega (arith, b))
 
 -- all numbers of a right abort line are of 32 bits
-pub right_small : (f : File) (order : List Place) (a : Abort) → IsSound f → IsOrder f order → length order < 2 ^ 32 → IsRightAlone f order a → IsSmall a
+pub right_small : (f : File) (order : List TransactionPlace) (a : Abort) → IsSound f → IsOrder f order → length order < 2 ^ 32 → IsRightAlone f order a → IsSmall a
 right_small f order a sound whole few r = record {
   position =
       let i = is_inside f a.place r.script r.transaction in

@@ -6,7 +6,7 @@ use Rattle.std.proofs.lemmas.List.Elements.{All-head, All-tail, All-weaker}
 use Rattle.std.proofs.lemmas.List.Sums.{sum_by-cons}
 use Rattle.sto_lang.specs.Scripts.{Script, File}
 use Rattle.sto_lang.specs.Drafts.{transaction_count}
-use Rattle.sto_report_spec.specs.Orders.{Place, count_in, positions_of, numbers_from, IsOrder}
+use Rattle.sto_report_spec.specs.Orders.{TransactionPlace, count_in, positions_of, numbers_from, IsOrder}
 use Rattle.sto_checker.proofs.Replayed.{numbers_from-more}
 use Rattle.sto_checker.specs.Shown.{IsInside, AreInside}
 use Rattle.sto_checker.specs.Right.{IsNext}
@@ -93,7 +93,7 @@ counts threads t = count_in threads t
 unfoldable own : ℕ → ℕ → ℕ
 own t u = cond (u == t) 1 0
 
-own_length : (p : Place) (order : List Place) (t : ℕ) → length (positions_of t (p ∷ order)) ≡ own t p.0 + length (positions_of t order)
+own_length : (p : TransactionPlace) (order : List TransactionPlace) (t : ℕ) → length (positions_of t (p ∷ order)) ≡ own t p.0 + length (positions_of t order)
 unfolding own
 own_length p order t = by (p.0 == t)
   where
@@ -136,10 +136,10 @@ sums_own (suc n) u l = by (lt_or u n l) (sums_own n u)
         omega (arith, front, here)
 
 -- an order has as many transactions as its threads have together
-order_sum : (threads : ℕ) (order : List Place) → All (λ (p : Place). p.0 < threads) order → length order ≡ sums (λ t. length (positions_of t order)) threads
+order_sum : (threads : ℕ) (order : List TransactionPlace) → All (λ (p : TransactionPlace). p.0 < threads) order → length order ≡ sums (λ t. length (positions_of t order)) threads
 order_sum threads [] h = sym (sums_zero (λ t. 0) threads (λ t. refl))
 order_sum threads (p ∷ order) h =
-    let below : Place → Type 0 = λ p. p.0 < threads in
+    let below : TransactionPlace → Type 0 = λ p. p.0 < threads in
     let rest = order_sum threads order (All-tail below p order h) in
     let here = sums_own threads p.0 (All-head below p order h) in
     let split = sums_add (λ t. own t p.0) (λ t. length (positions_of t order)) threads in
@@ -162,10 +162,10 @@ none_beyond [] t l = refl
 none_beyond (scripts ∷ threads) zero l = absurd (omega (arith, l))
 none_beyond (scripts ∷ threads) (suc t) l = none_beyond threads t (omega (arith, l))
 
-inside_below : (file : File) (order : List Place) → AreInside file order → All (λ (p : Place). p.0 < length file.threads) order
-inside_below file order h = All-weaker (IsInside file.threads) (λ (p : Place). p.0 < length file.threads) (λ p i. i.thread) order h
+inside_below : (file : File) (order : List TransactionPlace) → AreInside file order → All (λ (p : TransactionPlace). p.0 < length file.threads) order
+inside_below file order h = All-weaker (IsInside file.threads) (λ (p : TransactionPlace). p.0 < length file.threads) (λ p i. i.thread) order h
 
-pub complete : (file : File) (order : List Place) → IsBegun file order → AreInside file order → length order ≡ transaction_count file.threads → IsOrder file order
+pub complete : (file : File) (order : List TransactionPlace) → IsBegun file order → AreInside file order → length order ≡ transaction_count file.threads → IsOrder file order
 unfolding counts
 complete file order begun inside long t =
     (begun t).0 ∙ ap (numbers_from 1) (by (le_or (length file.threads) t))
@@ -177,7 +177,7 @@ complete file order begun inside long t =
         (sym (order_sum (length file.threads) order (inside_below file order inside)) ∙ long ∙ file_sum file.threads) t l
 
 -- one more
-pub begun_more : (file : File) (order : List Place) (place : Place) → IsBegun file order → IsNext file order place → IsBegun file (order ++ place ∷ [])
+pub begun_more : (file : File) (order : List TransactionPlace) (place : TransactionPlace) → IsBegun file order → IsNext file order place → IsBegun file (order ++ place ∷ [])
 begun_more file order place begun next t = by (place.0 == t) refl
   where
     by : (b : Bool) → (place.0 == t) ≡ b → (positions_of t (order ++ place ∷ []) ≡ numbers_from 1 (length (positions_of t (order ++ place ∷ [])))) × (length (positions_of t (order ++ place ∷ [])) ≤ count_in file.threads t)
@@ -201,7 +201,7 @@ begun_more file order place begun next t = by (place.0 == t) refl
         subst (λ (ps : List ℕ). (ps ≡ numbers_from 1 (length ps)) × (length ps ≤ count_in file.threads t)) (sym same) (begun t)
 
 -- an order of the file has as many transactions as the file
-pub order_count : (file : File) (order : List Place) → IsOrder file order → AreInside file order → length order ≡ transaction_count file.threads
+pub order_count : (file : File) (order : List TransactionPlace) → IsOrder file order → AreInside file order → length order ≡ transaction_count file.threads
 unfolding counts
 order_count file order whole inside =
     order_sum (length file.threads) order (inside_below file order inside)

@@ -5,7 +5,7 @@ use Rattle.std.proofs.lemmas.List.{length-map}
 use Rattle.std.proofs.lemmas.Option.{slice_get_within, slice_get-map}
 use Rattle.sto_lang.specs.Scripts.{File}
 use Rattle.sto_lang.specs.Objects.{Declaration}
-use Rattle.sto_report_spec.specs.Orders.{Place}
+use Rattle.sto_report_spec.specs.Orders.{TransactionPlace}
 use Rattle.sto_report_spec.specs.Named.{order_named}
 use Rattle.sto_journal.specs.Journals.{places}
 use Rattle.sto_checker.specs.declared.past.Past.{Past}
@@ -62,7 +62,7 @@ module _ (file : File) (tries : ℕ) (lines : List (List ℕ)) where
       )
 
   -- one line more of the journal
-  pub journal_more : (old new : Past) (read : ℕ) (line : List ℕ) (order : List Place) → AreRead file tries lines old read → read < total file → slice_get lines read ≡ Some line
+  pub journal_more : (old new : Past) (read : ℕ) (line : List ℕ) (order : List TransactionPlace) → AreRead file tries lines old read → read < total file → slice_get lines read ≡ Some line
       → IsJournalLine file (places old.run.lines.items) line → IsPast file new → places new.run.lines.items ≡ places old.run.lines.items ++ order → order ≡ order_named file.names line
       → AreRead file tries lines new (read + 1)
   journal_more old new read line order h below stands right past placed named =
@@ -73,11 +73,11 @@ module _ (file : File) (tries : ℕ) (lines : List (List ℕ)) where
         past = past;
         order =
             placed
-            ∙ ap (λ (o : List Place). places old.run.lines.items ++ o) named
-            ∙ ap (λ (o : List Place). o ++ order_named file.names line) h.order
+            ∙ ap (λ (o : List TransactionPlace). places old.run.lines.items ++ o) named
+            ∙ ap (λ (o : List TransactionPlace). o ++ order_named file.names line) h.order
             ∙ sym (order_grows file tries front line (omega (arith, long, below)))
             ∙ ap (order_in file) (sym (take_next lines read line stands));
-        right = right_more file tries lines read h.right (right_at file tries lines read line stands (journal_right file tries front line (omega (arith, long, below)) (subst (λ (o : List Place). IsJournalLine file o line) h.order right)));
+        right = right_more file tries lines read h.right (right_at file tries lines read line stands (journal_right file tries front line (omega (arith, long, below)) (subst (λ (o : List TransactionPlace). IsJournalLine file o line) h.order right)));
         within = omega (arith, inside);
       }
 
@@ -86,7 +86,7 @@ module _ (file : File) (tries : ℕ) (lines : List (List ℕ)) where
   journal_wrong old read line h below stands wrong at =
       let front : List (List ℕ) = take read lines in
       let long : length front ≡ read = length_front lines read h.within in
-      wrong (subst (λ (o : List Place). IsJournalLine file o line) (sym h.order) (right_journal file tries front line (omega (arith, long, below)) (right_after file tries lines read line stands at)))
+      wrong (subst (λ (o : List TransactionPlace). IsJournalLine file o line) (sym h.order) (right_journal file tries front line (omega (arith, long, below)) (right_after file tries lines read line stands at)))
 
   -- one line more of an object
   pub object_more : (past : Past) (read count : ℕ) (line : List ℕ) → AreObjectsRead file tries lines past read count → slice_get lines read ≡ Some line

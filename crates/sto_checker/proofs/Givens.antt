@@ -11,7 +11,7 @@ use Rattle.sto_lang.specs.Objects.{Declaration}
 use Rattle.sto_lang.specs.Scripts.{Script, File}
 use Rattle.sto_lang.specs.Sound.{IsSound}
 use Rattle.sto_lang.specs.Views.{declaration}
-use Rattle.sto_report_spec.specs.Orders.{Place, transaction_at, count_in, numbers_from, IsOrder}
+use Rattle.sto_report_spec.specs.Orders.{TransactionPlace, transaction_at, count_in, numbers_from, IsOrder}
 use Rattle.sto_report_spec.specs.Orders as orders
 use Rattle.sto_report_spec.specs.Replay.{Entry, entries_of}
 use Rattle.sto_report_spec.specs.Aborts.{LocalPart, Cause, Locked, Changed, Abort, part_in}
@@ -103,19 +103,19 @@ no_object decls name e = not_found decls name (none_first (λ (decl : Decl). byt
 -- Windows of a whole order.
 
 module _ (file : File) (replayed : Replayed) (is : IsReplayed file replayed) (whole : IsOrder file (places replayed.past.run.lines.items)) where
-  abbrev order : List Place
+  abbrev order : List TransactionPlace
   order = places replayed.past.run.lines.items
 
   abbrev rows : List (List Window)
   rows = windows_of replayed.windows
 
   -- a window is that of a transaction of the file
-  pub record HasWindow (place : Place) (w : Window) : Type 0 where
+  pub record HasWindow (place : TransactionPlace) (w : Window) : Type 0 where
     pub window : IsWindow (entries_of file order) place w
     pub script : Script
     pub transaction : transaction_at file place ≡ Some script
 
-  pub window_is : (place : Place) (w : Window) → window_at rows place ≡ Some w → HasWindow place w
+  pub window_is : (place : TransactionPlace) (w : Window) → window_at rows place ≡ Some w → HasWindow place w
   window_is place w e = by (slice_get rows place.0) refl place.1 refl e
     where
       by : (o : Option (List Window)) → slice_get rows place.0 ≡ o → (p : ℕ) → place.1 ≡ p → at_position p o ≡ Some w → HasWindow place w
@@ -134,7 +134,7 @@ module _ (file : File) (replayed : Replayed) (is : IsReplayed file replayed) (wh
           }
 
   -- each of its transactions has one
-  pub no_window : (place : Place) (s : Script) → transaction_at file place ≡ Some s → window_at rows place ≡ None → ⊥
+  pub no_window : (place : TransactionPlace) (s : Script) → transaction_at file place ≡ Some s → window_at rows place ≡ None → ⊥
   no_window place s at none =
       let i = is_inside file place s at in
       let row = some_at rows place.0 (let l = i.thread in let c = is.windows.count in omega (arith, l, c)) in
@@ -182,14 +182,14 @@ module _ (file : File) (replayed : Replayed) (is : IsReplayed file replayed) (wh
         after : (tries : ℕ) (before : List Abort) (h : IsAbortLine file tries order before line) → w.least ≤ told.seen
         after tries before h =
             let t = told_is tries before h in
-            let l = has.window.not_below h.abort.seen (subst (λ (p : Place). IsAfterOwn (entries_of file order) p h.abort.seen) t.place h.right.alone.after_own) in
+            let l = has.window.not_below h.abort.seen (subst (λ (p : TransactionPlace). IsAfterOwn (entries_of file order) p h.abort.seen) t.place h.right.alone.after_own) in
             let s = t.seen in
             omega (arith, l, s)
 
         upto : (tries : ℕ) (before : List Abort) (h : IsAbortLine file tries order before line) → told.seen ≤ w.most
         upto tries before h =
             let t = told_is tries before h in
-            let l = has.window.not_above h.abort.seen (subst (λ (p : Place). IsBefore (entries_of file order) p h.abort.seen) t.place h.right.alone.earlier) in
+            let l = has.window.not_above h.abort.seen (subst (λ (p : TransactionPlace). IsBefore (entries_of file order) p h.abort.seen) t.place h.right.alone.earlier) in
             let s = t.seen in
             omega (arith, l, s)
 
@@ -237,7 +237,7 @@ module _ (file : File) (replayed : Replayed) (is : IsReplayed file replayed) (wh
               let t = told_is tries before h in
               subst (MayBe told.seen w.most (map (λ objects. objects.items) replayed.past.written.items) d.number) (sym r.2) (record {
                 later = let l = k.later in let s = t.seen in omega (arith, l, s);
-                within = has.window.not_above by (subst (λ (p : Place). IsBefore (entries_of file order) p by) t.place k.earlier);
+                within = has.window.not_above by (subst (λ (p : TransactionPlace). IsBefore (entries_of file order) p by) t.place k.earlier);
                 wrote = subst (λ (l : List (List ℕ)). WroteAt l by d.number) (sym written_is) (subst (λ (x : Declaration). WroteAt (written_of file order) by x.number) (same_d tries before h) k.written);
               })
 

@@ -1,12 +1,12 @@
 -- An abort line is right where all but its replies is, and its attempt heard these.
 use Rattle.std.proofs.Common.{◌≡◌, ℕ, zero, suc, ◌<◌, ◌≤◌, List, [], ◌∷◌, ◌++◌, length, take, drop, refl, sym, ap, ◌∙◌, subst, Option, None, Some, slice_get, arith}
-use Rattle.sto_model.specs.Told.{Told}
+use Rattle.sto_model.specs.PlainReplies.{PlainReply}
 use Rattle.sto_model.specs.Run.{State}
 use Rattle.sto_model.specs.Sizes.{part_count}
 use Rattle.sto_lang.specs.Objects.{Declaration}
 use Rattle.sto_lang.specs.Scripts.{Script, File}
 use Rattle.sto_script.specs.Meaning.{meaning_of}
-use Rattle.sto_report_spec.specs.Orders.{Place, transaction_at}
+use Rattle.sto_report_spec.specs.Orders.{TransactionPlace, transaction_at}
 use Rattle.sto_report_spec.specs.Replay.{entries_of, run_at, shown}
 use Rattle.sto_report_spec.specs.Report.{abort_text}
 use Rattle.sto_report_spec.specs.Aborts.{LocalPart, Cause, Locked, Changed, Abort, part_in}
@@ -29,27 +29,27 @@ same_object a b e = cc
 pub same_script : (a b : Script) → Some a ≡ Some b → a ≡ b
 same_script a b e = cc
 
-pub front_taken : (n : ℕ) (front others all : List Told) → all ≡ front ++ others → length front ≡ n → take n all ≡ front
+pub front_taken : (n : ℕ) (front others all : List PlainReply) → all ≡ front ++ others → length front ≡ n → take n all ≡ front
 front_taken n front others all e l = ap (take n) e ∙ by n front others l
   where
-    by : (n : ℕ) (front others : List Told) → length front ≡ n → take n (front ++ others) ≡ front
+    by : (n : ℕ) (front others : List PlainReply) → length front ≡ n → take n (front ++ others) ≡ front
     by zero [] others l = refl
     by (suc n) [] others l = absurd (omega (arith, l))
     by zero (x ∷ front) others l = absurd (omega (arith, l))
-    by (suc n) (x ∷ front) others l = ap (λ (rs : List Told). x ∷ rs) (by n front others (omega (arith, l)))
+    by (suc n) (x ∷ front) others l = ap (λ (rs : List PlainReply). x ∷ rs) (by n front others (omega (arith, l)))
 
-pub front_long : (n : ℕ) (front others all : List Told) → all ≡ front ++ others → length front ≡ n → n ≤ length all
+pub front_long : (n : ℕ) (front others all : List PlainReply) → all ≡ front ++ others → length front ≡ n → n ≤ length all
 front_long n front others all e l = let all_is = ap length e in let long = both front others in omega (arith, all_is, long, l)
   where
-    both : (xs ys : List Told) → length xs ≤ length (xs ++ ys)
+    both : (xs ys : List PlainReply) → length xs ≤ length (xs ++ ys)
     both [] ys = omega arith
     both (x ∷ xs) ys = let h = both xs ys in omega (arith, h)
 
-take_drop : (n : ℕ) (all : List Told) → all ≡ take n all ++ drop n all
+take_drop : (n : ℕ) (all : List PlainReply) → all ≡ take n all ++ drop n all
 take_drop zero [] = refl
 take_drop (suc n) [] = refl
 take_drop zero (x ∷ all) = refl
-take_drop (suc n) (x ∷ all) = ap (λ (rs : List Told). x ∷ rs) (take_drop n all)
+take_drop (suc n) (x ∷ all) = ap (λ (rs : List PlainReply). x ∷ rs) (take_drop n all)
 
 pub cause_is : (c : Cause) (t : ToldCause) → IsCauseRead c t → c ≡ cause_in t
 cause_is (Locked part) t h =
@@ -61,20 +61,20 @@ cause_is (Changed part by) t h =
     ∙ ap (λ (p : ℕ). Changed (record { object = t.object.now; part = p }) by) (sym h.1)
     ∙ ap (cause_by (record { object = t.object.now; part = t.part })) (sym h.2)
 
-abbrev pub made : Place → ℕ → List Told → Cause → Abort
+abbrev pub made : TransactionPlace → ℕ → List PlainReply → Cause → Abort
 made place seen replies cause = record { place = place; seen = seen; replies = replies; cause = cause }
 
-module _ (file : File) (order : List Place) (given : GivenAbort) where
+module _ (file : File) (order : List TransactionPlace) (given : GivenAbort) where
   abbrev seen_state : State
   seen_state = shown file order given.told.seen
 
-  abbrev all_heard : List Told
+  abbrev all_heard : List PlainReply
   all_heard = hears file seen_state given.told
 
   -- the attempt that a right line tells is the one that was read
   module _ (a : Abort) (told : IsTold a given.told) (alone : IsRightAlone file order a) where
     replies_at : (run_at file (shown file order a.seen) a.place).replies ≡ all_heard
-    replies_at = ap (λ (n : ℕ). (run_at file (shown file order n) a.place).replies) told.seen ∙ ap (λ (p : Place). (run_at file seen_state p).replies) told.place
+    replies_at = ap (λ (n : ℕ). (run_at file (shown file order n) a.place).replies) told.seen ∙ ap (λ (p : TransactionPlace). (run_at file seen_state p).replies) told.place
 
     front : IsFront a.replies all_heard
     front = (alone.replies.0, sym replies_at ∙ alone.replies.1)
@@ -84,9 +84,9 @@ module _ (file : File) (order : List Place) (given : GivenAbort) where
 
     pub abort_is : a ≡ abort_of file seen_state given.told
     abort_is =
-        ap (λ (p : Place). made p a.seen a.replies a.cause) told.place
+        ap (λ (p : TransactionPlace). made p a.seen a.replies a.cause) told.place
         ∙ ap (λ (n : ℕ). made (place_of given.told.place) n a.replies a.cause) told.seen
-        ∙ ap (λ (rs : List Told). made (place_of given.told.place) given.told.seen rs a.cause) (sym (front_taken given.told.heard a.replies front.0 all_heard front.1 told.heard))
+        ∙ ap (λ (rs : List PlainReply). made (place_of given.told.place) given.told.seen rs a.cause) (sym (front_taken given.told.heard a.replies front.0 all_heard front.1 told.heard))
         ∙ ap (made (place_of given.told.place) given.told.seen (take given.told.heard all_heard)) (cause_is a.cause given.told.cause told.cause)
 
   -- a right line was heard

@@ -6,14 +6,14 @@ use Rattle.std.proofs.lemmas.List.Elements.{All-nil, All-cons, All-head, All-tai
 use Rattle.std.proofs.lemmas.List.{length-map, map-append}
 use Rattle.std.proofs.lemmas.Option.{slice_get_within, slice_get-map}
 use Rattle.std.proofs.lemmas.Bool.Decides.{nat_tests}
-use Rattle.sto_model.specs.Told.{Told, told}
-use Rattle.sto_model.specs.Run.{State, Script as Steps}
+use Rattle.sto_model.specs.PlainReplies.{PlainReply, plain_reply}
+use Rattle.sto_model.specs.Run.{State, Behaviour}
 use Rattle.sto_model.specs.Serial.{SerialRun, is_writer_run, has_written}
 use Rattle.sto_model.specs.declared.run.End.{End}
 use Rattle.sto_model.specs.declared.run.End.TheVariants as ends
 use Rattle.sto_lang.specs.Scripts.{Script, File}
 use Rattle.sto_script.specs.Meaning.{meaning_of}
-use Rattle.sto_report_spec.specs.Orders.{Place, at_position, transaction_at, count_in, positions_of}
+use Rattle.sto_report_spec.specs.Orders.{TransactionPlace, at_position, transaction_at, count_in, positions_of}
 use Rattle.sto_report_spec.specs.Replay.{Entry, run_at, is_writer, ending_by, counted, entry_at, entries_from, state_from, opening_state, final_state}
 use Rattle.sto_report_spec.specs.Named.{is_line_feed, is_space, named_in, places_in, order_named}
 use Rattle.sto_report_spec.specs.declared.ending.Ending.{Ending}
@@ -65,10 +65,10 @@ inside [] (suc thread) position s e = absurd cc
 inside (scripts ∷ threads) zero position s e = let h = in_scripts position scripts s e in (omega arith, h.0, h.1)
 inside (scripts ∷ threads) (suc thread) position s e = let h = inside threads thread position s e in (let l = h.0 in omega (arith, l), h.1, h.2)
 
-pub is_inside : (f : File) (place : Place) (s : Script) → transaction_at f place ≡ Some s → IsInside f.threads place
+pub is_inside : (f : File) (place : TransactionPlace) (s : Script) → transaction_at f place ≡ Some s → IsInside f.threads place
 is_inside f place s e = let h = inside f.threads place.0 place.1 s e in record { thread = h.0; first = h.1; last = h.2 }
 
-pub positions_of-more : (t : ℕ) (order : List Place) (place : Place) → positions_of t (order ++ place ∷ []) ≡ positions_of t order ++ positions_of t (place ∷ [])
+pub positions_of-more : (t : ℕ) (order : List TransactionPlace) (place : TransactionPlace) → positions_of t (order ++ place ∷ []) ≡ positions_of t order ++ positions_of t (place ∷ [])
 positions_of-more t [] place = refl
 positions_of-more t (p ∷ order) place = by (p.0 == t) (positions_of-more t order place)
   where
@@ -85,7 +85,7 @@ other_thread : (a b : ℕ) → (a ≡ b → ⊥) → (a == b) ≡ false
 other_thread a b e = grind (arith, nat_tests)
 
 -- how many of a thread there are with one more
-pub count_same : (order : List Place) (place : Place) (t c : ℕ) → t ≡ place.0 → c ≡ suc (length (positions_of place.0 order)) → c ≡ length (positions_of t (order ++ place ∷ []))
+pub count_same : (order : List TransactionPlace) (place : TransactionPlace) (t c : ℕ) → t ≡ place.0 → c ≡ suc (length (positions_of place.0 order)) → c ≡ length (positions_of t (order ++ place ∷ []))
 count_same order place t c e h =
     let more : positions_of place.0 (order ++ place ∷ []) ≡ positions_of place.0 order ++ place.1 ∷ [] =
     positions_of-more place.0 order place ∙ ap (λ (b : Bool). positions_of place.0 order ++ cond b (place.1 ∷ []) []) (same_thread place.0 place.0 refl) in
@@ -95,14 +95,14 @@ count_same order place t c e h =
     length_more [] n = refl
     length_more (m ∷ ns) n = ap suc (length_more ns n)
 
-pub count_other : (order : List Place) (place : Place) (t c : ℕ) → (t ≡ place.0 → ⊥) → c ≡ length (positions_of t order) → c ≡ length (positions_of t (order ++ place ∷ []))
+pub count_other : (order : List TransactionPlace) (place : TransactionPlace) (t c : ℕ) → (t ≡ place.0 → ⊥) → c ≡ length (positions_of t order) → c ≡ length (positions_of t (order ++ place ∷ []))
 count_other order place t c e h =
     h
     ∙ sym (ap length (positions_of-more t order place ∙ ap (λ (b : Bool). positions_of t order ++ cond b (place.1 ∷ []) []) (other_thread place.0 t (λ f. e (sym f))) ∙ append-nil (positions_of t order)))
 
 -- The last line.
 
-pub last_entry : (f : File) (old new : List Line) (place : Place) (line : Line)
+pub last_entry : (f : File) (old new : List Line) (place : TransactionPlace) (line : Line)
     → map entry old ≡ entries_from f 0 (opening_state f) (places old) → map entry new ≡ entries_from f 0 (opening_state f) (places new)
     → places new ≡ places old ++ place ∷ [] → slice_get new (length old) ≡ Some line → entry line ≡ entry_after f (places old) place
 last_entry f old new place line told_old told_new placed stands =
@@ -124,10 +124,10 @@ last_entry f old new place line told_old told_new placed stands =
 
 -- What writers wrote.
 
-abbrev pub written_at : File → State → Place → List (List ℕ)
+abbrev pub written_at : File → State → TransactionPlace → List (List ℕ)
 written_at f st place = cond (is_writer (transaction_at f place) (run_at f st place)) (objects_in (transaction_at f place) (run_at f st place) ∷ []) []
 
-pub written_from-more : (f : File) (st : State) (order : List Place) (place : Place) → written_from f st (order ++ place ∷ []) ≡ written_from f st order ++ written_at f (state_from f st order) place
+pub written_from-more : (f : File) (st : State) (order : List TransactionPlace) (place : TransactionPlace) → written_from f st (order ++ place ∷ []) ≡ written_from f st order ++ written_at f (state_from f st order) place
 written_from-more f st [] place = refl
 written_from-more f st (p ∷ order) place = by (is_writer (transaction_at f p) (run_at f st p)) (written_from-more f (run_at f st p).after order place)
   where
@@ -137,7 +137,7 @@ written_from-more f st (p ∷ order) place = by (is_writer (transaction_at f p) 
     by true h = ap (λ (os : List (List ℕ)). objects_in (transaction_at f p) (run_at f st p) ∷ os) h
     by false h = h
 
-pub length-written : (f : File) (st : State) (order : List Place) → length (written_from f st order) ≤ length order
+pub length-written : (f : File) (st : State) (order : List TransactionPlace) → length (written_from f st order) ≤ length order
 length-written f st [] = omega arith
 length-written f st (p ∷ order) = by (is_writer (transaction_at f p) (run_at f st p)) (length-written f (run_at f st p).after order)
   where
@@ -146,7 +146,7 @@ length-written f st (p ∷ order) = by (is_writer (transaction_at f p) (run_at f
     by true h = omega (arith, h)
     by false h = omega (arith, h)
 
-told_by : (steps : Steps) (replies : List Told) (end : End) → cond (is_writer_run steps replies end) (objects_along steps replies ∷ []) [] ≡ told_objects (ending_by (is_writer_run steps replies end) end) (objects_along steps replies)
+told_by : (steps : Behaviour) (replies : List PlainReply) (end : End) → cond (is_writer_run steps replies end) (objects_along steps replies ∷ []) [] ≡ told_objects (ending_by (is_writer_run steps replies end) end) (objects_along steps replies)
 told_by steps replies ends.Commit = by (has_written steps replies)
   where
     by : (b : Bool) → cond b (objects_along steps replies ∷ []) [] ≡ told_objects (ending_by b ends.Commit) (objects_along steps replies)
@@ -155,14 +155,14 @@ told_by steps replies ends.Commit = by (has_written steps replies)
 told_by steps replies ends.Cancel = refl
 
 -- what the line tells of a transaction is what it wrote
-pub written_told : (f : File) (st : State) (place : Place) (s : Script) (end : Ending) (replies : List Told) → transaction_at f place ≡ Some s
+pub written_told : (f : File) (st : State) (place : TransactionPlace) (s : Script) (end : Ending) (replies : List PlainReply) → transaction_at f place ≡ Some s
     → end ≡ ending_by (is_writer (transaction_at f place) (run_at f st place)) (run_at f st place).end → replies ≡ (run_at f st place).replies
     → written_at f st place ≡ told_objects end (objects_along (meaning_of s) replies)
 written_told f st place s end replies at e r =
     let run : SerialRun = run_at f st place in
     ap (λ (t : Option Script). cond (is_writer t run) (objects_in t run ∷ []) []) at
     ∙ told_by (meaning_of s) run.replies run.end
-    ∙ ap (λ (rs : List Told). told_objects (ending_by (is_writer_run (meaning_of s) run.replies run.end) run.end) (objects_along (meaning_of s) rs)) (sym r)
+    ∙ ap (λ (rs : List PlainReply). told_objects (ending_by (is_writer_run (meaning_of s) run.replies run.end) run.end) (objects_along (meaning_of s) rs)) (sym r)
     ∙ ap (λ (x : Ending). told_objects x (objects_along (meaning_of s) replies)) (sym (e ∙ ap (λ (t : Option Script). ending_by (is_writer t run) run.end) at))
 
 -- Names.

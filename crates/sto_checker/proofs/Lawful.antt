@@ -13,7 +13,7 @@ use Rattle.sto_syntax.specs.Words.{is_name}
 use Rattle.sto_lang.specs.Objects.{Declaration, HaveNames}
 use Rattle.sto_lang.specs.Scripts.{Script, File}
 use Rattle.sto_lang.specs.Sound.{IsSound}
-use Rattle.sto_report_spec.specs.Orders.{Place, at_position, transaction_at, count_in, positions_of, numbers_from, IsOrder}
+use Rattle.sto_report_spec.specs.Orders.{TransactionPlace, at_position, transaction_at, count_in, positions_of, numbers_from, IsOrder}
 use Rattle.sto_report_spec.specs.Replay.{Entry, run_at, is_writer, counted, entry_at, entries_from, entries_of, opening_state, final_state, state_from}
 use Rattle.sto_report_spec.specs.Aborts.{Cause, Locked, Changed, Abort, part_in}
 use Rattle.sto_report_spec.specs.Report.{line_text, abort_text, object_text, report_of}
@@ -70,20 +70,20 @@ each_front : {X : Type 0} (P : X → Type 0) (front back : List X) → Each P (f
 each_front P [] back h = tt
 each_front P (y ∷ front) back h = (h.0, each_front P front back h.1)
 
-swap_all : (Q : ℕ → Place → Type 0) (order : List Place) → ((t : ℕ) → All (Q t) order) → Each (λ (p : Place). (t : ℕ) → Q t p) order
+swap_all : (Q : ℕ → TransactionPlace → Type 0) (order : List TransactionPlace) → ((t : ℕ) → All (Q t) order) → Each (λ (p : TransactionPlace). (t : ℕ) → Q t p) order
 swap_all Q [] h = tt
 swap_all Q (p ∷ order) h = ((λ t. All-head (Q t) p order (h t)), swap_all Q order (λ t. All-tail (Q t) p order (h t)))
 
 is_thread : (a b : ℕ) → a ≡ b → (a == b) ≡ true
 is_thread a b e = grind (arith, nat_tests)
 
-own_positions : (P : ℕ → Type 0) (t : ℕ) (order : List Place) → All P (positions_of t order) → All (λ (p : Place). p.0 ≡ t → P p.1) order
-own_positions P t [] h = All-nil (λ (p : Place). p.0 ≡ t → P p.1)
+own_positions : (P : ℕ → Type 0) (t : ℕ) (order : List TransactionPlace) → All P (positions_of t order) → All (λ (p : TransactionPlace). p.0 ≡ t → P p.1) order
+own_positions P t [] h = All-nil (λ (p : TransactionPlace). p.0 ≡ t → P p.1)
 own_positions P t (p ∷ order) h = by (p.0 == t) refl h (own_positions P t order)
   where
-    by : (b : Bool) → (p.0 == t) ≡ b → All P (cond b (p.1 ∷ positions_of t order) (positions_of t order)) → (All P (positions_of t order) → All (λ (q : Place). q.0 ≡ t → P q.1) order) → All (λ (q : Place). q.0 ≡ t → P q.1) (p ∷ order)
-    by true k h more = All-cons (λ (q : Place). q.0 ≡ t → P q.1) p order (λ _. All-head P p.1 (positions_of t order) h) (more (All-tail P p.1 (positions_of t order) h))
-    by false k h more = All-cons (λ (q : Place). q.0 ≡ t → P q.1) p order (λ f. absurd (let yes = is_thread p.0 t f in let no : true ≡ false = sym yes ∙ k in cc)) (more h)
+    by : (b : Bool) → (p.0 == t) ≡ b → All P (cond b (p.1 ∷ positions_of t order) (positions_of t order)) → (All P (positions_of t order) → All (λ (q : TransactionPlace). q.0 ≡ t → P q.1) order) → All (λ (q : TransactionPlace). q.0 ≡ t → P q.1) (p ∷ order)
+    by true k h more = All-cons (λ (q : TransactionPlace). q.0 ≡ t → P q.1) p order (λ _. All-head P p.1 (positions_of t order) h) (more (All-tail P p.1 (positions_of t order) h))
+    by false k h more = All-cons (λ (q : TransactionPlace). q.0 ≡ t → P q.1) p order (λ f. absurd (let yes = is_thread p.0 t f in let no : true ≡ false = sym yes ∙ k in cc)) (more h)
 
 all_numbers : (first count : ℕ) → All (λ (n : ℕ). (first ≤ n) × (n < first + count)) (numbers_from first count)
 all_numbers first zero = All-nil (λ (n : ℕ). (first ≤ n) × (n < first + zero))
@@ -111,15 +111,15 @@ has_transaction (scripts ∷ threads) zero position l m = at_place scripts posit
 has_transaction (scripts ∷ threads) (suc t) position l m = has_transaction threads t position l m
 
 -- what an order has, the file has
-pub in_order : (file : File) (order : List Place) → IsOrder file order → Each (IsInside file.threads) order
+pub in_order : (file : File) (order : List TransactionPlace) → IsOrder file order → Each (IsInside file.threads) order
 in_order file order whole = each order (swap_all (λ t p. p.0 ≡ t → (1 ≤ p.1) × (p.1 < 1 + count_in file.threads t)) order all)
   where
-    all : (t : ℕ) → All (λ (p : Place). p.0 ≡ t → (1 ≤ p.1) × (p.1 < 1 + count_in file.threads t)) order
+    all : (t : ℕ) → All (λ (p : TransactionPlace). p.0 ≡ t → (1 ≤ p.1) × (p.1 < 1 + count_in file.threads t)) order
     all t =
         own_positions (λ (n : ℕ). (1 ≤ n) × (n < 1 + count_in file.threads t)) t order
         (subst (All (λ (n : ℕ). (1 ≤ n) × (n < 1 + count_in file.threads t))) (sym (whole t)) (all_numbers 1 (count_in file.threads t)))
 
-    each : (ps : List Place) → Each (λ (p : Place). (t : ℕ) → p.0 ≡ t → (1 ≤ p.1) × (p.1 < 1 + count_in file.threads t)) ps → Each (IsInside file.threads) ps
+    each : (ps : List TransactionPlace) → Each (λ (p : TransactionPlace). (t : ℕ) → p.0 ≡ t → (1 ≤ p.1) × (p.1 < 1 + count_in file.threads t)) ps → Each (IsInside file.threads) ps
     each [] h = tt
     each (p ∷ ps) h =
         let own = h.0 p.0 refl in
@@ -138,7 +138,7 @@ number_at first (suc count) (m ∷ front) n back e =
     let more = number_at (suc first) count front n back (same_rest first m (numbers_from (suc first) count) (front ++ n ∷ back) e) in
     omega (arith, more)
 
-positions_cut : (t : ℕ) (front : List Place) (p : Place) (back : List Place) → p.0 ≡ t → positions_of t (front ++ p ∷ back) ≡ positions_of t front ++ p.1 ∷ positions_of t back
+positions_cut : (t : ℕ) (front : List TransactionPlace) (p : TransactionPlace) (back : List TransactionPlace) → p.0 ≡ t → positions_of t (front ++ p ∷ back) ≡ positions_of t front ++ p.1 ∷ positions_of t back
 positions_cut t [] p back e = ap (λ (b : Bool). cond b (p.1 ∷ positions_of t back) (positions_of t back)) (is_thread p.0 t e)
 positions_cut t (q ∷ front) p back e = by (q.0 == t) (positions_cut t front p back e)
   where
@@ -149,15 +149,15 @@ positions_cut t (q ∷ front) p back e = by (q.0 == t) (positions_cut t front p 
 
 -- Entries.
 
-pub record CutEntries (f : File) (w : ℕ) (st : State) (order : List Place) (front : List Entry) (e : Entry) : Type 0 where
-  pub before : List Place
-  pub place : Place
-  pub after : List Place
+pub record CutEntries (f : File) (w : ℕ) (st : State) (order : List TransactionPlace) (front : List Entry) (e : Entry) : Type 0 where
+  pub before : List TransactionPlace
+  pub place : TransactionPlace
+  pub after : List TransactionPlace
   pub are : order ≡ before ++ place ∷ after
   pub front_is : front ≡ entries_from f w st before
   pub is : e ≡ entry_at f (writers_from f w st before) (state_from f st before) place
 
-cut_entries : (f : File) (w : ℕ) (st : State) (order : List Place) (front : List Entry) (e : Entry) (back : List Entry) → entries_from f w st order ≡ front ++ e ∷ back → CutEntries f w st order front e
+cut_entries : (f : File) (w : ℕ) (st : State) (order : List TransactionPlace) (front : List Entry) (e : Entry) (back : List Entry) → entries_from f w st order ≡ front ++ e ∷ back → CutEntries f w st order front e
 cut_entries f w st [] [] e back q = absurd cc
 cut_entries f w st [] (x ∷ front) e back q = absurd cc
 cut_entries f w st (p ∷ order) [] e back q =
@@ -169,7 +169,7 @@ cut_entries f w st (p ∷ order) (x ∷ front) e back q =
       before = p ∷ more.before;
       place = more.place;
       after = more.after;
-      are = ap (λ (o : List Place). p ∷ o) more.are;
+      are = ap (λ (o : List TransactionPlace). p ∷ o) more.are;
       front_is = ap (λ (y : Entry). y ∷ front) (sym (same_first (entry_at f w st p) x rest (front ++ e ∷ back) q)) ∙ ap (λ (es : List Entry). entry_at f w st p ∷ es) more.front_is;
       is = more.is;
     }
@@ -178,7 +178,7 @@ counted_up : (b : Bool) (w : ℕ) → counted b w ≤ suc w
 counted_up true w = omega arith
 counted_up false w = omega arith
 
-entries_short : (f : File) (w : ℕ) (st : State) (order : List Place) → w + length order < 2 ^ 64 → Each (IsNamable f.names) order → AreShortEntries f.names (entries_from f w st order)
+entries_short : (f : File) (w : ℕ) (st : State) (order : List TransactionPlace) → w + length order < 2 ^ 64 → Each (IsNamable f.names) order → AreShortEntries f.names (entries_from f w st order)
 entries_short f w st [] l h = tt
 entries_short f w st (p ∷ order) l h =
     let one = counted_up (is_writer (transaction_at f p) (run_at f st p)) w in (
@@ -186,12 +186,12 @@ entries_short f w st (p ∷ order) l h =
       entries_short f (entry_at f w st p).writers (run_at f st p).after order (omega (arith, l, one)) h.1,
     )
 
-entries_words : (f : File) (w : ℕ) (st : State) (order : List Place) → Each (HasWord f.names) order → AreLines (map (line_text f.names) (entries_from f w st order))
+entries_words : (f : File) (w : ℕ) (st : State) (order : List TransactionPlace) → Each (HasWord f.names) order → AreLines (map (line_text f.names) (entries_from f w st order))
 entries_words f w st [] h = tt
 entries_words f w st (p ∷ order) h =
     (journal_line f.names (entry_at f w st p) h.0, entries_words f (entry_at f w st p).writers (run_at f st p).after order h.1)
 
-entries_long : (f : File) (w : ℕ) (st : State) (order : List Place) → length (entries_from f w st order) ≡ length order
+entries_long : (f : File) (w : ℕ) (st : State) (order : List TransactionPlace) → length (entries_from f w st order) ≡ length order
 entries_long f w st [] = refl
 entries_long f w st (p ∷ order) = ap suc (entries_long f (entry_at f w st p).writers (run_at f st p).after order)
 
@@ -228,7 +228,7 @@ named_all f [] h = refl
 named_all f (a ∷ aborts) h = ap (λ (n : List Abort). n ++ flat_map f aborts) h.0 ∙ ap (λ (n : List Abort). a ∷ n) (named_all f aborts h.1)
 
 -- a line names one attempt at most
-one_by : (places : List Place) (seen : ℕ) (h : Option Heard) → length (abort_by places seen h) ≤ 1
+one_by : (places : List TransactionPlace) (seen : ℕ) (h : Option Heard) → length (abort_by places seen h) ≤ 1
 one_by [] seen None = omega arith
 one_by [] seen (Some h) = omega arith
 one_by (p ∷ []) seen None = omega arith
@@ -296,7 +296,7 @@ sorted_front (x ∷ []) a [] h = (h.0, tt)
 sorted_front (x ∷ []) a (b ∷ back) h = (h.0, tt)
 sorted_front (x ∷ y ∷ front) a back h = (h.0, sorted_front (y ∷ front) a back h.1)
 
-count_front : (q : Place) (front back : List Abort) → count_at q front ≤ count_at q (front ++ back)
+count_front : (q : TransactionPlace) (front back : List Abort) → count_at q front ≤ count_at q (front ++ back)
 count_front q [] back = omega arith
 count_front q (a ∷ front) back =
     let more = count_front q front back in
@@ -308,7 +308,7 @@ regroup : {X : Type 0} (front : List X) (x : X) (back : List X) → front ++ x �
 regroup [] x back = refl
 regroup (y ∷ front) x back = ap (λ l. y ∷ l) (regroup front x back)
 
-handed_front : (tries : ℕ) (front : List Abort) (a : Abort) (back : List Abort) → ((q : Place) → count_at q (front ++ a ∷ back) ≤ tries) → HandsBack tries (front ++ a ∷ back) → HandsBack tries (front ++ a ∷ [])
+handed_front : (tries : ℕ) (front : List Abort) (a : Abort) (back : List Abort) → ((q : TransactionPlace) → count_at q (front ++ a ∷ back) ≤ tries) → HandsBack tries (front ++ a ∷ back) → HandsBack tries (front ++ a ∷ [])
 handed_front tries front a back few h p q own low used =
     let whole = regroup front a back in
     let part_p = count_front p (front ++ a ∷ []) back in
@@ -372,7 +372,7 @@ object_at [] d back = refl
 object_at (x ∷ front) d back = object_at front d back
 
 module _ (file : File) (sound : IsSound file) (tries : ℕ) (u : Updating) (law : UpdatesWritten u file) (text : List ℕ) (lawful : IsLawful u file tries text) where
-  abbrev order : List Place
+  abbrev order : List TransactionPlace
   order = order_named file.names text
 
   abbrev aborts : List Abort
@@ -402,13 +402,13 @@ module _ (file : File) (sound : IsSound file) (tries : ℕ) (u : Updating) (law 
   count : length order ≡ total file
   count = order_count file order lawful.order (from_each (IsInside file.threads) order inside)
 
-  namable : (p : Place) → IsInside file.threads p → IsNamable file.names p
+  namable : (p : TransactionPlace) → IsInside file.threads p → IsNamable file.names p
   namable p i = record {
     thread = let l = i.thread in let e = sound.thread_names.each in omega (arith, l, e);
     position = let l = i.last in let m = (sound_runnable file sound).few_transactions p.0 in omega (arith, l, m);
   }
 
-  word : (p : Place) → IsInside file.threads p → HasWord file.names p
+  word : (p : TransactionPlace) → IsInside file.threads p → HasWord file.names p
   word p i = has_word file.names p known (namable p i)
 
   few : length order < 2 ^ 64
@@ -460,10 +460,10 @@ module _ (file : File) (sound : IsSound file) (tries : ℕ) (u : Updating) (law 
           ∙ append-nil (flat_map (λ (a : Abort). aborts_named file.names (abort_text file.names a)) aborts)
 
   -- so many journal lines name the transactions of their entries
-  named_order : (o : List Place) → Each (IsInside file.threads) o → length o < 2 ^ 64 → flat_map (order_named file.names) (map (line_text file.names) (entries_of file o)) ≡ o
+  named_order : (o : List TransactionPlace) → Each (IsInside file.threads) o → length o < 2 ^ 64 → flat_map (order_named file.names) (map (line_text file.names) (entries_of file o)) ≡ o
   named_order o i l = each_line 0 (opening_state file) o (omega (arith, l)) i
     where
-      each_line : (w : ℕ) (st : State) (o : List Place) → w + length o < 2 ^ 64 → Each (IsInside file.threads) o → flat_map (order_named file.names) (map (line_text file.names) (entries_from file w st o)) ≡ o
+      each_line : (w : ℕ) (st : State) (o : List TransactionPlace) → w + length o < 2 ^ 64 → Each (IsInside file.threads) o → flat_map (order_named file.names) (map (line_text file.names) (entries_from file w st o)) ≡ o
       each_line w st [] l i = refl
       each_line w st (p ∷ o) l i =
           let e : Entry = entry_at file w st p in
@@ -471,8 +471,8 @@ module _ (file : File) (sound : IsSound file) (tries : ℕ) (u : Updating) (law 
           let small : IsShortEntry file.names e = record { place = namable p i.0; writers = omega (arith, l, one) } in
           let here : order_named file.names (line_text file.names e) ≡ p ∷ [] =
           ap (order_named file.names) (sym (append-nil (line_text file.names e ++ []) ∙ append-nil (line_text file.names e))) ∙ journal_names file.names known (e ∷ []) [] (small, tt) in
-          ap (λ (ps : List Place). ps ++ flat_map (order_named file.names) (map (line_text file.names) (entries_from file e.writers (run_at file st p).after o))) here
-          ∙ ap (λ (ps : List Place). p ∷ ps) (each_line e.writers (run_at file st p).after o (omega (arith, l, one)) i.1)
+          ap (λ (ps : List TransactionPlace). ps ++ flat_map (order_named file.names) (map (line_text file.names) (entries_from file e.writers (run_at file st p).after o))) here
+          ∙ ap (λ (ps : List TransactionPlace). p ∷ ps) (each_line e.writers (run_at file st p).after o (omega (arith, l, one)) i.1)
 
   order_whole : (more : List (List ℕ)) → order_in file (journal ++ more) ≡ order
   order_whole more = ap (flat_map (order_named file.names)) (take_all journal more (total file) long) ∙ named_order order inside few
@@ -513,7 +513,7 @@ module _ (file : File) (sound : IsSound file) (tries : ℕ) (u : Updating) (law 
             omega (arith, up, one, few_before, l);
       } in
       journal_right file tries front line below
-      (subst (λ (o : List Place). IsJournalLine file o line) (sym order_is) (record {
+      (subst (λ (o : List TransactionPlace). IsJournalLine file o line) (sym order_is) (record {
         place = c.place;
         named =
             ap (order_named file.names) (m.is ∙ ap (line_text file.names) entry_is)
@@ -523,7 +523,7 @@ module _ (file : File) (sound : IsSound file) (tries : ℕ) (u : Updating) (law 
         text = m.is ∙ ap (line_text file.names) entry_is;
       }))
     where
-      writers_up_to : (f : File) (w : ℕ) (st : State) (o : List Place) → writers_from f w st o ≤ w + length o
+      writers_up_to : (f : File) (w : ℕ) (st : State) (o : List TransactionPlace) → writers_from f w st o ≤ w + length o
       writers_up_to f w st [] = omega arith
       writers_up_to f w st (p ∷ o) =
           let more = writers_up_to f (entry_at f w st p).writers (run_at f st p).after o in
@@ -573,13 +573,13 @@ module _ (file : File) (sound : IsSound file) (tries : ℕ) (u : Updating) (law 
               let part = count_front m.item.place (m.before ++ m.item ∷ []) m.after in
               let same = ap (count_at m.item.place) (m.are ∙ regroup m.before m.item m.after) in
               omega (arith, most, part, same);
-          handed = handed_front tries m.before m.item m.after (subst (λ (l : List Abort). (q : Place) → count_at q l ≤ tries) m.are lawful.aborts.few) (subst (HandsBack tries) m.are lawful.aborts.handed);
+          handed = handed_front tries m.before m.item m.after (subst (λ (l : List Abort). (q : TransactionPlace) → count_at q l ≤ tries) m.are lawful.aborts.few) (subst (HandsBack tries) m.are lawful.aborts.handed);
           sorted = sorted_front m.before m.item m.after (subst IsSorted m.are lawful.aborts.sorted);
         };
         text = m.is;
       } in
       abort_right file tries front line (past more) none
-      (inr (subst (λ (listed : List Abort). IsAbortLine file tries (order_in file front) listed line) (sym before_is) (subst (λ (o : List Place). IsAbortLine file tries o m.before line) (sym (order_whole more)) right)))
+      (inr (subst (λ (listed : List Abort). IsAbortLine file tries (order_in file front) listed line) (sym before_is) (subst (λ (o : List TransactionPlace). IsAbortLine file tries o m.before line) (sym (order_whole more)) right)))
 
   -- the line `state`
   state_is_right : IsRightAfter file tries (journal ++ abort_lines) (codes "state\n")
@@ -597,7 +597,7 @@ module _ (file : File) (sound : IsSound file) (tries : ℕ) (u : Updating) (law 
       ap (λ (ls : List (List ℕ)). length (beyond_state ls)) (behind_is behind_it) ∙ ap length (all_beyond file.names aborts more) ∙ ap length m.front_is ∙ length-map m.before (object_text last) in
       let right : IsObjectLine file order (length m.before) line = record { object = m.item; next = ap (λ (ds : List Declaration). slice_get ds (length m.before)) m.are ∙ object_at m.before m.item m.after; text = m.is } in
       object_right file tries front line (past behind_it) some
-      (subst (λ (n : ℕ). IsObjectLine file (order_in file front) n line) (sym others) (subst (λ (o : List Place). IsObjectLine file o (length m.before) line) (sym (order_whole behind_it)) right))
+      (subst (λ (n : ℕ). IsObjectLine file (order_in file front) n line) (sym others) (subst (λ (o : List TransactionPlace). IsObjectLine file o (length m.before) line) (sym (order_whole behind_it)) right))
 
   each_right : (front : List (List ℕ)) (line : List ℕ) (back : List (List ℕ)) → all_lines ≡ front ++ line ∷ back → IsRightAfter file tries front line
   each_right front line back e = by (cut_append journal (abort_lines ++ codes "state\n" ∷ objects) front line back e)

@@ -7,7 +7,7 @@ use Rattle.sto_report_spec.specs.NamedAborts.{aborts_in, aborts_among, aborts_na
 use Rattle.sto_report_spec.specs.Report.{abort_text}
 use Rattle.sto_report_spec.specs.Short.{IsShortAbort}
 use Rattle.sto_report_spec.proofs.NamingAborts.{aborts_name}
-use Rattle.sto_report_spec.specs.Orders.{Place}
+use Rattle.sto_report_spec.specs.Orders.{TransactionPlace}
 use Rattle.sto_report_spec.specs.NamedAborts.{heard_in}
 use Rattle.sto_report_spec.specs.Named.{is_dot, place_of_pieces}
 use Rattle.std.specs.Str.{bytes_eq}

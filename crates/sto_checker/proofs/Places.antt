@@ -5,7 +5,7 @@ use Rattle.std.specs.List.{All}
 use Rattle.std.proofs.lemmas.List.{length-map}
 use Rattle.std.proofs.lemmas.List.Elements.{All-nil, All-cons, All-head, All-tail, All-append}
 use Rattle.std.proofs.lemmas.Option.{slice_get-map}
-use Rattle.sto_model.specs.Machine.{Machine, opening_of}
+use Rattle.sto_model.specs.SequentialObjects.{SequentialObject, opening_of}
 use Rattle.sto_model.specs.Objects.{machine_of, machines_of}
 use Rattle.sto_model.specs.Run.{State}
 use Rattle.sto_model.specs.declared.shape.Shape.{Shape}
@@ -16,7 +16,7 @@ use Rattle.sto_lang.specs.declared.file.File as whole
 use Rattle.sto_lang.specs.Objects.{Declaration}
 use Rattle.sto_lang.specs.Scripts.{Script, File}
 use Rattle.sto_lang.specs.Views.{declaration, script, threads_of, file}
-use Rattle.sto_report_spec.specs.Orders.{Place, numbers_from, at_position, transaction_at, count_in}
+use Rattle.sto_report_spec.specs.Orders.{TransactionPlace, numbers_from, at_position, transaction_at, count_in}
 use Rattle.sto_journal.specs.declared.journal.Line.{Line}
 use Rattle.sto_journal.specs.Journals.{HaveRows, HaveThreads, places}
 use Rattle.sto_checker.specs.Runs.{places_of, places_from, thread_order}
@@ -37,7 +37,7 @@ count_at threads t thread e = count_where (threads_of threads) t (map script thr
 -- the transaction that the code finds at a place
 pub at_place : (f : whole.File) (t p q : ℕ) (thread : Thread) (s : code.Script) → p ≡ suc q → slice_get f.threads.items t ≡ Some thread → slice_get thread.scripts.items q ≡ Some s → transaction_at (file f) (t, p) ≡ Some (script s)
 at_place f t p q thread s e g h =
-    ap (λ (n : ℕ). let place : Place = (t, n) in transaction_at (file f) place) e
+    ap (λ (n : ℕ). let place : TransactionPlace = (t, n) in transaction_at (file f) place) e
     ∙ ap (option_and_then (at_position (suc q))) (thread_where f.threads.items t thread g)
     ∙ slice_get-map script thread.scripts.items q
     ∙ ap (option_map script) h
@@ -48,7 +48,7 @@ length-threads threads = length-map threads (λ (x : Thread). map script x.scrip
 
 -- at the opening there are rows for each object
 pub length-opening : (shapes : List Shape) → length (opening_of (machines_of shapes)) ≡ length shapes
-length-opening shapes = length-map (machines_of shapes) (λ (m : Machine). m.opening) ∙ length-map shapes machine_of
+length-opening shapes = length-map (machines_of shapes) (λ (m : SequentialObject). m.opening) ∙ length-map shapes machine_of
 
 -- a state with as many rows as there are objects has rows for each
 pub have_rows : (decls : List Decl) (objects : ℕ) (state : State) → All (λ (d : Declaration). d.number < objects) (map declaration decls) → objects ≡ length state → HaveRows state decls
@@ -60,13 +60,13 @@ have_rows (d ∷ decls) objects state h e =
 
 -- the lines of a run thread by thread are of its threads
 
-abbrev IsOfThread : ℕ → Place → Type 0
+abbrev IsOfThread : ℕ → TransactionPlace → Type 0
 IsOfThread count place = place.0 < count
 
-all_of_thread : (count thread : ℕ) (positions : List ℕ) → thread < count → All (IsOfThread count) (map (λ (position : ℕ). let place : Place = (thread, position) in place) positions)
+all_of_thread : (count thread : ℕ) (positions : List ℕ) → thread < count → All (IsOfThread count) (map (λ (position : ℕ). let place : TransactionPlace = (thread, position) in place) positions)
 all_of_thread count thread [] h = All-nil (IsOfThread count)
 all_of_thread count thread (position ∷ positions) h =
-    All-cons (IsOfThread count) (thread, position) (map (λ (p : ℕ). let place : Place = (thread, p) in place) positions) h (all_of_thread count thread positions h)
+    All-cons (IsOfThread count) (thread, position) (map (λ (p : ℕ). let place : TransactionPlace = (thread, p) in place) positions) h (all_of_thread count thread positions h)
 
 all_of_threads : (count first : ℕ) (threads : List (List Script)) → first + length threads ≤ count → All (IsOfThread count) (places_from first threads)
 all_of_threads count first [] h = All-nil (IsOfThread count)

@@ -5,7 +5,7 @@ use Rattle.std.specs.Option.{option_map}
 use Rattle.std.specs.Str.{bytes_eq}
 use Rattle.std.specs.Str.Parse.{digits_value}
 use Rattle.std.proofs.lemmas.List.Splits.{length-slice_split}
-use Rattle.sto_report_spec.specs.Orders.{Place}
+use Rattle.sto_report_spec.specs.Orders.{TransactionPlace as Place}
 use Rattle.sto_report_spec.specs.Aborts.{LocalPart, Cause, Locked, Changed, Abort}
 use Rattle.sto_report_spec.specs.Named.{is_dot, is_space, place_in, place_of_pieces, named_in}
 use Rattle.sto_report_spec.specs.NamedAborts.{Heard, reply_in, part_by, locked_in, changed_in, heard_in, abort_by, aborts_in}

@@ -2,13 +2,13 @@
 use Rattle.std.proofs.Common.{◌≡◌, ℕ, zero, suc, ◌+◌, ◌<◌, ◌≤◌, List, [], ◌∷◌, ◌++◌, length, map, take, refl, sym, ap, ◌∙◌, Bool, true, false, cond, ◌==◌, Option, Some, arith, append_assoc, append-nil, length-append}
 use Rattle.std.proofs.lemmas.List.{map-append}
 use Rattle.std.proofs.lemmas.Bool.Decides.{nat_tests}
-use Rattle.sto_model.specs.Told.{told}
+use Rattle.sto_model.specs.PlainReplies.{plain_reply}
 use Rattle.sto_model.specs.Run.{State}
 use Rattle.sto_model.specs.Serial.{SerialRun, serial_run_of, is_writer_run}
 use Rattle.sto_model.specs.declared.run.End.{End}
 use Rattle.sto_lang.specs.Scripts.{Script, File}
 use Rattle.sto_script.specs.Meaning.{meaning_of}
-use Rattle.sto_report_spec.specs.Orders.{Place, transaction_at, count_in, positions_of, numbers_from, IsOrder}
+use Rattle.sto_report_spec.specs.Orders.{TransactionPlace, transaction_at, count_in, positions_of, numbers_from, IsOrder}
 use Rattle.sto_report_spec.specs.Replay.{Entry, machines_for, opening_state, script_run, run_at, is_writer, ending_by, counted, entry_at, entries_from, state_from}
 use Rattle.sto_journal.specs.declared.journal.Line.{Line}
 use Rattle.sto_journal.specs.Journals.{entry, places}
@@ -16,25 +16,25 @@ use Rattle.sto_checker.specs.Runs.{writers_from, IsSoFar, places_of, places_from
 
 -- one more transaction at the end of an order
 
-pub entries_from-more : (f : File) (writers : ℕ) (st : State) (order : List Place) (place : Place)
+pub entries_from-more : (f : File) (writers : ℕ) (st : State) (order : List TransactionPlace) (place : TransactionPlace)
     → entries_from f writers st (order ++ place ∷ []) ≡ entries_from f writers st order ++ entry_at f (writers_from f writers st order) (state_from f st order) place ∷ []
 entries_from-more f writers st [] place = refl
 entries_from-more f writers st (p ∷ order) place =
     ap (λ (es : List Entry). entry_at f writers st p ∷ es) (entries_from-more f (entry_at f writers st p).writers (run_at f st p).after order place)
 
-pub writers_from-more : (f : File) (writers : ℕ) (st : State) (order : List Place) (place : Place)
+pub writers_from-more : (f : File) (writers : ℕ) (st : State) (order : List TransactionPlace) (place : TransactionPlace)
     → writers_from f writers st (order ++ place ∷ []) ≡ (entry_at f (writers_from f writers st order) (state_from f st order) place).writers
 writers_from-more f writers st [] place = refl
 writers_from-more f writers st (p ∷ order) place = writers_from-more f (entry_at f writers st p).writers (run_at f st p).after order place
 
-pub state_from-more : (f : File) (st : State) (order : List Place) (place : Place)
+pub state_from-more : (f : File) (st : State) (order : List TransactionPlace) (place : TransactionPlace)
     → state_from f st (order ++ place ∷ []) ≡ (run_at f (state_from f st order) place).after
 state_from-more f st [] place = refl
 state_from-more f st (p ∷ order) place = state_from-more f (run_at f st p).after order place
 
 pub places-more : (lines : List Line) (line : Line) → places (lines ++ line ∷ []) ≡ places lines ++ (line.thread, line.position) ∷ []
 places-more [] line = refl
-places-more (l ∷ lines) line = ap (λ (ps : List Place). (entry l).place ∷ ps) (places-more lines line)
+places-more (l ∷ lines) line = ap (λ (ps : List TransactionPlace). (entry l).place ∷ ps) (places-more lines line)
 
 -- what a transaction did, and the line that tells it
 pub record IsTold (f : File) (writers : ℕ) (before after : State) (line : Line) : Type 0 where
@@ -42,19 +42,19 @@ pub record IsTold (f : File) (writers : ℕ) (before after : State) (line : Line
   pub after_is : (run_at f before (line.thread, line.position)).after ≡ after
 
 -- the entry of a run
-abbrev entry_by : ℕ → Place → Bool → SerialRun → Entry
+abbrev entry_by : ℕ → TransactionPlace → Bool → SerialRun → Entry
 entry_by writers place writer run = record { writers = counted writer writers; place = place; ending = ending_by writer run.end; replies = run.replies }
 
 pub is_told : (f : File) (s : Script) (writers : ℕ) (before after : State) (line : Line) (end : End) (writer : Bool)
     → transaction_at f (line.thread, line.position) ≡ Some s
-    → serial_run_of (machines_for f) s.weight (meaning_of s) before ≡ record { replies = map told line.replies.items; end = end; after = after }
-    → writer ≡ is_writer_run (meaning_of s) (map told line.replies.items) end
+    → serial_run_of (machines_for f) s.weight (meaning_of s) before ≡ record { replies = map plain_reply line.replies.items; end = end; after = after }
+    → writer ≡ is_writer_run (meaning_of s) (map plain_reply line.replies.items) end
     → line.k ≡ counted writer writers
     → line.end ≡ ending_by writer end
     → IsTold f writers before after line
 is_told f s writers before after line end writer at run wrote k ends =
-    let place : Place = (line.thread, line.position) in
-    let done : SerialRun = record { replies = map told line.replies.items; end = end; after = after } in
+    let place : TransactionPlace = (line.thread, line.position) in
+    let done : SerialRun = record { replies = map plain_reply line.replies.items; end = end; after = after } in
     let run_is : run_at f before place ≡ done = ap (script_run (machines_for f) before) at ∙ run in
     let writer_is : is_writer (transaction_at f place) (run_at f before place) ≡ writer =
     ap (λ (t : Option Script). is_writer t (run_at f before place)) at ∙ ap (λ (r : SerialRun). is_writer (Some s) r) run_is ∙ sym wrote in
@@ -62,8 +62,8 @@ is_told f s writers before after line end writer at run wrote k ends =
       entry_is =
           ap (λ (w : Bool). entry_by writers place w (run_at f before place)) writer_is
           ∙ ap (entry_by writers place writer) run_is
-          ∙ ap (λ (n : ℕ). let e : Entry = record { writers = n; place = place; ending = ending_by writer end; replies = map told line.replies.items } in e) (sym k)
-          ∙ ap (λ (x : _). let e : Entry = record { writers = line.k; place = place; ending = x; replies = map told line.replies.items } in e) (sym ends);
+          ∙ ap (λ (n : ℕ). let e : Entry = record { writers = n; place = place; ending = ending_by writer end; replies = map plain_reply line.replies.items } in e) (sym k)
+          ∙ ap (λ (x : _). let e : Entry = record { writers = line.k; place = place; ending = x; replies = map plain_reply line.replies.items } in e) (sym ends);
       after_is = ap (λ (r : SerialRun). r.after) run_is;
     }
 
@@ -76,7 +76,7 @@ pub so_far-more : (f : File) (old new : List Line) (line : Line) (writers : ℕ)
     → IsSoFar f old writers before
     → IsSoFar f new line.k after
 so_far-more f old new line writers before after more few same is h =
-    let place : Place = (line.thread, line.position) in
+    let place : TransactionPlace = (line.thread, line.position) in
     let st : State = opening_state f in
     let placed : places new ≡ places old ++ place ∷ [] = ap places more ∙ places-more old line in
     let told_at : (w : ℕ) (s : State) → writers ≡ w → before ≡ s → entry_at f w s place ≡ entry line =
@@ -112,9 +112,9 @@ places_of-more thread count =
     let next : count + 1 ≡ suc count = omega arith in
     let last : 1 + count ≡ count + 1 = omega arith in
     ap (places_of thread) next
-    ∙ ap (map (λ (n : ℕ). let p : Place = (thread, n) in p)) (numbers_from-more 1 count)
-    ∙ map-append (λ (n : ℕ). let p : Place = (thread, n) in p) (numbers_from 1 count) ((1 + count) ∷ [])
-    ∙ ap (λ (n : ℕ). let p : Place = (thread, n) in places_of thread count ++ p ∷ []) last
+    ∙ ap (map (λ (n : ℕ). let p : TransactionPlace = (thread, n) in p)) (numbers_from-more 1 count)
+    ∙ map-append (λ (n : ℕ). let p : TransactionPlace = (thread, n) in p) (numbers_from 1 count) ((1 + count) ∷ [])
+    ∙ ap (λ (n : ℕ). let p : TransactionPlace = (thread, n) in places_of thread count ++ p ∷ []) last
 
 pub places_from-more : (first : ℕ) (threads : List (List Script)) (k : ℕ) → k < length threads
     → places_from first (take (suc k) threads) ≡ places_from first (take k threads) ++ places_of (first + k) (count_in threads k)
@@ -124,7 +124,7 @@ places_from-more first (scripts ∷ threads) zero h =
     append-nil (places_of first (length scripts)) ∙ ap (λ (n : ℕ). places_of n (length scripts)) same
 places_from-more first (scripts ∷ threads) (suc k) h =
     let same : suc first + k ≡ first + suc k = omega arith in
-    ap (λ (ps : List Place). places_of first (length scripts) ++ ps) (places_from-more (suc first) threads k (omega arith))
+    ap (λ (ps : List TransactionPlace). places_of first (length scripts) ++ ps) (places_from-more (suc first) threads k (omega arith))
     ∙ sym (append_assoc (places_of first (length scripts)) (places_from (suc first) (take k threads)) (places_of (suc first + k) (count_in threads k)))
     ∙ ap (λ (n : ℕ). (places_of first (length scripts) ++ places_from (suc first) (take k threads)) ++ places_of n (count_in threads k)) same
 
@@ -132,21 +132,21 @@ onto-append : (b : Bool) (n : ℕ) (both xs ys : List ℕ) → both ≡ xs ++ ys
 onto-append true n both xs ys e = ap (λ (ns : List ℕ). n ∷ ns) e
 onto-append false n both xs ys e = e
 
-positions-append : (thread : ℕ) (xs ys : List Place) → positions_of thread (xs ++ ys) ≡ positions_of thread xs ++ positions_of thread ys
+positions-append : (thread : ℕ) (xs ys : List TransactionPlace) → positions_of thread (xs ++ ys) ≡ positions_of thread xs ++ positions_of thread ys
 positions-append thread [] ys = refl
 positions-append thread (x ∷ xs) ys = onto-append (x.0 == thread) x.1 (positions_of thread (xs ++ ys)) (positions_of thread xs) (positions_of thread ys) (positions-append thread xs ys)
 
-own_places : (thread : ℕ) (numbers : List ℕ) → positions_of thread (map (λ (n : ℕ). let p : Place = (thread, n) in p) numbers) ≡ numbers
+own_places : (thread : ℕ) (numbers : List ℕ) → positions_of thread (map (λ (n : ℕ). let p : TransactionPlace = (thread, n) in p) numbers) ≡ numbers
 own_places thread [] = refl
 own_places thread (n ∷ numbers) =
     let same : (thread == thread) ≡ true = grind (arith, nat_tests) in
-    ap (λ (b : Bool). cond b (n ∷ positions_of thread (map (λ (n : ℕ). let p : Place = (thread, n) in p) numbers)) (positions_of thread (map (λ (n : ℕ). let p : Place = (thread, n) in p) numbers))) same
+    ap (λ (b : Bool). cond b (n ∷ positions_of thread (map (λ (n : ℕ). let p : TransactionPlace = (thread, n) in p) numbers)) (positions_of thread (map (λ (n : ℕ). let p : TransactionPlace = (thread, n) in p) numbers))) same
     ∙ ap (λ (ns : List ℕ). n ∷ ns) (own_places thread numbers)
 
-other_places : (thread other : ℕ) (numbers : List ℕ) → (other == thread) ≡ false → positions_of thread (map (λ (n : ℕ). let p : Place = (other, n) in p) numbers) ≡ []
+other_places : (thread other : ℕ) (numbers : List ℕ) → (other == thread) ≡ false → positions_of thread (map (λ (n : ℕ). let p : TransactionPlace = (other, n) in p) numbers) ≡ []
 other_places thread other [] e = refl
 other_places thread other (n ∷ numbers) e =
-    ap (λ (b : Bool). cond b (n ∷ positions_of thread (map (λ (n : ℕ). let p : Place = (other, n) in p) numbers)) (positions_of thread (map (λ (n : ℕ). let p : Place = (other, n) in p) numbers))) e
+    ap (λ (b : Bool). cond b (n ∷ positions_of thread (map (λ (n : ℕ). let p : TransactionPlace = (other, n) in p) numbers)) (positions_of thread (map (λ (n : ℕ). let p : TransactionPlace = (other, n) in p) numbers))) e
     ∙ other_places thread other numbers e
 
 above : (first : ℕ) (threads : List (List Script)) (thread : ℕ) → thread < first → positions_of thread (places_from first threads) ≡ []

@@ -9,7 +9,7 @@ use Rattle.sto_model.specs.Run.{State}
 use Rattle.sto_part.specs.Listed.{Listed}
 use Rattle.sto_lang.specs.Scripts.{Script, File}
 use Rattle.sto_lang.proofs.SoundLines.{all_get}
-use Rattle.sto_report_spec.specs.Orders.{Place, transaction_at, count_in, positions_of, numbers_from, IsOrder}
+use Rattle.sto_report_spec.specs.Orders.{TransactionPlace, transaction_at, count_in, positions_of, numbers_from, IsOrder}
 use Rattle.sto_report_spec.specs.Replay.{Entry, run_at, is_writer, counted, entry_at, entries_from, entries_of, state_from, opening_state, shown}
 use Rattle.sto_report_spec.specs.LawfulAborts.{writers_before, IsBefore}
 use Rattle.sto_report_spec.specs.declared.ending.Ending.{Ending}
@@ -45,7 +45,7 @@ counted_few true w = omega arith
 counted_few false w = omega arith
 
 -- there are at most as many writers as transactions
-pub writers_few : (f : File) (w : ℕ) (st : State) (order : List Place) → writers_from f w st order ≤ w + length order
+pub writers_few : (f : File) (w : ℕ) (st : State) (order : List TransactionPlace) → writers_from f w st order ≤ w + length order
 writers_few f w st [] = omega arith
 writers_few f w st (p ∷ order) =
     let one = counted_few (is_writer (transaction_at f p) (run_at f st p)) w in
@@ -53,14 +53,14 @@ writers_few f w st (p ∷ order) =
     omega (arith, one, more)
 
 -- and at most as many up to one of them as up to the last
-front_writers : (f : File) (w : ℕ) (st : State) (front back : List Place) → writers_from f w st front ≤ writers_from f w st (front ++ back)
+front_writers : (f : File) (w : ℕ) (st : State) (front back : List TransactionPlace) → writers_from f w st front ≤ writers_from f w st (front ++ back)
 front_writers f w st [] back = writers_up f w st back
 front_writers f w st (p ∷ front) back = front_writers f (entry_at f w st p).writers (run_at f st p).after front back
 
 -- A second replay.
 
 module _ (file : File) (lines : List Line) where
-  abbrev all_places : List Place
+  abbrev all_places : List TransactionPlace
   all_places = places lines
 
   pub along_none : (run : Progress) → run.lines.items ≡ [] → run.writers ≡ 0 → run.state.items ≡ opening_state file → IsAlong file all_places run
@@ -88,7 +88,7 @@ module _ (file : File) (lines : List Line) where
       let l = slice_get_within all_places n (line.thread, line.position) there in
       record {
         so_far = so_far;
-        placed = placed ∙ ap (λ (ps : List Place). ps ++ (line.thread, line.position) ∷ []) h.placed ∙ sym (take_next all_places n (line.thread, line.position) there) ∙ ap (λ (k : ℕ). take k all_places) (sym counted);
+        placed = placed ∙ ap (λ (ps : List TransactionPlace). ps ++ (line.thread, line.position) ∷ []) h.placed ∙ sym (take_next all_places n (line.thread, line.position) there) ∙ ap (λ (k : ℕ). take k all_places) (sym counted);
         within = omega (arith, l, counted);
       }
 
@@ -97,7 +97,7 @@ module _ (file : File) (lines : List Line) where
   counted_by false w = inl refl
 
   -- there is one writer more, or none
-  pub writers_more : (old new : Progress) (place : Place) → IsSoFar file old.lines.items old.writers old.state.items → IsSoFar file new.lines.items new.writers new.state.items
+  pub writers_more : (old new : Progress) (place : TransactionPlace) → IsSoFar file old.lines.items old.writers old.state.items → IsSoFar file new.lines.items new.writers new.state.items
       → places new.lines.items ≡ places old.lines.items ++ place ∷ [] → (new.writers ≡ old.writers) ⊎ (new.writers ≡ suc old.writers)
   writers_more old new place h k placed =
       let st : State = opening_state file in
@@ -122,7 +122,7 @@ module _ (file : File) (lines : List Line) where
       h.so_far.state_is
       ∙ ap (state_from file (opening_state file)) h.placed
       ∙ sym (shown_after file (opening_state file) (take n all_places) (drop n all_places) 0 run.writers same)
-      ∙ ap (λ (o : List Place). shown file o run.writers) whole
+      ∙ ap (λ (o : List TransactionPlace). shown file o run.writers) whole
 
   pub all_run : (run : Progress) → IsAlong file all_places run → length lines ≤ length run.lines.items → run.writers ≡ writers_from file 0 (opening_state file) all_places
   all_run run h l =
@@ -155,7 +155,7 @@ module _ (file : File) (lines : List Line) where
         (subst (λ (s : State). IsFirstOf file s aborts l.items old new) (st_is ∙ state_shown run h) (subst (λ (ns : List ℕ). IsFirstOf file st aborts ns old new) same more)))
 
     -- a writer more has a state of its own, and another transaction has none
-    module _ (old new : Progress) (place : Place) (h : IsAlong file all_places old) (so_far : IsSoFar file new.lines.items new.writers new.state.items) (placed : places new.lines.items ≡ places old.lines.items ++ place ∷ []) where
+    module _ (old new : Progress) (place : TransactionPlace) (h : IsAlong file all_places old) (so_far : IsSoFar file new.lines.items new.writers new.state.items) (placed : places new.lines.items ≡ places old.lines.items ++ place ∷ []) where
       pub is_next : old.writers < new.writers → new.writers ≡ old.writers + 1
       is_next l = by (writers_more old new place h.so_far so_far placed)
         where
@@ -172,28 +172,28 @@ module _ (file : File) (lines : List Line) where
 
 -- A transaction that has an entry saw no more writers than there are.
 
-record CutPlace (t n : ℕ) (order : List Place) : Type 0 where
-  front : List Place
-  back : List Place
+record CutPlace (t n : ℕ) (order : List TransactionPlace) : Type 0 where
+  front : List TransactionPlace
+  back : List TransactionPlace
   are : order ≡ front ++ (t, n) ∷ back
 
 is_thread : (a b : ℕ) → (a == b) ≡ true → a ≡ b
 is_thread a b e = grind (arith, nat_tests)
 
-cut_place : (t n : ℕ) (order : List Place) (front back : List ℕ) → positions_of t order ≡ front ++ n ∷ back → CutPlace t n order
+cut_place : (t n : ℕ) (order : List TransactionPlace) (front back : List ℕ) → positions_of t order ≡ front ++ n ∷ back → CutPlace t n order
 cut_place t n [] [] back e = absurd cc
 cut_place t n [] (m ∷ front) back e = absurd cc
 cut_place t n (p ∷ order) front back e = by (p.0 == t) refl front e (λ front e. cut_place t n order front back e)
   where
     behind : CutPlace t n order → CutPlace t n (p ∷ order)
-    behind c = record { front = p ∷ c.front; back = c.back; are = ap (λ (o : List Place). p ∷ o) c.are }
+    behind c = record { front = p ∷ c.front; back = c.back; are = ap (λ (o : List TransactionPlace). p ∷ o) c.are }
 
     by : (b : Bool) → (p.0 == t) ≡ b → (front : List ℕ) → cond b (p.1 ∷ positions_of t order) (positions_of t order) ≡ front ++ n ∷ back
         → ((front : List ℕ) → positions_of t order ≡ front ++ n ∷ back → CutPlace t n order) → CutPlace t n (p ∷ order)
     by true k [] f more =
         let thread = is_thread p.0 t k in
         let position = same_first p.1 n (positions_of t order) back f in
-        record { front = []; back = order; are = ap (λ (q : Place). q ∷ order) (λ i. (thread i, position i)) }
+        record { front = []; back = order; are = ap (λ (q : TransactionPlace). q ∷ order) (λ i. (thread i, position i)) }
     by true k (m ∷ front) f more = behind (more front (same_rest p.1 m (positions_of t order) (front ++ n ∷ back) f))
     by false k front f more = behind (more front f)
 
@@ -216,7 +216,7 @@ before_most e endings.Commit = omega arith
 before_most e endings.Read = omega arith
 before_most e endings.Cancel = omega arith
 
-within_all : (f : File) (w : ℕ) (st : State) (front : List Place) (place : Place) (back : List Place) (k : ℕ) → IsBefore (entries_from f w st (front ++ place ∷ back)) place k → k ≤ writers_from f w st (front ++ place ∷ back)
+within_all : (f : File) (w : ℕ) (st : State) (front : List TransactionPlace) (place : TransactionPlace) (back : List TransactionPlace) (k : ℕ) → IsBefore (entries_from f w st (front ++ place ∷ back)) place k → k ≤ writers_from f w st (front ++ place ∷ back)
 within_all f w st [] place back k h =
     let e : Entry = entry_at f w st place in
     let own = All-head (λ (x : Entry). x.place ≡ place → k ≤ writers_before x x.ending) e (entries_from f e.writers (run_at f st place).after back) h refl in
@@ -227,10 +227,10 @@ within_all f w st (p ∷ front) place back k h =
     let e : Entry = entry_at f w st p in
     within_all f e.writers (run_at f st p).after front place back k (All-tail (λ (x : Entry). x.place ≡ place → k ≤ writers_before x x.ending) e (entries_from f e.writers (run_at f st p).after (front ++ place ∷ back)) h)
 
-pub seen_within : (f : File) (order : List Place) (place : Place) (s : Script) (k : ℕ) → IsOrder f order → transaction_at f place ≡ Some s → IsBefore (entries_of f order) place k → k ≤ writers_from f 0 (opening_state f) order
+pub seen_within : (f : File) (order : List TransactionPlace) (place : TransactionPlace) (s : Script) (k : ℕ) → IsOrder f order → transaction_at f place ≡ Some s → IsBefore (entries_of f order) place k → k ≤ writers_from f 0 (opening_state f) order
 seen_within f order place s k whole at h =
     let i = is_inside f place s at in
     let n = numbers_cut 1 (count_in f.threads place.0) place.1 i.first (let l = i.last in omega (arith, l)) in
     let c = cut_place place.0 place.1 order n.0 n.1 (whole place.0 ∙ n.2) in
-    subst (λ (o : List Place). k ≤ writers_from f 0 (opening_state f) o) (sym c.are)
-    (within_all f 0 (opening_state f) c.front place c.back k (subst (λ (o : List Place). IsBefore (entries_of f o) place k) c.are h))
+    subst (λ (o : List TransactionPlace). k ≤ writers_from f 0 (opening_state f) o) (sym c.are)
+    (within_all f 0 (opening_state f) c.front place c.back k (subst (λ (o : List TransactionPlace). IsBefore (entries_of f o) place k) c.are h))

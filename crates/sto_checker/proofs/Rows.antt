@@ -3,13 +3,13 @@ use Rattle.std.proofs.Common.{◌≡◌, ℕ, zero, suc, ◌<◌, ◌≤◌, pos
 use Rattle.std.specs.Fmt.{digits}
 use Rattle.std.specs.Int.{int_wrap}
 use Rattle.std.proofs.lemmas.List.Elements.{All-from_recursion, All-nil, All-head}
-use Rattle.sto_model.specs.Told.{Value, Done}
+use Rattle.sto_model.specs.PlainReplies.{Value, Done}
 use Rattle.sto_model.specs.declared.shape.Shape.TheVariants.{Single}
 use Rattle.sto_lang.specs.declared.arg.Arg.{Arg}
 use Rattle.sto_lang.specs.declared.arg.Arg.TheVariants.{Num, Var}
 use Rattle.sto_lang.specs.Statements.{Nothing, Ask, Sum}
 use Rattle.sto_lang.specs.Scripts.{Script, File}
-use Rattle.sto_report_spec.specs.Orders.{Place}
+use Rattle.sto_report_spec.specs.Orders.{TransactionPlace}
 use Rattle.sto_report_spec.specs.Replay.{Entry, entries_of}
 use Rattle.sto_report_spec.specs.Aborts.{Abort, Changed}
 use Rattle.sto_report_spec.specs.LawfulAborts.{writers_before}

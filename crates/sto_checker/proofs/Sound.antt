@@ -9,7 +9,7 @@ use Rattle.std.proofs.lemmas.List.Elements.{All-nil, All-push}
 use Rattle.sto_model.specs.Run.{State}
 use Rattle.sto_lang.specs.Objects.{Declaration}
 use Rattle.sto_lang.specs.Scripts.{File}
-use Rattle.sto_report_spec.specs.Orders.{Place, positions_of, numbers_from, IsOrder}
+use Rattle.sto_report_spec.specs.Orders.{TransactionPlace, positions_of, numbers_from, IsOrder}
 use Rattle.sto_report_spec.specs.Replay.{Entry, entries_from, entries_of, opening_state, final_state}
 use Rattle.sto_report_spec.specs.Aborts.{Abort}
 use Rattle.sto_report_spec.specs.Report.{line_text, abort_text, object_text, report_of}
@@ -65,7 +65,7 @@ module _ (file : File) (tries : ℕ) (lines : List (List ℕ)) where
   abbrev front : ℕ → List (List ℕ)
   front n = take n lines
 
-  abbrev order_at : ℕ → List Place
+  abbrev order_at : ℕ → List TransactionPlace
   order_at n = order_in file (front n)
 
   abbrev aborts_at : ℕ → List Abort
@@ -82,7 +82,7 @@ module _ (file : File) (tries : ℕ) (lines : List (List ℕ)) where
   none_told =
       let empty : order_at 0 ≡ [] = ap (flat_map (order_named file.names)) (none (total file)) in
       record {
-        text = sym (ap (λ (o : List Place). flat_map (line_text file.names) (entries_of file o)) empty);
+        text = sym (ap (λ (o : List TransactionPlace). flat_map (line_text file.names) (entries_of file o)) empty);
         begun = subst (IsBegun file) (sym empty) (λ t. (refl, omega arith));
         inside = subst (AreInside file) (sym empty) (All-nil (IsInside file.threads));
         count = ap length empty;
@@ -97,7 +97,7 @@ module _ (file : File) (tries : ℕ) (lines : List (List ℕ)) where
       let long : length (front n) ≡ n = length_front lines n within in
       let next : front (n + 1) ≡ front n ++ line ∷ [] = take_next lines n line stands in
       let order_is : order_at (n + 1) ≡ order_at n ++ right.place ∷ [] =
-      ap (order_in file) next ∙ order_grows file tries (front n) line (omega (arith, long, below)) ∙ ap (λ (o : List Place). order_at n ++ o) right.named in
+      ap (order_in file) next ∙ order_grows file tries (front n) line (omega (arith, long, below)) ∙ ap (λ (o : List TransactionPlace). order_at n ++ o) right.named in
       let entries_are : entries_of file (order_at (n + 1)) ≡ entries_of file (order_at n) ++ entry_after file (order_at n) right.place ∷ [] =
       ap (entries_of file) order_is ∙ entries_from-more file 0 (opening_state file) (order_at n) right.place in
       record {
@@ -135,7 +135,7 @@ module _ (file : File) (tries : ℕ) (lines : List (List ℕ)) where
     order : IsOrder file (order_at n)
     text : joined (front n) ≡ flat_map (line_text file.names) (entries_of file (order_at n)) ++ flat_map (abort_text file.names) (aborts_at n)
     each : All (IsRightAlone file (order_at n)) (aborts_at n)
-    few : (place : Place) → count_at place (aborts_at n) ≤ tries
+    few : (place : TransactionPlace) → count_at place (aborts_at n) ≤ tries
     handed : HandsBack tries (aborts_at n)
     sorted : IsSorted (aborts_at n)
 
@@ -154,10 +154,10 @@ module _ (file : File) (tries : ℕ) (lines : List (List ℕ)) where
 
   -- one abort line more
 
-  place_is : (p q : Place) → p.0 ≡ q.0 → p.1 ≡ q.1 → p ≡ q
+  place_is : (p q : TransactionPlace) → p.0 ≡ q.0 → p.1 ≡ q.1 → p ≡ q
   place_is p q e f = λ i. (e i, f i)
 
-  few_more : (before : List Abort) (a : Abort) → ((place : Place) → count_at place before ≤ tries) → count_at a.place (before ++ a ∷ []) ≤ tries → (place : Place) → count_at place (before ++ a ∷ []) ≤ tries
+  few_more : (before : List Abort) (a : Abort) → ((place : TransactionPlace) → count_at place before ≤ tries) → count_at a.place (before ++ a ∷ []) ≤ tries → (place : TransactionPlace) → count_at place (before ++ a ∷ []) ≤ tries
   few_more before a few own place = by ((a.place.0 == place.0) && (a.place.1 == place.1)) refl
     where
       both : (m n k l : ℕ) → ((m == n) && (k == l)) ≡ true → (m ≡ n) × (k ≡ l)
@@ -172,7 +172,7 @@ module _ (file : File) (tries : ℕ) (lines : List (List ℕ)) where
       by : (b : Bool) → ((a.place.0 == place.0) && (a.place.1 == place.1)) ≡ b → count_at place (before ++ a ∷ []) ≤ tries
       by true e =
           let same = both a.place.0 place.0 a.place.1 place.1 e in
-          subst (λ (q : Place). count_at q (before ++ a ∷ []) ≤ tries) (place_is a.place place same.0 same.1) own
+          subst (λ (q : TransactionPlace). count_at q (before ++ a ∷ []) ≤ tries) (place_is a.place place same.0 same.1) own
       by false e =
           let more = count_more before a place in
           let one = count_cons a [] place in
@@ -212,10 +212,10 @@ module _ (file : File) (tries : ℕ) (lines : List (List ℕ)) where
               ∙ ap (λ (t : List ℕ). flat_map (line_text file.names) (entries_of file (order_at n)) ++ (flat_map (abort_text file.names) (aborts_at n) ++ t)) k.text
               ∙ ap (λ (t : List ℕ). flat_map (line_text file.names) (entries_of file (order_at n)) ++ t) (sym (flat_more (abort_text file.names) (aborts_at n) k.abort))
               ∙ ap (λ (listed : List Abort). flat_map (line_text file.names) (entries_of file (order_at n)) ++ flat_map (abort_text file.names) listed) (sym grown)
-              ∙ ap (λ (o : List Place). flat_map (line_text file.names) (entries_of file o) ++ flat_map (abort_text file.names) (aborts_at (n + 1))) (sym same_order);
-          each = subst (λ (o : List Place). All (IsRightAlone file o) (aborts_at (n + 1))) (sym same_order)
+              ∙ ap (λ (o : List TransactionPlace). flat_map (line_text file.names) (entries_of file o) ++ flat_map (abort_text file.names) (aborts_at (n + 1))) (sym same_order);
+          each = subst (λ (o : List TransactionPlace). All (IsRightAlone file o) (aborts_at (n + 1))) (sym same_order)
               (subst (All (IsRightAlone file (order_at n))) (sym grown) (All-push (IsRightAlone file (order_at n)) (aborts_at n) k.abort h.each k.right.alone));
-          few = subst (λ (listed : List Abort). (place : Place) → count_at place listed ≤ tries) (sym grown) (few_more (aborts_at n) k.abort h.few k.right.few);
+          few = subst (λ (listed : List Abort). (place : TransactionPlace) → count_at place listed ≤ tries) (sym grown) (few_more (aborts_at n) k.abort h.few k.right.few);
           handed = subst (HandsBack tries) (sym grown) k.right.handed;
           sorted = subst IsSorted (sym grown) k.right.sorted;
         }
@@ -227,14 +227,14 @@ module _ (file : File) (tries : ℕ) (lines : List (List ℕ)) where
         record {
           order = subst (IsOrder file) (sym same_order) h.order;
           aborts = aborts_at n;
-          are_right = subst (λ (o : List Place). AreRightAborts file tries o (aborts_at n)) (sym same_order) (record { each = h.each; few = h.few; handed = h.handed; sorted = h.sorted });
+          are_right = subst (λ (o : List TransactionPlace). AreRightAborts file tries o (aborts_at n)) (sym same_order) (record { each = h.each; few = h.few; handed = h.handed; sorted = h.sorted });
           within = omega (arith, none_yet);
           text =
               joined_more
               ∙ ap (λ (t : List ℕ). t ++ line) h.text
               ∙ append_assoc (flat_map (line_text file.names) (entries_of file (order_at n))) (flat_map (abort_text file.names) (aborts_at n)) line
               ∙ ap (λ (t : List ℕ). flat_map (line_text file.names) (entries_of file (order_at n)) ++ (flat_map (abort_text file.names) (aborts_at n) ++ t)) (is ∙ sym (append-nil (codes "state\n")))
-              ∙ ap (λ (o : List Place). flat_map (line_text file.names) (entries_of file o) ++ (flat_map (abort_text file.names) (aborts_at n) ++ (codes "state\n" ++ flat_map (object_text (final_state file o)) []))) (sym same_order)
+              ∙ ap (λ (o : List TransactionPlace). flat_map (line_text file.names) (entries_of file o) ++ (flat_map (abort_text file.names) (aborts_at n) ++ (codes "state\n" ++ flat_map (object_text (final_state file o)) []))) (sym same_order)
               ∙ ap (λ (ds : List Declaration). flat_map (line_text file.names) (entries_of file (order_at (n + 1))) ++ (flat_map (abort_text file.names) (aborts_at n) ++ (codes "state\n" ++ flat_map (object_text (final_state file (order_at (n + 1)))) ds)))
               (sym (ap (λ (k : ℕ). take k file.declarations) none_yet ∙ start file.declarations));
         }
@@ -255,7 +255,7 @@ module _ (file : File) (tries : ℕ) (lines : List (List ℕ)) where
         record {
           order = subst (IsOrder file) (sym same_order) h.order;
           aborts = h.aborts;
-          are_right = subst (λ (o : List Place). AreRightAborts file tries o h.aborts) (sym same_order) h.are_right;
+          are_right = subst (λ (o : List TransactionPlace). AreRightAborts file tries o h.aborts) (sym same_order) h.are_right;
           within = let l = slice_get_within file.declarations count k.object k.next in omega (arith, more, l);
           text =
               joined_more
@@ -265,7 +265,7 @@ module _ (file : File) (tries : ℕ) (lines : List (List ℕ)) where
               ∙ ap (λ (t : List ℕ). journal ++ (aborts ++ (codes "state\n" ++ (objects ++ t)))) k.text
               ∙ ap (λ (t : List ℕ). journal ++ (aborts ++ (codes "state\n" ++ t))) (sym (flat_more (object_text state) (take count file.declarations) k.object))
               ∙ ap (λ (ds : List Declaration). journal ++ (aborts ++ (codes "state\n" ++ flat_map (object_text state) ds))) (sym taken ∙ ap (λ (j : ℕ). take j file.declarations) (sym more))
-              ∙ ap (λ (o : List Place). flat_map (line_text file.names) (entries_of file o) ++ (aborts ++ (codes "state\n" ++ flat_map (object_text (final_state file o)) (take (length (beyond_state (behind file (front (n + 1))))) file.declarations)))) (sym same_order);
+              ∙ ap (λ (o : List TransactionPlace). flat_map (line_text file.names) (entries_of file o) ++ (aborts ++ (codes "state\n" ++ flat_map (object_text (final_state file o)) (take (length (beyond_state (behind file (front (n + 1))))) file.declarations)))) (sym same_order);
         }
 
   abbrev TellsBy : Bool → ℕ → Type 0
@@ -279,7 +279,7 @@ module _ (file : File) (tries : ℕ) (lines : List (List ℕ)) where
         order = whole_order h;
         text = h.text ∙ sym (append-nil (flat_map (line_text file.names) (entries_of file (order_at (total file))))) ∙ ap (λ (listed : List Abort). flat_map (line_text file.names) (entries_of file (order_at (total file))) ++ flat_map (abort_text file.names) listed) (sym none);
         each = subst (All (IsRightAlone file (order_at (total file)))) (sym none) (All-nil (IsRightAlone file (order_at (total file))));
-        few = subst (λ (listed : List Abort). (place : Place) → count_at place listed ≤ tries) (sym none) (λ place. omega arith);
+        few = subst (λ (listed : List Abort). (place : TransactionPlace) → count_at place listed ≤ tries) (sym none) (λ place. omega arith);
         handed = subst (HandsBack tries) (sym none) (λ p q own low used. refl);
         sorted = subst IsSorted (sym none) tt;
       }

@@ -4,7 +4,7 @@ use Rattle.std.specs.List.{list_any, flat_map}
 use Rattle.std.proofs.lemmas.Bool.Decides.{nat_tests}
 use Rattle.std.proofs.lemmas.Option.{slice_get_within}
 use Rattle.sto_lang.specs.Scripts.{File}
-use Rattle.sto_report_spec.specs.Orders.{Place}
+use Rattle.sto_report_spec.specs.Orders.{TransactionPlace}
 use Rattle.sto_report_spec.specs.Aborts.{Abort}
 use Rattle.sto_report_spec.specs.Named.{order_named}
 use Rattle.sto_report_spec.specs.NamedAborts.{aborts_named}
@@ -122,7 +122,7 @@ module _ (file : File) (tries : ℕ) (front : List (List ℕ)) (line : List ℕ)
   order_grows l =
       ap (flat_map (order_named file.names)) (take_whole (front ++ line ∷ []) (total file) (let h = length_more front line in omega (arith, h, l)))
       ∙ flat_more (order_named file.names) front line
-      ∙ ap (λ (o : List Place). o ++ order_named file.names line) (sym (order_all (omega (arith, l))))
+      ∙ ap (λ (o : List TransactionPlace). o ++ order_named file.names line) (sym (order_all (omega (arith, l))))
 
   pub journal_right : length front < total file → IsJournalLine file (order_in file front) line → IsRightAfter file tries front line
   journal_right l h = subst (λ (b : Bool). IsRightIn b file tries front line) (sym (is_below (length front) (total file) l)) h

@@ -3,7 +3,7 @@ use Rattle.std.proofs.Common.{◌≡◌, ◌⊎◌, ℕ, zero, suc, ◌+◌, ◌
 use Rattle.std.specs.List.{slice_split}
 use Rattle.std.proofs.lemmas.List.{length-map, map-append}
 use Rattle.std.proofs.lemmas.List.Elements.{All-push}
-use Rattle.sto_model.specs.Told.{Told, told}
+use Rattle.sto_model.specs.PlainReplies.{PlainReply, plain_reply}
 use Rattle.std.proofs.lemmas.List.Sums.{sum_by-cons, sum_by_more, sum_by-take-le}
 use Rattle.sto_lang.specs.declared.file.Thread.{Thread}
 use Rattle.sto_lang.specs.Drafts.{transaction_count}
@@ -12,7 +12,7 @@ use Rattle.sto_lang.specs.Scripts.{Script, File}
 use Rattle.sto_lang.specs.Sound.{IsSound}
 use Rattle.sto_part.specs.Listed.{Listed}
 use Rattle.sto_script.specs.Meaning.{meaning_of}
-use Rattle.sto_report_spec.specs.Orders.{Place, transaction_at, count_in, positions_of}
+use Rattle.sto_report_spec.specs.Orders.{TransactionPlace, transaction_at, count_in, positions_of}
 use Rattle.sto_report_spec.specs.Replay.{Entry, entries_from, opening_state, final_state, entry_at, run_at}
 use Rattle.sto_report_spec.specs.Named.{is_space, named_in, order_named}
 use Rattle.sto_report_spec.specs.Report.{line_text}
@@ -50,11 +50,11 @@ set_long (x ∷ xs) zero v = refl
 set_long (x ∷ xs) (suc i) v = ap suc (set_long xs i v)
 
 -- one transaction more was run
-module _ (file : File) (old new : Past) (place : Place) (line : Line) (h : IsPast file old) (next : IsNext file (places old.run.lines.items) place)
+module _ (file : File) (old new : Past) (place : TransactionPlace) (line : Line) (h : IsPast file old) (next : IsNext file (places old.run.lines.items) place)
     (so_far : IsSoFar file new.run.lines.items new.run.writers new.run.state.items)
     (placed : places new.run.lines.items ≡ places old.run.lines.items ++ place ∷ []) (counted : length new.run.lines.items ≡ length old.run.lines.items + 1)
     (stands : slice_get new.run.lines.items (length old.run.lines.items) ≡ Some line) where
-  abbrev order : List Place
+  abbrev order : List TransactionPlace
   order = places old.run.lines.items
 
   pub tells : entry line ≡ entry_after file order place
@@ -70,7 +70,7 @@ module _ (file : File) (old new : Past) (place : Place) (line : Line) (h : IsPas
   last_is = record { line = line; placed = placed; counted = counted; stands = stands; inside = line_thread; tells = tells }
 
   pub past_more : (s : Script) → transaction_at file place ≡ Some s → new.done.items ≡ slice_set old.done.items place.0 place.1
-      → map (λ objects. objects.items) new.written.items ≡ map (λ objects. objects.items) old.written.items ++ told_objects line.end (objects_along (meaning_of s) (map told line.replies.items))
+      → map (λ objects. objects.items) new.written.items ≡ map (λ objects. objects.items) old.written.items ++ told_objects line.end (objects_along (meaning_of s) (map plain_reply line.replies.items))
       → IsPast file new
   past_more s at done written = record {
     run = so_far;
@@ -78,13 +78,13 @@ module _ (file : File) (old new : Past) (place : Place) (line : Line) (h : IsPas
     inside = subst (AreInside file) (sym placed) (All-push (IsInside file.threads) order place h.inside inside);
     threads = ap length done ∙ set_long old.done.items place.0 place.1 ∙ h.threads;
     done = λ t c e.
-        subst (λ (o : List Place). c ≡ length (positions_of t o)) (sym placed)
+        subst (λ (o : List TransactionPlace). c ≡ length (positions_of t o)) (sym placed)
         (done_by t c (set_at old.done.items place.0 place.1 t c (let l = inside.thread in let k = h.threads in omega (arith, l, k)) (ap (λ (ns : List ℕ). slice_get ns t) (sym done) ∙ e)));
     written =
         written
-        ∙ ap (λ (os : List (List ℕ)). os ++ told_objects line.end (objects_along (meaning_of s) (map told line.replies.items))) h.written
+        ∙ ap (λ (os : List (List ℕ)). os ++ told_objects line.end (objects_along (meaning_of s) (map plain_reply line.replies.items))) h.written
         ∙ ap (λ (os : List (List ℕ)). written_of file order ++ os)
-        (sym (written_told file (final_state file order) place s line.end (map told line.replies.items) at (ap (λ (x : Entry). x.ending) tells) (ap (λ (x : Entry). x.replies) tells)))
+        (sym (written_told file (final_state file order) place s line.end (map plain_reply line.replies.items) at (ap (λ (x : Entry). x.ending) tells) (ap (λ (x : Entry). x.replies) tells)))
         ∙ sym (written_from-more file (opening_state file) order place)
         ∙ ap (written_of file) (sym placed);
   }
@@ -129,7 +129,7 @@ pub count_fits : (threads : List Thread) (i : ℕ) → sum_by (λ (x : Thread). 
 count_fits threads i = let l = sum_by-take-le (λ (x : Thread). length x.scripts.items) threads i in let e = count_some threads in omega (arith, l, e)
 
 -- the next transaction is one of the file
-pub next_inside : (file : File) (order : List Place) (place : Place) → IsNext file order place → IsInside file.threads place
+pub next_inside : (file : File) (order : List TransactionPlace) (place : TransactionPlace) → IsNext file order place → IsInside file.threads place
 next_inside file _ place n = is_inside file place n.script n.transaction
 
 -- A line, and the transaction that it names.
@@ -145,7 +145,7 @@ few_windows file replayed sound is t l e =
 
 module _ (file : File) (old : Replayed) (sound : IsSound file) (is : IsReplayed file old) (line content : List ℕ) (text : HasContent line content) where
   -- none that could be the next one is named
-  pub none_named : ((place : Place) → named_in file.names (slice_split is_space content) ≡ place ∷ [] → 2 ^ 32 ≤ place.1) → IsJournalLine file (places old.past.run.lines.items) line → ⊥
+  pub none_named : ((place : TransactionPlace) → named_in file.names (slice_split is_space content) ≡ place ∷ [] → 2 ^ 32 ≤ place.1) → IsJournalLine file (places old.past.run.lines.items) line → ⊥
   none_named far h =
       let l = far h.place (sym (named_once file.names line content text) ∙ h.named) in
       let i = next_inside file (places old.past.run.lines.items) h.place h.next in
@@ -153,14 +153,14 @@ module _ (file : File) (old : Replayed) (sound : IsSound file) (is : IsReplayed 
       let few = (sound_runnable file sound).few_transactions h.place.0 in
       absurd (omega (arith, l, inside, few))
 
-  module _ (place : Place) (named : named_in file.names (slice_split is_space content) ≡ place ∷ []) where
+  module _ (place : TransactionPlace) (named : named_in file.names (slice_split is_space content) ≡ place ∷ []) where
     named_here : order_named file.names line ≡ place ∷ []
     named_here = named_once file.names line content text ∙ named
 
     same_place : (h : IsJournalLine file (places old.past.run.lines.items) line) → h.place ≡ place
     same_place h = only h.place place (sym h.named ∙ named_here)
       where
-        only : (a b : Place) → a ∷ [] ≡ b ∷ [] → a ≡ b
+        only : (a b : TransactionPlace) → a ∷ [] ≡ b ∷ [] → a ≡ b
         only a b e = cc
 
     -- it was run
@@ -196,7 +196,7 @@ module _ (file : File) (old : Replayed) (sound : IsSound file) (is : IsReplayed 
 
       other_line : (line ≡ line_text file.names (entry told_line) → ⊥) → IsJournalLine file (places old.past.run.lines.items) line → ⊥
       other_line wrong h =
-          wrong (h.text ∙ ap (λ (p : Place). line_text file.names (entry_after file (places old.past.run.lines.items) p)) (same_place h) ∙ ap (line_text file.names) (sym tells_line))
+          wrong (h.text ∙ ap (λ (p : TransactionPlace). line_text file.names (entry_after file (places old.past.run.lines.items) p)) (same_place h) ∙ ap (line_text file.names) (sym tells_line))
 
       module _ (windows : (l : Listed Window) → slice_get old.windows.threads.items told_line.thread ≡ Some l
           → windows_of new.windows ≡ with_more (windows_of old.windows) told_line.thread (window_after l.items (entry told_line))) where
@@ -206,7 +206,7 @@ module _ (file : File) (old : Replayed) (sound : IsSound file) (is : IsReplayed 
             let l : Listed Window = found.0 in
             let thread : told_line.thread ≡ place.0 = ap (λ (e : Entry). e.place.0) tells_line in
             let position : told_line.position ≡ place.1 = ap (λ (e : Entry). e.place.1) tells_line in
-            let order : List Place = places old.past.run.lines.items in
+            let order : List TransactionPlace = places old.past.run.lines.items in
             let behind : told_line.position ≡ suc (length (positions_of told_line.thread order)) = position ∙ next.next ∙ ap (λ (t : ℕ). suc (length (positions_of t order))) (sym thread) in
             subst (λ (es : List Entry). AreWindows (length file.threads) es (windows_of new.windows)) (sym entries_grow)
             (subst (AreWindows (length file.threads) (map entry old.past.run.lines.items ++ entry told_line ∷ [])) (sym (windows l found.1))
@@ -217,7 +217,7 @@ module _ (file : File) (old : Replayed) (sound : IsSound file) (is : IsReplayed 
         taken e = record {
           right = record { place = place; named = named_here; next = next; text = e ∙ ap (line_text file.names) tells_line };
           replayed = record { past = past; windows = windows_are };
-          placed = last.placed ∙ ap (λ (o : List Place). places old.past.run.lines.items ++ o) (sym named_here);
+          placed = last.placed ∙ ap (λ (o : List TransactionPlace). places old.past.run.lines.items ++ o) (sym named_here);
           counted = last.counted;
         }
 

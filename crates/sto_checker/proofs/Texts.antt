@@ -7,7 +7,7 @@ use Rattle.std.proofs.lemmas.Slice.Eq.{bytes_eq-Decides}
 use Rattle.sto_model.specs.Run.{State}
 use Rattle.sto_syntax.specs.Words.{is_name}
 use Rattle.sto_lang.specs.Objects.{Declaration}
-use Rattle.sto_report_spec.specs.Orders.{Place}
+use Rattle.sto_report_spec.specs.Orders.{TransactionPlace}
 use Rattle.sto_report_spec.specs.Replay.{Entry}
 use Rattle.sto_report_spec.specs.Aborts.{LocalPart, Cause, Locked, Changed, Abort, part_in}
 use Rattle.sto_report_spec.specs.Report.{name_at, spaced_reply, part_text, cause_text, line_text, abort_text, rows_text, rows_of, object_text}

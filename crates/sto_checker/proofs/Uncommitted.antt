@@ -1,8 +1,8 @@
 -- A body that cancels where another commits hears the same.
 use Rattle.std.proofs.Common.{◌≡◌, ℕ, zero, suc, List, [], ◌∷◌, refl, sym, ap, ◌∙◌}
-use Rattle.sto_model.specs.Told.{Told}
-use Rattle.sto_model.specs.Machine.{Machine, reply_to, state_after}
-use Rattle.sto_model.specs.Run.{Script, State, IsAsk, MayAsk}
+use Rattle.sto_model.specs.PlainReplies.{PlainReply}
+use Rattle.sto_model.specs.SequentialObjects.{SequentialObject, reply_to, state_after}
+use Rattle.sto_model.specs.Run.{Behaviour, State, IsAsk, MayAsk}
 use Rattle.sto_model.specs.Serial.{SerialRun, by_next, ended, heard, run_within, settled_run, serial_run_of, end_step}
 use Rattle.sto_model.specs.declared.call.Call.{Call}
 use Rattle.sto_model.specs.declared.body.Next.{Next}
@@ -11,7 +11,7 @@ use Rattle.sto_model.specs.declared.run.End.{End}
 use Rattle.sto_model.specs.declared.run.End.TheVariants as E
 use Rattle.sto_checker.specs.Tentative.{uncommitted}
 
-same_within : (ms : List Machine) (n : ℕ) (f : Script) (st : State) → (run_within ms n (λ rs. uncommitted (f rs)) st).replies ≡ (run_within ms n f st).replies
+same_within : (ms : List SequentialObject) (n : ℕ) (f : Behaviour) (st : State) → (run_within ms n (λ rs. uncommitted (f rs)) st).replies ≡ (run_within ms n f st).replies
 same_within ms zero f st = by (f [])
   where
     by : (z : Next) → (by_next (uncommitted z) (λ call. ended st E.Commit) (ended st)).replies ≡ (by_next z (λ call. ended st E.Commit) (ended st)).replies
@@ -20,15 +20,15 @@ same_within ms zero f st = by (f [])
     by Cancel = refl
 same_within ms (suc n) f st = by (f []) (λ r s. same_within ms n (λ rs. f (r ∷ rs)) s)
   where
-    by : (z : Next) → ((r : Told) (s : State) → (run_within ms n (λ rs. uncommitted (f (r ∷ rs))) s).replies ≡ (run_within ms n (λ rs. f (r ∷ rs)) s).replies)
+    by : (z : Next) → ((r : PlainReply) (s : State) → (run_within ms n (λ rs. uncommitted (f (r ∷ rs))) s).replies ≡ (run_within ms n (λ rs. f (r ∷ rs)) s).replies)
         → (by_next (uncommitted z) (λ call. heard (reply_to ms call st) (run_within ms n (λ rs. uncommitted (f (reply_to ms call st ∷ rs))) (state_after ms call st))) (ended st)).replies
         ≡ (by_next z (λ call. heard (reply_to ms call st) (run_within ms n (λ rs. f (reply_to ms call st ∷ rs)) (state_after ms call st))) (ended st)).replies
-    by (Ask call) h = ap (λ (rs : List Told). reply_to ms call st ∷ rs) (h (reply_to ms call st) (state_after ms call st))
+    by (Ask call) h = ap (λ (rs : List PlainReply). reply_to ms call st ∷ rs) (h (reply_to ms call st) (state_after ms call st))
     by Commit h = refl
     by Cancel h = refl
 
 -- the replies are those of the other
-pub same_replies : (ms : List Machine) (n : ℕ) (f : Script) (st : State) → (serial_run_of ms n (λ rs. uncommitted (f rs)) st).replies ≡ (serial_run_of ms n f st).replies
+pub same_replies : (ms : List SequentialObject) (n : ℕ) (f : Behaviour) (st : State) → (serial_run_of ms n (λ rs. uncommitted (f rs)) st).replies ≡ (serial_run_of ms n f st).replies
 same_replies ms n f st = same_within ms n f st
 
 never_commits : (z : Next) → uncommitted z ≡ Commit → ⊥

@@ -2,7 +2,7 @@
 use Rattle.std.proofs.Common.{◌≡◌, ◌⊎◌, ℕ, zero, suc, ◌+◌, ◌<◌, ◌≤◌, List, length, sym, subst, Option, None, Some, slice_get, arith, inl, inr}
 use Rattle.std.proofs.lemmas.Option.{slice_get_within}
 use Rattle.sto_lang.specs.Scripts.{File}
-use Rattle.sto_report_spec.specs.Orders.{Place, IsOrder}
+use Rattle.sto_report_spec.specs.Orders.{TransactionPlace, IsOrder}
 use Rattle.sto_report_spec.specs.Replay.{opening_state, shown}
 use Rattle.sto_checker.specs.Runs.{writers_from}
 use Rattle.sto_checker.specs.declared.past.Past.{Past}
@@ -25,7 +25,7 @@ pub ended_so : (file : File) (tries : ℕ) (lines : List (List ℕ)) (past : Pas
 ended_so file tries lines past gathered read None h right = h right
 ended_so file tries lines past gathered read (Some number) h right = (gathered, h.0, right, h.1 right)
 
-module _ (file : File) (tries : ℕ) (lines : List (List ℕ)) (order : List Place) (aborts : List GivenAbort) (h : AreGathered file tries lines order aborts (total file + length aborts)) where
+module _ (file : File) (tries : ℕ) (lines : List (List ℕ)) (order : List TransactionPlace) (aborts : List GivenAbort) (h : AreGathered file tries lines order aborts (total file + length aborts)) where
   pub placed_there : (place : ℕ) (given : GivenAbort) → slice_get aborts place ≡ Some given → IsPlaced file given
   placed_there place given at = (h.judged place given at).given_is.placed
 

@@ -1,11 +1,11 @@
 -- A run that is no writer's leaves the state as it was.
 use Rattle.std.proofs.Common.{◌≡◌, ℕ, zero, suc, ◌*◌, nat_le, length, ℤ, pos, ◌+ℤ◌, ◌-ℤ◌, int_le, List, [], ◌∷◌, map, refl, sym, ap, ◌∙◌, subst, Bool, true, false, cond, not, ◌||◌, ◌&&◌, Option, None, Some}
-use Rattle.sto_model.specs.Told.{Told, Done, Value, Flag, Absent, Full, is_write}
+use Rattle.sto_model.specs.PlainReplies.{PlainReply, Done, Value, Flag, Absent, Full, is_write}
 use Rattle.sto_model.specs.Rows.{Row, value_at, has_key, with_row, without, keys_beside}
-use Rattle.sto_model.specs.Machine.{Machine, answered, changed, reply_to, state_after}
+use Rattle.sto_model.specs.SequentialObjects.{SequentialObject, answered, changed, reply_to, state_after}
 use Rattle.sto_model.specs.Operations.{operation_of}
 use Rattle.sto_model.specs.Objects.{Effect, effect, only_value, with_only, in_range, done_in_range, added_at, put_effect, remove_effect, popped, pop_effect, effect_of, effect_by, machine_of, machines_of}
-use Rattle.sto_model.specs.Run.{Script, State}
+use Rattle.sto_model.specs.Run.{Behaviour, State}
 use Rattle.sto_model.specs.Serial.{SerialRun, is_written, has_written, is_writer_run, by_next, ended, heard, run_within, settled, serial_run_of}
 use Rattle.sto_model.specs.declared.call.Call.{Call}
 use Rattle.sto_model.specs.declared.body.Next.{Next}
@@ -20,7 +20,7 @@ use Rattle.sto_lang.specs.Objects.{shapes_of}
 use Rattle.sto_lang.specs.Scripts.{File}
 use Rattle.sto_lang.specs.Scripts as texts
 use Rattle.sto_script.specs.Meaning.{meaning_of}
-use Rattle.sto_report_spec.specs.Orders.{Place, transaction_at}
+use Rattle.sto_report_spec.specs.Orders.{TransactionPlace, transaction_at}
 use Rattle.sto_report_spec.specs.Replay.{machines_for, script_run, run_at, is_writer}
 
 code_of : Operation → ℕ
@@ -152,7 +152,7 @@ both_false : (a b : Bool) → (a || b) ≡ false → (a ≡ false) × (b ≡ fal
 both_false true b e = absurd cc
 both_false false b e = (refl, e)
 
-run_stays : (shapes : List Shape) (n : ℕ) (f : Script) (st : State) → has_written f (run_within (machines_of shapes) n f st).replies ≡ false → (run_within (machines_of shapes) n f st).after ≡ st
+run_stays : (shapes : List Shape) (n : ℕ) (f : Behaviour) (st : State) → has_written f (run_within (machines_of shapes) n f st).replies ≡ false → (run_within (machines_of shapes) n f st).after ≡ st
 run_stays shapes zero f st = by (f [])
   where
     by : (z : Next) → has_written f (by_next z (λ call. ended st E.Commit) (ended st)).replies ≡ false → (by_next z (λ call. ended st E.Commit) (ended st)).after ≡ st
@@ -161,29 +161,29 @@ run_stays shapes zero f st = by (f [])
     by Cancel h = refl
 run_stays shapes (suc n) f st = by (f []) refl (λ r s. run_stays shapes n (λ rs. f (r ∷ rs)) s)
   where
-    by : (z : Next) → f [] ≡ z → ((r : Told) (s : State) → has_written (λ rs. f (r ∷ rs)) (run_within (machines_of shapes) n (λ rs. f (r ∷ rs)) s).replies ≡ false → (run_within (machines_of shapes) n (λ rs. f (r ∷ rs)) s).after ≡ s)
+    by : (z : Next) → f [] ≡ z → ((r : PlainReply) (s : State) → has_written (λ rs. f (r ∷ rs)) (run_within (machines_of shapes) n (λ rs. f (r ∷ rs)) s).replies ≡ false → (run_within (machines_of shapes) n (λ rs. f (r ∷ rs)) s).after ≡ s)
         → has_written f (by_next z (λ call. heard (reply_to (machines_of shapes) call st) (run_within (machines_of shapes) n (λ rs. f (reply_to (machines_of shapes) call st ∷ rs)) (state_after (machines_of shapes) call st))) (ended st)).replies ≡ false
         → (by_next z (λ call. heard (reply_to (machines_of shapes) call st) (run_within (machines_of shapes) n (λ rs. f (reply_to (machines_of shapes) call st ∷ rs)) (state_after (machines_of shapes) call st))) (ended st)).after ≡ st
     by (Ask call) e more h =
-        let r : Told = reply_to (machines_of shapes) call st in
+        let r : PlainReply = reply_to (machines_of shapes) call st in
         let s : State = state_after (machines_of shapes) call st in
-        let rest : List Told = (run_within (machines_of shapes) n (λ rs. f (r ∷ rs)) s).replies in
+        let rest : List PlainReply = (run_within (machines_of shapes) n (λ rs. f (r ∷ rs)) s).replies in
         let both = both_false (is_written (Ask call) r) (has_written (λ rs. f (r ∷ rs)) rest) (subst (λ (z : Next). (is_written z r || has_written (λ rs. f (r ∷ rs)) rest) ≡ false) e h) in
         more r s both.1 ∙ call_stays shapes call.object call st both.0
     by Commit e more h = refl
     by Cancel e more h = refl
 
 -- a run that is no writer's leaves the state as it was
-pub unwritten : (f : File) (st : State) (place : Place) → is_writer (transaction_at f place) (run_at f st place) ≡ false → (run_at f st place).after ≡ st
+pub unwritten : (f : File) (st : State) (place : TransactionPlace) → is_writer (transaction_at f place) (run_at f st place) ≡ false → (run_at f st place).after ≡ st
 unwritten f st place = by (transaction_at f place)
   where
-    by_end : (s : texts.Script) (run : SerialRun) → ((has_written (meaning_of s) run.replies ≡ false) → run.after ≡ st) → is_writer_run (meaning_of s) run.replies run.end ≡ false → settled run.end st run.after ≡ st
+    by_end : (s : texts.Behaviour) (run : SerialRun) → ((has_written (meaning_of s) run.replies ≡ false) → run.after ≡ st) → is_writer_run (meaning_of s) run.replies run.end ≡ false → settled run.end st run.after ≡ st
     by_end s run more h = by (run.end) h
       where
         by : (e : End) → is_writer_run (meaning_of s) run.replies e ≡ false → settled e st run.after ≡ st
         by E.Commit h = more h
         by E.Cancel h = refl
 
-    by : (t : Option texts.Script) → is_writer t (script_run (machines_for f) st t) ≡ false → (script_run (machines_for f) st t).after ≡ st
+    by : (t : Option texts.Behaviour) → is_writer t (script_run (machines_for f) st t) ≡ false → (script_run (machines_for f) st t).after ≡ st
     by None h = refl
     by (Some s) h = by_end s (run_within (machines_for f) s.weight (meaning_of s) st) (run_stays (shapes_of f.declarations) s.weight (meaning_of s) st) h

@@ -5,7 +5,7 @@ use Rattle.std.proofs.lemmas.Option.{slice_get_within, slice_get-get_or}
 use Rattle.sto_model.specs.Run.{State}
 use Rattle.sto_part.specs.Listed.{Listed}
 use Rattle.sto_lang.specs.Scripts.{File}
-use Rattle.sto_report_spec.specs.Orders.{Place}
+use Rattle.sto_report_spec.specs.Orders.{TransactionPlace}
 use Rattle.sto_report_spec.specs.Replay.{shown}
 use Rattle.sto_checker.specs.declared.abort.GivenAbort.{GivenAbort}
 use Rattle.sto_checker.specs.Windows.{with_more}
@@ -118,7 +118,7 @@ seen_more aborts count writers lists given h at within = record {
 
 -- Along a replay.
 
-module _ (file : File) (order : List Place) (aborts : List GivenAbort) where
+module _ (file : File) (order : List TransactionPlace) (aborts : List GivenAbort) where
   pub none_wrong : IsFirstUnheard file order aborts 0 None
   none_wrong = record { unheard = tt; heard = λ place given k l b. absurd (omega (arith, l)) }
 

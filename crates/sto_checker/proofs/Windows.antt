@@ -5,7 +5,7 @@ use Rattle.std.proofs.lemmas.Bool.Decides.{nat_tests}
 use Rattle.std.proofs.lemmas.List.{map-append}
 use Rattle.std.proofs.lemmas.List.Elements.{All-nil, All-cons, All-head, All-tail, All-push, All-weaker}
 use Rattle.std.proofs.lemmas.Option.{slice_get_within}
-use Rattle.sto_report_spec.specs.Orders.{Place, positions_of, numbers_from}
+use Rattle.sto_report_spec.specs.Orders.{TransactionPlace, positions_of, numbers_from}
 use Rattle.sto_report_spec.specs.Replay.{Entry}
 use Rattle.sto_report_spec.specs.LawfulAborts.{writers_before, IsBefore, IsAfterOwn}
 use Rattle.sto_checker.proofs.Kept.{positions_of-more}
@@ -13,7 +13,7 @@ use Rattle.sto_checker.specs.declared.window.Window.{Window}
 use Rattle.sto_checker.specs.Windows.{with_more, reached_in, window_after, IsWindow, AreOfThread, AreWindows}
 use Rattle.sto_checker.proofs.Lists.{more_length, IsMore, more_cases, push_cases}
 
-abbrev pub place_of_entry : Entry → Place
+abbrev pub place_of_entry : Entry → TransactionPlace
 place_of_entry e = e.place
 
 -- all but the last, and the last
@@ -61,23 +61,23 @@ in_row es t h =
 
 -- a window, with the entry of a later transaction of its thread or of another one
 module _ (es : List Entry) (e : Entry) where
-  more_after : (place : Place) (n : ℕ) → (e.place.0 ≡ place.0 → e.place.1 < place.1 → e.writers ≤ n) → IsAfterOwn es place n → IsAfterOwn (es ++ e ∷ []) place n
+  more_after : (place : TransactionPlace) (n : ℕ) → (e.place.0 ≡ place.0 → e.place.1 < place.1 → e.writers ≤ n) → IsAfterOwn es place n → IsAfterOwn (es ++ e ∷ []) place n
   more_after place n here h = All-push (λ (x : Entry). x.place.0 ≡ place.0 → x.place.1 < place.1 → x.writers ≤ n) es e h here
 
-  less_after : (place : Place) (n : ℕ) → IsAfterOwn (es ++ e ∷ []) place n → IsAfterOwn es place n
+  less_after : (place : TransactionPlace) (n : ℕ) → IsAfterOwn (es ++ e ∷ []) place n → IsAfterOwn es place n
   less_after place n h = front_all (λ (x : Entry). x.place.0 ≡ place.0 → x.place.1 < place.1 → x.writers ≤ n) es e h
 
-  more_before : (place : Place) (n : ℕ) → (e.place ≡ place → n ≤ writers_before e e.ending) → IsBefore es place n → IsBefore (es ++ e ∷ []) place n
+  more_before : (place : TransactionPlace) (n : ℕ) → (e.place ≡ place → n ≤ writers_before e e.ending) → IsBefore es place n → IsBefore (es ++ e ∷ []) place n
   more_before place n here h = All-push (λ (x : Entry). x.place ≡ place → n ≤ writers_before x x.ending) es e h here
 
-  less_before : (place : Place) (n : ℕ) → IsBefore (es ++ e ∷ []) place n → IsBefore es place n
+  less_before : (place : TransactionPlace) (n : ℕ) → IsBefore (es ++ e ∷ []) place n → IsBefore es place n
   less_before place n h = front_all (λ (x : Entry). x.place ≡ place → n ≤ writers_before x x.ending) es e h
 
-  pub window_stays : (place : Place) (w : Window) → (e.place.0 ≡ place.0 → place.1 < e.place.1) → IsWindow es place w → IsWindow (es ++ e ∷ []) place w
+  pub window_stays : (place : TransactionPlace) (w : Window) → (e.place.0 ≡ place.0 → place.1 < e.place.1) → IsWindow es place w → IsWindow (es ++ e ∷ []) place w
   window_stays place w later h = record {
     least = λ n l. more_after place n (λ t p. absurd (let k = later t in omega (arith, k, p))) (h.least n l);
     not_below = λ n a. h.not_below n (less_after place n a);
-    most = λ n l. more_before place n (λ q. absurd (let t = ap (λ (x : Place). x.0) q in let p = ap (λ (x : Place). x.1) q in let k = later t in omega (arith, k, p))) (h.most n l);
+    most = λ n l. more_before place n (λ q. absurd (let t = ap (λ (x : TransactionPlace). x.0) q in let p = ap (λ (x : TransactionPlace). x.1) q in let k = later t in omega (arith, k, p))) (h.most n l);
     not_above = λ n b. h.not_above n (less_before place n b);
     reached = λ n l. more_after (place.0, suc place.1) n (λ t p. absurd (let k = later t in omega (arith, k, p))) (h.reached n l);
     not_reached = λ n a. h.not_reached n (less_after (place.0, suc place.1) n a);
@@ -88,7 +88,7 @@ module _ (es : List Entry) (e : Entry) where
       (first : All (λ (x : Entry). x.place.0 ≡ e.place.0 → x.place.1 < e.place.1) es) where
     unlike : (n : ℕ) → IsBefore es e.place n
     unlike n = All-weaker (λ (x : Entry). x.place.0 ≡ e.place.0 → x.place.1 < e.place.1) (λ (x : Entry). x.place ≡ e.place → n ≤ writers_before x x.ending)
-        (λ x h q. absurd (let t = ap (λ (y : Place). y.0) q in let p = ap (λ (y : Place). y.1) q in let k = h t in omega (arith, k, p))) es first
+        (λ x h q. absurd (let t = ap (λ (y : TransactionPlace). y.0) q in let p = ap (λ (y : TransactionPlace). y.1) q in let k = h t in omega (arith, k, p))) es first
 
     next_up : (n : ℕ) → least ≤ n → IsAfterOwn es (e.place.0, suc e.place.1) n
     next_up n l =
@@ -156,10 +156,10 @@ module _ (es : List Entry) (t : ℕ) (row : List Window) (h : AreOfThread es t r
   }
     where
       thread : e.place.0 ≡ t
-      thread = ap (λ (p : Place). p.0) at
+      thread = ap (λ (p : TransactionPlace). p.0) at
 
       position : e.place.1 ≡ suc (length row)
-      position = ap (λ (p : Place). p.1) at
+      position = ap (λ (p : TransactionPlace). p.1) at
 
       one_longer : {X : Type 0} (xs : List X) (x : X) → length (xs ++ x ∷ []) ≡ suc (length xs)
       one_longer [] x = refl
@@ -167,7 +167,7 @@ module _ (es : List Entry) (t : ℕ) (row : List Window) (h : AreOfThread es t r
 
       longer : length (positions_of t (map place_of_entry (es ++ e ∷ []))) ≡ suc (length (positions_of t (map place_of_entry es)))
       longer =
-          ap (λ (ps : List Place). length (positions_of t ps)) (map-append place_of_entry es (e ∷ []))
+          ap (λ (ps : List TransactionPlace). length (positions_of t ps)) (map-append place_of_entry es (e ∷ []))
           ∙ ap length (positions_of-more t (map place_of_entry es) e.place)
           ∙ ap (λ (b : Bool). length (positions_of t (map place_of_entry es) ++ cond b (e.place.1 ∷ []) [])) (is_thread e.place.0 t thread)
           ∙ one_longer (positions_of t (map place_of_entry es)) e.place.1
@@ -181,17 +181,17 @@ module _ (es : List Entry) (t : ℕ) (row : List Window) (h : AreOfThread es t r
       by i w (inl k) = let l = slice_get_within row i w k in window_stays es e (t, suc i) w (λ _. omega (arith, l, position)) (h.each i w k)
       by i w (inr k) =
           let least = least_by (slice_get row (length row - 1)) refl in
-          let here : e.place ≡ (t, suc i) = at ∙ ap (λ (n : ℕ). let p : Place = (t, suc n) in p) (sym k.0) in
+          let here : e.place ≡ (t, suc i) = at ∙ ap (λ (n : ℕ). let p : TransactionPlace = (t, suc n) in p) (sym k.0) in
           let own : IsWindow (es ++ e ∷ []) e.place (window_after row e) =
-          window_new es e (reached_in (slice_get row (length row - 1))) (λ n l. subst (λ (p : Place). IsAfterOwn es p n) (sym at) (least.0 n l)) (λ n a. least.1 n (subst (λ (p : Place). IsAfterOwn es p n) at a)) first in
-          subst (λ (p : Place). IsWindow (es ++ e ∷ []) p w) here (subst (λ (v : Window). IsWindow (es ++ e ∷ []) e.place v) (sym k.1) own)
+          window_new es e (reached_in (slice_get row (length row - 1))) (λ n l. subst (λ (p : TransactionPlace). IsAfterOwn es p n) (sym at) (least.0 n l)) (λ n a. least.1 n (subst (λ (p : TransactionPlace). IsAfterOwn es p n) at a)) first in
+          subst (λ (p : TransactionPlace). IsWindow (es ++ e ∷ []) p w) here (subst (λ (v : Window). IsWindow (es ++ e ∷ []) e.place v) (sym k.1) own)
 
 -- the row of another thread
 pub row_stays : (es : List Entry) (e : Entry) (t : ℕ) (row : List Window) → (e.place.0 ≡ t → ⊥) → AreOfThread es t row → AreOfThread (es ++ e ∷ []) t row
 row_stays es e t row other h = record {
   count =
       h.count
-      ∙ sym (ap (λ (ps : List Place). length (positions_of t ps)) (map-append place_of_entry es (e ∷ []))
+      ∙ sym (ap (λ (ps : List TransactionPlace). length (positions_of t ps)) (map-append place_of_entry es (e ∷ []))
       ∙ ap length (positions_of-more t (map place_of_entry es) e.place)
       ∙ ap (λ (b : Bool). length (positions_of t (map place_of_entry es) ++ cond b (e.place.1 ∷ []) [])) (no_thread e.place.0 t other)
       ∙ none_more (positions_of t (map place_of_entry es)));

@@ -6,7 +6,7 @@ use Rattle.sto_model.specs.declared.call.Call.{Call}
 use Rattle.sto_model.specs.declared.shape.Shape.{Shape}
 use Rattle.sto_lang.specs.Objects.{Declaration}
 use Rattle.sto_lang.specs.Scripts.{File}
-use Rattle.sto_report_spec.specs.Orders.{Place, IsOrder}
+use Rattle.sto_report_spec.specs.Orders.{TransactionPlace, IsOrder}
 use Rattle.sto_report_spec.specs.Aborts.{Abort}
 use Rattle.sto_report_spec.specs.LawfulAborts.{IsSorted, HandsBack, count_at, declared_as, part_number}
 use Rattle.sto_report_spec.specs.Report.{report_of}
@@ -15,15 +15,15 @@ use Rattle.sto_checker.specs.Right.{HasWritten, IsRightAlone}
 
 -- aborted attempts are lawful, but that the object that a cause names stands for the part: each of them is, no transaction
 -- has more than the tries, one that has as many is the last of its thread to have any, and they stand in their order
-pub record AreRightAborts (file : File) (tries : ℕ) (order : List Place) (aborts : List Abort) : Type 0 where
+pub record AreRightAborts (file : File) (tries : ℕ) (order : List TransactionPlace) (aborts : List Abort) : Type 0 where
   pub each : All (IsRightAlone file order) aborts
-  pub few : (place : Place) → count_at place aborts ≤ tries
+  pub few : (place : TransactionPlace) → count_at place aborts ≤ tries
   pub handed : HandsBack tries aborts
   pub sorted : IsSorted aborts
 
 -- the text is the report of an order of the file and of such aborted attempts
 pub record IsRightReport (file : File) (tries : ℕ) (text : List ℕ) : Type 0 where
-  pub order : List Place
+  pub order : List TransactionPlace
   pub aborts : List Abort
   pub is_order : IsOrder file order
   pub are_right : AreRightAborts file tries order aborts
@@ -42,5 +42,5 @@ touching_all u = record { opening = u.opening; parts = u.parts; after = u.after;
 -- what the types say of updates: a writer run updates only parts of objects that one of its calls wrote
 abbrev pub UpdatesWritten : Updating → File → Type 0
 UpdatesWritten u file =
-    (order : List Place) → IsOrder file order → (name : List ℕ) (d : Declaration) → declared_as name file.declarations ≡ Some d → (part : ℕ) → part < part_count d.shape
+    (order : List TransactionPlace) → IsOrder file order → (name : List ℕ) (d : Declaration) → declared_as name file.declarations ≡ Some d → (part : ℕ) → part < part_count d.shape
     → (by : ℕ) → 1 ≤ by → (before after : List ℕ) → updated u file order by ≡ before ++ part_number file.declarations d part ∷ after → HasWritten file order by d.number

@@ -1,13 +1,13 @@
 -- What an abort line tells, and what is left to be judged of it.
 use Rattle.std.specs.Prelude.{◌≡◌, ℕ, ◌≤◌, ◌<◌, List, [], ◌∷◌, length, take, Option, None, Some, slice_get}
 use Rattle.sto_model.specs.Asked.{HasAsked, IsUnsettled}
-use Rattle.sto_model.specs.Told.{Told}
-use Rattle.sto_model.specs.Run.{Script as Steps, State}
+use Rattle.sto_model.specs.PlainReplies.{PlainReply}
+use Rattle.sto_model.specs.Run.{Behaviour, State}
 use Rattle.sto_model.specs.Sizes.{part_count}
 use Rattle.sto_lang.specs.Objects.{Declaration}
 use Rattle.sto_lang.specs.Scripts.{Script, File}
 use Rattle.sto_script.specs.Meaning.{meaning_of}
-use Rattle.sto_report_spec.specs.Orders.{Place, transaction_at}
+use Rattle.sto_report_spec.specs.Orders.{TransactionPlace, transaction_at}
 use Rattle.sto_report_spec.specs.Replay.{entries_of, run_at}
 use Rattle.sto_report_spec.specs.Report.{abort_text}
 use Rattle.sto_report_spec.specs.Aborts.{LocalPart, Cause, Locked, Changed, Abort}
@@ -35,7 +35,7 @@ TellsCause part object None c = c ≡ causes.Locked (record { object = object; l
 TellsCause part object (Some by) c = c ≡ causes.Changed (record { object = object; local = part }) by
 
 -- what its transaction hears from a state
-abbrev pub hears : File → State → ToldAbort → List Told
+abbrev pub hears : File → State → ToldAbort → List PlainReply
 hears file state told = (run_at file state (place_of told.place)).replies
 
 -- the aborted attempt that heard so many of these replies
@@ -53,7 +53,7 @@ MayBe seen most written object None = Unit {0}
 MayBe seen most written object (Some by) = IsLater seen most written object by
 
 -- the writer, where there is one, is one that a cause may name
-abbrev pub IsWriterOr : File → List Place → ToldAbort → ℕ → Option ℕ → Type 0
+abbrev pub IsWriterOr : File → List TransactionPlace → ToldAbort → ℕ → Option ℕ → Type 0
 IsWriterOr file order told object None = Unit {0}
 IsWriterOr file order told object (Some by) = IsWrittenBy file order (place_of told.place) told.seen object by
 
@@ -67,23 +67,23 @@ pub record IsPlaced (file : File) (given : GivenAbort) : Type 0 where
   pub inside : given.told.cause.part < part_count object.shape
 
 -- all is right of an abort line but its replies and its place among the others
-pub record IsGiven (file : File) (order : List Place) (given : GivenAbort) : Type 0 where
+pub record IsGiven (file : File) (order : List TransactionPlace) (given : GivenAbort) : Type 0 where
   pub placed : IsPlaced file given
   pub after_own : IsAfterOwn (entries_of file order) (place_of given.told.place) given.told.seen
   pub earlier : IsBefore (entries_of file order) (place_of given.told.place) given.told.seen
   pub cause : IsWriterOr file order given.told placed.object.number given.told.cause.by
 
 -- an aborted attempt of a right line is told so
-abbrev pub TellsAbort : File → List Place → List ℕ → ToldAbort → Type 0
+abbrev pub TellsAbort : File → List TransactionPlace → List ℕ → ToldAbort → Type 0
 TellsAbort file order line told = (a : Abort) → aborts_named file.names line ≡ a ∷ [] → IsRightAlone file order a → IsTold a told
 
 -- all but its replies is right; or the line is no abort line, whatever stands before it
-abbrev pub IsGivenOr : File → List Place → List ℕ → Option GivenAbort → Type 0
+abbrev pub IsGivenOr : File → List TransactionPlace → List ℕ → Option GivenAbort → Type 0
 IsGivenOr file order line None = (tries : ℕ) (before : List Abort) → IsAbortLine file tries order before line → ⊥
 IsGivenOr file order line (Some given) = (given.text.now ≡ line) × IsGiven file order given × TellsAbort file order line given.told
 
 -- an attempt that heard the replies asked the object, and was not at its end
-abbrev pub MayBeAborted : ℕ → Steps → List Told → Type 0
+abbrev pub MayBeAborted : ℕ → Behaviour → List PlainReply → Type 0
 MayBeAborted object script replies = HasAsked object script replies × IsUnsettled script replies
 
 -- its replies are those that its transaction hears first from a state, and the attempt that heard these may have been aborted, for a part

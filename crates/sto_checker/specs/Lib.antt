@@ -17,10 +17,10 @@ pub mod Replayed
 pub mod Given
 pub mod Gathered
 pub mod Seen
-pub use Rattle.sto_model.specs.Machine
+pub use Rattle.sto_model.specs.SequentialObjects
 pub use Rattle.sto_model.specs.Objects
 pub use Rattle.sto_model.specs.Serial
-pub use Rattle.sto_model.specs.Told
+pub use Rattle.sto_model.specs.PlainReplies
 pub use Rattle.sto_lang.specs.Sound
 pub use Rattle.sto_lang.specs.Views
 pub use Rattle.sto_script.specs.Meaning

@@ -1,7 +1,7 @@
 -- What is kept of journal lines.
 use Rattle.std.specs.Prelude.{◌≡◌, ℕ, ◌+◌, ◌<◌, ◌≤◌, List, [], ◌∷◌, ◌++◌, length, map, Some, slice_get}
 use Rattle.sto_lang.specs.Scripts.{File}
-use Rattle.sto_report_spec.specs.Orders.{Place, positions_of, numbers_from, count_in}
+use Rattle.sto_report_spec.specs.Orders.{TransactionPlace, positions_of, numbers_from, count_in}
 use Rattle.sto_report_spec.specs.declared.ending.Ending.{Ending}
 use Rattle.sto_report_spec.specs.declared.ending.Ending.TheVariants.{Commit, Read, Cancel}
 use Rattle.sto_journal.specs.declared.journal.Line.{Line}
@@ -19,7 +19,7 @@ told_objects Read objects = []
 told_objects Cancel objects = []
 
 -- the transactions are those of a front of each thread, in rising position
-abbrev pub IsBegun : File → List Place → Type 0
+abbrev pub IsBegun : File → List TransactionPlace → Type 0
 IsBegun file order =
     (thread : ℕ) → (positions_of thread order ≡ numbers_from 1 (length (positions_of thread order))) × (length (positions_of thread order) ≤ count_in file.threads thread)
 
@@ -33,7 +33,7 @@ pub record IsPast (file : File) (past : Past) : Type 0 where
   pub written : map (λ objects. objects.items) past.written.items ≡ written_of file (places past.run.lines.items)
 
 -- one transaction more was run, and its line stands last
-pub record IsLast (file : File) (old new : Past) (place : Place) : Type 0 where
+pub record IsLast (file : File) (old new : Past) (place : TransactionPlace) : Type 0 where
   pub line : Line
   pub placed : places new.run.lines.items ≡ places old.run.lines.items ++ place ∷ []
   pub counted : length new.run.lines.items ≡ length old.run.lines.items + 1

@@ -1,6 +1,6 @@
 -- What is read of lines.
 use Rattle.std.specs.Prelude.{◌≡◌, ℕ, ◌<◌, ◌≤◌, ◌^◌, List, [], ◌∷◌, length, Bool, false, Option, None, Some}
-use Rattle.sto_report_spec.specs.Orders.{Place}
+use Rattle.sto_report_spec.specs.Orders.{TransactionPlace as Place}
 use Rattle.sto_report_spec.specs.Aborts.{Cause, Locked, Changed, Abort}
 use Rattle.sto_report_spec.specs.Named.{is_digit}
 use Rattle.sto_report_spec.specs.NamedAborts.{Heard}

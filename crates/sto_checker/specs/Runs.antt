@@ -2,7 +2,7 @@
 use Rattle.std.specs.Prelude.{◌≡◌, ℕ, suc, ◌≤◌, List, [], ◌∷◌, ◌++◌, length, map}
 use Rattle.sto_model.specs.Run.{State}
 use Rattle.sto_lang.specs.Scripts.{Script, File}
-use Rattle.sto_report_spec.specs.Orders.{Place, numbers_from, IsOrder}
+use Rattle.sto_report_spec.specs.Orders.{TransactionPlace, numbers_from, IsOrder}
 use Rattle.sto_report_spec.specs.Replay.{opening_state, entry_at, run_at, entries_from, state_from, entries_of, final_state}
 use Rattle.sto_journal.specs.declared.journal.Line.{Line}
 use Rattle.sto_journal.specs.Journals.{entry, places}
@@ -14,7 +14,7 @@ pub record IsReplay (file : File) (lines : List Line) (state : State) : Type 0 w
   pub final : state ≡ final_state file (places lines)
 
 -- how many writer runs there are, with those before, where transactions are run from a state on
-abbrev pub writers_from : File → ℕ → State → List Place → ℕ
+abbrev pub writers_from : File → ℕ → State → List TransactionPlace → ℕ
 writers_from file writers state [] = writers
 writers_from file writers state (place ∷ order) = writers_from file (entry_at file writers state place).writers (run_at file state place).after order
 
@@ -27,14 +27,14 @@ pub record IsSoFar (file : File) (lines : List Line) (writers : ℕ) (state : St
   pub objects : length state ≡ length (opening_state file)
 
 -- the first so many transactions of a thread, in rising position
-abbrev pub places_of : ℕ → ℕ → List Place
+abbrev pub places_of : ℕ → ℕ → List TransactionPlace
 places_of thread count = map (λ position. (thread, position)) (numbers_from 1 count)
 
 -- those of all threads, which are numbered from the first on
-abbrev pub places_from : ℕ → List (List Script) → List Place
+abbrev pub places_from : ℕ → List (List Script) → List TransactionPlace
 places_from first [] = []
 places_from first (scripts ∷ threads) = places_of first (length scripts) ++ places_from (suc first) threads
 
 -- every transaction of a file, thread by thread
-abbrev pub thread_order : File → List Place
+abbrev pub thread_order : File → List TransactionPlace
 thread_order file = places_from 0 file.threads

@@ -2,7 +2,7 @@
 use Rattle.std.specs.Prelude.{◌≡◌, ◌⊎◌, ℕ, ◌+◌, ◌<◌, ◌≤◌, List, length, Option, None, Some, slice_get}
 use Rattle.sto_model.specs.Run.{State}
 use Rattle.sto_lang.specs.Scripts.{File}
-use Rattle.sto_report_spec.specs.Orders.{Place}
+use Rattle.sto_report_spec.specs.Orders.{TransactionPlace}
 use Rattle.sto_report_spec.specs.Replay.{shown}
 use Rattle.sto_checker.specs.declared.abort.GivenAbort.{GivenAbort}
 use Rattle.sto_checker.specs.Given.{IsHeard}
@@ -51,16 +51,16 @@ pub record IsFirstOf (file : File) (state : State) (aborts : List GivenAbort) (p
   pub up_to : (place : ℕ) → IsBeforeOr place wrong → IsBeforeOr place earlier
   pub heard : (place : ℕ) → Stands places place → IsBeforeOr place wrong → IsHeardIn file state aborts place
 
-pub record IsUnheardAt (file : File) (order : List Place) (aborts : List GivenAbort) (place : ℕ) : Type 0 where
+pub record IsUnheardAt (file : File) (order : List TransactionPlace) (aborts : List GivenAbort) (place : ℕ) : Type 0 where
   pub given : GivenAbort
   pub stands : slice_get aborts place ≡ Some given
   pub unheard : IsHeard file (shown file order given.told.seen) given → ⊥
 
-abbrev pub IsUnheardOr : File → List Place → List GivenAbort → Option ℕ → Type 0
+abbrev pub IsUnheardOr : File → List TransactionPlace → List GivenAbort → Option ℕ → Type 0
 IsUnheardOr file order aborts None = Unit {0}
 IsUnheardOr file order aborts (Some place) = IsUnheardAt file order aborts place
 
 -- the first place at which what was heard is not right, among the abort lines that saw fewer writers than these
-pub record IsFirstUnheard (file : File) (order : List Place) (aborts : List GivenAbort) (bound : ℕ) (wrong : Option ℕ) : Type 0 where
+pub record IsFirstUnheard (file : File) (order : List TransactionPlace) (aborts : List GivenAbort) (bound : ℕ) (wrong : Option ℕ) : Type 0 where
   pub unheard : IsUnheardOr file order aborts wrong
   pub heard : (place : ℕ) (given : GivenAbort) → slice_get aborts place ≡ Some given → given.told.seen < bound → IsBeforeOr place wrong → IsHeard file (shown file order given.told.seen) given

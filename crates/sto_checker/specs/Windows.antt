@@ -1,6 +1,6 @@
 -- How many writers an attempt of a transaction may have seen.
 use Rattle.std.specs.Prelude.{◌≡◌, ℕ, zero, suc, ◌-◌, ◌≤◌, ◌<◌, max, List, [], ◌∷◌, ◌++◌, length, map, Option, None, Some, slice_get}
-use Rattle.sto_report_spec.specs.Orders.{Place, positions_of}
+use Rattle.sto_report_spec.specs.Orders.{TransactionPlace, positions_of}
 use Rattle.sto_report_spec.specs.Replay.{Entry}
 use Rattle.sto_report_spec.specs.LawfulAborts.{writers_before, IsBefore, IsAfterOwn}
 use Rattle.sto_checker.specs.declared.window.Window.{Window}
@@ -29,12 +29,12 @@ at_position zero (Some windows) = None
 at_position (suc earlier) (Some windows) = slice_get windows earlier
 
 -- the window of a transaction
-abbrev pub window_at : List (List Window) → Place → Option Window
+abbrev pub window_at : List (List Window) → TransactionPlace → Option Window
 window_at windows place = at_position place.1 (slice_get windows place.0)
 
 -- the numbers from the least to the most are those that an attempt of the transaction may have seen, and the last one is the
 -- least for an attempt of the next one
-pub record IsWindow (entries : List Entry) (place : Place) (window : Window) : Type 0 where
+pub record IsWindow (entries : List Entry) (place : TransactionPlace) (window : Window) : Type 0 where
   pub least : (n : ℕ) → window.least ≤ n → IsAfterOwn entries place n
   pub not_below : (n : ℕ) → IsAfterOwn entries place n → window.least ≤ n
   pub most : (n : ℕ) → n ≤ window.most → IsBefore entries place n

@@ -1,6 +1,6 @@
 //! What an aborted attempt heard.
 ghost use Rattle.std.specs.Prelude.{◌≡◌, ◌↔◌, ◌≤◌, ◌<◌, length, map, take, IfOk, IsTrue, MatchOption};
-ghost use Rattle.sto_model.specs.Told.{told};
+ghost use Rattle.sto_model.specs.PlainReplies.{plain_reply};
 ghost use Rattle.sto_model.specs.Objects.{machines_of};
 ghost use Rattle.sto_model.specs.Serial.{serial_run_of};
 ghost use Rattle.sto_lang.specs.Objects.{HaveNames, shapes_of};
@@ -38,7 +38,7 @@ fn first_replies(
     requires objects { length state.old.items ≡ length shapes.now.items }
     ensures replies { IfOk result (λ first. let heard = (serial_run_of (machines_of shapes.now.items) script.now.weight
         (meaning_of (script_view script.now)) state.old.items).replies in MatchOption first (length heard < count)
-        (λ replies. (count ≤ length heard) × (map told replies.items ≡ take count heard))) }
+        (λ replies. (count ≤ length heard) × (map plain_reply replies.items ≡ take count heard))) }
     ensures state { state.new ≡ state.old }
 {
     let body = ScriptBody::new(alloc, script)?;
@@ -60,8 +60,8 @@ fn may_be_aborted(
     object: u32,
 ) -> Result<bool, NoMemory>
     requires weighed { calls_of script.now.body ≤ script.now.weight }
-    requires heard { AreHeard (meaning_of (script_view script.now)) (map told replies.now) }
-    ensures { IfOk result (λ yes. IsTrue yes ↔ MayBeAborted object (meaning_of (script_view script.now)) (map told replies.now)) }
+    requires heard { AreHeard (meaning_of (script_view script.now)) (map plain_reply replies.now) }
+    ensures { IfOk result (λ yes. IsTrue yes ↔ MayBeAborted object (meaning_of (script_view script.now)) (map plain_reply replies.now)) }
 {
     let mut body = ScriptBody::new(alloc, script)?;
     Ok(is_unsettled(&mut body, replies) && has_asked(&mut body, replies, object))
@@ -90,13 +90,13 @@ fn is_abort(alloc: Global, file: &File, line: &AbortLine, bytes: &[u8]) -> Resul
 
 // The cause that an abort line tells, by the number of its object.
 fn cause_of(given: &GivenAbort<'_>, object: u32) -> Cause
-    ensures { TellsCause given.now.told.cause.part object given.now.told.cause.by result }
+    ensures { TellsCause given.now.plain_reply.cause.part object given.now.plain_reply.cause.by result }
 {
     let home = Home {
         object,
-        local: given.told.cause.part,
+        local: given.plain_reply.cause.part,
     };
-    match given.told.cause.by {
+    match given.plain_reply.cause.by {
         None => Cause::Locked { home },
         Some(by) => Cause::Changed { home, by },
     }
@@ -118,10 +118,10 @@ pub(crate) fn is_heard(
     ensures heard { IfOk result (λ yes. IsTrue yes ↔ IsHeard (view file.now) state.old.items given.now) }
     ensures state { state.new ≡ state.old }
 {
-    let at = given.told.place;
+    let at = given.plain_reply.place;
     let object = file.decls.get(given.object).number;
     let script = file.threads.get(at.thread).scripts.get(at.position - 1);
-    let Some(replies) = first_replies(alloc, script, shapes, state, given.told.heard)? else {
+    let Some(replies) = first_replies(alloc, script, shapes, state, given.plain_reply.heard)? else {
         return Ok(false);
     };
     if !may_be_aborted(alloc, script, replies.as_slice(), object)? {
@@ -130,7 +130,7 @@ pub(crate) fn is_heard(
     let line = AbortLine {
         thread: at.thread,
         position: at.position,
-        at: given.told.seen,
+        at: given.plain_reply.seen,
         replies,
         cause: cause_of(given, object),
     };

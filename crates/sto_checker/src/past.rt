@@ -1,4 +1,4 @@
-//! What the journal lines of a report told.
+//! What the journal lines of a report plain_reply.
 ghost use Rattle.std.specs.Prelude.{◌≡◌, ◌↔◌, suc, ◌+◌, ◌<◌, ◌≤◌, ◌^◌, [], ◌∷◌, ◌++◌, length, map, IfOk, OnOk, IsTrue, MatchOption, None, Some, slice_get, string_bytes};
 ghost use Rattle.sto_lang.specs.Objects.{shapes_of};
 ghost use Rattle.sto_lang.specs.Sizes.{calls_of};
@@ -9,7 +9,7 @@ ghost use Rattle.sto_report_spec.specs.Orders.{positions_of, transaction_at};
 ghost use Rattle.sto_report_spec.specs.Replay.{Entry};
 ghost use Rattle.sto_report_spec.specs.Report.{line_text};
 ghost use Rattle.sto_report_spec.specs.Named.{order_named};
-ghost use Rattle.sto_model.specs.Told.{told};
+ghost use Rattle.sto_model.specs.PlainReplies.{plain_reply};
 ghost use Rattle.sto_journal.specs.Journals.{entry, places};
 ghost use Rattle.sto_checker.specs.Lines.{HasContent};
 ghost use Rattle.sto_checker.specs.Reading.{place_of};
@@ -58,7 +58,7 @@ pub fn is_line(
 fn objects_of(alloc: Global, script: &Script, line: &Line) -> Result<List<u32>, NoMemory>
     requires { calls_of script.now.body ≤ script.now.weight }
     ensures { IfOk result (λ objects. objects.items ≡ objects_along (meaning_of (script_view script.now))
-        (map told line.now.replies.items)) }
+        (map plain_reply line.now.replies.items)) }
 {
     let mut body = ScriptBody::new(alloc, script)?;
     objects_written(alloc, &mut body, line.replies.as_slice())
@@ -74,7 +74,7 @@ pub fn add_objects(
     requires weighed { calls_of script.now.body ≤ script.now.weight }
     requires room { length written.old.items + 1 < 2 ^ 32 }
     ensures { OnOk result (map (λ objects. objects.items) written.new.items ≡ map (λ objects. objects.items) written.old.items
-        ++ told_objects line.now.end (objects_along (meaning_of (script_view script.now)) (map told line.now.replies.items))) }
+        ++ told_objects line.now.end (objects_along (meaning_of (script_view script.now)) (map plain_reply line.now.replies.items))) }
 {
     match line.end {
         Ending::Commit => {
@@ -87,7 +87,7 @@ pub fn add_objects(
 }
 
 impl Past {
-    /// Nothing was told.
+    /// Nothing was plain_reply.
     pub fn opening(alloc: Global, file: &File, shapes: &Shapes) -> Result<Past, NoMemory>
         requires { shapes.now.items ≡ shapes_of (view file.now).declarations }
         ensures past { IfOk result (λ past. IsPast (view file.now) past) }

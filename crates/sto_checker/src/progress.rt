@@ -1,6 +1,6 @@
 //! A run that goes on transaction by transaction.
 ghost use Rattle.std.specs.Prelude.{◌≡◌, ◌+◌, ◌*◌, ◌<◌, ◌≤◌, ◌^◌, [], ◌∷◌, ◌++◌, length, IfOk, OnOk};
-ghost use Rattle.sto_model.specs.Machine.{opening_of};
+ghost use Rattle.sto_model.specs.SequentialObjects.{opening_of};
 ghost use Rattle.sto_model.specs.Objects.{machines_of};
 ghost use Rattle.sto_lang.specs.Objects.{shapes_of};
 ghost use Rattle.sto_lang.specs.Views.{file as view};

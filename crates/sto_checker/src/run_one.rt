@@ -1,6 +1,6 @@
 //! One transaction, run from a state.
 ghost use Rattle.std.specs.Prelude.{◌≡◌, length, IfOk, map, true};
-ghost use Rattle.sto_model.specs.Told.{told};
+ghost use Rattle.sto_model.specs.PlainReplies.{plain_reply};
 ghost use Rattle.sto_model.specs.Objects.{machines_of};
 ghost use Rattle.sto_model.specs.Serial.{serial_run_of, is_writer_run};
 ghost use Rattle.sto_lang.specs.Views.{script as view};
@@ -44,8 +44,8 @@ pub(crate) fn run_transaction(
     requires objects { length state.old.items ≡ length shapes.now.items }
     ensures run { IfOk result (λ ran. serial_run_of (machines_of shapes.now.items) script.now.weight (meaning_of (view script.now))
         state.old.items
-        ≡ record { replies = map told ran.outcome.replies.items; end = ran.outcome.end; after = state.new.items }) }
-    ensures writer { IfOk result (λ ran. ran.writer ≡ is_writer_run (meaning_of (view script.now)) (map told ran.outcome.replies.items)
+        ≡ record { replies = map plain_reply ran.outcome.replies.items; end = ran.outcome.end; after = state.new.items }) }
+    ensures writer { IfOk result (λ ran. ran.writer ≡ is_writer_run (meaning_of (view script.now)) (map plain_reply ran.outcome.replies.items)
         ran.outcome.end) }
     ensures objects { length state.new.items ≡ length state.old.items }
 {

@@ -1,6 +1,6 @@
 //! Runs that change nothing.
 ghost use Rattle.std.specs.Prelude.{◌≡◌, length, IfOk, map};
-ghost use Rattle.sto_model.specs.Told.{told};
+ghost use Rattle.sto_model.specs.PlainReplies.{plain_reply};
 ghost use Rattle.sto_model.specs.Objects.{machines_of, IsTaken};
 ghost use Rattle.sto_model.specs.Serial.{serial_run_of};
 ghost use Rattle.sto_model.specs.declared.call.Call.{Call};
@@ -11,11 +11,11 @@ use sto_part::NoMemory;
 
 /// A body that cancels where the one that it runs commits.
 #[derive(Drop)]
-pub(crate) struct Tentative<B> {
+pub(crate) struct OpenReplies<B> {
     body: B,
 }
 
-impl<B: Body> Body for Tentative<B> {
+impl<B: Body> Body for OpenReplies<B> {
     ghost use Rattle.sto_checker.specs.Tentative.{uncommitted};
 
     ghost then = { λ s rs. uncommitted (B.then s.body rs) };
@@ -57,11 +57,11 @@ pub fn replies_of<B: Body + Drop>(
 ) -> Result<Replies, NoMemory>
     requires taken { (call : Call) → B.may_ask body call → IsTaken shapes.now.items call }
     requires objects { length state.old.items ≡ length shapes.now.items }
-    ensures replies { IfOk result (λ rs. map told rs.items ≡
+    ensures replies { IfOk result (λ rs. map plain_reply rs.items ≡
         (serial_run_of (machines_of shapes.now.items) (B.left_at_reset body) (B.script body) state.old.items).replies) }
     ensures state { state.new ≡ state.old }
 {
-    let mut tentative = Tentative { body };
+    let mut tentative = OpenReplies { body };
     let outcome = serial_run(alloc, &mut tentative, shapes, state)?;
     Ok(outcome.replies)
 }

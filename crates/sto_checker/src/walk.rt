@@ -1,6 +1,6 @@
 //! Walks along the calls that replies answer.
 ghost use Rattle.std.specs.Prelude.{◌≡◌, ◌↔◌, ◌<◌, ◌^◌, length, IfOk, IsTrue, map};
-ghost use Rattle.sto_model.specs.Told.{told};
+ghost use Rattle.sto_model.specs.PlainReplies.{plain_reply};
 ghost use Rattle.sto_model.specs.Asked.{HasAsked, IsUnsettled};
 ghost use Rattle.sto_checker.specs.Heard.{AreHeard};
 ghost use Rattle.sto_checker.specs.Written.{objects_along};
@@ -16,7 +16,7 @@ pub fn objects_written<B: Body>(
     replies: &[Reply],
 ) -> Result<List<u32>, NoMemory>
     requires { length replies.now < 2 ^ 32 }
-    ensures { IfOk result (λ objects. objects.items ≡ objects_along (B.script body.old) (map told replies.now)) }
+    ensures { IfOk result (λ objects. objects.items ≡ objects_along (B.script body.old) (map plain_reply replies.now)) }
 {
     let mut objects = List::new(alloc);
     body.reset();
@@ -34,8 +34,8 @@ pub fn objects_written<B: Body>(
 
 /// Whether an attempt that heard these replies may still be aborted: a call is next, or the commit of a run that has written.
 pub fn is_unsettled<B: Body>(body: &mut B, replies: &[Reply]) -> bool
-    requires { AreHeard (B.script body.old) (map told replies.now) }
-    ensures unsettled { IsTrue result ↔ IsUnsettled (B.script body.old) (map told replies.now) }
+    requires { AreHeard (B.script body.old) (map plain_reply replies.now) }
+    ensures unsettled { IsTrue result ↔ IsUnsettled (B.script body.old) (map plain_reply replies.now) }
     ensures script { B.script body.new ≡ B.script body.old }
 {
     let mut written = false;
@@ -56,8 +56,8 @@ pub fn is_unsettled<B: Body>(body: &mut B, replies: &[Reply]) -> bool
 
 /// Whether one of the calls that these replies answer, or the one that is asked next, is one on an object.
 pub fn has_asked<B: Body>(body: &mut B, replies: &[Reply], object: u32) -> bool
-    requires { AreHeard (B.script body.old) (map told replies.now) }
-    ensures { IsTrue result ↔ HasAsked object (B.script body.old) (map told replies.now) }
+    requires { AreHeard (B.script body.old) (map plain_reply replies.now) }
+    ensures { IsTrue result ↔ HasAsked object (B.script body.old) (map plain_reply replies.now) }
 {
     body.reset();
     for reply in replies {

@@ -9,7 +9,7 @@ use Rattle.sto_console.specs.declared.refusal.Refusal.{Refusal}
 use Rattle.sto_console.specs.declared.refusal.Refusal.TheVariants.{Usage, Input, ReadFault, WriteFault, NoMemory}
 use Rattle.sto_console.specs.Ends.{IsFileRefusal}
 use Rattle.sto_journal.specs.declared.journal.Journal.{Journal}
-use Rattle.sto_run.specs.Logged.{Log}
+use Rattle.sto_run.specs.Logged.{RunLog}
 use Rattle.sto_run.specs.Traced.{IsTraceOf}
 use Rattle.sto_cli.specs.Traces.{IsTraceable, HasLongRun, IsTraceFault, IsRunFault, NeverMany, IsRefusalFor}
 use Rattle.sto_run_schedules.specs.Leading.{HasSomeLongRun}
@@ -47,13 +47,13 @@ module _ (IsLong : File → Type 0) (IsMany : ScheduleCounts → File → Type 0
   untraceable e h = refused_for (IsTraceFault bytes) (IsRunFault IsLong IsMany bytes) trace_fault e h
 
 -- a run whose steps were not kept is too long
-pub long_run : (tries : ℕ) (bytes : List ℕ) (file : File) (journal : Journal) (homes : List (ℕ × ℕ)) (steps : Log) → IsTraceable bytes file
+pub long_run : (tries : ℕ) (bytes : List ℕ) (file : File) (journal : Journal) (homes : List (ℕ × ℕ)) (steps : RunLog) → IsTraceable bytes file
     → IsTraceOf file tries journal homes steps → (e : Refusal) → IsRefusalFor (λ fault. (fault ≡ LongRun) × (steps ≡ None)) e
     → IsRefusalFor (IsRunFault (HasLongRun tries) NeverMany bytes) e
 long_run tries bytes file journal homes steps traceable run e h =
     refused_for (λ fault. (fault ≡ LongRun) × (steps ≡ None)) (IsRunFault (HasLongRun tries) NeverMany bytes)
     (λ fault so.
-    let none = subst (λ (kept : Log). IsTraceOf file tries journal homes kept) so.1 run in
+    let none = subst (λ (kept : RunLog). IsTraceOf file tries journal homes kept) so.1 run in
     subst (λ (f : InputFault). IsRunFault (HasLongRun tries) NeverMany bytes f) (sym so.0) (file, traceable, (journal, homes, none)))
     e h
 

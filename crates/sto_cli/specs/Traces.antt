@@ -16,7 +16,7 @@ use Rattle.sto_run.specs.Meanings.{updating_by}
 use Rattle.sto_run.specs.Stores.{means}
 use Rattle.sto_run.specs.Lawful.{IsLawfulJournal}
 use Rattle.sto_run.specs.Alone.{RanAlone}
-use Rattle.sto_run.specs.Logged.{Log}
+use Rattle.sto_run.specs.Logged.{RunLog}
 use Rattle.sto_run.specs.Traced.{IsTraceOf, IsStepped}
 
 -- how many transactions a script may have that is traced, drawn or explored
@@ -32,7 +32,7 @@ abbrev pub lines_in : Bool → Names → List Step → List ℕ
 lines_in json names steps = if json then trace_json names steps else trace_text names steps
 
 -- the steps of a run were kept, and the text has a line for each, in their order
-abbrev pub AreLinesOf : Bool → File → List (ℕ × ℕ) → Log → List ℕ → Type 0
+abbrev pub AreLinesOf : Bool → File → List (ℕ × ℕ) → RunLog → List ℕ → Type 0
 AreLinesOf json file homes None text = ⊥
 AreLinesOf json file homes (Some steps) text = text ≡ lines_in json (record { file = file; homes = homes }) steps
 
@@ -42,7 +42,7 @@ AreLinesOf json file homes (Some steps) text = text ≡ lines_in json (record { 
 pub record IsTrace (tries : ℕ) (json : Bool) (file : File) (text : List ℕ) : Type 0 where
   pub journal : Journal
   pub homes : List (ℕ × ℕ)
-  pub steps : Log
+  pub steps : RunLog
   pub run : IsTraceOf file tries journal homes steps
   pub stepped : IsStepped file tries journal
   pub lines : AreLinesOf json file homes steps text

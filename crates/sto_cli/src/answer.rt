@@ -6,8 +6,8 @@ ghost use Rattle.sto_lang.specs.Sound.{IsFromTo};
 ghost use Rattle.sto_console.specs.Ends.{IsFileRefusal};
 ghost use Rattle.sto_cli.specs.Outputs.{IsOutput};
 
-use std::mem;
 use std::alloc::Global;
+use std::mem;
 use std::thread::Threads;
 use sto_bench::run_generated;
 use sto_console::{Refusal, file_in, leave, workers_for};

@@ -16,7 +16,7 @@ use std::alloc::Global;
 use sto_console::{InputFault, Refusal, ScheduleCounts};
 use sto_explore::outcomes_text;
 use sto_lang::{File, Text};
-use sto_run_schedules::{Meter, Outcomes, ExploreError, explore_file};
+use sto_run_schedules::{ExploreError, Meter, Outcomes, explore_file};
 
 // How many schedules a script may have of which every outcome is told.
 const MOST_SCHEDULES: u32 = 1_000_000;
@@ -117,7 +117,9 @@ fn outcomes_of<W: Meter>(
 {
     match explore_file(alloc, file, tries, switches, MOST_SCHEDULES, json, meter) {
         Ok(outcomes) => Ok(outcomes),
-        Err(ExploreError::TooMany) => Err(many_schedules(alloc, file, switches, tries, json, meter)),
+        Err(ExploreError::TooMany) => Err(many_schedules(
+            alloc, file, switches, tries, json, meter,
+        )),
         Err(ExploreError::TooLong) => Err(Refusal::Input(InputFault::LongRun)),
         Err(ExploreError::NoMemory) => Err(Refusal::NoMemory),
     }

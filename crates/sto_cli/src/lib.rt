@@ -10,7 +10,10 @@ mod top;
 mod traced;
 mod work;
 
-pub use sto_console::{Failed, MemSink, MemSource, QuietSink, QuietSource, Sink, Source, StdSink, StdSource, WordsError, refuse_words, words_of};
+pub use sto_console::{
+    Failed, MemSink, MemSource, QuietSink, QuietSource, Sink, Source, StdSink, StdSource,
+    WordsError, refuse_words, words_of,
+};
 pub use sto_run::{Gate, NoGate};
 pub use sto_run_schedules::{Meter, NoMeter};
 pub use top::sto;

@@ -7,8 +7,8 @@ ghost use Rattle.sto_console.specs.Statuses.{refusal_line, line_of, IsFixed, IsR
 use crate::refusal::{InputFault, Refusal, ScheduleCounts};
 use crate::stream::Sink;
 use crate::whole::write_all;
-use std::fmt;
 use std::alloc::{AllocError, Global};
+use std::fmt;
 use sto_lang::ScriptFault;
 
 /// The line of a fault of a script.

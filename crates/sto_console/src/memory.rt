@@ -2,8 +2,8 @@
 ghost use Rattle.std.specs.Prelude.{◌≡◌, ◌<◌, ◌≤◌, ℕ, List, [], ◌++◌, take, drop, length, min, IfOk, OnOk, OnErr, IsErr, ◌↔◌, ◌⊎◌, Contains, ◌^◌, ◌-◌, ◌+◌};
 ghost use Rattle.sto_console.specs.Told.{Takes, Gains, AtEnd, Rose};
 
-use crate::{Failed, Sink, Source};
 use crate::give::give;
+use crate::{Failed, Sink, Source};
 use std::alloc::Global;
 use sto_part::{Bytes, Calls, NoMemory};
 

@@ -1,8 +1,8 @@
 //! A source and a sink over memory that never fail.
 ghost use Rattle.std.specs.Prelude.{◌≡◌, ◌<◌, ◌≤◌, [], drop, length, IfOk, ◌+◌, ◌^◌, MatchOption, true, false};
 
-use crate::{Failed, Sink, Source};
 use crate::give::give;
+use crate::{Failed, Sink, Source};
 use std::alloc::Global;
 use sto_part::{Bytes, NoMemory};
 

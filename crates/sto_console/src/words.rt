@@ -7,8 +7,8 @@ ghost use Rattle.sto_console.specs.Words.{refusal_of};
 use crate::beside::say_refusal;
 use crate::refusal::Refusal;
 use crate::stream::Sink;
-use std::env;
 use std::alloc::Global;
+use std::env;
 use std::io::ErrorKind;
 
 /// Why the words of a call cannot be read.

@@ -5,8 +5,8 @@ use Rattle.sto_item.specs.declared.item.Item.{Item}
 use Rattle.sto_item.specs.Pending.{Entry}
 use Rattle.sto_item.specs.Agreement.{Agrees, AreTrueOf}
 use Rattle.sto_model.specs.declared.call.Call.{Call}
-use Rattle.sto_model.specs.Told.{Told}
-use Rattle.sto_model.specs.Machine.{reply_to}
+use Rattle.sto_model.specs.PlainReplies.{PlainReply}
+use Rattle.sto_model.specs.SequentialObjects.{reply_to}
 use Rattle.sto_type.specs.Known.{Parts}
 use Rattle.sto_type.specs.Meaning.{Meaning, IsUpdated, EachInside}
 use Rattle.sto_type.specs.Reading.{items_at, updates_at, IsRead}
@@ -15,11 +15,11 @@ use Rattle.sto_type.specs.Telling.{Telling, reading_of, told_at}
 use Rattle.sto_type.specs.OneObject.{IsTold}
 
 -- what a telling ends with on contents
-abbrev pub Ends : Telling → Parts → Told → List Item → List Entry → Type 0
+abbrev pub Ends : Telling → Parts → PlainReply → List Item → List Entry → Type 0
 Ends r c t is es = (told_at r c ≡ t) × (items_at (reading_of r) c ≡ is) × (updates_at (reading_of r) c ≡ es)
 
 pub told_by :
-    (m : Meaning) (call : Call) (r : Telling) (c : Parts) (t : Told) (is : List Item) (es : List Entry) → Ends r c t is es → ((q : ℕ) → IsRead (reading_of r) c q → q < length m.widths)
+    (m : Meaning) (call : Call) (r : Telling) (c : Parts) (t : PlainReply) (is : List Item) (es : List Entry) → Ends r c t is es → ((q : ℕ) → IsRead (reading_of r) c q → q < length m.widths)
     → EachRead (reading_of r) c is → EachInside m.widths is → AreTrueOf c is → ((e : Parts) → m.valid e → Agrees e is c → (told_at r e ≡ t) × (updates_at (reading_of r) e ≡ es))
     → t ≡ reply_to m.machines call (m.rows c) → IsUpdated m call c es → IsTold m call r c
 told_by m call r c t is es ends within read inside holds same says updated = record {

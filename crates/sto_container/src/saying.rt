@@ -1,6 +1,6 @@
 //! Answers that write nothing.
 ghost use Rattle.std.specs.Prelude.{◌≡◌, [], IfOk};
-ghost use Rattle.sto_model.specs.Told.{told, Absent as ToldAbsent};
+ghost use Rattle.sto_model.specs.PlainReplies.{plain_reply, Absent as ToldAbsent};
 ghost use Rattle.sto_type.specs.Plans.{Say, planned};
 
 use sto_item::Items;
@@ -10,7 +10,7 @@ use sto_type::{Answer, AnswerPool};
 
 /// The answer with these items that writes nothing.
 pub fn says(pool: &mut AnswerPool, reply: Reply, items: Items) -> Result<Answer, NoMemory>
-    ensures { IfOk result (λ a. planned a ≡ Say (told reply) items.items []) }
+    ensures { IfOk result (λ a. planned a ≡ Say (plain_reply reply) items.items []) }
 {
     Ok(Answer::Done {
         reply,

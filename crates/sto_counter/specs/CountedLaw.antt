@@ -19,14 +19,14 @@ use Rattle.sto_model.specs.declared.call.Call.{Call}
 use Rattle.sto_model.specs.declared.operation.Operation.{Operation}
 use Rattle.sto_model.specs.declared.operation.Operation.TheVariants.{Get, Set, Add, Test as TestWord, Take, Put, Remove, Has, Len, Next, Count, Scan, Push, Pop}
 use Rattle.sto_model.specs.declared.shape.Shape.TheVariants.{Counter}
-use Rattle.sto_model.specs.Told.{Told, is_write}
-use Rattle.sto_model.specs.Told as T
+use Rattle.sto_model.specs.PlainReplies.{PlainReply, is_write}
+use Rattle.sto_model.specs.PlainReplies as T
 use Rattle.sto_model.specs.Operations.{operation_of, test_of}
 use Rattle.sto_model.specs.Objects.{compared, effect_by, greatest, in_range, takes_by}
 use Rattle.sto_model.specs.Rows.{Row}
 use Rattle.sto_type.specs.Plans.{IsSaid, IsPlan, planned, said_is_plan}
 use Rattle.sto_type.specs.declared.answer.Answer.{Answer}
-use Rattle.sto_model.specs.Machine.{reply_to, state_after}
+use Rattle.sto_model.specs.SequentialObjects.{reply_to, state_after}
 use Rattle.sto_type.specs.Known.{Parts, Known, IsPartOf, ContentsFit}
 use Rattle.sto_type.specs.Meaning.{Meaning, IsLawful, IsNeed, IsUpdated, IsPartOfObject, EachKnown, EachInside, is_empty}
 use Rattle.sto_counter.specs.Sums.{word_pred_of, grows, falls, add_test, add_bound, add_items, add_updates, enough_items, take_items, take_updates, less}
@@ -257,7 +257,7 @@ module _ (first : ℤ) where
   add_reply : (a b x : ℤ) → reply_to m.machines (call_of 2 a b) (only_row x ∷ []) ≡ (if grows a x then T.Done else T.Range)
   add_reply a b x = by_test (grows a x) (λ e. rw (grown a x e).0 refl) (λ e. rw (not_grown a x e) refl)
 
-  abbrev outcome_reply : Option Bool → Told
+  abbrev outcome_reply : Option Bool → PlainReply
   outcome_reply None = T.Flag false
   outcome_reply (Some b) = if b then T.Flag true else T.Range
 

@@ -1,6 +1,6 @@
 //! Adds and takes of a part of one word: what they answer, observe and write.
 ghost use Rattle.std.specs.Prelude.{◌≡◌, if◌then◌else◌, IfOk, IsTrue, is_some, int_le};
-ghost use Rattle.sto_model.specs.Told.{Done as ToldDone, Flag as ToldFlag, Range as ToldRange};
+ghost use Rattle.sto_model.specs.PlainReplies.{Done as ToldDone, Flag as ToldFlag, Range as ToldRange};
 ghost use Rattle.sto_type.specs.Plans.{IsSaid};
 ghost use Rattle.sto_counter.specs.Sums.{word_pred_of, grows, falls, add_test, add_bound, add_items, add_updates, enough_items, take_items, take_updates, less};
 ghost use Rattle.sto_counter.specs.Replies.{add_reply, take_reply};

@@ -10,7 +10,7 @@ use Rattle.sto_run.specs.Meanings.{updating_by}
 use Rattle.sto_run.specs.Stores.{means}
 use Rattle.sto_run.specs.Lawful.{IsLawfulJournal}
 use Rattle.sto_run.specs.Alone.{RanAlone}
-use Rattle.sto_run.specs.Logged.{Log}
+use Rattle.sto_run.specs.Logged.{RunLog}
 use Rattle.sto_run.specs.Traced.{IsTraceOf}
 
 -- the text is the picture of a run of the file by its schedule: of all its steps, in their order, of what the objects hold at its end, and of
@@ -25,7 +25,7 @@ pub record IsPicture (tries : ℕ) (file : File) (text : List ℕ) : Type 0 wher
   pub alone : length file.threads ≤ 1 → RanAlone file journal
 
 -- these are more steps than a picture shows, or more than are kept
-abbrev pub IsLong : Log → Type 0
+abbrev pub IsLong : RunLog → Type 0
 IsLong None = Unit {0}
 IsLong (Some steps) = 20000 < length steps
 
@@ -33,7 +33,7 @@ IsLong (Some steps) = 20000 < length steps
 pub record IsTooLong (tries : ℕ) (file : File) : Type 0 where
   pub journal : Journal
   pub homes : List (ℕ × ℕ)
-  pub steps : Log
+  pub steps : RunLog
   pub run : IsTraceOf file tries journal homes steps
   pub long : IsLong steps
 

@@ -18,6 +18,7 @@ mod name;
 mod scene;
 
 use crate::scene::scene_of;
+pub use scene::scene_of;
 use std::alloc::Global;
 use sto_journal::Journal;
 use sto_lang::{File, Text};
@@ -26,7 +27,6 @@ use sto_picture::{MOST_STEPS, picture};
 use sto_run::{TracedRun, trace_file};
 use sto_trace::Steps;
 use sto_type::Home;
-pub use scene::scene_of;
 
 /// The picture of a run with this journal.
 fn draw_run(

@@ -7,7 +7,7 @@ use Rattle.sto_model.specs.declared.shape.Shape.TheVariants.{Single}
 use Rattle.sto_model.specs.Rows.{Row}
 use Rattle.sto_model.specs.Run.{State}
 use Rattle.sto_action.specs.declared.handles.BoxId.{BoxId}
-use Rattle.sto_action.specs.declared.snapshot.Held.{Held}
+use Rattle.sto_action.specs.declared.snapshot.SnapshotValues.{SnapshotValues}
 use Rattle.sto_action.specs.Progs.{Prog, Gives, Cancels, chain}
 use Rattle.sto_action.specs.Steps.{box_get, box_set}
 use Rattle.sto_action.specs.declared.outcome.Done.{Done}
@@ -46,9 +46,9 @@ pub record HoldAll (state : State) : Type 0 where
   pub sum : (x +ℤ y) +ℤ z ≡ pos 300
 
 -- an audit saw three accounts with 300 together, at one time
-abbrev pub IsAll : Held 3 0 → Type 0
+abbrev pub IsAll : SnapshotValues 3 0 → Type 0
 IsAll held = fold (λ (sum x : ℤ). sum +ℤ x) (pos 0) held.boxes ≡ pos 300
 
 -- both audits saw all, and the accounts are so at the end
-abbrev pub IsDay : Result (Done (Held 3 0)) TransactionError × Result (Done (Held 3 0)) TransactionError × Listed (List Row) → Type 0
+abbrev pub IsDay : Result (Done (SnapshotValues 3 0)) TransactionError × Result (Done (SnapshotValues 3 0)) TransactionError × Listed (List Row) → Type 0
 IsDay (first, other, rows) = IfGave IsAll first × IfGave IsAll other × HoldAll rows.items

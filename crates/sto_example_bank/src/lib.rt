@@ -8,8 +8,8 @@ ghost use Rattle.sto_action.specs.Progs.{Follows};
 use std::alloc::Global;
 use std::thread::Threads;
 use sto_library::{
-    BoxId, Action, Done, Held, Schema, Snapshot, State, Stop, StoreError, Times, Tx, TransactionError,
-    wrapping_difference, wrapping_sum,
+    Action, BoxId, Done, Held, Schema, Snapshot, State, Stop, StoreError, Times, TransactionError,
+    Tx, wrapping_difference, wrapping_sum,
 };
 
 /// Takes an amount from an account, where it is there; it gives what was there.

@@ -7,7 +7,8 @@ ghost use Rattle.sto_example_inventory.specs.Stock.{sale, count, IsDay};
 use std::alloc::Global;
 use std::thread::Threads;
 use sto_library::{
-    Action, CounterId, Done, HashId, Schema, State, Stop, StoreError, Times, Tx, TransactionError, wrapping_sum,
+    Action, CounterId, Done, HashId, Schema, State, Stop, StoreError, Times, TransactionError, Tx,
+    wrapping_sum,
 };
 
 /// Takes pieces from the stock, where they are there, and notes them for a customer. It gives what that one has bought so far.

@@ -12,7 +12,7 @@ ghost use Rattle.sto_explore.specs.Explored.{Found, AreExplored, AreTooMany, sta
 
 use crate::branch::{Branch, offer_all, offer_others, order_of};
 use crate::leg::Leg;
-use crate::runs::{Gathers, RunError, Ran, Runs};
+use crate::runs::{Gathers, LastRun, RunError, Runs};
 use std::alloc::Global;
 
 /// Why an exploration was given up.
@@ -59,7 +59,7 @@ fn visit<P: Drop, K, R: Runs<P, K>, G: Gathers<P>>(
 {
     let first = decided.as_slice();
     let ran = runs.run(alloc, kept, first, order)?;
-    let Ran { legs, report } = ran;
+    let LastRun { legs, report } = ran;
     let made = legs.as_slice();
     let all = offer_all(alloc, todo, decided, left, order, made)?;
     found.add(alloc, all, report)?;

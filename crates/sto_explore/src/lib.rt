@@ -24,5 +24,5 @@ pub use exploration::{ExploreError, explore};
 pub use leg::Leg;
 pub use outcome::{Outcome, Outcomes, Reported};
 pub use printed::outcomes_text;
-pub use runs::{Gathers, RunError, Ran, Runs};
+pub use runs::{Gathers, LastRun, RunError, Runs};
 pub use tally::Tally;

@@ -27,7 +27,7 @@ impl From<NoMemory> for RunError {
 
 /// A run that was made: its legs after those that were decided, and what it led to.
 #[derive(Drop)]
-pub struct Ran<P> {
+pub struct LastRun<P> {
     pub legs: Vec<Leg>,
     pub report: P,
 }
@@ -67,7 +67,7 @@ pub trait Runs<P, K> {
         kept: &mut K,
         decided: &[Leg],
         order: &[u32],
-    ) -> Result<Ran<P>, RunError>
+    ) -> Result<LastRun<P>, RunError>
         requires ready { ready self.now }
         requires keeps { keeps self.now kept.old }
         requires decided { AllByRecursion (λ leg. IsAmong (threads self.now) leg.thread) decided.now }

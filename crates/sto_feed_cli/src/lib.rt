@@ -6,6 +6,9 @@ mod answer;
 mod top;
 mod work;
 
-pub use sto_console::{Failed, MemSink, MemSource, QuietSink, QuietSource, Sink, Source, StdSink, StdSource, WordsError, refuse_words, words_of};
+pub use sto_console::{
+    Failed, MemSink, MemSource, QuietSink, QuietSource, Sink, Source, StdSink, StdSource,
+    WordsError, refuse_words, words_of,
+};
 pub use sto_run_feed::{Gate, NoGate};
 pub use top::feed;

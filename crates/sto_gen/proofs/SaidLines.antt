@@ -6,7 +6,7 @@ use Rattle.std.proofs.lemmas.Grind.{flat_map-append}
 use Rattle.sto_syntax.specs.Forms.{Form, ThreadLine, CommitLine}
 use Rattle.sto_lang.specs.declared.fault.FaultKind.TheVariants.{OutOfLimits}
 use Rattle.sto_lang.specs.Scripts.{Script}
-use Rattle.sto_lang.specs.Drafts.{Draft, Begun, begun, opening, with_script, numbered_name, transaction_count, weight_total}
+use Rattle.sto_lang.specs.Drafts.{Draft, OpenTransaction, begun, opening, with_script, numbered_name, transaction_count, weight_total}
 use Rattle.sto_lang.specs.Files.{unless, ◌>>=◌}
 use Rattle.sto_lang.specs.Sound.{numbered_from}
 use Rattle.sto_lang.proofs.Differing.{numbers_last}
@@ -28,7 +28,7 @@ leads_then d e f first second a b number =
     (q.0, λ rest. ap (with_forms d number) (append_assoc first second rest) ∙ p.1 (second ++ rest) ∙ q.1 rest)
 
 -- what lines of such a file say
-abbrev pub draft : List (List ℕ) → List (List Script) → Option Begun → Draft
+abbrev pub draft : List (List ℕ) → List (List Script) → Option OpenTransaction → Draft
 draft names threads inside = record { version = 1; objects = declared; names = names; threads = threads; inside = inside; schedule = None }
 
 declarations_lead : Leads opening (map declare_line objects) (draft [] [] None)

@@ -4,7 +4,7 @@ use Rattle.sto_model.specs.declared.call.Call.{Call}
 use Rattle.sto_model.specs.declared.operation.Operation.TheVariants.{Get, Has, Remove, Put}
 use Rattle.sto_item.specs.declared.item.Item.TheVariants.{Seen}
 use Rattle.sto_model.specs.Operations.{operation_of}
-use Rattle.sto_model.specs.Told as T
+use Rattle.sto_model.specs.PlainReplies as T
 use Rattle.sto_type.specs.Known.{Parts, Known, IsPartOf}
 use Rattle.sto_type.specs.Plans.{IsSaid, IsPlan, planned}
 use Rattle.sto_type.specs.declared.answer.Answer.{Answer}

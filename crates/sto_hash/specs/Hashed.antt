@@ -15,7 +15,7 @@ use Rattle.sto_model.specs.declared.operation.Operation.{Operation}
 use Rattle.sto_model.specs.declared.operation.Operation.TheVariants.{Get, Put, Remove, Has, Len}
 use Rattle.sto_model.specs.declared.shape.Shape.TheVariants.{Hash}
 use Rattle.sto_model.specs.Rows.{Row, with_row, bucket_of}
-use Rattle.sto_model.specs.Told.{Told, Done, Full}
+use Rattle.sto_model.specs.PlainReplies.{PlainReply, Done, Full}
 use Rattle.sto_model.specs.Operations.{operation_of}
 use Rattle.sto_model.specs.Objects.{machine_of, takes_by}
 use Rattle.sto_type.specs.Known.{Parts, Known, ContentsFit}
@@ -179,7 +179,7 @@ put_updates places p k v (Some i) room = (value_part p i, PutWord v ∷ []) ∷ 
 put_updates places p k v None room = new_updates places p k v room
 
 -- a put answers that there is no room where the key is not there and no place is free
-abbrev pub put_told : Option ℕ → Option ℕ → Told
+abbrev pub put_told : Option ℕ → Option ℕ → PlainReply
 put_told (Some i) room = Done
 put_told None (Some i) = Done
 put_told None None = Full

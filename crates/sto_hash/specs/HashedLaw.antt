@@ -20,13 +20,13 @@ use Rattle.sto_model.specs.declared.operation.Operation.{Operation}
 use Rattle.sto_model.specs.declared.operation.Operation.TheVariants.{Get, Put, Remove, Has, Len}
 use Rattle.sto_model.specs.declared.shape.Shape.TheVariants.{Hash}
 use Rattle.sto_model.specs.Rows.{Row, value_at, has_key, with_row, without, keys_beside}
-use Rattle.sto_model.specs.Told.{Told, is_write}
-use Rattle.sto_model.specs.Told as T
+use Rattle.sto_model.specs.PlainReplies.{PlainReply, is_write}
+use Rattle.sto_model.specs.PlainReplies as T
 use Rattle.sto_model.specs.Operations.{operation_of}
 use Rattle.sto_model.specs.Objects.{effect, effect_by, value_or_absent}
 use Rattle.sto_type.specs.Plans.{IsSaid, IsPlan, planned, said_is_plan}
 use Rattle.sto_type.specs.declared.answer.Answer.{Answer}
-use Rattle.sto_model.specs.Machine.{reply_to, state_after}
+use Rattle.sto_model.specs.SequentialObjects.{reply_to, state_after}
 use Rattle.sto_type.specs.Known.{Parts, Known, IsPartOf, WordsFit, ContentsFit}
 use Rattle.sto_type.specs.Meaning.{Meaning, IsLawful, IsNeed, IsUpdated, IsPartOfObject, EachKnown, EachInside, EachOwner}
 use Rattle.sto_block.specs.Blocks.{Place, places_of, is_present, is_here, first_from, find, free, AreApart}

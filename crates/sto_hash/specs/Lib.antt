@@ -10,7 +10,7 @@ pub mod HashedLaw
 pub use Rattle.sto_part.specs.Parts
 pub use Rattle.sto_model.specs.Objects
 pub use Rattle.sto_model.specs.Operations
-pub use Rattle.sto_model.specs.Told
+pub use Rattle.sto_model.specs.PlainReplies
 pub use Rattle.sto_type.specs.Known
 pub use Rattle.sto_type.specs.Plans
 pub use Rattle.sto_block.specs.Blocks

@@ -1,7 +1,7 @@
 //! What calls of one key answer, observe and write, where the key part of its bucket is known.
 ghost use Rattle.std.specs.Prelude.{◌≡◌, ◌+◌, ◌*◌, ◌<◌, ◌^◌, [], ◌∷◌, ◌++◌, length, is_some, MatchOption, Some, pos, IfOk};
 ghost use Rattle.sto_item.specs.declared.item.Item.TheVariants.{Seen};
-ghost use Rattle.sto_model.specs.Told.{told, Absent as ToldAbsent, Value as ToldValue, Flag as ToldFlag};
+ghost use Rattle.sto_model.specs.PlainReplies.{plain_reply, Absent as ToldAbsent, Value as ToldValue, Flag as ToldFlag};
 ghost use Rattle.sto_type.specs.Plans.{IsSaid};
 ghost use Rattle.sto_block.specs.Blocks.{find as find_place, free as free_place};
 ghost use Rattle.sto_block.specs.Replaced.{place_changes};
@@ -223,7 +223,7 @@ pub(crate) fn put_answer(
 }
 
 fn put_reply(found: Option<u32>, room: Option<u32>) -> Reply
-    ensures { told result ≡ put_told found room }
+    ensures { plain_reply result ≡ put_told found room }
 {
     if found.is_none() && room.is_none() {
         Reply::Full

@@ -1,7 +1,7 @@
 //! The plan of len: it needs every key part, and counts what is present there.
 ghost use Rattle.std.specs.Prelude.{◌≡◌, ◌+◌, ◌*◌, ◌<◌, ◌^◌, ℤ, List, [], Some, pos, length, count_by, IfOk};
 ghost use Rattle.sto_model.specs.Operations.{operation_of};
-ghost use Rattle.sto_model.specs.Told.{Value as ToldValue};
+ghost use Rattle.sto_model.specs.PlainReplies.{Value as ToldValue};
 ghost use Rattle.sto_type.specs.Known.{known, IsPartOf};
 ghost use Rattle.sto_type.specs.Plans.{planned, IsPlan, IsSaid};
 ghost use Rattle.sto_block.specs.Blocks.{is_present, places_of};

@@ -2,8 +2,8 @@
 use Rattle.std.specs.Prelude.{◌≢◌, ◌⊎◌, if◌then◌else◌, ◌==◌, nat_eq, ◌*◌}
 use Rattle.std.proofs.Common.{◌≡◌, ℕ, ◌+◌, ◌<◌, ◌≤◌, ℤ, List, [], ◌∷◌, ◌++◌, refl, sym, ap, ◌∙◌, zero, suc, subst, arith, Bool, true, false, inl, inr, eq-eqb, ne_eqb}
 use Rattle.std.proofs.lemmas.Bool.{cases_eq}
-use Rattle.sto_model.specs.Told.{Told}
-use Rattle.sto_model.specs.Run.{Script as Steps}
+use Rattle.sto_model.specs.PlainReplies.{PlainReply}
+use Rattle.sto_model.specs.Run.{Behaviour}
 use Rattle.sto_type.specs.Meaning.{Meaning}
 use Rattle.sto_core.specs.declared.view.Entry.{Entry}
 use Rattle.sto_core.specs.declared.view.Fate.{Fate}
@@ -18,7 +18,7 @@ use Rattle.sto_core.specs.Versions.{is_free}
 use Rattle.sto_core.specs.Views.{own_ticket}
 use Rattle.sto_core.specs.Allowed.{Allowed, IsIdle, MayRead, MayClose, MayLock, MayUnlock, MayPut, MayRelease, MayDecide}
 use Rattle.sto_core.proofs.Lists.{each_snoc}
-use Rattle.sto_history.specs.Records.{Place, Verdict, Wrote, Read, Cancelled, Locked, Changed, Record, IsSince, IsAbove, wrote_with}
+use Rattle.sto_history.specs.Records.{TransactionPlace, Verdict, Wrote, Read, Cancelled, Locked, Changed, Record, IsSince, IsAbove, wrote_with}
 use Rattle.sto_history.specs.Told.{IsTold, IsFound}
 use Rattle.sto_history.specs.Counted.{times_committed, if_won}
 use Rattle.sto_history.specs.Added.{Grows, IsKnown}
@@ -337,7 +337,7 @@ counted_won b t u es n h =
     counted_one b t u Committed es n h ∙ ap (λ (c : Bool). times_committed t b.entries + (if c then 1 else 0)) (hit_same t u)
 
 -- What an attempt adds that has led from the view b to the idle view w.
-pub tried : (m : Meaning) (b w : View) (f : Steps) (place : Place) (replies : List Told) (verdict : Verdict)
+pub tried : (m : Meaning) (b w : View) (f : Behaviour) (place : TransactionPlace) (replies : List PlainReply) (verdict : Verdict)
     → IsRunning b w → IsIdle w.phase → IsTold m w f replies verdict → IsFound w w.starts verdict
     → ((k : ℕ) → IsKnown b k → IsSince k verdict) → IsAbove w.at verdict
     → ((t : ℕ) → times_committed t w.entries ≡ times_committed t b.entries + wrote_with t verdict)

@@ -2,10 +2,10 @@
 use Rattle.std.specs.Prelude.{if◌then◌else◌}
 use Rattle.std.proofs.Common.{◌≡◌, ◌+◌, ◌<◌, ◌≤◌, ℕ, zero, suc, ℤ, pos, List, [], ◌∷◌, refl, ap, arith, Bool, true, false, ◌==◌}
 use Rattle.std.proofs.lemmas.List.Elements.{All-nil, All-cons}
-use Rattle.sto_model.specs.Told.{Told, Done, Value}
-use Rattle.sto_model.specs.Machine.{Machine}
+use Rattle.sto_model.specs.PlainReplies.{PlainReply, Done, Value}
+use Rattle.sto_model.specs.SequentialObjects.{SequentialObject}
 use Rattle.sto_model.specs.Objects.{machines_of}
-use Rattle.sto_model.specs.Run.{Script as Steps, State}
+use Rattle.sto_model.specs.Run.{Behaviour, State}
 use Rattle.sto_model.specs.declared.body.Next.{Next}
 use Rattle.sto_model.specs.declared.body.Next.TheVariants.{Ask, Commit}
 use Rattle.sto_model.specs.declared.shape.Shape.TheVariants.{Single}
@@ -13,7 +13,7 @@ use Rattle.sto_history.specs.Records.{Wrote, Read}
 use Rattle.sto_history.specs.History.{Transaction, times_numbered, StandsIn, LeadTo}
 
 -- one call of the box, and the end
-abbrev pub one_call : ℕ → ℤ → Steps
+abbrev pub one_call : ℕ → ℤ → Behaviour
 one_call code a [] = Ask (record { object = 0; code = code; a = a; b = pos 0 })
 one_call code a (r ∷ rs) = Commit
 
@@ -26,7 +26,7 @@ read_before = record { steps = one_call 0 (pos 0); replies = Value (pos 1) ∷ [
 abbrev pub read_after : Transaction
 read_after = record { steps = one_call 0 (pos 0); replies = Value (pos 5) ∷ []; verdict = Read 1 }
 
-abbrev pub boxes : List Machine
+abbrev pub boxes : List SequentialObject
 boxes = machines_of (Single (pos 1) ∷ [])
 
 -- the state after each number

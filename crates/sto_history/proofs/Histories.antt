@@ -2,8 +2,8 @@
 use Rattle.std.proofs.Common.{◌≡◌, ◌⊎◌, ℕ, zero, suc, ◌+◌, ◌<◌, ◌≤◌, List, [], ◌∷◌, refl, sym, ap, ◌∙◌, arith, Bool, true, false, inl, inr}
 use Rattle.std.proofs.lemmas.Bool.{cases_lt}
 use Rattle.sto_item.specs.Pending.{Entry, applied_updates}
-use Rattle.sto_model.specs.Told.{Told}
-use Rattle.sto_model.specs.Run.{Script as Steps, State, IsRun}
+use Rattle.sto_model.specs.PlainReplies.{PlainReply}
+use Rattle.sto_model.specs.Run.{Behaviour, State, IsRun}
 use Rattle.sto_model.specs.Serial.{has_written}
 use Rattle.sto_model.specs.Asked.{IsUnsettled}
 use Rattle.sto_model.specs.declared.body.Next.TheVariants.{Commit, Cancel}
@@ -23,7 +23,7 @@ pub record IsHistory (m : Meaning) (clock : ℕ) (contents : ℕ → Parts) (rs 
   pub once : (n : ℕ) → times_written n rs ≤ 1
   pub none : times_written 0 rs ≡ 0
 
-module _ (m : Meaning) (clock : ℕ) (contents : ℕ → Parts) (wrote : ℕ → ℕ → Bool) (all : List Record) (f : Steps) (replies : List Told) where
+module _ (m : Meaning) (clock : ℕ) (contents : ℕ → Parts) (wrote : ℕ → ℕ → Bool) (all : List Record) (f : Behaviour) (replies : List PlainReply) where
   -- a writer: its updates are those of its run on the contents before its ticket, and lead to those after it
   pub record WroteAt (ticket : ℕ) : Type 0 where
     pub before : ℕ

@@ -4,9 +4,9 @@ use Rattle.std.specs.Prelude.{if◌then◌else◌}
 use Rattle.std.proofs.Common.{◌≡◌, ℕ, zero, suc, ◌+◌, ◌-◌, ◌<◌, ◌≤◌, List, [], ◌∷◌, ◌++◌, refl, sym, ap, ◌∙◌, subst, arith, Bool, true, false, ◌==◌, eqb-true, inl, inr, le_refl}
 use Rattle.std.proofs.lemmas.Bool.{cases_lt}
 use Rattle.std.proofs.lemmas.List.Elements.{All-nil, All-cons, All-head, All-tail, All-append, All-weaker}
-use Rattle.sto_model.specs.Told.{Told}
-use Rattle.sto_model.specs.Machine.{Machine, opening_of}
-use Rattle.sto_model.specs.Run.{Script as Steps, State, IsRun, state_along}
+use Rattle.sto_model.specs.PlainReplies.{PlainReply}
+use Rattle.sto_model.specs.SequentialObjects.{SequentialObject, opening_of}
+use Rattle.sto_model.specs.Run.{Behaviour, State, IsRun, state_along}
 use Rattle.sto_model.specs.declared.run.End.TheVariants as E
 use Rattle.sto_type.specs.Meaning.{Meaning}
 use Rattle.sto_core.specs.declared.view.View.{View}
@@ -17,12 +17,12 @@ use Rattle.sto_history.specs.Done.{IsToldOf, AreAllDone, HaveHistory}
 use Rattle.sto_history.specs.Keeping.{KeepsState, RanWithin, HasKept, IsKeeping, HaveKept}
 use Rattle.sto_history.proofs.Doing.{numbered_append, all_later}
 
-module _ (ms : List Machine) (Inv : State → Type 0) (clock : ℕ) (states : ℕ → State) where
+module _ (ms : List SequentialObject) (Inv : State → Type 0) (clock : ℕ) (states : ℕ → State) where
   abbrev Stands : Transaction → Type 0
   Stands t = StandsIn ms clock states t.steps t.replies t.verdict
 
   -- the transaction with the next number keeps the invariant
-  step_by : (n k : ℕ) (f : Steps) (replies : List Told) (b : Bool) → (k ≡ suc n) → IsStep ms clock states f replies k
+  step_by : (n k : ℕ) (f : Behaviour) (replies : List PlainReply) (b : Bool) → (k ≡ suc n) → IsStep ms clock states f replies k
       → KeepsState ms Inv (record { steps = f; replies = replies; verdict = Wrote k }) → Inv (states n) → Inv (states (suc n))
   step_by n k f replies b is h keeps inv =
       let e : h.before ≡ n = (let a = h.next in omega (arith, a, is)) in
@@ -30,7 +30,7 @@ module _ (ms : List Machine) (Inv : State → Type 0) (clock : ℕ) (states : �
       let high : Inv (states k) = subst Inv (sym h.run.leaves) (keeps (states h.before) low h.run.runs h.run.ends) in
       subst (λ (x : ℕ). Inv (states x)) is high
 
-  by_verdict : (n : ℕ) (f : Steps) (replies : List Told) (verdict : Verdict) (rest : ℕ) → StandsIn ms clock states f replies verdict
+  by_verdict : (n : ℕ) (f : Behaviour) (replies : List PlainReply) (verdict : Verdict) (rest : ℕ) → StandsIn ms clock states f replies verdict
       → KeepsState ms Inv (record { steps = f; replies = replies; verdict = verdict }) → Inv (states n)
       → (0 < rest → Inv (states (suc n))) → 0 < wrote_with (suc n) verdict + rest → Inv (states (suc n))
   by_verdict n f replies (Wrote k) rest h keeps inv later some = by (k == suc n) refl
@@ -60,7 +60,7 @@ module _ (ms : List Machine) (Inv : State → Type 0) (clock : ℕ) (states : �
           | inr none ↦ subst Inv (sym (history.still n (omega (arith, l)) (omega (arith, none)))) inv
         ]
 
-    ran_by : (f : Steps) (replies : List Told) (verdict : Verdict) → StandsIn ms clock states f replies verdict → RanWithin ms Inv (record { steps = f; replies = replies; verdict = verdict })
+    ran_by : (f : Behaviour) (replies : List PlainReply) (verdict : Verdict) → StandsIn ms clock states f replies verdict → RanWithin ms Inv (record { steps = f; replies = replies; verdict = verdict })
     ran_by f replies (Wrote k) h = record { state = states h.before; holds = all_along h.before (let a = h.next in let b = h.within in omega (arith, a, b)); runs = h.run.runs }
     ran_by f replies (Read k) h = record { state = states k; holds = all_along k h.within; runs = h.run.runs }
     ran_by f replies (Cancelled k) h = record { state = states k; holds = all_along k h.within; runs = h.run.runs }
@@ -72,7 +72,7 @@ module _ (ms : List Machine) (Inv : State → Type 0) (clock : ℕ) (states : �
     all_within = All-weaker Stands (RanWithin ms Inv) (λ t h. ran_by t.steps t.replies t.verdict h) ts history.each
 
 -- it holds of the last state, and of what each transaction looked at
-pub kept_to_the_end : (ms : List Machine) (Inv : State → Type 0) (ts : List Transaction) (last : State) → LeadTo ms ts last → Inv (opening_of ms) → All (KeepsState ms Inv) ts
+pub kept_to_the_end : (ms : List SequentialObject) (Inv : State → Type 0) (ts : List Transaction) (last : State) → LeadTo ms ts last → Inv (opening_of ms) → All (KeepsState ms Inv) ts
     → Inv last × All (RanWithin ms Inv) ts
 kept_to_the_end ms Inv ts last h opening keeps = (
   subst Inv (sym h.ends) (all_along ms Inv h.clock h.states ts h.history opening keeps h.clock (le_refl h.clock)),

@@ -1,7 +1,7 @@
 -- What was told of a record stays true of later views.
 use Rattle.std.proofs.Common.{◌≡◌, ℕ, ◌≤◌, List, arith, inl, inr}
-use Rattle.sto_model.specs.Told.{Told}
-use Rattle.sto_model.specs.Run.{Script as Steps}
+use Rattle.sto_model.specs.PlainReplies.{PlainReply}
+use Rattle.sto_model.specs.Run.{Behaviour}
 use Rattle.sto_type.specs.Known.{Parts}
 use Rattle.sto_type.specs.Meaning.{Meaning}
 use Rattle.sto_core.specs.declared.view.View.{View}
@@ -14,7 +14,7 @@ fewer_claims : (v w : View) → Grows v w → (n : ℕ) (c : Parts) → HasClaim
 fewer_claims v w g n c h j k at is = let there = g.claims k (j, at) in h there.0 k there.1 is
 
 -- what was told of a record of the view v is told of the view w
-pub told_later : (m : Meaning) (v w : View) (f : Steps) (replies : List Told) (verdict : Verdict) → Grows v w → IsTold m v f replies verdict → IsTold m w f replies verdict
+pub told_later : (m : Meaning) (v w : View) (f : Behaviour) (replies : List PlainReply) (verdict : Verdict) → Grows v w → IsTold m v f replies verdict → IsTold m w f replies verdict
 told_later m v w f replies (Wrote t) g h = record {
   entry = h.entry;
   there = g.entries h.entry h.there h.committed;
@@ -53,7 +53,7 @@ told_later m v w f replies (Changed n p t) g h = record {
 }
 
 -- a view that was told of a record knows what the record knows
-pub told_known : (m : Meaning) (v : View) (f : Steps) (replies : List Told) (verdict : Verdict) → IsTold m v f replies verdict → IsKnown v (known_after verdict)
+pub told_known : (m : Meaning) (v : View) (f : Behaviour) (replies : List PlainReply) (verdict : Verdict) → IsTold m v f replies verdict → IsKnown v (known_after verdict)
 told_known m v f replies (Wrote t) h = inr (inl (record { entry = h.entry; there = h.there; ticket = h.drawn }))
 told_known m v f replies (Read n) h = inl h.known
 told_known m v f replies (Cancelled n) h = inl h.known

@@ -5,8 +5,8 @@ use Rattle.std.proofs.lemmas.List.Elements.{All-weaker}
 use Rattle.std.proofs.Common.{◌≡◌, ℕ, suc, ◌+◌, ◌<◌, List, [], ◌∷◌, length, map, refl, sym, ap, ◌∙◌, arith, Bool, false, true≢false}
 use mathlib.Core.Option.{some}
 use lib.ListN.{get_elem?}
-use Rattle.sto_model.specs.Told.{Told}
-use Rattle.sto_model.specs.Run.{Script as Steps, State}
+use Rattle.sto_model.specs.PlainReplies.{PlainReply}
+use Rattle.sto_model.specs.Run.{Behaviour, State}
 use Rattle.sto_type.specs.Known.{Parts}
 use Rattle.sto_type.specs.Meaning.{Meaning, IsLawful}
 use Rattle.sto_core.specs.declared.view.View.{View}
@@ -28,7 +28,7 @@ same_times : (n : ℕ) (ts : List Transaction) → times_written n (map recorded
 same_times n [] = refl
 same_times n (t ∷ ts) = ap (λ (k : ℕ). wrote_with n t.verdict + k) (same_times n ts)
 
-module _ (m : Meaning) (clock : ℕ) (contents : ℕ → Parts) (wrote : ℕ → ℕ → Bool) (all : List Record) (f : Steps) (replies : List Told) where
+module _ (m : Meaning) (clock : ℕ) (contents : ℕ → Parts) (wrote : ℕ → ℕ → Bool) (all : List Record) (f : Behaviour) (replies : List PlainReply) where
   stands_in : (verdict : Verdict) → is_abort verdict ≡ false → StandsAt m clock contents wrote all f replies verdict → StandsIn m.machines clock (λ n. m.rows (contents n)) f replies verdict
   stands_in (Wrote n) e h = record {
     before = h.before;

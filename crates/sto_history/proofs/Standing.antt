@@ -7,8 +7,8 @@ use mathlib.Core.Option.{some, some-injective, some-ne-none}
 use lib.ListN.{get_elem?}
 use Rattle.sto_part.specs.Parts.{part_of}
 use Rattle.sto_item.specs.Pending.{Entry as Update, applied_updates}
-use Rattle.sto_model.specs.Told.{Told}
-use Rattle.sto_model.specs.Run.{Script as Steps}
+use Rattle.sto_model.specs.PlainReplies.{PlainReply}
+use Rattle.sto_model.specs.Run.{Behaviour}
 use Rattle.sto_type.specs.Known.{Parts}
 use Rattle.sto_type.specs.Meaning.{Meaning}
 use Rattle.sto_core.specs.declared.view.Entry.{Entry}
@@ -116,7 +116,7 @@ module _ {valid : Validity} {sizes : List ℕ} {opening : Contents} {past : Past
     none = (let a = few 0 in let b = once_zero core.clock in omega (arith, a, b));
   }
 
-  module _ (f : Steps) (replies : List Told) where
+  module _ (f : Behaviour) (replies : List PlainReply) where
     claimed : (n : ℕ) → HasClaimed v n (contents_at n)
     claimed n j k h is = subst (λ (x : ℕ). part_of (contents_at x) k.part ≡ k.words) is (claim_in_contents rule k (fits.claims j k h))
 

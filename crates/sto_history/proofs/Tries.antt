@@ -3,13 +3,13 @@ use Rattle.std.specs.Prelude.{◌≢◌, ◌⊎◌, ◌&&◌, if◌then◌else�
 use Rattle.std.specs.List.{All}
 use Rattle.std.proofs.Common.{◌≡◌, ℕ, ◌+◌, ◌<◌, ◌≤◌, List, [], ◌∷◌, ◌++◌, refl, sym, ap, ◌∙◌, zero, suc, subst, arith, Bool, true, false, true≢false, inl, inr}
 use Rattle.std.proofs.lemmas.List.Elements.{All-append, All-cons, All-nil, All-head, All-tail}
-use Rattle.sto_model.specs.Run.{Script as Steps}
+use Rattle.sto_model.specs.Run.{Behaviour}
 use Rattle.sto_type.specs.Meaning.{Meaning}
 use Rattle.sto_core.specs.declared.view.Entry.{Entry}
 use Rattle.sto_core.specs.declared.view.Finding.{Finding}
 use Rattle.sto_core.specs.declared.view.View.{View}
 use Rattle.sto_core.specs.Lists.{Among}
-use Rattle.sto_history.specs.Records.{Place, Verdict, Wrote, Read, Cancelled, Locked, Changed, Record, is_abort, known_after, IsSince, IsAbove, times_written, wrote_with}
+use Rattle.sto_history.specs.Records.{TransactionPlace, Verdict, Wrote, Read, Cancelled, Locked, Changed, Record, is_abort, known_after, IsSince, IsAbove, times_written, wrote_with}
 use Rattle.sto_history.specs.Told.{IsTold, HasFound, IsFound}
 use Rattle.sto_history.specs.Counted.{times_committed, Follows, InThreads}
 use Rattle.sto_history.specs.Added.{Grows, IsKnown, IsAdded}
@@ -19,7 +19,7 @@ use Rattle.sto_history.proofs.Events.{grows_on}
 use Rattle.sto_history.proofs.Later.{told_later, told_known}
 
 -- what is known before an attempt is known after it
-known_after_it : (m : Meaning) (v w : View) (f : Steps) (place : Place) (r : Record) → HasTried m v w f place r → (k : ℕ) → IsKnown v k → IsKnown w k
+known_after_it : (m : Meaning) (v w : View) (f : Behaviour) (place : TransactionPlace) (r : Record) → HasTried m v w f place r → (k : ℕ) → IsKnown v k → IsKnown w k
 known_after_it m v w f place r t k (inl h) = inl (let a = t.grows.at in omega (arith, a, h))
 known_after_it m v w f place r t k (inr (inl h)) = inr (inl (record { entry = h.entry; there = t.kept h.entry h.there; ticket = h.ticket }))
 known_after_it m v w f place r t k (inr (inr h)) = inr (inr (record { claim = h.claim; there = t.grows.wrote h.claim h.there; ticket = h.ticket }))
@@ -54,7 +54,7 @@ are_found_more w start [] r h found = (subst (λ (k : ℕ). IsFound w k r.verdic
 are_found_more w start (x ∷ rs) r h found = (h.0, are_found_more w (start + 1) rs r h.1 (subst (λ (k : ℕ). IsFound w k r.verdict) (omega arith) found))
 
 -- Before the first attempt.
-pub none_made : (m : Meaning) (v : View) (f : Steps) (place : Place) → HasMade m v v f place []
+pub none_made : (m : Meaning) (v : View) (f : Behaviour) (place : TransactionPlace) → HasMade m v v f place []
 none_made m v f place = record {
   grows = record { at = omega arith; entries = λ e h c. h; claims = λ c h. h; wrote = λ c h. h; findings = λ g h. h };
   known = λ k h. h;
@@ -68,14 +68,14 @@ none_made m v f place = record {
 }
 
 -- each of these is followed by the next one
-all_followed : (m : Meaning) (b v w : View) (f : Steps) (place : Place) (rs : List Record) (r : Record) → HasTried m v w f place r
+all_followed : (m : Meaning) (b v w : View) (f : Behaviour) (place : TransactionPlace) (rs : List Record) (r : Record) → HasTried m v w f place r
     → All (IsAdded m b v f place) rs → AreAborted rs → InThreads rs → InThreads (rs ++ r ∷ [])
 all_followed m b v w f place [] r t each aborted h = (All-nil _, tt)
 all_followed m b v w f place (x ∷ rs) r t each aborted h =
     let mine : IsAdded m b v f place x = All-head (IsAdded m b v f place) x rs each in (
       All-append (λ (s : Record). x.place.0 ≡ s.place.0 → Follows x s) rs (r ∷ []) h.0
           (All-cons (λ (s : Record). x.place.0 ≡ s.place.0 → Follows x s) r [] (λ same. record {
-            position = (let a = ap (λ (p : Place). p.1) (mine.placed ∙ sym t.added.placed) in omega (arith, a));
+            position = (let a = ap (λ (p : TransactionPlace). p.1) (mine.placed ∙ sym t.added.placed) in omega (arith, a));
             again = λ is. All-head (λ (s : Record). is_abort s.verdict ≡ true) x rs aborted;
             since = t.added.since (known_after x.verdict) (told_known m v f x.replies x.verdict mine.told);
           }) (All-nil _)),
@@ -90,7 +90,7 @@ aborted_above n (Cancelled k) h = tt
 aborted_above n (Locked k p) h = tt
 aborted_above n (Changed k p t) h = tt
 
-pub still_added : (m : Meaning) (b v w : View) (f : Steps) (place : Place) (rs : List Record) → Grows v w → AreAborted rs
+pub still_added : (m : Meaning) (b v w : View) (f : Behaviour) (place : TransactionPlace) (rs : List Record) → Grows v w → AreAborted rs
     → All (IsAdded m b v f place) rs → All (IsAdded m b w f place) rs
 still_added m b v w f place [] g aborted h = All-nil (IsAdded m b w f place)
 still_added m b v w f place (x ∷ rs) g aborted h =
@@ -103,7 +103,7 @@ still_added m b v w f place (x ∷ rs) g aborted h =
     }) (still_added m b v w f place rs g (All-tail (λ (s : Record). is_abort s.verdict ≡ true) x rs aborted) (All-tail (IsAdded m b v f place) x rs h))
 
 -- One more attempt, after aborted ones.
-pub one_more : (m : Meaning) (b v w : View) (f : Steps) (place : Place) (rs : List Record) (r : Record) → AreAborted rs → HasMade m b v f place rs → HasTried m v w f place r → HasMade m b w f place (rs ++ r ∷ [])
+pub one_more : (m : Meaning) (b v w : View) (f : Behaviour) (place : TransactionPlace) (rs : List Record) (r : Record) → AreAborted rs → HasMade m b v f place rs → HasTried m v w f place r → HasMade m b w f place (rs ++ r ∷ [])
 one_more m b v w f place rs r aborted h t = record {
   grows = grows_on b v w h.grows t.grows;
   known = λ k a. known_after_it m v w f place r t k (h.known k a);

@@ -1,7 +1,7 @@
 -- What a run of one transaction adds to the records of its pass.
 use Rattle.std.specs.Prelude.{◌≡◌, ◌≤◌, ◌⊎◌, ℕ, ◌+◌, List}
 use Rattle.std.specs.List.{All}
-use Rattle.sto_model.specs.Run.{Script as Steps}
+use Rattle.sto_model.specs.Run.{Behaviour}
 use Rattle.sto_type.specs.Meaning.{Meaning}
 use Rattle.sto_core.specs.declared.view.Entry.{Entry}
 use Rattle.sto_core.specs.declared.view.Claim.{Claim}
@@ -10,7 +10,7 @@ use Rattle.sto_core.specs.declared.view.Finding.{Finding}
 use Rattle.sto_core.specs.declared.view.Fate.TheVariants.{Committed}
 use Rattle.sto_core.specs.declared.view.View.{View}
 use Rattle.sto_core.specs.Lists.{Among}
-use Rattle.sto_history.specs.Records.{Place, Record, IsSince, IsAbove, times_written}
+use Rattle.sto_history.specs.Records.{TransactionPlace, Record, IsSince, IsAbove, times_written}
 use Rattle.sto_history.specs.Told.{IsTold}
 use Rattle.sto_history.specs.Counted.{InThreads, times_committed, aborted_times}
 
@@ -40,14 +40,14 @@ IsKnown v n = (n ≤ v.at) ⊎ IsOwnTicket v n ⊎ IsSeenTicket v n
 
 -- a record of the place that is told of the view w after it, and that began after all that the view v before it knew; the ticket of a
 -- writer is above the clock that w has at the end
-pub record IsAdded (m : Meaning) (v w : View) (f : Steps) (place : Place) (r : Record) : Type 0 where
+pub record IsAdded (m : Meaning) (v w : View) (f : Behaviour) (place : TransactionPlace) (r : Record) : Type 0 where
   pub placed : r.place ≡ place
   pub told : IsTold m w f r.replies r.verdict
   pub since : (n : ℕ) → IsKnown v n → IsSince n r.verdict
   pub above : IsAbove w.at r.verdict
 
 -- a run of the transaction at a place, which does f, from the view v to the view w, added these records
-pub record HasAdded (m : Meaning) (tries : ℕ) (v w : View) (f : Steps) (place : Place) (new : List Record) : Type 0 where
+pub record HasAdded (m : Meaning) (tries : ℕ) (v w : View) (f : Behaviour) (place : TransactionPlace) (new : List Record) : Type 0 where
   pub grows : Grows v w
   pub entries : (t : ℕ) → times_committed t w.entries ≡ times_committed t v.entries + times_written t new
   pub each : All (IsAdded m v w f place) new

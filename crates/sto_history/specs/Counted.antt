@@ -4,7 +4,7 @@ use Rattle.std.specs.List.{All}
 use Rattle.sto_core.specs.declared.view.Entry.{Entry}
 use Rattle.sto_core.specs.declared.view.Fate.{Fate}
 use Rattle.sto_core.specs.declared.view.Fate.TheVariants.{Pending, Committed, Dropped}
-use Rattle.sto_history.specs.Records.{Place, Record, is_abort, is_finished, known_after, IsSince}
+use Rattle.sto_history.specs.Records.{TransactionPlace, Record, is_abort, is_finished, known_after, IsSince}
 
 -- 1 where the fate is the commit
 abbrev pub if_won : Fate → ℕ
@@ -30,11 +30,11 @@ InThreads [] = Unit {0}
 InThreads (r ∷ rs) = All (λ s. r.place.0 ≡ s.place.0 → Follows r s) rs × InThreads rs
 
 -- the transactions that ended, in the order of the records
-abbrev pub finished_places : List Record → List Place
+abbrev pub finished_places : List Record → List TransactionPlace
 finished_places rs = map (λ r. r.place) (filter is_finished rs)
 
 -- how many aborted attempts a transaction has
-abbrev pub aborted_times : Place → List Record → ℕ
+abbrev pub aborted_times : TransactionPlace → List Record → ℕ
 aborted_times place [] = 0
 aborted_times place (r ∷ rs) =
     (if (r.place.0 == place.0) && ((r.place.1 == place.1) && is_abort r.verdict) then 1 else 0) + aborted_times place rs

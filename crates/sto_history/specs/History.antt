@@ -4,9 +4,9 @@
 -- after the number 0 is the opening.
 use Rattle.std.specs.Prelude.{◌≡◌, ◌<◌, ◌≤◌, ℕ, suc, ◌+◌, List, [], ◌∷◌}
 use Rattle.std.specs.List.{All}
-use Rattle.sto_model.specs.Told.{Told}
-use Rattle.sto_model.specs.Machine.{Machine, opening_of}
-use Rattle.sto_model.specs.Run.{Script as Steps, State}
+use Rattle.sto_model.specs.PlainReplies.{PlainReply}
+use Rattle.sto_model.specs.SequentialObjects.{SequentialObject, opening_of}
+use Rattle.sto_model.specs.Run.{Behaviour, State}
 use Rattle.sto_model.specs.Serial.{IsSerialRun}
 use Rattle.sto_model.specs.declared.run.End.{End}
 use Rattle.sto_model.specs.declared.run.End.TheVariants as E
@@ -14,8 +14,8 @@ use Rattle.sto_history.specs.Records.{Verdict, Wrote, Read, Cancelled, Locked, C
 
 -- a transaction that was told: what it does next after each list of replies, what its calls were answered, and how it ended
 pub record Transaction : Type 0 where
-  pub steps : Steps
-  pub replies : List Told
+  pub steps : Behaviour
+  pub replies : List PlainReply
   pub verdict : Verdict
 
 -- how many of these wrote with the number
@@ -23,7 +23,7 @@ abbrev pub times_numbered : ℕ → List Transaction → ℕ
 times_numbered n [] = 0
 times_numbered n (t ∷ ts) = wrote_with n t.verdict + times_numbered n ts
 
-module _ (ms : List Machine) (clock : ℕ) (states : ℕ → State) (steps : Steps) (replies : List Told) where
+module _ (ms : List SequentialObject) (clock : ℕ) (states : ℕ → State) (steps : Behaviour) (replies : List PlainReply) where
   -- it is the step to the state after its number: its serial run leads there, from the state right before
   pub record IsStep (n : ℕ) : Type 0 where
     pub before : ℕ
@@ -46,14 +46,14 @@ module _ (ms : List Machine) (clock : ℕ) (states : ℕ → State) (steps : Ste
 
 -- the states up to the clock are a serial history of these transactions: it begins with the opening; no number is that of two; a number
 -- that is that of none changes nothing; and each transaction stands in it
-pub record IsSerialHistory (ms : List Machine) (clock : ℕ) (states : ℕ → State) (ts : List Transaction) : Type 0 where
+pub record IsSerialHistory (ms : List SequentialObject) (clock : ℕ) (states : ℕ → State) (ts : List Transaction) : Type 0 where
   pub opened : states 0 ≡ opening_of ms
   pub once : (n : ℕ) → times_numbered n ts ≤ 1
   pub still : (n : ℕ) → n < clock → times_numbered (suc n) ts ≡ 0 → states (suc n) ≡ states n
   pub each : All (λ t. StandsIn ms clock states t.steps t.replies t.verdict) ts
 
 -- a serial history of these transactions ends with this state
-pub record LeadTo (ms : List Machine) (ts : List Transaction) (last : State) : Type 0 where
+pub record LeadTo (ms : List SequentialObject) (ts : List Transaction) (last : State) : Type 0 where
   pub clock : ℕ
   pub states : ℕ → State
   pub history : IsSerialHistory ms clock states ts

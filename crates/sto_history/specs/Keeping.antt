@@ -1,7 +1,7 @@
 -- An invariant of the objects' state that transactions keep.
 use Rattle.std.specs.Prelude.{◌≡◌, List}
 use Rattle.std.specs.List.{All}
-use Rattle.sto_model.specs.Machine.{Machine}
+use Rattle.sto_model.specs.SequentialObjects.{SequentialObject}
 use Rattle.sto_model.specs.Run.{State, IsRun, state_along}
 use Rattle.sto_model.specs.declared.body.Next.TheVariants.{Commit}
 use Rattle.sto_type.specs.Meaning.{Meaning}
@@ -9,7 +9,7 @@ use Rattle.sto_core.specs.declared.view.View.{View}
 use Rattle.sto_history.specs.History.{Transaction}
 use Rattle.sto_history.specs.Done.{HasDone, AreAllDone, AreDoneBy}
 
-module _ (ms : List Machine) (Inv : State → Type 0) where
+module _ (ms : List SequentialObject) (Inv : State → Type 0) where
   -- where the transaction heard its replies on a state with the invariant and commits, it leaves one with the invariant
   abbrev pub KeepsState : Transaction → Type 0
   KeepsState t = (st : State) → Inv st → IsRun ms t.steps st t.replies → t.steps t.replies ≡ Commit → Inv (state_along ms t.steps st t.replies)

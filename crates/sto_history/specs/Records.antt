@@ -1,10 +1,10 @@
 -- Records of attempts, as plain data.
 use Rattle.std.specs.Prelude.{ℕ, ◌+◌, ◌<◌, ◌≤◌, List, [], ◌∷◌, Bool, true, false, not, ◌==◌, nat_le, if◌then◌else◌}
-use Rattle.sto_model.specs.Told.{Told}
+use Rattle.sto_model.specs.PlainReplies.{PlainReply}
 
 -- where a transaction stands: the number of its script thread, and its position there
-abbrev pub Place : Type 0
-Place = ℕ × ℕ
+abbrev pub TransactionPlace : Type 0
+TransactionPlace = ℕ × ℕ
 
 -- how an attempt ended. It wrote with a ticket; or it only read, or cancelled, as of a number of the clock; or it was aborted as of
 -- such a number, by a part that was locked, or that had been changed by the writer with a ticket
@@ -17,8 +17,8 @@ pub data Verdict : Type 0 where
 
 -- an attempt that has ended: its transaction, what its calls were answered, and how it ended
 pub record Record : Type 0 where
-  pub place : Place
-  pub replies : List Told
+  pub place : TransactionPlace
+  pub replies : List PlainReply
   pub verdict : Verdict
 
 -- the attempt wrote

@@ -4,8 +4,8 @@
 -- m is the meaning of the type that the pass's words were opened with, and f what the transaction does next after each list of replies.
 use Rattle.std.specs.Prelude.{◌≡◌, ◌≤◌, ◌<◌, ◌⊎◌, ℕ, List, [], ◌∷◌, true, false, slice_index_or}
 use Rattle.sto_part.specs.Parts.{part_of}
-use Rattle.sto_model.specs.Told.{Told}
-use Rattle.sto_model.specs.Run.{Script as Steps, IsRun}
+use Rattle.sto_model.specs.PlainReplies.{PlainReply}
+use Rattle.sto_model.specs.Run.{Behaviour, IsRun}
 use Rattle.sto_model.specs.Serial.{has_written}
 use Rattle.sto_model.specs.declared.body.Next.TheVariants.{Commit, Cancel}
 use Rattle.sto_type.specs.Known.{Parts}
@@ -30,7 +30,7 @@ HasClaimed v n c = Each (λ (k : Claim). k.number ≡ n → part_of c k.part ≡
 
 -- it wrote with the ticket: the view has its committed entry, and on all valid contents that have what the entry looked at, the replies
 -- and the updates are those of the transaction's serial run, which commits and has written
-pub record HasWritten (m : Meaning) (v : View) (f : Steps) (replies : List Told) (ticket : ℕ) : Type 0 where
+pub record HasWritten (m : Meaning) (v : View) (f : Behaviour) (replies : List PlainReply) (ticket : ℕ) : Type 0 where
   pub entry : Entry
   pub there : Among entry v.entries
   pub drawn : entry.ticket ≡ ticket
@@ -41,21 +41,21 @@ pub record HasWritten (m : Meaning) (v : View) (f : Steps) (replies : List Told)
 
 -- it only read, as of the number n: on all valid contents that have what was claimed of n, the replies are those of the serial run,
 -- which commits and has written nothing
-pub record HasRead (m : Meaning) (v : View) (f : Steps) (replies : List Told) (n : ℕ) : Type 0 where
+pub record HasRead (m : Meaning) (v : View) (f : Behaviour) (replies : List PlainReply) (n : ℕ) : Type 0 where
   pub known : n ≤ v.at
   pub runs : (c : Parts) → m.valid c → HasClaimed v n c → IsRunOn m f c [] replies
   pub ends : f replies ≡ Commit
   pub writes : has_written f replies ≡ false
 
 -- it cancelled, as of the number n: the same with a serial run that cancels
-pub record HasCancelled (m : Meaning) (v : View) (f : Steps) (replies : List Told) (n : ℕ) : Type 0 where
+pub record HasCancelled (m : Meaning) (v : View) (f : Behaviour) (replies : List PlainReply) (n : ℕ) : Type 0 where
   pub known : n ≤ v.at
   pub runs : (c : Parts) → m.valid c → HasClaimed v n c → IsRun m.machines f (m.rows c) replies
   pub ends : f replies ≡ Cancel
 
 -- it was aborted, as of the number n, and names a part: on the same contents the replies are the first ones of the serial run; one of the
 -- calls that it asked may touch the part; and it was not at its end: a call was running, or it was committing what it had written
-pub record WasAborted (m : Meaning) (v : View) (f : Steps) (replies : List Told) (n part : ℕ) : Type 0 where
+pub record WasAborted (m : Meaning) (v : View) (f : Behaviour) (replies : List PlainReply) (n part : ℕ) : Type 0 where
   pub known : n ≤ v.at
   pub runs : (c : Parts) → m.valid c → HasClaimed v n c → IsRun m.machines f (m.rows c) replies
   pub touched : HasTouched m f replies part
@@ -69,13 +69,13 @@ pub record HasWrote (v : View) (ticket part : ℕ) : Type 0 where
   pub on : claim.part ≡ part
 
 -- it found the part changed by a later ticket
-pub record WasChanged (m : Meaning) (v : View) (f : Steps) (replies : List Told) (n part ticket : ℕ) : Type 0 where
+pub record WasChanged (m : Meaning) (v : View) (f : Behaviour) (replies : List PlainReply) (n part ticket : ℕ) : Type 0 where
   pub aborted : WasAborted m v f replies n part
   pub later : n < ticket
   pub wrote : HasWrote v ticket part
 
 -- what is told of a record by its verdict
-abbrev pub IsTold : Meaning → View → Steps → List Told → Verdict → Type 0
+abbrev pub IsTold : Meaning → View → Behaviour → List PlainReply → Verdict → Type 0
 IsTold m v f replies (Wrote ticket) = HasWritten m v f replies ticket
 IsTold m v f replies (Read n) = HasRead m v f replies n
 IsTold m v f replies (Cancelled n) = HasCancelled m v f replies n

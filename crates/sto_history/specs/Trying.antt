@@ -1,12 +1,12 @@
 -- What the attempts of one transaction so far, all aborted but perhaps the last one, have added to what their pass knows.
 use Rattle.std.specs.Prelude.{◌≡◌, ◌≤◌, ◌+◌, ℕ, List, [], ◌∷◌, length, true}
 use Rattle.std.specs.List.{All}
-use Rattle.sto_model.specs.Run.{Script as Steps}
+use Rattle.sto_model.specs.Run.{Behaviour}
 use Rattle.sto_type.specs.Meaning.{Meaning}
 use Rattle.sto_core.specs.declared.view.Entry.{Entry}
 use Rattle.sto_core.specs.declared.view.View.{View}
 use Rattle.sto_core.specs.Lists.{Among}
-use Rattle.sto_history.specs.Records.{Place, Record, times_written, is_abort}
+use Rattle.sto_history.specs.Records.{TransactionPlace, Record, times_written, is_abort}
 use Rattle.sto_history.specs.Told.{IsFound}
 use Rattle.sto_history.specs.Counted.{InThreads, times_committed}
 use Rattle.sto_history.specs.Added.{Grows, IsKnown, IsAdded}
@@ -18,7 +18,7 @@ AreFound w start [] = Unit {0}
 AreFound w start (r ∷ rs) = IsFound w start r.verdict × AreFound w (start + 1) rs
 
 -- these records were added between the views v and w
-pub record HasMade (m : Meaning) (v w : View) (f : Steps) (place : Place) (new : List Record) : Type 0 where
+pub record HasMade (m : Meaning) (v w : View) (f : Behaviour) (place : TransactionPlace) (new : List Record) : Type 0 where
   pub grows : Grows v w
   pub known : (k : ℕ) → IsKnown v k → IsKnown w k
   pub entries : (t : ℕ) → times_committed t w.entries ≡ times_committed t v.entries + times_written t new

@@ -2,5 +2,3 @@
 //!
 //! The definitions stand in `specs/`.
 #![tactic(auto)]
-
-

@@ -2,8 +2,8 @@
 use Rattle.std.proofs.Common.{◌≡◌, ◌≤◌, ℕ, List, [], ◌++◌, length, length-append, drop, ap, sym, ◌∙◌, subst, arith}
 use Rattle.std.proofs.lemmas.List.{length-map}
 use Rattle.std.specs.List.{Contains}
-use Rattle.sto_model.specs.Told.{told}
-use Rattle.sto_model.specs.Run.{Script, IsAsk}
+use Rattle.sto_model.specs.PlainReplies.{plain_reply}
+use Rattle.sto_model.specs.Run.{Behaviour, IsAsk}
 use Rattle.sto_model.specs.declared.call.Call.{Call}
 use Rattle.sto_model.specs.declared.run.End.{End}
 use Rattle.sto_type.specs.Traits.{OfType}
@@ -13,7 +13,7 @@ use Rattle.sto_attempt_log.specs.Log.{IsLog}
 use Rattle.sto_attempt.specs.declared.attempt.Attempt.{Attempt}
 use Rattle.sto_attempt.specs.Attempts.{Waits, heard}
 use Rattle.sto_transaction.specs.Machines.{IsOwnLog}
-use Rattle.sto_interactive.specs.declared.asked.Asked.{Asked}
+use Rattle.sto_interactive.specs.declared.asked.AskedCalls.{AskedCalls}
 use Rattle.sto_interactive.specs.Scripts.{script_of}
 use Rattle.sto_interactive.specs.Bodies.{next_of, script_in, left_of, MayAskOf, asked}
 use Rattle.sto_interactive.specs.Waiting.{IsWaiting}
@@ -21,10 +21,10 @@ use Rattle.sto_interactive.proofs.Alike.{IsLog-alike}
 use Rattle.sto_interactive.proofs.Extending.{AreSame, same_script, more_alike, more_asked, at_end, end_asks, all_heard, skip_heard}
 
 -- a body that does these calls and then ends so has them, and this end
-pub same_body : (b : Asked) (calls : List Call) (end : End) → script_in b ≡ script_of calls end → AreSame b.calls.items calls b.end end
-same_body b calls end e = same_script b.calls.items calls b.end end (λ rs. ap (λ (f : Script). f rs) e)
+pub same_body : (b : AskedCalls) (calls : List Call) (end : End) → script_in b ≡ script_of calls end → AreSame b.calls.items calls b.end end
+same_body b calls end e = same_script b.calls.items calls b.end end (λ rs. ap (λ (f : Behaviour). f rs) e)
 
-module _ {T : Type 0} (t : OfType T) (ty : T) (a : Attempt T Asked) (calls : List Call) (end : End)
+module _ {T : Type 0} (t : OfType T) (ty : T) (a : Attempt T AskedCalls) (calls : List Call) (end : End)
     (own : IsOwnLog t.meaning t.valid t.sizes script_in next_of left_of MayAskOf ty (script_of calls end) a) where
   -- as many replies as calls: its body has heard them all
   pub heard_all : length (heard a) ≡ length calls → a.log.body.heard ≡ length (heard a)
@@ -43,8 +43,8 @@ module _ {T : Type 0} (t : OfType T) (ty : T) (a : Attempt T Asked) (calls : Lis
 
   module _ (begun v : View) (waiting : IsWaiting t asked ty (script_of calls end) a begun v) (all : length (heard a) ≡ length calls)
       (more : List Call) (other : End) (taken : (call : Call) → Contains (calls ++ more) call → (t.meaning ty).takes call)
-      (b : Asked) (has : b.calls.items ≡ calls ++ more) (ends : b.end ≡ other) (at : b.heard ≡ a.log.body.heard) where
-    abbrev now : Attempt T Asked
+      (b : AskedCalls) (has : b.calls.items ≡ calls ++ more) (ends : b.end ≡ other) (at : b.heard ≡ a.log.body.heard) where
+    abbrev now : Attempt T AskedCalls
     now = record a { log = record a.log { body = b } }
 
     script_now : script_in b ≡ script_of (calls ++ more) other
@@ -55,8 +55,8 @@ module _ {T : Type 0} (t : OfType T) (ty : T) (a : Attempt T Asked) (calls : Lis
         let m = t.meaning a.log.ty.now in
         let rs = heard a in
         let before : IsLog m (script_of calls end) (words_in a.log.base.items) a.log.set.items a.log.set.updates rs =
-        subst (λ (g : Script). IsLog m g (words_in a.log.base.items) a.log.set.items a.log.set.updates rs) own.same_script own.log.log in
-        subst (λ (g : Script). IsLog m g (words_in a.log.base.items) a.log.set.items a.log.set.updates rs) (sym script_now)
+        subst (λ (g : Behaviour). IsLog m g (words_in a.log.base.items) a.log.set.items a.log.set.updates rs) own.same_script own.log.log in
+        subst (λ (g : Behaviour). IsLog m g (words_in a.log.base.items) a.log.set.items a.log.set.updates rs) (sym script_now)
         (IsLog-alike m (script_of calls end) (script_of (calls ++ more) other) (words_in a.log.base.items) a.log.set.items a.log.set.updates rs
         (more_alike calls more end other rs all) (more_asked m calls more end other rs all) before)
 
@@ -64,7 +64,7 @@ module _ {T : Type 0} (t : OfType T) (ty : T) (a : Attempt T Asked) (calls : Lis
     own_now =
         let rs = heard a in
         let so_many : b.heard ≡ length rs = at ∙ heard_all all in
-        let long = length-map a.log.replies.items told in
+        let long = length-map a.log.replies.items plain_reply in
         let few = b.few in
         let within = b.within in
         record {
@@ -103,8 +103,8 @@ module _ {T : Type 0} (t : OfType T) (ty : T) (a : Attempt T Asked) (calls : Lis
     waits_more = record { own = own_now; waits = waits_now; in_body = waiting.in_body }
 
     -- the same of the attempt that was given the body
-    pub waits_given : (k : Attempt T Asked) → k ≡ now → IsWaiting t asked ty (script_of (calls ++ more) other) k begun v
-    waits_given k e = subst (λ (x : Attempt T Asked). IsWaiting t asked ty (script_of (calls ++ more) other) x begun v) (sym e) waits_more
+    pub waits_given : (k : Attempt T AskedCalls) → k ≡ now → IsWaiting t asked ty (script_of (calls ++ more) other) k begun v
+    waits_given k e = subst (λ (x : Attempt T AskedCalls). IsWaiting t asked ty (script_of (calls ++ more) other) x begun v) (sym e) waits_more
 
   -- the calls so far are taken
   pub taken_so_far : (call : Call) → Contains calls call → (t.meaning ty).takes call

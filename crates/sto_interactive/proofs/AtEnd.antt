@@ -2,8 +2,8 @@
 use Rattle.std.proofs.Common.{◌≡◌, ◌≤◌, ◌+◌, ℕ, ℤ, List, [], ◌∷◌, ◌++◌, length, length-append, refl, ap, sym, ◌∙◌, subst, arith}
 use Rattle.sto_item.specs.declared.item.Item.{Item}
 use Rattle.sto_item.specs.Pending.{Entry as Update}
-use Rattle.sto_model.specs.Told.{Told}
-use Rattle.sto_model.specs.Run.{Script, IsAsk, IsRun}
+use Rattle.sto_model.specs.PlainReplies.{PlainReply}
+use Rattle.sto_model.specs.Run.{Behaviour, IsAsk, IsRun}
 use Rattle.sto_model.specs.Bodies.{OfBody}
 use Rattle.sto_model.specs.declared.call.Call.{Call}
 use Rattle.sto_model.specs.declared.body.Next.{Next}
@@ -39,7 +39,7 @@ no_part m (Ask call) p none h = none tt
 no_part m Commit p none h = h
 no_part m Cancel p none h = h
 
-no_goes : (m : Meaning) (valid : Validity) (sizes : List ℕ) (f : Script) (at : ℕ) (read_phase : ReadPhase) (ws : List ℤ) (extension : Extension) (base : List ReadEntry) (items : List Item) (es : List Update) (rs : List Told) (v : View)
+no_goes : (m : Meaning) (valid : Validity) (sizes : List ℕ) (f : Behaviour) (at : ℕ) (read_phase : ReadPhase) (ws : List ℤ) (extension : Extension) (base : List ReadEntry) (items : List Item) (es : List Update) (rs : List PlainReply) (v : View)
     → HasBegun read_phase → IsFirst read_phase → (IsAsk (f rs) → ⊥) → Goes m valid sizes f at read_phase ws extension base items es rs v → ⊥
 no_goes m valid sizes f at Unstarted ws extension base items es rs v begins first none h = begins
 no_goes m valid sizes f at (Opening p) ws extension base items es rs v begins first none h = no_part m (f rs) p none h.0.awaits.by_next
@@ -110,11 +110,11 @@ module _ {T B : Type 0} (t : OfType T) (b : OfBody B) (a : Attempt T B) (v : Vie
   cancel_ends cancels (Changed n p s) first h = absurd first
 
 -- what the replies of an attempt that waits tell
-pub answers : {T B : Type 0} (t : OfType T) (b : OfBody B) (ty : T) (f : Script) (a : Attempt T B) (begun v : View) → IsWaiting t b ty f a begun v → IsPrefix (t.meaning ty) f v a.at (heard a)
+pub answers : {T B : Type 0} (t : OfType T) (b : OfBody B) (ty : T) (f : Behaviour) (a : Attempt T B) (begun v : View) → IsWaiting t b ty f a begun v → IsPrefix (t.meaning ty) f v a.at (heard a)
 answers t b ty f a begun v h =
     let own = h.own in
     subst (λ (m : Meaning). IsPrefix m f v a.at (heard a)) (ap t.meaning own.same_type)
-    (subst (λ (g : Script). IsPrefix (t.meaning a.log.ty.now) g v a.at (heard a)) own.same_script
+    (subst (λ (g : Behaviour). IsPrefix (t.meaning a.log.ty.now) g v a.at (heard a)) own.same_script
     (prefix (t.meaning a.log.ty.now) (b.script a.log.body) v a.at a.log.base.items a.log.set.items a.log.set.updates (heard a) own.log.log h.waits.0.claimed))
 
 -- they are no more than the calls
@@ -127,15 +127,15 @@ so_many t b ty calls end a begun v is h =
     let valid : m.valid whole.0 = is whole.0 (subst (λ (l : List ℕ). t.valid l whole.0) k.own.same_sizes whole.1) in
     let run : IsRun m.machines (b.script a.log.body) (m.rows whole.0) (heard a) =
     prefix m (b.script a.log.body) v a.at a.log.base.items a.log.set.items a.log.set.updates (heard a) h.own.log.log k.claimed whole.0 valid whole.2 in
-    few_replies m.machines calls end (m.rows whole.0) (heard a) (subst (λ (f : Script). IsRun m.machines f (m.rows whole.0) (heard a)) h.own.same_script run)
+    few_replies m.machines calls end (m.rows whole.0) (heard a) (subst (λ (f : Behaviour). IsRun m.machines f (m.rows whole.0) (heard a)) h.own.same_script run)
 
 -- one more reply
-pub one_more : (rs more : List Told) → length (rs ++ more) ≡ length rs + 1 → (r : Told) × (more ≡ r ∷ [])
+pub one_more : (rs more : List PlainReply) → length (rs ++ more) ≡ length rs + 1 → (r : PlainReply) × (more ≡ r ∷ [])
 one_more rs [] e = absurd (let l = length-append rs [] in omega (arith, l, e))
 one_more rs (r ∷ []) e = (r, refl)
 one_more rs (r ∷ s ∷ more) e = absurd (let l = length-append rs (r ∷ s ∷ more) in omega (arith, l, e))
 
 -- and none
-pub none_more : (rs more : List Told) → length (rs ++ more) ≤ length rs → more ≡ []
+pub none_more : (rs more : List PlainReply) → length (rs ++ more) ≤ length rs → more ≡ []
 none_more rs [] e = refl
 none_more rs (r ∷ more) e = absurd (let l = length-append rs (r ∷ more) in omega (arith, l, e))

@@ -1,6 +1,6 @@
 -- An attempt of a body without a call, after its first event.
 use Rattle.std.proofs.Common.{◌≡◌, ◌<◌, ℕ, false, [], refl, sym, ap, ◌∙◌}
-use Rattle.sto_model.specs.Run.{Script}
+use Rattle.sto_model.specs.Run.{Behaviour}
 use Rattle.sto_model.specs.declared.run.End.TheVariants as E
 use Rattle.sto_type.specs.Known.{Parts}
 use Rattle.sto_type.specs.Traits.{OfType}
@@ -15,14 +15,14 @@ use Rattle.sto_attempt.specs.Attempts.{IsLogOf, HasTurned, heard}
 use Rattle.sto_transaction.specs.Resting.{IsAtRest}
 use Rattle.sto_transaction.specs.Machines.{HasStopped, IsOwnLog}
 use Rattle.sto_transaction.proofs.Gone.{HasLed, has_led, stopped}
-use Rattle.sto_interactive.specs.declared.asked.Asked.{Asked}
+use Rattle.sto_interactive.specs.declared.asked.AskedCalls.{AskedCalls}
 use Rattle.sto_interactive.specs.Scripts.{script_of}
 use Rattle.sto_interactive.specs.Bodies.{next_of, script_in, left_of, MayAskOf, asked}
 use Rattle.sto_interactive.specs.Waiting.{IsWaiting}
 use Rattle.sto_interactive.proofs.AtEnd.{commit_waits, so_many, none_more}
 use Rattle.sto_interactive.proofs.Coming.{own_now, own_turned}
 
-module _ {T : Type 0} (t : OfType T) (passes : ℕ) (ty : T) (a k : Attempt T Asked) (begun w : View) (rest : IsAtRest (t.meaning ty) (t.sizes ty) begun) (draws : 0 < begun.draws)
+module _ {T : Type 0} (t : OfType T) (passes : ℕ) (ty : T) (a k : Attempt T AskedCalls) (begun w : View) (rest : IsAtRest (t.meaning ty) (t.sizes ty) begun) (draws : 0 < begun.draws)
     (type : a.log.ty.now ≡ ty) (none : a.log.base.items ≡ []) (fresh : a.extension.extended ≡ false) (event : OneEvent (λ e. e ≡ Start) t.valid passes begun w) where
   led : HasLed (t.meaning a.log.ty.now) t.valid (t.sizes a.log.ty.now) (script_in a.log.body) a.at a.words.items a.extension a.log.base.items a.log.set.items a.log.set.updates (heard a) passes begun begun w Unstarted
   led =
@@ -40,7 +40,7 @@ module _ {T : Type 0} (t : OfType T) (passes : ℕ) (ty : T) (a k : Attempt T As
     pub start_waits : IsWaiting t asked ty (script_of [] E.Commit) k begun w
     start_waits = record {
       own = own_k;
-      waits = commit_waits t asked k w (ap (λ (f : Script). f (heard k)) own_k.same_script) moves.0 turn first (own_turned t asked a k w turn types scripts turned);
+      waits = commit_waits t asked k w (ap (λ (f : Behaviour). f (heard k)) own_k.same_script) moves.0 turn first (own_turned t asked a k w turn types scripts turned);
       in_body = (led.moved k.read_phase k.at moves).in_body;
     }
 

@@ -3,7 +3,7 @@ use Rattle.std.proofs.Common.{◌≡◌, ◌≤◌, ℕ, Result, Ok, Err, true�
 use Rattle.std.specs.Result.{IsErr}
 use denote.Bor.{Bor}
 use Rattle.sto_part.specs.declared.NoMemory.{NoMemory}
-use Rattle.sto_model.specs.Run.{Script}
+use Rattle.sto_model.specs.Run.{Behaviour}
 use Rattle.sto_model.specs.Bodies.{OfBody}
 use Rattle.sto_model.specs.declared.call.Call.{Call}
 use Rattle.sto_type.specs.Meaning.{Meaning}
@@ -16,7 +16,7 @@ use Rattle.sto_attempt_log.specs.declared.verdict.Turn.{Turn}
 use Rattle.sto_attempt_log.specs.declared.verdict.Turn.TheVariants.{More, Ready, Ended}
 use Rattle.sto_attempt_log.specs.Standing.{Fits, EndsAs, Turned, HasBegun, IsFirst, IsLeft, IsUnaborted, Ends}
 use Rattle.sto_attempt_log.proofs.Stepping.{ends_of}
-use Rattle.sto_history.specs.Records.{Place}
+use Rattle.sto_history.specs.Records.{TransactionPlace}
 use Rattle.sto_history.specs.Tried.{HasTried}
 use Rattle.sto_attempt_log.specs.Log.{IsOnLog}
 use Rattle.sto_attempt.specs.declared.attempt.Attempt.{Attempt}
@@ -35,16 +35,16 @@ module _ {T B : Type 0} (t : OfType T) (b : OfBody B) where
   own_log : (old a : Attempt T B) → a.log.ty.now ≡ old.log.ty.now → b.script a.log.body ≡ b.script old.log.body → IsLogOf t b old a → IsLogOf t b a a
   own_log old a types scripts h =
       subst (λ (ty : T). IsOnLog (t.meaning ty) (b.then a.log.body) (b.script a.log.body) (b.left a.log.body) (b.may_ask a.log.body) a.log.base.items a.log.set a.log.cache a.log.replies.items) (sym types)
-      (subst (λ (f : Script). IsOnLog (t.meaning old.log.ty.now) (b.then a.log.body) f (b.left a.log.body) (b.may_ask a.log.body) a.log.base.items a.log.set a.log.cache a.log.replies.items) (sym scripts) h)
+      (subst (λ (f : Behaviour). IsOnLog (t.meaning old.log.ty.now) (b.then a.log.body) f (b.left a.log.body) (b.may_ask a.log.body) a.log.base.items a.log.set a.log.cache a.log.replies.items) (sym scripts) h)
 
   pub own_turned : (old a : Attempt T B) (w : View) (turn : Turn) → a.log.ty ≡ old.log.ty → b.script a.log.body ≡ b.script old.log.body → HasTurned t b old a w turn → HasTurned t b a a w turn
   own_turned old a w turn types scripts h =
       subst (λ (ty : T). Turned (t.meaning ty) t.valid (t.sizes ty) (b.script a.log.body) a.at a.read_phase a.words.items a.extension a.log.base.items a.log.set.items a.log.set.updates (heard a) w turn)
       (sym (ap (λ (r : Bor T). r.now) types))
-      (subst (λ (f : Script). Turned (t.meaning old.log.ty.now) t.valid (t.sizes old.log.ty.now) f a.at a.read_phase a.words.items a.extension a.log.base.items a.log.set.items a.log.set.updates (heard a) w turn)
+      (subst (λ (f : Behaviour). Turned (t.meaning old.log.ty.now) t.valid (t.sizes old.log.ty.now) f a.at a.read_phase a.words.items a.extension a.log.base.items a.log.set.items a.log.set.updates (heard a) w turn)
       (sym scripts) h)
 
-  pub own_now : (ty : T) (f : Script) (old a : Attempt T B) → IsOwnLog t.meaning t.valid t.sizes b.script b.then b.left b.may_ask ty f old
+  pub own_now : (ty : T) (f : Behaviour) (old a : Attempt T B) → IsOwnLog t.meaning t.valid t.sizes b.script b.then b.left b.may_ask ty f old
       → a.log.ty ≡ old.log.ty → b.script a.log.body ≡ b.script old.log.body → IsLogOf t b old a
       → IsOwnLog t.meaning t.valid t.sizes b.script b.then b.left b.may_ask ty f a
   own_now ty f old a own types scripts log = record {
@@ -54,22 +54,22 @@ module _ {T B : Type 0} (t : OfType T) (b : OfBody B) where
   }
 
   -- before its commit it waits, too
-  pub ready_waits : (ty : T) (f : Script) (a : Attempt T B) (begun v : View) → IsReady t.meaning t.valid t.sizes b.script b.then b.left b.may_ask ty f a begun v → IsWaiting t b ty f a begun v
+  pub ready_waits : (ty : T) (f : Behaviour) (a : Attempt T B) (begun v : View) → IsReady t.meaning t.valid t.sizes b.script b.then b.left b.may_ask ty f a begun v → IsWaiting t b ty f a begun v
   ready_waits ty f a begun v h = record { own = h.own; waits = may_go_on t b a v h.fits; in_body = h.in_body }
 
   -- an attempt that waits can be given up
-  pub waiting_stops : (ty : T) (f : Script) (a : Attempt T B) (begun v : View) → IsAtRest (t.meaning ty) (t.sizes ty) begun → IsWaiting t b ty f a begun v → HasStopped (t.meaning ty) (t.sizes ty) begun v
+  pub waiting_stops : (ty : T) (f : Behaviour) (a : Attempt T B) (begun v : View) → IsAtRest (t.meaning ty) (t.sizes ty) begun → IsWaiting t b ty f a begun v → HasStopped (t.meaning ty) (t.sizes ty) begun v
   waiting_stops ty f a begun v rest h =
       let k = h.waits.0 in
       stopped (t.meaning ty) (t.sizes ty) begun v rest (record { running = h.in_body.running; undrawn = h.in_body.undrawn }) (record { idle = k.stands; unheld = k.unheld; decided = k.decided })
 
-  module _ (passes : ℕ) (ty : T) (f : Script) (a : Attempt T B) (begun w : View) (rest : IsAtRest (t.meaning ty) (t.sizes ty) begun)
+  module _ (passes : ℕ) (ty : T) (f : Behaviour) (a : Attempt T B) (begun w : View) (rest : IsAtRest (t.meaning ty) (t.sizes ty) begun)
       (own : IsOwnLog t.meaning t.valid t.sizes b.script b.then b.left b.may_ask ty f a) (in_body : InBody begun w a.at) where
-    told : (m : Meaning) (g : Script) (x : Verdict) → t.meaning a.log.ty.now ≡ m → b.script a.log.body ≡ g → IsLeft w → a.at ≤ w.at → Ends (t.meaning a.log.ty.now) (b.script a.log.body) w a.at (heard a) x
-        → (place : Place) → HasTried m begun w g place (record { place = place; replies = heard a; verdict = verdict x })
+    told : (m : Meaning) (g : Behaviour) (x : Verdict) → t.meaning a.log.ty.now ≡ m → b.script a.log.body ≡ g → IsLeft w → a.at ≤ w.at → Ends (t.meaning a.log.ty.now) (b.script a.log.body) w a.at (heard a) x
+        → (place : TransactionPlace) → HasTried m begun w g place (record { place = place; replies = heard a; verdict = verdict x })
     told m g x types scripts left within ends place =
         ended_reading m g begun w a.at (heard a) x in_body left within
-        (subst (λ (n : Meaning). Ends n g w a.at (heard a) x) types (subst (λ (h : Script). Ends (t.meaning a.log.ty.now) h w a.at (heard a) x) scripts ends)) place
+        (subst (λ (n : Meaning). Ends n g w a.at (heard a) x) types (subst (λ (h : Behaviour). Ends (t.meaning a.log.ty.now) h w a.at (heard a) x) scripts ends)) place
 
     over : (x : Verdict) → IsLeft w → a.at ≤ w.at → Ends (t.meaning a.log.ty.now) (b.script a.log.body) w a.at (heard a) x → (passes ≡ 1 → IsUnaborted (Ended x)) → EndsSo t b passes ty f a x begun w
     over x left within ends alone = record {
@@ -103,7 +103,7 @@ module _ {T B : Type 0} (t : OfType T) (b : OfBody B) where
     )
 
   -- where a step has led it
-  pub stepped : (passes : ℕ) (ty : T) (f : Script) (old a : Attempt T B) (begun v w : View) (r : Result Turn NoMemory) → IsAtRest (t.meaning ty) (t.sizes ty) begun
+  pub stepped : (passes : ℕ) (ty : T) (f : Behaviour) (old a : Attempt T B) (begun v w : View) (r : Result Turn NoMemory) → IsAtRest (t.meaning ty) (t.sizes ty) begun
       → RunsBody t.meaning t.valid t.sizes b.script b.then b.left b.may_ask passes ty f old begun v
       → Steps t b passes old.read_phase (event_of t b old) old a v w r → HasRunOn t b passes ty f r a begun w
   stepped passes ty f old a begun v w (Ok turn) rest h s =
@@ -117,13 +117,13 @@ module _ {T B : Type 0} (t : OfType T) (b : OfBody B) where
       stopped (t.meaning ty) (t.sizes ty) begun w rest led.read s.err
 
   -- where it is led that goes on from where it waits
-  pub resumed : (passes : ℕ) (ty : T) (f : Script) (old a : Attempt T B) (begun v : View) (turn : Turn) → IsAtRest (t.meaning ty) (t.sizes ty) begun → IsWaiting t b ty f old begun v
+  pub resumed : (passes : ℕ) (ty : T) (f : Behaviour) (old a : Attempt T B) (begun v : View) (turn : Turn) → IsAtRest (t.meaning ty) (t.sizes ty) begun → IsWaiting t b ty f old begun v
       → a.log.ty ≡ old.log.ty → b.script a.log.body ≡ b.script old.log.body → a.at ≡ old.at → IsLogOf t b old a → HasTurned t b old a v turn → HasBegun a.read_phase → IsFirst a.read_phase × IsUnaborted turn
       → HasCome t b passes ty f turn a begun v
   resumed passes ty f old a begun v turn rest h types scripts at log turned begins first =
       come passes ty f a begun v rest (own_now ty f old a h.own types scripts log) (subst (λ (n : ℕ). InBody begun v n) (sym at) h.in_body) turn begins (own_turned old a v turn types scripts turned) (λ one. first)
 
   -- want of memory, as `?` hands it on
-  pub stops_on : (passes : ℕ) (ty : T) (f : Script) (a : Attempt T B) (begun w : View) (r : Result Turn NoMemory) → IsErr r → HasStopped (t.meaning ty) (t.sizes ty) begun w → HasRunOn t b passes ty f r a begun w
+  pub stops_on : (passes : ℕ) (ty : T) (f : Behaviour) (a : Attempt T B) (begun w : View) (r : Result Turn NoMemory) → IsErr r → HasStopped (t.meaning ty) (t.sizes ty) begun w → HasRunOn t b passes ty f r a begun w
   stops_on passes ty f a begun w (Ok turn) e h = absurd (true≢false (sym e))
   stops_on passes ty f a begun w (Err error) e h = h

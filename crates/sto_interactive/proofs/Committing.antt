@@ -1,7 +1,7 @@
 -- A transaction that waits, where it goes on without a further call: to its commit, or to its end.
 use Rattle.std.proofs.Common.{◌≡◌, ℕ, List, ap, sym, ◌∙◌, subst}
-use Rattle.sto_model.specs.Told.{Told}
-use Rattle.sto_model.specs.Run.{Script}
+use Rattle.sto_model.specs.PlainReplies.{PlainReply}
+use Rattle.sto_model.specs.Run.{Behaviour}
 use Rattle.sto_model.specs.declared.call.Call.{Call}
 use Rattle.sto_model.specs.declared.body.Next.TheVariants.{Commit}
 use Rattle.sto_model.specs.declared.run.End.TheVariants as E
@@ -16,7 +16,7 @@ use Rattle.sto_attempt.specs.declared.attempt.Attempt.{Attempt}
 use Rattle.sto_attempt.specs.Attempts.{IsLogOf, HasTurned, HasGrown, heard}
 use Rattle.sto_transaction.specs.Going.{InBody}
 use Rattle.sto_transaction.specs.Machines.{IsOwnLog, IsReady}
-use Rattle.sto_interactive.specs.declared.asked.Asked.{Asked}
+use Rattle.sto_interactive.specs.declared.asked.AskedCalls.{AskedCalls}
 use Rattle.sto_interactive.specs.declared.live.Live.{Live}
 use Rattle.sto_interactive.specs.Scripts.{script_of}
 use Rattle.sto_interactive.specs.Bodies.{next_of, script_in, left_of, MayAskOf, asked}
@@ -26,17 +26,17 @@ use Rattle.sto_interactive.proofs.AtEnd.{so_many, no_more, no_ask, commit_waits}
 use Rattle.sto_interactive.proofs.Coming.{own_now, own_turned, resumed}
 use Rattle.sto_interactive.proofs.Lasting.{ends_there, same_replies}
 
-module _ {T : Type 0} (t : OfType T) (ty : T) (calls : List Call) (rs : List Told) (l : Live T) (k : Attempt T Asked) (begun v : View) (live : IsLive t ty calls rs l begun v)
+module _ {T : Type 0} (t : OfType T) (ty : T) (calls : List Call) (rs : List PlainReply) (l : Live T) (k : Attempt T AskedCalls) (begun v : View) (live : IsLive t ty calls rs l begun v)
     (types : k.log.ty ≡ l.attempt.log.ty) (scripts : script_in k.log.body ≡ script_in l.attempt.log.body) (at : k.at ≡ l.attempt.at) (log : IsLogOf t asked l.attempt k) (grown : HasGrown t asked l.attempt k)
     (begins : HasBegun k.read_phase) (turn : Turn) (first : IsFirst k.read_phase × IsUnaborted turn) (turned : HasTurned t asked l.attempt k v turn) where
   own : IsOwnLog t.meaning t.valid t.sizes script_in next_of left_of MayAskOf ty (script_of calls E.Commit) k
   own = own_now t asked ty (script_of calls E.Commit) l.attempt k live.waiting.own types scripts log
 
   hears : HearsMore rs (heard k)
-  hears = subst (λ (ss : List Told). HearsMore ss (heard k)) live.replies (record { more = grown.grown.more; all = grown.grown.replies })
+  hears = subst (λ (ss : List PlainReply). HearsMore ss (heard k)) live.replies (record { more = grown.grown.more; all = grown.grown.replies })
 
   commits : script_in k.log.body (heard k) ≡ Commit
-  commits = ap (λ (f : Script). f (heard k)) own.same_script ∙ ends_there calls E.Commit rs (heard k) live.all hears
+  commits = ap (λ (f : Behaviour). f (heard k)) own.same_script ∙ ends_there calls E.Commit rs (heard k) live.all hears
 
   turned_now : HasTurned t asked k k v turn
   turned_now = own_turned t asked l.attempt k v turn types scripts turned

@@ -1,8 +1,8 @@
 -- The script of calls and that of the same calls and more are alike up to as many replies as there are calls.
 use Rattle.std.proofs.Common.{◌≡◌, ◌≤◌, ◌<◌, ◌+◌, ℕ, zero, suc, slice_index_or, List, [], ◌∷◌, ◌++◌, length, drop, refl, ap, sym, ◌∙◌, subst, arith}
-use Rattle.sto_model.specs.Told.{Told}
-use Rattle.sto_model.specs.Told as Tell
-use Rattle.sto_model.specs.Machine.{Machine}
+use Rattle.sto_model.specs.PlainReplies.{PlainReply}
+use Rattle.sto_model.specs.PlainReplies as Tell
+use Rattle.sto_model.specs.SequentialObjects.{SequentialObject}
 use Rattle.sto_model.specs.declared.call.Call.{Call}
 use Rattle.sto_model.specs.declared.body.Next.{Next}
 use Rattle.sto_model.specs.declared.body.Next.TheVariants.{Ask, Commit, Cancel}
@@ -29,25 +29,25 @@ end_asks E.Cancel h = h
 asks_no_end : (call : Call) (end : End) → Ask call ≡ end_step end → ⊥
 asks_no_end call end e = end_asks end (subst IsAsk e tt)
 
-pub more_alike : (calls more : List Call) (end other : End) (rs : List Told) → length rs ≡ length calls → AreAlike (script_of calls end) (script_of (calls ++ more) other) rs
+pub more_alike : (calls more : List Call) (end other : End) (rs : List PlainReply) → length rs ≡ length calls → AreAlike (script_of calls end) (script_of (calls ++ more) other) rs
 more_alike calls more end other [] e = tt
 more_alike [] more end other (r ∷ rs) e = absurd (zero_not e)
 more_alike (call ∷ calls) more end other (r ∷ rs) e = (refl, more_alike calls more end other rs (suc_same (length rs) (length calls) e))
 
 -- once all of them are answered, the end comes
-pub at_end : (calls : List Call) (end : End) (rs : List Told) → length calls ≤ length rs → script_of calls end rs ≡ end_step end
+pub at_end : (calls : List Call) (end : End) (rs : List PlainReply) → length calls ≤ length rs → script_of calls end rs ≡ end_step end
 at_end [] end rs l = refl
 at_end (call ∷ calls) end [] l = absurd (omega (arith, l))
 at_end (call ∷ calls) end (r ∷ rs) l = at_end calls end rs (omega (arith, l))
 
 -- and not before
-pub ends_late : (calls : List Call) (end : End) (rs : List Told) → (IsAsk (script_of calls end rs) → ⊥) → length calls ≤ length rs
+pub ends_late : (calls : List Call) (end : End) (rs : List PlainReply) → (IsAsk (script_of calls end rs) → ⊥) → length calls ≤ length rs
 ends_late [] end rs h = omega arith
 ends_late (call ∷ calls) end [] h = absurd (h tt)
 ends_late (call ∷ calls) end (r ∷ rs) h = (let l = ends_late calls end rs h in omega (arith, l))
 
 -- no more replies than calls
-pub few_replies : (ms : List Machine) (calls : List Call) (end : End) (st : State) (rs : List Told) → IsRun ms (script_of calls end) st rs → length rs ≤ length calls
+pub few_replies : (ms : List SequentialObject) (calls : List Call) (end : End) (st : State) (rs : List PlainReply) → IsRun ms (script_of calls end) st rs → length rs ≤ length calls
 few_replies ms calls end st [] h = omega arith
 few_replies ms [] end st (r ∷ rs) h = absurd (no_reply end h.0)
   where
@@ -60,23 +60,23 @@ end_asks_none : (m : Meaning) (end : End) (n k : Next) → n ≡ end_step end �
 end_asks_none m E.Commit n k e p h = absurd (subst (λ (x : Next). NextTouches m x p) e h)
 end_asks_none m E.Cancel n k e p h = absurd (subst (λ (x : Next). NextTouches m x p) e h)
 
-pub more_asked : (m : Meaning) (calls more : List Call) (end other : End) (rs : List Told) → length rs ≡ length calls → NoFurther m (script_of calls end rs) (script_of (calls ++ more) other rs)
+pub more_asked : (m : Meaning) (calls more : List Call) (end other : End) (rs : List PlainReply) → length rs ≡ length calls → NoFurther m (script_of calls end rs) (script_of (calls ++ more) other rs)
 more_asked m calls more end other rs e = end_asks_none m end (script_of calls end rs) (script_of (calls ++ more) other rs) (at_end calls end rs (omega (arith, e)))
 
 -- one more answered
-hears_one : (calls : List Call) (n : ℕ) (end : End) (r : Told) (rs : List Told) → script_of (drop (suc n) calls) end rs ≡ script_of (drop n calls) end (r ∷ rs)
+hears_one : (calls : List Call) (n : ℕ) (end : End) (r : PlainReply) (rs : List PlainReply) → script_of (drop (suc n) calls) end rs ≡ script_of (drop n calls) end (r ∷ rs)
 hears_one [] zero end r rs = refl
 hears_one [] (suc n) end r rs = refl
 hears_one (call ∷ calls) zero end r rs = refl
 hears_one (call ∷ calls) (suc n) end r rs = hears_one calls n end r rs
 
-pub hears_next : (calls : List Call) (n : ℕ) (end : End) (r : Told) (rs : List Told) → script_of (drop (n + 1) calls) end rs ≡ script_of (drop n calls) end (r ∷ rs)
+pub hears_next : (calls : List Call) (n : ℕ) (end : End) (r : PlainReply) (rs : List PlainReply) → script_of (drop (n + 1) calls) end rs ≡ script_of (drop n calls) end (r ∷ rs)
 hears_next calls n end r rs =
     let more : n + 1 ≡ suc n = omega arith in
     subst (λ (k : ℕ). script_of (drop k calls) end rs ≡ script_of (drop n calls) end (r ∷ rs)) (sym more) (hears_one calls n end r rs)
 
 -- all answered
-pub skip_heard : (calls : List Call) (end : End) (rs xs : List Told) → script_of (drop (length rs) calls) end xs ≡ script_of calls end (rs ++ xs)
+pub skip_heard : (calls : List Call) (end : End) (rs xs : List PlainReply) → script_of (drop (length rs) calls) end xs ≡ script_of calls end (rs ++ xs)
 skip_heard calls end [] xs = refl
 skip_heard [] end (r ∷ rs) xs = refl
 skip_heard (call ∷ calls) end (r ∷ rs) xs = skip_heard calls end rs xs
@@ -113,7 +113,7 @@ pub record AreSame (calls others : List Call) (end other : End) : Type 0 where
   pub same_calls : calls ≡ others
   pub same_ends : end ≡ other
 
-pub same_script : (calls others : List Call) (end other : End) → ((rs : List Told) → script_of calls end rs ≡ script_of others other rs) → AreSame calls others end other
+pub same_script : (calls others : List Call) (end other : End) → ((rs : List PlainReply) → script_of calls end rs ≡ script_of others other rs) → AreSame calls others end other
 same_script [] [] end other h = record { same_calls = refl; same_ends = same_end end other (h []) }
 same_script [] (call ∷ others) end other h = absurd (asks_no_end call end (sym (h [])))
 same_script (call ∷ calls) [] end other h = absurd (asks_no_end call other (h []))

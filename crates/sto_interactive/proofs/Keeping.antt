@@ -2,7 +2,7 @@
 use Rattle.std.proofs.Common.{◌≡◌, ℕ, List, [], ◌∷◌, ◌++◌, Option, Some, None, Result, Ok, Err, refl, sym, subst}
 use Rattle.sto_part.specs.declared.naming.Naming as naming
 use Rattle.sto_model.specs.declared.call.Call.{Call}
-use Rattle.sto_model.specs.Told.{Told}
+use Rattle.sto_model.specs.PlainReplies.{PlainReply}
 use Rattle.sto_type.specs.Traits.{OfType}
 use Rattle.sto_core.specs.declared.view.View.{View}
 use Rattle.sto_table.specs.declared.shared.Rest.{Rest}
@@ -22,7 +22,7 @@ module _ {T : Type 0} {n : naming.Ghosts T} (t : OfType T) (ty : T) (s : Shared 
   pub free_stands : (y : Session T n) → IsFree t ty s y → IsSessionOf t ty s y
   free_stands y free = subst (λ (o : Option RestingTransaction). Stands t ty s o y.rest.seat y.left) (sym free.none) free.rests
 
-  pub asking_stands : (calls : List Call) (rs : List Told) (y : Session T n) (begun : View) → IsAsking t ty s calls rs y begun → IsSessionOf t ty s y
+  pub asking_stands : (calls : List Call) (rs : List PlainReply) (y : Session T n) (begun : View) → IsAsking t ty s calls rs y begun → IsSessionOf t ty s y
   asking_stands calls rs y begun h = subst (λ (o : Option RestingTransaction). Stands t ty s o y.rest.seat y.left) (sym h.live) (calls, rs, begun, h.waits)
 
   pub unchanged_stands : (x y : Session T n) → IsUnchanged x y → IsSessionOf t ty s x → IsSessionOf t ty s y
@@ -37,20 +37,20 @@ module _ {T : Type 0} {n : naming.Ghosts T} (t : OfType T) (ty : T) (s : Shared 
   begun_stands x y (Err unbegun.Worn) h b = unchanged_stands x y b.2 h
   begun_stands x y (Err unbegun.NoMemory) h b = free_stands y b.1.free
 
-  pub after_asked : (calls : List Call) (rs : List Told) (begun : View) (call : Call) (r : Result (Unit {0}) AskError) (y : Session T n) → HasAskedAfter t ty s calls rs begun call r y → IsSessionOf t ty s y
+  pub after_asked : (calls : List Call) (rs : List PlainReply) (begun : View) (call : Call) (r : Result (Unit {0}) AskError) (y : Session T n) → HasAskedAfter t ty s calls rs begun call r y → IsSessionOf t ty s y
   after_asked calls rs begun call (Ok answered) y h = asking_stands (calls ++ call ∷ []) (rs ++ h.reply ∷ []) y begun h.asking
   after_asked calls rs begun call (Err unanswered.NoTransaction) y h = absurd h
   after_asked calls rs begun call (Err unanswered.Untaken) y h = asking_stands calls rs y begun h.0
   after_asked calls rs begun call (Err unanswered.Aborted) y h = free_stands y h.free
   after_asked calls rs begun call (Err unanswered.NoMemory) y h = free_stands y h.free
 
-  pub after_committed : (calls : List Call) (rs : List Told) (begun : View) (r : Result ℕ CommitError) (y : Session T n) → HasCommittedAfter t ty s calls rs begun r y → IsSessionOf t ty s y
+  pub after_committed : (calls : List Call) (rs : List PlainReply) (begun : View) (r : Result ℕ CommitError) (y : Session T n) → HasCommittedAfter t ty s calls rs begun r y → IsSessionOf t ty s y
   after_committed calls rs begun (Ok place) y h = free_stands y h.free
   after_committed calls rs begun (Err uncommitted.NoTransaction) y h = absurd h
   after_committed calls rs begun (Err uncommitted.Aborted) y h = free_stands y h.free
   after_committed calls rs begun (Err uncommitted.NoMemory) y h = free_stands y h.free
 
-  pub after_cancelled : (calls : List Call) (rs : List Told) (begun : View) (r : Result ℕ CommitError) (y : Session T n) → HasCancelledAfter t ty s calls rs begun r y → IsSessionOf t ty s y
+  pub after_cancelled : (calls : List Call) (rs : List PlainReply) (begun : View) (r : Result ℕ CommitError) (y : Session T n) → HasCancelledAfter t ty s calls rs begun r y → IsSessionOf t ty s y
   after_cancelled calls rs begun (Ok place) y h = free_stands y h.free
   after_cancelled calls rs begun (Err uncommitted.NoTransaction) y h = absurd h
   after_cancelled calls rs begun (Err uncommitted.Aborted) y h = absurd h

@@ -6,7 +6,7 @@ use Rattle.sto_part.specs.Listed.{Listed}
 use Rattle.sto_part.specs.declared.naming.Naming as naming
 use Rattle.sto_model.specs.declared.call.Call.{Call}
 use Rattle.sto_model.specs.declared.reply.Reply.{Reply}
-use Rattle.sto_model.specs.Told.{Told, told}
+use Rattle.sto_model.specs.PlainReplies.{PlainReply, plain_reply}
 use Rattle.sto_type.specs.Traits.{OfType}
 use Rattle.sto_core.specs.declared.view.View.{View}
 use Rattle.sto_table.specs.declared.shared.Shared.{Shared}
@@ -16,11 +16,11 @@ use Rattle.sto_interactive.specs.declared.session.Session.{Session}
 use Rattle.sto_interactive.specs.Sessions.{Stands}
 use Rattle.sto_interactive.specs.Steps.{HasAsked}
 
-some_heard : (rs : List Told) (reply : Told) (xs : List Reply) → map told xs ≡ rs ++ reply ∷ [] → 0 < length xs
-some_heard rs reply xs e = omega (arith, ap length e, length-map xs told, length-append rs (reply ∷ []))
+some_heard : (rs : List PlainReply) (reply : PlainReply) (xs : List Reply) → map plain_reply xs ≡ rs ++ reply ∷ [] → 0 < length xs
+some_heard rs reply xs e = omega (arith, ap length e, length-map xs plain_reply, length-append rs (reply ∷ []))
 
 module _ {T : Type 0} (t : OfType T) (ty : T) where
-  heard_now : (calls : List Call) (rs : List Told) (p : RestingTransaction) (begun v : View) → IsPaused t ty calls rs p begun v → map told p.attempt.replies.items ≡ rs
+  heard_now : (calls : List Call) (rs : List PlainReply) (p : RestingTransaction) (begun v : View) → IsPaused t ty calls rs p begun v → map plain_reply p.attempt.replies.items ≡ rs
   heard_now calls rs p begun v h = (h (record { ref_ptr = (0, 0); now = ty }) refl).replies
 
 module _ {T : Type 0} {n : naming.Ghosts T} (t : OfType T) (ty : T) (s : Shared T) where

@@ -1,8 +1,8 @@
 -- A transaction that waits: what its replies are after its next call, and that it can be committed or given up where it stands.
 use Rattle.std.proofs.Common.{◌≡◌, ◌≤◌, ℕ, true, Option, Some, None, List, [], ◌∷◌, ◌++◌, length, length-append, append-nil, refl, ap, sym, ◌∙◌, subst, arith}
 use Rattle.std.specs.List.{Contains}
-use Rattle.sto_model.specs.Told.{Told}
-use Rattle.sto_model.specs.Run.{Script, IsAsk}
+use Rattle.sto_model.specs.PlainReplies.{PlainReply}
+use Rattle.sto_model.specs.Run.{Behaviour, IsAsk}
 use Rattle.sto_model.specs.declared.call.Call.{Call}
 use Rattle.sto_model.specs.declared.body.Next.TheVariants.{Commit, Cancel}
 use Rattle.sto_model.specs.declared.run.End.{End}
@@ -27,7 +27,7 @@ use Rattle.sto_attempt_log.proofs.Claimed.{claims_fit}
 use Rattle.sto_attempt.specs.declared.attempt.Attempt.{Attempt}
 use Rattle.sto_attempt.specs.Attempts.{HasTurned, heard}
 use Rattle.sto_transaction.specs.Resting.{IsAtRest}
-use Rattle.sto_interactive.specs.declared.asked.Asked.{Asked}
+use Rattle.sto_interactive.specs.declared.asked.AskedCalls.{AskedCalls}
 use Rattle.sto_interactive.specs.declared.live.Live.{Live}
 use Rattle.sto_interactive.specs.Scripts.{script_of}
 use Rattle.sto_interactive.specs.Bodies.{asked}
@@ -39,7 +39,7 @@ use Rattle.sto_interactive.proofs.Coming.{ready_waits}
 use Rattle.sto_interactive.proofs.Extending.{at_end, ends_late, few_replies}
 
 -- no more replies than calls, where there are contents that have the claims
-pub few_on : (m : Meaning) (valid : Validity) (sizes : List ℕ) (calls : List Call) (end : End) (v : View) (at : ℕ) (rs : List Told) → ClaimsFit valid v → v.sizes ≡ sizes → ((d : Parts) → valid sizes d → m.valid d)
+pub few_on : (m : Meaning) (valid : Validity) (sizes : List ℕ) (calls : List Call) (end : End) (v : View) (at : ℕ) (rs : List PlainReply) → ClaimsFit valid v → v.sizes ≡ sizes → ((d : Parts) → valid sizes d → m.valid d)
     → IsPrefix m (script_of calls end) v at rs → length rs ≤ length calls
 few_on m valid sizes calls end v at rs fit same is runs =
     let whole = claims_fit valid v at fit in
@@ -47,29 +47,29 @@ few_on m valid sizes calls end v at rs fit same is runs =
     few_replies m.machines calls end (m.rows whole.0) rs (runs whole.0 there whole.2)
 
 -- the replies are those before and one more, where one call was added
-pub last_reply : (calls : List Call) (call : Call) (old now : List Told) → length old ≡ length calls → HearsMore old now → length now ≤ length (calls ++ call ∷ []) → length (calls ++ call ∷ []) ≤ length now
-    → (r : Told) × (now ≡ old ++ r ∷ [])
+pub last_reply : (calls : List Call) (call : Call) (old now : List PlainReply) → length old ≡ length calls → HearsMore old now → length now ≤ length (calls ++ call ∷ []) → length (calls ++ call ∷ []) ≤ length now
+    → (r : PlainReply) × (now ≡ old ++ r ∷ [])
 last_reply calls call old now all h most least =
     let long = length-append calls (call ∷ []) in
-    let same = ap (λ (l : List Told). length l) h.all in
+    let same = ap (λ (l : List PlainReply). length l) h.all in
     let one = one_more old h.more (omega (arith, long, same, all, most, least)) in
-    (one.0, h.all ∙ ap (λ (l : List Told). old ++ l) one.1)
+    (one.0, h.all ∙ ap (λ (l : List PlainReply). old ++ l) one.1)
 
 -- and those before, where none was
-pub same_replies : (calls : List Call) (old now : List Told) → length old ≡ length calls → HearsMore old now → length now ≤ length calls → now ≡ old
+pub same_replies : (calls : List Call) (old now : List PlainReply) → length old ≡ length calls → HearsMore old now → length now ≤ length calls → now ≡ old
 same_replies calls old now all h most =
-    let same = ap (λ (l : List Told). length l) h.all in
-    h.all ∙ ap (λ (l : List Told). old ++ l) (none_more old h.more (omega (arith, same, all, most))) ∙ append-nil old
+    let same = ap (λ (l : List PlainReply). length l) h.all in
+    h.all ∙ ap (λ (l : List PlainReply). old ++ l) (none_more old h.more (omega (arith, same, all, most))) ∙ append-nil old
 
 -- with another end it waits, too
-pub cancel_waits : {T : Type 0} (t : OfType T) (ty : T) (calls : List Call) (rs : List Told) (l : Live T) (begun v : View) → IsLive t ty calls rs l begun v
-    → (b : Asked) → b.calls.items ≡ l.attempt.log.body.calls.items → b.end ≡ E.Cancel → b.heard ≡ l.attempt.log.body.heard
-    → (k : Attempt T Asked) → k ≡ record l.attempt { log = record l.attempt.log { body = b } } → IsWaiting t asked ty (script_of calls E.Cancel) k begun v
+pub cancel_waits : {T : Type 0} (t : OfType T) (ty : T) (calls : List Call) (rs : List PlainReply) (l : Live T) (begun v : View) → IsLive t ty calls rs l begun v
+    → (b : AskedCalls) → b.calls.items ≡ l.attempt.log.body.calls.items → b.end ≡ E.Cancel → b.heard ≡ l.attempt.log.body.heard
+    → (k : Attempt T AskedCalls) → k ≡ record l.attempt { log = record l.attempt.log { body = b } } → IsWaiting t asked ty (script_of calls E.Cancel) k begun v
 cancel_waits t ty calls rs l begun v live b has ends at k given =
     let own = live.waiting.own in
     let same = same_body l.attempt.log.body calls E.Commit own.same_script in
     subst (λ (cs : List Call). IsWaiting t asked ty (script_of cs E.Cancel) k begun v) (append-nil calls)
-    (waits_given t ty l.attempt calls E.Commit own begun v live.waiting (ap (λ (rs : List Told). length rs) live.replies ∙ live.all) [] E.Cancel
+    (waits_given t ty l.attempt calls E.Commit own begun v live.waiting (ap (λ (rs : List PlainReply). length rs) live.replies ∙ live.all) [] E.Cancel
     (λ call there. taken_so_far t ty l.attempt calls E.Commit own call (subst (λ (cs : List Call). Contains cs call) (append-nil calls) there))
     b (has ∙ same.same_calls ∙ sym (append-nil calls)) ends at k given)
 
@@ -81,20 +81,20 @@ cancel_turn t b k v Ready cancels begins first h = absurd (cancel_ready t b k v 
 cancel_turn t b k v (Ended x) cancels begins first h = (let e = cancel_ends t b k v cancels x first.1 h in (e.0, ap Ended e.1))
 
 -- as many replies as calls at least: the body is at its end
-pub ends_there : (calls : List Call) (end : End) (old now : List Told) → length old ≡ length calls → HearsMore old now → script_of calls end now ≡ end_step end
+pub ends_there : (calls : List Call) (end : End) (old now : List PlainReply) → length old ≡ length calls → HearsMore old now → script_of calls end now ≡ end_step end
 ends_there calls end old now all h =
-    let same = ap (λ (l : List Told). length l) h.all in
+    let same = ap (λ (l : List PlainReply). length l) h.all in
     let long = length-append old h.more in
     at_end calls end now (omega (arith, same, long, all))
 
 -- calls that end with a commit do not cancel
-pub never_cancels : (calls : List Call) (rs : List Told) → script_of calls E.Commit rs ≡ Cancel → ⊥
+pub never_cancels : (calls : List Call) (rs : List PlainReply) → script_of calls E.Commit rs ≡ Cancel → ⊥
 never_cancels [] rs e = cc
 never_cancels (call ∷ calls) [] e = cc
 never_cancels (call ∷ calls) (r ∷ rs) e = never_cancels calls rs e
 
 -- a call was answered
-pub answered : {T : Type 0} (t : OfType T) (ty : T) (calls : List Call) (call : Call) (rs : List Told) (new : Live T) (begun w : View) → IsAtRest (t.meaning ty) (t.sizes ty) begun → new.ty.now ≡ ty
+pub answered : {T : Type 0} (t : OfType T) (ty : T) (calls : List Call) (call : Call) (rs : List PlainReply) (new : Live T) (begun w : View) → IsAtRest (t.meaning ty) (t.sizes ty) begun → new.ty.now ≡ ty
     → IsWaiting t asked ty (script_of (calls ++ call ∷ []) E.Commit) new.attempt begun w → script_of (calls ++ call ∷ []) E.Commit (heard new.attempt) ≡ Commit → length rs ≡ length calls → HearsMore rs (heard new.attempt)
     → ((d : Parts) → t.valid (t.sizes new.attempt.log.ty.now) d → (t.meaning new.attempt.log.ty.now).valid d) → IsAnswered t ty calls rs call new begun w
 answered t ty calls call rs new begun w rest type waiting commits all hears is =
@@ -107,18 +107,18 @@ answered t ty calls call rs new begun w rest type waiting commits all hears is =
     record {
       reply = last.0;
       live = record { rests = rest; same_type = type; waiting = waiting; replies = last.1; all = omega (arith, all, long, longer) };
-      answers = subst (λ (ss : List Told). IsPrefix (t.meaning ty) (script_of more E.Commit) w new.attempt.at ss) last.1 (answers t asked ty (script_of more E.Commit) new.attempt begun w waiting);
+      answers = subst (λ (ss : List PlainReply). IsPrefix (t.meaning ty) (script_of more E.Commit) w new.attempt.at ss) last.1 (answers t asked ty (script_of more E.Commit) new.attempt begun w waiting);
     }
 
-abbrev IsAbortOf : {T : Type 0} → OfType T → ℕ → T → Script → Attempt T Asked → View → View → Option Verdict → Type 0
+abbrev IsAbortOf : {T : Type 0} → OfType T → ℕ → T → Behaviour → Attempt T AskedCalls → View → View → Option Verdict → Type 0
 IsAbortOf t passes ty f a begun w (Some x) = (is_abort (verdict x) ≡ true) × EndsSo t asked passes ty f a x begun w
 IsAbortOf t passes ty f a begun w None = Unit {0}
 
 -- where a turn has led it that is no abort, it waits
-pub goes_on : {T : Type 0} (t : OfType T) (passes : ℕ) (ty : T) (calls : List Call) (a : Attempt T Asked) (begun w : View) (turn : Turn) → abort_of turn ≡ None → IsEnd turn
+pub goes_on : {T : Type 0} (t : OfType T) (passes : ℕ) (ty : T) (calls : List Call) (a : Attempt T AskedCalls) (begun w : View) (turn : Turn) → abort_of turn ≡ None → IsEnd turn
     → HasCome t asked passes ty (script_of calls E.Commit) turn a begun w → IsWaiting t asked ty (script_of calls E.Commit) a begun w × (script_of calls E.Commit (heard a) ≡ Commit)
 goes_on t passes ty calls a begun w More none end h = absurd end
-goes_on t passes ty calls a begun w Ready none end h = (ready_waits t asked ty (script_of calls E.Commit) a begun w h, sym (ap (λ (f : Script). f (heard a)) h.own.same_script) ∙ h.fits.awaits.0)
+goes_on t passes ty calls a begun w Ready none end h = (ready_waits t asked ty (script_of calls E.Commit) a begun w h, sym (ap (λ (f : Behaviour). f (heard a)) h.own.same_script) ∙ h.fits.awaits.0)
 goes_on t passes ty calls a begun w (Ended (Wrote n)) none end h = absurd h.1
 goes_on t passes ty calls a begun w (Ended (Read n)) none end h = (h.1, (h.0.tried (0, 0)).added.told.ends)
 goes_on t passes ty calls a begun w (Ended (Cancelled n)) none end h = absurd (never_cancels calls (heard a) (h.0.tried (0, 0)).added.told.ends)
@@ -126,7 +126,7 @@ goes_on t passes ty calls a begun w (Ended (Locked n p)) none end h = cc
 goes_on t passes ty calls a begun w (Ended (Changed n p s)) none end h = cc
 
 -- and else it was aborted
-pub aborts : {T : Type 0} (t : OfType T) (passes : ℕ) (ty : T) (f : Script) (a : Attempt T Asked) (begun w : View) (turn : Turn) (x : Verdict) → abort_of turn ≡ Some x
+pub aborts : {T : Type 0} (t : OfType T) (passes : ℕ) (ty : T) (f : Behaviour) (a : Attempt T AskedCalls) (begun w : View) (turn : Turn) (x : Verdict) → abort_of turn ≡ Some x
     → HasCome t asked passes ty f turn a begun w → (is_abort (verdict x) ≡ true) × EndsSo t asked passes ty f a x begun w
 aborts t passes ty f a begun w More x e h = cc
 aborts t passes ty f a begun w Ready x e h = cc

@@ -5,7 +5,7 @@ use Rattle.sto_part.specs.declared.naming.Naming as naming
 use Rattle.sto_model.specs.declared.call.Call.{Call}
 use Rattle.sto_model.specs.declared.run.End.TheVariants as E
 use Rattle.sto_model.specs.declared.reply.Reply.{Reply}
-use Rattle.sto_model.specs.Told.{Told}
+use Rattle.sto_model.specs.PlainReplies.{PlainReply}
 use Rattle.sto_part.specs.Listed.{Listed}
 use Rattle.sto_type.specs.Traits.{OfType}
 use Rattle.sto_core.specs.declared.view.View.{View}
@@ -15,7 +15,7 @@ use Rattle.sto_table.specs.Fits.{IsSame}
 use Rattle.sto_table.specs.Rests.{IsOf}
 use Rattle.sto_attempt_log.specs.declared.verdict.Verdict.{Verdict}
 use Rattle.sto_attempt_log.specs.declared.verdict.Verdict.TheVariants.{Wrote, Read, Cancelled, Locked, Changed}
-use Rattle.sto_transaction.specs.declared.machine.Ended.{Ended}
+use Rattle.sto_transaction.specs.declared.machine.FinishedAttempt.{FinishedAttempt}
 use Rattle.sto_transaction.specs.Machines.{HasStopped, HasEnded}
 use Rattle.sto_transaction.specs.Plain.{verdict}
 use Rattle.sto_history.specs.Records.{is_abort}
@@ -25,7 +25,7 @@ use Rattle.sto_core.specs.declared.view.Phase.{Phase}
 use Rattle.sto_interactive.specs.Scripts.{script_of}
 use Rattle.sto_interactive.specs.Bodies.{next_of, script_in, left_of, MayAskOf}
 use Rattle.sto_transaction.specs.Resting.{IsAtRest}
-use Rattle.sto_interactive.specs.declared.asked.Asked.{Asked}
+use Rattle.sto_interactive.specs.declared.asked.AskedCalls.{AskedCalls}
 use Rattle.sto_interactive.specs.declared.live.Live.{Live}
 use Rattle.sto_interactive.specs.declared.live.StepError.{StepError}
 use Rattle.sto_interactive.specs.declared.pause.RestingTransaction.{RestingTransaction}
@@ -46,7 +46,7 @@ pub never_both : {X : Type 0} (o : Option X) (x : X) → o ≡ None → o ≡ So
 never_both o x none some = subst (λ (p : Option _). There p) (sym some ∙ none) tt
 
 -- what a call tells that was not answered, by why it was not
-pub stopped : {T : Type 0} (t : OfType T) (k : ℕ) (ty : T) (calls : List Call) (rs : List Told) (call : Call) (old new : Live T) (begun v w : View) (e x : StepError) → e ≡ x
+pub stopped : {T : Type 0} (t : OfType T) (k : ℕ) (ty : T) (calls : List Call) (rs : List PlainReply) (call : Call) (old new : Live T) (begun v w : View) (e x : StepError) → e ≡ x
     → lives.HasAsked t k ty calls rs call (Err e) old new begun v w → lives.HasAsked t k ty calls rs call (Err x) old new begun v w
 stopped t k ty calls rs call old new begun v w e x same h = subst (λ (y : StepError). lives.HasAsked t k ty calls rs call (Err y) old new begun v w) same h
 
@@ -57,27 +57,27 @@ module _ {T : Type 0} (s : Shared T) where
 
 module _ {T : Type 0} (t : OfType T) (ty : T) (s : Shared T) where
   -- a transaction that waits has drawn nothing
-  pub undrawn : (calls : List Call) (rs : List Told) (l : Live T) (begun v : View) → lives.IsLive t ty calls rs l begun v → v.draws ≡ begun.draws
+  pub undrawn : (calls : List Call) (rs : List PlainReply) (l : Live T) (begun v : View) → lives.IsLive t ty calls rs l begun v → v.draws ≡ begun.draws
   undrawn calls rs l begun v live = live.waiting.in_body.undrawn.left
 
   -- it waits, where it was live and was paused
-  pub waits : (calls : List Call) (rs : List Told) (l : Live T) (p : RestingTransaction) (begun : View) (a : Pass) (left : ℕ) → IsOf s a
+  pub waits : (calls : List Call) (rs : List PlainReply) (l : Live T) (p : RestingTransaction) (begun : View) (a : Pass) (left : ℕ) → IsOf s a
       → lives.IsLive t ty calls rs l begun a.me.0.view → IsPaused t ty calls rs p begun a.me.0.view → left < begun.draws → Waits t ty s calls rs p begun a left
   waits calls rs l p begun a left of live paused less =
       record { of = of; paused = paused; enough = subst (λ (k : ℕ). left < k) (sym (undrawn calls rs l begun a.me.0.view live)) less }
 
   -- more tickets than are left were there at its begin
-  pub enough : (calls : List Call) (rs : List Told) (l : Live T) (begun v : View) (left : ℕ) → lives.IsLive t ty calls rs l begun v → left < v.draws → left < begun.draws
+  pub enough : (calls : List Call) (rs : List PlainReply) (l : Live T) (begun v : View) (left : ℕ) → lives.IsLive t ty calls rs l begun v → left < v.draws → left < begun.draws
   enough calls rs l begun v left live less = subst (λ (k : ℕ). left < k) (undrawn calls rs l begun v live) less
 
   -- given its type again it is live, on the same pass
-  pub goes_on : (calls : List Call) (rs : List Told) (p : RestingTransaction) (l : Live T) (begun : View) (a b : Pass) (left : ℕ) → Waits t ty s calls rs p begun a left
-      → ((cs : List Call) (ss : List Told) (u v : View) → IsPaused t ty cs ss p u v → lives.IsLive t ty cs ss l u v) → b ≡ a → lives.IsLive t ty calls rs l begun b.me.0.view
+  pub goes_on : (calls : List Call) (rs : List PlainReply) (p : RestingTransaction) (l : Live T) (begun : View) (a b : Pass) (left : ℕ) → Waits t ty s calls rs p begun a left
+      → ((cs : List Call) (ss : List PlainReply) (u v : View) → IsPaused t ty cs ss p u v → lives.IsLive t ty cs ss l u v) → b ≡ a → lives.IsLive t ty calls rs l begun b.me.0.view
   goes_on calls rs p l begun a b left w lives_on same =
       subst (λ (e : Pass). lives.IsLive t ty calls rs l begun e.me.0.view) (sym same) (lives_on calls rs begun a.me.0.view w.paused)
 
   -- more tickets than are left were there when it began
-  pub more_left : (calls : List Call) (rs : List Told) (p : RestingTransaction) (l : Live T) (begun : View) (a b : Pass) (left : ℕ) → Waits t ty s calls rs p begun a left
+  pub more_left : (calls : List Call) (rs : List PlainReply) (p : RestingTransaction) (l : Live T) (begun : View) (a b : Pass) (left : ℕ) → Waits t ty s calls rs p begun a left
       → lives.IsLive t ty calls rs l begun b.me.0.view → b ≡ a → left < begun.draws
   more_left calls rs p l begun a b left w live same = subst (λ (k : ℕ). left < k) (ap (λ (e : Pass). e.me.0.view.draws) (sym same) ∙ undrawn calls rs l begun b.me.0.view live) w.enough
 
@@ -92,15 +92,15 @@ module _ {T : Type 0} (t : OfType T) (ty : T) (s : Shared T) where
 
 module _ {T : Type 0} (t : OfType T) (ty : T) where
   -- a pass within a transaction may rest
-  pub waits_now : (calls : List Call) (rs : List Told) (l : Live T) (begun v : View) → lives.IsLive t ty calls rs l begun v → IsIdle v.phase
+  pub waits_now : (calls : List Call) (rs : List PlainReply) (l : Live T) (begun v : View) → lives.IsLive t ty calls rs l begun v → IsIdle v.phase
   waits_now calls rs l begun v live = subst (λ (p : Phase). IsIdle p) (sym live.waiting.waits.1) tt
 
-  pub waits_still : (calls : List Call) (rs : List Told) (l : Live T) (begun v w : View) → lives.IsLive t ty calls rs l begun v → w ≡ v → IsIdle w.phase
+  pub waits_still : (calls : List Call) (rs : List PlainReply) (l : Live T) (begun v w : View) → lives.IsLive t ty calls rs l begun v → w ≡ v → IsIdle w.phase
   waits_still calls rs l begun v w live same = subst (λ (x : View). IsIdle x.phase) (sym same) (waits_now calls rs l begun v live)
 
 module _ {T : Type 0} {n : naming.Ghosts T} (t : OfType T) (ty : T) (s : Shared T) where
   -- where a pass waits within a transaction, so does a session on it
-  pub asking_on : (calls : List Call) (rs : List Told) (begun : View) (y : Session T n) (p : RestingTransaction) (l : Live T) (d : Pass) (left : ℕ) → y.live ≡ Some p → y.rest.seat ≡ d → y.left ≡ left → IsOf s d → left < begun.draws
+  pub asking_on : (calls : List Call) (rs : List PlainReply) (begun : View) (y : Session T n) (p : RestingTransaction) (l : Live T) (d : Pass) (left : ℕ) → y.live ≡ Some p → y.rest.seat ≡ d → y.left ≡ left → IsOf s d → left < begun.draws
       → lives.IsLive t ty calls rs l begun d.me.0.view → IsPaused t ty calls rs p begun d.me.0.view → IsAsking t ty s calls rs y begun
   asking_on calls rs begun y p l d left live same so_many of less lives_on paused = record {
     paused = p;
@@ -110,8 +110,8 @@ module _ {T : Type 0} {n : naming.Ghosts T} (t : OfType T) (ty : T) (s : Shared 
   }
 
   -- a call was answered
-  pub answered : (calls : List Call) (rs : List Told) (call : Call) (begun : View) (y : Session T n) (p : RestingTransaction) (l : Live T) (d : Pass) (left : ℕ) → y.live ≡ Some p → y.rest.seat ≡ d → y.left ≡ left → IsOf s d
-      → left < begun.draws → ((x : T) (cs : List Call) (ss : List Told) (u v : View) → lives.IsLive t x cs ss l u v → IsPaused t x cs ss p u v)
+  pub answered : (calls : List Call) (rs : List PlainReply) (call : Call) (begun : View) (y : Session T n) (p : RestingTransaction) (l : Live T) (d : Pass) (left : ℕ) → y.live ≡ Some p → y.rest.seat ≡ d → y.left ≡ left → IsOf s d
+      → left < begun.draws → ((x : T) (cs : List Call) (ss : List PlainReply) (u v : View) → lives.IsLive t x cs ss l u v → IsPaused t x cs ss p u v)
       → lives.IsAnswered t ty calls rs call l begun d.me.0.view → IsAnswered t ty s calls rs call y begun
   answered calls rs call begun y p l d left live same so_many of less pauses h = record {
     reply = h.reply;
@@ -121,8 +121,8 @@ module _ {T : Type 0} {n : naming.Ghosts T} (t : OfType T) (ty : T) (s : Shared 
   }
 
   -- a call was not taken: all is as before
-  pub untaken : (calls : List Call) (rs : List Told) (begun : View) (y : Session T n) (p : RestingTransaction) (old new : Live T) (b d : Pass) (left : ℕ) → y.live ≡ Some p → y.rest.seat ≡ d → y.left ≡ left → IsOf s d
-      → left < begun.draws → ((x : T) (cs : List Call) (ss : List Told) (u v : View) → lives.IsLive t x cs ss new u v → IsPaused t x cs ss p u v)
+  pub untaken : (calls : List Call) (rs : List PlainReply) (begun : View) (y : Session T n) (p : RestingTransaction) (old new : Live T) (b d : Pass) (left : ℕ) → y.live ≡ Some p → y.rest.seat ≡ d → y.left ≡ left → IsOf s d
+      → left < begun.draws → ((x : T) (cs : List Call) (ss : List PlainReply) (u v : View) → lives.IsLive t x cs ss new u v → IsPaused t x cs ss p u v)
       → lives.IsLive t ty calls rs old begun b.me.0.view → new ≡ old → d.me.0.view ≡ b.me.0.view → IsAsking t ty s calls rs y begun
   untaken calls rs begun y p old new b d left live same so_many of less pauses on kept still =
       let now = subst (λ (v : View). lives.IsLive t ty calls rs new begun v) (sym still) (subst (λ (l : Live T). lives.IsLive t ty calls rs l begun b.me.0.view) (sym kept) on) in
@@ -137,7 +137,7 @@ module _ {T : Type 0} {n : naming.Ghosts T} (t : OfType T) (ty : T) (s : Shared 
       record { free = free_on y d none same of h.rests; stopped = subst (λ (e : Pass). HasStopped (t.meaning ty) (t.sizes ty) begun e.me.0.view) (sym same) h }
 
   -- what an end answers of its place
-  pub committed : (calls : List Call) (rs : List Told) (begun : View) (y : Session T n) (body : Asked) (replies : Listed Reply) (x : Verdict) → IsFree t ty s y
+  pub committed : (calls : List Call) (rs : List PlainReply) (begun : View) (y : Session T n) (body : AskedCalls) (replies : Listed Reply) (x : Verdict) → IsFree t ty s y
       → lives.HasCommitted t (passes_of s) ty calls rs (record { body = body; replies = replies; verdict = x }) begun (view_of y) → HasCommittedAfter t ty s calls rs begun (place_of x) y
   committed calls rs begun y body replies (Wrote k) free h = record { free = free; ended = record { body = body; replies = replies; verdict = Wrote k }; told = h; stands = refl }
   committed calls rs begun y body replies (Read k) free h = record { free = free; ended = record { body = body; replies = replies; verdict = Read k }; told = h; stands = refl }
@@ -145,23 +145,23 @@ module _ {T : Type 0} {n : naming.Ghosts T} (t : OfType T) (ty : T) (s : Shared 
   committed calls rs begun y body replies (Locked k p) free h = record { free = free; ended = record { body = body; replies = replies; verdict = Locked k p }; abort = refl; told = h.ended }
   committed calls rs begun y body replies (Changed k p i) free h = record { free = free; ended = record { body = body; replies = replies; verdict = Changed k p i }; abort = refl; told = h.ended }
 
-  pub given_up : (calls : List Call) (rs : List Told) (begun : View) (y : Session T n) (e : Ended Asked) → IsFree t ty s y
+  pub given_up : (calls : List Call) (rs : List PlainReply) (begun : View) (y : Session T n) (e : FinishedAttempt AskedCalls) → IsFree t ty s y
       → lives.HasCancelled t (passes_of s) ty calls rs e begun (view_of y) → HasCancelledAfter t ty s calls rs begun (place_of e.verdict) y
   given_up calls rs begun y e free h = subst (λ (x : Verdict). HasCancelledAfter t ty s calls rs begun (place_of x) y) (sym h.verdict) (record { free = free; ended = e; told = h; stands = h.verdict })
 
-  pub commits : (calls : List Call) (rs : List Told) (begun : View) (y : Session T n) (d : Pass) (e : Ended Asked) (k : ℕ) → k ≡ passes_of s → y.live ≡ None → y.rest.seat ≡ d → IsOf s d
+  pub commits : (calls : List Call) (rs : List PlainReply) (begun : View) (y : Session T n) (d : Pass) (e : FinishedAttempt AskedCalls) (k : ℕ) → k ≡ passes_of s → y.live ≡ None → y.rest.seat ≡ d → IsOf s d
       → lives.HasCommitted t k ty calls rs e begun d.me.0.view → HasCommittedAfter t ty s calls rs begun (place_of e.verdict) y
   commits calls rs begun y d e k many none same of h =
       committed calls rs begun y e.body e.replies e.verdict (free_on y d none same of h.ended.rests)
       (subst (λ (i : ℕ). lives.HasCommitted t i ty calls rs e begun (view_of y)) many (subst (λ (x : Pass). lives.HasCommitted t k ty calls rs e begun x.me.0.view) (sym same) h))
 
-  pub cancels : (calls : List Call) (rs : List Told) (begun : View) (y : Session T n) (d : Pass) (e : Ended Asked) → y.live ≡ None → y.rest.seat ≡ d → IsOf s d
+  pub cancels : (calls : List Call) (rs : List PlainReply) (begun : View) (y : Session T n) (d : Pass) (e : FinishedAttempt AskedCalls) → y.live ≡ None → y.rest.seat ≡ d → IsOf s d
       → lives.HasCancelled t (passes_of s) ty calls rs e begun d.me.0.view → HasCancelledAfter t ty s calls rs begun (place_of e.verdict) y
   cancels calls rs begun y d e none same of h =
       given_up calls rs begun y e (free_on y d none same of h.ended.rests) (subst (λ (x : Pass). lives.HasCancelled t (passes_of s) ty calls rs e begun x.me.0.view) (sym same) h)
 
   -- a call met an abort
-  pub aborted : (calls : List Call) (begun : View) (y : Session T n) (d : Pass) (e : Ended Asked) (k : ℕ) → k ≡ passes_of s → y.live ≡ None → y.rest.seat ≡ d → IsOf s d → is_abort (verdict e.verdict) ≡ true
+  pub aborted : (calls : List Call) (begun : View) (y : Session T n) (d : Pass) (e : FinishedAttempt AskedCalls) (k : ℕ) → k ≡ passes_of s → y.live ≡ None → y.rest.seat ≡ d → IsOf s d → is_abort (verdict e.verdict) ≡ true
       → HasEnded t.meaning t.valid t.sizes script_in next_of left_of MayAskOf k ty (script_of calls E.Commit) e begun d.me.0.view → WasAborted t ty s calls y begun
   aborted calls begun y d e k many none same of abort h = record {
     free = free_on y d none same of h.rests;

@@ -1,7 +1,7 @@
 -- What is live on one type is live on the same type, wherever that lies.
 use Rattle.std.proofs.Common.{◌≡◌, List, ap, sym, ◌∙◌, subst}
 use denote.Bor.{Bor}
-use Rattle.sto_model.specs.Told.{Told}
+use Rattle.sto_model.specs.PlainReplies.{PlainReply}
 use Rattle.sto_model.specs.declared.call.Call.{Call}
 use Rattle.sto_model.specs.declared.run.End.TheVariants as E
 use Rattle.sto_type.specs.Traits.{OfType}
@@ -10,7 +10,7 @@ use Rattle.sto_attempt.specs.declared.attempt.Attempt.{Attempt}
 use Rattle.sto_attempt.specs.declared.pause.Paused.{Paused}
 use Rattle.sto_attempt.specs.Attempts.{heard}
 use Rattle.sto_attempt.specs.Pausing.{with_type as attempt_with_type}
-use Rattle.sto_interactive.specs.declared.asked.Asked.{Asked}
+use Rattle.sto_interactive.specs.declared.asked.AskedCalls.{AskedCalls}
 use Rattle.sto_interactive.specs.declared.live.Live.{Live}
 use Rattle.sto_interactive.specs.Scripts.{script_of}
 use Rattle.sto_interactive.specs.Bodies.{asked}
@@ -20,21 +20,21 @@ use Rattle.sto_interactive.specs.Pausing.{IsPaused}
 
 module _ {T : Type 0} (t : OfType T) where
   -- where the values of the types are one, it waits as before
-  pub waits_on : (ty : T) (calls : List Call) (begun v : View) (p : Paused Asked) (old new : Bor T) → old.now ≡ new.now
+  pub waits_on : (ty : T) (calls : List Call) (begun v : View) (p : Paused AskedCalls) (old new : Bor T) → old.now ≡ new.now
       → IsWaiting t asked ty (script_of calls E.Commit) (attempt_with_type old p) begun v → IsWaiting t asked ty (script_of calls E.Commit) (attempt_with_type new p) begun v
   waits_on ty calls begun v p old new same h =
       let here : IsWaiting t asked ty (script_of calls E.Commit) (attempt_with_type (record { ref_ptr = new.ref_ptr; now = old.now }) p) begun v =
       record { own = record { same_type = h.own.same_type; same_script = h.own.same_script; log = h.own.log }; waits = h.waits; in_body = h.in_body } in
       subst (λ (d : T). IsWaiting t asked ty (script_of calls E.Commit) (attempt_with_type (record { ref_ptr = new.ref_ptr; now = d }) p) begun v) same here
 
-  pub is_paused : (ty : T) (calls : List Call) (rs : List Told) (l : Live T) (begun v : View) (p : Paused Asked) → attempt_with_type l.attempt.log.ty p ≡ l.attempt
+  pub is_paused : (ty : T) (calls : List Call) (rs : List PlainReply) (l : Live T) (begun v : View) (p : Paused AskedCalls) → attempt_with_type l.attempt.log.ty p ≡ l.attempt
       → IsLive t ty calls rs l begun v → IsPaused t ty calls rs (record { attempt = p }) begun v
   is_paused ty calls rs l begun v p same live y is =
-      let waits = subst (λ (a : Attempt T Asked). IsWaiting t asked ty (script_of calls E.Commit) a begun v) (sym same) live.waiting in
+      let waits = subst (λ (a : Attempt T AskedCalls). IsWaiting t asked ty (script_of calls E.Commit) a begun v) (sym same) live.waiting in
       record {
         rests = live.rests;
         same_type = is;
         waiting = waits_on ty calls begun v p l.attempt.log.ty y (live.waiting.own.same_type ∙ sym is) waits;
-        replies = ap (λ (a : Attempt T Asked). heard a) same ∙ live.replies;
+        replies = ap (λ (a : Attempt T AskedCalls). heard a) same ∙ live.replies;
         all = live.all;
       }

@@ -3,7 +3,7 @@ use Rattle.std.proofs.Common.{◌<◌, ◌≤◌, ℕ, List, ap, subst, inl, le_
 use Rattle.sto_part.specs.declared.naming.Naming as naming
 use Rattle.sto_model.specs.declared.call.Call.{Call}
 use Rattle.sto_model.specs.declared.run.End.TheVariants.{Cancel}
-use Rattle.sto_model.specs.Told.{Told}
+use Rattle.sto_model.specs.PlainReplies.{PlainReply}
 use Rattle.sto_type.specs.Traits.{OfType}
 use Rattle.sto_core.specs.declared.view.View.{View}
 use Rattle.sto_table.specs.declared.shared.Shared.{Shared}
@@ -16,7 +16,7 @@ use Rattle.sto_interactive.specs.declared.session.Session.{Session}
 use Rattle.sto_interactive.specs.Sessions.{view_of}
 use Rattle.sto_interactive.specs.Steps.{WasGivenUp}
 
-module _ {T : Type 0} {n : naming.Ghosts T} (t : OfType T) (ty : T) (s : Shared T) (calls : List Call) (rs : List Told) (place : ℕ) (y : Session T n) (begun : View)
+module _ {T : Type 0} {n : naming.Ghosts T} (t : OfType T) (ty : T) (s : Shared T) (calls : List Call) (rs : List PlainReply) (place : ℕ) (y : Session T n) (begun : View)
     (given_up : WasGivenUp t ty s calls rs place y begun) where
   pub no_place_before_its_begin : place < begun.at → ⊥
   no_place_before_its_begin less =
@@ -28,5 +28,5 @@ module _ {T : Type 0} {n : naming.Ghosts T} (t : OfType T) (ty : T) (s : Shared 
   pub no_place_of_other_replies : (IsTold (t.meaning ty) (view_of y) (script_of calls Cancel) rs (plainly.Cancelled place) → ⊥) → ⊥
   no_place_of_other_replies other =
       other (subst (λ (x : plainly.Verdict). IsTold (t.meaning ty) (view_of y) (script_of calls Cancel) rs x) (ap verdict given_up.stands)
-      (subst (λ (l : List Told). IsTold (t.meaning ty) (view_of y) (script_of calls Cancel) l (verdict given_up.ended.verdict)) given_up.told.replies
+      (subst (λ (l : List PlainReply). IsTold (t.meaning ty) (view_of y) (script_of calls Cancel) l (verdict given_up.ended.verdict)) given_up.told.replies
       (given_up.told.ended.tried (0, 0)).added.told))

@@ -3,7 +3,7 @@ use Rattle.std.specs.Prelude.{◌≡◌, ◌<◌, ℕ, List, Option, Some, None}
 use Rattle.atomic_table.specs.declared.shared.Seat.{Seat}
 use Rattle.sto_part.specs.declared.naming.Naming as naming
 use Rattle.sto_model.specs.declared.call.Call.{Call}
-use Rattle.sto_model.specs.Told.{Told}
+use Rattle.sto_model.specs.PlainReplies.{PlainReply}
 use Rattle.sto_type.specs.Traits.{OfType}
 use Rattle.sto_core.specs.declared.view.View.{View}
 use Rattle.sto_table.specs.declared.stance.Stance.{Stance}
@@ -27,7 +27,7 @@ module _ {T : Type 0} (t : OfType T) (ty : T) (s : Shared T) where
 
   -- a pass of these words within a transaction, which began at the view `begun`; these calls of it were asked, and answered so. More
   -- tickets than these are left
-  pub record Waits (calls : List Call) (rs : List Told) (p : RestingTransaction) (begun : View) (seat : Seat (Unit {0}) Stance) (left : ℕ) : Type 0 where
+  pub record Waits (calls : List Call) (rs : List PlainReply) (p : RestingTransaction) (begun : View) (seat : Seat (Unit {0}) Stance) (left : ℕ) : Type 0 where
     pub of : IsOf s seat
     pub paused : IsPaused t ty calls rs p begun seat.me.0.view
     pub enough : left < seat.me.0.view.draws
@@ -35,7 +35,7 @@ module _ {T : Type 0} (t : OfType T) (ty : T) (s : Shared T) where
   -- a pass within a transaction, or between two
   abbrev pub Stands : Option RestingTransaction → Seat (Unit {0}) Stance → ℕ → Type 0
   Stands None seat left = Rests seat
-  Stands (Some p) seat left = (calls : List Call) × (rs : List Told) × (begun : View) × Waits calls rs p begun seat left
+  Stands (Some p) seat left = (calls : List Call) × (rs : List PlainReply) × (begun : View) × Waits calls rs p begun seat left
 
 module _ {T : Type 0} {n : naming.Ghosts T} (t : OfType T) (ty : T) (s : Shared T) where
   abbrev pub IsSessionOf : Session T n → Type 0
@@ -47,7 +47,7 @@ module _ {T : Type 0} {n : naming.Ghosts T} (t : OfType T) (ty : T) (s : Shared 
     pub rests : Rests t ty s x.rest.seat
 
   -- it is in a transaction, of which these calls were asked, and answered so
-  pub record IsAsking (calls : List Call) (rs : List Told) (x : Session T n) (begun : View) : Type 0 where
+  pub record IsAsking (calls : List Call) (rs : List PlainReply) (x : Session T n) (begun : View) : Type 0 where
     pub paused : RestingTransaction
     pub live : x.live ≡ Some paused
     pub waits : Waits t ty s calls rs paused begun x.rest.seat x.left

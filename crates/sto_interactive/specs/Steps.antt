@@ -3,7 +3,7 @@ use Rattle.std.specs.Prelude.{◌≡◌, ◌≢◌, ◌+◌, ℕ, true, List, []
 use Rattle.sto_part.specs.declared.naming.Naming as naming
 use Rattle.sto_model.specs.declared.call.Call.{Call}
 use Rattle.sto_model.specs.declared.run.End.TheVariants.{Commit}
-use Rattle.sto_model.specs.Told.{Told}
+use Rattle.sto_model.specs.PlainReplies.{PlainReply}
 use Rattle.sto_type.specs.Traits.{OfType}
 use Rattle.sto_core.specs.declared.view.View.{View}
 use Rattle.sto_table.specs.declared.shared.Shared.{Shared}
@@ -13,8 +13,8 @@ use Rattle.sto_attempt_log.specs.declared.verdict.Verdict.TheVariants.{Wrote, Re
 use Rattle.sto_history.specs.Records.{is_abort}
 use Rattle.sto_transaction.specs.Plain.{verdict}
 use Rattle.sto_transaction.specs.Machines.{HasStopped, HasEnded}
-use Rattle.sto_transaction.specs.declared.machine.Ended.{Ended}
-use Rattle.sto_interactive.specs.declared.asked.Asked.{Asked}
+use Rattle.sto_transaction.specs.declared.machine.FinishedAttempt.{FinishedAttempt}
+use Rattle.sto_interactive.specs.declared.asked.AskedCalls.{AskedCalls}
 use Rattle.sto_interactive.specs.Scripts.{script_of}
 use Rattle.sto_interactive.specs.Bodies.{next_of, script_in, left_of, MayAskOf}
 use Rattle.sto_interactive.specs.Lives.{HasCommitted, HasCancelled}
@@ -65,8 +65,8 @@ module _ {T : Type 0} {n : naming.Ghosts T} (t : OfType T) (ty : T) (s : Shared 
 
   -- a call was answered: it and its reply come last. On all valid contents that have the claims of the pass as of a number of the clock,
   -- the calls, run one after the other, answer exactly these replies
-  pub record IsAnswered (calls : List Call) (rs : List Told) (call : Call) (y : Session T n) (begun : View) : Type 0 where
-    pub reply : Told
+  pub record IsAnswered (calls : List Call) (rs : List PlainReply) (call : Call) (y : Session T n) (begun : View) : Type 0 where
+    pub reply : PlainReply
     pub at : ℕ
     pub asking : IsAsking t ty s (calls ++ call ∷ []) (rs ++ reply ∷ []) y begun
     pub answers : IsPrefix (t.meaning ty) (script_of (calls ++ call ∷ []) Commit) (view_of y) at (rs ++ reply ∷ [])
@@ -74,12 +74,12 @@ module _ {T : Type 0} {n : naming.Ghosts T} (t : OfType T) (ty : T) (s : Shared 
   -- it met an abort: nothing of the transaction took effect, and what is left of it tells so
   pub record WasAborted (calls : List Call) (y : Session T n) (begun : View) : Type 0 where
     pub free : IsFree t ty s y
-    pub ended : Ended Asked
+    pub ended : FinishedAttempt AskedCalls
     pub abort : is_abort (verdict ended.verdict) ≡ true
     pub told : HasEnded t.meaning t.valid t.sizes script_in next_of left_of MayAskOf (passes_of s) ty (script_of calls Commit) ended begun (view_of y)
 
   -- where these calls had been asked
-  abbrev pub HasAskedAfter : List Call → List Told → View → Call → Result (Unit {0}) AskError → Session T n → Type 0
+  abbrev pub HasAskedAfter : List Call → List PlainReply → View → Call → Result (Unit {0}) AskError → Session T n → Type 0
   HasAskedAfter calls rs begun call (Ok answered) y = IsAnswered calls rs call y begun
   HasAskedAfter calls rs begun call (Err unanswered.NoTransaction) y = ⊥
   HasAskedAfter calls rs begun call (Err unanswered.Untaken) y = IsAsking t ty s calls rs y begun × ((t.meaning ty).takes call → ⊥)
@@ -88,36 +88,36 @@ module _ {T : Type 0} {n : naming.Ghosts T} (t : OfType T) (ty : T) (s : Shared 
 
   pub record HasAsked (x : Session T n) (call : Call) (result : Result (Unit {0}) AskError) (y : Session T n) : Type 0 where
     pub free : x.live ≡ None → (result ≡ Err unanswered.NoTransaction) × IsUnchanged x y
-    pub asking : (calls : List Call) (rs : List Told) (begun : View) → IsAsking t ty s calls rs x begun → HasAskedAfter calls rs begun call result y
+    pub asking : (calls : List Call) (rs : List PlainReply) (begun : View) → IsAsking t ty s calls rs x begun → HasAskedAfter calls rs begun call result y
     pub left : y.left ≡ x.left
 
   -- its record tells of these calls and of exactly these replies, and it stands in the order at this place
-  pub record HasTakenPlace (calls : List Call) (rs : List Told) (place : ℕ) (y : Session T n) (begun : View) : Type 0 where
+  pub record HasTakenPlace (calls : List Call) (rs : List PlainReply) (place : ℕ) (y : Session T n) (begun : View) : Type 0 where
     pub free : IsFree t ty s y
-    pub ended : Ended Asked
+    pub ended : FinishedAttempt AskedCalls
     pub told : HasCommitted t (passes_of s) ty calls rs ended begun (view_of y)
     pub stands : place_of ended.verdict ≡ Ok place
 
-  abbrev pub HasCommittedAfter : List Call → List Told → View → Result ℕ CommitError → Session T n → Type 0
+  abbrev pub HasCommittedAfter : List Call → List PlainReply → View → Result ℕ CommitError → Session T n → Type 0
   HasCommittedAfter calls rs begun (Ok place) y = HasTakenPlace calls rs place y begun
   HasCommittedAfter calls rs begun (Err uncommitted.NoTransaction) y = ⊥
   HasCommittedAfter calls rs begun (Err uncommitted.Aborted) y = WasAborted calls y begun
   HasCommittedAfter calls rs begun (Err uncommitted.NoMemory) y = HasFailed begun y
 
   -- it was given up, and its record tells so: it has read as of this place in the order
-  pub record WasGivenUp (calls : List Call) (rs : List Told) (place : ℕ) (y : Session T n) (begun : View) : Type 0 where
+  pub record WasGivenUp (calls : List Call) (rs : List PlainReply) (place : ℕ) (y : Session T n) (begun : View) : Type 0 where
     pub free : IsFree t ty s y
-    pub ended : Ended Asked
+    pub ended : FinishedAttempt AskedCalls
     pub told : HasCancelled t (passes_of s) ty calls rs ended begun (view_of y)
     pub stands : ended.verdict ≡ Cancelled place
 
-  abbrev pub HasCancelledAfter : List Call → List Told → View → Result ℕ CommitError → Session T n → Type 0
+  abbrev pub HasCancelledAfter : List Call → List PlainReply → View → Result ℕ CommitError → Session T n → Type 0
   HasCancelledAfter calls rs begun (Ok place) y = WasGivenUp calls rs place y begun
   HasCancelledAfter calls rs begun (Err uncommitted.NoTransaction) y = ⊥
   HasCancelledAfter calls rs begun (Err uncommitted.Aborted) y = ⊥
   HasCancelledAfter calls rs begun (Err uncommitted.NoMemory) y = HasFailed begun y
 
-  pub record HasEndedBy (x : Session T n) (result : Result ℕ CommitError) (y : Session T n) (ends : List Call → List Told → View → Result ℕ CommitError → Session T n → Type 0) : Type 0 where
+  pub record HasEndedBy (x : Session T n) (result : Result ℕ CommitError) (y : Session T n) (ends : List Call → List PlainReply → View → Result ℕ CommitError → Session T n → Type 0) : Type 0 where
     pub free : x.live ≡ None → (result ≡ Err uncommitted.NoTransaction) × IsUnchanged x y
-    pub asking : (calls : List Call) (rs : List Told) (begun : View) → IsAsking t ty s calls rs x begun → ends calls rs begun result y
+    pub asking : (calls : List Call) (rs : List PlainReply) (begun : View) → IsAsking t ty s calls rs x begun → ends calls rs begun result y
     pub left : y.left ≡ x.left

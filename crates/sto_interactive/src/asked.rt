@@ -8,7 +8,7 @@ use sto_part::{List, NoMemory};
 
 /// Calls that are asked one after the other, whatever is answered, and then an end. A call may be added at any time.
 #[derive(Drop)]
-pub struct Asked {
+pub struct AskedCalls {
     pub(crate) calls: List<Call>,
     /// How many of them were answered.
     pub(crate) heard: u32,
@@ -18,14 +18,14 @@ pub struct Asked {
     ghost few: { length calls.items < 2 ^ 32 },
 }
 
-impl Asked {
+impl AskedCalls {
     /// No call, and then a commit.
-    pub fn new(alloc: Global) -> Asked
+    pub fn new(alloc: Global) -> AskedCalls
         ensures calls { result.calls.items ≡ [] }
         ensures heard { result.heard ≡ 0 }
         ensures end { result.end ≡ End.Commit }
     {
-        Asked {
+        AskedCalls {
             calls: List::new(alloc),
             heard: 0,
             end: End::Commit,
@@ -33,13 +33,13 @@ impl Asked {
     }
 
     /// The same, in a list that has no call.
-    pub(crate) fn over(calls: List<Call>) -> Asked
+    pub(crate) fn over(calls: List<Call>) -> AskedCalls
         requires { calls.items ≡ [] }
         ensures calls { result.calls.items ≡ [] }
         ensures heard { result.heard ≡ 0 }
         ensures end { result.end ≡ End.Commit }
     {
-        Asked {
+        AskedCalls {
             calls,
             heard: 0,
             end: End::Commit,
@@ -72,7 +72,7 @@ impl Asked {
     }
 }
 
-impl Body for Asked {
+impl Body for AskedCalls {
     ghost use Rattle.sto_interactive.specs.Bodies.{next_of, script_in, left_of, left_at_reset_of, MayAskOf};
 
     ghost then = { next_of };

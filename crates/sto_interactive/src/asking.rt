@@ -1,7 +1,7 @@
 //! A call of a transaction is asked.
 ghost use Rattle.std.specs.Prelude.{◌≡◌, ◌≤◌, ◌<◌, Some, None, List, option_map};
 ghost use Rattle.sto_model.specs.declared.call.Call.{Call};
-ghost use Rattle.sto_model.specs.Told.{Told};
+ghost use Rattle.sto_model.specs.PlainReplies.{PlainReply};
 ghost use Rattle.sto_core.specs.declared.view.View.{View};
 ghost use Rattle.sto_interactive.specs.Sessions.{IsSessionOf, Waits};
 ghost use Rattle.sto_interactive.specs.Steps.{HasAsked, HasAskedAfter};
@@ -77,11 +77,11 @@ fn ask<T: TxType>(
     memory: StepLists,
     call: Call,
 ) -> (Session<T>, Result<(), AskError>)
-    requires waits { (calls : List Call) × (rs : List Told) × (begun : View)
+    requires waits { (calls : List Call) × (rs : List PlainReply) × (begun : View)
         × Waits T.TxType ty.now shared.now calls rs live begun rest.seat left }
     requires one { rest.seat.me.0.view.gathered ≡ 1 }
     ensures left { result.0.left ≡ left }
-    ensures asked { (calls : List Call) (rs : List Told) (begun : View)
+    ensures asked { (calls : List Call) (rs : List PlainReply) (begun : View)
         → Waits T.TxType ty.now shared.now calls rs live begun rest.seat left
         → HasAskedAfter T.TxType ty.now shared.now calls rs begun call result.1 result.0 }
 {
@@ -105,7 +105,12 @@ fn ask<T: TxType>(
 }
 
 // A session in a transaction.
-fn waiting<T: TxType>(rest: Rest<T>, left: u64, live: RestingTransaction, memory: StepLists) -> Session<T>
+fn waiting<T: TxType>(
+    rest: Rest<T>,
+    left: u64,
+    live: RestingTransaction,
+    memory: StepLists,
+) -> Session<T>
     requires enough { left ≤ rest.seat.me.0.view.draws }
     requires one { rest.seat.me.0.view.gathered ≡ 1 }
     ensures rest { result.rest ≡ rest }

@@ -1,7 +1,7 @@
 //! A transaction is ended.
 ghost use Rattle.std.specs.Prelude.{◌≡◌, List};
 ghost use Rattle.sto_model.specs.declared.call.Call.{Call};
-ghost use Rattle.sto_model.specs.Told.{Told};
+ghost use Rattle.sto_model.specs.PlainReplies.{PlainReply};
 ghost use Rattle.sto_core.specs.declared.view.View.{View};
 ghost use Rattle.sto_interactive.specs.Sessions.{IsSessionOf, Waits};
 ghost use Rattle.sto_interactive.specs.Steps.{place_of, HasEndedBy, HasCommittedAfter, HasCancelledAfter};
@@ -91,11 +91,11 @@ fn commit<T: TxType>(
     live: RestingTransaction,
     memory: StepLists,
 ) -> (Session<T>, Result<u64, CommitError>)
-    requires waits { (calls : List Call) × (rs : List Told) × (begun : View)
+    requires waits { (calls : List Call) × (rs : List PlainReply) × (begun : View)
         × Waits T.TxType ty.now shared.now calls rs live begun rest.seat left }
     requires one { rest.seat.me.0.view.gathered ≡ 1 }
     ensures left { result.0.left ≡ left }
-    ensures committed { (calls : List Call) (rs : List Told) (begun : View)
+    ensures committed { (calls : List Call) (rs : List PlainReply) (begun : View)
         → Waits T.TxType ty.now shared.now calls rs live begun rest.seat left
         → HasCommittedAfter T.TxType ty.now shared.now calls rs begun result.1 result.0 }
 {
@@ -125,11 +125,11 @@ fn cancel<T: TxType>(
     live: RestingTransaction,
     memory: StepLists,
 ) -> (Session<T>, Result<u64, CommitError>)
-    requires waits { (calls : List Call) × (rs : List Told) × (begun : View)
+    requires waits { (calls : List Call) × (rs : List PlainReply) × (begun : View)
         × Waits T.TxType ty.now shared.now calls rs live begun rest.seat left }
     requires one { rest.seat.me.0.view.gathered ≡ 1 }
     ensures left { result.0.left ≡ left }
-    ensures cancelled { (calls : List Call) (rs : List Told) (begun : View)
+    ensures cancelled { (calls : List Call) (rs : List PlainReply) (begun : View)
         → Waits T.TxType ty.now shared.now calls rs live begun rest.seat left
         → HasCancelledAfter T.TxType ty.now shared.now calls rs begun result.1 result.0 }
 {

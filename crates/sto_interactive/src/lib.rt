@@ -11,7 +11,7 @@ mod run_on;
 mod session;
 mod starting;
 
-pub use asked::Asked;
+pub use asked::AskedCalls;
 pub use asking::AskError;
 pub use ending::CommitError;
 pub use live::{Live, StepError};

@@ -2,7 +2,7 @@
 ghost use Rattle.std.specs.Prelude.{◌≡◌, ◌<◌, ℕ, [], ◌∷◌, ◌++◌, List, IfOk, OnOk, OnErr};
 ghost use Rattle.sto_model.specs.declared.call.Call.{Call};
 ghost use Rattle.sto_model.specs.declared.run.End.{End};
-ghost use Rattle.sto_model.specs.Told.{Told};
+ghost use Rattle.sto_model.specs.PlainReplies.{PlainReply};
 ghost use Rattle.sto_core.specs.declared.view.View.{View};
 ghost use Rattle.sto_attempt.specs.Attempts.{heard};
 ghost use Rattle.sto_transaction.specs.Resting.{IsAtRest};
@@ -12,16 +12,16 @@ ghost use Rattle.sto_interactive.specs.Bodies.{asked};
 ghost use Rattle.sto_interactive.specs.Waiting.{IsWaiting, abort_of};
 ghost use Rattle.sto_interactive.specs.Lives.{IsLive, HasAsked, HasCommitted, HasCancelled};
 
-use crate::asked::Asked;
+use crate::asked::AskedCalls;
 use crate::memory::StepLists;
 use crate::run_on::{finish, run_on};
-use std::mem;
 use std::alloc::Global;
+use std::mem;
 use sto_attempt::{Attempt, Turn, Verdict};
 use sto_core::Cells;
 use sto_model::{Call, Replies};
 use sto_part::NoMemory;
-use sto_transaction::Ended;
+use sto_transaction::FinishedAttempt;
 use sto_type::TxType;
 
 /// Why a call was not answered.
@@ -41,7 +41,7 @@ pub enum StepError {
 #[derive(Drop)]
 pub struct Live<'t, T: TxType> {
     pub(crate) ty: &'t T,
-    pub(crate) attempt: Attempt<'t, T, Asked>,
+    pub(crate) attempt: Attempt<'t, T, AskedCalls>,
 }
 
 impl<'t, T: TxType> Live<'t, T> {
@@ -58,7 +58,7 @@ impl<'t, T: TxType> Live<'t, T> {
         ensures err { OnErr result (HasStopped (T.meaning ty.now) (T.sizes ty.now) (C.view cells.old) (C.view cells.new)) }
         ensures same { C.same cells.old cells.new }
     {
-        let body = Asked::over(memory.take_calls());
+        let body = AskedCalls::over(memory.take_calls());
         let mut attempt = Attempt::new(alloc, ty, body, memory.attempts.take());
         attempt.begin(alloc, cells)?;
         Ok(Live { ty, attempt })
@@ -80,9 +80,9 @@ impl<'t, T: TxType> Live<'t, T> {
         cells: &mut C,
         call: Call,
     ) -> Result<(), StepError>
-        requires { (ty : T) × (calls : List Call) × (rs : List Told) × (begun : View)
+        requires { (ty : T) × (calls : List Call) × (rs : List PlainReply) × (begun : View)
             × IsLive T.TxType ty calls rs self.old begun (C.view cells.old) }
-        ensures asked { (ty : T) (calls : List Call) (rs : List Told) (begun : View)
+        ensures asked { (ty : T) (calls : List Call) (rs : List PlainReply) (begun : View)
             → IsLive T.TxType ty calls rs self.old begun (C.view cells.old)
             → HasAsked T.TxType (C.passes cells.old) ty calls rs call result self.old self.new begun (C.view cells.old) (C.view cells.new) }
         ensures same { C.same cells.old cells.new }
@@ -111,15 +111,15 @@ impl<'t, T: TxType> Live<'t, T> {
 
     // Gives the body one more call.
     fn add(&mut self, alloc: Global, call: Call) -> Result<(), NoMemory>
-        requires { (ty : T) × (calls : List Call) × (rs : List Told) × (begun : View) × (v : View)
+        requires { (ty : T) × (calls : List Call) × (rs : List PlainReply) × (begun : View) × (v : View)
             × IsLive T.TxType ty calls rs self.old begun v }
-        ensures added { OnOk result ((ty : T) (calls : List Call) (rs : List Told) (begun v : View)
+        ensures added { OnOk result ((ty : T) (calls : List Call) (rs : List PlainReply) (begun v : View)
             → IsLive T.TxType ty calls rs self.old begun v → (T.meaning ty).takes call
             → IsWaiting T.TxType asked ty (script_of (calls ++ call ∷ []) End.Commit) self.new.attempt begun v) }
         ensures heard { heard self.new.attempt ≡ heard self.old.attempt }
         ensures ty { self.new.ty ≡ self.old.ty }
     {
-        let mut body = self.attempt.replace_body(Asked::new(alloc));
+        let mut body = self.attempt.replace_body(AskedCalls::new(alloc));
         let added = body.add(call);
         mem::drop(self.attempt.replace_body(body));
         added
@@ -133,13 +133,13 @@ impl<'t, T: TxType> Live<'t, T> {
         alloc: Global,
         cells: &mut C,
         memory: &mut StepLists,
-    ) -> Result<Ended<Asked>, NoMemory>
-        requires { (ty : T) × (calls : List Call) × (rs : List Told) × (begun : View)
+    ) -> Result<FinishedAttempt<AskedCalls>, NoMemory>
+        requires { (ty : T) × (calls : List Call) × (rs : List PlainReply) × (begun : View)
             × IsLive T.TxType ty calls rs self begun (C.view cells.old) }
-        ensures committed { (ty : T) (calls : List Call) (rs : List Told) (begun : View)
+        ensures committed { (ty : T) (calls : List Call) (rs : List PlainReply) (begun : View)
             → IsLive T.TxType ty calls rs self.entry begun (C.view cells.old)
             → IfOk result (λ e. HasCommitted T.TxType (C.passes cells.old) ty calls rs e begun (C.view cells.new)) }
-        ensures err { (ty : T) (calls : List Call) (rs : List Told) (begun : View)
+        ensures err { (ty : T) (calls : List Call) (rs : List PlainReply) (begun : View)
             → IsLive T.TxType ty calls rs self.entry begun (C.view cells.old)
             → OnErr result (HasStopped (T.meaning ty) (T.sizes ty) begun (C.view cells.new)) }
         ensures same { C.same cells.old cells.new }
@@ -154,10 +154,10 @@ impl<'t, T: TxType> Live<'t, T> {
                     Err(error)
                 }
             },
-            Turn::Ended(verdict) => {
+            Turn::FinishedAttempt(verdict) => {
                 let (heard, lent) = attempt.end();
                 memory.attempts = lent;
-                Ok(Ended {
+                Ok(FinishedAttempt {
                     body: heard.body,
                     replies: heard.replies,
                     verdict,
@@ -168,25 +168,29 @@ impl<'t, T: TxType> Live<'t, T> {
     }
 
     /// Gives it up. It makes no event: the pass is left as it is, at rest.
-    pub fn cancel(self, alloc: Global, memory: &mut StepLists) -> Result<Ended<Asked>, NoMemory>
-        requires { (ty : T) × (calls : List Call) × (rs : List Told) × (begun : View) × (v : View)
+    pub fn cancel(
+        self,
+        alloc: Global,
+        memory: &mut StepLists,
+    ) -> Result<FinishedAttempt<AskedCalls>, NoMemory>
+        requires { (ty : T) × (calls : List Call) × (rs : List PlainReply) × (begun : View) × (v : View)
             × IsLive T.TxType ty calls rs self begun v }
-        ensures cancelled { (passes : ℕ) (ty : T) (calls : List Call) (rs : List Told) (begun v : View)
+        ensures cancelled { (passes : ℕ) (ty : T) (calls : List Call) (rs : List PlainReply) (begun v : View)
             → IsLive T.TxType ty calls rs self.entry begun v
             → IfOk result (λ e. HasCancelled T.TxType passes ty calls rs e begun v) }
-        ensures err { (ty : T) (calls : List Call) (rs : List Told) (begun v : View) → IsLive T.TxType ty calls rs self.entry begun v
+        ensures err { (ty : T) (calls : List Call) (rs : List PlainReply) (begun v : View) → IsLive T.TxType ty calls rs self.entry begun v
             → OnErr result (HasStopped (T.meaning ty) (T.sizes ty) begun v) }
     {
         let Live { attempt, .. } = self;
         let mut attempt = attempt;
-        let mut body = attempt.replace_body(Asked::new(alloc));
+        let mut body = attempt.replace_body(AskedCalls::new(alloc));
         body.cancel();
         mem::drop(attempt.replace_body(body));
         match attempt.resume(alloc)? {
-            Turn::Ended(verdict) => {
+            Turn::FinishedAttempt(verdict) => {
                 let (heard, lent) = attempt.end();
                 memory.attempts = lent;
-                Ok(Ended {
+                Ok(FinishedAttempt {
                     body: heard.body,
                     replies: heard.replies,
                     verdict,
@@ -202,13 +206,14 @@ fn abort_of(turn: Turn) -> Option<Verdict>
     ensures { result ≡ abort_of turn }
 {
     match turn {
-        Turn::Ended(Verdict::Locked { at, part }) => Some(Verdict::Locked { at, part }),
-        Turn::Ended(Verdict::Changed { at, part, ticket }) => {
+        Turn::FinishedAttempt(Verdict::Locked { at, part }) => Some(Verdict::Locked { at, part }),
+        Turn::FinishedAttempt(Verdict::Changed { at, part, ticket }) => {
             Some(Verdict::Changed { at, part, ticket })
         }
         Turn::More
         | Turn::Ready
-        | Turn::Ended(Verdict::Wrote { .. } | Verdict::Read { .. } | Verdict::Cancelled { .. }) =>
-            None,
+        | Turn::FinishedAttempt(
+            Verdict::Wrote { .. } | Verdict::Read { .. } | Verdict::Cancelled { .. },
+        ) => None,
     }
 }

@@ -1,14 +1,14 @@
 //! The memory that is lent to one transaction after the other whose calls come one by one.
 ghost use Rattle.std.specs.Prelude.{◌≡◌, []};
 
-use crate::asked::Asked;
-use std::mem;
+use crate::asked::AskedCalls;
 use std::alloc::Global;
 use std::marker::Model;
-use sto_attempt::{Heard, Memory};
+use std::mem;
+use sto_attempt::{AttemptLists, Heard};
 use sto_model::Call;
 use sto_part::List;
-use sto_transaction::Ended;
+use sto_transaction::FinishedAttempt;
 
 /// The lists of such a transaction while none uses them: each is empty, and has the room that earlier transactions have made.
 ///
@@ -16,7 +16,7 @@ use sto_transaction::Ended;
 /// lost. Contracts see nothing of it.
 #[derive(Drop)]
 pub struct StepLists {
-    pub(crate) attempts: Memory,
+    pub(crate) attempts: AttemptLists,
     calls: List<Call>,
 }
 
@@ -31,16 +31,16 @@ impl Model for StepLists {
 }
 
 impl StepLists {
-    /// Memory with no room yet. It takes none.
+    /// AttemptLists with no room yet. It takes none.
     pub fn new(alloc: Global) -> StepLists {
         StepLists {
-            attempts: Memory::new(alloc),
+            attempts: AttemptLists::new(alloc),
             calls: List::new(alloc),
         }
     }
 
     /// The memory of an attempt that has ended, with the room of what it heard.
-    pub(crate) fn of_ended(attempts: Memory, heard: Heard<Asked>) -> StepLists {
+    pub(crate) fn of_ended(attempts: AttemptLists, heard: Heard<AskedCalls>) -> StepLists {
         let Heard { body, replies } = heard;
         let mut attempts = attempts;
         attempts.keep_replies(replies);
@@ -58,8 +58,8 @@ impl StepLists {
     }
 
     /// Keeps the room of what a transaction has left.
-    pub fn keep(&mut self, ended: Ended<Asked>) {
-        let Ended { body, replies, .. } = ended;
+    pub fn keep(&mut self, ended: FinishedAttempt<AskedCalls>) {
+        let FinishedAttempt { body, replies, .. } = ended;
         self.attempts.keep_replies(replies);
         let mut calls = body.calls;
         calls.clear();

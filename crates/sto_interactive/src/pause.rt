@@ -1,12 +1,12 @@
 //! A transaction that rests between two calls without the borrow of its type.
 ghost use Rattle.std.specs.Prelude.{◌≡◌, List};
 ghost use Rattle.sto_model.specs.declared.call.Call.{Call};
-ghost use Rattle.sto_model.specs.Told.{Told};
+ghost use Rattle.sto_model.specs.PlainReplies.{PlainReply};
 ghost use Rattle.sto_core.specs.declared.view.View.{View};
 ghost use Rattle.sto_interactive.specs.Lives.{IsLive};
 ghost use Rattle.sto_interactive.specs.Pausing.{IsPaused};
 
-use crate::asked::Asked;
+use crate::asked::AskedCalls;
 use crate::live::Live;
 use sto_attempt::Paused;
 use sto_model::Replies;
@@ -15,13 +15,13 @@ use sto_type::TxType;
 /// All of a transaction that waits but its type, which it borrows no more.
 #[derive(Drop)]
 pub struct RestingTransaction {
-    pub(crate) attempt: Paused<Asked>,
+    pub(crate) attempt: Paused<AskedCalls>,
 }
 
 impl<T: TxType> Live<'_, T> {
     /// Lets its type go. It makes no event: the pass is left as it is, and may rest too.
     pub fn pause(self) -> RestingTransaction
-        ensures paused { (ty : T) (calls : List Call) (rs : List Told) (begun v : View)
+        ensures paused { (ty : T) (calls : List Call) (rs : List PlainReply) (begun v : View)
             → IsLive T.TxType ty calls rs self.entry begun v → IsPaused T.TxType ty calls rs result begun v }
     {
         let Live { attempt, .. } = self;
@@ -34,7 +34,7 @@ impl<T: TxType> Live<'_, T> {
 impl RestingTransaction {
     /// Goes on from where it was, on the type that it had.
     pub fn go_on<'t, T: TxType>(self, ty: &'t T) -> Live<'t, T>
-        ensures live { (calls : List Call) (rs : List Told) (begun v : View)
+        ensures live { (calls : List Call) (rs : List PlainReply) (begun v : View)
             → IsPaused T.TxType ty.now calls rs self begun v → IsLive T.TxType ty.now calls rs result begun v }
     {
         let RestingTransaction { attempt } = self;

@@ -1,6 +1,6 @@
 //! An attempt that is run to the end of its body, and on to its verdict.
 ghost use Rattle.std.specs.Prelude.{◌≡◌, IfOk, OnOk};
-ghost use Rattle.sto_model.specs.Run.{Script};
+ghost use Rattle.sto_model.specs.Run.{Behaviour};
 ghost use Rattle.sto_core.specs.declared.view.View.{View};
 ghost use Rattle.sto_attempt.specs.Attempts.{heard};
 ghost use Rattle.sto_transaction.specs.Resting.{IsAtRest};
@@ -8,11 +8,11 @@ ghost use Rattle.sto_transaction.specs.Machines.{Commits, HasEnded};
 ghost use Rattle.sto_interactive.specs.Waiting.{IsWaiting, IsEnd, HasCome, HasRunOn, HearsMore};
 
 use std::alloc::Global;
-use sto_attempt::{Attempt, Memory, Ready, Turn};
+use sto_attempt::{Attempt, AttemptLists, Ready, Turn};
 use sto_core::Cells;
 use sto_model::Body;
 use sto_part::NoMemory;
-use sto_transaction::Ended;
+use sto_transaction::FinishedAttempt;
 use sto_type::TxType;
 
 /// Goes on from where the attempt waits, up to the end of its body.
@@ -21,9 +21,9 @@ pub(crate) fn run_on<T: TxType, B: Body, C: Cells<T>>(
     attempt: &mut Attempt<'_, T, B>,
     cells: &mut C,
 ) -> Result<Turn, NoMemory>
-    requires { (ty : T) × (f : Script) × (begun : View) × IsAtRest (T.meaning ty) (T.sizes ty) begun
+    requires { (ty : T) × (f : Behaviour) × (begun : View) × IsAtRest (T.meaning ty) (T.sizes ty) begun
         × IsWaiting T.TxType B.Body ty f attempt.old begun (C.view cells.old) }
-    ensures come { (ty : T) (f : Script) (begun : View) → IsAtRest (T.meaning ty) (T.sizes ty) begun
+    ensures come { (ty : T) (f : Behaviour) (begun : View) → IsAtRest (T.meaning ty) (T.sizes ty) begun
         → IsWaiting T.TxType B.Body ty f attempt.old begun (C.view cells.old)
         → HasRunOn T.TxType B.Body (C.passes cells.old) ty f result attempt.new begun (C.view cells.new) }
     ensures end { IfOk result IsEnd }
@@ -41,9 +41,9 @@ fn step_on<T: TxType, B: Body, C: Cells<T>>(
     cells: &mut C,
     turn: Turn,
 ) -> Result<Turn, NoMemory>
-    requires { (ty : T) × (f : Script) × (begun : View) × IsAtRest (T.meaning ty) (T.sizes ty) begun
+    requires { (ty : T) × (f : Behaviour) × (begun : View) × IsAtRest (T.meaning ty) (T.sizes ty) begun
         × HasCome T.TxType B.Body (C.passes cells.old) ty f turn attempt.old begun (C.view cells.old) }
-    ensures come { (ty : T) (f : Script) (begun : View) → IsAtRest (T.meaning ty) (T.sizes ty) begun
+    ensures come { (ty : T) (f : Behaviour) (begun : View) → IsAtRest (T.meaning ty) (T.sizes ty) begun
         → HasCome T.TxType B.Body (C.passes cells.old) ty f turn attempt.old begun (C.view cells.old)
         → HasRunOn T.TxType B.Body (C.passes cells.old) ty f result attempt.new begun (C.view cells.new) }
     ensures end { IfOk result IsEnd }
@@ -61,11 +61,11 @@ fn step_on<T: TxType, B: Body, C: Cells<T>>(
 pub(crate) fn finish<T: TxType, B: Body, C: Cells<T>>(
     ready: Ready<'_, T, B>,
     cells: &mut C,
-    memory: &mut Memory,
-) -> Ended<B>
-    requires { (ty : T) × (f : Script) × (begun : View) × IsAtRest (T.meaning ty) (T.sizes ty) begun
+    memory: &mut AttemptLists,
+) -> FinishedAttempt<B>
+    requires { (ty : T) × (f : Behaviour) × (begun : View) × IsAtRest (T.meaning ty) (T.sizes ty) begun
         × Commits T.meaning T.valid T.sizes B.script B.then B.left B.may_ask (C.passes cells.old) ty f ready begun (C.view cells.old) }
-    ensures ended { (ty : T) (f : Script) (begun : View) → IsAtRest (T.meaning ty) (T.sizes ty) begun
+    ensures ended { (ty : T) (f : Behaviour) (begun : View) → IsAtRest (T.meaning ty) (T.sizes ty) begun
         → Commits T.meaning T.valid T.sizes B.script B.then B.left B.may_ask (C.passes cells.old) ty f ready.entry begun (C.view cells.old)
         → HasEnded T.meaning T.valid T.sizes B.script B.then B.left B.may_ask (C.passes cells.old) ty f result begun (C.view cells.new) }
     ensures replies { result.replies ≡ ready.entry.log.replies }
@@ -76,7 +76,7 @@ pub(crate) fn finish<T: TxType, B: Body, C: Cells<T>>(
         if let Some(verdict) = ready.step(cells) {
             let (heard, lent) = ready.end();
             *memory = lent;
-            return Ended {
+            return FinishedAttempt {
                 body: heard.body,
                 replies: heard.replies,
                 verdict,

@@ -6,7 +6,7 @@ use Rattle.std.specs.Int.RustNames.{FitsSigned}
 use Rattle.std.proofs.Common.{w64}
 use Rattle.std.proofs.lemmas.List.Elements.{All-head, All-tail}
 use Rattle.sto_model.specs.declared.reply.Reply.{Reply}
-use Rattle.sto_model.specs.Told.{told}
+use Rattle.sto_model.specs.PlainReplies.{plain_reply}
 use Rattle.sto_model.specs.Rows.{Row}
 use Rattle.sto_type.specs.declared.answer.Home.{Home}
 use Rattle.sto_syntax.specs.Words.{is_name}
@@ -31,7 +31,7 @@ rows_short (row ∷ rows) h = (All-head IsShortRow row rows h, rows_short rows (
 pub first_and_rest : (rows : List Row) (first : Row) (rest : List Row) → rows ≡ first ∷ rest → IsShortRow first → All IsShortRow rest → AreShortRows rows
 first_and_rest rows first rest e h k = subst AreShortRows (sym e) (h, rows_short rest k)
 
-pub replies_short : (replies : List Reply) → All IsShortlyTold replies → AreShortReplies (map told replies)
+pub replies_short : (replies : List Reply) → All IsShortlyTold replies → AreShortReplies (map plain_reply replies)
 replies_short [] h = tt
 replies_short (r ∷ replies) h = ((All-head IsShortlyTold r replies h).short, replies_short replies (All-tail IsShortlyTold r replies h))
 
@@ -52,7 +52,7 @@ pub changed_short : (ds : List Declaration) (home : Home) (by : ℕ) → HaveNam
 changed_short ds home by h e k l = (named ds home.object h e, k, l)
 
 pub abort_short : (threads : List Thread) (ds : List Declaration) (l : AbortLine) → IsAbortOf (length threads) ds l → l.position < 2 ^ 64 → l.at < 2 ^ 64
-    → AreShortReplies (map told l.replies.items) → IsShortCause (cause ds l.cause) → IsShortAbort (names_of threads) (abort ds l)
+    → AreShortReplies (map plain_reply l.replies.items) → IsShortCause (cause ds l.cause) → IsShortAbort (names_of threads) (abort ds l)
 abort_short threads ds l known position seen replies why = record {
   place = record { thread = (let k = known.0 in let e = length-map threads (λ (t : Thread). t.name.items) in omega (arith, k, e)); position = position };
   seen = seen;

@@ -1,7 +1,7 @@
 //! The text of abort lines.
 ghost use Rattle.std.specs.Prelude.{◌≡◌, ◌++◌, ◌<◌, ◌^◌, length, OnOk, string_bytes, map, is_some, true, codes, decimal};
 ghost use Rattle.std.specs.List.{All, flat_map};
-ghost use Rattle.sto_model.specs.Told.{told};
+ghost use Rattle.sto_model.specs.PlainReplies.{plain_reply};
 ghost use Rattle.sto_lang.specs.Objects.{HaveNames, with_number};
 ghost use Rattle.sto_lang.specs.Views.{declaration, names_of};
 ghost use Rattle.sto_report_spec.specs.Aborts.{part_by_home};

@@ -1,7 +1,7 @@
 //! The text of journal lines.
 ghost use Rattle.std.specs.Prelude.{◌≡◌, ◌++◌, ◌<◌, length, OnOk, string_bytes, map};
 ghost use Rattle.std.specs.List.{All, flat_map};
-ghost use Rattle.sto_model.specs.Told.{told};
+ghost use Rattle.sto_model.specs.PlainReplies.{plain_reply};
 ghost use Rattle.sto_lang.specs.Views.{names_of};
 ghost use Rattle.sto_report_spec.specs.Report.{line_text};
 ghost use Rattle.sto_report_spec.specs.Short.{IsShortEntry};

@@ -3,7 +3,7 @@ ghost use Rattle.std.specs.Prelude.{◌≡◌, ◌++◌, ◌<◌, ◌^◌, codes
 ghost use Rattle.std.specs.List.{All};
 ghost use Rattle.serde_json.specs.Data.{string, array, object as members, member, no_members};
 ghost use Rattle.serde_json.specs.View.{view, items_of};
-ghost use Rattle.sto_model.specs.Told.{told};
+ghost use Rattle.sto_model.specs.PlainReplies.{plain_reply};
 ghost use Rattle.sto_lang.specs.Objects.{HaveNames, with_number};
 ghost use Rattle.sto_lang.specs.Views.{declaration, names_of};
 ghost use Rattle.sto_report_spec.specs.Report.{reply_text};
@@ -13,10 +13,10 @@ ghost use Rattle.sto_report_spec.specs.NamedJson.{json_order_named, json_aborts_
 ghost use Rattle.sto_report_spec.specs.Short.{IsShortEntry, IsShortAbort};
 ghost use Rattle.sto_journal.specs.Journals.{IsShortlyTold, told_data, entry, abort, places, HaveRows, HaveThreads, IsAbortOf, AreAbortsOf};
 
-use crate::{AbortLine, Cause, Journal, Line};
 use crate::names::{object_name, thread_name};
 use crate::replies::push_reply;
 use crate::rows::push_rows;
+use crate::{AbortLine, Cause, Journal, Line};
 use serde_json::{Value, json};
 use std::alloc::{AllocError, Global};
 use sto_lang::{Decl, File, Text, Thread};
@@ -45,7 +45,7 @@ fn reply_values(alloc: Global, replies: &[Reply]) -> Result<Value, AllocError>
 
 #[tactic(auto, using(crate::proofs::Values::listed_told))]
 fn replies_value(alloc: Global, replies: &[Reply]) -> Result<Value, AllocError>
-    ensures value { IfOk result (λ v. view v ≡ listed reply_data (map told replies.now)) }
+    ensures value { IfOk result (λ v. view v ≡ listed reply_data (map plain_reply replies.now)) }
     ensures short { IfOk result (λ _. All IsShortlyTold replies.now) }
 {
     reply_values(alloc, replies)

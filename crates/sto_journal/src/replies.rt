@@ -1,7 +1,7 @@
 //! The text of replies.
 ghost use Rattle.std.specs.Prelude.{◌≡◌, ◌∷◌, ◌++◌, codes, OnOk, string_bytes, map};
 ghost use Rattle.std.specs.List.{All, flat_map};
-ghost use Rattle.sto_model.specs.Told.{told};
+ghost use Rattle.sto_model.specs.PlainReplies.{plain_reply};
 ghost use Rattle.sto_report_spec.specs.Report.{reply_text, spaced_reply};
 ghost use Rattle.sto_journal.specs.Journals.{IsShortlyTold};
 
@@ -12,7 +12,7 @@ use sto_model::Reply;
 
 /// Adds the text of a reply.
 pub fn push_reply(out: &mut String, reply: &Reply) -> Result<(), AllocError>
-    ensures text { OnOk result (string_bytes out.new ≡ string_bytes out.old ++ reply_text (told reply.now)) }
+    ensures text { OnOk result (string_bytes out.new ≡ string_bytes out.old ++ reply_text (plain_reply reply.now)) }
     ensures short { OnOk result (IsShortlyTold reply.now) }
 {
     match reply {
@@ -29,7 +29,7 @@ pub fn push_reply(out: &mut String, reply: &Reply) -> Result<(), AllocError>
 
 /// Adds each reply behind a space.
 pub fn push_replies(out: &mut String, replies: &[Reply]) -> Result<(), AllocError>
-    ensures text { OnOk result (string_bytes out.new ≡ string_bytes out.old ++ flat_map spaced_reply (map told replies.now)) }
+    ensures text { OnOk result (string_bytes out.new ≡ string_bytes out.old ++ flat_map spaced_reply (map plain_reply replies.now)) }
     ensures short { OnOk result (All IsShortlyTold replies.now) }
 {
     for reply in replies {

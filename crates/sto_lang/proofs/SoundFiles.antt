@@ -15,7 +15,7 @@ use Rattle.sto_lang.specs.Scripts.{Script, File}
 use Rattle.sto_model.specs.Sizes.{part_count, word_count}
 use Rattle.sto_lang.specs.Shapes.{in_order}
 use Rattle.sto_lang.specs.Objects.{Object, shapes_in, declarations_of, shapes_of}
-use Rattle.sto_lang.specs.Drafts.{Draft, Begun, opening, with_form}
+use Rattle.sto_lang.specs.Drafts.{Draft, OpenTransaction, opening, with_form}
 use Rattle.sto_lang.specs.Faults.{fault_of}
 use Rattle.sto_lang.specs.Files.{fault, is_allowed, unless, with_line_of, with_words, with_line, whole, ◌>>=◌, with_lines, file_of, IsFile}
 use Rattle.sto_lang.specs.Sound.{HasRanges, AllDiffer, IsNumbered, IsSoundScript, IsSound}
@@ -91,7 +91,7 @@ file_sound d s =
       scheduled = s.scheduled;
     }
 
-whole_sound : (d : Draft) (number : ℕ) (inside : Option Begun) (file : File) → IsSoundDraft d → whole d number inside ≡ Ok file → IsSound file
+whole_sound : (d : Draft) (number : ℕ) (inside : Option OpenTransaction) (file : File) → IsSoundDraft d → whole d number inside ≡ Ok file → IsSound file
 whole_sound d number None file s e =
     let same : record { version = d.version; declarations = declarations_of d.objects; names = d.names; threads = d.threads; schedule = d.schedule } ≡ file = cc in
     subst IsSound same (file_sound d s)

@@ -24,7 +24,7 @@ use Rattle.sto_lang.specs.Objects.{Object, shapes_in, object_place, part_total, 
 use Rattle.std.specs.Str.{bytes_eq}
 use Rattle.std.specs.List.{list_any}
 use Rattle.std.proofs.lemmas.List.{map-append}
-use Rattle.sto_lang.specs.Drafts.{Draft, Begun, variables_in, blocks_in, with_inner, script_of, with_script, with_commit, thread_number, numbered_name, name_or, turns_of, with_form, transaction_count, weight_total}
+use Rattle.sto_lang.specs.Drafts.{Draft, OpenTransaction, variables_in, blocks_in, with_inner, script_of, with_script, with_commit, thread_number, numbered_name, name_or, turns_of, with_form, transaction_count, weight_total}
 use Rattle.sto_lang.specs.Places.{has_place}
 use Rattle.sto_lang.specs.Uses.{is_taken, is_unknown, asks_unknown, is_known, is_known_thread, has_wrong_kind}
 use Rattle.sto_lang.specs.Limits.{is_beyond, is_heavy, is_turn, has_range, has_thread, is_in_range}
@@ -74,11 +74,11 @@ not_above : (m n : ℕ) → nat_lt m n ≡ false → n ≤ m
 not_above m n e = grind (arith, nat_tests)
 
 -- outside a transaction
-pub nothing_begun : (o : Option Begun) → is_none o ≡ true → o ≡ None
+pub nothing_begun : (o : Option OpenTransaction) → is_none o ≡ true → o ≡ None
 nothing_begun None e = refl
 nothing_begun (Some t) e = absurd cc
 
-nothing_inside : (shapes : List Shape) (o : Option Begun) → o ≡ None → IsSoundInside shapes o
+nothing_inside : (shapes : List Shape) (o : Option OpenTransaction) → o ≡ None → IsSoundInside shapes o
 nothing_inside shapes None e = tt
 nothing_inside shapes (Some t) e = absurd cc
 
@@ -236,7 +236,7 @@ scripts_with P (thread ∷ []) script h p = All-cons (All P) (thread ++ script �
 scripts_with P (thread ∷ next ∷ threads) script h p =
     All-cons (All P) thread (with_script (next ∷ threads) script) (All-head (All P) thread (next ∷ threads) h) (scripts_with P (next ∷ threads) script (All-tail (All P) thread (next ∷ threads) h) p)
 
-none_open : (t : Begun) (o : Option Begun) → o ≡ Some t → is_some o && is_empty (blocks_in o) ≡ true → is_empty t.blocks ≡ true
+none_open : (t : OpenTransaction) (o : Option OpenTransaction) → o ≡ Some t → is_some o && is_empty (blocks_in o) ≡ true → is_empty t.blocks ≡ true
 none_open t None e h = absurd cc
 none_open t (Some u) e h =
     let same : u ≡ t = cc in ap (λ x. is_empty x.blocks) (sym same) ∙ h
@@ -245,7 +245,7 @@ no_block : {X : Type 0} (blocks : List X) → is_empty blocks ≡ true → lengt
 no_block [] h = refl
 no_block (block ∷ blocks) h = absurd cc
 
-script_sound : (objects : List Object) (t : Begun) → IsSoundBegun (in_order (shapes_in objects)) t → length t.blocks ≡ 0 → (script_of objects t).weight ≤ 4096 → IsSoundScript (in_order (shapes_in objects)) (script_of objects t)
+script_sound : (objects : List Object) (t : OpenTransaction) → IsSoundBegun (in_order (shapes_in objects)) t → length t.blocks ≡ 0 → (script_of objects t).weight ≤ 4096 → IsSoundScript (in_order (shapes_in objects)) (script_of objects t)
 script_sound objects t s none light =
     record {
       weighed = refl;
@@ -257,11 +257,11 @@ script_sound objects t s none light =
       taken = s.sound_statements.taken;
     }
 
-inside_is : (shapes : List Shape) (o : Option Begun) (t : Begun) → o ≡ Some t → IsSoundInside shapes o → IsSoundBegun shapes t
+inside_is : (shapes : List Shape) (o : Option OpenTransaction) (t : OpenTransaction) → o ≡ Some t → IsSoundInside shapes o → IsSoundBegun shapes t
 inside_is shapes None t e h = absurd cc
 inside_is shapes (Some u) t e h = let same : u ≡ t = cc in subst (IsSoundBegun shapes) same h
 
-committed : (d : Draft) (later : List (List ℕ)) (o : Option Begun) → d.inside ≡ o → IsSoundDraft d → HasNoFault d later CommitLine → IsSoundDraft (with_commit d o)
+committed : (d : Draft) (later : List (List ℕ)) (o : Option OpenTransaction) → d.inside ≡ o → IsSoundDraft d → HasNoFault d later CommitLine → IsSoundDraft (with_commit d o)
 committed d later None e s n = s
 committed d later (Some t) e s n =
     let shapes = in_order (shapes_in d.objects) in
@@ -335,11 +335,11 @@ calls_well d CancelLine u w = tt
 calls_well d CommitLine u w = tt
 calls_well d (ScheduleLine entries) u w = tt
 
-same_count : (f : Begun → Begun) (o : Option Begun) → count_inside (option_map f o) ≡ count_inside o
+same_count : (f : OpenTransaction → OpenTransaction) (o : Option OpenTransaction) → count_inside (option_map f o) ≡ count_inside o
 same_count f None = refl
 same_count f (Some t) = refl
 
-inside_sound : (d : Draft) (later : List (List ℕ)) (form : Form) (o : Option Begun) → d.inside ≡ o → IsSoundDraft d → NamesWell d.version form → HasNoFault d later form
+inside_sound : (d : Draft) (later : List (List ℕ)) (form : Form) (o : Option OpenTransaction) → d.inside ≡ o → IsSoundDraft d → NamesWell d.version form → HasNoFault d later form
     → IsSoundInside (in_order (shapes_in d.objects)) (option_map (λ t. with_inner d.objects t form) o)
 inside_sound d later form None e s named n = tt
 inside_sound d later form (Some t) e s named n =
@@ -349,7 +349,7 @@ inside_sound d later form (Some t) e s named n =
 
 within_sound : (d : Draft) (later : List (List ℕ)) (form : Form) → IsSoundDraft d → NamesWell d.version form → HasNoFault d later form → IsSoundDraft (record d { inside = option_map (λ t. with_inner d.objects t form) d.inside })
 within_sound d later form s named n =
-    let f : Begun → Begun = λ t. with_inner d.objects t form in
+    let f : OpenTransaction → OpenTransaction = λ t. with_inner d.objects t form in
     record {
       versioned = s.versioned;
       own_names = s.own_names;

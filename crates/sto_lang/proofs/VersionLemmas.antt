@@ -23,7 +23,7 @@ use Rattle.sto_lang.specs.declared.file.File as code
 use Rattle.sto_lang.specs.Scripts.{Script, File}
 use Rattle.sto_lang.specs.Shapes.{natural, in_range}
 use Rattle.sto_lang.specs.Objects.{Object}
-use Rattle.sto_lang.specs.Drafts.{Draft, Begun, opening, script_of, with_script, with_commit, with_form}
+use Rattle.sto_lang.specs.Drafts.{Draft, OpenTransaction, opening, script_of, with_script, with_commit, with_form}
 use Rattle.sto_lang.specs.Places.{is_blank}
 use Rattle.sto_lang.specs.Limits.{has_thread, is_in_range, is_turn}
 use Rattle.sto_lang.specs.Uses.{asks_unknown, is_known_thread}
@@ -246,7 +246,7 @@ same_threads [] script = refl
 same_threads (thread ∷ []) script = refl
 same_threads (thread ∷ next ∷ threads) script = refl
 
-commit_past : (d : Draft) (inside : Option Begun) → is_blank d ≡ false → IsPast d (with_commit d inside)
+commit_past : (d : Draft) (inside : Option OpenTransaction) → is_blank d ≡ false → IsPast d (with_commit d inside)
 commit_past d None h = record { version = refl; begun = h }
 commit_past d (Some t) h = record { version = refl; begun = ap (λ b. (d.version == 1) && is_empty d.objects && b) (same_threads d.threads (script_of d.objects t)) ∙ h }
 
@@ -278,7 +278,7 @@ past_by_words d number later words file false h rest k = absurd cc
 past_by_words d number later [] file true h rest k = rest d h k
 past_by_words d number later (word ∷ words) file true h rest k = past_by_form d number later (form_of d.version word words) file h rest k
 
-whole_version : (d : Draft) (number : ℕ) (inside : Option Begun) (file : File) → whole d number inside ≡ Ok file → file.version ≡ d.version
+whole_version : (d : Draft) (number : ℕ) (inside : Option OpenTransaction) (file : File) → whole d number inside ≡ Ok file → file.version ≡ d.version
 whole_version d number None file k = cc
 whole_version d number (Some t) file k = absurd cc
 

@@ -5,14 +5,14 @@ use Rattle.sto_model.specs.declared.shape.Shape.{Shape}
 use Rattle.sto_syntax.specs.Operations.{code_of}
 use Rattle.sto_syntax.specs.Forms.{Form, CallLine, CommitLine}
 use Rattle.sto_lang.specs.Weights.{call_weight, weight_of}
-use Rattle.sto_lang.specs.Drafts.{Draft, Begun, script_of}
+use Rattle.sto_lang.specs.Drafts.{Draft, OpenTransaction, script_of}
 use Rattle.sto_lang.specs.declared.weight.Weighed.{Weighed}
 use Rattle.sto_lang.specs.declared.begun.OpenBlock as code
 use Rattle.sto_lang.specs.declared.begun.OpenBlock.TheVariants as blocks
-use Rattle.sto_lang.specs.declared.begun.Begun as open_begun
+use Rattle.sto_lang.specs.declared.begun.OpenTransaction as open_begun
 
 -- a weight that no transaction may have counts as the least such
-abbrev pub begun_weight : Draft → Option Begun → ℕ
+abbrev pub begun_weight : Draft → Option OpenTransaction → ℕ
 begun_weight d None = 0
 begun_weight d (Some t) = min (script_of d.objects t).weight 4097
 
@@ -33,7 +33,7 @@ IsWeighedBlock shapes (blocks.SecondBranch before a test b first) = IsWeighed sh
 IsWeighedBlock shapes (blocks.Repetition before times) = IsWeighed shapes before
 
 -- of all that a transaction has so far
-abbrev pub AreWeighed : List Shape → open_begun.Begun → Type 0
+abbrev pub AreWeighed : List Shape → open_begun.OpenTransaction → Type 0
 AreWeighed shapes t = IsWeighed shapes t.statements × All (IsWeighedBlock shapes) t.blocks.items
 
 -- what the call of a line weighs on the object with this number

@@ -2,7 +2,7 @@
 use Rattle.std.proofs.Common.{List, Option, IfSome}
 use Rattle.std.proofs.Props.{props}
 use Rattle.sto_model.specs.declared.shape.Shape.{Shape}
-use Rattle.sto_lang.specs.declared.begun.Begun.{Begun}
+use Rattle.sto_lang.specs.declared.begun.OpenTransaction.{OpenTransaction}
 use Rattle.sto_lang.specs.declared.begun.OpenBlock.{OpenBlock}
 use Rattle.sto_lang.specs.declared.begun.OpenBlock.TheVariants.{FirstBranch, SecondBranch, Repetition}
 use Rattle.sto_lang.specs.Weighed.{IsWeighedBlock, AreWeighed}
@@ -12,8 +12,8 @@ block_prop shapes (FirstBranch before a test b) = hlevel props
 block_prop shapes (SecondBranch before a test b first) = hlevel props
 block_prop shapes (Repetition before times) = hlevel props
 
-begun_prop : (shapes : List Shape) (t : Begun) → IsProp (AreWeighed shapes t)
+begun_prop : (shapes : List Shape) (t : OpenTransaction) → IsProp (AreWeighed shapes t)
 begun_prop shapes t = hlevel (props, block_prop)
 
-pub inside_prop : (shapes : List Shape) (o : Option Begun) → IsProp (IfSome o (AreWeighed shapes))
+pub inside_prop : (shapes : List Shape) (o : Option OpenTransaction) → IsProp (IfSome o (AreWeighed shapes))
 inside_prop shapes o = hlevel (props, begun_prop)

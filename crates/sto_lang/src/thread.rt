@@ -7,8 +7,8 @@ ghost use Rattle.sto_lang.specs.Uses.{is_known_thread};
 ghost use Rattle.sto_lang.specs.Limits.{has_range};
 ghost use Rattle.sto_lang.specs.Views.{names_of};
 
-use crate::{Text, Thread};
 use crate::range::natural;
+use crate::{Text, Thread};
 use itoa::Buffer;
 use std::alloc::Global;
 use sto_part::NoMemory;

@@ -11,18 +11,18 @@ ghost use Rattle.sto_lang.specs.Shapes.{in_order};
 ghost use Rattle.sto_lang.specs.Weighed.{begun_weight, ended_weight, AreWeighed};
 ghost use Rattle.sto_lang.specs.Views.{names_of};
 
-use crate::{Schedule, Thread, Turns};
-use crate::begun::Begun;
+use crate::begun::OpenTransaction;
 use crate::draft::Draft;
 use crate::range::natural;
 use crate::thread::thread_number;
 use crate::weight::TOO_HEAVY;
+use crate::{Schedule, Thread, Turns};
 use std::alloc::Global;
 use sto_part::{List, NoMemory};
 use sto_syntax::{Entries, Form};
 
 /// What a transaction weighs, or the least weight that no transaction may have.
-fn own_weight(begun: &Begun) -> u64
+fn own_weight(begun: &OpenTransaction) -> u64
     ensures { (objects : Seq Object) → AreWeighed (in_order (shapes_in objects)) begun.now
         → result ≡ min (script_of objects (begun_of begun.now)).weight 4097 }
 {

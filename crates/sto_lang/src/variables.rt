@@ -2,8 +2,8 @@
 ghost use Rattle.std.specs.Prelude.{◌≡◌, ◌+◌, ◌^◌, ◌<◌, [], ◌∷◌, ◌++◌, length, map, position, None, OnOk, IfOk, IfSome};
 ghost use Rattle.std.specs.Str.{bytes_eq};
 
-use crate::{Names, Text};
 use crate::name_table::NameTable;
+use crate::{Names, Text};
 use std::alloc::Global;
 use std::marker::Model;
 use sto_part::{List, NoMemory};

@@ -3,7 +3,7 @@ use Rattle.std.specs.Prelude.{int_le, if◌then◌else◌}
 use Rattle.std.proofs.Common.{◌≡◌, ℤ, pos, ◌+ℤ◌, ◌-ℤ◌, ◌≤ℤ◌, [], ◌∷◌, Bool, true, false, Option, Some, None, refl, sym, ap, ◌&&◌, arith, true≢false}
 use Rattle.std.proofs.lemmas.Int.{ints}
 use Rattle.sto_model.specs.Objects.{in_range, least, greatest, done_in_range, effect, with_only, counter_effect}
-use Rattle.sto_model.specs.Told.{Done, Flag}
+use Rattle.sto_model.specs.PlainReplies.{Done, Flag}
 use Rattle.sto_model.specs.declared.operation.Operation.TheVariants.{Add, Take}
 use Rattle.sto_action.specs.Shortened.{short_of}
 use Rattle.sto_action.specs.Calls.{is_yes, is_done}

@@ -4,7 +4,7 @@ use Rattle.std.specs.Prelude.{Option, IfSome, if◌then◌else◌}
 use Rattle.std.proofs.Common.{◌≡◌, ℕ, zero, suc, List, [], ◌∷◌, map, sym, ap, ◌∙◌, subst, Result, Ok, Err, Bool, true, false, refl}
 use mathlib.Core.Option.{some-injective, some-ne-none}
 use Rattle.std.proofs.lemmas.List.Elements.{All-head, All-tail, All-weaker}
-use Rattle.sto_model.specs.Machine.{Machine, opening_of}
+use Rattle.sto_model.specs.SequentialObjects.{SequentialObject, opening_of}
 use Rattle.sto_model.specs.Run.{State, IsRun, state_along}
 use Rattle.sto_model.specs.declared.shape.Shape.{Shape}
 use Rattle.sto_type.specs.Traits.{OfType}
@@ -36,7 +36,7 @@ all_among P [] x h all = absurd (some-ne-none x (sym h.1))
 all_among P (y ∷ xs) x (zero, e) all = subst P (some-injective y x e) (All-head P y xs all)
 all_among P (y ∷ xs) x (suc j, e) all = all_among P xs x (j, e) (All-tail P y xs all)
 
-module _ {A : Type 0} (ms : List Machine) (Inv : State → Type 0) (Good : A → Type 0) (shapes : List Shape) (most : ℕ) (p : Prog A) (law : Keeps ms Inv Good p) where
+module _ {A : Type 0} (ms : List SequentialObject) (Inv : State → Type 0) (Good : A → Type 0) (shapes : List Shape) (most : ℕ) (p : Prog A) (law : Keeps ms Inv Good p) where
   -- what it gives on a state with the invariant
   gives_on : (t : Transaction) → t.steps ≡ steps_of shapes most p → (st : State) (a : A) → Inv st → IsRun ms t.steps st t.replies → IsGiven p (map short_of t.replies) a
       → Good a × Inv (state_along ms t.steps st t.replies)
@@ -62,22 +62,22 @@ pub at_three : (P : ℕ → ℕ → ℕ → Type 0) {l m n i j k : ℕ} → (l �
 at_three P {l} {m} {n} {i} {j} {k} (e, f, g) here = subst (λ (o : ℕ). P o m n) (sym e) (at_two (P i) (f, g) here)
 
 -- a state as it is known
-pub on_state : {A : Type 0} (ms : List Machine) (p : Prog A) (Q : A × State → Type 0) {st now : State} → st ≡ now → IfSome (run_of ms p now) Q → IfSome (run_of ms p st) Q
+pub on_state : {A : Type 0} (ms : List SequentialObject) (p : Prog A) (Q : A × State → Type 0) {st now : State} → st ≡ now → IfSome (run_of ms p now) Q → IfSome (run_of ms p st) Q
 on_state ms p Q same here = subst (λ (s : State). IfSome (run_of ms p s) Q) (sym same) here
 
 -- code that may be given up first
-pub unless : {A : Type 0} (ms : List Machine) (p : Prog A) (st : State) (Q : A × State → Type 0) (b : Bool) → (b ≡ false → IfSome (run_of ms p st) Q) → IfSome (run_of ms (if b then Cancels else p) st) Q
+pub unless : {A : Type 0} (ms : List SequentialObject) (p : Prog A) (st : State) (Q : A × State → Type 0) (b : Bool) → (b ≡ false → IfSome (run_of ms p st) Q) → IfSome (run_of ms (if b then Cancels else p) st) Q
 unless ms p st Q true h = tt
 unless ms p st Q false h = h refl
 
 -- the same as the first part of code
-pub unless_then : {A B : Type 0} (ms : List Machine) (p : Prog A) (q : A → Prog B) (st : State) (Q : B × State → Type 0) (b : Bool) → (b ≡ false → IfSome (run_of ms (chain p q) st) Q)
+pub unless_then : {A B : Type 0} (ms : List SequentialObject) (p : Prog A) (q : A → Prog B) (st : State) (Q : B × State → Type 0) (b : Bool) → (b ≡ false → IfSome (run_of ms (chain p q) st) Q)
     → IfSome (run_of ms (chain (if b then Cancels else p) q) st) Q
 unless_then ms p q st Q true h = tt
 unless_then ms p q st Q false h = h refl
 
 -- code that goes on only where this is so
-pub where_so : {A : Type 0} (ms : List Machine) (p : Prog A) (st : State) (Q : A × State → Type 0) (b : Bool) → (b ≡ true → IfSome (run_of ms p st) Q) → IfSome (run_of ms (if b then p else Cancels) st) Q
+pub where_so : {A : Type 0} (ms : List SequentialObject) (p : Prog A) (st : State) (Q : A × State → Type 0) (b : Bool) → (b ≡ true → IfSome (run_of ms p st) Q) → IfSome (run_of ms (if b then p else Cancels) st) Q
 where_so ms p st Q true h = h refl
 where_so ms p st Q false h = tt
 
@@ -85,7 +85,7 @@ where_so ms p st Q false h = tt
 module _ {T I A : Type 0} (t : OfType T) (Inv : State → Type 0) (Good : A → Type 0) (words : Words T) (v w : View) (most : ℕ) (p : I → Prog A)
     (law : (i : I) → Keeps (t.meaning words.ty).machines Inv Good (p i)) (before after : Working T) (same : before.words ≡ words) (from : before.seat.me.0.view ≡ v)
     (to : after.seat.me.0.view ≡ w) (ran : HasRunOnly t before after most p) where
-  abbrev own : List Machine
+  abbrev own : List SequentialObject
   own = (t.meaning words.ty).machines
 
   done_between : HasDone (t.meaning words.ty) v w ran.did
@@ -101,14 +101,14 @@ module _ {T I A : Type 0} (t : OfType T) (Inv : State → Type 0) (Good : A → 
   is_keeping shows = record { did = ran.did; done = done_between; keeps = all_keep; shows = shows }
 
 -- a task that did so
-pub run_keeping : {T I A Out : Type 0} {t : OfType T} {Inv : State → Type 0} (Good : A → Type 0) {words : Words T} {shapes : List Shape} {v w : View} {most : ℕ} {p : I → Prog A} {out : Out} {ms : List Machine}
+pub run_keeping : {T I A Out : Type 0} {t : OfType T} {Inv : State → Type 0} (Good : A → Type 0) {words : Words T} {shapes : List Shape} {v w : View} {most : ℕ} {p : I → Prog A} {out : Out} {ms : List SequentialObject}
     → (t.meaning words.ty).machines ≡ ms → ((i : I) → Keeps ms Inv Good (p i)) → IsDone words shapes v w (λ before after o. HasRunOnly t before after most p) out
     → IsKeeping (t.meaning words.ty) Inv v w (Unit {0})
 run_keeping {t = t} {Inv = Inv} Good {words = words} {v = v} {w = w} {most = most} {p = p} same law h =
-    is_keeping t Inv Good words v w most p (λ i. subst (λ (l : List Machine). Keeps l Inv Good (p i)) (sym same) (law i)) h.before h.after h.same_words h.from h.to h.gave (λ ran. tt)
+    is_keeping t Inv Good words v w most p (λ i. subst (λ (l : List SequentialObject). Keeps l Inv Good (p i)) (sym same) (law i)) h.before h.after h.same_words h.from h.to h.gave (λ ran. tt)
 
 -- what one of the transactions gave, which were of this code
-given_good : {T A : Type 0} (ms : List Machine) (Inv : State → Type 0) (Good : A → Type 0) (most : ℕ) (p : Prog A) (before : Working T) (did : List Transaction) → Keeps ms Inv Good p
+given_good : {T A : Type 0} (ms : List SequentialObject) (Inv : State → Type 0) (Good : A → Type 0) (most : ℕ) (p : Prog A) (before : Working T) (did : List Transaction) → Keeps ms Inv Good p
     → All (RanSome before.shapes most (λ (once : Unit {0}). p)) did → (o : Result (Done A) TransactionError) → IsLedBy before did p o → All (RanWithin ms Inv) did → IfGave Good o
 given_good ms Inv Good most p before did law each (Ok (Gave value)) k ran =
     code_good ms Inv Good before.shapes most p law k.transaction (all_among (RanSome before.shapes most (λ (once : Unit {0}). p)) did k.transaction k.there each).1 value
@@ -117,11 +117,11 @@ given_good ms Inv Good most p before did law each (Ok Cancelled) k ran = tt
 given_good ms Inv Good most p before did law each (Err error) k ran = tt
 
 -- a task that ran code which keeps the invariant, and gave what one of the runs led to
-pub given_keeping : {T A : Type 0} {t : OfType T} {Inv : State → Type 0} (Good : A → Type 0) {words : Words T} {shapes : List Shape} {v w : View} {times most : ℕ} {p : Prog A} {out : Result (Done A) TransactionError} {ms : List Machine}
+pub given_keeping : {T A : Type 0} {t : OfType T} {Inv : State → Type 0} (Good : A → Type 0) {words : Words T} {shapes : List Shape} {v w : View} {times most : ℕ} {p : Prog A} {out : Result (Done A) TransactionError} {ms : List SequentialObject}
     → (t.meaning words.ty).machines ≡ ms → Keeps ms Inv Good p → IsDone words shapes v w (λ before after o. HasGiven t before after times most p o) out
     → IsKeeping (t.meaning words.ty) Inv v w (IfGave Good out)
 given_keeping {t = t} {Inv = Inv} Good {words = words} {v = v} {w = w} {most = most} {p = p} {out = out} same law h =
-    let own = subst (λ (l : List Machine). Keeps l Inv Good p) (sym same) law in
+    let own = subst (λ (l : List SequentialObject). Keeps l Inv Good p) (sym same) law in
     is_keeping t Inv Good words v w most (λ (once : Unit {0}). p) (λ once. own) h.before h.after h.same_words h.from h.to h.gave.repeated
     (given_good (t.meaning words.ty).machines Inv Good most p h.before h.gave.repeated.did own h.gave.repeated.each out h.gave.led)
 
@@ -159,20 +159,20 @@ module _ {T : Type 0} (t : OfType T) (Inv : State → Type 0) (old new : Stored 
       (record { did = every.did; done = every.done; keeps = every.keeps; shows = λ ran. (let s = every.shows ran in (s.0.1, s.1.0.1, s.1.1.0.1, s.1.1.1.0.1)) })
 
 -- a store on which tasks kept the invariant since it was opened, up to its rows at the end
-pub kept_to_rows : {T P : Type 0} (t : OfType T) (Inv : State → Type 0) (ms : List Machine) (old new : Stored T) (rows : State) → (t.meaning old.words.ty).machines ≡ ms → new.words ≡ old.words
+pub kept_to_rows : {T P : Type 0} (t : OfType T) (Inv : State → Type 0) (ms : List SequentialObject) (old new : Stored T) (rows : State) → (t.meaning old.words.ty).machines ≡ ms → new.words ≡ old.words
     → HaveKept (t.meaning old.words.ty) Inv new.views P
     → HaveHistory (t.meaning new.words.ty) new.views rows → Inv (opening_of ms) → Inv rows × P
 kept_to_rows {T} {P} t Inv ms old new rows same words kept history opening =
     kept_by_all (t.meaning old.words.ty) Inv new.views P rows kept
     (subst (λ (x : Words T). HaveHistory (t.meaning x.ty) new.views rows) words history)
-    (subst (λ (l : List Machine). Inv (opening_of l)) (sym same) opening)
+    (subst (λ (l : List SequentialObject). Inv (opening_of l)) (sym same) opening)
 
 -- the workers of a store that was just opened
 pub all_kept : (m : Meaning) (Inv : State → Type 0) (views : List View) → All (λ v. v.entries ≡ []) views → All (λ v. HasKept m Inv v (Unit {0})) views
 all_kept m Inv views new = All-weaker (λ (v : View). v.entries ≡ []) (λ (v : View). HasKept m Inv v (Unit {0})) (λ v none. new_kept m Inv v none) views new
 
 -- Action that four workers of a store ran that was just opened, each its own, and that keeps an invariant: it holds of the rows at the end, and what was given is good
-pub four_keep : {T A B C D : Type 0} {t : OfType T} {Inv : State → Type 0} {ms : List Machine} {old new : Stored T} {rows : State} {a_times a_most b_times b_most c_times c_most d_times d_most : ℕ}
+pub four_keep : {T A B C D : Type 0} {t : OfType T} {Inv : State → Type 0} {ms : List SequentialObject} {old new : Stored T} {rows : State} {a_times a_most b_times b_most c_times c_most d_times d_most : ℕ}
     {a : Prog A} {b : Prog B} {c : Prog C} {d : Prog D}
     {x : Result (Done A) TransactionError} {y : Result (Done B) TransactionError} {z : Result (Done C) TransactionError} {u : Result (Done D) TransactionError}
     (GoodA : A → Type 0) (GoodB : B → Type 0) (GoodC : C → Type 0) (GoodD : D → Type 0)
@@ -187,7 +187,7 @@ four_keep {t = t} {Inv = Inv} {ms = ms} {old = old} {new = new} {rows = rows} Go
     history opening
 
 -- the same of workers that ran code of a family each
-pub four_run : {T I A X Y Z U : Type 0} {t : OfType T} {Inv : State → Type 0} {ms : List Machine} {old new : Stored T} {rows : State} {a_most b_most c_most d_most : ℕ} {a b c d : I → Prog A}
+pub four_run : {T I A X Y Z U : Type 0} {t : OfType T} {Inv : State → Type 0} {ms : List SequentialObject} {old new : Stored T} {rows : State} {a_most b_most c_most d_most : ℕ} {a b c d : I → Prog A}
     {x : X} {y : Y} {z : Z} {u : U} (Good : A → Type 0)
     → (t.meaning old.words.ty).machines ≡ ms → All (λ v. v.entries ≡ []) old.views → new.words ≡ old.words
     → AreFourDone old new (λ p q o. HasRunOnly t p q a_most a) (λ p q o. HasRunOnly t p q b_most b) (λ p q o. HasRunOnly t p q c_most c) (λ p q o. HasRunOnly t p q d_most d) x y z u

@@ -7,7 +7,7 @@ use Rattle.std.proofs.lemmas.Int.{ints}
 use Rattle.std.proofs.lemmas.List.Elements.{All-nil, All-cons, All-head, All-tail}
 use Rattle.sto_model.specs.Rows.{Row, with_row, rows_between, has_key}
 use Rattle.sto_model.specs.Objects.{effect, put_effect}
-use Rattle.sto_model.specs.Told.{Done, Full}
+use Rattle.sto_model.specs.PlainReplies.{Done, Full}
 use Rattle.sto_model.proofs.RowFacts.{by_test, with_row-below, with_row-same, with_row-above}
 use Rattle.sto_action.specs.Shortened.{short_of}
 use Rattle.sto_action.specs.Calls.{is_done}

@@ -5,7 +5,7 @@ use Rattle.std.proofs.Common.{◌≡◌, ℕ, suc, ℤ, pos, List, [], ◌∷◌
 use Rattle.std.proofs.lemmas.Int.{ints}
 use Rattle.sto_model.specs.Rows.{Row, with_row, without, value_at}
 use Rattle.sto_model.specs.Objects.{effect, push_effect, popped, pop_effect, vector_effect}
-use Rattle.sto_model.specs.Told.{Value}
+use Rattle.sto_model.specs.PlainReplies.{Value}
 use Rattle.sto_model.specs.declared.operation.Operation.TheVariants.{Push, Pop}
 use Rattle.sto_model.proofs.RowFacts.{AllBelow, with_row-below, without-here, without-past, not_equal_of, equal_of}
 use Rattle.sto_action.specs.Shortened.{short_of}

@@ -1,6 +1,6 @@
 -- Action that keeps an invariant of the objects' state.
 use Rattle.std.specs.Prelude.{List, IfSome, Result, Ok, Err}
-use Rattle.sto_model.specs.Machine.{Machine}
+use Rattle.sto_model.specs.SequentialObjects.{SequentialObject}
 use Rattle.sto_model.specs.Run.{State}
 use Rattle.sto_action.specs.Progs.{Prog}
 use Rattle.sto_action.specs.Alone.{run_of}
@@ -10,7 +10,7 @@ use Rattle.sto_action.specs.declared.outcome.TransactionError.{TransactionError}
 
 -- run alone on a state with the invariant, the code leaves one with the invariant, and gives a good value. One that gives the transaction
 -- up leaves the state as it was
-abbrev pub Keeps : {A : Type 0} → List Machine → (State → Type 0) → (A → Type 0) → Prog A → Type 0
+abbrev pub Keeps : {A : Type 0} → List SequentialObject → (State → Type 0) → (A → Type 0) → Prog A → Type 0
 Keeps ms Inv Good p = (st : State) → Inv st → IfSome (run_of ms p st) (λ r. Good r.0 × Inv r.1)
 
 -- what was given, if something was, is good

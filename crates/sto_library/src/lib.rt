@@ -14,11 +14,14 @@ mod worker;
 pub use contents::{total_of, value_of};
 pub use error::StoreError;
 pub use schema::Schema;
-pub use sto_action::{ArrayId, BoxId, Action, CounterId, Done, HashId, Held, ShortReply, Snapshot, Stop, TreeId, Tx, TransactionError, VectorId};
+pub use sto_action::{
+    Action, ArrayId, BoxId, CounterId, Done, HashId, ShortReply, Snapshot, SnapshotValues, Stop,
+    TransactionError, TreeId, Tx, VectorId,
+};
+pub use sto_model::{Call, Rows, State};
 pub use sto_part::{NoMemory, Test, wrapping_difference, wrapping_sum};
 pub use sto_shared_store::{CountedRest, OpenError, PlanError};
 pub use sto_store::Objects;
-pub use sto_model::{Call, Rows, State};
 pub use sto_transaction::AttemptWatch;
 pub use sto_type::TxType;
 pub use store::{CloseError, LookError, SharedStore};

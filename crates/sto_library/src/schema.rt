@@ -10,14 +10,14 @@ use crate::store::SharedStore;
 use std::alloc::Global;
 use sto_action::{ArrayId, BoxId, CounterId, HashId, TreeId, VectorId};
 use sto_model::Shape;
-use sto_shared_store::{OpenedStore, OpenError, PlanError};
+use sto_shared_store::{OpenError, OpenedStore, PlanError};
 use sto_store::Objects;
 use sto_type::TxType;
 
 /// The objects that a store is to hold: first its boxes, then counters, arrays, hash tables, trees and vectors.
 #[derive(Drop)]
 pub struct Schema {
-    pub objects: sto_shared_store::Plan,
+    pub objects: sto_shared_store::ObjectPlan,
 }
 
 impl Schema {
@@ -26,7 +26,7 @@ impl Schema {
         ensures { result.objects ≡ [] }
     {
         Schema {
-            objects: sto_shared_store::Plan::new(alloc),
+            objects: sto_shared_store::ObjectPlan::new(alloc),
         }
     }
 

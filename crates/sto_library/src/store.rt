@@ -107,7 +107,11 @@ fn looked<O: Drop>(told: Result<Done<O>, TransactionError>) -> Result<Done<O>, L
 
 impl<T: TxType> SharedStore<T> {
     /// A store of objects of these shapes, with its workers.
-    pub fn new(words: sto_shared_store::Store<T>, shapes: Shapes, idle: CountedRests<T>) -> SharedStore<T>
+    pub fn new(
+        words: sto_shared_store::Store<T>,
+        shapes: Shapes,
+        idle: CountedRests<T>,
+    ) -> SharedStore<T>
         requires workers { All (λ w. Serves T.TxType words w.rest.seat) idle.items }
         requires takes { TakeCalls T.TxType words shapes.items }
         ensures { (result.words ≡ words) × (result.shapes ≡ shapes.items) × (result.views ≡ map (λ w. w.rest.seat.me.0.view) idle.items) }

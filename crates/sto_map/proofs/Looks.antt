@@ -5,7 +5,7 @@ use Rattle.std.specs.Int.{w64}
 use Rattle.std.specs.Int.RustNames.{FitsSigned}
 use Rattle.std.proofs.Common.{to_z, of_z}
 use Rattle.std.proofs.lemmas.Int.{to_z-of_z}
-use Rattle.sto_model.specs.Told.{Value}
+use Rattle.sto_model.specs.PlainReplies.{Value}
 use Rattle.std.specs.Ordering.{int_eq}
 use Rattle.sto_item.specs.declared.item.Item.{Item}
 use Rattle.sto_item.specs.declared.item.Item.TheVariants.{Seen}

@@ -7,9 +7,9 @@ use Rattle.sto_part.specs.Parts.{part_of}
 use Rattle.sto_part.specs.declared.change.Change.TheVariants.{Put, Add, Keep}
 use Rattle.sto_model.specs.declared.call.Call.{Call}
 use Rattle.sto_model.specs.Rows.{Row, has_key, with_row}
-use Rattle.sto_model.specs.Told.{Done, Full, Absent}
+use Rattle.sto_model.specs.PlainReplies.{Done, Full, Absent}
 use Rattle.sto_model.specs.Objects.{effect, put_effect}
-use Rattle.sto_model.specs.Machine.{reply_to}
+use Rattle.sto_model.specs.SequentialObjects.{reply_to}
 use Rattle.sto_type.specs.Known.{Parts}
 use Rattle.sto_type.specs.Meaning.{Meaning, IsUpdated}
 use Rattle.sto_type.specs.Telling.{Telling, Tell}

@@ -4,7 +4,7 @@ use Rattle.std.specs.Prelude.{if◌then◌else◌, int_lt}
 use Rattle.sto_part.specs.declared.pred.Test.TheVariants.{Lt, Ge}
 use Rattle.sto_item.specs.declared.item.Item.{Item}
 use Rattle.sto_item.specs.declared.item.Item.TheVariants.{Seen}
-use Rattle.sto_model.specs.Told.{Done}
+use Rattle.sto_model.specs.PlainReplies.{Done}
 use Rattle.sto_type.specs.Known.{Known, word_known}
 use Rattle.sto_type.specs.Plans.{Plan, Ask, Say}
 use Rattle.sto_type.specs.Reading.{when_known}

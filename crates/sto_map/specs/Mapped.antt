@@ -15,9 +15,9 @@ use Rattle.sto_model.specs.declared.operation.Operation.{Operation}
 use Rattle.sto_model.specs.declared.operation.Operation.TheVariants.{Get, Set, Add, Put, Has, Remove}
 use Rattle.sto_model.specs.Operations.{operation_of}
 use Rattle.sto_model.specs.Rows.{Row, value_at, has_key, with_row}
-use Rattle.sto_model.specs.Told.{Done, Value, Flag, Absent, Full}
+use Rattle.sto_model.specs.PlainReplies.{Done, Value, Flag, Absent, Full}
 use Rattle.sto_model.specs.Objects.{Effect, effect, value_or_absent, put_effect, remove_effect}
-use Rattle.sto_model.specs.Machine.{Machine}
+use Rattle.sto_model.specs.SequentialObjects.{SequentialObject}
 use Rattle.sto_type.specs.Known.{Parts, ContentsFit}
 use Rattle.sto_type.specs.Meaning.{Meaning}
 use Rattle.sto_type.specs.Telling.{Telling, Read, Tell}
@@ -118,7 +118,7 @@ map_effect n (Some Put) k v rows = put_effect (nat_le n (length rows)) k v rows
 map_effect n (Some Remove) k b rows = remove_effect k rows
 map_effect n o a b rows = effect Absent rows
 
-abbrev pub map_machine : ℕ → Machine
+abbrev pub map_machine : ℕ → SequentialObject
 map_machine n =
     record {
       opening = [];

@@ -19,10 +19,10 @@ use Rattle.sto_model.specs.declared.call.Call.{Call}
 use Rattle.sto_model.specs.declared.operation.Operation.TheVariants.{Get, Put, Has, Remove}
 use Rattle.sto_model.specs.Operations.{operation_of}
 use Rattle.sto_model.specs.Rows.{Row, value_at, has_key, with_row, without}
-use Rattle.sto_model.specs.Told.{Told, is_write}
-use Rattle.sto_model.specs.Told as T
+use Rattle.sto_model.specs.PlainReplies.{PlainReply, is_write}
+use Rattle.sto_model.specs.PlainReplies as T
 use Rattle.sto_model.specs.Objects.{effect, value_or_absent, put_effect, remove_effect}
-use Rattle.sto_model.specs.Machine.{reply_to, state_after}
+use Rattle.sto_model.specs.SequentialObjects.{reply_to, state_after}
 use Rattle.sto_model.proofs.RowFacts.{by_test}
 use Rattle.sto_type.specs.Known.{Parts}
 use Rattle.sto_type.specs.Meaning.{Meaning, IsLawful, IsUpdated, EachInside}
@@ -160,7 +160,7 @@ module _ (z : Sizes) (a : AreSizes z) (opened : Parts) where
 
     -- a call whose absent case says one thing and writes nothing
     absent_told :
-        (call : Call) (found : ℕ → Telling) (t : Told) → NoneHere z c k → ((p x : ℕ) → p < z.places → IsRead (reading_of (found p)) c x → x < length (map_widths z))
+        (call : Call) (found : ℕ → Telling) (t : PlainReply) → NoneHere z c k → ((p x : ℕ) → p < z.places → IsRead (reading_of (found p)) c x → x < length (map_widths z))
         → t ≡ reply_to m.machines call (m.rows c) → IsUpdated m call c [] → IsTold m call (look_all z k found (λ is. Tell t is [])) c
     absent_told call found t none f says u =
         let absent : List Item → Telling = λ is. Tell t is [] in

@@ -8,7 +8,7 @@ use Rattle.sto_part.specs.declared.pred.Test.TheVariants.{Lt, Ge}
 use Rattle.sto_item.specs.declared.item.Item.{Item}
 use Rattle.sto_item.specs.declared.item.Item.TheVariants.{Seen}
 use Rattle.sto_item.specs.Agreement.{Agrees}
-use Rattle.sto_model.specs.Told.{Done, Absent, Full}
+use Rattle.sto_model.specs.PlainReplies.{Done, Absent, Full}
 use Rattle.sto_model.proofs.RowFacts.{by_test}
 use Rattle.sto_type.specs.Known.{Parts, ContentsFit}
 use Rattle.sto_type.specs.Reading.{items_at, updates_at}

@@ -3,7 +3,7 @@ use Rattle.std.specs.Prelude.{◌<◌, ◌≤◌, ◌+◌, ℕ, ℤ, pos, negsuc
 use Rattle.sto_part.specs.declared.change.Change.{Change}
 use Rattle.sto_part.specs.declared.change.Change.TheVariants as C
 use Rattle.sto_item.specs.Pending.{Entry}
-use Rattle.sto_model.specs.Told.{Done, Absent as ToldAbsent, Full as ToldFull}
+use Rattle.sto_model.specs.PlainReplies.{Done, Absent as ToldAbsent, Full as ToldFull}
 use Rattle.sto_type.specs.Known.{Known}
 use Rattle.sto_type.specs.Plans.{Plan, Ask, Say}
 use Rattle.sto_type.specs.Telling.{plan_of}

@@ -1,7 +1,7 @@
 //! The plans of the calls of a map.
 ghost use Rattle.std.specs.Prelude.{◌≡◌, ◌<◌, [], false, ℤ, IfOk};
 ghost use Rattle.sto_item.specs.Pending.{is_keep};
-ghost use Rattle.sto_model.specs.Told.{Absent as ToldAbsent, Flag};
+ghost use Rattle.sto_model.specs.PlainReplies.{Absent as ToldAbsent, Flag};
 ghost use Rattle.sto_type.specs.Known.{known, Known};
 ghost use Rattle.sto_type.specs.Plans.{planned};
 ghost use Rattle.sto_type.specs.Telling.{Tell, plan_of};

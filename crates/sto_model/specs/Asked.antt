@@ -1,7 +1,7 @@
 -- Which calls a body makes along some replies, and whether its attempt may be aborted after them.
 use Rattle.std.specs.Prelude.{◌≡◌, ◌⊎◌, ℕ, Bool, true, List, [], ◌∷◌}
-use Rattle.sto_model.specs.Told.{Told}
-use Rattle.sto_model.specs.Run.{Script}
+use Rattle.sto_model.specs.PlainReplies.{PlainReply}
+use Rattle.sto_model.specs.Run.{Behaviour}
 use Rattle.sto_model.specs.Serial.{has_written}
 use Rattle.sto_model.specs.declared.call.Call.{Call}
 use Rattle.sto_model.specs.declared.body.Next.{Next}
@@ -14,7 +14,7 @@ AsksSuch P Commit = ⊥
 AsksSuch P Cancel = ⊥
 
 -- P is so of one of the calls that the replies answer, or of the next after them
-abbrev pub HasAskedSuch : (Call → Type 0) → Script → List Told → Type 0
+abbrev pub HasAskedSuch : (Call → Type 0) → Behaviour → List PlainReply → Type 0
 HasAskedSuch P script [] = AsksSuch P (script [])
 HasAskedSuch P script (reply ∷ replies) = AsksSuch P (script []) ⊎ HasAskedSuch P (λ others. script (reply ∷ others)) replies
 
@@ -23,7 +23,7 @@ abbrev pub AsksOf : ℕ → Next → Type 0
 AsksOf object next = AsksSuch (λ call. call.object ≡ object) next
 
 -- one of the calls that the replies answer is one on the object, or the next after them is
-abbrev pub HasAsked : ℕ → Script → List Told → Type 0
+abbrev pub HasAsked : ℕ → Behaviour → List PlainReply → Type 0
 HasAsked object script replies = HasAskedSuch (λ call. call.object ≡ object) script replies
 
 -- what comes next may end in an abort: a call, or the commit of a run that has written
@@ -33,5 +33,5 @@ MayAbort Commit written = written ≡ true
 MayAbort Cancel written = ⊥
 
 -- an attempt that has heard the replies may still be aborted: not where it has only read and is at its end
-abbrev pub IsUnsettled : Script → List Told → Type 0
+abbrev pub IsUnsettled : Behaviour → List PlainReply → Type 0
 IsUnsettled script replies = MayAbort (script replies) (has_written script replies)

@@ -1,7 +1,7 @@
-pub mod Told
+pub mod PlainReplies
 pub mod Rows
 pub mod Operations
-pub mod Machine
+pub mod SequentialObjects
 pub mod Objects
 pub mod Run
 pub mod Serial

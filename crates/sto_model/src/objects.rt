@@ -1,6 +1,6 @@
 //! What a call does to the rows of one object.
 ghost use Rattle.std.specs.Prelude.{◌≡◌, ◌<◌, ◌^◌, ◌↔◌, ◌+ℤ◌, ◌-ℤ◌, pos, length, Some, OnOk, OnErr, IfOk, IsTrue};
-ghost use Rattle.sto_model.specs.Told.{told};
+ghost use Rattle.sto_model.specs.PlainReplies.{plain_reply};
 ghost use Rattle.sto_model.specs.Rows.{keys_beside};
 ghost use Rattle.sto_model.specs.Operations.{operation_of};
 ghost use Rattle.sto_model.specs.Objects.{only_value, value_or_absent, in_range, added_at, box_effect, counter_effect, array_effect, hash_effect, tree_effect, put_effect, remove_effect, vector_effect, push_effect, pop_effect, effect_by, takes_by, takes as takes_operation, IsTaken};
@@ -92,7 +92,7 @@ pub(crate) fn ask_rows(
     call: &Call,
 ) -> Result<Reply, NoMemory>
     requires { IsTrue (takes_by shape (operation_of call.now.code) call.now.a) }
-    ensures reply { IfOk result (λ r. told r ≡ (effect_by shape (operation_of call.now.code) call.now.a call.now.b rows.old.items).reply) }
+    ensures reply { IfOk result (λ r. plain_reply r ≡ (effect_by shape (operation_of call.now.code) call.now.a call.now.b rows.old.items).reply) }
     ensures after { OnOk result (rows.new.items ≡ (effect_by shape (operation_of call.now.code) call.now.a call.now.b
         rows.old.items).after) }
     ensures err { OnErr result (rows.new.items ≡ rows.old.items) }
@@ -113,7 +113,7 @@ pub(crate) fn ask_rows(
 }
 
 fn ask_box(rows: &mut Rows, operation: Operation, a: i64) -> Result<Reply, NoMemory>
-    ensures reply { IfOk result (λ r. told r ≡ (box_effect operation a rows.old.items).reply) }
+    ensures reply { IfOk result (λ r. plain_reply r ≡ (box_effect operation a rows.old.items).reply) }
     ensures after { OnOk result (rows.new.items ≡ (box_effect operation a rows.old.items).after) }
     ensures err { OnErr result (rows.new.items ≡ rows.old.items) }
 {
@@ -128,7 +128,7 @@ fn ask_box(rows: &mut Rows, operation: Operation, a: i64) -> Result<Reply, NoMem
 }
 
 fn ask_counter(rows: &mut Rows, operation: Operation, a: i64, b: i64) -> Result<Reply, NoMemory>
-    ensures reply { IfOk result (λ r. told r ≡ (counter_effect operation a b rows.old.items).reply) }
+    ensures reply { IfOk result (λ r. plain_reply r ≡ (counter_effect operation a b rows.old.items).reply) }
     ensures after { OnOk result (rows.new.items ≡ (counter_effect operation a b rows.old.items).after) }
     ensures err { OnErr result (rows.new.items ≡ rows.old.items) }
 {
@@ -164,7 +164,7 @@ fn ask_counter(rows: &mut Rows, operation: Operation, a: i64, b: i64) -> Result<
 }
 
 fn ask_array(rows: &mut Rows, operation: Operation, a: i64, b: i64) -> Result<Reply, NoMemory>
-    ensures reply { IfOk result (λ r. told r ≡ (array_effect operation a b rows.old.items).reply) }
+    ensures reply { IfOk result (λ r. plain_reply r ≡ (array_effect operation a b rows.old.items).reply) }
     ensures after { OnOk result (rows.new.items ≡ (array_effect operation a b rows.old.items).after) }
     ensures err { OnErr result (rows.new.items ≡ rows.old.items) }
 {
@@ -195,7 +195,7 @@ fn ask_hash(
     b: i64,
 ) -> Result<Reply, NoMemory>
     requires { 0 < buckets }
-    ensures reply { IfOk result (λ r. told r ≡ (hash_effect buckets places operation a b rows.old.items).reply) }
+    ensures reply { IfOk result (λ r. plain_reply r ≡ (hash_effect buckets places operation a b rows.old.items).reply) }
     ensures after { OnOk result (rows.new.items ≡ (hash_effect buckets places operation a b rows.old.items).after) }
     ensures err { OnErr result (rows.new.items ≡ rows.old.items) }
 {
@@ -220,7 +220,7 @@ fn ask_tree(
     a: i64,
     b: i64,
 ) -> Result<Reply, NoMemory>
-    ensures reply { IfOk result (λ r. told r ≡ (tree_effect leaves operation a b rows.old.items).reply) }
+    ensures reply { IfOk result (λ r. plain_reply r ≡ (tree_effect leaves operation a b rows.old.items).reply) }
     ensures after { OnOk result (rows.new.items ≡ (tree_effect leaves operation a b rows.old.items).after) }
     ensures err { OnErr result (rows.new.items ≡ rows.old.items) }
 {
@@ -246,7 +246,7 @@ fn ask_vector(
     a: i64,
     b: i64,
 ) -> Result<Reply, NoMemory>
-    ensures reply { IfOk result (λ r. told r ≡ (vector_effect capacity operation a b rows.old.items).reply) }
+    ensures reply { IfOk result (λ r. plain_reply r ≡ (vector_effect capacity operation a b rows.old.items).reply) }
     ensures after { OnOk result (rows.new.items ≡ (vector_effect capacity operation a b rows.old.items).after) }
     ensures err { OnErr result (rows.new.items ≡ rows.old.items) }
 {
@@ -289,7 +289,7 @@ fn checked_difference(one: i64, other: i64) -> Option<i64>
 
 // Adds to the value of a key.
 fn add_to_row(rows: &mut Rows, key: i64, value: i64, more: i64) -> Result<Reply, NoMemory>
-    ensures reply { IfOk result (λ r. told r ≡ (added_at (Some value) key more rows.old.items).reply) }
+    ensures reply { IfOk result (λ r. plain_reply r ≡ (added_at (Some value) key more rows.old.items).reply) }
     ensures after { OnOk result (rows.new.items ≡ (added_at (Some value) key more rows.old.items).after) }
     ensures err { OnErr result (rows.new.items ≡ rows.old.items) }
 {
@@ -303,7 +303,7 @@ fn add_to_row(rows: &mut Rows, key: i64, value: i64, more: i64) -> Result<Reply,
 }
 
 fn shown(value: Option<i64>) -> Reply
-    ensures { told result ≡ value_or_absent value }
+    ensures { plain_reply result ≡ value_or_absent value }
 {
     match value {
         Some(value) => Reply::Value(value),
@@ -312,7 +312,7 @@ fn shown(value: Option<i64>) -> Reply
 }
 
 fn put_pair(rows: &mut Rows, full: bool, key: i64, value: i64) -> Result<Reply, NoMemory>
-    ensures reply { IfOk result (λ r. told r ≡ (put_effect full key value rows.old.items).reply) }
+    ensures reply { IfOk result (λ r. plain_reply r ≡ (put_effect full key value rows.old.items).reply) }
     ensures after { OnOk result (rows.new.items ≡ (put_effect full key value rows.old.items).after) }
     ensures err { OnErr result (rows.new.items ≡ rows.old.items) }
 {
@@ -325,14 +325,14 @@ fn put_pair(rows: &mut Rows, full: bool, key: i64, value: i64) -> Result<Reply, 
 }
 
 fn remove_pair(rows: &mut Rows, key: i64) -> Reply
-    ensures reply { told result ≡ (remove_effect key rows.old.items).reply }
+    ensures reply { plain_reply result ≡ (remove_effect key rows.old.items).reply }
     ensures after { rows.new.items ≡ (remove_effect key rows.old.items).after }
 {
     Reply::Flag(rows.remove(key))
 }
 
 fn push_value(rows: &mut Rows, full: bool, value: i64) -> Result<Reply, NoMemory>
-    ensures reply { IfOk result (λ r. told r ≡ (push_effect full value rows.old.items).reply) }
+    ensures reply { IfOk result (λ r. plain_reply r ≡ (push_effect full value rows.old.items).reply) }
     ensures after { OnOk result (rows.new.items ≡ (push_effect full value rows.old.items).after) }
     ensures err { OnErr result (rows.new.items ≡ rows.old.items) }
 {
@@ -346,7 +346,7 @@ fn push_value(rows: &mut Rows, full: bool, value: i64) -> Result<Reply, NoMemory
 }
 
 fn pop_value(rows: &mut Rows) -> Reply
-    ensures reply { told result ≡ (pop_effect (length rows.old.items) rows.old.items).reply }
+    ensures reply { plain_reply result ≡ (pop_effect (length rows.old.items) rows.old.items).reply }
     ensures after { rows.new.items ≡ (pop_effect (length rows.old.items) rows.old.items).after }
 {
     let size = rows.len();

@@ -2,8 +2,8 @@
 use Rattle.std.proofs.Common.{◌≡◌, ◌≤◌, ◌^◌, ℕ, true, false, List, [], ◌∷◌, map, length, Option, Some, None, Result, Ok, Err, refl, sym, ap, ◌∙◌, subst, arith, true≢false, inl, inr}
 use Rattle.std.specs.Prelude.{IfOk, IsSome}
 use Rattle.sto_part.specs.declared.NoMemory.{NoMemory}
-use Rattle.sto_model.specs.Told.{Told}
-use Rattle.sto_model.specs.Run.{Script}
+use Rattle.sto_model.specs.PlainReplies.{PlainReply}
+use Rattle.sto_model.specs.Run.{Behaviour}
 use Rattle.sto_model.specs.declared.call.Call.{Call}
 use Rattle.sto_model.specs.declared.run.End.TheVariants as E
 use Rattle.sto_model.specs.declared.shape.Shape.{Shape}
@@ -11,20 +11,20 @@ use Rattle.sto_type.specs.Meaning.{Meaning}
 use Rattle.sto_type.specs.Traits.{OfType}
 use Rattle.sto_core.specs.declared.cells.Cells as cells
 use Rattle.sto_core.specs.declared.view.View.{View}
-use Rattle.sto_history.specs.Records.{Place, Record, is_abort}
+use Rattle.sto_history.specs.Records.{TransactionPlace, Record, is_abort}
 use Rattle.sto_history.specs.Told.{IsFound}
 use Rattle.sto_history.specs.Counted.{times_committed}
 use Rattle.sto_history.specs.Tried.{HasTried}
 use Rattle.sto_transaction.specs.Plain.{verdict}
 use Rattle.sto_transaction.specs.Machines.{HasStopped, HasEnded}
-use Rattle.sto_transaction.specs.declared.machine.Ended.{Ended}
+use Rattle.sto_transaction.specs.declared.machine.FinishedAttempt.{FinishedAttempt}
 use Rattle.sto_interactive.specs.Scripts.{script_of}
 use Rattle.sto_interactive.specs.Bodies.{next_of, script_in, left_of, MayAskOf}
 use Rattle.sto_interactive.specs.Lives.{IsLive, HasCommitted, HasCancelled}
-use Rattle.sto_interactive.specs.declared.asked.Asked.{Asked}
+use Rattle.sto_interactive.specs.declared.asked.AskedCalls.{AskedCalls}
 use Rattle.sto_interactive.specs.declared.live.Live.{Live}
-use Rattle.sto_interactive.specs.declared.live.Stopped.{Stopped}
-use Rattle.sto_interactive.specs.declared.live.Stopped.TheVariants as stops
+use Rattle.sto_interactive.specs.declared.live.StepError.{StepError}
+use Rattle.sto_interactive.specs.declared.live.StepError.TheVariants as stops
 use Rattle.sto_action.specs.Shortened.{short_of}
 use Rattle.sto_action.specs.declared.short_reply.ShortReply.{ShortReply}
 use Rattle.sto_action.specs.Progs.{Prog, is_taken, IsGiven, IsCancelled, IsAsked}
@@ -47,7 +47,7 @@ seen_known v n (inr (inl h)) = inr (inl (record { entry = h.entry; there = h.the
 seen_known v n (inr (inr h)) = inr (inr h)
 
 -- a record of a script that the tree agrees with tells of the tree
-pub tried_atomic : {A : Type 0} (m : Meaning) (v w : View) (f : Script) (place : Place) (r : Record) (shapes : List Shape) (most : ℕ) (p : Prog A) (says : List ShortReply → Type 0)
+pub tried_atomic : {A : Type 0} (m : Meaning) (v w : View) (f : Behaviour) (place : TransactionPlace) (r : Record) (shapes : List Shape) (most : ℕ) (p : Prog A) (says : List ShortReply → Type 0)
     → HasTried m v w f place r → is_abort r.verdict ≡ false → Agree f (steps_of shapes most p) r.replies → says (map short_of r.replies) → IsAtomic m v w shapes most p says
 tried_atomic m v w f place r shapes most p says h ended agree said = record {
   replies = r.replies;
@@ -59,11 +59,11 @@ tried_atomic m v w f place r shapes most p says h ended agree said = record {
   said = said;
 }
 
-pub tried_none : (m : Meaning) (v w : View) (f : Script) (place : Place) (r : Record) → HasTried m v w f place r → is_abort r.verdict ≡ true → TakesNoEffect v w
+pub tried_none : (m : Meaning) (v w : View) (f : Behaviour) (place : TransactionPlace) (r : Record) → HasTried m v w f place r → is_abort r.verdict ≡ true → TakesNoEffect v w
 tried_none m v w f place r h abort t = let e = h.committed t in let none = abort_wrote t r.verdict abort in omega (arith, e, none)
 
 -- it is the one attempt that was aborted, and has its finding
-pub tried_aborted : (m : Meaning) (v w : View) (f : Script) (place : Place) (r : Record) → HasTried m v w f place r → is_abort r.verdict ≡ true → HaveAborted v w 1
+pub tried_aborted : (m : Meaning) (v w : View) (f : Behaviour) (place : TransactionPlace) (r : Record) → HasTried m v w f place r → is_abort r.verdict ≡ true → HaveAborted v w 1
 tried_aborted m v w f place r h abort = record {
   none = tried_none m v w f place r h abort;
   verdicts = r.verdict ∷ [];
@@ -74,16 +74,16 @@ tried_aborted m v w f place r h abort = record {
 
 module _ {T C A : Type 0} (t : OfType T) (k : OverKey T C) (p : Prog A) (passes : ℕ) (w : View) where
   -- the record of an end, at any place
-  abbrev EndedBy : Script → Ended Asked → Type 0
+  abbrev EndedBy : Behaviour → FinishedAttempt AskedCalls → Type 0
   EndedBy f e = HasEnded t.meaning t.valid t.sizes script_in next_of left_of MayAskOf passes k.ty f e k.begun w
 
   abbrev Once : Result (Option (Result A Halt)) NoMemory → Type 0
   Once r = HasTriedOnce (t.meaning k.ty) (t.sizes k.ty) passes k.begun w k.shapes p r
 
-  ended_once : (f : Script) (e : Ended Asked) (r : Result (Option (Result A Halt)) NoMemory) → EndedBy f e → Says (t.meaning k.ty) k.begun w k.shapes p r → (passes ≡ 1 → IfOk r IsSome) → Once r
+  ended_once : (f : Behaviour) (e : FinishedAttempt AskedCalls) (r : Result (Option (Result A Halt)) NoMemory) → EndedBy f e → Says (t.meaning k.ty) k.begun w k.shapes p r → (passes ≡ 1 → IfOk r IsSome) → Once r
   ended_once f e r h says alone = record { rests = h.rests; draws = (h.tried (0, 1)).draws; grows = (h.tried (0, 1)).grows; says = says; alone = alone }
 
-  pub aborted_once : (f : Script) (e : Ended Asked) → EndedBy f e → is_abort (verdict e.verdict) ≡ true → Once (Ok None)
+  pub aborted_once : (f : Behaviour) (e : FinishedAttempt AskedCalls) → EndedBy f e → is_abort (verdict e.verdict) ≡ true → Once (Ok None)
   aborted_once f e h abort =
       ended_once f e (Ok None) h (tried_aborted (t.meaning k.ty) k.begun w f (0, 1) _ (h.tried (0, 1)) abort) (λ one. absurd (true≢false (sym abort ∙ h.alone one)))
 
@@ -91,35 +91,35 @@ module _ {T C A : Type 0} (t : OfType T) (k : OverKey T C) (p : Prog A) (passes 
   stopped_once error h =
       record { rests = h.rests; draws = (let d = h.draws in omega (arith, d)); grows = h.grows; says = λ n. ap (times_committed n) h.entries; alone = λ one. tt }
 
-  few_calls : (calls : List Call) (rs : List Told) (l : Live T) (v : View) (most : ℕ) → IsLive t k.ty calls rs l k.begun v → 2 ^ 32 ≤ most → length calls ≤ most
+  few_calls : (calls : List Call) (rs : List PlainReply) (l : Live T) (v : View) (most : ℕ) → IsLive t k.ty calls rs l k.begun v → 2 ^ 32 ≤ most → length calls ≤ most
   few_calls calls rs l v most live large =
       let few = l.attempt.log.body.few in let same = ap length (calls_are t k.ty calls rs l k.begun v live) in omega (arith, few, same, large)
 
-  pub committed_once : (a : A) (l : Live T) (v : View) (s : WaitsSo t k (λ hs. Gave p hs a) l v) (e : Ended Asked) → HasCommitted t passes k.ty s.0 s.1 e k.begun w
+  pub committed_once : (a : A) (l : Live T) (v : View) (s : WaitsSo t k (λ hs. Gave p hs a) l v) (e : FinishedAttempt AskedCalls) → HasCommitted t passes k.ty s.0 s.1 e k.begun w
       → is_abort (verdict e.verdict) ≡ false → Once (Ok (Some (Ok a)))
   committed_once a l v s e h ended =
       let calls = s.0 in let rs = s.1 in
       ended_once (script_of calls E.Commit) e (Ok (Some (Ok a))) h.ended
       (λ most large. tried_atomic (t.meaning k.ty) k.begun w (script_of calls E.Commit) (0, 1) _ k.shapes most p (λ hs. IsGiven p hs a) (h.ended.tried (0, 1)) ended
       (subst (Agree (script_of calls E.Commit) (steps_of k.shapes most p)) (sym h.replies) (gave_agree k.shapes most p calls rs a s.2.all (few_calls calls rs l v most s.2 large) s.3 s.4))
-      (subst (λ (ss : List Told). IsGiven p (map short_of ss) a) (sym h.replies) (gave_given p calls rs a s.2.all s.4)))
+      (subst (λ (ss : List PlainReply). IsGiven p (map short_of ss) a) (sym h.replies) (gave_given p calls rs a s.2.all s.4)))
       (λ one. refl)
 
-  pub commit_aborted : (a : A) (l : Live T) (v : View) (s : WaitsSo t k (λ hs. Gave p hs a) l v) (e : Ended Asked) → HasCommitted t passes k.ty s.0 s.1 e k.begun w
+  pub commit_aborted : (a : A) (l : Live T) (v : View) (s : WaitsSo t k (λ hs. Gave p hs a) l v) (e : FinishedAttempt AskedCalls) → HasCommitted t passes k.ty s.0 s.1 e k.begun w
       → is_abort (verdict e.verdict) ≡ true → Once (Ok None)
   commit_aborted a l v s e h abort = aborted_once (script_of s.0 E.Commit) e h.ended abort
 
-  pub cancelled_once : (l : Live T) (v : View) (s : WaitsSo t k (GaveUp p) l v) (e : Ended Asked) → HasCancelled t passes k.ty s.0 s.1 e k.begun w → Once (Ok (Some (Err halts.Cancels)))
+  pub cancelled_once : (l : Live T) (v : View) (s : WaitsSo t k (GaveUp p) l v) (e : FinishedAttempt AskedCalls) → HasCancelled t passes k.ty s.0 s.1 e k.begun w → Once (Ok (Some (Err halts.Cancels)))
   cancelled_once l v s e h =
       let calls = s.0 in let rs = s.1 in
       ended_once (script_of calls E.Cancel) e (Ok (Some (Err halts.Cancels))) h.ended
       (λ most large. tried_atomic (t.meaning k.ty) k.begun w (script_of calls E.Cancel) (0, 1) _ k.shapes most p (λ hs. IsCancelled p hs) (h.ended.tried (0, 1))
       (ap (λ x. is_abort (verdict x)) h.verdict)
       (subst (Agree (script_of calls E.Cancel) (steps_of k.shapes most p)) (sym h.replies) (gave_up_agree k.shapes most p calls rs s.2.all (few_calls calls rs l v most s.2 large) s.3 s.4))
-      (subst (λ (ss : List Told). IsCancelled p (map short_of ss)) (sym h.replies) (gave_up_cancelled p calls rs s.2.all s.4)))
+      (subst (λ (ss : List PlainReply). IsCancelled p (map short_of ss)) (sym h.replies) (gave_up_cancelled p calls rs s.2.all s.4)))
       (λ one. refl)
 
-  pub refused_once : (call : Call) (l : Live T) (v : View) (s : WaitsSo t k (λ hs. Wants p hs call) l v) → is_taken k.shapes call ≡ false → (e : Ended Asked)
+  pub refused_once : (call : Call) (l : Live T) (v : View) (s : WaitsSo t k (λ hs. Wants p hs call) l v) → is_taken k.shapes call ≡ false → (e : FinishedAttempt AskedCalls)
       → HasCancelled t passes k.ty s.0 s.1 e k.begun w → Once (Ok (Some (Err (halts.Untaken call))))
   refused_once call l v s refused e h =
       let calls = s.0 in let rs = s.1 in
@@ -128,12 +128,12 @@ module _ {T C A : Type 0} (t : OfType T) (k : OverKey T C) (p : Prog A) (passes 
       (ap (λ x. is_abort (verdict x)) h.verdict)
       (subst (Agree (script_of calls E.Cancel) (steps_of k.shapes most p)) (sym h.replies)
       (wants_agree k.shapes most p calls rs call s.2.all (few_calls calls rs l v most s.2 large) s.3 s.4 refused))
-      (subst (λ (ss : List Told). IsAsked p (map short_of ss) call) (sym h.replies) (wants_asked p calls rs call s.2.all s.4)))
+      (subst (λ (ss : List PlainReply). IsAsked p (map short_of ss) call) (sym h.replies) (wants_asked p calls rs call s.2.all s.4)))
       (λ one. refl)
 
 -- by why it stopped, or why its code did
 module _ {T C A : Type 0} (t : OfType T) (c : cells.Ghosts C T) (k : OverKey T C) (p : Prog A) where
-  pub abort_once : (passes : ℕ) (w : View) (stop : Stopped) (l : Live T) → c.passes k.start ≡ passes → is_aborted stop ≡ true → StandsBy t c k (Some stop) l w
+  pub abort_once : (passes : ℕ) (w : View) (stop : StepError) (l : Live T) → c.passes k.start ≡ passes → is_aborted stop ≡ true → StandsBy t c k (Some stop) l w
       → HasTriedOnce (t.meaning k.ty) (t.sizes k.ty) passes k.begun w k.shapes p (Ok None)
   abort_once passes w (stops.Aborted x) l same is h =
       subst (λ (n : ℕ). HasTriedOnce (t.meaning k.ty) (t.sizes k.ty) n k.begun w k.shapes p (Ok None)) same
@@ -141,30 +141,30 @@ module _ {T C A : Type 0} (t : OfType T) (c : cells.Ghosts C T) (k : OverKey T C
   abort_once passes w stops.Untaken l same is h = absurd h
   abort_once passes w stops.NoMemory l same is h = absurd (true≢false (sym is))
 
-  pub want_once : (passes : ℕ) (w : View) (stop : Stopped) (l : Live T) (error : NoMemory) → is_aborted stop ≡ false → StandsBy t c k (Some stop) l w
+  pub want_once : (passes : ℕ) (w : View) (stop : StepError) (l : Live T) (error : NoMemory) → is_aborted stop ≡ false → StandsBy t c k (Some stop) l w
       → HasTriedOnce (t.meaning k.ty) (t.sizes k.ty) passes k.begun w k.shapes p (Err error)
   want_once passes w (stops.Aborted x) l error is h = absurd (true≢false is)
   want_once passes w stops.Untaken l error is h = absurd h
   want_once passes w stops.NoMemory l error is h = stopped_once t k p passes w error h
 
-  pub live_of : (halt : Halt) (l : Live T) (v : View) → After t c k p None (Err halt) l v → (ty : T) × (calls : List Call) × (rs : List Told) × (begun : View) × (u : View) × IsLive t ty calls rs l begun u
+  pub live_of : (halt : Halt) (l : Live T) (v : View) → After t c k p None (Err halt) l v → (ty : T) × (calls : List Call) × (rs : List PlainReply) × (begun : View) × (u : View) × IsLive t ty calls rs l begun u
   live_of halts.Over l v h = absurd h
   live_of (halts.Untaken call) l v h = (k.ty, h.0.0, h.0.1, k.begun, v, h.0.2)
   live_of halts.Cancels l v h = (k.ty, h.0, h.1, k.begun, v, h.2)
 
-  pub cancel_once : (passes : ℕ) (halt : Halt) (l : Live T) (v : View) (e : Ended Asked) → After t c k p None (Err halt) l v
-      → ((calls : List Call) (rs : List Told) → IsLive t k.ty calls rs l k.begun v → HasCancelled t passes k.ty calls rs e k.begun v)
+  pub cancel_once : (passes : ℕ) (halt : Halt) (l : Live T) (v : View) (e : FinishedAttempt AskedCalls) → After t c k p None (Err halt) l v
+      → ((calls : List Call) (rs : List PlainReply) → IsLive t k.ty calls rs l k.begun v → HasCancelled t passes k.ty calls rs e k.begun v)
       → HasTriedOnce (t.meaning k.ty) (t.sizes k.ty) passes k.begun v k.shapes p (Ok (Some (Err halt)))
   cancel_once passes halts.Over l v e h ends = absurd h
   cancel_once passes (halts.Untaken call) l v e h ends = refused_once t k p passes v call l v h.0 h.1 e (ends h.0.0 h.0.1 h.0.2)
   cancel_once passes halts.Cancels l v e h ends = cancelled_once t k p passes v l v h e (ends h.0 h.1 h.2)
 
   pub cancel_stopped : (passes : ℕ) (halt : Halt) (l : Live T) (v : View) (error : NoMemory) → After t c k p None (Err halt) l v
-      → ((calls : List Call) (rs : List Told) → IsLive t k.ty calls rs l k.begun v → HasStopped (t.meaning k.ty) (t.sizes k.ty) k.begun v)
+      → ((calls : List Call) (rs : List PlainReply) → IsLive t k.ty calls rs l k.begun v → HasStopped (t.meaning k.ty) (t.sizes k.ty) k.begun v)
       → HasTriedOnce (t.meaning k.ty) (t.sizes k.ty) passes k.begun v k.shapes p (Err error)
   cancel_stopped passes halts.Over l v error h ends = absurd h
   cancel_stopped passes (halts.Untaken call) l v error h ends = stopped_once t k p passes v error (ends h.0.0 h.0.1 h.0.2)
   cancel_stopped passes halts.Cancels l v error h ends = stopped_once t k p passes v error (ends h.0 h.1 h.2)
 
-  pub after_as : (o o' : Option Stopped) (r r' : Result A Halt) (l : Live T) (v : View) → o ≡ o' → r ≡ r' → After t c k p o r l v → After t c k p o' r' l v
-  after_as o o' r r' l v e f h = subst (λ (x : Option Stopped). After t c k p x r' l v) e (subst (λ (x : Result A Halt). After t c k p o x l v) f h)
+  pub after_as : (o o' : Option StepError) (r r' : Result A Halt) (l : Live T) (v : View) → o ≡ o' → r ≡ r' → After t c k p o r l v → After t c k p o' r' l v
+  after_as o o' r r' l v e f h = subst (λ (x : Option StepError). After t c k p x r' l v) e (subst (λ (x : Result A Halt). After t c k p o x l v) f h)

@@ -3,7 +3,7 @@ use Rattle.std.specs.Prelude.{◌≡◌, ◌≤◌, ◌+◌, ◌^◌, ℕ, Bool,
 use Rattle.sto_part.specs.declared.NoMemory.{NoMemory}
 use Rattle.sto_model.specs.declared.call.Call.{Call}
 use Rattle.sto_model.specs.declared.shape.Shape.{Shape}
-use Rattle.sto_model.specs.Told.{Told}
+use Rattle.sto_model.specs.PlainReplies.{PlainReply}
 use Rattle.sto_type.specs.Meaning.{Meaning}
 use Rattle.sto_type.specs.Traits.{OfType}
 use Rattle.sto_core.specs.declared.cells.Cells as cells
@@ -12,8 +12,8 @@ use Rattle.sto_history.specs.Added.{Grows}
 use Rattle.sto_transaction.specs.Resting.{IsAtRest}
 use Rattle.sto_interactive.specs.Lives.{IsLive}
 use Rattle.sto_interactive.specs.declared.live.Live.{Live}
-use Rattle.sto_interactive.specs.declared.live.Stopped.{Stopped}
-use Rattle.sto_interactive.specs.declared.live.Stopped.TheVariants as stops
+use Rattle.sto_interactive.specs.declared.live.StepError.{StepError}
+use Rattle.sto_interactive.specs.declared.live.StepError.TheVariants as stops
 use Rattle.sto_action.specs.Shortened.{short_of}
 use Rattle.sto_action.specs.Progs.{Prog, IsTakenCall, is_taken, IsGiven, IsCancelled, IsAsked}
 use Rattle.sto_action.specs.declared.short_reply.ShortReply.{ShortReply}
@@ -25,7 +25,7 @@ use Rattle.sto_once.specs.Agreeing.{paired, AllTaken}
 use Rattle.sto_once.specs.Over.{OverKey, StandsBy}
 
 -- it met an abort
-abbrev pub is_aborted : Stopped → Bool
+abbrev pub is_aborted : StepError → Bool
 is_aborted (stops.Aborted x) = true
 is_aborted _ = false
 
@@ -38,11 +38,11 @@ MayRun t k l v = IsLive t k.ty [] [] l k.begun v × ((call : Call) → IsTakenCa
 
 -- it waits, and its calls, so answered, are such
 abbrev pub WaitsSo : {T C : Type 0} → OfType T → OverKey T C → (List Heard → Type 0) → Live T → View → Type 0
-WaitsSo t k P l v = (calls : List Call) × (rs : List Told) × IsLive t k.ty calls rs l k.begun v × AllTaken k.shapes calls × P (paired calls (map short_of rs))
+WaitsSo t k P l v = (calls : List Call) × (rs : List PlainReply) × IsLive t k.ty calls rs l k.begun v × AllTaken k.shapes calls × P (paired calls (map short_of rs))
 
 module _ {T C : Type 0} (t : OfType T) (c : cells.Ghosts C T) where
   -- how it stands after code that does p
-  abbrev pub After : {A : Type 0} → OverKey T C → Prog A → Option Stopped → Result A Halt → Live T → View → Type 0
+  abbrev pub After : {A : Type 0} → OverKey T C → Prog A → Option StepError → Result A Halt → Live T → View → Type 0
   After k p (Some stop) said l v = StandsBy t c k (Some stop) l v
   After k p None (Ok a) l v = WaitsSo t k (λ hs. Gave p hs a) l v
   After k p None (Err halts.Over) l v = ⊥

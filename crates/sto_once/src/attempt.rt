@@ -14,7 +14,7 @@ use crate::over::OverLive;
 use std::alloc::Global;
 use sto_attempt::Verdict;
 use sto_core::Cells;
-use sto_interactive::{Live, StepLists, Stopped};
+use sto_interactive::{Live, StepError, StepLists};
 use sto_model::Shapes;
 use sto_part::NoMemory;
 use sto_type::TxType;
@@ -56,7 +56,7 @@ fn run_over<'t, T: TxType, K: Code, C: Cells<T>>(
     shapes: &Shapes,
     cells: C,
     code: &K,
-) -> (Live<'t, T>, C, Option<Stopped>, Result<K::Out, Halt>)
+) -> (Live<'t, T>, C, Option<StepError>, Result<K::Out, Halt>)
     requires { (ty : T) × (begun : View) × MayRun T.TxType (key_of ty begun cells shapes.now.items) live (C.view cells) }
     ensures ran { (ty : T) (begun : View) → MayRun T.TxType (key_of ty begun cells shapes.now.items) live.entry (C.view cells)
         → After T.TxType C.Cells (key_of ty begun cells shapes.now.items) (K.does code.now) result.2 result.3 result.0 (C.view result.1) }
@@ -86,7 +86,7 @@ fn end<T: TxType, C: Cells<T>, A: Drop>(
     live: Live<'_, T>,
     cells: &mut C,
     memory: &mut StepLists,
-    stopped: Option<Stopped>,
+    stopped: Option<StepError>,
     said: Result<A, Halt>,
 ) -> Result<Option<Result<A, Halt>>, NoMemory>
     requires { (k : OverKey T C) × (p : Prog A) × After T.TxType C.Cells k p stopped said live (C.view cells.old) × C.same k.start cells.old }
@@ -159,10 +159,10 @@ fn cancel<T: TxType, C: Cells<T>, A: Drop>(
 }
 
 // Whether it met an abort.
-fn is_aborted(stop: Stopped) -> bool
+fn is_aborted(stop: StepError) -> bool
     ensures { result ≡ is_aborted stop }
 {
-    matches!(stop, Stopped::Aborted(_))
+    matches!(stop, StepError::Aborted(_))
 }
 
 // Whether the attempt was aborted.

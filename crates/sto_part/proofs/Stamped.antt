@@ -8,13 +8,13 @@ use Rattle.sto_part.specs.declared.index.Stamp.{Stamp}
 use Rattle.sto_part.specs.Index.{place_at}
 use Rattle.sto_part.specs.Stamps.{place_of, IsUpTo, fresh}
 
--- a stamp of this turn tells its place
-now_there : (t k : ℕ) → place_of t (record { turn = t; place = k }) ≡ Some k
+-- a stamp of this generation tells its place
+now_there : (t k : ℕ) → place_of t (record { generation = t; place = k }) ≡ Some k
 now_there t k = let hit : nat_eq t t ≡ true = grind (arith, nat_tests) in rw hit refl
 
--- a stamp of an earlier turn tells nothing
-not_there : (t : ℕ) (s : Stamp) → s.turn < t → place_of t s ≡ None
-not_there t s early = let miss : nat_eq s.turn t ≡ false = grind (arith, nat_tests) in rw miss refl
+-- a stamp of an earlier generation tells nothing
+not_there : (t : ℕ) (s : Stamp) → s.generation < t → place_of t s ≡ None
+not_there t s early = let miss : nat_eq s.generation t ≡ false = grind (arith, nat_tests) in rw miss refl
 
 both_next : (i q : ℕ) → nat_eq (suc i) (suc q) ≡ nat_eq i q
 both_next i q = elim (cases_Bool (nat_eq i q)) [
@@ -22,7 +22,7 @@ both_next i q = elim (cases_Bool (nat_eq i q)) [
   | inr miss ↦ let next : nat_eq (suc i) (suc q) ≡ false = grind (arith, nat_tests) in next ∙ sym miss
 ]
 
-pub put_at : (t : ℕ) (ss : List Stamp) (i k q : ℕ) → i < length ss → place_at (map (place_of t) (slice_set ss i (record { turn = t; place = k }))) q ≡ (if nat_eq i q then Some k else place_at (map (place_of t) ss) q)
+pub put_at : (t : ℕ) (ss : List Stamp) (i k q : ℕ) → i < length ss → place_at (map (place_of t) (slice_set ss i (record { generation = t; place = k }))) q ≡ (if nat_eq i q then Some k else place_at (map (place_of t) ss) q)
 put_at t [] i k q within = absurd (omega (arith, within))
 put_at t (s ∷ ss) zero k zero within = now_there t k
 put_at t (s ∷ ss) zero k (suc q) within = let miss : nat_eq 0 (suc q) ≡ false = grind (arith, nat_tests) in rw miss refl
@@ -34,7 +34,7 @@ up_to_rest t s ss all k d within = all (suc k) d (omega (arith, within))
 
 pub none_past : (t u : ℕ) (ss : List Stamp) → All (IsUpTo t) ss → t < u → (q : ℕ) → place_at (map (place_of u) ss) q ≡ None
 none_past t u [] all past q = refl
-none_past t u (s ∷ ss) all past zero = not_there u s (let first : s.turn ≤ t = all 0 s (omega arith) in omega (arith, first, past))
+none_past t u (s ∷ ss) all past zero = not_there u s (let first : s.generation ≤ t = all 0 s (omega arith) in omega (arith, first, past))
 none_past t u (s ∷ ss) all past (suc q) = none_past t u ss (up_to_rest t s ss all) past q
 
 none_fresh : (t n q : ℕ) → 1 ≤ t → place_at (map (place_of t) (replicate n fresh)) q ≡ None
@@ -63,7 +63,7 @@ up_to_wiped t (s ∷ ss) zero d within = omega arith
 up_to_wiped t (s ∷ ss) (suc k) d within = up_to_wiped t ss k d (omega (arith, within))
 
 pub up_to_more : (t u : ℕ) (ss : List Stamp) → All (IsUpTo t) ss → t ≤ u → All (IsUpTo u) ss
-up_to_more t u ss all more k d within = let one : (slice_index_or ss k d).turn ≤ t = all k d within in omega (arith, one, more)
+up_to_more t u ss all more k d within = let one : (slice_index_or ss k d).generation ≤ t = all k d within in omega (arith, one, more)
 
 any_default : (ys : List Stamp) (i : ℕ) (d e : Stamp) → i < length ys → slice_index_or ys i d ≡ slice_index_or ys i e
 any_default [] i d e within = absurd (omega (arith, within))

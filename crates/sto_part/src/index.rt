@@ -8,20 +8,20 @@ use crate::list::List;
 use std::alloc::Global;
 use std::marker::Model;
 
-/// A place, and the turn in which it was noted.
+/// A place, and the generation in which it was noted.
 #[derive(Clone, Copy, Debug)]
 pub struct Stamp {
-    /// The turn.
-    pub turn: u32,
+    /// The generation.
+    pub generation: u32,
     /// The place.
     pub place: u32,
 }
 
-/// Places of parts by their numbers. All are forgotten in one step, by a turn that no stamp has.
+/// Places of parts by their numbers. All are forgotten in one step, by a generation that no stamp has.
 #[derive(Drop)]
 pub struct PartIndex {
     stamps: List<Stamp>,
-    turn: u32,
+    generation: u32,
 }
 
 impl Model for PartIndex {
@@ -31,9 +31,9 @@ impl Model for PartIndex {
 
     ghost Value = { List (Option ℕ) };
 
-    ghost view = { λ i. map (place_of i.turn) i.stamps.items };
+    ghost view = { λ i. map (place_of i.generation) i.stamps.items };
 
-    ghost invariant = { λ i. (1 ≤ i.turn) × All (IsUpTo i.turn) i.stamps.items };
+    ghost invariant = { λ i. (1 ≤ i.generation) × All (IsUpTo i.generation) i.stamps.items };
 }
 
 impl PartIndex {
@@ -43,7 +43,7 @@ impl PartIndex {
     {
         PartIndex {
             stamps: List::new(alloc),
-            turn: 1,
+            generation: 1,
         }
     }
 
@@ -53,7 +53,7 @@ impl PartIndex {
     {
         if part < self.stamps.len() {
             let stamp = *self.stamps.get(part);
-            if stamp.turn == self.turn {
+            if stamp.generation == self.generation {
                 return Some(stamp.place);
             }
         }
@@ -82,7 +82,7 @@ impl PartIndex {
         ensures room { length self.new ≡ length self.old }
     {
         let stamp = Stamp {
-            turn: self.turn,
+            generation: self.generation,
             place,
         };
         self.stamps.set(part, stamp);
@@ -93,16 +93,16 @@ impl PartIndex {
         ensures none { (q : ℕ) → place_at self.new q ≡ None }
         ensures room { length self.new ≡ length self.old }
     {
-        if self.turn < u32::MAX {
-            self.turn += 1;
+        if self.generation < u32::MAX {
+            self.generation += 1;
         } else {
             wipe(&mut self.stamps);
-            self.turn = 1;
+            self.generation = 1;
         }
     }
 }
 
-// Adds so many stamps of no turn.
+// Adds so many stamps of no generation.
 fn lengthen(stamps: &mut List<Stamp>, more: u32) -> Result<(), NoMemory>
     requires { length stamps.old.items + more < 2 ^ 32 }
     ensures ok { OnOk result (stamps.new.items ≡ stamps.old.items ++ replicate more fresh) }
@@ -110,16 +110,25 @@ fn lengthen(stamps: &mut List<Stamp>, more: u32) -> Result<(), NoMemory>
 {
     stamps.reserve(more)?;
     for _ in 0..more {
-        stamps.push_spare(Stamp { turn: 0, place: 0 });
+        stamps.push_spare(Stamp {
+            generation: 0,
+            place: 0,
+        });
     }
     Ok(())
 }
 
-// Makes all stamps those of no turn.
+// Makes all stamps those of no generation.
 fn wipe(stamps: &mut List<Stamp>)
     ensures { stamps.new.items ≡ map (λ _. fresh) stamps.old.items }
 {
     for part in 0..stamps.len() {
-        stamps.set(part, Stamp { turn: 0, place: 0 });
+        stamps.set(
+            part,
+            Stamp {
+                generation: 0,
+                place: 0,
+            },
+        );
     }
 }

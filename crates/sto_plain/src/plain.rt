@@ -13,7 +13,7 @@ ghost use Rattle.sto_plain.specs.Passes.{view_of, noted, Steps};
 
 use std::alloc::Global;
 use std::marker::{Brand, Model, PhantomData};
-use sto_core::{Closed, Notebook, Noted, Told, Versions};
+use sto_core::{Closed, EventName, Notebook, Noted, Versions};
 use sto_item::Updates;
 use sto_part::{Contents, List, Naming, NoMemory, Parts};
 use sto_version::{FREE0, Version};
@@ -46,13 +46,13 @@ impl<T: Naming> Model for Plain<T> {
 }
 
 // Writes down what an event makes of the view of its pass.
-fn note_event<E: Told>(book: &mut Notebook, pass: u32, found: u64, value: i64)
+fn note_event<E: EventName>(book: &mut Notebook, pass: u32, found: u64, value: i64)
     ensures { book.new ≡ noted E.event book.old pass found value }
 {
     note_views::<E, Brand>(book, pass, found, value);
 }
 
-fn note_views<E: Told, N: Noted>(book: &mut Notebook, pass: u32, found: u64, value: i64)
+fn note_views<E: EventName, N: Noted>(book: &mut Notebook, pass: u32, found: u64, value: i64)
     requires { N.views ≡ noted E.event book.old pass found value }
     ensures { book.new ≡ noted E.event book.old pass found value }
 {
@@ -185,7 +185,7 @@ impl<T: Naming> Plain<T> {
     }
 
     // The load of the clock that begins an attempt, or renews the number that it reads as of.
-    pub(crate) fn load_clock<E: Told>(&mut self, pass: u32) -> u64
+    pub(crate) fn load_clock<E: EventName>(&mut self, pass: u32) -> u64
         requires event { LoadsClock E.event }
         requires inside { pass < length self.old.views }
         requires allowed { Allowed T.valid E.event (view_of self.old pass) }
@@ -197,7 +197,7 @@ impl<T: Naming> Plain<T> {
     }
 
     // The load of a version that begins or ends a read or a test, or looks whether the part is as it was.
-    pub(crate) fn load_version<E: Told>(&mut self, pass: u32, part: u32) -> Version
+    pub(crate) fn load_version<E: EventName>(&mut self, pass: u32, part: u32) -> Version
         requires event { LoadsVersion E.event part }
         requires inside { pass < length self.old.views }
         requires allowed { Allowed T.valid E.event (view_of self.old pass) }
@@ -209,7 +209,7 @@ impl<T: Naming> Plain<T> {
     }
 
     // The load of a content word.
-    pub(crate) fn load_word<E: Told>(&mut self, pass: u32, part: u32, word: u32) -> i64
+    pub(crate) fn load_word<E: EventName>(&mut self, pass: u32, part: u32, word: u32) -> i64
         requires event { E.event ≡ Word part word }
         requires inside { pass < length self.old.views }
         requires allowed { Allowed T.valid E.event (view_of self.old pass) }
@@ -221,7 +221,7 @@ impl<T: Naming> Plain<T> {
     }
 
     // The lock bit set, as by `fetch_or`.
-    pub(crate) fn set_lock<E: Told>(&mut self, pass: u32, part: u32) -> Version
+    pub(crate) fn set_lock<E: EventName>(&mut self, pass: u32, part: u32) -> Version
         requires event { E.event ≡ Lock part }
         requires inside { pass < length self.old.views }
         requires allowed { Allowed T.valid E.event (view_of self.old pass) }
@@ -234,7 +234,7 @@ impl<T: Naming> Plain<T> {
     }
 
     // The clock raised by 1, as by `fetch_add`.
-    pub(crate) fn raise_clock<E: Told>(
+    pub(crate) fn raise_clock<E: EventName>(
         &mut self,
         pass: u32,
         updates: &Updates,
@@ -256,7 +256,7 @@ impl<T: Naming> Plain<T> {
     }
 
     // The status word stored.
-    pub(crate) fn store_status<E: Told>(&mut self, pass: u32, commit: bool)
+    pub(crate) fn store_status<E: EventName>(&mut self, pass: u32, commit: bool)
         requires event { E.event ≡ Decide commit }
         requires inside { pass < length self.old.views }
         requires allowed { Allowed T.valid E.event (view_of self.old pass) }
@@ -268,7 +268,7 @@ impl<T: Naming> Plain<T> {
     }
 
     // A content word stored.
-    pub(crate) fn store_word<E: Told>(&mut self, pass: u32, part: u32, word: u32, value: i64)
+    pub(crate) fn store_word<E: EventName>(&mut self, pass: u32, part: u32, word: u32, value: i64)
         requires event { E.event ≡ Put part word value }
         requires inside { pass < length self.old.views }
         requires allowed { Allowed T.valid E.event (view_of self.old pass) }
@@ -279,7 +279,7 @@ impl<T: Naming> Plain<T> {
     }
 
     // The version stored with the pass's ticket and a clear lock bit.
-    pub(crate) fn store_version<E: Told>(&mut self, pass: u32, part: u32)
+    pub(crate) fn store_version<E: EventName>(&mut self, pass: u32, part: u32)
         requires event { E.event ≡ Release part }
         requires inside { pass < length self.old.views }
         requires allowed { Allowed T.valid E.event (view_of self.old pass) }
@@ -291,7 +291,7 @@ impl<T: Naming> Plain<T> {
     }
 
     // The lock bit cleared, as by `fetch_and`.
-    pub(crate) fn clear_lock<E: Told>(&mut self, pass: u32, part: u32)
+    pub(crate) fn clear_lock<E: EventName>(&mut self, pass: u32, part: u32)
         requires event { E.event ≡ Unlock part }
         requires inside { pass < length self.old.views }
         requires allowed { Allowed T.valid E.event (view_of self.old pass) }

@@ -5,7 +5,7 @@ use Rattle.std.specs.Int.RustNames.{FitsSigned}
 use Rattle.sto_part.specs.declared.change.Change.TheVariants.{Put}
 use Rattle.sto_part.specs.declared.pred.Test.TheVariants.{Eq}
 use Rattle.sto_model.specs.declared.call.Call.{Call}
-use Rattle.sto_model.specs.Told.{Value}
+use Rattle.sto_model.specs.PlainReplies.{Value}
 use Rattle.sto_type.specs.Known.{Parts}
 use Rattle.sto_type.specs.Meaning.{Meaning, IsUpdated}
 use Rattle.sto_type.specs.Telling.{Telling, Read, Tell}

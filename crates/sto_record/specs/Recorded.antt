@@ -12,9 +12,9 @@ use Rattle.sto_model.specs.declared.operation.Operation.{Operation}
 use Rattle.sto_model.specs.declared.operation.Operation.TheVariants.{Get, Set, Add, Scan}
 use Rattle.sto_model.specs.Operations.{operation_of}
 use Rattle.sto_model.specs.Rows.{Row, value_at, with_row}
-use Rattle.sto_model.specs.Told.{Done, Value, Absent, Pairs}
+use Rattle.sto_model.specs.PlainReplies.{Done, Value, Absent, Pairs}
 use Rattle.sto_model.specs.Objects.{Effect, effect, value_or_absent}
-use Rattle.sto_model.specs.Machine.{Machine}
+use Rattle.sto_model.specs.SequentialObjects.{SequentialObject}
 use Rattle.sto_type.specs.Known.{Parts, ContentsFit}
 use Rattle.sto_type.specs.Meaning.{Meaning}
 use Rattle.sto_type.specs.Telling.{Telling, Read, Tell}
@@ -39,7 +39,7 @@ record_effect (Some Set) i v rows = set_at (value_at rows i) i v rows
 record_effect (Some Add) i d rows = add_at (value_at rows i) i d rows
 record_effect o a b rows = effect Absent rows
 
-abbrev pub record_machine : ℕ → ℤ → Machine
+abbrev pub record_machine : ℕ → ℤ → SequentialObject
 record_machine w first =
     record {
       opening = numbered 0 (replicate w first);

@@ -12,10 +12,10 @@ use Rattle.sto_model.specs.declared.call.Call.{Call}
 use Rattle.sto_model.specs.declared.operation.Operation.TheVariants.{Get, Set, Add, Scan}
 use Rattle.sto_model.specs.Operations.{operation_of}
 use Rattle.sto_model.specs.Rows.{value_at, with_row}
-use Rattle.sto_model.specs.Told.{is_write}
-use Rattle.sto_model.specs.Told as T
+use Rattle.sto_model.specs.PlainReplies.{is_write}
+use Rattle.sto_model.specs.PlainReplies as T
 use Rattle.sto_model.specs.Objects.{value_or_absent}
-use Rattle.sto_model.specs.Machine.{reply_to, state_after}
+use Rattle.sto_model.specs.SequentialObjects.{reply_to, state_after}
 use Rattle.sto_type.specs.Known.{Parts, WordsFit}
 use Rattle.sto_type.specs.Meaning.{Meaning, IsLawful, IsUpdated}
 use Rattle.sto_type.specs.Telling.{Tell}

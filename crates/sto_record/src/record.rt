@@ -4,7 +4,7 @@ ghost use Rattle.std.specs.Int.{w64};
 ghost use Rattle.std.specs.Int.RustNames.{FitsSigned};
 ghost use Rattle.std.specs.Option.{option_map};
 ghost use Rattle.sto_model.specs.Operations.{operation_of};
-ghost use Rattle.sto_model.specs.Told.{Done as ToldDone, Value as ToldValue, Pairs as ToldPairs};
+ghost use Rattle.sto_model.specs.PlainReplies.{Done as ToldDone, Value as ToldValue, Pairs as ToldPairs};
 ghost use Rattle.sto_part.specs.declared.pred.Test.TheVariants.{Eq as TestEq};
 ghost use Rattle.sto_item.specs.declared.item.Item.TheVariants.{Seen};
 ghost use Rattle.sto_item.specs.Pending.{is_keep};
@@ -21,7 +21,10 @@ use sto_container::absent;
 use sto_item::Item;
 use sto_model::{Call, Operation, Reply, State};
 use sto_part::{Change, Contents, Naming, NoMemory, PartWords, Test};
-use sto_type::{Answer, AnswerPool, Home, KnownParts, TxType, compares, index_in, one_change, one_item, pairs_of, rows_of, word_at};
+use sto_type::{
+    Answer, AnswerPool, Home, KnownParts, TxType, compares, index_in, one_change, one_item,
+    pairs_of, rows_of, word_at,
+};
 
 /// A record of so many words. Its contents are one part.
 #[derive(Drop)]

@@ -11,7 +11,7 @@ use Rattle.sto_model.specs.Run.{State}
 use Rattle.sto_syntax.specs.Words.{is_name}
 use Rattle.sto_lang.specs.Objects.{Declaration, HaveNames}
 use Rattle.sto_report_spec.specs.EndingTexts.{ending_text}
-use Rattle.sto_report_spec.specs.Orders.{Place}
+use Rattle.sto_report_spec.specs.Orders.{TransactionPlace}
 use Rattle.sto_report_spec.specs.Replay.{Entry}
 use Rattle.sto_report_spec.specs.Report.{name_at, spaced_reply, line_text, rows_text, rows_of, object_text}
 use Rattle.sto_report_spec.specs.Named.{is_line_feed, is_space, is_dot, is_digit, place_in, place_of_pieces, named_in, places_in, order_named, AreNames, IsNamable}
@@ -22,11 +22,11 @@ use Rattle.sto_report_spec.proofs.Printable.{IsPrintable, printable_append, prin
 use Rattle.sto_report_spec.proofs.Names.{name_no_digit, name_printable, name_lacks_space, name_lacks_dot, HasName, has_name}
 
 -- the name of the place's thread is found at it, and its position is a machine word
-pub record HasWord (names : List (List ℕ)) (place : Place) : Type 0 where
+pub record HasWord (names : List (List ℕ)) (place : TransactionPlace) : Type 0 where
   pub thread : HasName names place.0
   pub position : place.1 < 2 ^ 64
 
-pub has_word : (names : List (List ℕ)) (place : Place) → AreNames names → IsNamable names place → HasWord names place
+pub has_word : (names : List (List ℕ)) (place : TransactionPlace) → AreNames names → IsNamable names place → HasWord names place
 has_word names place h small = record { thread = has_name names place.0 h small.thread; position = small.position }
 
 -- digits are no spaces and no dots
@@ -53,26 +53,26 @@ value_of_decimal : (n : ℕ) → n < 2 ^ 64 → digits_value 10 (decimal n) ≡ 
 value_of_decimal n small = (decimal_is_IsNumeral n small).1
 
 -- `NAME.J`
-abbrev pub word_of : List (List ℕ) → Place → List ℕ
+abbrev pub word_of : List (List ℕ) → TransactionPlace → List ℕ
 word_of names place = name_at names place.0 ++ 46 ∷ decimal place.1
 
-pub word_names : (names : List (List ℕ)) (place : Place) → HasWord names place → place_of_pieces names (slice_split is_dot (word_of names place)) ≡ place ∷ []
+pub word_names : (names : List (List ℕ)) (place : TransactionPlace) → HasWord names place → place_of_pieces names (slice_split is_dot (word_of names place)) ≡ place ∷ []
 word_names names place h =
     ap (place_of_pieces names) (split_at is_dot (name_at names place.0) 46 (decimal place.1) (name_lacks_dot (name_at names place.0) h.thread.word) refl)
     ∙ ap (λ (ps : List (List ℕ)). place_of_pieces names (name_at names place.0 ∷ ps)) (split_none is_dot (decimal place.1) (lacks_dot place.1))
     ∙ ap (λ (t : Option ℕ). place_in t (decimal place.1)) h.thread.found
-    ∙ ap (λ (n : ℕ). let p : Place = (place.0, n) in p ∷ []) (value_of_decimal place.1 h.position)
+    ∙ ap (λ (n : ℕ). let p : TransactionPlace = (place.0, n) in p ∷ []) (value_of_decimal place.1 h.position)
 
-pub word_lacks_space : (names : List (List ℕ)) (place : Place) → HasWord names place → Lacks is_space (word_of names place)
+pub word_lacks_space : (names : List (List ℕ)) (place : TransactionPlace) → HasWord names place → Lacks is_space (word_of names place)
 word_lacks_space names place h = lacks_append is_space (name_at names place.0) (46 ∷ decimal place.1) (name_lacks_space (name_at names place.0) h.thread.word) (refl, lacks_space place.1)
 
 -- a line by its number, its place and what follows
-abbrev pub line_of : List (List ℕ) → ℕ → Place → List ℕ → List ℕ
+abbrev pub line_of : List (List ℕ) → ℕ → TransactionPlace → List ℕ → List ℕ
 line_of names writers place more = decimal writers ++ 32 ∷ (word_of names place ++ 32 ∷ more)
 
 module _ (names : List (List ℕ)) where
   -- whatever stands before a line's second word, if its first begins with a digit
-  first_word : (k : List ℕ) → IsDigits k → Parts k → (place : Place) (words : List (List ℕ)) → HasWord names place → named_in names (k ∷ word_of names place ∷ words) ≡ place ∷ []
+  first_word : (k : List ℕ) → IsDigits k → Parts k → (place : TransactionPlace) (words : List (List ℕ)) → HasWord names place → named_in names (k ∷ word_of names place ∷ words) ≡ place ∷ []
   first_word [] digits parts place words h = absurd (nothing parts.0 parts.1 parts.2)
     where
       nothing : (first : ℕ) (others : List ℕ) → [] ≡ first ∷ others → ⊥
@@ -80,16 +80,16 @@ module _ (names : List (List ℕ)) where
   first_word (c ∷ cs) digits parts place words h =
       ap (λ (b : Bool). cond b (place_of_pieces names (slice_split is_dot (word_of names place))) []) (digit_is c digits.0.0 digits.0.1) ∙ word_names names place h
 
-  line_names : (writers : ℕ) (place : Place) (more : List ℕ) → HasWord names place → named_in names (slice_split is_space (line_of names writers place more)) ≡ place ∷ []
+  line_names : (writers : ℕ) (place : TransactionPlace) (more : List ℕ) → HasWord names place → named_in names (slice_split is_space (line_of names writers place more)) ≡ place ∷ []
   line_names writers place more h =
       ap (named_in names) (split_at is_space (decimal writers) 32 (word_of names place ++ 32 ∷ more) (lacks_space writers) refl)
       ∙ ap (λ (ws : List (List ℕ)). named_in names (decimal writers ∷ ws)) (split_at is_space (word_of names place) 32 more (word_lacks_space names place h) refl)
       ∙ first_word (decimal writers) (decimal_digits writers) (decimal_parts writers) place (slice_split is_space more) h
 
-  pub printable_word : (place : Place) → HasWord names place → IsPrintable (word_of names place)
+  pub printable_word : (place : TransactionPlace) → HasWord names place → IsPrintable (word_of names place)
   printable_word place h = printable_append (name_at names place.0) (46 ∷ decimal place.1) (name_printable (name_at names place.0) h.thread.word) (refl, printable_decimal place.1)
 
-  pub printable_line : (writers : ℕ) (place : Place) (more : List ℕ) → HasWord names place → IsPrintable more → IsPrintable (line_of names writers place more)
+  pub printable_line : (writers : ℕ) (place : TransactionPlace) (more : List ℕ) → HasWord names place → IsPrintable more → IsPrintable (line_of names writers place more)
   printable_line writers place more word h =
       printable_append (decimal writers) (32 ∷ (word_of names place ++ 32 ∷ more)) (printable_decimal writers)
       (refl, printable_append (word_of names place) (32 ∷ more) (printable_word place word) (refl, h))
@@ -118,7 +118,7 @@ module _ (names : List (List ℕ)) (known : AreNames names) where
       ∙ ap (places_in names)
       (split_at is_line_feed (line_of names e.writers e.place (entry_tail e)) 10 rest
       (printable_lacks_feed (line_of names e.writers e.place (entry_tail e)) (printable_line names e.writers e.place (entry_tail e) h (printable_tail e))) refl)
-      ∙ ap (λ (ps : List Place). ps ++ order_named names rest) (line_names names e.writers e.place (entry_tail e) h)
+      ∙ ap (λ (ps : List TransactionPlace). ps ++ order_named names rest) (line_names names e.writers e.place (entry_tail e) h)
 
   pub journal_names : (entries : List Entry) (rest : List ℕ) → AreShortEntries names entries
       → order_named names (flat_map (line_text names) entries ++ rest) ≡ map (λ e. e.place) entries ++ order_named names rest
@@ -126,7 +126,7 @@ module _ (names : List (List ℕ)) (known : AreNames names) where
   journal_names (e ∷ entries) rest h =
       ap (order_named names) (append_assoc (line_text names e) (flat_map (line_text names) entries) rest)
       ∙ entry_names e (flat_map (line_text names) entries ++ rest) h.0
-      ∙ ap (λ (ps : List Place). e.place ∷ ps) (journal_names entries rest h.1)
+      ∙ ap (λ (ps : List TransactionPlace). e.place ∷ ps) (journal_names entries rest h.1)
 
 -- Lines of objects.
 
@@ -160,7 +160,7 @@ module _ (names : List (List ℕ)) where
       let rows : List ℕ = rows_text d.shape (rows_of state d.number) in
       ap (order_named names) (object_is d.name rows rest)
       ∙ ap (places_in names) (split_at is_line_feed (object_line state d) 10 rest (printable_lacks_feed (object_line state d) (printable_object state d e)) refl)
-      ∙ ap (λ (ps : List Place). ps ++ order_named names rest)
+      ∙ ap (λ (ps : List TransactionPlace). ps ++ order_named names rest)
       (ap (named_in names) (split_at is_space d.name 32 (61 ∷ 32 ∷ rows) (name_lacks_space d.name e) refl) ∙ two_words names d.name (slice_split is_space (61 ∷ 32 ∷ rows)) e)
 
   pub objects_name : (state : State) (ds : List Declaration) → HaveNames ds → order_named names (flat_map (object_text state) ds) ≡ []

@@ -9,7 +9,7 @@ use Rattle.std.proofs.lemmas.Bool.Decides.{nat_tests}
 use Rattle.sto_model.specs.Run.{State}
 use Rattle.sto_syntax.specs.Words.{is_name}
 use Rattle.sto_lang.specs.Objects.{Declaration, HaveNames}
-use Rattle.sto_report_spec.specs.Orders.{Place}
+use Rattle.sto_report_spec.specs.Orders.{TransactionPlace}
 use Rattle.sto_report_spec.specs.Aborts.{LocalPart, Cause, Locked, Changed, Abort}
 use Rattle.sto_report_spec.specs.Replay.{Entry}
 use Rattle.sto_report_spec.specs.Report.{name_at, reply_text, spaced_reply, part_text, cause_text, line_text, abort_text, rows_text, rows_of, object_text}
@@ -45,7 +45,7 @@ module _ (names : List (List ℕ)) where
   after_number (c ∷ cs) digits parts (place ∷ at ∷ seen ∷ saw ∷ words) =
       ap (λ (b : Bool). cond b (abort_by (place_of_pieces names (slice_split is_dot place)) (digits_value 10 seen) (heard_in words)) []) (number_is_not c cs digits.0.0 digits.0.1)
 
-  line_names_none : (writers : ℕ) (place : Place) (more : List ℕ) → aborts_in names (slice_split is_space (line_of names writers place more)) ≡ []
+  line_names_none : (writers : ℕ) (place : TransactionPlace) (more : List ℕ) → aborts_in names (slice_split is_space (line_of names writers place more)) ≡ []
   line_names_none writers place more =
       ap (aborts_in names) (split_at is_space (decimal writers) 32 (word_of names place ++ 32 ∷ more) (lacks_space writers) refl)
       ∙ after_number (decimal writers) (decimal_digits writers) (decimal_parts writers) (slice_split is_space (word_of names place ++ 32 ∷ more))
@@ -205,7 +205,7 @@ module _ (names : List (List ℕ)) where
   line_names_abort : (a : Abort) → HasWord names a.place → IsShortAbort names a → aborts_in names (slice_split is_space (abort_line names a)) ≡ a ∷ []
   line_names_abort a word h =
       ap (aborts_in names) (words_are a word)
-      ∙ ap (λ (ps : List Place). abort_by ps (digits_value 10 (decimal a.seen)) (heard_in (map reply_text a.replies ++ slice_split is_space (cause_text a.cause)))) (word_names names a.place word)
+      ∙ ap (λ (ps : List TransactionPlace). abort_by ps (digits_value 10 (decimal a.seen)) (heard_in (map reply_text a.replies ++ slice_split is_space (cause_text a.cause)))) (word_names names a.place word)
       ∙ ap (λ (x : Option Heard). abort_by (a.place ∷ []) (digits_value 10 (decimal a.seen)) x)
       (replies_heard a.replies (slice_split is_space (cause_text a.cause)) a.cause h.replies (cause_read a.cause h.cause))
       ∙ ap (λ (n : ℕ). let x : Abort = record { place = a.place; seen = n; replies = a.replies; cause = a.cause } in x ∷ []) (value_of a.seen h.seen)

@@ -14,10 +14,10 @@ use Rattle.serde_json.specs.Data.{Data, Items, no_items, item}
 use Rattle.serde_json.specs.View.{items_of}
 use Rattle.serde_json.specs.Written.{outline, items_outline, compact_text, has_float, items_have_float}
 use Rattle.serde_json.proofs.Texts.{print-outline}
-use Rattle.sto_model.specs.Told.{Told}
+use Rattle.sto_model.specs.PlainReplies.{PlainReply}
 use Rattle.sto_model.specs.Run.{State}
 use Rattle.sto_lang.specs.Objects.{Declaration}
-use Rattle.sto_report_spec.specs.Orders.{Place}
+use Rattle.sto_report_spec.specs.Orders.{TransactionPlace}
 use Rattle.sto_report_spec.specs.Aborts.{LocalPart, Cause, Locked, Changed, Abort, part_in}
 use Rattle.sto_report_spec.specs.Replay.{Entry}
 use Rattle.sto_report_spec.specs.Report.{name_at, reply_text}
@@ -46,25 +46,25 @@ module _ {X : Type 0} (f : X → Data) where
   listed_floats [] h = refl
   listed_floats (x ∷ xs) h = ap (λ (b : Bool). b || items_have_float (items_of (map f xs))) (h x) ∙ listed_floats xs h
 
-replies_number : (replies : List Told) → ItemsHaveNumbers (items_outline (items_of (map reply_data replies)))
+replies_number : (replies : List PlainReply) → ItemsHaveNumbers (items_outline (items_of (map reply_data replies)))
 replies_number [] = tt
 replies_number (r ∷ replies) = (tt, replies_number replies)
 
-replies_depth : (replies : List Told) → tree.items_depth (items_outline (items_of (map reply_data replies))) ≤ 0
+replies_depth : (replies : List PlainReply) → tree.items_depth (items_outline (items_of (map reply_data replies))) ≤ 0
 replies_depth replies = listed_depth reply_data 0 replies (λ r. omega arith)
 
-replies_no_float : (replies : List Told) → items_have_float (items_of (map reply_data replies)) ≡ false
+replies_no_float : (replies : List PlainReply) → items_have_float (items_of (map reply_data replies)) ≡ false
 replies_no_float replies = listed_floats reply_data replies (λ r. refl)
 
 -- the texts of a list of replies are read as the replies
-abbrev read_replies : List Json → List Told
+abbrev read_replies : List Json → List PlainReply
 read_replies texts = map (λ (r : Json). reply_in (word_of r)) texts
 
-replies_are : (replies : List Told) → AreShortReplies replies → read_replies (items_in (items_outline (items_of (map reply_data replies)))) ≡ replies
+replies_are : (replies : List PlainReply) → AreShortReplies replies → read_replies (items_in (items_outline (items_of (map reply_data replies)))) ≡ replies
 replies_are [] h = refl
 replies_are (r ∷ replies) h =
-    ap (λ (t : Told). t ∷ read_replies (items_in (items_outline (items_of (map reply_data replies))))) (reply_read r h.0)
-    ∙ ap (λ (ts : List Told). r ∷ ts) (replies_are replies h.1)
+    ap (λ (t : PlainReply). t ∷ read_replies (items_in (items_outline (items_of (map reply_data replies))))) (reply_read r h.0)
+    ∙ ap (λ (ts : List PlainReply). r ∷ ts) (replies_are replies h.1)
 
 -- What is written is read again: its numbers are digits, it nests little, and it has no float.
 
@@ -82,7 +82,7 @@ module _ (names : List (List ℕ)) where
   entry_no_float : (e : Entry) → has_float (entry_data names e) ≡ false
   entry_no_float e = ap (λ (b : Bool). b || false) (replies_no_float e.replies)
 
-  abort_numbers : (place : Place) (seen : ℕ) (replies : List Told) (c : Cause) → place.1 < 2 ^ 64 → seen < 2 ^ 64 → IsShortCause c
+  abort_numbers : (place : TransactionPlace) (seen : ℕ) (replies : List PlainReply) (c : Cause) → place.1 < 2 ^ 64 → seen < 2 ^ 64 → IsShortCause c
       → HasNumbers (outline (abort_data names (record { place = place; seen = seen; replies = replies; cause = c })))
   abort_numbers place seen replies (Locked part) p s h =
       (IsNumber-decimal seen s, (tt, (tt, (IsNumber-decimal part.part h.1, (IsNumber-decimal place.1 p, (replies_number replies, (tt, tt)))))))
@@ -93,11 +93,11 @@ module _ (names : List (List ℕ)) where
   aborts_number [] h = tt
   aborts_number (a ∷ aborts) h = (abort_numbers a.place a.seen a.replies a.cause h.0.place.position h.0.seen h.0.cause, aborts_number aborts h.1)
 
-  abort_depth : (place : Place) (seen : ℕ) (replies : List Told) (c : Cause) → tree.depth (outline (abort_data names (record { place = place; seen = seen; replies = replies; cause = c }))) ≤ 2
+  abort_depth : (place : TransactionPlace) (seen : ℕ) (replies : List PlainReply) (c : Cause) → tree.depth (outline (abort_data names (record { place = place; seen = seen; replies = replies; cause = c }))) ≤ 2
   abort_depth place seen replies (Locked part) = let told = replies_depth replies in omega (arith, told)
   abort_depth place seen replies (Changed part by) = let told = replies_depth replies in omega (arith, told)
 
-  abort_no_float : (place : Place) (seen : ℕ) (replies : List Told) (c : Cause) → has_float (abort_data names (record { place = place; seen = seen; replies = replies; cause = c })) ≡ false
+  abort_no_float : (place : TransactionPlace) (seen : ℕ) (replies : List PlainReply) (c : Cause) → has_float (abort_data names (record { place = place; seen = seen; replies = replies; cause = c })) ≡ false
   abort_no_float place seen replies (Locked part) = ap (λ (b : Bool). b || false) (replies_no_float replies)
   abort_no_float place seen replies (Changed part by) = ap (λ (b : Bool). b || false) (replies_no_float replies)
 
@@ -111,25 +111,25 @@ objects_depth state ds = listed_depth (object_data state) 2 ds (λ d. omega arit
 -- What is read names what was written.
 
 module _ (names : List (List ℕ)) where
-  place_is : (place : Place) → HasWord names place → place_in (position (bytes_eq (name_at names place.0)) names) (decimal place.1) ≡ place ∷ []
+  place_is : (place : TransactionPlace) → HasWord names place → place_in (position (bytes_eq (name_at names place.0)) names) (decimal place.1) ≡ place ∷ []
   place_is place h =
       ap (λ (t : Option ℕ). place_in t (decimal place.1)) h.thread.found
-      ∙ ap (λ (n : ℕ). let p : Place = (place.0, n) in p ∷ []) (numbers.value_of place.1 h.position)
+      ∙ ap (λ (n : ℕ). let p : TransactionPlace = (place.0, n) in p ∷ []) (numbers.value_of place.1 h.position)
 
-  made : Place → ℕ → List Told → Cause → List Abort
+  made : TransactionPlace → ℕ → List PlainReply → Cause → List Abort
   made place seen replies cause = record { place = place; seen = seen; replies = replies; cause = cause } ∷ []
 
-  heard : List Told → Cause → Option Heard
+  heard : List PlainReply → Cause → Option Heard
   heard replies cause = Some (record { replies = replies; cause = cause })
 
-  by_parts : (place : Place) (seen : ℕ) (replies : List Told) (c d : Cause) → HasWord names place → seen < 2 ^ 64 → AreShortReplies replies → d ≡ c
+  by_parts : (place : TransactionPlace) (seen : ℕ) (replies : List PlainReply) (c d : Cause) → HasWord names place → seen < 2 ^ 64 → AreShortReplies replies → d ≡ c
       → abort_by (place_in (position (bytes_eq (name_at names place.0)) names) (decimal place.1)) (digits_value 10 (decimal seen))
       (Some (record { replies = read_replies (items_in (items_outline (items_of (map reply_data replies)))); cause = d }))
       ≡ record { place = place; seen = seen; replies = replies; cause = c } ∷ []
   by_parts place seen replies c d word s h e =
-      ap (λ (ps : List Place). abort_by ps (digits_value 10 (decimal seen)) (Some (record { replies = read_replies (items_in (items_outline (items_of (map reply_data replies)))); cause = d }))) (place_is place word)
+      ap (λ (ps : List TransactionPlace). abort_by ps (digits_value 10 (decimal seen)) (Some (record { replies = read_replies (items_in (items_outline (items_of (map reply_data replies)))); cause = d }))) (place_is place word)
       ∙ ap (λ (n : ℕ). let x : Abort = record { place = place; seen = n; replies = read_replies (items_in (items_outline (items_of (map reply_data replies)))); cause = d } in x ∷ []) (numbers.value_of seen s)
-      ∙ ap (λ (rs : List Told). let x : Abort = record { place = place; seen = seen; replies = rs; cause = d } in x ∷ []) (replies_are replies h)
+      ∙ ap (λ (rs : List PlainReply). let x : Abort = record { place = place; seen = seen; replies = rs; cause = d } in x ∷ []) (replies_are replies h)
       ∙ ap (λ (k : Cause). let x : Abort = record { place = place; seen = seen; replies = replies; cause = k } in x ∷ []) e
 
   locked_is : (part : LocalPart) → part.part < 2 ^ 64 → (let p : LocalPart = record { object = part.object; part = digits_value 10 (decimal part.part) } in Locked p ≡ Locked part)
@@ -141,7 +141,7 @@ module _ (names : List (List ℕ)) where
       ap (λ (n : ℕ). let p : LocalPart = record { object = part.object; part = n } in Changed p (digits_value 10 (decimal by))) (numbers.value_of part.part h)
       ∙ ap (λ (n : ℕ). Changed part n) (numbers.value_of by k)
 
-  abort_is : (place : Place) (seen : ℕ) (replies : List Told) (c : Cause) → HasWord names place → seen < 2 ^ 64 → AreShortReplies replies → IsShortCause c
+  abort_is : (place : TransactionPlace) (seen : ℕ) (replies : List PlainReply) (c : Cause) → HasWord names place → seen < 2 ^ 64 → AreShortReplies replies → IsShortCause c
       → abort_of names (outline (abort_data names (record { place = place; seen = seen; replies = replies; cause = c }))) ≡ record { place = place; seen = seen; replies = replies; cause = c } ∷ []
   abort_is place seen replies (Locked part) word s h k =
       by_parts place seen replies (Locked part) (Locked (record { object = part.object; part = digits_value 10 (decimal part.part) })) word s h (locked_is part k.1)
@@ -152,8 +152,8 @@ module _ (names : List (List ℕ)) where
     entries_name : (entries : List Entry) → AreShortEntries names entries → flat_map (place_of names) (map (λ e. outline (entry_data names e)) entries) ≡ map (λ e. e.place) entries
     entries_name [] h = refl
     entries_name (e ∷ entries) h =
-        ap (λ (ps : List Place). ps ++ flat_map (place_of names) (map (λ x. outline (entry_data names x)) entries)) (place_is e.place (has_word names e.place known h.0.place))
-        ∙ ap (λ (ps : List Place). e.place ∷ ps) (entries_name entries h.1)
+        ap (λ (ps : List TransactionPlace). ps ++ flat_map (place_of names) (map (λ x. outline (entry_data names x)) entries)) (place_is e.place (has_word names e.place known h.0.place))
+        ∙ ap (λ (ps : List TransactionPlace). e.place ∷ ps) (entries_name entries h.1)
 
     aborts_are : (aborts : List Abort) → AreShortAborts names aborts → flat_map (abort_of names) (map (λ a. outline (abort_data names a)) aborts) ≡ aborts
     aborts_are [] h = refl

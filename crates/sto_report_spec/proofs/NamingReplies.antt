@@ -7,7 +7,7 @@ use Rattle.std.specs.Str.{bytes_eq}
 use Rattle.std.specs.Str.Parse.{digits_value, signed_digits_value, without_leading_plus}
 use Rattle.std.proofs.lemmas.Fmt.{decimal_is_IsNumeral}
 use Rattle.std.proofs.lemmas.Bool.Decides.{nat_tests}
-use Rattle.sto_model.specs.Told.{Told, Done, Value, Flag, Absent, Full, Range, Pairs}
+use Rattle.sto_model.specs.PlainReplies.{PlainReply, Done, Value, Flag, Absent, Full, Range, Pairs}
 use Rattle.sto_model.specs.Rows.{Row}
 use Rattle.sto_report_spec.specs.Aborts.{Cause}
 use Rattle.sto_report_spec.specs.Report.{others_text, listed_text, row_text, reply_text, spaced_reply}
@@ -69,7 +69,7 @@ others_lack_space : (rows : List Row) → Lacks is_space (others_text row_text r
 others_lack_space [] = tt
 others_lack_space (row ∷ rows) = (refl, lacks_append is_space (row_text row) (others_text row_text rows) (row_lacks_space row) (others_lack_space rows))
 
-reply_lacks_space : (r : Told) → Lacks is_space (reply_text r)
+reply_lacks_space : (r : PlainReply) → Lacks is_space (reply_text r)
 reply_lacks_space Done = (refl, (refl, tt))
 reply_lacks_space (Value z) = lacks_signed is_space no_space z
 reply_lacks_space (Flag true) = (refl, (refl, (refl, tt)))
@@ -157,7 +157,7 @@ number_read c cs l =
     ∙ ap (λ (b : Bool). cond b (Pairs (rows_between_brackets (without_last cs))) (Value (signed_digits_value 10 w))) (not_letter c 91 l (omega arith))
 
 -- the text of a reply is read as the reply
-pub reply_read : (r : Told) → IsShortReply r → reply_in (reply_text r) ≡ r
+pub reply_read : (r : PlainReply) → IsShortReply r → reply_in (reply_text r) ≡ r
 reply_read Done h = refl
 reply_read (Value z) h =
     let b = signed_begins z in
@@ -176,7 +176,7 @@ record IsNoCause (word : List ℕ) : Type 0 where
   locked : bytes_eq word (codes "locked") ≡ false
   changed : bytes_eq word (codes "changed") ≡ false
 
-no_cause : (r : Told) → IsNoCause (reply_text r)
+no_cause : (r : PlainReply) → IsNoCause (reply_text r)
 no_cause Done = record { locked = refl; changed = refl }
 no_cause (Value z) =
     let b = signed_begins z in
@@ -192,7 +192,7 @@ no_cause Range = record { locked = refl; changed = refl }
 no_cause (Pairs []) = record { locked = refl; changed = refl }
 no_cause (Pairs (row ∷ rows)) = record { locked = refl; changed = refl }
 
-pub replies_heard : (rs : List Told) (words : List (List ℕ)) (cause : Cause) → AreShortReplies rs → heard_in words ≡ Some (record { replies = []; cause = cause })
+pub replies_heard : (rs : List PlainReply) (words : List (List ℕ)) (cause : Cause) → AreShortReplies rs → heard_in words ≡ Some (record { replies = []; cause = cause })
     → heard_in (map reply_text rs ++ words) ≡ Some (record { replies = rs; cause = cause })
 replies_heard [] words cause h e = e
 replies_heard (r ∷ rs) words cause h e =
@@ -202,12 +202,12 @@ replies_heard (r ∷ rs) words cause h e =
     ap (λ (b : Bool). cond b (locked_in rest) (cond (bytes_eq word (codes "changed")) (changed_in rest) more)) (no_cause r).locked
     ∙ ap (λ (b : Bool). cond b (changed_in rest) more) (no_cause r).changed
     ∙ ap (option_map (λ (x : Heard). record { replies = reply_in word ∷ x.replies; cause = x.cause })) (replies_heard rs words cause h.1 e)
-    ∙ ap (λ (t : Told). Some (heard_by (t ∷ rs) cause)) (reply_read r h.0)
+    ∙ ap (λ (t : PlainReply). Some (heard_by (t ∷ rs) cause)) (reply_read r h.0)
   where
-    heard_by : List Told → Cause → Heard
+    heard_by : List PlainReply → Cause → Heard
     heard_by replies c = record { replies = replies; cause = c }
 
-pub words_split : (w : List ℕ) (rs : List Told) (more : List ℕ) → Lacks is_space w
+pub words_split : (w : List ℕ) (rs : List PlainReply) (more : List ℕ) → Lacks is_space w
     → slice_split is_space (w ++ (flat_map spaced_reply rs ++ 32 ∷ more)) ≡ w ∷ (map reply_text rs ++ slice_split is_space more)
 words_split w [] more h = split_at is_space w 32 more h refl
 words_split w (r ∷ rs) more h =

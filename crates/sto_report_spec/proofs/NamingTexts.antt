@@ -5,7 +5,7 @@ use Rattle.std.specs.Str.{IsAscii}
 use Rattle.std.proofs.lemmas.Str.{IsAscii-append}
 use Rattle.sto_model.specs.Run.{State}
 use Rattle.sto_lang.specs.Objects.{Declaration, HaveNames}
-use Rattle.sto_report_spec.specs.Orders.{Place}
+use Rattle.sto_report_spec.specs.Orders.{TransactionPlace}
 use Rattle.sto_report_spec.specs.Aborts.{Abort}
 use Rattle.sto_report_spec.specs.Replay.{Entry}
 use Rattle.sto_report_spec.specs.Report.{line_text, abort_text, object_text, text_of}
@@ -24,7 +24,7 @@ module _ (names : List (List ℕ)) (known : AreNames names) (ds : List Declarati
   pub text_names_order : order_named names (text_of names ds entries aborts state) ≡ map (λ e. e.place) entries
   text_names_order =
       journal_names names known entries (flat_map (abort_text names) aborts ++ rest) short
-      ∙ ap (λ (ps : List Place). map (λ e. e.place) entries ++ ps)
+      ∙ ap (λ (ps : List TransactionPlace). map (λ e. e.place) entries ++ ps)
       (aborts_no_place names known aborts rest readable ∙ state_names names (flat_map (object_text state) ds) ∙ objects_name names state ds words)
       ∙ append-nil (map (λ e. e.place) entries)
 

@@ -1,8 +1,8 @@
 -- What is lawful by what some types say is so by what others say that say the same of updates and let calls touch no less.
 use Rattle.std.proofs.Common.{◌≡◌, ℕ, zero, suc, List, [], ◌∷◌, ◌++◌, refl, sym, ap, ◌∙◌, Bool, true, false, cond, Option, None, Some, inl, inr}
 use Rattle.std.proofs.lemmas.List.Elements.{All-weaker}
-use Rattle.sto_model.specs.Told.{Told}
-use Rattle.sto_model.specs.Run.{Script as Steps, State}
+use Rattle.sto_model.specs.PlainReplies.{PlainReply}
+use Rattle.sto_model.specs.Run.{Behaviour, State}
 use Rattle.sto_model.specs.Asked.{AsksSuch, HasAskedSuch}
 use Rattle.sto_model.specs.declared.call.Call.{Call}
 use Rattle.sto_model.specs.declared.body.Next.{Next}
@@ -11,7 +11,7 @@ use Rattle.sto_model.specs.declared.shape.Shape.{Shape}
 use Rattle.sto_lang.specs.Objects.{Declaration, shapes_of}
 use Rattle.sto_lang.specs.Scripts.{Script, File}
 use Rattle.sto_script.specs.Meaning.{meaning_of}
-use Rattle.sto_report_spec.specs.Orders.{Place, transaction_at}
+use Rattle.sto_report_spec.specs.Orders.{TransactionPlace, transaction_at}
 use Rattle.sto_report_spec.specs.Replay.{run_at, is_writer, opening_state}
 use Rattle.sto_report_spec.specs.Aborts.{Cause, Locked, Changed, Abort, part_in}
 use Rattle.sto_report_spec.specs.Named.{order_named}
@@ -34,7 +34,7 @@ module _ (P Q : Call → Type 0) (weaker : (call : Call) → P call → Q call) 
   asks_weaker Commit h = h
   asks_weaker Cancel h = h
 
-  asked_weaker : (script : Steps) (replies : List Told) → HasAskedSuch P script replies → HasAskedSuch Q script replies
+  asked_weaker : (script : Behaviour) (replies : List PlainReply) → HasAskedSuch P script replies → HasAskedSuch Q script replies
   asked_weaker script [] h = asks_weaker (script []) h
   asked_weaker script (r ∷ rs) (inl h) = inl (asks_weaker (script []) h)
   asked_weaker script (r ∷ rs) (inr h) = inr (asked_weaker (λ others. script (r ∷ others)) rs h)
@@ -48,20 +48,20 @@ module _ (u w : Updating) (file : File) (same : SaysNoLess u w (shapes_of file.d
   next_same Commit done = refl
   next_same Cancel done = refl
 
-  along_same : (steps : Steps) (replies : List Told) (done : Updates) → updates_along u shapes steps replies done ≡ updates_along w shapes steps replies done
+  along_same : (steps : Behaviour) (replies : List PlainReply) (done : Updates) → updates_along u shapes steps replies done ≡ updates_along w shapes steps replies done
   along_same steps [] done = refl
   along_same steps (r ∷ rs) done =
       along_same (λ others. steps (r ∷ others)) rs (with_next u shapes (steps []) done)
       ∙ ap (updates_along w shapes (λ others. steps (r ∷ others)) rs) (next_same (steps []) done)
 
-  in_same : (script : Option Script) (replies : List Told) (contents : Contents) → updates_in u shapes script replies contents ≡ updates_in w shapes script replies contents
+  in_same : (script : Option Script) (replies : List PlainReply) (contents : Contents) → updates_in u shapes script replies contents ≡ updates_in w shapes script replies contents
   in_same None replies contents = refl
   in_same (Some script) replies contents = along_same (meaning_of script) replies (record { parts = []; contents = contents })
 
-  at_same : (state : State) (contents : Contents) (place : Place) → updates_at u file state contents place ≡ updates_at w file state contents place
+  at_same : (state : State) (contents : Contents) (place : TransactionPlace) → updates_at u file state contents place ≡ updates_at w file state contents place
   at_same state contents place = in_same (transaction_at file place) (run_at file state place).replies contents
 
-  from_same : (state : State) (contents : Contents) (order : List Place) (number : ℕ) → updated_from u file state contents order number ≡ updated_from w file state contents order number
+  from_same : (state : State) (contents : Contents) (order : List TransactionPlace) (number : ℕ) → updated_from u file state contents order number ≡ updated_from w file state contents order number
   from_same state contents [] number = refl
   from_same state contents (place ∷ order) zero = refl
   from_same state contents (place ∷ order) (suc earlier) =
@@ -80,15 +80,15 @@ module _ (u w : Updating) (file : File) (same : SaysNoLess u w (shapes_of file.d
           ap (λ (done : Updates). updated_from u file (run_at file state place).after done.contents order (suc more)) (at_same state contents place) ∙ later more
       by false earlier later skipped = skipped
 
-  pub updated_same : (order : List Place) (number : ℕ) → updated u file order number ≡ updated w file order number
+  pub updated_same : (order : List TransactionPlace) (number : ℕ) → updated u file order number ≡ updated w file order number
   updated_same order number =
       ap (λ (contents : Contents). updated_from u file (opening_state file) contents order number) same.opening
       ∙ from_same (opening_state file) (w.opening shapes) order number
 
-  touched_same : (script : Script) (replies : List Told) (part : ℕ) → IsPartTouched u file script replies part → IsPartTouched w file script replies part
+  touched_same : (script : Script) (replies : List PlainReply) (part : ℕ) → IsPartTouched u file script replies part → IsPartTouched w file script replies part
   touched_same script replies part h = asked_weaker (u.touches shapes part) (w.touches shapes part) (same.touches part) (meaning_of script) replies h
 
-  cause_same : (order : List Place) (a : Abort) (d : Declaration) (c : Cause) → IsCause u file order a d c → IsCause w file order a d c
+  cause_same : (order : List TransactionPlace) (a : Abort) (d : Declaration) (c : Cause) → IsCause u file order a d c → IsCause w file order a d c
   cause_same order a d (Locked part) h = tt
   cause_same order a d (Changed part by) h = record {
     later = h.later;
@@ -96,7 +96,7 @@ module _ (u w : Updating) (file : File) (same : SaysNoLess u w (shapes_of file.d
     written = (h.written.0, h.written.1, sym (updated_same order by) ∙ h.written.2);
   }
 
-  abort_same : (order : List Place) (a : Abort) → IsLawfulAbort u file order a → IsLawfulAbort w file order a
+  abort_same : (order : List TransactionPlace) (a : Abort) → IsLawfulAbort u file order a → IsLawfulAbort w file order a
   abort_same order a h = record {
     script = h.script;
     object = h.object;
@@ -110,7 +110,7 @@ module _ (u w : Updating) (file : File) (same : SaysNoLess u w (shapes_of file.d
     cause = cause_same order a h.object a.cause h.cause;
   }
 
-  pub aborts_same : (tries : ℕ) (order : List Place) (aborts : List Abort) → AreLawful u file tries order aborts → AreLawful w file tries order aborts
+  pub aborts_same : (tries : ℕ) (order : List TransactionPlace) (aborts : List Abort) → AreLawful u file tries order aborts → AreLawful w file tries order aborts
   aborts_same tries order aborts h = record {
     each = All-weaker (IsLawfulAbort u file order) (IsLawfulAbort w file order) (abort_same order) aborts h.each;
     few = h.few;

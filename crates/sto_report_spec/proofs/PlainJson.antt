@@ -9,11 +9,11 @@ use Rattle.json.proofs.Printed.Strings.{escape_byte_plain}
 use Rattle.serde_json.specs.Data.{Num, unsigned, negative, float, Data, null, boolean, number, string, array, object, Items, no_items, item, Members, no_members, member}
 use Rattle.serde_json.specs.View.{items_of}
 use Rattle.serde_json.specs.Written.{number_text, comma_if, compact_text, items_text, members_text}
-use Rattle.sto_model.specs.Told.{Told}
+use Rattle.sto_model.specs.PlainReplies.{PlainReply}
 use Rattle.sto_model.specs.Run.{State}
 use Rattle.sto_syntax.specs.Words.{is_name}
 use Rattle.sto_lang.specs.Objects.{Declaration, HaveNames}
-use Rattle.sto_report_spec.specs.Orders.{Place}
+use Rattle.sto_report_spec.specs.Orders.{TransactionPlace}
 use Rattle.sto_report_spec.specs.Aborts.{Cause, Locked, Changed, Abort}
 use Rattle.sto_report_spec.specs.EndingTexts.{ending_text}
 use Rattle.sto_report_spec.specs.Replay.{Entry}
@@ -112,7 +112,7 @@ mutual
 
 -- The report's own strings.
 
-plain_replies : (replies : List Told) → ArePlain (items_of (map reply_data replies))
+plain_replies : (replies : List PlainReply) → ArePlain (items_of (map reply_data replies))
 plain_replies [] = tt
 plain_replies (r ∷ replies) = (printable_reply r, plain_replies replies)
 
@@ -157,7 +157,7 @@ module _ (names : List (List ℕ)) (known : AreNames names) where
     entries_plain entries h.1,
   )
 
-  abort_plain : (place : Place) (seen : ℕ) (replies : List Told) (c : Cause) → place.0 < length names → IsShortCause c
+  abort_plain : (place : TransactionPlace) (seen : ℕ) (replies : List PlainReply) (c : Cause) → place.0 < length names → IsShortCause c
       → IsPlain (abort_data names (record { place = place; seen = seen; replies = replies; cause = c }))
   abort_plain place seen replies (Locked part) l h = (
     plain_word (codes "at") refl,

@@ -5,7 +5,7 @@ use Rattle.std.specs.Fmt.{signed_decimal}
 use Rattle.std.specs.Str.{IsAscii}
 use Rattle.std.proofs.lemmas.Bool.Decides.{nat_tests}
 use Rattle.std.proofs.lemmas.Str.Ascii.{IsAscii-nil, IsAscii-cons}
-use Rattle.sto_model.specs.Told.{Told, Done, Value, Flag, Absent, Full, Range, Pairs}
+use Rattle.sto_model.specs.PlainReplies.{PlainReply, Done, Value, Flag, Absent, Full, Range, Pairs}
 use Rattle.sto_model.specs.Rows.{Row}
 use Rattle.sto_model.specs.Objects.{only_value}
 use Rattle.sto_model.specs.declared.shape.Shape.{Shape}
@@ -61,7 +61,7 @@ module _ {X : Type 0} (text : X → List ℕ) (printable : (x : X) → IsPrintab
 pub printable_row : (row : Row) → IsPrintable (row_text row)
 printable_row row = printable_append (signed_decimal row.0) (codes ":" ++ signed_decimal row.1) (printable_signed row.0) (refl, printable_signed row.1)
 
-pub printable_reply : (r : Told) → IsPrintable (reply_text r)
+pub printable_reply : (r : PlainReply) → IsPrintable (reply_text r)
 printable_reply Done = (refl, (refl, tt))
 printable_reply (Value z) = printable_signed z
 printable_reply (Flag true) = (refl, (refl, (refl, tt)))
@@ -71,7 +71,7 @@ printable_reply Full = (refl, (refl, (refl, (refl, tt))))
 printable_reply Range = (refl, (refl, (refl, (refl, (refl, tt)))))
 printable_reply (Pairs pairs) = printable_listed row_text printable_row pairs
 
-pub printable_replies : (rs : List Told) → IsPrintable (flat_map spaced_reply rs)
+pub printable_replies : (rs : List PlainReply) → IsPrintable (flat_map spaced_reply rs)
 printable_replies rs = printable_all spaced_reply (λ r. (refl, printable_reply r)) rs
 
 pub printable_ending : (e : Ending) → IsPrintable (ending_text e)

@@ -5,7 +5,7 @@ use Rattle.std.specs.Int.{int_wrap}
 use Rattle.json.specs.Print.{escape_byte}
 use Rattle.json.proofs.OnLiterals.{json_on_literals}
 use Rattle.sto_part.specs.declared.pred.Test.TheVariants.{Lt}
-use Rattle.sto_model.specs.Told.{Value, Done}
+use Rattle.sto_model.specs.PlainReplies.{Value, Done}
 use Rattle.sto_model.specs.declared.shape.Shape.TheVariants.{Single, Counter, Array}
 use Rattle.sto_lang.specs.declared.arg.Arg.{Arg}
 use Rattle.sto_lang.specs.declared.arg.Arg.TheVariants.{Num, Var}

@@ -1,8 +1,8 @@
 -- Aborted attempts, as plain data.
 use Rattle.std.specs.Prelude.{ℕ, List, [], Option, None, Some}
-use Rattle.sto_model.specs.Told.{Told}
+use Rattle.sto_model.specs.PlainReplies.{PlainReply}
 use Rattle.sto_lang.specs.Objects.{Declaration, with_number}
-use Rattle.sto_report_spec.specs.Orders.{Place}
+use Rattle.sto_report_spec.specs.Orders.{TransactionPlace}
 
 -- a part, by the name of its object and its number there
 pub record LocalPart : Type 0 where
@@ -25,9 +25,9 @@ pub data Cause : Type 0 where
 
 -- an aborted attempt: its transaction, the number of writers whose state it saw, the replies that it heard, and its cause
 pub record Abort : Type 0 where
-  pub place : Place
+  pub place : TransactionPlace
   pub seen : ℕ
-  pub replies : List Told
+  pub replies : List PlainReply
   pub cause : Cause
 
 -- the part that a cause names

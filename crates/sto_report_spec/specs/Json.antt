@@ -3,12 +3,12 @@ use Rattle.std.specs.Prelude.{ℕ, List, [], ◌∷◌, ◌++◌, map, codes}
 use Rattle.serde_json.specs.Data.{Data, number, unsigned, string, array, object, Members, no_members, member}
 use Rattle.serde_json.specs.View.{items_of}
 use Rattle.serde_json.specs.Written.{compact_text}
-use Rattle.sto_model.specs.Told.{Told}
+use Rattle.sto_model.specs.PlainReplies.{PlainReply}
 use Rattle.sto_model.specs.Run.{State}
 use Rattle.sto_lang.specs.Objects.{Declaration}
 use Rattle.sto_lang.specs.Scripts.{File}
 use Rattle.sto_report_spec.specs.EndingTexts.{ending_text}
-use Rattle.sto_report_spec.specs.Orders.{Place}
+use Rattle.sto_report_spec.specs.Orders.{TransactionPlace}
 use Rattle.sto_report_spec.specs.Aborts.{Cause, Locked, Changed, Abort, part_in}
 use Rattle.sto_report_spec.specs.Replay.{Entry, entries_of, final_state}
 use Rattle.sto_report_spec.specs.Report.{name_at, reply_text, rows_text, rows_of}
@@ -22,7 +22,7 @@ abbrev pub numeral : ℕ → Data
 numeral n = number (unsigned n)
 
 -- a reply by its text
-abbrev pub reply_data : Told → Data
+abbrev pub reply_data : PlainReply → Data
 reply_data reply = string (reply_text reply)
 
 -- a journal entry
@@ -78,5 +78,5 @@ abbrev pub json_text : List (List ℕ) → List Declaration → List Entry → L
 json_text names declarations entries aborts state = compact_text (report_data names declarations entries aborts state) ++ codes "\n"
 
 -- the JSON report of an order and of aborted attempts
-abbrev pub json_of : File → List Place → List Abort → List ℕ
+abbrev pub json_of : File → List TransactionPlace → List Abort → List ℕ
 json_of file order aborts = json_text file.names file.declarations (entries_of file order) aborts (final_state file order)

@@ -3,7 +3,7 @@ use Rattle.std.specs.Prelude.{◌≡◌, ℕ, List}
 use Rattle.sto_lang.specs.Scripts.{File}
 use Rattle.sto_report_spec.specs.declared.form.ReportForm.{ReportForm}
 use Rattle.sto_report_spec.specs.declared.form.ReportForm.TheVariants.{Text, Json}
-use Rattle.sto_report_spec.specs.Orders.{Place, IsOrder}
+use Rattle.sto_report_spec.specs.Orders.{TransactionPlace, IsOrder}
 use Rattle.sto_report_spec.specs.Aborts.{Abort}
 use Rattle.sto_report_spec.specs.Report.{report_of}
 use Rattle.sto_report_spec.specs.Json.{json_of}
@@ -27,7 +27,7 @@ pub record IsLawfulJson (u : Updating) (file : File) (tries : ℕ) (text : List 
   pub report : text ≡ json_of file (json_order_named file.names text) (json_aborts_named file.names text)
 
 -- the report of an order and of aborted attempts in a form
-abbrev pub made_in : ReportForm → File → List Place → List Abort → List ℕ
+abbrev pub made_in : ReportForm → File → List TransactionPlace → List Abort → List ℕ
 made_in Text file order aborts = report_of file order aborts
 made_in Json file order aborts = json_of file order aborts
 

@@ -4,9 +4,9 @@ use Rattle.std.specs.List.{slice_split, flat_map}
 use Rattle.std.specs.Option.{option_map}
 use Rattle.std.specs.Str.{bytes_eq}
 use Rattle.std.specs.Str.Parse.{digits_value, signed_digits_value}
-use Rattle.sto_model.specs.Told.{Told, Done, Value, Flag, Absent, Full, Range, Pairs}
+use Rattle.sto_model.specs.PlainReplies.{PlainReply, Done, Value, Flag, Absent, Full, Range, Pairs}
 use Rattle.sto_model.specs.Rows.{Row}
-use Rattle.sto_report_spec.specs.Orders.{Place}
+use Rattle.sto_report_spec.specs.Orders.{TransactionPlace}
 use Rattle.sto_report_spec.specs.Aborts.{LocalPart, Cause, Locked, Changed, Abort}
 use Rattle.sto_report_spec.specs.Named.{is_line_feed, is_space, is_dot, place_of_pieces}
 
@@ -34,12 +34,12 @@ abbrev pub rows_between_brackets : List ℕ → List Row
 rows_between_brackets bytes = flat_map (λ pair. row_of_pieces (slice_split is_colon pair)) (slice_split is_comma bytes)
 
 -- a number, or pairs in brackets
-abbrev pub number_or_pairs : List ℕ → Told
+abbrev pub number_or_pairs : List ℕ → PlainReply
 number_or_pairs [] = Absent
 number_or_pairs (b ∷ bytes) = if b == 91 then Pairs (rows_between_brackets (without_last bytes)) else Value (signed_digits_value 10 (b ∷ bytes))
 
 -- the reply that a word is
-abbrev pub reply_in : List ℕ → Told
+abbrev pub reply_in : List ℕ → PlainReply
 reply_in word =
     if bytes_eq word (codes "ok") then Done
     else (if bytes_eq word (codes "yes") then Flag true
@@ -51,7 +51,7 @@ reply_in word =
 
 -- what the words after `saw` tell
 pub record Heard : Type 0 where
-  pub replies : List Told
+  pub replies : List PlainReply
   pub cause : Cause
 
 -- a part by the words of its object's name and its number
@@ -77,7 +77,7 @@ heard_in (word ∷ words) =
     else option_map (λ h. record { replies = reply_in word ∷ h.replies; cause = h.cause }) (heard_in words))
 
 -- the abort by its place, where a word is one, and what the words after `saw` tell
-abbrev pub abort_by : List Place → ℕ → Option Heard → List Abort
+abbrev pub abort_by : List TransactionPlace → ℕ → Option Heard → List Abort
 abort_by (place ∷ []) seen (Some h) = record { place = place; seen = seen; replies = h.replies; cause = h.cause } ∷ []
 abort_by places seen heard = []
 

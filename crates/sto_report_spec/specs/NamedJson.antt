@@ -4,7 +4,7 @@ use Rattle.std.specs.List.{flat_map}
 use Rattle.std.specs.Str.{bytes_eq}
 use Rattle.std.specs.Str.Parse.{digits_value}
 use Rattle.json.specs.Json.{Json, null, boolean, number, string, array, object, Items, no_items, item, Members, no_members, member, document}
-use Rattle.sto_report_spec.specs.Orders.{Place}
+use Rattle.sto_report_spec.specs.Orders.{TransactionPlace}
 use Rattle.sto_report_spec.specs.Aborts.{LocalPart, Cause, Locked, Changed, Abort}
 use Rattle.sto_report_spec.specs.Named.{place_in}
 use Rattle.sto_report_spec.specs.NamedAborts.{without_last, reply_in, abort_by}
@@ -45,7 +45,7 @@ word_of (array items) = []
 word_of (object _) = []
 
 -- the place that an entry names, by the names of the threads of a file
-abbrev pub place_of : List (List ℕ) → Json → List Place
+abbrev pub place_of : List (List ℕ) → Json → List TransactionPlace
 place_of names entry = place_in (position (bytes_eq (word_of (member_of (codes "thread") entry))) names) (word_of (member_of (codes "position") entry))
 
 -- the cause that an aborted attempt names
@@ -69,7 +69,7 @@ abbrev pub value_of : List ℕ → Json
 value_of text = unwrap_or (document (without_last text)) null
 
 -- the order that a JSON report names
-abbrev pub json_order_named : List (List ℕ) → List ℕ → List Place
+abbrev pub json_order_named : List (List ℕ) → List ℕ → List TransactionPlace
 json_order_named names text = flat_map (place_of names) (items_of (member_of (codes "journal") (value_of text)))
 
 -- the aborted attempts that it names

@@ -1,7 +1,7 @@
 -- The text of a report.
 use Rattle.std.specs.Prelude.{ℕ, List, [], ◌∷◌, ◌++◌, flat_map, true, false, unwrap_or, slice_get, codes, decimal}
 use Rattle.std.specs.Fmt.{signed_decimal}
-use Rattle.sto_model.specs.Told.{Told, Done, Value, Flag, Absent, Full, Range, Pairs}
+use Rattle.sto_model.specs.PlainReplies.{PlainReply, Done, Value, Flag, Absent, Full, Range, Pairs}
 use Rattle.sto_model.specs.Rows.{Row}
 use Rattle.sto_model.specs.Run.{State}
 use Rattle.sto_model.specs.Objects.{only_value}
@@ -10,7 +10,7 @@ use Rattle.sto_model.specs.declared.shape.Shape.TheVariants.{Single, Counter, Ar
 use Rattle.sto_lang.specs.Objects.{Declaration}
 use Rattle.sto_lang.specs.Scripts.{File}
 use Rattle.sto_report_spec.specs.EndingTexts.{ending_text}
-use Rattle.sto_report_spec.specs.Orders.{Place}
+use Rattle.sto_report_spec.specs.Orders.{TransactionPlace}
 use Rattle.sto_report_spec.specs.Replay.{Entry, entries_of, final_state}
 use Rattle.sto_report_spec.specs.Aborts.{LocalPart, Cause, Locked, Changed, Abort}
 
@@ -28,7 +28,7 @@ abbrev pub row_text : Row → List ℕ
 row_text row = signed_decimal row.0 ++ (codes ":" ++ signed_decimal row.1)
 
 -- a reply
-abbrev pub reply_text : Told → List ℕ
+abbrev pub reply_text : PlainReply → List ℕ
 reply_text Done = codes "ok"
 reply_text (Value value) = signed_decimal value
 reply_text (Flag true) = codes "yes"
@@ -39,7 +39,7 @@ reply_text Range = codes "range"
 reply_text (Pairs pairs) = listed_text row_text pairs
 
 -- a space, and the reply
-abbrev pub spaced_reply : Told → List ℕ
+abbrev pub spaced_reply : PlainReply → List ℕ
 spaced_reply reply = codes " " ++ reply_text reply
 
 -- the name of the thread with a number
@@ -88,5 +88,5 @@ text_of names declarations entries aborts state =
     flat_map (line_text names) entries ++ (flat_map (abort_text names) aborts ++ (codes "state\n" ++ flat_map (object_text state) declarations))
 
 -- the report of an order and of aborted attempts
-abbrev pub report_of : File → List Place → List Abort → List ℕ
+abbrev pub report_of : File → List TransactionPlace → List Abort → List ℕ
 report_of file order aborts = text_of file.names file.declarations (entries_of file order) aborts (final_state file order)

@@ -1,6 +1,6 @@
 -- Replies and aborted attempts whose numbers machine words hold, so that their texts can be read again.
 use Rattle.std.specs.Prelude.{◌≡◌, ◌<◌, ◌^◌, ℕ, suc, ℤ, pos, negsuc, List, [], ◌∷◌, true}
-use Rattle.sto_model.specs.Told.{Told, Done, Value, Flag, Absent, Full, Range, Pairs}
+use Rattle.sto_model.specs.PlainReplies.{PlainReply, Done, Value, Flag, Absent, Full, Range, Pairs}
 use Rattle.sto_model.specs.Rows.{Row}
 use Rattle.sto_syntax.specs.Words.{is_name}
 use Rattle.sto_report_spec.specs.Aborts.{Cause, Locked, Changed, Abort}
@@ -20,7 +20,7 @@ abbrev pub AreShortRows : List Row → Type 0
 AreShortRows [] = Unit {0}
 AreShortRows (row ∷ rows) = IsShortRow row × AreShortRows rows
 
-abbrev pub IsShortReply : Told → Type 0
+abbrev pub IsShortReply : PlainReply → Type 0
 IsShortReply Done = Unit {0}
 IsShortReply (Value z) = IsShort z
 IsShortReply (Flag b) = Unit {0}
@@ -29,7 +29,7 @@ IsShortReply Full = Unit {0}
 IsShortReply Range = Unit {0}
 IsShortReply (Pairs rows) = AreShortRows rows
 
-abbrev pub AreShortReplies : List Told → Type 0
+abbrev pub AreShortReplies : List PlainReply → Type 0
 AreShortReplies [] = Unit {0}
 AreShortReplies (r ∷ rs) = IsShortReply r × AreShortReplies rs
 

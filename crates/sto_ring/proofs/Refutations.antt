@@ -8,9 +8,9 @@ use Rattle.sto_part.specs.declared.change.Change.TheVariants.{Put}
 use Rattle.sto_part.specs.declared.pred.Test.TheVariants.{Eq}
 use Rattle.sto_model.specs.declared.call.Call.{Call}
 use Rattle.sto_model.specs.Rows.{Row}
-use Rattle.sto_model.specs.Told.{Done, Full}
+use Rattle.sto_model.specs.PlainReplies.{Done, Full}
 use Rattle.sto_model.specs.Objects.{push_effect}
-use Rattle.sto_model.specs.Machine.{reply_to}
+use Rattle.sto_model.specs.SequentialObjects.{reply_to}
 use Rattle.sto_type.specs.Known.{Parts}
 use Rattle.sto_type.specs.Meaning.{Meaning, IsUpdated}
 use Rattle.sto_type.specs.Telling.{Telling, Tell}

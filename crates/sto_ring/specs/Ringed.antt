@@ -13,9 +13,9 @@ use Rattle.sto_model.specs.declared.operation.Operation.{Operation}
 use Rattle.sto_model.specs.declared.operation.Operation.TheVariants.{Get, Has, Len, Push, Pop}
 use Rattle.sto_model.specs.Operations.{operation_of}
 use Rattle.sto_model.specs.Rows.{Row}
-use Rattle.sto_model.specs.Told.{Told, Done, Value, Flag, Absent, Full}
+use Rattle.sto_model.specs.PlainReplies.{PlainReply, Done, Value, Flag, Absent, Full}
 use Rattle.sto_model.specs.Objects.{Effect, effect, push_effect}
-use Rattle.sto_model.specs.Machine.{Machine}
+use Rattle.sto_model.specs.SequentialObjects.{SequentialObject}
 use Rattle.sto_type.specs.Known.{Parts, ContentsFit}
 use Rattle.sto_type.specs.Meaning.{Meaning}
 use Rattle.sto_type.specs.Plans.{Plan, Say}
@@ -27,7 +27,7 @@ use Rattle.sto_container.specs.Places.{wrapped, next, offset, is_live, natural}
 use Rattle.sto_ring.specs.LivePlaces.{size_by}
 
 -- the object as the plain model sees it: the keys are 0 and up, and a pop takes the row 0, so that all others come one nearer
-abbrev pub front_of : List Row → Told
+abbrev pub front_of : List Row → PlainReply
 front_of [] = Absent
 front_of (r ∷ rows) = Value r.1
 
@@ -43,7 +43,7 @@ ring_effect n (Some Has) a b rows = effect (Flag (nat_lt 0 (length rows))) rows
 ring_effect n (Some Len) a b rows = effect (Value (pos (length rows))) rows
 ring_effect n o a b rows = effect Absent rows
 
-abbrev pub ring_machine : ℕ → Machine
+abbrev pub ring_machine : ℕ → SequentialObject
 ring_machine n =
     record {
       opening = [];

@@ -2,7 +2,7 @@
 ghost use Rattle.std.specs.Prelude.{◌≡◌, ◌<◌, ◌+◌, ◌^◌, [], ◌∷◌, pos, suc, false, IfOk};
 ghost use Rattle.sto_part.specs.declared.change.Change.TheVariants.{Put, Keep};
 ghost use Rattle.sto_part.specs.declared.pred.Test.TheVariants.{Eq as TestEq};
-ghost use Rattle.sto_model.specs.Told.{Absent as ToldAbsent};
+ghost use Rattle.sto_model.specs.PlainReplies.{Absent as ToldAbsent};
 ghost use Rattle.sto_item.specs.Pending.{is_keep};
 ghost use Rattle.sto_type.specs.Known.{Known};
 ghost use Rattle.sto_type.specs.Plans.{Say, planned};

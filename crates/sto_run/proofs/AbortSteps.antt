@@ -3,7 +3,7 @@ use Rattle.std.specs.Prelude.{slice_index_or}
 use Rattle.std.specs.List.{flat_map}
 use Rattle.std.proofs.Common.{◌≡◌, ℕ, zero, suc, ◌+◌, ◌<◌, ◌≤◌, List, [], ◌∷◌, ◌++◌, length, map, refl, sym, ap, ◌∙◌, subst, arith, append-nil, append_assoc, length-append}
 use Rattle.std.proofs.lemmas.List.{map-append}
-use Rattle.sto_model.specs.Told.{told}
+use Rattle.sto_model.specs.PlainReplies.{plain_reply}
 use Rattle.sto_type.specs.declared.answer.Home.{Home}
 use Rattle.sto_lang.specs.Objects.{Declaration}
 use Rattle.sto_report_spec.specs.Aborts.{Abort, part_by_home}
@@ -41,7 +41,7 @@ locked_line ds hs ts r at part k home is count e =
     ∙ ap (aborts_by ds (map home_pair hs) ts r) (sym is)
   where
     abort_with : ℕ → ℕ × ℕ → List Abort
-    abort_with n h = record { place = (r.thread, r.position); seen = n; replies = map told r.replies.items; cause = aborts.Locked (part_by_home ds h) } ∷ []
+    abort_with n h = record { place = (r.thread, r.position); seen = n; replies = map plain_reply r.replies.items; cause = aborts.Locked (part_by_home ds h) } ∷ []
 
 -- the line of a record whose part was changed
 pub changed_line : (ds : List Declaration) (hs : List Home) (ts : List ℕ) (r : Record) (at part ticket k by' : ℕ) (home : Home)
@@ -54,7 +54,7 @@ changed_line ds hs ts r at part ticket k by' home is count number e =
     ∙ ap (aborts_by ds (map home_pair hs) ts r) (sym is)
   where
     abort_with : ℕ → ℕ → ℕ × ℕ → List Abort
-    abort_with n x h = record { place = (r.thread, r.position); seen = n; replies = map told r.replies.items; cause = aborts.Changed (part_by_home ds h) x } ∷ []
+    abort_with n x h = record { place = (r.thread, r.position); seen = n; replies = map plain_reply r.replies.items; cause = aborts.Changed (part_by_home ds h) x } ∷ []
 
 -- one more line
 pub one_more : (ds : List Declaration) (hs : List (ℕ × ℕ)) (ts : List ℕ) (lines new : List AbortLine) (line : AbortLine) (rs : List Record) (r : Record)

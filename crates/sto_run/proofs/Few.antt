@@ -8,7 +8,7 @@ use Rattle.std.proofs.lemmas.List.Elements.{All-head, All-tail, All-weaker}
 use Rattle.std.proofs.lemmas.List.Sums.{sum_by-cons}
 use Rattle.std.proofs.lemmas.Option.{slice_get_within}
 use Rattle.sto_lang.specs.Scripts.{Script, File}
-use Rattle.sto_report_spec.specs.Orders.{Place, at_position, transaction_at, count_in, positions_of, numbers_from, IsOrder}
+use Rattle.sto_report_spec.specs.Orders.{TransactionPlace, at_position, transaction_at, count_in, positions_of, numbers_from, IsOrder}
 use Rattle.sto_history.specs.Records.{Record, is_abort, is_finished}
 use Rattle.sto_history.specs.Counted.{aborted_times, finished_places}
 use Rattle.sto_type.specs.Meaning.{Meaning}
@@ -18,40 +18,40 @@ use Rattle.sto_serializability.proofs.Pairs.{hit, occurrences}
 use Rattle.sto_run.specs.Alone.{places_in, places_from}
 
 -- 1 where the place p is q
-abbrev is : Place → Place → ℕ
+abbrev is : TransactionPlace → TransactionPlace → ℕ
 is q p = if (p.0 == q.0) && (p.1 == q.1) then 1 else 0
 
 -- how often a place stands in a list; how many records are of a place, and of places
-abbrev stands : Place → List Place → ℕ
+abbrev stands : TransactionPlace → List TransactionPlace → ℕ
 stands p [] = 0
 stands p (q ∷ qs) = is q p + stands p qs
 
-abbrev times : Place → List Record → ℕ
+abbrev times : TransactionPlace → List Record → ℕ
 times q [] = 0
 times q (r ∷ rs) = is q r.place + times q rs
 
-abbrev all_times : List Place → List Record → ℕ
+abbrev all_times : List TransactionPlace → List Record → ℕ
 all_times [] rs = 0
 all_times (q ∷ qs) rs = times q rs + all_times qs rs
 
-one_more : (qs : List Place) (r : Record) (rs : List Record) → all_times qs (r ∷ rs) ≡ stands r.place qs + all_times qs rs
+one_more : (qs : List TransactionPlace) (r : Record) (rs : List Record) → all_times qs (r ∷ rs) ≡ stands r.place qs + all_times qs rs
 one_more [] r rs = refl
 one_more (q ∷ qs) r rs = let k = one_more qs r rs in omega (arith, k)
 
-all_counted : (qs : List Place) (rs : List Record) → All (λ (r : Record). 1 ≤ stands r.place qs) rs → length rs ≤ all_times qs rs
+all_counted : (qs : List TransactionPlace) (rs : List Record) → All (λ (r : Record). 1 ≤ stands r.place qs) rs → length rs ≤ all_times qs rs
 all_counted qs [] h = omega arith
 all_counted qs (r ∷ rs) h =
     let here = All-head (λ (x : Record). 1 ≤ stands x.place qs) r rs h in
     let rest = all_counted qs rs (All-tail (λ (x : Record). 1 ≤ stands x.place qs) r rs h) in
     let e = one_more qs r rs in omega (arith, here, rest, e)
 
-bounded : (most : ℕ) (qs : List Place) (rs : List Record) → ((q : Place) → times q rs ≤ most) → all_times qs rs ≤ length qs * most
+bounded : (most : ℕ) (qs : List TransactionPlace) (rs : List Record) → ((q : TransactionPlace) → times q rs ≤ most) → all_times qs rs ≤ length qs * most
 bounded most [] rs h = omega arith
 bounded most (q ∷ qs) rs h = let here = h q in let rest = bounded most qs rs h in omega (arith, here, rest)
 
 -- each transaction of the file has a place in the list
 
-stands_append : (p : Place) (xs ys : List Place) → stands p (xs ++ ys) ≡ stands p xs + stands p ys
+stands_append : (p : TransactionPlace) (xs ys : List TransactionPlace) → stands p (xs ++ ys) ≡ stands p xs + stands p ys
 stands_append p [] ys = omega arith
 stands_append p (x ∷ xs) ys = let k = stands_append p xs ys in omega (arith, k)
 
@@ -97,7 +97,7 @@ length-places_from first (scripts ∷ threads) =
 
 -- a place has one record that is not aborted at most
 
-abbrev ended : Place → List Place → ℕ
+abbrev ended : TransactionPlace → List TransactionPlace → ℕ
 ended q [] = 0
 ended q (p ∷ ps) = is q p + ended q ps
 
@@ -122,7 +122,7 @@ once_among x first (suc count) = elim (cases_order x first) [
   | inr (inr l) ↦ (let k = once_among x (suc first) count in let h : hit x first ≡ 0 = grind (arith, nat_tests) in omega (arith, k, h))
 ]
 
-ended_once : (q : Place) (ps : List Place) → ended q ps ≡ occurrences q.1 (positions_of q.0 ps)
+ended_once : (q : TransactionPlace) (ps : List TransactionPlace) → ended q ps ≡ occurrences q.1 (positions_of q.0 ps)
 ended_once q [] = refl
 ended_once q (p ∷ ps) = by (p.0 == q.0) (ended_once q ps)
   where
@@ -131,7 +131,7 @@ ended_once q (p ∷ ps) = by (p.0 == q.0) (ended_once q ps)
     by true k = ap (λ (n : ℕ). hit q.1 p.1 + n) k
     by false k = omega (arith, k)
 
-aborted_or_ended : (q : Place) (rs : List Record) → times q rs ≡ aborted_times q rs + ended q (finished_places rs)
+aborted_or_ended : (q : TransactionPlace) (rs : List Record) → times q rs ≡ aborted_times q rs + ended q (finished_places rs)
 aborted_or_ended q [] = refl
 aborted_or_ended q (r ∷ rs) = by (is_abort r.verdict) (aborted_or_ended q rs)
   where
@@ -151,10 +151,10 @@ pub record HasScript (file : File) (r : Record) : Type 0 where
 pub have_scripts : (m : Meaning) (file : File) (v : View) (rs : List Record) → All (IsRecord m file v) rs → All (HasScript file) rs
 have_scripts m file v rs h = All-weaker (IsRecord m file v) (HasScript file) (λ r k. record { script = k.script; there = k.transaction }) rs h
 
-pub few_records : (file : File) (tries : ℕ) (rs : List Record) → All (HasScript file) rs → ((q : Place) → aborted_times q rs ≤ tries) → IsOrder file (finished_places rs)
+pub few_records : (file : File) (tries : ℕ) (rs : List Record) → All (HasScript file) rs → ((q : TransactionPlace) → aborted_times q rs ≤ tries) → IsOrder file (finished_places rs)
     → tries ≤ 64 → length rs ≤ sum_by length file.threads * 65
 few_records file tries rs each few order low =
-    let listed : List Place = places_from 0 file.threads in
+    let listed : List TransactionPlace = places_from 0 file.threads in
     let counted : length rs ≤ all_times listed rs =
     all_counted listed rs
     (All-weaker (HasScript file) (λ (r : Record). 1 ≤ stands r.place listed)

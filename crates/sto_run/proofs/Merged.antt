@@ -10,7 +10,7 @@ use Rattle.sto_core.specs.declared.view.View.{View}
 use Rattle.sto_core.specs.History.{Contents, Validity, contents_as_of}
 use Rattle.sto_core.specs.Core.{Core}
 use Rattle.sto_core.specs.Rule.{Past}
-use Rattle.sto_report_spec.specs.Orders.{Place, IsOrder}
+use Rattle.sto_report_spec.specs.Orders.{TransactionPlace, IsOrder}
 use Rattle.sto_report_spec.specs.Replay.{Entry, entries_of, final_state}
 use Rattle.sto_report_spec.specs.Aborts.{Abort}
 use Rattle.sto_report_spec.specs.LawfulAborts.{AreLawful}
@@ -31,7 +31,7 @@ use Rattle.sto_run.specs.Lawful.{IsLawfulJournal}
 
 pub places_told : (rs ordered : List Record) → map (λ (e : Entry). e.place) (map (line_of rs) ordered) ≡ places_of ordered
 places_told rs [] = refl
-places_told rs (r ∷ ordered) = ap (λ (ps : List Place). r.place ∷ ps) (places_told rs ordered)
+places_told rs (r ∷ ordered) = ap (λ (ps : List TransactionPlace). r.place ∷ ps) (places_told rs ordered)
 
 module _ {valid : Validity} {sizes : List ℕ} {opening : Contents} {past : Past} {core : Core} {v : View}
     (m : Meaning) (file : File) (sound : IsSound file) (type_of : IsTypeOf (shapes_of file.declarations) m) (closed : IsClosed valid sizes opening past core v m)
@@ -54,7 +54,7 @@ module _ {valid : Validity} {sizes : List ℕ} {opening : Contents} {past : Past
       record {
         order = subst (IsOrder file) (sym same) (journal.order means file usable type_of closed tries rs ordered finished merged);
         entries = lines.lines ∙ sym (journal.entries means file usable type_of closed tries rs ordered finished merged) ∙ ap (entries_of file) (sym same);
-        aborts = subst (λ (order : List Place). AreLawful (updating_by means) file tries order (map (abort file.declarations) j.aborts.items)) (sym same)
+        aborts = subst (λ (order : List TransactionPlace). AreLawful (updating_by means) file tries order (map (abort file.declarations) j.aborts.items)) (sym same)
             (subst (AreLawful (updating_by means) file tries (places_of ordered)) (sym aborts)
             (aborts_lawful means file usable type_of closed tries rs ordered finished merged));
         final = state ∙ ap m.rows are ∙ sym (journal.final means file usable type_of closed tries rs ordered finished merged) ∙ ap (final_state file) (sym same);

@@ -4,7 +4,7 @@ use Rattle.std.specs.List.Sorted.{IsPermutation}
 use Rattle.std.proofs.Common.{◌≡◌, ◌≤◌, ℕ, suc, List, [], ◌∷◌, length, map, refl, sym, ap, ◌∙◌, subst, arith, Bool, true, false, cond}
 use Rattle.std.proofs.lemmas.List.{length-map}
 use Rattle.std.proofs.lemmas.List.Sorted.{length_permutation}
-use Rattle.sto_model.specs.Told.{told}
+use Rattle.sto_model.specs.PlainReplies.{plain_reply}
 use Rattle.sto_report_spec.specs.Replay.{Entry}
 use Rattle.sto_transaction.specs.Records.{is_finished, stands_at, writers_up_to}
 use Rattle.sto_transaction.specs.Records as plainly
@@ -32,7 +32,7 @@ same_lines tickets all counts (r ∷ rs) =
     ∙ ap (λ (l : List Entry). line_of all (plain r) ∷ l) (same_lines tickets all counts rs)
   where
     entry_with : ℕ → Entry
-    entry_with n = record { writers = n; place = (r.thread, r.position); ending = ending_of (verdict r.verdict); replies = map told r.replies.items }
+    entry_with n = record { writers = n; place = (r.thread, r.position); ending = ending_of (verdict r.verdict); replies = map plain_reply r.replies.items }
 
 pub merged_records : (records ended sorted : List Record) → ended ≡ filter has_ended records → IsPermutation (map plain ended) (map plain sorted) → AreInOrder (map plain sorted)
     → AreMerged (map plain records) (map plain sorted)

@@ -3,8 +3,8 @@ use Rattle.std.specs.List.{All}
 use Rattle.std.proofs.Common.{◌≡◌, ℕ, ◌<◌, List, [], ◌∷◌, length, map, refl, sym, subst, Option, None, Some, slice_get, option_and_then}
 use Rattle.std.proofs.lemmas.List.Elements.{All-nil, All-cons, All-head, All-tail}
 use Rattle.std.proofs.lemmas.Option.{slice_get_within}
-use Rattle.sto_model.specs.Told.{Told, told}
-use Rattle.sto_model.specs.Run.{Script as Steps}
+use Rattle.sto_model.specs.PlainReplies.{PlainReply, plain_reply}
+use Rattle.sto_model.specs.Run.{Behaviour}
 use Rattle.sto_lang.specs.Scripts.{Script, File}
 use Rattle.sto_script.specs.Meaning.{meaning_of}
 use Rattle.sto_type.specs.Meaning.{Meaning, IsLawful}
@@ -37,10 +37,10 @@ module _ (m : Meaning) (file : File) (v : View) where
       All-cons (λ (x : Record). x.thread < length file.threads) r rs (has_thread file.threads r.thread r.position here.script here.transaction)
       (in_threads rs (All-tail (IsRecord m file v) (plain r) (map plain rs) h))
 
-  touched_in : IsLawful m → (f : Steps) (replies : List Told) (part : ℕ) → HasTouched m f replies part → part < length m.homes
+  touched_in : IsLawful m → (f : Behaviour) (replies : List PlainReply) (part : ℕ) → HasTouched m f replies part → part < length m.homes
   touched_in law f replies part h = (touched_of m law f replies part h).owned.in_range
 
-  part_in : IsLawful m → (f : Steps) (replies : List Told) (w : Verdict) → IsTold m v f replies (verdict w) → IsPartIn (length m.homes) w
+  part_in : IsLawful m → (f : Behaviour) (replies : List PlainReply) (w : Verdict) → IsTold m v f replies (verdict w) → IsPartIn (length m.homes) w
   part_in law f replies (Wrote ticket) h = tt
   part_in law f replies (Read at) h = tt
   part_in law f replies (Cancelled at) h = tt
@@ -52,5 +52,5 @@ module _ (m : Meaning) (file : File) (v : View) where
   in_parts law count (r ∷ rs) e h =
       let here : IsRecord m file v (plain r) = All-head (IsRecord m file v) (plain r) (map plain rs) h in
       All-cons (IsInRange count) r rs
-      (subst (λ (n : ℕ). IsPartIn n r.verdict) e (part_in law (meaning_of here.script) (map told r.replies.items) r.verdict here.told))
+      (subst (λ (n : ℕ). IsPartIn n r.verdict) e (part_in law (meaning_of here.script) (map plain_reply r.replies.items) r.verdict here.plain_reply))
       (in_parts law count rs e (All-tail (IsRecord m file v) (plain r) (map plain rs) h))

@@ -6,8 +6,8 @@ use Rattle.std.proofs.lemmas.Bool.{cases_lt}
 use Rattle.std.proofs.lemmas.Bool.Decides.{nat_tests}
 use Rattle.std.proofs.lemmas.List.{length-map}
 use Rattle.std.proofs.lemmas.List.Elements.{All-nil, All-cons, All-head, All-tail}
-use Rattle.sto_model.specs.Machine.{Machine, opening_of, reply_to, state_after}
-use Rattle.sto_model.specs.Run.{Script as Steps, State}
+use Rattle.sto_model.specs.SequentialObjects.{SequentialObject, opening_of, reply_to, state_after}
+use Rattle.sto_model.specs.Run.{Behaviour, State}
 use Rattle.sto_model.specs.Serial.{SerialRun, by_next, ended, heard, run_within, settled}
 use Rattle.sto_model.specs.Objects.{machine_of}
 use Rattle.sto_model.specs.declared.body.Next.{Next}
@@ -23,7 +23,7 @@ use Rattle.sto_lang.specs.declared.file.Decl.{Decl}
 use Rattle.sto_lang.specs.Views.{declaration}
 use Rattle.sto_lang.proofs.SoundObjects.{order_count}
 use Rattle.sto_script.specs.Meaning.{meaning_of}
-use Rattle.sto_report_spec.specs.Orders.{Place, transaction_at, count_in, positions_of, numbers_from, IsOrder}
+use Rattle.sto_report_spec.specs.Orders.{TransactionPlace, transaction_at, count_in, positions_of, numbers_from, IsOrder}
 use Rattle.sto_report_spec.specs.Replay.{opening_state, run_at, script_run, machines_for, state_from, final_state}
 use Rattle.sto_report_spec.specs.Aborts.{name_of, part_in}
 use Rattle.sto_report_spec.specs.Named.{AreNames}
@@ -46,16 +46,16 @@ no_more (scripts ∷ threads) zero l = absurd (omega (arith, l))
 no_more (scripts ∷ threads) (suc thread) l = no_more threads thread (omega (arith, l))
 
 -- no position of a thread past the first n stands in the order
-abbrev HasNonePast : ℕ → List Place → Type 0
+abbrev HasNonePast : ℕ → List TransactionPlace → Type 0
 HasNonePast n order = (thread : ℕ) → n ≤ thread → positions_of thread order ≡ []
 
-order_none : (file : File) (order : List Place) → IsOrder file order → HasNonePast (length file.threads) order
+order_none : (file : File) (order : List TransactionPlace) → IsOrder file order → HasNonePast (length file.threads) order
 order_none file order h thread l = h thread ∙ ap (numbers_from 1) (no_more file.threads thread l)
 
 is_itself : (n : ℕ) → (n == n) ≡ true
 is_itself n = grind (arith, nat_tests)
 
-within : (n : ℕ) (p : Place) (order : List Place) → HasNonePast n (p ∷ order) → p.0 < n
+within : (n : ℕ) (p : TransactionPlace) (order : List TransactionPlace) → HasNonePast n (p ∷ order) → p.0 < n
 within n p order h = elim (cases_lt p.0 n) [
   | inl l ↦ l
   | inr l ↦
@@ -65,7 +65,7 @@ within n p order h = elim (cases_lt p.0 n) [
       absurd cc
 ]
 
-none_after : (n : ℕ) (p : Place) (order : List Place) → HasNonePast n (p ∷ order) → HasNonePast n order
+none_after : (n : ℕ) (p : TransactionPlace) (order : List TransactionPlace) → HasNonePast n (p ∷ order) → HasNonePast n order
 none_after n p order h thread l = by (p.0 == thread) (h thread l)
   where
     by : (b : Bool) → cond b (p.1 ∷ positions_of thread order) (positions_of thread order) ≡ [] → positions_of thread order ≡ []
@@ -95,7 +95,7 @@ same_home : (declarations : List Declaration) (c : causes.Cause) → (part_in (c
 same_home declarations (kinds.Locked home) = refl
 same_home declarations (kinds.Changed home by) = refl
 
-aborts_within : (u : Updating) (file : File) (order : List Place) (aborts : List AbortLine) → HaveNames file.declarations
+aborts_within : (u : Updating) (file : File) (order : List TransactionPlace) (aborts : List AbortLine) → HaveNames file.declarations
     → All (IsLawfulAbort u file order) (map (abort file.declarations) aborts) → AreAbortsOf (length file.threads) file.declarations aborts
 aborts_within u file order [] names h = All-nil (IsAbortOf (length file.threads) file.declarations)
 aborts_within u file order (a ∷ aborts) names h =
@@ -109,7 +109,7 @@ aborts_within u file order (a ∷ aborts) names h =
 
 -- the rows that are left
 
-length-run_within : (ms : List Machine) (n : ℕ) (f : Steps) (st : State) → length (run_within ms n f st).after ≡ length st
+length-run_within : (ms : List SequentialObject) (n : ℕ) (f : Behaviour) (st : State) → length (run_within ms n f st).after ≡ length st
 length-run_within ms zero f st = by (f [])
   where
     by : (next : Next) → length (by_next {A = SerialRun} next (λ call. ended st ends.Commit) (ended st)).after ≡ length st
@@ -118,7 +118,7 @@ length-run_within ms zero f st = by (f [])
     by Cancel = refl
 length-run_within ms (suc n) f st = by (λ rs state. length-run_within ms n rs state) (f [])
   where
-    by : ((g : Steps) (state : State) → length (run_within ms n g state).after ≡ length state) → (next : Next) → length (by_next {A = SerialRun} next (λ call. heard (reply_to ms call st) (run_within ms n (λ rs. f (reply_to ms call st ∷ rs)) (state_after ms call st))) (ended st)).after ≡ length st
+    by : ((g : Behaviour) (state : State) → length (run_within ms n g state).after ≡ length state) → (next : Next) → length (by_next {A = SerialRun} next (λ call. heard (reply_to ms call st) (run_within ms n (λ rs. f (reply_to ms call st ∷ rs)) (state_after ms call st))) (ended st)).after ≡ length st
     by rest (Ask call) = rest (λ rs. f (reply_to ms call st ∷ rs)) (state_after ms call st) ∙ length-changed ms call.object call st
     by rest Commit = refl
     by rest Cancel = refl
@@ -130,20 +130,20 @@ length-settled st run e = by run.end
     by ends.Commit = e
     by ends.Cancel = refl
 
-length-script_run : (ms : List Machine) (st : State) (script : Option Script) → length (script_run ms st script).after ≡ length st
+length-script_run : (ms : List SequentialObject) (st : State) (script : Option Script) → length (script_run ms st script).after ≡ length st
 length-script_run ms st None = refl
 length-script_run ms st (Some script) =
     length-settled st (run_within ms script.weight (meaning_of script) st) (length-run_within ms script.weight (meaning_of script) st)
 
-length-state_from : (file : File) (st : State) (order : List Place) → length (state_from file st order) ≡ length st
+length-state_from : (file : File) (st : State) (order : List TransactionPlace) → length (state_from file st order) ≡ length st
 length-state_from file st [] = refl
 length-state_from file st (p ∷ order) =
     length-state_from file (run_at file st p).after order ∙ length-script_run (machines_for file) st (transaction_at file p)
 
-length-final : (file : File) (order : List Place) → length (final_state file order) ≡ length file.declarations
+length-final : (file : File) (order : List TransactionPlace) → length (final_state file order) ≡ length file.declarations
 length-final file order =
     length-state_from file (opening_state file) order
-    ∙ length-map (machines_for file) (λ (m : Machine). m.opening)
+    ∙ length-map (machines_for file) (λ (m : SequentialObject). m.opening)
     ∙ length-map (shapes_of file.declarations) machine_of
     ∙ order_count (map (λ (d : Declaration). d.shape) file.declarations)
     ∙ length-map file.declarations (λ (d : Declaration). d.shape)

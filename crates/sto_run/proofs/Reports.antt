@@ -8,7 +8,7 @@ use Rattle.sto_lang.specs.declared.file.File as whole
 use Rattle.sto_lang.specs.declared.file.Thread.{Thread}
 use Rattle.sto_lang.specs.Views.{script, declaration}
 use Rattle.sto_lang.specs.Views as views
-use Rattle.sto_report_spec.specs.Orders.{Place, IsOrder}
+use Rattle.sto_report_spec.specs.Orders.{TransactionPlace, IsOrder}
 use Rattle.sto_report_spec.specs.Aborts.{Abort}
 use Rattle.sto_report_spec.specs.Replay.{Entry, entries_of}
 use Rattle.sto_report_spec.specs.Report.{text_of, report_of}
@@ -29,7 +29,7 @@ use Rattle.sto_run.specs.Forms.{order_told, aborts_told, IsAlone}
 use Rattle.sto_run.proofs.Printed.{lawful_threads, lawful_aborts}
 
 module _ (u : Updating) (f : File) (tries : ℕ) (j : Journal) (lawful : IsLawfulJournal u f tries j) (text : List ℕ) where
-  abbrev order : List Place
+  abbrev order : List TransactionPlace
   order = places j.lines.items
 
   abbrev aborts : List Abort
@@ -39,13 +39,13 @@ module _ (u : Updating) (f : File) (tries : ℕ) (j : Journal) (lawful : IsLawfu
       → order_named f.names text ≡ order → aborts_named f.names text ≡ aborts → IsLawful u f tries text
   lawful_text told order_is aborts_are = record {
     order = subst (IsOrder f) (sym order_is) lawful.order;
-    aborts = subst (λ (o : List Place). AreLawful u f tries o (aborts_named f.names text)) (sym order_is)
+    aborts = subst (λ (o : List TransactionPlace). AreLawful u f tries o (aborts_named f.names text)) (sym order_is)
         (subst (AreLawful u f tries order) (sym aborts_are) lawful.aborts);
     report =
         told
         ∙ ap (λ (es : List Entry). text_of f.names f.declarations es aborts j.state.items) lawful.entries
         ∙ ap (λ (st : State). text_of f.names f.declarations (entries_of f order) aborts st) lawful.final
-        ∙ ap (λ (o : List Place). report_of f o aborts) (sym order_is)
+        ∙ ap (λ (o : List TransactionPlace). report_of f o aborts) (sym order_is)
         ∙ ap (λ (named : List Abort). report_of f (order_named f.names text) named) (sym aborts_are);
   }
 
@@ -54,13 +54,13 @@ module _ (u : Updating) (f : File) (tries : ℕ) (j : Journal) (lawful : IsLawfu
       → json_order_named f.names text ≡ order → json_aborts_named f.names text ≡ aborts → IsLawfulJson u f tries text
   lawful_json told order_is aborts_are = record {
     order = subst (IsOrder f) (sym order_is) lawful.order;
-    aborts = subst (λ (o : List Place). AreLawful u f tries o (json_aborts_named f.names text)) (sym order_is)
+    aborts = subst (λ (o : List TransactionPlace). AreLawful u f tries o (json_aborts_named f.names text)) (sym order_is)
         (subst (AreLawful u f tries order) (sym aborts_are) lawful.aborts);
     report =
         told
         ∙ ap (λ (es : List Entry). json_text f.names f.declarations es aborts j.state.items) lawful.entries
         ∙ ap (λ (st : State). json_text f.names f.declarations (entries_of f order) aborts st) lawful.final
-        ∙ ap (λ (o : List Place). json_of f o aborts) (sym order_is)
+        ∙ ap (λ (o : List TransactionPlace). json_of f o aborts) (sym order_is)
         ∙ ap (λ (named : List Abort). json_of f (json_order_named f.names text) named) (sym aborts_are);
   }
 
@@ -81,7 +81,7 @@ pub one_report : (form : ReportForm) (u : Updating) (file : File) (tries : ℕ) 
 one_report form u file tries j text alone lawful order aborts = record {
   order = in_order;
   none = none;
-  report = said form lawful ∙ ap (λ (ps : List Place). made_in form file ps (aborts_told form file.names text)) in_order ∙ ap (made_in form file (all_places file)) none;
+  report = said form lawful ∙ ap (λ (ps : List TransactionPlace). made_in form file ps (aborts_told form file.names text)) in_order ∙ ap (made_in form file (all_places file)) none;
 }
   where
     in_order : order_told form file.names text ≡ all_places file

@@ -7,7 +7,7 @@ use Rattle.std.proofs.Common.{◌≡◌, ℕ, zero, suc, ◌+◌, ◌<◌, ◌�
 use Rattle.std.proofs.lemmas.Bool.{cases_eq}
 use Rattle.std.proofs.lemmas.Bool.Decides.{nat_tests}
 use Rattle.std.proofs.lemmas.List.Elements.{All-from_get_or, filter_agree}
-use Rattle.sto_model.specs.Told.{told}
+use Rattle.sto_model.specs.PlainReplies.{plain_reply}
 use Rattle.sto_lang.specs.Objects.{Declaration}
 use Rattle.sto_report_spec.specs.Aborts.{Abort}
 use Rattle.sto_report_spec.specs.Aborts as aborts
@@ -118,17 +118,17 @@ kept xs ys h t =
     ∙ filter_agree (λ (r : Record). not (is_lt (nat_cmp t r.thread)) && not (is_lt (nat_cmp r.thread t))) (λ (r : Record). r.thread == t) (λ r. tie_is t r.thread) xs
 
 module _ (ds : List Declaration) (homes : List (ℕ × ℕ)) (tickets : List ℕ) (all : List plainly.Record) (counts : (n : ℕ) → up_to n tickets ≡ writers_up_to n all) where
-  aborts_same : (r : Record) (v : Verdict) → aborts_by ds homes tickets r v ≡ lines_of_abort ds homes all (r.thread, r.position) (map told r.replies.items) (verdict v)
+  aborts_same : (r : Record) (v : Verdict) → aborts_by ds homes tickets r v ≡ lines_of_abort ds homes all (r.thread, r.position) (map plain_reply r.replies.items) (verdict v)
   aborts_same r (Wrote t) = refl
   aborts_same r (Read a) = refl
   aborts_same r (Cancelled a) = refl
   aborts_same r (Locked a p) =
-      ap (λ (n : ℕ). let x : Abort = record { place = (r.thread, r.position); seen = n; replies = map told r.replies.items; cause = aborts.Locked (part_named ds homes p) } in x ∷ []) (counts a)
+      ap (λ (n : ℕ). let x : Abort = record { place = (r.thread, r.position); seen = n; replies = map plain_reply r.replies.items; cause = aborts.Locked (part_named ds homes p) } in x ∷ []) (counts a)
   aborts_same r (Changed a p t) =
-      ap (λ (n : ℕ). let x : Abort = record { place = (r.thread, r.position); seen = n; replies = map told r.replies.items; cause = aborts.Changed (part_named ds homes p) (up_to t tickets) } in x ∷ []) (counts a)
-      ∙ ap (λ (n : ℕ). let x : Abort = record { place = (r.thread, r.position); seen = writers_up_to a all; replies = map told r.replies.items; cause = aborts.Changed (part_named ds homes p) n } in x ∷ []) (counts t)
+      ap (λ (n : ℕ). let x : Abort = record { place = (r.thread, r.position); seen = n; replies = map plain_reply r.replies.items; cause = aborts.Changed (part_named ds homes p) (up_to t tickets) } in x ∷ []) (counts a)
+      ∙ ap (λ (n : ℕ). let x : Abort = record { place = (r.thread, r.position); seen = writers_up_to a all; replies = map plain_reply r.replies.items; cause = aborts.Changed (part_named ds homes p) n } in x ∷ []) (counts t)
 
-  none_told : (r : Record) (v : Verdict) → is_abort (verdict v) ≡ false → lines_of_abort ds homes all (r.thread, r.position) (map told r.replies.items) (verdict v) ≡ []
+  none_told : (r : Record) (v : Verdict) → is_abort (verdict v) ≡ false → lines_of_abort ds homes all (r.thread, r.position) (map plain_reply r.replies.items) (verdict v) ≡ []
   none_told r (Wrote t) h = refl
   none_told r (Read a) h = refl
   none_told r (Cancelled a) h = refl
@@ -142,13 +142,13 @@ module _ (ds : List Declaration) (homes : List (ℕ × ℕ)) (tickets : List ℕ
       by : (a : Bool) → was_aborted r ≡ a → (b : Bool) → r.thread == t ≡ b
           → flat_map (aborts_at ds homes tickets) (keep t (filter was_aborted rs)) ≡ aborts_of_thread ds homes all t (map plain rs)
           → flat_map (aborts_at ds homes tickets) (keep t (cond a (r ∷ filter was_aborted rs) (filter was_aborted rs)))
-          ≡ cond b (lines_of_abort ds homes all (r.thread, r.position) (map told r.replies.items) (verdict r.verdict) ++ aborts_of_thread ds homes all t (map plain rs)) (aborts_of_thread ds homes all t (map plain rs))
+          ≡ cond b (lines_of_abort ds homes all (r.thread, r.position) (map plain_reply r.replies.items) (verdict r.verdict) ++ aborts_of_thread ds homes all t (map plain rs)) (aborts_of_thread ds homes all t (map plain rs))
       by false is true here k = k ∙ ap (λ (l : List Abort). l ++ aborts_of_thread ds homes all t (map plain rs)) (sym (none_told r r.verdict is))
       by false is false here k = k
       by true is true here k =
           ap (λ (b : Bool). flat_map (aborts_at ds homes tickets) (cond b (r ∷ keep t (filter was_aborted rs)) (keep t (filter was_aborted rs)))) here
           ∙ ap (λ (l : List Abort). l ++ flat_map (aborts_at ds homes tickets) (keep t (filter was_aborted rs))) (aborts_same r r.verdict)
-          ∙ ap (λ (l : List Abort). lines_of_abort ds homes all (r.thread, r.position) (map told r.replies.items) (verdict r.verdict) ++ l) k
+          ∙ ap (λ (l : List Abort). lines_of_abort ds homes all (r.thread, r.position) (map plain_reply r.replies.items) (verdict r.verdict) ++ l) k
       by true is false here k =
           ap (λ (b : Bool). flat_map (aborts_at ds homes tickets) (cond b (r ∷ keep t (filter was_aborted rs)) (keep t (filter was_aborted rs)))) here ∙ k
 

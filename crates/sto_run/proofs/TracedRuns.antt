@@ -12,7 +12,7 @@ use Rattle.sto_transaction.specs.declared.machine.Machine.{Machine}
 use Rattle.sto_journal.specs.declared.journal.Journal.{Journal}
 use Rattle.sto_type.specs.Traits.{OfType}
 use Rattle.sto_run_threads.specs.Plans.{plan_of}
-use Rattle.sto_run_steps.specs.Logged.{Log}
+use Rattle.sto_run_steps.specs.Logged.{RunLog}
 use Rattle.sto_run_steps.specs.Proceeding.{heard_by, ProceedsAt}
 use Rattle.sto_run_steps.specs.Turning.{WereStepped, entry_turns, round_turns}
 use Rattle.sto_run_steps.proofs.Logging.{forget_turns}
@@ -20,7 +20,7 @@ use Rattle.sto_run.specs.OfRecords.{IsOfRecords}
 use Rattle.sto_run.specs.Traced.{IsRunFrom, IsTraceOf, IsStepped, of_objects, turns_in}
 
 -- a run by a schedule, on words that open with what the objects open with
-pub run_by : {T : Type 0} (t : OfType T) (ty : T) (file : File) (tries : ℕ) (journal : Journal) (schedule : List Turns) (opening : Contents) (rs : List Record) (first last : Log)
+pub run_by : {T : Type 0} (t : OfType T) (ty : T) (file : File) (tries : ℕ) (journal : Journal) (schedule : List Turns) (opening : Contents) (rs : List Record) (first last : RunLog)
     → opening ≡ (t.meaning ty).opened
     → WereStepped {M = Machine T ScriptBody} (plan_of t ty file tries) (ProceedsAt t file ty) t.valid heard_by schedule (opened_core (t.sizes ty) opening (max 1 (length file.threads))) first rs last
     → IsOfRecords file (t.meaning ty).homes rs journal → IsRunFrom t ty file tries schedule first journal last
@@ -32,7 +32,7 @@ run_by {T} t ty file tries journal schedule opening rs first last opens were tol
 }
 
 -- the run is the same where its steps are not told
-pub untold : {T : Type 0} (t : OfType T) (ty : T) (file : File) (tries : ℕ) (schedule : List Turns) (journal : Journal) (first last : Log)
+pub untold : {T : Type 0} (t : OfType T) (ty : T) (file : File) (tries : ℕ) (schedule : List Turns) (journal : Journal) (first last : RunLog)
     → IsRunFrom t ty file tries schedule first journal last → IsRunFrom t ty file tries schedule None journal None
 untold {T} t ty file tries schedule journal first last r =
     let w = r.stepped in
@@ -58,7 +58,7 @@ untold {T} t ty file tries schedule journal first last r =
     }
 
 -- the journal of a run whose steps are told is that of a run by the file's schedule
-pub trace_stepped : (file : File) (tries : ℕ) (journal : Journal) (homes : List (ℕ × ℕ)) (steps : Log) → IsTraceOf file tries journal homes steps → IsStepped file tries journal
+pub trace_stepped : (file : File) (tries : ℕ) (journal : Journal) (homes : List (ℕ × ℕ)) (steps : RunLog) → IsTraceOf file tries journal homes steps → IsStepped file tries journal
 trace_stepped file tries journal homes steps r = record {
   objects = r.objects;
   kinds = r.kinds;

@@ -7,7 +7,7 @@ use Rattle.std.proofs.lemmas.Bool.Decides.{nat_tests}
 use Rattle.std.proofs.lemmas.List.Elements.{All-head, All-tail, filter-append}
 use Rattle.sto_part.specs.declared.NoMemory.{NoMemory}
 use Rattle.sto_lang.specs.Scripts.{Script, File}
-use Rattle.sto_report_spec.specs.Orders.{Place, positions_of, numbers_from, count_in, IsOrder}
+use Rattle.sto_report_spec.specs.Orders.{TransactionPlace, positions_of, numbers_from, count_in, IsOrder}
 use Rattle.sto_report_spec.specs.Replay.{Entry}
 use Rattle.sto_journal.specs.declared.journal.Journal.{Journal}
 use Rattle.sto_journal.specs.Journals.{entry, places}
@@ -26,27 +26,27 @@ use Rattle.sto_run.specs.Alone.{places_in, places_from, all_places, RanAlone}
 use Rattle.sto_run.proofs.Merged.{places_told}
 
 -- of two places, the first is not of a later thread
-abbrev IsNoLater : Place → Place → Type 0
+abbrev IsNoLater : TransactionPlace → TransactionPlace → Type 0
 IsNoLater p q = p.0 ≤ q.0
 
 -- The positions of a thread.
 
-own_first : (p : Place) (ps : List Place) → positions_of p.0 (p ∷ ps) ≡ p.1 ∷ positions_of p.0 ps
+own_first : (p : TransactionPlace) (ps : List TransactionPlace) → positions_of p.0 (p ∷ ps) ≡ p.1 ∷ positions_of p.0 ps
 own_first p ps = ap (λ (b : Bool). cond b (p.1 ∷ positions_of p.0 ps) (positions_of p.0 ps)) (eq-eqb p.0 p.0 refl)
 
-other_first : (thread : ℕ) (p : Place) (ps : List Place) → (p.0 ≡ thread → ⊥) → positions_of thread (p ∷ ps) ≡ positions_of thread ps
+other_first : (thread : ℕ) (p : TransactionPlace) (ps : List TransactionPlace) → (p.0 ≡ thread → ⊥) → positions_of thread (p ∷ ps) ≡ positions_of thread ps
 other_first thread p ps other = ap (λ (b : Bool). cond b (p.1 ∷ positions_of thread ps) (positions_of thread ps)) (ne_eqb p.0 thread other)
 
-none_below : (thread : ℕ) (ps : List Place) → Every (λ (p : Place). thread < p.0) ps → positions_of thread ps ≡ []
+none_below : (thread : ℕ) (ps : List TransactionPlace) → Every (λ (p : TransactionPlace). thread < p.0) ps → positions_of thread ps ≡ []
 none_below thread [] h = refl
 none_below thread (p ∷ ps) h = let l = h.0 in other_first thread p ps (λ is. absurd (omega (arith, is, l))) ∙ none_below thread ps h.1
 
 -- a first place of a thread below all others
-first_below : (p : Place) (ps qs : List Place) → Every (λ (q : Place). p.0 < q.0) qs → positions_of p.0 (p ∷ ps) ≡ positions_of p.0 qs → ⊥
+first_below : (p : TransactionPlace) (ps qs : List TransactionPlace) → Every (λ (q : TransactionPlace). p.0 < q.0) qs → positions_of p.0 (p ∷ ps) ≡ positions_of p.0 qs → ⊥
 first_below p ps qs h same = absurd (let l = ap length (sym (own_first p ps) ∙ same ∙ none_below p.0 qs h) in omega (arith, l))
 
 -- two lists of places in rising thread that have the same positions of each thread are one
-same_order : (ps qs : List Place) → Later IsNoLater ps → Later IsNoLater qs → ((thread : ℕ) → positions_of thread ps ≡ positions_of thread qs) → ps ≡ qs
+same_order : (ps qs : List TransactionPlace) → Later IsNoLater ps → Later IsNoLater qs → ((thread : ℕ) → positions_of thread ps ≡ positions_of thread qs) → ps ≡ qs
 same_order [] [] h k same = refl
 same_order [] (q ∷ qs) h k same = absurd (let l = ap length (same q.0 ∙ own_first q qs) in omega (arith, l))
 same_order (p ∷ ps) [] h k same = absurd (let l = ap length (sym (own_first p ps) ∙ same p.0) in omega (arith, l))
@@ -54,15 +54,15 @@ same_order (p ∷ ps) (q ∷ qs) h k same = elim (cases_order p.0 q.0) [
   | inl is ↦
       let heads : p.1 ∷ positions_of p.0 ps ≡ q.1 ∷ positions_of p.0 qs =
       sym (own_first p ps) ∙ same p.0 ∙ subst (λ (t : ℕ). positions_of t (q ∷ qs) ≡ q.1 ∷ positions_of t qs) (sym is) (own_first q qs) in
-      ap₂ (λ (x : Place) (xs : List Place). x ∷ xs) (λ i. (is i, ap (λ (l : List ℕ). get_or l 0 0) heads i))
+      ap₂ (λ (x : TransactionPlace) (xs : List TransactionPlace). x ∷ xs) (λ i. (is i, ap (λ (l : List ℕ). get_or l 0 0) heads i))
       (same_order ps qs h.1 k.1 (λ thread. elim (cases_eq p.0 thread) [
         | inl own ↦ subst (λ (t : ℕ). positions_of t ps ≡ positions_of t qs) own (ap (λ (l : List ℕ). drop 1 l) heads)
         | inr other ↦ sym (other_first thread p ps other) ∙ same thread ∙ other_first thread q qs (λ e. other (is ∙ e))
       ]))
   | inr (inl low) ↦
-      absurd (first_below p ps (q ∷ qs) (low, every_weaker (λ (x : Place). q.0 ≤ x.0) (λ (x : Place). p.0 < x.0) (λ x l. omega (arith, low, l)) qs k.0) (same p.0))
+      absurd (first_below p ps (q ∷ qs) (low, every_weaker (λ (x : TransactionPlace). q.0 ≤ x.0) (λ (x : TransactionPlace). p.0 < x.0) (λ x l. omega (arith, low, l)) qs k.0) (same p.0))
   | inr (inr low) ↦
-      absurd (first_below q qs (p ∷ ps) (low, every_weaker (λ (x : Place). p.0 ≤ x.0) (λ (x : Place). q.0 < x.0) (λ x l. omega (arith, low, l)) ps h.0) (sym (same q.0)))
+      absurd (first_below q qs (p ∷ ps) (low, every_weaker (λ (x : TransactionPlace). p.0 ≤ x.0) (λ (x : TransactionPlace). q.0 < x.0) (λ x l. omega (arith, low, l)) ps h.0) (sym (same q.0)))
 ]
 
 -- The order of all places.
@@ -75,14 +75,14 @@ in_other : (u thread first count : ℕ) → (thread ≡ u → ⊥) → positions
 in_other u thread first zero other = refl
 in_other u thread first (suc count) other = other_first u (thread, first) (places_in thread (suc first) count) other ∙ in_other u thread (suc first) count other
 
-all_from : (least thread first count : ℕ) → least ≤ thread → Every (λ (p : Place). least ≤ p.0) (places_in thread first count)
+all_from : (least thread first count : ℕ) → least ≤ thread → Every (λ (p : TransactionPlace). least ≤ p.0) (places_in thread first count)
 all_from least thread first zero l = tt
 all_from least thread first (suc count) l = (l, all_from least thread (suc first) count l)
 
-from_least : (least first : ℕ) (threads : List (List Script)) → least ≤ first → Every (λ (p : Place). least ≤ p.0) (places_from first threads)
+from_least : (least first : ℕ) (threads : List (List Script)) → least ≤ first → Every (λ (p : TransactionPlace). least ≤ p.0) (places_from first threads)
 from_least least first [] l = tt
 from_least least first (scripts ∷ threads) l =
-    every_append (λ (p : Place). least ≤ p.0) (places_in first 1 (length scripts)) (places_from (suc first) threads)
+    every_append (λ (p : TransactionPlace). least ≤ p.0) (places_in first 1 (length scripts)) (places_from (suc first) threads)
     (all_from least first 1 (length scripts) l) (from_least least (suc first) threads (omega (arith, l)))
 
 in_one_thread : (thread first count : ℕ) → Later IsNoLater (places_in thread first count)
@@ -95,7 +95,7 @@ threads_rise first (scripts ∷ threads) =
     later_append IsNoLater (places_in first 1 (length scripts)) (places_from (suc first) threads) (in_one_thread first 1 (length scripts)) (threads_rise (suc first) threads)
     (beside first 1 (length scripts))
   where
-    beside : (thread position count : ℕ) → Every (λ (p : Place). Every (IsNoLater p) (places_from (suc thread) threads)) (places_in thread position count)
+    beside : (thread position count : ℕ) → Every (λ (p : TransactionPlace). Every (IsNoLater p) (places_from (suc thread) threads)) (places_in thread position count)
     beside thread position zero = tt
     beside thread position (suc count) = (from_least thread (suc thread) threads (omega arith), beside thread (suc position) count)
 
@@ -106,7 +106,7 @@ positions_from first (scripts ∷ threads) zero u is =
     positions_append u (places_in first 1 (length scripts)) (places_from (suc first) threads)
     ∙ ap₂ (λ (xs ys : List ℕ). xs ++ ys) (subst (λ (t : ℕ). positions_of u (places_in t 1 (length scripts)) ≡ numbers_from 1 (length scripts)) (sym e) (in_own u 1 (length scripts)))
     (none_below u (places_from (suc first) threads)
-    (every_weaker (λ (p : Place). suc first ≤ p.0) (λ (p : Place). u < p.0) (λ p l. omega (arith, l, is)) (places_from (suc first) threads) (from_least (suc first) (suc first) threads (omega arith))))
+    (every_weaker (λ (p : TransactionPlace). suc first ≤ p.0) (λ (p : TransactionPlace). u < p.0) (λ p l. omega (arith, l, is)) (places_from (suc first) threads) (from_least (suc first) (suc first) threads (omega arith))))
     ∙ nothing_more (numbers_from 1 (length scripts))
   where
     nothing_more : (l : List ℕ) → l ++ [] ≡ l
@@ -118,12 +118,12 @@ positions_from first (scripts ∷ threads) (suc k) u is =
     ∙ positions_from (suc first) threads k u (omega (arith, is))
 
 -- an order of the file in rising thread is that of all places
-rising_order : (file : File) (ps : List Place) → IsOrder file ps → Later IsNoLater ps → ps ≡ all_places file
+rising_order : (file : File) (ps : List TransactionPlace) → IsOrder file ps → Later IsNoLater ps → ps ≡ all_places file
 rising_order file ps order rise =
     same_order ps (all_places file) rise (threads_rise 0 file.threads) (λ thread. order thread ∙ sym (positions_from 0 file.threads thread thread (omega arith)))
 
 -- An order of a file with at most one thread.
-none_later : (ps : List Place) → ((thread : ℕ) → 1 ≤ thread → positions_of thread ps ≡ []) → Every (λ (p : Place). p.0 ≤ 0) ps
+none_later : (ps : List TransactionPlace) → ((thread : ℕ) → 1 ≤ thread → positions_of thread ps ≡ []) → Every (λ (p : TransactionPlace). p.0 ≤ 0) ps
 none_later [] h = tt
 none_later (p ∷ ps) h = (low, none_later ps (λ thread l. sym (other_first thread p ps (λ is. absurd (omega (arith, is, l, low)))) ∙ h thread l))
   where
@@ -133,12 +133,12 @@ none_later (p ∷ ps) h = (low, none_later ps (λ thread l. sym (other_first thr
       | inr l ↦ l
     ]
 
-all_first : (ps : List Place) → Every (λ (p : Place). p.0 ≤ 0) ps → Later IsNoLater ps
+all_first : (ps : List TransactionPlace) → Every (λ (p : TransactionPlace). p.0 ≤ 0) ps → Later IsNoLater ps
 all_first [] h = tt
 all_first (p ∷ ps) h =
-    let low = h.0 in (every_weaker (λ (q : Place). q.0 ≤ 0) (IsNoLater p) (λ q l. omega (arith, low, l)) ps h.1, all_first ps h.1)
+    let low = h.0 in (every_weaker (λ (q : TransactionPlace). q.0 ≤ 0) (IsNoLater p) (λ q l. omega (arith, low, l)) ps h.1, all_first ps h.1)
 
-pub one_thread_order : (file : File) (ps : List Place) → length file.threads ≤ 1 → IsOrder file ps → ps ≡ all_places file
+pub one_thread_order : (file : File) (ps : List TransactionPlace) → length file.threads ≤ 1 → IsOrder file ps → ps ≡ all_places file
 one_thread_order file ps few order =
     rising_order file ps order (all_first ps (none_later ps (λ thread l. order thread ∙ ap (numbers_from 1) (none thread l))))
   where
@@ -184,7 +184,7 @@ later_filter C test (r ∷ rs) h = by (test r) (later_filter C test rs h.1)
     by false k = k
 
 -- rising places are those of records that stand before later ones
-every_place : (p : Place) (rs : List Record) → Every (StandsBefore p) (places_of rs) → Every (λ (s : Record). StandsBefore p s.place) rs
+every_place : (p : TransactionPlace) (rs : List Record) → Every (StandsBefore p) (places_of rs) → Every (λ (s : Record). StandsBefore p s.place) rs
 every_place p [] h = tt
 every_place p (r ∷ rs) h = (h.0, every_place p rs h.1)
 
@@ -201,7 +201,7 @@ comes_first r s k (inr l) = let e = l.0 in let f = l.1 in grind (arith, nat_test
 abbrev Sorts : Record → Record → Type 0
 Sorts r s = is_before s r ≡ false → r.place.0 ≤ s.place.0
 
-no_later : (p q : Place) → StandsBefore p q → p.0 ≤ q.0
+no_later : (p q : TransactionPlace) → StandsBefore p q → p.0 ≤ q.0
 no_later p q (inl l) = omega (arith, l)
 no_later p q (inr l) = let e = l.0 in omega (arith, e)
 
@@ -244,7 +244,7 @@ turn_order file rs ordered since rising merged order =
     rising_order file (places_of ordered) order (sorted_rise ordered ordered (λ P h. h) pairs merged.rising)
 
 pub journal_order : (file : File) (j : Journal) (rs : List Record) → InThreads rs → IsOrder file (finished_places rs) → AreLines rs (map entry j.lines.items)
-    → (from to : Place) → RunsInOrder from to [] rs → places j.lines.items ≡ all_places file
+    → (from to : TransactionPlace) → RunsInOrder from to [] rs → places j.lines.items ≡ all_places file
 journal_order file j rs threads order lines from to turn =
     ap (map (λ (e : Entry). e.place)) lines.lines ∙ places_told rs lines.ordered
     ∙ turn_order file rs lines.ordered (subst (AreSince []) (sym turn.whole) turn.since) (subst (λ (l : List Record). AreRising (finished_places l)) (sym turn.whole) turn.rising)

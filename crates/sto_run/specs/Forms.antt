@@ -3,7 +3,7 @@ use Rattle.std.specs.Prelude.{◌≡◌, ℕ, List, [], Bool, if◌then◌else�
 use Rattle.sto_lang.specs.Scripts.{File}
 use Rattle.sto_report_spec.specs.declared.form.ReportForm.{ReportForm}
 use Rattle.sto_report_spec.specs.declared.form.ReportForm.TheVariants.{Text, Json}
-use Rattle.sto_report_spec.specs.Orders.{Place}
+use Rattle.sto_report_spec.specs.Orders.{TransactionPlace}
 use Rattle.sto_report_spec.specs.Aborts.{Abort}
 use Rattle.sto_report_spec.specs.Named.{order_named}
 use Rattle.sto_report_spec.specs.NamedAborts.{aborts_named}
@@ -21,7 +21,7 @@ aborts_told Text names text = aborts_named names text
 aborts_told Json names text = json_aborts_named names text
 
 -- the order that it names
-abbrev pub order_told : ReportForm → List (List ℕ) → List ℕ → List Place
+abbrev pub order_told : ReportForm → List (List ℕ) → List ℕ → List TransactionPlace
 order_told Text names text = order_named names text
 order_told Json names text = json_order_named names text
 

@@ -1,6 +1,6 @@
 -- The abort lines of records.
 use Rattle.std.specs.Prelude.{◌<◌, ℕ, List, [], ◌∷◌, map}
-use Rattle.sto_model.specs.Told.{told}
+use Rattle.sto_model.specs.PlainReplies.{plain_reply}
 use Rattle.sto_lang.specs.Objects.{Declaration}
 use Rattle.sto_report_spec.specs.Aborts.{Abort}
 use Rattle.sto_report_spec.specs.Aborts as aborts
@@ -26,9 +26,9 @@ IsInRange count r = IsPartIn count r.verdict
 -- the abort line of a record, where it is aborted, with these homes and tickets
 abbrev pub aborts_by : List Declaration → List (ℕ × ℕ) → List ℕ → Record → Verdict → List Abort
 aborts_by ds homes tickets r (Locked at part) =
-    record { place = (r.thread, r.position); seen = up_to at tickets; replies = map told r.replies.items; cause = aborts.Locked (part_named ds homes part) } ∷ []
+    record { place = (r.thread, r.position); seen = up_to at tickets; replies = map plain_reply r.replies.items; cause = aborts.Locked (part_named ds homes part) } ∷ []
 aborts_by ds homes tickets r (Changed at part ticket) =
-    record { place = (r.thread, r.position); seen = up_to at tickets; replies = map told r.replies.items; cause = aborts.Changed (part_named ds homes part) (up_to ticket tickets) } ∷ []
+    record { place = (r.thread, r.position); seen = up_to at tickets; replies = map plain_reply r.replies.items; cause = aborts.Changed (part_named ds homes part) (up_to ticket tickets) } ∷ []
 aborts_by ds homes tickets r v = []
 
 abbrev pub aborts_at : List Declaration → List (ℕ × ℕ) → List ℕ → Record → List Abort

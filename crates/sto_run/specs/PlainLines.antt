@@ -1,6 +1,6 @@
 -- The journal lines of records.
 use Rattle.std.specs.Prelude.{◌≡◌, ℕ, List, map}
-use Rattle.sto_model.specs.Told.{told}
+use Rattle.sto_model.specs.PlainReplies.{plain_reply}
 use Rattle.sto_report_spec.specs.Replay.{Entry}
 use Rattle.sto_transaction.specs.Records.{stands_at}
 use Rattle.sto_transaction.specs.Records as plainly
@@ -11,7 +11,7 @@ use Rattle.sto_run.specs.Tickets.{up_to}
 
 -- the entry of a record, where these are the tickets of all writers
 abbrev pub line_at : List ℕ → Record → Entry
-line_at tickets r = record { writers = up_to (stands_at (verdict r.verdict)) tickets; place = (r.thread, r.position); ending = ending_of (verdict r.verdict); replies = map told r.replies.items }
+line_at tickets r = record { writers = up_to (stands_at (verdict r.verdict)) tickets; place = (r.thread, r.position); ending = ending_of (verdict r.verdict); replies = map plain_reply r.replies.items }
 
 -- the entries are the journal lines of the records, in their order
 pub record AreLines (rs : List plainly.Record) (entries : List Entry) : Type 0 where

@@ -7,7 +7,7 @@ use Rattle.sto_lang.specs.Sizes.{calls_of}
 use Rattle.sto_lang.specs.Taken.{are_taken}
 use Rattle.sto_lang.specs.Sound.{IsSound, IsFromTo}
 use Rattle.sto_core.specs.History.{Contents, Validity}
-use Rattle.sto_report_spec.specs.Orders.{Place, transaction_at}
+use Rattle.sto_report_spec.specs.Orders.{TransactionPlace, transaction_at}
 use Rattle.sto_serializability.specs.Meanings.{IsTypeOf}
 use Rattle.sto_run_threads.specs.Plans.{Plan, Opens}
 use Rattle.sto_run_threads.specs.Taken.{IsTaken}
@@ -20,7 +20,7 @@ pub record CanBeRun (shapes : List Shape) (script : Script) : Type 0 where
 
 -- each transaction of the file can be run
 abbrev pub AreRunnable : File → Type 0
-AreRunnable file = (place : Place) (script : Script) → transaction_at file place ≡ Some script → CanBeRun (shapes_of file.declarations) script
+AreRunnable file = (place : TransactionPlace) (script : Script) → transaction_at file place ≡ Some script → CanBeRun (shapes_of file.declarations) script
 
 -- all that a run asks whose words open with these contents: a sound file, a type of its objects that takes their calls, and 1 to 64 tries
 pub record IsRunnable (plan : Plan) (valid : Validity) (opening : Contents) : Type 0 where

@@ -16,7 +16,7 @@ use std::thread::Threads;
 use sto_journal::Journal;
 use sto_lang::File;
 use sto_part::NoMemory;
-use sto_run_threads::{Gate, LentFile, RetryTurn, Workload, run_threads};
+use sto_run_threads::{BorrowedFile, Gate, RetryTurn, Workload, run_threads};
 use sto_type::TxType;
 
 /// Runs a file that stands in memory on so many workers, as [`run_workload`] does.
@@ -34,7 +34,7 @@ pub fn run_file<R: Threads + Sync, G: Gate>(
     ensures lawful { IfOk result (IsLawfulJournal (updating_by means) (view file.now) tries) }
     ensures alone { workers ≡ 1 → IfOk result (RanAlone (view file.now)) }
 {
-    run_workload(rt, alloc, LentFile { file }, workers, tries, gate)
+    run_workload(rt, alloc, BorrowedFile { file }, workers, tries, gate)
 }
 
 /// Runs a file on so many workers, by attempts on words that they share, and gives the journal of the run. Its report in

@@ -3,7 +3,7 @@ ghost use Rattle.std.specs.Prelude.{◌≡◌, ◌≤◌, ℕ, [], length, map, 
 ghost use Rattle.sto_lang.specs.Objects.{shapes_of};
 ghost use Rattle.sto_lang.specs.Sound.{IsSound};
 ghost use Rattle.sto_plain.specs.Passes.{view_of};
-ghost use Rattle.sto_history.specs.Records.{Place};
+ghost use Rattle.sto_history.specs.Records.{TransactionPlace};
 ghost use Rattle.sto_journal.specs.Journals.{places};
 ghost use Rattle.sto_run_threads.specs.Ordered.{RunsInOrder};
 ghost use Rattle.sto_serializability.specs.Finished.{AreFinished};
@@ -45,7 +45,7 @@ pub fn journal_of<F: Workload, T: TxType>(
         (map plain records.items)
         → IsLawfulJournal (updating_by (λ _. T.meaning ty.now)) (F.file file.now) tries journal) }
     // Transactions that were run one after the other, in rising thread and then position, stand so in it.
-    ensures in_turn { (from to : Place) → RunsInOrder from to [] (map plain records.items)
+    ensures in_turn { (from to : TransactionPlace) → RunsInOrder from to [] (map plain records.items)
         → IfOk result (λ journal. places journal.lines.items ≡ all_places (F.file file.now)) }
     ensures of_records { IfOk result (IsOfRecords (F.file file.now) (T.meaning ty.now).homes (map plain records.items)) }
     ensures state { IfOk result (λ journal. journal.state.items

@@ -26,7 +26,7 @@ pub use merging::merge;
 pub use opened::OpenedRun;
 pub use step::step_file;
 pub use sto_journal::{AbortLine, Aborts, Cause, Journal, Line, Lines};
-pub use sto_run_threads::{Gate, LentFile, NoGate, Workload};
+pub use sto_run_threads::{BorrowedFile, Gate, NoGate, Workload};
 pub use stored::objects_of;
 pub use traced::{TracedRun, trace_file};
 pub use whole::{homes_of, opening_of, rows_of};

@@ -16,7 +16,7 @@ use sto_journal::Journal;
 use sto_lang::{File, Turns};
 use sto_part::NoMemory;
 use sto_run_steps::{SteppedWork, step_threads};
-use sto_run_threads::{LentFile, NoGate, RetryTurn};
+use sto_run_threads::{BorrowedFile, NoGate, RetryTurn};
 use sto_script::ScriptBody;
 use sto_store::Objects;
 use sto_transaction::Machine;
@@ -46,7 +46,7 @@ pub fn step_file(alloc: Global, file: &File, tries: u32) -> Result<Journal, NoMe
     // Each event was made in the turn of its thread, and the journal is that of this run.
     ensures stepped { IfOk result (IsStepped (view file.now) tries) }
 {
-    let file = LentFile { file };
+    let file = BorrowedFile { file };
     let objects = objects_of(alloc, &file)?;
     let turn = RetryTurn::new();
     let run = OpenedRun::new(alloc, file, &objects, tries, &NoGate, &turn)?;

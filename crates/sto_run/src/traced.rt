@@ -24,7 +24,7 @@ use sto_journal::Journal;
 use sto_lang::{File, Turns};
 use sto_part::NoMemory;
 use sto_run_steps::{Spare, SteppedWork, trace_threads};
-use sto_run_threads::{Gate, LentFile, NoGate, RetryTurn};
+use sto_run_threads::{BorrowedFile, Gate, NoGate, RetryTurn};
 use sto_script::ScriptBody;
 use sto_trace::Steps;
 use sto_transaction::Machine;
@@ -49,7 +49,7 @@ pub fn trace_file(alloc: Global, file: &File, tries: u32) -> Result<TracedRun, N
     // The steps are all events of the run by the schedule, and the journal is that of this run.
     ensures traced { IfOk result (λ r. IsTraceOf (view file.now) tries r.journal (map home_pair r.homes.items) (kept r.steps)) }
 {
-    let objects = objects_of(alloc, &LentFile { file })?;
+    let objects = objects_of(alloc, &BorrowedFile { file })?;
     let homes = homes_of(alloc, &objects)?;
     let (journal, steps) = trace_on(alloc, file, &objects, tries)?;
     Ok(TracedRun {
@@ -75,7 +75,7 @@ fn trace_on<T: TxType>(
     ensures traced { IfOk result (λ r. IsTraced T.TxType ty.now (view file.now) tries r.0 (kept r.1)) }
 {
     let turn = RetryTurn::new();
-    let run = OpenedRun::new(alloc, LentFile { file }, ty, tries, &NoGate, &turn)?;
+    let run = OpenedRun::new(alloc, BorrowedFile { file }, ty, tries, &NoGate, &turn)?;
     let schedule = turns_of(run.work.workload.file);
     trace_opened(alloc, &run, schedule)
 }
@@ -83,7 +83,7 @@ fn trace_on<T: TxType>(
 // Runs a file that was opened by a schedule, and gives the journal and the steps. The schedule of the file itself is not used.
 fn trace_opened<'f, T: TxType, G: Gate>(
     alloc: Global,
-    run: &'f OpenedRun<'f, LentFile<'f>, T, G>,
+    run: &'f OpenedRun<'f, BorrowedFile<'f>, T, G>,
     schedule: &[Turns],
 ) -> Result<(Journal, Option<Steps>), NoMemory>
     requires runnable { IsRunnable (plan_of T.TxType run.now.work.ty.now (view run.now.work.workload.file.now) run.now.work.tries)

@@ -5,8 +5,8 @@ use Rattle.std.proofs.lemmas.List.{length-map}
 use Rattle.sto_part.specs.Parts.{part_of}
 use Rattle.sto_item.specs.declared.item.Item.TheVariants.{Seen}
 use Rattle.sto_model.specs.declared.call.Call.{Call}
-use Rattle.sto_model.specs.Machine.{reply_to}
-use Rattle.sto_model.specs.Told.{Pairs}
+use Rattle.sto_model.specs.SequentialObjects.{reply_to}
+use Rattle.sto_model.specs.PlainReplies.{Pairs}
 use Rattle.sto_type.specs.Known.{Parts, Known, IsPartOf}
 use Rattle.sto_type.specs.Plans.{Plan, Say, IsPlan}
 use Rattle.sto_run_alone.specs.Split.{split_meaning, split_rows, IsSplit}

@@ -8,9 +8,9 @@ use Rattle.sto_item.specs.Agreement.{AreTrueOf, HasWidths}
 use Rattle.sto_item.specs.Rebase.{rebased}
 use Rattle.sto_model.specs.declared.call.Call.{Call}
 use Rattle.sto_model.specs.declared.body.Next.TheVariants.{Ask}
-use Rattle.sto_model.specs.Told.{Told}
-use Rattle.sto_model.specs.Machine.{reply_to}
-use Rattle.sto_model.specs.Run.{Script}
+use Rattle.sto_model.specs.PlainReplies.{PlainReply}
+use Rattle.sto_model.specs.SequentialObjects.{reply_to}
+use Rattle.sto_model.specs.Run.{Behaviour}
 use Rattle.sto_model.specs.Serial.{end_step}
 use Rattle.sto_model.specs.declared.run.End.{End}
 use Rattle.sto_type.specs.Known.{Parts, Known, IsPartOf}
@@ -31,22 +31,22 @@ whole_only m law c d v w h =
     ext_get_or [] d c long (λ i l. h.same i (part_of c i) l refl)
 
 -- the run on these contents
-pub run_here : (m : Meaning) (f : Script) (c : Parts) (items : List Item) (es : List Entry) (rs : List Told) → m.valid c → IsCarried m f (whole c) items es rs → IsRunOn m f c es rs
+pub run_here : (m : Meaning) (f : Behaviour) (c : Parts) (items : List Item) (es : List Entry) (rs : List PlainReply) → m.valid c → IsCarried m f (whole c) items es rs → IsRunOn m f c es rs
 run_here m f c items es rs v h = h.runs c c v (IsPartOf-whole c) v (h.holds c v (IsPartOf-whole c))
 
 pub call_true_here :
-    (m : Meaning) (law : IsLawful m) (f : Script) (c : Parts) (es : List Entry) (rs : List Told) (call : Call) (k : Known) → IsRunOn m f c es rs → m.takes call → IsPartOf k (applied_updates es c) → m.need call k ≡ None
+    (m : Meaning) (law : IsLawful m) (f : Behaviour) (c : Parts) (es : List Entry) (rs : List PlainReply) (call : Call) (k : Known) → IsRunOn m f c es rs → m.takes call → IsPartOf k (applied_updates es c) → m.need call k ≡ None
     → AreTrueOf (applied_updates es c) (m.items call k)
 call_true_here m law f c es rs call k on t part done = law.holds call k (applied_updates es c) (record { takes = t; valid = on.valid; part = part; done = done })
 
-pub updates_fit : (m : Meaning) (law : IsLawful m) (f : Script) (c : Parts) (es : List Entry) (rs : List Told) (call : Call) → IsRunOn m f c es rs → m.takes call → HasWidths (m.updates call (applied_updates es c)) c
+pub updates_fit : (m : Meaning) (law : IsLawful m) (f : Behaviour) (c : Parts) (es : List Entry) (rs : List PlainReply) (call : Call) → IsRunOn m f c es rs → m.takes call → HasWidths (m.updates call (applied_updates es c)) c
 updates_fit m law f c es rs call on t = step_widths m law f c es rs call on t
 
 -- one more call
 pub carried_more :
-    (m : Meaning) (law : IsLawful m) (f : Script) (c : Parts) (items : List Item) (es : List Entry) (rs : List Told) (call : Call) (k : Known)
+    (m : Meaning) (law : IsLawful m) (f : Behaviour) (c : Parts) (items : List Item) (es : List Entry) (rs : List PlainReply) (call : Call) (k : Known)
     → m.valid c → IsCarried m f (whole c) items es rs → m.takes call → IsPartOf k (applied_updates es c) → m.need call k ≡ None
-    → (reply : Told) (v : List Entry)
+    → (reply : PlainReply) (v : List Entry)
     → ((d : Parts) → m.valid d → IsPartOf k d → (reply ≡ reply_to m.machines call (m.rows d)) × (v ≡ m.updates call d))
     → f rs ≡ Ask call → IsCarried m f (whole c) (items ++ rebased es (m.items call k)) (with_updates es v) (rs ++ reply ∷ [])
 carried_more m law f c items es rs call k valid was t part done reply v says asks =
@@ -55,7 +55,7 @@ carried_more m law f c items es rs call k valid was t part done reply v says ask
     IsCarried-more m law f (whole c) (whole c) items es rs call k was t (λ d h. h) above done reply v says asks
 
 pub observes_more :
-    (m : Meaning) (f : Script) (c : Parts) (items : List Item) (es : List Entry) (rs : List Told) (reply : Told) (a : Answered) (v : List Entry)
+    (m : Meaning) (f : Behaviour) (c : Parts) (items : List Item) (es : List Entry) (rs : List PlainReply) (reply : PlainReply) (a : Answered) (v : List Entry)
     → ObservesCalls m f c rs items es → IsAnswer m f rs reply a → a.found ≡ applied_updates es c → v ≡ m.updates a.call a.found
     → ObservesCalls m f c (rs ++ reply ∷ []) (items ++ rebased es (m.items a.call a.known)) (with_updates es v)
 observes_more m f c items es rs reply a v was answer here says = record {
@@ -71,7 +71,7 @@ observes_more m f c items es rs reply a v was answer here says = record {
 
 -- the end
 pub trial_of :
-    (m : Meaning) (f : Script) (c : Parts) (items : List Item) (es : List Entry) (rs : List Told) (end : End)
+    (m : Meaning) (f : Behaviour) (c : Parts) (items : List Item) (es : List Entry) (rs : List PlainReply) (end : End)
     → m.valid c → IsCarried m f (whole c) items es rs → ObservesCalls m f c rs items es → f rs ≡ end_step end → IsTrial m f c rs end items es
 trial_of m f c items es rs end v h observes e = record {
   observes = observes;

@@ -5,7 +5,7 @@ use Rattle.std.specs.Int.RustNames.{FitsSigned}
 use Rattle.std.proofs.Common.{ap, sym, ◌∙◌, arith, inl, inr, subst}
 use Rattle.sto_item.specs.Agreement.{Agrees}
 use Rattle.sto_model.specs.declared.call.Call.{Call}
-use Rattle.sto_model.specs.Machine.{reply_to}
+use Rattle.sto_model.specs.SequentialObjects.{reply_to}
 use Rattle.sto_type.specs.Known.{Parts, Known, IsWithin}
 use Rattle.sto_type.specs.SteadyLaw.{by_known, no_part, same_part}
 use Rattle.sto_type.specs.Meaning.{Meaning, IsLawful, IsSteady, IsNeed, IsUpdated, IsPartOfObject, EachKnown, EachInside}

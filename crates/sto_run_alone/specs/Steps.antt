@@ -1,6 +1,6 @@
 -- What one call of a run gives.
 use Rattle.sto_model.specs.declared.call.Call.{Call}
-use Rattle.sto_model.specs.Told.{told}
+use Rattle.sto_model.specs.PlainReplies.{plain_reply}
 use Rattle.sto_type.specs.Known.{Parts, Known, IsPartOf}
 use Rattle.sto_type.specs.Meaning.{Meaning}
 use Rattle.sto_type.specs.Plans.{Say, IsPlan}
@@ -10,4 +10,4 @@ use Rattle.sto_run_alone.specs.declared.asking.AnsweredCall.{AnsweredCall}
 pub record IsStep (m : Meaning) (call : Call) (d : Parts) (step : AnsweredCall) : Type 0 where
   pub known : Known
   pub part : IsPartOf known d
-  pub plan : IsPlan m call known (Say (told step.reply) step.items.items step.updates.items)
+  pub plan : IsPlan m call known (Say (plain_reply step.reply) step.items.items step.updates.items)

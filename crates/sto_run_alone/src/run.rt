@@ -1,6 +1,6 @@
 //! A body's run over contents.
 ghost use Rattle.std.specs.Prelude.{◌≡◌, ◌<◌, ◌+◌, ◌^◌, [], length, map, IfOk, OnOk, OnErr};
-ghost use Rattle.sto_model.specs.Told.{told};
+ghost use Rattle.sto_model.specs.PlainReplies.{plain_reply};
 ghost use Rattle.sto_model.specs.Serial.{IsSerialRun};
 ghost use Rattle.sto_run_alone.specs.Along.{IsAlong};
 ghost use Rattle.sto_run_alone.specs.Trials.{IsTrial, installed};
@@ -36,12 +36,12 @@ pub fn run_alone<T: TxType, B: Body>(
     requires valid { (T.meaning ty.now).valid contents.old.items }
     requires takes { (call : Call) → B.may_ask body.old call → (T.meaning ty.now).takes call }
     requires few { length contents.old.items + 1 < 2 ^ 32 }
-    ensures tried { IfOk result (λ r. IsTrial (T.meaning ty.now) (B.script body.old) contents.old.items (map told r.outcome.replies.items)
+    ensures tried { IfOk result (λ r. IsTrial (T.meaning ty.now) (B.script body.old) contents.old.items (map plain_reply r.outcome.replies.items)
         r.outcome.end r.items.items r.updates.items) }
     ensures leaves { IfOk result (λ r. contents.new ≡ record contents.old
         { items = installed r.outcome.end r.updates.items contents.old.items }) }
     ensures serial { IfOk result (λ r. IsSerialRun (T.meaning ty.now).machines (B.script body.old)
-        ((T.meaning ty.now).rows contents.old.items) (map told r.outcome.replies.items) r.outcome.end
+        ((T.meaning ty.now).rows contents.old.items) (map plain_reply r.outcome.replies.items) r.outcome.end
         ((T.meaning ty.now).rows contents.new.items)) }
     ensures valid { (T.meaning ty.now).valid contents.new.items }
     ensures script { B.script body.new ≡ B.script body.old }
@@ -71,7 +71,7 @@ fn run_pending<T: TxType, B: Body>(
     requires valid { (T.meaning ty.now).valid contents.now.items }
     requires takes { (call : Call) → B.may_ask body.old call → (T.meaning ty.now).takes call }
     requires few { length contents.now.items + 1 < 2 ^ 32 }
-    ensures tried { IfOk result (λ r. IsTrial (T.meaning ty.now) (B.script body.old) contents.now.items (map told r.0.replies.items) r.0.end
+    ensures tried { IfOk result (λ r. IsTrial (T.meaning ty.now) (B.script body.old) contents.now.items (map plain_reply r.0.replies.items) r.0.end
         r.1.items r.2.updates) }
     ensures script { B.script body.new ≡ B.script body.old }
     ensures left_at_reset { B.left_at_reset body.new ≡ B.left_at_reset body.old }
@@ -116,9 +116,9 @@ impl Hearing {
         requires next { B.then body.old [] ≡ Next.Ask call.now }
         requires few { length contents.now.items + 1 < 2 ^ 32 }
         requires along { IsAlong (T.meaning ty.now) (B.then body.old) (B.script body.old) (B.left body.old) contents.now.items
-            self.old.items.items self.old.pending.updates (map told self.old.replies.items) }
+            self.old.items.items self.old.pending.updates (map plain_reply self.old.replies.items) }
         ensures along { OnOk result (IsAlong (T.meaning ty.now) (B.then body.new) (B.script body.old) (B.left body.new) contents.now.items
-            self.new.items.items self.new.pending.updates (map told self.new.replies.items)) }
+            self.new.items.items self.new.pending.updates (map plain_reply self.new.replies.items)) }
         ensures fewer { OnOk result (B.left body.new < B.left body.old) }
         ensures script { B.script body.new ≡ B.script body.old }
         ensures left_at_reset { B.left_at_reset body.new ≡ B.left_at_reset body.old }

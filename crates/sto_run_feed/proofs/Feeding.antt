@@ -12,7 +12,7 @@ use Rattle.sto_run_feed.specs.declared.pass.JobQueue.{JobQueue}
 use Rattle.sto_run_feed.specs.declared.pass.JobPass.{JobPass}
 use Rattle.sto_run_feed.specs.Queues.{feeding}
 use Rattle.sto_run_feed.specs.Passes.{IsPass, known}
-use Rattle.sto_run_threads.specs.Orders.{Place}
+use Rattle.sto_run_threads.specs.Orders.{TransactionPlace as Place}
 use Rattle.sto_run_feed.specs.declared.order.TransactionPlace as code
 use Rattle.sto_run_feed.specs.Orders.{place_of}
 use Rattle.sto_run_feed.specs.Jobs.{run_of, goes_to, going_to, jobs_for}

@@ -22,7 +22,7 @@ use Rattle.sto_transaction.proofs.Resting.{gathered_rests}
 use Rattle.sto_run_threads.proofs.Joined.{times_append, either_list, gathered_apart, none_both}
 use Rattle.sto_run_feed.specs.QueuePasses.{HaveTaken}
 use Rattle.sto_run_feed.specs.Served.{HaveServed, AreFrom, AreApart, IsServed, IsOfBoth, numbers_of, jobs_in}
-use Rattle.sto_run_feed.specs.declared.server.Server.{Server}
+use Rattle.sto_run_feed.specs.declared.server.QueueWorker.{QueueWorker}
 use Rattle.sto_run_feed.specs.declared.server.ServingTeam.{ServingTeam}
 use Rattle.sto_run_feed.proofs.Passes.{taken_both}
 
@@ -62,12 +62,12 @@ module _ {T : Type 0} {n : naming.Ghosts T} (s : Shared T) (queues : List JobQue
         served = subst (HaveServed plan.tries (js ++ ks)) (sym both.records) (served_both plan.tries js ks rs ss h.served k.served);
       }
 
-  pub halves_served : (all : List (Server T n)) (half : ℕ) (front back : List (Server T n)) (a b r : ServingTeam T n)
+  pub halves_served : (all : List (QueueWorker T n)) (half : ℕ) (front back : List (QueueWorker T n)) (a b r : ServingTeam T n)
       → front ≡ take half all → back ≡ drop half all → AreApart all → IsServed s queues plan (numbers_of front) (jobs_in front) a
       → IsServed s queues plan (numbers_of back) (jobs_in back) b → IsOfBoth s a b r → IsServed s queues plan (numbers_of all) (jobs_in all) r
   halves_served all half front back a b r first other once h k both =
-      let numbers = halves (λ (w : Server T n). w.number) all half front back first other in
-      let jobs = halves (λ (w : Server T n). (known w.worker).jobs) all half front back first other in
+      let numbers = halves (λ (w : QueueWorker T n). w.number) all half front back first other in
+      let jobs = halves (λ (w : QueueWorker T n). (known w.worker).jobs) all half front back first other in
       subst (λ (l : List ℕ). IsServed s queues plan l (jobs_in all) r) numbers
       (subst (λ (l : List (List Job)). IsServed s queues plan (numbers_of front ++ numbers_of back) l r) jobs
       (both_served (numbers_of front) (numbers_of back) (jobs_in front) (jobs_in back) a b r (subst (λ (l : List ℕ). (x : ℕ) → times x l ≤ 1) (sym numbers) once) h k both))

@@ -9,7 +9,7 @@ use Rattle.sto_run_feed.specs.declared.job.Job.{Job}
 use Rattle.sto_run_feed.specs.declared.job.Job.TheVariants.{Last}
 use Rattle.sto_run_feed.specs.Queues.{IsRun, EndsWithLast}
 use Rattle.sto_run_threads.specs.Scripts.{Script, File}
-use Rattle.sto_run_threads.specs.Orders.{Place, positions_of, count_in, IsOrder}
+use Rattle.sto_run_threads.specs.Orders.{TransactionPlace as Place, positions_of, count_in, IsOrder}
 use Rattle.sto_run_threads.specs.Counts.{scripts_from}
 use Rattle.sto_run_feed.specs.declared.order.TransactionPlace as code
 use Rattle.sto_run_feed.specs.Orders.{place_of}

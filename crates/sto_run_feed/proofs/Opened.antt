@@ -10,7 +10,7 @@ use Rattle.sto_run_feed.specs.declared.pass.JobQueue.{JobQueue}
 use Rattle.sto_run_feed.specs.declared.pass.JobPass.{JobPass}
 use Rattle.sto_run_feed.specs.Queues.{working}
 use Rattle.sto_run_feed.specs.Passes.{IsPass, known}
-use Rattle.sto_run_threads.specs.Orders.{Place, IsOrder, numbers_from}
+use Rattle.sto_run_threads.specs.Orders.{TransactionPlace, IsOrder, numbers_from}
 use Rattle.sto_serializability.proofs.Working.{numbers_more}
 use Rattle.sto_table.specs.declared.shared.Shared.{Shared}
 use Rattle.sto_run_threads.specs.Plans.{Plan}
@@ -18,7 +18,7 @@ use Rattle.sto_run_threads.specs.Teams.{IsReady}
 use Rattle.sto_run_threads.proofs.Claiming.{all_one}
 use Rattle.sto_run_feed.specs.Jobs.{jobs_for, AreJobs}
 use Rattle.sto_run_feed.specs.Served.{IsPosted}
-use Rattle.sto_run_feed.specs.declared.server.Server.{Server}
+use Rattle.sto_run_feed.specs.declared.server.QueueWorker.{QueueWorker}
 use Rattle.sto_run_feed.proofs.Going.{are_jobs}
 use Rattle.sto_run_feed.proofs.Passes.{at_more, at_last}
 
@@ -28,7 +28,7 @@ jobs_known q p jobs h = ap (λ (v : Known). v.jobs) h.known
 
 module _ {T : Type 0} {n : naming.Ghosts T} (s : Shared T) (queues : List JobQueue) (queue : JobQueue) (count : ℕ) (plan : Plan) where
   -- the worker of a new queue
-  pub posted_last : (order : List Place) (jobs : List Job) (w : Server T n) → IsOrder plan.file order → jobs ≡ jobs_for count w.number order
+  pub posted_last : (order : List TransactionPlace) (jobs : List Job) (w : QueueWorker T n) → IsOrder plan.file order → jobs ≡ jobs_for count w.number order
       → w.number ≡ length queues → IsPass queue w.worker (working jobs 0) → IsReady s plan w.rest → IsPosted s (queues ++ queue ∷ []) count plan w
   posted_last order jobs w ordered is last pass ready =
       let same = jobs_known queue w.worker jobs pass in record {
@@ -38,7 +38,7 @@ module _ {T : Type 0} {n : naming.Ghosts T} (s : Shared T) (queues : List JobQue
       }
 
   -- with those of the earlier ones
-  pub posted_more : (all : List (Server T n)) (w : Server T n) → All (IsPosted s queues count plan) all → IsPosted s (queues ++ queue ∷ []) count plan w
+  pub posted_more : (all : List (QueueWorker T n)) (w : QueueWorker T n) → All (IsPosted s queues count plan) all → IsPosted s (queues ++ queue ∷ []) count plan w
       → All (IsPosted s (queues ++ queue ∷ []) count plan) (all ++ w ∷ [])
   posted_more all w h last =
       All-append (IsPosted s (queues ++ queue ∷ []) count plan) all (w ∷ [])

@@ -7,7 +7,7 @@ use Rattle.std.proofs.lemmas.Bool.Decides.{nat_tests}
 use Rattle.std.proofs.lemmas.List.{map-append}
 use Rattle.std.proofs.lemmas.List.Elements.{All-append, All-weaker, All-map}
 use Rattle.std.proofs.lemmas.List.Quantifiers.{all_pairs_push}
-use Rattle.sto_run_threads.specs.Orders.{Place, positions_of, numbers_from}
+use Rattle.sto_run_threads.specs.Orders.{TransactionPlace as Place, positions_of, numbers_from}
 use Rattle.sto_serializability.proofs.Working.{positions_append, numbers_more}
 use Rattle.sto_run_threads.proofs.Threads.{one_of_own, one_of_other}
 use Rattle.sto_run_feed.specs.declared.order.TransactionPlace as code

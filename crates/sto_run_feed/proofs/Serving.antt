@@ -12,7 +12,7 @@ use Rattle.sto_run_feed.specs.Queues.{IsRun, EndsWithLast}
 use Rattle.sto_run_threads.specs.Scripts.{Script, File}
 use Rattle.sto_core.specs.declared.view.View.{View}
 use Rattle.sto_table.specs.Taken.{times}
-use Rattle.sto_run_threads.specs.Orders.{Place, at_position, transaction_at, positions_of, numbers_from, count_in}
+use Rattle.sto_run_threads.specs.Orders.{TransactionPlace, at_position, transaction_at, positions_of, numbers_from, count_in}
 use Rattle.sto_run_threads.specs.Records.{Record}
 use Rattle.sto_run_threads.specs.Counted.{aborted_times, finished_places}
 use Rattle.sto_serializability.proofs.Working.{positions_append, finished_append, aborted_append}
@@ -60,7 +60,7 @@ job_run plan passes v w thread position rs later on h comes run =
     next : suc (ended_of thread rs) ≡ position
     next = comes.0
 
-    place : Place
+    place : TransactionPlace
     place = (thread, suc (ended_of thread rs))
 
     own : HasRunAt plan passes v w place rs later on
@@ -79,10 +79,10 @@ job_run plan passes v w thread position rs later on h comes run =
         let z = subst (λ (p : ℕ). aborted_times (thread, p) rs ≡ 0) (sym next) comes.1 in omega (arith, a, b, z))) comes.2)
 
     finished : finished_places later ≡ finished_places rs ++ (if on then place ∷ [] else [])
-    finished = ap finished_places own.ran.whole ∙ finished_append rs own.ran.new ∙ ap (λ (l : List Place). finished_places rs ++ l) own.ran.ends
+    finished = ap finished_places own.ran.whole ∙ finished_append rs own.ran.new ∙ ap (λ (l : List TransactionPlace). finished_places rs ++ l) own.ran.ends
 
 -- it is handed back
-pub job_left : (plan : Plan) (passes : ℕ) (v : View) (place : Place) (rs : List Record) → HasWorked plan v rs → IsJobRun plan passes v place rs rs false false
+pub job_left : (plan : Plan) (passes : ℕ) (v : View) (place : TransactionPlace) (rs : List Record) → HasWorked plan v rs → IsJobRun plan passes v place rs rs false false
 job_left plan passes v place rs h = record {
   worked = h;
   adds = adds_none place.0 rs;
@@ -128,25 +128,25 @@ numbers_at first (suc count) x (y ∷ xs) ys e =
     let k = numbers_at (suc first) count x xs ys (ap (drop 1) e) in let a = k.0 in let l = k.1 in (omega (arith, a), omega (arith, l))
 
 -- The place that comes next among those of the jobs of a queue.
-pub record IsNextPlace (file : File) (queues number : ℕ) (before : List Place) (place : Place) : Type 0 where
+pub record IsNextPlace (file : File) (queues number : ℕ) (before : List TransactionPlace) (place : TransactionPlace) : Type 0 where
   pub own : place.0 % queues ≡ number
   pub position : place.1 ≡ suc (length (positions_of place.0 before))
   pub within : length (positions_of place.0 before) < count_in file.threads place.0
 
-split_at : (ps : List Place) (k : ℕ) (p : Place) → slice_get ps k ≡ Some p → ps ≡ take k ps ++ p ∷ drop (k + 1) ps
+split_at : (ps : List TransactionPlace) (k : ℕ) (p : TransactionPlace) → slice_get ps k ≡ Some p → ps ≡ take k ps ++ p ∷ drop (k + 1) ps
 split_at ps k p at =
     let low = slice_get_within ps k p at in
     sym (take-append-drop k ps)
-    ∙ ap (λ (l : List Place). take k ps ++ l) (drop_more ps k p low ∙ ap (λ (x : Place). x ∷ drop (k + 1) ps) (get_or_from_slice_get ps k p p at))
+    ∙ ap (λ (l : List TransactionPlace). take k ps ++ l) (drop_more ps k p low ∙ ap (λ (x : TransactionPlace). x ∷ drop (k + 1) ps) (get_or_from_slice_get ps k p p at))
 
-positions_split : (ps : List Place) (k : ℕ) (p : Place) → slice_get ps k ≡ Some p
+positions_split : (ps : List TransactionPlace) (k : ℕ) (p : TransactionPlace) → slice_get ps k ≡ Some p
     → positions_of p.0 ps ≡ positions_of p.0 (take k ps) ++ p.1 ∷ positions_of p.0 (drop (k + 1) ps)
 positions_split ps k p at =
     ap (positions_of p.0) (split_at ps k p at) ∙ positions_append p.0 (take k ps) (p ∷ drop (k + 1) ps)
     ∙ ap (λ (l : List ℕ). positions_of p.0 (take k ps) ++ l)
     (positions_append p.0 (p ∷ []) (drop (k + 1) ps) ∙ ap (λ (l : List ℕ). l ++ positions_of p.0 (drop (k + 1) ps)) (one_of_own p p.0 refl))
 
-pub next_place : (file : File) (queues number : ℕ) (jobs : List Job) → AreJobs file queues number jobs → (k : ℕ) (p : Place) → slice_get (places_of jobs) k ≡ Some p
+pub next_place : (file : File) (queues number : ℕ) (jobs : List Job) → AreJobs file queues number jobs → (k : ℕ) (p : TransactionPlace) → slice_get (places_of jobs) k ≡ Some p
     → IsNextPlace file queues number (take k (places_of jobs)) p
 next_place file queues number jobs h k p at = elim (cases_eq (p.0 % queues) number) [
   | inl own ↦
@@ -159,7 +159,7 @@ next_place file queues number jobs h k p at = elim (cases_eq (p.0 % queues) numb
       absurd (omega (arith, e, l))
 ]
 
-pub place_there : (file : File) (queues number : ℕ) (before : List Place) (thread position : ℕ) → IsNextPlace file queues number before (thread, position) → IsTransaction file (thread, position)
+pub place_there : (file : File) (queues number : ℕ) (before : List TransactionPlace) (thread position : ℕ) → IsNextPlace file queues number before (thread, position) → IsTransaction file (thread, position)
 place_there file queues number before thread position h =
     let p = h.position in
     subst (λ (n : ℕ). IsTransaction file (thread, n)) (let e : length (positions_of thread before) + 1 ≡ position = omega (arith, p) in e)
@@ -176,12 +176,12 @@ few_jobs file queues number jobs h = few_places file.threads (places_of jobs) ea
     ]
 
 -- What a worker has done that has taken so many jobs: it ran them all to their end, or one used up its tries.
-pub record IsServing (tries queues number : ℕ) (places : List Place) (taken : ℕ) (rs : List Record) (runs : Bool) : Type 0 where
+pub record IsServing (tries queues number : ℕ) (places : List TransactionPlace) (taken : ℕ) (rs : List Record) (runs : Bool) : Type 0 where
   pub fine : runs ≡ true → (finished_places rs ≡ take taken places) × ((u : ℕ) → (aborted_times (u, suc (ended_of u rs)) rs ≡ 0) × HasSpared tries u rs)
-  pub back : runs ≡ false → (ran : ℕ) × (place : Place) × (ran < taken) × (finished_places rs ≡ take ran places) × (slice_get places ran ≡ Some place) × (aborted_times place rs ≡ tries)
+  pub back : runs ≡ false → (ran : ℕ) × (place : TransactionPlace) × (ran < taken) × (finished_places rs ≡ take ran places) × (slice_get places ran ≡ Some place) × (aborted_times place rs ≡ tries)
   pub own : (thread : ℕ) → (thread % queues ≡ number → ⊥) → HasNone thread rs
 
-pub serving_none : (tries queues number : ℕ) (places : List Place) → IsServing tries queues number places 0 [] true
+pub serving_none : (tries queues number : ℕ) (places : List TransactionPlace) → IsServing tries queues number places 0 [] true
 serving_none tries queues number places = record {
   fine = λ e. (refl, λ u. (refl, λ position low high. absurd (omega (arith, low, high))));
   back = λ e. absurd (true≢false e);
@@ -189,20 +189,20 @@ serving_none tries queues number places = record {
 }
 
 -- the next transaction is the next one of its thread, and was not tried yet
-pub comes_next : (plan : Plan) (queues number : ℕ) (places : List Place) (taken thread position : ℕ) (rs : List Record) (runs : Bool)
+pub comes_next : (plan : Plan) (queues number : ℕ) (places : List TransactionPlace) (taken thread position : ℕ) (rs : List Record) (runs : Bool)
     → IsServing plan.tries queues number places taken rs runs → IsNextPlace plan.file queues number (take taken places) (thread, position) → runs ≡ true
     → ComesNext plan.tries (thread, position) rs
 comes_next plan queues number places taken thread position rs runs h next on =
     let fine = h.fine on in
-    let same : ended_of thread rs ≡ length (positions_of thread (take taken places)) = ap (λ (l : List Place). length (positions_of thread l)) fine.0 in
+    let same : ended_of thread rs ≡ length (positions_of thread (take taken places)) = ap (λ (l : List TransactionPlace). length (positions_of thread l)) fine.0 in
     let e : suc (ended_of thread rs) ≡ position = ap suc same ∙ sym next.position in
     (e, subst (λ (n : ℕ). aborted_times (thread, n) rs ≡ 0) e (fine.1 thread).0, (fine.1 thread).1)
 
-take_one : (ps : List Place) (k : ℕ) (p : Place) → slice_get ps k ≡ Some p → take k ps ++ p ∷ [] ≡ take (k + 1) ps
+take_one : (ps : List TransactionPlace) (k : ℕ) (p : TransactionPlace) → slice_get ps k ≡ Some p → take k ps ++ p ∷ [] ≡ take (k + 1) ps
 take_one ps k p at =
-    sym (take_more ps k p (slice_get_within ps k p at) ∙ ap (λ (x : Place). take k ps ++ x ∷ []) (get_or_from_slice_get ps k p p at))
+    sym (take_more ps k p (slice_get_within ps k p at) ∙ ap (λ (x : TransactionPlace). take k ps ++ x ∷ []) (get_or_from_slice_get ps k p p at))
 
-pub serving_more : (plan : Plan) (passes queues number : ℕ) (w : View) (places : List Place) (taken : ℕ) (place : Place) (rs later : List Record) (runs on : Bool)
+pub serving_more : (plan : Plan) (passes queues number : ℕ) (w : View) (places : List TransactionPlace) (taken : ℕ) (place : TransactionPlace) (rs later : List Record) (runs on : Bool)
     → slice_get places taken ≡ Some place → place.0 % queues ≡ number → IsServing plan.tries queues number places taken rs runs
     → IsJobRun plan passes w place rs later runs on → IsServing plan.tries queues number places (taken + 1) later on
 serving_more plan passes queues number w places taken place rs later runs on at goes h run = record {
@@ -214,7 +214,7 @@ serving_more plan passes queues number w places taken place rs later runs on at 
     fine : (runs ≡ true) × (finished_places later ≡ finished_places rs ++ place ∷ []) × (aborted_times (place.0, suc (ended_of place.0 later)) later ≡ 0) × HasSpared plan.tries place.0 later
         → (finished_places later ≡ take (taken + 1) places) × ((u : ℕ) → (aborted_times (u, suc (ended_of u later)) later ≡ 0) × HasSpared plan.tries u later)
     fine e = (
-      e.1 ∙ ap (λ (l : List Place). l ++ place ∷ []) (h.fine e.0).0 ∙ take_one places taken place at,
+      e.1 ∙ ap (λ (l : List TransactionPlace). l ++ place ∷ []) (h.fine e.0).0 ∙ take_one places taken place at,
       λ u. elim (cases_eq place.0 u) [
         | inl same ↦ subst (λ (n : ℕ). (aborted_times (n, suc (ended_of n later)) later ≡ 0) × HasSpared plan.tries n later) same (e.2, e.3)
         | inr other ↦ (
@@ -227,9 +227,9 @@ serving_more plan passes queues number w places taken place rs later runs on at 
 
     by : (b : Bool) → on ≡ false → (on ≡ false → b ≡ true → (finished_places later ≡ finished_places rs) × (aborted_times place later ≡ plan.tries))
         → (b ≡ false → (on ≡ false) × (later ≡ rs))
-        → (b ≡ false → (ran : ℕ) × (p : Place) × (ran < taken) × (finished_places rs ≡ take ran places) × (slice_get places ran ≡ Some p) × (aborted_times p rs ≡ plan.tries))
+        → (b ≡ false → (ran : ℕ) × (p : TransactionPlace) × (ran < taken) × (finished_places rs ≡ take ran places) × (slice_get places ran ≡ Some p) × (aborted_times p rs ≡ plan.tries))
         → (b ≡ true → (finished_places rs ≡ take taken places) × ((u : ℕ) → (aborted_times (u, suc (ended_of u rs)) rs ≡ 0) × HasSpared plan.tries u rs))
-        → (ran : ℕ) × (p : Place) × (ran < taken + 1) × (finished_places later ≡ take ran places) × (slice_get places ran ≡ Some p) × (aborted_times p later ≡ plan.tries)
+        → (ran : ℕ) × (p : TransactionPlace) × (ran < taken + 1) × (finished_places later ≡ take ran places) × (slice_get places ran ≡ Some p) × (aborted_times p later ≡ plan.tries)
     by true off used still back fine = (taken, place, omega arith, (used off refl).0 ∙ (fine refl).0, at, (used off refl).1)
     by false off used still back fine =
         let k = back refl in let same = (still refl).1 in let l = k.2 in
@@ -256,6 +256,6 @@ serving_ends tries queues number jobs taken rs false all h =
 pub served_one : (tries : ℕ) (jobs : List Job) (rs : List Record) → HasServed tries jobs rs → HaveServed tries (jobs ∷ []) rs
 served_one tries jobs rs h = (rs, [], sym (append-nil rs), h, refl)
 
-pub from_one : (tries queues number : ℕ) (places : List Place) (taken : ℕ) (rs : List Record) (runs : Bool) → IsServing tries queues number places taken rs runs → AreFrom queues (number ∷ []) rs
+pub from_one : (tries queues number : ℕ) (places : List TransactionPlace) (taken : ℕ) (rs : List Record) (runs : Bool) → IsServing tries queues number places taken rs runs → AreFrom queues (number ∷ []) rs
 from_one tries queues number places taken rs runs h thread none =
     h.own thread (λ is. absurd (let e = ap (λ (n : ℕ). times n (number ∷ [])) is in let o = once_self number in omega (arith, e, o, none)))

@@ -2,7 +2,7 @@
 use Rattle.std.specs.Prelude.{◌≡◌, ◌⊎◌, ◌<◌, ◌≤◌, ◌++◌, ℕ, List, [], ◌∷◌, map, if◌then◌else◌, nat_le}
 use Rattle.std.specs.List.{All, AllPairs}
 use Rattle.sto_run_threads.specs.Scripts.{File}
-use Rattle.sto_run_threads.specs.Orders.{Place, IsOrder, positions_of}
+use Rattle.sto_run_threads.specs.Orders.{TransactionPlace as Place, IsOrder, positions_of}
 use Rattle.sto_run_feed.specs.declared.order.TransactionPlace as code
 
 -- the transaction that a place of the code names, and all of an order

@@ -6,7 +6,7 @@ use Rattle.sto_run_feed.specs.declared.pass.JobQueue.{JobQueue}
 use Rattle.sto_run_feed.specs.declared.pass.JobPass.{JobPass}
 use Rattle.sto_run_feed.specs.Queues.{feeding, working}
 use Rattle.sto_run_feed.specs.Passes.{IsPass, known}
-use Rattle.sto_run_threads.specs.Orders.{Place}
+use Rattle.sto_run_threads.specs.Orders.{TransactionPlace as Place}
 use Rattle.sto_run_feed.specs.Jobs.{going_to, jobs_for}
 use Rattle.sto_run_feed.specs.Orders.{places_in}
 use Rattle.sto_run_feed.specs.declared.order.TransactionPlace.{TransactionPlace}

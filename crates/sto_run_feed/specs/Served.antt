@@ -7,7 +7,7 @@ use Rattle.sto_core.specs.declared.cells.Cells as cells
 use Rattle.sto_core.specs.declared.view.View.{View}
 use Rattle.sto_core.specs.Gathered.{gathered_into}
 use Rattle.sto_table.specs.Taken.{times}
-use Rattle.sto_run_threads.specs.Orders.{Place}
+use Rattle.sto_run_threads.specs.Orders.{TransactionPlace as Place}
 use Rattle.sto_run_feed.specs.declared.job.Job.{Job}
 use Rattle.sto_run_feed.specs.declared.pass.JobQueue.{JobQueue}
 use Rattle.sto_run_feed.specs.Queues.{working}
@@ -29,7 +29,7 @@ use Rattle.sto_run_feed.specs.Jobs.{places_of, all_jobs, AreJobs}
 use Rattle.sto_run_feed.specs.Orders.{places_in}
 use Rattle.sto_run_feed.specs.declared.order.TransactionPlace.{TransactionPlace}
 use Rattle.sto_run_feed.specs.QueuePasses.{IsAt, HaveTaken}
-use Rattle.sto_run_feed.specs.declared.server.Server.{Server}
+use Rattle.sto_run_feed.specs.declared.server.QueueWorker.{QueueWorker}
 use Rattle.sto_run_feed.specs.declared.server.ServingTeam.{ServingTeam}
 
 -- The records are those of a worker that took all of the jobs: the first so many transactions were run to their end, in the order of
@@ -51,31 +51,31 @@ AreFrom queues numbers rs = (thread : ℕ) → times (thread % queues) numbers �
 
 module _ {T : Type 0} {n : naming.Ghosts T} where
   -- the numbers of the workers' queues, the jobs that are in them, and what the workers' passes know
-  abbrev pub numbers_of : List (Server T n) → List ℕ
+  abbrev pub numbers_of : List (QueueWorker T n) → List ℕ
   numbers_of servers = map (λ w. w.number) servers
 
-  abbrev pub jobs_in : List (Server T n) → List (List Job)
+  abbrev pub jobs_in : List (QueueWorker T n) → List (List Job)
   jobs_in servers = map (λ w. (known w.worker).jobs) servers
 
-  abbrev pub views_of : List (Server T n) → List View
+  abbrev pub views_of : List (QueueWorker T n) → List View
   views_of servers = map (λ w. view_at w.rest) servers
 
   -- no two workers take from one queue
-  abbrev pub AreApart : List (Server T n) → Type 0
+  abbrev pub AreApart : List (QueueWorker T n) → Type 0
   AreApart servers = (number : ℕ) → times number (numbers_of servers) ≤ 1
 
   -- a pass at rest, beside a pass of its queue, of so many, that has taken nothing yet
-  pub record IsPosted (s : Shared T) (queues : List JobQueue) (count : ℕ) (plan : Plan) (w : Server T n) : Type 0 where
+  pub record IsPosted (s : Shared T) (queues : List JobQueue) (count : ℕ) (plan : Plan) (w : QueueWorker T n) : Type 0 where
     pub ready : IsReady s plan w.rest
     pub at : IsAt queues w.number w.worker (working (known w.worker).jobs 0)
     pub own : AreJobs plan.file count w.number (known w.worker).jobs
 
   -- that of each
-  abbrev pub ArePosted : Shared T → List JobQueue → Plan → List (Server T n) → Type 0
+  abbrev pub ArePosted : Shared T → List JobQueue → Plan → List (QueueWorker T n) → Type 0
   ArePosted s queues plan servers = All (IsPosted s queues (length queues) plan) servers
 
   -- they are the first so many of these workers, and all others
-  pub record AreHalves {A : Type 0} (half : ℕ) (servers first others : Vec (Server T n) A) : Type 0 where
+  pub record AreHalves {A : Type 0} (half : ℕ) (servers first others : Vec (QueueWorker T n) A) : Type 0 where
     pub items : first.items ≡ take half servers.items
     pub len : vec_len first ≡ half
     pub tail : others.items ≡ drop half servers.items
@@ -84,7 +84,7 @@ module _ {T : Type 0} {n : naming.Ghosts T} where
     pub tail_apart : AreApart others.items
 
   -- the work may be run, and there are workers for it, each with its queue
-  pub record CanServe {W A : Type 0} (works : work.Ghosts W T) (w : W) (s : Shared T) (queues : List JobQueue) (servers : Vec (Server T n) A) : Type 0 where
+  pub record CanServe {W A : Type 0} (works : work.Ghosts W T) (w : W) (s : Shared T) (queues : List JobQueue) (servers : Vec (QueueWorker T n) A) : Type 0 where
     pub ready : works.ready w
     pub some : 1 ≤ vec_len servers
     pub posted : ArePosted s queues (works.plan w) servers.items
@@ -107,7 +107,7 @@ module _ {T : Type 0} {n : naming.Ghosts T} where
     pub workers : team.workers.items ≡ first.workers.items ++ other.workers.items
 
   -- these workers have served their queues, and were gathered into the team
-  pub record IsTeamOf (s : Shared T) (queues : List JobQueue) (plan : Plan) (servers : List (Server T n)) (team : ServingTeam T n) : Type 0 where
+  pub record IsTeamOf (s : Shared T) (queues : List JobQueue) (plan : Plan) (servers : List (QueueWorker T n)) (team : ServingTeam T n) : Type 0 where
     pub served : IsServed s queues plan (numbers_of servers) (jobs_in servers) team
     pub gathered : HasGathered (draws_of plan) (views_of servers) (view_at team.rest) (told_in team.records)
 

@@ -12,7 +12,7 @@ use crate::feeder::feed;
 use crate::halves::serve_halves;
 use crate::order::TransactionPlace;
 use crate::pass::{JobPass, JobQueue};
-use crate::server::{Server, ServingTeam};
+use crate::server::{QueueWorker, ServingTeam};
 use crate::station::{Stations, open_stations};
 use std::alloc::Global;
 use std::sync::Wait;
@@ -44,7 +44,7 @@ fn feed_and_serve<R: Threads + Wait + Sync, T: Naming + Send + Sync, W: Work<T> 
     shared: &Shared<T>,
     queues: &[JobQueue],
     feeders: Vec<JobPass>,
-    servers: Vec<Server<T>>,
+    servers: Vec<QueueWorker<T>>,
     order: &[TransactionPlace],
 ) -> Result<(Vec<JobPass>, ServingTeam<T>), NoMemory>
     requires queues { 1 ≤ length queues.now }

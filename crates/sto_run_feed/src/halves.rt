@@ -6,7 +6,7 @@ ghost use Rattle.sto_table.specs.Rests.{IsOf};
 ghost use Rattle.sto_run_feed.specs.Served.{AreApart, AreHalves, CanServe, IsOfBoth, IsTeamOf};
 
 use crate::pass::JobQueue;
-use crate::server::{Server, ServingTeam, serve};
+use crate::server::{QueueWorker, ServingTeam, serve};
 use std::alloc::Global;
 use std::sync::Wait;
 use std::thread::{Threads, join};
@@ -50,7 +50,10 @@ fn gather<T: Naming>(
 }
 
 // Splits workers in two: those before the number stay.
-fn split<T: Naming>(servers: &mut Vec<Server<T>>, half: usize) -> Result<Vec<Server<T>>, NoMemory>
+fn split<T: Naming>(
+    servers: &mut Vec<QueueWorker<T>>,
+    half: usize,
+) -> Result<Vec<QueueWorker<T>>, NoMemory>
     requires half { half ≤ vec_len servers.old }
     requires apart { AreApart servers.old.items }
     ensures { IfOk result (AreHalves half servers.old servers.new) }
@@ -69,7 +72,7 @@ pub fn serve_halves<R: Threads + Wait + Sync, T: Naming + Send + Sync, W: Work<T
     alloc: Global,
     shared: &Shared<T>,
     queues: &[JobQueue],
-    servers: Vec<Server<T>>,
+    servers: Vec<QueueWorker<T>>,
 ) -> Result<ServingTeam<T>, NoMemory>
     requires able { CanServe W.Work work.now shared.now queues.now servers }
     ensures team { IfOk result (IsTeamOf shared.now queues.now (W.plan work.now) servers.items) }

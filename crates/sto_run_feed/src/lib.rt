@@ -28,6 +28,6 @@ pub use pass::{JobPass, JobQueue};
 pub use queue::{OpenedQueue, open_queue};
 pub use rule::{Ends, Listed, Opening, QueueLaw, Sending, Taking};
 pub use run::feed_file;
-pub use server::{Server, ServingTeam, serve};
+pub use server::{QueueWorker, ServingTeam, serve};
 pub use station::{Stations, open_stations};
 pub use sto_run::{Gate, NoGate};

@@ -16,7 +16,7 @@ use sto_journal::Journal;
 use sto_lang::File;
 use sto_part::NoMemory;
 use sto_run::{OpenedRun, objects_of};
-use sto_run_threads::{Gate, LentFile, RetryTurn, Workload};
+use sto_run_threads::{BorrowedFile, Gate, RetryTurn, Workload};
 use sto_type::TxType;
 
 /// Feeds the transactions of a file one by one, through queues, to so many workers, which run them by attempts on words that
@@ -41,7 +41,7 @@ pub fn feed_file<R: Threads + Wait + Sync, G: Gate>(
     ensures lawful { IfOk result (IsLawfulJournal (updating_by means) (view file.now) tries) }
     ensures alone { workers ≡ 1 → IfOk result (λ journal. journal.aborts.items ≡ []) }
 {
-    let file = LentFile { file };
+    let file = BorrowedFile { file };
     let objects = objects_of(alloc, &file)?;
     let turn = RetryTurn::new();
     let run = OpenedRun::new(alloc, file, &objects, tries, gate, &turn)?;

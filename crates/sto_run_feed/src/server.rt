@@ -16,11 +16,11 @@ use sto_core::Cells;
 use sto_part::{Naming, NoMemory};
 use sto_run_threads::Work;
 use sto_table::{Rest, Shared};
-use sto_transaction::{Memory, Record};
+use sto_transaction::{AttemptLists, Record};
 
 /// A pass at rest, the number of a queue, and the pass to take from it with.
 #[derive(Drop)]
-pub struct Server<T: Naming> {
+pub struct QueueWorker<T: Naming> {
     pub number: usize,
     pub worker: JobPass,
     pub rest: Rest<T>,
@@ -61,7 +61,7 @@ fn serve_one<T: Naming, W: Work<T>, C: Cells<T>>(
     cells: &mut C,
     thread: u32,
     position: u32,
-    memory: &mut Memory,
+    memory: &mut AttemptLists,
     records: &mut Vec<Record>,
     runs: bool,
 ) -> Result<bool, NoMemory>
@@ -89,19 +89,19 @@ pub fn serve<R: Wait, T: Naming, W: Work<T>>(
     alloc: Global,
     shared: &Shared<T>,
     queues: &[JobQueue],
-    server: Server<T>,
+    server: QueueWorker<T>,
 ) -> Result<ServingTeam<T>, NoMemory>
     requires ready { W.ready work.now }
     requires posted { IsPosted shared.now queues.now (length queues.now) (W.plan work.now) server }
     ensures team { IfOk result (IsTeamOf shared.now queues.now (W.plan work.now) (server ∷ [])) }
 {
-    let Server {
+    let QueueWorker {
         number,
         mut worker,
         rest,
     } = server;
     let mut pass = shared.pass(rest);
-    let mut memory = Memory::new(alloc);
+    let mut memory = AttemptLists::new(alloc);
     let mut records = Vec::new(alloc);
     let mut runs = true;
     while let Job::Run { thread, position } = next_job(rt, &queues[number], &mut worker) {

@@ -10,7 +10,7 @@ use crate::jobs::jobs_of;
 use crate::order::TransactionPlace;
 use crate::pass::{JobPass, JobQueue};
 use crate::queue::{OpenedQueue, open_queue};
-use crate::server::Server;
+use crate::server::QueueWorker;
 use std::alloc::Global;
 use sto_part::{Naming, NoMemory};
 use sto_run_threads::Work;
@@ -21,7 +21,7 @@ use sto_table::{Rests, Shared};
 pub struct Stations<T: Naming> {
     pub queues: Vec<JobQueue>,
     pub feeders: Vec<JobPass>,
-    pub servers: Vec<Server<T>>,
+    pub servers: Vec<QueueWorker<T>>,
 }
 
 /// Opens a queue for each pass, for the transactions that go to it in this order.
@@ -53,7 +53,7 @@ pub fn open_stations<T: Naming, W: Work<T>>(
         add(&mut feeders, feeder)?;
         add(
             &mut servers,
-            Server {
+            QueueWorker {
                 number,
                 worker,
                 rest,

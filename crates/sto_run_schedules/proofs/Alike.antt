@@ -3,7 +3,7 @@ use Rattle.std.specs.Prelude.{map, ◌&&◌}
 use Rattle.std.specs.Ordering.{int_eq}
 use Rattle.std.specs.Cmp.Lexicographic.{pointwise}
 use Rattle.std.proofs.Common.{rules, ◌≡◌, ℤ, Bool, List, [], ◌∷◌, true, ap, refl}
-use Rattle.sto_model.specs.Told.{told, Value, Flag, Pairs}
+use Rattle.sto_model.specs.PlainReplies.{plain_reply, Value, Flag, Pairs}
 use Rattle.sto_model.specs.declared.reply.Reply.{Reply}
 use Rattle.sto_model.specs.declared.reply.Reply.TheVariants as V
 use Rattle.sto_model.specs.contracts.reply.ReplyPartialEq.TheImpl.{eq-value as reply-value}
@@ -34,7 +34,7 @@ rows_same (p ∷ ps) (q ∷ qs) e =
     λ i. first i ∷ others i
 rows_same ps qs e = search (rules, e)
 
-reply_same : (a b : Reply) → reply-value.it a b ≡ true → told a ≡ told b
+reply_same : (a b : Reply) → reply-value.it a b ≡ true → plain_reply a ≡ plain_reply b
 reply_same (V.Value x) (V.Value y) e = let same : x ≡ y = search (rules, e) in ap Value same
 reply_same (V.Flag x) (V.Flag y) e = let same : x ≡ y = search (rules, e) in ap Flag same
 reply_same (V.Pairs ps) (V.Pairs qs) e = ap Pairs (rows_same ps.items qs.items e)
@@ -47,7 +47,7 @@ record_same : (r s : Record) → eq-value.it r s ≡ true → plain r ≡ plain 
 record_same r s e =
     let thread : r.thread ≡ s.thread = search (rules, e) in
     let position : r.position ≡ s.position = search (rules, e) in
-    let replies : map told r.replies.items ≡ map told s.replies.items = mapped_same reply-value.it told reply_same r.replies.items s.replies.items (search (rules, e)) in
+    let replies : map plain_reply r.replies.items ≡ map plain_reply s.replies.items = mapped_same reply-value.it plain_reply reply_same r.replies.items s.replies.items (search (rules, e)) in
     let same : r.verdict ≡ s.verdict = verdict_same r.verdict s.verdict (search (rules, e)) in
     λ i. record { place = (thread i, position i); replies = replies i; verdict = verdict (same i) }
 

@@ -5,7 +5,7 @@ use Rattle.std.proofs.Common.{◌≡◌, ℕ, zero, suc, ◌≤◌, ◌<◌, Lis
 use Rattle.std.proofs.lemmas.List.{map-append}
 use Rattle.sto_core.specs.Core.{Core}
 use Rattle.sto_trace.specs.declared.Step.{Step}
-use Rattle.sto_run_steps.specs.Logged.{Log, most_kept}
+use Rattle.sto_run_steps.specs.Logged.{RunLog, most_kept}
 use Rattle.sto_explore.specs.Schedules.{Turn}
 use Rattle.sto_explore.specs.Legs.{turns_with, turns_of, schedule_of, LeadToEnds, AreTold}
 use Rattle.sto_explore.specs.declared.leg.Leg.{Leg}
@@ -21,7 +21,7 @@ schedule_cons leg legs =
     map-append (λ (t : Turn). t.thread) (turns_with leg.thread leg.over leg.turns) (turns_of legs)
     ∙ ap (λ (l : List ℕ). l ++ schedule_of legs) (threads_with leg.thread leg.over leg.turns)
 
-module _ {S : Type 0} (IsOver : ℕ → S → Type 0) (Turn : ℕ → Core → S → Log → Core → S → Log → Type 0) (Had : List ℕ → Core → S → Log → Core → S → Log → Type 0) (laws : AreLaws IsOver Turn Had) where
+module _ {S : Type 0} (IsOver : ℕ → S → Type 0) (Turn : ℕ → Core → S → RunLog → Core → S → RunLog → Type 0) (Had : List ℕ → Core → S → RunLog → Core → S → RunLog → Type 0) (laws : AreLaws IsOver Turn Had) where
   -- a block of turns and what follows it
   record Parts (n t : ℕ) (more : List ℕ) (c : Core) (seats : S) (steps new : List Step) (d : Core) (later : S) : Type 0 where
     s : Split IsOver Turn (replicate n t) more c seats steps new d later

@@ -5,16 +5,16 @@ use Rattle.std.proofs.Common.{◌≡◌, ℕ, ◌≤◌, ◌<◌, List, [], ◌+
 use Rattle.std.proofs.lemmas.Bool.{cases_eq}
 use Rattle.std.proofs.lemmas.List.{get_or-set_other}
 use Rattle.std.proofs.lemmas.Option.{slice_get_within, get_or_from_slice_get, slice_get-get_or}
-use Rattle.sto_model.specs.Told.{Told}
+use Rattle.sto_model.specs.PlainReplies.{PlainReply}
 use Rattle.sto_core.specs.Core.{Core}
 use Rattle.sto_core.specs.History.{Validity}
 use Rattle.sto_core.specs.declared.view.View.{View}
 use Rattle.sto_lang.specs.declared.file.Turns.{Turns}
 use Rattle.sto_trace.specs.declared.Step.{Step}
 use Rattle.sto_history.specs.Records.{Record}
-use Rattle.sto_run_threads.specs.Orders.{Place}
+use Rattle.sto_run_threads.specs.Orders.{TransactionPlace}
 use Rattle.sto_run_threads.specs.Plans.{Plan}
-use Rattle.sto_run_steps.specs.Logged.{Log, most_kept}
+use Rattle.sto_run_steps.specs.Logged.{RunLog, most_kept}
 use Rattle.sto_run_steps.specs.Seated.{AreNew, IsOverAt}
 use Rattle.sto_run_steps.specs.Turning.{HasTurn, HaveTurns, WereStepped, entry_turns, round_turns}
 use Rattle.sto_explore.specs.Legs.{turns_of, schedule_of, LeadToEnds, AreTold}
@@ -32,7 +32,7 @@ set_other xs i j y x other at =
     slice_get-get_or xs j x (omega (arith, within, long)) ∙ ap Some (sym (get_or-set_other xs i j y x other) ∙ get_or_from_slice_get (set xs i y) j x x at)
 
 -- the turns of script threads obey the laws
-laws_of : {M : Type 0} (valid : Validity) (heard : M → List Told) → AreLaws (IsOverAt {M = M}) (HasTurn valid heard) (HaveTurns valid heard)
+laws_of : {M : Type 0} (valid : Validity) (heard : M → List PlainReply) → AreLaws (IsOverAt {M = M}) (HasTurn valid heard) (HaveTurns valid heard)
 laws_of {M} valid heard = record {
   stays = λ t thread c d seats later log next over turn. elim turn [
     | inl one ↦ elim (cases_eq t thread) [
@@ -57,16 +57,16 @@ laws_of {M} valid heard = record {
 }
 
 -- the same run by each schedule of these turns
-abbrev pub ByTurns : {M : Type 0} → Plan → (ℕ → Place → M → View → View → Type 0) → Validity → (M → List Told) → Core → List Record → List ℕ → Type 0
+abbrev pub ByTurns : {M : Type 0} → Plan → (ℕ → TransactionPlace → M → View → View → Type 0) → Validity → (M → List PlainReply) → Core → List Record → List ℕ → Type 0
 ByTurns {M} plan fits valid heard opened records turns =
-    (schedule : List Turns) → flat_map entry_turns schedule ≡ turns → (log : Log) × WereStepped {M = M} plan fits valid heard schedule opened (Some []) records log
+    (schedule : List Turns) → flat_map entry_turns schedule ≡ turns → (log : RunLog) × WereStepped {M = M} plan fits valid heard schedule opened (Some []) records log
 
-pub record Stepped {M : Type 0} (plan : Plan) (fits : ℕ → Place → M → View → View → Type 0) (valid : Validity) (heard : M → List Told) (opened : Core) (records : List Record) (decided legs : List Leg) (order : List ℕ) : Type 0 where
+pub record Stepped {M : Type 0} (plan : Plan) (fits : ℕ → TransactionPlace → M → View → View → Type 0) (valid : Validity) (heard : M → List PlainReply) (opened : Core) (records : List Record) (decided legs : List Leg) (order : List ℕ) : Type 0 where
   pub ends : LeadToEnds order legs
   pub told : AreTold (IsToldAfter (AreNew {M = M} plan) (HadSome (HaveTurns valid heard) opened) (IsOverAt {M = M})) (schedule_of decided) (turns_of legs)
   pub by_turns : ByTurns {M = M} plan fits valid heard opened records (schedule_of decided ++ schedule_of legs)
 
-pub stepped : {M : Type 0} (plan : Plan) (fits : ℕ → Place → M → View → View → Type 0) (valid : Validity) (heard : M → List Told) (opened : Core) (records : List Record) (decided : List Leg) (order : List ℕ) (n : ℕ) (schedule : List Turns) (all : List Step)
+pub stepped : {M : Type 0} (plan : Plan) (fits : ℕ → TransactionPlace → M → View → View → Type 0) (valid : Validity) (heard : M → List PlainReply) (opened : Core) (records : List Record) (decided : List Leg) (order : List ℕ) (n : ℕ) (schedule : List Turns) (all : List Step)
     → most_kept < n → flat_map entry_turns schedule ≡ turns_to_ends decided n order → WereStepped {M = M} plan fits valid heard schedule opened (Some []) records (Some all)
     → Stepped {M = M} plan fits valid heard opened records decided (ends_of n order (past decided all)) order
 stepped {M} plan fits valid heard opened records decided order n schedule all enough turns w =

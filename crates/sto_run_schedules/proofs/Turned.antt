@@ -6,7 +6,7 @@ use Rattle.std.proofs.lemmas.Bool.{cases_Bool, cond-true, cond-false, eq-eqb, fa
 use Rattle.std.proofs.lemmas.Option.{same_Some}
 use Rattle.sto_core.specs.Core.{Core}
 use Rattle.sto_trace.specs.declared.Step.{Step}
-use Rattle.sto_run_steps.specs.Logged.{Log, most_kept, with_step}
+use Rattle.sto_run_steps.specs.Logged.{RunLog, most_kept, with_step}
 
 some_none : {A : Type 0} (x : A) → ◌≡◌ {A = Option A} (Some x) None → ⊥
 some_none x e = cc
@@ -18,7 +18,7 @@ AreOf thread steps = AllByRecursion (λ (step : Step). nat_eq step.thread thread
 abbrev pub AreOfOthers : ℕ → List Step → Type 0
 AreOfOthers thread steps = AllByRecursion (λ (step : Step). nat_eq step.thread thread ≡ false) steps
 
-module _ {S : Type 0} (IsOver : ℕ → S → Type 0) (Turn : ℕ → Core → S → Log → Core → S → Log → Type 0) where
+module _ {S : Type 0} (IsOver : ℕ → S → Type 0) (Turn : ℕ → Core → S → RunLog → Core → S → RunLog → Type 0) where
   -- a turn that added these steps to others
   pub record OneTurn (thread : ℕ) (c : Core) (seats : S) (steps new : List Step) (d : Core) (later : S) : Type 0 where
     pub turn : Turn thread c seats (Some steps) d later (Some (steps ++ new))
@@ -60,29 +60,29 @@ module _ {S : Type 0} (IsOver : ℕ → S → Type 0) (Turn : ℕ → Core → S
     pub end : (count ≡ n) ⊎ IsOver t later
 
 -- what is known of turns: a thread that is over stays so; a turn adds no step to none, and none where the thread is over; else it adds one
-pub record AreLaws {S : Type 0} (IsOver : ℕ → S → Type 0) (Turn : ℕ → Core → S → Log → Core → S → Log → Type 0) (Had : List ℕ → Core → S → Log → Core → S → Log → Type 0) : Type 0 where
-  pub stays : (t thread : ℕ) (c d : Core) (seats later : S) (log next : Log) → IsOver t seats → Turn thread c seats log d later next → IsOver t later
-  pub none : (thread : ℕ) (c d : Core) (seats later : S) (next : Log) → Turn thread c seats None d later next → next ≡ None
-  pub rests : (thread : ℕ) (c : Core) (seats : S) (log : Log) → IsOver thread seats → Turn thread c seats log c seats log
-  pub kinds : (thread : ℕ) (c d : Core) (seats later : S) (steps : List Step) (next : Log) → Turn thread c seats (Some steps) d later next
+pub record AreLaws {S : Type 0} (IsOver : ℕ → S → Type 0) (Turn : ℕ → Core → S → RunLog → Core → S → RunLog → Type 0) (Had : List ℕ → Core → S → RunLog → Core → S → RunLog → Type 0) : Type 0 where
+  pub stays : (t thread : ℕ) (c d : Core) (seats later : S) (log next : RunLog) → IsOver t seats → Turn thread c seats log d later next → IsOver t later
+  pub none : (thread : ℕ) (c d : Core) (seats later : S) (next : RunLog) → Turn thread c seats None d later next → next ≡ None
+  pub rests : (thread : ℕ) (c : Core) (seats : S) (log : RunLog) → IsOver thread seats → Turn thread c seats log c seats log
+  pub kinds : (thread : ℕ) (c d : Core) (seats later : S) (steps : List Step) (next : RunLog) → Turn thread c seats (Some steps) d later next
       → (IsOver thread seats × (d ≡ c) × (later ≡ seats) × (next ≡ Some steps)) ⊎ ((IsOver thread seats → ⊥) × (step : Step) × (step.thread ≡ thread) × (next ≡ with_step steps step))
-  pub nil : (c d : Core) (seats later : S) (log next : Log) → Had [] c seats log d later next → (d ≡ c) × (later ≡ seats) × (next ≡ log)
-  pub to_nil : (c d : Core) (seats later : S) (log next : Log) → (d ≡ c) × (later ≡ seats) × (next ≡ log) → Had [] c seats log d later next
-  pub cons : (thread : ℕ) (threads : List ℕ) (c d : Core) (seats later : S) (log next : Log) → Had (thread ∷ threads) c seats log d later next
-      → (e : Core) × (middle : S) × (kept : Log) × Turn thread c seats log e middle kept × Had threads e middle kept d later next
-  pub to_cons : (thread : ℕ) (threads : List ℕ) (c e d : Core) (seats middle later : S) (log kept next : Log) → Turn thread c seats log e middle kept → Had threads e middle kept d later next
+  pub nil : (c d : Core) (seats later : S) (log next : RunLog) → Had [] c seats log d later next → (d ≡ c) × (later ≡ seats) × (next ≡ log)
+  pub to_nil : (c d : Core) (seats later : S) (log next : RunLog) → (d ≡ c) × (later ≡ seats) × (next ≡ log) → Had [] c seats log d later next
+  pub cons : (thread : ℕ) (threads : List ℕ) (c d : Core) (seats later : S) (log next : RunLog) → Had (thread ∷ threads) c seats log d later next
+      → (e : Core) × (middle : S) × (kept : RunLog) × Turn thread c seats log e middle kept × Had threads e middle kept d later next
+  pub to_cons : (thread : ℕ) (threads : List ℕ) (c e d : Core) (seats middle later : S) (log kept next : RunLog) → Turn thread c seats log e middle kept → Had threads e middle kept d later next
       → Had (thread ∷ threads) c seats log d later next
 
-module _ {S : Type 0} (IsOver : ℕ → S → Type 0) (Turn : ℕ → Core → S → Log → Core → S → Log → Type 0) (Had : List ℕ → Core → S → Log → Core → S → Log → Type 0) (laws : AreLaws IsOver Turn Had) where
+module _ {S : Type 0} (IsOver : ℕ → S → Type 0) (Turn : ℕ → Core → S → RunLog → Core → S → RunLog → Type 0) (Had : List ℕ → Core → S → RunLog → Core → S → RunLog → Type 0) (laws : AreLaws IsOver Turn Had) where
   -- where no steps are kept, none are kept later
-  none_left : (threads : List ℕ) (c d : Core) (seats later : S) (next : Log) → Had threads c seats None d later next → next ≡ None
+  none_left : (threads : List ℕ) (c d : Core) (seats later : S) (next : RunLog) → Had threads c seats None d later next → next ≡ None
   none_left [] c d seats later next h = (laws.nil c d seats later None next h).2
   none_left (thread ∷ threads) c d seats later next h =
       let k = laws.cons thread threads c d seats later None next h in
-      none_left threads k.0 d k.1 later next (subst (λ (o : Log). Had threads k.0 k.1 o d later next) (laws.none thread c k.0 seats k.1 k.2 k.3) k.4)
+      none_left threads k.0 d k.1 later next (subst (λ (o : RunLog). Had threads k.0 k.1 o d later next) (laws.none thread c k.0 seats k.1 k.2 k.3) k.4)
 
   -- no more steps are kept than may be
-  kept_step : (thread : ℕ) (c d : Core) (seats later : S) (steps : List Step) (next : Log) → Turn thread c seats (Some steps) d later next → length steps ≤ most_kept
+  kept_step : (thread : ℕ) (c d : Core) (seats later : S) (steps : List Step) (next : RunLog) → Turn thread c seats (Some steps) d later next → length steps ≤ most_kept
       → (next ≡ None) ⊎ ((new : List Step) × (next ≡ Some (steps ++ new)) × OneTurn IsOver Turn thread c seats steps new d later × (length (steps ++ new) ≤ most_kept))
   kept_step thread c d seats later steps next turn few = elim (laws.kinds thread c d seats later steps next turn) [
     | inl idle ↦
@@ -90,7 +90,7 @@ module _ {S : Type 0} (IsOver : ℕ → S → Type 0) (Turn : ℕ → Core → S
         inr (
           [],
           is,
-          record { turn = subst (λ (o : Log). Turn thread c seats (Some steps) d later o) is turn; made = inl (idle.0, idle.1, idle.2, refl) },
+          record { turn = subst (λ (o : RunLog). Turn thread c seats (Some steps) d later o) is turn; made = inl (idle.0, idle.1, idle.2, refl) },
           subst (λ (l : List Step). length l ≤ most_kept) (sym (append-nil steps)) few,
         )
     | inr one ↦
@@ -102,7 +102,7 @@ module _ {S : Type 0} (IsOver : ℕ → S → Type 0) (Turn : ℕ → Core → S
                 step ∷ [],
                 is,
                 record {
-                  turn = subst (λ (o : Log). Turn thread c seats (Some steps) d later o) is turn;
+                  turn = subst (λ (o : RunLog). Turn thread c seats (Some steps) d later o) is turn;
                   made = inr (one.0, step, eq-eqb step.thread thread one.2, refl);
                 },
                 (let l = length-append steps (step ∷ []) in let r = ltb-true (length steps) most_kept room in omega (arith, l, r)),
@@ -121,9 +121,9 @@ module _ {S : Type 0} (IsOver : ℕ → S → Type 0) (Turn : ℕ → Core → S
   kept_turns (thread ∷ threads) c d seats later steps all had few =
       let h = laws.cons thread threads c d seats later (Some steps) (Some all) had in
       elim (kept_step thread c h.0 seats h.1 steps h.2 h.3 few) [
-        | inl none ↦ absurd (some_none all (none_left threads h.0 d h.1 later (Some all) (subst (λ (o : Log). Had threads h.0 h.1 o d later (Some all)) none h.4)))
+        | inl none ↦ absurd (some_none all (none_left threads h.0 d h.1 later (Some all) (subst (λ (o : RunLog). Had threads h.0 h.1 o d later (Some all)) none h.4)))
         | inr k ↦
-            let rest = kept_turns threads h.0 d h.1 later (steps ++ k.0) all (subst (λ (o : Log). Had threads h.0 h.1 o d later (Some all)) k.1 h.4) k.3 in (
+            let rest = kept_turns threads h.0 d h.1 later (steps ++ k.0) all (subst (λ (o : RunLog). Had threads h.0 h.1 o d later (Some all)) k.1 h.4) k.3 in (
               k.0 ++ rest.0,
               (h.0, h.1, k.0, rest.0, k.2, rest.1, refl),
               rest.2 ∙ append_assoc steps k.0 rest.0,
@@ -138,22 +138,22 @@ module _ {S : Type 0} (IsOver : ℕ → S → Type 0) (Turn : ℕ → Core → S
       laws.to_nil c d seats later (Some steps) (Some (steps ++ new)) (h.0, h.1, ap (λ (l : List Step). Some (steps ++ l)) h.2 ∙ ap Some (append-nil steps))
   turns_had (thread ∷ threads) c d seats later steps new h =
       laws.to_cons thread threads c h.0 d seats h.1 later (Some steps) (Some (steps ++ h.2)) (Some (steps ++ new)) h.4.turn
-      (subst (λ (o : Log). Had threads h.0 h.1 (Some (steps ++ h.2)) d later o) (ap Some (append_assoc steps h.2 h.3 ∙ ap (λ (l : List Step). steps ++ l) (sym h.6)))
+      (subst (λ (o : RunLog). Had threads h.0 h.1 (Some (steps ++ h.2)) d later o) (ap Some (append_assoc steps h.2 h.3 ∙ ap (λ (l : List Step). steps ++ l) (sym h.6)))
       (turns_had threads h.0 d h.1 later (steps ++ h.2) h.3 h.5))
 
   -- turns after others
-  pub had_append : (first rest : List ℕ) (c d e : Core) (seats middle later : S) (log kept next : Log) → Had first c seats log d middle kept → Had rest d middle kept e later next
+  pub had_append : (first rest : List ℕ) (c d e : Core) (seats middle later : S) (log kept next : RunLog) → Had first c seats log d middle kept → Had rest d middle kept e later next
       → Had (first ++ rest) c seats log e later next
   had_append [] rest c d e seats middle later log kept next had k =
       let h = laws.nil c d seats middle log kept had in
       subst (λ (x : Core). Had rest x seats log e later next) h.0
-      (subst (λ (l : S). Had rest d l log e later next) h.1 (subst (λ (o : Log). Had rest d middle o e later next) h.2 k))
+      (subst (λ (l : S). Had rest d l log e later next) h.1 (subst (λ (o : RunLog). Had rest d middle o e later next) h.2 k))
   had_append (thread ∷ first) rest c d e seats middle later log kept next had k =
       let h = laws.cons thread first c d seats middle log kept had in
       laws.to_cons thread (first ++ rest) c h.0 e seats h.1 later log h.2 next h.3 (had_append first rest h.0 d e h.1 middle later h.2 kept next h.4 k)
 
   -- one turn more
-  pub had_more : (threads : List ℕ) (thread : ℕ) (c d e : Core) (seats middle later : S) (log kept next : Log) → Had threads c seats log d middle kept → Turn thread d middle kept e later next
+  pub had_more : (threads : List ℕ) (thread : ℕ) (c d e : Core) (seats middle later : S) (log kept next : RunLog) → Had threads c seats log d middle kept → Turn thread d middle kept e later next
       → Had (threads ++ thread ∷ []) c seats log e later next
   had_more threads thread c d e seats middle later log kept next h turn =
       had_append threads (thread ∷ []) c d e seats middle later log kept next h

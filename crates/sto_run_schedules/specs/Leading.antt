@@ -11,7 +11,7 @@ use Rattle.sto_journal.specs.declared.journal.Journal.{Journal}
 use Rattle.sto_journal.specs.declared.journal.AbortLine.{AbortLine}
 use Rattle.sto_journal.specs.declared.journal.Cause.{Cause}
 use Rattle.sto_journal.specs.declared.journal.Cause.TheVariants.{Locked, Changed}
-use Rattle.sto_run_steps.specs.Logged.{Log}
+use Rattle.sto_run_steps.specs.Logged.{RunLog}
 use Rattle.sto_run_steps.specs.Turning.{entry_turns}
 use Rattle.sto_run.specs.Meanings.{updating_by}
 use Rattle.sto_run.specs.Stores.{means}
@@ -23,7 +23,7 @@ use Rattle.sto_explore.specs.declared.outcome.Reported.{Reported}
 
 -- the journal is that of a run of the file by a schedule, whose steps are told or were too many
 abbrev pub IsJournalBy : Objects → File → ℕ → List Turns → Journal → Type 0
-IsJournalBy objects file tries schedule journal = (steps : Log) × IsRunBy of_objects objects file tries schedule journal steps
+IsJournalBy objects file tries schedule journal = (steps : RunLog) × IsRunBy of_objects objects file tries schedule journal steps
 
 -- the schedules that give these turns
 abbrev pub Gives : List ℕ → List Turns → Type 0

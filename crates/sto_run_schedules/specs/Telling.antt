@@ -7,7 +7,7 @@ use Rattle.sto_lang.specs.Scripts.{Script, File}
 use Rattle.sto_script.specs.declared.body.ScriptBody.{ScriptBody}
 use Rattle.sto_transaction.specs.declared.machine.Machine.{Machine}
 use Rattle.sto_run_threads.specs.Plans.{plan_of}
-use Rattle.sto_run_steps.specs.Logged.{Log}
+use Rattle.sto_run_steps.specs.Logged.{RunLog}
 use Rattle.sto_run_steps.specs.Proceeding.{heard_by}
 use Rattle.sto_run_steps.specs.Seated.{AreNew, IsOverAt}
 use Rattle.sto_run_steps.specs.Turning.{HaveTurns}
@@ -18,8 +18,8 @@ IsOrIsNot P true = P
 IsOrIsNot P false = P → ⊥
 
 -- from words on that were opened so, threads at their seats had these turns
-abbrev pub HadSome : {S : Type 0} → (List ℕ → Core → S → Log → Core → S → Log → Type 0) → Core → List ℕ → S → S → Type 0
-HadSome Had opened turns seats later = (words : Core) × (log : Log) × Had turns opened seats (Some []) words later log
+abbrev pub HadSome : {S : Type 0} → (List ℕ → Core → S → RunLog → Core → S → RunLog → Type 0) → Core → List ℕ → S → S → Type 0
+HadSome Had opened turns seats later = (words : Core) × (log : RunLog) × Had turns opened seats (Some []) words later log
 
 -- threads of which none had begun had these turns, and then the thread of the last is over, or is not
 pub record IsToldAfter {S : Type 0} (IsNew : S → Type 0) (Had : List ℕ → S → S → Type 0) (IsOver : ℕ → S → Type 0) (turns : List ℕ) (over : Bool) : Type 0 where

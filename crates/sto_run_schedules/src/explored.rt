@@ -17,10 +17,10 @@ use crate::kept::Kept;
 use crate::meter::Meter;
 use crate::runs::FileRuns;
 use std::alloc::Global;
-use sto_explore::{Outcomes, ExploreError, Tally, explore};
+use sto_explore::{ExploreError, Outcomes, Tally, explore};
 use sto_lang::File;
 use sto_part::NoMemory;
-use sto_run::{LentFile, NoGate, OpenedRun, objects_of};
+use sto_run::{BorrowedFile, NoGate, OpenedRun, objects_of};
 use sto_run_threads::RetryTurn;
 use sto_store::Objects;
 
@@ -46,11 +46,11 @@ pub fn explore_file<W: Meter>(
     ensures too_many { IfErr result (λ why. why ≡ TooMany → HasTooMany (form_for json) (view file.now) tries switches limit) }
     ensures too_long { IfErr result (λ why. why ≡ TooLong → HasSomeLongRun tries (view file.now)) }
 {
-    let Ok(objects) = objects_of(alloc, &LentFile { file }) else {
+    let Ok(objects) = objects_of(alloc, &BorrowedFile { file }) else {
         return Err(ExploreError::NoMemory);
     };
     let turn = RetryTurn::new();
-    let lent = LentFile { file };
+    let lent = BorrowedFile { file };
     let Ok(run) = OpenedRun::new(alloc, lent, &objects, tries, &NoGate, &turn) else {
         return Err(ExploreError::NoMemory);
     };
@@ -60,7 +60,7 @@ pub fn explore_file<W: Meter>(
 // Runs what was opened by every schedule.
 fn explore_opened<'f, W: Meter>(
     alloc: Global,
-    run: &'f OpenedRun<'f, LentFile<'f>, Objects, NoGate>,
+    run: &'f OpenedRun<'f, BorrowedFile<'f>, Objects, NoGate>,
     switches: u32,
     limit: u32,
     json: bool,

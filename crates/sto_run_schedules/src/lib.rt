@@ -17,4 +17,4 @@ pub use entries::entries_to_ends;
 pub use explored::explore_file;
 pub use legs::{ends, past};
 pub use meter::{Meter, NoMeter};
-pub use sto_explore::{Outcome, Outcomes, ExploreError};
+pub use sto_explore::{ExploreError, Outcome, Outcomes};

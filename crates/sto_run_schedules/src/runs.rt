@@ -13,9 +13,9 @@ use crate::legs::{ends, past};
 use crate::meter::Meter;
 use crate::reported::reported;
 use std::alloc::Global;
-use sto_explore::{Leg, RunError, Ran, Reported, Runs};
+use sto_explore::{LastRun, Leg, Reported, RunError, Runs};
 use sto_part::NoMemory;
-use sto_run::{LentFile, NoGate, OpenedRun};
+use sto_run::{BorrowedFile, NoGate, OpenedRun};
 use sto_run_steps::{SteppedWork, trace_threads};
 use sto_run_threads::FinishedRun;
 use sto_script::ScriptBody;
@@ -25,7 +25,7 @@ use sto_transaction::Machine;
 /// A file that can be run in one thread by any schedule, again and again, and the threads that have a transaction.
 #[derive(Drop)]
 pub(crate) struct FileRuns<'f, W: Meter> {
-    pub(crate) run: &'f OpenedRun<'f, LentFile<'f>, Objects, NoGate>,
+    pub(crate) run: &'f OpenedRun<'f, BorrowedFile<'f>, Objects, NoGate>,
     pub(crate) threads: Vec<u32>,
     /// Whether its reports are JSON.
     pub(crate) json: bool,
@@ -115,7 +115,7 @@ impl<W: Meter> Runs<Reported, Kept> for FileRuns<'_, W> {
         kept: &mut Kept,
         decided: &[Leg],
         order: &[u32],
-    ) -> Result<Ran<Reported>, RunError> {
+    ) -> Result<LastRun<Reported>, RunError> {
         let run = self.run;
         let most = enough();
         let entries = entries_to_ends(alloc, decided, order, most)?;
@@ -137,6 +137,6 @@ impl<W: Meter> Runs<Reported, Kept> for FileRuns<'_, W> {
         kept.spare.keep_steps(steps);
         let report = self.report_of(alloc, kept, finished)?;
         self.meter.made();
-        Ok(Ran { legs, report })
+        Ok(LastRun { legs, report })
     }
 }

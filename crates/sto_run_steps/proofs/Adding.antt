@@ -2,11 +2,11 @@
 use Rattle.std.specs.Prelude.{◌&&◌, if◌then◌else◌, ◌==◌, not}
 use Rattle.std.proofs.Common.{◌≡◌, ℕ, suc, ◌+◌, ◌-◌, ◌<◌, ◌≤◌, List, [], ◌∷◌, ◌++◌, map, length, refl, sym, ap, ◌∙◌, subst, arith, Bool, true, false, true≢false, cond, eq-eqb}
 use Rattle.std.proofs.lemmas.List.Elements.{All-cons, All-nil}
-use Rattle.sto_model.specs.Run.{Script as Steps}
+use Rattle.sto_model.specs.Run.{Behaviour}
 use Rattle.sto_script.specs.Meaning.{meaning_of}
 use Rattle.sto_type.specs.Meaning.{Meaning}
 use Rattle.sto_core.specs.declared.view.View.{View}
-use Rattle.sto_run_threads.specs.Orders.{Place, count_in}
+use Rattle.sto_run_threads.specs.Orders.{TransactionPlace, count_in}
 use Rattle.sto_history.specs.Records.{Record, is_abort}
 use Rattle.sto_history.specs.Counted.{aborted_times, finished_places}
 use Rattle.sto_history.specs.Added.{IsAdded, HasAdded}
@@ -37,16 +37,16 @@ not_counted true true false r = refl
 not_counted true false c r = refl
 not_counted false b c r = refl
 
-aborted_one : (place : Place) (r : Record) → r.place ≡ place → is_abort r.verdict ≡ true → aborted_times place (r ∷ []) ≡ 1
+aborted_one : (place : TransactionPlace) (r : Record) → r.place ≡ place → is_abort r.verdict ≡ true → aborted_times place (r ∷ []) ≡ 1
 aborted_one place r here is =
     counted (r.place.0 == place.0) (r.place.1 == place.1) (is_abort r.verdict)
-    (eq-eqb r.place.0 place.0 (ap (λ (p : Place). p.0) here)) (eq-eqb r.place.1 place.1 (ap (λ (p : Place). p.1) here)) is
+    (eq-eqb r.place.0 place.0 (ap (λ (p : TransactionPlace). p.0) here)) (eq-eqb r.place.1 place.1 (ap (λ (p : TransactionPlace). p.1) here)) is
 
-ended_one : (place : Place) (r : Record) → is_abort r.verdict ≡ false → aborted_times place (r ∷ []) ≡ 0
+ended_one : (place : TransactionPlace) (r : Record) → is_abort r.verdict ≡ false → aborted_times place (r ∷ []) ≡ 0
 ended_one place r is = not_counted (r.place.0 == place.0) (r.place.1 == place.1) (is_abort r.verdict) is
 
 -- one attempt, as a run of its transaction
-one_added : (m : Meaning) (tries : ℕ) (v w : View) (f : Steps) (place : Place) (r : Record) → aborted_times place (r ∷ []) ≤ tries → HasTried m v w f place r → HasAdded m tries v w f place (r ∷ [])
+one_added : (m : Meaning) (tries : ℕ) (v w : View) (f : Behaviour) (place : TransactionPlace) (r : Record) → aborted_times place (r ∷ []) ≤ tries → HasTried m v w f place r → HasAdded m tries v w f place (r ∷ [])
 one_added m tries v w f place r few t = record {
   grows = t.grows;
   entries = λ n. (let a = t.committed n in omega (arith, a));
@@ -55,7 +55,7 @@ one_added m tries v w f place r few t = record {
   few = few;
 }
 
-one_found : (m : Meaning) (v w : View) (f : Steps) (place : Place) (r : Record) → HasTried m v w f place r → AreFound w (v.starts + 1) (r ∷ [])
+one_found : (m : Meaning) (v w : View) (f : Behaviour) (place : TransactionPlace) (r : Record) → HasTried m v w f place r → AreFound w (v.starts + 1) (r ∷ [])
 one_found m v w f place r t = (subst (λ (k : ℕ). IsFound w k r.verdict) t.starts t.found, tt)
 
 finished_by : (b : Bool) (r : Record) → is_abort r.verdict ≡ b → finished_places (r ∷ []) ≡ (if not b then r.place ∷ [] else [])
@@ -91,7 +91,7 @@ module _ (plan : Plan) (passes thread ended left : ℕ) (v w : View) (rs : List 
     where
       at_place : (c : Bool) → (if not c then r.place ∷ [] else []) ≡ (if not c then (thread, suc (ended_of thread rs)) ∷ [] else [])
       at_place true = refl
-      at_place false = ap (λ (p : Place). p ∷ []) here.tried.added.placed
+      at_place false = ap (λ (p : TransactionPlace). p ∷ []) here.tried.added.placed
 
   placed : Every (λ (x : Record). x.place ≡ (thread, suc (ended_of thread rs))) (r ∷ [])
   placed = (here.tried.added.placed, tt)

@@ -3,22 +3,22 @@ use Rattle.std.specs.Prelude.{◌⊎◌, IsSome, slice_get, Some, None, Option, 
 use Rattle.std.specs.List.{flat_map}
 use Rattle.std.proofs.Common.{◌≡◌, ℕ, zero, suc, ◌<◌, ◌≤◌, List, [], ◌∷◌, ◌++◌, length, Bool, true, false, refl, sym, ap, ◌∙◌, subst, arith, inl, inr}
 use Rattle.std.proofs.lemmas.Option.{slice_get-get_or}
-use Rattle.sto_model.specs.Told.{Told}
+use Rattle.sto_model.specs.PlainReplies.{PlainReply}
 use Rattle.sto_lang.specs.declared.file.Turns.{Turns}
 use Rattle.sto_core.specs.declared.view.View.{View}
 use Rattle.sto_core.specs.Core.{Core}
 use Rattle.sto_core.specs.History.{Validity}
 use Rattle.sto_history.specs.Records.{Record}
 use Rattle.sto_trace.specs.declared.Step.{Step}
-use Rattle.sto_run_threads.specs.Orders.{Place, count_in}
+use Rattle.sto_run_threads.specs.Orders.{TransactionPlace, count_in}
 use Rattle.sto_run_threads.specs.Plans.{Plan, thread_count}
 use Rattle.sto_run_steps.specs.Seated.{IsOver}
-use Rattle.sto_run_steps.specs.Logged.{Log, HasLogged, most_kept}
+use Rattle.sto_run_steps.specs.Logged.{RunLog, HasLogged, most_kept}
 use Rattle.sto_run_steps.specs.Turning.{HaveTurns, WereStepped, entry_turns, round_turns}
 use Rattle.sto_run_steps.specs.declared.seat.Seat.{Seat}
 
 -- there is a step, or steps were given up
-abbrev HasMore : Log → Type 0
+abbrev HasMore : RunLog → Type 0
 HasMore None = Unit {0}
 HasMore (Some []) = ⊥
 HasMore (Some (step ∷ steps)) = Unit {0}
@@ -29,13 +29,13 @@ more true [] step = tt
 more true (x ∷ xs) step = tt
 
 -- there is after a step was added
-logged_more : (kind : Step → Type 0) (log next : Log) → HasLogged kind log next → HasMore log ⊎ IsSome log → HasMore next
+logged_more : (kind : Step → Type 0) (log next : RunLog) → HasLogged kind log next → HasMore log ⊎ IsSome log → HasMore next
 logged_more kind None next h was = subst HasMore (sym h) tt
 logged_more kind (Some steps) next h was = subst HasMore (sym h.2) (more (nat_lt (length steps) most_kept) steps h.0)
 
-module _ {M : Type 0} (valid : Validity) (heard : M → List Told) where
+module _ {M : Type 0} (valid : Validity) (heard : M → List PlainReply) where
   -- and steps that are kept stay
-  stays : (threads : List ℕ) (c : Core) (seats : List (Seat M)) (log : Log) (d : Core) (later : List (Seat M))
+  stays : (threads : List ℕ) (c : Core) (seats : List (Seat M)) (log : RunLog) (d : Core) (later : List (Seat M))
       → HasMore log → HaveTurns valid heard threads c seats log d later (Some []) → ⊥
   stays [] c seats log d later some h = subst HasMore (sym h.2) some
   stays (thread ∷ threads) c seats log d later some h = elim h.3 [
@@ -48,7 +48,7 @@ module _ {M : Type 0} (valid : Validity) (heard : M → List Told) where
   quiet [] c seats d later h = h.1
   quiet (thread ∷ threads) c seats d later h = elim h.3 [
     | inl one ↦ absurd (stays threads h.0 h.1 h.2 d later (logged_more _ (Some []) h.2 one.logged (inr refl)) h.4)
-    | inr idle ↦ quiet threads h.0 h.1 d later (subst (λ (o : Log). HaveTurns valid heard threads h.0 h.1 o d later (Some [])) idle.3 h.4) ∙ idle.2
+    | inr idle ↦ quiet threads h.0 h.1 d later (subst (λ (o : RunLog). HaveTurns valid heard threads h.0 h.1 o d later (Some [])) idle.3 h.4) ∙ idle.2
   ]
 
 -- one of as many as there are
@@ -57,7 +57,7 @@ some_seat thread [] less = absurd (omega (arith, less))
 some_seat {M} thread (s ∷ ss) less = (_, slice_get-get_or (s ∷ ss) thread s less)
 
 -- a run of a file whose thread has a transaction, with a try for it, has not an empty trace
-pub not_nothing : {M : Type 0} (plan : Plan) (fits : ℕ → Place → M → View → View → Type 0) (valid : Validity) (heard : M → List Told) (schedule : List Turns) (opened : Core) (rs : List Record)
+pub not_nothing : {M : Type 0} (plan : Plan) (fits : ℕ → TransactionPlace → M → View → View → Type 0) (valid : Validity) (heard : M → List PlainReply) (schedule : List Turns) (opened : Core) (rs : List Record)
     (thread : ℕ) → thread < max 1 (thread_count plan) → 0 < count_in plan.file.threads thread → 0 < plan.tries
     → WereStepped {M = M} plan fits valid heard schedule opened (Some []) rs (Some []) → ⊥
 not_nothing {M} plan fits valid heard schedule opened rs thread inside some try w =

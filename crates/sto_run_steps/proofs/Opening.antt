@@ -10,7 +10,7 @@ use Rattle.sto_core.specs.Core.{Core}
 use Rattle.sto_core.specs.History.{Contents}
 use Rattle.sto_core.specs.Opened.{opened_core, opened_view, opened_views, opening_draws}
 use Rattle.sto_plain.specs.Passes.{view_at}
-use Rattle.sto_run_threads.specs.Orders.{Place, count_in}
+use Rattle.sto_run_threads.specs.Orders.{TransactionPlace, count_in}
 use Rattle.sto_history.specs.Records.{Record}
 use Rattle.sto_transaction.specs.Plain.{plain}
 use Rattle.sto_run_threads.specs.Counts.{scripts_from}
@@ -87,7 +87,7 @@ module _ (plan : Plan) (few : draws_of plan + draws_of plan ≤ opening_draws) w
   }
 
   -- a thread of which nothing has begun
-  new_seated : {M : Type 0} (fits : ℕ → Place → M → View → View → Type 0) (passes thread : ℕ) (v : View) (s : Seat M) → v ≡ opened_view plan.sizes plan.meaning.opened thread → IsNew (count_in plan.file.threads thread) plan.tries s
+  new_seated : {M : Type 0} (fits : ℕ → TransactionPlace → M → View → View → Type 0) (passes thread : ℕ) (v : View) (s : Seat M) → v ≡ opened_view plan.sizes plan.meaning.opened thread → IsNew (count_in plan.file.threads thread) plan.tries s
       → IsSeated plan fits passes thread v s
   new_seated {M} fits passes thread v s is new = record {
     counted = new.counted;
@@ -100,7 +100,7 @@ module _ (plan : Plan) (few : draws_of plan + draws_of plan ≤ opening_draws) w
         (subst (λ (u : View). IsBetween plan passes thread 0 plan.tries [] u) (sym is) (opened_between passes thread thread)))));
   }
 
-  pub opened_seated : {M : Type 0} (fits : ℕ → Place → M → View → View → Type 0) (c : Core) (seats : List (Seat M)) → length seats < 2 ^ 32 → c ≡ opened_core plan.sizes plan.meaning.opened (length seats) → AreNew plan seats
+  pub opened_seated : {M : Type 0} (fits : ℕ → TransactionPlace → M → View → View → Type 0) (c : Core) (seats : List (Seat M)) → length seats < 2 ^ 32 → c ≡ opened_core plan.sizes plan.meaning.opened (length seats) → AreNew plan seats
       → AreSeated plan fits c seats
   opened_seated {M} fits c seats small is new = subst (λ (d : Core). AreSeated plan fits d seats) (sym is) (record {
     views = opened_many plan.sizes plan.meaning.opened 0 (length seats);

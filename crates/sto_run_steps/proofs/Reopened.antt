@@ -14,7 +14,7 @@ use Rattle.sto_core.specs.History.{Validity}
 use Rattle.sto_core.specs.Lists.{Each}
 use Rattle.sto_core.specs.Rule.{total}
 use Rattle.sto_plain.specs.Passes.{view_at, view_of}
-use Rattle.sto_run_threads.specs.Orders.{Place}
+use Rattle.sto_run_threads.specs.Orders.{TransactionPlace}
 use Rattle.sto_history.specs.Records.{Record, times_written}
 use Rattle.sto_history.specs.Counted.{times_committed}
 use Rattle.sto_transaction.specs.Plain.{plain}
@@ -25,7 +25,7 @@ use Rattle.sto_run_steps.proofs.Gathered.{HasRested, HaveRested, gathered, all_i
 use Rattle.sto_run_threads.specs.Plans.{Plan, Rests, draws_of}
 
 -- a thread that is over runs no attempt
-over_between : {M : Type 0} (plan : Plan) (fits : ℕ → Place → M → View → View → Type 0) (passes thread : ℕ) (v : View) (s : Seat M)
+over_between : {M : Type 0} (plan : Plan) (fits : ℕ → TransactionPlace → M → View → View → Type 0) (passes thread : ℕ) (v : View) (s : Seat M)
     → IsSeated plan fits passes thread v s → IsOver s → BetweenAt plan passes thread s v
 over_between {M} plan fits passes thread v s h over = by s.trial h.at
   where
@@ -88,7 +88,7 @@ pub record IsReopened (plan : Plan) (passes : ℕ) (rs : List Record) (v : View)
   pub draws : draws_of plan ≤ v.draws
   pub alone : passes ≡ 1 → AbortsNone [] rs
 
-module _ {M : Type 0} (plan : Plan) (fits : ℕ → Place → M → View → View → Type 0) (c : Core) (seats : List (Seat M))
+module _ {M : Type 0} (plan : Plan) (fits : ℕ → TransactionPlace → M → View → View → Type 0) (c : Core) (seats : List (Seat M))
     (h : AreSeated plan fits c seats) (over : AreOver (length seats) seats) where
   have_rested : HaveRested records_of plan (length c.statuses) (draws_of plan) 0 c.views seats
   have_rested = all_rested records_of plan (length c.statuses) (draws_of plan) 0 c.views seats h.views (λ i s at.

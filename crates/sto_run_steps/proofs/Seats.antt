@@ -7,7 +7,7 @@ use Rattle.std.proofs.lemmas.Option.{slice_get_within, get_or_from_slice_get, sl
 use Rattle.sto_core.specs.declared.view.View.{View}
 use Rattle.sto_core.specs.Core.{Core}
 use Rattle.sto_plain.specs.Passes.{view_of, IsSame}
-use Rattle.sto_run_threads.specs.Orders.{Place, count_in}
+use Rattle.sto_run_threads.specs.Orders.{TransactionPlace, count_in}
 use Rattle.sto_history.specs.Records.{Record, is_abort}
 use Rattle.sto_run_steps.specs.Counts.{attempts_left, events_left}
 use Rattle.sto_run_steps.specs.Stepped.{HasMadeOne}
@@ -54,7 +54,7 @@ pub all_events : {M : Type 0} (left : M → ℕ) (most : ℕ) (s : Seat M) (o : 
 all_events {M} left most s o trial is h = subst (λ (x : Option M). events_with left most s x ≤ events_of left most s) is h
 
 -- an attempt has ended
-pub seat_kept : {M : Type 0} (plan : Plan) (fits : ℕ → Place → M → View → View → Type 0) (passes thread : ℕ) (v w : View) (s later : Seat M) (r : Record)
+pub seat_kept : {M : Type 0} (plan : Plan) (fits : ℕ → TransactionPlace → M → View → View → Type 0) (passes thread : ℕ) (v w : View) (s later : Seat M) (r : Record)
     → s.count ≡ count_in plan.file.threads thread → s.tries ≡ plan.tries → (s.ended < s.count) × (1 ≤ s.left)
     → BetweenAt plan passes thread s v → HasMadeOne plan passes (thread, s.ended + 1) v w r
     → later.trial ≡ None → HasKept r s later → IsSeated plan fits passes thread w later
@@ -131,7 +131,7 @@ set_other xs i j y x other at =
     slice_get-get_or xs j x (omega (arith, within, long)) ∙ ap Some (sym (get_or-set_other xs i j y x other) ∙ get_or_from_slice_get (set xs i y) j x x at)
 
 -- A step of one pass leaves the other threads as they are.
-pub seated_after : {M : Type 0} (plan : Plan) (fits : ℕ → Place → M → View → View → Type 0) (c d : Core) (seats : List (Seat M)) (thread : ℕ) (later : Seat M)
+pub seated_after : {M : Type 0} (plan : Plan) (fits : ℕ → TransactionPlace → M → View → View → Type 0) (c d : Core) (seats : List (Seat M)) (thread : ℕ) (later : Seat M)
     → AreSeated plan fits c seats → IsSame c thread d thread → IsSeated plan fits (length c.statuses) thread (view_of d thread) later
     → AreSeated plan fits d (set seats thread later)
 seated_after {M} plan fits c d seats thread later h same mine = record {
@@ -150,7 +150,7 @@ seated_after {M} plan fits c d seats thread later h same mine = record {
 }
 
 -- The same, where the pass steps apart from the seats.
-pub turned : {M : Type 0} (plan : Plan) (fits : ℕ → Place → M → View → View → Type 0) (c d a b : Core) (i j : ℕ) (seats : List (Seat M)) (thread : ℕ) (later : Seat M)
+pub turned : {M : Type 0} (plan : Plan) (fits : ℕ → TransactionPlace → M → View → View → Type 0) (c d a b : Core) (i j : ℕ) (seats : List (Seat M)) (thread : ℕ) (later : Seat M)
     → a ≡ c → i ≡ thread → d ≡ b → AreSeated plan fits c seats → IsSame a i b j → IsSeated plan fits (length a.statuses) thread (view_of b j) later
     → AreSeated plan fits d (set seats thread later)
 turned {M} plan fits c d a b i j seats thread later words pass back h same mine =

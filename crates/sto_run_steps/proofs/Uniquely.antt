@@ -13,7 +13,7 @@ use Rattle.sto_attempt_log.specs.Doing.{Doing, begun, event_next, heard_in, Does
 use Rattle.sto_attempt_log.specs.declared.verdict.Verdict.{Verdict}
 use Rattle.sto_attempt_log.proofs.Doings.{steps_once}
 use Rattle.sto_history.specs.Records.{Record}
-use Rattle.sto_run_threads.specs.Orders.{Place, numbers_from, transaction_at}
+use Rattle.sto_run_threads.specs.Orders.{TransactionPlace, numbers_from, transaction_at}
 use Rattle.sto_run_threads.specs.Plans.{Plan}
 use Rattle.sto_run_steps.specs.Turning.{entry_turns}
 use Rattle.sto_run_steps.specs.Scheduled.{Thread, Made, Scene, StepsOn, MakesOf, Makes, Passes, TurnsBy, RoundsBy, EndsIn, RunsEach, StepsBy, first_scene, places_left, sat, doing_of, heard_of, record_of, is_over, are_over}
@@ -118,7 +118,7 @@ module _ (plan : Plan) (valid : Validity) where
         ]
       ]
 
-  pub each_once : (places : List Place) (c d e : Core) (rs ss : List Record) → RunsEach plan valid places c d rs → RunsEach plan valid places c e ss → (d ≡ e) × (rs ≡ ss)
+  pub each_once : (places : List TransactionPlace) (c d e : Core) (rs ss : List Record) → RunsEach plan valid places c d rs → RunsEach plan valid places c e ss → (d ≡ e) × (rs ≡ ss)
   each_once [] c d e rs ss h k = (h.0 ∙ sym k.0, h.1 ∙ sym k.1)
   each_once (place ∷ places) c d e rs ss h k =
       let script : k.0 ≡ h.0 = same_script k.0 h.0 (sym k.1 ∙ h.1) in

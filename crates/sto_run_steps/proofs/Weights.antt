@@ -4,7 +4,7 @@ use Rattle.std.proofs.Common.{◌≡◌, ℕ, zero, suc, ◌≤◌, List, [], �
 use Rattle.std.proofs.lemmas.List.Sums.{sum_by-cons}
 use Rattle.sto_lang.specs.Drafts.{weight_total}
 use Rattle.sto_lang.specs.Scripts.{Script, File}
-use Rattle.sto_run_threads.specs.Orders.{Place, at_position, transaction_at}
+use Rattle.sto_run_threads.specs.Orders.{TransactionPlace, at_position, transaction_at}
 
 within_scripts : (scripts : List Script) (n : ℕ) (s : Script) → slice_get scripts n ≡ Some s → s.weight ≤ sum_by (λ (x : Script). x.weight) scripts
 within_scripts [] n s e = absurd cc
@@ -21,5 +21,5 @@ within_threads (x ∷ ts) zero (suc p) s e =
 within_threads (x ∷ ts) (suc t) p s e =
     let k = sum_by-cons (λ (y : List Script). sum_by (λ (z : Script). z.weight) y) x ts in let r = within_threads ts t p s e in omega (arith, k, r)
 
-pub weighs_within : (file : File) (place : Place) (s : Script) → transaction_at file place ≡ Some s → s.weight ≤ weight_total file.threads
+pub weighs_within : (file : File) (place : TransactionPlace) (s : Script) → transaction_at file place ≡ Some s → s.weight ≤ weight_total file.threads
 weighs_within file place s e = within_threads file.threads place.0 place.1 s e

@@ -4,7 +4,7 @@ use Rattle.sto_part.specs.declared.NoMemory.{NoMemory}
 use Rattle.sto_part.specs.declared.naming.Naming as naming
 use Rattle.sto_core.specs.declared.cells.Cells as cells
 use Rattle.sto_core.specs.declared.view.View.{View}
-use Rattle.sto_run_threads.specs.Orders.{Place}
+use Rattle.sto_run_threads.specs.Orders.{TransactionPlace}
 use Rattle.sto_run_threads.specs.Plans.{Plan}
 use Rattle.sto_run_steps.specs.Stepped.{HasStepped}
 use Rattle.sto_run_steps.specs.Turning.{AnEvent}
@@ -14,7 +14,7 @@ use Rattle.sto_run_steps.specs.declared.attempts.Stepped.{Stepped}
 abbrev pub MakesEvent : {T C : Type 0} → naming.Ghosts T → cells.Ghosts C T → C → C → Type 0
 MakesEvent n c here there = AnEvent n.valid (c.passes here) (c.view here) (c.view there)
 
-module _ {C T M : Type 0} (c : cells.Ghosts C T) (fits : ℕ → Place → M → View → View → Type 0) (place : Place) where
+module _ {C T M : Type 0} (c : cells.Ghosts C T) (fits : ℕ → TransactionPlace → M → View → View → Type 0) (place : TransactionPlace) where
   -- the attempt has led to the view of the pass
   abbrev pub MayStep : M → C → Type 0
   MayStep trial here = (begun : View) × fits (c.passes here) place trial begun (c.view here)

@@ -5,7 +5,7 @@ use Rattle.std.specs.List.{flat_map}
 use Rattle.sto_lang.specs.Scripts.{Script}
 use Rattle.sto_lang.specs.declared.file.Turns.{Turns}
 use Rattle.sto_script.specs.Meaning.{meaning_of}
-use Rattle.sto_model.specs.Told.{Told}
+use Rattle.sto_model.specs.PlainReplies.{PlainReply}
 use Rattle.sto_core.specs.Core.{Core}
 use Rattle.sto_core.specs.Event.{Event}
 use Rattle.sto_core.specs.History.{Validity}
@@ -16,7 +16,7 @@ use Rattle.sto_attempt_log.specs.Doing.{Doing, begun, event_next, heard_in, Does
 use Rattle.sto_attempt_log.specs.declared.verdict.Verdict.{Verdict}
 use Rattle.sto_history.specs.Records.{Record, is_abort}
 use Rattle.sto_transaction.specs.Plain.{verdict}
-use Rattle.sto_run_threads.specs.Orders.{Place, transaction_at, count_in, numbers_from}
+use Rattle.sto_run_threads.specs.Orders.{TransactionPlace, transaction_at, count_in, numbers_from}
 use Rattle.sto_run_threads.specs.Plans.{Plan, thread_count}
 use Rattle.sto_run_steps.specs.Turning.{entry_turns}
 
@@ -50,11 +50,11 @@ doing_of None = begun
 doing_of (Some doing) = doing
 
 -- what its calls were answered so far
-abbrev pub heard_of : Option Doing → List Told
+abbrev pub heard_of : Option Doing → List PlainReply
 heard_of trial = heard_in (doing_of trial)
 
 -- the record of an attempt that has ended
-abbrev pub record_of : Place → Doing → Verdict → Record
+abbrev pub record_of : TransactionPlace → Doing → Verdict → Record
 record_of place later end = record { place = place; replies = heard_in later; verdict = verdict end }
 
 -- the thread after a step of its attempt: it goes on; or it has ended, with the transaction or with one try
@@ -74,7 +74,7 @@ pub record Made : Type 0 where
   pub event : Event
   pub number : ℕ
   pub value : ℤ
-  pub replies : List Told
+  pub replies : List PlainReply
   pub end : Option Verdict
 
 -- where a run stands: the words and views, the threads, and the events so far
@@ -146,14 +146,14 @@ module _ (plan : Plan) (valid : Validity) where
       × (((events ≡ 0) × (o ≡ Some end) × (d ≡ e) × (later ≡ next)) ⊎ ((o ≡ None) × EndsIn events f next e d later end))
 
   -- the transactions at these places are run one after the other, each by one attempt
-  abbrev pub RunsEach : List Place → Core → Core → List Record → Type 0
+  abbrev pub RunsEach : List TransactionPlace → Core → Core → List Record → Type 0
   RunsEach [] c d rs = (d ≡ c) × (rs ≡ [])
   RunsEach (place ∷ places) c d rs =
       (f : Script) × (transaction_at plan.file place ≡ Some f) × (events : ℕ) × (e : Core) × (later : Doing) × (end : Verdict) × EndsIn events f begun c e later end
       × (others : List Record) × RunsEach places e d others × (rs ≡ record_of place later end ∷ others)
 
   -- the transactions that threads from a number on have not ended
-  abbrev pub places_left : ℕ → List Thread → List Place
+  abbrev pub places_left : ℕ → List Thread → List TransactionPlace
   places_left first [] = []
   places_left first (s ∷ ss) =
       map (λ (position : ℕ). (first, position)) (numbers_from (s.ended + 1) (count_in plan.file.threads first - s.ended)) ++ places_left (suc first) ss

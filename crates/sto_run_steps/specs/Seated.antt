@@ -3,7 +3,7 @@ use Rattle.std.specs.Prelude.{◌≡◌, ◌≤◌, ◌<◌, ◌^◌, ◌⊎◌,
 use Rattle.sto_core.specs.declared.view.View.{View}
 use Rattle.sto_core.specs.Core.{Core}
 use Rattle.sto_plain.specs.Passes.{view_of}
-use Rattle.sto_run_threads.specs.Orders.{Place, count_in}
+use Rattle.sto_run_threads.specs.Orders.{TransactionPlace, count_in}
 use Rattle.sto_history.specs.Records.{Record, is_abort, times_written}
 use Rattle.sto_history.specs.Counted.{times_committed, aborted_times}
 use Rattle.sto_run_threads.specs.Plans.{Plan, Rests, draws_of}
@@ -27,7 +27,7 @@ pub record IsBetween (plan : Plan) (passes thread ended left : ℕ) (rs : List R
   pub spared : HasSpared plan.tries thread rs
   pub draws : draws_of plan + attempts_left plan.tries left (count_in plan.file.threads thread - ended) ≤ v.draws
   -- beside no other pass none was aborted
-  pub alone : passes ≡ 1 → (place : Place) → aborted_times place rs ≡ 0
+  pub alone : passes ≡ 1 → (place : TransactionPlace) → aborted_times place rs ≡ 0
 
 -- within an attempt: that of the view before it, which had a transaction and a try left, and where the attempt has led
 pub record IsWithin {M : Type 0} (plan : Plan) (passes thread ended left : ℕ) (rs : List Record) (fits : M → View → View → Type 0) (trial : M) (v : View) : Type 0 where
@@ -54,11 +54,11 @@ records_of s = told_in s.records
 abbrev pub BetweenAt : {M : Type 0} → Plan → (passes thread : ℕ) → Seat M → View → Type 0
 BetweenAt plan passes thread s = IsBetween plan passes thread s.ended s.left (records_of s)
 
-abbrev pub WithinAt : {M : Type 0} → Plan → (ℕ → Place → M → View → View → Type 0) → (passes thread : ℕ) → Seat M → M → View → Type 0
+abbrev pub WithinAt : {M : Type 0} → Plan → (ℕ → TransactionPlace → M → View → View → Type 0) → (passes thread : ℕ) → Seat M → M → View → Type 0
 WithinAt plan fits passes thread s = IsWithin plan passes thread s.ended s.left (records_of s) (fits passes (thread, s.ended + 1))
 
 -- the thread at this seat, by the view of its pass
-pub record IsSeated {M : Type 0} (plan : Plan) (fits : ℕ → Place → M → View → View → Type 0) (passes thread : ℕ) (v : View) (s : Seat M) : Type 0 where
+pub record IsSeated {M : Type 0} (plan : Plan) (fits : ℕ → TransactionPlace → M → View → View → Type 0) (passes thread : ℕ) (v : View) (s : Seat M) : Type 0 where
   pub counted : s.count ≡ count_in plan.file.threads thread
   pub each : s.tries ≡ plan.tries
   pub within : s.ended ≤ s.count
@@ -91,7 +91,7 @@ abbrev pub IsOver : {M : Type 0} → Seat M → Type 0
 IsOver s = (s.ended ≡ s.count) ⊎ (s.left ≡ 0)
 
 -- the threads at these seats, each with a pass over the same words
-pub record AreSeated {M : Type 0} (plan : Plan) (fits : ℕ → Place → M → View → View → Type 0) (c : Core) (seats : List (Seat M)) : Type 0 where
+pub record AreSeated {M : Type 0} (plan : Plan) (fits : ℕ → TransactionPlace → M → View → View → Type 0) (c : Core) (seats : List (Seat M)) : Type 0 where
   pub views : length c.views ≡ length seats
   pub statuses : length c.statuses ≡ length seats
   pub few : length seats < 2 ^ 32

@@ -2,11 +2,11 @@
 use Rattle.std.specs.Prelude.{◌≤◌, ◌<◌, ℕ, List, length, Option}
 use Rattle.sto_part.specs.Listed.{Listed}
 use Rattle.sto_part.specs.declared.naming.Naming as naming
-use Rattle.sto_model.specs.Told.{Told}
+use Rattle.sto_model.specs.PlainReplies.{PlainReply}
 use Rattle.sto_core.specs.declared.cells.Cells as cells
 use Rattle.sto_core.specs.declared.view.View.{View}
 use Rattle.sto_trace.specs.declared.Step.{Step}
-use Rattle.sto_run_threads.specs.Orders.{Place}
+use Rattle.sto_run_threads.specs.Orders.{TransactionPlace}
 use Rattle.sto_run_threads.specs.Plans.{Plan}
 use Rattle.sto_run_steps.specs.Seated.{AreSeated, HaveFewer, IsSeated, IsIn, WithinAt, events_of, events_with}
 use Rattle.sto_run_steps.specs.Turning.{HasTurn, TakeTurns, round_turns}
@@ -19,10 +19,10 @@ abbrev pub OfAttempts : Type 0 → Type 0 → Type 1
 OfAttempts W M = record {
   plan : W → Plan;
   ready : W → Type 0;
-  fits : W → ℕ → Place → M → View → View → Type 0;
+  fits : W → ℕ → TransactionPlace → M → View → View → Type 0;
   left : W → M → ℕ;
   most : W → ℕ;
-  heard : W → M → List Told;
+  heard : W → M → List PlainReply;
 }
 
 -- n and a are what the traits of the type and of the work say

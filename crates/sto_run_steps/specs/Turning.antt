@@ -2,19 +2,19 @@
 use Rattle.std.specs.Prelude.{◌≡◌, ◌⊎◌, ℕ, zero, suc, max, ℤ, List, [], ◌∷◌, ◌++◌, length, replicate, slice_get, slice_set, Some}
 use Rattle.std.specs.List.{flat_map}
 use Rattle.sto_lang.specs.declared.file.Turns.{Turns}
-use Rattle.sto_model.specs.Told.{Told}
+use Rattle.sto_model.specs.PlainReplies.{PlainReply}
 use Rattle.sto_core.specs.declared.view.View.{View}
 use Rattle.sto_core.specs.Core.{Core}
 use Rattle.sto_core.specs.Event.{Event}
 use Rattle.sto_core.specs.History.{Validity}
 use Rattle.sto_plain.specs.Passes.{view_of, IsSame, Steps}
-use Rattle.sto_run_threads.specs.Orders.{Place, numbers_from}
+use Rattle.sto_run_threads.specs.Orders.{TransactionPlace, numbers_from}
 use Rattle.sto_history.specs.Records.{Record}
 use Rattle.sto_transaction.specs.Answers.{OneEvent}
 use Rattle.sto_run_threads.specs.Plans.{Plan, thread_count}
 use Rattle.sto_run_threads.specs.Worked.{AbortsNone}
 use Rattle.sto_run_steps.specs.Seated.{AreNew, AreSeated, AreOver, IsOverAt, records_of}
-use Rattle.sto_run_steps.specs.Logged.{Log, HasLogged, IsStep}
+use Rattle.sto_run_steps.specs.Logged.{RunLog, HasLogged, IsStep}
 use Rattle.sto_run_steps.specs.declared.seat.Seat.{Seat}
 
 -- exactly one event leads from a view of a pass to the next
@@ -30,7 +30,7 @@ pub record AStep (valid : Validity) (c : Core) (pass : ℕ) (d : Core) : Type 0 
 
 -- a thread that is not over has made exactly one event, on its own pass. Other passes and other threads are as they were. Where steps are
 -- kept, it is the next one
-pub record MakesOne {M : Type 0} (valid : Validity) (heard : M → List Told) (thread : ℕ) (c : Core) (seats : List (Seat M)) (log : Log) (d : Core) (later : List (Seat M)) (next : Log) : Type 0 where
+pub record MakesOne {M : Type 0} (valid : Validity) (heard : M → List PlainReply) (thread : ℕ) (c : Core) (seats : List (Seat M)) (log : RunLog) (d : Core) (later : List (Seat M)) (next : RunLog) : Type 0 where
   pub going : IsOverAt thread seats → ⊥
   pub event : AnEvent valid (length c.statuses) (view_of c thread) (view_of d thread)
   pub passes : IsSame c thread d thread
@@ -43,18 +43,18 @@ pub record MakesOne {M : Type 0} (valid : Validity) (heard : M → List Told) (t
   pub logged : HasLogged (IsStep valid (length c.statuses) heard thread (view_of c thread) before (view_of d thread) seat) log next
 
 -- a turn of a thread: it makes one event, or is over and makes none
-abbrev pub HasTurn : {M : Type 0} → Validity → (M → List Told) → ℕ → Core → List (Seat M) → Log → Core → List (Seat M) → Log → Type 0
+abbrev pub HasTurn : {M : Type 0} → Validity → (M → List PlainReply) → ℕ → Core → List (Seat M) → RunLog → Core → List (Seat M) → RunLog → Type 0
 HasTurn valid heard thread c seats log d later next =
     MakesOne valid heard thread c seats log d later next ⊎ (IsOverAt thread seats × (d ≡ c) × (later ≡ seats) × (next ≡ log))
 
 -- turns of these threads, one after the other
-abbrev pub HaveTurns : {M : Type 0} → Validity → (M → List Told) → List ℕ → Core → List (Seat M) → Log → Core → List (Seat M) → Log → Type 0
+abbrev pub HaveTurns : {M : Type 0} → Validity → (M → List PlainReply) → List ℕ → Core → List (Seat M) → RunLog → Core → List (Seat M) → RunLog → Type 0
 HaveTurns valid heard [] c seats log d later next = (d ≡ c) × (later ≡ seats) × (next ≡ log)
 HaveTurns {M} valid heard (thread ∷ threads) c seats log d later next =
-    (e : Core) × (middle : List (Seat M)) × (kept : Log) × HasTurn valid heard thread c seats log e middle kept × HaveTurns valid heard threads e middle kept d later next
+    (e : Core) × (middle : List (Seat M)) × (kept : RunLog) × HasTurn valid heard thread c seats log e middle kept × HaveTurns valid heard threads e middle kept d later next
 
 -- the same, where all threads were at their seats and still are
-pub record TakeTurns {M : Type 0} (plan : Plan) (fits : ℕ → Place → M → View → View → Type 0) (valid : Validity) (heard : M → List Told) (threads : List ℕ) (c : Core) (seats : List (Seat M)) (log : Log) (d : Core) (later : List (Seat M)) (next : Log) : Type 0 where
+pub record TakeTurns {M : Type 0} (plan : Plan) (fits : ℕ → TransactionPlace → M → View → View → Type 0) (valid : Validity) (heard : M → List PlainReply) (threads : List ℕ) (c : Core) (seats : List (Seat M)) (log : RunLog) (d : Core) (later : List (Seat M)) (next : RunLog) : Type 0 where
   pub turns : HaveTurns valid heard threads c seats log d later next
   pub seated : AreSeated plan fits d later
   pub many : length later ≡ length seats
@@ -72,7 +72,7 @@ round_turns threads (suc rounds) = round_turns threads rounds ++ numbers_from 0 
 -- rounds of turns until all were over; they are at their seats then too. Each thread made a record for each start of its pass; these are the
 -- first of the records, and none of the others is aborted. Where steps were kept from the first on, the last log has those of all these turns
 -- in their order
-pub record WereStepped {M : Type 0} (plan : Plan) (fits : ℕ → Place → M → View → View → Type 0) (valid : Validity) (heard : M → List Told) (schedule : List Turns) (opened : Core) (first : Log) (rs : List Record) (last : Log) : Type 0 where
+pub record WereStepped {M : Type 0} (plan : Plan) (fits : ℕ → TransactionPlace → M → View → View → Type 0) (valid : Validity) (heard : M → List PlainReply) (schedule : List Turns) (opened : Core) (first : RunLog) (rs : List Record) (last : RunLog) : Type 0 where
   pub seats : List (Seat M)
   -- one for each script thread, and one where there is none
   pub many : length seats ≡ max 1 (thread_count plan)

@@ -1,8 +1,8 @@
 //! Attempts of transactions that are made event by event.
 ghost use Rattle.std.specs.Prelude.{◌≡◌, ◌≤◌, ℕ, List, IfOk, option_copied};
-ghost use Rattle.sto_model.specs.Told.{Told};
+ghost use Rattle.sto_model.specs.PlainReplies.{PlainReply};
 ghost use Rattle.sto_core.specs.declared.view.View.{View};
-ghost use Rattle.sto_run_threads.specs.Orders.{Place};
+ghost use Rattle.sto_run_threads.specs.Orders.{TransactionPlace};
 ghost use Rattle.sto_run_threads.specs.Plans.{MayDraw};
 ghost use Rattle.sto_run_threads.specs.Ran.{IsTransaction};
 ghost use Rattle.sto_run_steps.specs.Leading.{MayStep, MakesEvent, Steps};
@@ -14,7 +14,7 @@ use sto_core::Cells;
 use sto_model::Replies;
 use sto_part::{Naming, NoMemory};
 use sto_run_threads::Work;
-use sto_transaction::Memory;
+use sto_transaction::AttemptLists;
 
 /// Where a step has led an attempt.
 #[derive(Drop)]
@@ -30,7 +30,7 @@ pub enum Stepped {
 /// Many attempts may run side by side, each on a pass of its own.
 pub trait Attempts<T: Naming, M>: Work<T> {
     /// On words with so many passes, the machine of an attempt of this transaction, which began at the first view, has led to the second.
-    ghost fits: { Self → ℕ → Place → M → View → View → Type 0 };
+    ghost fits: { Self → ℕ → TransactionPlace → M → View → View → Type 0 };
 
     /// How many events are left at most.
     ghost left: { Self → M → ℕ };
@@ -39,7 +39,7 @@ pub trait Attempts<T: Naming, M>: Work<T> {
     ghost most: { Self → ℕ };
 
     /// What the calls of an attempt have been answered so far.
-    ghost heard: { Self → M → List Told };
+    ghost heard: { Self → M → List PlainReply };
 
     /// How many attempts of a transaction may be aborted.
     fn most_tries(&self) -> u32
@@ -51,7 +51,7 @@ pub trait Attempts<T: Naming, M>: Work<T> {
         alloc: Global,
         thread: u32,
         position: u32,
-        memory: &mut Memory,
+        memory: &mut AttemptLists,
     ) -> Result<M, NoMemory>
         requires ready { Self.ready self.now }
         requires there { IsTransaction (Self.plan self.now).file (thread, position) }
@@ -68,7 +68,7 @@ pub trait Attempts<T: Naming, M>: Work<T> {
         thread: u32,
         position: u32,
         cells: &mut C,
-        memory: &mut Memory,
+        memory: &mut AttemptLists,
     ) -> Result<Stepped, NoMemory>
         requires { MayStep C.Cells (fits self.now) (thread, position) trial.old cells.old }
         ensures same { C.same cells.old cells.new }

@@ -11,7 +11,7 @@ ghost use Rattle.sto_run_steps.specs.Logged.{kept};
 ghost use Rattle.sto_run_steps.specs.Turning.{WereStepped};
 
 use crate::attempts::Attempts;
-use crate::log::Log;
+use crate::log::RunLog;
 use crate::seat::Seat;
 use crate::spare::Spare;
 use crate::stage::Stage;
@@ -76,7 +76,7 @@ fn open<T: Naming, M: Drop, W: Attempts<T, M>>(
     alloc: Global,
     ty: &T,
     contents: &Contents,
-    log: Log,
+    log: RunLog,
     spare: &mut Spare,
 ) -> Result<Stage<T, M>, NoMemory>
     requires opens { Opens (W.plan work.now) T.valid (T.sizes ty.now) contents.now.items }
@@ -181,9 +181,9 @@ fn log_threads<T: Naming, M: Drop, W: Attempts<T, M>>(
     ty: &T,
     contents: &Contents,
     schedule: &[Turns],
-    log: Log,
+    log: RunLog,
     spare: &mut Spare,
-) -> Result<(FinishedRun<T>, Log), NoMemory>
+) -> Result<(FinishedRun<T>, RunLog), NoMemory>
     requires ready { W.ready work.now }
     requires opens { Opens (W.plan work.now) T.valid (T.sizes ty.now) contents.now.items }
     requires threads { thread_count (W.plan work.now) ≤ 65536 }

@@ -3,15 +3,15 @@ ghost use Rattle.std.specs.Prelude.{◌≡◌, ◌≤◌, ◌<◌, ◌+◌, ◌�
 ghost use Rattle.sto_run_threads.specs.Plans.{transaction_count};
 
 use crate::attempts::{Attempts, Stepped};
-use crate::log::{Log, with_step};
-use std::mem;
+use crate::log::{RunLog, with_step};
 use std::alloc::Global;
+use std::mem;
 use sto_attempt::Verdict;
 use sto_core::Cells;
 use sto_model::Replies;
 use sto_part::{List, Naming, NoMemory};
 use sto_trace::{Deed, Noting, Step, replies_past};
-use sto_transaction::{Memory, Record};
+use sto_transaction::{AttemptLists, Record};
 
 /// A script thread, of whose transactions the first so many have ended.
 #[derive(Drop)]
@@ -29,7 +29,7 @@ pub(crate) struct Seat<M> {
     /// Of the attempts that have ended.
     pub(crate) records: Vec<Record>,
     /// What the attempts are lent, one after the other.
-    memory: Memory,
+    memory: AttemptLists,
 }
 
 impl<M: Drop> Seat<M> {
@@ -40,7 +40,7 @@ impl<M: Drop> Seat<M> {
     ghost use Rattle.sto_run_steps.specs.Logged.{answered, kept, heard_before, heard_after, end_after, last_record, HasLogged, IsLast};
 
     /// A thread with so many transactions, of which none has begun, and the memory that its attempts are lent.
-    pub(crate) fn new(alloc: Global, count: u32, tries: u32, memory: Memory) -> Seat<M>
+    pub(crate) fn new(alloc: Global, count: u32, tries: u32, memory: AttemptLists) -> Seat<M>
         ensures { IsNew count tries result }
     {
         Seat {
@@ -62,7 +62,7 @@ impl<M: Drop> Seat<M> {
     }
 
     /// The records of its attempts, and the memory that they were lent.
-    pub(crate) fn into_parts(self) -> (Vec<Record>, Memory)
+    pub(crate) fn into_parts(self) -> (Vec<Record>, AttemptLists)
         ensures { result.0 ≡ self.records }
     {
         let Seat {
@@ -80,7 +80,7 @@ impl<M: Drop> Seat<M> {
         alloc: Global,
         thread: u32,
         pass: &mut Noting<C>,
-        log: &mut Log,
+        log: &mut RunLog,
     ) -> Result<(), NoMemory>
         requires ready { W.ready work.now }
         requires seated { SitsAt W.Attempts C.Cells work.now pass.old.cells thread self.old }

@@ -1,18 +1,18 @@
 //! What one run after the other is lent.
 ghost use Rattle.std.specs.Prelude.{◌≡◌, []};
 
-use std::mem;
 use std::alloc::Global;
+use std::mem;
 use sto_part::{List, NoMemory};
 use sto_trace::Steps;
-use sto_transaction::Memory;
+use sto_transaction::AttemptLists;
 
 /// What a run is lent, and leaves for the next one: memory for the attempts of its threads, and room for its steps.
 ///
 /// So of many runs only the first ones take much memory. Contracts see nothing of it.
 #[derive(Drop)]
 pub struct Spare {
-    memories: Vec<Memory>,
+    memories: Vec<AttemptLists>,
     // Cleared when they are taken.
     steps: Steps,
 }
@@ -26,15 +26,15 @@ impl Spare {
         }
     }
 
-    /// Memory for the attempts of one thread.
-    pub(crate) fn take_memory(&mut self, alloc: Global) -> Memory {
+    /// AttemptLists for the attempts of one thread.
+    pub(crate) fn take_memory(&mut self, alloc: Global) -> AttemptLists {
         match self.memories.pop() {
             Some(memory) => memory,
-            None => Memory::new(alloc),
+            None => AttemptLists::new(alloc),
         }
     }
 
-    pub(crate) fn keep_memory(&mut self, memory: Memory) -> Result<(), NoMemory> {
+    pub(crate) fn keep_memory(&mut self, memory: AttemptLists) -> Result<(), NoMemory> {
         match self.memories.push(memory) {
             Ok(()) => Ok(()),
             Err(_) => Err(NoMemory),

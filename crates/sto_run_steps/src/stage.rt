@@ -4,7 +4,7 @@ ghost use Rattle.std.specs.List.{All, flat_map};
 ghost use Rattle.sto_run_threads.specs.Orders.{numbers_from};
 
 use crate::attempts::Attempts;
-use crate::log::Log;
+use crate::log::RunLog;
 use crate::seat::Seat;
 use std::alloc::Global;
 use sto_lang::Turns;
@@ -18,7 +18,7 @@ pub(crate) struct Stage<T: Naming, M> {
     /// The pass of the thread that had the last turn, over all words.
     pub(crate) pass: Noting<At<T>>,
     pub(crate) seats: Vec<Seat<M>>,
-    pub(crate) log: Log,
+    pub(crate) log: RunLog,
 }
 
 impl<T: Naming, M: Drop> Stage<T, M> {

@@ -12,15 +12,15 @@ use std::alloc::Global;
 use sto_core::Cells;
 use sto_model::Replies;
 use sto_part::NoMemory;
-use sto_run_threads::{FileWork, Gate, LentFile, Work};
+use sto_run_threads::{BorrowedFile, FileWork, Gate, Work};
 use sto_script::ScriptBody;
-use sto_transaction::{Ended, Machine, Memory, Record};
+use sto_transaction::{AttemptLists, FinishedAttempt, Machine, Record};
 use sto_type::TxType;
 
 /// The work of a file that stands in memory, to be made event by event.
 #[derive(Drop)]
 pub struct SteppedWork<'w, T: TxType, G: Gate> {
-    pub work: &'w FileWork<'w, LentFile<'w>, T, G>,
+    pub work: &'w FileWork<'w, BorrowedFile<'w>, T, G>,
 }
 
 impl<T: TxType, G: Gate> Work<T> for SteppedWork<'_, T, G> {
@@ -42,7 +42,7 @@ impl<T: TxType, G: Gate> Work<T> for SteppedWork<'_, T, G> {
         cells: &mut C,
         thread: u32,
         position: u32,
-        memory: &mut Memory,
+        memory: &mut AttemptLists,
         records: &mut Vec<Record>,
     ) -> Result<bool, NoMemory> {
         self.work
@@ -69,7 +69,7 @@ impl<'w, T: TxType, G: Gate> Attempts<T, Machine<'w, T, ScriptBody<'w>>> for Ste
         alloc: Global,
         thread: u32,
         position: u32,
-        memory: &mut Memory,
+        memory: &mut AttemptLists,
     ) -> Result<Machine<'w, T, ScriptBody<'w>>, NoMemory> {
         let work = self.work;
         let file = work.workload.file;
@@ -85,17 +85,17 @@ impl<'w, T: TxType, G: Gate> Attempts<T, Machine<'w, T, ScriptBody<'w>>> for Ste
         _thread: u32,
         _position: u32,
         cells: &mut C,
-        memory: &mut Memory,
+        memory: &mut AttemptLists,
     ) -> Result<Stepped, NoMemory> {
         match trial.step(alloc, cells, memory)? {
             None => Ok(Stepped::More),
             Some(end) => {
-                let Ended {
+                let FinishedAttempt {
                     replies,
                     verdict,
                     ..
                 } = end;
-                Ok(Stepped::Ended { replies, verdict })
+                Ok(Stepped::FinishedAttempt { replies, verdict })
             }
         }
     }

@@ -2,7 +2,7 @@
 use Rattle.std.proofs.Common.{◌≡◌, ℕ, zero, suc, ◌+◌, ◌*◌, ◌≤◌, List, [], ◌∷◌, ◌++◌, map, take, drop, length, refl, sym, ap, ap₂, ◌∙◌, subst, arith, Bool}
 use Rattle.std.proofs.Math.Nat.{mul-add}
 use Rattle.std.proofs.lemmas.List.{length-append, map-append, take-append-drop}
-use Rattle.sto_model.specs.Run.{Script as Steps}
+use Rattle.sto_model.specs.Run.{Behaviour}
 use Rattle.sto_type.specs.Meaning.{Meaning}
 use Rattle.sto_core.specs.declared.view.View.{View}
 use Rattle.sto_core.specs.Gathered.{gathered_into}
@@ -11,7 +11,7 @@ use Rattle.sto_core.specs.Opened.{opening_draws}
 use Rattle.sto_core.specs.Reopened.{reopened_view}
 use Rattle.sto_core.specs.Rule.{total}
 use Rattle.sto_table.specs.Openings.{opened_down}
-use Rattle.sto_history.specs.Records.{Place, Record, times_written}
+use Rattle.sto_history.specs.Records.{TransactionPlace, Record, times_written}
 use Rattle.sto_history.specs.Counted.{times_committed}
 use Rattle.sto_history.proofs.Progress.{committed_append}
 use Rattle.sto_transaction.specs.Ran.{HasRun}
@@ -28,7 +28,7 @@ adds_up_through u v w qs rs ss h k = record {
 }
 
 -- a run of a transaction does
-pub run_adds_up : (m : Meaning) (sizes : List ℕ) (tries passes : ℕ) (v w : View) (f : Steps) (place : Place) (before later : List Record) (ended : Bool)
+pub run_adds_up : (m : Meaning) (sizes : List ℕ) (tries passes : ℕ) (v w : View) (f : Behaviour) (place : TransactionPlace) (before later : List Record) (ended : Bool)
     → HasRun m sizes tries passes v w f place before later ended → AddsUp v w before later
 run_adds_up m sizes tries passes v w f place before later ended h =
     subst (λ (l : List Record). AddsUp v w before l) (sym h.whole) (record {

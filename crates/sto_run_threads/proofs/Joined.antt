@@ -9,7 +9,7 @@ use Rattle.sto_core.specs.declared.view.View.{View}
 use Rattle.sto_core.specs.Lists.{Each, weight}
 use Rattle.sto_core.specs.Gathered.{gathered_into}
 use Rattle.sto_table.specs.Taken.{times}
-use Rattle.sto_report_spec.specs.Orders.{Place, positions_of, numbers_from, count_in, IsOrder}
+use Rattle.sto_report_spec.specs.Orders.{TransactionPlace, positions_of, numbers_from, count_in, IsOrder}
 use Rattle.sto_history.specs.Records.{Record}
 use Rattle.sto_history.specs.Counted.{finished_places, aborted_times}
 use Rattle.sto_serializability.proofs.Chains.{Every, every}
@@ -46,7 +46,7 @@ none_of thread rs h = every (λ (r : Record). r.place.0 ≡ thread → ⊥) rs h
 pub none_has_ended : (thread : ℕ) (rs : List Record) → HasNone thread rs → ended_of thread rs ≡ 0
 none_has_ended thread rs h = ap length (none_ended thread rs (none_of thread rs h))
 
-pub none_was_aborted : (place : Place) (rs : List Record) → HasNone place.0 rs → aborted_times place rs ≡ 0
+pub none_was_aborted : (place : TransactionPlace) (rs : List Record) → HasNone place.0 rs → aborted_times place rs ≡ 0
 none_was_aborted place rs h =
     none_aborted place rs (every_weaker (λ (r : Record). r.place.0 ≡ place.0 → ⊥) (λ (r : Record). r.place.0 ≡ place.0 → r.place.1 ≡ place.1 → ⊥) (λ r no e g. no e) rs (none_of place.0 rs h))
 

@@ -5,7 +5,7 @@ use Rattle.std.proofs.Math.Nat.{add-mul, mul-le-mul_left}
 use Rattle.sto_lang.specs.Scripts.{Script, File}
 use Rattle.sto_type.specs.Meaning.{Meaning}
 use Rattle.sto_core.specs.declared.view.View.{View}
-use Rattle.sto_report_spec.specs.Orders.{Place, at_position, transaction_at}
+use Rattle.sto_report_spec.specs.Orders.{TransactionPlace, at_position, transaction_at}
 use Rattle.sto_transaction.specs.Pace.{most_steps, KeepsPace}
 use Rattle.sto_run_threads.specs.Counts.{heaviest_of, heaviest}
 
@@ -45,10 +45,10 @@ keeps_more few many v w l later h =
     let more : made * few ≤ made * many = mul-le-mul_left made l in
     omega (arith, by_few, by_many, more, h)
 
-pub weighs_most : (file : File) (place : Place) (s : Script) → transaction_at file place ≡ Some s → s.weight ≤ heaviest file.threads
+pub weighs_most : (file : File) (place : TransactionPlace) (s : Script) → transaction_at file place ≡ Some s → s.weight ≤ heaviest file.threads
 weighs_most file place s at = threads_weight file.threads place.0 place.1 s at
 
-pub paced_by : (m : Meaning) (file : File) (place : Place) (s : Script) → transaction_at file place ≡ Some s → (calls : ℕ) (v w : View) → calls ≤ s.weight → v.starts ≤ w.starts
+pub paced_by : (m : Meaning) (file : File) (place : TransactionPlace) (s : Script) → transaction_at file place ≡ Some s → (calls : ℕ) (v w : View) → calls ≤ s.weight → v.starts ≤ w.starts
     → KeepsPace (most_steps m calls) v w → KeepsPace (most_steps m (heaviest file.threads)) v w
 paced_by m file place s at calls v w few later h =
     let weight = weighs_most file place s at in

@@ -8,7 +8,7 @@ use Rattle.sto_lang.specs.declared.file.Thread.{Thread}
 use Rattle.sto_lang.specs.declared.file.File as whole
 use Rattle.sto_lang.specs.Scripts.{Script, File}
 use Rattle.sto_lang.specs.Views.{script, threads_of, file}
-use Rattle.sto_report_spec.specs.Orders.{Place, at_position, transaction_at, count_in}
+use Rattle.sto_report_spec.specs.Orders.{TransactionPlace, at_position, transaction_at, count_in}
 use Rattle.sto_run_threads.specs.Ran.{IsTransaction}
 
 count_where : (threads : List (List Script)) (t : ℕ) (scripts : List Script) → slice_get threads t ≡ Some scripts → count_in threads t ≡ length scripts
@@ -27,7 +27,7 @@ count_at threads t thread e = count_where (threads_of threads) t (map script thr
 -- the transaction that the code finds at a place
 pub at_place : (f : whole.File) (t p q : ℕ) (thread : Thread) (s : code.Script) → p ≡ suc q → slice_get f.threads.items t ≡ Some thread → slice_get thread.scripts.items q ≡ Some s → transaction_at (file f) (t, p) ≡ Some (script s)
 at_place f t p q thread s e g h =
-    ap (λ (n : ℕ). let place : Place = (t, n) in transaction_at (file f) place) e
+    ap (λ (n : ℕ). let place : TransactionPlace = (t, n) in transaction_at (file f) place) e
     ∙ ap (option_and_then (at_position (suc q))) (thread_where f.threads.items t thread g)
     ∙ slice_get-map script thread.scripts.items q
     ∙ ap (option_map script) h

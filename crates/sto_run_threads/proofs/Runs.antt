@@ -8,7 +8,7 @@ use Rattle.sto_lang.specs.Scripts.{Script, File}
 use Rattle.sto_script.specs.Meaning.{meaning_of}
 use Rattle.sto_type.specs.Meaning.{Meaning}
 use Rattle.sto_core.specs.declared.view.View.{View}
-use Rattle.sto_report_spec.specs.Orders.{Place, transaction_at, positions_of, numbers_from, count_in}
+use Rattle.sto_report_spec.specs.Orders.{TransactionPlace, transaction_at, positions_of, numbers_from, count_in}
 use Rattle.sto_history.specs.Records.{Record, is_abort}
 use Rattle.sto_history.specs.Counted.{finished_places, aborted_times}
 use Rattle.sto_history.specs.Added.{IsAdded, HasAdded}
@@ -27,13 +27,13 @@ use Rattle.sto_run_threads.specs.Plans.{Plan, pace_of, IsPaced}
 
 -- the new records are of the thread, and of the position after those that ended
 placed_up : (thread ended : ℕ) (r : Record) → r.place ≡ (thread, suc ended) → IsUpTo thread (suc ended) r
-placed_up thread ended r is own = let p = ap (λ (x : Place). x.1) is in (omega (arith, p), λ e. absurd (omega (arith, p, e)))
+placed_up thread ended r is own = let p = ap (λ (x : TransactionPlace). x.1) is in (omega (arith, p), λ e. absurd (omega (arith, p, e)))
 
 up_more : (thread ended : ℕ) (r : Record) → IsUpTo thread ended r → IsUpTo thread (suc ended) r
 up_more thread ended r up own = let p = (up own).0 in (omega (arith, p), λ e. absurd (omega (arith, p, e)))
 
 -- the place of the records that are added
-pub placed_all : (m : Meaning) (v w : View) (s : Script) (place : Place) (new : List Record)
+pub placed_all : (m : Meaning) (v w : View) (s : Script) (place : TransactionPlace) (new : List Record)
     → All (IsAdded m v w (meaning_of s) place) new → Every (λ (r : Record). r.place ≡ place) new
 placed_all m v w s place new h = every_weaker (IsAdded m v w (meaning_of s) place) (λ (r : Record). r.place ≡ place) (λ r a. a.placed) new (every (IsAdded m v w (meaning_of s) place) new h)
 
@@ -76,17 +76,17 @@ own_left file rs new thread h placed ends = (
 )
   where
     same : positions_of thread (finished_places (rs ++ new)) ≡ positions_of thread (finished_places rs)
-    same = positions_in thread rs new ∙ ap (λ (l : List Place). positions_of thread (finished_places rs) ++ positions_of thread l) ends ∙ append-nil (positions_of thread (finished_places rs))
+    same = positions_in thread rs new ∙ ap (λ (l : List TransactionPlace). positions_of thread (finished_places rs) ++ positions_of thread l) ends ∙ append-nil (positions_of thread (finished_places rs))
 
     count : ended_of thread (rs ++ new) ≡ ended_of thread rs
     count = ap length same
 
     aborts : (xs : List Record) → Every (λ (r : Record). r.place ≡ (thread, suc (ended_of thread rs))) xs → Every (λ (r : Record). is_abort r.verdict ≡ true) xs → Every (IsUpTo thread (ended_of thread rs)) xs
     aborts [] a b = tt
-    aborts (x ∷ xs) a b = ((λ own. (let p = ap (λ (y : Place). y.1) a.0 in omega (arith, p), λ e. b.0)), aborts xs a.1 b.1)
+    aborts (x ∷ xs) a b = ((λ own. (let p = ap (λ (y : TransactionPlace). y.1) a.0 in omega (arith, p), λ e. b.0)), aborts xs a.1 b.1)
 
 -- another thread
-pub other_same : (file : File) (rs new : List Record) (place : Place) (thread : ℕ) → (place.0 ≡ thread → ⊥) → IsUnderWay file rs thread
+pub other_same : (file : File) (rs new : List Record) (place : TransactionPlace) (thread : ℕ) → (place.0 ≡ thread → ⊥) → IsUnderWay file rs thread
     → Every (λ (r : Record). r.place ≡ place) new → (ended_of thread (rs ++ new) ≡ ended_of thread rs) × IsUnderWay file (rs ++ new) thread
 other_same file rs new place thread other h placed = (
   count,
@@ -101,7 +101,7 @@ other_same file rs new place thread other h placed = (
 )
   where
     none : Every (λ (r : Record). r.place.0 ≡ thread → ⊥) new
-    none = every_weaker (λ (r : Record). r.place ≡ place) (λ (r : Record). r.place.0 ≡ thread → ⊥) (λ r is own. other (sym (ap (λ (x : Place). x.0) is) ∙ own)) new placed
+    none = every_weaker (λ (r : Record). r.place ≡ place) (λ (r : Record). r.place.0 ≡ thread → ⊥) (λ r is own. other (sym (ap (λ (x : TransactionPlace). x.0) is) ∙ own)) new placed
 
     same : positions_of thread (finished_places (rs ++ new)) ≡ positions_of thread (finished_places rs)
     same = positions_in thread rs new ∙ ap (λ (l : List ℕ). positions_of thread (finished_places rs) ++ l) (none_ended thread new none) ∙ append-nil (positions_of thread (finished_places rs))
@@ -120,7 +120,7 @@ spared_more tries thread rs new placed few last h position low high = elim (case
       let old = h position low (omega (arith, other, high, few)) in
       let both = aborted_append (thread, position) rs new in
       let none = none_aborted (thread, position) new (every_weaker (λ (r : Record). r.place ≡ (thread, suc (ended_of thread rs))) (λ (r : Record). r.place.0 ≡ thread → r.place.1 ≡ position → ⊥)
-      (λ r is e g. other (sym g ∙ ap (λ (x : Place). x.1) is)) new placed) in omega (arith, old, both, none)
+      (λ r is e g. other (sym g ∙ ap (λ (x : TransactionPlace). x.1) is)) new placed) in omega (arith, old, both, none)
 ]
 
 -- Attempts of the next transaction of a thread add their records.
@@ -156,12 +156,12 @@ next_more plan v w thread rs new script ended h there at added finding few spare
       apart = λ u other none. All-append (λ (r : Record). r.place.0 ≡ u → ⊥) rs new none
           (all_of (λ (r : Record). r.place.0 ≡ u → ⊥) new
           (every_weaker (λ (r : Record). r.place ≡ (thread, suc (ended_of thread rs))) (λ (r : Record). r.place.0 ≡ u → ⊥)
-          (λ r is e. other (sym (ap (λ (x : Place). x.0) is) ∙ e)) new placed));
+          (λ r is e. other (sym (ap (λ (x : TransactionPlace). x.0) is) ∙ e)) new placed));
       others = λ u other. (other_same plan.file rs new (thread, suc (ended_of thread rs)) u other (h.under_way u) placed).0;
       aborts = λ place other.
           (let a = aborted_append place rs new in
           let n = none_aborted place new (every_weaker (λ (r : Record). r.place ≡ (thread, suc (ended_of thread rs))) (λ (r : Record). r.place.0 ≡ place.0 → r.place.1 ≡ place.1 → ⊥)
-          (λ r is e g. other (sym (ap (λ (x : Place). x.0) is) ∙ e)) new placed) in omega (arith, a, n));
+          (λ r is e g. other (sym (ap (λ (x : TransactionPlace). x.0) is) ∙ e)) new placed) in omega (arith, a, n));
     }
 
     untried : aborted_times (thread, suc (suc (ended_of thread rs))) (rs ++ new) ≡ 0
@@ -170,7 +170,7 @@ next_more plan v w thread rs new script ended h there at added finding few spare
         (every_weaker (IsUpTo thread (ended_of thread rs)) (λ (r : Record). r.place.0 ≡ thread → r.place.1 ≡ suc (suc (ended_of thread rs)) → ⊥)
         (λ r up e g. (let p = (up e).0 in omega (arith, p, g))) rs (every (IsUpTo thread (ended_of thread rs)) rs (h.under_way thread).comes))
         (every_weaker (λ (r : Record). r.place ≡ (thread, suc (ended_of thread rs))) (λ (r : Record). r.place.0 ≡ thread → r.place.1 ≡ suc (suc (ended_of thread rs)) → ⊥)
-        (λ r is e g. (let p = ap (λ (x : Place). x.1) is in omega (arith, p, g))) new placed))
+        (λ r is e g. (let p = ap (λ (x : TransactionPlace). x.1) is in omega (arith, p, g))) new placed))
 
     by : (b : Bool) → finished_places new ≡ (if b then (thread, suc (ended_of thread rs)) ∷ [] else []) → IsNext plan w thread rs (rs ++ new) b
     by true last =
@@ -199,7 +199,7 @@ none_else thread position rs new adds placed none place = elim (cases_eq thread 
     | inr other ↦
         let all = aborted_append place rs new in
         let here = none_aborted place new (every_weaker (λ (r : Record). r.place ≡ (thread, position)) (λ (r : Record). r.place.0 ≡ place.0 → r.place.1 ≡ place.1 → ⊥)
-        (λ r is e g. other (sym (ap (λ (x : Place). x.1) is) ∙ g)) new placed) in omega (arith, all, here)
+        (λ r is e g. other (sym (ap (λ (x : TransactionPlace). x.1) is) ∙ g)) new placed) in omega (arith, all, here)
   ]
   | inr other ↦ adds.aborts place other
 ]
@@ -228,7 +228,7 @@ one_more plan passes v w thread rs later ended h there fresh run =
       | inr none ↦ (let b = run.ran.added.few in let z = none.0 in omega (arith, z, b))
     ]
 
-    place : Place
+    place : TransactionPlace
     place = (thread, suc (ended_of thread rs))
 
     spare : IsFresh plan.tries passes thread rs → (position : ℕ) → 1 ≤ position → position < suc (ended_of thread rs) → aborted_times (thread, position) rs ≡ plan.tries

@@ -3,13 +3,13 @@ use Rattle.std.specs.Prelude.{slice_get, Some}
 use Rattle.std.proofs.Common.{◌≡◌, ℕ, zero, suc, ◌+◌, ◌<◌, List, [], ◌∷◌, length, refl, sym, ◌∙◌, subst, arith, Bool, false, true≢false}
 use Rattle.sto_lang.specs.Scripts.{Script, File}
 use Rattle.sto_report_spec.specs.Orders.{transaction_at, count_in}
-use Rattle.sto_history.specs.Records.{Place, Record}
+use Rattle.sto_history.specs.Records.{TransactionPlace, Record}
 use Rattle.sto_type.specs.Meaning.{Meaning}
 use Rattle.sto_core.specs.declared.view.View.{View}
 use Rattle.sto_run_threads.specs.Running.{ended_of}
 use Rattle.sto_run_threads.specs.Ran.{IsTransaction, HasRunAt}
 use Rattle.sto_run_threads.specs.Worked.{HasWorked, IsFresh, AddsTo, AbortsNone, IsOneMore, IsScriptRun}
-use Rattle.sto_model.specs.Run.{Script as Steps}
+use Rattle.sto_model.specs.Run.{Behaviour}
 use Rattle.sto_transaction.specs.Resting.{IsAtRest}
 use Rattle.sto_transaction.specs.Ran.{HasBroken}
 use Rattle.sto_transaction.proofs.Tries.{none_retried, broken_before}
@@ -71,5 +71,5 @@ script_left plan passes now v w thread position first rs later ended same is the
     }
 
 -- no attempt was begun
-pub not_begun : (m : Meaning) (sizes : List ℕ) (tries : ℕ) (v : View) (f : Steps) (place : Place) (rs : List Record) → IsAtRest m sizes v → HasBroken m sizes tries v v f place rs rs
+pub not_begun : (m : Meaning) (sizes : List ℕ) (tries : ℕ) (v : View) (f : Behaviour) (place : TransactionPlace) (rs : List Record) → IsAtRest m sizes v → HasBroken m sizes tries v v f place rs rs
 not_begun m sizes tries v f place rs rests = broken_before m sizes tries 0 0 v v f place rs rs (none_retried m sizes 0 v f place rs rests) (omega arith)

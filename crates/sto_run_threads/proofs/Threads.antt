@@ -2,7 +2,7 @@
 use Rattle.std.specs.Prelude.{filter, not}
 use Rattle.std.proofs.Common.{◌≡◌, ℕ, zero, suc, ◌+◌, List, [], ◌∷◌, ◌++◌, map, length, refl, ap, ◌∙◌, arith, Bool, true, false, cond, eq-eqb, ne_eqb}
 use Rattle.std.proofs.lemmas.List.{length-append}
-use Rattle.sto_report_spec.specs.Orders.{Place, positions_of, numbers_from}
+use Rattle.sto_report_spec.specs.Orders.{TransactionPlace, positions_of, numbers_from}
 use Rattle.sto_history.specs.Records.{Record, is_abort, is_finished}
 use Rattle.sto_history.specs.Counted.{finished_places}
 use Rattle.sto_serializability.proofs.Chains.{Every}
@@ -31,10 +31,10 @@ none_ended thread (r ∷ rs) h = by (is_finished r) (none_ended thread rs h.1)
     by false k = k
 
 -- of one place
-pub one_of_own : (place : Place) (thread : ℕ) → place.0 ≡ thread → positions_of thread (place ∷ []) ≡ place.1 ∷ []
+pub one_of_own : (place : TransactionPlace) (thread : ℕ) → place.0 ≡ thread → positions_of thread (place ∷ []) ≡ place.1 ∷ []
 one_of_own place thread own = ap (λ (b : Bool). cond b (place.1 ∷ []) []) (eq-eqb place.0 thread own)
 
-pub one_of_other : (place : Place) (thread : ℕ) → (place.0 ≡ thread → ⊥) → positions_of thread (place ∷ []) ≡ []
+pub one_of_other : (place : TransactionPlace) (thread : ℕ) → (place.0 ≡ thread → ⊥) → positions_of thread (place ∷ []) ≡ []
 one_of_other place thread other = ap (λ (b : Bool). cond b (place.1 ∷ []) []) (ne_eqb place.0 thread other)
 
 -- where none has ended, all are aborted

@@ -1,7 +1,7 @@
 -- One worker runs all in rising thread and then position, and hands nothing back.
 use Rattle.std.proofs.Common.{◌≡◌, ℕ, suc, ◌+◌, ◌<◌, ◌≤◌, List, [], ◌∷◌, ◌++◌, map, length, refl, sym, ap, ◌∙◌, subst, arith, Bool, true, cond, append-nil, eq-eqb, ◌==◌, ◌&&◌, inl, inr}
 use Rattle.sto_lang.specs.Scripts.{File}
-use Rattle.sto_report_spec.specs.Orders.{Place, positions_of, count_in, IsOrder}
+use Rattle.sto_report_spec.specs.Orders.{TransactionPlace, positions_of, count_in, IsOrder}
 use Rattle.sto_history.specs.Records.{Record, is_abort}
 use Rattle.sto_history.specs.Counted.{finished_places, aborted_times}
 use Rattle.sto_serializability.proofs.Chains.{Every}
@@ -14,7 +14,7 @@ use Rattle.sto_run_threads.proofs.Claiming.{count_case}
 use Rattle.sto_run_threads.proofs.Threads.{length_numbers, ended_append, all_aborted}
 
 -- places of which no thread has any are none
-no_places : (ps : List Place) → ((u : ℕ) → length (positions_of u ps) ≡ 0) → ps ≡ []
+no_places : (ps : List TransactionPlace) → ((u : ℕ) → length (positions_of u ps) ≡ 0) → ps ≡ []
 no_places [] h = refl
 no_places (p ∷ ps) h =
     let one : length (positions_of p.0 (p ∷ ps)) ≡ suc (length (positions_of p.0 ps)) =
@@ -34,10 +34,10 @@ no_records rs (r ∷ new) none aborts =
     let both = aborted_append r.place rs (r ∷ new) in absurd (omega (arith, one, same, both))
 
 -- where all have ended and none is aborted, no record was added
-pub nothing_left : (file : File) (from to : Place) (rs later : List Record) → RunsInOrder from to rs later → IsOrder file (finished_places later)
+pub nothing_left : (file : File) (from to : TransactionPlace) (rs later : List Record) → RunsInOrder from to rs later → IsOrder file (finished_places later)
     → ((u : ℕ) → u < length file.threads → ended_of u rs ≡ count_in file.threads u) → AbortsNone rs later → later ≡ rs
 nothing_left file from to rs later h order all aborts =
-    let ended : List Place = finished_places h.new in
+    let ended : List TransactionPlace = finished_places h.new in
     let none : ended ≡ [] = no_places ended (λ u. of_thread u) in
     let empty : h.new ≡ [] = no_records rs h.new none (subst (AbortsNone rs) h.whole aborts) in
     h.whole ∙ ap (λ (l : List Record). rs ++ l) empty ∙ append-nil rs
@@ -53,7 +53,7 @@ nothing_left file from to rs later h order all aborts =
         ]
 
 -- a run of one worker and of what it handed back
-pub turn_whole : (plan : Plan) (from to : Place) (rs later : List Record) → 1 ≤ plan.tries → RanInTurn plan rs → AbortsNone [] rs
+pub turn_whole : (plan : Plan) (from to : TransactionPlace) (rs later : List Record) → 1 ≤ plan.tries → RanInTurn plan rs → AbortsNone [] rs
     → ((u : ℕ) → u < thread_count plan → IsDone plan rs u) → IsOrder plan.file (finished_places later) → AbortsNone rs later → RunsInOrder from to rs later
     → RanInTurn plan later
 turn_whole plan from to rs later some turn none done order aborts left =

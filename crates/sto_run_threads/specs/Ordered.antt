@@ -1,20 +1,20 @@
 -- In which order transactions are run on one pass.
 use Rattle.std.specs.Prelude.{◌≡◌, ◌<◌, ◌≤◌, ◌⊎◌, List, [], ◌∷◌, ◌++◌}
 use Rattle.std.specs.List.{All}
-use Rattle.sto_history.specs.Records.{Place, Record, known_after, IsSince}
+use Rattle.sto_history.specs.Records.{TransactionPlace, Record, known_after, IsSince}
 use Rattle.sto_history.specs.Counted.{finished_places}
 use Rattle.sto_run_threads.specs.Plans.{Plan, thread_count}
 
 -- the place is in an earlier thread than another, or at an earlier position of the same one
-abbrev pub StandsBefore : Place → Place → Type 0
+abbrev pub StandsBefore : TransactionPlace → TransactionPlace → Type 0
 StandsBefore p q = (p.0 < q.0) ⊎ ((p.0 ≡ q.0) × (p.1 < q.1))
 
 -- it does not stand before the other
-abbrev pub StandsFrom : Place → Place → Type 0
+abbrev pub StandsFrom : TransactionPlace → TransactionPlace → Type 0
 StandsFrom q p = (q.0 < p.0) ⊎ ((p.0 ≡ q.0) × (q.1 ≤ p.1))
 
 -- each stands before those after it
-abbrev pub AreRising : List Place → Type 0
+abbrev pub AreRising : List TransactionPlace → Type 0
 AreRising [] = Unit {0}
 AreRising (p ∷ ps) = All (StandsBefore p) ps × AreRising ps
 
@@ -25,7 +25,7 @@ AreSince before (r ∷ new) = All (λ b. IsSince (known_after b.verdict) r.verdi
 
 -- transactions were run one after the other, and each after those of the first records; those that ended are from the first of these
 -- places on and before the other, in rising thread and then position
-pub record RunsInOrder (from to : Place) (rs later : List Record) : Type 0 where
+pub record RunsInOrder (from to : TransactionPlace) (rs later : List Record) : Type 0 where
   pub new : List Record
   pub whole : later ≡ rs ++ new
   pub since : AreSince rs new

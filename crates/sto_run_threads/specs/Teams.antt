@@ -15,7 +15,7 @@ use Rattle.sto_run_threads.specs.Accounts.{HasGathered}
 use Rattle.sto_run_threads.specs.Told.{told_in}
 use Rattle.sto_run_threads.specs.Worked.{HasWorked, AreOf, AreDone, AbortsNone}
 use Rattle.sto_run_threads.specs.Ordered.{RanInTurn}
-use Rattle.sto_run_threads.specs.declared.worker.Worker.{Worker}
+use Rattle.sto_run_threads.specs.declared.worker.ScriptWorker.{ScriptWorker}
 use Rattle.sto_run_threads.specs.declared.worker.Team.{Team}
 use Rattle.sto_run_threads.specs.declared.all.Worked.{Worked}
 
@@ -29,10 +29,10 @@ module _ {T : Type 0} {n : naming.Ghosts T} where
   view_at rest = rest.seat.me.0.view
 
   -- what the passes of workers know, and how many seats their claimers have
-  abbrev pub views_of : List (Worker T n) → List View
+  abbrev pub views_of : List (ScriptWorker T n) → List View
   views_of workers = map (λ w. view_at w.rest) workers
 
-  abbrev pub seats_of : List (Worker T n) → ℕ
+  abbrev pub seats_of : List (ScriptWorker T n) → ℕ
   seats_of workers = sum_by (λ w. w.claimer.seat.me.0.seats) workers
 
   -- a pass at rest of these words, which may draw a ticket for each try of each transaction, and has kept its pace
@@ -42,7 +42,7 @@ module _ {T : Type 0} {n : naming.Ghosts T} where
     pub paced : IsPaced plan (view_at rest)
 
   -- the same, with a claimer of these numbers which has found none yet
-  pub record IsHired (s : Shared T) (claims : Claims) (plan : Plan) (w : Worker T n) : Type 0 where
+  pub record IsHired (s : Shared T) (claims : Claims) (plan : Plan) (w : ScriptWorker T n) : Type 0 where
     pub ready : IsReady s plan w.rest
     pub new : IsNew claims w.claimer
 
@@ -73,7 +73,7 @@ module _ {T : Type 0} {n : naming.Ghosts T} where
     pub seats : team.claimer.seat.me.0.seats ≡ first.claimer.seat.me.0.seats + other.claimer.seat.me.0.seats
 
   -- these workers have finished, and were gathered into the team
-  pub record IsTeamOf (s : Shared T) (claims : Claims) (plan : Plan) (workers : List (Worker T n)) (team : Team T n) : Type 0 where
+  pub record IsTeamOf (s : Shared T) (claims : Claims) (plan : Plan) (workers : List (ScriptWorker T n)) (team : Team T n) : Type 0 where
     pub finished : HasFinished s claims plan team
     pub gathered : HasGathered (draws_of plan) (views_of workers) (view_at team.rest) (told_in team.records)
     pub seats : team.claimer.seat.me.0.seats ≡ seats_of workers

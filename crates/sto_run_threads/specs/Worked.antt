@@ -3,7 +3,7 @@ use Rattle.std.specs.Prelude.{◌≡◌, ◌⊎◌, ◌<◌, ◌≤◌, ℕ, suc
 use Rattle.std.specs.List.{All}
 use Rattle.sto_core.specs.declared.view.View.{View}
 use Rattle.sto_table.specs.Taken.{times}
-use Rattle.sto_report_spec.specs.Orders.{Place, count_in}
+use Rattle.sto_report_spec.specs.Orders.{TransactionPlace, count_in}
 use Rattle.sto_history.specs.Records.{Record}
 use Rattle.sto_history.specs.Told.{IsFound}
 use Rattle.sto_history.specs.Counted.{aborted_times}
@@ -53,11 +53,11 @@ AreDone plan threads rs = (thread : ℕ) → thread < length plan.file.threads �
 pub record AddsTo (thread : ℕ) (rs later : List Record) : Type 0 where
   pub apart : (u : ℕ) → (thread ≡ u → ⊥) → HasNone u rs → HasNone u later
   pub others : (u : ℕ) → (thread ≡ u → ⊥) → ended_of u later ≡ ended_of u rs
-  pub aborts : (place : Place) → (thread ≡ place.0 → ⊥) → aborted_times place later ≡ aborted_times place rs
+  pub aborts : (place : TransactionPlace) → (thread ≡ place.0 → ⊥) → aborted_times place later ≡ aborted_times place rs
 
 -- none of the added records is aborted
 abbrev pub AbortsNone : List Record → List Record → Type 0
-AbortsNone rs later = (place : Place) → aborted_times place later ≡ aborted_times place rs
+AbortsNone rs later = (place : TransactionPlace) → aborted_times place later ≡ aborted_times place rs
 
 -- records of attempts of the next transaction of a thread were added, which has ended with the last of them or has not ended
 pub record IsNext (plan : Plan) (w : View) (thread : ℕ) (rs later : List Record) (ended : Bool) : Type 0 where

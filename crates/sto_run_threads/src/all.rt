@@ -11,7 +11,7 @@ ghost use Rattle.sto_run_threads.specs.Plans.{thread_count};
 
 use crate::halves::work_halves;
 use crate::one::Work;
-use crate::worker::{Team, Worker};
+use crate::worker::{ScriptWorker, Team};
 use std::alloc::Global;
 use std::thread::Threads;
 use sto_part::{List, Naming, NoMemory};
@@ -33,7 +33,7 @@ fn hire<T: Naming, W: Work<T>>(
     claims: &Claims,
     rests: Rests<T>,
     claimers: List<Claimer>,
-) -> Result<Vec<Worker<T>>, NoMemory>
+) -> Result<Vec<ScriptWorker<T>>, NoMemory>
     requires many { length rests.items ≡ length claimers.items }
     requires ready { All (IsReady shared.now (W.plan work.now)) rests.items }
     requires new { All (IsNew claims.now) claimers.items }
@@ -49,7 +49,7 @@ fn hire<T: Naming, W: Work<T>>(
         let Some(claimer) = claimers.pop() else {
             unreachable!()
         };
-        match workers.push(Worker { rest, claimer }) {
+        match workers.push(ScriptWorker { rest, claimer }) {
             Ok(()) => {}
             Err(_) => return Err(NoMemory),
         }

@@ -7,7 +7,7 @@ ghost use Rattle.sto_run_threads.specs.Teams.{IsHired, HasFinished, IsOfBoth, Is
 ghost use Rattle.sto_run_threads.specs.Plans.{thread_count};
 
 use crate::one::Work;
-use crate::worker::{Team, Worker, work_alone};
+use crate::worker::{ScriptWorker, Team, work_alone};
 use std::alloc::Global;
 use std::thread::{Threads, join};
 use sto_part::{Naming, NoMemory};
@@ -53,7 +53,7 @@ pub fn work_halves<R: Threads + Sync, T: Naming + Send + Sync, W: Work<T> + Sync
     alloc: Global,
     shared: &Shared<T>,
     claims: &Claims,
-    workers: Vec<Worker<T>>,
+    workers: Vec<ScriptWorker<T>>,
 ) -> Result<Team<T>, NoMemory>
     requires ready { W.ready work.now }
     requires count { claims.now.table.shared.key.count ≡ thread_count (W.plan work.now) }

@@ -17,7 +17,7 @@ use std::alloc::Global;
 use sto_attempt::Verdict;
 use sto_core::Cells;
 use sto_part::{Naming, NoMemory};
-use sto_transaction::{Memory, Record};
+use sto_transaction::{AttemptLists, Record};
 
 // Whether an attempt is the last one of a transaction of the thread.
 fn has_ended(attempt: &Record, thread: u32) -> bool
@@ -66,7 +66,7 @@ pub fn run_left<T: Naming, W: Work<T>, C: Cells<T>>(
     ensures found { OnOk result (All (WasFound (C.view cells.new)) (told_in records.new)) }
     ensures finished { OnOk result (AreWhole (W.plan work.now) (C.view cells.new) (told_in records.new)) }
 {
-    let mut memory = Memory::new(alloc);
+    let mut memory = AttemptLists::new(alloc);
     for thread in 0..work.threads() {
         let count = work.count(thread);
         let ended = count_ended(records.as_slice(), thread);

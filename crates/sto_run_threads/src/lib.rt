@@ -22,5 +22,5 @@ pub use one::Work;
 pub use script::run_script;
 pub use turn::RetryTurn;
 pub use work::FileWork;
-pub use worker::{Team, Worker, work_alone};
-pub use workload::{LentFile, Workload};
+pub use worker::{ScriptWorker, Team, work_alone};
+pub use workload::{BorrowedFile, Workload};

@@ -7,7 +7,7 @@ ghost use Rattle.sto_run_threads.specs.Ran.{IsTransaction, HasRunAt, HasBrokenAt
 use std::alloc::Global;
 use sto_core::Cells;
 use sto_part::{Naming, NoMemory};
-use sto_transaction::{Memory, Record};
+use sto_transaction::{AttemptLists, Record};
 
 /// What runs transactions of a file, by attempts.
 pub trait Work<T: Naming> {
@@ -35,7 +35,7 @@ pub trait Work<T: Naming> {
         cells: &mut C,
         thread: u32,
         position: u32,
-        memory: &mut Memory,
+        memory: &mut AttemptLists,
         records: &mut Vec<Record>,
     ) -> Result<bool, NoMemory>
         requires ready { ready self.now }

@@ -11,7 +11,7 @@ use crate::one::Work;
 use std::alloc::Global;
 use sto_core::Cells;
 use sto_part::{Naming, NoMemory};
-use sto_transaction::{Memory, Record};
+use sto_transaction::{AttemptLists, Record};
 
 /// Runs what is left of a script thread on an idle pass: of `count` transactions the first `ended` have ended.
 /// It answers whether all have ended now. Else the next one is handed back, with all that follow.
@@ -22,7 +22,7 @@ pub fn run_script<T: Naming, W: Work<T>, C: Cells<T>>(
     thread: u32,
     ended: u32,
     count: u32,
-    memory: &mut Memory,
+    memory: &mut AttemptLists,
     records: &mut Vec<Record>,
 ) -> Result<bool, NoMemory>
     requires ready { W.ready work.now }

@@ -1,6 +1,6 @@
 //! What the workers of a run tell one another.
-use std::sync::{Mutex, MutexGuard};
 use std::sync::atomic::{AtomicBool, Ordering};
+use std::sync::{Mutex, MutexGuard};
 use sto_part::NoMemory;
 
 /// The turn of transactions that were aborted: of those that share it one is tried at a time, beside others that take none. So where all

@@ -8,11 +8,11 @@ use crate::one::Work;
 use crate::turn::{HeldTurn, RetryTurn};
 use crate::workload::Workload;
 use crossbeam_utils::Backoff;
-use std::mem;
 use std::alloc::Global;
+use std::mem;
 use sto_core::Cells;
 use sto_part::NoMemory;
-use sto_transaction::{AttemptWatch, Memory, Record, Transacted, Transaction};
+use sto_transaction::{AttemptLists, AttemptWatch, Record, Transacted, Transaction};
 use sto_type::TxType;
 
 // An attempt of fewer events is short: to make one in vain costs less than to wait for the turn.
@@ -116,7 +116,7 @@ impl<F: Workload + Drop, T: TxType, G: Gate> Work<T> for FileWork<'_, F, T, G> {
         cells: &mut C,
         thread: u32,
         position: u32,
-        memory: &mut Memory,
+        memory: &mut AttemptLists,
         records: &mut Vec<Record>,
     ) -> Result<bool, NoMemory> {
         if self.turn.is_stopped() {

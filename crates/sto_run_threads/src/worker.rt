@@ -8,11 +8,11 @@ use crate::script::run_script;
 use std::alloc::Global;
 use sto_part::{Naming, NoMemory};
 use sto_table::{Claimer, Claims, Rest, Shared};
-use sto_transaction::{Memory, Record};
+use sto_transaction::{AttemptLists, Record};
 
 /// A pass at rest, and a claimer of script threads.
 #[derive(Drop)]
-pub struct Worker<T: Naming> {
+pub struct ScriptWorker<T: Naming> {
     pub rest: Rest<T>,
     pub claimer: Claimer,
 }
@@ -31,16 +31,16 @@ pub fn work_alone<T: Naming, W: Work<T>>(
     alloc: Global,
     shared: &Shared<T>,
     claims: &Claims,
-    worker: Worker<T>,
+    worker: ScriptWorker<T>,
 ) -> Result<Team<T>, NoMemory>
     requires ready { W.ready work.now }
     requires count { claims.now.table.shared.key.count ≡ thread_count (W.plan work.now) }
     requires hired { IsHired shared.now claims.now (W.plan work.now) worker }
     ensures team { IfOk result (IsTeamOf shared.now claims.now (W.plan work.now) (worker ∷ [])) }
 {
-    let Worker { rest, mut claimer } = worker;
+    let ScriptWorker { rest, mut claimer } = worker;
     let mut pass = shared.pass(rest);
-    let mut memory = Memory::new(alloc);
+    let mut memory = AttemptLists::new(alloc);
     let mut records = Vec::new(alloc);
     while let Some(thread) = claims.claim(&mut claimer) {
         let count = work.count(thread);

@@ -52,11 +52,11 @@ pub trait Workload {
 
 /// A file that stands in memory, lent to its run.
 #[derive(Drop)]
-pub struct LentFile<'f> {
+pub struct BorrowedFile<'f> {
     pub file: &'f File,
 }
 
-impl<'f> Workload for LentFile<'f> {
+impl<'f> Workload for BorrowedFile<'f> {
     type Transaction = ScriptBody<'f>;
 
     ghost file = { λ f. view f.file.now };

@@ -6,8 +6,8 @@ use Rattle.std.proofs.lemmas.Bool.{cases_lt, cases_eq}
 use Rattle.std.proofs.lemmas.Bool.Decides.{nat_tests}
 use Rattle.std.proofs.lemmas.List.Elements.{filter-append}
 use Rattle.std.proofs.lemmas.List.Sums.{length-filter}
-use Rattle.sto_model.specs.Told.{Told}
-use Rattle.sto_model.specs.Run.{Script as Steps}
+use Rattle.sto_model.specs.PlainReplies.{PlainReply}
+use Rattle.sto_model.specs.Run.{Behaviour}
 use Rattle.sto_model.specs.declared.shape.Shape.{Shape}
 use Rattle.sto_lang.specs.Objects.{Declaration, shapes_of}
 use Rattle.sto_lang.specs.Scripts.{Script, File}
@@ -17,7 +17,7 @@ use Rattle.sto_core.specs.declared.view.View.{View}
 use Rattle.sto_core.specs.History.{Contents, Validity, contents_as_of, writes, committed_updates}
 use Rattle.sto_core.specs.Core.{Core}
 use Rattle.sto_core.specs.Rule.{Past}
-use Rattle.sto_report_spec.specs.Orders.{Place, transaction_at}
+use Rattle.sto_report_spec.specs.Orders.{TransactionPlace, transaction_at}
 use Rattle.sto_report_spec.specs.Aborts.{Abort}
 use Rattle.sto_report_spec.specs.LawfulAborts.{IsLawfulAbort, known_at_end, MayPrecede, IsSorted, count_at, AreLawful}
 use Rattle.sto_history.specs.Records.{Verdict, Wrote, Read, Cancelled, Locked, Changed, Record, is_abort, stands_at, known_after, IsSince, writers_up_to}
@@ -46,7 +46,7 @@ module _ (ds : List Declaration) (homes : List (ℕ × ℕ)) (all : List Record)
     known : known_at_end a ≡ writers_up_to (known_after r.verdict) all
     aborted : is_abort r.verdict ≡ true
 
-  lines_are : (place : Place) (replies : List Told) (v : Verdict)
+  lines_are : (place : TransactionPlace) (replies : List PlainReply) (v : Verdict)
       → Every (IsLineOf (record { place = place; replies = replies; verdict = v })) (lines_of_abort ds homes all place replies v)
   lines_are place replies (Wrote t) = tt
   lines_are place replies (Read n) = tt
@@ -78,7 +78,7 @@ module _ (ds : List Declaration) (homes : List (ℕ × ℕ)) (all : List Record)
       each_of : (xs : List Record) → Every (λ r. r.place.0 ≡ thread → Every (λ a. a.place.0 ≡ thread) (lines r)) xs
       each_of [] = tt
       each_of (r ∷ xs) = (
-        λ e. every_weaker (IsLineOf r) (λ a. a.place.0 ≡ thread) (λ a l. ap (λ (x : Place). x.0) l.placed ∙ e) (lines r) (lines_are r.place r.replies r.verdict),
+        λ e. every_weaker (IsLineOf r) (λ a. a.place.0 ≡ thread) (λ a l. ap (λ (x : TransactionPlace). x.0) l.placed ∙ e) (lines r) (lines_are r.place r.replies r.verdict),
         each_of xs,
       )
 
@@ -101,8 +101,8 @@ module _ (ds : List Declaration) (homes : List (ℕ × ℕ)) (all : List Record)
   precede : (r s : Record) → r.place.0 ≡ s.place.0 → Follows r s → (a b : Abort) → IsLineOf r a → IsLineOf s b → MayPrecede a b
   precede r s e f a b of_r of_s = elim (cases_lt r.place.1 s.place.1) [
     | inl l ↦ inr (inl (
-      ap (λ (x : Place). x.0) of_r.placed ∙ e ∙ ap (λ (x : Place). x.0) (sym of_s.placed),
-      (let x = ap (λ (y : Place). y.1) of_r.placed in let y = ap (λ (z : Place). z.1) of_s.placed in omega (arith, l, x, y)),
+      ap (λ (x : TransactionPlace). x.0) of_r.placed ∙ e ∙ ap (λ (x : TransactionPlace). x.0) (sym of_s.placed),
+      (let x = ap (λ (y : TransactionPlace). y.1) of_r.placed in let y = ap (λ (z : TransactionPlace). z.1) of_s.placed in omega (arith, l, x, y)),
     ))
     | inr l ↦
         let same : r.place.1 ≡ s.place.1 = (let p = f.position in omega (arith, l, p)) in
@@ -120,7 +120,7 @@ module _ (ds : List Declaration) (homes : List (ℕ × ℕ)) (all : List Record)
       (λ a of_r. every_weaker (IsLineOf s) (MayPrecede a) (λ b of_s. precede r s e f a b of_r of_s) (lines s) (lines_are s.place s.replies s.verdict))
       (lines r) (lines_are r.place r.replies r.verdict)
 
-  one_line : (place : Place) (replies : List Told) (v : Verdict) → Later MayPrecede (lines_of_abort ds homes all place replies v)
+  one_line : (place : TransactionPlace) (replies : List PlainReply) (v : Verdict) → Later MayPrecede (lines_of_abort ds homes all place replies v)
   one_line place replies (Wrote t) = tt
   one_line place replies (Read n) = tt
   one_line place replies (Cancelled n) = tt
@@ -166,16 +166,16 @@ module _ (ds : List Declaration) (homes : List (ℕ × ℕ)) (all : List Record)
 
   -- how many there are of one transaction
 
-  abbrev is_at : Place → Abort → Bool
+  abbrev is_at : TransactionPlace → Abort → Bool
   is_at place a = (a.place.0 == place.0) && (a.place.1 == place.1)
 
-  abbrev among : Place → List Abort → ℕ
+  abbrev among : TransactionPlace → List Abort → ℕ
   among place xs = length (filter (is_at place) xs)
 
-  among_append : (place : Place) (xs ys : List Abort) → among place (xs ++ ys) ≡ among place xs + among place ys
+  among_append : (place : TransactionPlace) (xs ys : List Abort) → among place (xs ++ ys) ≡ among place xs + among place ys
   among_append place xs ys = ap length (filter-append (is_at place) xs ys) ∙ length-append (filter (is_at place) xs) (filter (is_at place) ys)
 
-  abbrev one_abort : Place → Place → Verdict → ℕ
+  abbrev one_abort : TransactionPlace → TransactionPlace → Verdict → ℕ
   one_abort place q v = if (q.0 == place.0) && ((q.1 == place.1) && is_abort v) then 1 else 0
 
   unit_list : (b : Bool) (a : Abort) → length (cond b (a ∷ []) []) ≡ (let n : ℕ = if b then 1 else 0 in n)
@@ -192,14 +192,14 @@ module _ (ds : List Declaration) (homes : List (ℕ × ℕ)) (all : List Record)
   and_none true false = refl
   and_none false b = refl
 
-  among_one : (place q : Place) (replies : List Told) (v : Verdict) → among place (lines_of_abort ds homes all q replies v) ≡ one_abort place q v
+  among_one : (place q : TransactionPlace) (replies : List PlainReply) (v : Verdict) → among place (lines_of_abort ds homes all q replies v) ≡ one_abort place q v
   among_one place q replies (Wrote t) = sym (and_none (q.0 == place.0) (q.1 == place.1))
   among_one place q replies (Read n) = sym (and_none (q.0 == place.0) (q.1 == place.1))
   among_one place q replies (Cancelled n) = sym (and_none (q.0 == place.0) (q.1 == place.1))
   among_one place q replies (Locked n p) = unit_list ((q.0 == place.0) && (q.1 == place.1)) _ ∙ and_more (q.0 == place.0) (q.1 == place.1)
   among_one place q replies (Changed n p t) = unit_list ((q.0 == place.0) && (q.1 == place.1)) _ ∙ and_more (q.0 == place.0) (q.1 == place.1)
 
-  thread_count : (place : Place) (thread : ℕ) (rs : List Record) → among place (aborts_of_thread ds homes all thread rs) ≤ aborted_times place rs
+  thread_count : (place : TransactionPlace) (thread : ℕ) (rs : List Record) → among place (aborts_of_thread ds homes all thread rs) ≤ aborted_times place rs
   thread_count place thread [] = omega arith
   thread_count place thread (r ∷ rs) = by (r.place.0 == thread) (thread_count place thread rs)
     where
@@ -210,13 +210,13 @@ module _ (ds : List Declaration) (homes : List (ℕ × ℕ)) (all : List Record)
           let one = among_one place r.place r.replies r.verdict in omega (arith, e, one, k)
       by false k = omega (arith, k)
 
-  none_of : (place : Place) (xs : List Abort) → Every (λ a. a.place.0 ≡ place.0 → ⊥) xs → among place xs ≡ 0
+  none_of : (place : TransactionPlace) (xs : List Abort) → Every (λ a. a.place.0 ≡ place.0 → ⊥) xs → among place xs ≡ 0
   none_of place [] h = refl
   none_of place (a ∷ xs) h =
       ap (λ (b : Bool). length (cond (b && (a.place.1 == place.1)) (a ∷ filter (is_at place) xs) (filter (is_at place) xs))) (ne_eqb a.place.0 place.0 h.0)
       ∙ none_of place xs h.1
 
-  all_count : (place : Place) (first count : ℕ) → among place (aborts_from ds homes all first count) ≤ aborted_times place all
+  all_count : (place : TransactionPlace) (first count : ℕ) → among place (aborts_from ds homes all first count) ≤ aborted_times place all
   all_count place first zero = omega arith
   all_count place first (suc count) =
       let e = among_append place (aborts_of_thread ds homes all first all) (aborts_from ds homes all (suc first) count) in
@@ -233,7 +233,7 @@ module _ (ds : List Declaration) (homes : List (ℕ × ℕ)) (all : List Record)
             omega (arith, e, rest, none)
       ]
 
-  pub few_at : (place : Place) (first count : ℕ) → count_at place (aborts_from ds homes all first count) ≤ aborted_times place all
+  pub few_at : (place : TransactionPlace) (first count : ℕ) → count_at place (aborts_from ds homes all first count) ≤ aborted_times place all
   few_at place first count =
       let e = length-filter (is_at place) (aborts_from ds homes all first count) in
       let k = all_count place first count in omega (arith, e, k)

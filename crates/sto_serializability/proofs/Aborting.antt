@@ -6,7 +6,7 @@ use Rattle.std.proofs.Common.{◌≡◌, ℕ, ◌<◌, ◌≤◌, List, [], ◌�
 use Rattle.std.proofs.lemmas.Bool.Decides.{nat_tests}
 use Rattle.std.proofs.lemmas.List.Elements.{All-filter, All-same, All-map}
 use Rattle.std.proofs.lemmas.List.Sorted.{All-permutation}
-use Rattle.sto_model.specs.Told.{Told}
+use Rattle.sto_model.specs.PlainReplies.{PlainReply}
 use Rattle.sto_model.specs.Run.{State, IsRun}
 use Rattle.sto_model.specs.declared.shape.Shape.{Shape}
 use Rattle.sto_lang.specs.Objects.{Declaration, shapes_of, with_number}
@@ -21,7 +21,7 @@ use Rattle.sto_core.specs.declared.view.View.{View}
 use Rattle.sto_core.specs.History.{Contents, Validity, contents_as_of, writes, committed_updates}
 use Rattle.sto_core.specs.Core.{Core}
 use Rattle.sto_core.specs.Rule.{Past}
-use Rattle.sto_report_spec.specs.Orders.{Place, transaction_at}
+use Rattle.sto_report_spec.specs.Orders.{TransactionPlace, transaction_at}
 use Rattle.sto_report_spec.specs.Replay.{Entry, run_at, entries_of, opening_state, shown}
 use Rattle.sto_report_spec.specs.Updated.{updated, updated_from}
 use Rattle.sto_report_spec.specs.Aborts.{LocalPart, Abort, name_of, part_by_home}
@@ -126,7 +126,7 @@ module _ {valid : Validity} {sizes : List ℕ} {opening : Contents} {past : Past
   abbrev wrote : ℕ → ℕ → Bool
   wrote t p = writes (committed_updates (past.log t)) p
 
-  abbrev order : List Place
+  abbrev order : List TransactionPlace
   order = places_of ordered
 
   abbrev homes : List (ℕ × ℕ)
@@ -183,19 +183,19 @@ module _ {valid : Validity} {sizes : List ℕ} {opening : Contents} {past : Past
         (every_both (λ (f : Record). is_abort f.verdict ≡ false) (λ f. (Beside r f × Beside f r) × ((u : ℕ) → wrote_with u f.verdict ≤ times_written u rs))
         (λ (f : Record). f.place ≡ r.place → writers_up_to k rs ≤ writers_before (line_of rs f) (ending_of f.verdict))
         (λ f a b e. before_own k f.verdict f refl a b.1
-        (since_lower k (known_after r.verdict) f.verdict le (b.0.0.again aborted a (ap (λ (x : Place). x.0) (sym e)) (ap (λ (x : Place). x.1) (sym e)))))
+        (since_lower k (known_after r.verdict) f.verdict le (b.0.0.again aborted a (ap (λ (x : TransactionPlace). x.0) (sym e)) (ap (λ (x : TransactionPlace). x.1) (sym e)))))
         ordered ended
         (every_both (λ f. Beside r f × Beside f r) (λ (f : Record). (u : ℕ) → wrote_with u f.verdict ≤ times_written u rs)
         (λ f. (Beside r f × Beside f r) × ((u : ℕ) → wrote_with u f.verdict ≤ times_written u rs)) (λ f b c. (b, c)) ordered beside_ordered counted))
 
   -- the part that an aborted attempt names
-  record Part (p : ℕ) (s : Script) (replies : List Told) : Type 0 where
+  record Part (p : ℕ) (s : Script) (replies : List PlainReply) : Type 0 where
     object : Declaration
     asked : IsPartAsked file s replies (part_named file.declarations homes p) object
     touched : IsPartTouched (updating_by means) file s replies (part_number file.declarations object (part_named file.declarations homes p).part)
     number : part_number file.declarations object (part_named file.declarations homes p).part ≡ p
 
-  part_is : (p : ℕ) (s : Script) (replies : List Told) → HasTouched m (meaning_of s) replies p → Part p s replies
+  part_is : (p : ℕ) (s : Script) (replies : List PlainReply) → HasTouched m (meaning_of s) replies p → Part p s replies
   part_is p s replies touched =
       let h : IsTouchedOf m (meaning_of s) replies p = touched_of m type_of.lawful (meaning_of s) replies p touched in
       let home : ℕ × ℕ = slice_index_or homes p (0, 0) in

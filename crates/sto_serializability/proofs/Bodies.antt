@@ -1,9 +1,9 @@
 -- What a transaction does next, for all replies: it asks at most so many calls.
 use Rattle.std.proofs.Common.{◌≡◌, ℕ, zero, suc, ◌+◌, ◌*◌, ◌≤◌, max, List, [], ◌∷◌, length, refl, arith, Bool, true, false, cond, suc-mul}
 use Rattle.sto_part.specs.Preds.{compares}
-use Rattle.sto_model.specs.Told.{Told}
-use Rattle.sto_model.specs.Machine.{Machine}
-use Rattle.sto_model.specs.Run.{Script as Steps, State, IsAsk, IsRun, IsReplyTo, stepped}
+use Rattle.sto_model.specs.PlainReplies.{PlainReply}
+use Rattle.sto_model.specs.SequentialObjects.{SequentialObject}
+use Rattle.sto_model.specs.Run.{Behaviour, State, IsAsk, IsRun, IsReplyTo, stepped}
 use Rattle.sto_model.specs.declared.body.Next.{Next}
 use Rattle.sto_model.specs.declared.body.Next.TheVariants.{Ask as Asking, Commit, Cancel as Cancelling}
 use Rattle.sto_lang.specs.Statements.{Statements, Nothing, Ask, Sum, Diff, Choose, Repeat, Cancel}
@@ -12,27 +12,27 @@ use Rattle.sto_lang.specs.Sizes.{calls_of}
 use Rattle.sto_script.specs.Meaning.{Values, Doing, value_of, times_over, doing, committing, meaning_of}
 
 -- each reply answers a call that is asked where it is heard
-abbrev AreHeard : Steps → List Told → Type 0
+abbrev AreHeard : Behaviour → List PlainReply → Type 0
 AreHeard f [] = Unit {0}
 AreHeard f (r ∷ rs) = IsAsk (f []) × AreHeard (λ xs. f (r ∷ xs)) rs
 
-is_asked : (ms : List Machine) (n : Next) (st : State) (r : Told) → IsReplyTo ms n st r → IsAsk n
+is_asked : (ms : List SequentialObject) (n : Next) (st : State) (r : PlainReply) → IsReplyTo ms n st r → IsAsk n
 is_asked ms (Asking call) st r h = tt
 is_asked ms Commit st r h = absurd h
 is_asked ms Cancelling st r h = absurd h
 
-run_heard : (ms : List Machine) (f : Steps) (st : State) (rs : List Told) → IsRun ms f st rs → AreHeard f rs
+run_heard : (ms : List SequentialObject) (f : Behaviour) (st : State) (rs : List PlainReply) → IsRun ms f st rs → AreHeard f rs
 run_heard ms f st [] h = tt
 run_heard ms f st (r ∷ rs) h = (is_asked ms (f []) st r h.0, run_heard ms (λ xs. f (r ∷ xs)) (stepped ms (f []) st) rs h.1)
 
 -- a choice by a truth value, with what both ways have
-heard_choice : (b : Bool) (f g : Steps) (rs : List Told) → AreHeard (λ xs. cond b (f xs) (g xs)) rs → (n : ℕ) → (AreHeard f rs → length rs ≤ n) → (AreHeard g rs → length rs ≤ n) → length rs ≤ n
+heard_choice : (b : Bool) (f g : Behaviour) (rs : List PlainReply) → AreHeard (λ xs. cond b (f xs) (g xs)) rs → (n : ℕ) → (AreHeard f rs → length rs ≤ n) → (AreHeard g rs → length rs ≤ n) → length rs ≤ n
 heard_choice true f g rs h n k l = k h
 heard_choice false f g rs h n k l = l h
 
 -- what is done asks at most n calls
 abbrev AsksAtMost : Doing → ℕ → Type 0
-AsksAtMost d n = (values : Values) (rs : List Told) → AreHeard (λ xs. d values xs) rs → length rs ≤ n
+AsksAtMost d n = (values : Values) (rs : List PlainReply) → AreHeard (λ xs. d values xs) rs → length rs ≤ n
 
 most_weaker : (d : Doing) (n k : ℕ) → n ≤ k → AsksAtMost d n → AsksAtMost d k
 most_weaker d n k l h values rs heard = let here = h values rs heard in omega arith
@@ -68,6 +68,6 @@ few_at_end values [] heard = omega arith
 few_at_end values (r ∷ rs) heard = absurd heard.0
 
 -- a run of a transaction has at most as many replies as the statements may ask calls
-pub few_replies : (ms : List Machine) (s : Script) (st : State) (rs : List Told) → IsRun ms (meaning_of s) st rs → length rs ≤ calls_of s.body
+pub few_replies : (ms : List SequentialObject) (s : Script) (st : State) (rs : List PlainReply) → IsRun ms (meaning_of s) st rs → length rs ≤ calls_of s.body
 few_replies ms s st rs run =
     let here = few_calls s.body committing 0 few_at_end _ rs (run_heard ms (meaning_of s) st rs run) in omega arith

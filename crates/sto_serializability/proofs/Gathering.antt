@@ -11,7 +11,7 @@ use Rattle.sto_core.specs.History.{Contents}
 use Rattle.sto_core.specs.Gathered.{gathered_into}
 use Rattle.sto_core.specs.Opened.{opened_view}
 use Rattle.sto_core.specs.Reopened.{reopened_view}
-use Rattle.sto_report_spec.specs.Orders.{Place, IsOrder}
+use Rattle.sto_report_spec.specs.Orders.{TransactionPlace, IsOrder}
 use Rattle.sto_history.specs.Records.{Record, times_written}
 use Rattle.sto_serializability.specs.Finished.{IsRecord, AreFinished}
 use Rattle.sto_history.specs.Counted.{times_committed, Follows, InThreads, aborted_times, finished_places}

@@ -4,7 +4,7 @@ use Rattle.std.proofs.Common.{◌≡◌, ℕ, ◌<◌, ◌≤◌, ◌^◌, List,
 use Rattle.std.proofs.lemmas.Bool.Decides.{nat_tests}
 use Rattle.std.proofs.lemmas.List.Elements.{All-filter}
 use Rattle.std.proofs.lemmas.List.Sorted.{All-permutation}
-use Rattle.sto_model.specs.Told.{Told}
+use Rattle.sto_model.specs.PlainReplies.{PlainReply}
 use Rattle.sto_model.specs.declared.shape.Shape.{Shape}
 use Rattle.sto_syntax.specs.Words.{is_name}
 use Rattle.sto_lang.specs.Objects.{shapes_of}
@@ -17,7 +17,7 @@ use Rattle.sto_core.specs.declared.view.View.{View}
 use Rattle.sto_core.specs.History.{Contents, Validity, contents_as_of, writes, committed_updates}
 use Rattle.sto_core.specs.Core.{Core}
 use Rattle.sto_core.specs.Rule.{Past}
-use Rattle.sto_report_spec.specs.Orders.{Place, at_position, IsOrder}
+use Rattle.sto_report_spec.specs.Orders.{TransactionPlace, at_position, IsOrder}
 use Rattle.sto_report_spec.specs.Replay.{Entry, entries_of, final_state}
 use Rattle.sto_report_spec.specs.Aborts.{Abort, name_of}
 use Rattle.sto_report_spec.specs.Named.{IsNamable, order_named}
@@ -74,7 +74,7 @@ of_thread file (Some scripts) position s e = (scripts, refl)
 
 places_told : (rs ordered : List Record) → map (λ (e : Entry). e.place) (map (line_of rs) ordered) ≡ places_of ordered
 places_told rs [] = refl
-places_told rs (r ∷ ordered) = ap (λ (ps : List Place). r.place ∷ ps) (places_told rs ordered)
+places_told rs (r ∷ ordered) = ap (λ (ps : List TransactionPlace). r.place ∷ ps) (places_told rs ordered)
 
 module _ {valid : Validity} {sizes : List ℕ} {opening : Contents} {past : Past} {core : Core} {v : View}
     (means : List Shape → Meaning) (file : File) (usable : IsUsable file) (type_of : IsTypeOf (shapes_of file.declarations) (means (shapes_of file.declarations)))
@@ -102,7 +102,7 @@ module _ {valid : Validity} {sizes : List ℕ} {opening : Contents} {past : Past
       let at_home : IsHomeAt (shapes_of file.declarations) p home = type_of.homes p range in
       let number = at_home.number in omega (arith, number, range, parts)
 
-  in_range : (p : ℕ) (s : Script) (replies : List Told) → HasTouched m (meaning_of s) replies p → p < length m.homes
+  in_range : (p : ℕ) (s : Script) (replies : List PlainReply) → HasTouched m (meaning_of s) replies p → p < length m.homes
   in_range p s replies h = (touched_of m type_of.lawful (meaning_of s) replies p h).owned.in_range
 
   few : (n : ℕ) → writers_up_to n rs < 2 ^ 64
@@ -181,9 +181,9 @@ module _ {valid : Validity} {sizes : List ℕ} {opening : Contents} {past : Past
   text_lawful : IsLawful (updating_by means) file tries text
   text_lawful = record {
     order = subst (IsOrder file) (sym order_is_named) lawful_order;
-    aborts = subst (λ (o : List Place). AreLawful (updating_by means) file tries o (aborts_named file.names text)) (sym order_is_named)
+    aborts = subst (λ (o : List TransactionPlace). AreLawful (updating_by means) file tries o (aborts_named file.names text)) (sym order_is_named)
         (subst (AreLawful (updating_by means) file tries (places_of ordered)) (sym aborts_are_named) lawful_aborts);
-    report = sym (ap (λ (o : List Place). report_of file o (aborts_named file.names text)) order_is_named ∙ ap (report_of file (places_of ordered)) aborts_are_named);
+    report = sym (ap (λ (o : List TransactionPlace). report_of file o (aborts_named file.names text)) order_is_named ∙ ap (report_of file (places_of ordered)) aborts_are_named);
   }
 
   abbrev object : List ℕ
@@ -200,9 +200,9 @@ module _ {valid : Validity} {sizes : List ℕ} {opening : Contents} {past : Past
   json_lawful : IsLawfulJson (updating_by means) file tries object
   json_lawful = record {
     order = subst (IsOrder file) (sym json_order_is_named) lawful_order;
-    aborts = subst (λ (o : List Place). AreLawful (updating_by means) file tries o (json_aborts_named file.names object)) (sym json_order_is_named)
+    aborts = subst (λ (o : List TransactionPlace). AreLawful (updating_by means) file tries o (json_aborts_named file.names object)) (sym json_order_is_named)
         (subst (AreLawful (updating_by means) file tries (places_of ordered)) (sym json_aborts_are_named) lawful_aborts);
-    report = sym (ap (λ (o : List Place). json_of file o (json_aborts_named file.names object)) json_order_is_named ∙ ap (json_of file (places_of ordered)) json_aborts_are_named);
+    report = sym (ap (λ (o : List TransactionPlace). json_of file o (json_aborts_named file.names object)) json_order_is_named ∙ ap (json_of file (places_of ordered)) json_aborts_are_named);
   }
 
   -- The report of the records is lawful in either form, with what the types of the objects say of updates.

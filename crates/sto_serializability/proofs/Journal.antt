@@ -6,8 +6,8 @@ use mathlib.Core.Option.{some}
 use lib.ListN.{get_elem?}
 use Rattle.std.proofs.lemmas.List.Elements.{All-filter}
 use Rattle.std.proofs.lemmas.List.Sorted.{All-permutation}
-use Rattle.sto_model.specs.Machine.{Machine, opening_of}
-use Rattle.sto_model.specs.Told.{Told}
+use Rattle.sto_model.specs.SequentialObjects.{SequentialObject, opening_of}
+use Rattle.sto_model.specs.PlainReplies.{PlainReply}
 use Rattle.sto_model.specs.Run.{State}
 use Rattle.sto_model.specs.declared.shape.Shape.{Shape}
 use Rattle.sto_lang.specs.Objects.{shapes_of}
@@ -19,7 +19,7 @@ use Rattle.sto_core.specs.declared.view.View.{View}
 use Rattle.sto_core.specs.History.{Contents, Validity, contents_as_of, writes, committed_updates}
 use Rattle.sto_core.specs.Core.{Core}
 use Rattle.sto_core.specs.Rule.{Past, Rule}
-use Rattle.sto_report_spec.specs.Orders.{Place, transaction_at, IsOrder}
+use Rattle.sto_report_spec.specs.Orders.{TransactionPlace, transaction_at, IsOrder}
 use Rattle.sto_report_spec.specs.Replay.{Entry, machines_for, opening_state, entries_from, state_from, shown_from, entries_of, final_state, shown}
 use Rattle.sto_history.specs.Records.{Record, is_abort, is_finished, times_written, writers_up_to}
 use Rattle.sto_serializability.specs.Finished.{IsRecord, AreFinished}

@@ -9,7 +9,7 @@ use Rattle.std.proofs.lemmas.List.Elements.{All-head, All-tail, All-filter, All-
 use Rattle.std.proofs.lemmas.List.Sums.{sum_by-cons}
 use Rattle.std.proofs.lemmas.List.Sorted.{sum_by-IsPermutation, All-permutation}
 use Rattle.sto_lang.specs.Scripts.{Script, File}
-use Rattle.sto_report_spec.specs.Orders.{Place, positions_of, numbers_from, count_in, IsOrder}
+use Rattle.sto_report_spec.specs.Orders.{TransactionPlace, positions_of, numbers_from, count_in, IsOrder}
 use Rattle.sto_history.specs.Records.{Verdict, Wrote, Read, Cancelled, Locked, Changed, Record, is_abort, is_finished, known_after, IsSince}
 use Rattle.sto_history.specs.Counted.{Follows, InThreads, finished_places}
 use Rattle.sto_serializability.specs.Merged.{key_of, is_before, AreInOrder, AreMerged}

@@ -4,8 +4,8 @@ use Rattle.std.proofs.Common.{◌≡◌, ◌⊎◌, ℕ, zero, suc, ◌+◌, ◌
 use Rattle.std.proofs.lemmas.Bool.{cases_lt}
 use Rattle.std.proofs.lemmas.Bool.Decides.{nat_tests}
 use Rattle.sto_item.specs.Pending.{applied_updates}
-use Rattle.sto_model.specs.Told.{Told}
-use Rattle.sto_model.specs.Run.{Script as Steps, State, IsRun}
+use Rattle.sto_model.specs.PlainReplies.{PlainReply}
+use Rattle.sto_model.specs.Run.{Behaviour, State, IsRun}
 use Rattle.sto_model.specs.Serial.{IsSerialRun, is_writer_run}
 use Rattle.sto_model.specs.declared.run.End.{End}
 use Rattle.sto_model.specs.declared.run.End.TheVariants as ends
@@ -15,7 +15,7 @@ use Rattle.sto_script.specs.Meaning.{meaning_of}
 use Rattle.sto_type.specs.Known.{Parts}
 use Rattle.sto_type.specs.Meaning.{Meaning}
 use Rattle.sto_type.specs.Runs.{IsRunOn}
-use Rattle.sto_report_spec.specs.Orders.{Place, transaction_at}
+use Rattle.sto_report_spec.specs.Orders.{TransactionPlace, transaction_at}
 use Rattle.sto_report_spec.specs.Replay.{Entry, machines_for, run_at, is_writer, ending_by, counted, entry_at, entries_from, state_from, shown_from}
 use Rattle.sto_history.specs.Records.{Verdict, Wrote, Read, Cancelled, Locked, Changed, Record, is_abort, is_wrote, stands_at, IsSince, wrote_with, times_written, writers_up_to}
 use Rattle.sto_serializability.specs.Merged.{ending_of, line_of}
@@ -27,12 +27,12 @@ use Rattle.sto_serializability.proofs.Stands.{Stands}
 use Rattle.sto_serializability.proofs.Chains.{Every, IsChain, chain_above}
 
 -- the transactions of records
-abbrev pub places_of : List Record → List Place
+abbrev pub places_of : List Record → List TransactionPlace
 places_of rs = map (λ r. r.place) rs
 
 -- each transaction asks at most as many calls as it weighs
 abbrev pub AreWeighed : File → Type 0
-AreWeighed file = (place : Place) (s : Script) → transaction_at file place ≡ Some s → calls_of s.body ≤ s.weight
+AreWeighed file = (place : TransactionPlace) (s : Script) → transaction_at file place ≡ Some s → calls_of s.body ≤ s.weight
 
 module _ (m : Meaning) (file : File) (same : machines_for file ≡ m.machines) (weighed : AreWeighed file)
     (clock : ℕ) (contents : ℕ → Parts) (wrote : ℕ → ℕ → Bool) (all : List Record) (h : IsHistory m clock contents all) where
@@ -64,7 +64,7 @@ module _ (m : Meaning) (file : File) (same : machines_for file ≡ m.machines) (
   passes u (Changed n p t) l = refl
 
   -- a writer
-  module _ (n : ℕ) (place : Place) (replies : List Told) (t : ℕ) (s : Script) (at : transaction_at file place ≡ Some s)
+  module _ (n : ℕ) (place : TransactionPlace) (replies : List PlainReply) (t : ℕ) (s : Script) (at : transaction_at file place ≡ Some s)
       (w : WroteAt m clock contents wrote all (meaning_of s) replies t) (l : n < t)
       (none : (u : ℕ) → n < u → u < t → times_written u all ≡ 0) (one : times_written t all ≡ 1) where
     open w use {before, next, within, updates, runs, leaves}
@@ -107,7 +107,7 @@ module _ (m : Meaning) (file : File) (same : machines_for file ≡ m.machines) (
     is_writer_true = writer_is file m.machines same place s at (m.rows (contents n)) replies ends.Commit (m.rows (contents t)) serial few true w.writes_some
 
   -- one that wrote nothing
-  module _ (n : ℕ) (place : Place) (replies : List Told) (a : ℕ) (le : n ≤ a) (within : a ≤ clock) (s : Script) (at : transaction_at file place ≡ Some s)
+  module _ (n : ℕ) (place : TransactionPlace) (replies : List PlainReply) (a : ℕ) (le : n ≤ a) (within : a ≤ clock) (s : Script) (at : transaction_at file place ≡ Some s)
       (none : (u : ℕ) → n < u → u ≤ a → times_written u all ≡ 0) where
     pub same_at : contents a ≡ contents n
     same_at = contents_still h n a le within none
@@ -173,7 +173,7 @@ module _ (m : Meaning) (file : File) (same : machines_for file ≡ m.machines) (
     pub writer : is_writer (transaction_at file r.place) (run_at file (m.rows (contents n)) r.place) ≡ is_wrote r.verdict
     pub count : writers_up_to (stands_at r.verdict) all ≡ counted (is_wrote r.verdict) (writers_up_to n all)
 
-  next_by : (n : ℕ) (place : Place) (replies : List Told) (v : Verdict) (todo : List Record) → is_abort v ≡ false
+  next_by : (n : ℕ) (place : TransactionPlace) (replies : List PlainReply) (v : Verdict) (todo : List Record) → is_abort v ≡ false
       → IsSince n v → IsChain (stands_at v) todo → AreLeft n (record { place = place; replies = replies; verdict = v } ∷ todo)
       → (s : Script) → transaction_at file place ≡ Some s → StandsAt m clock contents wrote all (meaning_of s) replies v
       → Next n (record { place = place; replies = replies; verdict = v })
@@ -241,7 +241,7 @@ module _ (m : Meaning) (file : File) (same : machines_for file ≡ m.machines) (
       let k : ℕ = stands_at r.verdict in
       let rest = replays k todo next.did.within f.1 chain.1 (left_next n r todo f.0 chain left) in
       let st : State = m.rows (contents n) in
-      let ps : List Place = places_of todo in
+      let ps : List TransactionPlace = places_of todo in
       record {
         entries =
             ap (λ (e : Entry). e ∷ entries_from file e.writers (run_at file st r.place).after ps) next.did.entry

@@ -1,8 +1,8 @@
 -- What a run that was told gives in a replay.
 use Rattle.std.proofs.Common.{◌≡◌, ℕ, zero, suc, ◌≤◌, List, [], ◌∷◌, ◌++◌, length, refl, sym, ap, ◌∙◌, arith, Bool, true, false, Some, Option}
-use Rattle.sto_model.specs.Told.{Told}
-use Rattle.sto_model.specs.Machine.{Machine, reply_to, state_after}
-use Rattle.sto_model.specs.Run.{Script as Steps, State, IsRun, IsReplyTo, stepped, state_along}
+use Rattle.sto_model.specs.PlainReplies.{PlainReply}
+use Rattle.sto_model.specs.SequentialObjects.{SequentialObject, reply_to, state_after}
+use Rattle.sto_model.specs.Run.{Behaviour, State, IsRun, IsReplyTo, stepped, state_along}
 use Rattle.sto_model.specs.Serial.{IsSerialRun, SerialRun, by_next, ended, heard, run_within, settled_run, serial_run_of, is_writer_run}
 use Rattle.sto_model.specs.declared.body.Next.{Next}
 use Rattle.sto_model.specs.declared.body.Next.TheVariants.{Ask, Commit, Cancel}
@@ -11,42 +11,42 @@ use Rattle.sto_model.specs.declared.run.End.TheVariants as ends
 use Rattle.sto_model.proofs.OneRun.{serial_run_of-is}
 use Rattle.sto_lang.specs.Scripts.{Script, File}
 use Rattle.sto_script.specs.Meaning.{meaning_of}
-use Rattle.sto_report_spec.specs.Orders.{Place, transaction_at}
+use Rattle.sto_report_spec.specs.Orders.{TransactionPlace, transaction_at}
 use Rattle.sto_report_spec.specs.Replay.{Entry, machines_for, script_run, run_at, is_writer, ending_by, counted, entry_at}
 use Rattle.sto_report_spec.specs.LawfulAborts.{IsFront}
 
 -- the first replies of a run are the first ones of the computed run
 
 by_reply :
-    (ms : List Machine) (n : ℕ) (f : Steps) (st : State) (r : Told) (step : Next) → IsReplyTo ms step st r
+    (ms : List SequentialObject) (n : ℕ) (f : Behaviour) (st : State) (r : PlainReply) (step : Next) → IsReplyTo ms step st r
     → by_next step (λ call. heard (reply_to ms call st) (run_within ms n (λ xs. f (reply_to ms call st ∷ xs)) (state_after ms call st))) (ended st)
     ≡ heard r (run_within ms n (λ xs. f (r ∷ xs)) (stepped ms step st))
 by_reply ms n f st r (Ask call) h =
-    ap (λ (z : Told). heard z (run_within ms n (λ xs. f (z ∷ xs)) (state_after ms call st))) h
+    ap (λ (z : PlainReply). heard z (run_within ms n (λ xs. f (z ∷ xs)) (state_after ms call st))) h
 by_reply ms n f st r Commit h = absurd h
 by_reply ms n f st r Cancel h = absurd h
 
-front_within : (ms : List Machine) (n : ℕ) (f : Steps) (st : State) (rs : List Told) → IsRun ms f st rs → length rs ≤ n → IsFront rs (run_within ms n f st).replies
+front_within : (ms : List SequentialObject) (n : ℕ) (f : Behaviour) (st : State) (rs : List PlainReply) → IsRun ms f st rs → length rs ≤ n → IsFront rs (run_within ms n f st).replies
 front_within ms n f st [] h few = ((run_within ms n f st).replies, refl)
 front_within ms zero f st (r ∷ rs) h few = absurd (omega (arith, few))
 front_within ms (suc n) f st (r ∷ rs) h few =
     let rest = front_within ms n (λ xs. f (r ∷ xs)) (stepped ms (f []) st) rs h.1 (omega (arith, few)) in (
       rest.0,
       ap (λ (run : SerialRun). run.replies) (by_reply ms n f st r (f []) h.0)
-          ∙ ap (λ (ts : List Told). r ∷ ts) rest.1,
+          ∙ ap (λ (ts : List PlainReply). r ∷ ts) rest.1,
     )
 
-module _ (file : File) (ms : List Machine) (same : machines_for file ≡ ms) (place : Place) (s : Script) (at : transaction_at file place ≡ Some s) (st : State) where
+module _ (file : File) (ms : List SequentialObject) (same : machines_for file ≡ ms) (place : TransactionPlace) (s : Script) (at : transaction_at file place ≡ Some s) (st : State) where
   pub computed : run_at file st place ≡ serial_run_of ms s.weight (meaning_of s) st
-  computed = ap (script_run (machines_for file) st) at ∙ ap (λ (l : List Machine). serial_run_of l s.weight (meaning_of s) st) same
+  computed = ap (script_run (machines_for file) st) at ∙ ap (λ (l : List SequentialObject). serial_run_of l s.weight (meaning_of s) st) same
 
   -- the replies of an attempt are the first ones of the transaction's run
-  pub front_at : (rs : List Told) → IsRun ms (meaning_of s) st rs → length rs ≤ s.weight → IsFront rs (run_at file st place).replies
+  pub front_at : (rs : List PlainReply) → IsRun ms (meaning_of s) st rs → length rs ≤ s.weight → IsFront rs (run_at file st place).replies
   front_at rs run few =
       let front = front_within ms s.weight (meaning_of s) st rs run few in
       (front.0, ap (λ (r : SerialRun). r.replies) computed ∙ front.1)
 
-  module _ (rs : List Told) (end : End) (after : State) (run : IsSerialRun ms (meaning_of s) st rs end after) (few : length rs ≤ s.weight) where
+  module _ (rs : List PlainReply) (end : End) (after : State) (run : IsSerialRun ms (meaning_of s) st rs end after) (few : length rs ≤ s.weight) where
     done : SerialRun
     done = record { replies = rs; end = end; after = after }
 

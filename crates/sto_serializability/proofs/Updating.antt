@@ -8,8 +8,8 @@ use Rattle.sto_part.specs.Changes.{composed_all}
 use Rattle.sto_item.specs.Pending.{Entry, AreUpdates, is_keep, applied_updates, inserted, with_update, with_updates}
 use Rattle.sto_item.specs.Agreement.{HasWidths}
 use Rattle.sto_item.proofs.Widths.{HasWidths-below, AreUpdates-with_updates, HasWidths-with_updates, applied_updates-with_updates}
-use Rattle.sto_model.specs.Told.{Told}
-use Rattle.sto_model.specs.Run.{Script as Steps, MayAsk}
+use Rattle.sto_model.specs.PlainReplies.{PlainReply}
+use Rattle.sto_model.specs.Run.{Behaviour, MayAsk}
 use Rattle.sto_model.specs.declared.call.Call.{Call}
 use Rattle.sto_model.specs.declared.body.Next.{Next}
 use Rattle.sto_model.specs.declared.body.Next.TheVariants.{Ask, Commit, Cancel}
@@ -119,7 +119,7 @@ module _ (means : List Shape → Meaning) (shapes : List Shape) (law : IsLawful 
         ];
       }
 
-  pending_runs : (f : Steps) (rs : List Told) → AreTaken (means shapes) f rs → (es : List Entry) (done : Updates) → IsPending es done
+  pending_runs : (f : Behaviour) (rs : List PlainReply) → AreTaken (means shapes) f rs → (es : List Entry) (done : Updates) → IsPending es done
       → IsPending (pending_along (means shapes) f c es rs) (updates_along (updating_by means) shapes f rs done)
   pending_runs f [] t es done h = h
   pending_runs f (r ∷ rs) t es done h =
@@ -127,11 +127,11 @@ module _ (means : List Shape → Meaning) (shapes : List Shape) (law : IsLawful 
       (pending_next (f []) t.0 es done h)
 
   -- a whole run
-  pub record Updated (f : Steps) (rs : List Told) : Type 0 where
+  pub record Updated (f : Behaviour) (rs : List PlainReply) : Type 0 where
     pub contents : (updates_along (updating_by means) shapes f rs (record { parts = []; contents = c })).contents ≡ applied_updates (pending_along (means shapes) f c [] rs) c
     pub parts : (p : ℕ) → writes (pending_along (means shapes) f c [] rs) p ≡ true → Stood p (updates_along (updating_by means) shapes f rs (record { parts = []; contents = c })).parts
 
-  pub run_updates : (f : Steps) (rs : List Told) → AreTaken (means shapes) f rs → (means shapes).valid c → Updated f rs
+  pub run_updates : (f : Behaviour) (rs : List PlainReply) → AreTaken (means shapes) f rs → (means shapes).valid c → Updated f rs
   run_updates f rs t v =
       let all = pending_runs f rs t [] (record { parts = []; contents = c }) (record {
         ordered = (tt, tt);

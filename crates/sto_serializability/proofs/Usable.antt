@@ -13,7 +13,7 @@ use Rattle.sto_lang.specs.Scripts.{Script, File}
 use Rattle.sto_lang.specs.Sound.{IsNumbered, HaveOwnNumbers, IsSoundScript, IsSound}
 use Rattle.sto_lang.proofs.SoundObjects.{order_count}
 use Rattle.sto_lang.proofs.SoundFiles.{calls_within, script_at}
-use Rattle.sto_report_spec.specs.Orders.{Place, at_position, transaction_at}
+use Rattle.sto_report_spec.specs.Orders.{TransactionPlace, at_position, transaction_at}
 use Rattle.sto_serializability.specs.Meanings.{IsNamedObject, AreNamed, IsUsable}
 use Rattle.sto_serializability.proofs.Chains.{Every, every}
 use Rattle.sto_serializability.proofs.Pairs.{Later, every_weaker, occurrences}
@@ -88,7 +88,7 @@ found_script (Some scripts) zero script e = absurd cc
 found_script (Some scripts) (suc earlier) script e = record { scripts = scripts; earlier = earlier; in_thread = refl; next = refl; stands = e }
 
 -- each transaction of a sound file is sound
-pub sound_script : (file : File) → IsSound file → (place : Place) (script : Script) → transaction_at file place ≡ Some script → IsSoundScript (shapes_of file.declarations) script
+pub sound_script : (file : File) → IsSound file → (place : TransactionPlace) (script : Script) → transaction_at file place ≡ Some script → IsSoundScript (shapes_of file.declarations) script
 sound_script file sound place script e =
     let f : Found (slice_get file.threads place.0) place.1 script = found_script (slice_get file.threads place.0) place.1 script e in
     script_at file place.0 f.earlier f.scripts script sound f.in_thread f.stands

@@ -1,7 +1,7 @@
 -- The journals of worked cases, computed on the definitions.
 use Rattle.std.specs.Prelude.{filter}
 use Rattle.std.proofs.Common.{◌≡◌, ℕ, List, [], ◌∷◌, map, refl, pos, codes}
-use Rattle.sto_model.specs.Told.{Told, Value, Done}
+use Rattle.sto_model.specs.PlainReplies.{PlainReply, Value, Done}
 use Rattle.sto_model.specs.declared.shape.Shape.{Shape}
 use Rattle.sto_model.specs.declared.shape.Shape.TheVariants.{Single}
 use Rattle.sto_lang.specs.Objects.{Declaration}

@@ -4,7 +4,7 @@ use Rattle.std.proofs.Common.{◌≡◌, ℕ, zero, suc, ◌+◌, ◌<◌, ◌�
 use Rattle.std.proofs.lemmas.Bool.{cases_lt}
 use Rattle.std.proofs.lemmas.Bool.Decides.{nat_tests}
 use Rattle.sto_item.specs.Pending.{Entry, applied_updates}
-use Rattle.sto_model.specs.Told.{Told}
+use Rattle.sto_model.specs.PlainReplies.{PlainReply}
 use Rattle.sto_model.specs.Run.{State, MayAsk}
 use Rattle.sto_model.specs.declared.shape.Shape.{Shape}
 use Rattle.sto_lang.specs.Objects.{shapes_of}
@@ -14,7 +14,7 @@ use Rattle.sto_type.specs.Known.{Parts}
 use Rattle.sto_type.specs.Meaning.{Meaning, IsLawful}
 use Rattle.sto_type.specs.Runs.{pending_along}
 use Rattle.sto_core.specs.History.{writes}
-use Rattle.sto_report_spec.specs.Orders.{Place, transaction_at}
+use Rattle.sto_report_spec.specs.Orders.{TransactionPlace, transaction_at}
 use Rattle.sto_report_spec.specs.Replay.{machines_for, run_at, counted}
 use Rattle.sto_report_spec.specs.Updated.{Updates, updates_along, updates_in, updates_at, at_writer, updated_from}
 use Rattle.sto_history.specs.Records.{Verdict, Wrote, Read, Cancelled, Locked, Changed, Record, is_abort, is_wrote, stands_at, IsSince, wrote_with, times_written, writers_up_to}
@@ -55,14 +55,14 @@ module _ (means : List Shape → Meaning) (file : File) (law : IsLawful (means (
   m = means (shapes_of file.declarations)
 
   -- what the run at a place updates, from the contents after the number n
-  abbrev updates_here : ℕ → Place → Updates
+  abbrev updates_here : ℕ → TransactionPlace → Updates
   updates_here n place = updates_at (updating_by means) file (m.rows (contents n)) (contents n) place
 
-  record Leads (n : ℕ) (place : Place) (t : ℕ) : Type 0 where
+  record Leads (n : ℕ) (place : TransactionPlace) (t : ℕ) : Type 0 where
     leads_to : (updates_here n place).contents ≡ contents t
     parts : (p : ℕ) → wrote t p ≡ true → Stood p (updates_here n place).parts
 
-  writer_leads : (n : ℕ) (place : Place) (replies : List Told) (t : ℕ) (s : Script) → n ≤ clock → (at : transaction_at file place ≡ Some s)
+  writer_leads : (n : ℕ) (place : TransactionPlace) (replies : List PlainReply) (t : ℕ) (s : Script) → n ≤ clock → (at : transaction_at file place ≡ Some s)
       → (w : WroteAt m clock contents wrote all (meaning_of s) replies t) → n < t
       → ((u : ℕ) → n < u → u < t → times_written u all ≡ 0) → times_written t all ≡ 1 → Leads n place t
   writer_leads n place replies t s le at w l none one =
@@ -70,7 +70,7 @@ module _ (means : List Shape → Meaning) (file : File) (law : IsLawful (means (
       run_updates means (shapes_of file.declarations) law (contents n) (meaning_of s) replies w.runs.taken (h.valid n le) in
       let here : updates_here n place ≡ updates_along (updating_by means) (shapes_of file.declarations) (meaning_of s) replies (record { parts = []; contents = contents n }) =
       ap (λ (o : Option Script). updates_in (updating_by means) (shapes_of file.declarations) o (run_at file (m.rows (contents n)) place).replies (contents n)) at
-      ∙ ap (λ (rs : List Told). updates_along (updating_by means) (shapes_of file.declarations) (meaning_of s) rs (record { parts = []; contents = contents n }))
+      ∙ ap (λ (rs : List PlainReply). updates_along (updating_by means) (shapes_of file.declarations) (meaning_of s) rs (record { parts = []; contents = contents n }))
       (writer_replies m file same weighed clock contents wrote all h n place replies t s at w l none one) in
       let before : contents w.before ≡ contents n = same_before m file same weighed clock contents wrote all h n place replies t s at w l none one in
       let pending : w.updates ≡ pending_along m (meaning_of s) (contents n) [] replies =
@@ -86,7 +86,7 @@ module _ (means : List Shape → Meaning) (file : File) (law : IsLawful (means (
             (up.parts p (subst (λ (es : List Entry). writes es p ≡ true) pending (w.named p k)));
       }
 
-  leads_by : (n : ℕ) (place : Place) (replies : List Told) (v : Verdict) (todo : List Record) → is_wrote v ≡ true → n ≤ clock
+  leads_by : (n : ℕ) (place : TransactionPlace) (replies : List PlainReply) (v : Verdict) (todo : List Record) → is_wrote v ≡ true → n ≤ clock
       → IsSince n v → IsChain (stands_at v) todo → AreLeft m file same weighed clock contents wrote all h n (record { place = place; replies = replies; verdict = v } ∷ todo)
       → (s : Script) → transaction_at file place ≡ Some s → StandsAt m clock contents wrote all (meaning_of s) replies v
       → Leads n place (stands_at v)

@@ -8,7 +8,7 @@ use Rattle.sto_core.specs.declared.view.Entry.{Entry}
 use Rattle.sto_core.specs.declared.view.Fate.{Fate}
 use Rattle.sto_core.specs.declared.view.Fate.TheVariants.{Pending, Committed, Dropped}
 use Rattle.sto_core.specs.declared.view.View.{View}
-use Rattle.sto_report_spec.specs.Orders.{Place, transaction_at, IsOrder}
+use Rattle.sto_report_spec.specs.Orders.{TransactionPlace, transaction_at, IsOrder}
 use Rattle.sto_history.specs.Records.{Verdict, Record, is_abort, is_finished, known_after, IsSince, times_written}
 use Rattle.sto_history.specs.Counted.{times_committed, InThreads, aborted_times, finished_places}
 use Rattle.sto_history.specs.Told.{IsTold}
@@ -21,14 +21,14 @@ pub record IsRecord (m : Meaning) (file : File) (v : View) (r : Record) : Type 0
 
 -- a transaction that used up its tries is handed back with all later ones of its thread, and of these no attempt is aborted
 abbrev pub HandsBack : ℕ → List Record → Type 0
-HandsBack tries rs = (p q : Place) → p.0 ≡ q.0 → p.1 < q.1 → aborted_times p rs ≡ tries → aborted_times q rs ≡ 0
+HandsBack tries rs = (p q : TransactionPlace) → p.0 ≡ q.0 → p.1 < q.1 → aborted_times p rs ≡ tries → aborted_times q rs ≡ 0
 
 -- the records are those of a finished run of the file with so many tries
 pub record AreFinished (m : Meaning) (file : File) (tries : ℕ) (v : View) (rs : List Record) : Type 0 where
   -- each transaction of the file has one record that is not aborted, and those of a thread stand in rising position
   pub order : IsOrder file (finished_places rs)
   pub threads : InThreads rs
-  pub few : (place : Place) → aborted_times place rs ≤ tries
+  pub few : (place : TransactionPlace) → aborted_times place rs ≤ tries
   pub handed : HandsBack tries rs
   -- the committed entries of the view are those of the records that wrote
   pub tickets : (t : ℕ) → times_written t rs ≡ times_committed t v.entries

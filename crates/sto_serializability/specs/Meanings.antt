@@ -9,7 +9,7 @@ use Rattle.sto_lang.specs.Objects.{Declaration, HaveNames, shapes_of, with_numbe
 use Rattle.sto_model.specs.Sizes.{part_count}
 use Rattle.sto_lang.specs.Scripts.{Script, File}
 use Rattle.sto_lang.specs.Sizes.{calls_of}
-use Rattle.sto_report_spec.specs.Orders.{Place, transaction_at}
+use Rattle.sto_report_spec.specs.Orders.{TransactionPlace, transaction_at}
 use Rattle.sto_report_spec.specs.Named.{AreNames}
 use Rattle.sto_report_spec.specs.LawfulAborts.{declared_as}
 use Rattle.sto_type.specs.Meaning.{Meaning, IsLawful}
@@ -58,4 +58,4 @@ pub record IsUsable (file : File) : Type 0 where
   pub words : HaveNames file.declarations
   pub threads : AreNames file.names
   pub each_thread : length file.names ≡ length file.threads
-  pub weighed : (place : Place) (script : Script) → transaction_at file place ≡ Some script → calls_of script.body ≤ script.weight
+  pub weighed : (place : TransactionPlace) (script : Script) → transaction_at file place ≡ Some script → calls_of script.body ≤ script.weight

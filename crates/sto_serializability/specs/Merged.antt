@@ -2,9 +2,9 @@
 use Rattle.std.specs.Prelude.{◌≡◌, ℕ, zero, suc, ◌+◌, ◌*◌, List, [], ◌∷◌, ◌++◌, Bool, true, false, ◌==◌, nat_lt, ◌&&◌, ◌||◌, if◌then◌else◌, filter, slice_index_or, length}
 use Rattle.std.specs.List.{All}
 use Rattle.std.specs.List.Sorted.{IsPermutation}
-use Rattle.sto_model.specs.Told.{Told}
+use Rattle.sto_model.specs.PlainReplies.{PlainReply}
 use Rattle.sto_lang.specs.Objects.{Declaration}
-use Rattle.sto_report_spec.specs.Orders.{Place}
+use Rattle.sto_report_spec.specs.Orders.{TransactionPlace}
 use Rattle.sto_report_spec.specs.Replay.{Entry}
 use Rattle.sto_report_spec.specs.declared.ending.Ending.{Ending}
 use Rattle.sto_report_spec.specs.declared.ending.Ending.TheVariants as endings
@@ -54,7 +54,7 @@ abbrev pub part_named : List Declaration → List (ℕ × ℕ) → ℕ → Local
 part_named declarations homes p = part_by_home declarations (slice_index_or homes p (0, 0))
 
 -- the abort line of a record, where it is aborted: numbers of the history are counted into writers
-abbrev pub lines_of_abort : List Declaration → List (ℕ × ℕ) → List Record → Place → List Told → Verdict → List Abort
+abbrev pub lines_of_abort : List Declaration → List (ℕ × ℕ) → List Record → TransactionPlace → List PlainReply → Verdict → List Abort
 lines_of_abort declarations homes rs place replies (Wrote ticket) = []
 lines_of_abort declarations homes rs place replies (Read at) = []
 lines_of_abort declarations homes rs place replies (Cancelled at) = []

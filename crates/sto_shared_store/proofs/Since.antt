@@ -3,7 +3,7 @@ use Rattle.std.proofs.Common.{◌≡◌, ℕ, List, [], ◌∷◌, ◌++◌, Opt
 use Rattle.atomic_table.specs.declared.shared.Seat.{Seat}
 use Rattle.sto_part.specs.declared.naming.Naming as naming
 use Rattle.sto_model.specs.declared.call.Call.{Call}
-use Rattle.sto_model.specs.Told.{Told}
+use Rattle.sto_model.specs.PlainReplies.{PlainReply}
 use Rattle.sto_type.specs.Traits.{OfType}
 use Rattle.sto_core.specs.declared.view.View.{View}
 use Rattle.sto_history.specs.Added.{Grows}
@@ -41,7 +41,7 @@ module _ {T : Type 0} {n : naming.Ghosts T} (t : OfType T) (s : Store T) (v : Vi
   free_since : (y : Session T n) → IsFree t s.ty s.shared y → Grows v (view_of y) → IsAt t s v (Some y)
   free_since y free grows = subst (λ (o : Option RestingTransaction). StandsSince t s v o y.rest.seat y.left) (sym free.none) (free.rests, grows)
 
-  asking_since : (calls : List Call) (rs : List Told) (y : Session T n) (begun : View) → IsAsking t s.ty s.shared calls rs y begun → Grows v begun → IsAt t s v (Some y)
+  asking_since : (calls : List Call) (rs : List PlainReply) (y : Session T n) (begun : View) → IsAsking t s.ty s.shared calls rs y begun → Grows v begun → IsAt t s v (Some y)
   asking_since calls rs y begun h grows =
       subst (λ (o : Option RestingTransaction). StandsSince t s v o y.rest.seat y.left) (sym h.live) (calls, rs, begun, h.waits, grows)
 
@@ -64,7 +64,7 @@ module _ {T : Type 0} {n : naming.Ghosts T} (t : OfType T) (s : Store T) (v : Vi
   begun_since x y (Err unbegun.Worn) h b = unchanged_since x y b.2 h
   begun_since x y (Err unbegun.NoMemory) h b = failed_since y (view_of x) (grown x b.0 h) b.1
 
-  after_asked : (calls : List Call) (rs : List Told) (begun : View) (call : Call) (r : Result (Unit {0}) AskError) (y : Session T n) → Grows v begun
+  after_asked : (calls : List Call) (rs : List PlainReply) (begun : View) (call : Call) (r : Result (Unit {0}) AskError) (y : Session T n) → Grows v begun
       → HasAskedAfter t s.ty s.shared calls rs begun call r y → IsAt t s v (Some y)
   after_asked calls rs begun call (Ok answered) y grows h = asking_since (calls ++ call ∷ []) (rs ++ h.reply ∷ []) y begun h.asking grows
   after_asked calls rs begun call (Err unanswered.NoTransaction) y grows h = absurd h
@@ -72,14 +72,14 @@ module _ {T : Type 0} {n : naming.Ghosts T} (t : OfType T) (s : Store T) (v : Vi
   after_asked calls rs begun call (Err unanswered.Aborted) y grows h = free_since y h.free (grows_on v begun (view_of y) grows (h.told.tried (0, 0)).grows)
   after_asked calls rs begun call (Err unanswered.NoMemory) y grows h = failed_since y begun grows h
 
-  after_committed : (calls : List Call) (rs : List Told) (begun : View) (r : Result ℕ CommitError) (y : Session T n) → Grows v begun
+  after_committed : (calls : List Call) (rs : List PlainReply) (begun : View) (r : Result ℕ CommitError) (y : Session T n) → Grows v begun
       → HasCommittedAfter t s.ty s.shared calls rs begun r y → IsAt t s v (Some y)
   after_committed calls rs begun (Ok place) y grows h = free_since y h.free (grows_on v begun (view_of y) grows (h.told.ended.tried (0, 0)).grows)
   after_committed calls rs begun (Err uncommitted.NoTransaction) y grows h = absurd h
   after_committed calls rs begun (Err uncommitted.Aborted) y grows h = free_since y h.free (grows_on v begun (view_of y) grows (h.told.tried (0, 0)).grows)
   after_committed calls rs begun (Err uncommitted.NoMemory) y grows h = failed_since y begun grows h
 
-  after_cancelled : (calls : List Call) (rs : List Told) (begun : View) (r : Result ℕ CommitError) (y : Session T n) → Grows v begun
+  after_cancelled : (calls : List Call) (rs : List PlainReply) (begun : View) (r : Result ℕ CommitError) (y : Session T n) → Grows v begun
       → HasCancelledAfter t s.ty s.shared calls rs begun r y → IsAt t s v (Some y)
   after_cancelled calls rs begun (Ok place) y grows h = free_since y h.free (grows_on v begun (view_of y) grows (h.told.ended.tried (0, 0)).grows)
   after_cancelled calls rs begun (Err uncommitted.NoTransaction) y grows h = absurd h

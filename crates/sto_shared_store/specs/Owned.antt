@@ -9,7 +9,7 @@ use Rattle.sto_part.specs.declared.naming.Naming as naming
 use Rattle.sto_part.specs.Listed.{Listed}
 use Rattle.sto_model.specs.declared.call.Call.{Call}
 use Rattle.sto_model.specs.declared.reply.Reply.{Reply}
-use Rattle.sto_model.specs.Told.{Told}
+use Rattle.sto_model.specs.PlainReplies.{PlainReply}
 use Rattle.sto_type.specs.Traits.{OfType}
 use Rattle.sto_core.specs.declared.view.View.{View}
 use Rattle.sto_history.specs.Added.{Grows}
@@ -42,7 +42,7 @@ module _ {T : Type 0} (t : OfType T) where
   abbrev pub StandsSince : Store T → View → Option RestingTransaction → Seat (Unit {0}) Stance → ℕ → Type 0
   StandsSince s v None seat left = Rests t s.ty s.shared seat × Grows v seat.me.0.view
   StandsSince s v (Some p) seat left =
-      (calls : List Call) × (rs : List Told) × (begun : View) × Waits t s.ty s.shared calls rs p begun seat left × Grows v begun
+      (calls : List Call) × (rs : List PlainReply) × (begun : View) × Waits t s.ty s.shared calls rs p begun seat left × Grows v begun
 
 module _ {T : Type 0} {n : naming.Ghosts T} (t : OfType T) where
   -- the session of such a pass

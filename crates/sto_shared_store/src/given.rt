@@ -3,9 +3,9 @@ ghost use Rattle.std.specs.Prelude.{◌≡◌, IfSome, IfErr};
 ghost use Rattle.std.specs.Arc.{arc_value};
 ghost use Rattle.sto_shared_store.specs.Back.{HasComeBack};
 
-use counted_slot::{Counted, FREE, Fits, TAKEN};
 use crate::store::Store;
 use crate::worker::CountedRest;
+use counted_slot::{Counted, FREE, Fits, TAKEN};
 use std::alloc::Global;
 use std::sync::Arc;
 use sto_type::TxType;

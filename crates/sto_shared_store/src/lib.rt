@@ -16,9 +16,9 @@ mod worker;
 
 pub use given::{GivenBack, Hired, ReturnSlot};
 pub use opening::OpenedStore;
-pub use owned_store::{OwnedStore, OwnedCloseError, HireError};
-pub use owned_worker::{OwnedWorker, GiveBackError};
-pub use plan::Plan;
+pub use owned_store::{HireError, OwnedCloseError, OwnedStore};
+pub use owned_worker::{GiveBackError, OwnedWorker};
+pub use plan::ObjectPlan;
 pub use store::Store;
 pub use unclosed::StoreCloseError;
 pub use unopened::OpenError;

@@ -7,7 +7,7 @@ ghost use Rattle.sto_store.specs.StoresLaw.{IsFitting};
 ghost use Rattle.sto_shared_store.specs.Working.{IsWorker, IsFresh};
 ghost use Rattle.sto_shared_store.specs.Refusals.{IsCause};
 
-use crate::plan::Plan;
+use crate::plan::ObjectPlan;
 use crate::store::Store;
 use crate::unopened::OpenError;
 use crate::worker::{CountedRest, CountedRests};
@@ -105,7 +105,7 @@ impl<T: TxType + Drop> Store<T> {
     }
 }
 
-impl Plan {
+impl ObjectPlan {
     /// Opens a store of the planned objects, with so many workers. Each worker may draw 2^40 tickets.
     pub fn open(&self, alloc: Global, workers: u32) -> Result<OpenedStore<Objects>, OpenError>
         ensures machines { IfOk result (λ o. (⟦<Objects as TxType>⟧.meaning o.store.ty).machines ≡ machines_of self.now) }

@@ -7,13 +7,13 @@ ghost use Rattle.sto_shared_store.specs.Working.{IsWorker, AreRowsAfter};
 ghost use Rattle.sto_shared_store.specs.Owned.{IsOwnedStore, IsOwnedWorker};
 ghost use Rattle.sto_shared_store.specs.Endings.{HasTakenIn, HasGathered, HasLent, HasGivenOut, IsUnhired, StaysOpen};
 
-use counted_slot::Counted;
 use crate::given::{Hired, ReturnSlot, take};
 use crate::opening::OpenedStore;
 use crate::owned_worker::OwnedWorker;
 use crate::store::Store;
 use crate::unclosed::StoreCloseError;
 use crate::worker::{CountedRest, CountedRests};
+use counted_slot::Counted;
 use std::alloc::Global;
 use std::sync::Arc;
 use sto_interactive::Session;

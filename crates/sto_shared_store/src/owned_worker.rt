@@ -9,10 +9,10 @@ ghost use Rattle.sto_shared_store.specs.Endings.{IsOfWorker, IsFreeWorker, Stays
 use crate::given::{Hired, ReturnSlot, give};
 use crate::store::Store;
 use crate::worker::CountedRest;
-use std::mem;
 use std::alloc::Global;
+use std::mem;
 use std::sync::Arc;
-use sto_interactive::{StepLists, Session, AskError, BeginError, CommitError};
+use sto_interactive::{AskError, BeginError, CommitError, Session, StepLists};
 use sto_model::{Call, Replies};
 use sto_type::TxType;
 

@@ -18,7 +18,7 @@ use sto_type::TxType;
 ///
 /// Contracts see their shapes. What was planned can be opened: sizes and numbers that would not do are refused when they are added.
 #[derive(Drop)]
-pub struct Plan {
+pub struct ObjectPlan {
     shapes: Shapes,
     // How many parts they have together.
     parts: u32,
@@ -26,7 +26,7 @@ pub struct Plan {
     last: u32,
 }
 
-impl Model for Plan {
+impl Model for ObjectPlan {
     ghost use Rattle.std.specs.Prelude.{◌≡◌, List, sum_by};
     ghost use Rattle.sto_model.specs.Sizes.{part_count};
     ghost use Rattle.sto_model.specs.declared.shape.Shape.{Shape};
@@ -39,12 +39,12 @@ impl Model for Plan {
     ghost invariant = { λ p. IsPlan p.shapes.items × (p.parts ≡ sum_by part_count p.shapes.items) × (p.last ≡ last_rank p.shapes.items) };
 }
 
-impl Plan {
+impl ObjectPlan {
     /// No object.
-    pub fn new(alloc: Global) -> Plan
+    pub fn new(alloc: Global) -> ObjectPlan
         ensures { result ≡ [] }
     {
-        Plan {
+        ObjectPlan {
             shapes: Shapes::new(alloc),
             parts: 0,
             last: 0,
@@ -62,7 +62,7 @@ impl Plan {
     pub fn into_shapes(self) -> Shapes
         ensures { result.items ≡ self }
     {
-        let Plan { shapes, .. } = self;
+        let ObjectPlan { shapes, .. } = self;
         shapes
     }
 

@@ -19,7 +19,7 @@ use sto_model::{Call, State};
 use sto_part::{Contents, List, Naming, NoMemory, Pred};
 use sto_type::{Answer, AnswerPool, Both, Home, KnownParts, TxType};
 
-type Store = Both<Boxes, Both<Counters, Wide>>;
+type AllKinds = Both<Boxes, Both<Counters, Wide>>;
 
 /// Boxes, counters, arrays, hash tables, trees and vectors, in this order.
 ///
@@ -28,7 +28,7 @@ pub struct Objects {
     pub store: Both<Boxes, Both<Counters, Wide>>,
     // How many words each part has: an attempt asks it at each word that it reads.
     widths: List<u32>,
-    ghost measured: { widths.items ≡ (⟦<Store as TxType>⟧.meaning store).widths },
+    ghost measured: { widths.items ≡ (⟦<AllKinds as TxType>⟧.meaning store).widths },
 }
 
 impl Objects {
@@ -51,13 +51,13 @@ impl Drop for Objects {
 }
 
 impl Naming for Objects {
-    ghost sizes = { λ x. ⟦<Store as Naming>⟧.sizes x.store };
+    ghost sizes = { λ x. ⟦<AllKinds as Naming>⟧.sizes x.store };
 
-    ghost valid = { ⟦<Store as Naming>⟧.valid };
+    ghost valid = { ⟦<AllKinds as Naming>⟧.valid };
 }
 
 impl TxType for Objects {
-    ghost meaning = { λ x. ⟦<Store as TxType>⟧.meaning x.store };
+    ghost meaning = { λ x. ⟦<AllKinds as TxType>⟧.meaning x.store };
 
     ghost valid_is = { λ x c.
         IsValidBoth-is ⟦<Boxes as Naming>⟧.valid ⟦<Both<Counters, Wide> as Naming>⟧.valid _ _ _ (⟦<Boxes as Naming>⟧.sizes x.store.first)

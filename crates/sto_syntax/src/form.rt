@@ -4,12 +4,12 @@ ghost use Rattle.sto_syntax.specs.Lines.{words_of};
 ghost use Rattle.sto_syntax.specs.Forms.{ThreadLine, BeginLine, ElseLine, EndLine, CancelLine, CommitLine, box_line, counter_line, array_line, hash_line, tree_line, vector_line, alone, call, call_line, sum_line, diff_line, if_line, repeat_line, version_line, named_line, thread_line, assignment, acting, form_of, all_of, entry_of, schedule_line, statement};
 ghost use Rattle.sto_syntax.specs.Views.{form, form_option, name_option};
 
-use crate::{Declared, Name, Operand, Operands, OperationWord, next_word};
 use crate::entries::Entries;
 use crate::line::is_blank;
 use crate::operand::{has_form, operand_of, operands_of};
 use crate::operation::{operation_of, test_of};
 use crate::word::number;
+use crate::{Declared, Name, Operand, Operands, OperationWord, next_word};
 use sto_part::Test;
 
 /// A line that has a form.

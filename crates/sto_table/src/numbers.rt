@@ -2,8 +2,8 @@
 ghost use Rattle.std.specs.Prelude.{◌≡◌, ◌≤◌, ◌<◌, ◌+◌, ◌^◌, ℕ, [], IfOk, IfSome, IfNone, All, length, true};
 ghost use Rattle.sto_table.specs.Taken.{past, times, once_below, taken, left_after, HasClaimed, both};
 
-use atomic_table::{Join, Play, Seat, Split, Table, TableRule};
 use crate::taken::Taken;
+use atomic_table::{Join, Play, Seat, Split, Table, TableRule};
 use std::alloc::Global;
 use sto_part::{List, NoMemory};
 

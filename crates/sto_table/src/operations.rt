@@ -9,10 +9,10 @@ ghost use Rattle.sto_table.specs.Fits.{FitsIn};
 ghost use Rattle.sto_table.specs.Laid.{place_of, words_of};
 ghost use Rattle.sto_table.specs.Steps.{Plays};
 
-use atomic_table::Seat;
 use crate::law::{Steps, Telling};
 use crate::shared::Shared;
 use crate::stance::Stance;
+use atomic_table::Seat;
 use sto_item::Updates;
 use sto_part::{Naming, Parts};
 

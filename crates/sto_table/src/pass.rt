@@ -5,9 +5,9 @@ ghost use Rattle.sto_core.specs.Event.{Start, Open, Word, Close, Lock, Test, Dra
 ghost use Rattle.sto_table.specs.Fits.{IsSame, same_through};
 ghost use Rattle.sto_core.specs.Remembered.{Remembers};
 
-use atomic_table::Seat;
 use crate::shared::{Rest, Shared};
 use crate::stance::Stance;
+use atomic_table::Seat;
 use std::marker::{Brand, PhantomData};
 use sto_core::Cells;
 use sto_item::Updates;

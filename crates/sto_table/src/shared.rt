@@ -3,9 +3,9 @@ ghost use Rattle.std.specs.Prelude.{◌≡◌, ◌<◌, ◌^◌, [], length, map
 ghost use Rattle.sto_core.specs.Allowed.{is_idle};
 ghost use Rattle.sto_table.specs.Laid.{places_of, words_of};
 
-use atomic_table::{Seat, Table};
 use crate::law::{Key, Law};
 use crate::stance::Stance;
+use atomic_table::{Seat, Table};
 use std::alloc::Global;
 use std::marker::PhantomData;
 use sto_part::{List, Naming};

@@ -4,7 +4,7 @@ use Rattle.std.specs.Fmt.{digits}
 use Rattle.std.specs.Int.{int_wrap}
 use Rattle.std.proofs.Common.{◌≡◌, refl}
 use Rattle.sto_part.specs.declared.change.Change.TheVariants as C
-use Rattle.sto_model.specs.Told.{Told, Value, Done, Flag, Absent, Full, Range}
+use Rattle.sto_model.specs.PlainReplies.{PlainReply, Value, Done, Flag, Absent, Full, Range}
 use Rattle.sto_core.specs.Event.{Event, Start, Open, Word, Close, Renew, Recheck, Lock, Test, Draw, Check, Decide, Put, Release, Unlock}
 use Rattle.sto_attempt_log.specs.declared.verdict.Verdict.{Verdict}
 use Rattle.sto_attempt_log.specs.declared.verdict.Verdict.TheVariants.{Wrote, Read, Cancelled, Locked, Changed}
@@ -21,10 +21,10 @@ value x = (0, x)
 abbrev on : Event → Line
 on event = record { event = event; replies = []; end = None }
 
-abbrev says : Event → List Told → Line
+abbrev says : Event → List PlainReply → Line
 says event replies = record { event = event; replies = replies; end = None }
 
-abbrev ends_with : Event → List Told → Verdict → Line
+abbrev ends_with : Event → List PlainReply → Verdict → Line
 ends_with event replies verdict = record { event = event; replies = replies; end = Some verdict }
 
 -- lost_update

@@ -10,9 +10,9 @@ use Rattle.sto_item.specs.Rebase.{rebased}
 use Rattle.sto_model.specs.declared.call.Call.{Call}
 use Rattle.sto_model.specs.declared.body.Next.{Next}
 use Rattle.sto_model.specs.declared.body.Next.TheVariants.{Ask, Commit, Cancel}
-use Rattle.sto_model.specs.Machine.{reply_to}
-use Rattle.sto_model.specs.Told.{Told}
-use Rattle.sto_model.specs.Run.{Script}
+use Rattle.sto_model.specs.SequentialObjects.{reply_to}
+use Rattle.sto_model.specs.PlainReplies.{PlainReply}
+use Rattle.sto_model.specs.Run.{Behaviour}
 use Rattle.sto_core.specs.Event.{Event, Draw}
 use Rattle.sto_type.specs.Known.{Parts}
 use Rattle.sto_type.specs.Meaning.{Meaning}
@@ -78,7 +78,7 @@ at_next m d on r Commit = (r, Commits)
 at_next m d on r Cancel = (r, Cancels)
 
 -- at most so many calls
-abbrev pub run_body : Meaning → Script → Parts → ℕ → Reader → Reader × Reached
+abbrev pub run_body : Meaning → Behaviour → Parts → ℕ → Reader → Reader × Reached
 run_body m f d zero r = (r, Cancels)
 run_body m f d (suc n) r = at_next m d (run_body m f d n) r (f r.heard)
 
@@ -91,28 +91,28 @@ to_turn (Runs r) = turned r More
 abbrev pub to_led : Reader × Reached → Doing × Option Verdict
 to_led q = to_turn (led q.0 q.1)
 
-abbrev pub by_course : Meaning → Script → Course → Doing × Option Verdict
+abbrev pub by_course : Meaning → Behaviour → Course → Doing × Option Verdict
 by_course m f (Stays r turn) = turned r turn
 by_course m f (Runs r) = to_led (run_body m f (filled r.base 0 m.widths) 99 r)
 
 abbrev pub as_doing : Committer × Option Verdict → Doing × Option Verdict
 as_doing q = (Committing q.0, q.1)
 
-abbrev pub step_of : Meaning → Script → Doing → ℕ → ℤ → Doing × Option Verdict
+abbrev pub step_of : Meaning → Behaviour → Doing → ℕ → ℤ → Doing × Option Verdict
 step_of m f (Reads r) n x = by_course m f (after_read m r.phase r n x)
 step_of m f (Committing c) n x = as_doing (after_commit m c.phase c n x)
 
 -- an event, the replies that it completes, and the end of the attempt
 pub record Line : Type 0 where
   pub event : Event
-  pub replies : List Told
+  pub replies : List PlainReply
   pub end : Option Verdict
 
 abbrev pub line : Doing → Event → Doing × Option Verdict → Line
 line before event now = record { event = event; replies = drop (length (heard_in before)) (heard_in now.0); end = now.1 }
 
 -- an attempt whose events find these numbers and values: its lines
-abbrev pub plays : Meaning → Script → Doing → List (ℕ × ℤ) → List Line
+abbrev pub plays : Meaning → Behaviour → Doing → List (ℕ × ℤ) → List Line
 plays m f d [] = []
 plays m f d (x ∷ xs) = line d (event_next m d) (step_of m f d x.0 x.1) ∷ plays m f (step_of m f d x.0 x.1).0 xs
 

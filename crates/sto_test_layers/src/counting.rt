@@ -4,8 +4,8 @@ ghost use Rattle.std.specs.Prelude.{◌≡◌, ◌≤◌, ◌<◌, ◌+◌, ◌-
 ghost use Rattle.sto_test_layers.specs.Counter.{always, one_more, Counts, IsCounter, Rests};
 ghost use Rattle.sto_table.specs.Rests.{IsOf};
 
-use std::io;
 use std::alloc::Global;
+use std::io;
 use std::thread::{Threads, join};
 use sto_core::Cells;
 use sto_item::Updates;

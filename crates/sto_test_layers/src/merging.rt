@@ -9,8 +9,8 @@ mod typed;
 use case::Case;
 use long::is_in_order;
 use printed::report_of;
-use std::io;
 use std::alloc::{AllocError, Global};
+use std::io;
 use sto_lang::Text;
 use sto_part::NoMemory;
 

@@ -2,8 +2,8 @@
 use crate::codes::{GiveUp, Swap};
 use std::alloc::Global;
 use sto_library::{
-    BoxId, CloseError, CounterId, Done, Held, LookError, Objects, Schema, SharedStore, Snapshot,
-    PlanError, Waits, total_of, value_of,
+    BoxId, CloseError, CounterId, Done, Held, LookError, Objects, PlanError, Schema, SharedStore,
+    Snapshot, Waits, total_of, value_of,
 };
 
 // A store of a box that holds 7 and a counter that holds 5, with so many workers.

@@ -4,8 +4,8 @@ ghost use Rattle.sto_item.specs.Pending.{with_update, IsWidthOf};
 ghost use Rattle.sto_item.specs.Rebase.{HoldsWherePut};
 
 use std::alloc::Global;
-use sto_part::{Change, NoMemory, Pred, Test, Update};
 use sto_item::*;
+use sto_part::{Change, NoMemory, Pred, Test, Update};
 
 // That the one word of a part is at least a number, with a shift.
 macro_rules! at_least {

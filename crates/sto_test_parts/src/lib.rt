@@ -23,4 +23,3 @@ mod scenes;
 mod serial;
 #[cfg(test)]
 mod version;
-

@@ -12,7 +12,12 @@ use sto_core::Cells;
 use sto_item::Updates;
 use sto_part::{Change, Contents, NoMemory, Parts, Update};
 use sto_plain::Plain;
-use sto_test_scenes::{Always, both_draw, close_both, commits_further, draws_further, first_fails, first_gives_up, first_loads, first_reads, first_takes, first_tries_again, goes_on, other_adds, other_commits, other_draws, other_draws_sum, other_reads, other_writes, reads_later, rests_on_read, second_commits};
+use sto_test_scenes::{
+    Always, both_draw, close_both, commits_further, draws_further, first_fails, first_gives_up,
+    first_loads, first_reads, first_takes, first_tries_again, goes_on, other_adds, other_commits,
+    other_draws, other_draws_sum, other_reads, other_writes, reads_later, rests_on_read,
+    second_commits,
+};
 use sto_version::{FREE0, Version};
 
 // Passes over two parts of one word each.

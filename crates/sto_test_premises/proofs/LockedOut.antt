@@ -12,7 +12,7 @@ use Rattle.sto_core.specs.Rule.{Holds}
 use Rattle.sto_core.proofs.Lists.{each_one, each_append}
 use Rattle.sto_core.proofs.Opened.{opened_holds}
 use Rattle.sto_core.proofs.Reopening.{reopened_past, reopen_keeps}
-use Rattle.sto_report_spec.specs.Orders.{Place, IsOrder}
+use Rattle.sto_report_spec.specs.Orders.{TransactionPlace, IsOrder}
 use Rattle.sto_history.specs.Records.{Record, times_written}
 use Rattle.sto_history.specs.Counted.{Follows, InThreads, aborted_times, finished_places, times_committed}
 use Rattle.sto_history.specs.Told.{WasAborted}
@@ -156,7 +156,7 @@ none_if true false = refl
 none_if false b = refl
 
 -- one transaction alone has an aborted attempt
-few_of : (place : Place) → aborted_times place records ≤ 1
+few_of : (place : TransactionPlace) → aborted_times place records ≤ 1
 few_of place =
     let a = none_if (0 == place.0) (1 == place.1) in
     let b = at_most ((1 == place.0) && ((1 == place.1) && true)) in

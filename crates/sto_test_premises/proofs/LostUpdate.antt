@@ -12,7 +12,7 @@ use Rattle.sto_core.specs.Rule.{Holds}
 use Rattle.sto_core.proofs.Gathering.{gather_keeps}
 use Rattle.sto_core.proofs.Lists.{each_one}
 use Rattle.sto_core.proofs.Opened.{opened_holds}
-use Rattle.sto_report_spec.specs.Orders.{Place, IsOrder}
+use Rattle.sto_report_spec.specs.Orders.{TransactionPlace, IsOrder}
 use Rattle.sto_history.specs.Records.{Record, is_finished, times_written}
 use Rattle.sto_history.specs.Counted.{Follows, InThreads, aborted_times, finished_places, times_committed}
 use Rattle.sto_history.specs.Told.{WasChanged}
@@ -174,14 +174,14 @@ in_threads = (
   ),
 )
 
-few_of : (place : Place) → aborted_times place records ≤ 3
+few_of : (place : TransactionPlace) → aborted_times place records ≤ 3
 few_of place =
     let a = at_most ((0 == place.0) && ((1 == place.1) && true)) in
     let b = at_most ((0 == place.0) && ((1 == place.1) && false)) in
     let c = at_most ((1 == place.0) && ((1 == place.1) && false)) in
     omega (arith, a, b, c)
 
-are_few : (place : Place) → aborted_times place records ≤ 64
+are_few : (place : TransactionPlace) → aborted_times place records ≤ 64
 are_few place = let k = few_of place in omega (arith, k)
 
 are_tickets : (t : ℕ) → times_written t records ≡ times_committed t view.entries

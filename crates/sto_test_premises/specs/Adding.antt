@@ -3,7 +3,7 @@
 use Rattle.std.specs.Prelude.{ℕ, ℤ, pos, List, [], ◌∷◌, ◌++◌, map, true, false, codes, Some, None}
 use Rattle.sto_part.specs.Codes.{IsSignedCode}
 use Rattle.sto_part.specs.declared.change.Change.TheVariants.{Put as PutValue}
-use Rattle.sto_model.specs.Told.{Told, Value, Done}
+use Rattle.sto_model.specs.PlainReplies.{PlainReply, Value, Done}
 use Rattle.sto_model.specs.declared.shape.Shape.TheVariants.{Single}
 use Rattle.sto_lang.specs.declared.arg.Arg.TheVariants.{Num, Var}
 use Rattle.sto_lang.specs.Statements.{Nothing, Ask, Sum}
@@ -48,7 +48,7 @@ abbrev pub opened : Core
 opened = opened_core [] box.opened 2
 
 -- what an attempt that finds x is answered in all
-abbrev pub heard : ℤ → List Told
+abbrev pub heard : ℤ → List PlainReply
 heard x = Value x ∷ Done ∷ []
 
 -- the updates of one that puts x

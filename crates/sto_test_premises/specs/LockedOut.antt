@@ -1,7 +1,7 @@
 -- A run of the two transactions, with one try, in which the second finds the box locked by the first and is handed back: every event, the
 -- words and the view that it leaves, and its records.
 use Rattle.std.specs.Prelude.{pos, List, [], ◌∷◌, ◌++◌, codes}
-use Rattle.sto_report_spec.specs.Orders.{Place}
+use Rattle.sto_report_spec.specs.Orders.{TransactionPlace}
 use Rattle.sto_report_spec.specs.Aborts.{Abort}
 use Rattle.sto_report_spec.specs.Aborts as aborts
 use Rattle.sto_core.specs.declared.view.View.{View}
@@ -58,7 +58,7 @@ abbrev pub ordered : List Record
 ordered = won ∷ again ∷ []
 
 -- the order and the aborted attempt that the report tells
-abbrev pub order : List Place
+abbrev pub order : List TransactionPlace
 order = (0, 1) ∷ (1, 1) ∷ []
 
 abbrev pub told_aborts : List Abort

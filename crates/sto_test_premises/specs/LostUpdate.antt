@@ -1,6 +1,6 @@
 -- A run of the two transactions in which the first to read loses: every event, the words and the view that it leaves, and its records.
 use Rattle.std.specs.Prelude.{pos, List, [], ◌∷◌, ◌++◌, codes}
-use Rattle.sto_report_spec.specs.Orders.{Place}
+use Rattle.sto_report_spec.specs.Orders.{TransactionPlace}
 use Rattle.sto_report_spec.specs.Aborts.{Abort}
 use Rattle.sto_report_spec.specs.Aborts as aborts
 use Rattle.sto_core.specs.declared.view.View.{View}
@@ -56,7 +56,7 @@ abbrev pub ordered : List Record
 ordered = won ∷ again ∷ []
 
 -- the order and the aborted attempt that the report tells
-abbrev pub order : List Place
+abbrev pub order : List TransactionPlace
 order = (1, 1) ∷ (0, 1) ∷ []
 
 abbrev pub told_aborts : List Abort

@@ -7,7 +7,7 @@ use Rattle.std.proofs.lemmas.List.{length-set}
 use Rattle.std.proofs.lemmas.List.Elements.{All-head, All-tail}
 use Rattle.std.proofs.lemmas.Option.{slice_get_within, none-some}
 use Rattle.std.specs.List.{All}
-use Rattle.sto_model.specs.Told.{Told}
+use Rattle.sto_model.specs.PlainReplies.{PlainReply}
 use Rattle.sto_lang.specs.Scripts.{Script}
 use Rattle.sto_lang.specs.Objects.{shapes_of}
 use Rattle.sto_type.specs.Meaning.{Meaning}
@@ -26,12 +26,12 @@ use Rattle.sto_transaction.specs.declared.machine.Machine.{Machine}
 use Rattle.sto_transaction.specs.Pace.{most_steps}
 use Rattle.sto_script.specs.declared.body.ScriptBody.{ScriptBody}
 use Rattle.sto_journal.specs.declared.journal.Journal.{Journal}
-use Rattle.sto_run_threads.specs.Orders.{Place}
+use Rattle.sto_run_threads.specs.Orders.{TransactionPlace}
 use Rattle.sto_run_threads.specs.Plans.{Plan, plan_of, pace_of}
 use Rattle.sto_run_threads.specs.Running.{HasNone}
 use Rattle.sto_run_threads.specs.Counts.{heaviest}
 use Rattle.sto_run_steps.specs.Seated.{IsAt, IsBetween, BetweenAt, WithinAt, records_of}
-use Rattle.sto_run_steps.specs.Logged.{Log, HasLogged, most_kept}
+use Rattle.sto_run_steps.specs.Logged.{RunLog, HasLogged, most_kept}
 use Rattle.sto_run_steps.specs.Proceeding.{heard_by, script_left, ProceedsAt}
 use Rattle.sto_run_steps.specs.Turning.{HaveTurns, entry_turns, round_turns}
 use Rattle.sto_draw.specs.Drawn.{IsLong}
@@ -47,11 +47,11 @@ abbrev made_by : Core → ℕ
 made_by c = (view_of c 0).steps + (view_of c 1).steps
 
 -- there are enough events for what is kept: as many as steps; or more than are kept
-abbrev Enough : Log → ℕ → Type 0
+abbrev Enough : RunLog → ℕ → Type 0
 Enough None n = most_kept ≤ n
 Enough (Some xs) n = length xs ≤ n
 
-no_more : (log : Log) (n most : ℕ) → n ≤ most → Enough log n → Enough log most
+no_more : (log : RunLog) (n most : ℕ) → n ≤ most → Enough log n → Enough log most
 no_more None n most few e = omega (arith, few, e)
 no_more (Some xs) n most few e = omega (arith, few, e)
 
@@ -59,10 +59,10 @@ one_kept : (xs : List Step) (step : Step) (n : ℕ) → length xs ≤ n → (b :
 one_kept xs step n few true is = omega (arith, few, length-append xs (step ∷ []))
 one_kept xs step n few false is = let full : most_kept ≤ length xs = grind (arith, nat_tests, is) in omega (arith, full, few)
 
-enough_more : (kind : Step → Type 0) (log next : Log) (n : ℕ) → HasLogged kind log next → Enough log n → Enough next (n + 1)
-enough_more kind None next n h e = subst (λ (o : Log). Enough o (n + 1)) (sym h) (omega (arith, e))
+enough_more : (kind : Step → Type 0) (log next : RunLog) (n : ℕ) → HasLogged kind log next → Enough log n → Enough next (n + 1)
+enough_more kind None next n h e = subst (λ (o : RunLog). Enough o (n + 1)) (sym h) (omega (arith, e))
 enough_more kind (Some xs) next n h e =
-    subst (λ (o : Log). Enough o (n + 1)) (sym h.2) (one_kept xs h.0 n e (nat_lt (length xs) most_kept) refl)
+    subst (λ (o : RunLog). Enough o (n + 1)) (sym h.2) (one_kept xs h.0 n e (nat_lt (length xs) most_kept) refl)
 
 one_event_more : (thread : ℕ) (c d : Core) → thread < 2 → ((other : ℕ) → (other ≡ thread → ⊥) → view_of d other ≡ view_of c other)
     → (view_of d thread).steps ≡ (view_of c thread).steps + 1 → made_by d ≡ made_by c + 1
@@ -72,11 +72,11 @@ one_event_more (suc zero) c d less others more =
     let same = ap (λ (v : View). v.steps) (others 0 (λ e. omega (arith, e))) in omega (arith, more, same)
 one_event_more (suc (suc thread)) c d less others more = absurd (omega (arith, less))
 
-module _ {M : Type 0} (valid : Validity) (heard : M → List Told) where
-  enough : (threads : List ℕ) (c : Core) (seats : _) (log : Log) (d : Core) (later : _) (next : Log) → length seats ≡ 2
+module _ {M : Type 0} (valid : Validity) (heard : M → List PlainReply) where
+  enough : (threads : List ℕ) (c : Core) (seats : _) (log : RunLog) (d : Core) (later : _) (next : RunLog) → length seats ≡ 2
       → HaveTurns {M = M} valid heard threads c seats log d later next → Enough log (made_by c) → Enough next (made_by d) × (length later ≡ 2)
   enough [] c seats log d later next two h e = (
-    subst (λ (o : Log). Enough o (made_by d)) (sym h.2) (subst (λ (x : Core). Enough log (made_by x)) (sym h.0) e),
+    subst (λ (o : RunLog). Enough o (made_by d)) (sym h.2) (subst (λ (x : Core). Enough log (made_by x)) (sym h.0) e),
     ap length h.1 ∙ two,
   )
   enough (thread ∷ threads) c seats log d later next two h e = elim h.3 [
@@ -87,13 +87,13 @@ module _ {M : Type 0} (valid : Validity) (heard : M → List Told) where
         (subst (λ (n : ℕ). Enough h.2 n) (sym more) (enough_more _ log h.2 (made_by c) one.logged e))
     | inr idle ↦
         enough threads h.0 h.1 h.2 d later next (ap length idle.2 ∙ two) h.4
-        (subst (λ (o : Log). Enough o (made_by h.0)) (sym idle.3) (subst (λ (x : Core). Enough log (made_by x)) (sym idle.1) e))
+        (subst (λ (o : RunLog). Enough o (made_by h.0)) (sym idle.3) (subst (λ (x : Core). Enough log (made_by x)) (sym idle.1) e))
   ]
 
 -- A thread has few records
 
 -- these are all of one transaction
-abbrev AreAt : Place → List Record → Type 0
+abbrev AreAt : TransactionPlace → List Record → Type 0
 AreAt place [] = Unit {0}
 AreAt place (r ∷ rs) = (r.place ≡ place) × AreAt place rs
 
@@ -108,10 +108,10 @@ module _ (t : ℕ) (same : (t == t) ≡ true) where
   aborted_one : ◌≡◌ {A = ℕ} (if (t == t) && ((1 == 1) && true) then 1 else 0) 1
   aborted_one = let count : Bool → ℕ = λ b. if b && ((1 == 1) && true) then 1 else 0 in ap count same
 
-  abbrev told_by : List Told → Verdict → Record
+  abbrev told_by : List PlainReply → Verdict → Record
   told_by replies v = record { place = (t, 1); replies = replies; verdict = v }
 
-  one_more : (replies : List Told) (v : Verdict) (rs : List Record) → length rs ≤ told_of rs → suc (length rs) ≤ told_of (told_by replies v ∷ rs)
+  one_more : (replies : List PlainReply) (v : Verdict) (rs : List Record) → length rs ≤ told_of rs → suc (length rs) ≤ told_of (told_by replies v ∷ rs)
   one_more replies (Wrote ticket) rs h = let one = ended_one (positions_of t (finished_places rs)) in omega (arith, h, one)
   one_more replies (Read n) rs h = let one = ended_one (positions_of t (finished_places rs)) in omega (arith, h, one)
   one_more replies (Cancelled n) rs h = let one = ended_one (positions_of t (finished_places rs)) in omega (arith, h, one)
@@ -121,7 +121,7 @@ module _ (t : ℕ) (same : (t == t) ≡ true) where
   no_others : (rs : List Record) → AreAt (t, 1) rs → length rs ≤ told_of rs
   no_others [] a = omega arith
   no_others (r ∷ rs) a =
-      subst (λ (p : Place). suc (length rs) ≤ told_of (record { place = p; replies = r.replies; verdict = r.verdict } ∷ rs)) (sym a.0)
+      subst (λ (p : TransactionPlace). suc (length rs) ≤ told_of (record { place = p; replies = r.replies; verdict = r.verdict } ∷ rs)) (sym a.0)
       (one_more r.replies r.verdict rs (no_others rs a.1))
 
 -- a thread of the file has one transaction
@@ -192,7 +192,7 @@ module _ (objects : Objects) (kinds : AreOf objects (shapes_of lost_update_file.
 abbrev pub most_events : ℕ
 most_events = 2 * (66 * 88)
 
-few_events : (journal : Journal) (homes : List (ℕ × ℕ)) (steps : Log) → IsTraceOf lost_update_file 64 journal homes steps → Enough steps most_events
+few_events : (journal : Journal) (homes : List (ℕ × ℕ)) (steps : RunLog) → IsTraceOf lost_update_file 64 journal homes steps → Enough steps most_events
 few_events journal homes steps t =
     let w = t.traced.stepped in
     let done = enough of_objects.valid heard_by (flat_map entry_turns (turns_in lost_update_file.schedule) ++ round_turns (length w.seats) w.rounds) _ w.seats (Some []) w.stepped w.later steps
@@ -208,7 +208,7 @@ few_events journal homes steps t =
 pub not_long : (journal : Journal) (homes : List (ℕ × ℕ)) → IsTraceOf lost_update_file 64 journal homes None → ⊥
 not_long journal homes t = let many : most_kept ≤ most_events = few_events journal homes None t in omega (arith, many)
 
-pub not_long_for_a_picture : (journal : Journal) (homes : List (ℕ × ℕ)) (steps : Log) → IsTraceOf lost_update_file 64 journal homes steps → IsLong steps → ⊥
+pub not_long_for_a_picture : (journal : Journal) (homes : List (ℕ × ℕ)) (steps : RunLog) → IsTraceOf lost_update_file 64 journal homes steps → IsLong steps → ⊥
 not_long_for_a_picture journal homes None t long = not_long journal homes t
 not_long_for_a_picture journal homes (Some steps) t long =
     let few : length steps ≤ most_events = few_events journal homes (Some steps) t in omega (arith, few, long)

@@ -4,7 +4,7 @@ use Rattle.std.specs.List.{flat_map}
 use Rattle.std.proofs.Common.{◌≡◌, ℕ, zero, suc, ◌+◌, ◌<◌, ◌≤◌, List, [], ◌∷◌, ◌++◌, length, Bool, true, false, Option, None, Some, refl, sym, ap, ◌∙◌, subst, arith, inl, inr, length-append}
 use Rattle.std.proofs.lemmas.List.{nil_from_length, append-nil, append_assoc}
 use Rattle.std.proofs.lemmas.Option.{slice_get-get_or, same_Some, none-some}
-use Rattle.sto_model.specs.Told.{Told}
+use Rattle.sto_model.specs.PlainReplies.{PlainReply}
 use Rattle.sto_lang.specs.declared.file.Turns.{Turns}
 use Rattle.sto_core.specs.declared.view.View.{View}
 use Rattle.sto_core.specs.Core.{Core}
@@ -13,11 +13,11 @@ use Rattle.sto_history.specs.Records.{Record}
 use Rattle.sto_trace.specs.declared.Step.{Step}
 use Rattle.sto_plain.specs.Passes.{view_of}
 use Rattle.sto_history.specs.Counted.{aborted_times}
-use Rattle.sto_run_threads.specs.Orders.{Place, count_in}
+use Rattle.sto_run_threads.specs.Orders.{TransactionPlace, count_in}
 use Rattle.sto_run_threads.specs.Running.{ended_of}
 use Rattle.sto_run_threads.specs.Plans.{Plan, thread_count}
 use Rattle.sto_run_steps.specs.Seated.{IsNew, IsOver, IsAt, BetweenAt, WithinAt, IsOverAt, records_of}
-use Rattle.sto_run_steps.specs.Logged.{Log, most_kept}
+use Rattle.sto_run_steps.specs.Logged.{RunLog, most_kept}
 use Rattle.sto_run_steps.specs.Turning.{HaveTurns, WereStepped, entry_turns, round_turns}
 
 -- another place is as it was
@@ -28,13 +28,13 @@ other_place (y ∷ ys) zero (suc j) x other = refl
 other_place (y ∷ ys) (suc i) zero x other = refl
 other_place (y ∷ ys) (suc i) (suc j) x other = other_place ys i j x (λ same. other (ap suc same))
 
-module _ {M : Type 0} (valid : Validity) (heard : M → List Told) where
+module _ {M : Type 0} (valid : Validity) (heard : M → List PlainReply) where
   -- steps that were given up are given up
-  given_up : (threads : List ℕ) (c : Core) (seats : _) (d : Core) (later : _) (next : Log) → HaveTurns valid heard threads c seats None d later next → next ≡ None
+  given_up : (threads : List ℕ) (c : Core) (seats : _) (d : Core) (later : _) (next : RunLog) → HaveTurns valid heard threads c seats None d later next → next ≡ None
   given_up [] c seats d later next h = h.2
   given_up (thread ∷ threads) c seats d later next h = elim h.3 [
-    | inl one ↦ given_up threads h.0 h.1 d later next (subst (λ (o : Log). HaveTurns valid heard threads h.0 h.1 o d later next) one.logged h.4)
-    | inr idle ↦ given_up threads h.0 h.1 d later next (subst (λ (o : Log). HaveTurns valid heard threads h.0 h.1 o d later next) idle.3 h.4)
+    | inl one ↦ given_up threads h.0 h.1 d later next (subst (λ (o : RunLog). HaveTurns valid heard threads h.0 h.1 o d later next) one.logged h.4)
+    | inr idle ↦ given_up threads h.0 h.1 d later next (subst (λ (o : RunLog). HaveTurns valid heard threads h.0 h.1 o d later next) idle.3 h.4)
   ]
 
   -- where they are told in the end, one more was kept
@@ -45,11 +45,11 @@ module _ {M : Type 0} (valid : Validity) (heard : M → List Told) where
 
   module _ (d : Core) (later : _) (ys : List Step) where
     -- after an event there is one step more
-    one_more : (threads : List ℕ) (c : Core) (seats : _) (xs : List Step) (step : Step) (next : Log)
+    one_more : (threads : List ℕ) (c : Core) (seats : _) (xs : List Step) (step : Step) (next : RunLog)
         → next ≡ (if nat_lt (length xs) most_kept then Some (xs ++ step ∷ []) else None) → HaveTurns valid heard threads c seats next d later (Some ys)
         → HaveTurns valid heard threads c seats (Some (xs ++ step ∷ [])) d later (Some ys)
     one_more threads c seats xs step next kept h =
-        was_kept (nat_lt (length xs) most_kept) threads c seats xs step d later ys (subst (λ (o : Log). HaveTurns valid heard threads c seats o d later (Some ys)) kept h)
+        was_kept (nat_lt (length xs) most_kept) threads c seats xs step d later ys (subst (λ (o : RunLog). HaveTurns valid heard threads c seats o d later (Some ys)) kept h)
 
     -- steps do not become fewer
     no_fewer : (threads : List ℕ) (c : Core) (seats : _) (xs : List Step) → HaveTurns valid heard threads c seats (Some xs) d later (Some ys) → length xs ≤ length ys
@@ -58,7 +58,7 @@ module _ {M : Type 0} (valid : Validity) (heard : M → List Told) where
       | inl one ↦
           let more = no_fewer threads h.0 h.1 (xs ++ one.logged.0 ∷ []) (one_more threads h.0 h.1 xs one.logged.0 h.2 one.logged.2 h.4) in
           omega (arith, more, length-append xs (one.logged.0 ∷ []))
-      | inr idle ↦ no_fewer threads h.0 h.1 xs (subst (λ (o : Log). HaveTurns valid heard threads h.0 h.1 o d later (Some ys)) idle.3 h.4)
+      | inr idle ↦ no_fewer threads h.0 h.1 xs (subst (λ (o : RunLog). HaveTurns valid heard threads h.0 h.1 o d later (Some ys)) idle.3 h.4)
     ]
 
     -- steps that are kept stay the first ones
@@ -68,7 +68,7 @@ module _ {M : Type 0} (valid : Validity) (heard : M → List Told) where
       | inl one ↦
           let rest = extends threads h.0 h.1 (xs ++ one.logged.0 ∷ []) (one_more threads h.0 h.1 xs one.logged.0 h.2 one.logged.2 h.4) in
           (one.logged.0 ∷ rest.0, rest.1 ∙ append_assoc xs (one.logged.0 ∷ []) rest.0)
-      | inr idle ↦ extends threads h.0 h.1 xs (subst (λ (o : Log). HaveTurns valid heard threads h.0 h.1 o d later (Some ys)) idle.3 h.4)
+      | inr idle ↦ extends threads h.0 h.1 xs (subst (λ (o : RunLog). HaveTurns valid heard threads h.0 h.1 o d later (Some ys)) idle.3 h.4)
     ]
 
     -- without one more step no thread has made an event
@@ -78,7 +78,7 @@ module _ {M : Type 0} (valid : Validity) (heard : M → List Told) where
       | inl one ↦
           let more = no_fewer threads h.0 h.1 (xs ++ one.logged.0 ∷ []) (one_more threads h.0 h.1 xs one.logged.0 h.2 one.logged.2 h.4) in
           absurd (omega (arith, more, few, length-append xs (one.logged.0 ∷ [])))
-      | inr idle ↦ quiet threads h.0 h.1 xs few (subst (λ (o : Log). HaveTurns valid heard threads h.0 h.1 o d later (Some ys)) idle.3 h.4) ∙ idle.2
+      | inr idle ↦ quiet threads h.0 h.1 xs few (subst (λ (o : RunLog). HaveTurns valid heard threads h.0 h.1 o d later (Some ys)) idle.3 h.4) ∙ idle.2
     ]
 
     -- with one more, all threads but one are as they were
@@ -91,7 +91,7 @@ module _ {M : Type 0} (valid : Validity) (heard : M → List Told) where
           let same = quiet threads h.0 h.1 (xs ++ one.logged.0 ∷ []) enough (one_more threads h.0 h.1 xs one.logged.0 h.2 one.logged.2 h.4) in
           (thread, λ other apart. ap (λ ss. slice_get ss other) (same ∙ one.others) ∙ other_place seats thread other one.seat apart)
       | inr idle ↦
-          let rest = all_but_one threads h.0 h.1 xs few (subst (λ (o : Log). HaveTurns valid heard threads h.0 h.1 o d later (Some ys)) idle.3 h.4) in
+          let rest = all_but_one threads h.0 h.1 xs few (subst (λ (o : RunLog). HaveTurns valid heard threads h.0 h.1 o d later (Some ys)) idle.3 h.4) in
           (rest.0, λ other apart. rest.1 other apart ∙ ap (λ ss. slice_get ss other) idle.2)
     ]
 
@@ -109,7 +109,7 @@ some_seat thread [] less = absurd (omega (arith, less))
 some_seat thread (s ∷ ss) less = (_, slice_get-get_or (s ∷ ss) thread s less)
 
 -- the first step is that of the first thread that has a turn, where it is not over
-pub first_step : {M : Type 0} (valid : Validity) (heard : M → List Told) (d : Core) (later : _) (x : Step) (xs : List Step) (thread : ℕ) (threads : List ℕ) (c : Core) (seats : _)
+pub first_step : {M : Type 0} (valid : Validity) (heard : M → List PlainReply) (d : Core) (later : _) (x : Step) (xs : List Step) (thread : ℕ) (threads : List ℕ) (c : Core) (seats : _)
     → HaveTurns valid heard (thread ∷ threads) c seats (Some []) d later (Some (x ∷ xs)) → (IsOverAt thread seats → ⊥) → x.thread ≡ thread
 first_step valid heard d later x xs thread threads c seats h going = elim h.3 [
   | inl one ↦
@@ -120,7 +120,7 @@ first_step valid heard d later x xs thread threads c seats h going = elim h.3 [
 ]
 
 -- a thread that has left no record has ended nothing and used no try
-module _ {M : Type 0} (plan : Plan) (fits : ℕ → Place → M → View → View → Type 0) (passes thread : ℕ) (s : _) (none : records_of {M = M} s ≡ []) where
+module _ {M : Type 0} (plan : Plan) (fits : ℕ → TransactionPlace → M → View → View → Type 0) (passes thread : ℕ) (s : _) (none : records_of {M = M} s ≡ []) where
   between_none : (v : View) → BetweenAt plan passes thread s v → (0 ≡ s.ended) × (0 + s.left ≡ plan.tries)
   between_none v b = (
     subst (λ (rs : List Record). ended_of thread rs ≡ s.ended) none b.so_many,
@@ -131,7 +131,7 @@ module _ {M : Type 0} (plan : Plan) (fits : ℕ → Place → M → View → Vie
   at_none None v at = between_none v at
   at_none (Some trial) v at = between_none at.begun at.between
 
-module _ {M : Type 0} (plan : Plan) (fits : ℕ → Place → M → View → View → Type 0) (valid : Validity) (heard : M → List Told) (schedule : List Turns) (opened : Core) (rs : List Record) (step : Step)
+module _ {M : Type 0} (plan : Plan) (fits : ℕ → TransactionPlace → M → View → View → Type 0) (valid : Validity) (heard : M → List PlainReply) (schedule : List Turns) (opened : Core) (rs : List Record) (step : Step)
     (try : 0 < plan.tries) (w : WereStepped {M = M} plan fits valid heard schedule opened (Some []) rs (Some (step ∷ []))) where
   -- a thread whose seat is as it was has no transaction
   was_moved : (thread : ℕ) → thread < max 1 (thread_count plan) → 0 < count_in plan.file.threads thread → slice_get w.later thread ≡ slice_get w.seats thread → ⊥
@@ -151,7 +151,7 @@ module _ {M : Type 0} (plan : Plan) (fits : ℕ → Place → M → View → Vie
       let one = all_but_one valid heard w.stepped w.later (step ∷ []) (flat_map entry_turns schedule ++ round_turns (length w.seats) w.rounds) opened w.seats [] (omega arith) w.turns in
       by_other one.0 one.1 two first second
 
-module _ {M : Type 0} (plan : Plan) (fits : ℕ → Place → M → View → View → Type 0) (valid : Validity) (heard : M → List Told) (schedule : List Turns) (opened : Core) (first last : Log)
+module _ {M : Type 0} (plan : Plan) (fits : ℕ → TransactionPlace → M → View → View → Type 0) (valid : Validity) (heard : M → List PlainReply) (schedule : List Turns) (opened : Core) (first last : RunLog)
     (rs : List Record) (w : WereStepped {M = M} plan fits valid heard schedule opened first rs last) where
   -- the words are not left as they were opened, where a thread has a transaction
   pub not_still : (thread : ℕ) → thread < max 1 (thread_count plan) → 0 < count_in plan.file.threads thread → 0 < plan.tries → (view_of opened thread).starts ≡ 0

@@ -16,7 +16,7 @@ use Rattle.sto_trace_text.specs.Json.{event_data, json_line}
 use Rattle.sto_journal.specs.declared.journal.Journal.{Journal}
 use Rattle.sto_store.specs.declared.objects.Objects.{Objects}
 use Rattle.sto_run_threads.specs.Plans.{plan_of}
-use Rattle.sto_run_steps.specs.Logged.{Log}
+use Rattle.sto_run_steps.specs.Logged.{RunLog}
 use Rattle.sto_run_steps.specs.Proceeding.{heard_by, ProceedsAt}
 use Rattle.sto_run_steps.proofs.Nothing.{not_nothing}
 use Rattle.sto_run.specs.Traced.{turns_in, of_objects, IsRunFrom, IsTraceOf}
@@ -41,7 +41,7 @@ one_event journal homes step t =
     not_one_event (plan_of of_objects t.objects lost_update_file 64) (ProceedsAt of_objects lost_update_file t.objects) of_objects.valid heard_by
     (turns_in lost_update_file.schedule) _ t.traced.records step try t.traced.stepped two some some
 
-pub not_still_words : (objects : Objects) (schedule : List Turns) (first last : Log) (journal : Journal) (r : IsRunFrom of_objects objects lost_update_file 64 schedule first journal last)
+pub not_still_words : (objects : Objects) (schedule : List Turns) (first last : RunLog) (journal : Journal) (r : IsRunFrom of_objects objects lost_update_file 64 schedule first journal last)
     → r.stepped.stepped ≡ opened_core (of_objects.sizes objects) (of_objects.meaning objects).opened 2 → ⊥
 not_still_words objects schedule first last journal r same =
     let inside : 0 < 2 = omega arith in let some : 0 < 1 = omega arith in let try : 0 < 64 = omega arith in
@@ -49,7 +49,7 @@ not_still_words objects schedule first last journal r same =
     0 inside some try refl same
 
 -- nothing is the lines of no event alone
-no_lines : (json : Bool) (file : File) (homes : List (ℕ × ℕ)) (steps : Log) → AreLinesOf json file homes steps [] → steps ≡ Some []
+no_lines : (json : Bool) (file : File) (homes : List (ℕ × ℕ)) (steps : RunLog) → AreLinesOf json file homes steps [] → steps ≡ Some []
 unfolding digits
 no_lines json file homes None l = absurd l
 no_lines json file homes (Some []) l = refl
@@ -69,7 +69,7 @@ traced json file same t =
     let steps = no_lines json file t.homes t.steps t.lines in
     no_events t.journal t.homes
     (subst (λ (f : File). IsTraceOf f 64 t.journal t.homes (Some [])) same
-    (subst (λ (o : Log). IsTraceOf file 64 t.journal t.homes o) steps t.run))
+    (subst (λ (o : RunLog). IsTraceOf file 64 t.journal t.homes o) steps t.run))
 
 pub trace_nothing : (json : Bool) → IsOutput (Trace 64 json) lost_update [] → ⊥
 trace_nothing json o = let same : o.0 ≡ lost_update_file = let e = sym o.1.0 ∙ reads_lost_update in cc in traced json o.0 same o.2

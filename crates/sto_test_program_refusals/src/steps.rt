@@ -9,7 +9,7 @@ ghost use Rattle.sto_script.specs.declared.body.ScriptBody.{ScriptBody};
 ghost use Rattle.sto_store.specs.declared.objects.Objects.{Objects};
 ghost use Rattle.sto_lang.specs.declared.file.Turns.{Turns};
 ghost use Rattle.sto_journal.specs.declared.journal.Journal.{Journal};
-ghost use Rattle.sto_run_steps.specs.Logged.{Log};
+ghost use Rattle.sto_run_steps.specs.Logged.{RunLog};
 ghost use Rattle.sto_run_steps.specs.Proceeding.{heard_by};
 ghost use Rattle.sto_run_steps.specs.Turning.{MakesOne};
 ghost use Rattle.sto_run.specs.Traced.{IsRunFrom, IsTraceOf, of_objects};
@@ -25,14 +25,14 @@ pub fn no_run()
     ensures other_thread_first { (journal : Journal) (homes : List (ℕ × ℕ)) (step : Step) (steps : List Step)
         → IsTraceOf second_first_file 64 journal homes (Some (step ∷ steps)) → step.thread ≡ 0 → ⊥ }
     // One that leaves the words of its threads as they were opened, as where all is handed back and nothing stepped.
-    ensures still { (objects : Objects) (schedule : List Turns) (first last : Log) (journal : Journal)
+    ensures still { (objects : Objects) (schedule : List Turns) (first last : RunLog) (journal : Journal)
         (r : IsRunFrom of_objects objects lost_update_file 64 schedule first journal last)
         → r.stepped.stepped ≡ opened_core (of_objects.sizes objects) (of_objects.meaning objects).opened 2 → ⊥ }
     // A first event of the first thread that changes a word: the clock, ...
-    ensures invented_clock { (sizes : List ℕ) (opening : Contents) (many : ℕ) (seats later : _) (log next : Log) (d : Core)
+    ensures invented_clock { (sizes : List ℕ) (opening : Contents) (many : ℕ) (seats later : _) (log next : RunLog) (d : Core)
         → MakesOne {M = Machine Objects ScriptBody} of_objects.valid heard_by 0 (opened_core sizes opening (suc many)) seats log d later next → (d.clock ≡ 0 → ⊥) → ⊥ }
     // ... or a part.
-    ensures invented_parts { (sizes : List ℕ) (opening : Contents) (many : ℕ) (seats later : _) (log next : Log) (d : Core)
+    ensures invented_parts { (sizes : List ℕ) (opening : Contents) (many : ℕ) (seats later : _) (log next : RunLog) (d : Core)
         → MakesOne {M = Machine Objects ScriptBody} of_objects.valid heard_by 0 (opened_core sizes opening (suc many)) seats log d later next
         → (d.parts ≡ (opened_core sizes opening (suc many)).parts → ⊥) → ⊥ }
 {}

@@ -1,7 +1,7 @@
 //! What a program does with words and a script.
 use crate::calls::{Called, NONE, call, call_feed};
-use std::str;
 use std::alloc::{AllocError, Global};
+use std::str;
 use std::sync::Wait;
 use std::thread::Threads;
 use sto_cli::Gate;

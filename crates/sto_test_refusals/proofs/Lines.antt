@@ -4,7 +4,7 @@ use Rattle.std.specs.Int.{int_wrap}
 use Rattle.std.specs.Prelude.{codes, slice_get, take}
 use Rattle.std.proofs.Common.{◌≡◌, ℕ, ◌<◌, ◌≤◌, List, [], ◌∷◌, length, Some, refl, sym, ap, ◌∙◌, subst, arith, inl, inr}
 use Rattle.sto_lang.specs.Scripts.{File}
-use Rattle.sto_report_spec.specs.Orders.{Place}
+use Rattle.sto_report_spec.specs.Orders.{TransactionPlace}
 use Rattle.sto_report_spec.specs.Aborts.{Abort}
 use Rattle.sto_report_spec.specs.Report.{line_text, object_text}
 use Rattle.sto_report_spec.specs.Replay.{final_state}
@@ -26,10 +26,10 @@ line_at f tries lines place line stands r =
     subst (λ (l : List ℕ). IsRightAfter f tries (take place lines) l) (some_is r.line line (sym r.stands ∙ stands)) r.right
 
 -- a journal line is the text of the place that it names
-journal_text : (f : File) (front : List Place) (line : List ℕ) (place : Place) → order_named f.names line ≡ place ∷ [] → IsJournalLine f front line
+journal_text : (f : File) (front : List TransactionPlace) (line : List ℕ) (place : TransactionPlace) → order_named f.names line ≡ place ∷ [] → IsJournalLine f front line
     → line ≡ line_text f.names (entry_after f front place)
 journal_text f front line place named j =
-    j.text ∙ ap (λ (p : Place). line_text f.names (entry_after f front p)) (one_is j.place place (sym j.named ∙ named))
+    j.text ∙ ap (λ (p : TransactionPlace). line_text f.names (entry_after f front p)) (one_is j.place place (sym j.named ∙ named))
 
 pub exchanged_is_not : IsFound file 64 exchanged Lawful → ⊥
 unfolding digits int_wrap

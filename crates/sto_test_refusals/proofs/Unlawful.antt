@@ -8,11 +8,11 @@ use Rattle.std.proofs.lemmas.List.Elements.{All-head}
 use Rattle.json.specs.Print.{escape_byte}
 use Rattle.json.proofs.OnLiterals.{json_on_literals}
 use Rattle.serde_json.specs.Written.{compact_text}
-use Rattle.sto_model.specs.Told.{Value, Done}
+use Rattle.sto_model.specs.PlainReplies.{Value, Done}
 use Rattle.sto_model.specs.Sizes.{part_count}
 use Rattle.sto_lang.specs.Objects.{Declaration}
 use Rattle.sto_lang.specs.Scripts.{File}
-use Rattle.sto_report_spec.specs.Orders.{Place}
+use Rattle.sto_report_spec.specs.Orders.{TransactionPlace}
 use Rattle.sto_report_spec.specs.Aborts.{Abort, Changed}
 use Rattle.sto_report_spec.specs.Replay.{Entry, entries_of, final_state}
 use Rattle.sto_report_spec.specs.declared.ending.Ending.TheVariants.{Read}
@@ -35,7 +35,7 @@ by_other_part = record { place = (0, 1); seen = 0; replies = Value (pos 0) ∷ D
 abbrev pub by_other_writer : Abort
 by_other_writer = record { place = (0, 1); seen = 0; replies = Value (pos 0) ∷ Done ∷ []; cause = Changed (record { object = codes "a"; part = 0 }) 2 }
 
-abbrev pub order : List Place
+abbrev pub order : List TransactionPlace
 order = (1, 1) ∷ (0, 1) ∷ []
 
 -- the box is the one object, and has one part

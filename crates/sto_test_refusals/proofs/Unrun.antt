@@ -1,6 +1,6 @@
 -- What a worker and a store do not answer.
 use Rattle.std.proofs.Common.{◌≡◌, ℕ, zero, suc, pos, List, [], ◌∷◌, ◌++◌, map, length, false, Ok, Err, refl, sym, ap, ◌∙◌, arith}
-use Rattle.sto_model.specs.Told.{Told}
+use Rattle.sto_model.specs.PlainReplies.{PlainReply}
 use Rattle.sto_model.specs.Run.{IsRun}
 use Rattle.sto_type.specs.Traits.{OfType}
 use Rattle.sto_core.specs.declared.view.View.{View}
@@ -33,12 +33,12 @@ gives_no_cancel Cancels hs gives cancelled = gives
 -- A get of a box that holds 0 does not give 1
 
 -- what it is answered is 0
-run_hears : (most : ℕ) (r : Told) (rs : List Told) → IsRun box.machines (steps_of shapes most gets) opening_rows (r ∷ rs) → H.Value (pos 1) ≡ short_of r → ⊥
+run_hears : (most : ℕ) (r : PlainReply) (rs : List PlainReply) → IsRun box.machines (steps_of shapes most gets) opening_rows (r ∷ rs) → H.Value (pos 1) ≡ short_of r → ⊥
 run_hears zero r rs run given = run.0
 run_hears (suc most) r rs run given =
     let one : H.Value (pos 1) ≡ H.Value (pos 0) = given ∙ ap short_of (sym run.0) in absurd cc
 
-heard_by : (most : ℕ) (verdict : Verdict) (r : Told) (rs : List Told) → is_abort verdict ≡ false → IsTold box has_read (steps_of shapes most gets) (r ∷ rs) verdict
+heard_by : (most : ℕ) (verdict : Verdict) (r : PlainReply) (rs : List PlainReply) → is_abort verdict ≡ false → IsTold box has_read (steps_of shapes most gets) (r ∷ rs) verdict
     → H.Value (pos 1) ≡ short_of r → ⊥
 heard_by most (Wrote ticket) r rs ended told given = absurd cc
 heard_by most (Read n) r rs ended told given = run_hears most r rs (told.runs box.opened box_opened (each_one _ _ (λ same. refl))).run given
@@ -46,7 +46,7 @@ heard_by most (CancelledAt n) r rs ended told given = run_hears most r rs (told.
 heard_by most (Locked n part) r rs ended told given = absurd cc
 heard_by most (Changed n part ticket) r rs ended told given = absurd cc
 
-given_by : (most : ℕ) (verdict : Verdict) (replies : List Told) → is_abort verdict ≡ false → IsTold box has_read (steps_of shapes most gets) replies verdict
+given_by : (most : ℕ) (verdict : Verdict) (replies : List PlainReply) → is_abort verdict ≡ false → IsTold box has_read (steps_of shapes most gets) replies verdict
     → IsGiven gets (map short_of replies) (H.Value (pos 1)) → ⊥
 given_by most verdict [] ended told given = given
 given_by most verdict (r ∷ rs) ended told given = heard_by most verdict r rs ended told given

@@ -3,7 +3,7 @@ use Rattle.std.specs.Prelude.{◌^◌, ℕ, pos, List, [], ◌∷◌, Result}
 use Rattle.sto_model.specs.declared.shape.Shape.{Shape}
 use Rattle.sto_model.specs.declared.shape.Shape.TheVariants.{Single}
 use Rattle.sto_model.specs.Run.{State}
-use Rattle.sto_model.specs.Machine.{opening_of}
+use Rattle.sto_model.specs.SequentialObjects.{opening_of}
 use Rattle.sto_type.specs.Traits.{OfType}
 use Rattle.sto_core.specs.Opened.{opened_core, opened_view}
 use Rattle.sto_core.specs.declared.view.View.{View}

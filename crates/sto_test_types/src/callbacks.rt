@@ -3,8 +3,8 @@ ghost use Rattle.std.specs.Prelude.{◌<◌, ◌^◌, length};
 ghost use Rattle.sto_counter.specs.Counted.{counter_meaning};
 ghost use Rattle.sto_counter.specs.CountedLaw.{counter_lawful};
 
-use crate::alone::{NotRun, are_taken, boxes, call, get, set, side_by_side};
 use crate::alone::calls::Calls;
+use crate::alone::{NotRun, are_taken, boxes, call, get, set, side_by_side};
 use std::alloc::Global;
 use std::cell::Cell;
 use sto_attempt_alone::run_alone;

@@ -1,6 +1,6 @@
 //! Copies of replies.
 ghost use Rattle.std.specs.Prelude.{◌≡◌, ◌<◌, ◌^◌, length, map, drop, IfOk};
-ghost use Rattle.sto_model.specs.Told.{told};
+ghost use Rattle.sto_model.specs.PlainReplies.{plain_reply};
 
 use std::alloc::Global;
 use sto_model::{Replies, Reply};
@@ -8,7 +8,7 @@ use sto_part::{List, NoMemory};
 
 // The same reply in room of its own.
 fn copied(reply: &Reply) -> Result<Reply, NoMemory>
-    ensures { IfOk result (λ copy. told copy ≡ told reply.now) }
+    ensures { IfOk result (λ copy. plain_reply copy ≡ plain_reply reply.now) }
 {
     match reply {
         Reply::Done => Ok(Reply::Done),
@@ -24,7 +24,7 @@ fn copied(reply: &Reply) -> Result<Reply, NoMemory>
 // Copies of all these replies.
 fn all_copied(alloc: Global, replies: &[Reply]) -> Result<Replies, NoMemory>
     requires few { length replies.now < 2 ^ 32 }
-    ensures copied { IfOk result (λ copies. map told copies.items ≡ map told replies.now) }
+    ensures copied { IfOk result (λ copies. map plain_reply copies.items ≡ map plain_reply replies.now) }
 {
     let mut copies = List::new(alloc);
     for reply in replies {
@@ -35,7 +35,7 @@ fn all_copied(alloc: Global, replies: &[Reply]) -> Result<Replies, NoMemory>
 
 /// Copies of the replies past the first so many; none where there are no more.
 pub fn replies_past(replies: &Replies, heard: u32) -> Result<Replies, NoMemory>
-    ensures { IfOk result (λ copies. map told copies.items ≡ drop heard (map told replies.now.items)) }
+    ensures { IfOk result (λ copies. map plain_reply copies.items ≡ drop heard (map plain_reply replies.now.items)) }
 {
     let alloc = replies.allocator();
     if heard < replies.len() {

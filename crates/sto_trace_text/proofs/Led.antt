@@ -7,7 +7,7 @@ use Rattle.std.proofs.lemmas.Bool.{eq-eqb, eqb-true}
 use Rattle.std.proofs.lemmas.List.{length-set}
 use Rattle.std.proofs.lemmas.List.Concat.{flat_map-append}
 use Rattle.std.proofs.lemmas.Option.{slice_get_past, slice_get_within}
-use Rattle.sto_model.specs.Told.{told}
+use Rattle.sto_model.specs.PlainReplies.{plain_reply}
 use Rattle.sto_lang.specs.Scripts.{File, Script}
 use Rattle.sto_lang.proofs.ObjectLemmas.{take_found}
 use Rattle.sto_script.specs.declared.body.ScriptBody.{ScriptBody}
@@ -36,8 +36,8 @@ other_step file thread steps step other =
 
 -- a thread that the file does not have makes no attempt
 none_made : (file : File) (step : Step) (start : Bool) → slice_get file.threads step.thread ≡ None
-    → option_map (hearing (map told step.replies.items)) (cond start (option_map begun (transaction_at file (step.thread, step.position))) None) ≡ None
-none_made file step true e = ap (λ (o : Option (List Script)). option_map (hearing (map told step.replies.items)) (option_map begun (option_and_then (at_position step.position) o))) e
+    → option_map (hearing (map plain_reply step.replies.items)) (cond start (option_map begun (transaction_at file (step.thread, step.position))) None) ≡ None
+none_made file step true e = ap (λ (o : Option (List Script)). option_map (hearing (map plain_reply step.replies.items)) (option_map begun (option_and_then (at_position step.position) o))) e
 none_made file step false e = refl
 
 none_led : (file : File) (thread : ℕ) (steps : List Step) → slice_get file.threads thread ≡ None → attempt_of file thread steps ≡ None

@@ -1,7 +1,7 @@
 -- The events of a trace: each with its number, and with the calls that its replies answer.
 use Rattle.std.specs.Prelude.{ℕ, ◌+◌, List, [], ◌∷◌, ◌++◌, length, map, true, false, Bool, ◌==◌, if◌then◌else◌, Option, None, Some}
 use Rattle.std.specs.Option.{option_map}
-use Rattle.sto_model.specs.Told.{Told, told}
+use Rattle.sto_model.specs.PlainReplies.{PlainReply, plain_reply}
 use Rattle.sto_model.specs.declared.call.Call.{Call}
 use Rattle.sto_model.specs.declared.body.Next.{Next}
 use Rattle.sto_model.specs.declared.body.Next.TheVariants as next
@@ -15,14 +15,14 @@ use Rattle.sto_trace.specs.declared.Step.{Step}
 -- an attempt: its transaction, and the replies that it has heard
 pub record Attempt : Type 0 where
   pub script : Script
-  pub heard : List Told
+  pub heard : List PlainReply
 
 -- an attempt that has heard nothing
 abbrev pub begun : Script → Attempt
 begun script = record { script = script; heard = [] }
 
 -- an attempt that has heard these replies, too
-abbrev pub hearing : List Told → Attempt → Attempt
+abbrev pub hearing : List PlainReply → Attempt → Attempt
 hearing replies attempt = record attempt { heard = attempt.heard ++ replies }
 
 -- the call that is asked next, where one is
@@ -38,10 +38,10 @@ asked_by (Some attempt) = asked_in (meaning_of attempt.script attempt.heard)
 -- a reply, and the call that it answers
 pub record Answer : Type 0 where
   pub call : Option Call
-  pub reply : Told
+  pub reply : PlainReply
 
 -- each reply answers the call that the attempt asks after the replies before it
-abbrev pub answers : Option Attempt → List Told → List Answer
+abbrev pub answers : Option Attempt → List PlainReply → List Answer
 answers attempt [] = []
 answers attempt (reply ∷ replies) = record { call = asked_by attempt; reply = reply } ∷ answers (option_map (hearing (reply ∷ [])) attempt) replies
 
@@ -68,7 +68,7 @@ making file attempt step = if is_start step.deed then option_map begun (transact
 
 -- the same after the step: it has heard the replies as well
 abbrev pub made : File → Option Attempt → Step → Option Attempt
-made file attempt step = option_map (hearing (map told step.replies.items)) (making file attempt step)
+made file attempt step = option_map (hearing (map plain_reply step.replies.items)) (making file attempt step)
 
 -- where the steps of a thread among these lead an attempt
 abbrev pub led : File → ℕ → Option Attempt → List Step → Option Attempt
@@ -90,7 +90,7 @@ abbrev pub event_after : File → List Step → Step → Event
 event_after file earlier step = record {
   number = length earlier + 1;
   step = step;
-  answers = answers (making file (attempt_of file step.thread earlier) step) (map told step.replies.items);
+  answers = answers (making file (attempt_of file step.thread earlier) step) (map plain_reply step.replies.items);
 }
 
 abbrev pub events_after : File → List Step → List Step → List Event

@@ -5,4 +5,4 @@ pub mod Named
 pub mod Bodies
 pub mod Lines
 pub use Rattle.sto_lang.specs.Views
-pub use Rattle.sto_model.specs.Told
+pub use Rattle.sto_model.specs.PlainReplies

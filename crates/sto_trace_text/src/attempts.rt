@@ -1,7 +1,7 @@
 //! The attempts that the threads of a run make, as its steps begin them and lead them on.
 ghost use Rattle.std.specs.Prelude.{◌≡◌, ◌∷◌, ◌++◌, ◌<◌, ◌^◌, [], ℕ, List, length, map, Option, IfOk, OnOk, option_copied};
 ghost use Rattle.std.specs.Option.{option_map};
-ghost use Rattle.sto_model.specs.Told.{told};
+ghost use Rattle.sto_model.specs.PlainReplies.{plain_reply};
 ghost use Rattle.sto_lang.specs.Sound.{IsSound};
 ghost use Rattle.sto_lang.specs.Views.{file as view, script};
 ghost use Rattle.sto_report_spec.specs.Orders.{at_position, transaction_at};
@@ -75,7 +75,7 @@ fn begin(
 
 // The call that an attempt asks next. It hears this reply.
 fn asked(attempt: &mut Option<ScriptBody<'_>>, reply: &Reply) -> Option<Call>
-    ensures { HearsReply (told reply.now) attempt.old result attempt.new }
+    ensures { HearsReply (plain_reply reply.now) attempt.old result attempt.new }
 {
     let body = attempt.as_mut()?;
     match body.next() {
@@ -94,7 +94,7 @@ fn answered<'s>(
     replies: &'s [Reply],
 ) -> Result<List<Answer<'s>>, NoMemory>
     requires { length replies.now < 2 ^ 32 }
-    ensures { IfOk result (λ answers. HearsReplies (map told replies.now) attempt.old (map answer_of answers.items) attempt.new) }
+    ensures { IfOk result (λ answers. HearsReplies (map plain_reply replies.now) attempt.old (map answer_of answers.items) attempt.new) }
 {
     let mut answers = List::new(alloc);
     for reply in replies {

@@ -4,7 +4,7 @@ ghost use Rattle.serde_json.specs.View.{view};
 ghost use Rattle.sto_lang.specs.Sound.{IsSound};
 ghost use Rattle.sto_lang.specs.Views.{declaration, file as file_of};
 ghost use Rattle.sto_report_spec.specs.Json.{listed, reply_data};
-ghost use Rattle.sto_model.specs.Told.{told};
+ghost use Rattle.sto_model.specs.PlainReplies.{plain_reply};
 ghost use Rattle.sto_trace_text.specs.Bodies.{answer_of, event_with};
 ghost use Rattle.sto_trace_text.specs.Json.{answer_data, call_data, changed_data, clock_data, deed_data, end_data, ended_data, event_data, json_line, locked_data, part_data, trace_json, version_data, word_data};
 ghost use Rattle.sto_trace_text.specs.Lines.{AddsLine};
@@ -101,7 +101,7 @@ fn call_value(alloc: Global, decls: &[Decl], call: Option<Call>) -> Result<Value
 }
 
 fn reply_value(alloc: Global, reply: &Reply) -> Result<Value, AllocError>
-    ensures { IfOk result (λ v. view v ≡ reply_data (told reply.now)) }
+    ensures { IfOk result (λ v. view v ≡ reply_data (plain_reply reply.now)) }
 {
     let mut text = String::new(alloc);
     push_reply(&mut text, reply)?;

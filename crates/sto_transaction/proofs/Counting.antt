@@ -3,18 +3,18 @@ use Rattle.std.specs.Prelude.{◌&&◌, ◌==◌, not, if◌then◌else◌, cond
 use Rattle.std.specs.List.{All, filter}
 use Rattle.std.proofs.Common.{◌≡◌, ℕ, suc, ◌+◌, List, [], ◌∷◌, ◌++◌, map, length, Bool, true, false, refl, ap, ap₂, ◌∙◌, arith, eq-eqb}
 use Rattle.std.proofs.lemmas.List.Elements.{All-head, All-tail}
-use Rattle.sto_history.specs.Records.{Place, Record, is_abort, is_finished}
+use Rattle.sto_history.specs.Records.{TransactionPlace, Record, is_abort, is_finished}
 use Rattle.sto_history.specs.Counted.{aborted_times, finished_places}
 use Rattle.sto_history.specs.Trying.{AreAborted}
 
 -- 1 where a record of the place is aborted
-if_hit : Place → Place → Bool → ℕ
+if_hit : TransactionPlace → TransactionPlace → Bool → ℕ
 if_hit place q b = if (q.0 == place.0) && ((q.1 == place.1) && b) then 1 else 0
 
-hit : (place q : Place) (b : Bool) → q ≡ place → b ≡ true → if_hit place q b ≡ 1
+hit : (place q : TransactionPlace) (b : Bool) → q ≡ place → b ≡ true → if_hit place q b ≡ 1
 unfolding if_hit
 hit place q b same is =
-    ap₂ (λ (p : Place) (c : Bool). if_hit place p c) same is
+    ap₂ (λ (p : TransactionPlace) (c : Bool). if_hit place p c) same is
     ∙ ap₂ (λ (x y : Bool). if x && (y && true) then 1 else 0) (eq-eqb place.0 place.0 refl) (eq-eqb place.1 place.1 refl)
 
 missed : (x y : Bool) → ◌≡◌ {A = ℕ} (if x && (y && false) then 1 else 0) 0
@@ -22,12 +22,12 @@ missed true true = refl
 missed true false = refl
 missed false y = refl
 
-miss : (place q : Place) (b : Bool) → b ≡ false → if_hit place q b ≡ 0
+miss : (place q : TransactionPlace) (b : Bool) → b ≡ false → if_hit place q b ≡ 0
 unfolding if_hit
 miss place q b is = ap (λ (c : Bool). if_hit place q c) is ∙ missed (q.0 == place.0) (q.1 == place.1)
 
 -- each aborted record of the place is counted
-pub all_aborted : (place : Place) (rs : List Record) → AreAborted rs → All (λ (r : Record). r.place ≡ place) rs → aborted_times place rs ≡ length rs
+pub all_aborted : (place : TransactionPlace) (rs : List Record) → AreAborted rs → All (λ (r : Record). r.place ≡ place) rs → aborted_times place rs ≡ length rs
 unfolding if_hit
 all_aborted place [] aborted placed = refl
 all_aborted place (r ∷ rs) aborted placed =
@@ -41,7 +41,7 @@ all_aborted place (r ∷ rs) aborted placed =
     one_more n = omega arith
 
 -- the last record is not counted where it is not aborted
-pub last_unaborted : (place : Place) (rs : List Record) (r : Record) → AreAborted rs → All (λ (x : Record). x.place ≡ place) rs → is_abort r.verdict ≡ false → aborted_times place (rs ++ r ∷ []) ≡ length rs
+pub last_unaborted : (place : TransactionPlace) (rs : List Record) (r : Record) → AreAborted rs → All (λ (x : Record). x.place ≡ place) rs → is_abort r.verdict ≡ false → aborted_times place (rs ++ r ∷ []) ≡ length rs
 unfolding if_hit
 last_unaborted place [] r aborted placed last = ap (λ (n : ℕ). n + 0) (miss place r.place (is_abort r.verdict) last)
 last_unaborted place (x ∷ rs) r aborted placed last =

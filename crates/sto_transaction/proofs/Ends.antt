@@ -1,8 +1,8 @@
 -- An attempt that has ended is told by its record.
 use Rattle.std.specs.Prelude.{◌⊎◌}
 use Rattle.std.proofs.Common.{◌≡◌, ◌≤◌, ◌<◌, ◌+◌, ℕ, List, false, refl, sym, ap, ◌∙◌, subst, arith, inl}
-use Rattle.sto_model.specs.Told.{Told}
-use Rattle.sto_model.specs.Run.{Script}
+use Rattle.sto_model.specs.PlainReplies.{PlainReply}
+use Rattle.sto_model.specs.Run.{Behaviour}
 use Rattle.sto_type.specs.Meaning.{Meaning}
 use Rattle.sto_core.specs.declared.view.Entry.{Entry}
 use Rattle.sto_core.specs.declared.view.Fate.{Fate}
@@ -19,7 +19,7 @@ use Rattle.sto_attempt_log.specs.Answers.{OneEvent, IsCommitEvent}
 use Rattle.sto_attempt_log.specs.Standing.{Ends, IsLeft, IsUnaborted}
 use Rattle.sto_attempt_log.specs.CommitPhases.{Deal, EndsWith, EndsIn}
 use Rattle.sto_attempt_log.specs.Verdicts.{IsWrote}
-use Rattle.sto_history.specs.Records.{Place, IsSince, IsAbove, is_abort, wrote_with}
+use Rattle.sto_history.specs.Records.{TransactionPlace, IsSince, IsAbove, is_abort, wrote_with}
 use Rattle.sto_history.specs.Counted.{times_committed}
 use Rattle.sto_history.specs.Added.{IsKnown}
 use Rattle.sto_history.specs.Running.{HasNoMore, HasOneMore, HasDrawn, HasDrawnAbove, IsRunning}
@@ -31,22 +31,22 @@ use Rattle.sto_transaction.specs.Plain.{verdict}
 use Rattle.sto_transaction.proofs.Telling.{ends_told, ends_found, ends_since, said_told, said_found}
 
 -- An attempt that ends while it reads has committed no entry.
-unwritten : (m : Meaning) (f : Script) (w : View) (at : ℕ) (rs : List Told) (x : Verdict) → Ends m f w at rs x → (t : ℕ) → wrote_with t (verdict x) ≡ 0
+unwritten : (m : Meaning) (f : Behaviour) (w : View) (at : ℕ) (rs : List PlainReply) (x : Verdict) → Ends m f w at rs x → (t : ℕ) → wrote_with t (verdict x) ≡ 0
 unwritten m f w at rs (Wrote u) h t = absurd h
 unwritten m f w at rs (Read n) h t = refl
 unwritten m f w at rs (Cancelled n) h t = refl
 unwritten m f w at rs (Locked n p) h t = refl
 unwritten m f w at rs (Changed n p u) h t = refl
 
-unwritten_above : (m : Meaning) (f : Script) (w : View) (at : ℕ) (rs : List Told) (x : Verdict) → Ends m f w at rs x → IsAbove w.at (verdict x)
+unwritten_above : (m : Meaning) (f : Behaviour) (w : View) (at : ℕ) (rs : List PlainReply) (x : Verdict) → Ends m f w at rs x → IsAbove w.at (verdict x)
 unwritten_above m f w at rs (Wrote u) h = absurd h
 unwritten_above m f w at rs (Read n) h = tt
 unwritten_above m f w at rs (Cancelled n) h = tt
 unwritten_above m f w at rs (Locked n p) h = tt
 unwritten_above m f w at rs (Changed n p u) h = tt
 
-pub ended_reading : (m : Meaning) (f : Script) (begun w : View) (at : ℕ) (rs : List Told) (x : Verdict) → InBody begun w at → IsLeft w → at ≤ w.at → Ends m f w at rs x
-    → (place : Place) → HasTried m begun w f place (record { place = place; replies = rs; verdict = verdict x })
+pub ended_reading : (m : Meaning) (f : Behaviour) (begun w : View) (at : ℕ) (rs : List PlainReply) (x : Verdict) → InBody begun w at → IsLeft w → at ≤ w.at → Ends m f w at rs x
+    → (place : TransactionPlace) → HasTried m begun w f place (record { place = place; replies = rs; verdict = verdict x })
 ended_reading m f begun w at rs x h left within ends place =
     tried m begun w f place rs (verdict x) h.running left.idle (ends_told m f w at rs x within ends) (ends_found m f w at rs x ends) (ends_since m f begun w at rs x h.late ends) (unwritten_above m f w at rs x ends)
     (λ t. counted_none begun t w.entries w.draws (inl h.undrawn) ∙ ap (λ (k : ℕ). times_committed t begun.entries + k) (sym (unwritten m f w at rs x ends t)))
@@ -132,10 +132,10 @@ module _ (d : Deal) (passes : ℕ) (begun v w : View) (r : IsRunning begun v) (l
       (lost_keeps d.valid o.event begun v o.number o.value (begins_none d o.event o.of_kind) unwon o.tells.allowed (subst (λ (z : View). IsIdle z.phase) o.tells.after left.idle) r.drawn)
 
   told_as : (x : Verdict) → EndsWith d w x → ((k : ℕ) → IsKnown begun k → IsSince k (verdict x)) → IsAbove w.at (verdict x) → ((t : ℕ) → times_committed t w.entries ≡ times_committed t begun.entries + wrote_with t (verdict x))
-      → (place : Place) → HasTried d.m begun w d.f place (record { place = place; replies = d.rs; verdict = verdict x })
+      → (place : TransactionPlace) → HasTried d.m begun w d.f place (record { place = place; replies = d.rs; verdict = verdict x })
   told_as x ends since above count place = tried d.m begun w d.f place d.rs (verdict x) (commit_runs d passes begun v w r o) left.idle (said_told d w x within ends) (said_found d w x ends) since above count
 
-  pub ended_commit : (x : Verdict) → EndsWith d w x → EndsIn v.phase x → (place : Place) → HasTried d.m begun w d.f place (record { place = place; replies = d.rs; verdict = verdict x })
+  pub ended_commit : (x : Verdict) → EndsWith d w x → EndsIn v.phase x → (place : TransactionPlace) → HasTried d.m begun w d.f place (record { place = place; replies = d.rs; verdict = verdict x })
   ended_commit (Wrote u) ends by = let one = won u by in told_as (Wrote u) ends one.since (won_above u by) (λ t. counted_won begun t u w.entries w.draws one)
   ended_commit (Read n) ends by = absurd ends
   ended_commit (Cancelled n) ends by = absurd ends

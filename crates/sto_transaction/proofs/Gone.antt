@@ -3,8 +3,8 @@ use Rattle.std.specs.Prelude.{nat_lt, if◌then◌else◌}
 use Rattle.std.proofs.Common.{◌≡◌, ◌≤◌, ℕ, ℤ, List, Bool, true, false, length, slice_index_or, sym, ap, ◌∙◌, subst, arith}
 use Rattle.sto_item.specs.declared.item.Item.{Item}
 use Rattle.sto_item.specs.Pending.{Entry as Update}
-use Rattle.sto_model.specs.Told.{Told}
-use Rattle.sto_model.specs.Run.{Script}
+use Rattle.sto_model.specs.PlainReplies.{PlainReply}
+use Rattle.sto_model.specs.Run.{Behaviour}
 use Rattle.sto_type.specs.Meaning.{Meaning}
 use Rattle.sto_core.specs.declared.view.View.{View}
 use Rattle.sto_core.specs.History.{Validity}
@@ -142,7 +142,7 @@ pub record HasMoved (begun w : View) (new : ReadPhase) (at : ℕ) : Type 0 where
 pub gone_of : (begun w : View) (new : ReadPhase) (at : ℕ) → HasMoved begun w new at → HasGone new begun w at
 gone_of begun w new at h = gone_in new h.begins begun w at h.in_body
 
-module _ (m : Meaning) (valid : Validity) (sizes : List ℕ) (f : Script) (old : ℕ) (ws : List ℤ) (extension : Extension) (base : List ReadEntry) (items : List Item) (es : List Update) (rs : List Told) (passes : ℕ) (begun v w : View) where
+module _ (m : Meaning) (valid : Validity) (sizes : List ℕ) (f : Behaviour) (old : ℕ) (ws : List ℤ) (extension : Extension) (base : List ReadEntry) (items : List Item) (es : List Update) (rs : List PlainReply) (passes : ℕ) (begun v w : View) where
   -- how a step leads on, by where the attempt stood
   pub record HasLed (read_phase : ReadPhase) : Type 0 where
     pub read : HasRead begun w

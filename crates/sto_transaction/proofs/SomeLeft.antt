@@ -3,8 +3,8 @@ use Rattle.std.proofs.Common.{◌<◌, ◌-◌, ℕ, ℤ, List, map, arith}
 use Rattle.sto_item.specs.declared.item.Item.{Item}
 use Rattle.sto_item.specs.Pending.{Entry as Update}
 use Rattle.sto_item.specs.Watched.{watched}
-use Rattle.sto_model.specs.Told.{Told}
-use Rattle.sto_model.specs.Run.{Script}
+use Rattle.sto_model.specs.PlainReplies.{PlainReply}
+use Rattle.sto_model.specs.Run.{Behaviour}
 use Rattle.sto_type.specs.Meaning.{Meaning, IsLawful}
 use Rattle.sto_core.specs.declared.view.View.{View}
 use Rattle.sto_core.specs.History.{Validity}
@@ -18,7 +18,7 @@ use Rattle.sto_attempt_log.specs.Bounds.{events_left}
 use Rattle.sto_attempt_log.proofs.Bounding.{commit_cost, reread_costs}
 use Rattle.sto_attempt_log.proofs.Lowering.{room, open_over, recheck_over, reopen_over}
 
-module _ (m : Meaning) (law : IsLawful m) (valid : Validity) (sizes : List ℕ) (f : Script) (at calls : ℕ) (words : List ℤ) (extension : Extension) (base : List ReadEntry) (items : List Item) (es : List Update) (rs : List Told) (v : View) where
+module _ (m : Meaning) (law : IsLawful m) (valid : Validity) (sizes : List ℕ) (f : Behaviour) (at calls : ℕ) (words : List ℤ) (extension : Extension) (base : List ReadEntry) (items : List Item) (es : List Update) (rs : List PlainReply) (v : View) where
   pub some_left : (read_phase : ReadPhase) → Goes m valid sizes f at read_phase words extension base items es rs v → 0 < events_left calls m.widths read_phase words extension base
   some_left Unstarted h = omega (arith, commit_cost calls m.widths)
   some_left (Opening p) h = open_over m law f rs p base es h.0.awaits (calls - 1) extension.extended

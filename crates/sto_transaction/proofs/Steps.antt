@@ -6,8 +6,8 @@ use Rattle.sto_part.specs.Listed.{Listed}
 use Rattle.sto_model.specs.declared.reply.Reply.{Reply}
 use Rattle.sto_model.specs.declared.body.Next.{Next}
 use Rattle.sto_model.specs.declared.call.Call.{Call}
-use Rattle.sto_model.specs.Told.{Told, told}
-use Rattle.sto_model.specs.Run.{Script}
+use Rattle.sto_model.specs.PlainReplies.{PlainReply, plain_reply}
+use Rattle.sto_model.specs.Run.{Behaviour}
 use Rattle.sto_type.specs.Meaning.{Meaning}
 use Rattle.sto_core.specs.declared.view.View.{View}
 use Rattle.sto_core.specs.History.{Validity}
@@ -28,7 +28,7 @@ use Rattle.sto_attempt_log.specs.Verdicts.{IsUndisturbed}
 use Rattle.sto_attempt_log.proofs.Reading.{idle_reading}
 use Rattle.sto_attempt_log.proofs.Stepping.{ends_of}
 use Rattle.sto_transaction.specs.Resting.{IsAtRest}
-use Rattle.sto_transaction.specs.declared.machine.Ended.{Ended}
+use Rattle.sto_transaction.specs.declared.machine.FinishedAttempt.{FinishedAttempt}
 use Rattle.sto_transaction.specs.declared.machine.Machine.{Machine}
 use Rattle.sto_transaction.specs.declared.machine.Machine.TheVariants.{Running, Committing}
 use Rattle.sto_transaction.specs.Machines.{HasStopped, deal_of, IsOwnLog, RunsBody, IsReady, Commits, HasEnded, HasTurned, HasFinished, Proceeds, machine_left}
@@ -38,14 +38,14 @@ use Rattle.sto_transaction.proofs.Ends.{ended_reading, ended_commit, commit_runs
 -- what the step of a commit says is to be done next
 abbrev pub turn_of : Option Verdict → Turn
 turn_of None = Turns.More
-turn_of (Some x) = Turns.Ended x
+turn_of (Some x) = Turns.FinishedAttempt x
 
-module _ {T B : Type 0} (meaning : T → Meaning) (valid : Validity) (sizes : T → List ℕ) (script : B → Script) (next : B → List Told → Next) (left : B → ℕ) (may : B → Call → Type 0) where
+module _ {T B : Type 0} (meaning : T → Meaning) (valid : Validity) (sizes : T → List ℕ) (script : B → Behaviour) (next : B → List PlainReply → Next) (left : B → ℕ) (may : B → Call → Type 0) where
   module _ (passes : ℕ) (a b : Attempt T B) (begun v w : View) (same_type : b.log.ty.now ≡ a.log.ty.now) (same_script : script b.log.body ≡ script a.log.body)
       (rest : IsAtRest (meaning a.log.ty.now) (sizes a.log.ty.now) begun)
-      (led : HasLed (meaning a.log.ty.now) valid (sizes a.log.ty.now) (script a.log.body) a.at a.words.items a.extension a.log.base.items a.log.set.items a.log.set.updates (map told a.log.replies.items) passes begun v w a.read_phase)
+      (led : HasLed (meaning a.log.ty.now) valid (sizes a.log.ty.now) (script a.log.body) a.at a.words.items a.extension a.log.base.items a.log.set.items a.log.set.updates (map plain_reply a.log.replies.items) passes begun v w a.read_phase)
     where
-      OnLog : T → Script → Type 0
+      OnLog : T → Behaviour → Type 0
       OnLog ty f = IsOnLog (meaning ty) (next b.log.body) f (left b.log.body) (may b.log.body) b.log.base.items b.log.set b.log.cache b.log.replies.items
 
       own : OnLog a.log.ty.now (script a.log.body) → IsOwnLog meaning valid sizes script next left may a.log.ty.now (script a.log.body) b
@@ -53,21 +53,21 @@ module _ {T B : Type 0} (meaning : T → Meaning) (valid : Validity) (sizes : T 
       own h = record {
         same_type = same_type;
         same_script = same_script;
-        log = subst (λ (ty : T). OnLog ty (script b.log.body)) (sym same_type) (subst (λ (f : Script). OnLog a.log.ty.now f) (sym same_script) h);
+        log = subst (λ (ty : T). OnLog ty (script b.log.body)) (sym same_type) (subst (λ (f : Behaviour). OnLog a.log.ty.now f) (sym same_script) h);
       }
 
-      goes : T → Script → Type 0
-      goes ty f = Goes (meaning ty) valid (sizes ty) f b.at b.read_phase b.words.items b.extension b.log.base.items b.log.set.items b.log.set.updates (map told b.log.replies.items) w
+      goes : T → Behaviour → Type 0
+      goes ty f = Goes (meaning ty) valid (sizes ty) f b.at b.read_phase b.words.items b.extension b.log.base.items b.log.set.items b.log.set.updates (map plain_reply b.log.replies.items) w
 
-      fits : ReadPhase → T → Script → Type 0
-      fits read_phase ty f = Fits (meaning ty) valid (sizes ty) f b.at read_phase b.words.items b.log.base.items b.log.set.updates (map told b.log.replies.items) w
+      fits : ReadPhase → T → Behaviour → Type 0
+      fits read_phase ty f = Fits (meaning ty) valid (sizes ty) f b.at read_phase b.words.items b.log.base.items b.log.set.updates (map plain_reply b.log.replies.items) w
 
       more : OnLog a.log.ty.now (script a.log.body) → goes a.log.ty.now (script a.log.body) → HasMoved begun w b.read_phase b.at → (passes ≡ 1 → IsFirst b.read_phase)
           → RunsBody meaning valid sizes script next left may passes a.log.ty.now (script a.log.body) b begun w
       unfolding goes
       more log h moved alone = record {
         own = own log;
-        goes = subst (λ (ty : T). goes ty (script b.log.body)) (sym same_type) (subst (λ (f : Script). goes a.log.ty.now f) (sym same_script) h);
+        goes = subst (λ (ty : T). goes ty (script b.log.body)) (sym same_type) (subst (λ (f : Behaviour). goes a.log.ty.now f) (sym same_script) h);
         gone = gone_of begun w b.read_phase b.at moved;
         alone = alone;
       }
@@ -78,43 +78,43 @@ module _ {T B : Type 0} (meaning : T → Meaning) (valid : Validity) (sizes : T 
       ready log h stands moved = record {
         own = own log;
         fits = subst (λ (ty : T). fits Stood.Committing ty (script b.log.body)) (sym same_type)
-            (subst (λ (f : Script). fits Stood.Committing a.log.ty.now f) (sym same_script) (subst (λ (s : ReadPhase). fits s a.log.ty.now (script a.log.body)) stands h));
+            (subst (λ (f : Behaviour). fits Stood.Committing a.log.ty.now f) (sym same_script) (subst (λ (s : ReadPhase). fits s a.log.ty.now (script a.log.body)) stands h));
         in_body = moved.in_body;
         committing = stands;
       }
 
-      over : (x : Verdict) → OnLog a.log.ty.now (script a.log.body) → IsLeft w → b.at ≤ w.at → Ends (meaning a.log.ty.now) (script a.log.body) w b.at (map told b.log.replies.items) x
-          → HasMoved begun w b.read_phase b.at → (passes ≡ 1 → IsUnaborted (Turns.Ended x))
+      over : (x : Verdict) → OnLog a.log.ty.now (script a.log.body) → IsLeft w → b.at ≤ w.at → Ends (meaning a.log.ty.now) (script a.log.body) w b.at (map plain_reply b.log.replies.items) x
+          → HasMoved begun w b.read_phase b.at → (passes ≡ 1 → IsUnaborted (Turns.FinishedAttempt x))
           → HasEnded meaning valid sizes script next left may passes a.log.ty.now (script a.log.body) (record { body = b.log.body; replies = b.log.replies; verdict = x }) begun w
       unfolding OnLog
       over x log leaves within ends moved alone = record {
         same_script = same_script;
         taken = log.taken;
-        tried = λ place. ended_reading (meaning a.log.ty.now) (script a.log.body) begun w b.at (map told b.log.replies.items) x moved.in_body leaves within ends place;
+        tried = λ place. ended_reading (meaning a.log.ty.now) (script a.log.body) begun w b.at (map plain_reply b.log.replies.items) x moved.in_body leaves within ends place;
         rests = rests_after (meaning a.log.ty.now) (sizes a.log.ty.now) begun w rest led.read.running leaves;
         alone = λ one. unaborted_turn x (alone one);
       }
 
       turned_to : (r : Result Turn NoMemory) → OnOk r (OnLog a.log.ty.now (script a.log.body))
-          → IfOk r (λ turn. Turned (meaning a.log.ty.now) valid (sizes a.log.ty.now) (script a.log.body) b.at b.read_phase b.words.items b.extension b.log.base.items b.log.set.items b.log.set.updates (map told b.log.replies.items) w turn)
+          → IfOk r (λ turn. Turned (meaning a.log.ty.now) valid (sizes a.log.ty.now) (script a.log.body) b.at b.read_phase b.words.items b.extension b.log.base.items b.log.set.items b.log.set.updates (map plain_reply b.log.replies.items) w turn)
           → (passes ≡ 1 → IfOk r (λ turn. IsFirst b.read_phase × IsUnaborted turn))
           → OnOk r (Moves a.read_phase a.at b.read_phase b.at w) → OnErr r (IsLeft w)
           → HasTurned meaning valid sizes script next left may passes a.log.ty.now (script a.log.body) r (Running b) begun w
       unfolding OnLog goes fits
       turned_to (Ok Turns.More) log turned alone moves err = (rest, more log turned (led.moved b.read_phase b.at moves) (λ one. (alone one).0))
       turned_to (Ok Turns.Ready) log turned alone moves err = (rest, ready log turned.0 turned.1 (led.moved b.read_phase b.at moves))
-      turned_to (Ok (Turns.Ended x)) log turned alone moves err =
-          let ends = ends_of (meaning a.log.ty.now) valid (sizes a.log.ty.now) (script a.log.body) b.at b.words.items b.log.base.items b.log.set.updates (map told b.log.replies.items) w x turned.3 in
+      turned_to (Ok (Turns.FinishedAttempt x)) log turned alone moves err =
+          let ends = ends_of (meaning a.log.ty.now) valid (sizes a.log.ty.now) (script a.log.body) b.at b.words.items b.log.base.items b.log.set.updates (map plain_reply b.log.replies.items) w x turned.3 in
           over x log turned.1 turned.2 ends (led.moved b.read_phase b.at moves) (λ one. (alone one).1)
       turned_to (Err e) log turned alone moves err = stopped (meaning a.log.ty.now) (sizes a.log.ty.now) begun w rest led.read err
 
   -- A step of an attempt whose body runs.
-  pub reads_on : (passes : ℕ) (ty : T) (f : Script) (a b : Attempt T B) (begun v w : View) (r : Result Turn NoMemory)
+  pub reads_on : (passes : ℕ) (ty : T) (f : Behaviour) (a b : Attempt T B) (begun v w : View) (r : Result Turn NoMemory)
       → IsAtRest (meaning ty) (sizes ty) begun → RunsBody meaning valid sizes script next left may passes ty f a begun v
       → b.log.ty ≡ a.log.ty → script b.log.body ≡ script a.log.body
       → OneEvent (λ e. e ≡ next_event (meaning a.log.ty.now).widths a.read_phase a.words.items) valid passes v w
       → OnOk r (IsOnLog (meaning a.log.ty.now) (next b.log.body) (script a.log.body) (left b.log.body) (may b.log.body) b.log.base.items b.log.set b.log.cache b.log.replies.items)
-      → IfOk r (λ turn. Turned (meaning a.log.ty.now) valid (sizes a.log.ty.now) (script a.log.body) b.at b.read_phase b.words.items b.extension b.log.base.items b.log.set.items b.log.set.updates (map told b.log.replies.items) w turn)
+      → IfOk r (λ turn. Turned (meaning a.log.ty.now) valid (sizes a.log.ty.now) (script a.log.body) b.at b.read_phase b.words.items b.extension b.log.base.items b.log.set.items b.log.set.updates (map plain_reply b.log.replies.items) w turn)
       → (passes ≡ 1 → IsFirst a.read_phase → IfOk r (λ turn. IsFirst b.read_phase × IsUnaborted turn))
       → OnOk r (Moves a.read_phase a.at b.read_phase b.at w) → OnErr r (IsLeft w)
       → HasTurned meaning valid sizes script next left may passes ty f r (Running b) begun w
@@ -123,13 +123,13 @@ module _ {T B : Type 0} (meaning : T → Meaning) (valid : Validity) (sizes : T 
       let types : a.log.ty.now ≡ ty = h.own.same_type in
       let scripts : script a.log.body ≡ f = h.own.same_script in
       let rest_there : IsAtRest (meaning a.log.ty.now) (sizes a.log.ty.now) begun = subst (λ (t : T). IsAtRest (meaning t) (sizes t) begun) (sym types) rest in
-      let led = has_led (meaning a.log.ty.now) valid (sizes a.log.ty.now) (script a.log.body) a.at a.words.items a.extension a.log.base.items a.log.set.items a.log.set.updates (map told a.log.replies.items) passes begun v w a.read_phase h.goes h.gone o in
+      let led = has_led (meaning a.log.ty.now) valid (sizes a.log.ty.now) (script a.log.body) a.at a.words.items a.extension a.log.base.items a.log.set.items a.log.set.updates (map plain_reply a.log.replies.items) passes begun v w a.read_phase h.goes h.gone o in
       subst (λ (t : T). HasTurned meaning valid sizes script next left may passes t f r (Running b) begun w) types
-      (subst (λ (g : Script). HasTurned meaning valid sizes script next left may passes a.log.ty.now g r (Running b) begun w) scripts
+      (subst (λ (g : Behaviour). HasTurned meaning valid sizes script next left may passes a.log.ty.now g r (Running b) begun w) scripts
       (turned_to passes a b begun v w (ap (λ (k : Bor T). k.now) same_ref) same_script rest_there led r log turned (λ one. alone one (h.alone one)) moves err))
 
   -- A word that was read leads on.
-  pub read_more : (passes : ℕ) (ty : T) (f : Script) (r : Result Turn NoMemory) (machine : Machine T B) (begun w : View) (turn : Turn) → r ≡ Ok turn → IfOk r (λ t. t ≡ Turns.More)
+  pub read_more : (passes : ℕ) (ty : T) (f : Behaviour) (r : Result Turn NoMemory) (machine : Machine T B) (begun w : View) (turn : Turn) → r ≡ Ok turn → IfOk r (λ t. t ≡ Turns.More)
       → HasTurned meaning valid sizes script next left may passes ty f r machine begun w → Proceeds meaning valid sizes script next left may passes ty f machine begun w
   read_more passes ty f r machine begun w turn is more h =
       let same : turn ≡ Turns.More = subst (λ (x : Result Turn NoMemory). IfOk x (λ t. t ≡ Turns.More)) is more in
@@ -144,7 +144,7 @@ module _ {T B : Type 0} (meaning : T → Meaning) (valid : Validity) (sizes : T 
       subst (λ (k : Bor T). events_left (left b.log.body) (meaning k.now).widths b.read_phase b.words.items b.extension b.log.base.items < machine_left meaning valid sizes script next left may (Running a)) (sym same) h
 
   -- where a step of the commit leads
-  abbrev HasCommitted : ℕ → T → Script → Option Verdict → Ready T B → View → View → Type 0
+  abbrev HasCommitted : ℕ → T → Behaviour → Option Verdict → Ready T B → View → View → Type 0
   HasCommitted passes ty f None r begun w = Commits meaning valid sizes script next left may passes ty f r begun w
   HasCommitted passes ty f (Some x) r begun w =
       HasEnded meaning valid sizes script next left may passes ty f (record { body = r.log.body; replies = r.log.replies; verdict = x }) begun w
@@ -188,7 +188,7 @@ module _ {T B : Type 0} (meaning : T → Meaning) (valid : Validity) (sizes : T 
       committed x it = subst (λ (k : Ready T B). HasCommitted passes r.log.ty.now (script r.log.body) x k begun w) (sym kept) it
 
   -- the same of the commit, whose type and script are the attempt's own
-  commits_own : (passes : ℕ) (ty : T) (f : Script) (r : Ready T B) (begun v : View) → Commits meaning valid sizes script next left may passes ty f r begun v
+  commits_own : (passes : ℕ) (ty : T) (f : Behaviour) (r : Ready T B) (begun v : View) → Commits meaning valid sizes script next left may passes ty f r begun v
       → Commits meaning valid sizes script next left may passes r.log.ty.now (script r.log.body) r begun v
   commits_own passes ty f r begun v h = record {
     same_type = refl;
@@ -202,13 +202,13 @@ module _ {T B : Type 0} (meaning : T → Meaning) (valid : Validity) (sizes : T 
     alone = h.alone;
   }
 
-  turned_by : (passes : ℕ) (ty : T) (f : Script) (s : Ready T B) (begun w : View) → IsAtRest (meaning ty) (sizes ty) begun → (x : Option Verdict) → HasCommitted passes ty f x s begun w
+  turned_by : (passes : ℕ) (ty : T) (f : Behaviour) (s : Ready T B) (begun w : View) → IsAtRest (meaning ty) (sizes ty) begun → (x : Option Verdict) → HasCommitted passes ty f x s begun w
       → HasTurned meaning valid sizes script next left may passes ty f (Ok (turn_of x)) (Committing s) begun w
   turned_by passes ty f s begun w rest None h = (rest, h)
   turned_by passes ty f s begun w rest (Some x) h = h
 
   -- A step of the commit.
-  pub commits_on : (passes : ℕ) (ty : T) (f : Script) (r s : Ready T B) (begun v w : View) (x : Option Verdict)
+  pub commits_on : (passes : ℕ) (ty : T) (f : Behaviour) (r s : Ready T B) (begun v w : View) (x : Option Verdict)
       → IsAtRest (meaning ty) (sizes ty) begun → Commits meaning valid sizes script next left may passes ty f r begun v
       → s ≡ record r { found_tickets = s.found_tickets; loaded_words = s.loaded_words; commit_phase = s.commit_phase }
       → OneEvent (IsCommitEvent r.updates.items) valid passes v w
@@ -224,11 +224,11 @@ module _ {T B : Type 0} (meaning : T → Meaning) (valid : Validity) (sizes : T 
       let own = commits_own passes ty f r begun v h in
       turned_by passes ty f s begun w rest x
       (subst (λ (t : T). HasCommitted passes t f x s begun w) types
-      (subst (λ (g : Script). HasCommitted passes r.log.ty.now g x s begun w) scripts
+      (subst (λ (g : Behaviour). HasCommitted passes r.log.ty.now g x s begun w) scripts
       (committed passes r s begun v w kept rest_there own o x (committed_to passes r s begun v w kept rest_there own o x said space alone by))))
 
   -- The commit of an attempt that is ready, as its seal makes it.
-  pub seals : (passes : ℕ) (ty : T) (f : Script) (a : Attempt T B) (r : Ready T B) (begun v : View)
+  pub seals : (passes : ℕ) (ty : T) (f : Behaviour) (a : Attempt T B) (r : Ready T B) (begun v : View)
       → IsReady meaning valid sizes script next left may ty f a begun v
       → r.log ≡ a.log → r.at ≡ a.at
       → Stands (deal_of meaning valid sizes script next left may r) r.found_tickets r.loaded_words.items r.commit_phase v
@@ -249,14 +249,14 @@ module _ {T B : Type 0} (meaning : T → Meaning) (valid : Validity) (sizes : T 
   }
 
   -- Where the seal has met want of memory.
-  pub stops_ready : (passes : ℕ) (ty : T) (f : Script) (a : Attempt T B) (begun w : View) → IsAtRest (meaning ty) (sizes ty) begun → IsReady meaning valid sizes script next left may ty f a begun w
+  pub stops_ready : (passes : ℕ) (ty : T) (f : Behaviour) (a : Attempt T B) (begun w : View) → IsAtRest (meaning ty) (sizes ty) begun → IsReady meaning valid sizes script next left may ty f a begun w
       → HasStopped (meaning ty) (sizes ty) begun w
   stops_ready passes ty f a begun w rest h =
       stopped (meaning ty) (sizes ty) begun w rest (record { running = h.in_body.running; undrawn = h.in_body.undrawn })
       (record { idle = idle_reading w h.fits.stands; unheld = h.fits.unheld; decided = h.fits.decided })
 
   -- What is left of the attempt is handed over.
-  pub ended_as : (passes : ℕ) (ty : T) (f : Script) (body mine : B) (replies heard : Listed Reply) (x : Verdict) (begun w : View) → mine ≡ body → heard ≡ replies
+  pub ended_as : (passes : ℕ) (ty : T) (f : Behaviour) (body mine : B) (replies heard : Listed Reply) (x : Verdict) (begun w : View) → mine ≡ body → heard ≡ replies
       → HasEnded meaning valid sizes script next left may passes ty f (record { body = body; replies = replies; verdict = x }) begun w
       → HasEnded meaning valid sizes script next left may passes ty f (record { body = mine; replies = heard; verdict = x }) begun w
   ended_as passes ty f body mine replies heard x begun w same_body same_replies h =
@@ -264,12 +264,12 @@ module _ {T B : Type 0} (meaning : T → Meaning) (valid : Validity) (sizes : T 
       (subst (λ (l : Listed Reply). HasEnded meaning valid sizes script next left may passes ty f (record { body = body; replies = l; verdict = x }) begun w) (sym same_replies) h)
 
   -- What all steps have led to, by their answer.
-  pub finished_ok : (passes : ℕ) (ty : T) (f : Script) (r : Result (Ended B) NoMemory) (begun w : View) → HasFinished meaning valid sizes script next left may passes ty f r begun w
+  pub finished_ok : (passes : ℕ) (ty : T) (f : Behaviour) (r : Result (FinishedAttempt B) NoMemory) (begun w : View) → HasFinished meaning valid sizes script next left may passes ty f r begun w
       → IfOk r (λ e. HasEnded meaning valid sizes script next left may passes ty f e begun w)
   finished_ok passes ty f (Ok e) begun w h = h
   finished_ok passes ty f (Err error) begun w h = tt
 
-  pub finished_err : (passes : ℕ) (ty : T) (f : Script) (r : Result (Ended B) NoMemory) (begun w : View) → HasFinished meaning valid sizes script next left may passes ty f r begun w
+  pub finished_err : (passes : ℕ) (ty : T) (f : Behaviour) (r : Result (FinishedAttempt B) NoMemory) (begun w : View) → HasFinished meaning valid sizes script next left may passes ty f r begun w
       → OnErr r (HasStopped (meaning ty) (sizes ty) begun w)
   finished_err passes ty f (Ok e) begun w h = tt
   finished_err passes ty f (Err error) begun w h = h

@@ -1,7 +1,7 @@
 -- What an attempt tells at its end is what its record tells.
 use Rattle.std.proofs.Common.{ℕ, ◌≤◌, List, [], ◌∷◌, refl, sym, subst, arith, false, inl, inr}
-use Rattle.sto_model.specs.Told.{Told}
-use Rattle.sto_model.specs.Run.{Script}
+use Rattle.sto_model.specs.PlainReplies.{PlainReply}
+use Rattle.sto_model.specs.Run.{Behaviour}
 use Rattle.sto_type.specs.Known.{Parts}
 use Rattle.sto_type.specs.Meaning.{Meaning}
 use Rattle.sto_core.specs.declared.view.View.{View}
@@ -20,10 +20,10 @@ use Rattle.sto_transaction.specs.Plain.{verdict}
 claims_of : (v : View) (n : ℕ) (c : Parts) → HasClaimed v n c → HasClaims v n c
 claims_of v n c h j k at start number = h j k at number
 
-told_locked : (m : Meaning) (f : Script) (v : View) (at p : ℕ) (rs : List Told) → at ≤ v.at → answers.WasLocked m f v at p rs → WasAborted m v f rs at p
+told_locked : (m : Meaning) (f : Behaviour) (v : View) (at p : ℕ) (rs : List PlainReply) → at ≤ v.at → answers.WasLocked m f v at p rs → WasAborted m v f rs at p
 told_locked m f v at p rs within h = record { known = within; runs = λ c valid k. h.runs c valid (claims_of v at c k); touched = h.touched; unsettled = h.unsettled }
 
-told_changed : (m : Meaning) (f : Script) (v : View) (at p t : ℕ) (rs : List Told) → at ≤ v.at → answers.WasChanged m f v at p t rs → WasChanged m v f rs at p t
+told_changed : (m : Meaning) (f : Behaviour) (v : View) (at p t : ℕ) (rs : List PlainReply) → at ≤ v.at → answers.WasChanged m f v at p t rs → WasChanged m v f rs at p t
 told_changed m f v at p t rs within h = record {
   aborted = record { known = within; runs = λ c valid k. h.runs c valid (claims_of v at c k); touched = h.touched; unsettled = h.unsettled };
   later = h.later;
@@ -31,7 +31,7 @@ told_changed m f v at p t rs within h = record {
 }
 
 -- the number of a verdict that is not a commit
-pub ends_told : (m : Meaning) (f : Script) (v : View) (at : ℕ) (rs : List Told) (x : Verdict) → at ≤ v.at → Ends m f v at rs x → IsTold m v f rs (verdict x)
+pub ends_told : (m : Meaning) (f : Behaviour) (v : View) (at : ℕ) (rs : List PlainReply) (x : Verdict) → at ≤ v.at → Ends m f v at rs x → IsTold m v f rs (verdict x)
 ends_told m f v at rs (Wrote t) within h = absurd h
 ends_told m f v at rs (Read n) within h = subst (λ (k : ℕ). HasRead m v f rs k) (sym h.0)
     (record { known = within; runs = λ c valid k. h.1.runs c valid (claims_of v at c k); ends = h.1.ends; writes = h.1.writes })
@@ -47,7 +47,7 @@ found_locked v p h = record { finding = record { start = v.starts; part = p; ver
 found_ticket : (v : View) (p t : ℕ) → answers.HasFound v p t → HasFound v v.starts p (IsTicketFinding t)
 found_ticket v p t h = record { finding = h.finding; there = h.among; begun = h.start; on = h.on; is = (h.is, h.own) }
 
-pub ends_found : (m : Meaning) (f : Script) (v : View) (at : ℕ) (rs : List Told) (x : Verdict) → Ends m f v at rs x → IsFound v v.starts (verdict x)
+pub ends_found : (m : Meaning) (f : Behaviour) (v : View) (at : ℕ) (rs : List PlainReply) (x : Verdict) → Ends m f v at rs x → IsFound v v.starts (verdict x)
 ends_found m f v at rs (Wrote t) h = tt
 ends_found m f v at rs (Read n) h = tt
 ends_found m f v at rs (Cancelled n) h = tt
@@ -55,7 +55,7 @@ ends_found m f v at rs (Locked n p) h = found_locked v p h.1.found
 ends_found m f v at rs (Changed n p t) h = found_ticket v p t h.1.found
 
 -- an attempt that has not committed began once all was known that its number covers
-pub ends_since : (m : Meaning) (f : Script) (b v : View) (at : ℕ) (rs : List Told) (x : Verdict) → ((k : ℕ) → IsKnown b k → k ≤ at) → Ends m f v at rs x → (k : ℕ) → IsKnown b k → IsSince k (verdict x)
+pub ends_since : (m : Meaning) (f : Behaviour) (b v : View) (at : ℕ) (rs : List PlainReply) (x : Verdict) → ((k : ℕ) → IsKnown b k → k ≤ at) → Ends m f v at rs x → (k : ℕ) → IsKnown b k → IsSince k (verdict x)
 ends_since m f b v at rs (Wrote t) late h k known = absurd h
 ends_since m f b v at rs (Read n) late h k known = (let a = late k known in let e = h.0 in omega (arith, a, e))
 ends_since m f b v at rs (Cancelled n) late h k known = (let a = late k known in let e = h.0 in omega (arith, a, e))

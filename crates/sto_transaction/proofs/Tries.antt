@@ -2,11 +2,11 @@
 use Rattle.std.specs.List.{All}
 use Rattle.std.proofs.Common.{◌≡◌, ◌≤◌, ◌<◌, ◌+◌, ℕ, List, [], ◌∷◌, ◌++◌, length, true, false, true≢false, refl, sym, ap, ◌∙◌, arith, subst, append_assoc, append-nil, inl, inr}
 use Rattle.std.proofs.lemmas.List.Elements.{All-append, All-weaker, All-cons, All-nil}
-use Rattle.sto_model.specs.Run.{Script}
+use Rattle.sto_model.specs.Run.{Behaviour}
 use Rattle.sto_type.specs.Meaning.{Meaning}
 use Rattle.sto_core.specs.declared.view.View.{View}
 use Rattle.sto_core.specs.Lists.{Among}
-use Rattle.sto_history.specs.Records.{Place, Record, is_abort}
+use Rattle.sto_history.specs.Records.{TransactionPlace, Record, is_abort}
 use Rattle.sto_history.specs.Counted.{aborted_times, times_committed}
 use Rattle.sto_history.specs.Added.{HasAdded, IsAdded}
 use Rattle.sto_history.specs.Tried.{HasTried}
@@ -19,7 +19,7 @@ use Rattle.sto_transaction.specs.Machines.{HasStopped}
 use Rattle.sto_transaction.proofs.Counting.{all_aborted, last_unaborted, none_finished, last_finished}
 
 -- so many attempts were made between the views v and w, all aborted, and added these records
-pub record HasRetried (m : Meaning) (sizes : List ℕ) (passes made : ℕ) (v w : View) (f : Script) (place : Place) (before later : List Record) : Type 0 where
+pub record HasRetried (m : Meaning) (sizes : List ℕ) (passes made : ℕ) (v w : View) (f : Behaviour) (place : TransactionPlace) (before later : List Record) : Type 0 where
   pub new : List Record
   pub whole : later ≡ before ++ new
   pub added : HasMade m v w f place new
@@ -28,7 +28,7 @@ pub record HasRetried (m : Meaning) (sizes : List ℕ) (passes made : ℕ) (v w 
   pub rests : IsAtRest m sizes w
   pub alone : passes ≡ 1 → made ≡ 0
 
-pub none_retried : (m : Meaning) (sizes : List ℕ) (passes : ℕ) (v : View) (f : Script) (place : Place) (before : List Record) → IsAtRest m sizes v → HasRetried m sizes passes 0 v v f place before before
+pub none_retried : (m : Meaning) (sizes : List ℕ) (passes : ℕ) (v : View) (f : Behaviour) (place : TransactionPlace) (before : List Record) → IsAtRest m sizes v → HasRetried m sizes passes 0 v v f place before before
 none_retried m sizes passes v f place before rest = record {
   new = [];
   whole = sym (append-nil before);
@@ -39,10 +39,10 @@ none_retried m sizes passes v f place before rest = record {
   alone = λ one. refl;
 }
 
-placed : (m : Meaning) (v w : View) (f : Script) (place : Place) (rs : List Record) → All (IsAdded m v w f place) rs → All (λ (r : Record). r.place ≡ place) rs
+placed : (m : Meaning) (v w : View) (f : Behaviour) (place : TransactionPlace) (rs : List Record) → All (IsAdded m v w f place) rs → All (λ (r : Record). r.place ≡ place) rs
 placed m v w f place rs h = All-weaker (IsAdded m v w f place) (λ (r : Record). r.place ≡ place) (λ r a. a.placed) rs h
 
-module _ (m : Meaning) (sizes : List ℕ) (tries passes made : ℕ) (v u w : View) (f : Script) (place : Place) (before mid : List Record) (h : HasRetried m sizes passes made v u f place before mid) where
+module _ (m : Meaning) (sizes : List ℕ) (tries passes made : ℕ) (v u w : View) (f : Behaviour) (place : TransactionPlace) (before mid : List Record) (h : HasRetried m sizes passes made v u f place before mid) where
   -- one more that was aborted
   pub retried : (r : Record) → HasTried m u w f place r → IsAtRest m sizes w → (passes ≡ 1 → is_abort r.verdict ≡ false) → is_abort r.verdict ≡ true
       → HasRetried m sizes passes (made + 1) v w f place before (mid ++ r ∷ [])
@@ -68,7 +68,7 @@ module _ (m : Meaning) (sizes : List ℕ) (tries passes made : ℕ) (v u w : Vie
         starts = all.starts;
         found = all.found;
         kept = all.kept;
-        ends = last_finished h.new r h.aborted ended ∙ ap (λ (p : Place). p ∷ []) is;
+        ends = last_finished h.new r h.aborted ended ∙ ap (λ (p : TransactionPlace). p ∷ []) is;
         spare = λ on. (let b = h.count in omega (arith, count, b, few));
         used = λ other. absurd (true≢false other);
         rests = rest;
@@ -100,7 +100,7 @@ module _ (m : Meaning) (sizes : List ℕ) (tries passes made : ℕ) (v u w : Vie
     draws = (let a = h.added.draws in let b = h.count in let c = s.draws in omega (arith, a, b, c, few));
   }
 
-module _ (m : Meaning) (sizes : List ℕ) (tries passes made : ℕ) (v w : View) (f : Script) (place : Place) (before later : List Record) (h : HasRetried m sizes passes made v w f place before later) where
+module _ (m : Meaning) (sizes : List ℕ) (tries passes made : ℕ) (v w : View) (f : Behaviour) (place : TransactionPlace) (before later : List Record) (h : HasRetried m sizes passes made v w f place before later) where
   count : aborted_times place h.new ≡ length h.new
   count = all_aborted place h.new h.aborted (placed m v w f place h.new h.added.each)
 

@@ -4,8 +4,8 @@ use Rattle.std.specs.Prelude.{◌≡◌, ◌≤◌, ◌+◌, ℕ, List, map, fal
 use Rattle.sto_part.specs.declared.NoMemory.{NoMemory}
 use Rattle.sto_model.specs.declared.body.Next.{Next}
 use Rattle.sto_model.specs.declared.call.Call.{Call}
-use Rattle.sto_model.specs.Told.{Told, told}
-use Rattle.sto_model.specs.Run.{Script}
+use Rattle.sto_model.specs.PlainReplies.{PlainReply, plain_reply}
+use Rattle.sto_model.specs.Run.{Behaviour}
 use Rattle.sto_type.specs.Meaning.{Meaning}
 use Rattle.sto_core.specs.declared.view.View.{View}
 use Rattle.sto_core.specs.History.{Validity}
@@ -21,7 +21,7 @@ use Rattle.sto_attempt_log.specs.CommitPhases.{Deal, deal, Stands, SpaceAt}
 use Rattle.sto_attempt_log.specs.Verdicts.{IsUndisturbed}
 use Rattle.sto_attempt_log.specs.Bounds.{events_left}
 use Rattle.sto_attempt_log.specs.Remaining.{commit_left}
-use Rattle.sto_history.specs.Records.{Place, is_abort}
+use Rattle.sto_history.specs.Records.{TransactionPlace, is_abort}
 use Rattle.sto_history.specs.Added.{Grows, IsKnown}
 use Rattle.sto_history.specs.Running.{IsRunning}
 use Rattle.sto_history.specs.Tried.{HasTried}
@@ -30,7 +30,7 @@ use Rattle.sto_transaction.specs.Plain.{verdict}
 use Rattle.sto_transaction.specs.Resting.{IsAtRest}
 use Rattle.sto_transaction.specs.declared.machine.Machine.{Machine}
 use Rattle.sto_transaction.specs.declared.machine.Machine.TheVariants.{Running, Committing, Over}
-use Rattle.sto_transaction.specs.declared.machine.Ended.{Ended}
+use Rattle.sto_transaction.specs.declared.machine.FinishedAttempt.{FinishedAttempt}
 
 -- memory was wanting: the pass is at rest, the attempt has begun and drawn nothing
 pub record HasStopped (m : Meaning) (sizes : List ℕ) (begun w : View) : Type 0 where
@@ -48,15 +48,15 @@ calls_of at_reset Over = 0
 
 -- what the traits of the type and of the body say: the meaning of a type, which contents are valid, and its sizes; the script of a
 -- body, what it does next, how many calls it may still ask, and which
-module _ {T B : Type 0} (meaning : T → Meaning) (valid : Validity) (sizes : T → List ℕ) (script : B → Script) (next : B → List Told → Next) (left : B → ℕ) (may : B → Call → Type 0) where
+module _ {T B : Type 0} (meaning : T → Meaning) (valid : Validity) (sizes : T → List ℕ) (script : B → Behaviour) (next : B → List PlainReply → Next) (left : B → ℕ) (may : B → Call → Type 0) where
   -- what a commit is to do
   abbrev pub deal_of : Ready T B → Deal
   deal_of r =
-      deal (meaning r.log.ty.now) valid (sizes r.log.ty.now) (script r.log.body) r.at r.log.base.items r.log.set.items (map told r.log.replies.items)
+      deal (meaning r.log.ty.now) valid (sizes r.log.ty.now) (script r.log.body) r.at r.log.base.items r.log.set.items (map plain_reply r.log.replies.items)
       r.updates.items r.seen.items r.loaded.items r.tasks.items r.checks.items r.places.items
 
   -- the log of an attempt of a body with the script f, on a type
-  pub record IsOwnLog (ty : T) (f : Script) (a : Attempt T B) : Type 0 where
+  pub record IsOwnLog (ty : T) (f : Behaviour) (a : Attempt T B) : Type 0 where
     pub same_type : a.log.ty.now ≡ ty
     pub same_script : script a.log.body ≡ f
     pub log :
@@ -64,25 +64,25 @@ module _ {T B : Type 0} (meaning : T → Meaning) (valid : Validity) (sizes : T 
         a.log.base.items a.log.set a.log.cache a.log.replies.items
 
   -- the body runs; beside no other pass it has come to no extension
-  pub record RunsBody (passes : ℕ) (ty : T) (f : Script) (a : Attempt T B) (begun v : View) : Type 0 where
+  pub record RunsBody (passes : ℕ) (ty : T) (f : Behaviour) (a : Attempt T B) (begun v : View) : Type 0 where
     pub own : IsOwnLog ty f a
     pub goes :
         Goes (meaning a.log.ty.now) valid (sizes a.log.ty.now) (script a.log.body) a.at a.read_phase a.words.items a.extension
-        a.log.base.items a.log.set.items a.log.set.updates (map told a.log.replies.items) v
+        a.log.base.items a.log.set.items a.log.set.updates (map plain_reply a.log.replies.items) v
     pub gone : HasGone a.read_phase begun v a.at
     pub alone : passes ≡ 1 → IsFirst a.read_phase
 
   -- the body commits with an update
-  pub record IsReady (ty : T) (f : Script) (a : Attempt T B) (begun v : View) : Type 0 where
+  pub record IsReady (ty : T) (f : Behaviour) (a : Attempt T B) (begun v : View) : Type 0 where
     pub own : IsOwnLog ty f a
     pub fits :
         Fits (meaning a.log.ty.now) valid (sizes a.log.ty.now) (script a.log.body) a.at CommittingReadPhase a.words.items
-        a.log.base.items a.log.set.updates (map told a.log.replies.items) v
+        a.log.base.items a.log.set.updates (map plain_reply a.log.replies.items) v
     pub in_body : InBody begun v a.at
     pub committing : a.read_phase ≡ CommittingReadPhase
 
   -- the commit is under way; beside no other pass it has found no part changed
-  pub record Commits (passes : ℕ) (ty : T) (f : Script) (r : Ready T B) (begun v : View) : Type 0 where
+  pub record Commits (passes : ℕ) (ty : T) (f : Behaviour) (r : Ready T B) (begun v : View) : Type 0 where
     pub same_type : r.log.ty.now ≡ ty
     pub same_script : script r.log.body ≡ f
     pub taken : (call : Call) → may r.log.body call → (meaning r.log.ty.now).takes call
@@ -95,53 +95,53 @@ module _ {T B : Type 0} (meaning : T → Meaning) (valid : Validity) (sizes : T 
 
   -- an attempt of a body with the script f, on a type and one of so many passes, has led from the view `begun` to the view v, and has
   -- further events
-  abbrev pub Proceeds : ℕ → T → Script → Machine T B → View → View → Type 0
+  abbrev pub Proceeds : ℕ → T → Behaviour → Machine T B → View → View → Type 0
   Proceeds passes ty f (Running a) begun v =
       IsAtRest (meaning ty) (sizes ty) begun × RunsBody passes ty f a begun v
   Proceeds passes ty f (Committing r) begun v =
       IsAtRest (meaning ty) (sizes ty) begun × Commits passes ty f r begun v
   Proceeds passes ty f Over begun v = ⊥
 
-  -- it has ended: it is told by its record at every place, its pass is at rest, and beside no other pass it was not aborted
-  pub record HasEnded (passes : ℕ) (ty : T) (f : Script) (e : Ended B) (begun w : View) : Type 0 where
+  -- it has ended: it is plain_reply by its record at every place, its pass is at rest, and beside no other pass it was not aborted
+  pub record HasEnded (passes : ℕ) (ty : T) (f : Behaviour) (e : FinishedAttempt B) (begun w : View) : Type 0 where
     pub same_script : script e.body ≡ f
     pub taken : (call : Call) → may e.body call → (meaning ty).takes call
-    pub tried : (place : Place) → HasTried (meaning ty) begun w f place (record { place = place; replies = map told e.replies.items; verdict = verdict e.verdict })
+    pub tried : (place : TransactionPlace) → HasTried (meaning ty) begun w f place (record { place = place; replies = map plain_reply e.replies.items; verdict = verdict e.verdict })
     pub rests : IsAtRest (meaning ty) (sizes ty) w
     pub alone : passes ≡ 1 → is_abort (verdict e.verdict) ≡ false
 
   -- its body is ready to commit with an update
-  abbrev pub IsAtSeal : T → Script → Machine T B → View → View → Type 0
+  abbrev pub IsAtSeal : T → Behaviour → Machine T B → View → View → Type 0
   IsAtSeal ty f (Running a) begun w = IsAtRest (meaning ty) (sizes ty) begun × IsReady ty f a begun w
   IsAtSeal ty f _ begun w = ⊥
 
   -- it has ended so, and what is left of it was not yet taken
-  abbrev pub IsAtEnd : ℕ → T → Script → Machine T B → Verdict → View → View → Type 0
+  abbrev pub IsAtEnd : ℕ → T → Behaviour → Machine T B → Verdict → View → View → Type 0
   IsAtEnd passes ty f (Running a) x begun w = HasEnded passes ty f (record { body = a.log.body; replies = a.log.replies; verdict = x }) begun w
   IsAtEnd passes ty f (Committing r) x begun w = HasEnded passes ty f (record { body = r.log.body; replies = r.log.replies; verdict = x }) begun w
   IsAtEnd passes ty f Over x begun w = ⊥
 
   -- where an event leads it
-  abbrev pub HasTurned : ℕ → T → Script → Result Turn NoMemory → Machine T B → View → View → Type 0
+  abbrev pub HasTurned : ℕ → T → Behaviour → Result Turn NoMemory → Machine T B → View → View → Type 0
   HasTurned passes ty f (Ok turns.More) machine begun w = Proceeds passes ty f machine begun w
   HasTurned passes ty f (Ok turns.Ready) machine begun w = IsAtSeal ty f machine begun w
-  HasTurned passes ty f (Ok (turns.Ended x)) machine begun w = IsAtEnd passes ty f machine x begun w
+  HasTurned passes ty f (Ok (turns.FinishedAttempt x)) machine begun w = IsAtEnd passes ty f machine x begun w
   HasTurned passes ty f (Err error) machine begun w = HasStopped (meaning ty) (sizes ty) begun w
 
   -- the same where a body that is ready was sealed
-  abbrev pub HasAdvanced : ℕ → T → Script → Result (Option Verdict) NoMemory → Machine T B → View → View → Type 0
+  abbrev pub HasAdvanced : ℕ → T → Behaviour → Result (Option Verdict) NoMemory → Machine T B → View → View → Type 0
   HasAdvanced passes ty f (Ok None) machine begun w = Proceeds passes ty f machine begun w
   HasAdvanced passes ty f (Ok (Some x)) machine begun w = IsAtEnd passes ty f machine x begun w
   HasAdvanced passes ty f (Err error) machine begun w = HasStopped (meaning ty) (sizes ty) begun w
 
   -- what a step leads to: it proceeds, or it has ended
-  abbrev pub HasStepped : ℕ → T → Script → Result (Option (Ended B)) NoMemory → Machine T B → View → View → Type 0
+  abbrev pub HasStepped : ℕ → T → Behaviour → Result (Option (FinishedAttempt B)) NoMemory → Machine T B → View → View → Type 0
   HasStepped passes ty f (Ok None) machine begun w = Proceeds passes ty f machine begun w
   HasStepped passes ty f (Ok (Some e)) machine begun w = HasEnded passes ty f e begun w
   HasStepped passes ty f (Err error) machine begun w = HasStopped (meaning ty) (sizes ty) begun w
 
   -- what all steps lead to
-  abbrev pub HasFinished : ℕ → T → Script → Result (Ended B) NoMemory → View → View → Type 0
+  abbrev pub HasFinished : ℕ → T → Behaviour → Result (FinishedAttempt B) NoMemory → View → View → Type 0
   HasFinished passes ty f (Ok e) begun w = HasEnded passes ty f e begun w
   HasFinished passes ty f (Err error) begun w = HasStopped (meaning ty) (sizes ty) begun w
 
@@ -157,6 +157,6 @@ module _ {T B : Type 0} (meaning : T → Meaning) (valid : Validity) (sizes : T 
     pub taken : w.steps + machine_left new ≤ v.steps + machine_left old
     pub calls : calls_of at_reset new ≡ calls_of at_reset old
 
-  abbrev pub left_after : Option (Ended B) → Machine T B → ℕ
+  abbrev pub left_after : Option (FinishedAttempt B) → Machine T B → ℕ
   left_after None machine = machine_left machine
   left_after (Some e) machine = 0

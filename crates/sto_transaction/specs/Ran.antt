@@ -1,11 +1,11 @@
 -- What a run of one transaction on an idle pass ensures.
 use Rattle.std.specs.Prelude.{◌≡◌, ◌≤◌, ◌<◌, ◌⊎◌, ℕ, ◌+◌, List, [], ◌∷◌, ◌++◌, length, Bool, true, false, if◌then◌else◌}
-use Rattle.sto_model.specs.Run.{Script as Steps}
+use Rattle.sto_model.specs.Run.{Behaviour}
 use Rattle.sto_type.specs.Meaning.{Meaning}
 use Rattle.sto_core.specs.declared.view.Entry.{Entry}
 use Rattle.sto_core.specs.declared.view.View.{View}
 use Rattle.sto_core.specs.Lists.{Among}
-use Rattle.sto_history.specs.Records.{Place, Record}
+use Rattle.sto_history.specs.Records.{TransactionPlace, Record}
 use Rattle.sto_history.specs.Counted.{aborted_times, finished_places}
 use Rattle.sto_history.specs.Added.{HasAdded}
 use Rattle.sto_history.specs.Trying.{AreFound}
@@ -13,7 +13,7 @@ use Rattle.sto_transaction.specs.Resting.{IsAtRest}
 
 -- from the view v to the view w, on words with so many passes, a transaction that does f was run with so many tries. It has
 -- ended, or all its tries were aborted
-pub record HasRun (m : Meaning) (sizes : List ℕ) (tries passes : ℕ) (v w : View) (f : Steps) (place : Place) (before later : List Record) (ended : Bool) : Type 0 where
+pub record HasRun (m : Meaning) (sizes : List ℕ) (tries passes : ℕ) (v w : View) (f : Behaviour) (place : TransactionPlace) (before later : List Record) (ended : Bool) : Type 0 where
   pub new : List Record
   pub whole : later ≡ before ++ new
   pub added : HasAdded m tries v w f place new
@@ -32,7 +32,7 @@ pub record HasRun (m : Meaning) (sizes : List ℕ) (tries passes : ℕ) (v w : V
 
 -- memory was wanting in such a run: the records that it added stay, all of aborted attempts, and the pass is at rest. The attempt
 -- that met it has no record, and no entry; it may have begun
-pub record HasBroken (m : Meaning) (sizes : List ℕ) (tries : ℕ) (v w : View) (f : Steps) (place : Place) (before later : List Record) : Type 0 where
+pub record HasBroken (m : Meaning) (sizes : List ℕ) (tries : ℕ) (v w : View) (f : Behaviour) (place : TransactionPlace) (before later : List Record) : Type 0 where
   pub new : List Record
   pub whole : later ≡ before ++ new
   pub added : HasAdded m tries v w f place new

@@ -7,7 +7,7 @@ mod machine;
 mod record;
 mod transaction;
 
-pub use machine::{Ended, Machine};
+pub use machine::{FinishedAttempt, Machine};
 pub use record::Record;
-pub use sto_attempt::Memory;
+pub use sto_attempt::AttemptLists;
 pub use transaction::{AttemptWatch, Transacted, Transaction};

@@ -6,9 +6,9 @@ ghost use Rattle.sto_attempt_log.specs.Bounds.{bound, words_of};
 ghost use Rattle.sto_transaction.specs.Resting.{IsAtRest};
 ghost use Rattle.sto_transaction.specs.Leading.{IsLedTo, MayGoOn, MakesOne, Turns, Advances, Steps, MaySeal, Seals, MayEnd, Ends, left_of, left_past, calls_at, KeepsCalls};
 
-use std::mem;
 use std::alloc::Global;
-use sto_attempt::{Attempt, Memory, Ready, Turn, Verdict};
+use std::mem;
+use sto_attempt::{Attempt, AttemptLists, Ready, Turn, Verdict};
 use sto_core::Cells;
 use sto_model::{Body, Replies};
 use sto_part::NoMemory;
@@ -27,7 +27,7 @@ pub enum Machine<'t, T: TxType, B: Body> {
 
 /// What is left of an attempt that has ended.
 #[derive(Drop)]
-pub struct Ended<B> {
+pub struct FinishedAttempt<B> {
     /// The body, as it stood at the end.
     pub body: B,
     /// What it was answered, in order.
@@ -41,7 +41,7 @@ impl<'t, T: TxType, B: Body + Drop> Machine<'t, T, B> {
     ///
     /// The type is to take every call that the body may ask. The memory is lent to the attempt, which gives it back at its end.
     #[inline(always)]
-    pub fn new(alloc: Global, ty: &'t T, body: B, memory: Memory) -> Machine<'t, T, B>
+    pub fn new(alloc: Global, ty: &'t T, body: B, memory: AttemptLists) -> Machine<'t, T, B>
         requires { (call : Call) → B.may_ask body call → (T.meaning ty.now).takes call }
         ensures proceeds { (passes : ℕ) (v : View) → IsAtRest (T.meaning ty.now) (T.sizes ty.now) v → 0 < v.draws
             → IsLedTo T.TxType B.Body passes ty.now (B.script body) result v v }
@@ -60,8 +60,8 @@ impl<'t, T: TxType, B: Body + Drop> Machine<'t, T, B> {
         &mut self,
         alloc: Global,
         cells: &mut C,
-        memory: &mut Memory,
-    ) -> Result<Option<Ended<B>>, NoMemory>
+        memory: &mut AttemptLists,
+    ) -> Result<Option<FinishedAttempt<B>>, NoMemory>
         requires { MayGoOn T.TxType B.Body C.Cells self.old cells.old }
         ensures event { MakesOne T.TxType B.Body C.Cells cells.old cells.new }
         ensures stepped { Steps T.TxType B.Body C.Cells self.old self.new cells.old cells.new result }
@@ -95,7 +95,7 @@ impl<'t, T: TxType, B: Body + Drop> Machine<'t, T, B> {
                 self.seal(alloc)?;
                 Ok(None)
             }
-            Turn::Ended(verdict) => Ok(Some(verdict)),
+            Turn::FinishedAttempt(verdict) => Ok(Some(verdict)),
         }
     }
 
@@ -113,7 +113,7 @@ impl<'t, T: TxType, B: Body + Drop> Machine<'t, T, B> {
             Machine::Running(attempt) => attempt.step(alloc, cells),
             Machine::Committing(ready) => match ready.step(cells) {
                 None => Ok(Turn::More),
-                Some(verdict) => Ok(Turn::Ended(verdict)),
+                Some(verdict) => Ok(Turn::FinishedAttempt(verdict)),
             },
             Machine::Over => unreachable!(),
         }
@@ -145,7 +145,7 @@ impl<'t, T: TxType, B: Body + Drop> Machine<'t, T, B> {
 
     // Takes what is left of an attempt that has ended, and puts back the memory that it was lent.
     #[inline(never)]
-    pub(crate) fn end(&mut self, verdict: Verdict, memory: &mut Memory) -> Ended<B>
+    pub(crate) fn end(&mut self, verdict: Verdict, memory: &mut AttemptLists) -> FinishedAttempt<B>
         requires { MayEnd T.TxType B.Body self.old verdict }
         ensures calls { B.left_at_reset result.body ≡ calls_at T.TxType B.Body self.old }
         ensures ended { Ends T.TxType B.Body self.old verdict result }
@@ -156,7 +156,7 @@ impl<'t, T: TxType, B: Body + Drop> Machine<'t, T, B> {
             Machine::Over => unreachable!(),
         };
         *memory = lent;
-        Ended {
+        FinishedAttempt {
             body: heard.body,
             replies: heard.replies,
             verdict,

@@ -9,11 +9,11 @@ ghost use Rattle.sto_transaction.specs.Resting.{IsAtRest};
 ghost use Rattle.sto_transaction.specs.Machines.{HasStopped};
 ghost use Rattle.sto_transaction.specs.Leading.{IsEndOf, MayGoOn, GoesOn, Stops, Finishes, RunsThrough, Breaks, Spends, left_of, calls_at};
 
-use crate::machine::{Ended, Machine};
+use crate::machine::{FinishedAttempt, Machine};
 use crate::record::Record;
-use std::mem;
 use std::alloc::{AllocError, Global};
-use sto_attempt::{Attempt, Memory, Verdict};
+use std::mem;
+use sto_attempt::{Attempt, AttemptLists, Verdict};
 use sto_core::Cells;
 use sto_model::Body;
 use sto_part::NoMemory;
@@ -63,7 +63,7 @@ impl<T: TxType, B: Body + Drop> Transaction<'_, T, B> {
         alloc: Global,
         cells: &mut C,
         watch: &mut W,
-        memory: &mut Memory,
+        memory: &mut AttemptLists,
         records: &mut Vec<Record>,
     ) -> Result<Transacted<B>, NoMemory>
         requires takes { (call : Call) → B.may_ask self.body call → (T.meaning self.ty.now).takes call }
@@ -117,8 +117,8 @@ fn run_attempt<T: TxType, B: Body + Drop, C: Cells<T>, W: AttemptWatch>(
     body: B,
     cells: &mut C,
     watch: &mut W,
-    memory: &mut Memory,
-) -> Result<Ended<B>, NoMemory>
+    memory: &mut AttemptLists,
+) -> Result<FinishedAttempt<B>, NoMemory>
     requires takes { (call : Call) → B.may_ask body call → (T.meaning ty.now).takes call }
     requires rests { IsAtRest (T.meaning ty.now) (T.sizes ty.now) (C.view cells.old) }
     requires draws { 0 < (C.view cells.old).draws }
@@ -141,8 +141,8 @@ fn finish<T: TxType, B: Body + Drop, C: Cells<T>, W: AttemptWatch>(
     machine: &mut Machine<'_, T, B>,
     cells: &mut C,
     watch: &mut W,
-    memory: &mut Memory,
-) -> Result<Ended<B>, NoMemory>
+    memory: &mut AttemptLists,
+) -> Result<FinishedAttempt<B>, NoMemory>
     requires { MayGoOn T.TxType B.Body C.Cells machine.old cells.old }
     ensures ended { Finishes T.TxType B.Body C.Cells machine.old cells.old cells.new result }
     ensures calls { IfOk result (λ e. B.left_at_reset e.body ≡ calls_at T.TxType B.Body machine.old) }

@@ -7,9 +7,9 @@ use Rattle.std.specs.Ordering.{int_eq}
 use Rattle.sto_item.specs.declared.item.Item.{Item}
 use Rattle.sto_item.specs.Pending.{Entry}
 use Rattle.sto_model.specs.declared.call.Call.{Call}
-use Rattle.sto_model.specs.Machine.{reply_to}
+use Rattle.sto_model.specs.SequentialObjects.{reply_to}
 use Rattle.sto_model.specs.Rows.{value_at, rows_between}
-use Rattle.sto_model.specs.Told.{Told}
+use Rattle.sto_model.specs.PlainReplies.{PlainReply}
 use Rattle.sto_type.specs.Known.{Parts, Known, IsPartOf}
 use Rattle.sto_type.specs.Plans.{Ask, Say, IsPlan}
 use Rattle.sto_type.specs.Reading.{Reading, Read, Say as Nothing, need_of, items_of, updates_at, IsRead, when_known}
@@ -115,7 +115,7 @@ reply_is leaves false a b d = refl
 
 module _ (leaves : ℕ) (k : Known) (scans : Bool) (call : Call) (object : call.object ≡ 0) (code : call.code ≡ code_of scans) (fits_a : FitsSigned w64 call.a) (fits_b : FitsSigned w64 call.b) where
   -- nothing where the range is empty
-  pub says_empty : (t : Told) (is : List Item) (us : List Entry) → int_le call.a call.b ≡ false → t ≡ told_of scans [] → is ≡ [] → us ≡ [] → IsPlan (tree_meaning leaves) call k (Say t is us)
+  pub says_empty : (t : PlainReply) (is : List Item) (us : List Entry) → int_le call.a call.b ≡ false → t ≡ told_of scans [] → is ≡ [] → us ≡ [] → IsPlan (tree_meaning leaves) call k (Say t is us)
   says_empty t is us none told items updates =
       let r : reading leaves (a_call (code_of scans) call.a call.b) ≡ between_reading leaves scans call.a call.b = reading_is leaves scans call.a call.b in
       let e : between_reading leaves scans call.a call.b ≡ Nothing [] [] = between_false leaves scans call.a call.b none in
@@ -142,7 +142,7 @@ module _ (leaves : ℕ) (k : Known) (scans : Bool) (call : Call) (object : call.
       needs_part p e = plan_as leaves (code_of scans) call k (Ask p) object code (ap (λ x. need_of x k) read_is ∙ whole_need leaves k scans call.a call.b fits_a fits_b dir known_dir ∙ e)
 
       pub says_range :
-          (t : Told) (is : List Item) (us : List Entry) → IsSaid seen k is → t ≡ told_of scans (rows_between (known_rows leaves k dir call.a call.b) call.a call.b) → us ≡ [] → IsPlan (tree_meaning leaves) call k (Say t is us)
+          (t : PlainReply) (is : List Item) (us : List Entry) → IsSaid seen k is → t ≡ told_of scans (rows_between (known_rows leaves k dir call.a call.b) call.a call.b) → us ≡ [] → IsPlan (tree_meaning leaves) call k (Say t is us)
       says_range t is us said told updates =
           plan_as leaves (code_of scans) call k (Say t is us) object code (
             ap (λ x. need_of x k) read_is ∙ whole_need leaves k scans call.a call.b fits_a fits_b dir known_dir ∙ said.0,

@@ -1,7 +1,7 @@
 -- The keys of a range that are counted in what is known are its rows.
 use Rattle.std.proofs.Common.{◌≡◌, ◌<◌, ◌+◌, ◌*◌, ◌/◌, ◌%◌, ℕ, zero, suc, ℤ, pos, Bool, true, false, ◌&&◌, if◌then◌else◌, Option, Some, None, List, length, refl, sym, ◌∙◌, ap, arith}
 use Rattle.sto_model.specs.Rows.{Row, rows_between}
-use Rattle.sto_model.specs.Told.{Value}
+use Rattle.sto_model.specs.PlainReplies.{Value}
 use Rattle.sto_model.proofs.RowFacts.{by_test}
 use Rattle.sto_type.specs.Known.{Parts, Known, IsPartOf}
 use Rattle.sto_tree.specs.Slots.{Slots, held, count_held, AreApart}

@@ -3,7 +3,7 @@ use Rattle.std.proofs.Common.{◌≡◌, ◌<◌, ◌*◌, ◌/◌, ◌%◌, ℕ
 use Rattle.std.specs.Ordering.{int_eq}
 use Rattle.std.proofs.lemmas.List.{length-map}
 use Rattle.sto_model.specs.Rows.{Row, with_row, rows_between}
-use Rattle.sto_model.specs.Told.{Value, Pairs}
+use Rattle.sto_model.specs.PlainReplies.{Value, Pairs}
 use Rattle.sto_model.proofs.RowFacts.{by_test, with_row-below, with_row-same, with_row-above}
 use Rattle.sto_part.specs.Parts.{part_of}
 use Rattle.sto_type.specs.Known.{Parts, Known, IsPartOf}

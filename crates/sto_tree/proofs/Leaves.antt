@@ -5,8 +5,8 @@ use Rattle.std.specs.Int.RustNames.{FitsSigned}
 use Rattle.sto_item.specs.declared.item.Item.{Item}
 use Rattle.sto_item.specs.Pending.{Entry}
 use Rattle.sto_model.specs.declared.call.Call.{Call}
-use Rattle.sto_model.specs.Told.{Told}
-use Rattle.sto_model.specs.Machine.{reply_to}
+use Rattle.sto_model.specs.PlainReplies.{PlainReply}
+use Rattle.sto_model.specs.SequentialObjects.{reply_to}
 use Rattle.sto_type.specs.Known.{Parts, Known, IsPartOf}
 use Rattle.sto_type.specs.Plans.{Plan, Ask, Say, IsPlan}
 use Rattle.sto_type.specs.Reading.{Reading, need_of, items_of, updates_at, when_known}
@@ -86,7 +86,7 @@ module _ (leaves : ℕ) (k : Known) (key : ℤ) (dir : List ℤ) (l : ℕ) (ks :
 
   -- the plan of a call that reads there
   pub leaf_says :
-      (call : Call) (f : List ℤ → ℕ → List ℤ → Reading) → reading leaves call ≡ at_leaf leaves key f → (t : Told) (is : List Item) (es : List Entry)
+      (call : Call) (f : List ℤ → ℕ → List ℤ → Reading) → reading leaves call ≡ at_leaf leaves key f → (t : PlainReply) (is : List Item) (es : List Entry)
       → need_of (f dir l ks) k ≡ None → is ≡ items_of (f dir l ks) k
       → ((d : Parts) → IsTree leaves d → IsPartOf k d → leaf_of leaves (directory d) key ≡ Some l → keys d l ≡ ks → (t ≡ reply_to (tree_meaning leaves).machines call ((tree_meaning leaves).rows d)) × (es ≡ updates_at (f dir l ks) d))
       → IsPlan (tree_meaning leaves) call k (Say t is es)

@@ -4,7 +4,7 @@ use Rattle.sto_part.specs.Parts.{part_of}
 use Rattle.sto_item.specs.declared.item.Item.{Item}
 use Rattle.sto_item.specs.declared.item.Item.TheVariants.{Seen}
 use Rattle.sto_model.specs.declared.call.Call.{Call}
-use Rattle.sto_model.specs.Told.{Value}
+use Rattle.sto_model.specs.PlainReplies.{Value}
 use Rattle.sto_type.specs.Known.{Known}
 use Rattle.sto_type.specs.Plans.{Say, IsPlan}
 use Rattle.sto_type.specs.Reading.{when_known}

@@ -7,7 +7,7 @@ use Rattle.sto_item.specs.Pending.{Entry}
 use Rattle.sto_model.specs.declared.call.Call.{Call}
 use Rattle.sto_model.specs.Objects.{value_or_absent}
 use Rattle.sto_model.specs.Rows.{least_from}
-use Rattle.sto_model.specs.Told.{Told}
+use Rattle.sto_model.specs.PlainReplies.{PlainReply}
 use Rattle.sto_type.specs.Known.{Parts, Known, IsPartOf}
 use Rattle.sto_type.specs.Plans.{Ask, Say, IsPlan}
 use Rattle.sto_type.specs.Reading.{need_of, items_of, when_known}
@@ -71,7 +71,7 @@ module _ (leaves : ℕ) (k : Known) (call : Call) (object : call.object ≡ 0) (
           ∙ ap (λ x. first_in leaves d t call.a fits (leaves_between leaves x call.a greatest)) (sym same) ∙ sym (next_is leaves d t call.a fits)
 
     pub says_next :
-        (o : Option ℤ) (t : Told) (is : List Item) (us : List Entry) → next_need k call.a listed ≡ None → o ≡ next_found k call.a listed → t ≡ value_or_absent o → is ≡ all_between leaves dir call.a (end_of o) → us ≡ []
+        (o : Option ℤ) (t : PlainReply) (is : List Item) (us : List Entry) → next_need k call.a listed ≡ None → o ≡ next_found k call.a listed → t ≡ value_or_absent o → is ≡ all_between leaves dir call.a (end_of o) → us ≡ []
         → IsPlan (tree_meaning leaves) call k (Say t is us)
     says_next o t is us need found told items updates =
         plan_as leaves 9 call k (Say t is us) object code (

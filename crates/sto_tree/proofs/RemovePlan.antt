@@ -5,7 +5,7 @@ use Rattle.sto_item.specs.declared.item.Item.{Item}
 use Rattle.sto_item.specs.declared.item.Item.TheVariants.{Seen}
 use Rattle.sto_item.specs.Pending.{Entry}
 use Rattle.sto_model.specs.declared.call.Call.{Call}
-use Rattle.sto_model.specs.Told.{Flag}
+use Rattle.sto_model.specs.PlainReplies.{Flag}
 use Rattle.sto_type.specs.Known.{Known}
 use Rattle.sto_type.specs.Plans.{Ask, Say, IsPlan}
 use Rattle.sto_type.specs.Reading.{Reading, need_of, items_of, updates_at}

@@ -10,7 +10,7 @@ use Rattle.sto_item.specs.declared.item.Item.TheVariants.{Seen}
 use Rattle.sto_item.specs.Pending.{Entry, AreUpdates}
 use Rattle.sto_model.specs.declared.call.Call.{Call}
 use Rattle.sto_model.specs.Rows.{Row, with_row}
-use Rattle.sto_model.specs.Told.{Done}
+use Rattle.sto_model.specs.PlainReplies.{Done}
 use Rattle.sto_model.proofs.RowFacts.{by_test}
 use Rattle.sto_type.specs.Known.{Parts, Known, IsPartOf}
 use Rattle.sto_type.specs.Plans.{Ask, Say, IsPlan}

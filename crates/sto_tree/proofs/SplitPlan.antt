@@ -11,7 +11,7 @@ use Rattle.sto_item.specs.Pending.{Entry, AreUpdates, with_updates}
 use Rattle.sto_item.specs.Agreement.{HasWidths}
 use Rattle.sto_model.specs.declared.call.Call.{Call}
 use Rattle.sto_model.specs.Rows.{Row}
-use Rattle.sto_model.specs.Told.{Done}
+use Rattle.sto_model.specs.PlainReplies.{Done}
 use Rattle.sto_model.proofs.RowFacts.{by_test}
 use Rattle.sto_type.specs.Known.{Parts, Known, IsPartOf}
 use Rattle.sto_type.specs.Plans.{Ask, Say, IsPlan}

@@ -12,7 +12,7 @@ use Rattle.sto_item.specs.declared.item.Item.{Item}
 use Rattle.sto_item.specs.declared.item.Item.TheVariants.{Seen}
 use Rattle.sto_item.specs.Agreement.{Agrees}
 use Rattle.sto_model.specs.declared.call.Call.{Call}
-use Rattle.sto_model.specs.Told.{Value, Pairs}
+use Rattle.sto_model.specs.PlainReplies.{Value, Pairs}
 use Rattle.sto_model.specs.Rows.{Row, value_at, rows_between}
 use Rattle.sto_model.proofs.RowFacts.{by_test}
 use Rattle.sto_type.specs.Known.{Parts}

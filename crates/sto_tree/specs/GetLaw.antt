@@ -5,7 +5,7 @@ use Rattle.std.specs.Int.RustNames.{FitsSigned}
 use Rattle.sto_item.specs.declared.item.Item.TheVariants.{Seen}
 use Rattle.sto_item.specs.Agreement.{Agrees}
 use Rattle.sto_model.specs.Objects.{value_or_absent}
-use Rattle.sto_model.specs.Told.{is_write}
+use Rattle.sto_model.specs.PlainReplies.{is_write}
 use Rattle.sto_model.specs.Rows.{value_at}
 use Rattle.sto_type.specs.Known.{Parts}
 use Rattle.sto_type.specs.Meaning.{IsUpdated}

@@ -1,7 +1,7 @@
 -- How many keys of a range there are, as far as what is known tells it.
 use Rattle.std.specs.Prelude.{◌+◌, ℕ, zero, suc, ℤ, pos, Bool, true, false, ◌&&◌, Option, Some, None, List, if◌then◌else◌}
 use Rattle.sto_model.specs.Rows.{rows_between}
-use Rattle.sto_model.specs.Told.{Told, Value, Pairs}
+use Rattle.sto_model.specs.PlainReplies.{PlainReply, Value, Pairs}
 use Rattle.sto_type.specs.Known.{Known}
 use Rattle.sto_tree.specs.Layout.{key_part, is_present, key}
 use Rattle.sto_tree.specs.Between.{meets}
@@ -31,6 +31,6 @@ known_count zero k dir a b = 0
 known_count (suc l) k dir a b = counted_leaf k dir a b l + known_count l k dir a b
 
 -- what a scan, or a count, tells of the range
-abbrev pub known_told : Bool → ℕ → Known → List ℤ → ℤ → ℤ → Told
+abbrev pub known_told : Bool → ℕ → Known → List ℤ → ℤ → ℤ → PlainReply
 known_told true leaves k dir a b = Pairs (rows_between (known_rows leaves k dir a b) a b)
 known_told false leaves k dir a b = Value (pos (known_count leaves k dir a b))

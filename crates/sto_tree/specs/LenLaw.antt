@@ -1,7 +1,7 @@
 -- len
 use Rattle.std.proofs.Common.{◌≡◌, ℕ, ℤ, pos, [], ◌∷◌, length, refl, sym, ◌∙◌, ap, arith, inl, inr}
 use Rattle.sto_item.specs.declared.item.Item.TheVariants.{Seen}
-use Rattle.sto_model.specs.Told.{Value}
+use Rattle.sto_model.specs.PlainReplies.{Value}
 use Rattle.sto_type.specs.Known.{Parts}
 use Rattle.sto_tree.specs.Layout.{tree_rows, word, size}
 use Rattle.sto_tree.specs.Len.{len_reading}

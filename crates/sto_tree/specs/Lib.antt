@@ -51,7 +51,7 @@ pub mod Walked
 pub use Rattle.sto_part.specs.Parts
 pub use Rattle.sto_item.specs.Agreement
 pub use Rattle.sto_item.specs.Pending
-pub use Rattle.sto_model.specs.Told
+pub use Rattle.sto_model.specs.PlainReplies
 pub use Rattle.sto_type.specs.Known
 pub use Rattle.sto_type.specs.Plans
 pub use Rattle.sto_type.specs.Reading

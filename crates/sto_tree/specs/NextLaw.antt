@@ -6,7 +6,7 @@ use Rattle.std.specs.Ordering.{int_eq}
 use Rattle.std.proofs.lemmas.Int.{ints}
 use Rattle.sto_item.specs.Agreement.{Agrees}
 use Rattle.sto_model.specs.Objects.{value_or_absent}
-use Rattle.sto_model.specs.Told.{is_write}
+use Rattle.sto_model.specs.PlainReplies.{is_write}
 use Rattle.sto_model.specs.Rows.{Row, RisesFrom, IsRising, value_at, least_from}
 use Rattle.sto_model.proofs.RowFacts.{by_test}
 use Rattle.sto_type.specs.Known.{Parts}

@@ -5,7 +5,7 @@ use Rattle.sto_item.specs.declared.item.Item.TheVariants.{Seen}
 use Rattle.sto_item.specs.Pending.{Entry}
 use Rattle.sto_item.specs.Agreement.{Agrees, AreTrueOf}
 use Rattle.sto_model.specs.declared.call.Call.{Call}
-use Rattle.sto_model.specs.Machine.{reply_to}
+use Rattle.sto_model.specs.SequentialObjects.{reply_to}
 use Rattle.sto_model.specs.Rows.{value_at}
 use Rattle.sto_type.specs.Known.{Parts}
 use Rattle.sto_type.specs.Reading.{Reading, items_at, updates_at, IsRead}

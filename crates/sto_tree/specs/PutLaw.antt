@@ -9,7 +9,7 @@ use Rattle.sto_item.specs.declared.item.Item.TheVariants.{Seen}
 use Rattle.sto_item.specs.Pending.{Entry}
 use Rattle.sto_item.specs.Agreement.{Agrees}
 use Rattle.sto_model.specs.Objects.{effect, put_effect}
-use Rattle.sto_model.specs.Told.{is_write, Done, Full}
+use Rattle.sto_model.specs.PlainReplies.{is_write, Done, Full}
 use Rattle.sto_model.specs.Rows.{Row, value_at, has_key, with_row}
 use Rattle.sto_model.proofs.RowFacts.{by_test}
 use Rattle.sto_type.specs.Known.{Parts}

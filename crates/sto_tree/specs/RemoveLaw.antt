@@ -6,7 +6,7 @@ use Rattle.sto_item.specs.declared.item.Item.TheVariants.{Seen}
 use Rattle.sto_item.specs.Pending.{Entry}
 use Rattle.sto_item.specs.Agreement.{Agrees}
 use Rattle.sto_model.specs.Objects.{effect, remove_effect}
-use Rattle.sto_model.specs.Told.{is_write, Flag}
+use Rattle.sto_model.specs.PlainReplies.{is_write, Flag}
 use Rattle.sto_model.specs.Rows.{Row, value_at, without}
 use Rattle.sto_type.specs.Known.{Parts}
 use Rattle.sto_type.specs.Meaning.{IsUpdated}

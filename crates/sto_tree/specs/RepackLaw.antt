@@ -9,7 +9,7 @@ use Rattle.sto_item.specs.declared.item.Item.{Item}
 use Rattle.sto_item.specs.Pending.{Entry, AreUpdates}
 use Rattle.sto_item.specs.Agreement.{Agrees, HasWidths}
 use Rattle.sto_model.specs.Objects.{effect, put_effect}
-use Rattle.sto_model.specs.Told.{is_write, Done}
+use Rattle.sto_model.specs.PlainReplies.{is_write, Done}
 use Rattle.sto_model.specs.Rows.{Row, IsRising, value_at, with_row}
 use Rattle.sto_model.proofs.RowFacts.{by_test, same_of, IsRising-with_row}
 use Rattle.sto_model.proofs.Maps.{value_at-with_row_same, value_at-with_row_other}

@@ -17,7 +17,7 @@ use Rattle.sto_item.specs.Pending.{Entry, AreUpdates, EachChanges, applied_updat
 use Rattle.sto_item.specs.Agreement.{Agrees, HasWidths}
 use Rattle.sto_item.proofs.Widths.{AreUpdates-with_updates, HasWidths-below, HasWidths-with_updates, applied_updates-with_updates}
 use Rattle.sto_model.specs.Objects.{effect, put_effect}
-use Rattle.sto_model.specs.Told.{is_write, Done}
+use Rattle.sto_model.specs.PlainReplies.{is_write, Done}
 use Rattle.sto_model.specs.Rows.{Row, value_at, with_row}
 use Rattle.sto_model.proofs.RowFacts.{by_test}
 use Rattle.sto_type.specs.Known.{Parts}

@@ -2,7 +2,7 @@
 use Rattle.std.specs.Prelude.{◌≡◌, ◌<◌, ℕ, ℤ, pos, Bool, true, false, Option, Some, None, List, [], ◌∷◌, length, if◌then◌else◌}
 use Rattle.sto_item.specs.declared.item.Item.{Item}
 use Rattle.sto_model.specs.Rows.{Row, least_from}
-use Rattle.sto_model.specs.Told.{Told, Value, Pairs}
+use Rattle.sto_model.specs.PlainReplies.{PlainReply, Value, Pairs}
 use Rattle.sto_type.specs.Known.{Known}
 use Rattle.sto_type.specs.Reading.{Reading, need_of, items_of, when_known}
 use Rattle.sto_tree.specs.Layout.{key_part, value_part, is_present}
@@ -50,7 +50,7 @@ next_found k x [] = None
 next_found k x (l ∷ ls) = when_known (k (key_part l)) None (λ ks. found_first (least_from (key_rows ks) x) (next_found k x ls))
 
 -- what a scan, or a count, tells of the rows of a range
-abbrev pub told_of : Bool → List Row → Told
+abbrev pub told_of : Bool → List Row → PlainReply
 told_of true rows = Pairs rows
 told_of false rows = Value (pos (length rows))
 

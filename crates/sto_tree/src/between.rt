@@ -1,6 +1,6 @@
 //! The plans of a count and a scan.
 ghost use Rattle.std.specs.Prelude.{◌≡◌, ◌<◌, ◌*◌, ◌^◌, ℤ, List, [], length, IfOk, if◌then◌else◌};
-ghost use Rattle.sto_model.specs.Told.{told};
+ghost use Rattle.sto_model.specs.PlainReplies.{plain_reply};
 ghost use Rattle.sto_type.specs.Known.{known, IsPartOf};
 ghost use Rattle.sto_type.specs.Plans.{planned, IsPlan};
 ghost use Rattle.sto_tree.specs.Layout.{parts_of};
@@ -78,7 +78,7 @@ fn reply_of(
     requires few { parts_of leaves < 2 ^ 32 }
     requires width { length directory.now ≡ 3 * leaves }
     requires part { (d : List (List ℤ)) × IsTree leaves d × IsPartOf (known cache.now) d }
-    ensures { IfOk result (λ r. told r ≡ known_told scans leaves (known cache.now) directory.now from to) }
+    ensures { IfOk result (λ r. plain_reply r ≡ known_told scans leaves (known cache.now) directory.now from to) }
 {
     if scans {
         let rows = known_rows(alloc, leaves, directory, cache, from, to)?;
@@ -91,7 +91,7 @@ fn reply_of(
 
 // What they answer where no number is between.
 fn empty_reply(alloc: Global, scans: bool) -> Reply
-    ensures { told result ≡ told_of scans [] }
+    ensures { plain_reply result ≡ told_of scans [] }
 {
     if scans {
         Reply::Pairs(Pairs::new(alloc))

@@ -21,7 +21,9 @@ ghost use Rattle.sto_tree.specs.Meaning.{tree_meaning, TreeTakes};
 ghost use Rattle.sto_tree.specs.Found.{IsAtLeaf, IsCrowded};
 ghost use Rattle.sto_tree.specs.Walked.{moved_value};
 
-use crate::changes::{filled_changes, place_changes, push_pair, push_three, push_update, push_values, word_change};
+use crate::changes::{
+    filled_changes, place_changes, push_pair, push_three, push_update, push_values, word_change,
+};
 use crate::get::only_word;
 use crate::leaf::Leaf;
 use crate::listing::{key_at, key_rows};

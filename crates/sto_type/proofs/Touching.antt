@@ -7,8 +7,8 @@ use Rattle.sto_item.specs.Observed.{parts_of_items}
 use Rattle.sto_model.specs.declared.call.Call.{Call}
 use Rattle.sto_model.specs.declared.body.Next.{Next}
 use Rattle.sto_model.specs.declared.body.Next.TheVariants.{Ask, Commit, Cancel}
-use Rattle.sto_model.specs.Told.{Told}
-use Rattle.sto_model.specs.Run.{Script}
+use Rattle.sto_model.specs.PlainReplies.{PlainReply}
+use Rattle.sto_model.specs.Run.{Behaviour}
 use Rattle.sto_model.specs.Asked.{AsksOf, HasAsked}
 use Rattle.sto_type.specs.Known.{Known}
 use Rattle.sto_type.specs.Meaning.{Meaning, IsLawful, IsReady, IsPartOfObject, EachKnown, EachOwned}
@@ -38,7 +38,7 @@ touched_owned m law part call h = elim h.does [
 ]
 
 -- the object whose part was touched, and that was asked
-pub record IsTouchedOf (m : Meaning) (script : Script) (replies : List Told) (part : ℕ) : Type 0 where
+pub record IsTouchedOf (m : Meaning) (script : Behaviour) (replies : List PlainReply) (part : ℕ) : Type 0 where
   pub object : ℕ
   pub owned : IsPartOfObject m.homes object part
   pub asked : HasAsked object script replies
@@ -53,7 +53,7 @@ next_owned m law (Ask call) part h = record { object = call.object; owned = touc
 next_owned m law Commit part h = absurd h
 next_owned m law Cancel part h = absurd h
 
-pub touched_of : (m : Meaning) (law : IsLawful m) (script : Script) (replies : List Told) (part : ℕ) → HasTouched m script replies part → IsTouchedOf m script replies part
+pub touched_of : (m : Meaning) (law : IsLawful m) (script : Behaviour) (replies : List PlainReply) (part : ℕ) → HasTouched m script replies part → IsTouchedOf m script replies part
 touched_of m law script [] part h = let k = next_owned m law (script []) part h in record { object = k.object; owned = k.owned; asked = k.asked }
 touched_of m law script (r ∷ rs) part (inl h) = let k = next_owned m law (script []) part h in record { object = k.object; owned = k.owned; asked = inl k.asked }
 touched_of m law script (r ∷ rs) part (inr h) = let k = touched_of m law (λ xs. script (r ∷ xs)) rs part h in record { object = k.object; owned = k.owned; asked = inr k.asked }

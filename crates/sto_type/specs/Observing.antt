@@ -7,7 +7,7 @@ use Rattle.sto_item.specs.Pending.{Entry}
 use Rattle.sto_item.specs.Observed.{part_of_item}
 use Rattle.sto_item.specs.Agreement.{Agrees, AreTrueOf}
 use Rattle.sto_model.specs.declared.call.Call.{Call}
-use Rattle.sto_model.specs.Machine.{reply_to}
+use Rattle.sto_model.specs.SequentialObjects.{reply_to}
 use Rattle.sto_type.specs.Known.{Parts, Known, IsPartOf}
 use Rattle.sto_type.specs.Meaning.{Meaning, IsReady, IsNeed, IsUpdated, IsPartOfObject, EachKnown, EachInside}
 use Rattle.sto_type.specs.Reading.{Reading, need_of, items_of, items_at, updates_at, IsRead}

@@ -2,9 +2,9 @@
 use Rattle.std.specs.Prelude.{◌≡◌, ◌<◌, ℕ, zero, suc, List, [], ◌∷◌, map, length}
 use Rattle.sto_model.specs.declared.call.Call.{Call}
 use Rattle.sto_model.specs.Rows.{Row}
-use Rattle.sto_model.specs.Machine.{Machine}
+use Rattle.sto_model.specs.SequentialObjects.{SequentialObject}
 use Rattle.sto_item.specs.Agreement.{Agrees, AreTrueOf}
-use Rattle.sto_model.specs.Machine.{reply_to}
+use Rattle.sto_model.specs.SequentialObjects.{reply_to}
 use Rattle.sto_type.specs.Known.{Parts, ContentsFit}
 use Rattle.sto_type.specs.Meaning.{Meaning, IsUpdated, EachInside}
 use Rattle.sto_type.specs.Reading.{need_of, items_of, items_at, updates_at, IsRead}
@@ -16,7 +16,7 @@ abbrev pub homes_from : ℕ → ℕ → List (ℕ × ℕ)
 homes_from i zero = []
 homes_from i (suc n) = (0, i) ∷ homes_from (suc i) n
 
-abbrev pub meaning_of : Machine → List ℕ → Parts → (Parts → Type 0) → (Parts → List Row) → (Call → Type 0) → (Call → Telling) → Meaning
+abbrev pub meaning_of : SequentialObject → List ℕ → Parts → (Parts → Type 0) → (Parts → List Row) → (Call → Type 0) → (Call → Telling) → Meaning
 meaning_of machine widths opened valid rows takes telling = record {
   machines = machine ∷ [];
   widths = widths;

@@ -3,7 +3,7 @@ use Rattle.std.proofs.Common.{◌≡◌, ◌<◌, ◌+◌, ℕ, zero, suc, Some,
 use Rattle.std.proofs.lemmas.List.{length-map}
 use Rattle.sto_model.specs.declared.call.Call.{Call}
 use Rattle.sto_model.specs.Rows.{Row}
-use Rattle.sto_model.specs.Machine.{Machine}
+use Rattle.sto_model.specs.SequentialObjects.{SequentialObject}
 use Rattle.sto_type.specs.Known.{Parts, Known, IsPartOf}
 use Rattle.sto_type.specs.Meaning.{Meaning, IsLawful, IsPartOfObject, EachOwner}
 use Rattle.sto_type.specs.Plans.{Plan, IsPlan}
@@ -37,7 +37,7 @@ owners_from : (j n : ℕ) → EachOwner 1 (homes_from j n)
 owners_from j zero = tt
 owners_from j (suc n) = (omega arith, owners_from (suc j) n)
 
-module _ (machine : Machine) (widths : List ℕ) (opened : Parts) (valid : Parts → Type 0) (rows : Parts → List Row) (takes : Call → Type 0) (telling : Call → Telling) where
+module _ (machine : SequentialObject) (widths : List ℕ) (opened : Parts) (valid : Parts → Type 0) (rows : Parts → List Row) (takes : Call → Type 0) (telling : Call → Telling) where
   abbrev m : Meaning
   m = meaning_of machine widths opened valid rows takes telling
 

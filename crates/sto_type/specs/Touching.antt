@@ -4,8 +4,8 @@ use Rattle.std.specs.List.{Contains}
 use Rattle.sto_item.specs.Observed.{parts_of_items}
 use Rattle.sto_model.specs.declared.call.Call.{Call}
 use Rattle.sto_model.specs.declared.body.Next.{Next}
-use Rattle.sto_model.specs.Told.{Told}
-use Rattle.sto_model.specs.Run.{Script}
+use Rattle.sto_model.specs.PlainReplies.{PlainReply}
+use Rattle.sto_model.specs.Run.{Behaviour}
 use Rattle.sto_model.specs.Asked.{AsksSuch, HasAskedSuch}
 use Rattle.sto_type.specs.Known.{Parts, Known, IsPartOf}
 use Rattle.sto_type.specs.Meaning.{Meaning}
@@ -27,5 +27,5 @@ abbrev pub NextTouches : Meaning → Next → ℕ → Type 0
 NextTouches m next part = AsksSuch (Touches m part) next
 
 -- one of the calls that the replies answer may touch the part, or the next after them
-abbrev pub HasTouched : Meaning → Script → List Told → ℕ → Type 0
+abbrev pub HasTouched : Meaning → Behaviour → List PlainReply → ℕ → Type 0
 HasTouched m script replies part = HasAskedSuch (Touches m part) script replies

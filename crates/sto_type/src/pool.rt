@@ -1,9 +1,9 @@
 //! Empty lists for the answers of types.
 ghost use Rattle.std.specs.Prelude.{◌≡◌, [], IfOk, replicate};
 
-use std::mem;
 use std::alloc::Global;
 use std::marker::Model;
+use std::mem;
 use sto_item::{Items, Updates};
 use sto_part::{Change, List, NoMemory, Update};
 

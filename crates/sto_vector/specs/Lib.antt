@@ -5,7 +5,7 @@ pub mod VectoredLaw
 pub mod VectoredPlans
 pub use Rattle.sto_model.specs.Objects
 pub use Rattle.sto_model.specs.Operations
-pub use Rattle.sto_model.specs.Told
+pub use Rattle.sto_model.specs.PlainReplies
 pub use Rattle.sto_type.specs.Known
 pub use Rattle.sto_type.specs.Plans
 pub use Rattle.sto_counter.specs.Counted

@@ -19,11 +19,11 @@ use Rattle.sto_model.specs.declared.call.Call.{Call}
 use Rattle.sto_model.specs.declared.operation.Operation.TheVariants.{Get, Test as TestWord, Len, Push, Pop}
 use Rattle.sto_model.specs.declared.shape.Shape.TheVariants.{Vector}
 use Rattle.sto_model.specs.Rows.{Row, value_at, with_row, without}
-use Rattle.sto_model.specs.Told.{Told, is_write}
-use Rattle.sto_model.specs.Told as T
+use Rattle.sto_model.specs.PlainReplies.{PlainReply, is_write}
+use Rattle.sto_model.specs.PlainReplies as T
 use Rattle.sto_model.specs.Operations.{operation_of, test_of}
 use Rattle.sto_model.specs.Objects.{compared, value_or_absent, push_effect, popped, pop_effect, takes_by}
-use Rattle.sto_model.specs.Machine.{reply_to, state_after}
+use Rattle.sto_model.specs.SequentialObjects.{reply_to, state_after}
 use Rattle.sto_model.proofs.RowFacts.{by_test}
 use Rattle.sto_type.specs.Known.{Parts, Known, IsPartOf, word_known}
 use Rattle.sto_type.specs.Meaning.{Meaning, IsLawful, IsUpdated, IsPartOfObject, EachKnown, EachInside, EachOwner}
@@ -220,10 +220,10 @@ module _ (capacity : ℕ) (few : 1 + capacity < 2 ^ 32) where
       (λ a b n places v. pop_true n places v)
 
   -- the replies, by the size and the places
-  abbrev pub push_reply : ℕ → Told
+  abbrev pub push_reply : ℕ → PlainReply
   push_reply n = if nat_lt n capacity then T.Done else T.Full
 
-  abbrev pub pop_reply : ℕ → Parts → Told
+  abbrev pub pop_reply : ℕ → Parts → PlainReply
   pop_reply zero places = T.Absent
   pop_reply (suc n) places = T.Value (word_of places n 0)
 
@@ -298,7 +298,7 @@ module _ (capacity : ℕ) (few : 1 + capacity < 2 ^ 32) where
       (n k : ℕ) (places others : Parts) → IsVector capacity (sized n places) → IsVector capacity (sized k others) → Agrees (sized k others) (own_items call n) (sized n places)
       → reply_to m.machines call (m.rows (sized k others)) ≡ reply_to m.machines call (m.rows (sized n places))
 
-  abbrev room_reply : Option ℕ → Told
+  abbrev room_reply : Option ℕ → PlainReply
   room_reply None = T.Full
   room_reply (Some n) = T.Done
 

@@ -8,11 +8,11 @@ use Rattle.sto_item.specs.Agreement.{word_of}
 use Rattle.sto_model.specs.declared.call.Call.{Call}
 use Rattle.sto_model.specs.declared.operation.Operation.{Operation}
 use Rattle.sto_model.specs.declared.operation.Operation.TheVariants.{Get, Test as TestWord, Len, Push, Pop}
-use Rattle.sto_model.specs.Told.{Told}
-use Rattle.sto_model.specs.Told as T
+use Rattle.sto_model.specs.PlainReplies.{PlainReply}
+use Rattle.sto_model.specs.PlainReplies as T
 use Rattle.sto_model.specs.Operations.{operation_of, test_of}
 use Rattle.sto_model.specs.Objects.{compared, value_or_absent}
-use Rattle.sto_model.specs.Machine.{reply_to}
+use Rattle.sto_model.specs.SequentialObjects.{reply_to}
 use Rattle.sto_model.proofs.RowFacts.{by_test}
 use Rattle.sto_type.specs.Known.{Parts, Known, IsPartOf, word_known}
 use Rattle.sto_type.specs.Meaning.{Meaning}
@@ -65,11 +65,11 @@ module _ (capacity : ℕ) (few : 1 + capacity < 2 ^ 32) where
   size_of_part k n x places (Some ws) e part s = ap (λ (l : List ℤ). size_of (slice_index_or l 0 (pos 0))) (part.same 0 ws (omega arith) e) ∙ same_some (size_of (slice_index_or ws 0 (pos 0))) n s
 
   -- what is so of all contents of the size is so of all valid contents that what is known is part of
-  abbrev Said : Call → Told → List Entry → Parts → Type 0
+  abbrev Said : Call → PlainReply → List Entry → Parts → Type 0
   Said call t es c = (t ≡ reply_to m.machines call (m.rows c)) × (es ≡ m.updates call c)
 
   on_all :
-      (call : Call) (k : Known) (n : ℕ) (t : Told) (es : List Entry) → size_known k ≡ Some n
+      (call : Call) (k : Known) (n : ℕ) (t : PlainReply) (es : List Entry) → size_known k ≡ Some n
       → ((places : Parts) → IsVector capacity (sized n places) → IsPartOf k (sized n places) → Said call t es (sized n places))
       → (d : Parts) → m.valid d → IsPartOf k d → Said call t es d
   on_all call k n t es s each d v part =

@@ -4,7 +4,7 @@ ghost use Rattle.sto_part.specs.declared.change.Change.TheVariants.{Put, Add};
 ghost use Rattle.sto_item.specs.declared.item.Item.TheVariants.{Seen};
 ghost use Rattle.sto_model.specs.Objects.{compared};
 ghost use Rattle.sto_model.specs.Operations.{test_of};
-ghost use Rattle.sto_model.specs.Told.{Absent as ToldAbsent, Value as ToldValue, Flag as ToldFlag, Done as ToldDone, Full as ToldFull};
+ghost use Rattle.sto_model.specs.PlainReplies.{Absent as ToldAbsent, Value as ToldValue, Flag as ToldFlag, Done as ToldDone, Full as ToldFull};
 ghost use Rattle.sto_type.specs.Plans.{Say, planned};
 ghost use Rattle.sto_counter.specs.Counted.{test_items};
 ghost use Rattle.sto_vector.specs.Vectored.{size_holds, push_items, push_updates};

@@ -8,7 +8,9 @@ ghost use Rattle.sto_vector.specs.Vectored.{vector_meaning, IsSize, IsVectorOf};
 ghost use Rattle.sto_vector.specs.VectoredLaw.{vector_lawful};
 ghost use Rattle.sto_vector.specs.VectoredPlans.{first_plan, vector_plan};
 
-use crate::answers::{get_answer, len_answer, outside, place_part, pop_answer, push_answer, size_answer};
+use crate::answers::{
+    get_answer, len_answer, outside, place_part, pop_answer, push_answer, size_answer,
+};
 use std::alloc::Global;
 use sto_array::{array_rows_at, place_in};
 use sto_model::{Call, Operation, Shape, State, takes_code};

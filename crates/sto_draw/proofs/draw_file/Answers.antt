@@ -3,7 +3,7 @@ use Rattle.sto_lang.specs.Views.{file as view}
 use Rattle.sto_journal.specs.Journals.{home_pair, entry}
 use Rattle.sto_picture.specs.Pictures.{picture_of}
 use Rattle.sto_draw.specs.Scenes.{scene_for}
-use Rattle.sto_run.specs.Logged.{Log, kept}
+use Rattle.sto_run.specs.Logged.{RunLog, kept}
 use Rattle.sto_run.specs.Traced.{IsTraceOf}
 use Rattle.sto_draw.proofs.draw_file.Goals as goal
 
@@ -18,7 +18,7 @@ returns c =
       homes = map home_pair run.homes.items;
       steps = steps;
       run =
-          subst (λ (log : Log). IsTraceOf file c.args.tries run.journal (map home_pair run.homes.items) log) (ap kept c.in-Some.is)
+          subst (λ (log : RunLog). IsTraceOf file c.args.tries run.journal (map home_pair run.homes.items) log) (ap kept c.in-Some.is)
           c.in_ok-journal.ensures.traced;
       drawn =
           c.in_ok-text.ensures

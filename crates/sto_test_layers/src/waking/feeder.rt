@@ -3,9 +3,9 @@ ghost use Rattle.sto_run_feed.specs.Passes.{IsPass};
 ghost use Rattle.sto_run_feed.specs.Queues.{feeding};
 
 use crate::waking::seen::Seen;
-use std::{hint, thread};
 use std::sync::Wait;
 use std::time::{Clock, Duration};
+use std::{hint, thread};
 use sto_run_feed::{Job, JobPass, JobQueue};
 
 /// How long the feeder waits before each job.

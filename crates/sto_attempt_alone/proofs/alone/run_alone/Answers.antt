@@ -3,12 +3,12 @@ use Rattle.std.specs.List.{All}
 use Rattle.std.specs.Prelude.{if◌then◌else◌}
 use Rattle.std.proofs.Common.{◌≡◌, ◌++◌, ◌∷◌, [], ◌+◌, ℕ, List, Bool, map, false, refl, sym, ap, ◌∙◌, subst, rules, arith, length}
 use Rattle.std.proofs.lemmas.List.Elements.{All-weaker, All-head}
-use Rattle.sto_model.specs.Told.{told}
+use Rattle.sto_model.specs.PlainReplies.{plain_reply}
 use Rattle.sto_core.specs.Core.{Core}
 use Rattle.sto_core.specs.declared.view.View.{View}
 use Rattle.sto_plain.specs.Passes.{view_of}
 use Rattle.sto_history.specs.Records as plainly
-use Rattle.sto_history.specs.Records.{Place, is_abort, wrote_with, times_written}
+use Rattle.sto_history.specs.Records.{TransactionPlace, is_abort, wrote_with, times_written}
 use Rattle.sto_history.specs.Counted.{times_committed}
 use Rattle.sto_history.specs.Added.{IsAdded}
 use Rattle.sto_transaction.specs.declared.record.Record.{Record}
@@ -36,7 +36,7 @@ returns-in-Some-clause-alone g c before after up_before up_after =
     let at_zero : left.pass ≡ 0 = same.0 ∙ c.at-pass.ensures.pass in
     let to_w : view_of left.plain left.pass ≡ w = ap (view_of left.plain) at_zero ∙ ap (λ (p : Core). view_of p 0) (sym c.back-words.ensures) in
     let passes : length begun.plain.statuses ≡ 1 = ap (λ (p : Core). length p.statuses) c.at-pass.ensures.plain ∙ c.requires.one.0 in
-    let place : Place = (0, 1) in
+    let place : TransactionPlace = (0, 1) in
     let ended = c.in-Ok._transacted.ended in
     let rs = c.run-ran.new.records.items in
     let told_ran = c.in-Ok.ensures.ran in
@@ -53,7 +53,7 @@ returns-in-Some-clause-alone g c before after up_before up_after =
     let all : rs ≡ c.pop.new.self.items ++ x ∷ [] = search rules in
     let last : plain x ≡ one.only = last_is c.pop.new.self.items x one.only (sym (ap (map plain) all) ∙ ran.whole ∙ one.all) in
     let added : P (plain x) = subst P (sym last) (All-head P one.only [] (subst (All P) one.all ran.added.each)) in
-    let here : IsAdded m v w f place (record { place = place; replies = map told x.replies.items; verdict = verdict x.verdict }) = record { placed = refl; told = added.told; since = added.since; above = added.above } in
+    let here : IsAdded m v w f place (record { place = place; replies = map plain_reply x.replies.items; verdict = verdict x.verdict }) = record { placed = refl; plain_reply = added.plain_reply; since = added.since; above = added.above } in
     let entries : (t : ℕ) → times_committed t w.entries ≡ times_committed t v.entries + wrote_with t (verdict x.verdict) =
     λ t.
     let e = ran.added.entries t in
@@ -64,4 +64,4 @@ returns-in-Some-clause-alone g c before after up_before up_after =
     let views : length later.views ≡ 1 = ap (λ (p : Core). length p.views) c.back-words.ensures ∙ same.2 ∙ ap (λ (p : Core). length p.views) c.at-pass.ensures.plain ∙ c.requires.one.1 in
     let was = one_pass g.T.Naming.valid m sizes core before c.requires.one.0 c.requires.one.1 c.requires.rests up_before in
     let now = one_pass g.T.Naming.valid m sizes later after statuses views ran.rests up_after in
-    runs_alone m sizes (λ d h. (g.met.T.TxType.valid_is ty d).1 h) core later v w before after was now f place (map told x.replies.items) ran.added.grows (verdict x.verdict) here entries quietly
+    runs_alone m sizes (λ d h. (g.met.T.TxType.valid_is ty d).1 h) core later v w before after was now f place (map plain_reply x.replies.items) ran.added.grows (verdict x.verdict) here entries quietly

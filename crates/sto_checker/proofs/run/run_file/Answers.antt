@@ -2,7 +2,7 @@ use Rattle.std.proofs.Common.{◌≡◌, ℕ, suc, ◌+◌, ◌<◌, ◌≤◌, 
 use Rattle.std.proofs.lemmas.List.{take_all}
 use Rattle.sto_lang.specs.Objects.{shapes_of}
 use Rattle.sto_lang.specs.Views.{file as view}
-use Rattle.sto_report_spec.specs.Orders.{Place, count_in, IsOrder}
+use Rattle.sto_report_spec.specs.Orders.{TransactionPlace, count_in, IsOrder}
 use Rattle.sto_journal.specs.Journals.{places}
 use Rattle.sto_checker.specs.Runs.{places_of, places_from, thread_order}
 use Rattle.sto_checker.proofs.SoundRuns.{sound_runnable}
@@ -24,7 +24,7 @@ loop-thread-preserved c =
       so_far = c.in_ok-run_thread.ensures.so_far;
       placed =
           c.in_ok-run_thread.ensures.placed
-          ∙ ap (λ (ps : List Place). ps ++ places_of thread (count_in all thread)) c.loop-thread.invariant.placed
+          ∙ ap (λ (ps : List TransactionPlace). ps ++ places_of thread (count_in all thread)) c.loop-thread.invariant.placed
           ∙ ap (λ (n : ℕ). places_from 0 (take thread all) ++ places_of n (count_in all thread)) (sym same)
           ∙ sym (places_from-more 0 all thread inside)
           ∙ ap (λ (n : ℕ). places_from 0 (take n all)) (sym next);

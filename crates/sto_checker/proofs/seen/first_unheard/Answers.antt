@@ -1,12 +1,12 @@
 use Rattle.std.proofs.Common.{◌≡◌, ◌+◌, ℕ, List, length, refl, sym, ap, ◌∙◌, subst, None, slice_get, arith}
 use Rattle.std.proofs.lemmas.List.{length-map}
 use Rattle.std.proofs.lemmas.Option.{slice_get_read}
-use Rattle.sto_model.specs.Machine.{opening_of}
+use Rattle.sto_model.specs.SequentialObjects.{opening_of}
 use Rattle.sto_model.specs.Objects.{machines_of}
 use Rattle.sto_model.specs.declared.shape.Shape.{Shape}
 use Rattle.sto_part.specs.Listed.{Listed}
 use Rattle.sto_lang.specs.Views.{file as view}
-use Rattle.sto_report_spec.specs.Orders.{Place}
+use Rattle.sto_report_spec.specs.Orders.{TransactionPlace}
 use Rattle.sto_report_spec.specs.Replay.{opening_state}
 use Rattle.sto_journal.specs.Journals.{places}
 use Rattle.sto_checker.specs.declared.progress.Progress.{Progress}
@@ -93,7 +93,7 @@ loop-line-preserved c =
     let at = slice_get_read lines (length lines) c.loop-line.line-index c.line-item.result refl c.loop-line-test.true c.line-item.is in
     let along = along_more file lines old new c.line-item.result c.loop-line.invariant.along (ap (slice_get lines) c.loop-line.invariant.count ∙ at)
     c.in_ok-run_one.ensures.so_far c.in_ok-run_one.ensures.placed c.in_ok-run_one.ensures.counted in
-    let place : Place = (c.line-item.result.thread, c.line-item.result.position) in
+    let place : TransactionPlace = (c.line-item.result.thread, c.line-item.result.position) in
     let counted = c.in_ok-run_one.ensures.counted ∙ ap (λ (n : ℕ). n + 1) c.loop-line.invariant.count in
     elim c.if-before-run.branch [
       | then-before-run+in_ok-wrong-2 w ↦

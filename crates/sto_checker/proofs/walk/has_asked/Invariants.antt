@@ -1,12 +1,12 @@
 use Rattle.std.proofs.Common.{map, drop}
-use Rattle.sto_model.specs.Told.{told}
+use Rattle.sto_model.specs.PlainReplies.{plain_reply}
 use Rattle.sto_model.specs.Asked.{HasAsked}
 use Rattle.sto_checker.specs.Heard.{AreHeard}
 use Rattle.sto_checker.proofs.walk.has_asked.Given as goal
 
 abbrev pub invariant-loop-reply : goal.invariant-loop-reply
 invariant-loop-reply g l = record {
-  onward : HasAsked l.object (g.B.Body.script l.fn.body) (map told l.fn.replies) → HasAsked l.object (g.B.Body.then l.body) (map told (drop l.reply-index l.replies));
-  back : HasAsked l.object (g.B.Body.then l.body) (map told (drop l.reply-index l.replies)) → HasAsked l.object (g.B.Body.script l.fn.body) (map told l.fn.replies);
-  heard : AreHeard (g.B.Body.then l.body) (map told (drop l.reply-index l.replies));
+  onward : HasAsked l.object (g.B.Body.script l.fn.body) (map plain_reply l.fn.replies) → HasAsked l.object (g.B.Body.then l.body) (map plain_reply (drop l.reply-index l.replies));
+  back : HasAsked l.object (g.B.Body.then l.body) (map plain_reply (drop l.reply-index l.replies)) → HasAsked l.object (g.B.Body.script l.fn.body) (map plain_reply l.fn.replies);
+  heard : AreHeard (g.B.Body.then l.body) (map plain_reply (drop l.reply-index l.replies));
 }

@@ -1,13 +1,13 @@
 use Rattle.std.proofs.Common.{◌≡◌, ◌||◌, map, drop}
-use Rattle.sto_model.specs.Told.{told}
+use Rattle.sto_model.specs.PlainReplies.{plain_reply}
 use Rattle.sto_model.specs.Serial.{has_written}
 use Rattle.sto_checker.specs.Heard.{AreHeard}
 use Rattle.sto_checker.proofs.walk.is_unsettled.Given as goal
 
 abbrev pub invariant-loop-reply : goal.invariant-loop-reply
 invariant-loop-reply g l = record {
-  next : g.B.Body.then l.body (map told (drop l.reply-index l.replies)) ≡ g.B.Body.script l.fn.body (map told l.fn.replies);
-  wrote : (l.written || has_written (g.B.Body.then l.body) (map told (drop l.reply-index l.replies))) ≡ has_written (g.B.Body.script l.fn.body) (map told l.fn.replies);
-  heard : AreHeard (g.B.Body.then l.body) (map told (drop l.reply-index l.replies));
+  next : g.B.Body.then l.body (map plain_reply (drop l.reply-index l.replies)) ≡ g.B.Body.script l.fn.body (map plain_reply l.fn.replies);
+  wrote : (l.written || has_written (g.B.Body.then l.body) (map plain_reply (drop l.reply-index l.replies))) ≡ has_written (g.B.Body.script l.fn.body) (map plain_reply l.fn.replies);
+  heard : AreHeard (g.B.Body.then l.body) (map plain_reply (drop l.reply-index l.replies));
   script : g.B.Body.script l.body ≡ g.B.Body.script l.fn.body;
 }

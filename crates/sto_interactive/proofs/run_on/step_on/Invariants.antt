@@ -1,5 +1,5 @@
 -- The turn has led the attempt from where it stood at the beginning, on the same pass.
-use Rattle.sto_model.specs.Run.{Script}
+use Rattle.sto_model.specs.Run.{Behaviour}
 use Rattle.sto_core.specs.declared.view.View.{View}
 use Rattle.sto_type.specs.Traits.{of_type}
 use Rattle.sto_attempt_log.specs.Bounds.{events_left}
@@ -11,7 +11,7 @@ use Rattle.sto_interactive.proofs.run_on.step_on.Given as goal
 abbrev pub invariant-loop-turn : goal.invariant-loop-turn
 invariant-loop-turn g l = record {
   come :
-      (ty : g.row.T.Denot) (f : Script) (begun : View) → IsAtRest (g.T.TxType.meaning ty) (g.T.Naming.sizes ty) begun
+      (ty : g.row.T.Denot) (f : Behaviour) (begun : View) → IsAtRest (g.T.TxType.meaning ty) (g.T.Naming.sizes ty) begun
       → HasCome (of_type g.T.Naming g.T.TxType) g.B.Body (g.C.Cells.passes l.fn.cells) ty f l.fn.turn l.fn.attempt begun (g.C.Cells.view l.fn.cells)
       → HasCome (of_type g.T.Naming g.T.TxType) g.B.Body (g.C.Cells.passes l.fn.cells) ty f l.turn l.attempt begun (g.C.Cells.view l.cells);
   heard : HearsMore (heard l.fn.attempt) (heard l.attempt);

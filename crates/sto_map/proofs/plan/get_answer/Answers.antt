@@ -3,7 +3,7 @@ use Rattle.std.specs.Int.{w64}
 use Rattle.std.proofs.lemmas.Int.{to_z-of_z}
 use Rattle.sto_item.specs.declared.item.Item.{Item}
 use Rattle.sto_item.specs.declared.item.Item.TheVariants.{Seen}
-use Rattle.sto_model.specs.Told.{Value}
+use Rattle.sto_model.specs.PlainReplies.{Value}
 use Rattle.sto_type.specs.Known.{known}
 use Rattle.sto_type.specs.Plans.{Ask, Say}
 use Rattle.sto_type.specs.Words.{word}

@@ -1,7 +1,7 @@
 use Rattle.std.proofs.Common.{List, [], ap, sym, ◌∙◌}
 use Rattle.std.proofs.lemmas.Result.{IfOk-weaker}
 use Rattle.sto_item.specs.declared.item.Item.{Item}
-use Rattle.sto_model.specs.Told.{Absent}
+use Rattle.sto_model.specs.PlainReplies.{Absent}
 use Rattle.sto_type.specs.Known.{known}
 use Rattle.sto_type.specs.Telling.{Tell, plan_of}
 use Rattle.sto_map.specs.Mapped.{look, change_found}

@@ -2,7 +2,7 @@ use Rattle.std.proofs.Common.{◌∷◌, List, [], true, false, ap, sym, ◌∙�
 use Rattle.std.proofs.lemmas.Result.{IfOk-weaker}
 use Rattle.sto_item.specs.declared.item.Item.TheVariants.{Seen}
 use Rattle.sto_item.specs.declared.item.Item.{Item}
-use Rattle.sto_model.specs.Told.{Flag}
+use Rattle.sto_model.specs.PlainReplies.{Flag}
 use Rattle.sto_type.specs.Known.{known}
 use Rattle.sto_type.specs.Plans.{Say}
 use Rattle.sto_type.specs.Telling.{Tell, plan_of}

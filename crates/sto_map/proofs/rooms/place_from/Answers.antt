@@ -1,6 +1,6 @@
 use Rattle.std.proofs.Common.{◌≡◌, ◌<◌, ◌-◌, ◌++◌, ◌∷◌, [], ℕ, suc, length, ap, sym, ◌∙◌, subst, arith, length-append}
 use Rattle.sto_item.specs.declared.item.Item.TheVariants.{Seen}
-use Rattle.sto_model.specs.Told.{Done}
+use Rattle.sto_model.specs.PlainReplies.{Done}
 use Rattle.sto_type.specs.Known.{known}
 use Rattle.sto_type.specs.Plans.{Ask, Say}
 use Rattle.sto_type.specs.Telling.{plan_of}

@@ -3,7 +3,7 @@ use Rattle.sto_lang.specs.declared.file.Turns.{Turns}
 use Rattle.sto_run_threads.specs.Told.{told_in}
 use Rattle.std.proofs.lemmas.Result.{IfOk-weaker}
 use Rattle.sto_lang.specs.Views.{file as view}
-use Rattle.sto_run_threads.specs.declared.workload.LentFile.{LentFile}
+use Rattle.sto_run_threads.specs.declared.workload.BorrowedFile.{BorrowedFile}
 use Rattle.sto_run.proofs.Draws.{few_threads}
 use Rattle.sto_lang.specs.Objects.{shapes_of}
 use Rattle.sto_store.proofs.ObjectMeanings.{objects_mean}
@@ -46,9 +46,9 @@ pub returns-clause-alone : goal.returns-clause-alone
 returns-clause-alone c = λ few.
     let same = c.in_ok-run.ensures.of in
     ran_alone (view c.args.file.now) c.journal.result
-    (c.journal.ensures.alone (c.in_ok-finished.ensures.alone (subst (λ (f : LentFile). length (view f.file.now).threads ≤ 1) (sym same.0) few)))
+    (c.journal.ensures.alone (c.in_ok-finished.ensures.alone (subst (λ (f : BorrowedFile). length (view f.file.now).threads ≤ 1) (sym same.0) few)))
     (IfOk-weaker c.journal.result _ _
-    (λ j h. one_thread_order (view c.args.file.now) (places j.lines.items) few (subst (λ (f : LentFile). IsOrder (view f.file.now) (places j.lines.items)) same.0 h.order))
+    (λ j h. one_thread_order (view c.args.file.now) (places j.lines.items) few (subst (λ (f : BorrowedFile). IsOrder (view f.file.now) (places j.lines.items)) same.0 h.order))
     c.journal.ensures.lawful)
 
 pub returns-clause-lawful : goal.returns-clause-lawful
@@ -56,7 +56,7 @@ returns-clause-lawful c =
     let same = c.in_ok-run.ensures.of in
     IfOk-weaker c.journal.result _ _
     (λ j h. lawful_run c.in_ok-objects.objects c.in_ok-run.run'.work.ty.now (view c.in_ok-run.run'.work.workload.file.now) (view c.args.file.now) _ c.args.tries j
-    (objects_mean c.in_ok-objects.objects (shapes_of (view c.args.file.now).declarations) c.in_ok-objects.ensures.kinds) (ap (λ (f : LentFile). view f.file.now) same.0, same.1, same.2) h)
+    (objects_mean c.in_ok-objects.objects (shapes_of (view c.args.file.now).declarations) c.in_ok-objects.ensures.kinds) (ap (λ (f : BorrowedFile). view f.file.now) same.0, same.1, same.2) h)
     c.journal.ensures.lawful
 
 pub returns-clause-stepped : goal.returns-clause-stepped
@@ -64,7 +64,7 @@ returns-clause-stepped c =
     let same = c.in_ok-run.ensures.of in
     let run = c.in_ok-run.run' in
     let work = run.work in
-    let here = ap (λ (f : LentFile). view f.file.now) same.0 in
+    let here = ap (λ (f : BorrowedFile). view f.file.now) same.0 in
     IfOk-weaker c.journal.result _ _
     (λ j h. record {
       objects = c.in_ok-objects.objects;

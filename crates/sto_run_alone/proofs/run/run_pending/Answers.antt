@@ -1,5 +1,5 @@
 use Rattle.std.proofs.Common.{◌≡◌, ap, sym, ◌∙◌, [], map, append-nil}
-use Rattle.sto_model.specs.Told.{told}
+use Rattle.sto_model.specs.PlainReplies.{plain_reply}
 use Rattle.sto_model.specs.Serial.{end_step}
 use Rattle.sto_model.specs.declared.run.End.TheVariants.{Commit, Cancel}
 use Rattle.sto_run_alone.proofs.Whole.{trial_of}
@@ -27,7 +27,7 @@ returns-in-Commit-clause-tried g c =
     let f = g.B.Body.script c.args.body.now in
     let h = c.loop-call.heard in
     let i = c.loop-call.invariant.along in
-    let rs = map told h.replies.items in
+    let rs = map plain_reply h.replies.items in
     let ends : f rs ≡ end_step Commit = ap f (sym (append-nil rs)) ∙ sym (c.in-Commit.ensures.next ∙ i.then []) in
     rw c.ended.ensures (trial_of m f c.args.contents.now.items h.items.items h.pending.updates rs Commit c.requires.valid i.carried i.observes ends)
 
@@ -37,6 +37,6 @@ returns-in-Cancel-clause-tried g c =
     let f = g.B.Body.script c.args.body.now in
     let h = c.loop-call.heard in
     let i = c.loop-call.invariant.along in
-    let rs = map told h.replies.items in
+    let rs = map plain_reply h.replies.items in
     let ends : f rs ≡ end_step Cancel = ap f (sym (append-nil rs)) ∙ sym (c.in-Cancel.ensures.next ∙ i.then []) in
     rw c.ended-in-Cancel.ensures (trial_of m f c.args.contents.now.items h.items.items h.pending.updates rs Cancel c.requires.valid i.carried i.observes ends)

@@ -1,11 +1,11 @@
 use Rattle.std.proofs.Common.{rules, ◌≡◌, ◌≤◌, ℕ, List, length, map, sym, ap, subst, arith}
 use Rattle.std.proofs.lemmas.List.{length-map}
 use Rattle.sto_table.specs.Taken.{times}
-use Rattle.sto_run_threads.specs.Orders.{Place, numbers_from}
+use Rattle.sto_run_threads.specs.Orders.{TransactionPlace, numbers_from}
 use Rattle.sto_run_feed.specs.declared.job.Job.{Job}
 use Rattle.sto_run_feed.specs.declared.pass.JobQueue.{JobQueue}
 use Rattle.sto_run_threads.proofs.Threads.{length_numbers}
-use Rattle.sto_run_feed.specs.declared.server.Server.{Server}
+use Rattle.sto_run_feed.specs.declared.server.QueueWorker.{QueueWorker}
 use Rattle.sto_run_feed.specs.Jobs.{jobs_for}
 use Rattle.sto_run_feed.specs.QueuePasses.{HaveTaken, AreUnsent, AreSent}
 use Rattle.sto_run_feed.proofs.Gathered.{numbers_once}
@@ -18,7 +18,7 @@ use Rattle.sto_run_feed.proofs.all.serve_all.Goals as goal
 
 pub feed_and_serve-requires-clause-none : goal.feed_and_serve-requires-clause-none
 feed_and_serve-requires-clause-none g c =
-    let s = c.in_ok-queues.field-0 in let order : List Place = places_in c.args.order.now in
+    let s = c.in_ok-queues.field-0 in let order : List TransactionPlace = places_in c.args.order.now in
     let lent : c.as_slice.result.now ≡ s.queues.items = search rules in
     let at = subst (λ (k : ℕ). AreUnsent k s.queues.items s.feeders.items order) (sym c.in_ok-queues.ensures.queues) c.in_ok-queues.ensures.feeders in
     let all = subst (λ (l : List JobQueue). AreUnsent (length l) l s.feeders.items order) (sym lent) at in
@@ -27,7 +27,7 @@ feed_and_serve-requires-clause-none g c =
 pub feed_and_serve-requires-clause-able : goal.feed_and_serve-requires-clause-able
 feed_and_serve-requires-clause-able g c =
     let s = c.in_ok-queues.field-0 in let count : ℕ = length c.args.rests.items in
-    let N : Server g.row.T.Denot g.T.Naming → ℕ = λ w. w.number in
+    let N : QueueWorker g.row.T.Denot g.T.Naming → ℕ = λ w. w.number in
     let n = ap length c.in_ok-queues.ensures.numbers in let m = length-map s.servers.items N in
     let k = length_numbers 0 count in let some = c.requires.some in let len = s.servers.ok.0 in
     let lent : c.as_slice.result.now ≡ s.queues.items = search rules in
@@ -41,7 +41,7 @@ feed_and_serve-requires-clause-able g c =
 
 pub close_all-requires : goal.close_all-requires
 close_all-requires g c =
-    let s = c.in_ok-queues.field-0 in let order : List Place = places_in c.args.order.now in
+    let s = c.in_ok-queues.field-0 in let order : List TransactionPlace = places_in c.args.order.now in
     let count : ℕ = length c.args.rests.items in let jobs : ℕ → List Job = λ n. jobs_for count n order in
     let lent : c.as_slice.result.now ≡ s.queues.items = search rules in
     let workers = c.in_ok-feeders.team.workers.items in

@@ -1,6 +1,6 @@
 use Rattle.std.proofs.Common.{◌≡◌, ap}
 use Rattle.sto_lang.specs.Views.{file as view}
-use Rattle.sto_run_threads.specs.declared.workload.LentFile.{LentFile}
+use Rattle.sto_run_threads.specs.declared.workload.BorrowedFile.{BorrowedFile}
 use Rattle.std.proofs.lemmas.Result.{IfOk-weaker}
 use Rattle.sto_lang.specs.Objects.{shapes_of}
 use Rattle.sto_store.proofs.ObjectMeanings.{objects_mean}
@@ -12,5 +12,5 @@ returns-clause-lawful g c =
     let same = c.in_ok-run.ensures.of in
     IfOk-weaker c.feed_opened.result _ _
     (λ j h. lawful_run c.in_ok-objects.objects c.in_ok-run.run'.work.ty.now (view c.in_ok-run.run'.work.workload.file.now) (view c.args.file.now) _ c.args.tries j
-    (objects_mean c.in_ok-objects.objects (shapes_of (view c.args.file.now).declarations) c.in_ok-objects.ensures.kinds) (ap (λ (f : LentFile). view f.file.now) same.0, same.1, same.2) h)
+    (objects_mean c.in_ok-objects.objects (shapes_of (view c.args.file.now).declarations) c.in_ok-objects.ensures.kinds) (ap (λ (f : BorrowedFile). view f.file.now) same.0, same.1, same.2) h)
     c.feed_opened.ensures.lawful

@@ -1,6 +1,6 @@
 use Rattle.std.proofs.Common.{Bool, false, sym, subst, arith}
 use Rattle.std.proofs.lemmas.Result.{IfOk-weaker}
-use Rattle.sto_run_threads.specs.Orders.{Place}
+use Rattle.sto_run_threads.specs.Orders.{TransactionPlace}
 use Rattle.sto_run_threads.proofs.Accounts.{adds_up_none, run_adds_up}
 use Rattle.sto_run_feed.specs.Served.{IsJobRun}
 use Rattle.sto_run_feed.proofs.Serving.{job_run, job_left}
@@ -16,7 +16,7 @@ returns-then-runs-clause-leads g c =
 pub returns-then-runs-clause-ran : goal.returns-then-runs-clause-ran
 returns-then-runs-clause-ran g c =
     let plan = g.W.Work.plan c.args.work.now in
-    let place : Place = (c.args.thread, c.args.position) in
+    let place : TransactionPlace = (c.args.thread, c.args.position) in
     let rs = told_in c.args.records.now in let later = told_in c.run_one.new.records in
     let next = c.requires.next c.if-runs.true in
     IfOk-weaker c.run_one.result _ _
@@ -34,7 +34,7 @@ returns-else-runs-clause-leads g c = record {
 pub returns-else-runs-clause-ran : goal.returns-else-runs-clause-ran
 returns-else-runs-clause-ran g c =
     let plan = g.W.Work.plan c.args.work.now in
-    let place : Place = (c.args.thread, c.args.position) in
+    let place : TransactionPlace = (c.args.thread, c.args.position) in
     let rs = told_in c.args.records.now in
     subst (λ (b : Bool). IsJobRun plan (g.C.Cells.passes c.args.cells.now) (g.C.Cells.view c.args.cells.now) place rs rs b false) (sym c.if-runs.false)
     (job_left plan (g.C.Cells.passes c.args.cells.now) (g.C.Cells.view c.args.cells.now) place rs c.requires.worked)

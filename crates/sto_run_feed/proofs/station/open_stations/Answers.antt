@@ -2,7 +2,7 @@ use Rattle.std.specs.List.{All}
 use Rattle.std.proofs.Common.{rules, ◌≡◌, ◌+◌, ℕ, List, [], ◌∷◌, ◌++◌, map, length, refl, sym, ap, ◌∙◌, subst, arith, append-nil}
 use Rattle.std.proofs.lemmas.List.{map-append, length_push}
 use Rattle.sto_core.specs.declared.view.View.{View}
-use Rattle.sto_run_threads.specs.Orders.{Place, numbers_from}
+use Rattle.sto_run_threads.specs.Orders.{TransactionPlace, numbers_from}
 use Rattle.sto_run_feed.specs.declared.job.Job.{Job}
 use Rattle.sto_run_feed.specs.declared.pass.JobQueue.{JobQueue}
 use Rattle.sto_run_feed.specs.declared.pass.JobPass.{JobPass}
@@ -13,7 +13,7 @@ use Rattle.sto_run_threads.specs.Accounts.{HasGathered}
 use Rattle.sto_run_threads.specs.Teams.{IsReady, view_at}
 use Rattle.sto_run_threads.proofs.Accounts.{gathered_moved}
 use Rattle.sto_run_threads.proofs.Claiming.{snoc_last, snoc_length}
-use Rattle.sto_run_feed.specs.declared.server.Server.{Server}
+use Rattle.sto_run_feed.specs.declared.server.QueueWorker.{QueueWorker}
 use Rattle.sto_run_feed.specs.Jobs.{jobs_for, all_jobs}
 use Rattle.sto_run_feed.specs.Served.{IsPosted, jobs_in}
 use Rattle.sto_run_feed.proofs.Going.{jobs_end}
@@ -32,14 +32,14 @@ pub loop-rest-preserved : goal.loop-rest-preserved
 loop-rest-preserved g c =
     let plan = g.W.Work.plan c.args.work.now in
     let s = c.args.shared.now in let inv = c.loop-rest.invariant in
-    let order : List Place = places_in c.args.order.now in
+    let order : List TransactionPlace = places_in c.args.order.now in
     let count : ℕ = c.len-count.result in let number : ℕ = c.len-number.result in
     let last : number ≡ length c.loop-rest.queues.items = search rules in
     let o = c.in_ok-queue.field-0 in
     let rests : c.loop-rest.rests.items ≡ c.pop.new.self.items ++ c.in-Some.rest ∷ [] = search rules in
     let P : Rest g.row.T.Denot g.T.Naming → Type 0 = IsReady s plan in
     let r = snoc_last P c.pop.new.self.items c.in-Some.rest (subst (All P) rests inv.ready) in
-    let w : Server g.row.T.Denot g.T.Naming = record { number = number; worker = o.worker; rest = c.in-Some.rest } in
+    let w : QueueWorker g.row.T.Denot g.T.Naming = record { number = number; worker = o.worker; rest = c.in-Some.rest } in
     let queues : c.add.new.items.items ≡ c.loop-rest.queues.items ++ o.queue ∷ [] = c.in_ok-add.ensures in
     let feeders : c.add-in-Some.new.items.items ≡ c.loop-rest.feeders.items ++ o.feeder ∷ [] = c.in_ok-add-2.ensures in
     let servers : c.add-in-Some-2.new.items.items ≡ c.loop-rest.servers.items ++ w ∷ [] = c.in_ok-add-3.ensures in
@@ -47,9 +47,9 @@ loop-rest-preserved g c =
     let feeder : IsPass o.queue o.feeder (feeding (jobs_for count number order) 0) =
     subst (λ (l : List Job). IsPass o.queue o.feeder (feeding l 0)) jobs c.in_ok-queue.ensures.feeder in
     let worker : IsPass o.queue o.worker (working c.in_ok-jobs.jobs.items 0) = c.in_ok-queue.ensures.worker in
-    let N : Server g.row.T.Denot g.T.Naming → ℕ = λ v. v.number in
-    let J : Server g.row.T.Denot g.T.Naming → List Job = λ v. (known v.worker).jobs in
-    let V : Server g.row.T.Denot g.T.Naming → View = λ v. view_at v.rest in
+    let N : QueueWorker g.row.T.Denot g.T.Naming → ℕ = λ v. v.number in
+    let J : QueueWorker g.row.T.Denot g.T.Naming → List Job = λ v. (known v.worker).jobs in
+    let V : QueueWorker g.row.T.Denot g.T.Naming → View = λ v. view_at v.rest in
     let U : Rest g.row.T.Denot g.T.Naming → View = view_at in
     let more : length c.add.new.items.items ≡ number + 1 = (let n = ap length queues ∙ length_push c.loop-rest.queues.items o.queue in omega (arith, n, last)) in
     let all = inv.all in let a = ap length rests ∙ snoc_length c.pop.new.self.items c.in-Some.rest in
@@ -80,7 +80,7 @@ returns g c =
     let plan = g.W.Work.plan c.args.work.now in let inv = c.loop-rest.invariant in
     let none = ap length c.in_default.ensures.0 in let all = inv.all in
     let same : c.len-count.result ≡ length c.loop-rest.queues.items = omega (arith, none, all) in
-    let V : Server g.row.T.Denot g.T.Naming → View = λ v. view_at v.rest in
+    let V : QueueWorker g.row.T.Denot g.T.Naming → View = λ v. view_at v.rest in
     let U : Rest g.row.T.Denot g.T.Naming → View = view_at in
     let left : map U c.loop-rest.rests.items ≡ [] = ap (map U) c.in_default.ensures.0 in
     record {

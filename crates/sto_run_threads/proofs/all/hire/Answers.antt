@@ -8,7 +8,7 @@ use Rattle.sto_run_threads.proofs.Accounts.{gathered_moved}
 use Rattle.sto_table.specs.declared.taken.Taken.{Taken}
 use Rattle.sto_table.specs.declared.numbers.Claimer.{Claimer}
 use Rattle.sto_table.specs.declared.shared.Rest.{Rest}
-use Rattle.sto_run_threads.specs.declared.worker.Worker.{Worker}
+use Rattle.sto_run_threads.specs.declared.worker.ScriptWorker.{ScriptWorker}
 use Rattle.sto_run_threads.specs.Teams.{IsReady, IsHired, view_at, IsNew}
 use Rattle.sto_run_threads.proofs.Claiming.{all_one, snoc_last, snoc_sum, snoc_length}
 use Rattle.sto_run_threads.proofs.all.hire.Goals as goal
@@ -21,17 +21,17 @@ loop-rest-preserved g c =
     let claimers : c.loop-rest.claimers.items ≡ c.pop-in-Some.new.self.items ++ c.in-Some-pop.claimer ∷ [] = search rules in
     let P : Rest g.row.T.Denot g.T.Naming → Type 0 = IsReady c.args.shared.now plan in
     let Q : Claimer → Type 0 = IsNew c.args.claims.now in
-    let H : Worker g.row.T.Denot g.T.Naming → Type 0 = IsHired c.args.shared.now c.args.claims.now plan in
+    let H : ScriptWorker g.row.T.Denot g.T.Naming → Type 0 = IsHired c.args.shared.now c.args.claims.now plan in
     let r = snoc_last P c.pop.new.self.items c.in-Some.rest (subst (All P) rests inv.ready) in
     let k = snoc_last Q c.pop-in-Some.new.self.items c.in-Some-pop.claimer (subst (All Q) claimers inv.new) in
-    let w : Worker g.row.T.Denot g.T.Naming = record { rest = c.in-Some.rest; claimer = c.in-Some-pop.claimer } in
+    let w : ScriptWorker g.row.T.Denot g.T.Naming = record { rest = c.in-Some.rest; claimer = c.in-Some-pop.claimer } in
     let pushed : c.push.new.self.items ≡ c.loop-rest.workers.items ++ w ∷ [] = c.in-Ok.ensures.items in
     let a = ap length rests ∙ snoc_length c.pop.new.self.items c.in-Some.rest in
     let b = ap length claimers ∙ snoc_length c.pop-in-Some.new.self.items c.in-Some-pop.claimer in
     let many = inv.many in let all = inv.all in let len = c.in-Ok.ensures.len in
-    let V : Worker g.row.T.Denot g.T.Naming → View = λ v. view_at v.rest in
+    let V : ScriptWorker g.row.T.Denot g.T.Naming → View = λ v. view_at v.rest in
     let U : Rest g.row.T.Denot g.T.Naming → View = view_at in
-    let S : Worker g.row.T.Denot g.T.Naming → ℕ = λ v. v.claimer.seat.me.0.seats in
+    let S : ScriptWorker g.row.T.Denot g.T.Naming → ℕ = λ v. v.claimer.seat.me.0.seats in
     let p = ap (map V) pushed ∙ map-append V c.loop-rest.workers.items (w ∷ []) in
     let q = ap (map U) rests ∙ map-append U c.pop.new.self.items (c.in-Some.rest ∷ []) in
     let t = ap (sum_by S) pushed ∙ snoc_sum S c.loop-rest.workers.items w in
@@ -52,7 +52,7 @@ loop-rest-preserved g c =
 
 pub returns-clause-gathered : goal.returns-clause-gathered
 returns-clause-gathered g c = λ need w rs h.
-    let V : Worker g.row.T.Denot g.T.Naming → View = λ v. view_at v.rest in
+    let V : ScriptWorker g.row.T.Denot g.T.Naming → View = λ v. view_at v.rest in
     let U : Rest g.row.T.Denot g.T.Naming → View = view_at in
     let none : map U c.loop-rest.rests.items ≡ [] = ap (map U) c.in_default.ensures.0 in
     c.loop-rest.invariant.gathered need w rs

@@ -1,8 +1,8 @@
 -- Each word is a step of the attempt that reads, by `proofs/Steps`.
 use Rattle.std.proofs.Common.{◌≡◌, ◌<◌, ℕ, Result, map, sym, ◌∙◌, subst, arith}
 use Rattle.sto_part.specs.declared.NoMemory.{NoMemory}
-use Rattle.sto_model.specs.Run.{Script}
-use Rattle.sto_model.specs.Told.{told}
+use Rattle.sto_model.specs.Run.{Behaviour}
+use Rattle.sto_model.specs.PlainReplies.{plain_reply}
 use Rattle.sto_core.specs.declared.view.View.{View}
 use Rattle.sto_attempt_log.specs.declared.verdict.Turn.{Turn}
 use Rattle.sto_attempt_log.proofs.Reading.{always_err}
@@ -39,7 +39,7 @@ returns-in_err-read_word-clause-err g c ty f begun h =
     let here = c.loop.cells in
     let later = c.read_word.new.cells in
     let k = c.read_word.ensures.steps in
-    let turned : (ty : g.row.T.Denot) (f : Script) (begun : View) → Proceeds g.T.TxType.meaning g.T.Naming.valid g.T.Naming.sizes g.B.Body.script g.B.Body.then g.B.Body.left g.B.Body.may_ask (g.C.Cells.passes first) ty f (Running c.args.attempt.now) begun (g.C.Cells.view first)
+    let turned : (ty : g.row.T.Denot) (f : Behaviour) (begun : View) → Proceeds g.T.TxType.meaning g.T.Naming.valid g.T.Naming.sizes g.B.Body.script g.B.Body.then g.B.Body.left g.B.Body.may_ask (g.C.Cells.passes first) ty f (Running c.args.attempt.now) begun (g.C.Cells.view first)
     → HasTurned g.T.TxType.meaning g.T.Naming.valid g.T.Naming.sizes g.B.Body.script g.B.Body.then g.B.Body.left g.B.Body.may_ask (g.C.Cells.passes here) ty f c.read_word.result (Running b) begun (g.C.Cells.view later) = λ ty f begun h.
     (let it = c.loop.invariant.proceeds ty f begun h in
     reads_on g.T.TxType.meaning g.T.Naming.valid g.T.Naming.sizes g.B.Body.script g.B.Body.then g.B.Body.left g.B.Body.may_ask (g.C.Cells.passes here) ty f a b begun (g.C.Cells.view here) (g.C.Cells.view later) c.read_word.result it.0 it.1 k.ty k.script k.event k.log k.turned k.alone k.moves k.err) in
@@ -57,7 +57,7 @@ loop-preserved g c =
     let here = c.loop.cells in
     let later = c.read_word.new.cells in
     let k = c.read_word.ensures.steps in
-    let turned : (ty : g.row.T.Denot) (f : Script) (begun : View) → Proceeds g.T.TxType.meaning g.T.Naming.valid g.T.Naming.sizes g.B.Body.script g.B.Body.then g.B.Body.left g.B.Body.may_ask (g.C.Cells.passes first) ty f (Running c.args.attempt.now) begun (g.C.Cells.view first)
+    let turned : (ty : g.row.T.Denot) (f : Behaviour) (begun : View) → Proceeds g.T.TxType.meaning g.T.Naming.valid g.T.Naming.sizes g.B.Body.script g.B.Body.then g.B.Body.left g.B.Body.may_ask (g.C.Cells.passes first) ty f (Running c.args.attempt.now) begun (g.C.Cells.view first)
     → HasTurned g.T.TxType.meaning g.T.Naming.valid g.T.Naming.sizes g.B.Body.script g.B.Body.then g.B.Body.left g.B.Body.may_ask (g.C.Cells.passes here) ty f c.read_word.result (Running b) begun (g.C.Cells.view later) = λ ty f begun h.
     (let it = c.loop.invariant.proceeds ty f begun h in
     reads_on g.T.TxType.meaning g.T.Naming.valid g.T.Naming.sizes g.B.Body.script g.B.Body.then g.B.Body.left g.B.Body.may_ask (g.C.Cells.passes here) ty f a b begun (g.C.Cells.view here) (g.C.Cells.view later) c.read_word.result it.0 it.1 k.ty k.script k.event k.log k.turned k.alone k.moves k.err) in
@@ -92,5 +92,5 @@ returns-in_err-read_word-clause-steps g c =
     let a = c.loop.attempt in
     let v = g.C.Cells.view c.loop.cells in
     let h = c.loop.invariant.proceeds r.0 r.1 r.2 r.3 in
-    let some = some_left (g.T.TxType.meaning a.log.ty.now) (g.met.T.TxType.lawful a.log.ty.now) g.T.Naming.valid (g.T.Naming.sizes a.log.ty.now) (g.B.Body.script a.log.body) a.at (g.B.Body.left a.log.body) a.words.items a.extension a.log.base.items a.log.set.items a.log.set.updates (map told a.log.replies.items) v a.read_phase h.1.goes in
+    let some = some_left (g.T.TxType.meaning a.log.ty.now) (g.met.T.TxType.lawful a.log.ty.now) g.T.Naming.valid (g.T.Naming.sizes a.log.ty.now) (g.B.Body.script a.log.body) a.at (g.B.Body.left a.log.body) a.words.items a.extension a.log.base.items a.log.set.items a.log.set.updates (map plain_reply a.log.replies.items) v a.read_phase h.1.goes in
     omega (arith, c.read_word.ensures.steps.event.tells.counts, some, c.loop.invariant.goes.taken)

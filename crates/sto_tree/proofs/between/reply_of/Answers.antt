@@ -2,7 +2,7 @@ use Rattle.std.proofs.Common.{ℤ, List, Bool, sym, ap, ◌∙◌, w64}
 use Rattle.std.specs.Int.RustNames.{FitsSigned}
 use Rattle.std.proofs.lemmas.Int.{to_z-of_z}
 use Rattle.sto_model.specs.Rows.{Row, rows_between}
-use Rattle.sto_model.specs.Told.{Pairs}
+use Rattle.sto_model.specs.PlainReplies.{Pairs}
 use Rattle.sto_type.specs.Known.{known}
 use Rattle.sto_tree.specs.KnownCount.{known_told}
 use Rattle.sto_tree.proofs.between.reply_of.Goals as goal

@@ -3,7 +3,7 @@ use Rattle.std.specs.Int.RustNames.{FitsSigned}
 use Rattle.std.proofs.lemmas.Int.{to_z-of_z}
 use Rattle.sto_item.specs.Pending.{Entry}
 use Rattle.sto_model.specs.declared.call.Call.{Call}
-use Rattle.sto_model.specs.Told.{Value}
+use Rattle.sto_model.specs.PlainReplies.{Value}
 use Rattle.sto_type.specs.Known.{Known, known}
 use Rattle.sto_type.specs.Plans.{Say, IsPlan}
 use Rattle.sto_tree.specs.Layout.{word}

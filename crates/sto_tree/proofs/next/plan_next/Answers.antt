@@ -2,7 +2,7 @@ use Rattle.std.proofs.Common.{◌≡◌, ℕ, ℤ, Some, None, List, refl, ap, s
 use Rattle.std.specs.Int.RustNames.{FitsSigned}
 use Rattle.std.proofs.lemmas.Int.{to_z-of_z}
 use Rattle.sto_model.specs.declared.call.Call.{Call}
-use Rattle.sto_model.specs.Told.{Value, Absent}
+use Rattle.sto_model.specs.PlainReplies.{Value, Absent}
 use Rattle.sto_type.specs.Known.{Known, known}
 use Rattle.sto_tree.specs.Layout.{greatest}
 use Rattle.sto_tree.specs.Between.{leaves_between}

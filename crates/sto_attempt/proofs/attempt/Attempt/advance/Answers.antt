@@ -5,7 +5,7 @@ use Rattle.std.proofs.lemmas.Option.{slice_get-map}
 use Rattle.std.proofs.lemmas.List.{length-map}
 use Rattle.sto_part.specs.Listed.{Listed}
 use Rattle.sto_item.specs.Watched.{watched}
-use Rattle.sto_model.specs.Told.{told}
+use Rattle.sto_model.specs.PlainReplies.{plain_reply}
 use Rattle.sto_attempt_log.specs.declared.read_entry.ReadEntry.{ReadEntry}
 use Rattle.sto_attempt_log.specs.declared.extension.Extension.{Extension}
 use Rattle.sto_attempt_log.specs.ReadSet.{words_in, AreClaimed, AreOnly}
@@ -38,7 +38,7 @@ go_on-requires-clause-log g c =
     let m = g.T.TxType.meaning a.log.ty.now in
     let law = g.met.T.TxType.lawful a.log.ty.now in
     let f = g.B.Body.script a.log.body in
-    let rs = map told a.log.replies.items in
+    let rs = map plain_reply a.log.replies.items in
     let old = words_in a.log.base.items in
     let fresh = a.extension.fresh.items in
     let ws = a.extension.watches.items in
@@ -71,7 +71,7 @@ returns-then-watch g c =
           let next : IsNext (length m.widths) old fresh (map watched ws) w.seen w.part = ahead (length m.widths) old fresh (map watched ws) c.requires.renewed.0 c.requires.renewed.1 (watched w) e in
           record { spans = spans; observed = c.requires.observed; extended = c.requires.extended; asks = c.requires.asks; stands = (phase, subst (λ (b : Bool). IsNext (length m.widths) old fresh (map watched ws) b w.part) c.if-watch.true next) });
       unaborted = search rules;
-      grown = heard_none (g.T.TxType.meaning a.log.ty.now) (g.B.Body.script a.log.body) (words_in a.log.base.items) (map told a.log.replies.items) a.log.set;
+      grown = heard_none (g.T.TxType.meaning a.log.ty.now) (g.B.Body.script a.log.body) (words_in a.log.base.items) (map plain_reply a.log.replies.items) a.log.set;
       renewed = search rules;
       moves = search rules;
       comes =
@@ -104,7 +104,7 @@ returns-else-watch g c =
           let next : IsNext (length m.widths) old fresh (map watched ws) w.seen w.part = ahead (length m.widths) old fresh (map watched ws) c.requires.renewed.0 c.requires.renewed.1 (watched w) e in
           record { spans = spans; observed = c.requires.observed; extended = c.requires.extended; asks = c.requires.asks; stands = (phase, subst (λ (b : Bool). IsNext (length m.widths) old fresh (map watched ws) b w.part) c.if-watch.false next) });
       unaborted = search rules;
-      grown = heard_none (g.T.TxType.meaning a.log.ty.now) (g.B.Body.script a.log.body) (words_in a.log.base.items) (map told a.log.replies.items) a.log.set;
+      grown = heard_none (g.T.TxType.meaning a.log.ty.now) (g.B.Body.script a.log.body) (words_in a.log.base.items) (map plain_reply a.log.replies.items) a.log.set;
       renewed = search rules;
       moves = search rules;
       comes =
@@ -146,12 +146,12 @@ returns g c =
           let made = c.swap.new.x.items in
           let same : made ≡ a.extension.fresh.items = ap (λ (l : Listed ReadEntry). l.items) c.swap.ensures.x_after in
           let now : Extension = record { bound = a.extension.bound; extended = c.still-self.result; fresh = c.clear.new.self; watches = a.extension.watches } in
-          let rest = rests m g.T.Naming.valid sizes a.at bound a.log.base.items a.extension.fresh.items f (map told a.log.replies.items) v spans phase in
+          let rest = rests m g.T.Naming.valid sizes a.at bound a.log.base.items a.extension.fresh.items f (map plain_reply a.log.replies.items) v spans phase in
           let claimed : AreClaimed v bound made = subst (λ (l : List ReadEntry). AreClaimed v bound l) (sym same) spans.renewed in
           let only : AreOnly v bound made = subst (λ (l : List ReadEntry). AreOnly v bound l) (sym same) spans.only in
           let kept : c.go_on.new.self.base.items ≡ made = ap (λ (l : Listed ReadEntry). l.items) c.in_ok-reached.ensures.base in
-          subst (λ (b : List ReadEntry). Turned m g.T.Naming.valid sizes f bound c.lead-read_phase.result.0 a.words.items now b c.go_on.new.self.set.items c.go_on.new.self.set.updates (map told c.go_on.new.self.replies.items) v c.lead-read_phase.result.1) (sym kept)
-          (turned m g.T.Naming.valid sizes f bound a.words.items made c.go_on.new.self.set.items c.go_on.new.self.set.updates (map told c.go_on.new.self.replies.items) v rest claimed only spans.below now (λ e. refl) c.in_ok-reached.ensures.log.log
+          subst (λ (b : List ReadEntry). Turned m g.T.Naming.valid sizes f bound c.lead-read_phase.result.0 a.words.items now b c.go_on.new.self.set.items c.go_on.new.self.set.updates (map plain_reply c.go_on.new.self.replies.items) v c.lead-read_phase.result.1) (sym kept)
+          (turned m g.T.Naming.valid sizes f bound a.words.items made c.go_on.new.self.set.items c.go_on.new.self.set.updates (map plain_reply c.go_on.new.self.replies.items) v rest claimed only spans.below now (λ e. refl) c.in_ok-reached.ensures.log.log
           c.in_ok-reached.reached c.lead-read_phase.result.0 c.lead-read_phase.result.1 c.in_ok-reached.ensures.reached c.lead-read_phase.ensures));
       unaborted = (led_alone c.args.self.now.extension.bound c.go_on.new.self.set.updates c.in_ok-reached.reached c.lead-read_phase.result.0 c.lead-read_phase.result.1 c.lead-read_phase.ensures).1;
       grown = search rules;
@@ -176,14 +176,14 @@ returns g c =
           let kept : c.go_on.new.self.base.items ≡ base = ap (λ (l : Listed ReadEntry). l.items) c.in_ok-reached.ensures.base in
           let r : Reader = record (reader_of a) { at = bound; base = base; fresh = fresh } in
           let set : Recorded = c.go_on.new.self.set in
-          let all = map told c.go_on.new.self.replies.items in
+          let all = map plain_reply c.go_on.new.self.replies.items in
           let phase = c.lead-read_phase.result.0 in
           let turn = c.lead-read_phase.result.1 in
           let s : Reader = record r { phase = phase; base = c.go_on.new.self.base.items; set = set; heard = all; extended = c.still-self.result } in
           let here : s ≡ record r { set = set; heard = all; extended = s.extended; phase = s.phase } = λ i. record r { phase = phase; base = kept i; set = set; heard = all; extended = c.still-self.result } in
-          let first : length (map told a.log.replies.items) ≡ heard = length-map a.log.replies.items told in
-          let last_one : length all ≡ now = length-map c.go_on.new.self.replies.items told in
-          let extended : IsTrue c.still-self.result ↔ (IsTrue a.extension.extended × (length all ≡ length (map told a.log.replies.items))) =
+          let first : length (map plain_reply a.log.replies.items) ≡ heard = length-map a.log.replies.items plain_reply in
+          let last_one : length all ≡ now = length-map c.go_on.new.self.replies.items plain_reply in
+          let extended : IsTrue c.still-self.result ↔ (IsTrue a.extension.extended × (length all ≡ length (map plain_reply a.log.replies.items))) =
           ((λ e. let h = iff.0 e in (h.0, omega (arith, h.1, first, last_one))), (λ h. iff.1 (h.0, omega (arith, h.1, first, last_one)))) in
           let come : HasComeTo m f r set all c.in_ok-reached.reached = c.in_ok-reached.ensures.comes r (refl, refl, refl) in
           goes_over_is m f (reader_of a) s turn base fresh last same c.clear.ensures (runs_on_is m f r s set all c.in_ok-reached.reached turn come.0 come.1 c.lead-read_phase.ensures here extended);
@@ -209,7 +209,7 @@ returns-in_err-reached g c =
       stopped = λ v spans. (let a = c.args.self.now in
           let m = g.T.TxType.meaning a.log.ty.now in
           let f = g.B.Body.script a.log.body in
-          let now = map told c.go_on.new.self.replies.items in
+          let now = map plain_reply c.go_on.new.self.replies.items in
           let made = c.swap.new.x.items in
           let same : made ≡ a.extension.fresh.items = ap (λ (l : Listed ReadEntry). l.items) c.swap.ensures.x_after in
           let claimed : AreClaimed v a.extension.bound made = subst (λ (l : List ReadEntry). AreClaimed v a.extension.bound l) (sym same) spans.renewed in

@@ -1,6 +1,6 @@
 use Rattle.std.proofs.Common.{pos, IsTrue, ◌≡◌, List, ap, sym, subst, map, rules, refl}
 use Rattle.sto_part.specs.Listed.{Listed}
-use Rattle.sto_model.specs.Told.{told}
+use Rattle.sto_model.specs.PlainReplies.{plain_reply}
 use Rattle.sto_attempt_log.specs.declared.read_entry.ReadEntry.{ReadEntry}
 use Rattle.sto_attempt_log.specs.ReadSet.{AreClaimed, AreOnly}
 use Rattle.sto_attempt_log.specs.Standing.{Turned}
@@ -24,7 +24,7 @@ returns g c =
     let at = c.start-at.result in
     let base = c.args.self.now.log.base.items in
     let es = c.go_on.new.self.set.updates in
-    let rs = map told c.go_on.new.self.replies.items in
+    let rs = map plain_reply c.go_on.new.self.replies.items in
     let w = g.C.Cells.view c.start-at.new.self in
     let claimed : AreClaimed w at base = subst (λ (b : List ReadEntry). AreClaimed w at b) (sym c.requires.goes.3) tt in
     let only : AreOnly w at base = subst (λ (b : List ReadEntry). AreOnly w at b) (sym c.requires.goes.3) (start_only g.T.Naming.valid (g.C.Cells.passes c.args.cells.now) (g.C.Cells.view c.args.cells.now) w at c.start-at.ensures.tells) in

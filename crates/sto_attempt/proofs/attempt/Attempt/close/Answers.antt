@@ -1,6 +1,6 @@
 use Rattle.std.proofs.Common.{ℤ, ◌≡◌, ◌≤◌, ◌<◌, true, false, List, ℕ, [], ◌∷◌, ◌++◌, ap, sym, ◌∙◌, subst, map, arith, refl, rules}
 use Rattle.sto_part.specs.Listed.{Listed}
-use Rattle.sto_model.specs.Told.{told}
+use Rattle.sto_model.specs.PlainReplies.{plain_reply}
 use Rattle.sto_core.specs.Versions.{ticket_of, is_free}
 use Rattle.sto_core.proofs.Lists.{locked_is, unlocked_is}
 use Rattle.sto_type.specs.Known.{Parts, Known, known, IsPartOf}
@@ -42,7 +42,7 @@ close-found-requires g c =
     let law = g.met.T.TxType.lawful a.log.ty.now in
     let sizes = g.T.Naming.sizes a.log.ty.now in
     let f = g.B.Body.script a.log.body in
-    let rs = map told a.log.replies.items in
+    let rs = map plain_reply a.log.replies.items in
     let v = g.C.Cells.view c.args.cells.now in
     may_close m g.T.Naming.valid sizes f a.at c.args.part c.args.ticket a.words.items a.log.base.items a.log.set.items a.log.set.updates rs v c.requires.before.goes.0 law c.requires.all
 
@@ -53,7 +53,7 @@ learn_updated-requires-clause-fits g c =
     let law = g.met.T.TxType.lawful a.log.ty.now in
     let sizes = g.T.Naming.sizes a.log.ty.now in
     let f = g.B.Body.script a.log.body in
-    let rs = map told a.log.replies.items in
+    let rs = map plain_reply a.log.replies.items in
     let v = g.C.Cells.view c.args.cells.now in
     let w = g.C.Cells.view c.close-found.new.self in
     let passes = g.C.Cells.passes c.args.cells.now in
@@ -74,7 +74,7 @@ go_on-requires-clause-some g c =
     let law = g.met.T.TxType.lawful a.log.ty.now in
     let sizes = g.T.Naming.sizes a.log.ty.now in
     let f = g.B.Body.script a.log.body in
-    let rs = map told a.log.replies.items in
+    let rs = map plain_reply a.log.replies.items in
     let v = g.C.Cells.view c.args.cells.now in
     let w = g.C.Cells.view c.close-found.new.self in
     let passes = g.C.Cells.passes c.args.cells.now in
@@ -95,7 +95,7 @@ go_on-requires-clause-log g c =
     let law = g.met.T.TxType.lawful a.log.ty.now in
     let sizes = g.T.Naming.sizes a.log.ty.now in
     let f = g.B.Body.script a.log.body in
-    let rs = map told a.log.replies.items in
+    let rs = map plain_reply a.log.replies.items in
     let v = g.C.Cells.view c.args.cells.now in
     let w = g.C.Cells.view c.close-found.new.self in
     let passes = g.C.Cells.passes c.args.cells.now in
@@ -125,7 +125,7 @@ returns-then-is_locked-clause-made g c =
     let m = g.T.TxType.meaning a.log.ty.now in
     let sizes = g.T.Naming.sizes a.log.ty.now in
     let f = g.B.Body.script a.log.body in
-    let rs = map told a.log.replies.items in
+    let rs = map plain_reply a.log.replies.items in
     let v = g.C.Cells.view c.args.cells.now in
     let w = g.C.Cells.view c.close-found.new.self in
     let passes = g.C.Cells.passes c.args.cells.now in
@@ -139,7 +139,7 @@ returns-then-is_locked-clause-made g c =
         event = search rules;
         log = c.requires.before.log;
         turned = (refl, h.0, close_within m g.T.Naming.valid sizes f a.at c.args.part c.args.ticket a.words.items a.log.base.items a.log.set.items a.log.set.updates rs v c.requires.before.goes.0 w passes n c.close-found.ensures.tells c.requires.before.log.log, (refl, h.1));
-        grown = heard_none (g.T.TxType.meaning a.log.ty.now) (g.B.Body.script a.log.body) (words_in a.log.base.items) (map told a.log.replies.items) a.log.set;
+        grown = heard_none (g.T.TxType.meaning a.log.ty.now) (g.B.Body.script a.log.body) (words_in a.log.base.items) (map plain_reply a.log.replies.items) a.log.set;
         alone = λ one first. (let a = c.args.self.now in
             let v = g.C.Cells.view c.args.cells.now in
             let n = c.close-found.result.0 in
@@ -164,7 +164,7 @@ returns-then-newer-ticket-clause-made g c =
     let m = g.T.TxType.meaning a.log.ty.now in
     let sizes = g.T.Naming.sizes a.log.ty.now in
     let f = g.B.Body.script a.log.body in
-    let rs = map told a.log.replies.items in
+    let rs = map plain_reply a.log.replies.items in
     let v = g.C.Cells.view c.args.cells.now in
     let w = g.C.Cells.view c.close-found.new.self in
     let passes = g.C.Cells.passes c.args.cells.now in
@@ -179,7 +179,7 @@ returns-then-newer-ticket-clause-made g c =
         event = search rules;
         log = c.requires.before.log;
         turned = (refl, h.0, close_within m g.T.Naming.valid sizes f a.at c.args.part c.args.ticket a.words.items a.log.base.items a.log.set.items a.log.set.updates rs v c.requires.before.goes.0 w passes n c.close-found.ensures.tells c.requires.before.log.log, (refl, subst (λ (s : ℕ). WasChanged m f w a.at c.args.part s rs) (sym c.ticket-newer.ensures.ticket) h.1));
-        grown = heard_none (g.T.TxType.meaning a.log.ty.now) (g.B.Body.script a.log.body) (words_in a.log.base.items) (map told a.log.replies.items) a.log.set;
+        grown = heard_none (g.T.TxType.meaning a.log.ty.now) (g.B.Body.script a.log.body) (words_in a.log.base.items) (map plain_reply a.log.replies.items) a.log.set;
         alone = λ one first. (let a = c.args.self.now in
             let v = g.C.Cells.view c.args.cells.now in
             let n = c.close-found.result.0 in
@@ -204,7 +204,7 @@ returns-then-len-clause-made g c =
     let m = g.T.TxType.meaning a.log.ty.now in
     let sizes = g.T.Naming.sizes a.log.ty.now in
     let f = g.B.Body.script a.log.body in
-    let rs = map told a.log.replies.items in
+    let rs = map plain_reply a.log.replies.items in
     let v = g.C.Cells.view c.args.cells.now in
     let w = g.C.Cells.view c.close-found.new.self in
     let passes = g.C.Cells.passes c.args.cells.now in
@@ -236,7 +236,7 @@ returns-in_err-push-clause-made g c =
     let m = g.T.TxType.meaning a.log.ty.now in
     let sizes = g.T.Naming.sizes a.log.ty.now in
     let f = g.B.Body.script a.log.body in
-    let rs = map told a.log.replies.items in
+    let rs = map plain_reply a.log.replies.items in
     let v = g.C.Cells.view c.args.cells.now in
     let w = g.C.Cells.view c.close-found.new.self in
     let passes = g.C.Cells.passes c.args.cells.now in
@@ -268,7 +268,7 @@ returns-in_err-learn_updated-clause-made g c =
     let m = g.T.TxType.meaning a.log.ty.now in
     let sizes = g.T.Naming.sizes a.log.ty.now in
     let f = g.B.Body.script a.log.body in
-    let rs = map told a.log.replies.items in
+    let rs = map plain_reply a.log.replies.items in
     let v = g.C.Cells.view c.args.cells.now in
     let w = g.C.Cells.view c.close-found.new.self in
     let passes = g.C.Cells.passes c.args.cells.now in
@@ -301,7 +301,7 @@ returns-in_err-reached-clause-made g c =
     let law = g.met.T.TxType.lawful a.log.ty.now in
     let sizes = g.T.Naming.sizes a.log.ty.now in
     let f = g.B.Body.script a.log.body in
-    let rs = map told a.log.replies.items in
+    let rs = map plain_reply a.log.replies.items in
     let base = a.log.base.items in
     let v = g.C.Cells.view c.args.cells.now in
     let passes = g.C.Cells.passes c.args.cells.now in
@@ -312,7 +312,7 @@ returns-in_err-reached-clause-made g c =
     let x : ReadEntry = entry_with c.args.part c.args.ticket c.as_slice-words.result.now in
     let made : c.push.new.self.items ≡ base ++ x ∷ [] = c.in_ok-push.ensures.ok in
     let claims : AreClaimed w a.at c.push.new.self.items = subst (λ (b : List ReadEntry). AreClaimed w a.at b) (sym made) (close_claims m g.T.Naming.valid sizes f a.at c.args.part c.args.ticket a.words.items a.log.base.items a.log.set.items a.log.set.updates rs v c.requires.before.goes.0 w passes n c.close-found.ensures.tells c.requires.before.log.log law free same c.requires.all x refl refl c.as_slice-words.ensures.items) in
-    let now = map told c.go_on.new.self.replies.items in
+    let now = map plain_reply c.go_on.new.self.replies.items in
     let left = close_left m g.T.Naming.valid sizes f a.at c.args.part c.args.ticket a.words.items a.log.base.items a.log.set.items a.log.set.updates rs v c.requires.before.goes.0 w passes n c.close-found.ensures.tells c.requires.before.log.log in
     let stops : IsLeft w × IsPrefix m f w a.at now = (left, prefix_of m f w a.at c.push.new.self.items now c.go_on.ensures.runs claims) in
     record {
@@ -342,7 +342,7 @@ returns-clause-made g c =
     let law = g.met.T.TxType.lawful a.log.ty.now in
     let sizes = g.T.Naming.sizes a.log.ty.now in
     let f = g.B.Body.script a.log.body in
-    let rs = map told a.log.replies.items in
+    let rs = map plain_reply a.log.replies.items in
     let v = g.C.Cells.view c.args.cells.now in
     let w = g.C.Cells.view c.close-found.new.self in
     let passes = g.C.Cells.passes c.args.cells.now in
@@ -372,8 +372,8 @@ returns-clause-made g c =
             let kept : c.go_on.new.self.base.items ≡ c.push.new.self.items = ap (λ (l : Listed ReadEntry). l.items) c.in_ok-reached.ensures.base in
             let now : Extension = record { bound = a.extension.bound; extended = c.still-self.result; fresh = a.extension.fresh; watches = a.extension.watches } in
             let as_of : IsAsOf a.at now = λ e. c.requires.before.goes.1 (c.still-self.ensures.0 e).0 in
-            subst (λ (b : List ReadEntry). Turned m g.T.Naming.valid sizes f a.at c.lead-read_phase.result.0 a.words.items now b c.go_on.new.self.set.items c.go_on.new.self.set.updates (map told c.go_on.new.self.replies.items) w c.lead-read_phase.result.1) (sym kept)
-            (turned m g.T.Naming.valid sizes f a.at a.words.items c.push.new.self.items c.go_on.new.self.set.items c.go_on.new.self.set.updates (map told c.go_on.new.self.replies.items) w rest claimed only below now as_of c.in_ok-reached.ensures.log.log
+            subst (λ (b : List ReadEntry). Turned m g.T.Naming.valid sizes f a.at c.lead-read_phase.result.0 a.words.items now b c.go_on.new.self.set.items c.go_on.new.self.set.updates (map plain_reply c.go_on.new.self.replies.items) w c.lead-read_phase.result.1) (sym kept)
+            (turned m g.T.Naming.valid sizes f a.at a.words.items c.push.new.self.items c.go_on.new.self.set.items c.go_on.new.self.set.updates (map plain_reply c.go_on.new.self.replies.items) w rest claimed only below now as_of c.in_ok-reached.ensures.log.log
             c.in_ok-reached.reached c.lead-read_phase.result.0 c.lead-read_phase.result.1 c.in_ok-reached.ensures.reached c.lead-read_phase.ensures);
         grown = search rules;
         alone = λ one first. (led_alone c.args.self.now.at c.go_on.new.self.set.updates c.in_ok-reached.reached c.lead-read_phase.result.0 c.lead-read_phase.result.1 c.lead-read_phase.ensures);
@@ -456,14 +456,14 @@ returns-clause-reads g c =
     let kept : c.go_on.new.self.base.items ≡ c.push.new.self.items = ap (λ (l : Listed ReadEntry). l.items) c.in_ok-reached.ensures.base in
     let r : Reader = record (reader_of a) { base = c.push.new.self.items } in
     let set : Recorded = c.go_on.new.self.set in
-    let heard = map told c.go_on.new.self.replies.items in
+    let heard = map plain_reply c.go_on.new.self.replies.items in
     let phase = c.lead-read_phase.result.0 in
     let turn = c.lead-read_phase.result.1 in
     let s : Reader = record r { phase = phase; base = c.go_on.new.self.base.items; set = set; heard = heard; extended = c.still-self.result } in
     let here : s ≡ record r { set = set; heard = heard; extended = s.extended; phase = s.phase } = λ i. record r { phase = phase; base = kept i; set = set; heard = heard; extended = c.still-self.result } in
-    let before : length (map told a.log.replies.items) ≡ length a.log.replies.items = length-map a.log.replies.items told in
-    let now : length heard ≡ length c.go_on.new.self.replies.items = length-map c.go_on.new.self.replies.items told in
-    let extended : IsTrue c.still-self.result ↔ (IsTrue a.extension.extended × (length heard ≡ length (map told a.log.replies.items))) = (
+    let before : length (map plain_reply a.log.replies.items) ≡ length a.log.replies.items = length-map a.log.replies.items plain_reply in
+    let now : length heard ≡ length c.go_on.new.self.replies.items = length-map c.go_on.new.self.replies.items plain_reply in
+    let extended : IsTrue c.still-self.result ↔ (IsTrue a.extension.extended × (length heard ≡ length (map plain_reply a.log.replies.items))) = (
       (λ e. let h = c.still-self.ensures.0 e in (h.0, omega (arith, h.1, before, now, c.len-heard.ensures, c.len-2.ensures))),
       (λ h. c.still-self.ensures.1 (h.0, omega (arith, h.1, before, now, c.len-heard.ensures, c.len-2.ensures))),
     ) in

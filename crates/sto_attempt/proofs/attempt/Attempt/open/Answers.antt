@@ -1,5 +1,5 @@
 use Rattle.std.proofs.Common.{rules, ◌≡◌, ◌≤◌, ◌<◌, true, false, List, ℤ, ℕ, [], sym, ◌∙◌, subst, map, arith, refl}
-use Rattle.sto_model.specs.Told.{told}
+use Rattle.sto_model.specs.PlainReplies.{plain_reply}
 use Rattle.sto_core.specs.Versions.{ticket_of, is_free}
 use Rattle.sto_core.proofs.Lists.{locked_is, unlocked_is}
 use Rattle.sto_attempt_log.specs.declared.read_phase.ReadPhase.TheVariants.{Reading, Renewing}
@@ -26,7 +26,7 @@ open-found-requires g c =
     let sizes = g.T.Naming.sizes a.log.ty.now in
     let valid = g.T.Naming.valid in
     let f = g.B.Body.script a.log.body in
-    let rs = map told a.log.replies.items in
+    let rs = map plain_reply a.log.replies.items in
     let v = g.C.Cells.view c.args.cells.now in
     let fits = c.requires.goes.0 in
     (fits.stands, has_part m law valid sizes f a.at c.args.part rs v fits.own (touched_next m f rs c.args.part fits.awaits.by_next))
@@ -38,12 +38,12 @@ returns-then-is_locked-clause-made g c =
     let locked : is_free n ≡ false = unlocked_is (is_free n) (sym c.is_locked.ensures ∙ c.if-is_locked.true) in
     let h =
     open_locked (g.T.TxType.meaning a.log.ty.now) g.T.Naming.valid (g.T.Naming.sizes a.log.ty.now) (g.B.Body.script a.log.body) a.at c.args.part a.words.items a.log.base.items a.log.set.items a.log.set.updates
-    (map told a.log.replies.items) (g.C.Cells.view c.args.cells.now) (g.C.Cells.view c.open-found.new.self) (g.C.Cells.passes c.args.cells.now) n c.requires.goes.0 c.requires.log.log c.open-found.ensures.tells locked in
+    (map plain_reply a.log.replies.items) (g.C.Cells.view c.args.cells.now) (g.C.Cells.view c.open-found.new.self) (g.C.Cells.passes c.args.cells.now) n c.requires.goes.0 c.requires.log.log c.open-found.ensures.tells locked in
     record {
       steps = record {
         event = search rules;
         log = c.requires.log;
-        turned = (refl, h.0, open_within (g.T.TxType.meaning a.log.ty.now) g.T.Naming.valid (g.T.Naming.sizes a.log.ty.now) (g.B.Body.script a.log.body) a.at c.args.part a.words.items a.log.base.items a.log.set.items a.log.set.updates (map told a.log.replies.items) (g.C.Cells.view c.args.cells.now) (g.C.Cells.view c.open-found.new.self) (g.C.Cells.passes c.args.cells.now) n c.requires.goes.0 c.requires.log.log c.open-found.ensures.tells, (refl, h.1));
+        turned = (refl, h.0, open_within (g.T.TxType.meaning a.log.ty.now) g.T.Naming.valid (g.T.Naming.sizes a.log.ty.now) (g.B.Body.script a.log.body) a.at c.args.part a.words.items a.log.base.items a.log.set.items a.log.set.updates (map plain_reply a.log.replies.items) (g.C.Cells.view c.args.cells.now) (g.C.Cells.view c.open-found.new.self) (g.C.Cells.passes c.args.cells.now) n c.requires.goes.0 c.requires.log.log c.open-found.ensures.tells, (refl, h.1));
         grown = heard_none _ _ _ _ _;
         alone = λ one first. (let v = g.C.Cells.view c.args.cells.now in
             let n = c.open-found.result.0 in
@@ -68,7 +68,7 @@ returns-then-ticket-self-clause-made g c =
     let m = g.T.TxType.meaning a.log.ty.now in
     let sizes = g.T.Naming.sizes a.log.ty.now in
     let f = g.B.Body.script a.log.body in
-    let rs = map told a.log.replies.items in
+    let rs = map plain_reply a.log.replies.items in
     let w = g.C.Cells.view c.open-found.new.self in
     let n = c.open-found.result.0 in
     let free : is_free n ≡ true = locked_is (is_free n) (sym c.is_locked.ensures ∙ c.if-is_locked.false) in
@@ -106,7 +106,7 @@ returns-then-self-clause-made g c =
     let a = c.args.self.now in
     let m = g.T.TxType.meaning a.log.ty.now in
     let f = g.B.Body.script a.log.body in
-    let rs = map told a.log.replies.items in
+    let rs = map plain_reply a.log.replies.items in
     let w = g.C.Cells.view c.open-found.new.self in
     let n = c.open-found.result.0 in
     let free : is_free n ≡ true = locked_is (is_free n) (sym c.is_locked.ensures ∙ c.if-is_locked.false) in
@@ -118,7 +118,7 @@ returns-then-self-clause-made g c =
       steps = record {
         event = search rules;
         log = c.requires.log;
-        turned = (refl, h.0, open_within (g.T.TxType.meaning a.log.ty.now) g.T.Naming.valid (g.T.Naming.sizes a.log.ty.now) (g.B.Body.script a.log.body) a.at c.args.part a.words.items a.log.base.items a.log.set.items a.log.set.updates (map told a.log.replies.items) (g.C.Cells.view c.args.cells.now) (g.C.Cells.view c.open-found.new.self) (g.C.Cells.passes c.args.cells.now) n c.requires.goes.0 c.requires.log.log c.open-found.ensures.tells, (refl, subst (λ (s : ℕ). WasChanged m f w a.at c.args.part s rs) (sym c.ticket-ticket.ensures.ticket) h.1));
+        turned = (refl, h.0, open_within (g.T.TxType.meaning a.log.ty.now) g.T.Naming.valid (g.T.Naming.sizes a.log.ty.now) (g.B.Body.script a.log.body) a.at c.args.part a.words.items a.log.base.items a.log.set.items a.log.set.updates (map plain_reply a.log.replies.items) (g.C.Cells.view c.args.cells.now) (g.C.Cells.view c.open-found.new.self) (g.C.Cells.passes c.args.cells.now) n c.requires.goes.0 c.requires.log.log c.open-found.ensures.tells, (refl, subst (λ (s : ℕ). WasChanged m f w a.at c.args.part s rs) (sym c.ticket-ticket.ensures.ticket) h.1));
         grown = heard_none _ _ _ _ _;
         alone = λ one first. (let v = g.C.Cells.view c.args.cells.now in
             let n = c.open-found.result.0 in
@@ -146,7 +146,7 @@ returns-clause-made g c =
     let m = g.T.TxType.meaning a.log.ty.now in
     let sizes = g.T.Naming.sizes a.log.ty.now in
     let f = g.B.Body.script a.log.body in
-    let rs = map told a.log.replies.items in
+    let rs = map plain_reply a.log.replies.items in
     let w = g.C.Cells.view c.open-found.new.self in
     let law = g.met.T.TxType.lawful a.log.ty.now in
     let base = a.log.base.items in
@@ -156,7 +156,7 @@ returns-clause-made g c =
         log = c.requires.log;
         turned = subst (λ (s : ℕ). Fits m g.T.Naming.valid sizes f a.at (Renewing c.args.part s) a.words.items a.log.base.items a.log.set.updates rs w) (sym c.ticket-ticket.ensures.ticket)
             (open_renews (g.T.TxType.meaning a.log.ty.now) g.T.Naming.valid (g.T.Naming.sizes a.log.ty.now) (g.B.Body.script a.log.body) a.at c.args.part a.words.items a.log.base.items a.log.set.items a.log.set.updates
-            (map told a.log.replies.items) (g.C.Cells.view c.args.cells.now) (g.C.Cells.view c.open-found.new.self) (g.C.Cells.passes c.args.cells.now) n c.requires.goes.0 c.requires.log.log c.open-found.ensures.tells free later);
+            (map plain_reply a.log.replies.items) (g.C.Cells.view c.args.cells.now) (g.C.Cells.view c.open-found.new.self) (g.C.Cells.passes c.args.cells.now) n c.requires.goes.0 c.requires.log.log c.open-found.ensures.tells free later);
         grown = heard_none _ _ _ _ _;
         alone = λ one first. (let v = g.C.Cells.view c.args.cells.now in
             let n = c.open-found.result.0 in

@@ -1,5 +1,5 @@
 use Rattle.std.proofs.Common.{◌≡◌, ◌<◌, ap, sym, ◌∙◌, subst, map, length, arith, slice_index_or}
-use Rattle.sto_model.specs.Told.{told}
+use Rattle.sto_model.specs.PlainReplies.{plain_reply}
 use Rattle.sto_attempt_log.specs.declared.log.Log.{Log}
 use Rattle.sto_attempt_log.specs.declared.read_phase.ReadPhase.{ReadPhase}
 use Rattle.sto_attempt_log.specs.declared.read_phase.ReadPhase.TheVariants.{Reading, Rereading}
@@ -63,22 +63,22 @@ returns-in-Reading g c =
     let to : next_event m.widths a.read_phase a.words.items ≡ Word c.in-Reading.part (length a.words.items) = ap (λ (s : ReadPhase). next_event m.widths s a.words.items) c.in-Reading.is ∙ word_next m.widths c.in-Reading.part a.words.items short in
     let f = g.B.Body.script a.log.body in
     let b = c.word.new.self in
-    let rs = map told a.log.replies.items in
+    let rs = map plain_reply a.log.replies.items in
     let k = c.word.new.self.log in
     let w = g.C.Cells.view c.word.new.cells in
-    let now = map told b.log.replies.items in
+    let now = map plain_reply b.log.replies.items in
     let sizes = g.T.Naming.sizes a.log.ty.now in
-    let log : IsLog m f (words_in b.log.base.items) b.log.set.items b.log.set.updates now = subst (λ (k : Log g.row.T.Denot g.row.B.Denot). IsLog m f (words_in k.base.items) k.set.items k.set.updates (map told k.replies.items)) (sym c.word.ensures.log) c.requires.before.log.log in
+    let log : IsLog m f (words_in b.log.base.items) b.log.set.items b.log.set.updates now = subst (λ (k : Log g.row.T.Denot g.row.B.Denot). IsLog m f (words_in k.base.items) k.set.items k.set.updates (map plain_reply k.replies.items)) (sym c.word.ensures.log) c.requires.before.log.log in
     record {
       steps = record {
         event = subst (λ (x : Event). OneEvent (λ e. e ≡ x) valid passes v (g.C.Cells.view c.word.new.cells)) (sym to) c.word.ensures.event;
         log = ok_always c.word.result (IsOnLog m (g.B.Body.then b.log.body) f (g.B.Body.left b.log.body) (g.B.Body.may_ask b.log.body) b.log.base.items b.log.set b.log.cache b.log.replies.items) (subst (λ (k : Log g.row.T.Denot g.row.B.Denot). IsOnLog m (g.B.Body.then k.body) f (g.B.Body.left k.body) (g.B.Body.may_ask k.body) k.base.items k.set k.cache k.replies.items) (sym c.word.ensures.log) c.requires.before.log);
         turned = c.word.ensures.turned;
-        grown = ok_always c.word.result (HasHeard m f (words_in k.base.items) rs a.log.set (map told k.replies.items) k.set)
-            (subst (λ (h : Log g.row.T.Denot g.row.B.Denot). HasHeard m f (words_in h.base.items) rs a.log.set (map told h.replies.items) h.set) (sym c.word.ensures.log) (heard_none m f (words_in a.log.base.items) rs a.log.set));
+        grown = ok_always c.word.result (HasHeard m f (words_in k.base.items) rs a.log.set (map plain_reply k.replies.items) k.set)
+            (subst (λ (h : Log g.row.T.Denot g.row.B.Denot). HasHeard m f (words_in h.base.items) rs a.log.set (map plain_reply h.replies.items) h.set) (sym c.word.ensures.log) (heard_none m f (words_in a.log.base.items) rs a.log.set));
         alone = λ one first. if_ok c.word.result (λ turn. (IsFirst (Reading c.in-Reading.part c.in-Reading.ticket) → IsFirst b.read_phase) × IsUnaborted turn) (λ turn. IsFirst b.read_phase × IsUnaborted turn) (λ turn h. (h.0 tt, h.1)) c.word.ensures.alone;
         reason = if_ok c.word.result (λ turn. (IsFirst (Reading c.in-Reading.part c.in-Reading.ticket) → IsFirst b.read_phase) × IsUnaborted turn) (λ turn. IsCaused (next_event m.widths a.read_phase a.words.items) b.log.set.items w a.extension turn) (λ turn h. unaborted_caused (next_event m.widths a.read_phase a.words.items) b.log.set.items w a.extension turn h.1) c.word.ensures.alone;
-        renewed = ok_always c.word.result (KeepsExtension a.read_phase w a.extension rs b.extension now) (subst (λ (s : ReadPhase). KeepsExtension s w a.extension rs b.extension now) (sym c.in-Reading.is) (keeps_same a.extension b.extension rs now c.word.ensures.extension (ap (λ (k : Log g.row.T.Denot g.row.B.Denot). map told k.replies.items) c.word.ensures.log)));
+        renewed = ok_always c.word.result (KeepsExtension a.read_phase w a.extension rs b.extension now) (subst (λ (s : ReadPhase). KeepsExtension s w a.extension rs b.extension now) (sym c.in-Reading.is) (keeps_same a.extension b.extension rs now c.word.ensures.extension (ap (λ (k : Log g.row.T.Denot g.row.B.Denot). map plain_reply k.replies.items) c.word.ensures.log)));
         moves = moves_same c.word.result a.read_phase (subst HasBegun (sym c.in-Reading.is) tt) a.at b.read_phase b.at w c.word.ensures.moves;
         left = subst (λ (s : ReadPhase). OnOk c.word.result (events_left (g.B.Body.left b.log.body) m.widths b.read_phase b.words.items b.extension b.log.base.items < events_left (g.B.Body.left a.log.body) m.widths s a.words.items a.extension a.log.base.items)) (sym c.in-Reading.is) c.word.ensures.left;
         err = err_map c.word.result (IsLeft w × IsPrefix m f w b.at now) (IsLeft w) (λ h. h.0) c.word.ensures.err;
@@ -104,22 +104,22 @@ returns-in-Rereading g c =
     let to : next_event m.widths a.read_phase a.words.items ≡ Word c.in-Rereading.part (length a.words.items) = ap (λ (s : ReadPhase). next_event m.widths s a.words.items) c.in-Rereading.is ∙ word_next m.widths c.in-Rereading.part a.words.items short in
     let f = g.B.Body.script a.log.body in
     let b = c.reread.new.self in
-    let rs = map told a.log.replies.items in
+    let rs = map plain_reply a.log.replies.items in
     let k = c.reread.new.self.log in
     let w = g.C.Cells.view c.reread.new.cells in
-    let now = map told b.log.replies.items in
+    let now = map plain_reply b.log.replies.items in
     let sizes = g.T.Naming.sizes a.log.ty.now in
-    let log : IsLog m f (words_in b.log.base.items) b.log.set.items b.log.set.updates now = subst (λ (k : Log g.row.T.Denot g.row.B.Denot). IsLog m f (words_in k.base.items) k.set.items k.set.updates (map told k.replies.items)) (sym c.reread.ensures.log) c.requires.before.log.log in
+    let log : IsLog m f (words_in b.log.base.items) b.log.set.items b.log.set.updates now = subst (λ (k : Log g.row.T.Denot g.row.B.Denot). IsLog m f (words_in k.base.items) k.set.items k.set.updates (map plain_reply k.replies.items)) (sym c.reread.ensures.log) c.requires.before.log.log in
     record {
       steps = record {
         event = subst (λ (x : Event). OneEvent (λ e. e ≡ x) valid passes v (g.C.Cells.view c.reread.new.cells)) (sym to) c.reread.ensures.event;
         log = ok_always c.reread.result (IsOnLog m (g.B.Body.then b.log.body) f (g.B.Body.left b.log.body) (g.B.Body.may_ask b.log.body) b.log.base.items b.log.set b.log.cache b.log.replies.items) (subst (λ (k : Log g.row.T.Denot g.row.B.Denot). IsOnLog m (g.B.Body.then k.body) f (g.B.Body.left k.body) (g.B.Body.may_ask k.body) k.base.items k.set k.cache k.replies.items) (sym c.reread.ensures.log) c.requires.before.log);
         turned = c.reread.ensures.turned;
-        grown = ok_always c.reread.result (HasHeard m f (words_in k.base.items) rs a.log.set (map told k.replies.items) k.set)
-            (subst (λ (h : Log g.row.T.Denot g.row.B.Denot). HasHeard m f (words_in h.base.items) rs a.log.set (map told h.replies.items) h.set) (sym c.reread.ensures.log) (heard_none m f (words_in a.log.base.items) rs a.log.set));
+        grown = ok_always c.reread.result (HasHeard m f (words_in k.base.items) rs a.log.set (map plain_reply k.replies.items) k.set)
+            (subst (λ (h : Log g.row.T.Denot g.row.B.Denot). HasHeard m f (words_in h.base.items) rs a.log.set (map plain_reply h.replies.items) h.set) (sym c.reread.ensures.log) (heard_none m f (words_in a.log.base.items) rs a.log.set));
         alone = λ one first. absurd (subst IsFirst c.in-Rereading.is first);
         reason = if_ok c.reread.result (λ turn. (IsFirst (Rereading c.in-Rereading.part c.in-Rereading.ticket) → IsFirst b.read_phase) × IsUnaborted turn) (λ turn. IsCaused (next_event m.widths a.read_phase a.words.items) b.log.set.items w a.extension turn) (λ turn h. unaborted_caused (next_event m.widths a.read_phase a.words.items) b.log.set.items w a.extension turn h.1) c.reread.ensures.alone;
-        renewed = ok_always c.reread.result (KeepsExtension a.read_phase w a.extension rs b.extension now) (subst (λ (s : ReadPhase). KeepsExtension s w a.extension rs b.extension now) (sym c.in-Rereading.is) (keeps_same a.extension b.extension rs now c.reread.ensures.extension (ap (λ (k : Log g.row.T.Denot g.row.B.Denot). map told k.replies.items) c.reread.ensures.log)));
+        renewed = ok_always c.reread.result (KeepsExtension a.read_phase w a.extension rs b.extension now) (subst (λ (s : ReadPhase). KeepsExtension s w a.extension rs b.extension now) (sym c.in-Rereading.is) (keeps_same a.extension b.extension rs now c.reread.ensures.extension (ap (λ (k : Log g.row.T.Denot g.row.B.Denot). map plain_reply k.replies.items) c.reread.ensures.log)));
         moves = moves_same c.reread.result a.read_phase (subst HasBegun (sym c.in-Rereading.is) tt) a.at b.read_phase b.at w c.reread.ensures.moves;
         left = subst (λ (s : ReadPhase). OnOk c.reread.result (events_left (g.B.Body.left b.log.body) m.widths b.read_phase b.words.items b.extension b.log.base.items < events_left (g.B.Body.left a.log.body) m.widths s a.words.items a.extension a.log.base.items)) (sym c.in-Rereading.is) c.reread.ensures.left;
         err = err_map c.reread.result (IsLeft w × IsPrefix m f w b.at now) (IsLeft w) (λ h. h.0) c.reread.ensures.err;

@@ -6,7 +6,7 @@ use Rattle.std.proofs.lemmas.List.{length-map}
 use Rattle.sto_part.specs.declared.pred.Pred.{Pred}
 use Rattle.sto_item.specs.Watched.{watched}
 use Rattle.sto_item.specs.Observed.{Watched, preds_on}
-use Rattle.sto_model.specs.Told.{told}
+use Rattle.sto_model.specs.PlainReplies.{plain_reply}
 use Rattle.sto_type.specs.Known.{Parts, IsPartOf}
 use Rattle.sto_core.specs.Versions.{ticket_of, is_free}
 use Rattle.sto_core.proofs.Lists.{locked_is, unlocked_is}
@@ -42,7 +42,7 @@ close-found-requires g c =
     let sizes = g.T.Naming.sizes a.log.ty.now in
     let is : (d : Parts) → g.T.Naming.valid sizes d → m.valid d = λ d h. (g.met.T.TxType.valid_is a.log.ty.now d).1 h in
     let f = g.B.Body.script a.log.body in
-    let rs = map told a.log.replies.items in
+    let rs = map plain_reply a.log.replies.items in
     let v = g.C.Cells.view c.args.cells.now in
     let fresh = a.extension.fresh.items in
     let ws = map watched a.extension.watches.items in
@@ -67,7 +67,7 @@ returns-then-is_locked g c =
     let sizes = g.T.Naming.sizes a.log.ty.now in
     let is : (d : Parts) → g.T.Naming.valid sizes d → m.valid d = λ d h. (g.met.T.TxType.valid_is a.log.ty.now d).1 h in
     let f = g.B.Body.script a.log.body in
-    let rs = map told a.log.replies.items in
+    let rs = map plain_reply a.log.replies.items in
     let v = g.C.Cells.view c.args.cells.now in
     let fresh = a.extension.fresh.items in
     let ws = map watched a.extension.watches.items in
@@ -81,7 +81,7 @@ returns-then-is_locked g c =
         event = search rules;
         log = c.requires.before.log;
         turned = (refl, reclosed_left m law g.T.Naming.valid sizes is f a.at a.extension.bound c.args.part false a.log.base.items fresh a.log.set.items ws a.log.set.updates rs v goes.spans goes.observed goes.stands.3 c.requires.before.log.log c.args.ticket a.words.items goes.stands.0 goes.stands.1 c.requires.all w passes n c.close-found.ensures.tells, reclosed_within m law g.T.Naming.valid sizes is f a.at a.extension.bound c.args.part false a.log.base.items fresh a.log.set.items ws a.log.set.updates rs v goes.spans goes.observed goes.stands.3 c.requires.before.log.log c.args.ticket a.words.items goes.stands.0 goes.stands.1 c.requires.all w passes n c.close-found.ensures.tells, (refl, reclosed_locked m law g.T.Naming.valid sizes is f a.at a.extension.bound c.args.part false a.log.base.items fresh a.log.set.items ws a.log.set.updates rs v goes.spans goes.observed goes.stands.3 c.requires.before.log.log c.args.ticket a.words.items goes.stands.0 goes.stands.1 c.requires.all w passes n c.close-found.ensures.tells (unsettled_calling f rs goes.asks) locked));
-        grown = heard_none (g.T.TxType.meaning a.log.ty.now) (g.B.Body.script a.log.body) (words_in a.log.base.items) (map told a.log.replies.items) a.log.set;
+        grown = heard_none (g.T.TxType.meaning a.log.ty.now) (g.B.Body.script a.log.body) (words_in a.log.base.items) (map plain_reply a.log.replies.items) a.log.set;
         alone = λ one first. absurd first;
         reason = tt;
         renewed = (refl, λ e. (e, refl));
@@ -103,7 +103,7 @@ returns-then-newer-ticket g c =
     let law = g.met.T.TxType.lawful a.log.ty.now in
     let sizes = g.T.Naming.sizes a.log.ty.now in
     let f = g.B.Body.script a.log.body in
-    let rs = map told a.log.replies.items in
+    let rs = map plain_reply a.log.replies.items in
     let v = g.C.Cells.view c.args.cells.now in
     let fresh = a.extension.fresh.items in
     let ws = map watched a.extension.watches.items in
@@ -120,7 +120,7 @@ returns-then-newer-ticket g c =
         event = search rules;
         log = c.requires.before.log;
         turned = (refl, reclosed_left m law g.T.Naming.valid sizes is f a.at a.extension.bound c.args.part false a.log.base.items fresh a.log.set.items ws a.log.set.updates rs v goes.spans goes.observed goes.stands.3 c.requires.before.log.log c.args.ticket a.words.items goes.stands.0 goes.stands.1 c.requires.all w passes n c.close-found.ensures.tells, reclosed_within m law g.T.Naming.valid sizes is f a.at a.extension.bound c.args.part false a.log.base.items fresh a.log.set.items ws a.log.set.updates rs v goes.spans goes.observed goes.stands.3 c.requires.before.log.log c.args.ticket a.words.items goes.stands.0 goes.stands.1 c.requires.all w passes n c.close-found.ensures.tells, (refl, subst (λ (k : ℕ). WasChanged m f w a.at c.args.part k rs) (sym c.ticket-newer.ensures.ticket) h));
-        grown = heard_none (g.T.TxType.meaning a.log.ty.now) (g.B.Body.script a.log.body) (words_in a.log.base.items) (map told a.log.replies.items) a.log.set;
+        grown = heard_none (g.T.TxType.meaning a.log.ty.now) (g.B.Body.script a.log.body) (words_in a.log.base.items) (map plain_reply a.log.replies.items) a.log.set;
         alone = λ one first. absurd first;
         reason = by_close a.log.set.items (g.C.Cells.view c.close-found.new.self) c.args.part c.ticket-newer.result a.extension.extended a.extension.bound;
         renewed = (refl, λ e. (e, refl));
@@ -143,7 +143,7 @@ returns-then-not-are_true g c =
     let sizes = g.T.Naming.sizes a.log.ty.now in
     let is : (d : Parts) → g.T.Naming.valid sizes d → m.valid d = λ d h. (g.met.T.TxType.valid_is a.log.ty.now d).1 h in
     let f = g.B.Body.script a.log.body in
-    let rs = map told a.log.replies.items in
+    let rs = map plain_reply a.log.replies.items in
     let v = g.C.Cells.view c.args.cells.now in
     let fresh = a.extension.fresh.items in
     let ws = map watched a.extension.watches.items in
@@ -167,7 +167,7 @@ returns-then-not-are_true g c =
         event = search rules;
         log = c.requires.before.log;
         turned = (refl, reclosed_left m law g.T.Naming.valid sizes is f a.at a.extension.bound c.args.part false a.log.base.items fresh a.log.set.items ws a.log.set.updates rs v goes.spans goes.observed goes.stands.3 c.requires.before.log.log c.args.ticket a.words.items goes.stands.0 goes.stands.1 c.requires.all w passes n c.close-found.ensures.tells, reclosed_within m law g.T.Naming.valid sizes is f a.at a.extension.bound c.args.part false a.log.base.items fresh a.log.set.items ws a.log.set.updates rs v goes.spans goes.observed goes.stands.3 c.requires.before.log.log c.args.ticket a.words.items goes.stands.0 goes.stands.1 c.requires.all w passes n c.close-found.ensures.tells, (refl, reclosed_false m law g.T.Naming.valid sizes is f a.at a.extension.bound c.args.part false a.log.base.items fresh a.log.set.items ws a.log.set.updates rs v goes.spans goes.observed goes.stands.3 c.requires.before.log.log c.args.ticket a.words.items goes.stands.0 goes.stands.1 c.requires.all w passes n c.close-found.ensures.tells free same (unsettled_calling f rs goes.asks) preds are fails));
-        grown = heard_none (g.T.TxType.meaning a.log.ty.now) (g.B.Body.script a.log.body) (words_in a.log.base.items) (map told a.log.replies.items) a.log.set;
+        grown = heard_none (g.T.TxType.meaning a.log.ty.now) (g.B.Body.script a.log.body) (words_in a.log.base.items) (map plain_reply a.log.replies.items) a.log.set;
         alone = λ one first. absurd first;
         reason = by_predicate (Close c.args.part) a.log.set.items w c.args.part c.args.ticket a.extension.extended a.extension.bound a.words.items
             (next_unseen (length m.widths) old fresh ws c.args.part a.log.set.items goes.observed next) (λ h. fails (subst (λ (l : List Pred). AllTrueIn a.words.items l) (sym are) h))
@@ -191,7 +191,7 @@ advance-requires g c =
     let law = g.met.T.TxType.lawful a.log.ty.now in
     let sizes = g.T.Naming.sizes a.log.ty.now in
     let f = g.B.Body.script a.log.body in
-    let rs = map told a.log.replies.items in
+    let rs = map plain_reply a.log.replies.items in
     let v = g.C.Cells.view c.args.cells.now in
     let fresh = a.extension.fresh.items in
     let ws = map watched a.extension.watches.items in
@@ -238,7 +238,7 @@ returns g c =
     let law = g.met.T.TxType.lawful a.log.ty.now in
     let sizes = g.T.Naming.sizes a.log.ty.now in
     let f = g.B.Body.script a.log.body in
-    let rs = map told a.log.replies.items in
+    let rs = map plain_reply a.log.replies.items in
     let v = g.C.Cells.view c.args.cells.now in
     let fresh = a.extension.fresh.items in
     let ws = map watched a.extension.watches.items in
@@ -272,7 +272,7 @@ returns g c =
         alone = λ one first. absurd first;
         reason = unaborted_ok (Close c.args.part) c.advance.new.self.log.set.items (g.C.Cells.view c.close-found.new.self) a.extension c.advance.result c.advance.ensures.unaborted;
         renewed =
-            let now = map told b.log.replies.items in
+            let now = map plain_reply b.log.replies.items in
             ok_map c.advance.result ((b.extension.bound ≡ a.extension.bound) × (b.extension.extended ≡ true → now ≡ rs)) ((b.extension.bound ≡ a.extension.bound) × (b.extension.extended ≡ true → (a.extension.extended ≡ true) × (now ≡ rs)))
             (λ h. (h.0, λ e. (c.requires.before.goes.extended, h.1 e))) c.advance.ensures.renewed;
         moves = c.advance.ensures.moves;
@@ -308,7 +308,7 @@ returns-then-place g c =
     let sizes = g.T.Naming.sizes a.log.ty.now in
     let is : (d : Parts) → g.T.Naming.valid sizes d → m.valid d = λ d h. (g.met.T.TxType.valid_is a.log.ty.now d).1 h in
     let f = g.B.Body.script a.log.body in
-    let rs = map told a.log.replies.items in
+    let rs = map plain_reply a.log.replies.items in
     let v = g.C.Cells.view c.args.cells.now in
     let fresh = a.extension.fresh.items in
     let ws = map watched a.extension.watches.items in
@@ -345,7 +345,7 @@ returns-in_err-push g c =
     let sizes = g.T.Naming.sizes a.log.ty.now in
     let is : (d : Parts) → g.T.Naming.valid sizes d → m.valid d = λ d h. (g.met.T.TxType.valid_is a.log.ty.now d).1 h in
     let f = g.B.Body.script a.log.body in
-    let rs = map told a.log.replies.items in
+    let rs = map plain_reply a.log.replies.items in
     let v = g.C.Cells.view c.args.cells.now in
     let fresh = a.extension.fresh.items in
     let ws = map watched a.extension.watches.items in

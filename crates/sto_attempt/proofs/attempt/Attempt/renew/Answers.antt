@@ -1,7 +1,7 @@
 use Rattle.sto_core.specs.Event.{Renew}
 use Rattle.std.proofs.Common.{◌≡◌, ◌<◌, List, ℕ, pos, [], sym, subst, map, length, refl, rules}
 use Rattle.sto_item.specs.Watched.{watched}
-use Rattle.sto_model.specs.Told.{told}
+use Rattle.sto_model.specs.PlainReplies.{plain_reply}
 use Rattle.sto_type.specs.Known.{Parts}
 use Rattle.sto_attempt_log.specs.declared.read_entry.ReadEntry.{ReadEntry}
 use Rattle.sto_attempt_log.specs.ReadSet.{words_in}
@@ -37,7 +37,7 @@ advance-requires g c =
       log = c.requires.log;
       observed = c.in_ok-watches.ensures;
       extended = refl;
-      asks = calling m (g.B.Body.script a.log.body (map told a.log.replies.items)) c.requires.fits.0 fits.awaits.by_next;
+      asks = calling m (g.B.Body.script a.log.body (map plain_reply a.log.replies.items)) c.requires.fits.0 fits.awaits.by_next;
       renewed = (ws, subst (λ (l : List ReadEntry). IsRenewed (length m.widths) (words_in a.log.base.items) l ws ws) (sym none) h);
       bound = omega (arith, c.renew-bound.ensures.tells.learns.at, c.requires.fits.2.number);
       some = some_contents m g.T.Naming.valid v a.at a.log.base.items is fits.fit fits.claimed;
@@ -50,7 +50,7 @@ returns g c =
     let m = g.T.TxType.meaning a.log.ty.now in
     let sizes = g.T.Naming.sizes a.log.ty.now in
     let f = g.B.Body.script a.log.body in
-    let rs = map told a.log.replies.items in
+    let rs = map plain_reply a.log.replies.items in
     let v = g.C.Cells.view c.args.cells.now in
     let w = g.C.Cells.view c.renew-bound.new.self in
     let n = c.renew-bound.result in
@@ -104,7 +104,7 @@ returns-in_err-watches g c =
     let sizes = g.T.Naming.sizes a.log.ty.now in
     let valid = g.T.Naming.valid in
     let f = g.B.Body.script a.log.body in
-    let rs = map told a.log.replies.items in
+    let rs = map plain_reply a.log.replies.items in
     let base = a.log.base.items in
     let v = g.C.Cells.view c.args.cells.now in
     let passes = g.C.Cells.passes c.args.cells.now in

@@ -1,7 +1,7 @@
 use Rattle.std.proofs.Common.{◌≡◌, ◌<◌, false, List, ℤ, ℕ, [], ◌∷◌, ◌++◌, ap, sym, ◌∙◌, subst, map, length, length-append, arith, rules, FitsSigned, w64, refl}
 use Rattle.std.proofs.lemmas.Int.{to_z-of_z}
 use Rattle.sto_item.specs.Watched.{watched}
-use Rattle.sto_model.specs.Told.{told}
+use Rattle.sto_model.specs.PlainReplies.{plain_reply}
 use Rattle.sto_type.specs.Known.{Parts}
 use Rattle.sto_core.specs.Event.{Word}
 use Rattle.sto_core.specs.Tells.{Tells}
@@ -32,7 +32,7 @@ word-value-requires g c =
     let sizes = g.T.Naming.sizes a.log.ty.now in
     let is : (d : Parts) → g.T.Naming.valid sizes d → m.valid d = λ d h. (g.met.T.TxType.valid_is a.log.ty.now d).1 h in
     let f = g.B.Body.script a.log.body in
-    let rs = map told a.log.replies.items in
+    let rs = map plain_reply a.log.replies.items in
     let v = g.C.Cells.view c.args.cells.now in
     let fresh = a.extension.fresh.items in
     let ws = map watched a.extension.watches.items in
@@ -46,7 +46,7 @@ returns g c =
     let law = g.met.T.TxType.lawful a.log.ty.now in
     let sizes = g.T.Naming.sizes a.log.ty.now in
     let f = g.B.Body.script a.log.body in
-    let rs = map told a.log.replies.items in
+    let rs = map plain_reply a.log.replies.items in
     let v = g.C.Cells.view c.args.cells.now in
     let fresh = a.extension.fresh.items in
     let ws = map watched a.extension.watches.items in
@@ -89,7 +89,7 @@ returns-in_err-push g c =
     let law = g.met.T.TxType.lawful a.log.ty.now in
     let sizes = g.T.Naming.sizes a.log.ty.now in
     let f = g.B.Body.script a.log.body in
-    let rs = map told a.log.replies.items in
+    let rs = map plain_reply a.log.replies.items in
     let v = g.C.Cells.view c.args.cells.now in
     let fresh = a.extension.fresh.items in
     let ws = map watched a.extension.watches.items in

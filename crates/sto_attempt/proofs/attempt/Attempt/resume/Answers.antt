@@ -1,7 +1,7 @@
--- It goes on as after a read: what the view tells was told before.
+-- It goes on as after a read: what the view tells was plain_reply before.
 use Rattle.std.proofs.Common.{◌≡◌, ℕ, List, ap, sym, subst, map, refl, rules}
 use Rattle.sto_part.specs.Listed.{Listed}
-use Rattle.sto_model.specs.Told.{told}
+use Rattle.sto_model.specs.PlainReplies.{plain_reply}
 use Rattle.sto_attempt_log.specs.declared.read_entry.ReadEntry.{ReadEntry}
 use Rattle.sto_attempt_log.specs.declared.extension.Extension.{Extension}
 use Rattle.sto_attempt_log.specs.Standing.{Turned}
@@ -36,7 +36,7 @@ returns g c =
           let f = g.B.Body.script a.log.body in
           let base = a.log.base.items in
           let es = c.go_on.new.self.set.updates in
-          let rs = map told c.go_on.new.self.replies.items in
+          let rs = map plain_reply c.go_on.new.self.replies.items in
           let h = waits.0 in
           let fresh : Extension = record a.extension { extended = false } in
           let same : c.go_on.new.self.base.items ≡ base = ap (λ (l : Listed ReadEntry). l.items) c.in_ok-reached.ensures.base in
@@ -49,7 +49,7 @@ returns g c =
       comes = (let a = c.args.self.now in
           let m = g.T.TxType.meaning a.log.ty.now in
           let f = g.B.Body.script a.log.body in
-          let rs = map told c.go_on.new.self.replies.items in
+          let rs = map plain_reply c.go_on.new.self.replies.items in
           let same : c.go_on.new.self.base.items ≡ a.log.base.items = ap (λ (l : Listed ReadEntry). l.items) c.in_ok-reached.ensures.base in
           let r : Reader = record (reader_of a) { extended = false } in
           let set : Recorded = c.go_on.new.self.set in

@@ -1,5 +1,5 @@
 use Rattle.std.proofs.Common.{ℕ, List, subst, ap, ◌∙◌, map, refl, rules}
-use Rattle.sto_model.specs.Told.{told}
+use Rattle.sto_model.specs.PlainReplies.{plain_reply}
 use Rattle.sto_attempt_log.proofs.Claimed.{claims_fit, part_of_claims}
 use Rattle.sto_attempt_log.proofs.Sealed.{gathered_sealed}
 use Rattle.sto_attempt.specs.Attempts.{reader_of}
@@ -30,5 +30,5 @@ returns-in-Ok g c =
       left = search rules;
       undisturbed = search rules;
       seals = gathered_sealed (reader_of a) _ it.gathered (ap (λ x. x.at) kept) (ap (λ x. x.log.base.items) kept) (ap (λ x. x.items) c.sort.ensures ∙ ap (λ x. x.log.set.items) kept) it.updates
-          (ap (λ x. map told x.log.replies.items) kept) it.unfound it.unloaded refl;
+          (ap (λ x. map plain_reply x.log.replies.items) kept) it.unfound it.unloaded refl;
     }

@@ -1,6 +1,6 @@
 use Rattle.std.proofs.Common.{Ok, ◌≡◌, ◌≤◌, ◌<◌, false, ap, sym, ◌∙◌, subst, map, length, arith, slice_index_or}
 use Rattle.sto_item.specs.Watched.{watched}
-use Rattle.sto_model.specs.Told.{told}
+use Rattle.sto_model.specs.PlainReplies.{plain_reply}
 use Rattle.sto_type.specs.Known.{Parts}
 use Rattle.sto_attempt_log.specs.declared.read_phase.ReadPhase.{ReadPhase}
 use Rattle.sto_attempt_log.specs.declared.read_phase.ReadPhase.TheVariants.{Reading, Rereading}
@@ -34,7 +34,7 @@ width-requires g c =
     let sizes = g.T.Naming.sizes a.log.ty.now in
     let valid = g.T.Naming.valid in
     let f = g.B.Body.script a.log.body in
-    let rs = map told a.log.replies.items in
+    let rs = map plain_reply a.log.replies.items in
     let v = g.C.Cells.view c.args.cells.now in
     let p = c.in-Reading.part in
     let goes : Fits m valid sizes f a.at (Reading p c.in-Reading.ticket) a.words.items a.log.base.items a.log.set.updates rs v × IsAsOf a.at a.extension =
@@ -79,7 +79,7 @@ width-requires-in-Rereading g c =
     let sizes = g.T.Naming.sizes a.log.ty.now in
     let valid = g.T.Naming.valid in
     let f = g.B.Body.script a.log.body in
-    let rs = map told a.log.replies.items in
+    let rs = map plain_reply a.log.replies.items in
     let v = g.C.Cells.view c.args.cells.now in
     let is : (d : Parts) → valid sizes d → m.valid d = λ d h. (g.met.T.TxType.valid_is a.log.ty.now d).1 h in
     let p = c.in-Rereading.part in
@@ -94,7 +94,7 @@ reclose-requires-clause-all g c =
     let sizes = g.T.Naming.sizes a.log.ty.now in
     let valid = g.T.Naming.valid in
     let f = g.B.Body.script a.log.body in
-    let rs = map told a.log.replies.items in
+    let rs = map plain_reply a.log.replies.items in
     let v = g.C.Cells.view c.args.cells.now in
     let p = c.in-Rereading.part in
     let goes : Renews m valid sizes (f rs) a.at (Rereading p c.in-Rereading.ticket) a.words.items a.extension a.log.base.items a.log.set.items v =
@@ -110,7 +110,7 @@ returns-in-Unstarted-clause-prefix g c =
     let f = g.B.Body.script a.log.body in
     let b = c.begin.new.self in
     let w = g.C.Cells.view c.begin.new.cells in
-    let now = map told b.log.replies.items in
+    let now = map plain_reply b.log.replies.items in
     any_prefix m valid sizes f b.at b.words.items b.extension b.log.base.items b.log.set.items b.log.set.updates now w b.read_phase c.begin.result (IsLeft w) c.begin.ensures.turned
     (ok_map c.begin.result (IsOnLog m (g.B.Body.then b.log.body) f (g.B.Body.left b.log.body) (g.B.Body.may_ask b.log.body) b.log.base.items b.log.set b.log.cache b.log.replies.items) (IsLog m f (words_in b.log.base.items) b.log.set.items b.log.set.updates now) (λ h. h.log) c.begin.ensures.log) c.begin.ensures.err
 
@@ -149,7 +149,7 @@ close-requires-clause-all g c =
     let a = c.args.self.now in
     let m = g.T.TxType.meaning a.log.ty.now in
     let f = g.B.Body.script a.log.body in
-    let rs = map told a.log.replies.items in
+    let rs = map plain_reply a.log.replies.items in
     let v = g.C.Cells.view c.args.cells.now in
     let h = subst (λ (s : ReadPhase). Goes m g.T.Naming.valid (g.T.Naming.sizes a.log.ty.now) f a.at s a.words.items a.extension a.log.base.items a.log.set.items a.log.set.updates rs v) c.in-Reading.is c.requires.goes in
     omega (arith, width_got m.widths c.in-Reading.part c.width.result c.width.ensures, c.if-len-width.false, c.len.ensures, h.0.stands.2)
@@ -190,8 +190,8 @@ returns-in-Unstarted-clause-steps g c =
     let w = g.C.Cells.view c.begin.new.cells in
     let b = c.begin.new.self in
     let f = g.B.Body.script a.log.body in
-    let rs = map told a.log.replies.items in
-    let now = map told b.log.replies.items in
+    let rs = map plain_reply a.log.replies.items in
+    let now = map plain_reply b.log.replies.items in
     let h = subst (λ (s : ReadPhase). Goes m g.T.Naming.valid (g.T.Naming.sizes a.log.ty.now) f a.at s a.words.items a.extension a.log.base.items a.log.set.items a.log.set.updates rs v) c.in-Unstarted.is c.requires.goes in
     record {
       event = subst (λ (x : Event). OneEvent (λ e. e ≡ x) g.T.Naming.valid (g.C.Cells.passes c.args.cells.now) v w) (sym (ap (λ (s : ReadPhase). next_event m.widths s a.words.items) c.in-Unstarted.is)) c.begin.ensures.event;

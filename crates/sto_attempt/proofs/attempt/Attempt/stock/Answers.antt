@@ -1,6 +1,6 @@
 use Rattle.std.proofs.Common.{◌≡◌, ◌≤◌, ◌*◌, List, ap, sym, subst, map, arith, length, rules}
 use Rattle.sto_item.specs.Pending.{Entry as Update}
-use Rattle.sto_model.specs.Told.{told}
+use Rattle.sto_model.specs.PlainReplies.{plain_reply}
 use Rattle.sto_attempt_log.specs.declared.commit_phase.CommitPhase.TheVariants.{Locking}
 use Rattle.sto_attempt_log.specs.Bounds.{round, words_of}
 use Rattle.sto_attempt_log.specs.Remaining.{commit_left}
@@ -15,7 +15,7 @@ room_for-requires g c =
     let l = c.in_ok-lists.lists in
     let is = c.in_ok-lists.ensures.lists in
     let same : length l.updates.items ≡ length a.log.set.updates = ap (λ (x : List Update). length x) is.updates in
-    let it = gathered_planned (g.T.TxType.meaning a.log.ty.now) law g.T.Naming.valid (g.T.Naming.sizes a.log.ty.now) (g.B.Body.script a.log.body) a.at a.log.base.items a.log.set.items (map told a.log.replies.items) a.log.set.updates c.requires.log c.requires.some l.seen.items l.loaded.items l.tasks.items l.checks.items l.places.items is.gathered is.checks is.places (omega (arith, same, is.few)) in
+    let it = gathered_planned (g.T.TxType.meaning a.log.ty.now) law g.T.Naming.valid (g.T.Naming.sizes a.log.ty.now) (g.B.Body.script a.log.body) a.at a.log.base.items a.log.set.items (map plain_reply a.log.replies.items) a.log.set.updates c.requires.log c.requires.some l.seen.items l.loaded.items l.tasks.items l.checks.items l.places.items is.gathered is.checks is.places (omega (arith, same, is.few)) in
     it.in_range
 
 pub returns-clause-stocked : goal.returns-clause-stocked
@@ -25,13 +25,13 @@ returns-clause-stocked g c =
     let l = c.in_ok-lists.lists in
     let is = c.in_ok-lists.ensures.lists in
     let same : length l.updates.items ≡ length a.log.set.updates = ap (λ (x : List Update). length x) is.updates in
-    let it = gathered_planned (g.T.TxType.meaning a.log.ty.now) law g.T.Naming.valid (g.T.Naming.sizes a.log.ty.now) (g.B.Body.script a.log.body) a.at a.log.base.items a.log.set.items (map told a.log.replies.items) a.log.set.updates c.requires.log c.requires.some l.seen.items l.loaded.items l.tasks.items l.checks.items l.places.items is.gathered is.checks is.places (omega (arith, same, is.few)) in
+    let it = gathered_planned (g.T.TxType.meaning a.log.ty.now) law g.T.Naming.valid (g.T.Naming.sizes a.log.ty.now) (g.B.Body.script a.log.body) a.at a.log.base.items a.log.set.items (map plain_reply a.log.replies.items) a.log.set.updates c.requires.log c.requires.some l.seen.items l.loaded.items l.tasks.items l.checks.items l.places.items is.gathered is.checks is.places (omega (arith, same, is.few)) in
     let m = g.T.TxType.meaning a.log.ty.now in
-    let few = gathered_bounded m law g.T.Naming.valid (g.T.Naming.sizes a.log.ty.now) (g.B.Body.script a.log.body) a.at a.log.base.items a.log.set.items (map told a.log.replies.items) a.log.set.updates c.requires.log c.requires.some l.seen.items l.loaded.items l.tasks.items l.checks.items l.places.items is.gathered it in
+    let few = gathered_bounded m law g.T.Naming.valid (g.T.Naming.sizes a.log.ty.now) (g.B.Body.script a.log.body) a.at a.log.base.items a.log.set.items (map plain_reply a.log.replies.items) a.log.set.updates c.requires.log c.requires.some l.seen.items l.loaded.items l.tasks.items l.checks.items l.places.items is.gathered it in
     record {
       gathered = is.gathered;
-      planned = subst (λ (x : List Update). IsPlanned (deal (g.T.TxType.meaning a.log.ty.now) g.T.Naming.valid (g.T.Naming.sizes a.log.ty.now) (g.B.Body.script a.log.body) a.at a.log.base.items a.log.set.items (map told a.log.replies.items) x l.seen.items l.loaded.items l.tasks.items l.checks.items l.places.items)) (sym is.updates) it;
-      left = subst (λ (x : List Update). commit_left (deal m g.T.Naming.valid (g.T.Naming.sizes a.log.ty.now) (g.B.Body.script a.log.body) a.at a.log.base.items a.log.set.items (map told a.log.replies.items) x l.seen.items l.loaded.items l.tasks.items l.checks.items l.places.items) (Locking 0) ≤ 2 * round (length m.widths) (words_of m.widths)) (sym is.updates) few;
+      planned = subst (λ (x : List Update). IsPlanned (deal (g.T.TxType.meaning a.log.ty.now) g.T.Naming.valid (g.T.Naming.sizes a.log.ty.now) (g.B.Body.script a.log.body) a.at a.log.base.items a.log.set.items (map plain_reply a.log.replies.items) x l.seen.items l.loaded.items l.tasks.items l.checks.items l.places.items)) (sym is.updates) it;
+      left = subst (λ (x : List Update). commit_left (deal m g.T.Naming.valid (g.T.Naming.sizes a.log.ty.now) (g.B.Body.script a.log.body) a.at a.log.base.items a.log.set.items (map plain_reply a.log.replies.items) x l.seen.items l.loaded.items l.tasks.items l.checks.items l.places.items) (Locking 0) ≤ 2 * round (length m.widths) (words_of m.widths)) (sym is.updates) few;
       updates = c.in_ok-lists.ensures.lists.updates;
       unfound = search rules;
       room = search rules;

@@ -1,6 +1,6 @@
 use Rattle.std.proofs.Common.{◌≡◌, List, ℤ, ℕ, [], ◌∷◌, ◌++◌, ap, sym, ◌∙◌, subst, map, length, rules, FitsSigned, w64, refl}
 use Rattle.std.proofs.lemmas.Int.{to_z-of_z}
-use Rattle.sto_model.specs.Told.{told}
+use Rattle.sto_model.specs.PlainReplies.{plain_reply}
 use Rattle.sto_core.specs.Event.{Word}
 use Rattle.sto_core.specs.Tells.{Tells}
 use Rattle.sto_attempt_log.specs.declared.read_phase.ReadPhase.{ReadPhase}
@@ -30,7 +30,7 @@ word-value-requires g c =
     let sizes = g.T.Naming.sizes a.log.ty.now in
     let valid = g.T.Naming.valid in
     let f = g.B.Body.script a.log.body in
-    let rs = map told a.log.replies.items in
+    let rs = map plain_reply a.log.replies.items in
     let v = g.C.Cells.view c.args.cells.now in
     subst (λ (i : ℕ). Allowed valid (Word c.args.part i) v) (sym c.len.ensures)
     (may_read m valid sizes f a.at c.args.part c.args.ticket a.words.items a.log.base.items a.log.set.items a.log.set.updates rs v c.requires.before.goes.0 law c.requires.more)
@@ -41,7 +41,7 @@ returns g c =
     let m = g.T.TxType.meaning a.log.ty.now in
     let sizes = g.T.Naming.sizes a.log.ty.now in
     let f = g.B.Body.script a.log.body in
-    let rs = map told a.log.replies.items in
+    let rs = map plain_reply a.log.replies.items in
     let v = g.C.Cells.view c.args.cells.now in
     let w = g.C.Cells.view c.word-value.new.self in
     let passes = g.C.Cells.passes c.args.cells.now in
@@ -81,7 +81,7 @@ returns-in_err-push g c =
     let sizes = g.T.Naming.sizes a.log.ty.now in
     let valid = g.T.Naming.valid in
     let f = g.B.Body.script a.log.body in
-    let rs = map told a.log.replies.items in
+    let rs = map plain_reply a.log.replies.items in
     let base = a.log.base.items in
     let v = g.C.Cells.view c.args.cells.now in
     let passes = g.C.Cells.passes c.args.cells.now in

@@ -1,7 +1,7 @@
 -- What is left of a part is its width less what was read of it.
 use Rattle.std.proofs.Common.{◌≡◌, false, ℕ, ℤ, List, refl, sym, subst, map, arith, rules, Fits as FitsWord, w32}
 use Rattle.sto_item.specs.Watched.{watched}
-use Rattle.sto_model.specs.Told.{told}
+use Rattle.sto_model.specs.PlainReplies.{plain_reply}
 use Rattle.sto_type.specs.Known.{Parts}
 use Rattle.sto_attempt_log.specs.declared.read_phase.ReadPhase.{ReadPhase}
 use Rattle.sto_attempt_log.specs.declared.read_phase.ReadPhase.TheVariants.{Unstarted, Opening, Reading, Renewing, Rechecking, Reopening, Rereading, Committing, Over}
@@ -37,7 +37,7 @@ width-requires g c =
     let sizes = g.T.Naming.sizes a.log.ty.now in
     let valid = g.T.Naming.valid in
     let f = g.B.Body.script a.log.body in
-    let rs = map told a.log.replies.items in
+    let rs = map plain_reply a.log.replies.items in
     let v = c.requires.0 in
     let p = c.in-Reading.part in
     let goes : Fits m valid sizes f a.at (Reading p c.in-Reading.ticket) a.words.items a.log.base.items a.log.set.updates rs v × IsAsOf a.at a.extension =
@@ -52,7 +52,7 @@ overflow_sub-result g c =
     let sizes = g.T.Naming.sizes a.log.ty.now in
     let valid = g.T.Naming.valid in
     let f = g.B.Body.script a.log.body in
-    let rs = map told a.log.replies.items in
+    let rs = map plain_reply a.log.replies.items in
     let v = c.requires.0 in
     let p = c.in-Reading.part in
     let goes : Fits m valid sizes f a.at (Reading p c.in-Reading.ticket) a.words.items a.log.base.items a.log.set.updates rs v × IsAsOf a.at a.extension =
@@ -72,7 +72,7 @@ returns-in-Reading-clause-few g c some =
     let sizes = g.T.Naming.sizes a.log.ty.now in
     let valid = g.T.Naming.valid in
     let f = g.B.Body.script a.log.body in
-    let rs = map told a.log.replies.items in
+    let rs = map plain_reply a.log.replies.items in
     let v = c.requires.0 in
     let p = c.in-Reading.part in
     let goes : Fits m valid sizes f a.at (Reading p c.in-Reading.ticket) a.words.items a.log.base.items a.log.set.updates rs v × IsAsOf a.at a.extension =
@@ -88,7 +88,7 @@ width-requires-in-Rereading g c =
     let sizes = g.T.Naming.sizes a.log.ty.now in
     let valid = g.T.Naming.valid in
     let f = g.B.Body.script a.log.body in
-    let rs = map told a.log.replies.items in
+    let rs = map plain_reply a.log.replies.items in
     let v = c.requires.0 in
     let p = c.in-Rereading.part in
     let is : (d : Parts) → valid sizes d → m.valid d = λ d h. (g.met.T.TxType.valid_is a.log.ty.now d).1 h in
@@ -104,7 +104,7 @@ overflow_sub-result-in-Rereading g c =
     let sizes = g.T.Naming.sizes a.log.ty.now in
     let valid = g.T.Naming.valid in
     let f = g.B.Body.script a.log.body in
-    let rs = map told a.log.replies.items in
+    let rs = map plain_reply a.log.replies.items in
     let v = c.requires.0 in
     let p = c.in-Rereading.part in
     let goes : Renews m valid sizes (f rs) a.at (Rereading p c.in-Rereading.ticket) a.words.items a.extension a.log.base.items a.log.set.items v =
@@ -124,7 +124,7 @@ returns-in-Rereading-clause-few g c some =
     let sizes = g.T.Naming.sizes a.log.ty.now in
     let valid = g.T.Naming.valid in
     let f = g.B.Body.script a.log.body in
-    let rs = map told a.log.replies.items in
+    let rs = map plain_reply a.log.replies.items in
     let v = c.requires.0 in
     let p = c.in-Rereading.part in
     let goes : Renews m valid sizes (f rs) a.at (Rereading p c.in-Rereading.ticket) a.words.items a.extension a.log.base.items a.log.set.items v =

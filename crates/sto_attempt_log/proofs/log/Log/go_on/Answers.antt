@@ -1,5 +1,5 @@
 use Rattle.std.proofs.Common.{refl, arith, ap, sym, ◌∙◌, [], map, append-nil, rules}
-use Rattle.sto_model.specs.Told.{told}
+use Rattle.sto_model.specs.PlainReplies.{plain_reply}
 use Rattle.sto_type.specs.Known.{known}
 use Rattle.sto_attempt_log.specs.ReadSet.{words_in}
 use Rattle.sto_attempt_log.proofs.Onward.{heard_none, need_touched}
@@ -17,7 +17,7 @@ pub take_in-requires-clause-says : goal.take_in-requires-clause-says
 take_in-requires-clause-says g c =
     let f = g.B.Body.script c.args.self.now.body in
     let was = c.loop-call.invariant.log in
-    let rs = map told c.loop-call.self.replies.items in
+    let rs = map plain_reply c.loop-call.self.replies.items in
     let asks = ap f (sym (append-nil rs)) ∙ sym (c.in-Ask.ensures.next ∙ was.then []) in
     record {
       call = c.in-Ask.call;
@@ -34,7 +34,7 @@ loop-call-preserved g c =
     record {
       log = rw (e.ty, e.base, ← i.script) k.log;
       some = rw (e.ty, e.base) i.some;
-      grown = rw (e.ty, e.base, ← i.script) (k.grown (map told c.args.self.now.replies.items) c.args.self.now.set (rw i.script i.grown));
+      grown = rw (e.ty, e.base, ← i.script) (k.grown (map plain_reply c.args.self.now.replies.items) c.args.self.now.set (rw i.script i.grown));
       ran = rw (e.ty, e.base, ← i.script) (λ r base set heard. k.ran r base (rw i.script (i.ran r base set heard)));
       left = omega (arith, i.left, e.left);
       script = e.script ∙ i.script;
@@ -48,8 +48,8 @@ pub loop-call-init : goal.loop-call-init
 loop-call-init g c = record {
   log = c.requires.log;
   some = c.requires.some;
-  grown = heard_none (g.T.TxType.meaning c.args.self.now.ty.now) (g.B.Body.script c.args.self.now.body) (words_in c.args.self.now.base.items) (map told c.args.self.now.replies.items) c.args.self.now.set;
-  ran = λ r base set heard. ran_none (g.T.TxType.meaning c.args.self.now.ty.now) (g.B.Body.script c.args.self.now.body) r c.args.self.now.set (map told c.args.self.now.replies.items) set heard;
+  grown = heard_none (g.T.TxType.meaning c.args.self.now.ty.now) (g.B.Body.script c.args.self.now.body) (words_in c.args.self.now.base.items) (map plain_reply c.args.self.now.replies.items) c.args.self.now.set;
+  ran = λ r base set heard. ran_none (g.T.TxType.meaning c.args.self.now.ty.now) (g.B.Body.script c.args.self.now.body) r c.args.self.now.set (map plain_reply c.args.self.now.replies.items) set heard;
   left = omega arith;
   script = refl;
   left_at_reset = refl;
@@ -64,7 +64,7 @@ returns-in-Need g c =
     let f = g.B.Body.script c.args.self.now.body in
     let i = c.loop-call.invariant in
     let l = c.loop-call.self in
-    let rs = map told l.replies.items in
+    let rs = map plain_reply l.replies.items in
     let asks = ap f (sym (append-nil rs)) ∙ sym (c.in-Ask.ensures.next ∙ i.log.then []) in
     let unknown = c.in_ok-part-in-Ask.ensures.need c.in-Need.part c.in-Need.is in
     record {
@@ -98,7 +98,7 @@ pub returns-in-Commit : goal.returns-in-Commit
 returns-in-Commit g c =
     let f = g.B.Body.script c.args.self.now.body in
     let i = c.loop-call.invariant in
-    let rs = map told c.loop-call.self.replies.items in
+    let rs = map plain_reply c.loop-call.self.replies.items in
     let ends = ap f (sym (append-nil rs)) ∙ sym (c.in-Commit.ensures.next ∙ i.log.then []) in
     record {
       log = search rules;
@@ -119,7 +119,7 @@ pub returns-in-Cancel : goal.returns-in-Cancel
 returns-in-Cancel g c =
     let f = g.B.Body.script c.args.self.now.body in
     let i = c.loop-call.invariant in
-    let rs = map told c.loop-call.self.replies.items in
+    let rs = map plain_reply c.loop-call.self.replies.items in
     let ends = ap f (sym (append-nil rs)) ∙ sym (c.in-Cancel.ensures.next ∙ i.log.then []) in
     record {
       log = search rules;

@@ -1,5 +1,5 @@
 use Rattle.std.proofs.Common.{◌≡◌, ◌≤◌, ◌+◌, List, ℤ, map, length}
-use Rattle.sto_model.specs.Told.{told}
+use Rattle.sto_model.specs.PlainReplies.{plain_reply}
 use Rattle.sto_attempt_log.specs.Growing.{HasHeard}
 use Rattle.sto_type.specs.Known.{IsPartOf}
 use Rattle.sto_attempt_log.specs.ReadSet.{words_in}
@@ -14,9 +14,9 @@ invariant-loop-call g l = record {
       IsOnLog (g.T.TxType.meaning l.self.ty.now) (g.B.Body.then l.self.body) (g.B.Body.script l.fn.self.body) (g.B.Body.left l.self.body) (g.B.Body.may_ask l.self.body)
       l.self.base.items l.self.set l.self.cache l.self.replies.items;
   some : (d : List (List ℤ)) × (g.T.TxType.meaning l.self.ty.now).valid d × IsPartOf (words_in l.self.base.items) d;
-  grown : HasHeard (g.T.TxType.meaning l.self.ty.now) (g.B.Body.script l.fn.self.body) (words_in l.self.base.items) (map told l.fn.self.replies.items) l.fn.self.set (map told l.self.replies.items) l.self.set;
-  ran : (r : Reader) → r.base ≡ l.self.base.items → r.set ≡ l.fn.self.set → r.heard ≡ map told l.fn.self.replies.items
-      → RanTo (g.T.TxType.meaning l.self.ty.now) (g.B.Body.script l.fn.self.body) r l.self.set (map told l.self.replies.items);
+  grown : HasHeard (g.T.TxType.meaning l.self.ty.now) (g.B.Body.script l.fn.self.body) (words_in l.self.base.items) (map plain_reply l.fn.self.replies.items) l.fn.self.set (map plain_reply l.self.replies.items) l.self.set;
+  ran : (r : Reader) → r.base ≡ l.self.base.items → r.set ≡ l.fn.self.set → r.heard ≡ map plain_reply l.fn.self.replies.items
+      → RanTo (g.T.TxType.meaning l.self.ty.now) (g.B.Body.script l.fn.self.body) r l.self.set (map plain_reply l.self.replies.items);
   left : length l.self.replies.items + g.B.Body.left l.self.body ≤ length l.fn.self.replies.items + g.B.Body.left l.fn.self.body;
   script : g.B.Body.script l.self.body ≡ g.B.Body.script l.fn.self.body;
   left_at_reset : g.B.Body.left_at_reset l.self.body ≡ g.B.Body.left_at_reset l.fn.self.body;

@@ -1,5 +1,5 @@
 use Rattle.std.proofs.Common.{◌≡◌, ◌++◌, ℕ, suc, ◌+◌, ◌-◌, ◌≤◌, List, [], ◌∷◌, map, sym, ap, ◌∙◌, subst, Bool, true, false, arith}
-use Rattle.sto_model.specs.Told.{told}
+use Rattle.sto_model.specs.PlainReplies.{plain_reply}
 use Rattle.sto_model.specs.Objects.{machines_of}
 use Rattle.sto_model.specs.Serial.{serial_run_of}
 use Rattle.sto_model.specs.declared.shape.Shape.{Shape}
@@ -7,7 +7,7 @@ use Rattle.sto_lang.specs.Views.{file as view, script}
 use Rattle.sto_script.specs.Meaning.{meaning_of}
 use Rattle.sto_report_spec.specs.Replay.{machines_for, counted}
 use Rattle.sto_journal.specs.declared.journal.Line.{Line}
-use Rattle.sto_model.specs.Run.{Script as Steps, State}
+use Rattle.sto_model.specs.Run.{Behaviour, State}
 use Rattle.sto_checker.specs.Runs.{IsSoFar}
 use Rattle.sto_checker.specs.Runnable.{CanRun}
 use Rattle.sto_checker.specs.declared.progress.Progress.{Progress}
@@ -53,9 +53,9 @@ returns-clause-so_far c =
       | then-writer w ↦ ap (λ (p : Progress). p.writers) w.self-is ∙ one_more ran.writer c.args.self.now.writers w.if-writer.true
       | else-writer w ↦ ap (λ (p : Progress). p.writers) w.self-is ∙ no_more ran.writer c.args.self.now.writers w.if-writer.false
     ] in
-    let f : Steps = meaning_of (script text) in
+    let f : Behaviour = meaning_of (script text) in
     let run : serial_run_of (machines_for (view c.args.file.now)) text.weight f c.args.self.now.state.items
-    ≡ record { replies = map told ran.outcome.replies.items; end = ran.outcome.end; after = c.run_transaction.new.state.items } =
+    ≡ record { replies = map plain_reply ran.outcome.replies.items; end = ran.outcome.end; after = c.run_transaction.new.state.items } =
     ap (λ (s : List Shape). serial_run_of (machines_of s) text.weight f c.args.self.now.state.items) (sym c.requires.shapes) ∙ out.ensures.run in
     let is : IsTold (view c.args.file.now) c.args.self.now.writers c.args.self.now.state.items c.run_transaction.new.state.items line =
     is_told (view c.args.file.now) (script text) c.args.self.now.writers c.args.self.now.state.items c.run_transaction.new.state.items line ran.outcome.end ran.writer at run out.ensures.writer counts c.ending.ensures in

@@ -1,6 +1,6 @@
 use Rattle.std.proofs.Common.{◌≡◌, ℕ, ◌+◌, ◌≤◌, ◌++◌, List, [], ◌∷◌, length, sym, ap, ◌∙◌, arith, append_assoc}
 use Rattle.sto_lang.specs.Views.{file as view}
-use Rattle.sto_report_spec.specs.Orders.{Place, count_in}
+use Rattle.sto_report_spec.specs.Orders.{TransactionPlace, count_in}
 use Rattle.sto_journal.specs.Journals.{places}
 use Rattle.sto_checker.specs.Runs.{places_of}
 use Rattle.sto_checker.proofs.Places.{count_at, length-threads}
@@ -21,9 +21,9 @@ loop-earlier-preserved c = record {
   so_far = c.in_ok-run_one.ensures.so_far;
   placed =
       c.in_ok-run_one.ensures.placed
-      ∙ ap (λ (ps : List Place). ps ++ (c.args.thread, c.loop-earlier.earlier + 1) ∷ []) c.loop-earlier.invariant.placed
+      ∙ ap (λ (ps : List TransactionPlace). ps ++ (c.args.thread, c.loop-earlier.earlier + 1) ∷ []) c.loop-earlier.invariant.placed
       ∙ append_assoc (places c.args.self.now.lines.items) (places_of c.args.thread c.loop-earlier.earlier) ((c.args.thread, c.loop-earlier.earlier + 1) ∷ [])
-      ∙ ap (λ (ps : List Place). places c.args.self.now.lines.items ++ ps) (sym (places_of-more c.args.thread c.loop-earlier.earlier));
+      ∙ ap (λ (ps : List TransactionPlace). places c.args.self.now.lines.items ++ ps) (sym (places_of-more c.args.thread c.loop-earlier.earlier));
   counted = omega (arith, c.in_ok-run_one.ensures.counted, c.loop-earlier.invariant.counted);
 }
 

@@ -3,7 +3,7 @@ use Rattle.std.specs.List.{slice_split}
 use Rattle.std.proofs.lemmas.Result.{IfOk-weaker}
 use Rattle.sto_lang.specs.declared.file.Thread.{Thread}
 use Rattle.sto_lang.specs.Views.{file as view, names_of}
-use Rattle.sto_report_spec.specs.Orders.{Place}
+use Rattle.sto_report_spec.specs.Orders.{TransactionPlace}
 use Rattle.sto_report_spec.specs.Named.{is_space, named_in}
 use Rattle.sto_report_spec.specs.Report.{line_text}
 use Rattle.sto_journal.specs.declared.journal.Line.{Line}
@@ -15,9 +15,9 @@ use Rattle.sto_checker.proofs.Taken.{few_windows, none_named, taken_or}
 use Rattle.sto_checker.proofs.replayed.Replayed.take_line.Goals as goal
 
 abbrev NamesFar : List ℕ → List Thread → Type 0
-NamesFar content threads = (place : Place) → named_in (names_of threads) (slice_split is_space content) ≡ place ∷ [] → 2 ^ 32 ≤ place.1
+NamesFar content threads = (place : TransactionPlace) → named_in (names_of threads) (slice_split is_space content) ≡ place ∷ [] → 2 ^ 32 ≤ place.1
 
-abbrev Names : List ℕ → Place → List Thread → Type 0
+abbrev Names : List ℕ → TransactionPlace → List Thread → Type 0
 Names content place threads = named_in (names_of threads) (slice_split is_space content) ≡ place ∷ []
 
 abbrev SaysLine : List ℕ → Line → List Thread → Bool → Type 0

@@ -3,12 +3,12 @@ use Rattle.std.proofs.Common.{◌≡◌, List, [], ◌∷◌, ◌++◌, length, 
 use Rattle.std.proofs.lemmas.List.Elements.{Contains-push_cases}
 use Rattle.sto_model.specs.declared.call.Call.{Call}
 use Rattle.sto_model.specs.declared.run.End.TheVariants as E
-use Rattle.sto_model.specs.Told.{Told}
+use Rattle.sto_model.specs.PlainReplies.{PlainReply}
 use Rattle.sto_core.specs.declared.view.View.{View}
 use Rattle.sto_type.specs.Traits.{of_type}
 use Rattle.sto_attempt_log.proofs.Stepping.{ok_map}
 use Rattle.sto_attempt.specs.declared.attempt.Attempt.{Attempt}
-use Rattle.sto_interactive.specs.declared.asked.Asked.{Asked}
+use Rattle.sto_interactive.specs.declared.asked.AskedCalls.{AskedCalls}
 use Rattle.sto_interactive.specs.Scripts.{script_of}
 use Rattle.sto_interactive.specs.Bodies.{asked}
 use Rattle.sto_interactive.specs.Waiting.{IsWaiting}
@@ -24,19 +24,19 @@ returns-clause-added g c =
     let call = c.args.call in
     let old : c.replace_body-body.result ≡ a.log.body = c.replace_body-body.ensures.old in
     let given : c.replace_body.new.self ≡ record a { log = record a.log { body = b } } =
-    c.replace_body.ensures.new ∙ ap (λ (x : Attempt g.row.T.Denot Asked). record x { log = record x.log { body = b } }) c.replace_body-body.ensures.new in
+    c.replace_body.ensures.new ∙ ap (λ (x : Attempt g.row.T.Denot AskedCalls). record x { log = record x.log { body = b } }) c.replace_body-body.ensures.new in
     ok_map c.add-added.result (b.calls.items ≡ c.replace_body-body.result.calls.items ++ call ∷ [])
-    ((ty : g.row.T.Denot) (calls : List Call) (rs : List Told) (begun v : View) → IsLive t ty calls rs c.args.self.now begun v → (t.meaning ty).takes call
+    ((ty : g.row.T.Denot) (calls : List Call) (rs : List PlainReply) (begun v : View) → IsLive t ty calls rs c.args.self.now begun v → (t.meaning ty).takes call
     → IsWaiting t asked ty (script_of (calls ++ call ∷ []) E.Commit) c.replace_body.new.self begun v)
     (λ has ty calls rs begun v live takes.
     let own = live.waiting.own in
     let same = same_body a.log.body calls E.Commit own.same_script in
-    waits_given t ty a calls E.Commit own begun v live.waiting (ap (λ (l : List Told). length l) live.replies ∙ live.all) (call ∷ []) E.Commit
+    waits_given t ty a calls E.Commit own begun v live.waiting (ap (λ (l : List PlainReply). length l) live.replies ∙ live.all) (call ∷ []) E.Commit
     (λ other there. elim (Contains-push_cases calls call other there) [
       | inl before ↦ taken_so_far t ty a calls E.Commit own other before
       | inr last ↦ subst (λ (x : Call). (t.meaning ty).takes x) last takes
     ])
-    b (has ∙ ap (λ (x : Asked). x.calls.items ++ call ∷ []) old ∙ ap (λ (l : List Call). l ++ call ∷ []) same.same_calls)
-    (c.add-added.ensures.end ∙ ap (λ (x : Asked). x.end) old ∙ same.same_ends)
-    (c.add-added.ensures.heard ∙ ap (λ (x : Asked). x.heard) old) c.replace_body.new.self given)
+    b (has ∙ ap (λ (x : AskedCalls). x.calls.items ++ call ∷ []) old ∙ ap (λ (l : List Call). l ++ call ∷ []) same.same_calls)
+    (c.add-added.ensures.end ∙ ap (λ (x : AskedCalls). x.end) old ∙ same.same_ends)
+    (c.add-added.ensures.heard ∙ ap (λ (x : AskedCalls). x.heard) old) c.replace_body.new.self given)
     c.add-added.ensures.calls

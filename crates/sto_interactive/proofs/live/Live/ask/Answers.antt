@@ -1,7 +1,7 @@
 -- Its body has one call more, and goes on to its end.
 use Rattle.std.proofs.Common.{List, [], ◌∷◌, ◌++◌, refl, ap, sym, ◌∙◌, subst}
 use denote.Bor.{Bor}
-use Rattle.sto_model.specs.Told.{Told}
+use Rattle.sto_model.specs.PlainReplies.{PlainReply}
 use Rattle.sto_model.specs.declared.run.End.TheVariants as E
 use Rattle.sto_type.specs.Traits.{of_type}
 use Rattle.sto_attempt.specs.Attempts.{heard}
@@ -39,7 +39,7 @@ returns-in-None-clause-asked g c ty calls rs begun live =
     let takes = subst (λ (y : g.row.T.Denot). (g.T.TxType.meaning y).takes c.args.call) live.same_type (c.if-not-takes.ensures.0 refl) in
     let come = c.in-Ok.ensures.come ty (script_of more E.Commit) begun live.rests (c.in_default.ensures.added ty calls rs begun (g.C.Cells.view c.args.cells.now) live takes) in
     let on = goes_on t passes ty more now begun w c.in-Ok.turn (sym c.abort_of.ensures ∙ c.in-None.is) c.in-Ok.ensures.end come in
-    let hears = subst (λ (ss : List Told). HearsMore ss (heard now)) (c.add.ensures.heard ∙ live.replies) c.in-Ok.ensures.heard in
+    let hears = subst (λ (ss : List PlainReply). HearsMore ss (heard now)) (c.add.ensures.heard ∙ live.replies) c.in-Ok.ensures.heard in
     answered t ty calls c.args.call rs (record { ty = c.add.new.self.ty; attempt = now }) begun w live.rests (ap (λ (r : Bor g.row.T.Denot). r.now) c.add.ensures.ty ∙ live.same_type) on.0 on.1 live.all hears
     (λ d h. (g.met.T.TxType.valid_is now.log.ty.now d).1 h)
 

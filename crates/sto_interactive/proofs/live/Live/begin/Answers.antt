@@ -1,6 +1,6 @@
 -- The first event leads a body without a call to its end.
 use Rattle.std.proofs.Common.{◌≡◌, List, [], refl, sym, ap, ◌∙◌, subst}
-use Rattle.sto_model.specs.Run.{Script}
+use Rattle.sto_model.specs.Run.{Behaviour}
 use Rattle.sto_model.specs.declared.call.Call.{Call}
 use Rattle.sto_model.specs.declared.run.End.{End}
 use Rattle.sto_model.specs.declared.run.End.TheVariants as E
@@ -39,7 +39,7 @@ returns-clause-live g c =
       same_script = e.script ∙ script_is;
       log =
           subst (λ (y : g.row.T.Denot). IsOnLog (t.meaning y) (next_of a.log.body) (script_in a.log.body) (left_of a.log.body) (MayAskOf a.log.body) a.log.base.items a.log.set a.log.cache a.log.replies.items) (sym e.ty)
-          (subst (λ (f : Script). IsOnLog (t.meaning ty) (next_of a.log.body) f (left_of a.log.body) (MayAskOf a.log.body) a.log.base.items a.log.set a.log.cache a.log.replies.items) (sym e.script) e.log);
+          (subst (λ (f : Behaviour). IsOnLog (t.meaning ty) (next_of a.log.body) f (left_of a.log.body) (MayAskOf a.log.body) a.log.base.items a.log.set a.log.cache a.log.replies.items) (sym e.script) e.log);
     } in
     let k = c.in_ok-begin.ensures in
     record {

@@ -1,7 +1,7 @@
 -- It goes on to its commit, or to its end, without a further call.
 use Rattle.std.proofs.Common.{map, ap, ◌∙◌}
 use Rattle.sto_part.specs.Listed.{Listed}
-use Rattle.sto_model.specs.Told.{told}
+use Rattle.sto_model.specs.PlainReplies.{plain_reply}
 use Rattle.sto_model.specs.declared.reply.Reply.{Reply}
 use Rattle.sto_model.specs.declared.run.End.TheVariants as E
 use Rattle.sto_type.specs.Traits.{of_type}
@@ -9,7 +9,7 @@ use Rattle.sto_attempt_log.specs.declared.log.Log.{Log}
 use Rattle.sto_attempt_log.proofs.Reading.{always_err}
 use Rattle.sto_transaction.specs.Machines.{HasStopped}
 use Rattle.sto_transaction.proofs.Steps.{seals, ended_as}
-use Rattle.sto_interactive.specs.declared.asked.Asked.{Asked}
+use Rattle.sto_interactive.specs.declared.asked.AskedCalls.{AskedCalls}
 use Rattle.sto_interactive.specs.Scripts.{script_of}
 use Rattle.sto_interactive.specs.Bodies.{next_of, script_in, left_of, MayAskOf, asked}
 use Rattle.sto_interactive.proofs.Coming.{waiting_stops}
@@ -72,7 +72,7 @@ returns-in-Ok-clause-committed g c ty calls rs begun live =
     let same = as_before t ty calls rs c.args.self k begun v live e.ty e.script e.at e.log e.grown e.begun c.in_ok-resume.field-0 e.alone turned (λ d h. (g.met.T.TxType.valid_is k.log.ty.now d).1 h) in
     record {
       ended = c.finish.ensures.ended ty f begun live.rests commits;
-      replies = ap (λ (l : Listed Reply). map told l.items) c.finish.ensures.replies ∙ ap (λ (l : Log g.row.T.Denot Asked). map told l.replies.items) s.log ∙ same;
+      replies = ap (λ (l : Listed Reply). map plain_reply l.items) c.finish.ensures.replies ∙ ap (λ (l : Log g.row.T.Denot AskedCalls). map plain_reply l.replies.items) s.log ∙ same;
     }
 
 pub returns-in-Err-clause-err : goal.returns-in-Err-clause-err
@@ -93,7 +93,7 @@ returns-in-Ended-clause-committed g c ty calls rs begun live =
     let same = as_before t ty calls rs c.args.self k begun v live e.ty e.script e.at e.log e.grown e.begun c.in_ok-resume.field-0 e.alone turned (λ d h. (g.met.T.TxType.valid_is k.log.ty.now d).1 h) in
     record {
       ended = ended_as t.meaning t.valid t.sizes script_in next_of left_of MayAskOf passes ty f k.log.body c.end-heard.result.0.body k.log.replies c.end-heard.result.0.replies x begun v c.end-heard.ensures.body c.end-heard.ensures.replies ends;
-      replies = ap (λ (l : Listed Reply). map told l.items) c.end-heard.ensures.replies ∙ same;
+      replies = ap (λ (l : Listed Reply). map plain_reply l.items) c.end-heard.ensures.replies ∙ same;
     }
 
 pub unreachable-requires : goal.unreachable-requires

@@ -10,7 +10,7 @@ use Rattle.std.specs.Int.{w64}
 use Rattle.std.specs.Int.RustNames.{FitsSigned}
 use Rattle.sto_model.specs.declared.shape.Shape.{Shape}
 use Rattle.sto_type.specs.Traits.{of_type}
-use Rattle.sto_interactive.specs.declared.live.Stopped.{Stopped}
+use Rattle.sto_interactive.specs.declared.live.StepError.{StepError}
 use Rattle.sto_action.specs.Shortened.{short_of}
 use Rattle.sto_action.specs.Progs.{is_taken}
 use Rattle.sto_once.specs.Over.{StandsBy, heard_of}
@@ -23,7 +23,7 @@ unreachable-requires g c =
     let x = c.args.self.now in
     let k = c.requires.0 in let s = c.requires.1 in
     let none : x.stopped ≡ None = search rules in
-    let so = subst (λ (o : Option Stopped). StandsBy t g.C.Cells k o x.live (g.C.Cells.view x.cells)) none s.so in
+    let so = subst (λ (o : Option StepError). StandsBy t g.C.Cells k o x.live (g.C.Cells.view x.cells)) none s.so in
     let a = c.in-Ok.ensures.asked k.ty so.0 so.1 k.begun so.2 in
     let items = c.as_slice.ensures.items ∙ ap (λ (l : Listed Reply). l.items) c.replies.ensures in
     some_told c.ask.new.self.attempt.log.replies.items so.1 a.reply a.live.replies
@@ -39,17 +39,17 @@ returns-in-Some g c =
     let items = c.as_slice.ensures.items ∙ ap (λ (l : Listed Reply). l.items) c.replies.ensures in
     let value = sym (ap option_copied c.in-Some.is) ∙ c.last.ensures.value ∙ ap (λ (l : List Reply). slice_get l (length l - 1)) items in
     let k = c.requires.0 in let s = c.requires.1 in
-    let n = subst (λ (o : Option Stopped). StandsBy t g.C.Cells k o x.live (g.C.Cells.view x.cells)) none s.so in
+    let n = subst (λ (o : Option StepError). StandsBy t g.C.Cells k o x.live (g.C.Cells.view x.cells)) none s.so in
     let a = c.in-Ok.ensures.asked k.ty n.0 n.1 k.begun n.2 in
     let told_is = last_told new.attempt.log.replies.items n.1 a.reply c.in-Some.reply.now a.live.replies value in (
       (λ k s.
-          let n = subst (λ (o : Option Stopped). StandsBy t g.C.Cells k o x.live (g.C.Cells.view x.cells)) none s.so in
+          let n = subst (λ (o : Option StepError). StandsBy t g.C.Cells k o x.live (g.C.Cells.view x.cells)) none s.so in
           let a = c.in-Ok.ensures.asked k.ty n.0 n.1 k.begun n.2 in
           let taken = sym (ap (λ (ss : List Shape). is_taken ss c.args.call) s.shapes) ∙ sym (c.if-not-is_taken.ensures) in record {
             same = g.met.C.Cells.same_through k.start x.cells c.ask.new.cells s.same c.ask.ensures.same;
             shapes = s.shapes;
             takes = s.takes;
-            so = subst (λ (o : Option Stopped). StandsBy t g.C.Cells k o new w) (sym none)
+            so = subst (λ (o : Option StepError). StandsBy t g.C.Cells k o new w) (sym none)
                 (n.0 ++ c.args.call ∷ [], n.1 ++ a.reply ∷ [], a.live, all_taken_more k.shapes n.0 c.args.call n.3 taken);
           }),
       heard_more t k.ty n.0 n.1 c.args.call a.reply x.live new k.begun (g.C.Cells.view x.cells) w n.2 a.live
@@ -66,7 +66,7 @@ returns-in-Err g c =
     let first : FitsSigned w64 c.args.call.a = search rules in
     let second : FitsSigned w64 c.args.call.b = search rules in (
       (λ k s.
-          let n = subst (λ (o : Option Stopped). StandsBy t g.C.Cells k o x.live (g.C.Cells.view x.cells)) none s.so in
+          let n = subst (λ (o : Option StepError). StandsBy t g.C.Cells k o x.live (g.C.Cells.view x.cells)) none s.so in
           let taken = sym (ap (λ (ss : List Shape). is_taken ss c.args.call) s.shapes) ∙ sym (c.if-not-is_taken.ensures) in
           let takes = s.takes c.args.call (record { taken = taken; first = first; second = second }) in record {
             same = g.met.C.Cells.same_through k.start x.cells c.ask.new.cells s.same c.ask.ensures.same;

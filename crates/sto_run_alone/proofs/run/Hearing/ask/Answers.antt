@@ -2,7 +2,7 @@ use Rattle.std.proofs.Common.{arith, refl, ap, sym, subst, ◌∙◌, ◌≡◌,
 use Rattle.std.proofs.lemmas.List.{map-append, length-map}
 use Rattle.sto_item.specs.Pending.{applied_updates}
 use Rattle.sto_item.specs.Rebase.{rebased, HoldsWherePut}
-use Rattle.sto_model.specs.Told.{told}
+use Rattle.sto_model.specs.PlainReplies.{plain_reply}
 use Rattle.sto_model.specs.Run.{IsAsk}
 use Rattle.sto_model.specs.declared.body.Next.TheVariants.{Ask}
 use Rattle.sto_type.specs.Runs.{Answered, IsAnswer}
@@ -19,7 +19,7 @@ ask_call-requires g c =
     let was = c.requires.along in
     let items = c.args.self.now.items.items in
     let es = c.args.self.now.pending.updates in
-    let rs = map told c.args.self.now.replies.items in
+    let rs = map plain_reply c.args.self.now.replies.items in
     let on = run_here m f parts items es rs c.requires.valid was.carried in
     record { takes = c.requires.takes; ordered = on.ordered; widths = on.widths; valid = on.valid }
 
@@ -32,7 +32,7 @@ rebase-requires g c =
     let was = c.requires.along in
     let items = c.args.self.now.items.items in
     let es = c.args.self.now.pending.updates in
-    let rs = map told c.args.self.now.replies.items in
+    let rs = map plain_reply c.args.self.now.replies.items in
     let on = run_here m f parts items es rs c.requires.valid was.carried in
     let step = c.in_ok-step.ensures in
     subst (λ is. HoldsWherePut es is) (sym step.plan.1) (HoldsWherePut-true es (m.items c.args.call.now step.known) parts on.ordered.0 on.widths (call_true_here m law f parts es rs c.args.call.now step.known on c.requires.takes step.part step.plan.0))
@@ -46,7 +46,7 @@ add_updates-requires g c =
     let was = c.requires.along in
     let items = c.args.self.now.items.items in
     let es = c.args.self.now.pending.updates in
-    let rs = map told c.args.self.now.replies.items in
+    let rs = map plain_reply c.args.self.now.replies.items in
     let on = run_here m f parts items es rs c.requires.valid was.carried in
     let step = c.in_ok-step.ensures in
     let says = step.plan.2 (applied_updates es parts) on.valid step.part in
@@ -61,7 +61,7 @@ pub hear-requires : goal.hear-requires
 hear-requires g c = subst IsAsk (sym c.requires.next) tt
 
 pub push-requires : goal.push-requires
-push-requires g c = omega (arith, c.requires.along.few, c.hear.ensures.left, length-map c.args.self.now.replies.items told)
+push-requires g c = omega (arith, c.requires.along.few, c.hear.ensures.left, length-map c.args.self.now.replies.items plain_reply)
 
 pub returns-clause-along : goal.returns-clause-along
 returns-clause-along g c =
@@ -72,14 +72,14 @@ returns-clause-along g c =
     let was = c.requires.along in
     let items = c.args.self.now.items.items in
     let es = c.args.self.now.pending.updates in
-    let rs = map told c.args.self.now.replies.items in
+    let rs = map plain_reply c.args.self.now.replies.items in
     let on = run_here m f parts items es rs c.requires.valid was.carried in
     let takes = c.requires.takes in
     let call = c.args.call.now in
     let step = c.in_ok-step.ensures in
-    let reply = told c.in_ok-step.step.reply in
+    let reply = plain_reply c.in_ok-step.step.reply in
     let asks : f rs ≡ Ask call = ap f (sym (append-nil rs)) ∙ sym (was.then []) ∙ c.requires.next in
-    let more : map told c.push.new.self.items ≡ rs ++ reply ∷ [] = ap (map told) c.in_ok-push.ensures.ok ∙ map-append told c.args.self.now.replies.items (c.in_ok-step.step.reply ∷ []) in
+    let more : map plain_reply c.push.new.self.items ≡ rs ++ reply ∷ [] = ap (map plain_reply) c.in_ok-push.ensures.ok ∙ map-append plain_reply c.args.self.now.replies.items (c.in_ok-step.step.reply ∷ []) in
     let carried = carried_more m law f parts items es rs call step.known c.requires.valid was.carried takes step.part step.plan.0 reply c.in_ok-step.step.updates.items step.plan.2 asks in
     let added = c.in_ok-add_items.ensures ∙ ap (λ l. items ++ l) (c.in_ok-rebase.ensures.items ∙ ap (rebased es) step.plan.1) in
     let says = step.plan.2 (applied_updates es parts) on.valid step.part in

@@ -3,7 +3,7 @@ use Rattle.std.specs.List.{All}
 use Rattle.std.proofs.Common.{◌<◌, List, length, sym, ap, subst, arith}
 use Rattle.sto_lang.specs.declared.file.Turns.{Turns}
 use Rattle.sto_run_threads.specs.Told.{told_in}
-use Rattle.sto_run_steps.specs.Logged.{Log, kept}
+use Rattle.sto_run_steps.specs.Logged.{RunLog, kept}
 use Rattle.sto_run.specs.Traced.{IsRunBy, of_objects}
 use Rattle.sto_run.proofs.Draws.{few_threads}
 use Rattle.sto_run.proofs.TracedRuns.{run_by}
@@ -69,7 +69,7 @@ returns-in_default-clause-too_long g c = λ _.
       schedule = c.as_slice.result.now;
       journal = c.in_ok-journal.field-0;
       run =
-          subst (λ (l : Log). IsRunBy of_objects (objects_of r) (file_of r) (tries_of r) c.as_slice.result.now c.in_ok-journal.field-0 l) (ap kept c.in_default.is)
+          subst (λ (l : RunLog). IsRunBy of_objects (objects_of r) (file_of r) (tries_of r) c.as_slice.result.now c.in_ok-journal.field-0 l) (ap kept c.in_default.is)
           (run_by of_objects (objects_of r) (file_of r) (tries_of r) c.in_ok-journal.field-0 c.as_slice.result.now r.run.now.opening.items
           (told_in c.in_ok-finished.finished.records) (Some []) (kept c.in_ok-finished.steps) c.requires.ready.runnable.opens.opened c.in_ok-finished.ensures.traced c.in_ok-journal.ensures.of_records);
     }

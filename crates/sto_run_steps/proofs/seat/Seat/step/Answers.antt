@@ -1,7 +1,7 @@
 use Rattle.std.specs.Prelude.{None}
 use Rattle.std.proofs.Common.{◌+◌, map, ap, ◌∙◌, OnOk, subst, arith}
 use Rattle.std.proofs.lemmas.Result.{on_ok_weaker}
-use Rattle.sto_model.specs.Told.{told}
+use Rattle.sto_model.specs.PlainReplies.{plain_reply}
 use Rattle.sto_history.specs.Records.{Record}
 use Rattle.sto_transaction.specs.Plain.{verdict}
 use Rattle.sto_run_steps.specs.Stepped.{HasStepped}
@@ -19,7 +19,7 @@ returns-in-Ended-clause-seated g c =
     let going = goes_on s.ended s.count s.left c.requires.going seated.within in
     let fits = g.W.Attempts.fits c.args.work.now in let left = g.W.Attempts.left c.args.work.now in
     let wi = in_some (WithinAt plan fits passes c.args.thread s) c.begin.new.self.trial c.in-Some.trial v c.in-Some.is (c.in_ok-begin.ensures.within passes v seated) in
-    let r : Record = record { place = (c.args.thread, s.ended + 1); replies = map told c.in-Ended.replies.items; verdict = verdict c.in-Ended.verdict } in
+    let r : Record = record { place = (c.args.thread, s.ended + 1); replies = map plain_reply c.in-Ended.replies.items; verdict = verdict c.in-Ended.verdict } in
     let made = (subst (λ (x : Stepped). HasStepped plan fits left passes (c.args.thread, s.ended + 1) (left c.in-Some.trial) c.step.new.trial wi.begun (g.C.Cells.view c.step.new.cells) x) c.in-Ended.is (c.in_ok-step.ensures.stepped wi.begun wi.fits_now)).0 in
     let idle : Seat g.row.M.Denot = record s { trial = None } in
     on_ok_weaker c.keep.result
@@ -35,7 +35,7 @@ returns-in-Ended-clause-left g c =
     let going = goes_on s.ended s.count s.left c.requires.going seated.within in
     let fits = g.W.Attempts.fits c.args.work.now in let left = g.W.Attempts.left c.args.work.now in
     let wi = in_some (WithinAt plan fits passes c.args.thread s) c.begin.new.self.trial c.in-Some.trial v c.in-Some.is (c.in_ok-begin.ensures.within passes v seated) in
-    let r : Record = record { place = (c.args.thread, s.ended + 1); replies = map told c.in-Ended.replies.items; verdict = verdict c.in-Ended.verdict } in
+    let r : Record = record { place = (c.args.thread, s.ended + 1); replies = map plain_reply c.in-Ended.replies.items; verdict = verdict c.in-Ended.verdict } in
     let some = (subst (λ (x : Stepped). HasStepped plan fits left passes (c.args.thread, s.ended + 1) (left c.in-Some.trial) c.step.new.trial wi.begun (g.C.Cells.view c.step.new.cells) x) c.in-Ended.is (c.in_ok-step.ensures.stepped wi.begun wi.fits_now)).1 in
     let idle : Seat g.row.M.Denot = record s { trial = None } in
     let all = all_events left (g.W.Attempts.most c.args.work.now) s c.begin.new.self.trial c.in-Some.trial c.in-Some.is c.in_ok-begin.ensures.left in

@@ -1,9 +1,9 @@
 use Rattle.std.proofs.Common.{◌-◌, length, subst, arith}
-use Rattle.sto_model.specs.Run.{Script as Steps}
+use Rattle.sto_model.specs.Run.{Behaviour}
 use Rattle.sto_lang.specs.Drafts.{weight_total}
 use Rattle.sto_lang.specs.Views.{file as view, script}
 use Rattle.sto_script.specs.Bodies.{then_of, script_of, left_of, left_at_reset_of, MayAskOf}
-use Rattle.sto_run_threads.specs.Orders.{Place}
+use Rattle.sto_run_threads.specs.Orders.{TransactionPlace}
 use Rattle.sto_transaction.specs.Bounds.{bound, words_of}
 use Rattle.sto_transaction.specs.Machines.{Proceeds}
 use Rattle.sto_run_threads.specs.Counts.{heaviest}
@@ -37,14 +37,14 @@ returns-clause-fits g c = λ passes v free.
       script = script c.get-script.result.now;
       there = at;
       pace = omega (arith, c.new-2.ensures.left, most);
-      proceeds = subst (λ (f : Steps). Proceeds g.T.TxType.meaning g.T.Naming.valid g.T.Naming.sizes script_of then_of left_of MayAskOf passes c.args.self.now.work.now.ty.now f c.new-2.result v v)
+      proceeds = subst (λ (f : Behaviour). Proceeds g.T.TxType.meaning g.T.Naming.valid g.T.Naming.sizes script_of then_of left_of MayAskOf passes c.args.self.now.work.now.ty.now f c.new-2.result v v)
           c.in_ok-body.ensures.script (c.new-2.ensures.proceeds passes v free.rests free.draws);
     }
 
 pub returns-clause-left : goal.returns-clause-left
 returns-clause-left g c =
     let f = view c.args.self.now.work.now.workload.file.now in let widths = (g.T.TxType.meaning c.args.self.now.work.now.ty.now).widths in
-    let place : Place = (c.args.thread, c.args.position) in
+    let place : TransactionPlace = (c.args.thread, c.args.position) in
     let at = at_place c.args.self.now.work.now.workload.file.now c.args.thread c.args.position (c.args.position - 1) c.get.result.now c.get-script.result.now
     (omega (arith, position_above f c.args.thread c.args.position c.requires.there)) c.get.ensures c.get-script.ensures in
     let w = weighs_within f place (script c.get-script.result.now) at in

@@ -2,10 +2,10 @@
 use Rattle.std.proofs.Common.{◌≡◌, ◌≤◌, ◌+◌, List, [], ◌∷◌, ◌++◌, map, Bool, true, false, refl, sym, ap, ◌∙◌, subst, arith}
 use Rattle.std.specs.Prelude.{not}
 use Rattle.std.proofs.lemmas.List.{map-append}
-use Rattle.sto_model.specs.Run.{Script}
-use Rattle.sto_model.specs.Told.{told}
+use Rattle.sto_model.specs.Run.{Behaviour}
+use Rattle.sto_model.specs.PlainReplies.{plain_reply}
 use Rattle.sto_attempt_log.proofs.Reading.{always_err}
-use Rattle.sto_history.specs.Records.{Place, Record as Told, is_abort}
+use Rattle.sto_history.specs.Records.{TransactionPlace, Record as Told, is_abort}
 use Rattle.sto_history.specs.Tried.{HasTried}
 use Rattle.sto_transaction.specs.Pace.{most_steps}
 use Rattle.sto_transaction.specs.Plain.{plain, verdict}
@@ -23,7 +23,7 @@ loop-aborted-init g c =
     let passes = g.C.Cells.passes first in
     let v = g.C.Cells.view first in
     let f = g.B.Body.script self.body in
-    let place : Place = (self.thread, self.position) in
+    let place : TransactionPlace = (self.thread, self.position) in
     let before = map plain c.args.records.now.items in
     record { retried = none_retried m sizes passes v f place before c.requires.rests; script = refl; calls = refl; pace = pace_none (most_steps m (g.B.Body.left_at_reset self.body)) v; takes = c.requires.takes; same = g.met.C.Cells.same_as_itself first }
 
@@ -36,7 +36,7 @@ returns-in-Err-clause-err g c =
     let passes = g.C.Cells.passes first in
     let v = g.C.Cells.view first in
     let f = g.B.Body.script self.body in
-    let place : Place = (self.thread, self.position) in
+    let place : TransactionPlace = (self.thread, self.position) in
     let before = map plain c.args.records.now.items in
     let here = c.loop-aborted.cells in
     let u = g.C.Cells.view here in
@@ -56,7 +56,7 @@ returns-in_err-attempt-clause-err g c =
     let passes = g.C.Cells.passes first in
     let v = g.C.Cells.view first in
     let f = g.B.Body.script self.body in
-    let place : Place = (self.thread, self.position) in
+    let place : TransactionPlace = (self.thread, self.position) in
     let before = map plain c.args.records.now.items in
     let here = c.loop-aborted.cells in
     let u = g.C.Cells.view here in
@@ -78,7 +78,7 @@ returns-then-ended-clause-ran g c =
     let passes = g.C.Cells.passes first in
     let v = g.C.Cells.view first in
     let f = g.B.Body.script self.body in
-    let place : Place = (self.thread, self.position) in
+    let place : TransactionPlace = (self.thread, self.position) in
     let before = map plain c.args.records.now.items in
     let here = c.loop-aborted.cells in
     let u = g.C.Cells.view here in
@@ -89,8 +89,8 @@ returns-then-ended-clause-ran g c =
     let w = g.C.Cells.view c.run_attempt.new.cells in
     let e = c.in_ok-attempt.attempt in
     let ended = c.in_ok-attempt.ensures.ended in
-    let r : Told = record { place = place; replies = map told e.replies.items; verdict = verdict e.verdict } in
-    let tried : HasTried m u w f place r = subst (λ (s : Script). HasTried m u w s place r) h.script (ended.tried place) in
+    let r : Told = record { place = place; replies = map plain_reply e.replies.items; verdict = verdict e.verdict } in
+    let tried : HasTried m u w f place r = subst (λ (s : Behaviour). HasTried m u w s place r) h.script (ended.tried place) in
     let alone : passes ≡ 1 → is_abort r.verdict ≡ false = λ one. ended.alone (g.met.C.Cells.same_passes first here h.same ∙ one) in
     let later : map plain c.push_reserved.new.self.items ≡ mid ++ r ∷ [] =
     ap (map plain) c.push_reserved.ensures.items ∙ map-append plain c.reserve.new.self.items _ ∙ ap (λ (rs : List Told). rs ++ r ∷ []) kept in
@@ -108,7 +108,7 @@ loop-aborted-preserved g c =
     let passes = g.C.Cells.passes first in
     let v = g.C.Cells.view first in
     let f = g.B.Body.script self.body in
-    let place : Place = (self.thread, self.position) in
+    let place : TransactionPlace = (self.thread, self.position) in
     let before = map plain c.args.records.now.items in
     let here = c.loop-aborted.cells in
     let u = g.C.Cells.view here in
@@ -119,8 +119,8 @@ loop-aborted-preserved g c =
     let w = g.C.Cells.view c.run_attempt.new.cells in
     let e = c.in_ok-attempt.attempt in
     let ended = c.in_ok-attempt.ensures.ended in
-    let r : Told = record { place = place; replies = map told e.replies.items; verdict = verdict e.verdict } in
-    let tried : HasTried m u w f place r = subst (λ (s : Script). HasTried m u w s place r) h.script (ended.tried place) in
+    let r : Told = record { place = place; replies = map plain_reply e.replies.items; verdict = verdict e.verdict } in
+    let tried : HasTried m u w f place r = subst (λ (s : Behaviour). HasTried m u w s place r) h.script (ended.tried place) in
     let alone : passes ≡ 1 → is_abort r.verdict ≡ false = λ one. ended.alone (g.met.C.Cells.same_passes first here h.same ∙ one) in
     let later : map plain c.push_reserved.new.self.items ≡ mid ++ r ∷ [] =
     ap (map plain) c.push_reserved.ensures.items ∙ map-append plain c.reserve.new.self.items _ ∙ ap (λ (rs : List Told). rs ++ r ∷ []) kept in
@@ -144,7 +144,7 @@ returns-clause-ran g c =
     let passes = g.C.Cells.passes first in
     let v = g.C.Cells.view first in
     let f = g.B.Body.script self.body in
-    let place : Place = (self.thread, self.position) in
+    let place : TransactionPlace = (self.thread, self.position) in
     let before = map plain c.args.records.now.items in
     let here = c.loop-aborted.cells in
     let u = g.C.Cells.view here in

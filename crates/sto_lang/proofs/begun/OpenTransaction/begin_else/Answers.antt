@@ -5,7 +5,7 @@ use Rattle.sto_lang.specs.declared.begun.OpenBlock.{OpenBlock}
 use Rattle.sto_lang.specs.declared.begun.OpenBlock.TheVariants.{FirstBranch, SecondBranch}
 use Rattle.sto_lang.specs.Weighed.{IsWeighed, IsWeighedBlock}
 use Rattle.sto_lang.proofs.WeightLemmas.{all_last}
-use Rattle.sto_lang.proofs.begun.Begun.begin_else.Goals as goal
+use Rattle.sto_lang.proofs.begun.OpenTransaction.begin_else.Goals as goal
 
 pub returns-clause-weighed : goal.returns-clause-weighed
 returns-clause-weighed c = λ shapes before.

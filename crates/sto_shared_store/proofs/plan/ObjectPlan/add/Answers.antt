@@ -6,7 +6,7 @@ use Rattle.sto_store.specs.Stores.{rank}
 use Rattle.sto_shared_store.specs.Plans.{IsPlan, CanStand, last_rank, has_room}
 use Rattle.sto_shared_store.proofs.Ordered.{plan_more, parts_more, last_more}
 use Rattle.sto_shared_store.proofs.Roomy.{room_fits}
-use Rattle.sto_shared_store.proofs.plan.Plan.add.Goals as goal
+use Rattle.sto_shared_store.proofs.plan.ObjectPlan.add.Goals as goal
 
 pub invariant_of-self : goal.invariant_of-self
 invariant_of-self c =
