@@ -28,7 +28,7 @@ impl AttemptWatch for Unwatched {
 /// Runs a transaction on words that have one pass, which is at rest and may still draw a ticket.
 ///
 /// It answers the words again, and the record of its one attempt, which is not aborted.
-pub fn run_alone<T: TxType, B: Body + Drop>(
+pub fn run_transaction_alone<T: TxType, B: Body + Drop>(
     alloc: Global,
     ty: &T,
     words: Plain<T>,

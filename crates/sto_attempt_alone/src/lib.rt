@@ -3,4 +3,4 @@
 
 mod alone;
 
-pub use alone::run_alone;
+pub use alone::run_transaction_alone;

@@ -7,7 +7,7 @@ use crate::alone::calls::Calls;
 use crate::alone::{NotRun, are_taken, boxes, call, get, set, side_by_side};
 use std::alloc::Global;
 use std::cell::Cell;
-use sto_attempt_alone::run_alone;
+use sto_attempt_alone::run_transaction_alone;
 use sto_counter::TCounter;
 use sto_item::Item;
 use sto_model::{Call, End, State};
@@ -148,7 +148,7 @@ fn commit<T: TxType>(alloc: Global, ty: &T, calls: &[Call]) -> Result<(), NotRun
     let contents = ty.opening(alloc)?;
     let words = Plain::open(alloc, ty, &contents, 1)?;
     let body = Calls::new(alloc, calls, End::Commit)?;
-    let (_words, ran) = run_alone(alloc, ty, words, body);
+    let (_words, ran) = run_transaction_alone(alloc, ty, words, body);
     let _record = ran?;
     Ok(())
 }

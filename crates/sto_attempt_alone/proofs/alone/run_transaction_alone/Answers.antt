@@ -16,7 +16,7 @@ use Rattle.sto_transaction.specs.Plain.{plain, verdict}
 use Rattle.sto_transaction.specs.Ran.{HasRun}
 use Rattle.sto_attempt_alone.proofs.Records.{single, last_is}
 use Rattle.sto_attempt_alone.proofs.Whole.{one_pass, runs_alone}
-use Rattle.sto_attempt_alone.proofs.alone.run_alone.Goals as goal
+use Rattle.sto_attempt_alone.proofs.alone.run_transaction_alone.Goals as goal
 
 pub returns-in-Some-clause-alone : goal.returns-in-Some-clause-alone
 returns-in-Some-clause-alone g c before after up_before up_after =
