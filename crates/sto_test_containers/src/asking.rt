@@ -6,7 +6,7 @@ use std::alloc::{AllocError, Global};
 use sto_item::{Items, Updates};
 use sto_model::{Call, Reply};
 use sto_part::{Contents, NoMemory};
-use sto_run_alone::{Ran, run_alone};
+use sto_test_alone::{Ran, run_alone};
 use sto_type::TxType;
 
 /// What a call was answered, what it observed and what it wrote.

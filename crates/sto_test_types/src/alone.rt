@@ -12,7 +12,7 @@ use sto_box::TBox;
 use sto_item::{Item, Updates};
 use sto_model::{Call, End, Reply, State};
 use sto_part::{Change, NoMemory, Update};
-use sto_run_alone::{Ran, run_alone};
+use sto_test_alone::{Ran, run_alone};
 use sto_type::{Both, Many, TxType};
 
 /// Why two transactions were not run.

@@ -7,12 +7,12 @@ use crate::alone::calls::Calls;
 use crate::alone::{NotRun, are_taken, boxes, call, get, set, side_by_side};
 use std::alloc::Global;
 use std::cell::Cell;
-use sto_attempt_alone::run_transaction_alone;
 use sto_counter::TCounter;
 use sto_item::Item;
 use sto_model::{Call, End, State};
 use sto_part::{Change, Contents, Naming, NoMemory, Pred, apply_word, holds};
 use sto_plain::Plain;
+use sto_test_alone::run_transaction_alone;
 use sto_type::{Answer, AnswerPool, Home, KnownParts, Many, TxType};
 
 // How often callbacks were called.

@@ -5,7 +5,7 @@ use sto_counter::TCounter;
 use sto_item::Item;
 use sto_model::{End, Reply};
 use sto_part::{Change, NoMemory, Pred, Test};
-use sto_run_alone::Ran;
+use sto_test_alone::Ran;
 use sto_type::TxType;
 
 const MAX: i64 = i64::MAX;

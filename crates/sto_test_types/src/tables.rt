@@ -6,7 +6,7 @@ use sto_hash::THash;
 use sto_item::Item;
 use sto_model::{End, Reply};
 use sto_part::{Change, NoMemory};
-use sto_run_alone::Ran;
+use sto_test_alone::Ran;
 use sto_type::TxType;
 
 #[test]

@@ -5,7 +5,7 @@ use crate::trees::once::Once;
 use std::alloc::{AllocError, Global};
 use sto_model::{Call, Reply};
 use sto_part::{Contents, NoMemory};
-use sto_run_alone::{Ran, run_alone};
+use sto_test_alone::{Ran, run_alone};
 use sto_type::TxType;
 
 /// What a call was answered, and how much it took.

@@ -1,7 +1,7 @@
 //! A body that asks given calls, whatever they answer.
 ghost use Rattle.std.specs.Prelude.{◌≡◌, ◌+◌, ◌-◌, ◌<◌, ◌^◌, length, IfOk, slice_get};
 ghost use Rattle.std.specs.List.{Contains};
-ghost use Rattle.sto_run_alone.specs.GivenCalls.{asked};
+ghost use Rattle.sto_test_alone.specs.GivenCalls.{asked};
 
 use std::alloc::Global;
 use sto_model::{Body, Call, End, Next, Reply};

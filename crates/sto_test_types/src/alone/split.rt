@@ -2,8 +2,8 @@
 ghost use Rattle.std.specs.Prelude.{◌≡◌, ℤ, [], ◌∷◌, pos, IfOk};
 ghost use Rattle.std.specs.Int.{w64};
 ghost use Rattle.std.specs.Int.RustNames.{FitsSigned};
-ghost use Rattle.sto_run_alone.specs.Split.{split_meaning, IsSplit};
-ghost use Rattle.sto_run_alone.specs.SplitLaw.{split_lawful};
+ghost use Rattle.sto_test_alone.specs.Split.{split_meaning, IsSplit};
+ghost use Rattle.sto_test_alone.specs.SplitLaw.{split_lawful};
 ghost use Rattle.sto_part.specs.declared.change.Change.TheVariants.{Put};
 ghost use Rattle.sto_model.specs.PlainReplies as Told;
 ghost use Rattle.sto_type.specs.Plans.{Say, planned};

@@ -1,5 +1,5 @@
 use Rattle.std.proofs.Common.{◌<◌, ◌^◌, ◌++◌, ◌∷◌, [], arith, refl, length, length-append}
-use Rattle.sto_run_alone.proofs.Ones.{ones_few}
+use Rattle.sto_test_alone.proofs.Ones.{ones_few}
 use Rattle.sto_test_types.proofs.alone.boxes.Goals as goal
 
 pub push-requires-clause-few : goal.push-requires-clause-few

@@ -12,8 +12,8 @@ open-requires-clause-valid g c =
     let ty = c.args.ty.now in
     (g.met.T.TxType.valid_is ty _).0 (subst (λ (d : Parts). (g.T.TxType.meaning ty).valid d) (sym c.in_ok-contents.ensures) (g.met.T.TxType.lawful ty).opening)
 
-pub run_alone-words-requires-clause-rests : goal.run_alone-words-requires-clause-rests
-run_alone-words-requires-clause-rests g c =
+pub run_transaction_alone-words-requires-clause-rests : goal.run_transaction_alone-words-requires-clause-rests
+run_transaction_alone-words-requires-clause-rests g c =
     let m = g.T.TxType.meaning c.args.ty.now in
     let sizes = g.T.Naming.sizes c.args.ty.now in
     subst (λ (p : Core). IsAtRest m sizes (view_of p 0)) (sym c.in_ok-words.ensures) (opened_rests m sizes c.in_ok-contents.contents.items 0 c.in_ok-contents.ensures)

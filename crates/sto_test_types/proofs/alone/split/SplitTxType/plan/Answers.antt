@@ -3,7 +3,7 @@ use Rattle.std.proofs.lemmas.Int.{to_z-of_z}
 use Rattle.sto_type.specs.Known.{known}
 use Rattle.sto_type.specs.Plans.{planned}
 use Rattle.sto_type.proofs.Answering.{IfOk-mapped}
-use Rattle.sto_run_alone.proofs.SplitSays.{split_says}
+use Rattle.sto_test_alone.proofs.SplitSays.{split_says}
 use Rattle.sto_test_types.proofs.alone.split.SplitTxType.plan.Goals as goal
 
 pub returns-in-Some-get : goal.returns-in-Some-get

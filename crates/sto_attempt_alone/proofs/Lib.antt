@@ -1,3 +1,0 @@
-mod History
-mod Whole
-mod Records

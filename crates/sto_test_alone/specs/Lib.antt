@@ -1,0 +1,12 @@
+pub mod Alone
+pub mod Steps
+pub mod Trials
+pub mod GivenCalls
+pub mod Split
+pub mod SplitLaw
+pub mod Along
+pub use Rattle.sto_part.specs.Parts
+pub use Rattle.sto_item.specs.Agreement
+pub use Rattle.sto_item.specs.Pending
+pub use Rattle.sto_model.specs.Serial
+pub use Rattle.sto_model.specs.PlainReplies
