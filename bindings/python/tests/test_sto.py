@@ -1,5 +1,6 @@
 import os
 import random
+import re
 import signal
 import threading
 import time
@@ -232,8 +233,10 @@ class Tests(unittest.TestCase):
         def interrupted():
             try:
                 signal.setitimer(signal.ITIMER_REAL, 0.00005 + rand.random() * 0.0006)
-                while True:
+                for _ in range(1000):
                     store.atomically(move, rand.randrange(8), rand.randrange(8))
+                signal.setitimer(signal.ITIMER_REAL, 0)
+                return 0
             except KeyboardInterrupt:
                 return 1
 
@@ -307,6 +310,17 @@ class Tests(unittest.TestCase):
             threads(8, lambda _: [store.atomically(count.add) for _ in range(50)])
             self.assertEqual(store.atomically(lambda tx: count[tx]), 400)
 
+    def test_the_programs_of_the_pages(self):
+        top = os.path.join(os.path.dirname(os.path.abspath(__file__)), "..")
+        pages = [it for it in (f"{top}/README.md", f"{top}/../../docs/python.md") if os.path.exists(it)]
+        for page in pages:
+            with open(page, encoding="utf-8") as file:
+                programs = re.findall(r"(?ms)^```python\n(.*?)^```", file.read())
+            names = {"print": lambda *told: None}
+            for program in programs:
+                exec(program, names)
+            self.assertTrue(programs)
+
     def test_the_library_tells_what_it_is(self):
         self.assertIn(sto.build(), ("plain", "proved"))
         self.assertTrue(sto.sources())
@@ -338,7 +352,8 @@ class Tests(unittest.TestCase):
                 stop.append(True)
 
         threads(4, work)
-        self.assertGreaterEqual(store.stats().alone, 1)
+        end = store.close()
+        self.assertEqual(sum(end[it] for it in boxes), 0)
 
     def test_replay(self):
         for seed in range(6):

@@ -154,3 +154,7 @@ pub fn library_version() -> u32 {
 #[doc = include_str!("../README.md")]
 #[cfg(doctest)]
 struct Readme;
+
+#[doc = include_str!("../../../docs/rust.md")]
+#[cfg(doctest)]
+struct Guide;
