@@ -102,7 +102,7 @@ module _ {T B : Type 0} (meaning : T → Meaning) (valid : Validity) (sizes : T 
       IsAtRest (meaning ty) (sizes ty) begun × Commits passes ty f r begun v
   Proceeds passes ty f Over begun v = ⊥
 
-  -- it has ended: it is plain_reply by its record at every place, its pass is at rest, and beside no other pass it was not aborted
+  -- it has ended: it is told by its record at every place, its pass is at rest, and beside no other pass it was not aborted
   pub record HasEnded (passes : ℕ) (ty : T) (f : Behaviour) (e : FinishedAttempt B) (begun w : View) : Type 0 where
     pub same_script : script e.body ≡ f
     pub taken : (call : Call) → may e.body call → (meaning ty).takes call
