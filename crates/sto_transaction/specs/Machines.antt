@@ -125,7 +125,7 @@ module _ {T B : Type 0} (meaning : T → Meaning) (valid : Validity) (sizes : T 
   abbrev pub HasTurned : ℕ → T → Behaviour → Result Turn NoMemory → Machine T B → View → View → Type 0
   HasTurned passes ty f (Ok turns.More) machine begun w = Proceeds passes ty f machine begun w
   HasTurned passes ty f (Ok turns.Ready) machine begun w = IsAtSeal ty f machine begun w
-  HasTurned passes ty f (Ok (turns.FinishedAttempt x)) machine begun w = IsAtEnd passes ty f machine x begun w
+  HasTurned passes ty f (Ok (turns.Ended x)) machine begun w = IsAtEnd passes ty f machine x begun w
   HasTurned passes ty f (Err error) machine begun w = HasStopped (meaning ty) (sizes ty) begun w
 
   -- the same where a body that is ready was sealed
