@@ -222,6 +222,7 @@ static void test_refusals(void)
 static void test_fork(void)
 {
     int ended = 1;
+    fflush(stdout);
     pid_t child = fork();
     if (child == 0) {
         sto_row *rows;
