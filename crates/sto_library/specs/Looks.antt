@@ -28,10 +28,10 @@ module _ {T A : Type 0} (t : OfType T) (old new : Stored T) (most : ℕ) (p : Pr
   -- what a look answers; where no worker rests, the store is as it was
   abbrev pub HasLooked : Result (Done A) LookError → Type 0
   HasLooked (Ok done) = IsLookOf (Ok done)
-  HasLooked (Err (unlooked.TransactionError error)) = IsLookOf (Err error)
-  HasLooked (Err unlooked.Workers) = (old.views ≡ []) × (new ≡ old)
+  HasLooked (Err (unlooked.Transaction error)) = IsLookOf (Err error)
+  HasLooked (Err unlooked.NoWorker) = (old.views ≡ []) × (new ≡ old)
 
 -- what a look answers by what its transaction led to
 abbrev pub looked_by : {A : Type 0} → Result (Done A) TransactionError → Result (Done A) LookError
 looked_by (Ok done) = Ok done
-looked_by (Err error) = Err (unlooked.TransactionError error)
+looked_by (Err error) = Err (unlooked.Transaction error)

@@ -9,7 +9,7 @@ use Rattle.sto_shared_store.specs.declared.worker.CountedRest.{CountedRest}
 use Rattle.sto_library.specs.Values.{Stored, Working, Serves}
 use Rattle.sto_library.specs.declared.task.Finished.{Finished}
 use Rattle.sto_library.specs.declared.task.TaskError.{TaskError}
-use Rattle.sto_library.specs.declared.task.TaskError.TheVariants.{Workers, NoMemory}
+use Rattle.sto_library.specs.declared.task.TaskError.TheVariants.{NoWorker, NoMemory}
 
 -- a worker of these objects did a task, by which what it knew went from the view v to the view w: what it gave is as the task says
 pub record IsDone {T Out : Type 0} (words : Words T) (shapes : List Shape) (v w : View) (gives : Working T → Working T → Out → Type 0) (out : Out) : Type 0 where
@@ -69,5 +69,5 @@ pub record AreFourDone {T A B C D : Type 0} (old new : Stored T) (a : Working T 
 
 -- why so many tasks gave nothing: there were too few workers, and the store is as it was; or memory was wanting
 abbrev pub HasFailed : {T : Type 0} → TaskError → ℕ → (old new : Stored T) → Type 0
-HasFailed Workers many old new = (length old.views < many) × (new ≡ old)
+HasFailed NoWorker many old new = (length old.views < many) × (new ≡ old)
 HasFailed NoMemory many old new = Unit {0}

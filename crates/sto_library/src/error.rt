@@ -12,32 +12,32 @@ use sto_type::TxType;
 #[derive(Clone, Copy)]
 pub enum StoreError {
     /// An object was not declared.
-    PlanError(PlanError),
+    Plan(PlanError),
     /// The store was not opened.
-    OpenError(OpenError),
+    Open(OpenError),
     /// Tasks were not done, or what they gave is lost.
     Task(TaskError),
     /// A transaction was not run to its end.
-    TransactionError(TransactionError),
+    Transaction(TransactionError),
     /// A look at the store gave nothing.
     Look(LookError),
     /// The store was not closed.
-    StoreCloseError,
+    Close,
 }
 
 impl From<PlanError> for StoreError {
-    ghost from_gives = { λ error e. e ≡ why.PlanError error };
+    ghost from_gives = { λ error e. e ≡ why.Plan error };
 
     fn from(error: PlanError) -> StoreError {
-        StoreError::PlanError(error)
+        StoreError::Plan(error)
     }
 }
 
 impl From<OpenError> for StoreError {
-    ghost from_gives = { λ error e. e ≡ why.OpenError error };
+    ghost from_gives = { λ error e. e ≡ why.Open error };
 
     fn from(error: OpenError) -> StoreError {
-        StoreError::OpenError(error)
+        StoreError::Open(error)
     }
 }
 
@@ -50,10 +50,10 @@ impl From<TaskError> for StoreError {
 }
 
 impl From<TransactionError> for StoreError {
-    ghost from_gives = { λ error e. e ≡ why.TransactionError error };
+    ghost from_gives = { λ error e. e ≡ why.Transaction error };
 
     fn from(error: TransactionError) -> StoreError {
-        StoreError::TransactionError(error)
+        StoreError::Transaction(error)
     }
 }
 
@@ -66,9 +66,9 @@ impl From<LookError> for StoreError {
 }
 
 impl<T: TxType + Drop> From<CloseError<T>> for StoreError {
-    ghost from_gives = { λ _ e. e ≡ why.StoreCloseError };
+    ghost from_gives = { λ _ e. e ≡ why.Close };
 
     fn from(_error: CloseError<T>) -> StoreError {
-        StoreError::StoreCloseError
+        StoreError::Close
     }
 }

@@ -65,9 +65,9 @@ pub enum CloseError<T: TxType> {
 #[derive(Clone, Copy)]
 pub enum LookError {
     /// No worker rests in it.
-    Workers,
+    NoWorker,
     /// The transaction was not run to its end.
-    TransactionError(TransactionError),
+    Transaction(TransactionError),
 }
 
 // What a worker gave of which a look was asked, which rests again.
@@ -101,7 +101,7 @@ fn looked<O: Drop>(told: Result<Done<O>, TransactionError>) -> Result<Done<O>, L
 {
     match told {
         Ok(done) => Ok(done),
-        Err(error) => Err(LookError::TransactionError(error)),
+        Err(error) => Err(LookError::Transaction(error)),
     }
 }
 
@@ -160,7 +160,7 @@ impl<T: TxType> SharedStore<T> {
         // so many fit the list
         let _resting = self.idle.len();
         let Some(worker) = self.idle.pop() else {
-            return Err(LookError::Workers);
+            return Err(LookError::NoWorker);
         };
         let (worker, told) = look_by(alloc, &self.words, &self.shapes, worker, code);
         self.idle.push_spare(worker);

@@ -29,7 +29,7 @@ pub trait Task<T: TxType> {
 #[derive(Clone, Copy, PartialEq, Eq, Debug)]
 pub enum TaskError {
     /// Fewer workers rest in the store than there are tasks. None was done.
-    Workers,
+    NoWorker,
     /// Memory was wanting as a worker came back, which is lost.
     NoMemory,
 }

@@ -236,7 +236,7 @@ impl<T: TxType + Drop + Send + Sync> SharedStore<T> {
         ensures failed { IfErr result (λ error. HasFailed error 2 self.old self.new) }
     {
         let Some(workers) = hire_two(self) else {
-            return Err(TaskError::Workers);
+            return Err(TaskError::NoWorker);
         };
         let (words, shapes) = self.parts();
         let (first, other) = work_both(rt, alloc, words, shapes, workers, a, b);
@@ -276,7 +276,7 @@ impl<T: TxType + Drop + Send + Sync> SharedStore<T> {
         ensures failed { IfErr result (λ error. HasFailed error 4 self.old self.new) }
     {
         let Some(workers) = hire_four(self) else {
-            return Err(TaskError::Workers);
+            return Err(TaskError::NoWorker);
         };
         let (words, shapes) = self.parts();
         let ((w, x), (y, z)) = work_four(rt, alloc, words, shapes, threads, workers, a, b, c, d);

@@ -64,7 +64,7 @@ fn is_refused_without_worker(alloc: Global) -> Option<(u32, bool, u32)> {
     let (mut store, of, _sales) = opened(alloc, 1)?;
     let worker = store.hire()?;
     let resting = store.resting();
-    let refused = matches!(store.look(alloc, &Swap(of, 8)), Err(LookError::Workers));
+    let refused = matches!(store.look(alloc, &Swap(of, 8)), Err(LookError::NoWorker));
     store.back(worker).ok()?;
     Some((resting, refused, store.resting()))
 }

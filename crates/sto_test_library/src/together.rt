@@ -43,15 +43,15 @@ fn is_refused_with_one<R: Threads>(rt: &R, alloc: Global) -> Option<bool> {
     let mut store = schema.open(alloc, 1).ok()?;
     let task = Times(1, Swap(of, 8));
     let told = store.run_both(rt, alloc, &task, &task);
-    Some(matches!(told, Err(TaskError::Workers)))
+    Some(matches!(told, Err(TaskError::NoWorker)))
 }
 
 #[test]
 fn an_error_of_tasks_is_one_of_the_store(rt: HostRuntime) {
     assert!(rt;
         matches!(
-            StoreError::from(TaskError::Workers),
-            StoreError::Task(TaskError::Workers)
+            StoreError::from(TaskError::NoWorker),
+            StoreError::Task(TaskError::NoWorker)
         )
     );
 }

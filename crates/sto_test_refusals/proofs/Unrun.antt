@@ -56,7 +56,7 @@ get_not_1 tries left most led = given_by most led.verdict led.replies led.ended 
 
 -- A look of which nothing was begun is not refused as busy
 
-pub look_not_busy : {T A : Type 0} (t : OfType T) (old new : Stored T) (most : ℕ) (p : Prog A) → HasLooked t old new most p (Err (unlooked.TransactionError Busy)) → new.views ≡ old.views → ⊥
+pub look_not_busy : {T A : Type 0} (t : OfType T) (old new : Stored T) (most : ℕ) (p : Prog A) → HasLooked t old new most p (Err (unlooked.Transaction Busy)) → new.views ≡ old.views → ⊥
 look_not_busy t old new most p looked same =
     let one : looked.from ≡ looked.to = last_same looked.others looked.from looked.to (sym looked.were ∙ sym same ∙ looked.are) in
     let from = looked.done.from in let to = looked.done.to in
