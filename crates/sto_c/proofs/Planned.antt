@@ -2,10 +2,10 @@
 use Rattle.std.proofs.Common.{◌≡◌, ◌+◌, ◌≤◌, ℕ, suc, List, [], ◌∷◌, ◌++◌, length, map, take, drop, slice_get, Option, Some, sym, ap, ◌∙◌, subst, arith}
 use Rattle.std.proofs.lemmas.List.{take-append-drop, take_all, map-append, append-nil, append_assoc}
 use Rattle.sto_model.specs.declared.shape.Shape.{Shape}
-use Rattle.sto_shared_store.specs.declared.unplanned.PlanError.{PlanError}
-use Rattle.sto_shared_store.specs.declared.unplanned.PlanError.TheVariants as unplanned
-use Rattle.sto_shared_store.specs.declared.unopened.OpenError.{OpenError}
-use Rattle.sto_shared_store.specs.declared.unopened.OpenError.TheVariants as unopened
+use Rattle.sto_shared_store.specs.declared.plan_error.PlanError.{PlanError}
+use Rattle.sto_shared_store.specs.declared.plan_error.PlanError.TheVariants as plan_error
+use Rattle.sto_shared_store.specs.declared.open_error.OpenError.{OpenError}
+use Rattle.sto_shared_store.specs.declared.open_error.OpenError.TheVariants as open_error
 use Rattle.sto_shared_store.specs.Plans.{IsReason, CanStand, AllStand}
 use Rattle.sto_shared_store.specs.Refusals.{IsCause}
 use Rattle.sto_c.specs.declared.crossing.ShapeIn.{ShapeIn}
@@ -33,13 +33,13 @@ refused_at shapes given planned i why here fit first reason = record {
 -- the same by what the plan answered
 pub unplanned_at : (shapes : List ShapeIn) (given : ShapeIn) (planned : List Shape) (shape : Shape) (i : ℕ) (error : PlanError) → slice_get shapes i ≡ Some given
     → map shape_in (take i shapes) ≡ map Some planned → AllStand [] planned → Some shape ≡ shape_in given → IsReason error planned shape → IsUnplanned shapes (of_unplanned error)
-unplanned_at shapes given planned shape i unplanned.OutOfOrder here fit first is reason =
+unplanned_at shapes given planned shape i plan_error.OutOfOrder here fit first is reason =
     refused_at shapes given planned i status.BadOrder here fit first (subst (λ (o : Option Shape). IsUnfit status.BadOrder planned o) is reason)
-unplanned_at shapes given planned shape i unplanned.NoRoom here fit first is reason =
+unplanned_at shapes given planned shape i plan_error.NoRoom here fit first is reason =
     refused_at shapes given planned i status.BadSize here fit first (subst (λ (o : Option Shape). IsUnfit status.BadSize planned o) is reason)
-unplanned_at shapes given planned shape i unplanned.TooMany here fit first is reason =
+unplanned_at shapes given planned shape i plan_error.TooMany here fit first is reason =
     refused_at shapes given planned i status.TooMany here fit first (subst (λ (o : Option Shape). IsUnfit status.TooMany planned o) is reason)
-unplanned_at shapes given planned shape i unplanned.NoMemory here fit first is reason = tt
+unplanned_at shapes given planned shape i plan_error.NoMemory here fit first is reason = tt
 
 -- one more stands behind those before it
 pub stand_more : (before shapes : List Shape) (s : Shape) → AllStand before shapes → CanStand (before ++ shapes) s → AllStand before (shapes ++ s ∷ [])
@@ -70,5 +70,5 @@ unplanned_unopened shapes workers why h = h
 
 -- the same by what opening answered
 pub caused_unopened : (shapes : List ShapeIn) (workers : ℕ) (error : OpenError) → IsCause error workers → IsUnopened shapes workers (of_unopened error)
-caused_unopened shapes workers unopened.Workers cause = cause
-caused_unopened shapes workers unopened.NoMemory cause = tt
+caused_unopened shapes workers open_error.Workers cause = cause
+caused_unopened shapes workers open_error.NoMemory cause = tt

@@ -12,8 +12,8 @@ use Rattle.sto_history.specs.History.{times_numbered, StandsIn, LeadTo}
 use Rattle.sto_history.proofs.Examples.{boxes, set_five}
 use Rattle.sto_shared_store.specs.declared.store.Store.{Store}
 use Rattle.sto_shared_store.specs.declared.worker.CountedRest.{CountedRest}
-use Rattle.sto_shared_store.specs.declared.unplanned.PlanError.{PlanError}
-use Rattle.sto_shared_store.specs.declared.unplanned.PlanError.TheVariants as unplanned
+use Rattle.sto_shared_store.specs.declared.plan_error.PlanError.{PlanError}
+use Rattle.sto_shared_store.specs.declared.plan_error.PlanError.TheVariants as plan_error
 use Rattle.sto_shared_store.specs.Plans.{CanStand, AllStand, IsReason}
 use Rattle.sto_interactive.specs.declared.session.Session.{Session}
 use Rattle.sto_shared_store.proofs.GatheredOwned.{rest_still, slots_left, same_store}
@@ -115,16 +115,16 @@ one_stands : (before first : List Shape) (s : Shape) (after : List Shape) → Al
 one_stands before [] s after h = subst (λ (l : List Shape). CanStand l s) (sym (append-nil before)) h.0
 one_stands before (x ∷ first) s after h = subst (λ (l : List Shape). CanStand l s) (append_assoc before (x ∷ []) first) (one_stands (before ++ x ∷ []) first s after h.1)
 
-no_reason : (error : PlanError) (shapes : List Shape) (s : Shape) → CanStand shapes s → error ≢ unplanned.NoMemory → IsReason error shapes s → ⊥
-no_reason unplanned.OutOfOrder shapes s h broken why = let o = h.order in omega (arith, o, why)
-no_reason unplanned.NoRoom shapes s h broken why = true≢false (sym h.room ∙ why)
-no_reason unplanned.TooMany shapes s h broken (inl parts) = let p = h.parts in omega (arith, p, parts)
-no_reason unplanned.TooMany shapes s h broken (inr many) = let f = h.few in omega (arith, f, many)
-no_reason unplanned.NoMemory shapes s h broken why = broken refl
+no_reason : (error : PlanError) (shapes : List Shape) (s : Shape) → CanStand shapes s → error ≢ plan_error.NoMemory → IsReason error shapes s → ⊥
+no_reason plan_error.OutOfOrder shapes s h broken why = let o = h.order in omega (arith, o, why)
+no_reason plan_error.NoRoom shapes s h broken why = true≢false (sym h.room ∙ why)
+no_reason plan_error.TooMany shapes s h broken (inl parts) = let p = h.parts in omega (arith, p, parts)
+no_reason plan_error.TooMany shapes s h broken (inr many) = let f = h.few in omega (arith, f, many)
+no_reason plan_error.NoMemory shapes s h broken why = broken refl
 
 -- an earlier shape breaks a rule too
 pub no_second_fault : (shapes : List ShapeIn) (why : Status) (h : IsRefused shapes why) (first after : List Shape) (s : Shape) → h.planned ≡ first ++ s ∷ after
-    → (error : PlanError) → error ≢ unplanned.NoMemory → IsReason error first s → ⊥
+    → (error : PlanError) → error ≢ plan_error.NoMemory → IsReason error first s → ⊥
 no_second_fault shapes why h first after s here error broken fault =
     no_reason error first s (one_stands [] first s after (subst (λ (l : List Shape). AllStand [] l) here h.first)) broken fault
 

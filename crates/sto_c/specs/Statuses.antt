@@ -1,9 +1,9 @@
 -- The number of each status, as include/sto.h has it.
 use Rattle.std.specs.Prelude.{◌≡◌, ℕ, Result, Ok, Err}
-use Rattle.sto_shared_store.specs.declared.unplanned.PlanError.{PlanError}
-use Rattle.sto_shared_store.specs.declared.unplanned.PlanError.TheVariants as unplanned
-use Rattle.sto_shared_store.specs.declared.unopened.OpenError.{OpenError}
-use Rattle.sto_shared_store.specs.declared.unopened.OpenError.TheVariants as unopened
+use Rattle.sto_shared_store.specs.declared.plan_error.PlanError.{PlanError}
+use Rattle.sto_shared_store.specs.declared.plan_error.PlanError.TheVariants as plan_error
+use Rattle.sto_shared_store.specs.declared.open_error.OpenError.{OpenError}
+use Rattle.sto_shared_store.specs.declared.open_error.OpenError.TheVariants as open_error
 use Rattle.sto_c.specs.declared.status.Status.{Status}
 use Rattle.sto_c.specs.declared.status.Status.TheVariants as status
 
@@ -41,11 +41,11 @@ pub record Answers (answer : ℕ) (P : Result (Unit {0}) Status → Type 0) : Ty
 
 -- what tells why an object could not be planned, and why a store was not opened
 abbrev pub of_unplanned : PlanError → Status
-of_unplanned unplanned.OutOfOrder = status.BadOrder
-of_unplanned unplanned.NoRoom = status.BadSize
-of_unplanned unplanned.TooMany = status.TooMany
-of_unplanned unplanned.NoMemory = status.NoMemory
+of_unplanned plan_error.OutOfOrder = status.BadOrder
+of_unplanned plan_error.NoRoom = status.BadSize
+of_unplanned plan_error.TooMany = status.TooMany
+of_unplanned plan_error.NoMemory = status.NoMemory
 
 abbrev pub of_unopened : OpenError → Status
-of_unopened unopened.Workers = status.BadWorkers
-of_unopened unopened.NoMemory = status.NoMemory
+of_unopened open_error.Workers = status.BadWorkers
+of_unopened open_error.NoMemory = status.NoMemory

@@ -5,11 +5,11 @@ use Rattle.sto_model.specs.declared.call.Call.{Call}
 use Rattle.sto_model.specs.declared.reply.Reply.{Reply}
 use Rattle.sto_model.specs.Operations.{operation_of}
 use Rattle.sto_interactive.specs.declared.starting.BeginError.{BeginError}
-use Rattle.sto_interactive.specs.declared.starting.BeginError.TheVariants as unbegun
+use Rattle.sto_interactive.specs.declared.starting.BeginError.TheVariants as begin_error
 use Rattle.sto_interactive.specs.declared.asking.AskError.{AskError}
-use Rattle.sto_interactive.specs.declared.asking.AskError.TheVariants as unanswered
+use Rattle.sto_interactive.specs.declared.asking.AskError.TheVariants as ask_error
 use Rattle.sto_interactive.specs.declared.ending.CommitError.{CommitError}
-use Rattle.sto_interactive.specs.declared.ending.CommitError.TheVariants as uncommitted
+use Rattle.sto_interactive.specs.declared.ending.CommitError.TheVariants as commit_error
 use Rattle.sto_interactive.specs.Steps as session
 use Rattle.sto_shared_store.specs.Owned.{Leads, replies_of}
 use Rattle.sto_c.specs.declared.crossing.CallIn.{CallIn}
@@ -53,9 +53,9 @@ module _ (h k : WorkerHandle) where
 -- a transaction was begun, or why it was not
 abbrev pub HasBegun : WorkerHandle → Result (Unit {0}) Status → WorkerHandle → Type 0
 HasBegun h (Ok done) k = Begins h k (Ok done)
-HasBegun h (Err status.InTransaction) k = Begins h k (Err unbegun.InTransaction)
-HasBegun h (Err status.NoTickets) k = Begins h k (Err unbegun.Worn)
-HasBegun h (Err status.NoMemory) k = Begins h k (Err unbegun.NoMemory)
+HasBegun h (Err status.InTransaction) k = Begins h k (Err begin_error.InTransaction)
+HasBegun h (Err status.NoTickets) k = Begins h k (Err begin_error.Worn)
+HasBegun h (Err status.NoMemory) k = Begins h k (Err begin_error.NoMemory)
 HasBegun h (Err _) k = ⊥
 
 -- the last reply of its transaction, if there is one
@@ -71,10 +71,10 @@ abbrev pub HasAnswered : CallIn → WorkerHandle → Result (Unit {0}) Status �
 HasAnswered given h (Ok done) k = (given.object < h.objects) × Asks h k (call_in given) (Ok done)
 HasAnswered given h (Err status.NoObject) k = (h.objects ≤ given.object) × (k ≡ h)
 HasAnswered given h (Err status.NoCall) k = (given.object < h.objects)
-    × (((operation_of given.operation ≡ None) × (k ≡ h)) ⊎ Asks h k (call_in given) (Err unanswered.Untaken))
-HasAnswered given h (Err status.NoTransaction) k = (given.object < h.objects) × Asks h k (call_in given) (Err unanswered.NoTransaction)
-HasAnswered given h (Err status.Aborted) k = (given.object < h.objects) × Asks h k (call_in given) (Err unanswered.Aborted)
-HasAnswered given h (Err status.NoMemory) k = (given.object < h.objects) × Asks h k (call_in given) (Err unanswered.NoMemory)
+    × (((operation_of given.operation ≡ None) × (k ≡ h)) ⊎ Asks h k (call_in given) (Err ask_error.Untaken))
+HasAnswered given h (Err status.NoTransaction) k = (given.object < h.objects) × Asks h k (call_in given) (Err ask_error.NoTransaction)
+HasAnswered given h (Err status.Aborted) k = (given.object < h.objects) × Asks h k (call_in given) (Err ask_error.Aborted)
+HasAnswered given h (Err status.NoMemory) k = (given.object < h.objects) × Asks h k (call_in given) (Err ask_error.NoMemory)
 HasAnswered given h (Err _) k = ⊥
 
 -- the reply was told where it was answered
@@ -84,17 +84,17 @@ HasAsked given reply h done k = HasAnswered given h done k × OnOk done (HasHear
 -- the transaction was committed at this place in the order, or why it was not
 abbrev pub HasCommitted : ℕ → WorkerHandle → Result (Unit {0}) Status → WorkerHandle → Type 0
 HasCommitted place h (Ok done) k = Commits h k (Ok place)
-HasCommitted place h (Err status.NoTransaction) k = Commits h k (Err uncommitted.NoTransaction)
-HasCommitted place h (Err status.Aborted) k = Commits h k (Err uncommitted.Aborted)
-HasCommitted place h (Err status.NoMemory) k = Commits h k (Err uncommitted.NoMemory)
+HasCommitted place h (Err status.NoTransaction) k = Commits h k (Err commit_error.NoTransaction)
+HasCommitted place h (Err status.Aborted) k = Commits h k (Err commit_error.Aborted)
+HasCommitted place h (Err status.NoMemory) k = Commits h k (Err commit_error.NoMemory)
 HasCommitted place h (Err _) k = ⊥
 
 -- the transaction was given up, or why it was not
 abbrev pub HasCancelled : WorkerHandle → Result (Unit {0}) Status → WorkerHandle → Type 0
 HasCancelled h (Ok done) k = (at : ℕ) × Cancels h k (Ok at)
-HasCancelled h (Err status.NoTransaction) k = Cancels h k (Err uncommitted.NoTransaction)
-HasCancelled h (Err status.Aborted) k = Cancels h k (Err uncommitted.Aborted)
-HasCancelled h (Err status.NoMemory) k = Cancels h k (Err uncommitted.NoMemory)
+HasCancelled h (Err status.NoTransaction) k = Cancels h k (Err commit_error.NoTransaction)
+HasCancelled h (Err status.Aborted) k = Cancels h k (Err commit_error.Aborted)
+HasCancelled h (Err status.NoMemory) k = Cancels h k (Err commit_error.NoMemory)
 HasCancelled h (Err _) k = ⊥
 
 -- nothing changed, and so many more transactions may be begun

@@ -8,7 +8,7 @@ use Rattle.sto_model.specs.Rows.{Row}
 use Rattle.sto_store.specs.declared.objects.Objects.{Objects}
 use Rattle.sto_store.specs.contracts.objects.ObjectsNaming.TheImpl.{ghosts as naming_ghosts}
 use Rattle.sto_shared_store.specs.declared.worker.CountedRest.{CountedRest}
-use Rattle.sto_shared_store.specs.declared.unplanned.PlanError.TheVariants as unplanned
+use Rattle.sto_shared_store.specs.declared.plan_error.PlanError.TheVariants as plan_error
 use Rattle.sto_shared_store.specs.Plans.{IsReason, AllStand}
 use Rattle.sto_history.specs.Done.{HaveHistory}
 use Rattle.sto_shared_store.specs.Working.{IsWorker, AreRowsAfter}
@@ -50,9 +50,9 @@ IsStoreOf shapes workers _ = ⊥
 -- why a shape cannot stand behind these
 abbrev pub IsUnfit : Status → List Shape → Option Shape → Type 0
 IsUnfit status.BadKind planned shape = shape ≡ None
-IsUnfit status.BadOrder planned (Some shape) = IsReason unplanned.OutOfOrder planned shape
-IsUnfit status.BadSize planned (Some shape) = IsReason unplanned.NoRoom planned shape
-IsUnfit status.TooMany planned (Some shape) = IsReason unplanned.TooMany planned shape
+IsUnfit status.BadOrder planned (Some shape) = IsReason plan_error.OutOfOrder planned shape
+IsUnfit status.BadSize planned (Some shape) = IsReason plan_error.NoRoom planned shape
+IsUnfit status.TooMany planned (Some shape) = IsReason plan_error.TooMany planned shape
 IsUnfit _ planned shape = ⊥
 
 -- one of the shapes cannot stand behind those before it, and is the first such

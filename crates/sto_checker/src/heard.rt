@@ -16,7 +16,7 @@ ghost use Rattle.sto_checker.specs.Runnable.{CanRun};
 ghost use Rattle.sto_checker.specs.Given.{TellsCause, IsPlaced, MayBeAborted, IsHeard};
 
 use crate::abort::GivenAbort;
-use crate::tentative::replies_of;
+use crate::open_replies::replies_of;
 use crate::walk::{has_asked, is_unsettled};
 use std::alloc::{AllocError, Global};
 use sto_journal::{AbortLine, Cause, push_abort};

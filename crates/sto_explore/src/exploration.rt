@@ -2,7 +2,7 @@
 ghost use Rattle.std.specs.Prelude.{◌≡◌, ◌≤◌, [], OnOk, IfOk, IfErr, List, map, length, max};
 ghost use Rattle.std.specs.List.{AllByRecursion};
 ghost use Rattle.sto_explore.specs.declared.exploration.ExploreError.TheVariants.{TooLong, TooMany};
-ghost use Rattle.sto_explore.specs.declared.runs.RunError.TheVariants as not_made;
+ghost use Rattle.sto_explore.specs.declared.runs.RunError.TheVariants as run_error;
 ghost use Rattle.sto_explore.specs.NotMade.{stopped_by};
 ghost use Rattle.sto_explore.specs.Schedules.{Place};
 ghost use Rattle.sto_explore.specs.Legs.{IsAmong};
@@ -55,7 +55,7 @@ fn visit<P: Drop, K, R: Runs<P, K>, G: Gathers<P>>(
         → HasVisited start (R.tells runs.now) (R.reports runs.now) (G.holds found.old) (G.holds found.new) decided.items order.now
         (map offer_of todo.old.items) (map offer_of todo.new.items)) }
     ensures keeps { OnOk result (R.keeps runs.now kept.new) }
-    ensures too_long { IfErr result (λ why. why ≡ not_made.TooLong → R.too_long runs.now) }
+    ensures too_long { IfErr result (λ why. why ≡ run_error.TooLong → R.too_long runs.now) }
 {
     let first = decided.as_slice();
     let ran = runs.run(alloc, kept, first, order)?;
@@ -82,7 +82,7 @@ fn take_up<P: Drop, K, R: Runs<P, K>, G: Gathers<P>>(
         → HasVisited start (R.tells runs.now) (R.reports runs.now) (G.holds found.old) (G.holds found.new) branch.decided.items
         (order_after (R.threads runs.now) branch.decided.items branch.next) (map offer_of todo.old.items) (map offer_of todo.new.items)) }
     ensures keeps { OnOk result (R.keeps runs.now kept.new) }
-    ensures too_long { IfErr result (λ why. why ≡ not_made.TooLong → R.too_long runs.now) }
+    ensures too_long { IfErr result (λ why. why ≡ run_error.TooLong → R.too_long runs.now) }
 {
     let Branch {
         decided,
@@ -111,7 +111,7 @@ fn begin<P: Drop, K, R: Runs<P, K>, G: Gathers<P>>(
     ensures begun { IfOk result (λ todo. IsUnderWay (start_of switches (R.threads runs.now)) (R.tells runs.now) (R.reports runs.now)
         (G.holds found.new) 1 (map offer_of todo.items)) }
     ensures keeps { OnOk result (R.keeps runs.now kept.new) }
-    ensures too_long { IfErr result (λ why. why ≡ not_made.TooLong → R.too_long runs.now) }
+    ensures too_long { IfErr result (λ why. why ≡ run_error.TooLong → R.too_long runs.now) }
 {
     let mut todo = Vec::new(alloc);
     let none = Vec::new(alloc);

@@ -2,7 +2,7 @@
 ghost use Rattle.std.specs.Prelude.{◌≡◌, ◌++◌, ℕ, List, Bool, OnOk, IfOk, IfErr, [], ◌∷◌, true};
 ghost use Rattle.std.specs.List.{AllByRecursion};
 ghost use Rattle.sto_explore.specs.Explored.{Found};
-ghost use Rattle.sto_explore.specs.declared.runs.RunError.TheVariants as not_made;
+ghost use Rattle.sto_explore.specs.declared.runs.RunError.TheVariants as run_error;
 ghost use Rattle.sto_explore.specs.Legs.{turns_of, schedule_of, AreApart, IsAmong, LeadToEnds, AreTold};
 
 use crate::leg::Leg;
@@ -18,7 +18,7 @@ pub enum RunError {
 }
 
 impl From<NoMemory> for RunError {
-    ghost from_gives = { λ _ e. e ≡ not_made.NoMemory };
+    ghost from_gives = { λ _ e. e ≡ run_error.NoMemory };
 
     fn from(_no: NoMemory) -> RunError {
         RunError::NoMemory
@@ -76,7 +76,7 @@ pub trait Runs<P, K> {
         ensures told { IfOk result (λ ran. AreTold (tells self.now) (schedule_of decided.now) (turns_of ran.legs.items)) }
         ensures report { IfOk result (λ ran. reports self.now (schedule_of decided.now ++ schedule_of ran.legs.items) ran.report) }
         ensures keeps { OnOk result (keeps self.now kept.new) }
-        ensures too_long { IfErr result (λ why. why ≡ not_made.TooLong → too_long self.now) };
+        ensures too_long { IfErr result (λ why. why ≡ run_error.TooLong → too_long self.now) };
 }
 
 /// What gathers the runs that are found.

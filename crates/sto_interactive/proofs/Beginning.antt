@@ -15,7 +15,7 @@ use Rattle.sto_attempt.specs.Attempts.{IsLogOf, HasTurned, heard}
 use Rattle.sto_transaction.specs.Resting.{IsAtRest}
 use Rattle.sto_transaction.specs.Machines.{HasStopped, IsOwnLog}
 use Rattle.sto_transaction.proofs.Gone.{HasLed, has_led, stopped}
-use Rattle.sto_interactive.specs.declared.asked.AskedCalls.{AskedCalls}
+use Rattle.sto_interactive.specs.declared.asked_calls.AskedCalls.{AskedCalls}
 use Rattle.sto_interactive.specs.Scripts.{script_of}
 use Rattle.sto_interactive.specs.Bodies.{next_of, script_in, left_of, MayAskOf, asked}
 use Rattle.sto_interactive.specs.Waiting.{IsWaiting}

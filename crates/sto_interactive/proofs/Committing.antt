@@ -16,7 +16,7 @@ use Rattle.sto_attempt.specs.declared.attempt.Attempt.{Attempt}
 use Rattle.sto_attempt.specs.Attempts.{IsLogOf, HasTurned, HasGrown, heard}
 use Rattle.sto_transaction.specs.Going.{InBody}
 use Rattle.sto_transaction.specs.Machines.{IsOwnLog, IsReady}
-use Rattle.sto_interactive.specs.declared.asked.AskedCalls.{AskedCalls}
+use Rattle.sto_interactive.specs.declared.asked_calls.AskedCalls.{AskedCalls}
 use Rattle.sto_interactive.specs.declared.live.Live.{Live}
 use Rattle.sto_interactive.specs.Scripts.{script_of}
 use Rattle.sto_interactive.specs.Bodies.{next_of, script_in, left_of, MayAskOf, asked}

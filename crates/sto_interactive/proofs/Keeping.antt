@@ -10,11 +10,11 @@ use Rattle.sto_table.specs.declared.shared.Shared.{Shared}
 use Rattle.sto_interactive.specs.declared.pause.RestingTransaction.{RestingTransaction}
 use Rattle.sto_interactive.specs.declared.session.Session.{Session}
 use Rattle.sto_interactive.specs.declared.starting.BeginError.{BeginError}
-use Rattle.sto_interactive.specs.declared.starting.BeginError.TheVariants as unbegun
+use Rattle.sto_interactive.specs.declared.starting.BeginError.TheVariants as begin_error
 use Rattle.sto_interactive.specs.declared.asking.AskError.{AskError}
-use Rattle.sto_interactive.specs.declared.asking.AskError.TheVariants as unanswered
+use Rattle.sto_interactive.specs.declared.asking.AskError.TheVariants as ask_error
 use Rattle.sto_interactive.specs.declared.ending.CommitError.{CommitError}
-use Rattle.sto_interactive.specs.declared.ending.CommitError.TheVariants as uncommitted
+use Rattle.sto_interactive.specs.declared.ending.CommitError.TheVariants as commit_error
 use Rattle.sto_interactive.specs.Sessions.{Stands, IsSessionOf, IsFree, IsAsking}
 use Rattle.sto_interactive.specs.Steps.{IsUnchanged, HasBegun, HasAsked, HasAskedAfter, HasEndedBy, HasCommittedAfter, HasCancelledAfter}
 
@@ -33,28 +33,28 @@ module _ {T : Type 0} {n : naming.Ghosts T} (t : OfType T) (ty : T) (s : Shared 
 
   pub begun_stands : (x y : Session T n) (r : Result (Unit {0}) BeginError) → IsSessionOf t ty s x → HasBegun t ty s x r y → IsSessionOf t ty s y
   begun_stands x y (Ok begun) h b = asking_stands [] [] y (x.rest.seat.me.0.view) b.1
-  begun_stands x y (Err unbegun.InTransaction) h b = unchanged_stands x y b.1 h
-  begun_stands x y (Err unbegun.Worn) h b = unchanged_stands x y b.2 h
-  begun_stands x y (Err unbegun.NoMemory) h b = free_stands y b.1.free
+  begun_stands x y (Err begin_error.InTransaction) h b = unchanged_stands x y b.1 h
+  begun_stands x y (Err begin_error.Worn) h b = unchanged_stands x y b.2 h
+  begun_stands x y (Err begin_error.NoMemory) h b = free_stands y b.1.free
 
   pub after_asked : (calls : List Call) (rs : List PlainReply) (begun : View) (call : Call) (r : Result (Unit {0}) AskError) (y : Session T n) → HasAskedAfter t ty s calls rs begun call r y → IsSessionOf t ty s y
   after_asked calls rs begun call (Ok answered) y h = asking_stands (calls ++ call ∷ []) (rs ++ h.reply ∷ []) y begun h.asking
-  after_asked calls rs begun call (Err unanswered.NoTransaction) y h = absurd h
-  after_asked calls rs begun call (Err unanswered.Untaken) y h = asking_stands calls rs y begun h.0
-  after_asked calls rs begun call (Err unanswered.Aborted) y h = free_stands y h.free
-  after_asked calls rs begun call (Err unanswered.NoMemory) y h = free_stands y h.free
+  after_asked calls rs begun call (Err ask_error.NoTransaction) y h = absurd h
+  after_asked calls rs begun call (Err ask_error.Untaken) y h = asking_stands calls rs y begun h.0
+  after_asked calls rs begun call (Err ask_error.Aborted) y h = free_stands y h.free
+  after_asked calls rs begun call (Err ask_error.NoMemory) y h = free_stands y h.free
 
   pub after_committed : (calls : List Call) (rs : List PlainReply) (begun : View) (r : Result ℕ CommitError) (y : Session T n) → HasCommittedAfter t ty s calls rs begun r y → IsSessionOf t ty s y
   after_committed calls rs begun (Ok place) y h = free_stands y h.free
-  after_committed calls rs begun (Err uncommitted.NoTransaction) y h = absurd h
-  after_committed calls rs begun (Err uncommitted.Aborted) y h = free_stands y h.free
-  after_committed calls rs begun (Err uncommitted.NoMemory) y h = free_stands y h.free
+  after_committed calls rs begun (Err commit_error.NoTransaction) y h = absurd h
+  after_committed calls rs begun (Err commit_error.Aborted) y h = free_stands y h.free
+  after_committed calls rs begun (Err commit_error.NoMemory) y h = free_stands y h.free
 
   pub after_cancelled : (calls : List Call) (rs : List PlainReply) (begun : View) (r : Result ℕ CommitError) (y : Session T n) → HasCancelledAfter t ty s calls rs begun r y → IsSessionOf t ty s y
   after_cancelled calls rs begun (Ok place) y h = free_stands y h.free
-  after_cancelled calls rs begun (Err uncommitted.NoTransaction) y h = absurd h
-  after_cancelled calls rs begun (Err uncommitted.Aborted) y h = absurd h
-  after_cancelled calls rs begun (Err uncommitted.NoMemory) y h = free_stands y h.free
+  after_cancelled calls rs begun (Err commit_error.NoTransaction) y h = absurd h
+  after_cancelled calls rs begun (Err commit_error.Aborted) y h = absurd h
+  after_cancelled calls rs begun (Err commit_error.NoMemory) y h = free_stands y h.free
 
   -- by whether it was in a transaction
   pub asked_by : (x y : Session T n) (call : Call) (r : Result (Unit {0}) AskError) (o : Option RestingTransaction) → x.live ≡ o → Stands t ty s o x.rest.seat x.left → IsSessionOf t ty s x → HasAsked t ty s x call r y → IsSessionOf t ty s y

@@ -27,7 +27,7 @@ use Rattle.sto_attempt_log.proofs.Claimed.{claims_fit}
 use Rattle.sto_attempt.specs.declared.attempt.Attempt.{Attempt}
 use Rattle.sto_attempt.specs.Attempts.{HasTurned, heard}
 use Rattle.sto_transaction.specs.Resting.{IsAtRest}
-use Rattle.sto_interactive.specs.declared.asked.AskedCalls.{AskedCalls}
+use Rattle.sto_interactive.specs.declared.asked_calls.AskedCalls.{AskedCalls}
 use Rattle.sto_interactive.specs.declared.live.Live.{Live}
 use Rattle.sto_interactive.specs.Scripts.{script_of}
 use Rattle.sto_interactive.specs.Bodies.{asked}

@@ -25,7 +25,7 @@ use Rattle.sto_core.specs.declared.view.Phase.{Phase}
 use Rattle.sto_interactive.specs.Scripts.{script_of}
 use Rattle.sto_interactive.specs.Bodies.{next_of, script_in, left_of, MayAskOf}
 use Rattle.sto_transaction.specs.Resting.{IsAtRest}
-use Rattle.sto_interactive.specs.declared.asked.AskedCalls.{AskedCalls}
+use Rattle.sto_interactive.specs.declared.asked_calls.AskedCalls.{AskedCalls}
 use Rattle.sto_interactive.specs.declared.live.Live.{Live}
 use Rattle.sto_interactive.specs.declared.live.StepError.{StepError}
 use Rattle.sto_interactive.specs.declared.pause.RestingTransaction.{RestingTransaction}

@@ -6,7 +6,7 @@ use Rattle.sto_model.specs.PlainReplies.{PlainReply}
 use Rattle.sto_model.specs.declared.call.Call.{Call}
 use Rattle.sto_model.specs.declared.body.Next.{Next}
 use Rattle.sto_interactive.specs.Scripts.{script_of}
-use Rattle.sto_interactive.specs.declared.asked.AskedCalls.{AskedCalls}
+use Rattle.sto_interactive.specs.declared.asked_calls.AskedCalls.{AskedCalls}
 
 -- from where it stands: the calls that were answered are asked no more
 abbrev pub next_of : AskedCalls → List PlainReply → Next

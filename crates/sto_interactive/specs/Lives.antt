@@ -13,7 +13,7 @@ use Rattle.sto_transaction.specs.Plain.{verdict}
 use Rattle.sto_transaction.specs.Resting.{IsAtRest}
 use Rattle.sto_transaction.specs.Machines.{HasStopped, HasEnded}
 use Rattle.sto_transaction.specs.declared.machine.FinishedAttempt.{FinishedAttempt}
-use Rattle.sto_interactive.specs.declared.asked.AskedCalls.{AskedCalls}
+use Rattle.sto_interactive.specs.declared.asked_calls.AskedCalls.{AskedCalls}
 use Rattle.sto_interactive.specs.declared.live.Live.{Live}
 use Rattle.sto_interactive.specs.declared.live.StepError.{StepError}
 use Rattle.sto_interactive.specs.declared.live.StepError.TheVariants.{Aborted, Untaken, NoMemory}

@@ -14,17 +14,17 @@ use Rattle.sto_history.specs.Records.{is_abort}
 use Rattle.sto_transaction.specs.Plain.{verdict}
 use Rattle.sto_transaction.specs.Machines.{HasStopped, HasEnded}
 use Rattle.sto_transaction.specs.declared.machine.FinishedAttempt.{FinishedAttempt}
-use Rattle.sto_interactive.specs.declared.asked.AskedCalls.{AskedCalls}
+use Rattle.sto_interactive.specs.declared.asked_calls.AskedCalls.{AskedCalls}
 use Rattle.sto_interactive.specs.Scripts.{script_of}
 use Rattle.sto_interactive.specs.Bodies.{next_of, script_in, left_of, MayAskOf}
 use Rattle.sto_interactive.specs.Lives.{HasCommitted, HasCancelled}
 use Rattle.sto_interactive.specs.declared.session.Session.{Session}
 use Rattle.sto_interactive.specs.declared.starting.BeginError.{BeginError}
-use Rattle.sto_interactive.specs.declared.starting.BeginError.TheVariants as unbegun
+use Rattle.sto_interactive.specs.declared.starting.BeginError.TheVariants as begin_error
 use Rattle.sto_interactive.specs.declared.asking.AskError.{AskError}
-use Rattle.sto_interactive.specs.declared.asking.AskError.TheVariants as unanswered
+use Rattle.sto_interactive.specs.declared.asking.AskError.TheVariants as ask_error
 use Rattle.sto_interactive.specs.declared.ending.CommitError.{CommitError}
-use Rattle.sto_interactive.specs.declared.ending.CommitError.TheVariants as uncommitted
+use Rattle.sto_interactive.specs.declared.ending.CommitError.TheVariants as commit_error
 use Rattle.sto_interactive.specs.Sessions.{view_of, IsFree, IsAsking}
 
 -- the place in the order of a transaction that ended so: its ticket, or the number as of which it read
@@ -32,8 +32,8 @@ abbrev pub place_of : Verdict → Result ℕ CommitError
 place_of (Wrote ticket) = Ok ticket
 place_of (Read at) = Ok at
 place_of (Cancelled at) = Ok at
-place_of (Locked at part) = Err uncommitted.Aborted
-place_of (Changed at part ticket) = Err uncommitted.Aborted
+place_of (Locked at part) = Err commit_error.Aborted
+place_of (Changed at part ticket) = Err commit_error.Aborted
 
 -- the pass, the tickets left and the transaction are as before
 abbrev pub IsUnchanged : {T : Type 0} {n : naming.Ghosts T} → Session T n → Session T n → Type 0
@@ -52,16 +52,16 @@ module _ {T : Type 0} {n : naming.Ghosts T} (t : OfType T) (ty : T) (s : Shared 
   -- a transaction was to begin on a pass that was at rest
   abbrev pub HasStarted : View → ℕ → Result (Unit {0}) BeginError → Session T n → Type 0
   HasStarted begun left (Ok started) y = IsAsking t ty s [] [] y begun × (y.left ≡ left)
-  HasStarted begun left (Err unbegun.InTransaction) y = ⊥
-  HasStarted begun left (Err unbegun.Worn) y = ⊥
-  HasStarted begun left (Err unbegun.NoMemory) y = HasFailed begun y × (y.left ≡ left)
+  HasStarted begun left (Err begin_error.InTransaction) y = ⊥
+  HasStarted begun left (Err begin_error.Worn) y = ⊥
+  HasStarted begun left (Err begin_error.NoMemory) y = HasFailed begun y × (y.left ≡ left)
 
   -- one ticket less is left where it was begun, and where memory was wanting
   abbrev pub HasBegun : Session T n → Result (Unit {0}) BeginError → Session T n → Type 0
   HasBegun x (Ok started) y = (x.live ≡ None) × IsAsking t ty s [] [] y (view_of x) × (y.left + 1 ≡ x.left)
-  HasBegun x (Err unbegun.InTransaction) y = (x.live ≢ None) × IsUnchanged x y
-  HasBegun x (Err unbegun.Worn) y = (x.live ≡ None) × (x.left ≡ 0) × IsUnchanged x y
-  HasBegun x (Err unbegun.NoMemory) y = (x.live ≡ None) × HasFailed (view_of x) y × (y.left + 1 ≡ x.left)
+  HasBegun x (Err begin_error.InTransaction) y = (x.live ≢ None) × IsUnchanged x y
+  HasBegun x (Err begin_error.Worn) y = (x.live ≡ None) × (x.left ≡ 0) × IsUnchanged x y
+  HasBegun x (Err begin_error.NoMemory) y = (x.live ≡ None) × HasFailed (view_of x) y × (y.left + 1 ≡ x.left)
 
   -- a call was answered: it and its reply come last. On all valid contents that have the claims of the pass as of a number of the clock,
   -- the calls, run one after the other, answer exactly these replies
@@ -81,13 +81,13 @@ module _ {T : Type 0} {n : naming.Ghosts T} (t : OfType T) (ty : T) (s : Shared 
   -- where these calls had been asked
   abbrev pub HasAskedAfter : List Call → List PlainReply → View → Call → Result (Unit {0}) AskError → Session T n → Type 0
   HasAskedAfter calls rs begun call (Ok answered) y = IsAnswered calls rs call y begun
-  HasAskedAfter calls rs begun call (Err unanswered.NoTransaction) y = ⊥
-  HasAskedAfter calls rs begun call (Err unanswered.Untaken) y = IsAsking t ty s calls rs y begun × ((t.meaning ty).takes call → ⊥)
-  HasAskedAfter calls rs begun call (Err unanswered.Aborted) y = WasAborted (calls ++ call ∷ []) y begun
-  HasAskedAfter calls rs begun call (Err unanswered.NoMemory) y = HasFailed begun y
+  HasAskedAfter calls rs begun call (Err ask_error.NoTransaction) y = ⊥
+  HasAskedAfter calls rs begun call (Err ask_error.Untaken) y = IsAsking t ty s calls rs y begun × ((t.meaning ty).takes call → ⊥)
+  HasAskedAfter calls rs begun call (Err ask_error.Aborted) y = WasAborted (calls ++ call ∷ []) y begun
+  HasAskedAfter calls rs begun call (Err ask_error.NoMemory) y = HasFailed begun y
 
   pub record HasAsked (x : Session T n) (call : Call) (result : Result (Unit {0}) AskError) (y : Session T n) : Type 0 where
-    pub free : x.live ≡ None → (result ≡ Err unanswered.NoTransaction) × IsUnchanged x y
+    pub free : x.live ≡ None → (result ≡ Err ask_error.NoTransaction) × IsUnchanged x y
     pub asking : (calls : List Call) (rs : List PlainReply) (begun : View) → IsAsking t ty s calls rs x begun → HasAskedAfter calls rs begun call result y
     pub left : y.left ≡ x.left
 
@@ -100,9 +100,9 @@ module _ {T : Type 0} {n : naming.Ghosts T} (t : OfType T) (ty : T) (s : Shared 
 
   abbrev pub HasCommittedAfter : List Call → List PlainReply → View → Result ℕ CommitError → Session T n → Type 0
   HasCommittedAfter calls rs begun (Ok place) y = HasTakenPlace calls rs place y begun
-  HasCommittedAfter calls rs begun (Err uncommitted.NoTransaction) y = ⊥
-  HasCommittedAfter calls rs begun (Err uncommitted.Aborted) y = WasAborted calls y begun
-  HasCommittedAfter calls rs begun (Err uncommitted.NoMemory) y = HasFailed begun y
+  HasCommittedAfter calls rs begun (Err commit_error.NoTransaction) y = ⊥
+  HasCommittedAfter calls rs begun (Err commit_error.Aborted) y = WasAborted calls y begun
+  HasCommittedAfter calls rs begun (Err commit_error.NoMemory) y = HasFailed begun y
 
   -- it was given up, and its record tells so: it has read as of this place in the order
   pub record WasGivenUp (calls : List Call) (rs : List PlainReply) (place : ℕ) (y : Session T n) (begun : View) : Type 0 where
@@ -113,11 +113,11 @@ module _ {T : Type 0} {n : naming.Ghosts T} (t : OfType T) (ty : T) (s : Shared 
 
   abbrev pub HasCancelledAfter : List Call → List PlainReply → View → Result ℕ CommitError → Session T n → Type 0
   HasCancelledAfter calls rs begun (Ok place) y = WasGivenUp calls rs place y begun
-  HasCancelledAfter calls rs begun (Err uncommitted.NoTransaction) y = ⊥
-  HasCancelledAfter calls rs begun (Err uncommitted.Aborted) y = ⊥
-  HasCancelledAfter calls rs begun (Err uncommitted.NoMemory) y = HasFailed begun y
+  HasCancelledAfter calls rs begun (Err commit_error.NoTransaction) y = ⊥
+  HasCancelledAfter calls rs begun (Err commit_error.Aborted) y = ⊥
+  HasCancelledAfter calls rs begun (Err commit_error.NoMemory) y = HasFailed begun y
 
   pub record HasEndedBy (x : Session T n) (result : Result ℕ CommitError) (y : Session T n) (ends : List Call → List PlainReply → View → Result ℕ CommitError → Session T n → Type 0) : Type 0 where
-    pub free : x.live ≡ None → (result ≡ Err uncommitted.NoTransaction) × IsUnchanged x y
+    pub free : x.live ≡ None → (result ≡ Err commit_error.NoTransaction) × IsUnchanged x y
     pub asking : (calls : List Call) (rs : List PlainReply) (begun : View) → IsAsking t ty s calls rs x begun → ends calls rs begun result y
     pub left : y.left ≡ x.left

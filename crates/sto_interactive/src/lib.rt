@@ -1,7 +1,7 @@
 //! A transaction whose calls come one by one: each is answered at once, and the transaction may wait between two of them.
 #![tactic(auto)]
 
-mod asked;
+mod asked_calls;
 mod asking;
 mod ending;
 mod live;
@@ -11,7 +11,7 @@ mod run_on;
 mod session;
 mod starting;
 
-pub use asked::AskedCalls;
+pub use asked_calls::AskedCalls;
 pub use asking::AskError;
 pub use ending::CommitError;
 pub use live::{Live, StepError};

@@ -12,7 +12,7 @@ ghost use Rattle.sto_interactive.specs.Bodies.{asked};
 ghost use Rattle.sto_interactive.specs.Waiting.{IsWaiting, abort_of};
 ghost use Rattle.sto_interactive.specs.Lives.{IsLive, HasAsked, HasCommitted, HasCancelled};
 
-use crate::asked::AskedCalls;
+use crate::asked_calls::AskedCalls;
 use crate::memory::StepLists;
 use crate::run_on::{finish, run_on};
 use std::alloc::Global;

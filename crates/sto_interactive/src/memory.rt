@@ -1,7 +1,7 @@
 //! The memory that is lent to one transaction after the other whose calls come one by one.
 ghost use Rattle.std.specs.Prelude.{◌≡◌, []};
 
-use crate::asked::AskedCalls;
+use crate::asked_calls::AskedCalls;
 use std::alloc::Global;
 use std::marker::Model;
 use std::mem;

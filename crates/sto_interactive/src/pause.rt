@@ -6,7 +6,7 @@ ghost use Rattle.sto_core.specs.declared.view.View.{View};
 ghost use Rattle.sto_interactive.specs.Lives.{IsLive};
 ghost use Rattle.sto_interactive.specs.Pausing.{IsPaused};
 
-use crate::asked::AskedCalls;
+use crate::asked_calls::AskedCalls;
 use crate::live::Live;
 use sto_attempt::Paused;
 use sto_model::Replies;

@@ -5,7 +5,7 @@ use Rattle.std.proofs.lemmas.List.{length_push}
 use Rattle.std.proofs.Math.Nat.{mul-le-mul}
 use Rattle.sto_syntax.specs.declared.declared.Declared.{Declared}
 use Rattle.sto_syntax.specs.declared.declared.Declared.TheVariants as declares
-use Rattle.sto_lang.specs.declared.begun.OpenBlock as blocks
+use Rattle.sto_lang.specs.declared.open_transaction.OpenBlock as blocks
 use Rattle.sto_model.specs.Sizes.{part_count, word_count}
 use Rattle.sto_lang.specs.Shapes.{natural, in_range, is_in_ranges, most_length, shape_of}
 use Rattle.sto_model.specs.declared.shape.Shape.{Shape}

@@ -7,9 +7,9 @@ use Rattle.sto_syntax.specs.Forms.{Form, CallLine, CommitLine}
 use Rattle.sto_lang.specs.Weights.{call_weight, weight_of}
 use Rattle.sto_lang.specs.Drafts.{Draft, OpenTransaction, script_of}
 use Rattle.sto_lang.specs.declared.weight.Weighed.{Weighed}
-use Rattle.sto_lang.specs.declared.begun.OpenBlock as code
-use Rattle.sto_lang.specs.declared.begun.OpenBlock.TheVariants as blocks
-use Rattle.sto_lang.specs.declared.begun.OpenTransaction as open_begun
+use Rattle.sto_lang.specs.declared.open_transaction.OpenBlock as code
+use Rattle.sto_lang.specs.declared.open_transaction.OpenBlock.TheVariants as blocks
+use Rattle.sto_lang.specs.declared.open_transaction.OpenTransaction as open_begun
 
 -- a weight that no transaction may have counts as the least such
 abbrev pub begun_weight : Draft → Option OpenTransaction → ℕ

@@ -2,9 +2,9 @@
 use Rattle.std.proofs.Common.{List, Option, IfSome}
 use Rattle.std.proofs.Props.{props}
 use Rattle.sto_model.specs.declared.shape.Shape.{Shape}
-use Rattle.sto_lang.specs.declared.begun.OpenTransaction.{OpenTransaction}
-use Rattle.sto_lang.specs.declared.begun.OpenBlock.{OpenBlock}
-use Rattle.sto_lang.specs.declared.begun.OpenBlock.TheVariants.{FirstBranch, SecondBranch, Repetition}
+use Rattle.sto_lang.specs.declared.open_transaction.OpenTransaction.{OpenTransaction}
+use Rattle.sto_lang.specs.declared.open_transaction.OpenBlock.{OpenBlock}
+use Rattle.sto_lang.specs.declared.open_transaction.OpenBlock.TheVariants.{FirstBranch, SecondBranch, Repetition}
 use Rattle.sto_lang.specs.Weighed.{IsWeighedBlock, AreWeighed}
 
 block_prop : (shapes : List Shape) (b : OpenBlock) → IsProp (IsWeighedBlock shapes b)

@@ -2,7 +2,6 @@
 #![tactic(auto)]
 
 mod arg;
-mod begun;
 mod draft;
 mod fault;
 mod faults;
@@ -12,6 +11,7 @@ mod limit;
 mod name_table;
 mod names;
 mod objects;
+mod open_transaction;
 mod order;
 mod place;
 mod range;

@@ -3,7 +3,7 @@ ghost use Rattle.std.specs.Prelude.{◌≡◌, []};
 ghost use Rattle.sto_lang.specs.Statements.{Nothing};
 
 use crate::Stmts;
-use crate::begun::OpenBlock;
+use crate::open_transaction::OpenBlock;
 use std::alloc::Global;
 use sto_part::List;
 

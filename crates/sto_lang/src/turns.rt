@@ -11,8 +11,8 @@ ghost use Rattle.sto_lang.specs.Shapes.{in_order};
 ghost use Rattle.sto_lang.specs.Weighed.{begun_weight, ended_weight, AreWeighed};
 ghost use Rattle.sto_lang.specs.Views.{names_of};
 
-use crate::begun::OpenTransaction;
 use crate::draft::Draft;
+use crate::open_transaction::OpenTransaction;
 use crate::range::natural;
 use crate::thread::thread_number;
 use crate::weight::TOO_HEAVY;

@@ -9,7 +9,7 @@ use Rattle.sto_library.specs.Values.{Stored, Working}
 use Rattle.sto_library.specs.Doings.{HasGiven, HasCause}
 use Rattle.sto_library.specs.Tasks.{IsDone}
 use Rattle.sto_library.specs.declared.store.LookError.{LookError}
-use Rattle.sto_library.specs.declared.store.LookError.TheVariants as unlooked
+use Rattle.sto_library.specs.declared.store.LookError.TheVariants as look_error
 
 -- one worker of a store did this, and rests in it again; the others knew no more than before
 pub record IsOneDone {T Out : Type 0} (old new : Stored T) (gives : Working T → Working T → Out → Type 0) (out : Out) : Type 0 where
@@ -28,10 +28,10 @@ module _ {T A : Type 0} (t : OfType T) (old new : Stored T) (most : ℕ) (p : Pr
   -- what a look answers; where no worker rests, the store is as it was
   abbrev pub HasLooked : Result (Done A) LookError → Type 0
   HasLooked (Ok done) = IsLookOf (Ok done)
-  HasLooked (Err (unlooked.Transaction error)) = IsLookOf (Err error)
-  HasLooked (Err unlooked.NoWorker) = (old.views ≡ []) × (new ≡ old)
+  HasLooked (Err (look_error.Transaction error)) = IsLookOf (Err error)
+  HasLooked (Err look_error.NoWorker) = (old.views ≡ []) × (new ≡ old)
 
 -- what a look answers by what its transaction led to
 abbrev pub looked_by : {A : Type 0} → Result (Done A) TransactionError → Result (Done A) LookError
 looked_by (Ok done) = Ok done
-looked_by (Err error) = Err (unlooked.Transaction error)
+looked_by (Err error) = Err (look_error.Transaction error)

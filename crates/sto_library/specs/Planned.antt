@@ -1,7 +1,7 @@
 -- What a plan answers.
 use Rattle.std.specs.Prelude.{◌≡◌, ℕ, List, [], ◌∷◌, ◌++◌, length, Result, Ok, Err}
 use Rattle.sto_model.specs.declared.shape.Shape.{Shape}
-use Rattle.sto_shared_store.specs.declared.unplanned.PlanError.{PlanError}
+use Rattle.sto_shared_store.specs.declared.plan_error.PlanError.{PlanError}
 use Rattle.sto_shared_store.specs.Plans.{IsReason}
 
 -- the object was added, and its number is how many were added before; or it was not, for this reason

@@ -13,11 +13,11 @@ use Rattle.sto_table.specs.declared.shared.Rest.{Rest}
 use Rattle.sto_interactive.specs.declared.pause.RestingTransaction.{RestingTransaction}
 use Rattle.sto_interactive.specs.declared.session.Session.{Session}
 use Rattle.sto_interactive.specs.declared.starting.BeginError.{BeginError}
-use Rattle.sto_interactive.specs.declared.starting.BeginError.TheVariants as unbegun
+use Rattle.sto_interactive.specs.declared.starting.BeginError.TheVariants as begin_error
 use Rattle.sto_interactive.specs.declared.asking.AskError.{AskError}
-use Rattle.sto_interactive.specs.declared.asking.AskError.TheVariants as unanswered
+use Rattle.sto_interactive.specs.declared.asking.AskError.TheVariants as ask_error
 use Rattle.sto_interactive.specs.declared.ending.CommitError.{CommitError}
-use Rattle.sto_interactive.specs.declared.ending.CommitError.TheVariants as uncommitted
+use Rattle.sto_interactive.specs.declared.ending.CommitError.TheVariants as commit_error
 use Rattle.sto_interactive.specs.Sessions.{Stands, IsSessionOf, IsFree, IsAsking, view_of}
 use Rattle.sto_interactive.specs.Steps.{IsUnchanged, HasFailed, HasBegun, HasAsked, HasAskedAfter, HasEndedBy, HasCommittedAfter, HasCancelledAfter}
 use Rattle.sto_shared_store.specs.declared.store.Store.{Store}
@@ -60,31 +60,31 @@ module _ {T : Type 0} {n : naming.Ghosts T} (t : OfType T) (s : Store T) (v : Vi
 
   pub begun_since : (x y : Session T n) (r : Result (Unit {0}) BeginError) → IsAt t s v (Some x) → HasBegun t s.ty s.shared x r y → IsAt t s v (Some y)
   begun_since x y (Ok begun) h b = asking_since [] [] y (view_of x) b.1 (grown x b.0 h)
-  begun_since x y (Err unbegun.InTransaction) h b = unchanged_since x y b.1 h
-  begun_since x y (Err unbegun.Worn) h b = unchanged_since x y b.2 h
-  begun_since x y (Err unbegun.NoMemory) h b = failed_since y (view_of x) (grown x b.0 h) b.1
+  begun_since x y (Err begin_error.InTransaction) h b = unchanged_since x y b.1 h
+  begun_since x y (Err begin_error.Worn) h b = unchanged_since x y b.2 h
+  begun_since x y (Err begin_error.NoMemory) h b = failed_since y (view_of x) (grown x b.0 h) b.1
 
   after_asked : (calls : List Call) (rs : List PlainReply) (begun : View) (call : Call) (r : Result (Unit {0}) AskError) (y : Session T n) → Grows v begun
       → HasAskedAfter t s.ty s.shared calls rs begun call r y → IsAt t s v (Some y)
   after_asked calls rs begun call (Ok answered) y grows h = asking_since (calls ++ call ∷ []) (rs ++ h.reply ∷ []) y begun h.asking grows
-  after_asked calls rs begun call (Err unanswered.NoTransaction) y grows h = absurd h
-  after_asked calls rs begun call (Err unanswered.Untaken) y grows h = asking_since calls rs y begun h.0 grows
-  after_asked calls rs begun call (Err unanswered.Aborted) y grows h = free_since y h.free (grows_on v begun (view_of y) grows (h.told.tried (0, 0)).grows)
-  after_asked calls rs begun call (Err unanswered.NoMemory) y grows h = failed_since y begun grows h
+  after_asked calls rs begun call (Err ask_error.NoTransaction) y grows h = absurd h
+  after_asked calls rs begun call (Err ask_error.Untaken) y grows h = asking_since calls rs y begun h.0 grows
+  after_asked calls rs begun call (Err ask_error.Aborted) y grows h = free_since y h.free (grows_on v begun (view_of y) grows (h.told.tried (0, 0)).grows)
+  after_asked calls rs begun call (Err ask_error.NoMemory) y grows h = failed_since y begun grows h
 
   after_committed : (calls : List Call) (rs : List PlainReply) (begun : View) (r : Result ℕ CommitError) (y : Session T n) → Grows v begun
       → HasCommittedAfter t s.ty s.shared calls rs begun r y → IsAt t s v (Some y)
   after_committed calls rs begun (Ok place) y grows h = free_since y h.free (grows_on v begun (view_of y) grows (h.told.ended.tried (0, 0)).grows)
-  after_committed calls rs begun (Err uncommitted.NoTransaction) y grows h = absurd h
-  after_committed calls rs begun (Err uncommitted.Aborted) y grows h = free_since y h.free (grows_on v begun (view_of y) grows (h.told.tried (0, 0)).grows)
-  after_committed calls rs begun (Err uncommitted.NoMemory) y grows h = failed_since y begun grows h
+  after_committed calls rs begun (Err commit_error.NoTransaction) y grows h = absurd h
+  after_committed calls rs begun (Err commit_error.Aborted) y grows h = free_since y h.free (grows_on v begun (view_of y) grows (h.told.tried (0, 0)).grows)
+  after_committed calls rs begun (Err commit_error.NoMemory) y grows h = failed_since y begun grows h
 
   after_cancelled : (calls : List Call) (rs : List PlainReply) (begun : View) (r : Result ℕ CommitError) (y : Session T n) → Grows v begun
       → HasCancelledAfter t s.ty s.shared calls rs begun r y → IsAt t s v (Some y)
   after_cancelled calls rs begun (Ok place) y grows h = free_since y h.free (grows_on v begun (view_of y) grows (h.told.ended.tried (0, 0)).grows)
-  after_cancelled calls rs begun (Err uncommitted.NoTransaction) y grows h = absurd h
-  after_cancelled calls rs begun (Err uncommitted.Aborted) y grows h = absurd h
-  after_cancelled calls rs begun (Err uncommitted.NoMemory) y grows h = failed_since y begun grows h
+  after_cancelled calls rs begun (Err commit_error.NoTransaction) y grows h = absurd h
+  after_cancelled calls rs begun (Err commit_error.Aborted) y grows h = absurd h
+  after_cancelled calls rs begun (Err commit_error.NoMemory) y grows h = failed_since y begun grows h
 
   -- by whether it was in a transaction
   asked_by : (x y : Session T n) (call : Call) (r : Result (Unit {0}) AskError) (o : Option RestingTransaction) → x.live ≡ o → StandsSince t s v o x.rest.seat x.left → IsAt t s v (Some x)

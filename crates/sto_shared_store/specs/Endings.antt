@@ -13,7 +13,7 @@ use Rattle.sto_interactive.specs.Steps.{IsUnchanged}
 use Rattle.sto_shared_store.specs.declared.given.Hired.{Hired}
 use Rattle.sto_shared_store.specs.declared.owned_store.OwnedStore.{OwnedStore}
 use Rattle.sto_shared_store.specs.declared.owned_store.HireError.{HireError}
-use Rattle.sto_shared_store.specs.declared.owned_store.HireError.TheVariants as unhired
+use Rattle.sto_shared_store.specs.declared.owned_store.HireError.TheVariants as hire_error
 use Rattle.sto_shared_store.specs.declared.owned_store.OwnedCloseError.{OwnedCloseError}
 use Rattle.sto_shared_store.specs.declared.owned_store.OwnedCloseError.TheVariants as open_still
 use Rattle.sto_shared_store.specs.declared.owned_worker.OwnedWorker.{OwnedWorker}
@@ -62,8 +62,8 @@ module _ {T : Type 0} {n : naming.Ghosts T} where
 
   -- none rests in the store, or memory was wanting; the store is as it was
   abbrev pub IsUnhired : HireError → OwnedStore T n → OwnedStore T n → Type 0
-  IsUnhired unhired.NoneLeft x y = (x.idle.items ≡ []) × (y ≡ x)
-  IsUnhired unhired.NoMemory x y = (x.idle.items ≢ []) × (y.idle.items ≡ x.idle.items) × (y.slots ≡ x.slots) × (y.store ≡ x.store)
+  IsUnhired hire_error.NoneLeft x y = (x.idle.items ≡ []) × (y ≡ x)
+  IsUnhired hire_error.NoMemory x y = (x.idle.items ≢ []) × (y.idle.items ≡ x.idle.items) × (y.slots ≡ x.slots) × (y.store ≡ x.store)
 
   -- as many workers rest in it as it was opened for
   abbrev pub AllRest : OwnedStore T n → Type 0

@@ -4,8 +4,8 @@ use Rattle.sto_model.specs.declared.shape.Shape.{Shape}
 use Rattle.sto_model.specs.declared.shape.Shape.TheVariants.{Single, Counter, Array, Hash, Tree, Vector}
 use Rattle.sto_model.specs.Sizes.{part_count}
 use Rattle.sto_store.specs.Stores.{rank, AreFit, AreInOrder}
-use Rattle.sto_shared_store.specs.declared.unplanned.PlanError.{PlanError}
-use Rattle.sto_shared_store.specs.declared.unplanned.PlanError.TheVariants.{OutOfOrder, NoRoom, TooMany, NoMemory}
+use Rattle.sto_shared_store.specs.declared.plan_error.PlanError.{PlanError}
+use Rattle.sto_shared_store.specs.declared.plan_error.PlanError.TheVariants.{OutOfOrder, NoRoom, TooMany, NoMemory}
 
 -- the shapes of a store that can be opened
 pub record IsPlan (shapes : List Shape) : Type 0 where

@@ -1,7 +1,7 @@
 -- Why a store was not opened or not closed.
 use Rattle.std.specs.Prelude.{◌≡◌, ◌<◌, ◌⊎◌, ℕ}
-use Rattle.sto_shared_store.specs.declared.unopened.OpenError.{OpenError}
-use Rattle.sto_shared_store.specs.declared.unopened.OpenError.TheVariants.{Workers, NoMemory}
+use Rattle.sto_shared_store.specs.declared.open_error.OpenError.{OpenError}
+use Rattle.sto_shared_store.specs.declared.open_error.OpenError.TheVariants.{Workers, NoMemory}
 
 -- why a store was not opened with so many workers
 abbrev pub IsCause : OpenError → ℕ → Type 0

@@ -7,7 +7,7 @@ ghost use Rattle.sto_shared_store.specs.Working.{gathered_onto, IsWorker, AreLas
 ghost use Rattle.sto_shared_store.specs.Closings.{ComesBack};
 
 use crate::store::Store;
-use crate::unclosed::StoreCloseError;
+use crate::store_close_error::StoreCloseError;
 use crate::worker::{CountedRest, CountedRests};
 use std::alloc::Global;
 use sto_model::State;

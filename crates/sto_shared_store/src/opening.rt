@@ -7,9 +7,9 @@ ghost use Rattle.sto_store.specs.StoresLaw.{IsFitting};
 ghost use Rattle.sto_shared_store.specs.Working.{IsWorker, IsFresh};
 ghost use Rattle.sto_shared_store.specs.Refusals.{IsCause};
 
+use crate::open_error::OpenError;
 use crate::plan::ObjectPlan;
 use crate::store::Store;
-use crate::unopened::OpenError;
 use crate::worker::{CountedRest, CountedRests};
 use std::alloc::Global;
 use sto_part::{List, NoMemory};

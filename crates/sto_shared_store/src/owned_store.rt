@@ -11,7 +11,7 @@ use crate::given::{Hired, ReturnSlot, take};
 use crate::opening::OpenedStore;
 use crate::owned_worker::OwnedWorker;
 use crate::store::Store;
-use crate::unclosed::StoreCloseError;
+use crate::store_close_error::StoreCloseError;
 use crate::worker::{CountedRest, CountedRests};
 use counted_slot::Counted;
 use std::alloc::Global;

@@ -5,8 +5,8 @@ ghost use Rattle.sto_model.specs.Objects.{machines_of, IsTaken};
 ghost use Rattle.sto_store.specs.StoresLaw.{IsFitting};
 ghost use Rattle.sto_shared_store.specs.Plans.{IsPlan, IsReason, CanStand};
 
+use crate::plan_error::PlanError;
 use crate::sizes::{is_fit, part_count, rank};
-use crate::unplanned::PlanError;
 use std::alloc::Global;
 use std::marker::Model;
 use sto_model::{Shape, Shapes};

@@ -16,7 +16,7 @@ use Rattle.sto_action.specs.declared.outcome.Done.TheVariants.{Gave}
 use Rattle.sto_action.specs.declared.outcome.TransactionError.TheVariants.{Busy}
 use Rattle.sto_library.specs.Values.{Stored}
 use Rattle.sto_library.specs.Looks.{HasLooked}
-use Rattle.sto_library.specs.declared.store.LookError.TheVariants as unlooked
+use Rattle.sto_library.specs.declared.store.LookError.TheVariants as look_error
 use Rattle.sto_test_premises.specs.Adding.{box}
 use Rattle.sto_test_premises.proofs.Adding.{box_opened}
 use Rattle.sto_test_refusals.specs.Runs.{AlwaysGives, gets, shapes, unused, has_read, opening_rows}
@@ -56,7 +56,7 @@ get_not_1 tries left most led = given_by most led.verdict led.replies led.ended 
 
 -- A look of which nothing was begun is not refused as busy
 
-pub look_not_busy : {T A : Type 0} (t : OfType T) (old new : Stored T) (most : ℕ) (p : Prog A) → HasLooked t old new most p (Err (unlooked.Transaction Busy)) → new.views ≡ old.views → ⊥
+pub look_not_busy : {T A : Type 0} (t : OfType T) (old new : Stored T) (most : ℕ) (p : Prog A) → HasLooked t old new most p (Err (look_error.Transaction Busy)) → new.views ≡ old.views → ⊥
 look_not_busy t old new most p looked same =
     let one : looked.from ≡ looked.to = last_same looked.others looked.from looked.to (sym looked.were ∙ sym same ∙ looked.are) in
     let from = looked.done.from in let to = looked.done.to in

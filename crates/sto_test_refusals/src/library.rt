@@ -11,7 +11,7 @@ ghost use Rattle.sto_action.specs.declared.outcome.TransactionError.{Transaction
 ghost use Rattle.sto_action.specs.declared.outcome.TransactionError.TheVariants.{Busy, Worn};
 ghost use Rattle.sto_shared_store.specs.Working.{AreRowsAfter};
 ghost use Rattle.sto_library.specs.declared.store.CloseError.TheVariants.{Missing};
-ghost use Rattle.sto_library.specs.declared.store.LookError.TheVariants as unlooked;
+ghost use Rattle.sto_library.specs.declared.store.LookError.TheVariants as look_error;
 ghost use Rattle.sto_library.specs.Values.{Stored, Working};
 ghost use Rattle.sto_library.specs.Closings.{ComesBack};
 ghost use Rattle.sto_library.specs.Looks.{HasLooked};
@@ -37,13 +37,13 @@ pub fn not_run<T: TxType, A>()
 /// What `look` at a store does not answer.
 pub fn not_looked<T: TxType, A>()
     // That no worker rests, where one does.
-    ensures workers { (old new : Stored T) (most : ℕ) (p : Prog A) → HasLooked T.TxType old new most p (Err unlooked.NoWorker) → (old.views ≡ [] → ⊥) → ⊥ }
+    ensures workers { (old new : Stored T) (most : ℕ) (p : Prog A) → HasLooked T.TxType old new most p (Err look_error.NoWorker) → (old.views ≡ [] → ⊥) → ⊥ }
     // Anything else, where none does.
     ensures done { (old new : Stored T) (most : ℕ) (p : Prog A) (d : Done A) → HasLooked T.TxType old new most p (Ok d) → old.views ≡ [] → ⊥ }
-    ensures unrun { (old new : Stored T) (most : ℕ) (p : Prog A) (e : TransactionError) → HasLooked T.TxType old new most p (Err (unlooked.Transaction e))
+    ensures unrun { (old new : Stored T) (most : ℕ) (p : Prog A) (e : TransactionError) → HasLooked T.TxType old new most p (Err (look_error.Transaction e))
         → old.views ≡ [] → ⊥ }
     // That others were in the way, where no worker has begun anything.
-    ensures busy_after_no_start { (old new : Stored T) (most : ℕ) (p : Prog A) → HasLooked T.TxType old new most p (Err (unlooked.Transaction Busy))
+    ensures busy_after_no_start { (old new : Stored T) (most : ℕ) (p : Prog A) → HasLooked T.TxType old new most p (Err (look_error.Transaction Busy))
         → new.views ≡ old.views → ⊥ }
 {}
 

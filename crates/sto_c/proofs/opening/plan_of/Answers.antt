@@ -4,7 +4,7 @@ use Rattle.std.specs.Prelude.{IfErr}
 use Rattle.std.specs.Result.{IsErrAnd}
 use Rattle.std.proofs.lemmas.Option.{slice_get-get_or}
 use Rattle.sto_model.specs.declared.shape.Shape.{Shape}
-use Rattle.sto_shared_store.specs.declared.unplanned.PlanError.{PlanError}
+use Rattle.sto_shared_store.specs.declared.plan_error.PlanError.{PlanError}
 use Rattle.sto_shared_store.specs.Plans.{AllStand}
 use Rattle.sto_c.specs.declared.crossing.ShapeIn.{ShapeIn}
 use Rattle.sto_c.specs.declared.status.Status.{Status}

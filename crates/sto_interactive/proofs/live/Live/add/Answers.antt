@@ -8,7 +8,7 @@ use Rattle.sto_core.specs.declared.view.View.{View}
 use Rattle.sto_type.specs.Traits.{of_type}
 use Rattle.sto_attempt_log.proofs.Stepping.{ok_map}
 use Rattle.sto_attempt.specs.declared.attempt.Attempt.{Attempt}
-use Rattle.sto_interactive.specs.declared.asked.AskedCalls.{AskedCalls}
+use Rattle.sto_interactive.specs.declared.asked_calls.AskedCalls.{AskedCalls}
 use Rattle.sto_interactive.specs.Scripts.{script_of}
 use Rattle.sto_interactive.specs.Bodies.{asked}
 use Rattle.sto_interactive.specs.Waiting.{IsWaiting}

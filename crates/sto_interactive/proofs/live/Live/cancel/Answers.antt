@@ -17,7 +17,7 @@ use Rattle.sto_attempt_log.specs.declared.verdict.Turn.TheVariants.{Ended}
 use Rattle.sto_attempt.specs.declared.attempt.Attempt.{Attempt}
 use Rattle.sto_attempt.specs.Attempts.{HasTurned, heard}
 use Rattle.sto_transaction.proofs.Steps.{ended_as}
-use Rattle.sto_interactive.specs.declared.asked.AskedCalls.{AskedCalls}
+use Rattle.sto_interactive.specs.declared.asked_calls.AskedCalls.{AskedCalls}
 use Rattle.sto_interactive.specs.Bodies.{next_of, script_in, left_of, MayAskOf, asked}
 use Rattle.sto_interactive.specs.Scripts.{script_of}
 use Rattle.sto_interactive.specs.Waiting.{HasCome, HearsMore}

@@ -9,7 +9,7 @@ use Rattle.sto_attempt_log.specs.declared.log.Log.{Log}
 use Rattle.sto_attempt_log.proofs.Reading.{always_err}
 use Rattle.sto_transaction.specs.Machines.{HasStopped}
 use Rattle.sto_transaction.proofs.Steps.{seals, ended_as}
-use Rattle.sto_interactive.specs.declared.asked.AskedCalls.{AskedCalls}
+use Rattle.sto_interactive.specs.declared.asked_calls.AskedCalls.{AskedCalls}
 use Rattle.sto_interactive.specs.Scripts.{script_of}
 use Rattle.sto_interactive.specs.Bodies.{next_of, script_in, left_of, MayAskOf, asked}
 use Rattle.sto_interactive.proofs.Coming.{waiting_stops}

@@ -2,7 +2,7 @@
 use Rattle.std.proofs.Common.{refl, sym, subst}
 use Rattle.sto_type.specs.Traits.{of_type}
 use Rattle.sto_attempt.specs.declared.attempt.Attempt.{Attempt}
-use Rattle.sto_interactive.specs.declared.asked.AskedCalls.{AskedCalls}
+use Rattle.sto_interactive.specs.declared.asked_calls.AskedCalls.{AskedCalls}
 use Rattle.sto_interactive.specs.Lives.{IsLive}
 use Rattle.sto_interactive.proofs.pause.RestingTransaction.go_on.Goals as goal
 

@@ -1,9 +1,9 @@
 use Rattle.std.proofs.Common.{sym, subst}
 use Rattle.std.specs.List.{All}
-use Rattle.sto_lang.specs.declared.begun.OpenBlock.{OpenBlock}
+use Rattle.sto_lang.specs.declared.open_transaction.OpenBlock.{OpenBlock}
 use Rattle.sto_lang.specs.Weighed.{IsWeighed, IsWeighedBlock}
 use Rattle.sto_lang.proofs.WeightLemmas.{all_last}
-use Rattle.sto_lang.proofs.begun.OpenTransaction.end.Goals as goal
+use Rattle.sto_lang.proofs.open_transaction.OpenTransaction.end.Goals as goal
 
 pub returns-clause-weighed : goal.returns-clause-weighed
 returns-clause-weighed c = λ shapes before.

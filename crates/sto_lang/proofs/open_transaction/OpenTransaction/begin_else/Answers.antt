@@ -1,11 +1,11 @@
 use Rattle.std.proofs.Common.{◌≡◌, ◌++◌, ◌∷◌, [], List, ap, sym, subst, ◌∙◌}
 use Rattle.std.specs.List.{All}
 use Rattle.std.proofs.lemmas.List.Elements.{All-push}
-use Rattle.sto_lang.specs.declared.begun.OpenBlock.{OpenBlock}
-use Rattle.sto_lang.specs.declared.begun.OpenBlock.TheVariants.{FirstBranch, SecondBranch}
+use Rattle.sto_lang.specs.declared.open_transaction.OpenBlock.{OpenBlock}
+use Rattle.sto_lang.specs.declared.open_transaction.OpenBlock.TheVariants.{FirstBranch, SecondBranch}
 use Rattle.sto_lang.specs.Weighed.{IsWeighed, IsWeighedBlock}
 use Rattle.sto_lang.proofs.WeightLemmas.{all_last}
-use Rattle.sto_lang.proofs.begun.OpenTransaction.begin_else.Goals as goal
+use Rattle.sto_lang.proofs.open_transaction.OpenTransaction.begin_else.Goals as goal
 
 pub returns-clause-weighed : goal.returns-clause-weighed
 returns-clause-weighed c = λ shapes before.

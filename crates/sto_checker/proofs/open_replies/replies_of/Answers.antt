@@ -2,7 +2,7 @@ use Rattle.std.proofs.Common.{sym, ap, ◌∙◌}
 use Rattle.sto_model.specs.Objects.{machines_of}
 use Rattle.sto_model.specs.Serial.{SerialRun}
 use Rattle.sto_checker.proofs.Uncommitted.{same_replies}
-use Rattle.sto_checker.proofs.tentative.replies_of.Goals as goal
+use Rattle.sto_checker.proofs.open_replies.replies_of.Goals as goal
 
 pub returns-clause-replies : goal.returns-clause-replies
 returns-clause-replies g c =
