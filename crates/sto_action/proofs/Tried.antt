@@ -101,7 +101,7 @@ record_atomic m v w shapes most p place x says added entries ended said = record
   replies = map plain_reply x.replies.items;
   verdict = verdict x.verdict;
   ended = ended;
-  plain_reply = added.plain_reply;
+  told = added.told;
   since = λ n h. added.since n (seen_known v n h);
   entries = entries;
   said = said;
@@ -118,7 +118,7 @@ same_run {A} {K} does m sizes passes v w place before later ended c code s shape
     (subst (λ (k : ℕ). HasRun m sizes 1 passes v w (λ rs. next_within s.items k (does c) (map short_of rs)) place [] (map plain later) ended) e
     (subst (λ (k : List Record). HasRun m sizes 1 passes v w (λ rs. next_within s.items n (does c) (map short_of rs)) place (map plain k) (map plain later) ended) none ran)))
 
--- what is so by the record that is plain_reply, where it is aborted and where it is not
+-- what is so by the record that is told, where it is aborted and where it is not
 pub told_tried : {A : Type 0} (m : Meaning) (sizes : List ℕ) (passes : ℕ) (v w : View) (shapes : List Shape) (most : ℕ) (p : Prog A) (place : TransactionPlace) (left : List Record) (x : Record)
     (rs : List Record) (ended : Bool) (said : Option (Result A Stop)) → rs ≡ left ++ x ∷ []
     → HasRun m sizes 1 passes v w (λ rs. next_within shapes most p (map short_of rs)) place [] (map plain rs) ended

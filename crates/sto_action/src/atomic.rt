@@ -1,4 +1,4 @@
-//! Action that is run until an attempt is not aborted.
+//! Code that is run until an attempt is not aborted.
 ghost use Rattle.std.specs.Prelude.{◌≡◌, ◌≤◌};
 ghost use Rattle.sto_model.specs.declared.call.Call.{Call};
 ghost use Rattle.sto_history.specs.Added.{Grows};

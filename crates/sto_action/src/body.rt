@@ -1,4 +1,4 @@
-//! Action as the body of a transaction.
+//! Code as the body of a transaction.
 ghost use Rattle.std.specs.Prelude.{◌≡◌, ◌-◌, ◌+◌, ◌≤◌, ◌++◌, ◌<◌, ◌^◌, map, length};
 ghost use Rattle.sto_model.specs.Run.{MayAsk};
 ghost use Rattle.sto_action.specs.Progs.{is_taken, next_by as by_run, IsTakenCall};
@@ -9,7 +9,7 @@ use crate::tx::{Stop, Tx};
 use sto_model::{Body, Call, Next, Reply, Shapes, takes_code};
 use sto_part::{List, NoMemory};
 
-/// Action with what its calls were answered so far.
+/// Code with what its calls were answered so far.
 #[derive(Drop)]
 pub struct ActionBody<'c, K> {
     pub code: &'c K,

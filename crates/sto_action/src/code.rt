@@ -1,10 +1,10 @@
-//! Action that may be run as a transaction.
+//! Code that may be run as a transaction.
 ghost use Rattle.std.specs.Prelude.{◌≡◌, ℕ};
 ghost use Rattle.sto_action.specs.Progs.{Prog, Follows};
 
 use crate::tx::{Stop, Tx};
 
-/// Action that may be run as a transaction.
+/// Code that may be run as a transaction.
 ///
 /// It is run again from its beginning after each reply, over all replies so far. So it looks at nothing but itself and what its calls
 /// are answered.

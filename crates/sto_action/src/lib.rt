@@ -1,4 +1,4 @@
-//! Action that is run as a transaction: what it may ask of objects, and what it means.
+//! Code that is run as a transaction: what it may ask of objects, and what it means.
 #![tactic(auto)]
 
 mod atomic;

@@ -32,7 +32,7 @@ impl Model for ActionLists {
 }
 
 impl ActionLists {
-    /// AttemptLists with no room yet. It takes none.
+    /// Lists with no room yet. They take no memory.
     pub fn new(alloc: Global) -> ActionLists {
         ActionLists {
             alloc,

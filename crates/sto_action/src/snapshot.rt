@@ -1,4 +1,4 @@
-//! Action that is ready made: what many objects hold at one time.
+//! Code that is ready made: what many objects hold at one time.
 ghost use Rattle.std.specs.Prelude.{◌≡◌, ◌+◌, ◌<◌, ◌^◌, length, map};
 ghost use Rattle.sto_action.specs.Snapshots.{HasGot};
 

@@ -91,40 +91,40 @@ heard_all shapes s st n = heard_first n (meaning_of s) (heard_from shapes s st) 
 -- An abort line whose transaction and object are these.
 
 module _ (file : File) (shapes : List Shape) (st : State) (given : GivenAbort) (s : Script) (d : Declaration) (shapes_are : shapes ≡ shapes_of file.declarations)
-    (at : transaction_at file (place_of given.plain_reply.place) ≡ Some s) (stands : slice_get file.declarations given.object ≡ Some d) where
-  hears_is : heard_from shapes s st ≡ hears file st given.plain_reply
+    (at : transaction_at file (place_of given.told.place) ≡ Some s) (stands : slice_get file.declarations given.object ≡ Some d) where
+  hears_is : heard_from shapes s st ≡ hears file st given.told
   hears_is = ap (λ (ss : List Shape). heard_from ss s st) shapes_are ∙ ap (λ (o : Option Script). (script_run (machines_for file) st o).replies) (sym at)
 
-  pub not_enough : length (heard_from shapes s st) < given.plain_reply.heard → IsHeard file st given → ⊥
+  pub not_enough : length (heard_from shapes s st) < given.told.heard → IsHeard file st given → ⊥
   not_enough l h = let e = h.enough in let same = ap length hears_is in omega (arith, l, e, same)
 
-  module _ (replies : List PlainReply) (enough : given.plain_reply.heard ≤ length (heard_from shapes s st)) (first : replies ≡ take given.plain_reply.heard (heard_from shapes s st)) where
-    replies_are : replies ≡ take given.plain_reply.heard (hears file st given.plain_reply)
-    replies_are = first ∙ ap (take given.plain_reply.heard) hears_is
+  module _ (replies : List PlainReply) (enough : given.told.heard ≤ length (heard_from shapes s st)) (first : replies ≡ take given.told.heard (heard_from shapes s st)) where
+    replies_are : replies ≡ take given.told.heard (hears file st given.told)
+    replies_are = first ∙ ap (take given.told.heard) hears_is
 
     may_abort_in : IsHeard file st given → MayBeAborted d.number (meaning_of s) replies
     may_abort_in h =
         subst (MayBeAborted d.number (meaning_of s)) (sym replies_are)
-        (subst (λ (x : Script). MayBeAborted d.number (meaning_of x) (take given.plain_reply.heard (hears file st given.plain_reply))) (same_script h.script s (sym h.transaction ∙ at))
-        (subst (λ (x : Declaration). MayBeAborted x.number (meaning_of h.script) (take given.plain_reply.heard (hears file st given.plain_reply))) (same_object h.object d (sym h.stands ∙ stands)) h.may_abort))
+        (subst (λ (x : Script). MayBeAborted d.number (meaning_of x) (take given.told.heard (hears file st given.told))) (same_script h.script s (sym h.transaction ∙ at))
+        (subst (λ (x : Declaration). MayBeAborted x.number (meaning_of h.script) (take given.told.heard (hears file st given.told))) (same_object h.object d (sym h.stands ∙ stands)) h.may_abort))
 
     pub not_aborted : (MayBeAborted d.number (meaning_of s) replies → ⊥) → IsHeard file st given → ⊥
     not_aborted n h = n (may_abort_in h)
 
     -- its text decides
-    pub heard_by_text : (c : Cause) → c ≡ cause_in given.plain_reply.cause → IsSound file → MayBeAborted d.number (meaning_of s) replies → IsShortAbort file.names (made (place_of given.plain_reply.place) given.plain_reply.seen replies c)
-        → given.text.now ≡ abort_text file.names (made (place_of given.plain_reply.place) given.plain_reply.seen replies c) ↔ IsHeard file st given
+    pub heard_by_text : (c : Cause) → c ≡ cause_in given.told.cause → IsSound file → MayBeAborted d.number (meaning_of s) replies → IsShortAbort file.names (made (place_of given.told.place) given.told.seen replies c)
+        → given.text.now ≡ abort_text file.names (made (place_of given.told.place) given.told.seen replies c) ↔ IsHeard file st given
     heard_by_text c same sound may_abort short =
-        let place : TransactionPlace = place_of given.plain_reply.place in
-        let seen : ℕ = given.plain_reply.seen in
+        let place : TransactionPlace = place_of given.told.place in
+        let seen : ℕ = given.told.seen in
         let a : Abort = made place seen replies c in
-        let is : a ≡ abort_of file st given.plain_reply = ap (λ (rs : List PlainReply). made place seen rs c) replies_are ∙ ap (made place seen (take given.plain_reply.heard (hears file st given.plain_reply))) same in (
+        let is : a ≡ abort_of file st given.told = ap (λ (rs : List PlainReply). made place seen rs c) replies_are ∙ ap (made place seen (take given.told.heard (hears file st given.told))) same in (
           (λ text. record {
             script = s;
             object = d;
             transaction = at;
             stands = stands;
-            enough = subst (λ (rs : List PlainReply). given.plain_reply.heard ≤ length rs) hears_is enough;
+            enough = subst (λ (rs : List PlainReply). given.told.heard ≤ length rs) hears_is enough;
             may_abort = subst (MayBeAborted d.number (meaning_of s)) replies_are may_abort;
             named =
                 ap (aborts_named file.names) text
@@ -143,45 +143,45 @@ decided (Err e) P Q S f h short = tt
 
 module _ (file : code.File) (given : GivenAbort) (placed : IsPlaced (view file) given) where
   abbrev at : TransactionPlace
-  at = place_of given.plain_reply.place
+  at = place_of given.told.place
 
   inside : IsInside (view file).threads at
   inside = is_inside (view file) at placed.script placed.transaction
 
-  pub thread_inside : given.plain_reply.place.thread < length file.threads.items
+  pub thread_inside : given.told.place.thread < length file.threads.items
   thread_inside = let l = inside.thread in let k = length-threads file.threads.items in omega (arith, l, k)
 
-  pub first_position : 1 ≤ given.plain_reply.place.position
+  pub first_position : 1 ≤ given.told.place.position
   first_position = inside.first
 
-  pub script_at : (thread : Thread) (s : Text) → slice_get file.threads.items given.plain_reply.place.thread ≡ Some thread → slice_get thread.scripts.items (given.plain_reply.place.position - 1) ≡ Some s
-      → transaction_at (view file) (place_of given.plain_reply.place) ≡ Some (script s)
+  pub script_at : (thread : Thread) (s : Text) → slice_get file.threads.items given.told.place.thread ≡ Some thread → slice_get thread.scripts.items (given.told.place.position - 1) ≡ Some s
+      → transaction_at (view file) (place_of given.told.place) ≡ Some (script s)
   script_at thread s e f =
-      let next : given.plain_reply.place.position ≡ suc (given.plain_reply.place.position - 1) = let l = inside.first in omega (arith, l) in
-      at_place file given.plain_reply.place.thread given.plain_reply.place.position (given.plain_reply.place.position - 1) thread s next e f
+      let next : given.told.place.position ≡ suc (given.told.place.position - 1) = let l = inside.first in omega (arith, l) in
+      at_place file given.told.place.thread given.told.place.position (given.told.place.position - 1) thread s next e f
 
   module _ (decl : Decl) (e : slice_get file.decls.items given.object ≡ Some decl) where
     pub object_at : slice_get (view file).declarations given.object ≡ Some (declaration decl)
     object_at = slice_get-map declaration file.decls.items given.object ∙ ap (option_map declaration) e
 
-    declared : declared_as given.plain_reply.cause.object.now (view file).declarations ≡ Some (declaration decl)
+    declared : declared_as given.told.cause.object.now (view file).declarations ≡ Some (declaration decl)
     declared = placed.declared ∙ sym placed.stands ∙ object_at
 
     module _ (sound : IsSound (view file)) where
-      named : (o : Option ℕ) (c : lines.Cause) → TellsCause given.plain_reply.cause.part decl.number o c → cause (view file).declarations c ≡ cause_by (record { object = given.plain_reply.cause.object.now; part = given.plain_reply.cause.part }) o
-      named None c is = ap (cause (view file).declarations) is ∙ ap Locked (part_named (view file).declarations sound.own_numbers given.plain_reply.cause.object.now (declaration decl) declared given.plain_reply.cause.part)
+      named : (o : Option ℕ) (c : lines.Cause) → TellsCause given.told.cause.part decl.number o c → cause (view file).declarations c ≡ cause_by (record { object = given.told.cause.object.now; part = given.told.cause.part }) o
+      named None c is = ap (cause (view file).declarations) is ∙ ap Locked (part_named (view file).declarations sound.own_numbers given.told.cause.object.now (declaration decl) declared given.told.cause.part)
       named (Some by) c is =
           ap (cause (view file).declarations) is
-          ∙ ap (λ (p : LocalPart). Changed p by) (part_named (view file).declarations sound.own_numbers given.plain_reply.cause.object.now (declaration decl) declared given.plain_reply.cause.part)
+          ∙ ap (λ (p : LocalPart). Changed p by) (part_named (view file).declarations sound.own_numbers given.told.cause.object.now (declaration decl) declared given.told.cause.part)
 
-      pub cause_named : (c : lines.Cause) → TellsCause given.plain_reply.cause.part decl.number given.plain_reply.cause.by c → cause (view file).declarations c ≡ cause_in given.plain_reply.cause
-      cause_named c is = named given.plain_reply.cause.by c is
+      pub cause_named : (c : lines.Cause) → TellsCause given.told.cause.part decl.number given.told.cause.by c → cause (view file).declarations c ≡ cause_in given.told.cause
+      cause_named c is = named given.told.cause.by c is
 
-      is_home : (o : Option ℕ) (c : lines.Cause) → TellsCause given.plain_reply.cause.part decl.number o c → (home_in c).object ≡ decl.number
+      is_home : (o : Option ℕ) (c : lines.Cause) → TellsCause given.told.cause.part decl.number o c → (home_in c).object ≡ decl.number
       is_home None c is = ap (λ (x : lines.Cause). (home_in x).object) is
       is_home (Some by) c is = ap (λ (x : lines.Cause). (home_in x).object) is
 
-      pub home_declared : (c : lines.Cause) → TellsCause given.plain_reply.cause.part decl.number given.plain_reply.cause.by c → is_some (with_number (home_in c).object (view file).declarations) ≡ true
+      pub home_declared : (c : lines.Cause) → TellsCause given.told.cause.part decl.number given.told.cause.by c → is_some (with_number (home_in c).object (view file).declarations) ≡ true
       home_declared c is =
-          ap (λ (n : ℕ). is_some (with_number n (view file).declarations)) (is_home given.plain_reply.cause.by c is)
-          ∙ is_declared (view file).declarations sound.own_numbers given.plain_reply.cause.object.now (declaration decl) declared
+          ap (λ (n : ℕ). is_some (with_number n (view file).declarations)) (is_home given.told.cause.by c is)
+          ∙ is_declared (view file).declarations sound.own_numbers given.told.cause.object.now (declaration decl) declared

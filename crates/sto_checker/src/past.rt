@@ -1,4 +1,4 @@
-//! What the journal lines of a report plain_reply.
+//! What the journal lines of a report told.
 ghost use Rattle.std.specs.Prelude.{◌≡◌, ◌↔◌, suc, ◌+◌, ◌<◌, ◌≤◌, ◌^◌, [], ◌∷◌, ◌++◌, length, map, IfOk, OnOk, IsTrue, MatchOption, None, Some, slice_get, string_bytes};
 ghost use Rattle.sto_lang.specs.Objects.{shapes_of};
 ghost use Rattle.sto_lang.specs.Sizes.{calls_of};
@@ -87,7 +87,7 @@ pub fn add_objects(
 }
 
 impl Past {
-    /// Nothing was plain_reply.
+    /// Nothing was told.
     pub fn opening(alloc: Global, file: &File, shapes: &Shapes) -> Result<Past, NoMemory>
         requires { shapes.now.items ≡ shapes_of (view file.now).declarations }
         ensures past { IfOk result (λ past. IsPast (view file.now) past) }

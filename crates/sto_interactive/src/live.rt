@@ -154,7 +154,7 @@ impl<'t, T: TxType> Live<'t, T> {
                     Err(error)
                 }
             },
-            Turn::FinishedAttempt(verdict) => {
+            Turn::Ended(verdict) => {
                 let (heard, lent) = attempt.end();
                 memory.attempts = lent;
                 Ok(FinishedAttempt {
@@ -187,7 +187,7 @@ impl<'t, T: TxType> Live<'t, T> {
         body.cancel();
         mem::drop(attempt.replace_body(body));
         match attempt.resume(alloc)? {
-            Turn::FinishedAttempt(verdict) => {
+            Turn::Ended(verdict) => {
                 let (heard, lent) = attempt.end();
                 memory.attempts = lent;
                 Ok(FinishedAttempt {
@@ -206,13 +206,13 @@ fn abort_of(turn: Turn) -> Option<Verdict>
     ensures { result ≡ abort_of turn }
 {
     match turn {
-        Turn::FinishedAttempt(Verdict::Locked { at, part }) => Some(Verdict::Locked { at, part }),
-        Turn::FinishedAttempt(Verdict::Changed { at, part, ticket }) => {
+        Turn::Ended(Verdict::Locked { at, part }) => Some(Verdict::Locked { at, part }),
+        Turn::Ended(Verdict::Changed { at, part, ticket }) => {
             Some(Verdict::Changed { at, part, ticket })
         }
         Turn::More
         | Turn::Ready
-        | Turn::FinishedAttempt(
+        | Turn::Ended(
             Verdict::Wrote { .. } | Verdict::Read { .. } | Verdict::Cancelled { .. },
         ) => None,
     }

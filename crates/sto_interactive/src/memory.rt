@@ -31,7 +31,7 @@ impl Model for StepLists {
 }
 
 impl StepLists {
-    /// AttemptLists with no room yet. It takes none.
+    /// Lists with no room yet. They take no memory.
     pub fn new(alloc: Global) -> StepLists {
         StepLists {
             attempts: AttemptLists::new(alloc),

@@ -171,7 +171,7 @@ kept_to_rows {T} {P} t Inv ms old new rows same words kept history opening =
 pub all_kept : (m : Meaning) (Inv : State → Type 0) (views : List View) → All (λ v. v.entries ≡ []) views → All (λ v. HasKept m Inv v (Unit {0})) views
 all_kept m Inv views new = All-weaker (λ (v : View). v.entries ≡ []) (λ (v : View). HasKept m Inv v (Unit {0})) (λ v none. new_kept m Inv v none) views new
 
--- Action that four workers of a store ran that was just opened, each its own, and that keeps an invariant: it holds of the rows at the end, and what was given is good
+-- Code that four workers of a store ran that was just opened, each its own, and that keeps an invariant: it holds of the rows at the end, and what was given is good
 pub four_keep : {T A B C D : Type 0} {t : OfType T} {Inv : State → Type 0} {ms : List SequentialObject} {old new : Stored T} {rows : State} {a_times a_most b_times b_most c_times c_most d_times d_most : ℕ}
     {a : Prog A} {b : Prog B} {c : Prog C} {d : Prog D}
     {x : Result (Done A) TransactionError} {y : Result (Done B) TransactionError} {z : Result (Done C) TransactionError} {u : Result (Done D) TransactionError}

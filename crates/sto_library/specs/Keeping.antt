@@ -1,4 +1,4 @@
--- Action that keeps an invariant of the objects' state.
+-- Code that keeps an invariant of the objects' state.
 use Rattle.std.specs.Prelude.{List, IfSome, Result, Ok, Err}
 use Rattle.sto_model.specs.SequentialObjects.{SequentialObject}
 use Rattle.sto_model.specs.Run.{State}

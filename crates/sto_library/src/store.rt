@@ -150,7 +150,7 @@ impl<T: TxType> SharedStore<T> {
     /// again.
     ///
     /// What it gives is told as of `StoreWorker::run`: it is that of one state of all objects, after all that this worker had seen.
-    /// `Snapshot` is such code. Action that writes is taken, too.
+    /// `Snapshot` is such code. Code that writes is taken, too.
     pub fn look<K: Action>(&mut self, alloc: Global, code: &K) -> Result<Done<K::Out>, LookError>
     where
         K::Out: Drop,

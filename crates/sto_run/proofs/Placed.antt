@@ -52,5 +52,5 @@ module _ (m : Meaning) (file : File) (v : View) where
   in_parts law count (r ∷ rs) e h =
       let here : IsRecord m file v (plain r) = All-head (IsRecord m file v) (plain r) (map plain rs) h in
       All-cons (IsInRange count) r rs
-      (subst (λ (n : ℕ). IsPartIn n r.verdict) e (part_in law (meaning_of here.script) (map plain_reply r.replies.items) r.verdict here.plain_reply))
+      (subst (λ (n : ℕ). IsPartIn n r.verdict) e (part_in law (meaning_of here.script) (map plain_reply r.replies.items) r.verdict here.told))
       (in_parts law count rs e (All-tail (IsRecord m file v) (plain r) (map plain rs) h))

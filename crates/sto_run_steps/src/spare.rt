@@ -26,7 +26,7 @@ impl Spare {
         }
     }
 
-    /// AttemptLists for the attempts of one thread.
+    /// Lists for the attempts of one thread.
     pub(crate) fn take_memory(&mut self, alloc: Global) -> AttemptLists {
         match self.memories.pop() {
             Some(memory) => memory,

@@ -95,7 +95,7 @@ impl<'w, T: TxType, G: Gate> Attempts<T, Machine<'w, T, ScriptBody<'w>>> for Ste
                     verdict,
                     ..
                 } = end;
-                Ok(Stepped::FinishedAttempt { replies, verdict })
+                Ok(Stepped::Ended { replies, verdict })
             }
         }
     }

@@ -15,7 +15,7 @@ use sto_plain::Plain;
 use sto_transaction::{AttemptLists, AttemptWatch, Record, Transaction};
 use sto_type::TxType;
 
-// Is plain_reply how far the transaction is, and does nothing.
+// Is told how far the transaction is, and does nothing.
 #[derive(Drop)]
 struct Unwatched;
 

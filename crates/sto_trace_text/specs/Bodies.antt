@@ -15,7 +15,7 @@ use Rattle.sto_trace_text.specs.declared.attempts.Answer as code
 abbrev pub answer_of : code.Answer → Answer
 answer_of answer = record { call = answer.call; reply = plain_reply answer.reply.now }
 
--- an event by what it is plain_reply with
+-- an event by what it is told with
 abbrev pub event_with : ℕ → Step → List code.Answer → Event
 event_with number step answers = record { number = number; step = step; answers = map answer_of answers }
 

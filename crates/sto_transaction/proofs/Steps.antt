@@ -38,7 +38,7 @@ use Rattle.sto_transaction.proofs.Ends.{ended_reading, ended_commit, commit_runs
 -- what the step of a commit says is to be done next
 abbrev pub turn_of : Option Verdict → Turn
 turn_of None = Turns.More
-turn_of (Some x) = Turns.FinishedAttempt x
+turn_of (Some x) = Turns.Ended x
 
 module _ {T B : Type 0} (meaning : T → Meaning) (valid : Validity) (sizes : T → List ℕ) (script : B → Behaviour) (next : B → List PlainReply → Next) (left : B → ℕ) (may : B → Call → Type 0) where
   module _ (passes : ℕ) (a b : Attempt T B) (begun v w : View) (same_type : b.log.ty.now ≡ a.log.ty.now) (same_script : script b.log.body ≡ script a.log.body)
@@ -84,7 +84,7 @@ module _ {T B : Type 0} (meaning : T → Meaning) (valid : Validity) (sizes : T 
       }
 
       over : (x : Verdict) → OnLog a.log.ty.now (script a.log.body) → IsLeft w → b.at ≤ w.at → Ends (meaning a.log.ty.now) (script a.log.body) w b.at (map plain_reply b.log.replies.items) x
-          → HasMoved begun w b.read_phase b.at → (passes ≡ 1 → IsUnaborted (Turns.FinishedAttempt x))
+          → HasMoved begun w b.read_phase b.at → (passes ≡ 1 → IsUnaborted (Turns.Ended x))
           → HasEnded meaning valid sizes script next left may passes a.log.ty.now (script a.log.body) (record { body = b.log.body; replies = b.log.replies; verdict = x }) begun w
       unfolding OnLog
       over x log leaves within ends moved alone = record {
@@ -103,7 +103,7 @@ module _ {T B : Type 0} (meaning : T → Meaning) (valid : Validity) (sizes : T 
       unfolding OnLog goes fits
       turned_to (Ok Turns.More) log turned alone moves err = (rest, more log turned (led.moved b.read_phase b.at moves) (λ one. (alone one).0))
       turned_to (Ok Turns.Ready) log turned alone moves err = (rest, ready log turned.0 turned.1 (led.moved b.read_phase b.at moves))
-      turned_to (Ok (Turns.FinishedAttempt x)) log turned alone moves err =
+      turned_to (Ok (Turns.Ended x)) log turned alone moves err =
           let ends = ends_of (meaning a.log.ty.now) valid (sizes a.log.ty.now) (script a.log.body) b.at b.words.items b.log.base.items b.log.set.updates (map plain_reply b.log.replies.items) w x turned.3 in
           over x log turned.1 turned.2 ends (led.moved b.read_phase b.at moves) (λ one. (alone one).1)
       turned_to (Err e) log turned alone moves err = stopped (meaning a.log.ty.now) (sizes a.log.ty.now) begun w rest led.read err

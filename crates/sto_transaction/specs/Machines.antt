@@ -102,7 +102,7 @@ module _ {T B : Type 0} (meaning : T → Meaning) (valid : Validity) (sizes : T 
       IsAtRest (meaning ty) (sizes ty) begun × Commits passes ty f r begun v
   Proceeds passes ty f Over begun v = ⊥
 
-  -- it has ended: it is plain_reply by its record at every place, its pass is at rest, and beside no other pass it was not aborted
+  -- it has ended: it is told by its record at every place, its pass is at rest, and beside no other pass it was not aborted
   pub record HasEnded (passes : ℕ) (ty : T) (f : Behaviour) (e : FinishedAttempt B) (begun w : View) : Type 0 where
     pub same_script : script e.body ≡ f
     pub taken : (call : Call) → may e.body call → (meaning ty).takes call
@@ -125,7 +125,7 @@ module _ {T B : Type 0} (meaning : T → Meaning) (valid : Validity) (sizes : T 
   abbrev pub HasTurned : ℕ → T → Behaviour → Result Turn NoMemory → Machine T B → View → View → Type 0
   HasTurned passes ty f (Ok turns.More) machine begun w = Proceeds passes ty f machine begun w
   HasTurned passes ty f (Ok turns.Ready) machine begun w = IsAtSeal ty f machine begun w
-  HasTurned passes ty f (Ok (turns.FinishedAttempt x)) machine begun w = IsAtEnd passes ty f machine x begun w
+  HasTurned passes ty f (Ok (turns.Ended x)) machine begun w = IsAtEnd passes ty f machine x begun w
   HasTurned passes ty f (Err error) machine begun w = HasStopped (meaning ty) (sizes ty) begun w
 
   -- the same where a body that is ready was sealed

@@ -95,7 +95,7 @@ impl<'t, T: TxType, B: Body + Drop> Machine<'t, T, B> {
                 self.seal(alloc)?;
                 Ok(None)
             }
-            Turn::FinishedAttempt(verdict) => Ok(Some(verdict)),
+            Turn::Ended(verdict) => Ok(Some(verdict)),
         }
     }
 
@@ -113,7 +113,7 @@ impl<'t, T: TxType, B: Body + Drop> Machine<'t, T, B> {
             Machine::Running(attempt) => attempt.step(alloc, cells),
             Machine::Committing(ready) => match ready.step(cells) {
                 None => Ok(Turn::More),
-                Some(verdict) => Ok(Turn::FinishedAttempt(verdict)),
+                Some(verdict) => Ok(Turn::Ended(verdict)),
             },
             Machine::Over => unreachable!(),
         }

@@ -21,7 +21,7 @@ pub first_replies-requires-clause-fits : goal.first_replies-requires-clause-fits
 first_replies-requires-clause-fits c =
     let at = script_at c.args.file.now c.args.given.now c.requires.placed c.get-2.result.now c.get-script.result.now c.get-2.ensures c.get-script.ensures in
     subst (λ (ss : List Shape). CanRun ss (script_view c.get-script.result.now)) (sym c.requires.shapes)
-    ((sound_runnable (view c.args.file.now) c.requires.sound).scripts (place_of c.args.given.now.plain_reply.place) (script_view c.get-script.result.now) at)
+    ((sound_runnable (view c.args.file.now) c.requires.sound).scripts (place_of c.args.given.now.told.place) (script_view c.get-script.result.now) at)
 
 pub returns-in_default-clause-heard : goal.returns-in_default-clause-heard
 returns-in_default-clause-heard c =
@@ -35,13 +35,13 @@ returns-in_default-clause-heard c =
 pub may_be_aborted-requires-clause-weighed : goal.may_be_aborted-requires-clause-weighed
 may_be_aborted-requires-clause-weighed c =
     let at = script_at c.args.file.now c.args.given.now c.requires.placed c.get-2.result.now c.get-script.result.now c.get-2.ensures c.get-script.ensures in
-    ((sound_runnable (view c.args.file.now) c.requires.sound).scripts (place_of c.args.given.now.plain_reply.place) (script_view c.get-script.result.now) at).weighed
+    ((sound_runnable (view c.args.file.now) c.requires.sound).scripts (place_of c.args.given.now.told.place) (script_view c.get-script.result.now) at).weighed
 
 pub may_be_aborted-requires-clause-heard : goal.may_be_aborted-requires-clause-heard
 may_be_aborted-requires-clause-heard c =
     let meaning : Behaviour = meaning_of (script_view c.get-script.result.now) in
     let kept = rw c.in-Some.is at c.in_ok-replies.ensures.replies in
-    let heard = heard_all c.args.shapes.now.items (script_view c.get-script.result.now) c.args.state.now.items c.args.given.now.plain_reply.heard in
+    let heard = heard_all c.args.shapes.now.items (script_view c.get-script.result.now) c.args.state.now.items c.args.given.now.told.heard in
     subst (λ (rs : List Reply). AreHeard meaning (map plain_reply rs)) (sym c.as_slice.ensures.items) (subst (AreHeard meaning) (sym kept.1) heard)
 
 pub returns-then-not-branch-clause-heard : goal.returns-then-not-branch-clause-heard
@@ -72,7 +72,7 @@ returns-clause-heard c =
     let kept = rw c.in-Some.is at c.in_ok-replies.ensures.replies in
     let may_abort = (rw c.if-not-branch.false at c.in_ok-may_be_aborted.ensures).0 cc in
     let named = cause_named c.args.file.now given c.requires.placed c.get.result.now c.get.ensures c.requires.sound c.cause_of.result c.cause_of.ensures in
-    let a = made (place_of given.plain_reply.place) given.plain_reply.seen (map plain_reply c.in-Some.replies.items) (cause file.declarations c.cause_of.result) in
+    let a = made (place_of given.told.place) given.told.seen (map plain_reply c.in-Some.replies.items) (cause file.declarations c.cause_of.result) in
     decided c.is_abort.result (given.text.now ≡ abort_text file.names a) (IsHeard file c.args.state.now.items given) (IsShortAbort file.names a)
     (heard_by_text file c.args.shapes.now.items c.args.state.now.items given (script_view c.get-script.result.now) (declaration c.get.result.now) c.requires.shapes at stands
     (map plain_reply c.in-Some.replies.items) kept.0 kept.1 (cause file.declarations c.cause_of.result) named c.requires.sound

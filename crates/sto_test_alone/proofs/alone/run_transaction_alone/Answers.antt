@@ -53,7 +53,7 @@ returns-in-Some-clause-alone g c before after up_before up_after =
     let all : rs ≡ c.pop.new.self.items ++ x ∷ [] = search rules in
     let last : plain x ≡ one.only = last_is c.pop.new.self.items x one.only (sym (ap (map plain) all) ∙ ran.whole ∙ one.all) in
     let added : P (plain x) = subst P (sym last) (All-head P one.only [] (subst (All P) one.all ran.added.each)) in
-    let here : IsAdded m v w f place (record { place = place; replies = map plain_reply x.replies.items; verdict = verdict x.verdict }) = record { placed = refl; plain_reply = added.plain_reply; since = added.since; above = added.above } in
+    let here : IsAdded m v w f place (record { place = place; replies = map plain_reply x.replies.items; verdict = verdict x.verdict }) = record { placed = refl; told = added.told; since = added.since; above = added.above } in
     let entries : (t : ℕ) → times_committed t w.entries ≡ times_committed t v.entries + wrote_with t (verdict x.verdict) =
     λ t.
     let e = ran.added.entries t in
