@@ -75,7 +75,7 @@ where
 }
 
 // What the code says at its end by the record of an attempt; none where that was aborted.
-#[tactic(auto, using(sto_action::proofs::Following::runs_of))]
+#[tactic(auto, using(crate::proofs::Following::runs_of))]
 fn said_by<K: Action>(code: &K, last: &Record) -> Option<Result<K::Out, Stop>>
 where
     K::Out: Drop,

@@ -18,7 +18,6 @@ mod name;
 mod scene;
 
 use crate::scene::scene_of;
-pub use scene::scene_of;
 use std::alloc::Global;
 use sto_journal::Journal;
 use sto_lang::{File, Text};

@@ -8,8 +8,8 @@ ghost use Rattle.sto_action.specs.Progs.{Follows};
 use std::alloc::Global;
 use std::thread::Threads;
 use sto_library::{
-    Action, BoxId, Done, Held, Schema, Snapshot, State, Stop, StoreError, Times, TransactionError,
-    Tx, wrapping_difference, wrapping_sum,
+    Action, BoxId, Done, Schema, Snapshot, SnapshotValues, State, Stop, StoreError, Times,
+    TransactionError, Tx, wrapping_difference, wrapping_sum,
 };
 
 /// Takes an amount from an account, where it is there; it gives what was there.
@@ -60,7 +60,7 @@ impl Action for Transfer {
 }
 
 /// What an audit led to: what all accounts have at one time.
-pub type Audited = Result<Done<Held<3, 0>>, TransactionError>;
+pub type Audited = Result<Done<SnapshotValues<3, 0>>, TransactionError>;
 
 /// What both auditors' last audits led to, and the rows at the end.
 pub type Day = (Audited, Audited, State);

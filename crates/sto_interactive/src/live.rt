@@ -212,8 +212,7 @@ fn abort_of(turn: Turn) -> Option<Verdict>
         }
         Turn::More
         | Turn::Ready
-        | Turn::Ended(
-            Verdict::Wrote { .. } | Verdict::Read { .. } | Verdict::Cancelled { .. },
-        ) => None,
+        | Turn::Ended(Verdict::Wrote { .. } | Verdict::Read { .. } | Verdict::Cancelled { .. }) =>
+            None,
     }
 }

@@ -1,7 +1,7 @@
 pub mod Reports
 pub mod Sorted
 pub mod Counted
-pub mod Merging
+pub mod MergedLines
 pub mod AbortSteps
 pub mod Threads
 pub mod Alone

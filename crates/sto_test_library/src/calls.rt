@@ -4,7 +4,7 @@ use crate::codes::{
     VectorReads, VectorWrites,
 };
 use std::alloc::Global;
-use sto_library::{Code, Done, Objects, Schema, SharedStore};
+use sto_library::{Action, Done, Objects, Schema, SharedStore};
 
 // A store of these objects with one worker.
 fn opened(alloc: Global, schema: Schema) -> Option<SharedStore<Objects>> {
@@ -12,7 +12,7 @@ fn opened(alloc: Global, schema: Schema) -> Option<SharedStore<Objects>> {
 }
 
 // What code gives that a worker of the store runs.
-fn given<K: Code>(alloc: Global, store: &mut SharedStore<Objects>, code: &K) -> Option<K::Out>
+fn given<K: Action>(alloc: Global, store: &mut SharedStore<Objects>, code: &K) -> Option<K::Out>
 where
     K::Out: Drop,
 {

@@ -1,7 +1,7 @@
 //! Code that asks each call of one kind of objects.
 ghost use Rattle.sto_test_library.specs.Calls.{box_calls, counter_calls, array_calls, array_writes, hash_writes, hash_reads, tree_writes, tree_reads, vector_writes, vector_reads, swap, give_up};
 
-use sto_library::{ArrayId, BoxId, Code, CounterId, HashId, Stop, Test, TreeId, Tx, VectorId};
+use sto_library::{Action, ArrayId, BoxId, CounterId, HashId, Stop, Test, TreeId, Tx, VectorId};
 
 // What three writes answered, and then a read.
 type Written = (bool, bool, bool, Option<i64>);
@@ -10,7 +10,7 @@ type Written = (bool, bool, bool, Option<i64>);
 #[derive(Clone, Copy)]
 pub(crate) struct BoxCalls(pub(crate) BoxId);
 
-impl Code for BoxCalls {
+impl Action for BoxCalls {
     type Out = (i64, i64);
 
     ghost does = { λ c. box_calls c.0 };
@@ -33,7 +33,7 @@ impl Code for BoxCalls {
 #[derive(Clone, Copy)]
 pub(crate) struct CounterCalls(pub(crate) CounterId);
 
-impl Code for CounterCalls {
+impl Action for CounterCalls {
     type Out = (bool, bool, bool, i64);
 
     ghost does = { λ c. counter_calls c.0 };
@@ -57,7 +57,7 @@ impl Code for CounterCalls {
 #[derive(Clone, Copy)]
 pub(crate) struct ArrayCalls(pub(crate) ArrayId);
 
-impl Code for ArrayCalls {
+impl Action for ArrayCalls {
     type Out = (Option<i64>, bool, bool, Option<i64>);
 
     ghost does = { λ c. array_calls c.0 };
@@ -81,7 +81,7 @@ impl Code for ArrayCalls {
 #[derive(Clone, Copy)]
 pub(crate) struct ArrayWrites(pub(crate) ArrayId);
 
-impl Code for ArrayWrites {
+impl Action for ArrayWrites {
     type Out = (bool, Option<i64>);
 
     ghost does = { λ c. array_writes c.0 };
@@ -103,7 +103,7 @@ impl Code for ArrayWrites {
 #[derive(Clone, Copy)]
 pub(crate) struct HashWrites(pub(crate) HashId);
 
-impl Code for HashWrites {
+impl Action for HashWrites {
     type Out = Written;
 
     ghost does = { λ c. hash_writes c.0 };
@@ -127,7 +127,7 @@ impl Code for HashWrites {
 #[derive(Clone, Copy)]
 pub(crate) struct HashReads(pub(crate) HashId);
 
-impl Code for HashReads {
+impl Action for HashReads {
     type Out = (bool, i64, Option<i64>);
 
     ghost does = { λ c. hash_reads c.0 };
@@ -150,7 +150,7 @@ impl Code for HashReads {
 #[derive(Clone, Copy)]
 pub(crate) struct TreeWrites(pub(crate) TreeId);
 
-impl Code for TreeWrites {
+impl Action for TreeWrites {
     type Out = Written;
 
     ghost does = { λ c. tree_writes c.0 };
@@ -174,7 +174,7 @@ impl Code for TreeWrites {
 #[derive(Clone, Copy)]
 pub(crate) struct TreeReads(pub(crate) TreeId);
 
-impl Code for TreeReads {
+impl Action for TreeReads {
     type Out = (Option<i64>, i64, i64);
 
     ghost does = { λ c. tree_reads c.0 };
@@ -197,7 +197,7 @@ impl Code for TreeReads {
 #[derive(Clone, Copy)]
 pub(crate) struct VectorWrites(pub(crate) VectorId);
 
-impl Code for VectorWrites {
+impl Action for VectorWrites {
     type Out = Written;
 
     ghost does = { λ c. vector_writes c.0 };
@@ -221,7 +221,7 @@ impl Code for VectorWrites {
 #[derive(Clone, Copy)]
 pub(crate) struct VectorReads(pub(crate) VectorId);
 
-impl Code for VectorReads {
+impl Action for VectorReads {
     type Out = (Option<i64>, bool, i64);
 
     ghost does = { λ c. vector_reads c.0 };
@@ -244,7 +244,7 @@ impl Code for VectorReads {
 #[derive(Clone, Copy)]
 pub(crate) struct Swap(pub(crate) BoxId, pub(crate) i64);
 
-impl Code for Swap {
+impl Action for Swap {
     type Out = i64;
 
     ghost does = { λ c. swap c.0 c.1 };
@@ -266,7 +266,7 @@ impl Code for Swap {
 #[derive(Clone, Copy)]
 pub(crate) struct GiveUp(pub(crate) BoxId);
 
-impl Code for GiveUp {
+impl Action for GiveUp {
     type Out = i64;
 
     ghost does = { λ c. give_up c.0 };

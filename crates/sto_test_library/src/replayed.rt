@@ -1,6 +1,6 @@
 //! Code that is run over replies by hand.
 use crate::codes::{GiveUp, Swap};
-use sto_library::{BoxId, Call, Code, ShortReply, Stop, Tx};
+use sto_library::{Action, BoxId, Call, ShortReply, Stop, Tx};
 use sto_model::Reply;
 
 // What a call on the first object asks.

@@ -2,8 +2,8 @@
 use crate::codes::{GiveUp, Swap};
 use std::alloc::Global;
 use sto_library::{
-    BoxId, CloseError, CounterId, Done, Held, LookError, Objects, PlanError, Schema, SharedStore,
-    Snapshot, Waits, total_of, value_of,
+    BoxId, CloseError, CounterId, Done, LookError, Objects, PlanError, Schema, SharedStore,
+    Snapshot, SnapshotValues, Waits, total_of, value_of,
 };
 
 // A store of a box that holds 7 and a counter that holds 5, with so many workers.
@@ -28,15 +28,15 @@ fn a_look_sees_what_a_worker_wrote(rt: HostRuntime) {
     assert_eq!(rt; looked_at(rt.alloc()), Some((held(7, 5), held(8, 5))));
 }
 
-fn held(value: i64, count: i64) -> Held<1, 1> {
-    Held {
+fn held(value: i64, count: i64) -> SnapshotValues<1, 1> {
+    SnapshotValues {
         boxes: [value],
         counters: [count],
     }
 }
 
 // What two looks gave, before a worker wrote and after.
-fn looked_at(alloc: Global) -> Option<(Held<1, 1>, Held<1, 1>)> {
+fn looked_at(alloc: Global) -> Option<(SnapshotValues<1, 1>, SnapshotValues<1, 1>)> {
     let (mut store, of, sales) = opened(alloc, 1)?;
     let code = Snapshot {
         boxes: [of],

@@ -7,7 +7,7 @@ use Rattle.sto_transaction.specs.Records.{writers_up_to}
 use Rattle.sto_transaction.specs.declared.record.Record.{Record}
 use Rattle.sto_transaction.specs.Plain.{plain}
 use Rattle.sto_run.specs.Splits.{has_ended, was_aborted}
-use Rattle.sto_run.proofs.Merging.{merged_records, parted_few, plain_length}
+use Rattle.sto_run.proofs.MergedLines.{merged_records, parted_few, plain_length}
 use Rattle.sto_run.proofs.merging.arrange.Goals as goal
 
 pub returns : goal.returns

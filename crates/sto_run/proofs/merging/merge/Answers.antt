@@ -11,7 +11,7 @@ use Rattle.sto_transaction.specs.Plain.{plain}
 use Rattle.sto_run.specs.Tickets.{up_to}
 use Rattle.sto_run.specs.Splits.{was_aborted}
 use Rattle.sto_run.specs.PlainAborts.{IsInRange}
-use Rattle.sto_run.proofs.Merging.{merged_lines}
+use Rattle.sto_run.proofs.MergedLines.{merged_lines}
 use Rattle.sto_run.proofs.Threads.{merged_aborts}
 use Rattle.sto_run.proofs.merging.merge.Goals as goal
 

@@ -2,7 +2,7 @@ use Rattle.std.proofs.Common.{sym, ap, ◌∙◌, arith}
 use Rattle.std.proofs.lemmas.Option.{get_or_from_slice_get}
 use Rattle.sto_model.specs.declared.body.Next.TheVariants.{Ask}
 use Rattle.sto_interactive.proofs.Extending.{next_at}
-use Rattle.sto_interactive.proofs.asked_calls.AskedBody.next.Goals as goal
+use Rattle.sto_interactive.proofs.asked_calls.AskedCallsBody.next.Goals as goal
 
 pub returns-then-self-len-clause-next : goal.returns-then-self-len-clause-next
 returns-then-self-len-clause-next c =

@@ -2,7 +2,7 @@ use Rattle.std.proofs.Common.{◌-◌, arith}
 use Rattle.sto_run_threads.proofs.Results.{all_ok}
 use Rattle.sto_lang.specs.Views.{file as view, script}
 use Rattle.sto_run_threads.proofs.Places.{at_place, position_above}
-use Rattle.sto_run_threads.proofs.workload.LentFileWorkload.transaction.Goals as goal
+use Rattle.sto_run_threads.proofs.workload.BorrowedFileWorkload.transaction.Goals as goal
 
 pub new-requires : goal.new-requires
 new-requires c =

@@ -6,7 +6,7 @@ use Rattle.sto_action.specs.Progs.{Gives, Runs, Leaves, Follows, chain}
 use Rattle.sto_action.specs.declared.tx.Stop.{Stop}
 use Rattle.sto_action.proofs.Following.{then_follows, stop_follows}
 use Rattle.sto_example_bank.specs.Accounts.{withdraw, deposit, transfer}
-use Rattle.sto_example_bank.proofs.TransferCode.run.Goals as goal
+use Rattle.sto_example_bank.proofs.TransferAction.run.Goals as goal
 
 pub returns-in_err-x : goal.returns-in_err-x
 returns-in_err-x c =

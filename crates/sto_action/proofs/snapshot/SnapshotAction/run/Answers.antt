@@ -8,7 +8,7 @@ use Rattle.sto_action.specs.declared.handles.CounterId.{CounterId}
 use Rattle.sto_action.specs.declared.snapshot.SnapshotValues.{SnapshotValues}
 use Rattle.sto_action.specs.declared.tx.Stop.{Stop}
 use Rattle.sto_action.proofs.Snapshots.{got_on, got_stop}
-use Rattle.sto_action.proofs.snapshot.SnapshotCode.run.Goals as goal
+use Rattle.sto_action.proofs.snapshot.SnapshotAction.run.Goals as goal
 
 pub returns-in_err-boxes : goal.returns-in_err-boxes
 returns-in_err-boxes g c =
