@@ -18,8 +18,9 @@
  * sto_stopped too.
  *
  * The function may run several times. It does not wait for a transaction of another thread, which may have to wait for this one.
- * It may leave by a C++ exception, which gives the transaction up; not by longjmp. A sto_tx is good within its function, on its
- * thread: a call of another thread stops the transaction, and one after its end does nothing.
+ * It may leave by a C++ exception, which gives the transaction up; not by longjmp, and its thread is not cancelled meanwhile. A
+ * sto_tx is good within its function, on its thread: a call of another thread stops the transaction, and one after its end does
+ * nothing.
  *
  * Each sto_tx and each sto_store comes from this door. A program may use sto.h besides, on handles of its own.
  */
