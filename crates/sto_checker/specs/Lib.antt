@@ -35,7 +35,7 @@ pub use Rattle.sto_report_spec.specs.Named
 pub use Rattle.sto_report_spec.specs.NamedAborts
 pub use Rattle.sto_report_spec.specs.Report
 pub use Rattle.sto_part.specs.Listed
-pub use Rattle.sto_model.specs.Sizes
+pub use Rattle.sto_model.specs.Sizes as ModelSizes
 pub use Rattle.sto_report_spec.specs.Lawful
 pub use Rattle.sto_report_spec.specs.Short
 pub use Rattle.sto_report_spec.specs.Updated

@@ -21,7 +21,7 @@ use Rattle.sto_run_threads.proofs.Scripts.{aborts_none_through}
 use Rattle.sto_run_feed.specs.Jobs.{places_of}
 use Rattle.sto_run_feed.specs.QueuePasses.{IsAt, HaveTaken, all_taken}
 use Rattle.sto_run_feed.proofs.Passes.{none_taken}
-use Rattle.sto_run_feed.proofs.Taking.{may_take, takes_next}
+use Rattle.sto_run_feed.proofs.TakingJobs.{may_take, takes_next}
 use Rattle.sto_run_feed.proofs.Serving.{run_at, last_at, next_place, place_there, few_jobs, comes_next, serving_none, serving_more, serving_ends, served_one, from_one, IsServing}
 use Rattle.sto_run_threads.specs.Plans.{Rests, draws_of, IsPaced}
 use Rattle.sto_run_threads.specs.Told.{told_in}
