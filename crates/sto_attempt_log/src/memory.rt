@@ -85,12 +85,12 @@ impl KeptLists {
 }
 
 impl AttemptLists {
-    /// AttemptLists with no room yet. It takes none.
+    /// Lists with no room yet. They take no memory.
     pub fn new(alloc: Global) -> AttemptLists {
         AttemptLists { alloc, kept: None }
     }
 
-    /// Takes all of it. AttemptLists with no room stays in its place.
+    /// Takes all of them. Lists with no room stay in their place.
     pub fn take(&mut self) -> AttemptLists {
         AttemptLists {
             alloc: self.alloc,

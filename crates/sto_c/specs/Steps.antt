@@ -35,7 +35,7 @@ module _ (h k : WorkerHandle) where
   abbrev pub IsOfSameStore : Type 0
   IsOfSameStore = (k.worker.store ≡ h.worker.store) × (k.objects ≡ h.objects)
 
-  -- its session was led as sto_session has it
+  -- its session was led as sto_interactive has it
   abbrev pub Begins : Result (Unit {0}) BeginError → Type 0
   Begins r = IsOfSameStore × Leads (λ x y. session.HasBegun objects (arc_value h.worker.store).ty (arc_value h.worker.store).shared x r y) h.worker.session k.worker.session
 

@@ -1,6 +1,6 @@
 //! The program: its words, its source and its sinks, and all that a call of it does.
 //!
-//! What it shares with the other programs is in `sto_cli_common`.
+//! What it shares with the other programs is in `sto_console`.
 #![tactic(auto)]
 
 mod answer;

@@ -1,4 +1,4 @@
--- It goes on as after a read: what the view tells was plain_reply before.
+-- It goes on as after a read: what the view tells was told before.
 use Rattle.std.proofs.Common.{◌≡◌, ℕ, List, ap, sym, subst, map, refl, rules}
 use Rattle.sto_part.specs.Listed.{Listed}
 use Rattle.sto_model.specs.PlainReplies.{plain_reply}
