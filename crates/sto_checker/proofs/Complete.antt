@@ -7,7 +7,7 @@ use Rattle.std.proofs.lemmas.List.Sums.{sum_by-cons}
 use Rattle.sto_lang.specs.Scripts.{Script, File}
 use Rattle.sto_lang.specs.Drafts.{transaction_count}
 use Rattle.sto_report_spec.specs.Orders.{TransactionPlace, count_in, positions_of, numbers_from, IsOrder}
-use Rattle.sto_checker.proofs.Replayed.{numbers_from-more}
+use Rattle.sto_checker.proofs.OneMore.{numbers_from-more}
 use Rattle.sto_checker.specs.Shown.{IsInside, AreInside}
 use Rattle.sto_checker.specs.Right.{IsNext}
 use Rattle.sto_checker.specs.Past.{IsBegun}

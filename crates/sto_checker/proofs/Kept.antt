@@ -21,7 +21,7 @@ use Rattle.sto_report_spec.specs.declared.ending.Ending.TheVariants.{Commit, Rea
 use Rattle.sto_journal.specs.declared.journal.Line.{Line}
 use Rattle.sto_journal.specs.Journals.{entry, places}
 use Rattle.sto_checker.specs.Runs.{writers_from, IsSoFar}
-use Rattle.sto_checker.proofs.Replayed.{entries_from-more}
+use Rattle.sto_checker.proofs.OneMore.{entries_from-more}
 use Rattle.sto_checker.specs.Lines.{HasContent}
 use Rattle.sto_checker.specs.Written.{objects_along, objects_in, written_from, written_of}
 use Rattle.sto_checker.specs.declared.past.Past.{Past}

@@ -1,5 +1,5 @@
 pub mod Walks
-pub mod Replayed
+pub mod OneMore
 pub mod Places
 pub mod SoundRuns
 pub mod Truth
@@ -27,7 +27,7 @@ pub mod Taken
 pub mod Judged
 pub mod Hearing
 pub mod Named
-pub mod Walk
+pub mod AbortWalk
 pub mod Gathering
 pub mod Unheard
 pub mod Only

@@ -18,7 +18,7 @@ use Rattle.sto_journal.specs.declared.journal.Line.{Line}
 use Rattle.sto_journal.specs.Journals.{entry, places}
 use Rattle.sto_checker.specs.Runs.{writers_from, IsSoFar}
 use Rattle.sto_checker.specs.declared.progress.Progress.{Progress}
-use Rattle.sto_checker.proofs.Replayed.{writers_from-more}
+use Rattle.sto_checker.proofs.OneMore.{writers_from-more}
 use Rattle.sto_checker.specs.Shown.{IsInside, AreInside, IsAlong}
 use Rattle.sto_checker.proofs.Along.{writers_up, shown_after}
 use Rattle.sto_checker.proofs.Kept.{is_inside}
@@ -28,7 +28,7 @@ use Rattle.sto_checker.specs.Seen.{AreBySeen, IsFirstOf, IsFirstUnheard}
 use Rattle.sto_checker.proofs.Lists.{at_mapped}
 use Rattle.sto_checker.proofs.Splitting.{same_first, same_rest}
 use Rattle.sto_checker.proofs.Taken.{places_long}
-use Rattle.sto_checker.proofs.Walk.{numbers_in, wrong_more}
+use Rattle.sto_checker.proofs.AbortWalk.{numbers_in, wrong_more}
 
 eq_or : (a b : ℕ) → (a ≡ b) ⊎ (a ≡ b → ⊥)
 eq_or zero zero = inl refl

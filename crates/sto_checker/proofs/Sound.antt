@@ -16,7 +16,7 @@ use Rattle.sto_report_spec.specs.Report.{line_text, abort_text, object_text, rep
 use Rattle.sto_report_spec.specs.Named.{order_named}
 use Rattle.sto_report_spec.specs.NamedAborts.{aborts_named}
 use Rattle.sto_report_spec.specs.LawfulAborts.{IsSorted, HandsBack, count_at}
-use Rattle.sto_checker.proofs.Replayed.{entries_from-more}
+use Rattle.sto_checker.proofs.OneMore.{entries_from-more}
 use Rattle.sto_checker.specs.Lines.{is_line_feed, onto_line, lines_of, is_state_line, until_state, beyond_state}
 use Rattle.sto_checker.specs.Shown.{IsInside, AreInside}
 use Rattle.sto_checker.specs.Past.{IsBegun}

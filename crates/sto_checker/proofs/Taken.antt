@@ -20,7 +20,7 @@ use Rattle.sto_report_spec.specs.declared.ending.Ending.{Ending}
 use Rattle.sto_journal.specs.declared.journal.Line.{Line}
 use Rattle.sto_journal.specs.Journals.{entry, places}
 use Rattle.sto_checker.specs.Runs.{writers_from, IsSoFar}
-use Rattle.sto_checker.proofs.Replayed.{entries_from-more}
+use Rattle.sto_checker.proofs.OneMore.{entries_from-more}
 use Rattle.sto_checker.proofs.SoundRuns.{sound_runnable}
 use Rattle.sto_checker.specs.declared.past.Past.{Past}
 use Rattle.sto_checker.specs.Shown.{IsInside, AreInside}

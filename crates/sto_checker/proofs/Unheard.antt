@@ -16,7 +16,7 @@ use Rattle.sto_checker.specs.Given.{IsPlaced, IsHeard}
 use Rattle.sto_checker.specs.Gathered.{AreGathered, IsEnded}
 use Rattle.sto_checker.specs.Seen.{IsFirstUnheard}
 use Rattle.sto_checker.proofs.Lists.{some_at}
-use Rattle.sto_checker.proofs.Walk.{below_or}
+use Rattle.sto_checker.proofs.AbortWalk.{below_or}
 use Rattle.sto_checker.proofs.Replays.{seen_within}
 
 -- how they ended

@@ -90,13 +90,13 @@ fn is_abort(alloc: Global, file: &File, line: &AbortLine, bytes: &[u8]) -> Resul
 
 // The cause that an abort line tells, by the number of its object.
 fn cause_of(given: &GivenAbort<'_>, object: u32) -> Cause
-    ensures { TellsCause given.now.plain_reply.cause.part object given.now.plain_reply.cause.by result }
+    ensures { TellsCause given.now.told.cause.part object given.now.told.cause.by result }
 {
     let home = Home {
         object,
-        local: given.plain_reply.cause.part,
+        local: given.told.cause.part,
     };
-    match given.plain_reply.cause.by {
+    match given.told.cause.by {
         None => Cause::Locked { home },
         Some(by) => Cause::Changed { home, by },
     }
@@ -118,10 +118,10 @@ pub(crate) fn is_heard(
     ensures heard { IfOk result (λ yes. IsTrue yes ↔ IsHeard (view file.now) state.old.items given.now) }
     ensures state { state.new ≡ state.old }
 {
-    let at = given.plain_reply.place;
+    let at = given.told.place;
     let object = file.decls.get(given.object).number;
     let script = file.threads.get(at.thread).scripts.get(at.position - 1);
-    let Some(replies) = first_replies(alloc, script, shapes, state, given.plain_reply.heard)? else {
+    let Some(replies) = first_replies(alloc, script, shapes, state, given.told.heard)? else {
         return Ok(false);
     };
     if !may_be_aborted(alloc, script, replies.as_slice(), object)? {
@@ -130,7 +130,7 @@ pub(crate) fn is_heard(
     let line = AbortLine {
         thread: at.thread,
         position: at.position,
-        at: given.plain_reply.seen,
+        at: given.told.seen,
         replies,
         cause: cause_of(given, object),
     };

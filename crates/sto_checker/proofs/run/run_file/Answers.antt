@@ -7,7 +7,7 @@ use Rattle.sto_journal.specs.Journals.{places}
 use Rattle.sto_checker.specs.Runs.{places_of, places_from, thread_order}
 use Rattle.sto_checker.proofs.SoundRuns.{sound_runnable}
 use Rattle.sto_checker.proofs.Places.{length-threads, length-opening, have_rows, have_threads}
-use Rattle.sto_checker.proofs.Replayed.{places_from-more, thread_order-is_order}
+use Rattle.sto_checker.proofs.OneMore.{places_from-more, thread_order-is_order}
 use Rattle.sto_checker.proofs.run.run_file.Goals as goal
 
 pub run_thread-requires-clause-runnable : goal.run_thread-requires-clause-runnable

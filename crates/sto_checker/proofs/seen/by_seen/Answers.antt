@@ -1,5 +1,5 @@
 use Rattle.std.proofs.Common.{arith}
-use Rattle.sto_checker.proofs.Walk.{few_seen, seen_pushed}
+use Rattle.sto_checker.proofs.AbortWalk.{few_seen, seen_pushed}
 use Rattle.sto_checker.proofs.seen.by_seen.Goals as goal
 
 pub push-requires-in-loop-place : goal.push-requires-in-loop-place

@@ -15,7 +15,7 @@ use Rattle.sto_checker.proofs.SoundRuns.{sound_runnable}
 use Rattle.sto_checker.specs.Shown.{IsAlong}
 use Rattle.sto_checker.specs.Seen.{IsFirstUnheard}
 use Rattle.sto_checker.proofs.Taken.{places_long}
-use Rattle.sto_checker.proofs.Walk.{none_wrong, seen_inside}
+use Rattle.sto_checker.proofs.AbortWalk.{none_wrong, seen_inside}
 use Rattle.sto_checker.proofs.Replays.{writers_few, along_none, along_more, all_run, not_more, line_inside, walked_on, is_next, is_same}
 use Rattle.sto_checker.proofs.seen.first_unheard.Goals as goal
 use Rattle.sto_checker.proofs.seen.first_unheard.Goals.{then-before-run+in_ok-wrong-2, else-before-run}

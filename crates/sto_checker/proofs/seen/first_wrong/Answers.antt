@@ -4,7 +4,7 @@ use Rattle.sto_part.specs.Listed.{Listed}
 use Rattle.sto_lang.specs.Views.{file as view}
 use Rattle.sto_checker.proofs.Stages.{take_next}
 use Rattle.sto_checker.specs.Seen.{IsFirstOf}
-use Rattle.sto_checker.proofs.Walk.{first_kept, first_less, heard_there, unheard_there}
+use Rattle.sto_checker.proofs.AbortWalk.{first_kept, first_less, heard_there, unheard_there}
 use Rattle.sto_checker.proofs.seen.first_wrong.Goals as goal
 use Rattle.sto_checker.proofs.seen.first_wrong.Goals.{then-not-branch, else-not-branch}
 

@@ -12,7 +12,7 @@ use Rattle.sto_checker.specs.Runs.{IsSoFar}
 use Rattle.sto_checker.specs.Runnable.{CanRun}
 use Rattle.sto_checker.specs.declared.progress.Progress.{Progress}
 use Rattle.sto_checker.proofs.Places.{count_at, at_place}
-use Rattle.sto_checker.proofs.Replayed.{IsTold, is_told, so_far-more}
+use Rattle.sto_checker.proofs.OneMore.{IsTold, is_told, so_far-more}
 use Rattle.sto_checker.proofs.progress.Progress.run_one.Goals as goal
 use Rattle.sto_checker.proofs.progress.Progress.run_one.Goals.{then-writer, else-writer}
 

@@ -4,7 +4,7 @@ use Rattle.sto_report_spec.specs.Orders.{TransactionPlace, count_in}
 use Rattle.sto_journal.specs.Journals.{places}
 use Rattle.sto_checker.specs.Runs.{places_of}
 use Rattle.sto_checker.proofs.Places.{count_at, length-threads}
-use Rattle.sto_checker.proofs.Replayed.{places_of-more}
+use Rattle.sto_checker.proofs.OneMore.{places_of-more}
 use Rattle.sto_checker.proofs.progress.Progress.run_thread.Goals as goal
 
 pub run_one-requires-clause-last : goal.run_one-requires-clause-last
