@@ -6,3 +6,4 @@ pub mod Filling
 pub mod Stepping
 pub mod Levelling
 pub mod Gathering
+pub mod Nexts

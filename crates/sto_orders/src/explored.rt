@@ -44,10 +44,14 @@ pub fn all_outcomes(
     let shapes = sto_lang::shapes(alloc, file)?;
     let mut nodes = opening_level(alloc, file, &shapes, by)?;
     let mut room = most.saturating_sub(1);
-    for _done in 0..transaction_count(file) {
-        nodes = next_level(alloc, file, &shapes, by, nodes.as_slice(), room)?;
-        room = room.saturating_sub(nodes.len() as u64);
+    let count = transaction_count(file);
+    for _done in 0..count {
+        let before = nodes.as_slice();
+        let next = next_level(alloc, file, &shapes, by, before, room)?;
+        room = room.saturating_sub(next.len() as u64);
+        nodes = next;
     }
-    let outcomes = outcomes_at(alloc, file, &shapes, by, nodes.as_slice())?;
+    let last = nodes.as_slice();
+    let outcomes = outcomes_at(alloc, file, &shapes, by, last)?;
     Ok(outcomes)
 }

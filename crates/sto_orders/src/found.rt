@@ -1,13 +1,13 @@
 //! Nodes that are found by their keys.
-ghost use Rattle.std.specs.Prelude.{◌≡◌, ◌+◌, ◌<◌, ◌≤◌, ◌∷◌, [], ℕ, List, None, suc, length, OnOk, IfOk, IfSome};
+ghost use Rattle.std.specs.Prelude.{◌≡◌, ◌+◌, ◌<◌, ◌≤◌, ◌∷◌, [], ℕ, List, None, Some, suc, length, OnOk, IfOk, IfSome};
 ghost use Rattle.sto_lang.specs.Objects.{shapes_of};
 ghost use Rattle.sto_lang.specs.Sound.{IsSound};
 ghost use Rattle.sto_lang.specs.Views.{file as view};
 ghost use Rattle.sto_report_spec.specs.Orders.{TransactionPlace as Place, count_in};
 ghost use Rattle.sto_orders.specs.declared.same_by.SameBy.{SameBy};
 ghost use Rattle.sto_orders.specs.Keys.{done_in, IsKeyOf};
-ghost use Rattle.sto_orders.specs.Ways.{AreKept, AreWays, IsWay, IsNextAt, LeadsOn};
-ghost use Rattle.sto_orders.specs.Levels.{IsNode, AreFound, Keeps, HasNext, HasNextBelow, IsAdded};
+ghost use Rattle.sto_orders.specs.Ways.{AreWays, IsWay, IsNextAt, LeadsOn};
+ghost use Rattle.sto_orders.specs.Levels.{IsNode, AreFound, Keeps, HasNext, HasNextBelow, HasMoreWays, IsAdded};
 
 use crate::key::{Key, key_of};
 use crate::level::Node;
@@ -27,8 +27,7 @@ fn more_orders(orders: Option<u64>, more: Option<u64>) -> Option<u64> {
 
 // Keeps a way to a node that was found before, and counts its orders.
 fn add_way(ways: &mut Ways, way: Way, thread: u32, orders: Option<u64>) -> Result<(), NoMemory>
-    ensures kept { OnOk result (AreKept ways.old.each.items way ways.new.each.items) }
-    ensures some { OnOk result (1 ≤ length ways.new.each.items) }
+    ensures { OnOk result (HasMoreWays (Some ways.old) way ways.new) }
 {
     keep_way(&mut ways.each, way, thread)?;
     ways.orders = more_orders(ways.orders, orders);
@@ -75,8 +74,10 @@ fn next_at(file: &File, key: &Key, thread: u32) -> Option<TransactionPlace>
         → count_in (view file.now).threads thread ≤ done_in order thread }
     ensures some { IfSome result (λ at. (by : SameBy) → IsNextAt by (view file.now) key.now thread at) }
 {
-    let done = key.done[thread as usize];
-    if file.threads.get(thread).scripts.len() <= done {
+    let all = key.done.as_slice();
+    let done = all[thread as usize];
+    let count = file.threads.get(thread).scripts.len();
+    if count <= done {
         return None;
     }
     Some(TransactionPlace {

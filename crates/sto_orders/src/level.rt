@@ -59,8 +59,9 @@ pub(crate) fn opening_level(
     let run = Progress::opening(alloc, shapes)?;
     let key = key_of(alloc, file, by, &run)?;
     let ways = no_steps(alloc)?;
+    let node = Node { key, ways };
     let mut nodes = Vec::new(alloc);
-    if nodes.push(Node { key, ways }).is_err() {
+    if nodes.push(node).is_err() {
         return Err(NoMemory);
     }
     Ok(nodes)

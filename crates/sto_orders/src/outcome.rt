@@ -41,7 +41,8 @@ fn outcome_at(
 {
     let ways = node.ways.each.as_slice();
     let best = fewest_legs(ways);
-    let run = run_along(alloc, file, shapes, ways[best].order.as_slice())?;
+    let order = ways[best].order.as_slice();
+    let run = run_along(alloc, file, shapes, order)?;
     let Progress { lines, state, .. } = run;
     Ok(Outcome {
         lines,

@@ -101,6 +101,18 @@ fn place_ending(ways: &[Way], thread: u32) -> Option<usize>
         .position(|way| ends_with(way.order.as_slice(), thread))
 }
 
+// Puts a way in the place of one in more legs.
+fn replace_longer(ways: &mut Vec<Way>, place: usize, way: Way)
+    requires { place < length ways.old.items }
+    ensures kept { AreKept ways.old.items way ways.new.items }
+    ensures long { length ways.new.items ≡ length ways.old.items }
+{
+    if ways[place].legs <= way.legs {
+        return;
+    }
+    ways[place] = way;
+}
+
 /// Keeps a way that ends with a transaction of a thread: beside those that end with others, or in place of one in more legs.
 pub(crate) fn keep_way(ways: &mut Vec<Way>, way: Way, thread: u32) -> Result<(), NoMemory>
     ensures kept { OnOk result (AreKept ways.old.items way ways.new.items) }
@@ -108,9 +120,7 @@ pub(crate) fn keep_way(ways: &mut Vec<Way>, way: Way, thread: u32) -> Result<(),
 {
     match place_ending(ways.as_slice(), thread) {
         Some(place) => {
-            if way.legs < ways[place].legs {
-                ways[place] = way;
-            }
+            replace_longer(ways, place, way);
             Ok(())
         }
         None => match ways.push(way) {
