@@ -177,13 +177,13 @@ run_stays shapes (suc n) f st = by (f []) refl (λ r s. run_stays shapes n (λ r
 pub unwritten : (f : File) (st : State) (place : TransactionPlace) → is_writer (transaction_at f place) (run_at f st place) ≡ false → (run_at f st place).after ≡ st
 unwritten f st place = by (transaction_at f place)
   where
-    by_end : (s : texts.Behaviour) (run : SerialRun) → ((has_written (meaning_of s) run.replies ≡ false) → run.after ≡ st) → is_writer_run (meaning_of s) run.replies run.end ≡ false → settled run.end st run.after ≡ st
+    by_end : (s : texts.Script) (run : SerialRun) → ((has_written (meaning_of s) run.replies ≡ false) → run.after ≡ st) → is_writer_run (meaning_of s) run.replies run.end ≡ false → settled run.end st run.after ≡ st
     by_end s run more h = by (run.end) h
       where
         by : (e : End) → is_writer_run (meaning_of s) run.replies e ≡ false → settled e st run.after ≡ st
         by E.Commit h = more h
         by E.Cancel h = refl
 
-    by : (t : Option texts.Behaviour) → is_writer t (script_run (machines_for f) st t) ≡ false → (script_run (machines_for f) st t).after ≡ st
+    by : (t : Option texts.Script) → is_writer t (script_run (machines_for f) st t) ≡ false → (script_run (machines_for f) st t).after ≡ st
     by None h = refl
     by (Some s) h = by_end s (run_within (machines_for f) s.weight (meaning_of s) st) (run_stays (shapes_of f.declarations) s.weight (meaning_of s) st) h

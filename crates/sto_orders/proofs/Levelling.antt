@@ -71,7 +71,7 @@ mapped : {A B : Type 0} (g : A → B) (o : Option A) (y : B) → option_map g o 
 mapped g None y e = absurd cc
 mapped g (Some x) y e = (x, refl, (let same : g x ≡ y = cc in same))
 
-keys_of_nodes : (es : List (Key × Ways)) → map (λ (p : Node). p.key) (map node_of es) ≡ map (λ (e : Key × Ways). e.0) es
+pub keys_of_nodes : (es : List (Key × Ways)) → map (λ (p : Node). p.key) (map node_of es) ≡ map (λ (e : Key × Ways). e.0) es
 keys_of_nodes [] = refl
 keys_of_nodes (e ∷ es) = ap (λ (ks : List Key). e.0 ∷ ks) (keys_of_nodes es)
 

@@ -85,25 +85,29 @@ pub(crate) fn next_level(
     let mut found = BTreeMap::new(alloc);
     for node in nodes {
         go_on_from(alloc, file, shapes, by, node, &mut found)?;
-        if room < found.len() as u64 {
-            return Err(OrdersError::TooMany);
-        }
     }
-    let next = nodes_of(alloc, found)?;
+    let next = nodes_of(alloc, found, room)?;
     Ok(next)
 }
 
-// The nodes that were found, by rising keys.
-fn nodes_of(alloc: Global, found: BTreeMap<Key, Ways>) -> Result<Vec<Node>, NoMemory>
+// The nodes that were found, by rising keys, where there are no more than may be.
+fn nodes_of(
+    alloc: Global,
+    found: BTreeMap<Key, Ways>,
+    room: u64,
+) -> Result<Vec<Node>, OrdersError>
     ensures each { IfOk result (λ nodes. nodes.items ≡ map node_of found.entries) }
     ensures apart { IfOk result (λ nodes. IsStrictlySortedBy key_cmp (map (λ p. p.key) nodes.items)) }
 {
+    if room < found.len() as u64 {
+        return Err(OrdersError::TooMany);
+    }
     let nodes = found
         .into_iter()
         .map(|(key, ways)| Node { key, ways })
         .collect(alloc);
     match nodes {
         Ok(nodes) => Ok(nodes),
-        Err(AllocError) => Err(NoMemory),
+        Err(AllocError) => Err(OrdersError::NoMemory),
     }
 }

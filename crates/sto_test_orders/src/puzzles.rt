@@ -11,10 +11,12 @@ use sto_orders::{OrdersError, SameBy, all_outcomes};
 use sto_part::NoMemory;
 
 // Each thread adds 1 to a box that it reads in the transaction before.
-const LOST_SPLIT: &str = "box a 0\nbox mine0 0\nbox mine1 0\nthread\nbegin\nx = get a\nset mine0 x\ncommit\nbegin\nx = get mine0\ny = sum x 1\nset a y\ncommit\nthread\nbegin\nx = get a\nset mine1 x\ncommit\nbegin\nx = get mine1\ny = sum x 1\nset a y\ncommit\n";
+const LOST_SPLIT: &str =
+    "box a 0\nbox mine0 0\nbox mine1 0\nthread\nbegin\nx = get a\nset mine0 x\ncommit\nbegin\nx = get mine0\ny = sum x 1\nset a y\ncommit\nthread\nbegin\nx = get a\nset mine1 x\ncommit\nbegin\nx = get mine1\ny = sum x 1\nset a y\ncommit\n";
 
 // Each thread adds 1 to a box.
-const LOST_UPDATE: &str = "box a 0\nthread\nbegin\nx = get a\ny = sum x 1\nset a y\ncommit\nthread\nbegin\nx = get a\ny = sum x 1\nset a y\ncommit\n";
+const LOST_UPDATE: &str =
+    "box a 0\nthread\nbegin\nx = get a\ny = sum x 1\nset a y\ncommit\nthread\nbegin\nx = get a\ny = sum x 1\nset a y\ncommit\n";
 
 // No thread has a transaction.
 const NOTHING: &str = "box a 0\n";
@@ -76,6 +78,9 @@ fn too_many_nodes_are_refused(rt: HostRuntime) -> Result<(), Fail> {
     let alloc = rt.alloc();
     assert_eq!(rt; why_not(alloc, LOST_SPLIT, 13)?, None);
     assert_eq!(rt; why_not(alloc, LOST_SPLIT, 12)?, Some(OrdersError::TooMany));
-    assert_eq!(rt; why_not(alloc, LOST_SPLIT, 8)?, Some(OrdersError::AtLeast(9)));
+    assert_eq!(rt;
+        why_not(alloc, LOST_SPLIT, 8)?,
+        Some(OrdersError::AtLeast(9))
+    );
     Ok(())
 }

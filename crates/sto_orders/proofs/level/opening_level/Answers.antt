@@ -1,4 +1,4 @@
-use Rattle.std.proofs.Common.{◌≡◌, ◌<◌, ℕ, List, [], ◌∷◌, length, sym, ap, ◌∙◌, subst, rules, arith}
+use Rattle.std.proofs.Common.{◌≡◌, ◌<◌, ℕ, List, [], ◌∷◌, ◌++◌, length, sym, ap, ◌∙◌, subst, rules, arith}
 use Rattle.std.proofs.lemmas.List.Elements.{All-nil}
 use Rattle.sto_model.specs.SequentialObjects.{opening_of}
 use Rattle.sto_model.specs.Objects.{machines_of}
@@ -34,5 +34,6 @@ pub returns : goal.returns
 returns c =
     let f = view c.args.file.now in
     let node : Node = record { key = c.in_ok-key.key; ways = c.in_ok-ways.ways } in
-    let only : c.push.new.self.items ≡ node ∷ [] = search rules in
+    let added : c.push.new.self.items ≡ c.new-nodes.result.items ++ node ∷ [] = search rules in
+    let only : c.push.new.self.items ≡ node ∷ [] = added ∙ ap (λ (ns : List Node). ns ++ node ∷ []) c.new-nodes.ensures.items in
     first_level c.args.by f node c.push.new.self.items (subst (λ (ps : List TransactionPlace). IsKeyOf c.args.by f ps node.key) (ap places c.in_ok-run.ensures.lines) c.in_ok-key.ensures) c.in_ok-ways.ensures only

@@ -13,7 +13,7 @@ outcome_at-requires-clause-node c =
     record { count = c.requires.level.count; few = c.requires.level.few; ways = c.requires.level.level.ways c.loop-node.node-index c.node-item.result at }
 
 pub loop-node-init : goal.loop-node-init
-loop-node-init c = λ count level. outcomes_none c.args.by (view c.args.file.now) count c.new-outcomes.result.items (search rules)
+loop-node-init c = λ count level. outcomes_none c.args.by (view c.args.file.now) count c.new-outcomes.result.items c.new-outcomes.ensures.items
 
 pub loop-node-preserved : goal.loop-node-preserved
 loop-node-preserved c = λ count level.
