@@ -28,7 +28,7 @@ use Rattle.sto_orders.specs.declared.level.Node.{Node}
 use Rattle.sto_orders.specs.Levels.{Found, Keeps, HasNextBelow, HasMoreWays, IsAdded}
 use Rattle.sto_orders.proofs.Filling.{take_one}
 use Rattle.sto_orders.proofs.Levelling.{keeps_below}
-use Rattle.sto_orders.proofs.Stepping.{done_at}
+use Rattle.sto_orders.proofs.Stepping.{done_at, done_long}
 
 -- Ways that are kept.
 
@@ -77,6 +77,16 @@ way_is by f count key ways xs i w h same l is =
 
 pub some_ways : (by : SameBy) (f : File) (count : ℕ) (key : Key) (ways : Ways) (xs : List Way) → AreWays by f count key ways → xs ≡ ways.each.items → 1 ≤ length xs
 some_ways by f count key ways xs h same = omega (arith, h.some, ap length same)
+
+first_item : {X : Type 0} (xs : List X) → 1 ≤ length xs → (x : X) × (slice_get xs 0 ≡ Some x)
+first_item [] l = absurd (omega (arith, l))
+first_item (x ∷ xs) l = (x, refl)
+
+-- the key of a node to which there are ways has a number for each thread
+pub node_long : (by : SameBy) (f : File) (count : ℕ) (key : Key) (ways : Ways) → AreWays by f count key ways → length key.done.items ≡ length f.threads
+node_long by f count key ways h =
+    let w = first_item ways.each.items h.some in
+    done_long by f (along w.0.order.items) key (h.each 0 w.0 w.1).leads
 
 -- A way that was added.
 

@@ -143,8 +143,8 @@ fn go_on(
     match next_at(file, &node.key, thread) {
         None => Ok(()),
         Some(at) => {
-            let step = make_step(alloc, file, shapes, by, node, thread, at)?;
-            let Step { way, key } = step;
+            let onward = make_step(alloc, file, shapes, by, node, thread, at)?;
+            let Step { way, key } = onward;
             add(alloc, found, key, way, thread, node.ways.orders)?;
             Ok(())
         }

@@ -91,11 +91,7 @@ pub(crate) fn next_level(
 }
 
 // The nodes that were found, by rising keys, where there are no more than may be.
-fn nodes_of(
-    alloc: Global,
-    found: BTreeMap<Key, Ways>,
-    room: u64,
-) -> Result<Vec<Node>, OrdersError>
+fn nodes_of(alloc: Global, found: BTreeMap<Key, Ways>, room: u64) -> Result<Vec<Node>, OrdersError>
     ensures each { IfOk result (λ nodes. nodes.items ≡ map node_of found.entries) }
     ensures apart { IfOk result (λ nodes. IsStrictlySortedBy key_cmp (map (λ p. p.key) nodes.items)) }
 {

@@ -23,14 +23,14 @@ loop-done-preserved c =
 pub outcomes_at-requires-clause-level : goal.outcomes_at-requires-clause-level
 outcomes_at-requires-clause-level c = record {
   count = c.loop-done._done;
-  few = omega (arith, c.loop-done.auto.done-end, c.transaction_count-count.ensures, c.requires.few_transactions);
+  few = omega (arith, c.loop-done.auto._done-end, c.transaction_count-count.ensures, c.requires.few_transactions);
   level = subst (λ (ns : List Node). AreLevel c.args.by (view c.args.file.now) c.loop-done._done ns) (sym c.as_slice-last.ensures.value) c.loop-done.invariant;
 }
 
 pub returns : goal.returns
 returns c =
     let f = view c.args.file.now in
-    let all : c.loop-done._done ≡ transaction_count f.threads = omega (arith, c.loop-done-test.false, c.loop-done.auto.done-end, c.transaction_count-count.ensures) in
+    let all : c.loop-done._done ≡ transaction_count f.threads = omega (arith, c.loop-done-test.false, c.loop-done.auto._done-end, c.transaction_count-count.ensures) in
     let level : AreLevel c.args.by f (transaction_count f.threads) c.as_slice-last.result.now =
     subst (λ (n : ℕ). AreLevel c.args.by f n c.as_slice-last.result.now) all
     (subst (λ (ns : List Node). AreLevel c.args.by f c.loop-done._done ns) (sym c.as_slice-last.ensures.value) c.loop-done.invariant) in

@@ -53,8 +53,8 @@ key_of-requires-clause-lines c =
     let is = way_is c.args.by f c.requires.node.count c.args.node.now.key c.args.node.now.ways c.as_slice-ways.result.now c.best_way-best.result w c.requires.node.ways c.as_slice-ways.ensures.value
     c.best_way-best.ensures c.index-ways-best.is in
     let begins = new_begins c.args.by f c.requires.node.count c.args.node.now.key w c.args.at c.args.thread is c.requires.next c.as_slice-order.result.now (c.as_slice-order.ensures.value ∙ c.in_ok-way.ensures) in
-    subst (λ (n : ℕ). HaveThreads n c.in_ok-run.run.lines.items) (length-threads c.args.file.now.threads.items)
-    (lines_of_threads f c.in_ok-run.run.lines.items (subst (AreInside f) (sym c.in_ok-run.ensures.placed) begins.inside))
+    subst (λ (n : ℕ). HaveThreads n c.in_ok-run.run'.lines.items) (length-threads c.args.file.now.threads.items)
+    (lines_of_threads f c.in_ok-run.run'.lines.items (subst (AreInside f) (sym c.in_ok-run.ensures.placed) begins.inside))
 
 pub returns-clause-way : goal.returns-clause-way
 returns-clause-way c = λ count ways.

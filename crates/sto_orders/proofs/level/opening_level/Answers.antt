@@ -27,7 +27,7 @@ key_of-requires-clause-lines c =
 
 pub key_of-requires-clause-so_far : goal.key_of-requires-clause-so_far
 key_of-requires-clause-so_far c =
-    opening_so_far (view c.args.file.now) c.in_ok-run.run c.in_ok-run.ensures.lines c.in_ok-run.ensures.writers
+    opening_so_far (view c.args.file.now) c.in_ok-run.run' c.in_ok-run.ensures.lines c.in_ok-run.ensures.writers
     (c.in_ok-run.ensures.state ∙ ap (λ (s : List Shape). opening_of (machines_of s)) c.requires.shapes)
 
 pub returns : goal.returns

@@ -18,7 +18,7 @@ no_place = record { thread = 0; position = 0 }
 
 pub loop-at-init : goal.loop-at-init
 loop-at-init c = record {
-  so_far = opening_so_far (view c.args.file.now) c.in_ok-run.run c.in_ok-run.ensures.lines c.in_ok-run.ensures.writers
+  so_far = opening_so_far (view c.args.file.now) c.in_ok-run.run' c.in_ok-run.ensures.lines c.in_ok-run.ensures.writers
       (c.in_ok-run.ensures.state ∙ ap (λ (s : List Shape). opening_of (machines_of s)) c.requires.shapes);
   placed = ap places c.in_ok-run.ensures.lines;
   counted = ap length c.in_ok-run.ensures.lines;
