@@ -20,13 +20,13 @@ returns-in-None-clause-next c = λ order is left. absurd (let none = c.in-None.e
 
 pub returns-in_ok-add-in-Some-clause-found : goal.returns-in_ok-add-in-Some-clause-found
 returns-in_ok-add-in-Some-clause-found c = λ count ways h.
-    found_more c.args.by (view c.args.file.now) (suc count) c.args.found.now c.add.new.found c.in_ok-onward.onward.key c.in_ok-onward.onward.way c.in_ok-add.ensures h (c.in_ok-onward.ensures.way count ways)
+    found_more c.args.by (view c.args.file.now) (suc count) c.args.found.now c.add.new.found c.in_ok-onward-in-Some.onward.key c.in_ok-onward-in-Some.onward.way c.in_ok-add-in-Some.ensures h (c.in_ok-onward-in-Some.ensures.way count ways)
 
 pub returns-in_ok-add-in-Some-clause-keeps : goal.returns-in_ok-add-in-Some-clause-keeps
 returns-in_ok-add-in-Some-clause-keeps c =
-    keeps_more c.args.by (view c.args.file.now) 0 c.args.found.now c.add.new.found c.in_ok-onward.onward.key c.in_ok-onward.onward.way c.in_ok-add.ensures
+    keeps_more c.args.by (view c.args.file.now) 0 c.args.found.now c.add.new.found c.in_ok-onward-in-Some.onward.key c.in_ok-onward-in-Some.onward.way c.in_ok-add-in-Some.ensures
 
 pub returns-in_ok-add-in-Some-clause-next : goal.returns-in_ok-add-in-Some-clause-next
 returns-in_ok-add-in-Some-clause-next c = λ order is left.
     subst (λ (p : Place). HasFound c.args.by (view c.args.file.now) c.add.new.found (order ++ p ∷ [])) (sym (c.in-Some.ensures.some c.args.by order is).0)
-    (found_here c.args.by (view c.args.file.now) 0 c.args.found.now c.add.new.found c.in_ok-onward.onward.key c.in_ok-onward.onward.way c.in_ok-add.ensures (order ++ place_of c.in-Some.at ∷ []) (c.in_ok-onward.ensures.leads order is))
+    (found_here c.args.by (view c.args.file.now) 0 c.args.found.now c.add.new.found c.in_ok-onward-in-Some.onward.key c.in_ok-onward-in-Some.onward.way c.in_ok-add-in-Some.ensures (order ++ place_of c.in-Some.at ∷ []) (c.in_ok-onward-in-Some.ensures.leads order is))
