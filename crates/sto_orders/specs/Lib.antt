@@ -1,0 +1,9 @@
+pub mod Outcomes
+pub mod Keys
+pub mod Ways
+pub mod Levels
+pub use Rattle.sto_lang.specs.Sound
+pub use Rattle.sto_lang.specs.Views
+pub use Rattle.sto_report_spec.specs.Orders
+pub use Rattle.sto_report_spec.specs.Replay
+pub use Rattle.sto_journal.specs.Journals
