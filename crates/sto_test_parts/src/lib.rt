@@ -8,8 +8,6 @@ mod cache;
 #[cfg(test)]
 mod claims;
 #[cfg(test)]
-mod desk;
-#[cfg(test)]
 mod item;
 #[cfg(test)]
 mod model;
