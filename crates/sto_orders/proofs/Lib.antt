@@ -7,3 +7,5 @@ pub mod Stepping
 pub mod Levelling
 pub mod Gathering
 pub mod Nexts
+pub mod Limiting
+pub mod Refusing
