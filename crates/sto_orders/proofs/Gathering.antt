@@ -63,7 +63,7 @@ long_numbers : (first n : ℕ) → length (numbers_from first n) ≡ n
 long_numbers first zero = refl
 long_numbers first (suc n) = ap suc (long_numbers (suc first) n)
 
-same_done : (f : File) (a b : List TransactionPlace) (ts : List ℕ) → IsOrder f a → IsOrder f b → map (done_in a) ts ≡ map (done_in b) ts
+pub same_done : (f : File) (a b : List TransactionPlace) (ts : List ℕ) → IsOrder f a → IsOrder f b → map (done_in a) ts ≡ map (done_in b) ts
 same_done f a b [] h k = refl
 same_done f a b (t ∷ ts) h k =
     let here : done_in a t ≡ done_in b t = ap length (h t ∙ sym (k t)) in

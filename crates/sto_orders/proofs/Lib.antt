@@ -9,3 +9,4 @@ pub mod Gathering
 pub mod Nexts
 pub mod Limiting
 pub mod Refusing
+pub mod Sameness

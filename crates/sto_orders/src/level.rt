@@ -57,7 +57,8 @@ pub(crate) fn opening_level(
     ensures { IfOk result (λ nodes. AreLevel by (view file.now) 0 nodes.items) }
 {
     let run = Progress::opening(alloc, shapes)?;
-    let key = key_of(alloc, file, by, &run)?;
+    let lines = run.lines.as_slice();
+    let key = key_of(alloc, file, by, lines, &run.state)?;
     let ways = no_steps(alloc)?;
     let node = Node { key, ways };
     let mut nodes = Vec::new(alloc);
