@@ -5,6 +5,8 @@
 mod puzzles;
 mod refused;
 mod uncaused;
+mod untold;
 
 pub use refused::not_all_outcomes;
 pub use uncaused::no_cause;
+pub use untold::not_all_reports;
