@@ -15,7 +15,7 @@ use Rattle.clap.proofs.FaultLemmas.{leaf_fault}
 use Rattle.clap.proofs.WalkLemmas.{first_value-rows}
 use Rattle.clap.proofs.OnLiterals.{clap_on_literals}
 use Rattle.sto_args.specs.Given.{Text, Takes, Given, number_name, is_option, value_of, given_by, is_refused}
-use Rattle.sto_args.specs.Commands.{run_takes, step_takes, explore_takes, gen_takes, bench_takes}
+use Rattle.sto_args.specs.Commands.{run_takes, step_takes, explore_takes, schedules_takes, gen_takes, bench_takes}
 use Rattle.sto_args.specs.Asked.{check_takes, feed_takes}
 use Rattle.sto_args.specs.Grammars.{Finds, app_for}
 use Rattle.sto_args.proofs.Rows.{valued, row}
@@ -261,6 +261,14 @@ explore_is_built = is_built (codes "explore") explore_takes refl refl (λ rows. 
 pub explore_is_simple : is_simple_and_free (app_for (codes "explore") explore_takes) ≡ true
 unfolding clap_on_literals
 explore_is_simple = refl
+
+pub schedules_is_built : IsBuilt (codes "schedules") schedules_takes
+unfolding clap_on_literals
+schedules_is_built = is_built (codes "schedules") schedules_takes refl refl (λ rows. refl)
+
+pub schedules_is_simple : is_simple_and_free (app_for (codes "schedules") schedules_takes) ≡ true
+unfolding clap_on_literals
+schedules_is_simple = refl
 
 pub gen_is_built : IsBuilt (codes "gen") gen_takes
 unfolding clap_on_literals

@@ -9,7 +9,7 @@ use Rattle.std.proofs.lemmas.List.{take_all}
 use Rattle.clap.proofs.WalkLemmas.{list_any-map}
 use Rattle.sto_args.specs.declared.command.Command.{Command}
 use Rattle.sto_args.specs.Given.{Text, Takes, Given, Word, Bare, Valued, Alone, Refused, Reading, with_word, with_awaited, kind_of, after_word, given_after, given_by, is_refused, is_refused_kind, as_option, gives_flag}
-use Rattle.sto_args.specs.Commands.{command_of, command_from, run_of, run_takes, step_of, step_takes, trace_of, draw_takes, draw_of, explore_takes, explore_of, upgrade_of, gen_of, gen_takes, bench_of, bench_takes}
+use Rattle.sto_args.specs.Commands.{command_of, command_from, run_of, run_takes, step_of, step_takes, trace_of, draw_takes, draw_of, explore_takes, explore_of, schedules_takes, schedules_of, upgrade_of, gen_of, gen_takes, bench_of, bench_takes}
 
 is_refused_word : (kind : Word) → is_refused_kind kind ≡ true → kind ≡ Refused
 is_refused_word (Bare name) e = absurd (true≢false (sym e))
@@ -37,24 +37,25 @@ refused_given t (word ∷ words) r e = go (is_refused word) refl (refused_given 
 pub words_refused : (t : Takes) (words : List Text) → list_any is_refused words ≡ true → given_by t words ≡ None
 words_refused t words e = refused_given t words (record { given = []; waiting = None }) e
 
-abbrev command_by : Bool → Bool → Bool → Bool → Bool → Bool → Bool → Bool
-    → Option Given → Option Given → Option Given → Option Given → Option Given → Option Command → Option Given → Option Given → Option Command
-command_by is_run is_step is_trace is_draw is_explore is_upgrade is_gen is_bench run step trace draw explore upgrade gen bench =
+abbrev command_by : Bool → Bool → Bool → Bool → Bool → Bool → Bool → Bool → Bool
+    → Option Given → Option Given → Option Given → Option Given → Option Given → Option Given → Option Command → Option Given → Option Given → Option Command
+command_by is_run is_step is_trace is_draw is_explore is_schedules is_upgrade is_gen is_bench run step trace draw explore schedules upgrade gen bench =
     if is_run then option_and_then run_of run else (if is_step then option_and_then step_of step else (if is_trace then option_and_then trace_of trace else (if is_draw then option_and_then draw_of draw
-    else (if is_explore then option_and_then explore_of explore else (if is_upgrade then upgrade
-    else (if is_gen then option_and_then gen_of gen else (if is_bench then option_and_then bench_of bench else None)))))))
+    else (if is_explore then option_and_then explore_of explore else (if is_schedules then option_and_then schedules_of schedules else (if is_upgrade then upgrade
+    else (if is_gen then option_and_then gen_of gen else (if is_bench then option_and_then bench_of bench else None))))))))
 
-no_command : (is_run is_step is_trace is_draw is_explore is_upgrade is_gen is_bench : Bool)
-    → None ≡ command_by is_run is_step is_trace is_draw is_explore is_upgrade is_gen is_bench None None None None None None None None
-no_command true is_step is_trace is_draw is_explore is_upgrade is_gen is_bench = refl
-no_command false true is_trace is_draw is_explore is_upgrade is_gen is_bench = refl
-no_command false false true is_draw is_explore is_upgrade is_gen is_bench = refl
-no_command false false false true is_explore is_upgrade is_gen is_bench = refl
-no_command false false false false true is_upgrade is_gen is_bench = refl
-no_command false false false false false true is_gen is_bench = refl
-no_command false false false false false false true is_bench = refl
-no_command false false false false false false false true = refl
-no_command false false false false false false false false = refl
+no_command : (is_run is_step is_trace is_draw is_explore is_schedules is_upgrade is_gen is_bench : Bool)
+    → None ≡ command_by is_run is_step is_trace is_draw is_explore is_schedules is_upgrade is_gen is_bench None None None None None None None None None
+no_command true is_step is_trace is_draw is_explore is_schedules is_upgrade is_gen is_bench = refl
+no_command false true is_trace is_draw is_explore is_schedules is_upgrade is_gen is_bench = refl
+no_command false false true is_draw is_explore is_schedules is_upgrade is_gen is_bench = refl
+no_command false false false true is_explore is_schedules is_upgrade is_gen is_bench = refl
+no_command false false false false true is_schedules is_upgrade is_gen is_bench = refl
+no_command false false false false false true is_upgrade is_gen is_bench = refl
+no_command false false false false false false true is_gen is_bench = refl
+no_command false false false false false false false true is_bench = refl
+no_command false false false false false false false false true = refl
+no_command false false false false false false false false false = refl
 
 no_upgrade : (words : List Text) → list_any is_refused words ≡ true → None ≡ upgrade_of words
 no_upgrade [] e = absurd (true≢false (sym e))
@@ -67,13 +68,14 @@ command_refused word words e =
     let is_trace = bytes_eq word (codes "trace") in
     let is_draw = bytes_eq word (codes "draw") in
     let is_explore = bytes_eq word (codes "explore") in
+    let is_schedules = bytes_eq word (codes "schedules") in
     let is_upgrade = bytes_eq word (codes "upgrade") in
     let is_gen = bytes_eq word (codes "gen") in
     let is_bench = bytes_eq word (codes "bench") in
     let none : (t : Takes) → None ≡ given_by t words = λ t. sym (words_refused t words e) in
-    no_command is_run is_step is_trace is_draw is_explore is_upgrade is_gen is_bench
-    ∙ (λ i. command_by is_run is_step is_trace is_draw is_explore is_upgrade is_gen is_bench
-    (none run_takes i) (none step_takes i) (none step_takes i) (none draw_takes i) (none explore_takes i) (no_upgrade words e i) (none gen_takes i) (none bench_takes i))
+    no_command is_run is_step is_trace is_draw is_explore is_schedules is_upgrade is_gen is_bench
+    ∙ (λ i. command_by is_run is_step is_trace is_draw is_explore is_schedules is_upgrade is_gen is_bench
+    (none run_takes i) (none step_takes i) (none step_takes i) (none draw_takes i) (none explore_takes i) (none schedules_takes i) (no_upgrade words e i) (none gen_takes i) (none bench_takes i))
 
 -- words after the first one that give a value to a flag
 pub valued_after_first : {X : Type 0} (f : X → Text) (xs : List X) → true ≡ list_any (λ x. gives_flag (f x)) (take (length xs - 1) (drop 1 xs)) → None ≡ command_of (map f xs)

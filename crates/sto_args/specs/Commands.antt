@@ -7,7 +7,9 @@ use Rattle.std.specs.List.{list_any}
 use Rattle.sto_args.specs.Given.{Text, Takes, Given, value_of, number_name, given_by, as_option, gives_flag}
 use Rattle.sto_args.specs.declared.command.Command.{Command}
 use Rattle.sto_args.specs.declared.command.Stepping.{Stepping}
-use Rattle.sto_args.specs.declared.command.Command.TheVariants.{Run, Step, Trace, Draw, Explore, Upgrade, Gen, Bench}
+use Rattle.sto_args.specs.declared.command.Command.TheVariants.{Run, Step, Trace, Draw, Explore, Schedules, Upgrade, Gen, Bench}
+use Rattle.sto_args.specs.declared.command.By.{By}
+use Rattle.sto_args.specs.declared.command.By.TheVariants.{State, Answers, Order}
 
 -- the number of 64 bits that a text is: decimal digits without a sign, and no leading zero unless it is 0 alone
 abbrev pub decimal_of : Text → Option ℕ
@@ -55,17 +57,38 @@ draw_takes = record { options = codes "tries" ∷ []; number = false }
 abbrev pub draw_of : Given → Option Command
 draw_of given = option_map (λ tries. Draw tries) (tries_of (value_of (codes "tries") given))
 
--- `explore [--switches K] [--tries N] [--json]`
+-- `explore [--by WORD] [--states N] [--json]`
 abbrev pub explore_takes : Takes
-explore_takes = record { options = codes "switches" ∷ codes "tries" ∷ codes "json" ∷ []; number = false }
+explore_takes = record { options = codes "by" ∷ codes "states" ∷ codes "json" ∷ []; number = false }
+
+-- `state`, `answers` or `order`; `state` where nothing is given
+abbrev pub by_of : Option Text → Option By
+by_of None = Some State
+by_of (Some text) =
+    if bytes_eq text (codes "state") then Some State
+    else (if bytes_eq text (codes "answers") then Some Answers
+    else (if bytes_eq text (codes "order") then Some Order
+    else None))
+
+-- 1 to 1,000,000,000 nodes; 1,000,000 where none is given
+abbrev pub states_of : Option Text → Option ℕ
+states_of None = Some 1000000
+states_of (Some text) = number_in 1 1000000000 text
+
+abbrev pub explore_of : Given → Option Command
+explore_of given = option_and_then (λ by. option_map (λ states. Explore by states (is_some (value_of (codes "json") given))) (states_of (value_of (codes "states") given))) (by_of (value_of (codes "by") given))
+
+-- `schedules [--switches K] [--tries N] [--json]`
+abbrev pub schedules_takes : Takes
+schedules_takes = record { options = codes "switches" ∷ codes "tries" ∷ codes "json" ∷ []; number = false }
 
 -- at most 8 switches; 2 where none is given
 abbrev pub switches_of : Option Text → Option ℕ
 switches_of None = Some 2
 switches_of (Some text) = number_in 0 8 text
 
-abbrev pub explore_of : Given → Option Command
-explore_of given = option_and_then (λ switches. option_map (λ tries. Explore switches tries (is_some (value_of (codes "json") given))) (tries_of (value_of (codes "tries") given))) (switches_of (value_of (codes "switches") given))
+abbrev pub schedules_of : Given → Option Command
+schedules_of given = option_and_then (λ switches. option_map (λ tries. Schedules switches tries (is_some (value_of (codes "json") given))) (tries_of (value_of (codes "tries") given))) (switches_of (value_of (codes "switches") given))
 
 -- `upgrade` alone
 abbrev pub upgrade_of : List Text → Option Command
@@ -94,10 +117,11 @@ command_from word words =
     else (if bytes_eq word (codes "trace") then option_and_then trace_of (given_by step_takes words)
     else (if bytes_eq word (codes "draw") then option_and_then draw_of (given_by draw_takes words)
     else (if bytes_eq word (codes "explore") then option_and_then explore_of (given_by explore_takes words)
+    else (if bytes_eq word (codes "schedules") then option_and_then schedules_of (given_by schedules_takes words)
     else (if bytes_eq word (codes "upgrade") then upgrade_of words
     else (if bytes_eq word (codes "gen") then option_and_then gen_of (given_by gen_takes words)
     else (if bytes_eq word (codes "bench") then option_and_then bench_of (given_by bench_takes words)
-    else None)))))))
+    else None))))))))
 
 abbrev pub command_of : List Text → Option Command
 command_of [] = None
@@ -118,7 +142,8 @@ HasRange (Run threads tries json) = HasThreads threads × (1 ≤ tries) × (trie
 HasRange (Step tries json) = (1 ≤ tries) × (tries ≤ 64)
 HasRange (Trace tries json) = (1 ≤ tries) × (tries ≤ 64)
 HasRange (Draw tries) = (1 ≤ tries) × (tries ≤ 64)
-HasRange (Explore switches tries json) = (switches ≤ 8) × (1 ≤ tries) × (tries ≤ 64)
+HasRange (Explore by states json) = Unit {0}
+HasRange (Schedules switches tries json) = (switches ≤ 8) × (1 ≤ tries) × (tries ≤ 64)
 HasRange Upgrade = Unit {0}
 HasRange (Gen number) = Unit {0}
 HasRange (Bench number threads) = HasThreads threads

@@ -3,16 +3,25 @@ ghost use Rattle.std.specs.Prelude.{◌≡◌, ◌≤◌, IfOk, IfSome, false, i
 ghost use Rattle.std.specs.List.{list_any};
 ghost use Rattle.std.specs.Option.{option_and_then, option_map};
 ghost use Rattle.sto_args.specs.Given.{given_by, is_refused};
-ghost use Rattle.sto_args.specs.Commands.{HasThreads, HasRange, command_in, command_from, run_takes, run_of, step_takes, stepping_of, step_of, trace_of, draw_takes, draw_of, explore_takes, explore_of, upgrade_of, gen_takes, gen_of, bench_takes, bench_of, threads_of, tries_of, switches_of, decimal_of};
+ghost use Rattle.sto_args.specs.Commands.{HasThreads, HasRange, command_in, command_from, run_takes, run_of, step_takes, stepping_of, step_of, trace_of, draw_takes, draw_of, explore_takes, explore_of, schedules_takes, schedules_of, upgrade_of, gen_takes, gen_of, bench_takes, bench_of, threads_of, tries_of, switches_of, by_of, states_of, decimal_of};
 
 use crate::asked::{Checking, checking_from};
 use crate::grammar::{
-    bench_grammar, explore_grammar, gen_grammar, matches_in, run_grammar, step_grammar,
+    bench_grammar, explore_grammar, gen_grammar, matches_in, run_grammar, schedules_grammar,
+    step_grammar,
 };
 use crate::number::{decimal_of, number_in};
 use crate::word::{as_options, has_flag_value, has_refused};
 use std::alloc::Global;
 use sto_part::NoMemory;
+
+/// What outcomes are told apart by: the final state; that and the answers; or these and the order.
+#[derive(Clone, Copy, PartialEq, Eq)]
+pub enum By {
+    State,
+    Answers,
+    Order,
+}
 
 /// What the program is asked to do.
 #[derive(Clone, Copy, PartialEq, Eq)]
@@ -39,9 +48,16 @@ pub enum Command {
     Draw {
         tries: u32,
     },
+    /// Reads a script, and prints what all orders of its transactions lead to, as JSON or as text. At
+    /// most so many nodes may be needed, where orders meet.
+    Explore {
+        by: By,
+        states: u64,
+        json: bool,
+    },
     /// Reads a script, runs it by every schedule with at most so many switches, with so many tries of
     /// each transaction, and prints every outcome, as JSON or as text.
-    Explore {
+    Schedules {
         switches: u32,
         tries: u32,
         json: bool,
@@ -100,6 +116,31 @@ fn switches(text: Option<&str>) -> Option<u32>
     };
     let switches = number_in(0, 8, text)?;
     Some(switches as u32)
+}
+
+/// What an option tells outcomes apart by, the final state where it is not given.
+fn told_by(text: Option<&str>) -> Option<By>
+    ensures { result ≡ by_of (option_map (λ t. t.now) text.entry) }
+{
+    let Some(text) = text else {
+        return Some(By::State);
+    };
+    match text {
+        "state" => Some(By::State),
+        "answers" => Some(By::Answers),
+        "order" => Some(By::Order),
+        _ => None,
+    }
+}
+
+/// The nodes that an option allows, 1,000,000 where it is not given.
+fn states(text: Option<&str>) -> Option<u64>
+    ensures { result ≡ states_of (option_map (λ t. t.now) text.entry) }
+{
+    let Some(text) = text else {
+        return Some(1_000_000);
+    };
+    number_in(1, 1_000_000_000, text)
 }
 
 fn number(text: Option<&str>) -> Option<u64>
@@ -202,6 +243,27 @@ fn explore(alloc: Global, words: &[&str]) -> Result<Option<Command>, NoMemory>
     let Some(matches) = matches_in(grammar, words)? else {
         return Ok(None);
     };
+    let Some(by) = told_by(matches.get_str("by")) else {
+        return Ok(None);
+    };
+    let Some(states) = states(matches.get_str("states")) else {
+        return Ok(None);
+    };
+    let json = is_given(matches.get_str("json"));
+    Ok(Some(Command::Explore { by, states, json }))
+}
+
+fn schedules(alloc: Global, words: &[&str]) -> Result<Option<Command>, NoMemory>
+    requires { list_any is_refused (map (λ word. word.now) words.now) ≡ false }
+    ensures range { IfOk result (λ c. IfSome c HasRange) }
+    ensures command { IfOk result (λ c. c ≡ option_and_then schedules_of (given_by schedules_takes (map (λ word. word.now) words.now))) }
+{
+    let Ok(grammar) = schedules_grammar(alloc) else {
+        return Err(NoMemory);
+    };
+    let Some(matches) = matches_in(grammar, words)? else {
+        return Ok(None);
+    };
     let Some(switches) = switches(matches.get_str("switches")) else {
         return Ok(None);
     };
@@ -209,7 +271,7 @@ fn explore(alloc: Global, words: &[&str]) -> Result<Option<Command>, NoMemory>
         return Ok(None);
     };
     let json = is_given(matches.get_str("json"));
-    Ok(Some(Command::Explore {
+    Ok(Some(Command::Schedules {
         switches,
         tries,
         json,
@@ -272,7 +334,8 @@ fn bench(alloc: Global, words: &[&str]) -> Result<Option<Command>, NoMemory>
 /// | `step [--tries N] [--json]` | `Step`, with tries and a form as for `Run` |
 /// | `trace [--tries N] [--json]` | `Trace`, with tries and a form as for `Run` |
 /// | `draw [--tries N]` | `Draw`, with tries as for `Run` |
-/// | `explore [--switches K] [--tries N] [--json]` | `Explore`, with at most 8 switches, and 2 where none is given, and with tries and a form as for `Run` |
+/// | `explore [--by WORD] [--states N] [--json]` | `Explore`, by `state`, `answers` or `order`, and `state` where none is given, with 1 to 1,000,000,000 nodes, and 1,000,000 where none is given, and with a form as for `Run` |
+/// | `schedules [--switches K] [--tries N] [--json]` | `Schedules`, with at most 8 switches, and 2 where none is given, and with tries and a form as for `Run` |
 /// | `upgrade` | `Upgrade` |
 /// | `gen NUMBER` | `Gen`, with a number of 64 bits |
 /// | `bench NUMBER [--threads N]` | `Bench`, with a number of 64 bits, and with threads as for `Run` |
@@ -308,6 +371,7 @@ fn command_from(alloc: Global, word: &str, options: &[&str]) -> Result<Option<Co
         "trace" => trace(alloc, options),
         "draw" => draw(alloc, options),
         "explore" => explore(alloc, options),
+        "schedules" => schedules(alloc, options),
         "upgrade" => Ok(upgrade(options)),
         "gen" => generate(alloc, options),
         "bench" => bench(alloc, options),

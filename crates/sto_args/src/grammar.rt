@@ -3,7 +3,7 @@ ghost use Rattle.std.specs.Prelude.{◌≡◌, IfOk, map, true, codes};
 ghost use Rattle.clap.specs.Words.{app_of, is_simple_and_free};
 ghost use Rattle.clap.specs.Simple.{with_rule};
 ghost use Rattle.sto_args.specs.Asked.{check_takes, feed_takes};
-ghost use Rattle.sto_args.specs.Commands.{run_takes, step_takes, explore_takes, gen_takes, bench_takes};
+ghost use Rattle.sto_args.specs.Commands.{run_takes, step_takes, explore_takes, schedules_takes, gen_takes, bench_takes};
 ghost use Rattle.sto_args.specs.Grammars.{Finds, app_for, option_rule, nothing};
 
 use clap::error::ErrorKind;
@@ -49,11 +49,20 @@ pub(crate) fn step_grammar<'a>(alloc: Global) -> Result<Command<'a>, AllocError>
     with_option(alloc, first, "json")
 }
 
-/// `explore [--switches K] [--tries N] [--json]`
+/// `explore [--by WORD] [--states N] [--json]`
 pub(crate) fn explore_grammar<'a>(alloc: Global) -> Result<Command<'a>, AllocError>
     ensures { IfOk result (λ c. app_of c ≡ app_for (codes "explore") explore_takes) }
 {
-    let first = with_option(alloc, bare(alloc, "explore"), "switches")?;
+    let first = with_option(alloc, bare(alloc, "explore"), "by")?;
+    let second = with_option(alloc, first, "states")?;
+    with_option(alloc, second, "json")
+}
+
+/// `schedules [--switches K] [--tries N] [--json]`
+pub(crate) fn schedules_grammar<'a>(alloc: Global) -> Result<Command<'a>, AllocError>
+    ensures { IfOk result (λ c. app_of c ≡ app_for (codes "schedules") schedules_takes) }
+{
+    let first = with_option(alloc, bare(alloc, "schedules"), "switches")?;
     let second = with_option(alloc, first, "tries")?;
     with_option(alloc, second, "json")
 }

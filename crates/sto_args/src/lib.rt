@@ -8,4 +8,4 @@ mod number;
 mod word;
 
 pub use asked::{Checking, Feeding, find_checking, find_feeding};
-pub use command::{Command, find_command};
+pub use command::{By, Command, find_command};

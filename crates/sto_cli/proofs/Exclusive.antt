@@ -5,9 +5,9 @@ use Rattle.sto_lang.specs.Files.{file_of}
 use Rattle.sto_lang.specs.Scripts.{File}
 use Rattle.sto_lang.specs.declared.fault.ScriptFault.{ScriptFault}
 use Rattle.sto_args.specs.declared.command.Command.{Command}
-use Rattle.sto_args.specs.declared.command.Command.TheVariants.{Run, Step, Trace, Draw, Explore, Upgrade, Gen, Bench}
+use Rattle.sto_args.specs.declared.command.Command.TheVariants.{Run, Step, Trace, Draw, Explore, Schedules, Upgrade, Gen, Bench}
 use Rattle.sto_console.specs.declared.refusal.InputFault.{InputFault}
-use Rattle.sto_console.specs.declared.refusal.InputFault.TheVariants.{Script, NoReport, LongTrace, LongRun, ManySchedules}
+use Rattle.sto_console.specs.declared.refusal.InputFault.TheVariants.{Script, NoReport, LongTrace, LongRun, ManySchedules, ManyStates}
 use Rattle.sto_console.specs.Outcomes.{IsOwn}
 use Rattle.sto_console.proofs.Causes.{IsExclusive}
 use Rattle.sto_console.proofs.Faultless.{no_fault}
@@ -16,6 +16,8 @@ use Rattle.sto_console.specs.declared.refusal.ScheduleCounts.{ScheduleCounts}
 use Rattle.sto_cli.specs.Traces.{IsTraceable, IsTraceFault, HasLongRun, IsRunFault, NeverMany}
 use Rattle.sto_run_schedules.specs.Leading.{HasSomeLongRun}
 use Rattle.sto_cli.specs.Explorations.{HasManySchedules}
+use Rattle.sto_orders.specs.declared.same_by.SameBy.{SameBy}
+use Rattle.sto_cli.specs.Orders.{same_by, IsOrdersFault}
 use Rattle.sto_draw.specs.Drawn.{IsTooLong}
 use Rattle.sto_cli.specs.Outputs.{IsOutput, HasFault}
 use Rattle.sto_cli.specs.Programs.{reads_script, program}
@@ -25,7 +27,8 @@ reads (Run threads tries json) bytes fault h = refl
 reads (Step tries json) bytes fault h = refl
 reads (Trace tries json) bytes fault h = refl
 reads (Draw tries) bytes fault h = refl
-reads (Explore switches tries json) bytes fault h = refl
+reads (Explore by states json) bytes fault h = refl
+reads (Schedules switches tries json) bytes fault h = refl
 reads Upgrade bytes fault h = refl
 reads (Gen number) bytes fault h = absurd h
 reads (Bench number threads) bytes fault h = absurd h
@@ -42,6 +45,7 @@ no_trace_fault bytes file LongTrace h f =
     let few = h.1 in let many = f.2 in omega (arith, same, few, many)
 no_trace_fault bytes file LongRun h f = f
 no_trace_fault bytes file (ManySchedules counts) h f = f
+no_trace_fault bytes file (ManyStates count) h f = f
 
 no_run_fault : (IsLong : File → Type 0) (IsMany : ScheduleCounts → File → Type 0) (bytes : List ℕ) (file : File) (fault : InputFault) → IsOwn fault
     → IsTraceable bytes file → IsRunFault IsLong IsMany bytes fault → ⊥
@@ -50,13 +54,23 @@ no_run_fault IsLong IsMany bytes file NoReport own h f = no_trace_fault bytes fi
 no_run_fault IsLong IsMany bytes file LongTrace own h f = no_trace_fault bytes file LongTrace h f
 no_run_fault IsLong IsMany bytes file LongRun own h f = own
 no_run_fault IsLong IsMany bytes file (ManySchedules counts) own h f = own
+no_run_fault IsLong IsMany bytes file (ManyStates count) own h f = own
+
+no_orders_fault : (by : SameBy) (states : ℕ) (bytes : List ℕ) (file : File) (fault : InputFault) → IsOwn fault → file_of bytes ≡ Ok file → IsOrdersFault by states bytes fault → ⊥
+no_orders_fault by states bytes file (Script fault) own h f = true≢false (ap is_ok (sym h ∙ f))
+no_orders_fault by states bytes file NoReport own h f = f
+no_orders_fault by states bytes file LongTrace own h f = f
+no_orders_fault by states bytes file LongRun own h f = f
+no_orders_fault by states bytes file (ManySchedules counts) own h f = f
+no_orders_fault by states bytes file (ManyStates count) own h f = own
 
 faultless : (command : Command) (bytes text : List ℕ) (fault : InputFault) → IsOwn fault → IsOutput command bytes text → HasFault command bytes fault → ⊥
 faultless (Run threads tries json) bytes text fault own h f = no_fault bytes h.0 fault h.1 f
 faultless (Step tries json) bytes text fault own h f = no_fault bytes h.0 fault h.1 f
 faultless (Trace tries json) bytes text fault own h f = no_run_fault (HasLongRun tries) NeverMany bytes h.0 fault own h.1 f
 faultless (Draw tries) bytes text fault own h f = no_run_fault (IsTooLong tries) NeverMany bytes h.0 fault own h.1 f
-faultless (Explore switches tries json) bytes text fault own h f = no_run_fault (HasSomeLongRun tries) (HasManySchedules switches tries json) bytes h.0 fault own h.1 f
+faultless (Explore by states json) bytes text fault own h f = no_orders_fault (same_by by) states bytes h.0 fault own h.1 f
+faultless (Schedules switches tries json) bytes text fault own h f = no_run_fault (HasSomeLongRun tries) (HasManySchedules switches tries json) bytes h.0 fault own h.1 f
 faultless Upgrade bytes text fault own h f = no_fault bytes h.0 fault h.1 f
 faultless (Gen number) bytes text fault own h f = f
 faultless (Bench number threads) bytes text fault own h f = f

@@ -1,10 +1,10 @@
--- What `explore` prints of a script, and why it refuses one.
+-- What `schedules` prints of a script, and why it refuses one.
 use Rattle.std.specs.Prelude.{◌≡◌, ◌≤◌, ℕ, List, Bool, Option, None, Some, string_bytes}
 use Rattle.std.specs.List.{AllByRecursion}
 use Rattle.sto_lang.specs.Scripts.{File}
 use Rattle.sto_report_spec.specs.declared.form.ReportForm.{ReportForm}
 use Rattle.sto_console.specs.declared.refusal.InputFault.{InputFault}
-use Rattle.sto_console.specs.declared.refusal.InputFault.TheVariants.{Script, NoReport, LongTrace, LongRun, ManySchedules}
+use Rattle.sto_console.specs.declared.refusal.InputFault.TheVariants.{Script, NoReport, LongTrace, LongRun, ManySchedules, ManyStates}
 use Rattle.sto_console.specs.declared.refusal.ScheduleCounts.{ScheduleCounts}
 use Rattle.sto_run.specs.Forms.{form_for}
 use Rattle.sto_explore.specs.declared.outcome.Outcomes.{Outcomes}
@@ -48,3 +48,4 @@ IsExploringFault switches tries json file (ManySchedules counts) = HasManySchedu
 IsExploringFault switches tries json file (Script fault) = ⊥
 IsExploringFault switches tries json file NoReport = ⊥
 IsExploringFault switches tries json file LongTrace = ⊥
+IsExploringFault switches tries json file (ManyStates count) = ⊥

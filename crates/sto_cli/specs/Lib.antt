@@ -1,5 +1,6 @@
 pub mod Traces
 pub mod Explorations
+pub mod Orders
 pub mod Outputs
 pub mod Programs
 pub use Rattle.sto_store.specs.Stores

@@ -1,11 +1,11 @@
--- What `trace` prints of a script, and the faults that it, `draw` and `explore` tell of one.
+-- What `trace` prints of a script, and the faults that it, `draw` and `schedules` tell of one.
 use Rattle.std.specs.Prelude.{◌≡◌, ◌≤◌, ◌<◌, ℕ, List, length, Bool, if◌then◌else◌, None, Some, Ok, Err}
 use Rattle.sto_lang.specs.Files.{file_of}
 use Rattle.sto_lang.specs.Scripts.{File}
 use Rattle.sto_lang.specs.Drafts.{transaction_count}
 use Rattle.sto_console.specs.declared.refusal.InputFault.{InputFault}
 use Rattle.sto_console.specs.declared.refusal.ScheduleCounts.{ScheduleCounts}
-use Rattle.sto_console.specs.declared.refusal.InputFault.TheVariants.{Script, NoReport, LongTrace, LongRun, ManySchedules}
+use Rattle.sto_console.specs.declared.refusal.InputFault.TheVariants.{Script, NoReport, LongTrace, LongRun, ManySchedules, ManyStates}
 use Rattle.sto_console.specs.declared.refusal.Refusal.{Refusal}
 use Rattle.sto_console.specs.declared.refusal.Refusal.TheVariants.{Usage, Input, ReadFault, WriteFault, NoMemory}
 use Rattle.sto_trace.specs.declared.Step.{Step}
@@ -19,7 +19,7 @@ use Rattle.sto_run.specs.Alone.{RanAlone}
 use Rattle.sto_run.specs.Logged.{RunLog}
 use Rattle.sto_run.specs.Traced.{IsTraceOf, IsStepped}
 
--- how many transactions a script may have that is traced, drawn or explored
+-- how many transactions a script may have that is traced, drawn or run by all schedules
 abbrev pub most_traced : ℕ
 most_traced = 256
 
@@ -60,6 +60,7 @@ IsTraceFault bytes NoReport = ⊥
 IsTraceFault bytes LongTrace = (file : File) × (file_of bytes ≡ Ok file) × (most_traced < transaction_count file.threads)
 IsTraceFault bytes LongRun = ⊥
 IsTraceFault bytes (ManySchedules counts) = ⊥
+IsTraceFault bytes (ManyStates count) = ⊥
 
 -- one run has no schedules to be counted
 abbrev pub NeverMany : ScheduleCounts → File → Type 0
@@ -69,11 +70,12 @@ NeverMany counts file = ⊥
 abbrev pub IsRunFault : (File → Type 0) → (ScheduleCounts → File → Type 0) → List ℕ → InputFault → Type 0
 IsRunFault IsLong IsMany bytes LongRun = (file : File) × IsTraceable bytes file × IsLong file
 IsRunFault IsLong IsMany bytes (ManySchedules counts) = (file : File) × IsTraceable bytes file × IsMany counts file
+IsRunFault IsLong IsMany bytes (ManyStates count) = ⊥
 IsRunFault IsLong IsMany bytes (Script fault) = IsTraceFault bytes (Script fault)
 IsRunFault IsLong IsMany bytes NoReport = IsTraceFault bytes NoReport
 IsRunFault IsLong IsMany bytes LongTrace = IsTraceFault bytes LongTrace
 
--- why bytes were not traced, drawn or explored: for such a fault, and want of memory may come at any time
+-- why bytes were not traced, drawn or run by all schedules: for such a fault, and want of memory may come at any time
 abbrev pub IsRefusalFor : (InputFault → Type 0) → Refusal → Type 0
 IsRefusalFor IsFault (Input fault) = IsFault fault
 IsRefusalFor IsFault NoMemory = Unit {0}

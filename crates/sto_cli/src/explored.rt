@@ -1,145 +1,76 @@
-//! The text of `explore`: every outcome of a script.
-ghost use Rattle.std.specs.Prelude.{◌≡◌, ◌≤◌, ◌⊎◌, true, None, IfOk, IfErr};
+//! The text of `explore`: what all orders of a script's transactions lead to.
+ghost use Rattle.std.specs.Prelude.{◌≡◌, IfOk, IfErr};
 ghost use Rattle.sto_args.specs.declared.command.Command.TheVariants as commands;
-ghost use Rattle.sto_console.specs.declared.refusal.InputFault.TheVariants.{LongRun};
-ghost use Rattle.sto_lang.specs.Sound.{IsSound, IsFromTo};
+ghost use Rattle.sto_lang.specs.Sound.{IsSound};
 ghost use Rattle.sto_lang.specs.Views.{file as view};
-ghost use Rattle.sto_run.specs.Forms.{form_for};
-ghost use Rattle.sto_run_schedules.specs.Leading.{HasSomeLongRun};
-ghost use Rattle.sto_run_schedules.specs.Explored.{AreOutcomesOf, AreReports, HasTooMany};
-ghost use Rattle.sto_cli.specs.Traces.{IsRunFault, IsRefusalFor};
-ghost use Rattle.sto_cli.specs.Explorations.{most_schedules, IsCountAt, AreCounts, HasManySchedules, IsExploringFault};
+ghost use Rattle.sto_lang.specs.Scripts.{File as Whole};
+ghost use Rattle.sto_orders.specs.Causes.{IsCause};
+ghost use Rattle.sto_orders.specs.declared.same_by.SameBy.{SameBy};
+ghost use Rattle.sto_cli.specs.Traces.{IsRefusalFor};
+ghost use Rattle.sto_cli.specs.Orders.{same_by, TellsOrders, IsManyStates, IsOrdersFault};
 ghost use Rattle.sto_cli.specs.Outputs.{IsOutput};
 
-use crate::traced::traceable_in;
 use std::alloc::Global;
-use sto_console::{InputFault, Refusal, ScheduleCounts};
-use sto_explore::outcomes_text;
+use sto_args::By;
+use sto_console::{InputFault, Refusal, StateCount, file_in};
 use sto_lang::{File, Text};
-use sto_run_schedules::{ExploreError, Meter, Outcomes, explore_file};
+use sto_run_orders::{OrdersError, SameBy, explore_orders, reports_text};
 
-// How many schedules a script may have of which every outcome is told.
-const MOST_SCHEDULES: u32 = 1_000_000;
-
-// Whether it is known that too many schedules make at most so many switches: they do with no more switches, for which the first number
-// stands, or with one switch less, of which there is no count.
-fn are_many(many_at: u32, switches: u32, one_less: Option<u64>) -> bool
-    ensures { result ≡ true → (many_at ≤ switches) ⊎ (one_less ≡ None) }
+// What outcomes are told apart by.
+fn same_by(by: By) -> SameBy
+    ensures { result ≡ same_by by }
 {
-    many_at <= switches || one_less.is_none()
-}
-
-// How many schedules a file has with at most so many switches, where they are not too many. Where it is known that they are, none is tried.
-fn count_at<W: Meter>(
-    alloc: Global,
-    file: &File,
-    switches: u32,
-    tries: u32,
-    json: bool,
-    are_many: bool,
-    meter: &W,
-) -> Result<Option<u64>, Refusal>
-    requires sound { IsSound (view file.now) }
-    requires tries { IsFromTo 1 64 tries }
-    requires many { are_many ≡ true → HasTooMany (form_for json) (view file.now) tries switches most_schedules }
-    ensures count { IfOk result (IsCountAt (form_for json) (view file.now) tries switches) }
-    ensures fault { IfErr result (λ e. IsRefusalFor (λ fault. (fault ≡ LongRun) × HasSomeLongRun tries (view file.now)) e) }
-{
-    if are_many {
-        return Ok(None);
-    }
-    match explore_file(alloc, file, tries, switches, MOST_SCHEDULES, json, meter) {
-        Ok(outcomes) => Ok(Some(outcomes.schedules)),
-        Err(ExploreError::TooMany) => Ok(None),
-        Err(ExploreError::TooLong) => Err(Refusal::Input(InputFault::LongRun)),
-        Err(ExploreError::NoMemory) => Err(Refusal::NoMemory),
+    match by {
+        By::State => SameBy::State,
+        By::Answers => SameBy::Answers,
+        By::Order => SameBy::Order,
     }
 }
 
-// The numbers of schedules with at most no, one and two switches of a file that has too many with at most so many.
-fn counts_of<W: Meter>(
-    alloc: Global,
-    file: &File,
-    switches: u32,
-    tries: u32,
-    json: bool,
-    meter: &W,
-) -> Result<ScheduleCounts, Refusal>
-    requires sound { IsSound (view file.now) }
-    requires tries { IsFromTo 1 64 tries }
-    requires many { HasTooMany (form_for json) (view file.now) tries switches most_schedules }
-    ensures counts { IfOk result (AreCounts (form_for json) (view file.now) tries) }
-    ensures fault { IfErr result (λ e. IsRefusalFor (λ fault. (fault ≡ LongRun) × HasSomeLongRun tries (view file.now)) e) }
+// Why the orders of a script are not told.
+fn refusal(error: OrdersError, states: u64) -> Refusal
+    ensures { (by : SameBy) (file : Whole) → IsCause by file states error → IsRefusalFor (IsManyStates by file states) result }
 {
-    let none = count_at(alloc, file, 0, tries, json, switches == 0, meter)?;
-    let many_with_one = are_many(switches, 1, none);
-    let one = count_at(alloc, file, 1, tries, json, many_with_one, meter)?;
-    let many_with_two = are_many(switches, 2, one);
-    let two = count_at(alloc, file, 2, tries, json, many_with_two, meter)?;
-    Ok(ScheduleCounts { none, one, two })
-}
-
-// Why a file is not explored that has too many schedules.
-fn many_schedules<W: Meter>(
-    alloc: Global,
-    file: &File,
-    switches: u32,
-    tries: u32,
-    json: bool,
-    meter: &W,
-) -> Refusal
-    requires sound { IsSound (view file.now) }
-    requires tries { IsFromTo 1 64 tries }
-    requires many { HasTooMany (form_for json) (view file.now) tries switches most_schedules }
-    ensures { IsRefusalFor (IsExploringFault switches tries json (view file.now)) result }
-{
-    match counts_of(alloc, file, switches, tries, json, meter) {
-        Ok(counts) => Refusal::Input(InputFault::ManySchedules(counts)),
-        Err(refusal) => refusal,
+    match error {
+        OrdersError::NoMemory => Refusal::NoMemory,
+        OrdersError::AtLeast(least) => {
+            Refusal::Input(InputFault::ManyStates(StateCount::AtLeast(least)))
+        }
+        OrdersError::TooMany => {
+            Refusal::Input(InputFault::ManyStates(StateCount::MoreThan(states)))
+        }
     }
 }
 
-// The outcomes of a file by each schedule with at most so many switches.
-fn outcomes_of<W: Meter>(
+// What all orders of a file's transactions lead to, as it is printed.
+fn orders_text(
     alloc: Global,
     file: &File,
-    switches: u32,
-    tries: u32,
+    by: SameBy,
+    states: u64,
     json: bool,
-    meter: &W,
-) -> Result<Outcomes, Refusal>
-    requires sound { IsSound (view file.now) }
-    requires tries { IsFromTo 1 64 tries }
-    ensures outcomes { IfOk result (AreOutcomesOf (form_for json) (view file.now) tries switches) }
-    ensures few { IfOk result (λ outcomes. outcomes.schedules ≤ most_schedules) }
-    ensures reports { IfOk result (AreReports (form_for json) (view file.now) tries) }
-    ensures fault { IfErr result (λ e. IsRefusalFor (IsExploringFault switches tries json (view file.now)) e) }
+) -> Result<Text, Refusal>
+    requires { IsSound (view file.now) }
+    ensures text { IfOk result (λ text. TellsOrders by json (view file.now) text.items) }
+    ensures fault { IfErr result (λ e. IsRefusalFor (IsManyStates by (view file.now) states) e) }
 {
-    match explore_file(alloc, file, tries, switches, MOST_SCHEDULES, json, meter) {
-        Ok(outcomes) => Ok(outcomes),
-        Err(ExploreError::TooMany) => Err(many_schedules(
-            alloc, file, switches, tries, json, meter,
-        )),
-        Err(ExploreError::TooLong) => Err(Refusal::Input(InputFault::LongRun)),
-        Err(ExploreError::NoMemory) => Err(Refusal::NoMemory),
+    match explore_orders(alloc, file, by, states, json) {
+        Ok(reports) => Ok(reports_text(alloc, file, reports.as_slice(), json)?),
+        Err(error) => Err(refusal(error, states)),
     }
 }
 
-/// What `explore` prints for these bytes. The meter is told of each run.
-pub(crate) fn explore_text<W: Meter>(
+/// What `explore` prints for these bytes.
+pub(crate) fn explore_text(
     alloc: Global,
     bytes: &[u8],
-    switches: u32,
-    tries: u32,
+    by: By,
+    states: u64,
     json: bool,
-    meter: &W,
 ) -> Result<Text, Refusal>
-    requires { IsFromTo 1 64 tries }
-    ensures text { IfOk result (λ text. IsOutput (commands.Explore switches tries json) bytes.now text.items) }
-    ensures fault { IfErr result (λ e. IsRefusalFor (IsRunFault (HasSomeLongRun tries) (HasManySchedules switches tries json) bytes.now) e) }
+    ensures text { IfOk result (λ text. IsOutput (commands.Explore by states json) bytes.now text.items) }
+    ensures fault { IfErr result (λ e. IsRefusalFor (IsOrdersFault (same_by by) states bytes.now) e) }
 {
-    let file = traceable_in(alloc, bytes)?;
-    let outcomes = outcomes_of(alloc, &file, switches, tries, json, meter)?;
-    let text = outcomes_text(alloc, &file, &outcomes, json)?;
-    Ok(text)
+    let file = file_in(alloc, bytes)?;
+    orders_text(alloc, &file, same_by(by), states, json)
 }

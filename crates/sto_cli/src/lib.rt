@@ -6,6 +6,7 @@
 mod answer;
 mod drawn;
 mod explored;
+mod scheduled;
 mod top;
 mod traced;
 mod work;

@@ -10,10 +10,11 @@ ghost use Rattle.sto_cli.specs.Programs.{program};
 use crate::answer::{bench_text, gen_text, run_text, step_text, upgrade_text};
 use crate::drawn::draw_text;
 use crate::explored::explore_text;
+use crate::scheduled::schedules_text;
 use crate::traced::trace_text;
 use std::alloc::Global;
 use std::thread::Threads;
-use sto_args::{Command, find_command};
+use sto_args::{By, Command, find_command};
 use sto_console::{Refusal, Sink, Source, script_left, write_text};
 use sto_lang::Text;
 use sto_run::Gate;
@@ -83,8 +84,24 @@ fn draw_source<S: Source>(alloc: Global, source: &mut S, tries: u32) -> Result<T
     draw_text(alloc, bytes.as_slice(), tries)
 }
 
+/// Reads the source, and tells what all orders of the script's transactions lead to.
+fn explore_source<S: Source>(
+    alloc: Global,
+    source: &mut S,
+    by: By,
+    states: u64,
+    json: bool,
+) -> Result<Text, Refusal>
+    ensures made { IfOk result (λ text. Made program (commands.Explore by states json) tt (S.left source.old) (S.left source.new) text.items) }
+    ensures unmade { IfErr result (λ e. Unmade program e (commands.Explore by states json) (S.left source.old) (S.left source.new)) }
+    ensures source_faults { RoseFor ReadFault result (S.faults source.old) (S.faults source.new) }
+{
+    let bytes = script_left(alloc, source)?;
+    explore_text(alloc, bytes.as_slice(), by, states, json)
+}
+
 /// Reads the source, runs the script in one thread by each schedule within a bound, and tells what these runs lead to.
-fn explore_source<S: Source, W: Meter>(
+fn schedules_source<S: Source, W: Meter>(
     alloc: Global,
     source: &mut S,
     switches: u32,
@@ -94,12 +111,12 @@ fn explore_source<S: Source, W: Meter>(
 ) -> Result<Text, Refusal>
     requires { IsFromTo 1 64 tries }
     ensures made { IfOk result (λ text.
-        Made program (commands.Explore switches tries json) tt (S.left source.old) (S.left source.new) text.items) }
-    ensures unmade { IfErr result (λ e. Unmade program e (commands.Explore switches tries json) (S.left source.old) (S.left source.new)) }
+        Made program (commands.Schedules switches tries json) tt (S.left source.old) (S.left source.new) text.items) }
+    ensures unmade { IfErr result (λ e. Unmade program e (commands.Schedules switches tries json) (S.left source.old) (S.left source.new)) }
     ensures source_faults { RoseFor ReadFault result (S.faults source.old) (S.faults source.new) }
 {
     let bytes = script_left(alloc, source)?;
-    explore_text(alloc, bytes.as_slice(), switches, tries, json, meter)
+    schedules_text(alloc, bytes.as_slice(), switches, tries, json, meter)
 }
 
 /// Reads the source, and writes the script in version 2.
@@ -112,8 +129,8 @@ fn upgrade_source<S: Source>(alloc: Global, source: &mut S) -> Result<Text, Refu
     upgrade_text(alloc, bytes.as_slice())
 }
 
-/// Makes the whole text of a command. `run`, `step`, `trace`, `draw`, `explore` and `upgrade` read the source to its end or past the limit;
-/// `gen` and `bench` do not touch it.
+/// Makes the whole text of a command. `run`, `step`, `trace`, `draw`, `explore`, `schedules` and `upgrade` read the source to its end or past the
+/// limit; `gen` and `bench` do not touch it.
 fn text_for<R: Threads + Sync, S: Source, G: Gate, W: Meter>(
     rt: &R,
     alloc: Global,
@@ -136,11 +153,12 @@ fn text_for<R: Threads + Sync, S: Source, G: Gate, W: Meter>(
         Command::Step { tries, json } => step_source(alloc, source, tries, json),
         Command::Trace { tries, json } => trace_source(alloc, source, tries, json),
         Command::Draw { tries } => draw_source(alloc, source, tries),
-        Command::Explore {
+        Command::Explore { by, states, json } => explore_source(alloc, source, by, states, json),
+        Command::Schedules {
             switches,
             tries,
             json,
-        } => explore_source(alloc, source, switches, tries, json, meter),
+        } => schedules_source(alloc, source, switches, tries, json, meter),
         Command::Upgrade => upgrade_source(alloc, source),
         Command::Gen { number } => Ok(gen_text(alloc, number)?),
         Command::Bench { number, threads } => Ok(bench_text(rt, alloc, number, threads, gate)?),

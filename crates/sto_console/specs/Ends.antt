@@ -5,7 +5,7 @@ use Rattle.sto_lang.specs.Files.{file_of}
 use Rattle.sto_console.specs.Read.{IfTold}
 use Rattle.sto_console.specs.Programs.{Program}
 use Rattle.sto_console.specs.declared.refusal.InputFault.{InputFault}
-use Rattle.sto_console.specs.declared.refusal.InputFault.TheVariants.{Script, NoReport, LongTrace, LongRun, ManySchedules}
+use Rattle.sto_console.specs.declared.refusal.InputFault.TheVariants.{Script, NoReport, LongTrace, LongRun, ManySchedules, ManyStates}
 use Rattle.sto_console.specs.declared.refusal.Refusal.{Refusal}
 use Rattle.sto_console.specs.declared.refusal.Refusal.TheVariants.{Usage, Input, ReadFault, WriteFault, NoMemory}
 
@@ -53,6 +53,7 @@ IsFileRefusal (Input NoReport) bytes = ⊥
 IsFileRefusal (Input LongTrace) bytes = ⊥
 IsFileRefusal (Input LongRun) bytes = ⊥
 IsFileRefusal (Input (ManySchedules counts)) bytes = ⊥
+IsFileRefusal (Input (ManyStates count)) bytes = ⊥
 IsFileRefusal NoMemory bytes = Unit {0}
 IsFileRefusal Usage bytes = ⊥
 IsFileRefusal ReadFault bytes = ⊥

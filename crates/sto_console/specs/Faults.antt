@@ -2,7 +2,7 @@
 use Rattle.std.specs.Prelude.{◌≡◌, ℕ, List, Err}
 use Rattle.sto_lang.specs.Files.{file_of}
 use Rattle.sto_console.specs.declared.refusal.InputFault.{InputFault}
-use Rattle.sto_console.specs.declared.refusal.InputFault.TheVariants.{Script, NoReport, LongTrace, LongRun, ManySchedules}
+use Rattle.sto_console.specs.declared.refusal.InputFault.TheVariants.{Script, NoReport, LongTrace, LongRun, ManySchedules, ManyStates}
 
 -- the bytes are no script, for this fault
 abbrev pub IsScriptFault : List ℕ → InputFault → Type 0
@@ -11,3 +11,4 @@ IsScriptFault bytes NoReport = ⊥
 IsScriptFault bytes LongTrace = ⊥
 IsScriptFault bytes LongRun = ⊥
 IsScriptFault bytes (ManySchedules counts) = ⊥
+IsScriptFault bytes (ManyStates count) = ⊥

@@ -3,7 +3,7 @@ use Rattle.std.specs.Prelude.{ℕ, List, Bool, true, false, Option, None, Some}
 use Rattle.sto_console.specs.Programs.{Program}
 use Rattle.sto_console.specs.Ends.{Done, Stopped, Faulty}
 use Rattle.sto_console.specs.declared.refusal.InputFault.{InputFault}
-use Rattle.sto_console.specs.declared.refusal.InputFault.TheVariants.{Script, NoReport, LongTrace, LongRun, ManySchedules}
+use Rattle.sto_console.specs.declared.refusal.InputFault.TheVariants.{Script, NoReport, LongTrace, LongRun, ManySchedules, ManyStates}
 
 -- the words are a command, which is answered so, and its text is written
 abbrev pub IsDone : {C A : Type 0} → Program C A → A → Option C → Option (List ℕ) → Option (List ℕ) → Option (List ℕ) → Option (List ℕ) → Type 0
@@ -34,6 +34,7 @@ IsOwn NoReport = Unit {0}
 IsOwn LongTrace = Unit {0}
 IsOwn LongRun = ⊥
 IsOwn (ManySchedules counts) = ⊥
+IsOwn (ManyStates count) = ⊥
 
 -- they have this fault
 abbrev pub IsToldFault : {C A : Type 0} → Program C A → InputFault → Option C → Option (List ℕ) → Option (List ℕ) → Type 0

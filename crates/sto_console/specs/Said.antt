@@ -4,6 +4,8 @@ use Rattle.sto_console.specs.Told.{Gains, Rose}
 use Rattle.sto_lang.specs.FaultTexts.{kind_text}
 use Rattle.sto_lang.specs.declared.fault.ScriptFault.{ScriptFault}
 use Rattle.sto_console.specs.declared.refusal.ScheduleCounts.{ScheduleCounts}
+use Rattle.sto_console.specs.declared.refusal.StateCount.{StateCount}
+use Rattle.sto_console.specs.declared.refusal.StateCount.TheVariants.{AtLeast, MoreThan}
 
 -- the line of a fault
 abbrev pub fault_line : ScriptFault → List ℕ
@@ -18,6 +20,15 @@ count_text (Some schedules) = decimal schedules
 abbrev pub schedules_line : ScheduleCounts → List ℕ
 schedules_line counts = codes "sto: line 0: too many schedules: " ++ (count_text counts.none ++ (codes " at 0 switches, "
     ++ (count_text counts.one ++ (codes " at 1, " ++ (count_text counts.two ++ codes " at 2\n")))))
+
+-- how many nodes are needed, as it is told
+abbrev pub states_text : StateCount → List ℕ
+states_text (AtLeast count) = codes "at least " ++ decimal count
+states_text (MoreThan count) = codes "more than " ++ decimal count
+
+-- the line of a script whose orders need too many nodes
+abbrev pub states_line : StateCount → List ℕ
+states_line count = codes "sto: line 0: too many states: " ++ (states_text count ++ codes "\n")
 
 -- all of a line was written, or a front of it where a fault came
 abbrev pub Says : List ℕ → Option (List ℕ) → Option (List ℕ) → ℕ → ℕ → Type 0

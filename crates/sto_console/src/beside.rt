@@ -1,10 +1,10 @@
 //! The line beside the output.
 ghost use Rattle.std.specs.Prelude.{◌≡◌, ◌⊎◌, Some, IfOk, string_bytes};
 ghost use Rattle.sto_console.specs.declared.refusal.Refusal.TheVariants.{NoMemory};
-ghost use Rattle.sto_console.specs.Said.{fault_line, count_text, schedules_line, Says};
+ghost use Rattle.sto_console.specs.Said.{fault_line, count_text, schedules_line, states_text, states_line, Says};
 ghost use Rattle.sto_console.specs.Statuses.{refusal_line, line_of, IsFixed, IsRefusedSo, EndsSo};
 
-use crate::refusal::{InputFault, Refusal, ScheduleCounts};
+use crate::refusal::{InputFault, Refusal, ScheduleCounts, StateCount};
 use crate::stream::Sink;
 use crate::whole::write_all;
 use std::alloc::{AllocError, Global};
@@ -46,6 +46,29 @@ pub fn schedules_line(alloc: Global, counts: ScheduleCounts) -> Result<String, A
     )
 }
 
+// How many nodes are needed, as it is told.
+#[derive(Clone, Copy)]
+struct States(StateCount);
+
+impl fmt::Display for States {
+    ghost output = { λ states. Some (states_text states.0) };
+
+    fn fmt<W: fmt::Write>(&self, f: &mut fmt::Formatter<W>) -> fmt::Result {
+        match self.0 {
+            StateCount::AtLeast(number) => write!(f, "at least {number}"),
+            StateCount::MoreThan(number) => write!(f, "more than {number}"),
+        }
+    }
+}
+
+/// The line of a script whose orders need too many nodes.
+pub fn states_line(alloc: Global, count: StateCount) -> Result<String, AllocError>
+    ensures { IfOk result (λ text. string_bytes text ≡ states_line count) }
+{
+    let states = States(count);
+    format!(in alloc; "sto: line 0: too many states: {states}\n")
+}
+
 // The line of a refusal whose line is always the same.
 fn fixed_line(refusal: Refusal) -> &'static [u8]
     requires { IsFixed refusal }
@@ -53,7 +76,9 @@ fn fixed_line(refusal: Refusal) -> &'static [u8]
 {
     match refusal {
         Refusal::Usage => b"sto: usage\n",
-        Refusal::Input(InputFault::Script(_) | InputFault::ManySchedules(_)) => unreachable!(),
+        Refusal::Input(
+            InputFault::Script(_) | InputFault::ManySchedules(_) | InputFault::ManyStates(_),
+        ) => unreachable!(),
         Refusal::Input(InputFault::NoReport) => b"sto: line 0: no report\n",
         Refusal::Input(InputFault::LongTrace) => b"sto: line 0: too many transactions\n",
         Refusal::Input(InputFault::LongRun) => b"sto: line 0: too many events\n",
@@ -96,6 +121,9 @@ pub fn say_refusal<E: Sink>(alloc: Global, diag: &mut E, refusal: Refusal) -> Re
         }
         Refusal::Input(InputFault::ManySchedules(counts)) => {
             say_made(diag, refusal, schedules_line(alloc, counts))
+        }
+        Refusal::Input(InputFault::ManyStates(count)) => {
+            say_made(diag, refusal, states_line(alloc, count))
         }
         _ => {
             write_line(diag, fixed_line(refusal));

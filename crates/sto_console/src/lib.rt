@@ -14,10 +14,10 @@ mod whole;
 mod words;
 mod workers;
 
-pub use beside::{fault_line, say, say_refusal, schedules_line, write_line};
+pub use beside::{fault_line, say, say_refusal, schedules_line, states_line, write_line};
 pub use memory::{MemSink, MemSource};
 pub use quiet::{QuietSink, QuietSource};
-pub use refusal::{InputFault, Refusal, ScheduleCounts, status};
+pub use refusal::{InputFault, Refusal, ScheduleCounts, StateCount, status};
 pub use standard::{StdSink, StdSource};
 pub use stream::{Failed, Sink, Source};
 pub use streams::{bytes_left, file_in, script_left, write_text};

@@ -14,6 +14,14 @@ pub struct ScheduleCounts {
     pub two: Option<u64>,
 }
 
+/// How many nodes the orders of a script need where they are too many: at least so many, where 2^64 - 1 stands for more, too; or more than
+/// so many, which there may be.
+#[derive(Clone, Copy, PartialEq, Eq)]
+pub enum StateCount {
+    AtLeast(u64),
+    MoreThan(u64),
+}
+
 /// What is wrong with the bytes that were read.
 #[derive(Clone, Copy, PartialEq, Eq)]
 pub enum InputFault {
@@ -27,6 +35,8 @@ pub enum InputFault {
     LongRun,
     /// Every outcome is asked, and the script has too many schedules for that.
     ManySchedules(ScheduleCounts),
+    /// What all orders lead to is asked, and they need too many nodes.
+    ManyStates(StateCount),
 }
 
 /// Why a call of a program was refused.

@@ -4,13 +4,16 @@ use Rattle.std.specs.List.{count_by, flat_map}
 use Rattle.std.proofs.lemmas.List.{map-append, flat_map_more}
 use Rattle.std.proofs.lemmas.List.Recursion.{is_count_by}
 use Rattle.sto_report_spec.specs.Orders.{TransactionPlace, positions_of, numbers_from}
-use Rattle.sto_report_spec.specs.Replay.{Entry}
+use Rattle.sto_model.specs.Run.{State}
+use Rattle.sto_lang.specs.Scripts.{File}
+use Rattle.sto_report_spec.specs.Replay.{Entry, entry_at, run_at, entries_from}
+use Rattle.sto_checker.specs.Runs.{writers_from}
 use Rattle.sto_journal.specs.declared.journal.Line.{Line}
 use Rattle.sto_journal.specs.Journals.{entry, places}
 use Rattle.sto_checker.proofs.OneMore.{numbers_from-more}
 use Rattle.sto_orders.specs.declared.same_by.SameBy.{SameBy}
 use Rattle.sto_orders.specs.Outcomes.{own_text, thread_text}
-use Rattle.sto_orders.specs.Keys.{done_in}
+use Rattle.sto_orders.specs.Keys.{done_in, last_writers}
 
 -- the lines of a thread are as many as its transactions
 pub lines_counted : (lines : List Line) (t : ℕ) → count_by (λ (l : Line). l.thread == t) lines ≡ done_in (places lines) t
@@ -48,3 +51,18 @@ text_more_lines by names lines i line t e =
     ap (λ (ls : List Line). thread_text by names (map entry ls) t) (take_one lines i line e)
     ∙ ap (λ (es : List Entry). thread_text by names es t) (map-append entry (take i lines) (line ∷ []))
     ∙ sym (flat_map_more (own_text by names t) [] (map entry (take i lines)) (entry line))
+
+last_more : (writers : ℕ) (entries : List Entry) (e : Entry) → last_writers writers (entries ++ e ∷ []) ≡ e.writers
+last_more writers [] e = refl
+last_more writers (f ∷ entries) e = last_more f.writers entries e
+
+pub writers_more_lines : (lines : List Line) (i : ℕ) (line : Line) → slice_get lines i ≡ Some line → last_writers 0 (map entry (take (i + 1) lines)) ≡ line.k
+writers_more_lines lines i line e =
+    ap (λ (ls : List Line). last_writers 0 (map entry ls)) (take_one lines i line e)
+    ∙ ap (last_writers 0) (map-append entry (take i lines) (line ∷ []))
+    ∙ last_more 0 (map entry (take i lines)) (entry line)
+
+-- a replay has as many writers as its last entry says
+pub replay_writers : (f : File) (writers : ℕ) (st : State) (order : List TransactionPlace) → last_writers writers (entries_from f writers st order) ≡ writers_from f writers st order
+replay_writers f writers st [] = refl
+replay_writers f writers st (p ∷ order) = replay_writers f (entry_at f writers st p).writers (run_at f st p).after order

@@ -1,38 +1,30 @@
 -- The outcomes of the last level.
-use Rattle.std.proofs.Common.{◌≡◌, ◌⊎◌, ℕ, zero, suc, ◌+◌, ◌<◌, ◌≤◌, List, [], ◌∷◌, ◌++◌, length, map, take, refl, sym, ap, ◌∙◌, subst, Option, None, Some, slice_get, get_or, arith, inl, inr, length-append}
+use Rattle.std.proofs.Common.{◌≡◌, ◌⊎◌, ℕ, zero, suc, ◌+◌, ◌<◌, List, [], ◌∷◌, ◌++◌, length, map, take, refl, sym, ap, ◌∙◌, subst, Some, slice_get, arith, inl, inr, length-append}
 use Rattle.std.specs.List.{All}
-use Rattle.std.specs.List.Sorted.{IsStrictlySortedBy}
-use Rattle.std.specs.declared.cmp.Ordering.{Ordering}
-use Rattle.std.specs.declared.cmp.Ordering.TheVariants.{Less, Equal, Greater}
 use Rattle.std.proofs.lemmas.Bool.{cases_order}
-use Rattle.std.proofs.lemmas.List.{length-map}
 use Rattle.std.proofs.lemmas.List.Elements.{All-nil, All-cons}
-use Rattle.std.proofs.lemmas.Option.{slice_get_within, get_or_from_slice_get, slice_get-map}
-use Rattle.std.proofs.lemmas.Map.Keys.{Less-from_sorted}
-use Rattle.std.specs.Option.{option_map}
-use Rattle.sto_model.specs.Run.{State}
+use Rattle.std.proofs.lemmas.Option.{slice_get_within}
 use Rattle.sto_lang.specs.Scripts.{File}
 use Rattle.sto_lang.specs.Drafts.{transaction_count}
-use Rattle.sto_report_spec.specs.Orders.{TransactionPlace, positions_of, numbers_from, count_in, IsOrder}
+use Rattle.sto_report_spec.specs.Orders.{TransactionPlace, numbers_from, IsOrder}
 use Rattle.sto_orders.specs.declared.same_by.SameBy.{SameBy}
-use Rattle.sto_orders.specs.declared.key.Key.{Key}
 use Rattle.sto_orders.specs.declared.level.Node.{Node}
 use Rattle.sto_orders.specs.declared.outcome.Outcome.{Outcome}
 use Rattle.sto_orders.specs.Outcomes.{OrderEnd, end_of, threads_in, order_of, IsOrderOutcome, HasOutcome, AreOutcomes}
-use Rattle.sto_orders.specs.Keys.{key_cmp, done_in, IsKeyOf}
+use Rattle.sto_orders.specs.Keys.{done_in}
 use Rattle.sto_orders.specs.Levels.{HasNode, AreLevel, IsOutcomeAt, AreOutcomesAt}
 use Rattle.sto_orders.proofs.Leading.{SameLead}
 use Rattle.sto_orders.proofs.Beginnings.{order_begins, whole_order}
-use Rattle.sto_orders.proofs.Comparing.{cmp_by_agree, agree_by_lead}
+use Rattle.sto_orders.proofs.Levelling.{nodes_differ}
 use Rattle.sto_orders.proofs.Filling.{take_one}
 
 -- Items by their places.
 
-all_by_place : {X : Type 0} (P : X → Type 0) (xs : List X) → ((k : ℕ) (x : X) → slice_get xs k ≡ Some x → P x) → All P xs
+pub all_by_place : {X : Type 0} (P : X → Type 0) (xs : List X) → ((k : ℕ) (x : X) → slice_get xs k ≡ Some x → P x) → All P xs
 all_by_place P [] h = All-nil P
 all_by_place P (x ∷ xs) h = All-cons P x xs (h 0 x refl) (all_by_place P xs (λ k y e. h (suc k) y e))
 
-item_at : {X : Type 0} (xs : List X) (k : ℕ) → k < length xs → (x : X) × (slice_get xs k ≡ Some x)
+pub item_at : {X : Type 0} (xs : List X) (k : ℕ) → k < length xs → (x : X) × (slice_get xs k ≡ Some x)
 item_at [] k l = absurd (omega (arith, l))
 item_at (x ∷ xs) zero l = (x, refl)
 item_at (x ∷ xs) (suc k) l = item_at xs k (omega (arith, l))
@@ -71,7 +63,7 @@ long_numbers : (first n : ℕ) → length (numbers_from first n) ≡ n
 long_numbers first zero = refl
 long_numbers first (suc n) = ap suc (long_numbers (suc first) n)
 
-same_done : (f : File) (a b : List TransactionPlace) (ts : List ℕ) → IsOrder f a → IsOrder f b → map (done_in a) ts ≡ map (done_in b) ts
+pub same_done : (f : File) (a b : List TransactionPlace) (ts : List ℕ) → IsOrder f a → IsOrder f b → map (done_in a) ts ≡ map (done_in b) ts
 same_done f a b [] h k = refl
 same_done f a b (t ∷ ts) h k =
     let here : done_in a t ≡ done_in b t = ap length (h t ∙ sym (k t)) in
@@ -101,9 +93,6 @@ module _ (by : SameBy) (f : File) (nodes : List Node) (outcomes : List Outcome) 
       let state : (end_of by f (order_of o.0)).state ≡ (end_of by f order).state = sym is.leads.rows ∙ has.leads.rows in
       record { at = has.at; outcome = o.0; stands = o.1; same = λ i. record { threads = threads i; writers = writers i; state = state i } }
 
-  key_at : (k : ℕ) (p : Node) → slice_get nodes k ≡ Some p → (d : Key) → get_or (map (λ (q : Node). q.key) nodes) k d ≡ p.key
-  key_at k p e d = get_or_from_slice_get (map (λ (q : Node). q.key) nodes) k p.key d (slice_get-map (λ (q : Node). q.key) nodes k ∙ ap (option_map (λ (q : Node). q.key)) e)
-
   not_below : (i j : ℕ) (a b : Outcome) → slice_get outcomes i ≡ Some a → slice_get outcomes j ≡ Some b → end_of by f (order_of a) ≡ end_of by f (order_of b) → i < j → ⊥
   not_below i j a b e g same l =
       let p = node_at i a e in
@@ -116,16 +105,7 @@ module _ (by : SameBy) (f : File) (nodes : List Node) (outcomes : List Outcome) 
         writers = ap (λ (x : OrderEnd). x.writers) same;
         state = ap (λ (x : OrderEnd). x.state) same;
       } in
-      let tied : key_cmp p.0.key q.0.key ≡ Equal = cmp_by_agree p.0.key q.0.key (agree_by_lead by f (order_of a) (order_of b) p.0.key q.0.key lead one.leads two.leads) in
-      let keys : List Key = map (λ (n : Node). n.key) nodes in
-      let inside : j < length keys = omega (arith, slice_get_within nodes j q.0 q.1, length-map nodes (λ (n : Node). n.key)) in
-      let less : key_cmp (get_or keys i p.0.key) (get_or keys j p.0.key) ≡ Less = Less-from_sorted key_cmp keys i j p.0.key level.apart l inside in
-      let apart : key_cmp p.0.key q.0.key ≡ Less =
-      ap (λ (k : Key). key_cmp k q.0.key) (sym (key_at i p.0 p.1 p.0.key)) ∙ ap (λ (k : Key). key_cmp (get_or keys i p.0.key) k) (sym (key_at j q.0 q.1 p.0.key)) ∙ less in
-      differ (sym tied ∙ apart)
-    where
-      differ : Equal ≡ Less → ⊥
-      differ e = absurd cc
+      nodes_differ by f nodes level.apart i j p.0 q.0 (order_of a) (order_of b) p.1 q.1 one.leads two.leads lead l
 
   pub are_outcomes : AreOutcomes by f outcomes
   are_outcomes = record {

@@ -1,15 +1,16 @@
 -- Levels of nodes.
-use Rattle.std.proofs.Common.{◌≡◌, ◌⊎◌, ℕ, zero, suc, ◌+◌, ◌<◌, ◌≤◌, List, [], ◌∷◌, ◌++◌, length, map, refl, sym, ap, ◌∙◌, subst, Bool, true, Option, None, Some, slice_get, arith, inl, inr}
+use Rattle.std.proofs.Common.{◌≡◌, ℕ, zero, suc, ◌+◌, ◌<◌, List, [], ◌∷◌, ◌++◌, length, map, refl, sym, ap, ◌∙◌, subst, true, Option, None, Some, slice_get, get_or, arith, inl, inr}
 use Rattle.std.specs.Option.{option_map}
-use Rattle.std.specs.BTreeMap.{get, is_at}
+use Rattle.std.specs.BTreeMap.{is_at}
 use Rattle.std.specs.List.Sorted.{IsStrictlySortedBy}
 use Rattle.std.specs.Ordering.{is_eq}
 use Rattle.std.specs.declared.cmp.Ordering.{Ordering}
 use Rattle.std.specs.declared.cmp.Ordering.TheVariants.{Less, Equal, Greater}
 use Rattle.std.proofs.lemmas.Bool.{cases_order}
-use Rattle.std.proofs.lemmas.Option.{slice_get-map}
+use Rattle.std.proofs.lemmas.List.{length-map}
+use Rattle.std.proofs.lemmas.Option.{slice_get-map, slice_get_within, get_or_from_slice_get}
 use Rattle.std.proofs.lemmas.Map.Entries.{btree_map_get_place, place_from_lookup}
-use Rattle.std.proofs.lemmas.Map.Keys.{sorted_from_all_adjacent}
+use Rattle.std.proofs.lemmas.Map.Keys.{sorted_from_all_adjacent, Less-from_sorted}
 use Rattle.sto_lang.specs.Scripts.{File}
 use Rattle.sto_report_spec.specs.Orders.{TransactionPlace}
 use Rattle.sto_orders.specs.declared.same_by.SameBy.{SameBy}
@@ -18,10 +19,11 @@ use Rattle.sto_orders.specs.declared.way.Way.{Way}
 use Rattle.sto_orders.specs.declared.way.Ways.{Ways}
 use Rattle.sto_orders.specs.declared.level.Node.{Node}
 use Rattle.sto_orders.specs.Keys.{key_cmp, IsKeyOf}
-use Rattle.sto_orders.specs.Ways.{along, next_of, IsBeginning, IsWay, AreWays, HasNoSteps}
+use Rattle.sto_orders.specs.Ways.{along, next_of, IsBeginning, AreWays, HasNoSteps}
 use Rattle.sto_orders.specs.Levels.{Found, HasNode, AreLevel, HasFound, AreFound, Keeps, HasNext, HasNextBelow, node_of}
 use Rattle.sto_orders.proofs.Beginnings.{none_begun, LastOf, last_of}
-use Rattle.sto_orders.proofs.Comparing.{key_total, agree_by_cmp, key_agree}
+use Rattle.sto_orders.proofs.Leading.{SameLead}
+use Rattle.sto_orders.proofs.Comparing.{key_total, agree_by_cmp, key_agree, cmp_by_agree, agree_by_lead}
 
 -- What is kept stays.
 
@@ -113,3 +115,25 @@ module _ (by : SameBy) (f : File) (count : ℕ) (nodes : List Node) (found : Fou
         (below before.at before.node before.stands last.front before.leads last.thread last.inside last.left));
     apart = apart;
   }
+
+-- Two nodes of a level.
+
+key_at : (nodes : List Node) (k : ℕ) (p : Node) → slice_get nodes k ≡ Some p → (d : Key) → get_or (map (λ (q : Node). q.key) nodes) k d ≡ p.key
+key_at nodes k p e d = get_or_from_slice_get (map (λ (q : Node). q.key) nodes) k p.key d (slice_get-map (λ (q : Node). q.key) nodes k ∙ ap (option_map (λ (q : Node). q.key)) e)
+
+keys_rise : (nodes : List Node) → IsStrictlySortedBy key_cmp (map (λ (p : Node). p.key) nodes) → (i j : ℕ) (p q : Node) → slice_get nodes i ≡ Some p → slice_get nodes j ≡ Some q → i < j → key_cmp p.key q.key ≡ Less
+keys_rise nodes apart i j p q e g l =
+    let keys : List Key = map (λ (n : Node). n.key) nodes in
+    let inside : j < length keys = omega (arith, slice_get_within nodes j q g, length-map nodes (λ (n : Node). n.key)) in
+    let less : key_cmp (get_or keys i p.key) (get_or keys j p.key) ≡ Less = Less-from_sorted key_cmp keys i j p.key apart l inside in
+    ap (λ (k : Key). key_cmp k q.key) (sym (key_at nodes i p e p.key)) ∙ ap (λ (k : Key). key_cmp (get_or keys i p.key) k) (sym (key_at nodes j q g p.key)) ∙ less
+
+-- orders that lead to two of them do not lead to the same
+pub nodes_differ : (by : SameBy) (f : File) (nodes : List Node) → IsStrictlySortedBy key_cmp (map (λ (p : Node). p.key) nodes) → (i j : ℕ) (p q : Node) (a b : List TransactionPlace) → slice_get nodes i ≡ Some p → slice_get nodes j ≡ Some q
+    → IsKeyOf by f a p.key → IsKeyOf by f b q.key → SameLead by f a b → i < j → ⊥
+nodes_differ by f nodes apart i j p q a b e g one two lead l =
+    let tied : key_cmp p.key q.key ≡ Equal = cmp_by_agree p.key q.key (agree_by_lead by f a b p.key q.key lead one two) in
+    differ (sym tied ∙ keys_rise nodes apart i j p q e g l)
+  where
+    differ : Equal ≡ Less → ⊥
+    differ e = absurd cc

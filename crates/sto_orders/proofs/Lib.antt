@@ -7,3 +7,6 @@ pub mod Stepping
 pub mod Levelling
 pub mod Gathering
 pub mod Nexts
+pub mod Limiting
+pub mod Refusing
+pub mod Sameness

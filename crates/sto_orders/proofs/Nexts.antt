@@ -22,7 +22,7 @@ use Rattle.sto_orders.specs.declared.same_by.SameBy.{SameBy}
 use Rattle.sto_orders.specs.declared.key.Key.{Key}
 use Rattle.sto_orders.specs.declared.way.Way.{Way}
 use Rattle.sto_orders.specs.declared.way.Ways.{Ways}
-use Rattle.sto_orders.specs.Keys.{key_cmp, done_in, IsKeyOf}
+use Rattle.sto_orders.specs.Keys.{key_cmp, done_in, IsReplayed, IsKeyOf}
 use Rattle.sto_orders.specs.Ways.{along, next_of, IsWay, AreWays, AreKept, IsNextAt}
 use Rattle.sto_orders.specs.declared.level.Node.{Node}
 use Rattle.sto_orders.specs.Levels.{Found, Keeps, HasNextBelow, HasMoreWays, IsAdded}
@@ -55,6 +55,9 @@ longer_by_one xs x = omega (arith, length-append xs (x ∷ []))
 
 pub opening_so_far : (f : File) (run : Progress) → run.lines.items ≡ [] → run.writers ≡ 0 → run.state.items ≡ opening_state f → IsSoFar f run.lines.items run.writers run.state.items
 opening_so_far f run none zero_writers opening = (along_none f [] run none zero_writers opening).so_far
+
+pub so_far_replayed : (f : File) (run : Progress) → IsSoFar f run.lines.items run.writers run.state.items → IsReplayed f run.lines.items run.state.items
+so_far_replayed f run h = record { entries = h.entries; final = h.state_is }
 
 pub along_one : (order : List TransactionPlace) (i : ℕ) (at : TransactionPlace) → slice_get order i ≡ Some at → along (take (i + 1) order) ≡ along (take i order) ++ place_of at ∷ []
 along_one order i at e = ap along (take_one order i at e) ∙ map-append place_of (take i order) (at ∷ [])

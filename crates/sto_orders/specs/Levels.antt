@@ -1,9 +1,10 @@
 -- All nodes after so many transactions.
 use Rattle.std.specs.Prelude.{◌≡◌, ◌+◌, ◌≤◌, ◌<◌, ℕ, suc, List, [], ◌∷◌, ◌++◌, length, map, if◌then◌else◌, Option, None, Some, slice_get}
+use Rattle.std.specs.List.{All}
 use Rattle.std.specs.List.Sorted.{IsStrictlySortedBy}
 use Rattle.std.specs.BTreeMap.{BTreeMap, get, is_at}
 use Rattle.sto_lang.specs.Scripts.{File}
-use Rattle.sto_report_spec.specs.Orders.{TransactionPlace, count_in, positions_of}
+use Rattle.sto_report_spec.specs.Orders.{TransactionPlace, count_in}
 use Rattle.sto_orders.specs.declared.same_by.SameBy.{SameBy}
 use Rattle.sto_orders.specs.declared.key.Key.{Key}
 use Rattle.sto_orders.specs.declared.way.Way.{Way}
@@ -15,6 +16,9 @@ use Rattle.sto_orders.specs.declared.outcome.Outcome.{Outcome}
 use Rattle.sto_orders.specs.Outcomes.{order_of}
 use Rattle.sto_orders.specs.Keys.{key_cmp, done_in, IsKeyOf}
 use Rattle.sto_orders.specs.Ways.{next_of, IsBeginning, AreKept, AreWays}
+use Rattle.sto_orders.specs.declared.limit.OrdersError.{OrdersError}
+use Rattle.sto_orders.specs.declared.limit.OrdersError.TheVariants.{NoMemory, AtLeast, TooMany}
+use Rattle.sto_orders.specs.Causes.{IsFront, AreApart}
 
 -- the ways to nodes, by their keys
 abbrev pub Found : Type 0
@@ -95,3 +99,44 @@ pub record IsOutcomeAt (by : SameBy) (file : File) (count : ℕ) (node : Node) (
 pub record AreOutcomesAt (by : SameBy) (file : File) (count : ℕ) (nodes : List Node) (outcomes : List Outcome) : Type 0 where
   pub long : length outcomes ≡ length nodes
   pub each : (k : ℕ) (p : Node) (o : Outcome) → slice_get nodes k ≡ Some p → slice_get outcomes k ≡ Some o → IsOutcomeAt by file count p o
+
+-- more nodes were found than may be
+abbrev pub AreTooMany : Found → ℕ → OrdersError → Type 0
+AreTooMany found room NoMemory = Unit {0}
+AreTooMany found room (AtLeast least) = ⊥
+AreTooMany found room TooMany = (room < length found.entries) × IsStrictlySortedBy key_cmp (map (λ e. e.0) found.entries)
+
+-- so many beginnings of just so many transactions, of which no two meet
+pub record HaveApart (by : SameBy) (file : File) (count many : ℕ) : Type 0 where
+  pub orders : List (List TransactionPlace)
+  pub long : length orders ≡ many
+  pub begun : All (IsBeginning file count) orders
+  pub apart : AreApart by file orders
+
+-- more than so many of these
+pub record HasMoreAt (by : SameBy) (file : File) (count room : ℕ) : Type 0 where
+  pub many : ℕ
+  pub more : room < many
+  pub are : HaveApart by file count many
+
+-- why there is no next level: it has more nodes than may be
+abbrev pub IsLevelCause : SameBy → File → List Node → ℕ → OrdersError → Type 0
+IsLevelCause by file nodes room NoMemory = Unit {0}
+IsLevelCause by file nodes room (AtLeast least) = ⊥
+IsLevelCause by file nodes room TooMany = (count : ℕ) → AreLevel by file count nodes → HasMoreAt by file (suc count) room
+
+-- a beginning of at most so many transactions
+pub record IsFrontWithin (file : File) (count : ℕ) (order : List TransactionPlace) : Type 0 where
+  pub front : IsFront file order
+  pub within : length order ≤ count
+
+-- such beginnings, of which no two meet
+pub record AreFronts (by : SameBy) (file : File) (count : ℕ) (orders : List (List TransactionPlace)) : Type 0 where
+  pub within : All (IsFrontWithin file count) orders
+  pub apart : AreApart by file orders
+
+-- so many of these were met that with the room that is left they are as many as there may be
+pub record AreSeen (by : SameBy) (file : File) (count most room : ℕ) : Type 0 where
+  pub orders : List (List TransactionPlace)
+  pub fronts : AreFronts by file count orders
+  pub many : length orders + room ≡ most

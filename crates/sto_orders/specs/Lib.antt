@@ -1,5 +1,6 @@
 pub mod Outcomes
 pub mod Keys
+pub mod Causes
 pub mod Ways
 pub mod Levels
 pub use Rattle.sto_lang.specs.Sound

@@ -1,9 +1,10 @@
 //! All orders of a file.
-ghost use Rattle.std.specs.Prelude.{◌≡◌, IfOk};
+ghost use Rattle.std.specs.Prelude.{◌≡◌, ◌≤◌, IfOk, OnOk, IfErr};
 ghost use Rattle.sto_lang.specs.Drafts.{transaction_count};
 ghost use Rattle.sto_lang.specs.Sound.{IsSound};
 ghost use Rattle.sto_lang.specs.Views.{file as view};
 ghost use Rattle.sto_orders.specs.Outcomes.{AreOutcomes};
+ghost use Rattle.sto_orders.specs.Causes.{least_told, IsCause};
 
 use crate::level::{next_level, opening_level};
 use crate::limit::{OrdersError, least_nodes};
@@ -27,7 +28,11 @@ fn transaction_count(file: &File) -> u32
 /// What all orders of a file's transactions lead to: each outcome once, where at most so many nodes are needed.
 ///
 /// An order has each transaction of the file once, those of each thread in rising position. It is run on plain rows, one whole
-/// transaction after the other.
+/// transaction after the other. Beginnings of orders meet in a node where they have done the same transactions, and nothing that is
+/// compared tells them apart.
+///
+/// `AtLeast` comes before any work, where the numbers of transactions of each thread, each with one more, have a product above `most`;
+/// `TooMany` comes as soon as more nodes are found.
 pub fn all_outcomes(
     alloc: Global,
     file: &File,
@@ -35,7 +40,9 @@ pub fn all_outcomes(
     most: u64,
 ) -> Result<Vec<Outcome>, OrdersError>
     requires { IsSound (view file.now) }
-    ensures { IfOk result (λ outcomes. AreOutcomes by (view file.now) outcomes.items) }
+    ensures outcomes { IfOk result (λ outcomes. AreOutcomes by (view file.now) outcomes.items) }
+    ensures allowed { OnOk result (least_told (view file.now).threads ≤ most) }
+    ensures cause { IfErr result (IsCause by (view file.now) most) }
 {
     let least = least_nodes(file.threads.as_slice());
     if most < least {

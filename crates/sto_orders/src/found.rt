@@ -116,7 +116,8 @@ fn make_step(
     let way = longer(alloc, &ways[best], at)?;
     let order = way.order.as_slice();
     let run = run_along(alloc, file, shapes, order)?;
-    let key = key_of(alloc, file, by, &run)?;
+    let lines = run.lines.as_slice();
+    let key = key_of(alloc, file, by, lines, &run.state)?;
     Ok(Step { way, key })
 }
 

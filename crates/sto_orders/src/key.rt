@@ -3,13 +3,11 @@ ghost use Rattle.std.specs.Prelude.{◌≡◌, ◌==◌, ◌+◌, ◌<◌, ◌�
 ghost use Rattle.sto_lang.specs.Views.{file as view, names_of};
 ghost use Rattle.sto_report_spec.specs.Orders.{positions_of, numbers_from};
 ghost use Rattle.sto_journal.specs.Journals.{entry, places, HaveThreads};
-ghost use Rattle.sto_checker.specs.Runs.{IsSoFar};
 ghost use Rattle.sto_orders.specs.Outcomes.{answer_text, compared_text, own_text, thread_text, counted_by};
-ghost use Rattle.sto_orders.specs.Keys.{done_in, IsKeyOf};
+ghost use Rattle.sto_orders.specs.Keys.{done_in, last_writers, IsReplayed, IsKeyOf};
 
 use crate::same_by::SameBy;
 use std::alloc::{AllocError, Global};
-use sto_checker::Progress;
 use sto_journal::{Line, push_line, push_replies};
 use sto_lang::{File, Thread};
 use sto_model::State;
@@ -26,29 +24,41 @@ pub(crate) struct Key {
     pub(crate) rows: Vec<Vec<(i64, i64)>>,
 }
 
-/// The key of the node to which a run leads.
+/// The key of the node to which a replay leads that has these lines and leaves this state.
 pub(crate) fn key_of(
     alloc: Global,
     file: &File,
     by: SameBy,
-    run: &Progress,
+    lines: &[Line],
+    state: &State,
 ) -> Result<Key, NoMemory>
     requires few { length file.now.threads.items < 2 ^ 32 }
-    requires lines { HaveThreads (length file.now.threads.items) run.now.lines.items }
-    requires so_far { IsSoFar (view file.now) run.now.lines.items run.now.writers run.now.state.items }
-    ensures { IfOk result (λ key. IsKeyOf by (view file.now) (places run.now.lines.items) key) }
+    requires lines { HaveThreads (length file.now.threads.items) lines.now }
+    requires short { length lines.now < 2 ^ 32 }
+    requires replayed { IsReplayed (view file.now) lines.now state.now.items }
+    ensures { IfOk result (λ key. IsKeyOf by (view file.now) (places lines.now) key) }
 {
     let threads = file.threads.as_slice();
-    let lines = run.lines.as_slice();
     let done = all_done(alloc, file.threads.len(), lines)?;
     let texts = all_texts(alloc, threads, by, lines)?;
-    let rows = rows_of(alloc, &run.state)?;
+    let rows = rows_of(alloc, state)?;
     Ok(Key {
         done,
         threads: texts,
-        writers: counted_by(by, run.writers),
+        writers: counted_by(by, writers_in(lines)),
         rows,
     })
+}
+
+// How many writers there are up to the last line.
+fn writers_in(lines: &[Line]) -> u32
+    ensures { result ≡ last_writers 0 (map entry lines.now) }
+{
+    let mut writers = 0;
+    for line in lines {
+        writers = line.k;
+    }
+    writers
 }
 
 // How many writers there are, where their numbers are compared.

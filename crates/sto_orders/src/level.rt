@@ -1,12 +1,12 @@
 //! The nodes after so many transactions.
-ghost use Rattle.std.specs.Prelude.{◌≡◌, ℕ, suc, map, IfOk};
+ghost use Rattle.std.specs.Prelude.{◌≡◌, ◌≤◌, ℕ, suc, length, map, IfOk, IfErr};
 ghost use Rattle.std.specs.List.Sorted.{IsStrictlySortedBy};
 ghost use Rattle.sto_lang.specs.Objects.{shapes_of};
 ghost use Rattle.sto_lang.specs.Sound.{IsSound};
 ghost use Rattle.sto_lang.specs.Views.{file as view};
 ghost use Rattle.sto_orders.specs.Keys.{key_cmp};
 ghost use Rattle.sto_orders.specs.Ways.{HasNoSteps};
-ghost use Rattle.sto_orders.specs.Levels.{AreLevel, IsLevel, node_of};
+ghost use Rattle.sto_orders.specs.Levels.{AreLevel, IsLevel, node_of, AreTooMany, IsLevelCause};
 
 use crate::found::go_on_from;
 use crate::key::{Key, key_of};
@@ -57,7 +57,8 @@ pub(crate) fn opening_level(
     ensures { IfOk result (λ nodes. AreLevel by (view file.now) 0 nodes.items) }
 {
     let run = Progress::opening(alloc, shapes)?;
-    let key = key_of(alloc, file, by, &run)?;
+    let lines = run.lines.as_slice();
+    let key = key_of(alloc, file, by, lines, &run.state)?;
     let ways = no_steps(alloc)?;
     let node = Node { key, ways };
     let mut nodes = Vec::new(alloc);
@@ -79,8 +80,10 @@ pub(crate) fn next_level(
     requires sound { IsSound (view file.now) }
     requires shapes { shapes.now.items ≡ shapes_of (view file.now).declarations }
     requires level { IsLevel by (view file.now) nodes.now }
-    ensures { IfOk result (λ next. (count : ℕ) → AreLevel by (view file.now) count nodes.now
+    ensures level { IfOk result (λ next. (count : ℕ) → AreLevel by (view file.now) count nodes.now
         → AreLevel by (view file.now) (suc count) next.items) }
+    ensures few { IfOk result (λ next. length next.items ≤ room) }
+    ensures cause { IfErr result (IsLevelCause by (view file.now) nodes.now room) }
 {
     let mut found = BTreeMap::new(alloc);
     for node in nodes {
@@ -94,6 +97,8 @@ pub(crate) fn next_level(
 fn nodes_of(alloc: Global, found: BTreeMap<Key, Ways>, room: u64) -> Result<Vec<Node>, OrdersError>
     ensures each { IfOk result (λ nodes. nodes.items ≡ map node_of found.entries) }
     ensures apart { IfOk result (λ nodes. IsStrictlySortedBy key_cmp (map (λ p. p.key) nodes.items)) }
+    ensures few { IfOk result (λ nodes. length nodes.items ≤ room) }
+    ensures cause { IfErr result (AreTooMany found room) }
 {
     if room < found.len() as u64 {
         return Err(OrdersError::TooMany);

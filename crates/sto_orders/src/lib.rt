@@ -4,6 +4,7 @@
 //! give everything that such a report can tell. Orders whose beginnings lead to the same node go on from there together.
 #![tactic(auto)]
 
+mod alike;
 mod explored;
 mod found;
 mod key;
@@ -13,6 +14,7 @@ mod outcome;
 mod same_by;
 mod way;
 
+pub use alike::leads_to;
 pub use explored::all_outcomes;
 pub use limit::OrdersError;
 pub use outcome::Outcome;

@@ -6,7 +6,7 @@ use Rattle.sto_lang.specs.Drafts.{transaction_count}
 use Rattle.sto_draw.specs.Drawn.{IsTooLong}
 use Rattle.sto_args.specs.declared.command.Command.TheVariants.{Trace, Draw}
 use Rattle.sto_console.specs.declared.refusal.InputFault.{InputFault}
-use Rattle.sto_console.specs.declared.refusal.InputFault.TheVariants.{Script, NoReport, LongTrace, LongRun, ManySchedules}
+use Rattle.sto_console.specs.declared.refusal.InputFault.TheVariants.{Script, NoReport, LongTrace, LongRun, ManySchedules, ManyStates}
 use Rattle.sto_console.specs.Outcomes.{IsFaulty}
 use Rattle.sto_cli.specs.Traces.{HasLongRun, IsRunFault, NeverMany}
 use Rattle.sto_cli.specs.Programs.{program}
@@ -25,6 +25,7 @@ module _ (IsLong : File → Type 0) (is_not : IsLong lost_update_file → ⊥) w
       let many : 256 < 2 = subst (λ (f : File). 256 < transaction_count f.threads) (read_as h.0 h.1) h.2 in omega (arith, many)
   no_fault LongRun h = is_not (subst IsLong (read_as h.0 h.1.0) h.2)
   no_fault (ManySchedules counts) h = h.2
+  no_fault (ManyStates count) h = h.2
 
 trace_not_long : HasLongRun 64 lost_update_file → ⊥
 trace_not_long h = not_long h.0 h.1 h.2

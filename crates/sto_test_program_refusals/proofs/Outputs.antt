@@ -13,9 +13,13 @@ use Rattle.sto_run.specs.Stores.{means}
 use Rattle.sto_run.specs.Forms.{form_for, IsAlone}
 use Rattle.sto_explore.specs.declared.outcome.Outcomes.{Outcomes}
 use Rattle.sto_explore.specs.Texts.{outcome_text, sum_line, outcomes_in}
-use Rattle.sto_args.specs.declared.command.Command.TheVariants.{Run, Step, Explore, Upgrade, Gen}
+use Rattle.sto_run_orders.specs.declared.report.OrderReport.{OrderReport}
+use Rattle.sto_run_orders.specs.Texts.{reports_in}
+use Rattle.sto_run_orders.specs.Texts as orders
+use Rattle.sto_args.specs.declared.command.By.{By}
+use Rattle.sto_args.specs.declared.command.Command.TheVariants.{Run, Step, Explore, Schedules, Upgrade, Gen}
 use Rattle.sto_console.specs.declared.refusal.InputFault.{InputFault}
-use Rattle.sto_console.specs.declared.refusal.InputFault.TheVariants.{Script, NoReport, LongTrace, LongRun, ManySchedules}
+use Rattle.sto_console.specs.declared.refusal.InputFault.TheVariants.{Script, NoReport, LongTrace, LongRun, ManySchedules, ManyStates}
 use Rattle.sto_console.specs.Outcomes.{IsDone, IsFaulty}
 use Rattle.sto_console.specs.Faults.{IsScriptFault}
 use Rattle.sto_console.specs.Workers.{workers_of}
@@ -83,6 +87,7 @@ no_fault NoReport h = h
 no_fault LongTrace h = h
 no_fault LongRun h = h
 no_fault (ManySchedules counts) h = h
+no_fault (ManyStates count) h = h
 
 pub run_fault : (threads : Option ℕ) (tries : ℕ) (json : Bool) → IsFaulty program (Some (Run threads tries json)) (Some script) (Some []) → ⊥
 run_fault threads tries json faulty = no_fault faulty.0 faulty.1.1
@@ -92,8 +97,16 @@ told_nothing : (json : Bool) (f : File) (outcomes : Outcomes) → [] ≡ outcome
 told_nothing true f outcomes e = no_front e
 told_nothing false f outcomes e = no_front (none_behind (flat_map (outcome_text f) (enumerate_from 1 outcomes.each.items)) (sum_line outcomes) e)
 
-pub explore_nothing : (switches tries : ℕ) (json : Bool) (bytes : List ℕ) → IsOutput (Explore switches tries json) bytes [] → ⊥
-explore_nothing switches tries json bytes o = told_nothing json o.0 o.2.outcomes o.2.told
+pub schedules_nothing : (switches tries : ℕ) (json : Bool) (bytes : List ℕ) → IsOutput (Schedules switches tries json) bytes [] → ⊥
+schedules_nothing switches tries json bytes o = told_nothing json o.0 o.2.outcomes o.2.told
+
+-- so it is with what all orders lead to
+told_no_orders : (json : Bool) (f : File) (reports : List OrderReport) → [] ≡ reports_in json f reports → ⊥
+told_no_orders true f reports e = no_front e
+told_no_orders false f reports e = no_front (none_behind (flat_map (orders.report_text f) (enumerate_from 1 reports)) (orders.sum_line reports) e)
+
+pub explore_nothing : (by : By) (states : ℕ) (json : Bool) (bytes : List ℕ) → IsOutput (Explore by states json) bytes [] → ⊥
+explore_nothing by states json bytes o = told_no_orders json o.0 o.2.reports o.2.told
 
 -- what `upgrade` prints begins with its version
 pub upgrade_same : IsOutput Upgrade script script → ⊥

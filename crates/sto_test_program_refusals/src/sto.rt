@@ -1,7 +1,8 @@
 //! What `sto` does not print or tell.
 ghost use Rattle.std.specs.Prelude.{◌≡◌, ℕ, List, [], Bool, true, false, Option, Some};
 ghost use Rattle.sto_args.specs.declared.command.Command.{Command};
-ghost use Rattle.sto_args.specs.declared.command.Command.TheVariants.{Run, Step, Trace, Draw, Explore, Upgrade, Gen, Bench};
+ghost use Rattle.sto_args.specs.declared.command.Command.TheVariants.{Run, Step, Trace, Draw, Explore, Schedules, Upgrade, Gen, Bench};
+ghost use Rattle.sto_args.specs.declared.command.By.{By};
 ghost use Rattle.sto_console.specs.Ends.{Ends};
 ghost use Rattle.sto_console.specs.Statuses.{done_status, EndsWith};
 ghost use Rattle.sto_console.specs.Outcomes.{IsDone, IsFaulty};
@@ -34,7 +35,7 @@ pub fn not_run()
     ensures fault { (threads : Option ℕ) (tries : ℕ) (json : Bool) → IsFaulty program (Some (Run threads tries json)) (Some script) (Some []) → ⊥ }
 {}
 
-/// What `step`, `trace`, `draw` and `explore` do not print or tell.
+/// What `step`, `trace`, `draw`, `explore` and `schedules` do not print or tell.
 pub fn not_stepped()
     // A report in which a commit is left out, and one of which a reply is another.
     ensures left_out { IsOutput (Step 64 false) script left_out → ⊥ }
@@ -42,7 +43,8 @@ pub fn not_stepped()
     // Nothing.
     ensures step_nothing { (tries : ℕ) (json : Bool) (bytes : List ℕ) → IsOutput (Step tries json) bytes [] → ⊥ }
     ensures trace_nothing { (json : Bool) → IsOutput (Trace 64 json) lost_update [] → ⊥ }
-    ensures explore_nothing { (switches tries : ℕ) (json : Bool) (bytes : List ℕ) → IsOutput (Explore switches tries json) bytes [] → ⊥ }
+    ensures explore_nothing { (by : By) (states : ℕ) (json : Bool) (bytes : List ℕ) → IsOutput (Explore by states json) bytes [] → ⊥ }
+    ensures schedules_nothing { (switches tries : ℕ) (json : Bool) (bytes : List ℕ) → IsOutput (Schedules switches tries json) bytes [] → ⊥ }
     // A picture of two threads without an event.
     ensures no_event { (text : List ℕ) (p : IsPicture 64 lost_update_file text) → p.steps ≡ [] → ⊥ }
     // That a run of two threads has too many events, or any other fault.

@@ -7,7 +7,7 @@ use std::{fs, io};
 use sto_cli::NoGate;
 
 /// The pages that show runs. The examples that they name lie beside them.
-pub const PAGES: [&str; 7] = [
+pub const PAGES: [&str; 8] = [
     "language.md",
     "report.md",
     "statuses.md",
@@ -15,6 +15,7 @@ pub const PAGES: [&str; 7] = [
     "steps.md",
     "cases.md",
     "explore.md",
+    "schedules.md",
 ];
 
 // Whether a run writes what stands in a file, and nothing beside.

@@ -1,6 +1,6 @@
 //! Words that are commands, and words that are not.
 use std::alloc::{AllocError, Global};
-use sto_args::{Command, find_command};
+use sto_args::{By, Command, find_command};
 
 fn words_of(alloc: Global, words: &[&str]) -> Result<Vec<String>, AllocError> {
     let mut texts = Vec::new(alloc);
@@ -84,22 +84,54 @@ const COMMANDS: &[(&[&str], Command)] = &[
     (
         &["explore"],
         Command::Explore {
+            by: By::State,
+            states: 1_000_000,
+            json: false,
+        },
+    ),
+    (
+        &["explore", "--json", "--by=answers", "--states", "1"],
+        Command::Explore {
+            by: By::Answers,
+            states: 1,
+            json: true,
+        },
+    ),
+    (
+        &["explore", "--by", "order", "--states=1000000000"],
+        Command::Explore {
+            by: By::Order,
+            states: 1_000_000_000,
+            json: false,
+        },
+    ),
+    (
+        &["explore", "--by", "state"],
+        Command::Explore {
+            by: By::State,
+            states: 1_000_000,
+            json: false,
+        },
+    ),
+    (
+        &["schedules"],
+        Command::Schedules {
             switches: 2,
             tries: 64,
             json: false,
         },
     ),
     (
-        &["explore", "--json", "--switches=8", "--tries", "1"],
-        Command::Explore {
+        &["schedules", "--json", "--switches=8", "--tries", "1"],
+        Command::Schedules {
             switches: 8,
             tries: 1,
             json: true,
         },
     ),
     (
-        &["explore", "--switches", "0"],
-        Command::Explore {
+        &["schedules", "--switches", "0"],
+        Command::Schedules {
             switches: 0,
             tries: 64,
             json: false,
@@ -164,12 +196,20 @@ const NO_COMMANDS: &[&[&str]] = &[
     &["trace", "--threads", "2"],
     &["draw", "--tries", "65"],
     &["draw", "--json"],
-    &["explore", "--switches", "9"],
-    &["explore", "--switches", "-1"],
-    &["explore", "--switches", "01"],
-    &["explore", "--switches"],
-    &["explore", "--threads", "2"],
+    &["explore", "--by", "report"],
+    &["explore", "--by", ""],
+    &["explore", "--by"],
+    &["explore", "--states", "0"],
+    &["explore", "--states", "1000000001"],
+    &["explore", "--tries", "2"],
+    &["explore", "--switches", "2"],
     &["explore", "2"],
+    &["schedules", "--switches", "9"],
+    &["schedules", "--switches", "-1"],
+    &["schedules", "--switches", "01"],
+    &["schedules", "--switches"],
+    &["schedules", "--threads", "2"],
+    &["schedules", "2"],
     &["step", "--switches", "2"],
     &["upgrade", "--json"],
     &["upgrade", "1"],

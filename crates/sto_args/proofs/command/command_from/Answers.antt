@@ -23,6 +23,9 @@ draw-requires c = sym (list_any-map is_refused (λ option. option.now) c.args.op
 pub explore-requires : goal.explore-requires
 explore-requires c = sym (list_any-map is_refused (λ option. option.now) c.args.options.now) ∙ sym c.has_refused.ensures ∙ c.if-has_refused.false
 
+pub schedules-requires : goal.schedules-requires
+schedules-requires c = sym (list_any-map is_refused (λ option. option.now) c.args.options.now) ∙ sym c.has_refused.ensures ∙ c.if-has_refused.false
+
 pub step-requires : goal.step-requires
 step-requires c = sym (list_any-map is_refused (λ option. option.now) c.args.options.now) ∙ sym c.has_refused.ensures ∙ c.if-has_refused.false
 

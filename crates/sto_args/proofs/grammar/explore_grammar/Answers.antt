@@ -11,6 +11,6 @@ returns c =
     (λ x. app_of x ≡ with_rule (app_of c.in_ok-second.second) (option_rule (codes "json")))
     (λ x. app_of x ≡ app_for (codes "explore") explore_takes)
     (λ x h. h ∙ ap (λ a. with_rule a (option_rule (codes "json")))
-    (c.in_ok-second.ensures ∙ ap (λ a. with_rule a (option_rule (codes "tries")))
-    (c.in_ok-first.ensures ∙ ap (λ a. with_rule a (option_rule (codes "switches"))) c.bare.ensures)))
+    (c.in_ok-second.ensures ∙ ap (λ a. with_rule a (option_rule (codes "states")))
+    (c.in_ok-first.ensures ∙ ap (λ a. with_rule a (option_rule (codes "by"))) c.bare.ensures)))
     c.with_option-3.ensures

@@ -1,7 +1,9 @@
-use Rattle.std.proofs.Common.{◌≡◌, ℕ, suc, ◌<◌, length, Some, slice_get, refl, arith}
+use Rattle.std.proofs.Common.{◌≡◌, length, Some, slice_get, refl, arith}
 use Rattle.std.proofs.lemmas.Option.{slice_get_read, slice_get_within}
+use Rattle.std.proofs.lemmas.Result.{err_from_is_err_and}
 use Rattle.sto_lang.specs.Views.{file as view}
 use Rattle.sto_orders.proofs.Levelling.{level_more}
+use Rattle.sto_orders.proofs.Refusing.{level_cause}
 use Rattle.sto_orders.proofs.Nexts.{found_none, next_nodes}
 use Rattle.sto_orders.proofs.level.next_level.Goals as goal
 
@@ -30,8 +32,16 @@ loop-node-preserved c =
       next = next_nodes c.args.by f c.loop-node.found c.go_on_from.new.found nodes i node (length f.threads) at more.keeps c.loop-node.invariant.next more.next;
     }
 
-pub returns : goal.returns
-returns c = λ count level.
+pub returns-clause-level : goal.returns-clause-level
+returns-clause-level c = λ count level.
     let nodes = c.args.nodes.now in
     level_more c.args.by (view c.args.file.now) count nodes c.loop-node.found c.in_ok-next.next.items level (c.loop-node.invariant.found count level)
     (λ k p e. c.loop-node.invariant.next k p (omega (arith, c.loop-node-test.false, slice_get_within nodes k p e)) e) c.in_ok-next.ensures.each c.in_ok-next.ensures.apart
+
+pub returns-in_err-next-clause-cause : goal.returns-in_err-next-clause-cause
+returns-in_err-next-clause-cause c =
+    let p = err_from_is_err_and c.from_residual-in_err-next.result c.from_residual-in_err-next.ensures.1 in
+    let nodes = c.args.nodes.now in
+    rw (p.1, p.2)
+    (level_cause c.args.by (view c.args.file.now) nodes c.loop-node.found c.args.room c.in_err-next.field-0.0 c.loop-node.invariant.found
+    (λ k p e. c.loop-node.invariant.next k p (omega (arith, c.loop-node-test.false, slice_get_within nodes k p e)) e) c.in_err-next.ensures.cause)

@@ -5,7 +5,7 @@ use Rattle.sto_run.specs.Forms.{form_for}
 use Rattle.sto_run_schedules.specs.Explored.{HasTooMany}
 use Rattle.sto_run_schedules.proofs.ManySchedules.{many_with_more}
 use Rattle.sto_cli.specs.Explorations.{most_schedules, IsCountAt}
-use Rattle.sto_cli.proofs.explored.counts_of.Goals as goal
+use Rattle.sto_cli.proofs.scheduled.counts_of.Goals as goal
 
 pub count_at-requires-clause-many : goal.count_at-requires-clause-many
 count_at-requires-clause-many g c = λ is.

@@ -1,4 +1,4 @@
-use Rattle.sto_cli.proofs.explored.outcomes_of.Goals as goal
+use Rattle.sto_cli.proofs.scheduled.outcomes_of.Goals as goal
 
 pub many_schedules-requires-clause-many : goal.many_schedules-requires-clause-many
 many_schedules-requires-clause-many g c = c.in-Err-TooMany.ensures.too_many c.in-Err-TooMany.field-0-is

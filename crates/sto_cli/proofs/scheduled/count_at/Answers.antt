@@ -1,5 +1,5 @@
 use Rattle.std.proofs.Common.{refl}
-use Rattle.sto_cli.proofs.explored.count_at.Goals as goal
+use Rattle.sto_cli.proofs.scheduled.count_at.Goals as goal
 
 pub returns-then-are_many-clause-count : goal.returns-then-are_many-clause-count
 returns-then-are_many-clause-count g c = c.requires.many c.if-are_many.true

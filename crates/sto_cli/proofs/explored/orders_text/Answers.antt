@@ -1,0 +1,15 @@
+use Rattle.std.proofs.Common.{ap, ◌∙◌}
+use Rattle.sto_lang.specs.Views.{file as view}
+use Rattle.sto_run_orders.specs.Texts.{reports_in}
+use Rattle.sto_cli.proofs.explored.orders_text.Goals as goal
+
+pub returns-in_ok-reports_text-in-Ok-clause-text : goal.returns-in_ok-reports_text-in-Ok-clause-text
+returns-in_ok-reports_text-in-Ok-clause-text c = record {
+  reports = c.in-Ok.reports.items;
+  of_file = c.in-Ok.ensures.reports;
+  complete = c.in-Ok.ensures.complete;
+  told = c.in_ok-reports_text-in-Ok.ensures ∙ ap (reports_in c.args.json (view c.args.file.now)) c.as_slice.ensures.value;
+}
+
+pub returns-in-Err-clause-fault : goal.returns-in-Err-clause-fault
+returns-in-Err-clause-fault c = c.refusal.ensures c.args.by (view c.args.file.now) c.in-Err.ensures.cause

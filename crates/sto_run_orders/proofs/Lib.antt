@@ -1,0 +1,4 @@
+pub mod Reporting
+pub mod Apart
+pub mod Listing
+pub mod Counts

@@ -1,0 +1,20 @@
+//! What all orders of a file's transactions lead to, as reports of runs.
+//!
+//! [`explore_orders`] finds the outcomes of all orders, and makes for each a run that leads there: by a schedule that lets each leg of an
+//! order be made beside no other thread. [`reports_text`] is what is printed of them.
+#![tactic(auto)]
+
+mod events;
+mod explored;
+mod json;
+mod order;
+mod printed;
+mod report;
+mod runs;
+mod text;
+mod words;
+
+pub use explored::explore_orders;
+pub use printed::reports_text;
+pub use report::OrderReport;
+pub use sto_orders::{OrdersError, SameBy};
