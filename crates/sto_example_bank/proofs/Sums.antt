@@ -1,40 +1,32 @@
 -- Each transaction of the bank keeps what the accounts hold together, and an audit gives it.
 use Rattle.std.specs.Prelude.{int_lt}
-use Rattle.std.proofs.Common.{◌≡◌, ℕ, ℤ, pos, ◌≤ℤ◌, [], ◌∷◌, refl, subst, arith}
+use Rattle.std.proofs.Common.{◌≡◌, ℤ, pos, ◌≤ℤ◌, [], ◌∷◌, refl, subst, arith}
 use Rattle.std.proofs.lemmas.Int.{ints}
 use Rattle.sto_part.specs.Changes.{wrapped_sum, wrapped_difference}
-use Rattle.sto_model.specs.Objects.{machines_of}
 use Rattle.sto_model.proofs.RowFacts.{not_below_of}
 use Rattle.sto_action.specs.declared.handles.BoxId.{BoxId}
 use Rattle.sto_action.specs.Snapshots.{snapshot}
-use Rattle.sto_library.specs.Keeping.{Keeps}
-use Rattle.sto_library.proofs.Keeping.{at_two, at_three, on_state, unless_then}
+use Rattle.sto_library.specs.Keeping.{Keeps, IsKept, Any}
+use Rattle.sto_library.proofs.Branches.{box, at_two, at_three, on_state, unless_then}
 use Rattle.sto_library.proofs.Wrapping.{moved}
 use Rattle.sto_example_bank.specs.Accounts.{transfer, accounts, holding, HoldAll, IsAll}
 
-abbrev box : ℕ → BoxId
-box n = record { number = n }
-
--- whatever a transfer gives
-abbrev Any : ℤ → Type 0
-Any x = Unit {0}
-
-pub first_moves : {a b : BoxId} (n : ℤ) → (a.number ≡ 0) × (b.number ≡ 1) → pos 0 ≤ℤ n → Keeps (machines_of accounts) HoldAll Any (transfer a b n)
-first_moves n e some = at_two (λ i j. Keeps (machines_of accounts) HoldAll Any (transfer (box i) (box j) n)) e (λ st h.
-    on_state (machines_of accounts) (transfer (box 0) (box 1) n) _ h.are (unless_then (machines_of accounts) _ _ _ _ (int_lt h.x n) (λ enough.
+pub first_moves : {a b : BoxId} (n : ℤ) → (a.number ≡ 0) × (b.number ≡ 1) → pos 0 ≤ℤ n → Keeps accounts HoldAll Any (transfer a b n)
+first_moves n e some = at_two (λ i j. Keeps accounts HoldAll Any (transfer (box i) (box j) n)) e (λ st rises h.
+    on_state accounts (IsKept HoldAll Any) (transfer (box 0) (box 1) n) h.are (unless_then accounts (IsKept HoldAll Any) _ _ _ (int_lt h.x n) (λ enough.
     let m = moved h.x h.y n some (not_below_of h.x n enough) h.some_y (grind (arith, ints, h.sum, h.some_z)) in
     (tt, record { x = wrapped_difference h.x n; y = wrapped_sum h.y n; z = h.z; are = refl; some_x = m.some_x; some_y = m.some_y; some_z = h.some_z; sum = grind (arith, ints, m.sum, h.sum) }))))
 
-pub second_moves : {b c : BoxId} (n : ℤ) → (b.number ≡ 1) × (c.number ≡ 2) → pos 0 ≤ℤ n → Keeps (machines_of accounts) HoldAll Any (transfer b c n)
-second_moves n e some = at_two (λ i j. Keeps (machines_of accounts) HoldAll Any (transfer (box i) (box j) n)) e (λ st h.
-    on_state (machines_of accounts) (transfer (box 1) (box 2) n) _ h.are (unless_then (machines_of accounts) _ _ _ _ (int_lt h.y n) (λ enough.
+pub second_moves : {b c : BoxId} (n : ℤ) → (b.number ≡ 1) × (c.number ≡ 2) → pos 0 ≤ℤ n → Keeps accounts HoldAll Any (transfer b c n)
+second_moves n e some = at_two (λ i j. Keeps accounts HoldAll Any (transfer (box i) (box j) n)) e (λ st rises h.
+    on_state accounts (IsKept HoldAll Any) (transfer (box 1) (box 2) n) h.are (unless_then accounts (IsKept HoldAll Any) _ _ _ (int_lt h.y n) (λ enough.
     let m = moved h.y h.z n some (not_below_of h.y n enough) h.some_z (grind (arith, ints, h.sum, h.some_x)) in
     (tt, record { x = h.x; y = wrapped_difference h.y n; z = wrapped_sum h.z n; are = refl; some_x = h.some_x; some_y = m.some_x; some_z = m.some_y; sum = grind (arith, ints, m.sum, h.sum) }))))
 
 -- an audit sees the sum
-pub sees_all : {a b c : BoxId} → (a.number ≡ 0) × (b.number ≡ 1) × (c.number ≡ 2) → Keeps (machines_of accounts) HoldAll IsAll (snapshot (a ∷ b ∷ c ∷ []) [])
-sees_all e = at_three (λ i j k. Keeps (machines_of accounts) HoldAll IsAll (snapshot (box i ∷ box j ∷ box k ∷ []) [])) e (λ st h.
-    on_state (machines_of accounts) (snapshot (box 0 ∷ box 1 ∷ box 2 ∷ []) []) (λ r. IsAll r.0 × HoldAll r.1) h.are (grind (arith, ints, h.sum), subst HoldAll h.are h))
+pub sees_all : {a b c : BoxId} → (a.number ≡ 0) × (b.number ≡ 1) × (c.number ≡ 2) → Keeps accounts HoldAll IsAll (snapshot (a ∷ b ∷ c ∷ []) [])
+sees_all e = at_three (λ i j k. Keeps accounts HoldAll IsAll (snapshot (box i ∷ box j ∷ box k ∷ []) [])) e (λ st rises h.
+    on_state accounts (IsKept HoldAll IsAll) (snapshot (box 0 ∷ box 1 ∷ box 2 ∷ []) []) h.are (grind (arith, ints, h.sum), subst HoldAll h.are h))
 
 -- at the opening
 pub opened : HoldAll (holding (pos 100) (pos 100) (pos 100))

@@ -1,10 +1,11 @@
 -- What the transactions of the bank do, and what they keep.
-use Rattle.std.specs.Prelude.{◌≡◌, ℤ, pos, ◌+ℤ◌, ◌≤ℤ◌, int_lt, if◌then◌else◌, List, [], ◌∷◌, fold, Result}
+use Rattle.std.specs.List.{All, filter_map}
+use Rattle.std.specs.Prelude.{◌≡◌, ℤ, pos, ◌+ℤ◌, ◌≤ℤ◌, int_lt, if◌then◌else◌, List, [], ◌∷◌, fold, length, Result}
+use Rattle.either.specs.Either.{right}
+use Rattle.either.specs.declared.Either.{Either}
 use Rattle.sto_part.specs.Changes.{wrapped_sum, wrapped_difference}
-use Rattle.sto_part.specs.Listed.{Listed}
 use Rattle.sto_model.specs.declared.shape.Shape.{Shape}
 use Rattle.sto_model.specs.declared.shape.Shape.TheVariants.{Single}
-use Rattle.sto_model.specs.Rows.{Row}
 use Rattle.sto_model.specs.Run.{State}
 use Rattle.sto_action.specs.declared.handles.BoxId.{BoxId}
 use Rattle.sto_action.specs.declared.snapshot.SnapshotValues.{SnapshotValues}
@@ -45,10 +46,21 @@ pub record HoldAll (state : State) : Type 0 where
   pub some_z : pos 0 ≤ℤ z
   pub sum : (x +ℤ y) +ℤ z ≡ pos 300
 
+-- what an audit led to, and what a clerk tells: a teller of a transfer, or an auditor of an audit
+abbrev pub Audited : Type 0
+Audited = Result (Done (SnapshotValues 3 0)) TransactionError
+
+abbrev pub Told : Type 0
+Told = Either (Result (Done ℤ) TransactionError) Audited
+
 -- an audit saw three accounts with 300 together, at one time
 abbrev pub IsAll : SnapshotValues 3 0 → Type 0
 IsAll held = fold (λ (sum x : ℤ). sum +ℤ x) (pos 0) held.boxes ≡ pos 300
 
+-- what the audits saw, among all that the clerks told
+abbrev pub audits : List Told → List Audited
+audits told = filter_map right told
+
 -- both audits saw all, and the accounts are so at the end
-abbrev pub IsDay : Result (Done (SnapshotValues 3 0)) TransactionError × Result (Done (SnapshotValues 3 0)) TransactionError × Listed (List Row) → Type 0
-IsDay (first, other, rows) = IfGave IsAll first × IfGave IsAll other × HoldAll rows.items
+abbrev pub IsDay : List Told → State → Type 0
+IsDay told rows = (length (audits told) ≡ 2) × All (IfGave IsAll) (audits told) × HoldAll rows

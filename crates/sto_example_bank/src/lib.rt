@@ -8,7 +8,7 @@ ghost use Rattle.sto_action.specs.Progs.{Follows};
 use std::alloc::Global;
 use std::thread::Threads;
 use sto_library::{
-    Action, BoxId, Done, Schema, Snapshot, SnapshotValues, State, Stop, StoreError, Times,
+    Action, BoxId, Done, Either, Schema, Snapshot, SnapshotValues, State, Stop, StoreError, Times,
     TransactionError, Tx, wrapping_difference, wrapping_sum,
 };
 
@@ -62,12 +62,15 @@ impl Action for Transfer {
 /// What an audit led to: what all accounts have at one time.
 pub type Audited = Result<Done<SnapshotValues<3, 0>>, TransactionError>;
 
-/// What both auditors' last audits led to, and the rows at the end.
-pub type Day = (Audited, Audited, State);
+/// What a clerk's last transaction led to: a teller's transfer, or an auditor's audit.
+pub type Told = Either<Result<Done<i64>, TransactionError>, Audited>;
+
+/// What the clerks told, first the tellers and then the auditors, and the rows at the end.
+pub type Day = (Vec<Told>, State);
 
 /// A day of the bank on so many threads, with three accounts of 100 each. Each audit sees 300, and 300 is there at the end.
 pub fn run_bank<R: Threads + Sync>(rt: &R, alloc: Global, threads: u32) -> Result<Day, StoreError>
-    ensures { IfOk result IsDay }
+    ensures { IfOk result (λ day. IsDay day.0.items day.1.items) }
 {
     let mut schema = Schema::new(alloc);
     let a = schema.boxed(100)?;
@@ -88,9 +91,15 @@ pub fn run_bank<R: Threads + Sync>(rt: &R, alloc: Global, threads: u32) -> Resul
         boxes: [a, b, c],
         counters: [],
     };
-    let (one, two, audit) = (Times(20, one), Times(20, two), Times(20, audit));
-    let (_, _, first, other) = store.run_four(rt, alloc, threads, &one, &two, &audit, &audit)?;
-    Ok((first, other, store.close(alloc)?))
+    let auditor = Either::Right(Times(20, audit));
+    let clerks = [
+        Either::Left(Times(20, one)),
+        Either::Left(Times(20, two)),
+        auditor,
+        auditor,
+    ];
+    let told = store.run_tasks(rt, alloc, threads, &clerks)?;
+    Ok((told, store.close(alloc)?))
 }
 
 /// What three accounts have together.

@@ -7,7 +7,7 @@ use Rattle.std.proofs.lemmas.Int.{ints}
 use Rattle.std.proofs.lemmas.List.Elements.{All-nil, All-head, All-tail, All-weaker}
 use Rattle.sto_model.specs.Rows.{Row, with_row, rows_between}
 use Rattle.sto_model.proofs.RowFacts.{by_test, same_of, with_row-below, with_row-same, with_row-above}
-use Rattle.sto_library.proofs.Trees.{IsOutside, none_between, all_with}
+use Rattle.sto_library.proofs.RowLaws.{IsOutside, none_between, all_with}
 use Rattle.sto_example_calendar.specs.Bookings.{AreApart, NoneOverlap}
 
 apart : (day guest : ℤ) (r : Row) → IsOutside (day -ℤ pos 2) (day +ℤ pos 2) r → AreApart r (day, guest) × AreApart (day, guest) r
@@ -29,4 +29,5 @@ pub booked : (day guest : ℤ) (rows : List Row) → int_eq (pos (length (rows_b
     → NoneOverlap (with_row rows day guest)
 booked day guest rows free none =
     let few : length (rows_between rows (day -ℤ pos 2) (day +ℤ pos 2)) ≡ 0 = ap unsigned_abs (same_of (pos (length (rows_between rows (day -ℤ pos 2) (day +ℤ pos 2)))) (pos 0) free) in
-    none_with rows day guest (All-weaker (IsOutside (day -ℤ pos 2) (day +ℤ pos 2)) (λ r. AreApart r (day, guest) × AreApart (day, guest) r) (apart day guest) rows (none_between rows (day -ℤ pos 2) (day +ℤ pos 2) few)) none
+    none_with rows day guest (All-weaker (IsOutside (day -ℤ pos 2) (day +ℤ pos 2)) (λ r. AreApart r (day, guest) × AreApart (day, guest) r) (apart day guest) rows
+    (none_between rows (day -ℤ pos 2) (day +ℤ pos 2) few)) none

@@ -74,11 +74,13 @@ pub fn run_calendar<R: Threads + Sync>(
     let mut schema = Schema::new(alloc);
     let room = schema.tree(16)?;
     let mut store = schema.open(alloc, 4)?;
-    let one = Guest { room, guest: 1 };
-    let two = Guest { room, guest: 2 };
-    let three = Guest { room, guest: 3 };
-    let four = Guest { room, guest: 4 };
-    let _told = store.run_four(rt, alloc, threads, &one, &two, &three, &four)?;
+    let guests = [
+        Guest { room, guest: 1 },
+        Guest { room, guest: 2 },
+        Guest { room, guest: 3 },
+        Guest { room, guest: 4 },
+    ];
+    let _told = store.run_tasks(rt, alloc, threads, &guests)?;
     Ok(store.close(alloc)?)
 }
 

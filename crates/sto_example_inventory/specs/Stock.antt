@@ -1,7 +1,9 @@
 -- What the transactions of the inventory do, and what they keep.
-use Rattle.std.specs.Prelude.{◌≡◌, ℤ, pos, ◌≤ℤ◌, List, [], ◌∷◌, Result, if◌then◌else◌, unwrap_or}
+use Rattle.std.specs.List.{All, filter_map}
+use Rattle.std.specs.Prelude.{◌≡◌, ℤ, pos, ◌≤ℤ◌, List, [], ◌∷◌, length, Option, Result, if◌then◌else◌, unwrap_or}
+use Rattle.either.specs.Either.{right}
+use Rattle.either.specs.declared.Either.{Either}
 use Rattle.sto_part.specs.Changes.{wrapped_sum}
-use Rattle.sto_part.specs.Listed.{Listed}
 use Rattle.sto_model.specs.declared.shape.Shape.{Shape}
 use Rattle.sto_model.specs.declared.shape.Shape.TheVariants.{Counter, Hash}
 use Rattle.sto_model.specs.Rows.{Row}
@@ -14,11 +16,14 @@ use Rattle.sto_action.specs.declared.outcome.Done.{Done}
 use Rattle.sto_action.specs.declared.outcome.TransactionError.{TransactionError}
 use Rattle.sto_library.specs.Keeping.{IfGave}
 
--- it adds pieces to the line of a customer; it gives what that line says then
+-- it makes the line of a customer say so many pieces more, where it says this or nothing; it gives what it says then
+abbrev pub noted : HashId → ℤ → ℤ → Option ℤ → Prog ℤ
+noted book customer pieces line =
+    hash_put book customer (wrapped_sum (unwrap_or line (pos 0)) pieces) (λ put. if put then Gives (wrapped_sum (unwrap_or line (pos 0)) pieces) else Cancels)
+
+-- it adds pieces to the line of a customer
 abbrev pub note : HashId → ℤ → ℤ → Prog ℤ
-note book customer pieces =
-    hash_get book customer (λ line. hash_put book customer (wrapped_sum (unwrap_or line (pos 0)) pieces) (λ put.
-    if put then Gives (wrapped_sum (unwrap_or line (pos 0)) pieces) else Cancels))
+note book customer pieces = hash_get book customer (noted book customer pieces)
 
 -- it takes pieces from the stock, where they are there, and notes them
 abbrev pub sale : CounterId → HashId → ℤ → ℤ → Prog ℤ
@@ -44,6 +49,21 @@ pub record IsStocked (state : State) : Type 0 where
   pub are : state ≡ holding left lines
   pub some : pos 0 ≤ℤ left
 
--- what a clerk counted in stock is not below zero, and what is left at the end is not
-abbrev pub IsDay : Result (Done (ℤ × ℤ)) TransactionError × Listed (List Row) → Type 0
-IsDay (count, rows) = IfGave (λ c. pos 0 ≤ℤ c.0) count × IsStocked rows.items
+-- what a count led to, and what somebody in the shop tells: a seller of a sale, or a clerk of a count
+abbrev pub Counted : Type 0
+Counted = Result (Done (ℤ × ℤ)) TransactionError
+
+abbrev pub Told : Type 0
+Told = Either (Result (Done ℤ) TransactionError) Counted
+
+-- what was counted in stock is not below zero
+abbrev pub IsCount : ℤ × ℤ → Type 0
+IsCount count = pos 0 ≤ℤ count.0
+
+-- what the clerks counted, among all that was told
+abbrev pub all_counts : List Told → List Counted
+all_counts told = filter_map right told
+
+-- what both clerks counted in stock is not below zero, and what is left at the end is not
+abbrev pub IsDay : List Told → State → Type 0
+IsDay told rows = (length (all_counts told) ≡ 2) × All (IfGave IsCount) (all_counts told) × IsStocked rows

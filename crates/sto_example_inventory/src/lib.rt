@@ -7,8 +7,8 @@ ghost use Rattle.sto_example_inventory.specs.Stock.{sale, count, IsDay};
 use std::alloc::Global;
 use std::thread::Threads;
 use sto_library::{
-    Action, CounterId, Done, HashId, Schema, State, Stop, StoreError, Times, TransactionError, Tx,
-    wrapping_sum,
+    Action, CounterId, Done, Either, HashId, Schema, State, Stop, StoreError, Times,
+    TransactionError, Tx, wrapping_sum,
 };
 
 /// Takes pieces from the stock, where they are there, and notes them for a customer. It gives what that one has bought so far.
@@ -70,12 +70,18 @@ impl Action for Count {
     }
 }
 
-/// What a clerk counted last, and what all objects hold at the end.
-pub type Day = (Result<Done<(i64, i64)>, TransactionError>, State);
+/// What a clerk's count led to: what is in stock, and what was sold.
+pub type Counted = Result<Done<(i64, i64)>, TransactionError>;
+
+/// What the last transaction led to of somebody in the shop: a seller's sale, or a clerk's count.
+pub type Told = Either<Result<Done<i64>, TransactionError>, Counted>;
+
+/// What all told, first the sellers and then the clerks, and what all objects hold at the end.
+pub type Day = (Vec<Told>, State);
 
 /// A day of the shop on so many threads, with 50 pieces in stock: two sellers want 60 each, 3 at a time. The stock is never below zero.
 pub fn run_sales<R: Threads + Sync>(rt: &R, alloc: Global, threads: u32) -> Result<Day, StoreError>
-    ensures { IfOk result IsDay }
+    ensures { IfOk result (λ day. IsDay day.0.items day.1.items) }
 {
     let mut schema = Schema::new(alloc);
     let stock = schema.counter(50)?;
@@ -88,8 +94,13 @@ pub fn run_sales<R: Threads + Sync>(rt: &R, alloc: Global, threads: u32) -> Resu
         pieces: 3,
     };
     let two = Sale { customer: 2, ..one };
-    let clerk = Times(20, Count { stock, book });
-    let (one, two) = (Times(20, one), Times(20, two));
-    let (_, _, count, _) = store.run_four(rt, alloc, threads, &one, &two, &clerk, &clerk)?;
-    Ok((count, store.close(alloc)?))
+    let clerk = Either::Right(Times(20, Count { stock, book }));
+    let staff = [
+        Either::Left(Times(20, one)),
+        Either::Left(Times(20, two)),
+        clerk,
+        clerk,
+    ];
+    let told = store.run_tasks(rt, alloc, threads, &staff)?;
+    Ok((told, store.close(alloc)?))
 }

@@ -31,10 +31,14 @@ take received line = vector_pop line (λ popped. receive received popped)
 abbrev pub objects : List Shape
 objects = Counter (pos 0) ∷ Counter (pos 0) ∷ Vector 64 ∷ []
 
+-- so much was sent and received, and these wait, the last one first
+abbrev pub holding : ℤ → ℤ → List ℤ → State
+holding sent received waiting = ((pos 0, sent) ∷ []) ∷ ((pos 0, received) ∷ []) ∷ placed waiting ∷ []
+
 -- what was sent is what was received and what waits in the line, in sum
 pub record IsServed (state : State) : Type 0 where
   pub sent : ℤ
   pub received : ℤ
   pub waiting : List ℤ
-  pub are : state ≡ ((pos 0, sent) ∷ []) ∷ ((pos 0, received) ∷ []) ∷ placed waiting ∷ []
+  pub are : state ≡ holding sent received waiting
   pub all : sent ≡ received +ℤ total (placed waiting)

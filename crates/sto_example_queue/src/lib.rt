@@ -6,7 +6,9 @@ ghost use Rattle.sto_example_queue.specs.Line.{put, take, IsServed};
 
 use std::alloc::Global;
 use std::thread::Threads;
-use sto_library::{Action, CounterId, Schema, State, Stop, StoreError, Times, Tx, VectorId};
+use sto_library::{
+    Action, CounterId, Either, Schema, State, Stop, StoreError, Times, Tx, VectorId,
+};
 
 /// Puts an amount at the end of the line, where there is room, and notes it as sent. It gives the amount.
 #[derive(Clone, Copy)]
@@ -82,8 +84,13 @@ pub fn run_line<R: Threads + Sync>(rt: &R, alloc: Global, threads: u32) -> Resul
         amount: 7,
     };
     let five = Put { amount: 5, ..seven };
-    let (sevens, fives) = (Times(20, seven), Times(20, five));
-    let takes = Times(20, Take { received, line });
-    let _told = store.run_four(rt, alloc, threads, &sevens, &fives, &takes, &takes)?;
+    let taker = Either::Right(Times(20, Take { received, line }));
+    let tasks = [
+        Either::Left(Times(20, seven)),
+        Either::Left(Times(20, five)),
+        taker,
+        taker,
+    ];
+    let _told = store.run_tasks(rt, alloc, threads, &tasks)?;
     Ok(store.close(alloc)?)
 }

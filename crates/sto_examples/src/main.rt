@@ -5,6 +5,7 @@ mod bank;
 mod calendar;
 mod inventory;
 mod queue;
+mod seats;
 
 use std::io;
 
@@ -12,5 +13,6 @@ fn main(rt: HostRuntime) -> io::Result<()> {
     bank::run_days(&rt, &rt)?;
     inventory::run_days(&rt, &rt)?;
     queue::run_days(&rt, &rt)?;
-    calendar::run_days(&rt, &rt)
+    calendar::run_days(&rt, &rt)?;
+    seats::run_days(&rt, &rt)
 }

@@ -5,8 +5,11 @@ pub mod SideBySide
 pub mod Opened
 pub mod Planned
 pub mod Wrapping
+pub mod Rising
 pub mod Keeping
-pub mod Counters
+pub mod TwoKinds
+pub mod Branches
+pub mod Calls
+pub mod RowLaws
 pub mod Vectors
 pub mod Totals
-pub mod Trees

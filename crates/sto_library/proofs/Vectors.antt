@@ -1,15 +1,13 @@
 -- What a push and a pop make of the rows of a vector.
 use Rattle.std.specs.Ordering.{int_eq}
-use Rattle.std.specs.Prelude.{if◌then◌else◌, option_map, find, nat_le}
-use Rattle.std.proofs.Common.{◌≡◌, ℕ, suc, ℤ, pos, List, [], ◌∷◌, ◌++◌, length, Option, Some, None, Bool, true, false, refl, sym, ap, ◌∙◌, arith, length-append, true≢false}
+use Rattle.std.specs.Prelude.{if◌then◌else◌, option_map, find}
+use Rattle.std.proofs.Common.{◌≡◌, ℕ, suc, ℤ, pos, List, [], ◌∷◌, ◌++◌, length, Option, Some, None, Bool, true, false, refl, sym, ap, ◌∙◌, arith, length-append}
 use Rattle.std.proofs.lemmas.Int.{ints}
 use Rattle.sto_model.specs.Rows.{Row, with_row, without, value_at}
-use Rattle.sto_model.specs.Objects.{effect, push_effect, popped, pop_effect, vector_effect}
+use Rattle.sto_model.specs.Objects.{effect, popped, pop_effect, vector_effect}
 use Rattle.sto_model.specs.PlainReplies.{Value}
-use Rattle.sto_model.specs.declared.operation.Operation.TheVariants.{Push, Pop}
+use Rattle.sto_model.specs.declared.operation.Operation.TheVariants.{Pop}
 use Rattle.sto_model.proofs.RowFacts.{AllBelow, with_row-below, without-here, without-past, not_equal_of, equal_of}
-use Rattle.sto_action.specs.Shortened.{short_of}
-use Rattle.sto_action.specs.Calls.{is_done}
 use Rattle.sto_library.specs.Vectors.{placed}
 
 pub many_placed : (xs : List ℤ) → length (placed xs) ≡ length xs
@@ -48,14 +46,6 @@ last_value x xs = ap (option_map (λ (r : Row). r.1)) (find_last (placed xs) (po
 
 pub popped_rows : (x : ℤ) (xs : List ℤ) → without (placed (x ∷ xs)) (pos (length xs)) ≡ placed xs
 popped_rows x xs = take_last (placed xs) (pos (length xs)) x (all_below xs)
-
--- a push that is done
-push_by : (full : Bool) (xs : List ℤ) (v : ℤ) → is_done (short_of (push_effect full v (placed xs)).reply) ≡ true → (push_effect full v (placed xs)).after ≡ placed (v ∷ xs)
-push_by true xs v told = absurd (true≢false (sym told))
-push_by false xs v told = pushed_rows xs v
-
-pub push_leaves : (capacity : ℕ) (xs : List ℤ) (v : ℤ) → is_done (short_of (vector_effect capacity Push v (pos 0) (placed xs)).reply) ≡ true → (vector_effect capacity Push v (pos 0) (placed xs)).after ≡ placed (v ∷ xs)
-push_leaves capacity xs v told = push_by (nat_le capacity (length (placed xs))) xs v told
 
 -- a pop of what is there
 pub pop_leaves : (capacity : ℕ) (x : ℤ) (xs : List ℤ) → vector_effect capacity Pop (pos 0) (pos 0) (placed (x ∷ xs)) ≡ effect (Value x) (placed xs)

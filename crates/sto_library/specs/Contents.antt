@@ -18,6 +18,11 @@ abbrev pub total : List Row → ℤ
 total [] = pos 0
 total (row ∷ rows) = row.1 +ℤ total rows
 
+-- what the values of rows come to together, where each counts so much
+abbrev pub counted : (ℤ → ℤ) → List Row → ℤ
+counted f [] = pos 0
+counted f (row ∷ rows) = f row.1 +ℤ counted f rows
+
 -- what the values of the object of this number are together
 abbrev pub total_of : State → ℕ → Option ℤ
 total_of state number = option_map total (slice_get state number)

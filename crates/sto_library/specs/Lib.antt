@@ -6,6 +6,7 @@ pub mod Vectors
 pub mod Values
 pub mod Closings
 pub mod Tasks
+pub mod Kinds
 pub mod Looks
 pub use Rattle.sto_action.specs.Atomic
 pub use Rattle.sto_action.specs.Alone

@@ -12,6 +12,7 @@ mod waits;
 mod worker;
 
 pub use contents::{total_of, value_of};
+pub use either::Either;
 pub use error::StoreError;
 pub use schema::Schema;
 pub use sto_action::{

@@ -2,8 +2,10 @@
 ghost use Rattle.std.specs.Prelude.{◌≡◌};
 ghost use Rattle.sto_library.specs.Values.{Serves, TakeCalls, Working};
 ghost use Rattle.sto_library.specs.Tasks.{DoesTask};
+ghost use Rattle.sto_library.specs.Kinds.{GivesEither};
 
 use crate::worker::StoreWorker;
+use either::Either;
 use std::alloc::Global;
 use sto_model::Shapes;
 use sto_shared_store::CountedRest;
@@ -11,7 +13,7 @@ use sto_type::TxType;
 
 /// What a worker does at its store: transactions, one after the other, and what it makes of what they give.
 ///
-/// `SharedStore::run_both` and `run_four` do tasks side by side, each on a thread of its own.
+/// `SharedStore::run_tasks` does tasks side by side, each on a thread of its own.
 pub trait Task<T: TxType> {
     /// What it gives at its end.
     type Out;
@@ -23,6 +25,20 @@ pub trait Task<T: TxType> {
     fn work(&self, worker: &mut StoreWorker<'_, T>) -> Self::Out
         ensures gives { gives self.now worker.old worker.new result }
         ensures stays { (worker.new.words ≡ worker.old.words) × (worker.new.shapes ≡ worker.old.shapes) };
+}
+
+/// A task of one of two kinds, which gives something of its kind: so a list can have tasks of both.
+impl<T: TxType, A: Task<T>, B: Task<T>> Task<T> for Either<A, B> {
+    type Out = Either<A::Out, B::Out>;
+
+    ghost gives = { λ task before after out. GivesEither A.gives B.gives task before after out };
+
+    fn work(&self, worker: &mut StoreWorker<'_, T>) -> Either<A::Out, B::Out> {
+        match self {
+            Either::Left(task) => Either::Left(task.work(worker)),
+            Either::Right(task) => Either::Right(task.work(worker)),
+        }
+    }
 }
 
 /// Why tasks were not done, or what they gave is lost.
@@ -39,6 +55,13 @@ pub enum TaskError {
 pub(crate) struct Finished<T: TxType, O> {
     pub(crate) worker: CountedRest<T>,
     pub(crate) out: O,
+}
+
+/// Workers that have done tasks, and what these gave, each in the order of the tasks.
+#[derive(Drop)]
+pub(crate) struct FinishedTasks<T: TxType, O> {
+    pub(crate) workers: Vec<CountedRest<T>>,
+    pub(crate) outs: Vec<O>,
 }
 
 /// Does a task in this thread.

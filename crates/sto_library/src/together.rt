@@ -1,11 +1,13 @@
 //! Tasks side by side, each by a worker on a thread of its own.
-ghost use Rattle.std.specs.Prelude.{◌≡◌, ◌+◌, ◌<◌, [], ◌∷◌, ◌++◌, length, IfOk, IfErr, IfSome, MatchOption};
+ghost use Rattle.std.specs.Prelude.{◌≡◌, ◌<◌, ◌++◌, length, reverse, IfOk, IfErr};
+ghost use Rattle.std.specs.List.{All};
 ghost use Rattle.std.specs.Thread.{IsSync};
+ghost use Rattle.std.specs.Vec.{vec_len};
 ghost use Rattle.sto_library.specs.Values.{Serves, TakeCalls};
-ghost use Rattle.sto_library.specs.Tasks.{ServeBoth, DoesTask, DoBoth, AreBothDone, AreFourDone, HasFailed};
+ghost use Rattle.sto_library.specs.Tasks.{views_of, AreHired, HaveWorked, AreBothLists, AreAllDone, HasFailed};
 
 use crate::store::SharedStore;
-use crate::task::{Finished, Task, TaskError, work_alone};
+use crate::task::{Finished, FinishedTasks, Task, TaskError, work_alone};
 use std::alloc::Global;
 use std::thread::{Threads, join};
 use sto_model::Shapes;
@@ -13,275 +15,204 @@ use sto_part::NoMemory;
 use sto_shared_store::CountedRest;
 use sto_type::TxType;
 
-// Two workers.
-type Pair<T> = (CountedRest<T>, CountedRest<T>);
-
-// What two tasks gave, with their workers.
-type FinishedPair<T, A, B> = (Finished<T, A>, Finished<T, B>);
-
-// Two workers that rest, if so many do.
-#[tactic(auto, using(crate::proofs::Hired::two_hired))]
-fn hire_two<T: TxType>(store: &mut SharedStore<T>) -> Option<Pair<T>>
-    ensures same { (store.new.words ≡ store.old.words) × (store.new.shapes ≡ store.old.shapes) }
-    ensures serve { IfSome result (λ pair. ServeBoth T.TxType store.old.words pair) }
-    ensures fewer { MatchOption result ((length store.old.views < 2) × (store.new ≡ store.old))
-        (λ w. store.old.views ≡ store.new.views ++ w.1.rest.seat.me.0.view ∷ w.0.rest.seat.me.0.view ∷ []) }
-{
-    if store.resting() < 2 {
-        return None;
-    }
-    let first = store.hire()?;
-    let other = store.hire()?;
-    Some((first, other))
-}
-
-// Four workers that rest, if so many do.
-#[tactic(auto, using(crate::proofs::Hired::four_hired))]
-fn hire_four<T: TxType>(store: &mut SharedStore<T>) -> Option<(Pair<T>, Pair<T>)>
-    ensures same { (store.new.words ≡ store.old.words) × (store.new.shapes ≡ store.old.shapes) }
-    ensures first { IfSome result (λ pairs. ServeBoth T.TxType store.old.words pairs.0) }
-    ensures other { IfSome result (λ pairs. ServeBoth T.TxType store.old.words pairs.1) }
-    ensures fewer { MatchOption result ((length store.old.views < 4) × (store.new ≡ store.old))
-        (λ w. store.old.views ≡ store.new.views ++ w.1.1.rest.seat.me.0.view ∷ w.1.0.rest.seat.me.0.view
-        ∷ w.0.1.rest.seat.me.0.view ∷ w.0.0.rest.seat.me.0.view ∷ []) }
-{
-    if store.resting() < 4 {
-        return None;
-    }
-    let first = hire_two(store)?;
-    let other = hire_two(store)?;
-    Some((first, other))
-}
-
-// Two workers come back.
-#[tactic(auto, using(crate::proofs::Hired::two_back))]
-fn back_two<T: TxType>(
+// Hires so many workers, if so many rest: the last one first.
+fn hire_all<T: TxType>(
     store: &mut SharedStore<T>,
-    first: CountedRest<T>,
-    other: CountedRest<T>,
-) -> Result<(), NoMemory>
-    requires first { Serves T.TxType store.old.words first.rest.seat }
-    requires other { Serves T.TxType store.old.words other.rest.seat }
+    alloc: Global,
+    many: usize,
+) -> Result<Vec<CountedRest<T>>, TaskError>
     ensures same { (store.new.words ≡ store.old.words) × (store.new.shapes ≡ store.old.shapes) }
-    ensures more { IfOk result (λ _. store.new.views ≡ store.old.views ++ first.rest.seat.me.0.view ∷ other.rest.seat.me.0.view ∷ []) }
+    ensures hired { IfOk result (λ workers. AreHired T.TxType store.old store.new many workers.items) }
+    ensures failed { IfErr result (λ error. HasFailed error many store.old store.new) }
 {
-    store.back(first)?;
-    store.back(other)
+    if (store.resting() as usize) < many {
+        return Err(TaskError::NoWorker);
+    }
+    let Ok(mut workers) = Vec::with_capacity(alloc, many) else {
+        return Err(TaskError::NoMemory);
+    };
+    for _turn in 0..many {
+        let Some(worker) = store.hire() else {
+            unreachable!()
+        };
+        workers.push_reserved(worker);
+    }
+    Ok(workers)
 }
 
-// Gives four workers back.
-#[tactic(auto, using(crate::proofs::Hired::four_back))]
-fn back_four<T: TxType>(
+// Takes workers back that were hired here: the last one first.
+fn back_all<T: TxType>(
     store: &mut SharedStore<T>,
-    first: Pair<T>,
-    other: Pair<T>,
+    workers: Vec<CountedRest<T>>,
 ) -> Result<(), NoMemory>
-    requires first { ServeBoth T.TxType store.old.words first }
-    requires other { ServeBoth T.TxType store.old.words other }
+    requires { All (λ w. Serves T.TxType store.old.words w.rest.seat) workers.items }
     ensures same { (store.new.words ≡ store.old.words) × (store.new.shapes ≡ store.old.shapes) }
-    ensures more { IfOk result (λ _. store.new.views ≡ store.old.views ++ first.0.rest.seat.me.0.view ∷ first.1.rest.seat.me.0.view
-        ∷ other.0.rest.seat.me.0.view ∷ other.1.rest.seat.me.0.view ∷ []) }
+    ensures more { IfOk result (λ _. store.new.views ≡ store.old.views ++ reverse (views_of workers.items)) }
 {
-    back_two(store, first.0, first.1)?;
-    back_two(store, other.0, other.1)
+    let mut workers = workers;
+    while let Some(worker) = workers.pop() {
+        store.back(worker)?;
+    }
+    Ok(())
 }
 
-// Does two tasks at a time.
-fn work_both<R: Threads, T: TxType + Drop + Send + Sync, A: Task<T> + Sync, B: Task<T> + Sync>(
-    rt: &R,
+// Does the one task that there is, or none, by the one worker.
+fn work_one<T: TxType, K: Task<T>>(
     alloc: Global,
     words: &sto_shared_store::Store<T>,
     shapes: &Shapes,
-    workers: Pair<T>,
-    a: &A,
-    b: &B,
-) -> FinishedPair<T, A::Out, B::Out>
+    tasks: &[K],
+    workers: Vec<CountedRest<T>>,
+) -> Result<FinishedTasks<T, K::Out>, NoMemory>
 where
-    A::Out: Send + Drop,
-    B::Out: Send + Drop,
+    K::Out: Drop,
     requires takes { TakeCalls T.TxType words.now shapes.now.items }
-    requires serve { ServeBoth T.TxType words.now workers }
-    ensures { DoBoth T.TxType words.now shapes.now.items workers (A.gives a.now) (B.gives b.now) result }
+    requires serve { All (λ w. Serves T.TxType words.now w.rest.seat) workers.items }
+    requires each { length tasks.now ≡ vec_len workers }
+    requires few { vec_len workers < 2 }
+    ensures { IfOk result (HaveWorked T.TxType words.now shapes.now.items K.gives tasks.now workers.items) }
 {
-    let (first, other) = workers;
-    join(
-        rt,
-        move || -> Finished<T, A::Out>
-            requires takes { TakeCalls T.TxType words.now shapes.now.items }
-            requires serves { Serves T.TxType words.now first.rest.seat }
-            ensures { DoesTask T.TxType words.entry.now shapes.entry.now.items first (A.gives a.entry.now) result }
-        { work_alone(alloc, words, shapes, first, a) },
-        move || -> Finished<T, B::Out>
-            requires takes { TakeCalls T.TxType words.now shapes.now.items }
-            requires serves { Serves T.TxType words.now other.rest.seat }
-            ensures { DoesTask T.TxType words.entry.now shapes.entry.now.items other (B.gives b.entry.now) result }
-        { work_alone(alloc, words, shapes, other, b) },
-    )
+    let mut workers = workers;
+    let mut outs = Vec::new(alloc);
+    let Some(worker) = workers.pop() else {
+        return Ok(FinishedTasks { workers, outs });
+    };
+    let Finished { worker, out } = work_alone(alloc, words, shapes, worker, &tasks[0]);
+    match workers.push(worker) {
+        Ok(()) => {}
+        Err(_) => return Err(NoMemory),
+    }
+    match outs.push(out) {
+        Ok(()) => {}
+        Err(_) => return Err(NoMemory),
+    }
+    Ok(FinishedTasks { workers, outs })
 }
 
-// Does two tasks, one after the other.
-fn work_in_turn<T: TxType, A: Task<T>, B: Task<T>>(
-    alloc: Global,
-    words: &sto_shared_store::Store<T>,
-    shapes: &Shapes,
-    workers: Pair<T>,
-    a: &A,
-    b: &B,
-) -> FinishedPair<T, A::Out, B::Out>
-    requires takes { TakeCalls T.TxType words.now shapes.now.items }
-    requires serve { ServeBoth T.TxType words.now workers }
-    ensures { DoBoth T.TxType words.now shapes.now.items workers (A.gives a.now) (B.gives b.now) result }
+// Calls both, side by side where there are threads for both, and else one after the other.
+fn call_both<R: Threads, F: FnOnce() -> A + Send, G: FnOnce() -> B, A: Send, B>(
+    rt: &R,
+    threads: u32,
+    first: F,
+    other: G,
+) -> (A, B)
+    requires { F.pre first × G.pre other }
+    ensures first { F.post first result.0 }
+    ensures other { G.post other result.1 }
 {
-    let (first, other) = workers;
-    let done = work_alone(alloc, words, shapes, first, a);
-    (done, work_alone(alloc, words, shapes, other, b))
+    if threads < 2 {
+        let done = first();
+        return (done, other());
+    }
+    join(rt, first, other)
 }
 
-// Does two tasks on at most so many threads.
-fn work_two<R: Threads, T: TxType + Drop + Send + Sync, A: Task<T> + Sync, B: Task<T> + Sync>(
+// What was done first, and then what was done beside it.
+fn gather<T: TxType, O: Drop>(
+    first: FinishedTasks<T, O>,
+    other: FinishedTasks<T, O>,
+) -> Result<FinishedTasks<T, O>, NoMemory>
+    ensures { IfOk result (AreBothLists first other) }
+{
+    let FinishedTasks {
+        mut workers,
+        mut outs,
+    } = first;
+    let FinishedTasks {
+        workers: mut more_workers,
+        outs: mut more_outs,
+    } = other;
+    match workers.append(&mut more_workers) {
+        Ok(()) => {}
+        Err(_) => return Err(NoMemory),
+    }
+    match outs.append(&mut more_outs) {
+        Ok(()) => {}
+        Err(_) => return Err(NoMemory),
+    }
+    Ok(FinishedTasks { workers, outs })
+}
+
+// Does each task by the worker at its place, by halves, on at most so many threads.
+#[cycle(halves)]
+fn work_all<R: Threads + Sync, T: TxType + Drop + Send + Sync, K: Task<T> + Sync>(
     rt: &R,
     alloc: Global,
     words: &sto_shared_store::Store<T>,
     shapes: &Shapes,
     threads: u32,
-    workers: Pair<T>,
-    a: &A,
-    b: &B,
-) -> FinishedPair<T, A::Out, B::Out>
+    tasks: &[K],
+    workers: Vec<CountedRest<T>>,
+) -> Result<FinishedTasks<T, K::Out>, NoMemory>
 where
-    A::Out: Send + Drop,
-    B::Out: Send + Drop,
+    K::Out: Send + Drop,
     requires takes { TakeCalls T.TxType words.now shapes.now.items }
-    requires serve { ServeBoth T.TxType words.now workers }
-    ensures { DoBoth T.TxType words.now shapes.now.items workers (A.gives a.now) (B.gives b.now) result }
+    requires serve { All (λ w. Serves T.TxType words.now w.rest.seat) workers.items }
+    requires each { length tasks.now ≡ vec_len workers }
+    ensures { IfOk result (HaveWorked T.TxType words.now shapes.now.items K.gives tasks.now workers.items) }
 {
-    if threads < 2 {
-        return work_in_turn(alloc, words, shapes, workers, a, b);
+    let mut workers = workers;
+    let half = workers.len() / 2;
+    if half == 0 {
+        return work_one(alloc, words, shapes, tasks, workers);
     }
-    work_both(rt, alloc, words, shapes, workers, a, b)
-}
-
-// Does four tasks on at most so many threads.
-fn work_four<
-    R: Threads + Sync,
-    T: TxType + Drop + Send + Sync,
-    A: Task<T> + Sync,
-    B: Task<T> + Sync,
-    C: Task<T> + Sync,
-    D: Task<T> + Sync,
->(
-    rt: &R,
-    alloc: Global,
-    words: &sto_shared_store::Store<T>,
-    shapes: &Shapes,
-    threads: u32,
-    workers: (Pair<T>, Pair<T>),
-    a: &A,
-    b: &B,
-    c: &C,
-    d: &D,
-) -> (
-    FinishedPair<T, A::Out, B::Out>,
-    FinishedPair<T, C::Out, D::Out>,
-)
-where
-    A::Out: Send + Drop,
-    B::Out: Send + Drop,
-    C::Out: Send + Drop,
-    D::Out: Send + Drop,
-    requires takes { TakeCalls T.TxType words.now shapes.now.items }
-    requires first { ServeBoth T.TxType words.now workers.0 }
-    requires other { ServeBoth T.TxType words.now workers.1 }
-    ensures first { DoBoth T.TxType words.now shapes.now.items workers.0 (A.gives a.now) (B.gives b.now) result.0 }
-    ensures other { DoBoth T.TxType words.now shapes.now.items workers.1 (C.gives c.now) (D.gives d.now) result.1 }
-{
-    let (first, other) = workers;
-    if threads < 2 {
-        let done = work_in_turn(alloc, words, shapes, first, a, b);
-        return (done, work_in_turn(alloc, words, shapes, other, c, d));
-    }
-    let each = threads / 2;
-    join(
-        rt,
-        move || -> FinishedPair<T, A::Out, B::Out>
-            requires sync { IsSync R.row }
-            requires takes { TakeCalls T.TxType words.now shapes.now.items }
-            requires serve { ServeBoth T.TxType words.now first }
-            ensures { DoBoth T.TxType words.entry.now shapes.entry.now.items first (A.gives a.entry.now) (B.gives b.entry.now) result }
-        { work_two(rt, alloc, words, shapes, each, first, a, b) },
-        move || -> FinishedPair<T, C::Out, D::Out>
-            requires sync { IsSync R.row }
-            requires takes { TakeCalls T.TxType words.now shapes.now.items }
-            requires serve { ServeBoth T.TxType words.now other }
-            ensures { DoBoth T.TxType words.entry.now shapes.entry.now.items other (C.gives c.entry.now) (D.gives d.entry.now) result }
-        { work_two(rt, alloc, words, shapes, each, other, c, d) },
-    )
+    let others = match workers.split_off(half) {
+        Ok(others) => others,
+        Err(_) => return Err(NoMemory),
+    };
+    let (firsts, rest) = tasks.split_at(half);
+    let few = threads / 2;
+    let more = threads - few;
+    let front = move || -> Result<FinishedTasks<T, K::Out>, NoMemory>
+        requires sync { IsSync R.row }
+        requires takes { TakeCalls T.TxType words.now shapes.now.items }
+        requires serve { All (λ w. Serves T.TxType words.now w.rest.seat) workers.items }
+        requires each { length firsts.now ≡ vec_len workers }
+        ensures { IfOk result (HaveWorked T.TxType words.entry.now shapes.entry.now.items K.gives firsts.entry.now workers.items) }
+    { work_all(rt, alloc, words, shapes, few, firsts, workers) };
+    let back = move || -> Result<FinishedTasks<T, K::Out>, NoMemory>
+        requires sync { IsSync R.row }
+        requires takes { TakeCalls T.TxType words.now shapes.now.items }
+        requires serve { All (λ w. Serves T.TxType words.now w.rest.seat) others.items }
+        requires each { length rest.now ≡ vec_len others }
+        ensures { IfOk result (HaveWorked T.TxType words.entry.now shapes.entry.now.items K.gives rest.entry.now others.items) }
+    { work_all(rt, alloc, words, shapes, more, rest, others) };
+    let (first, other) = call_both(rt, threads, front, back);
+    let first = first?;
+    let other = other?;
+    gather(first, other)
 }
 
 impl<T: TxType + Drop + Send + Sync> SharedStore<T> {
-    /// Does two tasks side by side, each by a worker that rests here, on a thread of its own where one can be made. It answers what they
-    /// gave, each as its task says, once both are done and the workers are back.
-    pub fn run_both<R: Threads, A: Task<T> + Sync, B: Task<T> + Sync>(
-        &mut self,
-        rt: &R,
-        alloc: Global,
-        a: &A,
-        b: &B,
-    ) -> Result<(A::Out, B::Out), TaskError>
-    where
-        A::Out: Send + Drop,
-        B::Out: Send + Drop,
-        ensures same { (self.new.words ≡ self.old.words) × (self.new.shapes ≡ self.old.shapes) }
-        ensures done { IfOk result (λ r. AreBothDone self.old self.new (A.gives a.now) (B.gives b.now) r.0 r.1) }
-        ensures failed { IfErr result (λ error. HasFailed error 2 self.old self.new) }
-    {
-        let Some(workers) = hire_two(self) else {
-            return Err(TaskError::NoWorker);
-        };
-        let (words, shapes) = self.parts();
-        let (first, other) = work_both(rt, alloc, words, shapes, workers, a, b);
-        match back_two(self, first.worker, other.worker) {
-            Ok(()) => Ok((first.out, other.out)),
-            Err(NoMemory) => Err(TaskError::NoMemory),
-        }
-    }
-
-    /// Does four tasks, each by a worker that rests here, as `run_both` does two, on at most so many threads: from four on each has one of its
-    /// own, with two or three the first two share one and the others another, and with one or none all four are done on this one. Tasks that
-    /// share a thread are done one after the other, and what is promised is the same for each number.
-    pub fn run_four<
-        R: Threads + Sync,
-        A: Task<T> + Sync,
-        B: Task<T> + Sync,
-        C: Task<T> + Sync,
-        D: Task<T> + Sync,
-    >(
+    /// Does tasks side by side, each by a worker that rests here, on at most so many threads. It answers what they gave, in their order,
+    /// each as its task says, once all are done and the workers are back.
+    ///
+    /// With as many threads as there are tasks each has one of its own, where one can be made; tasks that share one are done one after the
+    /// other, and with one or none all are done on this one. What is promised is the same for each number. Tasks of two kinds are tasks of
+    /// one type by `Either`.
+    ///
+    /// Errors: `NoWorker` where fewer workers rest than there are tasks, of which none was done then; `NoMemory` where memory was wanting.
+    pub fn run_tasks<R: Threads + Sync, K: Task<T> + Sync>(
         &mut self,
         rt: &R,
         alloc: Global,
         threads: u32,
-        a: &A,
-        b: &B,
-        c: &C,
-        d: &D,
-    ) -> Result<(A::Out, B::Out, C::Out, D::Out), TaskError>
+        tasks: &[K],
+    ) -> Result<Vec<K::Out>, TaskError>
     where
-        A::Out: Send + Drop,
-        B::Out: Send + Drop,
-        C::Out: Send + Drop,
-        D::Out: Send + Drop,
+        K::Out: Send + Drop,
         ensures same { (self.new.words ≡ self.old.words) × (self.new.shapes ≡ self.old.shapes) }
-        ensures done { IfOk result (λ r. AreFourDone self.old self.new (A.gives a.now) (B.gives b.now) (C.gives c.now) (D.gives d.now)
-            r.0 r.1 r.2 r.3) }
-        ensures failed { IfErr result (λ error. HasFailed error 4 self.old self.new) }
+        ensures done { IfOk result (λ outs. AreAllDone self.old self.new K.gives tasks.now outs.items) }
+        ensures failed { IfErr result (λ error. HasFailed error (length tasks.now) self.old self.new) }
     {
-        let Some(workers) = hire_four(self) else {
-            return Err(TaskError::NoWorker);
-        };
+        let workers = hire_all(self, alloc, tasks.len())?;
         let (words, shapes) = self.parts();
-        let ((w, x), (y, z)) = work_four(rt, alloc, words, shapes, threads, workers, a, b, c, d);
-        match back_four(self, (w.worker, x.worker), (y.worker, z.worker)) {
-            Ok(()) => Ok((w.out, x.out, y.out, z.out)),
+        let Ok(done) = work_all(rt, alloc, words, shapes, threads, tasks, workers) else {
+            return Err(TaskError::NoMemory);
+        };
+        let FinishedTasks { workers, outs } = done;
+        match back_all(self, workers) {
+            Ok(()) => Ok(outs),
             Err(NoMemory) => Err(TaskError::NoMemory),
         }
     }

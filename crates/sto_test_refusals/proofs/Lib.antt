@@ -4,3 +4,4 @@ pub mod Lines
 pub mod Unrun
 pub mod Closings
 pub mod TwoWorkers
+pub mod Untold

@@ -1,5 +1,5 @@
 //! What a worker of the library and a store do not answer.
-ghost use Rattle.std.specs.Prelude.{◌≡◌, ℕ, pos, List, [], ◌∷◌, length, Ok, Err};
+ghost use Rattle.std.specs.Prelude.{◌≡◌, ◌≤◌, ℕ, pos, List, [], ◌∷◌, length, Ok, Err};
 ghost use Rattle.sto_model.specs.Run.{State};
 ghost use Rattle.sto_history.specs.Done.{HaveHistory};
 ghost use Rattle.sto_action.specs.Progs.{Prog};
@@ -15,10 +15,12 @@ ghost use Rattle.sto_library.specs.declared.store.LookError.TheVariants as look_
 ghost use Rattle.sto_library.specs.Values.{Stored, Working};
 ghost use Rattle.sto_library.specs.Closings.{ComesBack};
 ghost use Rattle.sto_library.specs.Looks.{HasLooked};
+ghost use Rattle.sto_library.specs.Tasks.{AreAllDone, HasFailed};
+ghost use Rattle.sto_library.specs.declared.task.TaskError.TheVariants.{NoWorker};
 ghost use Rattle.sto_test_premises.specs.Adding.{box, valid};
 ghost use Rattle.sto_test_refusals.specs.Runs.{HasRun, AlwaysGives, gets, shapes, unused, has_read, has_added, opening_rows, first_worker, second_worker, rows_with};
 
-use sto_library::TxType;
+use sto_library::{Task, TxType};
 
 /// What `run` of a worker does not answer.
 pub fn not_run<T: TxType, A>()
@@ -45,6 +47,21 @@ pub fn not_looked<T: TxType, A>()
     // That others were in the way, where no worker has begun anything.
     ensures busy_after_no_start { (old new : Stored T) (most : ℕ) (p : Prog A) → HasLooked T.TxType old new most p (Err (look_error.Transaction Busy))
         → new.views ≡ old.views → ⊥ }
+{}
+
+/// What `run_tasks` of a store does not answer.
+pub fn not_done<T: TxType, K: Task<T>>()
+    // Another number of answers than there are tasks.
+    ensures answers { (old new : Stored T) (tasks : List K) (outs : List K.Out) → AreAllDone old new K.gives tasks outs
+        → (length outs ≡ length tasks → ⊥) → ⊥ }
+    // An answer that its task does not give, whatever its worker did.
+    ensures other_answer { (old new : Stored T) (task : K) (out : K.Out) → AreAllDone old new K.gives (task ∷ []) (out ∷ [])
+        → ((before after : Working T) → K.gives task before after out → ⊥) → ⊥ }
+    // What it answers, where a worker is lost.
+    ensures lost_worker { (old new : Stored T) (tasks : List K) (outs : List K.Out) → AreAllDone old new K.gives tasks outs
+        → (length new.views ≡ length old.views → ⊥) → ⊥ }
+    // That too few workers rest, where there is one for each task.
+    ensures no_worker { (old new : Stored T) (many : ℕ) → HasFailed NoWorker many old new → many ≤ length old.views → ⊥ }
 {}
 
 /// What `close` of a store does not answer.

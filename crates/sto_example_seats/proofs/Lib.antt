@@ -1,0 +1,2 @@
+pub mod Sold
+pub mod Paid

@@ -1,0 +1,70 @@
+-- Code run alone that goes on one way or the other, and the numbers of its objects.
+use Rattle.std.specs.Prelude.{if◌then◌else◌}
+use Rattle.std.proofs.Common.{◌≡◌, ℕ, List, Bool, true, false, refl, sym, subst}
+use Rattle.sto_model.specs.Run.{State}
+use Rattle.sto_model.specs.declared.shape.Shape.{Shape}
+use Rattle.sto_action.specs.Progs.{Prog, Cancels, chain}
+use Rattle.sto_action.specs.declared.handles.BoxId.{BoxId}
+use Rattle.sto_action.specs.declared.handles.CounterId.{CounterId}
+use Rattle.sto_action.specs.declared.handles.ArrayId.{ArrayId}
+use Rattle.sto_action.specs.declared.handles.HashId.{HashId}
+use Rattle.sto_action.specs.declared.handles.TreeId.{TreeId}
+use Rattle.sto_action.specs.declared.handles.VectorId.{VectorId}
+use Rattle.sto_library.proofs.Calls.{Ends}
+
+-- objects by their numbers
+abbrev pub box : ℕ → BoxId
+box n = record { number = n }
+
+abbrev pub counter : ℕ → CounterId
+counter n = record { number = n }
+
+abbrev pub array : ℕ → ArrayId
+array n = record { number = n }
+
+abbrev pub hash : ℕ → HashId
+hash n = record { number = n }
+
+abbrev pub tree : ℕ → TreeId
+tree n = record { number = n }
+
+abbrev pub vector : ℕ → VectorId
+vector n = record { number = n }
+
+pub at_one : (P : ℕ → Type 0) {m i : ℕ} → m ≡ i → P i → P m
+at_one P e here = subst P (sym e) here
+
+pub at_two : (P : ℕ → ℕ → Type 0) {m n i j : ℕ} → (m ≡ i) × (n ≡ j) → P i j → P m n
+at_two P {m} {n} {i} {j} (e, f) here = subst (λ (k : ℕ). P k n) (sym e) (subst (P i) (sym f) here)
+
+pub at_three : (P : ℕ → ℕ → ℕ → Type 0) {l m n i j k : ℕ} → (l ≡ i) × (m ≡ j) × (n ≡ k) → P i j k → P l m n
+at_three P {l} {m} {n} {i} {j} {k} (e, f, g) here = subst (λ (o : ℕ). P o m n) (sym e) (at_two (P i) (f, g) here)
+
+-- what follows a call that answers yes or no, where code is given up that is answered no
+abbrev pub or_cancel : {A : Type 0} → Prog A → Bool → Prog A
+or_cancel p yes_said = if yes_said then p else Cancels
+
+module _ {A : Type 0} (shapes : List Shape) (Q : A × State → Type 0) where
+  -- a state as it is known
+  pub on_state : (p : Prog A) {st now : State} → st ≡ now → Ends shapes Q p now → Ends shapes Q p st
+  on_state p same here = subst (Ends shapes Q p) (sym same) here
+
+  -- code that may be given up first
+  pub unless : (p : Prog A) (st : State) (b : Bool) → (b ≡ false → Ends shapes Q p st) → Ends shapes Q (if b then Cancels else p) st
+  unless p st true h = tt
+  unless p st false h = h refl
+
+  -- the same as the first part of code
+  pub unless_then : {B : Type 0} (p : Prog B) (q : B → Prog A) (st : State) (b : Bool) → (b ≡ false → Ends shapes Q (chain p q) st) → Ends shapes Q (chain (if b then Cancels else p) q) st
+  unless_then p q st true h = tt
+  unless_then p q st false h = h refl
+
+  -- code that goes on only where this is so
+  pub where_so : (p : Prog A) (st : State) (b : Bool) → (b ≡ true → Ends shapes Q p st) → Ends shapes Q (if b then p else Cancels) st
+  where_so p st true h = h refl
+  where_so p st false h = tt
+
+  -- code that goes on one way or the other
+  pub either_way : (p q : Prog A) (st : State) (b : Bool) → (b ≡ true → Ends shapes Q p st) → (b ≡ false → Ends shapes Q q st) → Ends shapes Q (if b then p else q) st
+  either_way p q st true h k = h refl
+  either_way p q st false h k = k refl

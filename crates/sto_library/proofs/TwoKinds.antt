@@ -1,0 +1,24 @@
+-- What tasks of two kinds gave.
+use Rattle.std.specs.List.{All, AllZip, filter_map}
+use Rattle.std.proofs.Common.{◌≡◌, suc, List, [], ◌∷◌, length, refl, ap}
+use Rattle.std.proofs.lemmas.List.Elements.{All-nil, All-cons}
+use Rattle.either.specs.declared.Either.{Either}
+use Rattle.either.specs.declared.Either.TheVariants.{Left, Right}
+use Rattle.either.specs.Either.{right}
+use Rattle.sto_library.specs.Kinds.{IsGoodEither}
+use Rattle.sto_library.proofs.Keeping.{AreGood}
+
+rights_by : {A B X Y : Type 0} (F : A → X → Type 0) (G : Y → Type 0) (tasks : List (Either A B)) (outs : List (Either X Y)) → AllZip (IsGoodEither F (λ b. G)) tasks outs
+    → (length (filter_map right outs) ≡ length (filter_map right tasks)) × All G (filter_map right outs)
+rights_by F G [] [] h = (refl, All-nil G)
+rights_by F G [] (out ∷ outs) h = absurd h
+rights_by F G (task ∷ tasks) [] h = absurd h
+rights_by F G (Left a ∷ tasks) (Left x ∷ outs) h = rights_by F G tasks outs h.1
+rights_by F G (Left a ∷ tasks) (Right y ∷ outs) h = absurd h.0
+rights_by F G (Right b ∷ tasks) (Left x ∷ outs) h = absurd h.0
+rights_by F G (Right b ∷ tasks) (Right y ∷ outs) h = let rest = rights_by F G tasks outs h.1 in (ap suc rest.0, All-cons G y (filter_map right outs) h.0 rest.1)
+
+-- those of the second kind gave as many things as there are such tasks, and each is good
+pub rights_good : {A B X Y : Type 0} {F : A → X → Type 0} {G : Y → Type 0} {tasks : List (Either A B)} {outs : List (Either X Y)} → AreGood (IsGoodEither F (λ b. G)) tasks outs
+    → (length (filter_map right outs) ≡ length (filter_map right tasks)) × All G (filter_map right outs)
+rights_good {F = F} {G = G} {tasks = tasks} {outs = outs} h = rights_by F G tasks outs h.each
