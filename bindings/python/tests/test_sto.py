@@ -256,8 +256,8 @@ class Tests(unittest.TestCase):
         self.assertEqual(sum(end[it] for it in boxes), 800)
         print(f"{stats.commits} transactions, {len(beside)} of them beside, {interrupts} interrupts")
 
-    def test_an_interrupt_at_each_point_leaves_nothing_open(self):
-        """An interrupt as the n-th function is entered, or behind the n-th call, for each n; also where the transaction is given up."""
+    def test_an_interrupt_at_each_function_leaves_nothing_open(self):
+        """An interrupt as the n-th function of the door is entered, or a builtin one left, for each n; also where a transaction is given up."""
 
         def raise_at(left):
             def profile(frame, event, _):
