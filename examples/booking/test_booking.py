@@ -110,10 +110,10 @@ class Calls(unittest.TestCase):
                 service.move(Request(0, 1, 0, 13, 15), timeout=0.01)
             self.assertEqual(service.bookings(0), [old])
             # hours of its own are free for it
-            self.assertEqual(service.move(Request(0, 1, 0, 9, 12)).room, 0)
-            self.assertEqual(service.move(Request(0, 1, 0, 9, 12)).room, 0)
+            self.assertEqual(service.move(Request(0, 1, 0, 9, 12), timeout=60).room, 0)
+            self.assertEqual(service.move(Request(0, 1, 0, 9, 12), timeout=60).room, 0)
             with self.assertRaises(OverLimit):
-                service.move(Request(0, 1, 1, 0, 9))
+                service.move(Request(0, 1, 1, 0, 9), timeout=60)
             self.assertIsNone(service.fault())
 
     def test_deadline(self) -> None:
