@@ -183,7 +183,10 @@ class Interrupted(unittest.TestCase):
 
         try:
             with Interrupts() as interrupts:
+                ends = time.monotonic() + 15  # (where threads wait long for one another, as on a busy machine)
                 for number in range(CALLS // 3):
+                    if time.monotonic() > ends:
+                        break
                     start = rand.randrange(20)
                     request = Request(8, number, 0, start, start + 2)
                     has = interrupts.until_answered(lambda: try_to(service.book, request))
