@@ -33,8 +33,13 @@ class Run:
         self.worker: Worker
 
     def to_end(self) -> Tuple[Any, Optional[int]]:
-        """Tries until the transaction has taken effect; what its function answered, and its place in the order."""
-        if self.lease.worker is not None and self.lease.worker.tx is not None:
+        """Tries until the transaction has taken effect; what its function answered, and its place in the order.
+
+        At the end it lets go of what it held, here and by no function of its own: an interrupt may come as a function is entered, or behind
+        a call. What matters is set before the first call.
+        """
+        lease = self.lease
+        if lease.worker is not None and lease.worker.tx is not None:
             raise NestedTransaction("a transaction was begun within a transaction")
         try:
             self.worker = self.store._take(self)
@@ -43,24 +48,23 @@ class Run:
                 answer = self.try_once()
             return answer
         finally:
-            self.leave()
+            worker = lease.worker
+            if worker is not None:
+                if worker.tx is not None:
+                    worker.given_up += 1
+                worker.tx = None
+                worker.is_alone = False
+                try:
+                    lib.sto_cancel(worker.at)
+                finally:
+                    lease.worker = None
+                    worker.owner = None
+            self.tell()
 
-    def leave(self) -> None:
-        """Lets go of all that the transaction held. What matters is set before the first call, since an interrupt may come behind it."""
-        lease = self.lease
-        worker = lease.worker
-        if worker is not None:
-            if worker.tx is not None:
-                worker.given_up += 1
-            worker.tx = None
-            worker.is_alone = False
-            try:
-                lib.sto_cancel(worker.at)
-            finally:
-                lease.worker = None
-                worker.owner = None
+    def tell(self) -> None:
+        """Tells those who wait that something has changed. Where an interrupt cuts that off, they look again by themselves."""
         if self.seen_waiting:
-            self.store._waiting.pop(lease, None)
+            self.store._waiting.pop(self.lease, None)
         if self.wrote:
             self.store._ring()
 

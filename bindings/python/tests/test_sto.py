@@ -2,6 +2,7 @@ import os
 import random
 import re
 import signal
+import sys
 import threading
 import time
 import unittest
@@ -254,6 +255,43 @@ class Tests(unittest.TestCase):
         end = store.close()
         self.assertEqual(sum(end[it] for it in boxes), 800)
         print(f"{stats.commits} transactions, {len(beside)} of them beside, {interrupts} interrupts")
+
+    def test_an_interrupt_at_each_function_leaves_nothing_open(self):
+        """An interrupt as the n-th function of the door is entered, or a builtin one left, for each n; also where a transaction is given up."""
+
+        def raise_at(left):
+            def profile(frame, event, _):
+                nonlocal left
+                if event in ("call", "c_return") and os.path.dirname(frame.f_code.co_filename) == os.path.dirname(sto.__file__):
+                    left -= 1
+                    if left == 0:
+                        raise KeyboardInterrupt
+            return profile
+
+        def give_up(tx):
+            box[tx] += 1
+            raise ValueError
+
+        for function in (lambda tx: box.__setitem__(tx, 1), give_up):
+            is_whole, left = False, 0
+            while not is_whole:
+                left += 1
+                store = sto.Store(workers=1)
+                box = store.box()
+                store.atomically(box.__getitem__)
+                try:
+                    sys.setprofile(raise_at(left))
+                    store.atomically(function)
+                    is_whole = True
+                except ValueError:
+                    is_whole = True
+                except KeyboardInterrupt:
+                    pass
+                finally:
+                    sys.setprofile(None)
+                threads(1, lambda _: store.atomically(box.__getitem__, timeout=5))
+                self.assertIn(store.close()[box], (0, 1) if function is not give_up else (0,))
+            self.assertGreater(left, 10)
 
     def test_a_wait_can_be_interrupted(self):
         store = sto.Store()

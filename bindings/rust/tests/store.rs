@@ -308,7 +308,6 @@ fn commits_replay_in_the_order_of_their_places() {
                     let calls: Vec<(u64, u64, i64)> = (0..1 + random.below(4))
                         .map(|_| (random.below(6), random.below(12) * 64, random.below(100) as i64))
                         .collect();
-                    let wrote = calls.iter().any(|call| [1, 2, 4].contains(&call.0));
                     let run = store.placed(|tx| {
                         let mut told = Vec::new();
                         for &(operation, key, value) in &calls {
@@ -324,6 +323,8 @@ fn commits_replay_in_the_order_of_their_places() {
                         Ok(told)
                     });
                     let (told, place) = run.unwrap();
+                    // (a remove that finds nothing writes nothing: alone it has the place of a reader)
+                    let wrote = calls.iter().zip(&told).any(|(call, &told)| [1, 4].contains(&call.0) || call.0 == 2 && told == 1);
                     log.lock().unwrap().push((place, !wrote, calls, told));
                 }
             });
