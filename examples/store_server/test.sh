@@ -37,7 +37,7 @@ trial() {
     shift
     "$here/client" "$port" "$@" || fail "the client is not content: $*"
     end
-    sed 1d "$room/said"
+    sed '1d; / of processor/d' "$room/said"
 }
 
 # The same, where the client is to see that the server is another than it was told.
