@@ -191,8 +191,8 @@ int main(int count, char **words)
     }
     sigset_t signals = block_signals();
     listen_on_loopback();
+    clock_t began = clock();
     serve_until(&signals);
-    bool is_well = chosen.engine->close();
-    printf("%.3f s of processor\n", (double)clock() / CLOCKS_PER_SEC);
-    return !is_well;
+    printf("%.3f s of processor\n", (double)(clock() - began) / CLOCKS_PER_SEC);
+    return !chosen.engine->close();
 }
