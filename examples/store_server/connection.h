@@ -2,6 +2,7 @@
 #ifndef CONNECTION_H
 #define CONNECTION_H
 
+#include <pthread.h>
 #include <stdatomic.h>
 
 #include "engine.h"
@@ -10,6 +11,7 @@ enum { IN_ROOM = 4096, OUT_ROOM = 4 * TEXT_MOST };
 
 typedef struct connection {
     atomic_bool is_taken;
+    pthread_mutex_t lock;
     int socket;
     bool is_at_end;    /* the client sends no more */
     bool is_given_up;  /* what it sends is read no more */

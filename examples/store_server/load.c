@@ -29,7 +29,8 @@ static void fill(const wire *w)
 
 static group random_group(caller *c)
 {
-    int64_t family = below(&c->random, FAMILIES), one = family * FAMILY + below(&c->random, FAMILY), other = family * FAMILY + below(&c->random, FAMILY);
+    int64_t family = below(&c->random, FAMILIES), first = family * FAMILY;
+    int64_t one = first + below(&c->random, FAMILY), other = first + below(&c->random, FAMILY);
     uint32_t kind = below(&c->random, 10);
     if (kind == 0) return sum_of(family);
     if (kind < 3) return only((request){.operation = GET, .key = one});

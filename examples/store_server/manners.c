@@ -146,8 +146,10 @@ static void be_deaf(const wire *w)
     setsockopt(w->socket, SOL_SOCKET, SO_RCVBUF, &(int){LONG}, sizeof(int));
     setsockopt(w->socket, SOL_SOCKET, SO_SNDBUF, &(int){LONG}, sizeof(int));
     for (size_t i = 0; i < sizeof text; i++) text[i] = probe[i % (sizeof probe - 1)];
-    while (poll(&writable, 1, STUCK) > 0)
-        if (send(w->socket, text, sizeof text, MSG_NOSIGNAL | MSG_DONTWAIT) < 0 && errno != EAGAIN) fail("the server closed on a client that takes no answers");
+    while (poll(&writable, 1, STUCK) > 0) {
+        ssize_t n = send(w->socket, text, sizeof text, MSG_NOSIGNAL | MSG_DONTWAIT);
+        if (n < 0 && errno != EAGAIN) fail("the server closed on a client that takes no answers");
+    }
 }
 
 void vanish(void)

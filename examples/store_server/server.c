@@ -57,14 +57,6 @@ static void drop(connection *c)
     atomic_store(&c->is_taken, false);
 }
 
-/* Lets whichever thread is free have the connection next. (That one comes after this one by the kernel's order, of which C knows nothing:
- * the store, and the load in serve, tell it.) */
-static void hand_on(connection *c, int how, uint32_t events)
-{
-    atomic_store(&c->is_taken, true);
-    watch(how, c->socket, events | EPOLLONESHOT, c);
-}
-
 static void accept_one(void)
 {
     int socket = accept4(listener, NULL, NULL, SOCK_NONBLOCK | SOCK_CLOEXEC);
@@ -72,8 +64,10 @@ static void accept_one(void)
         connection *c = take_connection();
         setsockopt(socket, IPPROTO_TCP, TCP_NODELAY, &(int){1}, sizeof(int));
         if (c) {
+            pthread_mutex_lock(&c->lock);
             connection_begin(c, socket);
-            hand_on(c, EPOLL_CTL_ADD, EPOLLIN);
+            watch(EPOLL_CTL_ADD, socket, EPOLLIN | EPOLLONESHOT, c);
+            pthread_mutex_unlock(&c->lock);
         } else {
             static const char full[] = "error too many connections\n";
             send(socket, full, sizeof full - 1, MSG_NOSIGNAL);
@@ -86,14 +80,16 @@ static void accept_one(void)
     watch(EPOLL_CTL_MOD, listener, EPOLLIN | EPOLLONESHOT, &listener);
 }
 
+/* (One thread has a connection at a time. The lock tells C so, and keeps the next one off until this one is through with watch.) */
 static void serve(connection *c)
 {
-    if (!atomic_load(&c->is_taken)) return;
+    pthread_mutex_lock(&c->lock);
     switch (connection_serve(c, chosen.engine)) {
-    case WANTS_TO_READ: hand_on(c, EPOLL_CTL_MOD, EPOLLIN); break;
-    case WANTS_TO_WRITE: hand_on(c, EPOLL_CTL_MOD, EPOLLOUT); break;
+    case WANTS_TO_READ: watch(EPOLL_CTL_MOD, c->socket, EPOLLIN | EPOLLONESHOT, c); break;
+    case WANTS_TO_WRITE: watch(EPOLL_CTL_MOD, c->socket, EPOLLOUT | EPOLLONESHOT, c); break;
     case IS_OVER: drop(c); break;
     }
+    pthread_mutex_unlock(&c->lock);
 }
 
 static void *pool_thread(void *given)
@@ -141,6 +137,7 @@ static void serve_until(const sigset_t *signals)
     epoll = epoll_create1(EPOLL_CLOEXEC);
     stop = eventfd(0, EFD_CLOEXEC);
     if (epoll < 0 || stop < 0) fail("epoll");
+    for (size_t i = 0; i < CONNECTIONS_MOST; i++) pthread_mutex_init(&connections[i].lock, NULL);
     watch(EPOLL_CTL_ADD, stop, EPOLLIN, &stop);
     watch(EPOLL_CTL_ADD, listener, EPOLLIN | EPOLLONESHOT, &listener);
     for (uint32_t i = 0; i < chosen.threads; i++) {
