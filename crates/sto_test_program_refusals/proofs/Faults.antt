@@ -25,7 +25,7 @@ module _ (IsLong : File → Type 0) (is_not : IsLong lost_update_file → ⊥) w
       let many : 256 < 2 = subst (λ (f : File). 256 < transaction_count f.threads) (read_as h.0 h.1) h.2 in omega (arith, many)
   no_fault LongRun h = is_not (subst IsLong (read_as h.0 h.1.0) h.2)
   no_fault (ManySchedules counts) h = h.2
-  no_fault (ManyStates count) h = h.2
+  no_fault (ManyStates count) h = h
 
 trace_not_long : HasLongRun 64 lost_update_file → ⊥
 trace_not_long h = not_long h.0 h.1 h.2
