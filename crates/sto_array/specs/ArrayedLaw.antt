@@ -290,7 +290,9 @@ module _ (n : ℕ) (first : ℤ) where
       subst P (sym t) u)
       (λ t.
       let g : in_range (x +ℤ b) ≡ None = not_grown b x t in
-      let u : IsUpdated m (call_of 0 Add a b) c [] = left_alone (call_of 0 Add a b) c v (ap (λ rows. rows ∷ []) (sym (not_added x a b (array_rows 0 c) g)) ∙ sym (add_after c a b (Some x) there)) (ap (is_write Add) (add_is c a b (Some i) v e ∙ added_reply x a b (array_rows 0 c) ∙ ap (λ z. if z then T.Done else T.Range) t)) in
+      let u : IsUpdated m (call_of 0 Add a b) c [] =
+      left_alone (call_of 0 Add a b) c v (ap (λ rows. rows ∷ []) (sym (not_added x a b (array_rows 0 c) g)) ∙ sym (add_after c a b (Some x) there))
+      (ap (is_write Add) (add_is c a b (Some i) v e ∙ added_reply x a b (array_rows 0 c) ∙ ap (λ z. if z then T.Done else T.Range) t)) in
       subst P (sym t) u)
 
   updated_add : (c : Parts) (a b : ℤ) (q : Option ℕ) → IsArray n c → place_of n a ≡ q → IsUpdated m (call_of 0 Add a b) c (array_updates Add q b c)
@@ -376,8 +378,8 @@ module _ (n : ℕ) (first : ℤ) where
       let l : i < length d = omega (arith, (place_some n call.a i p).1, length-ones n d v.widths) in
       let x : word_of d i 0 ≡ y = ap (λ (w : List ℤ). slice_index_or w 0 (pos 0)) (part.same i ws l s) in (
         sym
-            (reply_is call (array_rows 0 d) Add z e ∙ ap (λ o. (added_at o call.a call.b (array_rows 0 d)).reply) (value_there d call.a i v p) ∙ added_reply (word_of d i 0) call.a call.b (array_rows 0 d)
-            ∙ ap (add_reply call.b) x),
+            (reply_is call (array_rows 0 d) Add z e ∙ ap (λ o. (added_at o call.a call.b (array_rows 0 d)).reply) (value_there d call.a i v p)
+            ∙ added_reply (word_of d i 0) call.a call.b (array_rows 0 d) ∙ ap (add_reply call.b) x),
         sym (updates_are call d Add (Some i) e p ∙ ap (add_updates i call.b) x),
       ))
 

@@ -4,7 +4,6 @@ ghost use Rattle.std.specs.Int.{w64};
 ghost use Rattle.std.specs.Int.RustNames.{FitsSigned};
 ghost use Rattle.sto_part.specs.declared.change.Change.TheVariants.{Put};
 ghost use Rattle.sto_item.specs.declared.item.Item.TheVariants.{Seen};
-ghost use Rattle.sto_model.specs.Objects.{takes};
 ghost use Rattle.sto_model.specs.PlainReplies.{Absent as ToldAbsent, Value as ToldValue, Done as ToldDone};
 ghost use Rattle.sto_model.specs.declared.shape.Shape.TheVariants.{Array};
 ghost use Rattle.sto_type.specs.Known.{known};

@@ -309,7 +309,8 @@ module _ (first : ℤ) where
       (λ a b f d e v w g. take_updates-is a (word_of e 0 0) ∙ ap (outcome_updates a) (take_same a f e d w.fits v.fits g) ∙ sym (take_updates-is a (word_of d 0 0)))
 
   -- the updates
-  changed_by : (call : Call) (w x y : ℤ) → call.object ≡ 0 → wrapped_sum w x ≡ y → m.rows ((y ∷ []) ∷ []) ≡ state_after m.machines call (only_row w ∷ []) → is_write call.operation (reply_to m.machines call (only_row w ∷ [])) ≡ true
+  changed_by : (call : Call) (w x y : ℤ) → call.object ≡ 0 → wrapped_sum w x ≡ y → m.rows ((y ∷ []) ∷ []) ≡ state_after m.machines call (only_row w ∷ [])
+      → is_write call.operation (reply_to m.machines call (only_row w ∷ [])) ≡ true
       → IsUpdated m call ((w ∷ []) ∷ []) ((0, C.Add x ∷ []) ∷ [])
   changed_by call w x y o s r z = record {
     ordered = ((omega arith, tt), (refl, tt));
@@ -320,7 +321,8 @@ module _ (first : ℤ) where
     writes = z;
   }
 
-  left_alone : (call : Call) (w : ℤ) → IsCounter ((w ∷ []) ∷ []) → only_row w ∷ [] ≡ state_after m.machines call (only_row w ∷ []) → is_write call.operation (reply_to m.machines call (only_row w ∷ [])) ≡ false
+  left_alone : (call : Call) (w : ℤ) → IsCounter ((w ∷ []) ∷ []) → only_row w ∷ [] ≡ state_after m.machines call (only_row w ∷ [])
+      → is_write call.operation (reply_to m.machines call (only_row w ∷ [])) ≡ false
       → IsUpdated m call ((w ∷ []) ∷ []) []
   left_alone call w v r z = record { ordered = (tt, tt); owned = tt; widths = tt; valid = v; rows = r; writes = z }
 

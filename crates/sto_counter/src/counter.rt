@@ -2,7 +2,7 @@
 ghost use Rattle.std.specs.Prelude.{◌≡◌, [], ◌∷◌, pos, IfOk, IsTrue};
 ghost use Rattle.std.specs.Int.{w64};
 ghost use Rattle.std.specs.Int.RustNames.{FitsSigned};
-ghost use Rattle.sto_model.specs.Objects.{effect_of, compared, takes};
+ghost use Rattle.sto_model.specs.Objects.{effect_of, compared};
 ghost use Rattle.sto_model.specs.PlainReplies.{Flag};
 ghost use Rattle.sto_model.specs.declared.shape.Shape.TheVariants.{Counter};
 ghost use Rattle.sto_type.specs.Plans.{IsSaid};

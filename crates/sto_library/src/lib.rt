@@ -2,6 +2,7 @@
 #![tactic(auto)]
 
 mod contents;
+mod display;
 mod error;
 mod schema;
 mod store;

@@ -115,7 +115,8 @@ reply_is : (leaves : ℕ) (scans : Bool) (a b : ℤ) (d : Parts) → reply_to (t
 reply_is leaves true a b d = refl
 reply_is leaves false a b d = refl
 
-module _ (leaves : ℕ) (k : Known) (scans : Bool) (call : Call) (object : call.object ≡ 0) (operation : call.operation ≡ between_operation scans) (fits_a : FitsSigned w64 call.a) (fits_b : FitsSigned w64 call.b) where
+module _ (leaves : ℕ) (k : Known) (scans : Bool) (call : Call) (object : call.object ≡ 0) (operation : call.operation ≡ between_operation scans)
+    (fits_a : FitsSigned w64 call.a) (fits_b : FitsSigned w64 call.b) where
   -- nothing where the range is empty
   pub says_empty : (t : PlainReply) (is : List Item) (us : List Entry) → int_le call.a call.b ≡ false → t ≡ told_of scans [] → is ≡ [] → us ≡ [] → IsPlan (tree_meaning leaves) call k (Say t is us)
   says_empty t is us none told items updates =
@@ -141,7 +142,9 @@ module _ (leaves : ℕ) (k : Known) (scans : Bool) (call : Call) (object : call.
       seen = between_each scans dir call.a call.b (leaves_between leaves dir call.a call.b) []
 
       pub needs_part : (p : ℕ) → need_of seen k ≡ Some p → IsPlan (tree_meaning leaves) call k (Ask p)
-      needs_part p e = plan_as leaves (between_operation scans) call k (Ask p) object operation (ap (λ x. need_of x k) read_is ∙ whole_need leaves k scans call.a call.b fits_a fits_b dir known_dir ∙ e)
+      needs_part p e =
+          plan_as leaves (between_operation scans) call k (Ask p) object operation
+          (ap (λ x. need_of x k) read_is ∙ whole_need leaves k scans call.a call.b fits_a fits_b dir known_dir ∙ e)
 
       pub says_range :
           (t : PlainReply) (is : List Item) (us : List Entry) → IsSaid seen k is → t ≡ told_of scans (rows_between (known_rows leaves k dir call.a call.b) call.a call.b) → us ≡ [] → IsPlan (tree_meaning leaves) call k (Say t is us)

@@ -104,5 +104,7 @@ module _ (leaves : ℕ) (k : Known) (key : ℤ) (dir : List ℤ) (l : ℕ) (ks :
 pub as_call : (o : Operation) (call : Call) → call.object ≡ 0 → call.operation ≡ o → call_of 0 o call.a call.b ≡ call
 as_call o call z e = λ i. record { object = sym z i; operation = sym e i; a = call.a; b = call.b }
 
-pub plan_as : (leaves : ℕ) (o : Operation) (call : Call) (k : Known) (p : Plan) → call.object ≡ 0 → call.operation ≡ o → IsPlan (tree_meaning leaves) (call_of 0 o call.a call.b) k p → IsPlan (tree_meaning leaves) call k p
+pub plan_as :
+    (leaves : ℕ) (o : Operation) (call : Call) (k : Known) (p : Plan) → call.object ≡ 0 → call.operation ≡ o → IsPlan (tree_meaning leaves) (call_of 0 o call.a call.b) k p
+    → IsPlan (tree_meaning leaves) call k p
 plan_as leaves o call k p z e h = subst (λ (x : Call). IsPlan (tree_meaning leaves) x k p) (as_call o call z e) h

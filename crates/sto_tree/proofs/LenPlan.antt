@@ -15,7 +15,9 @@ use Rattle.sto_tree.specs.Meaning.{tree_meaning}
 use Rattle.sto_tree.specs.LenLaw.{size_is}
 use Rattle.sto_tree.proofs.Parts.{known_part}
 
-pub says_size : (leaves : ℕ) (k : Known) (a b : ℤ) (is : List Item) (ws : List ℤ) → k 0 ≡ Some ws → is ≡ Seen 0 ∷ [] → IsPlan (tree_meaning leaves) (call_of 0 Len a b) k (Say (Value (word ws 0)) is [])
+pub says_size :
+    (leaves : ℕ) (k : Known) (a b : ℤ) (is : List Item) (ws : List ℤ) → k 0 ≡ Some ws → is ≡ Seen 0 ∷ []
+    → IsPlan (tree_meaning leaves) (call_of 0 Len a b) k (Say (Value (word ws 0)) is [])
 says_size leaves k a b is ws known items = (
   ap (λ o. when_known {A = Option ℕ} o (Some 0) (λ xs. None)) known,
   items ∙ sym (ap (λ o. when_known {A = List Item} o [] (λ xs. Seen 0 ∷ [])) known),

@@ -59,7 +59,8 @@ at_most x f = true_le x greatest (bound x f) where
   bound : (x : ℤ) → FitsSigned w64 x → x ≤ℤ greatest
   bound x f = search (arith, ints)
 
-module _ (leaves : ℕ) (few : parts_of leaves < 2 ^ 32) (k : Known) (call : Call) (object : call.object ≡ 0) (operation : call.operation ≡ Put) (fits_a : FitsSigned w64 call.a) (fits_b : FitsSigned w64 call.b)
+module _ (leaves : ℕ) (few : parts_of leaves < 2 ^ 32) (k : Known) (call : Call) (object : call.object ≡ 0) (operation : call.operation ≡ Put)
+    (fits_a : FitsSigned w64 call.a) (fits_b : FitsSigned w64 call.b)
     (dir : List ℤ) (l : ℕ) (ks : List ℤ) (at : IsAtLeaf leaves k call.a dir l ks) (crowded : IsCrowded leaves k call.a ks) (free : free_leaf leaves dir ≡ None) where
   abbrev all_keys : List ℕ
   all_keys = key_parts leaves

@@ -72,7 +72,8 @@ pub slot_alike : (b : Bool) (k v x : ℤ) → (b ≡ true → v ≡ x) → slot_
 slot_alike true k v x h = ap (λ y. Some (k, y)) (h refl)
 slot_alike false k v x h = refl
 
-module _ (leaves : ℕ) (few : parts_of leaves < 2 ^ 32) (k : Known) (call : Call) (object : call.object ≡ 0) (operation : call.operation ≡ Put) (fits_a : FitsSigned w64 call.a) (fits_b : FitsSigned w64 call.b)
+module _ (leaves : ℕ) (few : parts_of leaves < 2 ^ 32) (k : Known) (call : Call) (object : call.object ≡ 0) (operation : call.operation ≡ Put)
+    (fits_a : FitsSigned w64 call.a) (fits_b : FitsSigned w64 call.b)
     (dir : List ℤ) (l : ℕ) (ks : List ℤ) (at : IsAtLeaf leaves k call.a dir l ks) (crowded : IsCrowded leaves k call.a ks) (m : ℕ) (free : free_leaf leaves dir ≡ Some m) where
   abbrev moved : List ℕ
   moved = moved_values l ks 8

@@ -233,10 +233,12 @@ module _ (capacity : ℕ) (few : 1 + capacity < 2 ^ 32) where
   full_is : (n : ℕ) → nat_le capacity n ≡ not (nat_lt n capacity)
   full_is n = by_test (nat_lt n capacity) (λ t. rw t (free_of capacity n t)) (λ t. rw t (full_of capacity n t))
 
-  pub get_replies : (a b : ℤ) (n : ℕ) (places : Parts) → IsVector capacity (sized n places) → reply_to m.machines (call_of 0 Get a b) (m.rows (sized n places)) ≡ value_or_absent (value_in (place_of capacity a) n places)
+  pub get_replies : (a b : ℤ) (n : ℕ) (places : Parts) → IsVector capacity (sized n places)
+      → reply_to m.machines (call_of 0 Get a b) (m.rows (sized n places)) ≡ value_or_absent (value_in (place_of capacity a) n places)
   get_replies a b n places v = ap value_or_absent (value n places v a)
 
-  pub test_replies : (a b : ℤ) (n : ℕ) (places : Parts) → IsVector capacity (sized n places) → reply_to m.machines (call_of 0 TestWord a b) (m.rows (sized n places)) ≡ T.Flag (compared (test_of a) (pos n) b)
+  pub test_replies : (a b : ℤ) (n : ℕ) (places : Parts) → IsVector capacity (sized n places)
+      → reply_to m.machines (call_of 0 TestWord a b) (m.rows (sized n places)) ≡ T.Flag (compared (test_of a) (pos n) b)
   test_replies a b n places v = ap (λ x. T.Flag (compared (test_of a) (pos x) b)) (row_count n places v)
 
   pub len_replies : (a b : ℤ) (n : ℕ) (places : Parts) → IsVector capacity (sized n places) → reply_to m.machines (call_of 0 Len a b) (m.rows (sized n places)) ≡ T.Value (pos n)
@@ -357,7 +359,8 @@ module _ (capacity : ℕ) (few : 1 + capacity < 2 ^ 32) where
   down : (n : ℕ) → n ≤ capacity → wrapped_sum (pos (suc n)) (negsuc 0) ≡ pos n
   down n l = let e : pos (suc n) +ℤ negsuc 0 ≡ pos n = omega (arith, ints) in ap (int_wrap w64) e ∙ int_wrap_fits w64 (pos n) (small_fits n (omega (arith, l)))
 
-  pushed : (a b : ℤ) (n : ℕ) (places : Parts) → IsVector capacity (sized n places) → nat_lt n capacity ≡ true → state_after m.machines (call_of 0 Push a b) (m.rows (sized n places)) ≡ array_rows 0 (take (suc n) (slice_set places n (a ∷ []))) ∷ []
+  pushed : (a b : ℤ) (n : ℕ) (places : Parts) → IsVector capacity (sized n places) → nat_lt n capacity ≡ true
+      → state_after m.machines (call_of 0 Push a b) (m.rows (sized n places)) ≡ array_rows 0 (take (suc n) (slice_set places n (a ∷ []))) ∷ []
   pushed a b n places v t =
       let rows : List Row = array_rows 0 (take n places) in
       let z : 0 + n ≡ n = omega arith in
@@ -366,13 +369,15 @@ module _ (capacity : ℕ) (few : 1 + capacity < 2 ^ 32) where
       ∙ ap (λ x. with_row rows (pos x) a ∷ []) (row_count n places v ∙ sym z)
       ∙ ap (λ x. x ∷ []) (with_end 0 n places a (omega (arith, lt_of n capacity t, many n places v)))
 
-  full_after : (a b : ℤ) (n : ℕ) (places : Parts) → IsVector capacity (sized n places) → nat_lt n capacity ≡ false → state_after m.machines (call_of 0 Push a b) (m.rows (sized n places)) ≡ m.rows (sized n places)
+  full_after : (a b : ℤ) (n : ℕ) (places : Parts) → IsVector capacity (sized n places) → nat_lt n capacity ≡ false
+      → state_after m.machines (call_of 0 Push a b) (m.rows (sized n places)) ≡ m.rows (sized n places)
   full_after a b n places v t =
       let rows : List Row = array_rows 0 (take n places) in
       ap (λ x. (push_effect (nat_le capacity x) a rows).after ∷ []) (row_count n places v)
       ∙ ap (λ x. (push_effect x a rows).after ∷ []) (full_of capacity n t)
 
-  updated_push : (a b : ℤ) (n : ℕ) (places : Parts) → FitsSigned w64 a → IsVector capacity (sized n places) → nat_lt n capacity ≡ true → IsUpdated m (call_of 0 Push a b) (sized n places) ((0, C.Add (pos 1) ∷ []) ∷ (suc n, C.Put a ∷ []) ∷ [])
+  updated_push : (a b : ℤ) (n : ℕ) (places : Parts) → FitsSigned w64 a → IsVector capacity (sized n places) → nat_lt n capacity ≡ true
+      → IsUpdated m (call_of 0 Push a b) (sized n places) ((0, C.Add (pos 1) ∷ []) ∷ (suc n, C.Put a ∷ []) ∷ [])
   updated_push a b n places f v t =
       let l : n < capacity = lt_of n capacity t in
       let part : part_of places n ≡ word_of places n 0 ∷ [] = part_is capacity places n (place_widths n places v) l in
@@ -393,7 +398,8 @@ module _ (capacity : ℕ) (few : 1 + capacity < 2 ^ 32) where
         writes = ap (is_write Push) (push_replies a b n places v ∙ ap (λ x. if x then T.Done else T.Full) t);
       }
 
-  popped_rows : (a b : ℤ) (n : ℕ) (places : Parts) → IsVector capacity (sized (suc n) places) → state_after m.machines (call_of 0 Pop a b) (m.rows (sized (suc n) places)) ≡ array_rows 0 (take n places) ∷ []
+  popped_rows : (a b : ℤ) (n : ℕ) (places : Parts) → IsVector capacity (sized (suc n) places)
+      → state_after m.machines (call_of 0 Pop a b) (m.rows (sized (suc n) places)) ≡ array_rows 0 (take n places) ∷ []
   popped_rows a b n places v =
       let rows : List Row = array_rows 0 (take (suc n) places) in
       let z : 0 + n ≡ n = omega arith in
@@ -516,7 +522,8 @@ module _ (capacity : ℕ) (few : 1 + capacity < 2 ^ 32) where
   abbrev ItemsAt : Call → Type 0
   ItemsAt call = (k : Known) (n : ℕ) (places : Parts) → IsPartOf k (sized n places) → m.need call k ≡ None → m.items call k ≡ own_items call n
 
-  get_items_at : (q : Option ℕ) (a b : ℤ) (k : Known) (n : ℕ) (places : Parts) → IsPartOf k (sized n places) → vector_need Get q k ≡ None → vector_items capacity Get q a b (same_size k) ≡ vector_items capacity Get q a b n
+  get_items_at : (q : Option ℕ) (a b : ℤ) (k : Known) (n : ℕ) (places : Parts) → IsPartOf k (sized n places) → vector_need Get q k ≡ None
+      → vector_items capacity Get q a b (same_size k) ≡ vector_items capacity Get q a b n
   get_items_at None a b k n places part e = refl
   get_items_at (Some i) a b k n places part e = ap (get_items i) (size_same k n (size_ready k n places (place_need Get (Some i) k) part e).size)
 
@@ -551,7 +558,8 @@ module _ (capacity : ℕ) (few : 1 + capacity < 2 ^ 32) where
   pop_knows k zero q l s = (here 0 0 (omega arith) refl, s.some, tt)
   pop_knows k (suc n) q l s = (here 0 0 (omega arith) refl, s.some, (here (suc n) 0 l refl, asked_none (suc n) (k (suc n)) s.done, tt))
 
-  get_knows_at : (q : Option ℕ) (a b : ℤ) (k : Known) (n : ℕ) (places : Parts) → IsVector capacity (sized n places) → IsPartOf k (sized n places) → vector_need Get q k ≡ None → Knows k (vector_items capacity Get q a b n)
+  get_knows_at : (q : Option ℕ) (a b : ℤ) (k : Known) (n : ℕ) (places : Parts) → IsVector capacity (sized n places) → IsPartOf k (sized n places) → vector_need Get q k ≡ None
+      → Knows k (vector_items capacity Get q a b n)
   get_knows_at None a b k n places v part e = tt
   get_knows_at (Some i) a b k n places v part e = get_knows k n i (small n places v) (size_ready k n places (place_need Get (Some i) k) part e)
 

@@ -53,7 +53,8 @@ place_off Count q k more n w e = refl
 place_off Scan q k more n w e = refl
 place_off Push q k more n w e = refl
 
-sized_on : (o : Operation) (q : Option ℕ) (k more : Known) (p : ℕ) → IsWithin k more → more p ≡ None → after_size (size_known k) (place_need o q k) ≡ Some p → after_size (size_known more) (place_need o q more) ≡ Some p
+sized_on : (o : Operation) (q : Option ℕ) (k more : Known) (p : ℕ) → IsWithin k more → more p ≡ None → after_size (size_known k) (place_need o q k) ≡ Some p
+    → after_size (size_known more) (place_need o q more) ≡ Some p
 sized_on o q k more p w none e = elim (by_known (k 0)) [
   | inl unknown ↦
       let it : Some 0 ≡ Some p = rw unknown at e in
