@@ -14,7 +14,7 @@ impl fmt::Display for LookError {
     fn fmt<W: fmt::Write>(&self, f: &mut fmt::Formatter<W>) -> fmt::Result {
         match self {
             LookError::NoWorker => write!(f, "no worker rests in the store"),
-            LookError::Transaction(error) => error.fmt(f),
+            LookError::Transaction(error) => write!(f, "{error}"),
         }
     }
 }
@@ -35,11 +35,11 @@ impl fmt::Display for StoreError {
 
     fn fmt<W: fmt::Write>(&self, f: &mut fmt::Formatter<W>) -> fmt::Result {
         match self {
-            StoreError::Plan(error) => error.fmt(f),
-            StoreError::Open(error) => error.fmt(f),
-            StoreError::Task(error) => error.fmt(f),
-            StoreError::Transaction(error) => error.fmt(f),
-            StoreError::Look(error) => error.fmt(f),
+            StoreError::Plan(error) => write!(f, "{error}"),
+            StoreError::Open(error) => write!(f, "{error}"),
+            StoreError::Task(error) => write!(f, "{error}"),
+            StoreError::Transaction(error) => write!(f, "{error}"),
+            StoreError::Look(error) => write!(f, "{error}"),
             StoreError::Close => write!(f, "the store was not closed"),
         }
     }
