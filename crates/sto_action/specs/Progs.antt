@@ -6,7 +6,7 @@ use Rattle.sto_model.specs.declared.call.Call.{Call}
 use Rattle.sto_model.specs.declared.body.Next.{Next}
 use Rattle.sto_model.specs.declared.body.Next.TheVariants.{Ask, Commit, Cancel}
 use Rattle.sto_model.specs.declared.shape.Shape.{Shape}
-use Rattle.sto_model.specs.Objects.{takes}
+use Rattle.sto_model.specs.Objects.{takes_call}
 use Rattle.sto_action.specs.declared.short_reply.ShortReply.{ShortReply}
 use Rattle.sto_action.specs.declared.tx.Stop.{Stop}
 use Rattle.sto_action.specs.declared.tx.Stop.TheVariants as stops
@@ -18,7 +18,7 @@ pub data Prog (A : Type 0) : Type 0 where
 
 -- the shape takes the call
 abbrev pub is_taken_by : Option Shape → Call → Bool
-is_taken_by (Some shape) call = takes shape call.operation call.a
+is_taken_by (Some shape) call = takes_call shape call
 is_taken_by None call = false
 
 -- the object of the call takes it, among objects of these shapes

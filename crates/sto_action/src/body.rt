@@ -88,7 +88,7 @@ fn is_taken(shapes: &Shapes, call: Call) -> bool
     ensures { result ≡ is_taken shapes.now.items call }
 {
     match shapes.as_slice().get(call.object as usize) {
-        Some(shape) => shape.takes(call.operation, call.a),
+        Some(shape) => shape.takes_call(&call),
         None => false,
     }
 }

@@ -73,6 +73,7 @@ IsArrayOf (n ∷ sizes) c = IsArray n c
 -- a call that an array takes, with numbers of 64 bits
 pub record ArrayTakes (call : Call) : Type 0 where
   pub object : call.object ≡ 0
+  pub third : call.c ≡ pos 0
   pub taken : IsTrue (takes (Array 0 (pos 0)) call.operation call.a)
   pub fits : FitsSigned w64 call.a
   pub fits_too : FitsSigned w64 call.b

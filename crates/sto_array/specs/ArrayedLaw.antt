@@ -53,7 +53,7 @@ pub by_call :
     (P : Call → Type 0) → ((a b : ℤ) → P (call_of 0 Get a b)) → ((a b : ℤ) → FitsSigned w64 b → P (call_of 0 Set a b)) → ((a b : ℤ) → FitsSigned w64 b → P (call_of 0 Add a b))
     → (call : Call) → ArrayTakes call → P call
 by_call P get set add call t =
-    let same : (o : Operation) → call.operation ≡ o → call ≡ call_of 0 o call.a call.b = λ o e i. record { object = t.object i; operation = e i; a = call.a; b = call.b } in
+    let same : (o : Operation) → call.operation ≡ o → call ≡ call_of 0 o call.a call.b = λ o e i. record { object = t.object i; operation = e i; a = call.a; b = call.b; c = t.third i } in
     by_operation call.operation call.a t.taken
     (λ e. subst P (sym (same Get e)) (get call.a call.b))
     (λ e. subst P (sym (same Set e)) (set call.a call.b t.fits_too))

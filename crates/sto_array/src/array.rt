@@ -72,7 +72,7 @@ impl TxType for TArray {
     fn takes(&self, call: &Call) -> bool {
         let _first = call.a;
         let _second = call.b;
-        call.object == 0 && Shape::Array { len: 0, value: 0 }.takes(call.operation, call.a)
+        call.object == 0 && Shape::Array { len: 0, value: 0 }.takes_call(call)
     }
 
     fn opening(&self, alloc: Global) -> Result<Contents, NoMemory> {

@@ -75,14 +75,14 @@ fewer_after_note false = omega arith
 -- what is asked for a note is asked by the statements
 may_if : (b c : Bool) (k v l w : ℤ) (x : Values) → FitsSigned w64 k → FitsSigned w64 v → FitsSigned w64 l → FitsSigned w64 w
     → MayAsk (Asks (note_if b 3 (Num k) (Num v) then note_if c 2 (Num l) (Num w))) (doing (note_if b 3 (Num k) (Num v) then note_if c 2 (Num l) (Num w)) committing x [])
-may_if true c k v l w x fk fv fl fw = inl (record { object_is = refl; operation_is = refl; a_may_be = refl; b_may_be = refl; a_fits = fk; b_fits = fv })
-may_if false true k v l w x fk fv fl fw = inl (record { object_is = refl; operation_is = refl; a_may_be = refl; b_may_be = refl; a_fits = fl; b_fits = fw })
+may_if true c k v l w x fk fv fl fw = inl (record { object_is = refl; operation_is = refl; a_may_be = refl; b_may_be = refl; no_third = refl; a_fits = fk; b_fits = fv })
+may_if false true k v l w x fk fv fl fw = inl (record { object_is = refl; operation_is = refl; a_may_be = refl; b_may_be = refl; no_third = refl; a_fits = fl; b_fits = fw })
 may_if false false k v l w x fk fv fl fw = tt
 
 owner_if : (b c : Bool) (k v l w : ℤ) (x : Values) → FitsSigned w64 l → FitsSigned w64 w
     → MayAsk (Asks (note_if b 3 (Num k) (Num v) then note_if c 2 (Num l) (Num w))) (doing (note_if c 2 (Num l) (Num w)) committing x [])
-owner_if true true k v l w x fl fw = inr (inl (record { object_is = refl; operation_is = refl; a_may_be = refl; b_may_be = refl; a_fits = fl; b_fits = fw }))
-owner_if false true k v l w x fl fw = inl (record { object_is = refl; operation_is = refl; a_may_be = refl; b_may_be = refl; a_fits = fl; b_fits = fw })
+owner_if true true k v l w x fl fw = inr (inl (record { object_is = refl; operation_is = refl; a_may_be = refl; b_may_be = refl; no_third = refl; a_fits = fl; b_fits = fw }))
+owner_if false true k v l w x fl fw = inl (record { object_is = refl; operation_is = refl; a_may_be = refl; b_may_be = refl; no_third = refl; a_fits = fl; b_fits = fw })
 owner_if true false k v l w x fl fw = tt
 owner_if false false k v l w x fl fw = tt
 

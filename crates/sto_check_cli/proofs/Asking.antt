@@ -97,7 +97,7 @@ asks_of P (Ask to object operation a b rest) others n p h vs [] v r =
     let second : Fits (value_of vs b) = value_fits vs b v n.1 in
     record {
       is = p (call_of object operation (value_of vs a) (value_of vs b))
-          (inl (record { object_is = refl; operation_is = refl; a_may_be = may_be vs a; b_may_be = may_be vs b; a_fits = first; b_fits = second }));
+          (inl (record { object_is = refl; operation_is = refl; a_may_be = may_be vs a; b_may_be = may_be vs b; no_third = refl; a_fits = first; b_fits = second }));
       fits = record { first = first; second = second };
     }
 asks_of P (Ask to object operation a b rest) others n p h vs (reply ∷ rs) v r =

@@ -67,7 +67,7 @@ impl TxType for TCounter {
     fn takes(&self, call: &Call) -> bool {
         let _first = call.a;
         let _second = call.b;
-        call.object == 0 && Shape::Counter(0).takes(call.operation, call.a)
+        call.object == 0 && Shape::Counter(0).takes_call(call)
     }
 
     fn opening(&self, alloc: Global) -> Result<Contents, NoMemory> {

@@ -91,6 +91,7 @@ pub record IsHash (buckets places : ℕ) (c : Parts) : Type 0 where
 -- a call that a hash table takes, with numbers of 64 bits
 pub record HashTakes (buckets : ℕ) (call : Call) : Type 0 where
   pub object : call.object ≡ 0
+  pub third : call.c ≡ pos 0
   pub taken : IsTrue (takes (Hash buckets 0) call.operation call.a)
   pub fits : FitsSigned w64 call.a
   pub fits_too : FitsSigned w64 call.b

@@ -35,7 +35,7 @@ pub by_call :
     → ((a b : ℤ) → P (call_of 0 Get a b)) → ((a b : ℤ) → FitsSigned w64 a → FitsSigned w64 b → P (call_of 0 Put a b)) → ((a b : ℤ) → P (call_of 0 Remove a b))
     → ((a b : ℤ) → P (call_of 0 Has a b)) → ((a b : ℤ) → P (call_of 0 Len a b)) → (call : Call) → HashTakes buckets call → P call
 by_call buckets P get put remove has len call t =
-    let same : (o : Operation) → call.operation ≡ o → call ≡ call_of 0 o call.a call.b = λ o e i. record { object = t.object i; operation = e i; a = call.a; b = call.b } in
+    let same : (o : Operation) → call.operation ≡ o → call ≡ call_of 0 o call.a call.b = λ o e i. record { object = t.object i; operation = e i; a = call.a; b = call.b; c = t.third i } in
     by_operation buckets call.operation call.a t.taken
     (λ e. subst P (sym (same Get e)) (get call.a call.b))
     (λ e. subst P (sym (same Put e)) (put call.a call.b t.fits t.fits_too))

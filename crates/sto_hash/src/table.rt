@@ -76,7 +76,7 @@ impl TxType for THash {
     fn takes(&self, call: &Call) -> bool {
         let _first = call.a;
         let _second = call.b;
-        call.object == 0 && shape_with(self.buckets).takes(call.operation, call.a)
+        call.object == 0 && shape_with(self.buckets).takes_call(call)
     }
 
     fn opening(&self, alloc: Global) -> Result<Contents, NoMemory> {

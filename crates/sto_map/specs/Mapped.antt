@@ -121,8 +121,8 @@ abbrev pub map_machine : ℕ → SequentialObject
 map_machine n =
     record {
       opening = [];
-      reply = λ operation a b rows. (map_effect n operation a b rows).reply;
-      after = λ operation a b rows. (map_effect n operation a b rows).after;
+      reply = λ operation a b c rows. (map_effect n operation a b rows).reply;
+      after = λ operation a b c rows. (map_effect n operation a b rows).after;
     }
 
 abbrev pub takes_by : Operation → Bool
@@ -204,6 +204,7 @@ map_telling z o a b = Tell Absent [] []
 -- a call that a map takes, with numbers of 64 bits
 pub record MapTakes (call : Call) : Type 0 where
   pub object : call.object ≡ 0
+  pub third : call.c ≡ pos 0
   pub taken : IsTrue (takes_by call.operation)
   pub fits : FitsSigned w64 call.a
   pub fits_too : FitsSigned w64 call.b

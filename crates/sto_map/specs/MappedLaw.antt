@@ -47,7 +47,8 @@ use Rattle.sto_container.specs.Endings.{told_by}
 
 -- the operations that a map takes
 by_operation :
-    {P : Type 0} (operation : Operation) → IsTrue (takes_by operation) → (operation ≡ Get → P) → (operation ≡ Set → P) → (operation ≡ Add → P) → (operation ≡ Put → P) → (operation ≡ Remove → P) → (operation ≡ Has → P) → P
+    {P : Type 0} (operation : Operation) → IsTrue (takes_by operation) → (operation ≡ Get → P) → (operation ≡ Set → P) → (operation ≡ Add → P)
+    → (operation ≡ Put → P) → (operation ≡ Remove → P) → (operation ≡ Has → P) → P
 by_operation Get h get set add put remove has = get refl
 by_operation Set h get set add put remove has = set refl
 by_operation Add h get set add put remove has = add refl
@@ -64,10 +65,11 @@ by_operation Push h get set add put remove has = cc
 by_operation Pop h get set add put remove has = cc
 
 by_call :
-    (P : Call → Type 0) → ((a b : ℤ) → P (call_of 0 Get a b)) → ((a b : ℤ) → FitsSigned w64 b → P (call_of 0 Set a b)) → ((a b : ℤ) → P (call_of 0 Add a b)) → ((a b : ℤ) → FitsSigned w64 a → FitsSigned w64 b → P (call_of 0 Put a b)) → ((a b : ℤ) → P (call_of 0 Remove a b)) → ((a b : ℤ) → P (call_of 0 Has a b))
+    (P : Call → Type 0) → ((a b : ℤ) → P (call_of 0 Get a b)) → ((a b : ℤ) → FitsSigned w64 b → P (call_of 0 Set a b)) → ((a b : ℤ) → P (call_of 0 Add a b))
+    → ((a b : ℤ) → FitsSigned w64 a → FitsSigned w64 b → P (call_of 0 Put a b)) → ((a b : ℤ) → P (call_of 0 Remove a b)) → ((a b : ℤ) → P (call_of 0 Has a b))
     → (call : Call) → MapTakes call → P call
 by_call P get set add put remove has call t =
-    let same : (operation : Operation) → call.operation ≡ operation → call ≡ call_of 0 operation call.a call.b = λ operation e i. record { object = t.object i; operation = e i; a = call.a; b = call.b } in
+    let same : (o : Operation) → call.operation ≡ o → call ≡ call_of 0 o call.a call.b = λ o e i. record { object = t.object i; operation = e i; a = call.a; b = call.b; c = t.third i } in
     by_operation call.operation t.taken
     (λ e. subst P (sym (same Get e)) (get call.a call.b))
     (λ e. subst P (sym (same Set e)) (set call.a call.b t.fits_too))

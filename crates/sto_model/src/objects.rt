@@ -2,7 +2,7 @@
 ghost use Rattle.std.specs.Prelude.{◌≡◌, ◌<◌, ◌^◌, ◌↔◌, ◌+ℤ◌, ◌-ℤ◌, pos, length, Some, OnOk, OnErr, IfOk, IsTrue};
 ghost use Rattle.sto_model.specs.PlainReplies.{plain_reply};
 ghost use Rattle.sto_model.specs.Rows.{keys_beside};
-ghost use Rattle.sto_model.specs.Objects.{only_value, value_or_absent, in_range, added_at, box_effect, counter_effect, array_effect, hash_effect, tree_effect, put_effect, remove_effect, vector_effect, push_effect, pop_effect, effect_of, takes, IsTaken};
+ghost use Rattle.sto_model.specs.Objects.{only_value, value_or_absent, in_range, added_at, box_effect, counter_effect, array_effect, hash_effect, tree_effect, put_effect, remove_effect, vector_effect, push_effect, pop_effect, effect_of, takes_call, IsTaken};
 
 use crate::call::Call;
 use crate::operation::{Operation, test_at};
@@ -21,7 +21,7 @@ pub fn takes(shapes: &Shapes, call: &Call) -> bool
     ensures { IsTrue result ↔ IsTaken shapes.now.items call.now }
 {
     if call.object < shapes.len() {
-        shapes.get(call.object).takes(call.operation, call.a)
+        shapes.get(call.object).takes_call(call)
     } else {
         false
     }
@@ -33,14 +33,12 @@ pub(crate) fn ask_rows(
     shape: Shape,
     call: &Call,
 ) -> Result<Reply, NoMemory>
-    requires { IsTrue (takes shape call.now.operation call.now.a) }
+    requires { IsTrue (takes_call shape call.now) }
     ensures reply { IfOk result (λ r. plain_reply r ≡ (effect_of shape call.now.operation call.now.a call.now.b rows.old.items).reply) }
     ensures after { OnOk result (rows.new.items ≡ (effect_of shape call.now.operation call.now.a call.now.b rows.old.items).after) }
     ensures err { OnErr result (rows.new.items ≡ rows.old.items) }
 {
-    let Call {
-        operation, a, b, ..
-    } = *call;
+    let (operation, a, b) = (call.operation, call.a, call.b);
     match shape {
         Shape::Single(_) => ask_box(rows, operation, a),
         Shape::Counter(_) => ask_counter(rows, operation, a, b),

@@ -1,5 +1,5 @@
 -- What a record of w words means: one part, whose words stand one behind the other.
-use Rattle.std.specs.Prelude.{◌≡◌, ℕ, ℤ, Bool, true, false, Option, Some, None, List, [], ◌∷◌, map, length, replicate, IsTrue}
+use Rattle.std.specs.Prelude.{◌≡◌, ℕ, ℤ, pos, Bool, true, false, Option, Some, None, List, [], ◌∷◌, map, length, replicate, IsTrue}
 use Rattle.std.specs.Int.{w64}
 use Rattle.std.specs.Int.RustNames.{FitsSigned}
 use Rattle.sto_part.specs.Parts.{part_of}
@@ -42,8 +42,8 @@ abbrev pub record_machine : ℕ → ℤ → SequentialObject
 record_machine w first =
     record {
       opening = numbered 0 (replicate w first);
-      reply = λ operation a b rows. (record_effect operation a b rows).reply;
-      after = λ operation a b rows. (record_effect operation a b rows).after;
+      reply = λ operation a b c rows. (record_effect operation a b rows).reply;
+      after = λ operation a b c rows. (record_effect operation a b rows).after;
     }
 
 -- which operations a record takes
@@ -75,6 +75,7 @@ IsRecordOf (w ∷ sizes) c = IsRecord w c
 -- a call that a record takes, with numbers of 64 bits
 pub record RecordTakes (call : Call) : Type 0 where
   pub object : call.object ≡ 0
+  pub third : call.c ≡ pos 0
   pub taken : IsTrue (takes_by call.operation)
   pub fits : FitsSigned w64 call.a
   pub fits_too : FitsSigned w64 call.b

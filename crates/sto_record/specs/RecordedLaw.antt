@@ -48,7 +48,7 @@ by_call :
     (P : Call → Type 0) → ((a b : ℤ) → P (call_of 0 Get a b)) → ((a b : ℤ) → FitsSigned w64 b → P (call_of 0 Set a b)) → ((a b : ℤ) → P (call_of 0 Add a b)) → ((a b : ℤ) → P (call_of 0 Scan a b))
     → (call : Call) → RecordTakes call → P call
 by_call P get set add scan call t =
-    let same : (operation : Operation) → call.operation ≡ operation → call ≡ call_of 0 operation call.a call.b = λ operation e i. record { object = t.object i; operation = e i; a = call.a; b = call.b } in
+    let same : (o : Operation) → call.operation ≡ o → call ≡ call_of 0 o call.a call.b = λ o e i. record { object = t.object i; operation = e i; a = call.a; b = call.b; c = t.third i } in
     by_operation call.operation t.taken
     (λ e. subst P (sym (same Get e)) (get call.a call.b))
     (λ e. subst P (sym (same Set e)) (set call.a call.b t.fits_too))
@@ -75,12 +75,14 @@ module _ (w : ℕ) (first : ℤ) where
     value : (a : ℤ) → value_at (numbered 0 ws) a ≡ at_index (index_of w a) ws
     value a = value_numbered ws a ∙ ap (λ n. at_index (index_of n a) ws) l
 
-    left_alone : (call : Call) → numbered 0 ws ∷ [] ≡ state_after m.machines call (numbered 0 ws ∷ []) → is_write call.operation (reply_to m.machines call (numbered 0 ws ∷ [])) ≡ false → IsUpdated m call c []
+    left_alone : (call : Call) → numbered 0 ws ∷ [] ≡ state_after m.machines call (numbered 0 ws ∷ [])
+        → is_write call.operation (reply_to m.machines call (numbered 0 ws ∷ [])) ≡ false → IsUpdated m call c []
     left_alone call r z = record { ordered = (tt, tt); owned = tt; widths = tt; valid = v; rows = r; writes = z }
 
     -- one word changes
     changed : (call : Call) (i : ℕ) (ch : Change) → call.object ≡ 0 → i < w → is_keep ch ≡ false → ChangeFits ch
-        → numbered 0 (slice_set ws i (applied ch (word ws i))) ∷ [] ≡ state_after m.machines call (numbered 0 ws ∷ []) → is_write call.operation (reply_to m.machines call (numbered 0 ws ∷ [])) ≡ true
+        → numbered 0 (slice_set ws i (applied ch (word ws i))) ∷ [] ≡ state_after m.machines call (numbered 0 ws ∷ [])
+        → is_write call.operation (reply_to m.machines call (numbered 0 ws ∷ [])) ≡ true
         → IsUpdated m call c ((0, at_word w i ch) ∷ [])
     changed call i ch o s k f r z =
         let fitting : length ws ≡ length (at_word w i ch) = l ∙ sym (at_word-width w i ch) in
@@ -143,7 +145,8 @@ module _ (w : ℕ) (first : ℤ) where
           same_told = λ d y a. refl;
           same_updates = λ d y a. refl;
           tells = sym (ap (λ o. (set_at o a b (numbered 0 ws)).reply) x);
-          updated = changed (call_of 0 Set a b) i (C.Put b) refl p.1 refl f (sym (ap (λ o. (set_at o a b (numbered 0 ws)).after ∷ []) x ∙ ap (λ r. r ∷ []) rows)) (ap (λ o. is_write Set (set_at o a b (numbered 0 ws)).reply) x);
+          updated = changed (call_of 0 Set a b) i (C.Put b) refl p.1 refl f
+              (sym (ap (λ o. (set_at o a b (numbered 0 ws)).after ∷ []) x ∙ ap (λ r. r ∷ []) rows)) (ap (λ o. is_write Set (set_at o a b (numbered 0 ws)).reply) x);
         }
 
     add_told : (a b : ℤ) (q : Option ℕ) → index_of w a ≡ q → IsTold m (call_of 0 Add a b) (record_telling w Add q b) c
@@ -165,7 +168,8 @@ module _ (w : ℕ) (first : ℤ) where
           same_told = λ d z a. refl;
           same_updates = λ d z a. refl;
           tells = sym (ap (λ o. (add_at o a b (numbered 0 ws)).reply) x);
-          updated = changed (call_of 0 Add a b) i (C.Add b) refl p.1 refl tt (sym (ap (λ o. (add_at o a b (numbered 0 ws)).after ∷ []) x ∙ ap (λ r. r ∷ []) rows)) (ap (λ o. is_write Add (add_at o a b (numbered 0 ws)).reply) x);
+          updated = changed (call_of 0 Add a b) i (C.Add b) refl p.1 refl tt
+              (sym (ap (λ o. (add_at o a b (numbered 0 ws)).after ∷ []) x ∙ ap (λ r. r ∷ []) rows)) (ap (λ o. is_write Add (add_at o a b (numbered 0 ws)).reply) x);
         }
 
     scan_told : (a b : ℤ) → IsTold m (call_of 0 Scan a b) (record_telling w Scan (index_of w a) b) c

@@ -46,8 +46,8 @@ abbrev pub ring_machine : ℕ → SequentialObject
 ring_machine n =
     record {
       opening = [];
-      reply = λ operation a b rows. (ring_effect n operation a b rows).reply;
-      after = λ operation a b rows. (ring_effect n operation a b rows).after;
+      reply = λ operation a b c rows. (ring_effect n operation a b rows).reply;
+      after = λ operation a b c rows. (ring_effect n operation a b rows).after;
     }
 
 -- which operations a ring takes: get is front, has is some
@@ -154,6 +154,7 @@ len_said size h t live = Say (Value (pos size)) (len_items h t live) []
 -- a call that a ring takes, with numbers of 64 bits
 pub record RingTakes (call : Call) : Type 0 where
   pub object : call.object ≡ 0
+  pub third : call.c ≡ pos 0
   pub taken : IsTrue (takes_by call.operation)
   pub fits : FitsSigned w64 call.a
   pub fits_too : FitsSigned w64 call.b

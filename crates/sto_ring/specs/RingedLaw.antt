@@ -59,7 +59,7 @@ by_call :
     (P : Call → Type 0) → ((a b : ℤ) → P (call_of 0 Get a b)) → ((a b : ℤ) → P (call_of 0 Has a b)) → ((a b : ℤ) → P (call_of 0 Len a b)) → ((a b : ℤ) → FitsSigned w64 a → P (call_of 0 Push a b))
     → ((a b : ℤ) → P (call_of 0 Pop a b)) → (call : Call) → RingTakes call → P call
 by_call P front some len push pop call t =
-    let same : (operation : Operation) → call.operation ≡ operation → call ≡ call_of 0 operation call.a call.b = λ operation e i. record { object = t.object i; operation = e i; a = call.a; b = call.b } in
+    let same : (o : Operation) → call.operation ≡ o → call ≡ call_of 0 o call.a call.b = λ o e i. record { object = t.object i; operation = e i; a = call.a; b = call.b; c = t.third i } in
     by_operation call.operation t.taken
     (λ e. subst P (sym (same Get e)) (front call.a call.b))
     (λ e. subst P (sym (same Has e)) (some call.a call.b))

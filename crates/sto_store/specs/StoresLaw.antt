@@ -11,9 +11,10 @@ use Rattle.sto_model.specs.declared.operation.Operation.TheVariants.{Get, Set, A
 use Rattle.sto_model.specs.declared.shape.Shape.{Shape}
 use Rattle.sto_model.specs.declared.shape.Shape.TheVariants.{Single, Counter, Array, Hash, Tree, Vector}
 use Rattle.sto_model.specs.Sizes.{part_count}
-use Rattle.sto_model.specs.Objects.{machine_of, machines_of, takes, IsTaken}
+use Rattle.sto_model.specs.Objects.{machine_of, machines_of, takes, takes_call, IsTaken}
 use Rattle.sto_type.specs.Meaning.{Meaning}
 use Rattle.sto_type.specs.Joined.{call_beyond, home_moved, joined, no_meaning, all_joined}
+use Rattle.sto_model.proofs.CallFacts.{taken_call}
 use Rattle.sto_type.proofs.Answering.{home_past}
 use Rattle.sto_array.specs.Arrayed.{homes_from as array_homes}
 use Rattle.sto_hash.specs.Hashed.{homes_from as hash_homes}
@@ -168,47 +169,47 @@ vector_alike n Scan a = refl
 vector_alike n Push a = refl
 vector_alike n Pop a = refl
 
-one_taken : (s : Shape) (call : Call) → IsTaken (s ∷ []) call → (call.object ≡ 0) × IsTrue (takes s call.operation call.a)
+one_taken : (s : Shape) (call : Call) → IsTaken (s ∷ []) call → (call.object ≡ 0) × (call.c ≡ pos 0) × IsTrue (takes s call.operation call.a)
 one_taken s call t =
     let g : (call.object ≡ 0) × (s ≡ t.0) = one_got s t.0 call.object t.1 in
-    (g.0, subst (λ x. IsTrue (takes x call.operation call.a)) (sym g.1) t.2)
+    (g.0, taken_call s call (subst (λ x. IsTrue (takes_call x call)) (sym g.1) t.2))
 
 pub one_takes : (s : Shape) → TakesAll (mean_of s) (s ∷ [])
 one_takes (Single v) = record {
   many = refl;
   takes = λ call t f.
-      let g : (call.object ≡ 0) × IsTrue (takes (Single v) call.operation call.a) = one_taken (Single v) call t in
-      record { object = g.0; taken = sym (box_alike v call.operation call.a) ∙ g.1; value = λ e. ∣ tt ∣₁; fits = f.first; fits_too = f.second };
+      let g : (call.object ≡ 0) × (call.c ≡ pos 0) × IsTrue (takes (Single v) call.operation call.a) = one_taken (Single v) call t in
+      record { object = g.0; third = g.1; taken = sym (box_alike v call.operation call.a) ∙ g.2; value = λ e. ∣ tt ∣₁; fits = f.first; fits_too = f.second };
 }
 one_takes (Counter v) = record {
   many = refl;
   takes = λ call t f.
-      let g : (call.object ≡ 0) × IsTrue (takes (Counter v) call.operation call.a) = one_taken (Counter v) call t in
-      record { object = g.0; taken = sym (counter_alike v call.operation call.a) ∙ g.1; fits = f.first; fits_too = f.second };
+      let g : (call.object ≡ 0) × (call.c ≡ pos 0) × IsTrue (takes (Counter v) call.operation call.a) = one_taken (Counter v) call t in
+      record { object = g.0; third = g.1; taken = sym (counter_alike v call.operation call.a) ∙ g.2; fits = f.first; fits_too = f.second };
 }
 one_takes (Array len v) = record {
   many = refl;
   takes = λ call t f.
-      let g : (call.object ≡ 0) × IsTrue (takes (Array len v) call.operation call.a) = one_taken (Array len v) call t in
-      record { object = g.0; taken = sym (array_alike len v call.operation call.a) ∙ g.1; fits = f.first; fits_too = f.second };
+      let g : (call.object ≡ 0) × (call.c ≡ pos 0) × IsTrue (takes (Array len v) call.operation call.a) = one_taken (Array len v) call t in
+      record { object = g.0; third = g.1; taken = sym (array_alike len v call.operation call.a) ∙ g.2; fits = f.first; fits_too = f.second };
 }
 one_takes (Hash buckets places) = record {
   many = refl;
   takes = λ call t f.
-      let g : (call.object ≡ 0) × IsTrue (takes (Hash buckets places) call.operation call.a) = one_taken (Hash buckets places) call t in
-      record { object = g.0; taken = sym (hash_alike buckets places call.operation call.a) ∙ g.1; fits = f.first; fits_too = f.second };
+      let g : (call.object ≡ 0) × (call.c ≡ pos 0) × IsTrue (takes (Hash buckets places) call.operation call.a) = one_taken (Hash buckets places) call t in
+      record { object = g.0; third = g.1; taken = sym (hash_alike buckets places call.operation call.a) ∙ g.2; fits = f.first; fits_too = f.second };
 }
 one_takes (Tree leaves) = record {
   many = refl;
   takes = λ call t f.
-      let g : (call.object ≡ 0) × IsTrue (takes (Tree leaves) call.operation call.a) = one_taken (Tree leaves) call t in
-      record { object = g.0; operation = g.1; fits = f.first; fits_too = f.second };
+      let g : (call.object ≡ 0) × (call.c ≡ pos 0) × IsTrue (takes (Tree leaves) call.operation call.a) = one_taken (Tree leaves) call t in
+      record { object = g.0; third = g.1; operation = g.2; fits = f.first; fits_too = f.second };
 }
 one_takes (Vector capacity) = record {
   many = refl;
   takes = λ call t f.
-      let g : (call.object ≡ 0) × IsTrue (takes (Vector capacity) call.operation call.a) = one_taken (Vector capacity) call t in
-      record { object = g.0; taken = sym (vector_alike capacity call.operation call.a) ∙ g.1; fits = f.first; fits_too = f.second };
+      let g : (call.object ≡ 0) × (call.c ≡ pos 0) × IsTrue (takes (Vector capacity) call.operation call.a) = one_taken (Vector capacity) call t in
+      record { object = g.0; third = g.1; taken = sym (vector_alike capacity call.operation call.a) ∙ g.2; fits = f.first; fits_too = f.second };
 }
 
 pub all_take : (ss : List Shape) → TakesAll (all_joined (map mean_of ss)) ss

@@ -13,11 +13,11 @@ use Rattle.sto_type.specs.Plans.{Plan, Say, IsPlan}
 use Rattle.sto_test_alone.specs.Split.{split_meaning, is_get, split_rows, IsSplit}
 
 pub split_says :
-    (x y : ℤ) (call : Call) (k : Known) (ws vs : List ℤ) (p : Plan) → call.object ≡ 0 → call.operation ≡ Get → k 0 ≡ Some ws → k 1 ≡ Some vs
+    (x y : ℤ) (call : Call) (k : Known) (ws vs : List ℤ) (p : Plan) → call.object ≡ 0 → call.c ≡ pos 0 → call.operation ≡ Get → k 0 ≡ Some ws → k 1 ≡ Some vs
     → p ≡ Say (Pairs ((slice_index_or ws 0 (pos 0), slice_index_or vs 0 (pos 0)) ∷ [])) (Seen 0 ∷ Seen 1 ∷ []) [] → IsPlan (split_meaning x y) call k p
-split_says x y call k ws vs p o get first second made =
+split_says x y call k ws vs p o third get first second made =
     let asks : is_get call.operation ≡ true = ap is_get get in
-    let same : call ≡ call_of 0 Get call.a call.b = λ i. record { object = o i; operation = get i; a = call.a; b = call.b } in
+    let same : call ≡ call_of 0 Get call.a call.b = λ i. record { object = o i; operation = get i; a = call.a; b = call.b; c = third i } in
     let told : (d : Parts) → IsSplit d → IsPartOf k d → Pairs ((slice_index_or ws 0 (pos 0), slice_index_or vs 0 (pos 0)) ∷ []) ≡ reply_to (split_meaning x y).machines call (split_rows d ∷ []) =
     λ d v part.
     let long : length d ≡ 2 = sym (length-map d length) ∙ ap length v.widths in

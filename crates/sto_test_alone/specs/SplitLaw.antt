@@ -35,7 +35,7 @@ by_operation Pop a h get set = cc
 -- what is so of both is so of each call that is taken
 by_call : (P : Call → Type 0) → ((a b : ℤ) → P (call_of 0 Get a b)) → ((a b : ℤ) → FitsSigned w64 a → FitsSigned w64 b → P (call_of 0 Set a b)) → (call : Call) → SplitTakes call → P call
 by_call P get set call t =
-    let same : (o : Operation) → call.operation ≡ o → call ≡ call_of 0 o call.a call.b = λ o e i. record { object = t.object i; operation = e i; a = call.a; b = call.b } in
+    let same : (o : Operation) → call.operation ≡ o → call ≡ call_of 0 o call.a call.b = λ o e i. record { object = t.object i; operation = e i; a = call.a; b = call.b; c = t.third i } in
     by_operation call.operation call.a t.taken
     (λ e. subst P (sym (same Get e)) (get call.a call.b))
     (λ e. subst P (sym (same Set e)) (set call.a call.b t.fits t.fits_too))

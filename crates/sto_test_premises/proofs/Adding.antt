@@ -128,10 +128,10 @@ may_draw y fits v phase draws opening held seen = record {
 
 -- the calls of either transaction are taken: a get of the box, and a set of it to a number
 get_taken : BoxTakes 1 IsSignedCode (call_of 0 Get (pos 0) (pos 0))
-get_taken = record { object = refl; taken = refl; value = λ e. ∣ tt ∣₁; fits = record { sfits = omega arith }; fits_too = record { sfits = omega arith } }
+get_taken = record { object = refl; third = refl; taken = refl; value = λ e. ∣ tt ∣₁; fits = record { sfits = omega arith }; fits_too = record { sfits = omega arith } }
 
 set_taken : (y : ℤ) → FitsSigned w64 y → BoxTakes 1 IsSignedCode (call_of 0 Set y (pos 0))
-set_taken y fits = record { object = refl; taken = refl; value = λ e. ∣ tt ∣₁; fits = fits; fits_too = record { sfits = omega arith } }
+set_taken y fits = record { object = refl; third = refl; taken = refl; value = λ e. ∣ tt ∣₁; fits = fits; fits_too = record { sfits = omega arith } }
 
 -- the get may touch the part: where nothing is known, it needs it
 pub get_touches : Touches box 0 (call_of 0 Get (pos 0) (pos 0))

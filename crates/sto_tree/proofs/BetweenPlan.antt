@@ -115,14 +115,14 @@ reply_is : (leaves : ℕ) (scans : Bool) (a b : ℤ) (d : Parts) → reply_to (t
 reply_is leaves true a b d = refl
 reply_is leaves false a b d = refl
 
-module _ (leaves : ℕ) (k : Known) (scans : Bool) (call : Call) (object : call.object ≡ 0) (operation : call.operation ≡ between_operation scans)
+module _ (leaves : ℕ) (k : Known) (scans : Bool) (call : Call) (object : call.object ≡ 0) (third : call.c ≡ pos 0) (operation : call.operation ≡ between_operation scans)
     (fits_a : FitsSigned w64 call.a) (fits_b : FitsSigned w64 call.b) where
   -- nothing where the range is empty
   pub says_empty : (t : PlainReply) (is : List Item) (us : List Entry) → int_le call.a call.b ≡ false → t ≡ told_of scans [] → is ≡ [] → us ≡ [] → IsPlan (tree_meaning leaves) call k (Say t is us)
   says_empty t is us none told items updates =
       let r : reading leaves (call_of 0 (between_operation scans) call.a call.b) ≡ between_reading leaves scans call.a call.b = reading_is leaves scans call.a call.b in
       let e : between_reading leaves scans call.a call.b ≡ Nothing [] [] = between_false leaves scans call.a call.b none in
-      plan_as leaves (between_operation scans) call k (Say t is us) object operation (
+      plan_as leaves (between_operation scans) call k (Say t is us) object third operation (
         ap (λ x. need_of x k) (r ∙ e),
         items ∙ sym (ap (λ x. items_of x k) (r ∙ e)),
         λ d v part. (told ∙ ap (told_of scans) (sym (none_between (tree_rows leaves d) call.a call.b none)) ∙ sym (reply_is leaves scans call.a call.b d), updates ∙ sym (ap (λ x. updates_at x d) (r ∙ e))),
@@ -134,7 +134,7 @@ module _ (leaves : ℕ) (k : Known) (scans : Bool) (call : Call) (object : call.
 
     pub needs_directory : k 1 ≡ None → IsPlan (tree_meaning leaves) call k (Ask 1)
     needs_directory e =
-        plan_as leaves (between_operation scans) call k (Ask 1) object operation
+        plan_as leaves (between_operation scans) call k (Ask 1) object third operation
         (ap (λ x. need_of x k) read_is ∙ ap (λ o. when_known o (Some 1) (λ x. need_of (between_each scans x call.a call.b (leaves_between leaves x call.a call.b) []) k)) e)
 
     module _ (dir : List ℤ) (known_dir : k 1 ≡ Some dir) where
@@ -143,13 +143,13 @@ module _ (leaves : ℕ) (k : Known) (scans : Bool) (call : Call) (object : call.
 
       pub needs_part : (p : ℕ) → need_of seen k ≡ Some p → IsPlan (tree_meaning leaves) call k (Ask p)
       needs_part p e =
-          plan_as leaves (between_operation scans) call k (Ask p) object operation
+          plan_as leaves (between_operation scans) call k (Ask p) object third operation
           (ap (λ x. need_of x k) read_is ∙ whole_need leaves k scans call.a call.b fits_a fits_b dir known_dir ∙ e)
 
       pub says_range :
           (t : PlainReply) (is : List Item) (us : List Entry) → IsSaid seen k is → t ≡ told_of scans (rows_between (known_rows leaves k dir call.a call.b) call.a call.b) → us ≡ [] → IsPlan (tree_meaning leaves) call k (Say t is us)
       says_range t is us said told updates =
-          plan_as leaves (between_operation scans) call k (Say t is us) object operation (
+          plan_as leaves (between_operation scans) call k (Say t is us) object third operation (
             ap (λ x. need_of x k) read_is ∙ whole_need leaves k scans call.a call.b fits_a fits_b dir known_dir ∙ said.0,
             said.1 ∙ sym (ap (λ x. items_of x k) read_is ∙ whole_items leaves k scans call.a call.b fits_a fits_b dir known_dir),
             λ d v part. (

@@ -101,10 +101,10 @@ module _ (leaves : ℕ) (k : Known) (key : ℤ) (dir : List ℤ) (l : ℕ) (ks :
   leaf_asks call f e p need = ap (λ r. need_of r k) e ∙ leaf_need f ∙ need
 
 -- a call of the one object
-pub as_call : (o : Operation) (call : Call) → call.object ≡ 0 → call.operation ≡ o → call_of 0 o call.a call.b ≡ call
-as_call o call z e = λ i. record { object = sym z i; operation = sym e i; a = call.a; b = call.b }
+pub as_call : (o : Operation) (call : Call) → call.object ≡ 0 → call.c ≡ pos 0 → call.operation ≡ o → call_of 0 o call.a call.b ≡ call
+as_call o call z third e = λ i. record { object = sym z i; operation = sym e i; a = call.a; b = call.b; c = sym third i }
 
 pub plan_as :
-    (leaves : ℕ) (o : Operation) (call : Call) (k : Known) (p : Plan) → call.object ≡ 0 → call.operation ≡ o → IsPlan (tree_meaning leaves) (call_of 0 o call.a call.b) k p
+    (leaves : ℕ) (o : Operation) (call : Call) (k : Known) (p : Plan) → call.object ≡ 0 → call.c ≡ pos 0 → call.operation ≡ o → IsPlan (tree_meaning leaves) (call_of 0 o call.a call.b) k p
     → IsPlan (tree_meaning leaves) call k p
-plan_as leaves o call k p z e h = subst (λ (x : Call). IsPlan (tree_meaning leaves) x k p) (as_call o call z e) h
+plan_as leaves o call k p z third e h = subst (λ (x : Call). IsPlan (tree_meaning leaves) x k p) (as_call o call z third e) h

@@ -27,5 +27,5 @@ says_size leaves k a b is ws known items = (
 )
 
 -- a len of the one object
-pub as_len : (call : Call) → call.object ≡ 0 → call.operation ≡ Len → call_of 0 Len call.a call.b ≡ call
-as_len call o e = λ i. record { object = sym o i; operation = sym e i; a = call.a; b = call.b }
+pub as_len : (call : Call) → call.object ≡ 0 → call.c ≡ pos 0 → call.operation ≡ Len → call_of 0 Len call.a call.b ≡ call
+as_len call o third e = λ i. record { object = sym o i; operation = sym e i; a = call.a; b = call.b; c = sym third i }

@@ -24,18 +24,18 @@ use Rattle.sto_tree.specs.PutLaw.{put_over, put_more, put_full, full_is}
 use Rattle.sto_tree.proofs.Parts.{known_part}
 use Rattle.sto_tree.proofs.Leaves.{leaf_says, leaf_asks, plan_as}
 
-module _ (leaves : ℕ) (k : Known) (call : Call) (object : call.object ≡ 0) (operation : call.operation ≡ Put) where
+module _ (leaves : ℕ) (k : Known) (call : Call) (object : call.object ≡ 0) (third : call.c ≡ pos 0) (operation : call.operation ≡ Put) where
   abbrev f : List ℤ → ℕ → List ℤ → Reading
   f dir l ks = put_there leaves call.a call.b dir l ks (place_of ks call.a)
 
   pub put_first : (p : ℕ) → NeedsFirst leaves k call.a p → IsPlan (tree_meaning leaves) call k (Ask p)
-  put_first p h = plan_as leaves Put call k (Ask p) object operation (h f)
+  put_first p h = plan_as leaves Put call k (Ask p) object third operation (h f)
 
   module _ (dir : List ℤ) (l : ℕ) (ks : List ℤ) (at : IsAtLeaf leaves k call.a dir l ks) where
     -- the key is there
     pub says_over : (is : List Item) (us : List Entry) (i : ℕ) → place_of ks call.a ≡ Some i → is ≡ cover l call.a call.a (here l i call.a []) → us ≡ value_is l i call.b ∷ [] → IsPlan (tree_meaning leaves) call k (Say Done is us)
     says_over is us i some items updates =
-        plan_as leaves Put call k (Say Done is us) object operation
+        plan_as leaves Put call k (Say Done is us) object third operation
         (leaf_says leaves k call.a dir l ks at (call_of 0 Put call.a call.b) f refl Done is us
         (ap (λ o. need_of (put_there leaves call.a call.b dir l ks o) k) some)
         (items ∙ sym (ap (λ o. items_of (put_there leaves call.a call.b dir l ks o) k) some))
@@ -47,7 +47,7 @@ module _ (leaves : ℕ) (k : Known) (call : Call) (object : call.object ≡ 0) (
     module _ (none : place_of ks call.a ≡ None) where
       pub needs_size : k 0 ≡ None → IsPlan (tree_meaning leaves) call k (Ask 0)
       needs_size e =
-          plan_as leaves Put call k (Ask 0) object operation
+          plan_as leaves Put call k (Ask 0) object third operation
           (leaf_asks leaves k call.a dir l ks at (call_of 0 Put call.a call.b) f refl 0
           (ap (λ o. need_of (put_there leaves call.a call.b dir l ks o) k) none
           ∙ ap (λ o. when_known o (Some 0) (λ ws. need_of (put_new leaves call.a call.b dir l ks (int_le (pos (4 * leaves)) (word ws 0))) k)) e))
@@ -83,7 +83,7 @@ module _ (leaves : ℕ) (k : Known) (call : Call) (object : call.object ≡ 0) (
       module _ (ws : List ℤ) (known_size : k 0 ≡ Some ws) where
         pub says_full : (is : List Item) (us : List Entry) → int_le (pos (4 * leaves)) (word ws 0) ≡ true → is ≡ cover l call.a call.a (Seen (key_part l) ∷ is_full leaves ∷ []) → us ≡ [] → IsPlan (tree_meaning leaves) call k (Say Full is us)
         says_full is us full items updates =
-            plan_as leaves Put call k (Say Full is us) object operation
+            plan_as leaves Put call k (Say Full is us) object third operation
             (leaf_says leaves k call.a dir l ks at (call_of 0 Put call.a call.b) f refl Full is us (new_need ws known_size true full)
             (items ∙ sym (new_items ws known_size true full))
             (λ d t part leaf same. (
@@ -94,7 +94,7 @@ module _ (leaves : ℕ) (k : Known) (call : Call) (object : call.object ≡ 0) (
         pub says_new : (is : List Item) (us : List Entry) (i : ℕ) → int_le (pos (4 * leaves)) (word ws 0) ≡ false → free_place ks ≡ Some i → is ≡ cover l call.a call.a (Seen (key_part l) ∷ has_room leaves ∷ []) → us ≡ new_row l i call.a call.b
             → IsPlan (tree_meaning leaves) call k (Say Done is us)
         says_new is us i full free items updates =
-            plan_as leaves Put call k (Say Done is us) object operation
+            plan_as leaves Put call k (Say Done is us) object third operation
             (leaf_says leaves k call.a dir l ks at (call_of 0 Put call.a call.b) f refl Done is us
             (new_need ws known_size false full ∙ ap (λ o. need_of (put_free leaves call.a call.b dir l ks o) k) free)
             (items ∙ sym (new_items ws known_size false full ∙ ap (λ o. items_of (put_free leaves call.a call.b dir l ks o) k) free))
@@ -115,11 +115,11 @@ module _ (leaves : ℕ) (k : Known) (call : Call) (object : call.object ≡ 0) (
           crowded_items = new_items ws known_size false full ∙ ap (λ u. items_of (put_free leaves call.a call.b dir l ks u) k) crowded ∙ ap (λ u. items_of (put_crowded leaves call.a call.b dir l ks u) k) other
 
           pub crowded_asks : (p : ℕ) → need_of g k ≡ Some p → IsPlan (tree_meaning leaves) call k (Ask p)
-          crowded_asks p e = plan_as leaves Put call k (Ask p) object operation (leaf_asks leaves k call.a dir l ks at (call_of 0 Put call.a call.b) f refl p (crowded_need ∙ e))
+          crowded_asks p e = plan_as leaves Put call k (Ask p) object third operation (leaf_asks leaves k call.a dir l ks at (call_of 0 Put call.a call.b) f refl p (crowded_need ∙ e))
 
           pub crowded_says : (is : List Item) (us : List Entry) → need_of g k ≡ None → is ≡ items_of g k → ((d : Parts) → IsTree leaves d → IsPartOf k d → us ≡ updates_at g d) → IsPlan (tree_meaning leaves) call k (Say Done is us)
           crowded_says is us need items updates =
-              plan_as leaves Put call k (Say Done is us) object operation
+              plan_as leaves Put call k (Say Done is us) object third operation
               (leaf_says leaves k call.a dir l ks at (call_of 0 Put call.a call.b) f refl Done is us (crowded_need ∙ need) (items ∙ sym crowded_items)
               (λ d t part leaf same. (
                 sym (ap (λ x. x.reply) (new_effect ws known_size false full d t part ∙ put_more (tree_rows leaves d) call.a call.b)),

@@ -1,5 +1,5 @@
 -- What a tree of so many leaves means.
-use Rattle.std.specs.Prelude.{◌≡◌, ℕ, ℤ, [], ◌∷◌, true, false, IsTrue}
+use Rattle.std.specs.Prelude.{◌≡◌, ℕ, ℤ, pos, [], ◌∷◌, true, false, IsTrue}
 use Rattle.std.specs.Int.{w64}
 use Rattle.std.specs.Int.RustNames.{FitsSigned}
 use Rattle.sto_model.specs.declared.call.Call.{Call}
@@ -35,6 +35,7 @@ reading leaves call = reading_of leaves call.operation call.a call.b
 -- a call of the one object, of an operation of a tree, with numbers of i64
 pub record TreeTakes (leaves : ℕ) (call : Call) : Type 0 where
   pub object : call.object ≡ 0
+  pub third : call.c ≡ pos 0
   pub operation : IsTrue (takes (Tree leaves) call.operation call.a)
   pub fits : FitsSigned w64 call.a
   pub fits_too : FitsSigned w64 call.b

@@ -65,7 +65,7 @@ module _ (leaves : ℕ) (some : 1 ≤ leaves) (few : parts_of leaves < 2 ^ 32) (
   -- each call that is taken is lawful
   pub call_lawful : (call : Call) (c : Parts) → TreeTakes leaves call → IsTree leaves c → IsCallLawful leaves call c
   call_lawful call c t v =
-      let same : call_of 0 call.operation call.a call.b ≡ call = λ i. record { object = sym t.object i; operation = call.operation; a = call.a; b = call.b } in
+      let same : call_of 0 call.operation call.a call.b ≡ call = λ i. record { object = sym t.object i; operation = call.operation; a = call.a; b = call.b; c = sym t.third i } in
       subst (λ (x : Call). IsCallLawful leaves x c) same
       (by_operation leaves (λ x. IsCallLawful leaves x c) call.a call.b
       (get_lawful leaves c v call.a call.b t.fits)

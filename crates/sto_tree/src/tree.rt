@@ -75,7 +75,7 @@ impl TxType for TTree {
         let shape = Shape::Tree {
             leaves: self.leaves,
         };
-        call.object == 0 && shape.takes(call.operation, call.a)
+        call.object == 0 && shape.takes_call(call)
     }
 
     fn opening(&self, alloc: Global) -> Result<Contents, NoMemory> {

@@ -112,6 +112,7 @@ IsVectorOf (capacity ∷ sizes) c = IsVector capacity c
 -- a call that a vector takes, with numbers of 64 bits
 pub record VectorTakes (call : Call) : Type 0 where
   pub object : call.object ≡ 0
+  pub third : call.c ≡ pos 0
   pub taken : IsTrue (takes (Vector 0) call.operation call.a)
   pub fits : FitsSigned w64 call.a
   pub fits_too : FitsSigned w64 call.b

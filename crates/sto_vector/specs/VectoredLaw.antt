@@ -66,7 +66,7 @@ pub by_call :
     (P : Call → Type 0) → ((a b : ℤ) → P (call_of 0 Get a b)) → ((a b : ℤ) (t : Test) → test_of a ≡ Some t → P (call_of 0 TestWord a b)) → ((a b : ℤ) → P (call_of 0 Len a b))
     → ((a b : ℤ) → FitsSigned w64 a → P (call_of 0 Push a b)) → ((a b : ℤ) → P (call_of 0 Pop a b)) → (call : Call) → VectorTakes call → P call
 by_call P get test len push pop call t =
-    let same : (o : Operation) → call.operation ≡ o → call ≡ call_of 0 o call.a call.b = λ o e i. record { object = t.object i; operation = e i; a = call.a; b = call.b } in
+    let same : (o : Operation) → call.operation ≡ o → call ≡ call_of 0 o call.a call.b = λ o e i. record { object = t.object i; operation = e i; a = call.a; b = call.b; c = t.third i } in
     by_operation call.operation call.a t.taken
     (λ e. subst P (sym (same Get e)) (get call.a call.b))
     (λ e s q. subst P (sym (same TestWord e)) (test call.a call.b s q))

@@ -12,5 +12,5 @@ returns-in-Some-get c =
     let h : FitsSigned w64 (slice_index_or c.in-Some-get.second.now 0 (pos 0)) = search rules in
     let made = simp to_z-of_z at c.both_read.ensures in
     IfOk-mapped c.both_read.result _ _
-    (λ a same. split_says c.args.self.now.first c.args.self.now.second c.args.call.now (known c.args.cache.now) c.in-Some.first.now c.in-Some-get.second.now (planned a) c.requires.takes.object c.in-Get.is c.in-Some.ensures c.in-Some-get.ensures same)
+    (λ a same. split_says c.args.self.now.first c.args.self.now.second c.args.call.now (known c.args.cache.now) c.in-Some.first.now c.in-Some-get.second.now (planned a) c.requires.takes.object c.requires.takes.third c.in-Get.is c.in-Some.ensures c.in-Some-get.ensures same)
     made
