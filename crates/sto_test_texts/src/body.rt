@@ -135,33 +135,27 @@ fn example_of_a_body(alloc: Global) -> Result<bool, NoMemory> {
     let mut body = ScriptBody::new(alloc, &script)?;
     let first = asks_and_commits(&mut body);
     body.reset();
-    Ok(first && asks_for_five(&mut body) && body.next() == Next::Ask(SET_FIVE))
+    Ok(first && asks_for_five(&mut body) && body.next() == Next::Ask(set_five()))
 }
 
-const GET: Call = Call {
-    object: 0,
-    operation: Operation::Get,
-    a: 0,
-    b: 0,
-};
+fn get() -> Call {
+    Call::new(0, Operation::Get, 0, 0)
+}
 
-const SET_FIVE: Call = Call {
-    object: 0,
-    operation: Operation::Set,
-    a: 5,
-    b: 0,
-};
+fn set_five() -> Call {
+    Call::new(0, Operation::Set, 5, 0)
+}
 
 fn asks_and_commits(body: &mut ScriptBody<'_>) -> bool {
     asks_for_five(body)
         && body.left() == 3
-        && is_told(body, SET_FIVE, &Reply::Done)
+        && is_told(body, set_five(), &Reply::Done)
         && body.next() == Next::Commit
 }
 
 // Whether a body that has heard nothing asks for the value, which it is told to be 5.
 fn asks_for_five(body: &mut ScriptBody<'_>) -> bool {
-    body.left() == 4 && is_told(body, GET, &Reply::Value(5))
+    body.left() == 4 && is_told(body, get(), &Reply::Value(5))
 }
 
 // Whether the body asks this call, which is answered so.
