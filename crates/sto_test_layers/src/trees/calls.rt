@@ -28,7 +28,11 @@ fn add_removes(calls: &mut Vec<Call>, keys: &[i64]) -> Result<(), AllocError> {
 pub(crate) fn full_tree(alloc: Global) -> Result<Vec<Call>, AllocError> {
     let mut calls = Vec::new(alloc);
     add_puts(&mut calls, 10, 9)?;
-    calls.extend_from_slice(&[call(Operation::Put, 80, 5), call(Operation::Len, 0, 0), call(Operation::Scan, 60, 90)])?;
+    calls.extend_from_slice(&[
+        call(Operation::Put, 80, 5),
+        call(Operation::Len, 0, 0),
+        call(Operation::Scan, 60, 90),
+    ])?;
     Ok(calls)
 }
 
@@ -55,7 +59,11 @@ pub(crate) fn one_leaf(alloc: Global) -> Result<Vec<Call>, AllocError> {
     add_puts(&mut calls, 10, 5)?;
     add_removes(&mut calls, &[20, 20])?;
     add_puts(&mut calls, 50, 1)?;
-    calls.extend_from_slice(&[call(Operation::Get, 20, 0), call(Operation::Get, 50, 0), call(Operation::Scan, 0, 99)])?;
+    calls.extend_from_slice(&[
+        call(Operation::Get, 20, 0),
+        call(Operation::Get, 50, 0),
+        call(Operation::Scan, 0, 99),
+    ])?;
     Ok(calls)
 }
 
