@@ -1,5 +1,5 @@
 -- A counter is lawful.
-use Rattle.std.specs.Prelude.{◌≡◌, ◌<◌, ◌≤◌, ◌⊎◌, ◌↔◌, ◌+ℤ◌, ◌-ℤ◌, ℕ, zero, suc, ℤ, pos, negsuc, Bool, true, false, not, nat_eq, int_le, if◌then◌else◌, Option, Some, None, List, [], ◌∷◌, map, length, slice_index_or, IsSome, IsTrue, is_some, refl}
+use Rattle.std.specs.Prelude.{◌≡◌, ◌<◌, ◌≤◌, ◌⊎◌, ◌↔◌, ◌+ℤ◌, ◌-ℤ◌, ℕ, suc, ℤ, pos, negsuc, Bool, true, false, not, nat_eq, int_le, if◌then◌else◌, Option, Some, None, List, [], ◌∷◌, map, length, slice_index_or, IsSome, IsTrue, is_some, refl}
 use Rattle.std.specs.Int.{w64, int_wrap}
 use Rattle.std.specs.Int.RustNames.{FitsSigned}
 use Rattle.std.proofs.Common.{ap, sym, ◌∙◌, arith, inl, inr, subst}

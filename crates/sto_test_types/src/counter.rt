@@ -45,7 +45,14 @@ const CASES: &[Case] = &[
         &[seen!(Le, MAX - 3)],
         &[(0, &[Change::Add(3)])],
     ),
-    (Operation::Add, 1, MAX, Said::Range, &[seen!(Gt, MAX - 1)], &[]),
+    (
+        Operation::Add,
+        1,
+        MAX,
+        Said::Range,
+        &[seen!(Gt, MAX - 1)],
+        &[],
+    ),
     (
         Operation::Add,
         -1,
@@ -54,7 +61,14 @@ const CASES: &[Case] = &[
         &[seen!(Ge, MIN + 1)],
         &[(0, &[Change::Add(-1)])],
     ),
-    (Operation::Add, -1, MIN, Said::Range, &[seen!(Lt, MIN + 1)], &[]),
+    (
+        Operation::Add,
+        -1,
+        MIN,
+        Said::Range,
+        &[seen!(Lt, MIN + 1)],
+        &[],
+    ),
     (
         Operation::Take,
         5,
@@ -63,7 +77,14 @@ const CASES: &[Case] = &[
         &[seen!(Ge, 5)],
         &[(0, &[Change::Add(-5)])],
     ),
-    (Operation::Take, 5, 3, Said::Flag(false), &[seen!(Lt, 5)], &[]),
+    (
+        Operation::Take,
+        5,
+        3,
+        Said::Flag(false),
+        &[seen!(Lt, 5)],
+        &[],
+    ),
     (
         Operation::Take,
         MIN,

@@ -54,7 +54,10 @@ fn has_recorded(ran: &Ran, seen: &[Item], written: &[Entry]) -> bool {
 
 // Of two buckets with one place each, the second has the odd keys.
 fn full_bucket(alloc: Global) -> Result<bool, NotRun> {
-    let (five, seven) = ([Call::new(0, Operation::Put, 5, 1)], [Call::new(0, Operation::Put, 7, 9)]);
+    let (five, seven) = (
+        [Call::new(0, Operation::Put, 5, 1)],
+        [Call::new(0, Operation::Put, 7, 9)],
+    );
     let twice = run_twice(alloc, &THash::new(2, 1), &five, &seven, End::Commit)?;
     let said = matches!(replies(&twice.second), [Reply::Full]);
     Ok(said && has_recorded(&twice.second, SEEN, &[]))

@@ -1,5 +1,5 @@
 -- Calls that read in the leaf of a key, on what is known.
-use Rattle.std.proofs.Common.{◌≡◌, ◌<◌, ◌*◌, ℕ, ℤ, Some, None, List, [], length, sym, ◌∙◌, ap, subst, arith}
+use Rattle.std.proofs.Common.{◌≡◌, ◌<◌, ◌*◌, ℕ, ℤ, pos, Some, None, List, [], length, sym, ◌∙◌, ap, subst, arith}
 use Rattle.std.specs.Int.{w64}
 use Rattle.std.specs.Int.RustNames.{FitsSigned}
 use Rattle.sto_item.specs.declared.item.Item.{Item}
