@@ -224,7 +224,7 @@ fn is_cancelled(ran: &Ran) -> bool {
 
 const TEN_AND_TWENTY: &[i64] = &[10, 20];
 
-fn mixture(alloc: Global) -> Result<Both<Many<TBox<i64>>, Many<Split>>, NoMemory> {
+pub(crate) fn mixture(alloc: Global) -> Result<Both<Many<TBox<i64>>, Many<Split>>, NoMemory> {
     let mut splits = Many::new(alloc);
     splits.push(Split::new(1, 2))?;
     splits.push(Split::new(3, 4))?;
