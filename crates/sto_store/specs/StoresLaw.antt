@@ -172,7 +172,8 @@ vector_alike n Pop a = refl
 one_taken : (s : Shape) (call : Call) → IsTaken (s ∷ []) call → (call.object ≡ 0) × (call.c ≡ pos 0) × IsTrue (takes s call.operation call.a)
 one_taken s call t =
     let g : (call.object ≡ 0) × (s ≡ t.0) = one_got s t.0 call.object t.1 in
-    (g.0, taken_call s call (subst (λ x. IsTrue (takes_call x call)) (sym g.1) t.2))
+    let h : (call.c ≡ pos 0) × IsTrue (takes s call.operation call.a) = taken_call s call (subst (λ x. IsTrue (takes_call x call)) (sym g.1) t.2) in
+    (g.0, h.0, h.1)
 
 pub one_takes : (s : Shape) → TakesAll (mean_of s) (s ∷ [])
 one_takes (Single v) = record {
