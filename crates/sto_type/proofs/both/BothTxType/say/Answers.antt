@@ -46,7 +46,7 @@ returns-else-call-objects g c =
     (λ need s. record {
       own = plan_moved n s.own;
       is = plan_second ma mb la lb c.args.call.now (beyond f k) high s.own
-      (subst (λ (x : Known). IsPlan mb (call_beyond (length ma.machines) c.args.call.now) x s.own) (sym (beyond_twice f n k)) s.is);
+          (subst (λ (x : Known). IsPlan mb (call_beyond (length ma.machines) c.args.call.now) x s.own) (sym (beyond_twice f n k)) s.is);
       moved = s.moved ∙ sym (plan_twice f n s.own);
     })
     said
