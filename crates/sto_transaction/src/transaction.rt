@@ -13,7 +13,7 @@ use crate::machine::{FinishedAttempt, Machine};
 use crate::record::Record;
 use std::alloc::{AllocError, Global};
 use std::mem;
-use sto_attempt::{Attempt, AttemptLists, Verdict};
+use sto_attempt::{Attempt, AttemptLists, Table, Verdict};
 use sto_core::Cells;
 use sto_model::Body;
 use sto_part::NoMemory;
@@ -56,14 +56,14 @@ impl<T: TxType, B: Body + Drop> Transaction<'_, T, B> {
     /// Runs it on a pass that is at rest and has a draw left for each try: attempts are made until one commits or cancels, or all were
     /// aborted.
     ///
-    /// Each attempt adds its record: what its calls were answered, and how it ended. Room for the record is made before the attempt.
-    /// After `NoMemory` the pass is at rest again, and the records of the attempts before stay. The memory is lent to each attempt in turn.
+    /// Each attempt adds its record: what its calls were answered, and how it ended. Room for the record and the attempt's table are made before the attempt.
+    /// After `NoMemory` the pass is at rest again, and the records of the attempts before stay. The lists are lent to each attempt in turn.
     pub fn run<C: Cells<T>, W: AttemptWatch>(
         self,
         alloc: Global,
         cells: &mut C,
         watch: &mut W,
-        memory: &mut AttemptLists,
+        lists: &mut AttemptLists,
         records: &mut Vec<Record>,
     ) -> Result<Transacted<B>, NoMemory>
         requires takes { (call : Call) → B.may_ask self.body call → (T.meaning self.ty.now).takes call }
@@ -93,7 +93,8 @@ impl<T: TxType, B: Body + Drop> Transaction<'_, T, B> {
             if let Err(AllocError) = records.reserve(1) {
                 return Err(NoMemory);
             }
-            let attempt = run_attempt(alloc, ty, body, cells, watch, memory)?;
+            let table = lists.take()?;
+            let attempt = run_attempt(alloc, ty, body, table, cells, watch, lists)?;
             body = attempt.body;
             let ended = !is_abort(attempt.verdict);
             records.push_reserved(Record {
@@ -115,9 +116,10 @@ fn run_attempt<T: TxType, B: Body + Drop, C: Cells<T>, W: AttemptWatch>(
     alloc: Global,
     ty: &T,
     body: B,
+    table: Box<Table>,
     cells: &mut C,
     watch: &mut W,
-    memory: &mut AttemptLists,
+    lists: &mut AttemptLists,
 ) -> Result<FinishedAttempt<B>, NoMemory>
     requires takes { (call : Call) → B.may_ask body call → (T.meaning ty.now).takes call }
     requires rests { IsAtRest (T.meaning ty.now) (T.sizes ty.now) (C.view cells.old) }
@@ -129,8 +131,8 @@ fn run_attempt<T: TxType, B: Body + Drop, C: Cells<T>, W: AttemptWatch>(
     ensures steps { (C.view cells.new).steps ≤ (C.view cells.old).steps + most_steps (T.meaning ty.now) (B.left_at_reset body) }
     ensures same { C.same cells.old cells.new }
 {
-    let mut machine = Machine::new(alloc, ty, body, memory.take());
-    let ended = finish(alloc, &mut machine, cells, watch, memory);
+    let mut machine = Machine::new(ty, body, table);
+    let ended = finish(alloc, &mut machine, cells, watch, lists);
     mem::drop(machine);
     ended
 }
@@ -141,7 +143,7 @@ fn finish<T: TxType, B: Body + Drop, C: Cells<T>, W: AttemptWatch>(
     machine: &mut Machine<'_, T, B>,
     cells: &mut C,
     watch: &mut W,
-    memory: &mut AttemptLists,
+    lists: &mut AttemptLists,
 ) -> Result<FinishedAttempt<B>, NoMemory>
     requires { MayGoOn T.TxType B.Body C.Cells machine.old cells.old }
     ensures ended { Finishes T.TxType B.Body C.Cells machine.old cells.old cells.new result }
@@ -155,7 +157,7 @@ fn finish<T: TxType, B: Body + Drop, C: Cells<T>, W: AttemptWatch>(
         watch.before_event(events);
         match machine.advance(alloc, cells)? {
             None => events = read_part(machine, cells, watch, events.saturating_add(1))?,
-            Some(verdict) => return Ok(machine.end(verdict, memory)),
+            Some(verdict) => return Ok(machine.end(verdict, lists)),
         }
     }
 }
