@@ -230,10 +230,11 @@ impl<'t, T: TxType, B: Body> Attempt<'t, T, B> {
             &mut table.scratch,
             &mut table.cache,
         )?;
+        let extended = table.extension.extended;
         let heard = table.replies.len();
         let reached = self.log.go_on(alloc)?;
         let (read_phase, turn) = lead(&self.log.table.set, self.at, reached);
-        self.log.table.extension.extended = still(self.log.table.extension.extended, heard, self.log.table.replies.len());
+        self.log.table.extension.extended = still(extended, heard, self.log.table.replies.len());
         self.read_phase = read_phase;
         Ok(turn)
     }
@@ -259,10 +260,11 @@ impl<'t, T: TxType, B: Body> Attempt<'t, T, B> {
         mem::swap(&mut table.base, &mut table.extension.fresh);
         table.extension.fresh.clear();
         table.cache.forget();
+        let extended = table.extension.extended;
         let heard = table.replies.len();
         let reached = self.log.go_on(alloc)?;
         let (read_phase, turn) = lead(&self.log.table.set, self.at, reached);
-        self.log.table.extension.extended = still(self.log.table.extension.extended, heard, self.log.table.replies.len());
+        self.log.table.extension.extended = still(extended, heard, self.log.table.replies.len());
         self.read_phase = read_phase;
         Ok(turn)
     }

@@ -70,3 +70,22 @@ returns g c =
       ty = search rules;
       same = c.start-at.ensures.same;
     })
+
+pub returns-in_err-reached : goal.returns-in_err-reached
+returns-in_err-reached g c =
+    rw c.go_on.ensures.rest (record {
+      event = search rules;
+      log = search rules;
+      turned = search rules;
+      grown = search rules;
+      extension = refl;
+      moves = search rules;
+      reads = search rules;
+      left = search rules;
+      alone = search rules;
+      err = search rules;
+      script = search rules;
+      left_at_reset = search rules;
+      ty = search rules;
+      same = c.start-at.ensures.same;
+    })

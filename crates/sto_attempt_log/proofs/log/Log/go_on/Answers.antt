@@ -144,3 +144,41 @@ returns-in-Cancel g c =
       base = search rules;
       rest = i.rest;
     }
+
+pub returns-in_err-part-in-Ask : goal.returns-in_err-part-in-Ask
+returns-in_err-part-in-Ask g c =
+    let i = c.loop-call.invariant in
+    record {
+      log = search rules;
+      reached = search rules;
+      grown = search rules;
+      runs = search rules;
+      comes = search rules;
+      left = search rules;
+      asks = search rules;
+      script = search rules;
+      left_at_reset = search rules;
+      may = search rules;
+      ty = search rules;
+      base = search rules;
+      rest = ap (λ (x : Log g.row.T.Denot g.row.B.Denot). with_table x (record x.table.value { scratch = c.ask.new.scratch; cache = c.ask.new.cache; pool = c.ask.new.pool })) i.rest;
+    }
+
+pub returns-in_err-take_in-in-Done : goal.returns-in_err-take_in-in-Done
+returns-in_err-take_in-in-Done g c =
+    let i = c.loop-call.invariant in
+    record {
+      log = search rules;
+      reached = search rules;
+      grown = search rules;
+      runs = search rules;
+      comes = search rules;
+      left = search rules;
+      asks = search rules;
+      script = search rules;
+      left_at_reset = search rules;
+      may = search rules;
+      ty = search rules;
+      base = search rules;
+      rest = c.take_in.ensures.rest ∙ ap (λ (x : Log g.row.T.Denot g.row.B.Denot). run_to x c.take_in.new.self) i.rest;
+    }
