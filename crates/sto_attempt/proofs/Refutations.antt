@@ -6,8 +6,8 @@ use Rattle.sto_attempt.specs.Attempts.{with_lists_of}
 
 module _ {T B : Type 0} (a back : Attempt T B) where
   -- it has lost no reply
-  pub reply_lost : (r : Reply) (rs : List Reply) → a.log.table.value.replies.items ≡ r ∷ rs → back.log.table.value.replies.items ≡ [] → back ≡ with_lists_of a back → ⊥
-  reply_lost r rs some none h = let no = sym none ∙ ap (λ (x : Attempt T B). x.log.table.value.replies.items) h ∙ some in cc
+  pub reply_lost : (r : Reply) (rs : List Reply) → a.log.table.replies.items ≡ r ∷ rs → back.log.table.replies.items ≡ [] → back ≡ with_lists_of a back → ⊥
+  reply_lost r rs some none h = let no = sym none ∙ ap (λ (x : Attempt T B). x.log.table.replies.items) h ∙ some in cc
 
   -- and reads as of no later number
   pub read_later : a.at < back.at → back ≡ with_lists_of a back → ⊥

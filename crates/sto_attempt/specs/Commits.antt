@@ -29,7 +29,7 @@ use Rattle.sto_attempt_log.specs.CommitPhases.{Deal, deal, Stands, Said, EndsBy,
 
 -- what it is led by, and what it has found
 abbrev pub lists_of : {T B : Type 0} → Ready T B → Lists
-lists_of r = r.log.table.value.lists
+lists_of r = r.log.table.lists
 
 -- all but the phase is as it was
 abbrev pub MovesOnly : {T B : Type 0} → Ready T B → Ready T B → Type 0
@@ -51,10 +51,10 @@ KeepsAt _ r s = MovesOnly r s
 abbrev pub committer_of : {T B : Type 0} → Ready T B → Committer
 committer_of r = record {
   at = r.at;
-  base = r.log.table.value.base.items;
-  items = r.log.table.value.set.items;
+  base = r.log.table.base.items;
+  items = r.log.table.set.items;
   us = (lists_of r).updates.items;
-  heard = map plain_reply r.log.table.value.replies.items;
+  heard = map plain_reply r.log.table.replies.items;
   seen = (lists_of r).seen.items;
   loaded = (lists_of r).loaded.items;
   tasks = (lists_of r).tasks.items;
@@ -77,14 +77,14 @@ module _ {T B : Type 0} (t : OfType T) (b : OfBody B) where
   -- what a commit is to do, which no event changes
   abbrev pub deal_of : Ready T B → Deal
   deal_of r =
-      deal (t.meaning r.log.ty.now) t.valid (t.sizes r.log.ty.now) (b.script r.log.body) r.at r.log.table.value.base.items r.log.table.value.set.items (map plain_reply r.log.table.value.replies.items)
+      deal (t.meaning r.log.ty.now) t.valid (t.sizes r.log.ty.now) (b.script r.log.body) r.at r.log.table.base.items r.log.table.set.items (map plain_reply r.log.table.replies.items)
       (lists_of r).updates.items (lists_of r).seen.items (lists_of r).loaded.items (lists_of r).tasks.items (lists_of r).checks.items (lists_of r).places.items
 
   -- the event of this phase is next, and there is room for what it finds
   pub record IsBefore (commit_phase : CommitPhase) (r : Ready T B) (v : View) : Type 0 where
     pub stands : Stands (deal_of r) (lists_of r).found_tickets (lists_of r).loaded_words.items commit_phase v
     pub space : SpaceAt (t.meaning r.log.ty.now).widths (lists_of r).tasks.items (lists_of r).loaded_words commit_phase
-    pub copy : r.log.table.value.set.updates ≡ (lists_of r).updates.items
+    pub copy : r.log.table.set.updates ≡ (lists_of r).updates.items
 
   -- one event has led from r and v to s and w; where it was the last one, it gave the verdict
   pub record Advances (passes : ℕ) (commit_phase : CommitPhase) (r s : Ready T B) (v w : View) (verdict : Option Verdict) : Type 0 where
@@ -95,7 +95,7 @@ module _ {T B : Type 0} (t : OfType T) (b : OfBody B) where
     -- fewer events are left
     pub left : commit_left (deal_of r) s.commit_phase < commit_left (deal_of r) commit_phase
     -- a verdict that the commit comes to has its reason
-    pub reason : (x : Verdict) → ComesTo verdict s.commit_phase x → ComesTo None commit_phase x ⊎ HasReason commit_phase r.log.table.value.set.items w x
+    pub reason : (x : Verdict) → ComesTo verdict s.commit_phase x → ComesTo None commit_phase x ⊎ HasReason commit_phase r.log.table.set.items w x
     -- beside no other pass it is no abort
     pub alone : passes ≡ 1 → IsUndisturbed r.at (lists_of r).found_tickets.items None commit_phase → IsUndisturbed r.at (lists_of s).found_tickets.items verdict s.commit_phase
     pub by : EndsBy v.phase verdict
@@ -108,7 +108,7 @@ module _ {T B : Type 0} (t : OfType T) (b : OfBody B) where
     -- it stands to the view of the pass as the attempt does
     pub before : (v : View) → FitsAt t b Committing a v → IsBefore r.commit_phase r v
     pub space : SpaceAt (t.meaning r.log.ty.now).widths (lists_of r).tasks.items (lists_of r).loaded_words r.commit_phase
-    pub copy : r.log.table.value.set.updates ≡ (lists_of r).updates.items
+    pub copy : r.log.table.set.updates ≡ (lists_of r).updates.items
     -- on the table of the attempt, with its lists
     pub log : r.log ≡ with_lists a.log (lists_of r)
     pub at : r.at ≡ a.at
@@ -119,7 +119,7 @@ module _ {T B : Type 0} (t : OfType T) (b : OfBody B) where
 
   -- the replies are the first ones of the body's serial run on all valid contents that have the attempt's claims
   abbrev pub HasPrefix : Ready T B → View → Type 0
-  HasPrefix r v = IsPrefix (t.meaning r.log.ty.now) (b.script r.log.body) v r.at (map plain_reply r.log.table.value.replies.items)
+  HasPrefix r v = IsPrefix (t.meaning r.log.ty.now) (b.script r.log.body) v r.at (map plain_reply r.log.table.replies.items)
 
   -- how many words the part at a place of the tasks has
   abbrev pub task_width : Ready T B → ℕ → ℕ

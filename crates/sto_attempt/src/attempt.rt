@@ -35,7 +35,7 @@ impl<'t, T: TxType, B: Body> Attempt<'t, T, B> {
     ///
     /// The type is to take every call that the body may ask. The table is worked on in place; its end puts it back.
     #[inline(always)]
-    pub fn new(ty: &'t T, body: B, table: Box<Table>) -> Attempt<'t, T, B>
+    pub fn new(ty: &'t T, body: B, table: Table) -> Attempt<'t, T, B>
         requires { (call : Call) → B.may_ask body call → (T.meaning ty.now).takes call }
         ensures { IsNew T.TxType B.Body ty.now body result }
     {
@@ -54,7 +54,7 @@ impl<'t, T: TxType, B: Body> Attempt<'t, T, B> {
 
     /// The replies so far, also after an abort.
     pub fn replies(&self) -> &Replies
-        ensures { result.now ≡ self.now.log.table.value.replies }
+        ensures { result.now ≡ self.now.log.table.replies }
     {
         &self.log.table.replies
     }
@@ -63,7 +63,7 @@ impl<'t, T: TxType, B: Body> Attempt<'t, T, B> {
     #[inline(always)]
     pub fn end(self, lists: &mut AttemptLists) -> Heard<B>
         ensures body { result.body ≡ self.entry.log.body }
-        ensures replies { result.replies ≡ self.entry.log.table.value.replies }
+        ensures replies { result.replies ≡ self.entry.log.table.replies }
     {
         let Attempt { log, .. } = self;
         let Log { body, table, .. } = log;
@@ -110,11 +110,12 @@ impl<'t, T: TxType, B: Body> Attempt<'t, T, B> {
     pub fn words_left(&self) -> u32
         requires { (v : View) × IsUnderWay T.TxType B.Body self.now.read_phase self.now v }
         ensures left { result ≡ words_left T.TxType B.Body self.now }
-        ensures few { 0 < result → length self.now.log.table.value.words.items + result < 2 ^ 32 }
+        ensures few { 0 < result → length self.now.log.table.words.items + result < 2 ^ 32 }
     {
         match self.read_phase {
             ReadPhase::Reading { part, .. } => self.log.ty.width(part) - self.log.table.words.len(),
-            ReadPhase::Rereading { part, .. } => self.log.ty.width(part) - self.log.table.words.len(),
+            ReadPhase::Rereading { part, .. } => self.log.ty.width(part)
+                - self.log.table.words.len(),
             _ => 0,
         }
     }
@@ -123,7 +124,7 @@ impl<'t, T: TxType, B: Body> Attempt<'t, T, B> {
     pub fn read_word<C: Cells<T>>(&mut self, cells: &mut C) -> Result<Turn, NoMemory>
         requires before { IsUnderWay T.TxType B.Body self.old.read_phase self.old (C.view cells.old) }
         requires more { 0 < words_left T.TxType B.Body self.old }
-        requires few { length self.old.log.table.value.words.items + 1 < 2 ^ 32 }
+        requires few { length self.old.log.table.words.items + 1 < 2 ^ 32 }
         ensures { HasReadOne T.TxType B.Body C.Cells self.old self.new cells.old cells.new result }
     {
         match self.read_phase {
@@ -151,8 +152,8 @@ impl<'t, T: TxType, B: Body> Attempt<'t, T, B> {
         requires { IsUnderWay T.TxType B.Body (Opening part) self.old (C.view cells.old) }
         ensures made { HasStepped T.TxType B.Body C.Cells (Opening part) (Open part) self.old self.new cells.old cells.new (Ok result) }
         ensures reads { ReadsAs T.TxType B.Body C.Cells (Opening part) (Open part) self.old self.new cells.old cells.new (Ok result) }
-        ensures log { self.new.log ≡ with_words self.old.log self.new.log.table.value.words }
-        ensures extension { self.new.log.table.value.extension ≡ self.old.log.table.value.extension }
+        ensures log { self.new.log ≡ with_words self.old.log self.new.log.table.words }
+        ensures extension { self.new.log.table.extension ≡ self.old.log.table.extension }
     {
         let found = cells.open(part);
         if found.is_locked() {
@@ -196,7 +197,7 @@ impl<'t, T: TxType, B: Body> Attempt<'t, T, B> {
         ticket: u64,
     ) -> Result<Turn, NoMemory>
         requires before { IsUnderWay T.TxType B.Body (Reading part ticket) self.old (C.view cells.old) }
-        requires all { length self.old.log.table.value.words.items ≡ part_width T.TxType B.Body self.old part }
+        requires all { length self.old.log.table.words.items ≡ part_width T.TxType B.Body self.old part }
         ensures made { HasStepped T.TxType B.Body C.Cells (Reading part ticket) (Close part) self.old self.new cells.old cells.new result }
         ensures reads { ReadsAs T.TxType B.Body C.Cells (Reading part ticket) (Close part) self.old self.new cells.old cells.new result }
         ensures at { OnOk result (self.new.at ≡ self.old.at) }
@@ -218,7 +219,7 @@ impl<'t, T: TxType, B: Body> Attempt<'t, T, B> {
         if self.log.table.base.len() == u32::MAX {
             return Err(NoMemory);
         }
-        let table = &mut *self.log.table;
+        let table = &mut self.log.table;
         let words = table.words.as_slice();
         table.base.push(part, ticket, words)?;
         // What was just read is known at once, so that the call is not planned once more only to ask for it.
@@ -256,7 +257,7 @@ impl<'t, T: TxType, B: Body> Attempt<'t, T, B> {
             return Ok(Turn::More);
         }
         self.at = self.log.table.extension.bound;
-        let table = &mut *self.log.table;
+        let table = &mut self.log.table;
         mem::swap(&mut table.base, &mut table.extension.fresh);
         table.extension.fresh.clear();
         table.cache.forget();
@@ -296,7 +297,7 @@ impl<'t, T: TxType, B: Body> Attempt<'t, T, B> {
         requires { IsUnderWay T.TxType B.Body (Rechecking part) self.old (C.view cells.old) }
         ensures { HasStepped T.TxType B.Body C.Cells (Rechecking part) (Recheck part) self.old self.new cells.old cells.new result }
     {
-        let table = &mut *self.log.table;
+        let table = &mut self.log.table;
         let Some(read_entry) = table.base.find(part) else {
             unreachable!()
         };
@@ -328,8 +329,8 @@ impl<'t, T: TxType, B: Body> Attempt<'t, T, B> {
         requires { IsUnderWay T.TxType B.Body (Reopening part) self.old (C.view cells.old) }
         ensures made { HasStepped T.TxType B.Body C.Cells (Reopening part) (Open part) self.old self.new cells.old cells.new (Ok result) }
         ensures reads { ReadsAs T.TxType B.Body C.Cells (Reopening part) (Open part) self.old self.new cells.old cells.new (Ok result) }
-        ensures log { self.new.log ≡ with_words self.old.log self.new.log.table.value.words }
-        ensures extension { self.new.log.table.value.extension ≡ self.old.log.table.value.extension }
+        ensures log { self.new.log ≡ with_words self.old.log self.new.log.table.words }
+        ensures extension { self.new.log.table.extension ≡ self.old.log.table.extension }
     {
         let found = cells.open(part);
         if found.is_locked() {
@@ -374,7 +375,7 @@ impl<'t, T: TxType, B: Body> Attempt<'t, T, B> {
         ticket: u64,
     ) -> Result<Turn, NoMemory>
         requires before { IsUnderWay T.TxType B.Body (Rereading part ticket) self.old (C.view cells.old) }
-        requires all { length self.old.log.table.value.words.items ≡ part_width T.TxType B.Body self.old part }
+        requires all { length self.old.log.table.words.items ≡ part_width T.TxType B.Body self.old part }
         ensures { HasStepped T.TxType B.Body C.Cells (Rereading part ticket) (Close part) self.old self.new cells.old cells.new result }
     {
         let found = cells.close(part);
@@ -391,14 +392,10 @@ impl<'t, T: TxType, B: Body> Attempt<'t, T, B> {
                 ticket: newer,
             }));
         }
-        let table = &mut *self.log.table;
+        let table = &mut self.log.table;
         let place = table.extension.fresh.len();
         let watch = table.extension.watches.get(place);
-        if !are_true(
-            self.log.ty,
-            watch.preds.as_slice(),
-            table.words.as_slice(),
-        ) {
+        if !are_true(self.log.ty, watch.preds.as_slice(), table.words.as_slice()) {
             self.read_phase = ReadPhase::Over;
             return Ok(Turn::Ended(Verdict::Changed {
                 at: self.at,

@@ -11,7 +11,7 @@ use sto_type::TxType;
 #[derive(Drop)]
 pub struct Paused<B: Body> {
     pub(crate) body: B,
-    pub(crate) table: Box<Table>,
+    pub(crate) table: Table,
     pub(crate) at: u64,
     pub(crate) read_phase: ReadPhase,
 }
@@ -57,7 +57,7 @@ impl<B: Body> Paused<B> {
 
     /// The replies so far.
     pub fn replies(&self) -> &Replies
-        ensures { result.now ≡ self.now.table.value.replies }
+        ensures { result.now ≡ self.now.table.replies }
     {
         &self.table.replies
     }

@@ -25,7 +25,7 @@ pub struct Ready<'t, T: TxType, B: Body> {
 impl<T: TxType, B: Body> Ready<'_, T, B> {
     /// The replies of the body.
     pub fn replies(&self) -> &Replies
-        ensures { result.now ≡ self.now.log.table.value.replies }
+        ensures { result.now ≡ self.now.log.table.replies }
     {
         &self.log.table.replies
     }
@@ -34,7 +34,7 @@ impl<T: TxType, B: Body> Ready<'_, T, B> {
     #[inline(always)]
     pub fn end(self, lists: &mut AttemptLists) -> Heard<B>
         ensures body { result.body ≡ self.entry.log.body }
-        ensures replies { result.replies ≡ self.entry.log.table.value.replies }
+        ensures replies { result.replies ≡ self.entry.log.table.replies }
     {
         let Ready { log, .. } = self;
         let Log { body, table, .. } = log;
@@ -88,7 +88,8 @@ impl<T: TxType, B: Body> Ready<'_, T, B> {
             return self.give_up(place, verdict);
         }
         let ticket = found.ticket();
-        self.log.table.lists.found_tickets.push_spare(FoundTicket { part, ticket });
+        let lists = &mut self.log.table.lists;
+        lists.found_tickets.push_spare(FoundTicket { part, ticket });
         let next = place + 1;
         self.commit_phase = if next < self.log.table.lists.updates.len() {
             CommitPhase::Locking { place: next }
@@ -106,7 +107,10 @@ impl<T: TxType, B: Body> Ready<'_, T, B> {
         if place == self.log.table.lists.tasks.len() {
             return CommitPhase::Drawing;
         }
-        if is_written(self.log.table.lists.updates.as_slice(), *self.log.table.lists.tasks.get(place)) {
+        if is_written(
+            self.log.table.lists.updates.as_slice(),
+            *self.log.table.lists.tasks.get(place),
+        ) {
             CommitPhase::Loading { place, word: 0 }
         } else {
             CommitPhase::Testing { place }
@@ -126,7 +130,9 @@ impl<T: TxType, B: Body> Ready<'_, T, B> {
         let part = *self.log.table.lists.tasks.get(place);
         let width = self.log.ty.width(part);
         let value = cells.word(part, word);
-        self.log.table.lists.loaded_words
+        let lists = &mut self.log.table.lists;
+        lists
+            .loaded_words
             .push_spare(LoadedWord { part, word, value });
         if word + 1 < width {
             self.commit_phase = CommitPhase::Loading {
@@ -210,22 +216,25 @@ impl<T: TxType, B: Body> Ready<'_, T, B> {
     // Whether the loading goes on after a part: the part is seen, and its version is for the check to find, or the predicates on it are true.
     fn goes_on(&self, part: u32) -> bool
         requires { Rises (lists_of self.now).seen.items }
-        ensures { result ≡ goes_on (lists_of self.now).seen.items self.now.log.table.value.set.items (lists_of self.now).loaded_words.items part }
+        ensures { result ≡ goes_on (lists_of self.now).seen.items self.now.log.table.set.items (lists_of self.now).loaded_words.items part }
     {
         is_seen(self.log.table.lists.seen.as_slice(), part) || self.all_so(part)
     }
 
     // Whether the type finds the predicates on a part to be true of the words that were loaded.
     pub(crate) fn all_so(&self, part: u32) -> bool
-        ensures { result ≡ list_all (is_so part (lists_of self.now).loaded_words.items) self.now.log.table.value.set.items }
+        ensures { result ≡ list_all (is_so part (lists_of self.now).loaded_words.items) self.now.log.table.set.items }
     {
-        self.log.table.set.all_so(self.log.ty, &self.log.table.lists.loaded_words, part)
+        let table = &self.log.table;
+        table
+            .set
+            .all_so(self.log.ty, &table.lists.loaded_words, part)
     }
 
     // The ticket that the check of a part is to find.
     fn expected(&self, part: u32) -> u64
         requires { Rises (lists_of self.now).seen.items }
-        ensures { result ≡ expected_of self.now.log.table.value.base.items (lists_of self.now).found_tickets.items (lists_of self.now).seen.items part }
+        ensures { result ≡ expected_of self.now.log.table.base.items (lists_of self.now).found_tickets.items (lists_of self.now).seen.items part }
     {
         if is_seen(self.log.table.lists.seen.as_slice(), part) {
             self.log.table.base.ticket(part)
@@ -287,10 +296,8 @@ impl<T: TxType, B: Body> Ready<'_, T, B> {
     {
         let (part, word) = *self.log.table.lists.places.get(place);
         let change = self.log.table.set.pending(part, word);
-        let value = self
-            .log
-            .ty
-            .install(change, self.log.table.lists.loaded_words.value(part, word));
+        let words = &self.log.table.lists.loaded_words;
+        let value = self.log.ty.install(change, words.value(part, word));
         cells.put(part, word, value);
         self.commit_phase = self.next_put(place + 1, ticket);
         None

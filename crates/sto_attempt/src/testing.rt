@@ -27,7 +27,8 @@ impl<T: TxType, B: Body> Ready<'_, T, B> {
             return None;
         }
         let ticket = found.ticket();
-        self.log.table.lists.found_tickets.push_spare(FoundTicket { part, ticket });
+        let lists = &mut self.log.table.lists;
+        lists.found_tickets.push_spare(FoundTicket { part, ticket });
         self.commit_phase = CommitPhase::Tested {
             place,
             word: 0,
@@ -71,7 +72,9 @@ impl<T: TxType, B: Body> Ready<'_, T, B> {
     {
         let part = *self.log.table.lists.tasks.get(place);
         let value = cells.word(part, word);
-        self.log.table.lists.loaded_words
+        let lists = &mut self.log.table.lists;
+        lists
+            .loaded_words
             .push_spare(LoadedWord { part, word, value });
         self.commit_phase = CommitPhase::Tested {
             place,

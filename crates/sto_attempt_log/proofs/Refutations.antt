@@ -21,9 +21,9 @@ kept_back t r rs result some none h = let no = sym none ∙ ap (λ (l : Listed R
 
 module _ {T B : Type 0} (old new : Log T B) where
   -- a run that loses a word of the open read
-  pub word_lost : (w : ℤ) (ws : List ℤ) → old.table.value.words.items ≡ w ∷ ws → new.table.value.words.items ≡ [] → new ≡ run_to old new → ⊥
-  word_lost w ws some none h = let no = sym none ∙ ap (λ (l : Log T B). l.table.value.words.items) h ∙ some in cc
+  pub word_lost : (w : ℤ) (ws : List ℤ) → old.table.words.items ≡ w ∷ ws → new.table.words.items ≡ [] → new ≡ run_to old new → ⊥
+  word_lost w ws some none h = let no = sym none ∙ ap (λ (l : Log T B). l.table.words.items) h ∙ some in cc
 
   -- a run that reads a part
-  pub part_invented : (e : ReadEntry) (es : List ReadEntry) → old.table.value.base.items ≡ [] → new.table.value.base.items ≡ e ∷ es → new ≡ run_to old new → ⊥
-  part_invented e es none some h = let no = sym some ∙ ap (λ (l : Log T B). l.table.value.base.items) h ∙ none in cc
+  pub part_invented : (e : ReadEntry) (es : List ReadEntry) → old.table.base.items ≡ [] → new.table.base.items ≡ e ∷ es → new ≡ run_to old new → ⊥
+  part_invented e es none some h = let no = sym some ∙ ap (λ (l : Log T B). l.table.base.items) h ∙ none in cc

@@ -6,7 +6,6 @@ use std::alloc::Global;
 use std::marker::Model;
 use std::mem;
 use sto_model::Replies;
-use sto_part::NoMemory;
 
 /// The lists of attempts while no attempt uses them, with the room that earlier ones have made.
 ///
@@ -15,8 +14,8 @@ use sto_part::NoMemory;
 #[derive(Drop)]
 pub struct AttemptLists {
     alloc: Global,
-    // None before the first attempt, and while one has them. After want of memory they are lost, and the next attempt makes them anew.
-    table: Option<Box<Table>>,
+    // None before the first attempt, and while one has them. After want of memory they are lost, and the next attempt begins with none.
+    table: Option<Table>,
 }
 
 impl Model for AttemptLists {
@@ -31,22 +30,17 @@ impl AttemptLists {
         AttemptLists { alloc, table: None }
     }
 
-    /// Takes the table of an attempt. Where there is none, it makes one.
-    ///
-    /// `NoMemory` where there is no memory for that.
-    pub fn take(&mut self) -> Result<Box<Table>, NoMemory> {
+    /// Takes the table of an attempt. Where there is none, it makes one whose lists have no room yet.
+    pub fn take(&mut self) -> Table {
         match mem::replace(&mut self.table, None) {
-            Some(table) => Ok(table),
-            None => match Box::new(self.alloc, Table::new(self.alloc)) {
-                Ok(table) => Ok(table),
-                Err(_) => Err(NoMemory),
-            },
+            Some(table) => table,
+            None => Table::new(self.alloc),
         }
     }
 
     /// Keeps the table of an attempt that has ended, and answers its replies.
-    pub fn keep(&mut self, table: Box<Table>) -> Replies
-        ensures { result ≡ table.value.replies }
+    pub fn keep(&mut self, table: Table) -> Replies
+        ensures { result ≡ table.replies }
     {
         let mut table = table;
         let replies = mem::replace(&mut table.replies, Replies::new(self.alloc));

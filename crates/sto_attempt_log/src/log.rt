@@ -28,7 +28,7 @@ pub enum Reached {
 pub struct Log<'t, T: TxType, B: Body> {
     pub ty: &'t T,
     pub body: B,
-    pub table: Box<Table>,
+    pub table: Table,
 }
 
 impl<T: TxType, B: Body> Log<'_, T, B> {
@@ -41,7 +41,7 @@ impl<T: TxType, B: Body> Log<'_, T, B> {
         loop {
             match self.body.next() {
                 Next::Ask(call) => {
-                    let table = &mut *self.table;
+                    let table = &mut self.table;
                     match ask(
                         alloc,
                         self.ty,
@@ -73,11 +73,11 @@ impl<T: TxType, B: Body> Log<'_, T, B> {
     fn take_in(&mut self, reply: Reply, items: &Items, updates: &Updates) -> Result<(), NoMemory>
         requires some { CanBe T.TxType B.Body self.old }
         requires log { IsInOrder T.TxType B.Body self.old self.old }
-        requires says { SaysNext (T.meaning self.old.ty.now) (B.script self.old.body) (known self.old.table.value.cache)
+        requires says { SaysNext (T.meaning self.old.ty.now) (B.script self.old.body) (known self.old.table.cache)
             (replies_of self.old) (plain_reply reply) items.now.items updates.now.items }
         ensures { HasTakenIn T.TxType B.Body self.old self.new result }
     {
-        let table = &mut *self.table;
+        let table = &mut self.table;
         add_items(&mut table.set, items)?;
         add_updates(&mut table.set, updates)?;
         refresh(

@@ -130,11 +130,7 @@ impl Observed {
     }
 
     /// Copies the pending updates into the room of other ones, which are taken away.
-    pub(crate) fn copy_updates(
-        &self,
-        alloc: Global,
-        updates: &mut Updates,
-    ) -> Result<(), NoMemory>
+    pub(crate) fn copy_updates(&self, alloc: Global, updates: &mut Updates) -> Result<(), NoMemory>
         ensures updates { OnOk result (updates.new.items ≡ self.now.updates) }
         ensures ordered { AreUpdates self.now.updates }
     {

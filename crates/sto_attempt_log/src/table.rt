@@ -12,7 +12,7 @@ use sto_type::{AnswerPool, Cache};
 
 /// What an attempt works on: what it has found out, the words that it reads, and the lists of its commit.
 ///
-/// A worker makes it once, in a box. Attempt after attempt works on it in place, so that the room of its lists stays.
+/// A worker makes it once. Attempt after attempt works on its lists in place, so that their room stays, and it is never taken apart.
 #[derive(Drop)]
 pub struct Table {
     /// What the body was answered.

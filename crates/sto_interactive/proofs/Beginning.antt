@@ -1,13 +1,10 @@
 -- An attempt of a body without a call, after its first event.
-use Rattle.std.proofs.Common.{◌≡◌, ◌<◌, ℕ, pos, false, [], refl, sym, ap, ◌∙◌}
+use Rattle.std.proofs.Common.{◌≡◌, ◌<◌, ℕ, false, [], refl, sym, ap, ◌∙◌}
 use Rattle.sto_model.specs.Run.{Behaviour}
 use Rattle.sto_model.specs.declared.run.End.TheVariants as E
 use Rattle.sto_type.specs.Known.{Parts}
 use Rattle.sto_type.specs.Traits.{OfType}
 use Rattle.sto_core.specs.Event.{Start}
-use Rattle.sto_core.specs.Tells.{Tells}
-use Rattle.sto_attempt_log.specs.declared.extension.Extension.{Extension}
-use Rattle.sto_attempt_log.proofs.Reading.{idle_reading, start_rests}
 use Rattle.sto_core.specs.declared.view.View.{View}
 use Rattle.sto_attempt_log.specs.Answers.{OneEvent}
 use Rattle.sto_attempt_log.specs.declared.read_phase.ReadPhase.TheVariants.{Unstarted}
@@ -25,21 +22,11 @@ use Rattle.sto_interactive.specs.Waiting.{IsWaiting}
 use Rattle.sto_interactive.proofs.AtEnd.{commit_waits, so_many, none_more}
 use Rattle.sto_interactive.proofs.Coming.{own_now, own_turned}
 
--- An attempt that is given up after its first event.
-pub begun_stops : {T : Type 0} (t : OfType T) (passes : ℕ) (ty : T) (begun w : View) (n : ℕ) → IsAtRest (t.meaning ty) (t.sizes ty) begun → 0 < begun.draws
-    → ((d : Parts) → t.valid (t.sizes ty) d → (t.meaning ty).valid d) → Tells t.valid passes Start begun n (pos 0) w → HasStopped (t.meaning ty) (t.sizes ty) begun w
-begun_stops t passes ty begun w n rest draws is tells =
-    let none : Extension = record { bound = 0; extended = false; fresh = record { items = []; spare = 0 }; watches = record { items = []; spare = 0 } } in
-    let event : OneEvent (λ e. e ≡ Start) t.valid passes begun w = record { event = Start; of_kind = refl; number = n; value = pos 0; tells = tells } in
-    let at_rest = start_rests (t.meaning ty) t.valid (t.sizes ty) is passes begun w n rest.sized draws tells in
-    let led = has_led (t.meaning ty) t.valid (t.sizes ty) (script_of [] E.Commit) 0 [] none [] [] [] [] passes begun begun w Unstarted (rest.idle, rest.sized, draws, refl, refl) refl event in
-    stopped (t.meaning ty) (t.sizes ty) begun w rest led.read (record { idle = idle_reading w at_rest.phase; unheld = at_rest.unheld; decided = at_rest.decided })
-
 module _ {T : Type 0} (t : OfType T) (passes : ℕ) (ty : T) (a k : Attempt T AskedCalls) (begun w : View) (rest : IsAtRest (t.meaning ty) (t.sizes ty) begun) (draws : 0 < begun.draws)
-    (type : a.log.ty.now ≡ ty) (none : a.log.table.value.base.items ≡ []) (fresh : a.log.table.value.extension.extended ≡ false) (event : OneEvent (λ e. e ≡ Start) t.valid passes begun w) where
-  led : HasLed (t.meaning a.log.ty.now) t.valid (t.sizes a.log.ty.now) (script_in a.log.body) a.at a.log.table.value.words.items a.log.table.value.extension a.log.table.value.base.items a.log.table.value.set.items a.log.table.value.set.updates (heard a) passes begun begun w Unstarted
+    (type : a.log.ty.now ≡ ty) (none : a.log.table.base.items ≡ []) (fresh : a.log.table.extension.extended ≡ false) (event : OneEvent (λ e. e ≡ Start) t.valid passes begun w) where
+  led : HasLed (t.meaning a.log.ty.now) t.valid (t.sizes a.log.ty.now) (script_in a.log.body) a.at a.log.table.words.items a.log.table.extension a.log.table.base.items a.log.table.set.items a.log.table.set.updates (heard a) passes begun begun w Unstarted
   led =
-      has_led (t.meaning a.log.ty.now) t.valid (t.sizes a.log.ty.now) (script_in a.log.body) a.at a.log.table.value.words.items a.log.table.value.extension a.log.table.value.base.items a.log.table.value.set.items a.log.table.value.set.updates (heard a) passes begun begun w Unstarted
+      has_led (t.meaning a.log.ty.now) t.valid (t.sizes a.log.ty.now) (script_in a.log.body) a.at a.log.table.words.items a.log.table.extension a.log.table.base.items a.log.table.set.items a.log.table.set.updates (heard a) passes begun begun w Unstarted
       (rest.idle, rest.sized ∙ sym (ap t.sizes type), draws, none, fresh) refl event
 
   pub start_stops : IsLeft w → HasStopped (t.meaning ty) (t.sizes ty) begun w

@@ -57,7 +57,7 @@ impl<T: TxType> Session<T> {
 
     /// What the calls of the transaction were answered, in order; none where it is in no transaction.
     pub fn replies(&self) -> Option<&Replies>
-        ensures { option_map (λ r. r.now) result ≡ option_map (λ p. p.attempt.table.value.replies) self.now.live }
+        ensures { option_map (λ r. r.now) result ≡ option_map (λ p. p.attempt.table.replies) self.now.live }
     {
         match &self.live {
             Some(live) => Some(live.replies()),

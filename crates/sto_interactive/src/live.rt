@@ -58,20 +58,15 @@ impl<'t, T: TxType> Live<'t, T> {
         ensures err { OnErr result (HasStopped (T.meaning ty.now) (T.sizes ty.now) (C.view cells.old) (C.view cells.new)) }
         ensures same { C.same cells.old cells.new }
     {
-        let Ok(table) = lists.attempts.take() else {
-            // It ends after its first event, as any attempt that finds no memory there.
-            cells.start();
-            return Err(NoMemory);
-        };
         let body = AskedCalls::over(lists.take_calls());
-        let mut attempt = Attempt::new(ty, body, table);
+        let mut attempt = Attempt::new(ty, body, lists.attempts.take());
         attempt.begin(alloc, cells)?;
         Ok(Live { ty, attempt })
     }
 
     /// What its calls were answered, in order, also after an abort.
     pub fn replies(&self) -> &Replies
-        ensures { result.now ≡ self.now.attempt.log.table.value.replies }
+        ensures { result.now ≡ self.now.attempt.log.table.replies }
     {
         self.attempt.replies()
     }

@@ -68,7 +68,7 @@ pub(crate) fn finish<T: TxType, B: Body, C: Cells<T>>(
     ensures ended { (ty : T) (f : Behaviour) (begun : View) → IsAtRest (T.meaning ty) (T.sizes ty) begun
         → Commits T.meaning T.valid T.sizes B.script B.then B.left B.may_ask (C.passes cells.old) ty f ready.entry begun (C.view cells.old)
         → HasEnded T.meaning T.valid T.sizes B.script B.then B.left B.may_ask (C.passes cells.old) ty f result begun (C.view cells.new) }
-    ensures replies { result.replies ≡ ready.entry.log.table.value.replies }
+    ensures replies { result.replies ≡ ready.entry.log.table.replies }
     ensures same { C.same cells.old cells.new }
 {
     let mut ready = ready;

@@ -29,7 +29,7 @@ returns-in-Some-clause-ended g c ty f begun rest h =
     let v = g.C.Cells.view c.loop-verdict.cells in
     let w = g.C.Cells.view c.step.new.cells in
     let k = subst (λ (n : ℕ). Advances t g.B.Body n r.commit_phase r s v w c.step.result) (g.met.C.Cells.same_passes c.args.cells.now c.loop-verdict.cells c.loop-verdict.invariant.same) c.step.ensures.advances in
-    ended_as g.T.TxType.meaning g.T.Naming.valid g.T.Naming.sizes g.B.Body.script g.B.Body.then g.B.Body.left g.B.Body.may_ask first ty f s.log.body c.end-heard.result.body s.log.table.value.replies c.end-heard.result.replies
+    ended_as g.T.TxType.meaning g.T.Naming.valid g.T.Naming.sizes g.B.Body.script g.B.Body.then g.B.Body.left g.B.Body.may_ask first ty f s.log.body c.end-heard.result.body s.log.table.replies c.end-heard.result.replies
     c.in-Some.verdict begun w c.end-heard.ensures.body c.end-heard.ensures.replies
     (subst (λ (x : Option Verdict). HasTurned g.T.TxType.meaning g.T.Naming.valid g.T.Naming.sizes g.B.Body.script g.B.Body.then g.B.Body.left g.B.Body.may_ask first ty f (Ok (turn_of x)) (Committing s) begun w) c.in-Some.is
     (commits_on g.T.TxType.meaning g.T.Naming.valid g.T.Naming.sizes g.B.Body.script g.B.Body.then g.B.Body.left g.B.Body.may_ask first ty f r s begun v w c.step.result rest
@@ -37,7 +37,7 @@ returns-in-Some-clause-ended g c ty f begun rest h =
 
 pub returns-in-Some-clause-replies : goal.returns-in-Some-clause-replies
 returns-in-Some-clause-replies g c =
-    c.end-heard.ensures.replies ∙ ap (λ (r : Ready g.row.T.Denot g.row.B.Denot). r.log.table.value.replies) c.step.ensures.advances.kept ∙ c.loop-verdict.invariant.replies
+    c.end-heard.ensures.replies ∙ ap (λ (r : Ready g.row.T.Denot g.row.B.Denot). r.log.table.replies) c.step.ensures.advances.kept ∙ c.loop-verdict.invariant.replies
 
 pub returns-in-Some-clause-same : goal.returns-in-Some-clause-same
 returns-in-Some-clause-same g c = g.met.C.Cells.same_through c.args.cells.now c.loop-verdict.cells c.step.new.cells c.loop-verdict.invariant.same c.step.ensures.same
@@ -65,6 +65,6 @@ loop-verdict-preserved g c =
           (subst (λ (x : Option Verdict). HasTurned g.T.TxType.meaning g.T.Naming.valid g.T.Naming.sizes g.B.Body.script g.B.Body.then g.B.Body.left g.B.Body.may_ask first ty f (Ok (turn_of x)) (Committing s) begun w) c.in_default.is
           (commits_on g.T.TxType.meaning g.T.Naming.valid g.T.Naming.sizes g.B.Body.script g.B.Body.then g.B.Body.left g.B.Body.may_ask first ty f r s begun v w c.step.result rest
           (c.loop-verdict.invariant.commits ty f begun rest h) k.kept k.event k.said k.space k.alone k.by)).1;
-      replies = ap (λ (x : Ready g.row.T.Denot g.row.B.Denot). x.log.table.value.replies) k.kept ∙ c.loop-verdict.invariant.replies;
+      replies = ap (λ (x : Ready g.row.T.Denot g.row.B.Denot). x.log.table.replies) k.kept ∙ c.loop-verdict.invariant.replies;
       same = g.met.C.Cells.same_through c.args.cells.now c.loop-verdict.cells c.step.new.cells c.loop-verdict.invariant.same c.step.ensures.same;
     }

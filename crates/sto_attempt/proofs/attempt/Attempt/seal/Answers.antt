@@ -13,7 +13,7 @@ stock-requires-clause-some g c =
     let whole = claims_fit g.T.Naming.valid v a.at h.fit in (
       whole.0,
       (g.met.T.TxType.valid_is a.log.ty.now whole.0).1 (subst (λ (l : List ℕ). g.T.Naming.valid l whole.0) h.own.same_sizes whole.1),
-      part_of_claims v a.at a.log.table.value.base.items whole.0 h.claimed whole.2,
+      part_of_claims v a.at a.log.table.base.items whole.0 h.claimed whole.2,
     )
 
 pub returns-in-Ok : goal.returns-in-Ok

@@ -17,15 +17,15 @@ make_room-requires g c =
     let law = g.met.T.TxType.lawful a.log.ty.now in
     let l = c.gather.new.self in
     let is = c.in_ok-gather.ensures in
-    let same : length l.updates.items ≡ length a.log.table.value.set.updates = ap (λ (x : List Update). length x) is.updates in
-    let it = gathered_planned (g.T.TxType.meaning a.log.ty.now) law g.T.Naming.valid (g.T.Naming.sizes a.log.ty.now) (g.B.Body.script a.log.body) a.at a.log.table.value.base.items a.log.table.value.set.items (map plain_reply a.log.table.value.replies.items) a.log.table.value.set.updates c.requires.log c.requires.some l.seen.items l.loaded.items l.tasks.items l.checks.items l.places.items is.gathered is.checks is.places (omega (arith, same, is.few)) in
+    let same : length l.updates.items ≡ length a.log.table.set.updates = ap (λ (x : List Update). length x) is.updates in
+    let it = gathered_planned (g.T.TxType.meaning a.log.ty.now) law g.T.Naming.valid (g.T.Naming.sizes a.log.ty.now) (g.B.Body.script a.log.body) a.at a.log.table.base.items a.log.table.set.items (map plain_reply a.log.table.replies.items) a.log.table.set.updates c.requires.log c.requires.some l.seen.items l.loaded.items l.tasks.items l.checks.items l.places.items is.gathered is.checks is.places (omega (arith, same, is.few)) in
     it.in_range
 
 pub returns-clause-kept : goal.returns-clause-kept
 returns-clause-kept g c =
     let a = c.args.self.now in
     let l : Lists = record c.gather.new.self { loaded_words = c.make_room.new.loaded_words } in
-    ap (λ (s : Recorded). record a { log = with_table a.log (record a.log.table.value { set = s; lists = l }) }) c.sort.ensures
+    ap (λ (s : Recorded). record a { log = with_table a.log (record a.log.table { set = s; lists = l }) }) c.sort.ensures
 
 pub returns-clause-stocked : goal.returns-clause-stocked
 returns-clause-stocked g c =
@@ -33,14 +33,14 @@ returns-clause-stocked g c =
     let law = g.met.T.TxType.lawful a.log.ty.now in
     let l = c.gather.new.self in
     let is = c.in_ok-gather.ensures in
-    let same : length l.updates.items ≡ length a.log.table.value.set.updates = ap (λ (x : List Update). length x) is.updates in
-    let it = gathered_planned (g.T.TxType.meaning a.log.ty.now) law g.T.Naming.valid (g.T.Naming.sizes a.log.ty.now) (g.B.Body.script a.log.body) a.at a.log.table.value.base.items a.log.table.value.set.items (map plain_reply a.log.table.value.replies.items) a.log.table.value.set.updates c.requires.log c.requires.some l.seen.items l.loaded.items l.tasks.items l.checks.items l.places.items is.gathered is.checks is.places (omega (arith, same, is.few)) in
+    let same : length l.updates.items ≡ length a.log.table.set.updates = ap (λ (x : List Update). length x) is.updates in
+    let it = gathered_planned (g.T.TxType.meaning a.log.ty.now) law g.T.Naming.valid (g.T.Naming.sizes a.log.ty.now) (g.B.Body.script a.log.body) a.at a.log.table.base.items a.log.table.set.items (map plain_reply a.log.table.replies.items) a.log.table.set.updates c.requires.log c.requires.some l.seen.items l.loaded.items l.tasks.items l.checks.items l.places.items is.gathered is.checks is.places (omega (arith, same, is.few)) in
     let m = g.T.TxType.meaning a.log.ty.now in
-    let few = gathered_bounded m law g.T.Naming.valid (g.T.Naming.sizes a.log.ty.now) (g.B.Body.script a.log.body) a.at a.log.table.value.base.items a.log.table.value.set.items (map plain_reply a.log.table.value.replies.items) a.log.table.value.set.updates c.requires.log c.requires.some l.seen.items l.loaded.items l.tasks.items l.checks.items l.places.items is.gathered it in
+    let few = gathered_bounded m law g.T.Naming.valid (g.T.Naming.sizes a.log.ty.now) (g.B.Body.script a.log.body) a.at a.log.table.base.items a.log.table.set.items (map plain_reply a.log.table.replies.items) a.log.table.set.updates c.requires.log c.requires.some l.seen.items l.loaded.items l.tasks.items l.checks.items l.places.items is.gathered it in
     record {
       gathered = is.gathered;
-      planned = subst (λ (x : List Update). IsPlanned (deal (g.T.TxType.meaning a.log.ty.now) g.T.Naming.valid (g.T.Naming.sizes a.log.ty.now) (g.B.Body.script a.log.body) a.at a.log.table.value.base.items a.log.table.value.set.items (map plain_reply a.log.table.value.replies.items) x l.seen.items l.loaded.items l.tasks.items l.checks.items l.places.items)) (sym is.updates) it;
-      left = subst (λ (x : List Update). commit_left (deal m g.T.Naming.valid (g.T.Naming.sizes a.log.ty.now) (g.B.Body.script a.log.body) a.at a.log.table.value.base.items a.log.table.value.set.items (map plain_reply a.log.table.value.replies.items) x l.seen.items l.loaded.items l.tasks.items l.checks.items l.places.items) (Locking 0) ≤ 2 * round (length m.widths) (words_of m.widths)) (sym is.updates) few;
+      planned = subst (λ (x : List Update). IsPlanned (deal (g.T.TxType.meaning a.log.ty.now) g.T.Naming.valid (g.T.Naming.sizes a.log.ty.now) (g.B.Body.script a.log.body) a.at a.log.table.base.items a.log.table.set.items (map plain_reply a.log.table.replies.items) x l.seen.items l.loaded.items l.tasks.items l.checks.items l.places.items)) (sym is.updates) it;
+      left = subst (λ (x : List Update). commit_left (deal m g.T.Naming.valid (g.T.Naming.sizes a.log.ty.now) (g.B.Body.script a.log.body) a.at a.log.table.base.items a.log.table.set.items (map plain_reply a.log.table.replies.items) x l.seen.items l.loaded.items l.tasks.items l.checks.items l.places.items) (Locking 0) ≤ 2 * round (length m.widths) (words_of m.widths)) (sym is.updates) few;
       updates = is.updates;
       unfound = search rules;
       room = search rules;

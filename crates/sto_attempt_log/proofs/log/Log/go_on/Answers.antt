@@ -19,7 +19,7 @@ pub take_in-requires-clause-says : goal.take_in-requires-clause-says
 take_in-requires-clause-says g c =
     let f = g.B.Body.script c.args.self.now.body in
     let was = c.loop-call.invariant.log in
-    let rs = map plain_reply c.loop-call.self.table.value.replies.items in
+    let rs = map plain_reply c.loop-call.self.table.replies.items in
     let asks = ap f (sym (append-nil rs)) ∙ sym (c.in-Ask.ensures.next ∙ was.then []) in
     record {
       call = c.in-Ask.call;
@@ -36,7 +36,7 @@ loop-call-preserved g c =
     record {
       log = rw (e.ty, e.base, ← i.script) k.log;
       some = rw (e.ty, e.base) i.some;
-      grown = rw (e.ty, e.base, ← i.script) (k.grown (map plain_reply c.args.self.now.table.value.replies.items) c.args.self.now.table.value.set (rw i.script i.grown));
+      grown = rw (e.ty, e.base, ← i.script) (k.grown (map plain_reply c.args.self.now.table.replies.items) c.args.self.now.table.set (rw i.script i.grown));
       ran = rw (e.ty, e.base, ← i.script) (λ r base set heard. k.ran r base (rw i.script (i.ran r base set heard)));
       left = omega (arith, i.left, e.left);
       script = e.script ∙ i.script;
@@ -46,15 +46,15 @@ loop-call-preserved g c =
       base = e.base ∙ i.base;
       rest =
           let now = c.take_in.new.self in
-          ap (λ (x : Log g.row.T.Denot g.row.B.Denot). with_table x (record x.table.value { pool = c.keep.new.self })) (e.rest ∙ ap (λ (x : Log g.row.T.Denot g.row.B.Denot). run_to x now) i.rest);
+          ap (λ (x : Log g.row.T.Denot g.row.B.Denot). with_table x (record x.table { pool = c.keep.new.self })) (e.rest ∙ ap (λ (x : Log g.row.T.Denot g.row.B.Denot). run_to x now) i.rest);
     }
 
 pub loop-call-init : goal.loop-call-init
 loop-call-init g c = record {
   log = c.requires.log;
   some = c.requires.some;
-  grown = heard_none (g.T.TxType.meaning c.args.self.now.ty.now) (g.B.Body.script c.args.self.now.body) (words_in c.args.self.now.table.value.base.items) (map plain_reply c.args.self.now.table.value.replies.items) c.args.self.now.table.value.set;
-  ran = λ r base set heard. ran_none (g.T.TxType.meaning c.args.self.now.ty.now) (g.B.Body.script c.args.self.now.body) r c.args.self.now.table.value.set (map plain_reply c.args.self.now.table.value.replies.items) set heard;
+  grown = heard_none (g.T.TxType.meaning c.args.self.now.ty.now) (g.B.Body.script c.args.self.now.body) (words_in c.args.self.now.table.base.items) (map plain_reply c.args.self.now.table.replies.items) c.args.self.now.table.set;
+  ran = λ r base set heard. ran_none (g.T.TxType.meaning c.args.self.now.ty.now) (g.B.Body.script c.args.self.now.body) r c.args.self.now.table.set (map plain_reply c.args.self.now.table.replies.items) set heard;
   left = omega arith;
   script = refl;
   left_at_reset = refl;
@@ -70,7 +70,7 @@ returns-in-Need g c =
     let f = g.B.Body.script c.args.self.now.body in
     let i = c.loop-call.invariant in
     let l = c.loop-call.self in
-    let rs = map plain_reply l.table.value.replies.items in
+    let rs = map plain_reply l.table.replies.items in
     let asks = ap f (sym (append-nil rs)) ∙ sym (c.in-Ask.ensures.next ∙ i.log.then []) in
     let unknown = c.in_ok-part-in-Ask.ensures.need c.in-Need.part c.in-Need.is in
     record {
@@ -79,7 +79,7 @@ returns-in-Need g c =
         unread = search rules;
         unput = search rules;
         by_next =
-            rw (← i.ty) (need_touched (g.T.TxType.meaning l.ty.now) f (words_in l.table.value.base.items) l.table.value.set.items l.table.value.set.updates rs c.in-Ask.call (known c.ask.new.cache) c.in-Need.part
+            rw (← i.ty) (need_touched (g.T.TxType.meaning l.ty.now) f (words_in l.table.base.items) l.table.set.items l.table.set.updates rs c.in-Ask.call (known c.ask.new.cache) c.in-Need.part
             i.log.log c.in_ok-part-in-Ask.ensures.cache i.some (i.log.taken c.in-Ask.call c.in-Ask.ensures.may) asks (rw c.in-Need.is at c.in_ok-part-in-Ask.ensures.plan));
       };
       grown = search rules;
@@ -87,8 +87,8 @@ returns-in-Need g c =
       comes = rw (← i.ty, ← i.base) (λ r at.
           let ran = i.ran r at.0 at.1 at.2 in (
             ran,
-            ran_halts (g.T.TxType.meaning l.ty.now) (g.met.T.TxType.lawful l.ty.now) f r l.table.value.base.items l.table.value.set rs at.0 ran
-                (pending_of (g.T.TxType.meaning l.ty.now) f (words_in l.table.value.base.items) l.table.value.set.items l.table.value.set.updates rs i.log.log i.some) (known c.ask.new.cache) c.in_ok-part-in-Ask.ensures.cache c.in-Ask.call asks
+            ran_halts (g.T.TxType.meaning l.ty.now) (g.met.T.TxType.lawful l.ty.now) f r l.table.base.items l.table.set rs at.0 ran
+                (pending_of (g.T.TxType.meaning l.ty.now) f (words_in l.table.base.items) l.table.set.items l.table.set.updates rs i.log.log i.some) (known c.ask.new.cache) c.in_ok-part-in-Ask.ensures.cache c.in-Ask.call asks
                 c.in-Need.part (rw c.in-Need.is at c.in_ok-part-in-Ask.ensures.plan) unknown.0 unknown.1,
           ));
       left = search rules;
@@ -98,14 +98,14 @@ returns-in-Need g c =
       may = search rules;
       ty = search rules;
       base = search rules;
-      rest = ap (λ (x : Log g.row.T.Denot g.row.B.Denot). with_table x (record x.table.value { scratch = c.ask.new.scratch; cache = c.ask.new.cache; pool = c.ask.new.pool })) i.rest;
+      rest = ap (λ (x : Log g.row.T.Denot g.row.B.Denot). with_table x (record x.table { scratch = c.ask.new.scratch; cache = c.ask.new.cache; pool = c.ask.new.pool })) i.rest;
     }
 
 pub returns-in-Commit : goal.returns-in-Commit
 returns-in-Commit g c =
     let f = g.B.Body.script c.args.self.now.body in
     let i = c.loop-call.invariant in
-    let rs = map plain_reply c.loop-call.self.table.value.replies.items in
+    let rs = map plain_reply c.loop-call.self.table.replies.items in
     let ends = ap f (sym (append-nil rs)) ∙ sym (c.in-Commit.ensures.next ∙ i.log.then []) in
     record {
       log = search rules;
@@ -127,7 +127,7 @@ pub returns-in-Cancel : goal.returns-in-Cancel
 returns-in-Cancel g c =
     let f = g.B.Body.script c.args.self.now.body in
     let i = c.loop-call.invariant in
-    let rs = map plain_reply c.loop-call.self.table.value.replies.items in
+    let rs = map plain_reply c.loop-call.self.table.replies.items in
     let ends = ap f (sym (append-nil rs)) ∙ sym (c.in-Cancel.ensures.next ∙ i.log.then []) in
     record {
       log = search rules;
@@ -161,7 +161,7 @@ returns-in_err-part-in-Ask g c =
       may = search rules;
       ty = search rules;
       base = search rules;
-      rest = ap (λ (x : Log g.row.T.Denot g.row.B.Denot). with_table x (record x.table.value { scratch = c.ask.new.scratch; cache = c.ask.new.cache; pool = c.ask.new.pool })) i.rest;
+      rest = ap (λ (x : Log g.row.T.Denot g.row.B.Denot). with_table x (record x.table { scratch = c.ask.new.scratch; cache = c.ask.new.cache; pool = c.ask.new.pool })) i.rest;
     }
 
 pub returns-in_err-take_in-in-Done : goal.returns-in_err-take_in-in-Done

@@ -10,14 +10,8 @@ use Rattle.sto_attempt_log.proofs.Reading.{always_err}
 use Rattle.sto_transaction.specs.Machines.{HasStopped, IsOwnLog}
 use Rattle.sto_interactive.specs.Scripts.{script_of}
 use Rattle.sto_interactive.specs.Bodies.{next_of, script_in, left_of, MayAskOf}
-use Rattle.sto_interactive.proofs.Beginning.{begun_stops, start_stops, start_waits, start_silent}
+use Rattle.sto_interactive.proofs.Beginning.{start_stops, start_waits, start_silent}
 use Rattle.sto_interactive.proofs.live.Live.begin.Goals as goal
-
-pub returns-else-clause-err : goal.returns-else-clause-err
-returns-else-clause-err g c =
-    let t = of_type g.T.Naming g.T.TxType in
-    begun_stops t (g.C.Cells.passes c.args.cells.now) c.args.ty.now (g.C.Cells.view c.args.cells.now) (g.C.Cells.view c.start.new.self) c.start.result c.requires.rests c.requires.draws
-    (λ d h. (g.met.T.TxType.valid_is c.args.ty.now d).1 h) c.start.ensures.tells
 
 pub returns-in_err-begin-clause-err : goal.returns-in_err-begin-clause-err
 returns-in_err-begin-clause-err g c =
@@ -44,8 +38,8 @@ returns-clause-live g c =
       same_type = e.ty;
       same_script = e.script ∙ script_is;
       log =
-          subst (λ (y : g.row.T.Denot). IsOnLog (t.meaning y) (next_of a.log.body) (script_in a.log.body) (left_of a.log.body) (MayAskOf a.log.body) a.log.table.value.base.items a.log.table.value.set a.log.table.value.cache a.log.table.value.replies.items) (sym e.ty)
-          (subst (λ (f : Behaviour). IsOnLog (t.meaning ty) (next_of a.log.body) f (left_of a.log.body) (MayAskOf a.log.body) a.log.table.value.base.items a.log.table.value.set a.log.table.value.cache a.log.table.value.replies.items) (sym e.script) e.log);
+          subst (λ (y : g.row.T.Denot). IsOnLog (t.meaning y) (next_of a.log.body) (script_in a.log.body) (left_of a.log.body) (MayAskOf a.log.body) a.log.table.base.items a.log.table.set a.log.table.cache a.log.table.replies.items) (sym e.ty)
+          (subst (λ (f : Behaviour). IsOnLog (t.meaning ty) (next_of a.log.body) f (left_of a.log.body) (MayAskOf a.log.body) a.log.table.base.items a.log.table.set a.log.table.cache a.log.table.replies.items) (sym e.script) e.log);
     } in
     let k = c.in_ok-begin.ensures in
     record {
