@@ -162,7 +162,8 @@ impl<'t, T: TxType, B: Body> Attempt<'t, T, B> {
         }
         let ticket = found.ticket();
         if ticket <= self.at {
-            make_room(&mut self.log.table.words, self.log.ty.width(part));
+            let ty = self.log.ty;
+            make_room(&mut self.log.table.words, ty.width(part));
             self.read_phase = ReadPhase::Reading { part, ticket };
             return Turn::More;
         }
@@ -219,12 +220,13 @@ impl<'t, T: TxType, B: Body> Attempt<'t, T, B> {
         if self.log.table.base.len() == u32::MAX {
             return Err(NoMemory);
         }
+        let ty = self.log.ty;
         let table = &mut self.log.table;
         let words = table.words.as_slice();
         table.base.push(part, ticket, words)?;
         // What was just read is known at once, so that the call is not planned once more only to ask for it.
         learn_updated(
-            self.log.ty,
+            ty,
             &table.set,
             part,
             words,
@@ -346,7 +348,8 @@ impl<'t, T: TxType, B: Body> Attempt<'t, T, B> {
                 ticket,
             });
         }
-        make_room(&mut self.log.table.words, self.log.ty.width(part));
+        let ty = self.log.ty;
+        make_room(&mut self.log.table.words, ty.width(part));
         self.read_phase = ReadPhase::Rereading { part, ticket };
         Turn::More
     }
@@ -392,10 +395,11 @@ impl<'t, T: TxType, B: Body> Attempt<'t, T, B> {
                 ticket: newer,
             }));
         }
+        let ty = self.log.ty;
         let table = &mut self.log.table;
         let place = table.extension.fresh.len();
         let watch = table.extension.watches.get(place);
-        if !are_true(self.log.ty, watch.preds.as_slice(), table.words.as_slice()) {
+        if !are_true(ty, watch.preds.as_slice(), table.words.as_slice()) {
             self.read_phase = ReadPhase::Over;
             return Ok(Turn::Ended(Verdict::Changed {
                 at: self.at,

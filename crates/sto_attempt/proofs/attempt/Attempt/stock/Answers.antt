@@ -16,7 +16,7 @@ make_room-requires g c =
     let a = c.args.self.now in
     let law = g.met.T.TxType.lawful a.log.ty.now in
     let l = c.gather.new.self in
-    let is = c.in_ok-gather.ensures in
+    let is = c.in_ok-gather.ensures.lists in
     let same : length l.updates.items ≡ length a.log.table.set.updates = ap (λ (x : List Update). length x) is.updates in
     let it = gathered_planned (g.T.TxType.meaning a.log.ty.now) law g.T.Naming.valid (g.T.Naming.sizes a.log.ty.now) (g.B.Body.script a.log.body) a.at a.log.table.base.items a.log.table.set.items (map plain_reply a.log.table.replies.items) a.log.table.set.updates c.requires.log c.requires.some l.seen.items l.loaded.items l.tasks.items l.checks.items l.places.items is.gathered is.checks is.places (omega (arith, same, is.few)) in
     it.in_range
@@ -32,7 +32,7 @@ returns-clause-stocked g c =
     let a = c.args.self.now in
     let law = g.met.T.TxType.lawful a.log.ty.now in
     let l = c.gather.new.self in
-    let is = c.in_ok-gather.ensures in
+    let is = c.in_ok-gather.ensures.lists in
     let same : length l.updates.items ≡ length a.log.table.set.updates = ap (λ (x : List Update). length x) is.updates in
     let it = gathered_planned (g.T.TxType.meaning a.log.ty.now) law g.T.Naming.valid (g.T.Naming.sizes a.log.ty.now) (g.B.Body.script a.log.body) a.at a.log.table.base.items a.log.table.set.items (map plain_reply a.log.table.replies.items) a.log.table.set.updates c.requires.log c.requires.some l.seen.items l.loaded.items l.tasks.items l.checks.items l.places.items is.gathered is.checks is.places (omega (arith, same, is.few)) in
     let m = g.T.TxType.meaning a.log.ty.now in
