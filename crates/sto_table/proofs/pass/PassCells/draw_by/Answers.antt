@@ -2,7 +2,7 @@ use Rattle.std.proofs.Common.{◌≡◌, ◌+◌, ◌≤◌, ◌^◌, ℕ, suc, 
 use Rattle.sto_core.specs.Event.{Draw}
 use Rattle.sto_core.specs.Remembered.{Remembers}
 use Rattle.sto_table.proofs.Passes.{stays}
-use Rattle.sto_table.proofs.pass.PassCells.draw.Goals as goal
+use Rattle.sto_table.proofs.pass.PassCells.draw_by.Goals as goal
 
 pub overflow_add-self : goal.overflow_add-self
 overflow_add-self g c = let room = c.raise_clock-clock.ensures.tells.1.learns.1 in omega arith
@@ -10,7 +10,8 @@ overflow_add-self g c = let room = c.raise_clock-clock.ensures.tells.1.learns.1 
 pub invariant_of-self : goal.invariant_of-self
 invariant_of-self g c =
     let old = c.args.self.now in
-    let k = stays g.T.Naming.valid c.args.self.now.shared.now.table.shared.key.passes (Draw c.args.updates.now.items c.args.seen.now.items c.args.loaded.now.items)
+    let drawn = Draw (g.L.CommitLists.updates c.args.lists.now) (g.L.CommitLists.seen c.args.lists.now) (g.L.CommitLists.loaded c.args.lists.now) in
+    let k = stays g.T.Naming.valid c.args.self.now.shared.now.table.shared.key.passes drawn
     c.args.self.now.seat.me c.raise_clock-clock.result c.raise_clock-clock.new.seat.me c.raise_clock-clock.ensures.tells in record {
       table = c.raise_clock-clock.ensures.table ∙ old.table;
       bare = k.bare old.bare;
@@ -24,7 +25,8 @@ invariant_of-self g c =
 
 pub returns : goal.returns
 returns g c =
-    let k = stays g.T.Naming.valid c.args.self.now.shared.now.table.shared.key.passes (Draw c.args.updates.now.items c.args.seen.now.items c.args.loaded.now.items)
+    let drawn = Draw (g.L.CommitLists.updates c.args.lists.now) (g.L.CommitLists.seen c.args.lists.now) (g.L.CommitLists.loaded c.args.lists.now) in
+    let k = stays g.T.Naming.valid c.args.self.now.shared.now.table.shared.key.passes drawn
     c.args.self.now.seat.me c.raise_clock-clock.result c.raise_clock-clock.new.seat.me c.raise_clock-clock.ensures.tells in record {
       tells = (c.raise_clock-clock.result, (omega arith), c.raise_clock-clock.ensures.tells.1);
       same = (refl, c.raise_clock-clock.ensures.table, k.opening, k.number, k.sizes, k.gathered);
