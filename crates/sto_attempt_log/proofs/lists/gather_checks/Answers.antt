@@ -2,7 +2,7 @@ use Rattle.std.proofs.Common.{arith, ℕ, List, sym, subst}
 use Rattle.std.proofs.lemmas.Grind.{common_steps}
 use Rattle.sto_core.specs.Allowed.{Rises}
 use Rattle.sto_attempt_log.proofs.Gathering.{with_maybe-rises}
-use Rattle.sto_attempt_log.proofs.lists.checks_of.Goals as goal
+use Rattle.sto_attempt_log.proofs.lists.gather_checks.Goals as goal
 
 pub loop-part-preserved : goal.loop-part-preserved
 loop-part-preserved c =
