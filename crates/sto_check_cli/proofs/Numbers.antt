@@ -10,7 +10,7 @@ use Rattle.std.proofs.lemmas.List.Elements.{All-nil, All-cons, All-head, All-tai
 use Rattle.sto_model.specs.PlainReplies.{PlainReply, Done, Value, Flag, Absent, Full, Range, Pairs}
 use Rattle.sto_model.specs.Rows.{Row, value_at, has_key, with_row, without, least_from, rows_between}
 use Rattle.sto_model.specs.SequentialObjects.{answered, changed}
-use Rattle.sto_model.specs.Objects.{Effect, effect, only_value, with_only, value_or_absent, in_range, done_in_range, box_effect, counter_effect, added_at, array_effect, put_effect, remove_effect, hash_effect, tree_effect, push_effect, popped, pop_effect, vector_effect, machines_of}
+use Rattle.sto_model.specs.Objects.{Effect, effect, only_value, with_only, value_or_absent, in_range, done_in_range, box_effect, counter_effect, added_at, array_effect, put_effect, remove_effect, hash_effect, tree_effect, push_effect, popped, pop_effect, vector_effect, machines_of, effect_of}
 use Rattle.sto_model.specs.Ranges.{in_range-cases}
 use Rattle.sto_model.specs.declared.call.Call.{Call}
 use Rattle.sto_model.specs.declared.operation.Operation.{Operation}
