@@ -40,12 +40,11 @@ with_turns file (Err kind) = Err kind
 abbrev pub with_schedule : File → List ℕ → Result File FaultKind
 with_schedule file text = with_turns file (schedule_of file text)
 
+-- a result of the definition is this fault, or memory could not be had
+abbrev pub IsFault : {A : Type 0} → Result A FaultKind → ScheduleError → Type 0
+IsFault told (Fault kind) = told ≡ Err kind
+IsFault told NoMemory = Unit {0}
+
 -- why words were not taken: the fault that is told is theirs, and want of memory may come at any time
 abbrev pub IsCause : File → List ℕ → ScheduleError → Type 0
-IsCause file text (Fault kind) = schedule_of file text ≡ Err kind
-IsCause file text NoMemory = Unit {0}
-
--- the same of entries
-abbrev pub IsEntriesCause : File → List ScheduleEntry → ScheduleError → Type 0
-IsEntriesCause file entries (Fault kind) = entries_in file entries ≡ Err kind
-IsEntriesCause file entries NoMemory = Unit {0}
+IsCause file text error = IsFault (with_schedule file text) error

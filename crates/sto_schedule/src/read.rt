@@ -4,7 +4,7 @@ ghost use Rattle.sto_syntax.specs.Views.{entries as entries_of};
 ghost use Rattle.sto_lang.specs.Sound.{IsSound};
 ghost use Rattle.sto_lang.specs.Views.{file as view};
 ghost use Rattle.sto_schedule.specs.declared.read.ScheduleError.TheVariants as errors;
-ghost use Rattle.sto_schedule.specs.Schedules.{entries_in, schedule_of, with_schedule, IsCause, IsEntriesCause};
+ghost use Rattle.sto_schedule.specs.Schedules.{entries_in, schedule_of, with_schedule, IsFault, IsCause};
 
 use crate::entry::{are_known_threads, are_turns, turns};
 use std::alloc::Global;
@@ -36,7 +36,7 @@ fn schedule_in(
 ) -> Result<Schedule, ScheduleError>
     requires { IsSound (view file.now) }
     ensures schedule { IfOk result (λ s. entries_in (view file.now) (entries_of entries.entry) ≡ Ok s.items) }
-    ensures cause { IfErr result (IsEntriesCause (view file.now) (entries_of entries.entry)) }
+    ensures cause { IfErr result (IsFault (entries_in (view file.now) (entries_of entries.entry))) }
 {
     let threads = file.threads.as_slice();
     if !entries.are_numbers() {
@@ -56,7 +56,7 @@ fn schedule_in(
 fn read_schedule(alloc: Global, file: &File, words: &[u8]) -> Result<Schedule, ScheduleError>
     requires { IsSound (view file.now) }
     ensures schedule { IfOk result (λ s. schedule_of (view file.now) words.now ≡ Ok s.items) }
-    ensures cause { IfErr result (IsCause (view file.now) words.now) }
+    ensures cause { IfErr result (IsFault (schedule_of (view file.now) words.now)) }
 {
     if words.len() > u32::MAX as usize {
         return Err(ScheduleError::NoMemory);
