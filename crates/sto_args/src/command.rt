@@ -111,7 +111,7 @@ fn given(alloc: Global, text: Option<&str>) -> Result<Option<GivenText>, NoMemor
 }
 
 /// What two options ask of outcomes. `None` in the result comes where both are given.
-fn asked(
+fn asked_for(
     alloc: Global,
     only: Option<&str>,
     never: Option<&str>,
@@ -318,7 +318,7 @@ fn explore(alloc: Global, words: &[&str]) -> Result<Option<Command>, NoMemory>
         return Ok(None);
     };
     let json = is_given(matches.get_str("json"));
-    let Some(asked) = asked(alloc, matches.get_str("where"), matches.get_str("never"))? else {
+    let Some(asked) = asked_for(alloc, matches.get_str("where"), matches.get_str("never"))? else {
         return Ok(None);
     };
     Ok(Some(Command::Explore {
