@@ -28,6 +28,7 @@ impl From<NoMemory> for ScheduleError {
     }
 }
 
+#[tactic(auto, using(sto_lang::proofs::ThreadLemmas::turns_in_range))]
 // The entries as those of a schedule of a file.
 fn schedule_in(
     alloc: Global,
