@@ -1,5 +1,5 @@
 -- Questions: which words are one for the objects of a file, and of which states it is true.
-use Rattle.std.specs.Prelude.{ℕ, ℤ, pos, ◌+ℤ◌, ◌-ℤ◌, ◌==◌, List, [], ◌∷◌, ◌++◌, Bool, true, false, if◌then◌else◌, find, Option, None, Some, option_and_then, Result, Ok, Err, codes}
+use Rattle.std.specs.Prelude.{ℕ, ℤ, pos, ◌+ℤ◌, ◌-ℤ◌, ◌==◌, List, [], ◌∷◌, ◌++◌, Bool, true, false, if◌then◌else◌, slice_get, position, Option, None, Some, option_and_then, Result, Ok, Err, codes}
 use Rattle.std.specs.List.{list_all, slice_split}
 use Rattle.std.specs.Str.{bytes_eq}
 use Rattle.sto_part.specs.Preds.{compares}
@@ -84,8 +84,9 @@ holds_one (Hash buckets places) = false
 holds_one (Tree leaves) = false
 holds_one (Vector capacity) = false
 
+-- the object with a name
 abbrev pub named : List Declaration → List ℕ → Option Declaration
-named declarations name = find (λ d. bytes_eq d.name name) declarations
+named declarations name = option_and_then (slice_get declarations) (position (λ d. bytes_eq d.name name) declarations)
 
 -- the value of an object without a key
 abbrev pub plain_amount : Option Declaration → Result Amount QuestionFault

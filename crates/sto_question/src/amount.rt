@@ -1,6 +1,7 @@
 //! The amount that a word is.
 ghost use Rattle.std.specs.Prelude.{◌≡◌, ◌∷◌, [], map, Option, Some, option_map, position};
 ghost use Rattle.std.specs.List.{slice_split};
+ghost use Rattle.std.specs.Str.{bytes_eq};
 ghost use Rattle.sto_syntax.specs.Words.{is_name, number_of};
 ghost use Rattle.sto_lang.specs.Objects.{Declaration};
 ghost use Rattle.sto_lang.specs.Views.{declaration};
@@ -28,17 +29,31 @@ fn holds_one(shape: &Shape) -> bool
     matches!(shape, Shape::Single(_) | Shape::Counter(_))
 }
 
+// What is asked of an object.
+fn known(decl: &Decl) -> KnownObject
+    ensures { result ≡ known (declaration decl.now) }
+{
+    KnownObject {
+        number: decl.number,
+        holds_one: holds_one(&decl.shape),
+    }
+}
+
+// The place of the object with a name.
+fn place_of(decls: &[Decl], name: &[u8]) -> Option<usize>
+    ensures { result ≡ position (λ d. bytes_eq d.name.items name.now) decls.now }
+{
+    decls.iter().position(|decl| decl.name.as_bytes() == name)
+}
+
 // The object with a name.
 fn named(decls: &[Decl], name: &[u8]) -> Option<KnownObject>
     ensures { result ≡ option_map known (named (map declaration decls.now) name.now) }
 {
-    let decl = decls
-        .iter()
-        .find(|decl| decl.name.as_bytes() == name)?;
-    Some(KnownObject {
-        number: decl.number,
-        holds_one: holds_one(&decl.shape),
-    })
+    match place_of(decls, name) {
+        Some(place) => Some(known(&decls[place])),
+        None => None,
+    }
 }
 
 // The value of an object without a key.
@@ -94,22 +109,32 @@ fn closing(word: &[u8]) -> Option<usize>
 fn bracketed_amount(decls: &[Decl], name: &[u8], rest: &[u8]) -> Result<Amount, QuestionFault>
     ensures { result ≡ bracketed_amount (map declaration decls.now) name.now (slice_split is_closing rest.now) }
 {
-    match closing(rest) {
-        Some(end) if end + 1 == rest.len() => keyed_amount(named(decls, name), &rest[..end]),
-        _ => Err(QuestionFault::BadWords),
-    }
-}
-
-// The same, where no opening bracket comes in what stands behind the first one.
-fn two_pieces(decls: &[Decl], name: &[u8], rest: &[u8]) -> Result<Amount, QuestionFault>
-    ensures { result ≡ object_amount (map declaration decls.now) (name.now ∷ slice_split is_opening rest.now) }
-{
-    if opening(rest).is_some() {
+    let Some(end) = closing(rest) else {
+        return Err(QuestionFault::BadWords);
+    };
+    if end + 1 != rest.len() {
         return Err(QuestionFault::BadWords);
     }
+    keyed_amount(named(decls, name), &rest[..end])
+}
+
+// The value that a name and what stands behind an opening bracket tell.
+fn with_key(decls: &[Decl], name: &[u8], rest: &[u8]) -> Result<Amount, QuestionFault>
+    ensures { result ≡ object_amount (map declaration decls.now) (name.now ∷ rest.now ∷ []) }
+{
     match Name::of(name) {
         Some(_) => bracketed_amount(decls, name, rest),
         None => Err(QuestionFault::BadWords),
+    }
+}
+
+// The same, where no other opening bracket comes.
+fn two_pieces(decls: &[Decl], name: &[u8], rest: &[u8]) -> Result<Amount, QuestionFault>
+    ensures { result ≡ object_amount (map declaration decls.now) (name.now ∷ slice_split is_opening rest.now) }
+{
+    match opening(rest) {
+        None => with_key(decls, name, rest),
+        Some(_) => Err(QuestionFault::BadWords),
     }
 }
 

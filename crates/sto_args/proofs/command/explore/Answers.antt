@@ -40,8 +40,8 @@ returns-in_default-states-clause-command c =
     let states = sym c.in_default-states.is ∙ c.states.ensures ∙ ap states_of (c.get_str-2.ensures ∙ found.1.1 (codes "states")) in
     (λ i. option_and_then (λ n. option_and_then (λ m. option_map (λ a. Explore n m json a) asked) (states i)) (by i)) ∙ sym (ap (option_and_then explore_of) found.1.0)
 
-pub returns-in_default-asked-clause-command : goal.returns-in_default-asked-clause-command
-returns-in_default-asked-clause-command c =
+pub returns-in_default-3-clause-command : goal.returns-in_default-3-clause-command
+returns-in_default-3-clause-command c =
     let words = map (λ word. word.now) c.args.words.now in
     let finds = subst (Finds (app_of c.in-Ok.grammar) words) c.in-Some.is c.in_ok-matches.ensures in
     let found = taken (codes "explore") explore_takes explore_is_built (app_of c.in-Ok.grammar) c.in-Ok.ensures words c.requires c.in-Some.matches finds in
@@ -50,7 +50,7 @@ returns-in_default-asked-clause-command c =
     let states = sym c.in-Some-states.is ∙ c.states.ensures ∙ ap states_of (c.get_str-2.ensures ∙ found.1.1 (codes "states")) in
     let only = c.get_str-4.ensures ∙ found.1.1 (codes "where") in
     let never = c.get_str-5.ensures ∙ found.1.1 (codes "never") in
-    let asked = sym c.in_default-asked.is ∙ c.in_ok-asked.ensures ∙ (λ i. asked_of (only i) (never i)) in
+    let asked = sym c.in_default-3.is ∙ c.in_ok-asked.ensures ∙ (λ i. asked_of (only i) (never i)) in
     (λ i. option_and_then (λ n. option_and_then (λ m. option_map (λ a. Explore n m json a) (asked i)) (states i)) (by i)) ∙ sym (ap (option_and_then explore_of) found.1.0)
 
 pub returns-clause-command : goal.returns-clause-command
@@ -63,5 +63,5 @@ returns-clause-command c =
     let json = c.is_given-json.ensures ∙ ap is_some (c.get_str-3.ensures ∙ found.1.1 (codes "json")) in
     let only = c.get_str-4.ensures ∙ found.1.1 (codes "where") in
     let never = c.get_str-5.ensures ∙ found.1.1 (codes "never") in
-    let asked = sym c.in-Some-asked.is ∙ c.in_ok-asked.ensures ∙ (λ i. asked_of (only i) (never i)) in
+    let asked = sym c.in-Some-2.is ∙ c.in_ok-asked.ensures ∙ (λ i. asked_of (only i) (never i)) in
     (λ i. option_and_then (λ n. option_and_then (λ m. option_map (λ a. Explore n m (json i) a) (asked i)) (states i)) (by i)) ∙ sym (ap (option_and_then explore_of) found.1.0)
