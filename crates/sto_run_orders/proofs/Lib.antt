@@ -2,4 +2,4 @@ pub mod Reporting
 pub mod Apart
 pub mod Listing
 pub mod Counts
-pub mod Asking
+pub mod ByState

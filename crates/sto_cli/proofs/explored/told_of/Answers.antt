@@ -5,7 +5,7 @@ use Rattle.sto_question.specs.Views.{question as question_of}
 use Rattle.sto_run_orders.specs.Asked.{asked_of}
 use Rattle.sto_run_orders.specs.Texts.{asked_in}
 use Rattle.sto_run_orders.specs.declared.report.OrderReport.{OrderReport}
-use Rattle.sto_run_orders.proofs.Asking.{asked_by_state}
+use Rattle.sto_run_orders.proofs.ByState.{asked_by_state}
 use Rattle.sto_cli.specs.Orders.{answer_for}
 use Rattle.sto_cli.proofs.explored.told_of.Goals as goal
 
