@@ -33,22 +33,9 @@
 
 #include "sto.h"
 
-#define STO_VERSION "0.1.0"
-#define STO_VERSION_NUMBER 100 /* of 1.2.3 it would be 10203 */
-
 #ifdef __cplusplus
 extern "C" {
 #endif
-
-/* The version that the program runs with, as STO_VERSION_NUMBER. */
-uint32_t sto_version(void);
-
-/* What the program stands on: "proved", the archive that the prover made, or "plain", the same sources without their contracts as
- * rustc compiled them, of which nothing is proved. */
-const char *sto_build(void);
-
-/* The sum of the sources of which that was made, as `.ci/sources sto_c` prints it. */
-const char *sto_sources(void);
 
 /* What the functions below answer besides the statuses of sto.h. */
 enum {

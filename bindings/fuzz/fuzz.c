@@ -81,9 +81,10 @@ static int64_t number(player *p)
 
 static sto_call some_call(player *p)
 {
-    sto_call call = {below(p, OBJECTS), below(p, STO_POP + 1), number(p), number(p)};
+    sto_call call = {.object = below(p, OBJECTS), .operation = below(p, STO_POP + 1), .a = number(p), .b = number(p)};
     for (int tries = 0; tries < 40 && !model_takes(call); tries++) call.operation = below(p, STO_POP + 1);
     if (call.operation == STO_TEST) call.a = below(p, 7);
+    call.numbers = below(p, 64) ? model_wants(call) : below(p, 4);
     if (!below(p, 64)) call.object = below(p, 2) ? OBJECTS : UINT32_MAX;
     if (!below(p, 64)) call.operation = below(p, 2) ? STO_POP + 1 : 256 + below(p, 14);
     return call;
@@ -104,6 +105,9 @@ static bool ask(player *p, committed *c)
     if (!model_takes(call)) NEED(status == STO_NO_CALL);
     if (status == STO_NO_CALL) NEED(!model_takes(call));
     if (status == STO_NO_CALL) return true;
+    if (call.numbers != model_wants(call)) NEED(status == STO_BAD_NUMBERS);
+    if (status == STO_BAD_NUMBERS) NEED(call.numbers != model_wants(call));
+    if (status == STO_BAD_NUMBERS) return true;
     if (status) {
         NEED(status == STO_ABORTED || (status == STO_NO_MEMORY && is_refusing));
         NEED(sto_cancel(&p->worker) == STO_NO_TRANSACTION);
@@ -156,7 +160,8 @@ static void run_whole(player *p)
     memset(c, 0, sizeof *c);
     while (c->count < 1 + below(p, CALLS_MOST)) {
         sto_call call = some_call(p);
-        if (call.object < OBJECTS && model_takes(call) && call.operation != STO_SCAN) c->calls[c->count++] = call;
+        bool is_lawful = call.object < OBJECTS && model_takes(call) && call.numbers == model_wants(call);
+        if (is_lawful && call.operation != STO_SCAN) c->calls[c->count++] = call;
     }
     uint32_t status = sto_run(&p->worker, c->calls, c->count, replies, CALLS_MOST, &c->place);
     NEED(status == STO_OK || status == STO_BUSY || (status == STO_NO_MEMORY && is_refusing));

@@ -45,6 +45,23 @@ bool model_takes(sto_call call)
     return call.operation != STO_TEST || (call.a >= STO_EQ && call.a <= STO_GE);
 }
 
+uint32_t model_wants(sto_call call)
+{
+    bool has_places = shapes[call.object].kind != STO_BOX && shapes[call.object].kind != STO_COUNTER;
+    switch (call.operation) {
+    case STO_GET: return has_places;
+    case STO_SET:
+    case STO_ADD: return 1 + has_places;
+    case STO_LEN:
+    case STO_POP: return 0;
+    case STO_TEST:
+    case STO_PUT:
+    case STO_COUNT:
+    case STO_SCAN: return 2;
+    default: return 1;
+    }
+}
+
 bool model_wrote(sto_call call, sto_reply reply)
 {
     return reply.answer == STO_DONE || (reply.answer == STO_FLAG && reply.value && (call.operation == STO_TAKE || call.operation == STO_REMOVE)) ||

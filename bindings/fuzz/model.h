@@ -34,6 +34,9 @@ model model_new(void);
 /* Whether an object takes a call. */
 bool model_takes(sto_call call);
 
+/* How many numbers its operation wants of its object, which takes it. */
+uint32_t model_wants(sto_call call);
+
 /* Makes a call that is taken. */
 answered model_ask(model *, sto_call call);
 

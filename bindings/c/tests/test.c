@@ -288,6 +288,7 @@ int main(int argc, char **argv)
     test_fork();
     test_calls();
     NEED(!strcmp(sto_status_text(STO_ABORTED), "the transaction met another one") && sto_version() == STO_VERSION_NUMBER);
+    NEED(!strcmp(sto_version_text(), STO_VERSION));
     NEED(!strcmp(sto_build(), "plain") || !strcmp(sto_build(), "proved"));
     printf("the door, on the %s library: all is well\n", sto_build());
     return 0;

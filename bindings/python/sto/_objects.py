@@ -61,7 +61,7 @@ class Box(Object):
     __slots__ = ()
 
     def __getitem__(self, tx: Transaction) -> int:
-        return tx._ask(self, raw.GET, 0).value
+        return tx._ask(self, raw.GET).value
 
     def __setitem__(self, tx: Transaction, value: int) -> None:
         tx._ask(self, raw.SET, word(value))
@@ -73,7 +73,7 @@ class Counter(Object):
     __slots__ = ()
 
     def __getitem__(self, tx: Transaction) -> int:
-        return tx._ask(self, raw.GET, 0).value
+        return tx._ask(self, raw.GET).value
 
     def add(self, tx: Transaction, delta: int = 1) -> None:
         if tx._ask(self, raw.ADD, word(delta)).answer == raw.RANGE:
@@ -153,7 +153,7 @@ class Keyed(Object):
         return tx._ask(self, raw.GET, self._key(key)).answer != raw.ABSENT
 
     def len(self, tx: Transaction) -> int:
-        return tx._ask(self, raw.LEN, 0).value
+        return tx._ask(self, raw.LEN).value
 
 
 class Table(Keyed):
@@ -199,10 +199,10 @@ class Vector(Object):
             raise Full(f"{self!r} has no room")
 
     def pop(self, tx: Transaction) -> int:
-        reply = tx._ask(self, raw.POP, 0)
+        reply = tx._ask(self, raw.POP)
         if reply.answer == raw.ABSENT:
             raise IndexError("the vector is empty")
         return reply.value
 
     def len(self, tx: Transaction) -> int:
-        return tx._ask(self, raw.LEN, 0).value
+        return tx._ask(self, raw.LEN).value

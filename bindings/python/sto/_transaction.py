@@ -68,14 +68,15 @@ class Transaction:
         if self._stopped is not None:
             raise Stop
 
-    def _ask(self, thing: "Object", operation: int, a: int, b: int = 0) -> raw.Reply:
+    def _ask(self, thing: "Object", operation: int, a: Optional[int] = None, b: Optional[int] = None) -> raw.Reply:
         self._see()
         if thing._store is not self._store:
             raise ValueError("the object is one of another store")
         if operation in raw.CHANGES:
             self._wrote = True
         call = self._call
-        call.object, call.operation, call.a, call.b = thing._number, operation, a, b
+        call.object, call.operation, call.numbers = thing._number, operation, (a is not None) + (b is not None)
+        call.a, call.b = a or 0, b or 0
         status = lib.sto_ask(self._worker.at, self._call_at, self._reply_at)
         if status:
             self._stopped = status

@@ -30,8 +30,19 @@ pub struct Shape {
 pub struct Call {
     pub object: u32,
     pub operation: u32,
+    pub numbers: u32,
+    pub unused: u32,
     pub a: i64,
     pub b: i64,
+}
+
+impl Call {
+    /// The call of an operation with these numbers, two at most.
+    #[inline]
+    pub fn new(object: u32, operation: u32, numbers: &[i64]) -> Call {
+        let number = |at: usize| numbers.get(at).copied().unwrap_or(0);
+        Call { object, operation, numbers: numbers.len() as u32, unused: 0, a: number(0), b: number(1) }
+    }
 }
 
 #[repr(C)]

@@ -76,13 +76,14 @@ impl Tx<'_> {
     }
 
     #[inline]
-    pub(crate) fn ask(&mut self, id: Id, operation: u32, a: i64, b: i64) -> Result<raw::Reply, Stop> {
+    pub(crate) fn ask<const N: usize>(&mut self, id: Id, operation: u32, numbers: [i64; N]) -> Result<raw::Reply, Stop> {
         self.alive()?;
         if id.store != self.inner.id {
             return Err(self.stop(Error::OtherStore(id.object)));
         }
         self.wrote |= READS >> operation & 1 == 0;
-        let call = raw::Call { object: self.inner.bases[id.object.kind as usize] + id.object.index, operation, a, b };
+        let object = self.inner.bases[id.object.kind as usize] + id.object.index;
+        let call = raw::Call::new(object, operation, &numbers);
         let mut reply = raw::Reply { answer: 0, unused: 0, value: 0 };
         match unsafe { raw::sto_ask(self.worker, &call, &mut reply) } {
             raw::OK => Ok(reply),

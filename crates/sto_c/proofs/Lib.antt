@@ -1,3 +1,5 @@
+pub mod Asking
+pub mod Scalars
 pub mod Values
 pub mod Copying
 pub mod Planned

@@ -1,3 +1,4 @@
+pub mod Calls
 pub mod Content
 pub mod Crossing
 pub mod Raw

@@ -27,6 +27,7 @@ number status.BadSize = 16
 number status.TooMany = 17
 number status.NoRoom = 18
 number status.WorkersOut = 19
+number status.BadNumbers = 20
 
 -- 0 is that of a call that was done
 abbrev pub number_of : Result (Unit {0}) Status → ℕ

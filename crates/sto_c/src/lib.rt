@@ -31,6 +31,7 @@ ghost use Rattle.sto_c.specs.Steps.{
 ghost use Rattle.sto_c.specs.Whole.{HasRunWhole};
 
 mod calls;
+mod checking;
 mod content;
 mod crossing;
 mod handle;

@@ -26,6 +26,7 @@ pub enum Status {
     TooMany,
     NoRoom,
     WorkersOut,
+    BadNumbers,
 }
 
 impl Status {
@@ -53,6 +54,7 @@ impl Status {
             Status::TooMany => 17,
             Status::NoRoom => 18,
             Status::WorkersOut => 19,
+            Status::BadNumbers => 20,
         }
     }
 }
