@@ -231,6 +231,13 @@ uint32_t sto_ask(sto_handle *worker, const sto_call *call, sto_reply *reply);
  * calls. */
 uint32_t sto_pairs(sto_handle *worker, sto_pair *pairs, size_t room, size_t *count);
 
+/* Copies the next pairs of a tree: those of its keys from `from` on, in their order, as many as there is room for, and writes how many
+ * they are. Where it writes fewer than there is room for, the tree has no more; else the next piece begins behind the last key. It asks
+ * STO_NEXT and STO_GET in turn, so the transaction has read nothing else, and its last reply has no pairs. Where the answer is not
+ * STO_OK, some pairs may have been written, and they count for nothing. (No operation finds the keys of a hash table: a program that
+ * is to walk them keeps them in a tree besides, or reads the rows of the closed store.) */
+uint32_t sto_walk(sto_handle *worker, uint32_t object, int64_t from, sto_pair *pairs, size_t room, size_t *count);
+
 /* Commits the transaction, and writes its place in the order: its ticket, or the number as of which it read where it wrote
  * nothing. Whatever becomes of it, the worker is in no transaction then. */
 uint32_t sto_commit(sto_handle *worker, uint64_t *place);

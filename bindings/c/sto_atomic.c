@@ -670,6 +670,15 @@ size_t sto_tree_scan(sto_tx *tx, sto_tree o, int64_t first, int64_t last, sto_pa
     return status ? 0 : count;
 }
 
+size_t sto_tree_walk(sto_tx *tx, sto_tree o, int64_t from, sto_pair *pairs, size_t room)
+{
+    size_t count = 0;
+    if (!may_ask(tx, STO_TREE, o.store, o.index)) return 0;
+    uint32_t status = sto_walk(tx->worker, tx->store->bases[STO_TREE] + o.index, from, pairs, room, &count);
+    if (status) stop(tx, status);
+    return count;
+}
+
 bool sto_vector_get(sto_tx *tx, sto_vector o, int64_t at, int64_t *value) { return has_value(ASK1(STO_VECTOR, o, STO_GET, at), value); }
 bool sto_vector_try_push(sto_tx *tx, sto_vector o, int64_t value) { return ASK1(STO_VECTOR, o, STO_PUSH, value).answer == STO_DONE; }
 void sto_vector_push(sto_tx *tx, sto_vector o, int64_t value) { had_room(tx, sto_vector_try_push(tx, o, value)); }

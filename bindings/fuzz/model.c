@@ -158,6 +158,13 @@ static answered scan(const content *c, int64_t first, int64_t last)
     return all;
 }
 
+static answered walk(const content *c, int64_t from, int64_t room)
+{
+    answered all = scan(c, from, INT64_MAX);
+    if (all.count > room) all.reply.value = all.count = (uint32_t)room;
+    return all;
+}
+
 answered model_ask(model *m, sto_call call)
 {
     content *c = &m->objects[call.object];
@@ -177,6 +184,7 @@ answered model_ask(model *m, sto_call call)
     case STO_NEXT: return (answered){.reply = next < c->count ? value(c->pairs[next].key) : absent};
     case STO_COUNT: return (answered){.reply = value(scan(c, a, b).count)};
     case STO_SCAN: return scan(c, a, b);
+    case WALK: return walk(c, a, b);
     case STO_PUSH: return (answered){.reply = c->count < s->size ? put(c, c->count, a, false) : full};
     default: return (answered){.reply = pop(c)};
     }

@@ -7,7 +7,10 @@
 
 #include "sto.h"
 
-enum { OBJECTS = 9, KEYS_MOST = 32 };
+enum { OBJECTS = 9, FIRST_TREE = 6, TREES = 2, KEYS_MOST = 32 };
+
+/* The operation by which the model notes a walk of a tree from a, with room for b pairs. */
+enum { WALK = 1000 };
 
 /* The objects of each run, in the order of sto.h. */
 extern const sto_shape shapes[OBJECTS];

@@ -22,6 +22,26 @@ static void see_order(sto_handle *worker)
     expect(sto_call_of(worker, 1, STO_TEST, 1, 9, 0, &reply), STO_NO_CALL, "comparison 9, one number");
 }
 
+/* A tree with the keys 1 and 2, piece by piece. */
+static void see_walk(sto_handle *worker)
+{
+    sto_pair pairs[2], last = {INT64_MAX, 7};
+    sto_reply reply;
+    size_t count = 9;
+    expect(sto_walk(worker, 2, 0, pairs, 2, &count), STO_NO_CALL, "walk of a hash table");
+    expect(sto_walk(worker, 9, 0, pairs, 2, &count), STO_NO_OBJECT, "walk of no object");
+    need(sto_walk(worker, 3, 1, pairs, 0, &count), "sto_walk without room");
+    if (count != 0) wrong++;
+    need(sto_walk(worker, 3, INT64_MIN, pairs, 1, &count), "sto_walk");
+    if (count != 1 || pairs[0].key != 1 || pairs[0].value != 10) wrong++;
+    need(sto_walk(worker, 3, 2, pairs, 2, &count), "sto_walk of the rest");
+    if (count != 1 || pairs[0].key != 2 || pairs[0].value != 20) wrong++;
+    need(sto_put(worker, 3, last.key, last.value, &reply), "sto_put of the last key of all");
+    need(sto_walk(worker, 3, 3, pairs, 2, &count), "sto_walk to the last key of all");
+    if (count != 1 || pairs[0].key != last.key || pairs[0].value != last.value) wrong++;
+    need(sto_remove(worker, 3, last.key, &reply), "sto_remove");
+}
+
 /* The same of shapes: each is looked at whole, and then the number of workers. */
 static void see_order_of_shapes(void)
 {
@@ -88,6 +108,7 @@ int main(void)
     expect(sto_commit(&worker, &number), STO_NO_TRANSACTION, "commit outside");
     expect(sto_cancel(&worker), STO_NO_TRANSACTION, "cancel outside");
     expect(sto_pairs(&worker, pairs, 4, &count), STO_NO_TRANSACTION, "pairs outside");
+    expect(sto_walk(&worker, 3, 0, pairs, 4, &count), STO_NO_TRANSACTION, "walk outside");
 
     /* within one: the transaction goes on */
     need(sto_begin(&worker), "sto_begin");
@@ -120,6 +141,7 @@ int main(void)
     need(sto_scan(&worker, 3, 0, 9, &reply), "sto_scan");
     expect(sto_pairs(&worker, pairs, 1, &count), STO_NO_ROOM, "room for one pair of two");
     need(sto_pairs(&worker, pairs, 4, &count), "sto_pairs");
+    see_walk(&worker);
     need(sto_commit(&worker, &number), "sto_commit");
     if (count != 2 || pairs[1].value != 20) {
         wrong++;

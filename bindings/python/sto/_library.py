@@ -52,6 +52,7 @@ FUNCTIONS = {
     "sto_open": [HANDLE, POINTER(Shape), c_size_t, c_uint32], "sto_worker": [HANDLE, HANDLE], "sto_give_back": [HANDLE],
     "sto_close": [HANDLE], "sto_rows": [HANDLE, POINTER(Row), c_size_t, SIZE], "sto_free": [HANDLE], "sto_begin": [HANDLE],
     "sto_ask": [HANDLE, POINTER(Call), POINTER(Reply)], "sto_pairs": [HANDLE, POINTER(Pair), c_size_t, SIZE],
+    "sto_walk": [HANDLE, c_uint32, c_int64, POINTER(Pair), c_size_t, SIZE],
     "sto_commit": [HANDLE, POINTER(c_uint64)], "sto_cancel": [HANDLE],
 }
 

@@ -169,9 +169,13 @@ class Tree(Keyed):
     __slots__ = ()
 
     def items(self, tx: Transaction, low: Optional[int] = None, high: Optional[int] = None, limit: Optional[int] = None) -> List[Tuple[int, int]]:
-        """The keys from `low` to `high`, both of them with it, and their values; at most `limit`."""
-        many = tx._ask(self, raw.SCAN, LEAST if low is None else word(low), MOST if high is None else word(high)).value
-        return tx._pairs(many)[:limit]
+        """The keys from `low` to `high`, both of them with it, and their values; at most `limit`, and then no key beyond them is read."""
+        first, last = LEAST if low is None else word(low), MOST if high is None else word(high)
+        if limit is None:
+            return tx._pairs(tx._ask(self, raw.SCAN, first, last).value)
+        if limit < 0:
+            raise ValueError("a limit is at least 0")
+        return [(key, value) for key, value in tx._walk(self, first, limit) if key <= last]
 
     def next(self, tx: Transaction, key: int) -> Optional[int]:
         """The least key that is at least this one."""

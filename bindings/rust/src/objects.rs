@@ -324,6 +324,17 @@ impl<K: Key, V: Word> Tree<K, V> {
         };
         let many = tx.ask(self.id, raw::SCAN, [low, high])?.value as usize;
         let pairs = tx.pairs(many)?;
+        self.held_pairs(tx, pairs)
+    }
+
+    /// The first keys from this one on with their values, at most `limit`. Where they are fewer, there are no more. The transaction has
+    /// read no key beyond them.
+    pub fn walk(&self, tx: &mut Tx<'_>, from: K, limit: usize) -> Result<Vec<(K, V)>, Stop> {
+        let pairs = tx.walk(self.id, from.to_word(), limit)?;
+        self.held_pairs(tx, pairs)
+    }
+
+    fn held_pairs(&self, tx: &mut Tx<'_>, pairs: Vec<raw::Pair>) -> Result<Vec<(K, V)>, Stop> {
         pairs.into_iter().map(|it| Ok((held(tx, self.id, it.key)?, held(tx, self.id, it.value)?))).collect()
     }
 }

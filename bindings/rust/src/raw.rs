@@ -78,6 +78,7 @@ extern "C" {
     pub fn sto_begin(worker: *mut Handle) -> u32;
     pub fn sto_ask(worker: *mut Handle, call: *const Call, reply: *mut Reply) -> u32;
     pub fn sto_pairs(worker: *mut Handle, pairs: *mut Pair, room: usize, count: *mut usize) -> u32;
+    pub fn sto_walk(worker: *mut Handle, object: u32, from: i64, pairs: *mut Pair, room: usize, count: *mut usize) -> u32;
     pub fn sto_commit(worker: *mut Handle, place: *mut u64) -> u32;
     pub fn sto_cancel(worker: *mut Handle) -> u32;
     pub fn sto_build() -> *const c_char;

@@ -5,4 +5,5 @@ pub mod Raw
 pub mod Statuses
 pub mod Steps
 pub mod Stores
+pub mod Walks
 pub mod Whole

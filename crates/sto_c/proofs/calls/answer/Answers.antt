@@ -1,4 +1,4 @@
--- The call is the one that C asks.
+-- The call is the one that C asks, and nothing is wrong with it.
 use Rattle.std.proofs.Common.{refl}
 use Rattle.sto_c.proofs.Asking.{ends}
 use Rattle.sto_c.proofs.calls.answer.Goals as goal
