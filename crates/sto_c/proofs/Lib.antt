@@ -8,4 +8,5 @@ pub mod Sending
 pub mod Walking
 pub mod Whole
 pub mod Gathering
+pub mod Refusals
 pub mod Refutations

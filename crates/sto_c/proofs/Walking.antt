@@ -1,6 +1,7 @@
 -- The pairs of a walk, one behind the other.
-use Rattle.std.proofs.Common.{◌≡◌, ◌≤◌, ℕ, ℤ, List, [], ◌∷◌, ◌++◌, length, take, drop, Option, Some, None, refl, sym, ap, ◌∙◌, subst}
-use Rattle.std.proofs.lemmas.List.{length-take-le, take-append-drop}
+use Rattle.std.proofs.Common.{◌≡◌, ◌≤◌, ◌<◌, ◌+◌, ℕ, ℤ, List, [], ◌∷◌, ◌++◌, length, take, drop, Option, Some, None, refl, sym, ap, ◌∙◌, subst}
+use Rattle.std.specs.Prelude.{slice_set}
+use Rattle.std.proofs.lemmas.List.{length-take-le, take-append-drop, drop-set, drop-drop}
 use Rattle.sto_c.specs.declared.crossing.PairOut.{PairOut}
 use Rattle.sto_c.specs.declared.content.WorkerHandle.{WorkerHandle}
 use Rattle.sto_c.specs.Walks.{key_after, HasFound, HaveFound}
@@ -21,3 +22,9 @@ have_found_more object (Some g) (p ∷ ps) f pair h m k found next = (found.0, f
 pub written_at : {X : Type 0} (n : ℕ) (new old : List X) → n ≤ length new → drop n new ≡ drop n old → new ≡ take n new ++ drop (length (take n new)) old
 written_at n new old room behind =
     sym (take-append-drop n new) ∙ ap (λ l. take n new ++ l) (behind ∙ ap (λ (k : ℕ). drop k old) (sym (length-take-le n new room)))
+
+-- what lies behind the next place is as it was
+pub left_behind : {X : Type 0} (n : ℕ) (pairs old : List X) (x : X) → n < length pairs → drop n pairs ≡ drop n old → drop (n + 1) (slice_set pairs n x) ≡ drop (n + 1) old
+left_behind n pairs old x room same =
+    let written : drop 1 (drop n (slice_set pairs n x)) ≡ drop (n + 1) pairs = ap (drop 1) (drop-set pairs n x room) in
+    sym (drop-drop 1 n (slice_set pairs n x)) ∙ written ∙ sym (drop-drop 1 n pairs) ∙ ap (drop 1) same ∙ drop-drop 1 n old

@@ -1,5 +1,5 @@
 -- What a walk over the keys of a tree leads to: it asks for the next key and for the value there, in turn.
-use Rattle.std.specs.Prelude.{◌≡◌, ◌≢◌, ◌⊎◌, ◌++◌, ◌+ℤ◌, ℕ, ℤ, pos, nat_eq, if◌then◌else◌, List, [], ◌∷◌, length, drop, Result, Ok, Err, Option, Some, None}
+use Rattle.std.specs.Prelude.{◌≡◌, ◌≤◌, ◌⊎◌, ◌++◌, ◌+ℤ◌, ℕ, ℤ, pos, nat_eq, if◌then◌else◌, List, [], ◌∷◌, length, drop, Result, Ok, Err, Option, Some, None}
 use Rattle.std.specs.Ordering.{int_eq}
 use Rattle.sto_model.specs.Objects.{greatest}
 use Rattle.sto_model.specs.Operations.{code_of}
@@ -64,5 +64,6 @@ module _ (object : ℕ) where
     pub to : Option ℤ
     pub at : WorkerHandle
     pub found : HaveFound (Some from) pairs to h at
+    pub fits : length pairs ≤ length old
     pub written : new ≡ pairs ++ drop (length pairs) old
     pub stopped : HasStopped pairs to (length old) count at done k
