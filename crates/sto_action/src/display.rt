@@ -12,7 +12,10 @@ impl fmt::Display for TransactionError {
         match self {
             TransactionError::Busy => write!(f, "aborted too often"),
             TransactionError::Refused(_) => {
-                write!(f, "an object does not take a call, or the calls are too many")
+                write!(
+                    f,
+                    "an object does not take a call, or the calls are too many"
+                )
             }
             TransactionError::Worn => write!(f, "no tickets are left"),
             TransactionError::NoMemory => write!(f, "out of memory"),

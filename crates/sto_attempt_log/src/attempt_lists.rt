@@ -11,11 +11,19 @@ use sto_model::Replies;
 ///
 /// Who runs attempts lends them to one after the other, which puts them back at its end. What still stands in them is used no more, so
 /// contracts see nothing of it.
-#[derive(Drop)]
 pub struct AttemptLists {
     alloc: Global,
     // None before the first attempt, and while one has them. After want of memory they are lost, and the next attempt begins with none.
     table: Option<Table>,
+}
+
+impl Drop for AttemptLists {
+    fn drop(self) {
+        let AttemptLists {
+            alloc: _alloc,
+            table: _table,
+        } = self;
+    }
 }
 
 impl Model for AttemptLists {

@@ -13,7 +13,6 @@ use sto_type::{AnswerPool, Cache};
 /// What an attempt works on: what it has found out, the words that it reads, and the lists of its commit.
 ///
 /// A worker makes it once. Attempt after attempt works on its lists in place, so that their room stays, and it is never taken apart.
-#[derive(Drop)]
 pub struct Table {
     /// What the body was answered.
     pub replies: Replies,
@@ -33,6 +32,23 @@ pub struct Table {
     pub extension: Extension,
     /// What the commit is led by, and what it finds.
     pub lists: Lists,
+}
+
+// By hand, so that whoever drops an attempt drops a table and not each of its lists.
+impl Drop for Table {
+    fn drop(self) {
+        let Table {
+            replies: _replies,
+            set: _set,
+            base: _base,
+            cache: _cache,
+            scratch: _scratch,
+            pool: _pool,
+            words: _words,
+            extension: _extension,
+            lists: _lists,
+        } = self;
+    }
 }
 
 impl Table {

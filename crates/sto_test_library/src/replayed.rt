@@ -46,6 +46,12 @@ fn code_gives_up(rt: HostRuntime) {
 fn a_call_is_answered_by_what_was_heard(rt: HostRuntime) {
     let heard = [ShortReply::Flag(true)];
     let mut tx = Tx::of_heard(&heard);
-    assert_eq!(rt; tx.ask(call(Operation::Take, 3)), Ok(ShortReply::Flag(true)));
-    assert_eq!(rt; tx.ask(call(Operation::Take, 3)), Err(Stop::Asks(call(Operation::Take, 3))));
+    assert_eq!(rt;
+        tx.ask(call(Operation::Take, 3)),
+        Ok(ShortReply::Flag(true))
+    );
+    assert_eq!(rt;
+        tx.ask(call(Operation::Take, 3)),
+        Err(Stop::Asks(call(Operation::Take, 3)))
+    );
 }

@@ -6,7 +6,9 @@ ghost use Rattle.sto_model.specs.declared.shape.Shape.TheVariants.{Single, Tree}
 
 use std::alloc::Global;
 use sto_lang::{Arg, Names, Script, Stmt, Stmts, Text};
-use sto_model::{Body, Call, End, Next, Operation, Outcome, Reply, Shape, Shapes, State, serial_run};
+use sto_model::{
+    Body, Call, End, Next, Operation, Outcome, Reply, Shape, Shapes, State, serial_run,
+};
 use sto_part::{List, NoMemory, Test};
 use sto_script::ScriptBody;
 
@@ -130,7 +132,8 @@ fn example_of_a_body(alloc: Global) -> Result<bool, NoMemory> {
         a: SECOND,
         b: FIRST,
     };
-    let body = list!(alloc; ask!(Some(0), Operation::Get, ZERO, ZERO), set, ask!(None, Operation::Set, SECOND, ZERO));
+    let body =
+        list!(alloc; ask!(Some(0), Operation::Get, ZERO, ZERO), set, ask!(None, Operation::Set, SECOND, ZERO));
     let script = script_of(alloc, 2, body, 4)?;
     let mut body = ScriptBody::new(alloc, &script)?;
     let first = asks_and_commits(&mut body);
