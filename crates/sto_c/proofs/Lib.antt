@@ -5,7 +5,7 @@ pub mod Copying
 pub mod Planned
 pub mod Replies
 pub mod Sending
-pub mod Walking
+pub mod Walked
 pub mod Whole
 pub mod Gathering
 pub mod Refusals

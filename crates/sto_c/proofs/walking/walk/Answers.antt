@@ -4,7 +4,7 @@ use Rattle.std.specs.Prelude.{slice_set}
 use Rattle.std.proofs.lemmas.List.{take_more_set, length-take-le, length-set}
 use Rattle.sto_c.specs.declared.crossing.PairOut.{PairOut}
 use Rattle.sto_c.specs.Walks.{key_after, HaveFound, HasNone, HasNotFound}
-use Rattle.sto_c.proofs.Walking.{have_found_more, written_at, left_behind}
+use Rattle.sto_c.proofs.Walked.{have_found_more, written_at, left_behind}
 use Rattle.sto_c.proofs.walking.walk.Goals as goal
 
 pub loop-place-init : goal.loop-place-init
