@@ -133,20 +133,22 @@ typedef struct sto_shape {
     int64_t value;
 } sto_shape;
 
-/* The operations, each with the kinds that take it, the numbers that it wants, and what it answers. */
+/* The operations, each with the kinds that take it, the numbers that it wants, and what it answers; and the time that it takes by the
+ * object's size, where that is not the same for any size: by the places of one bucket, by the leaves of a tree (its size), by the keys
+ * that are answered, or by all that the object has room for, of which twice as much takes up to four times as long. */
 typedef enum sto_operation {
-    STO_GET = 0,    /* box, counter: its value; array, hash, tree, vector at a: the value there, or absent */
+    STO_GET = 0,    /* box, counter: its value; array, hash, tree, vector at a: the value there, or absent. Hash: places; tree: leaves */
     STO_SET = 1,    /* box to a: done; array at a to b: done, or absent */
     STO_ADD = 2,    /* counter by a: done, or range; array at a by b: done, absent or range */
     STO_TEST = 3,   /* counter, vector: whether its value or length compares as a (sto_comparison) with b */
     STO_TAKE = 4,   /* counter: no where it is below a; else yes, and it falls by a, or range */
-    STO_PUT = 5,    /* hash, tree: a key a with the value b: done, or full */
-    STO_REMOVE = 6, /* hash, tree: whether the key a was there */
-    STO_HAS = 7,    /* hash: whether the key a is there */
-    STO_LEN = 8,    /* hash, tree, vector: how many keys or values */
-    STO_NEXT = 9,   /* tree: the least key that is at least a, or absent */
-    STO_COUNT = 10, /* tree: how many keys from a to b */
-    STO_SCAN = 11,  /* tree: the keys from a to b with their values: pairs, which sto_pairs copies */
+    STO_PUT = 5,    /* hash, tree: a key a with the value b: done, or full. Hash: places; tree: leaves */
+    STO_REMOVE = 6, /* hash, tree: whether the key a was there. Hash: places; tree: leaves */
+    STO_HAS = 7,    /* hash: whether the key a is there. Places */
+    STO_LEN = 8,    /* hash, tree, vector: how many keys or values. Hash: all */
+    STO_NEXT = 9,   /* tree: the least key that is at least a, or absent. Leaves */
+    STO_COUNT = 10, /* tree: how many keys from a to b. Leaves and keys; of most keys of the tree, all */
+    STO_SCAN = 11,  /* tree: the keys from a to b with their values: pairs, which sto_pairs copies. As STO_COUNT */
     STO_PUSH = 12,  /* vector: a comes last: done, or full */
     STO_POP = 13    /* vector: the last value, which goes, or absent */
 } sto_operation;
@@ -196,63 +198,67 @@ typedef struct sto_row {
 } sto_row;
 
 /* Opens a store of these objects, for so many workers, which all rest in it, and puts it into a handle that holds nothing. Where
- * objects cannot be, the status is that of the first one. */
+ * objects cannot be, the status is that of the first one. It takes time and memory by what all objects have room for. */
 uint32_t sto_open(sto_handle *store, const sto_shape *shapes, size_t count, uint32_t workers);
 
-/* Takes a worker that rests in a store, and puts it into a handle that holds nothing: the two handles are different ones. */
+/* Takes a worker that rests in a store, and puts it into a handle that holds nothing: the two handles are different ones. Where none
+ * rests it looks for those that came back, which takes time by how many are out. */
 uint32_t sto_worker(sto_handle *store, sto_handle *worker);
 
 /* Gives a worker back to its store, and leaves the handle holding nothing. It can be taken again. One that is in a transaction is
- * refused (STO_IN_TRANSACTION), and stays in it. */
+ * refused (STO_IN_TRANSACTION), and stays in it. It takes the same time for any store. */
 uint32_t sto_give_back(sto_handle *worker);
 
 /* Closes a store in which all its workers rest: its handle then holds the rows of its objects, as the last commit left them.
  * Where not all were given back the store stays open (STO_WORKERS_OUT), and where a call that gave one back has not returned yet
- * (STO_BUSY). Where memory is wanting it stays open or, at the end, is lost: then the handle holds nothing. */
+ * (STO_BUSY). Where memory is wanting it stays open or, at the end, is lost: then the handle holds nothing. It takes time by
+ * what all objects have room for. */
 uint32_t sto_close(sto_handle *store);
 
 /* Copies the rows of a store that was closed, by object and key, and writes how many they are. Where there is less room it copies
- * none, and answers STO_NO_ROOM. */
+ * none, and answers STO_NO_ROOM. It takes time by the rows. */
 uint32_t sto_rows(sto_handle *closed, sto_row *rows, size_t room, size_t *count);
 
 /* Frees what a handle holds, and leaves it holding nothing. A transaction that a worker is in is given up. A worker that was
- * freed does not come back to its store, which can then not be closed. */
+ * freed does not come back to its store, which can then not be closed. Of the last handle of a store it takes time by what all objects
+ * have room for. */
 uint32_t sto_free(sto_handle *handle);
 
-/* Begins a transaction. */
+/* Begins a transaction. It takes the same time for any store. */
 uint32_t sto_begin(sto_handle *worker);
 
 /* Asks a call of the transaction that the worker is in, and writes what it answered. The answers so far are those of one state
- * of the objects, also where the transaction is aborted later. The call and the reply may not overlap. */
+ * of the objects, also where the transaction is aborted later. The call and the reply may not overlap. It takes time as sto_operation
+ * says; and where another transaction has changed something meanwhile, by all that this one has observed, once in each call. */
 uint32_t sto_ask(sto_handle *worker, const sto_call *call, sto_reply *reply);
 
 /* Copies the pairs of the last reply of the transaction that the worker is in, and writes how many they are. Where there is
  * less room it copies none, and answers STO_NO_ROOM. A last reply of another form has none, and so has a transaction without
- * calls. */
+ * calls. It takes time by the pairs. */
 uint32_t sto_pairs(sto_handle *worker, sto_pair *pairs, size_t room, size_t *count);
 
 /* Copies the next pairs of a tree: those of its keys from `from` on, in their order, as many as there is room for, and writes how many
  * they are. Where it writes fewer than there is room for, the tree has no more; else the next piece begins behind the last key. It asks
- * STO_NEXT and STO_GET in turn, so the transaction has read nothing else, and its last reply has no pairs. Where the answer is not
- * STO_OK, some pairs may have been written, and they count for nothing. (No operation finds the keys of a hash table: a program that
- * is to walk them keeps them in a tree besides, or reads the rows of the closed store.) */
+ * STO_NEXT and STO_GET in turn and takes their time; the transaction has read nothing else, and its last reply has no pairs. Where the
+ * answer is not STO_OK, some pairs may have been written, and they count for nothing. (No operation finds the keys of a hash table: a
+ * program that is to walk them keeps them in a tree besides, or reads the rows of the closed store.) */
 uint32_t sto_walk(sto_handle *worker, uint32_t object, int64_t from, sto_pair *pairs, size_t room, size_t *count);
 
 /* Commits the transaction, and writes its place in the order: its ticket, or the number as of which it read where it wrote
- * nothing. Whatever becomes of it, the worker is in no transaction then. */
+ * nothing. Whatever becomes of it, the worker is in no transaction then. It takes time by what the transaction has observed and written. */
 uint32_t sto_commit(sto_handle *worker, uint64_t *place);
 
-/* Gives the transaction up: nothing of it takes effect. */
+/* Gives the transaction up: nothing of it takes effect. It takes the same time for any store. */
 uint32_t sto_cancel(sto_handle *worker);
 
 /* Runs a whole transaction of calls that do not depend on one another's replies, tries it a few times where it is aborted, and
  * writes the replies: there is to be room for as many as there are calls. Of pairs it writes only how many they are. Where a
  * call is not taken nothing takes effect. A worker that is in a transaction already stays in it: STO_IN_TRANSACTION. Where the
  * answer is not STO_OK, some replies may have been written, and they count for nothing. The calls, the replies and the place may
- * not overlap. */
+ * not overlap. It takes the time of its calls and its commit, for each try. */
 uint32_t sto_run(sto_handle *worker, const sto_call *calls, size_t count, sto_reply *replies, size_t room, uint64_t *place);
 
-/* How many more transactions a worker may begin. */
+/* How many more transactions a worker may begin. It takes the same time for any store. */
 uint32_t sto_tickets(sto_handle *worker, uint64_t *left);
 
 #ifdef __cplusplus
