@@ -27,9 +27,9 @@
  * (STO_BAD_SIZE) and the parts so far (STO_TOO_MANY), and then at the number of workers (STO_BAD_WORKERS). sto_run begins its
  * transaction and asks its calls one by one, each as sto_ask does.
  *
- * Pointers are not tested, and cannot be: each must be one to memory of its type, for its length. What a call writes may overlap nothing else that the call was given: neither what
- * it writes too nor what it only reads, which has a pointer to const (the shapes of sto_open, the call of sto_ask, the calls of
- * sto_run). What it only reads no other thread may write meanwhile.
+ * Pointers are not tested, and cannot be: each must be one to memory of its type, for its length. What a call writes may overlap
+ * nothing else that the call was given: neither what it writes too nor what it only reads, which has a pointer to const (the shapes of
+ * sto_open, the call of sto_ask, the calls of sto_run). What it only reads no other thread may write meanwhile.
  */
 #ifndef STO_H
 #define STO_H
