@@ -244,6 +244,11 @@ uint32_t sto_pairs(sto_handle *worker, sto_pair *pairs, size_t room, size_t *cou
  * program that is to walk them keeps them in a tree besides, or reads the rows of the closed store.) */
 uint32_t sto_walk(sto_handle *worker, uint32_t object, int64_t from, sto_pair *pairs, size_t room, size_t *count);
 
+/* Writes 1 where a part has changed that the transaction's calls have observed, and else 0. Where it writes 1 the transaction has ended,
+ * and nothing of it took effect; else it goes on. So a program that has read what will not do asks until it is 1, with a pause each
+ * time, and begins again. It takes time by the parts that the transaction has observed, and holds no lock meanwhile. */
+uint32_t sto_changed(sto_handle *worker, uint32_t *changed);
+
 /* Commits the transaction, and writes its place in the order: its ticket, or the number as of which it read where it wrote
  * nothing. Whatever becomes of it, the worker is in no transaction then. It takes time by what the transaction has observed and written. */
 uint32_t sto_commit(sto_handle *worker, uint64_t *place);

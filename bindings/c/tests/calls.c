@@ -22,6 +22,37 @@ static void see_order(sto_handle *worker)
     expect(sto_call_of(worker, 1, STO_TEST, 1, 9, 0, &reply), STO_NO_CALL, "comparison 9, one number");
 }
 
+/* A transaction is told that what it has read has changed, and of nothing else. */
+static void see_changes(void)
+{
+    sto_shape boxes[] = {{.kind = STO_BOX}, {.kind = STO_BOX}};
+    sto_handle store = STO_NONE, one = STO_NONE, other = STO_NONE;
+    sto_call set = {.object = 1, .operation = STO_SET, .numbers = 1, .a = 1};
+    sto_reply reply;
+    uint64_t place;
+    uint32_t changed = 9;
+    need(sto_open(&store, boxes, 2, 2), "sto_open");
+    need(sto_worker(&store, &one), "sto_worker");
+    need(sto_worker(&store, &other), "sto_worker");
+    need(sto_begin(&one), "sto_begin");
+    need(sto_get(&one, 0, &reply), "sto_get");
+    need(sto_run(&other, &set, 1, &reply, 1, &place), "sto_run");
+    need(sto_changed(&one, &changed), "sto_changed");
+    if (changed != 0) wrong++;
+    set.object = 0;
+    need(sto_run(&other, &set, 1, &reply, 1, &place), "sto_run");
+    need(sto_changed(&one, &changed), "sto_changed");
+    if (changed != 1) wrong++;
+    expect(sto_cancel(&one), STO_NO_TRANSACTION, "cancel where something has changed");
+    need(sto_begin(&one), "sto_begin");
+    need(sto_get(&one, 0, &reply), "sto_get");
+    if (reply.value != 1) wrong++;
+    need(sto_commit(&one, &place), "sto_commit");
+    need(sto_give_back(&one), "sto_give_back");
+    need(sto_give_back(&other), "sto_give_back");
+    need(sto_free(&store), "sto_free");
+}
+
 /* A tree with the keys 1 and 2, piece by piece. */
 static void see_walk(sto_handle *worker)
 {
@@ -85,6 +116,7 @@ int main(void)
     expect(sto_open(&store, shapes, 5, 65537), STO_BAD_WORKERS, "too many workers");
 
     see_order_of_shapes();
+    see_changes();
 
     need(sto_open(&store, shapes, 5, 1), "sto_open");
     expect(sto_open(&store, bad, 1, 0), STO_TAKEN, "open into a store");
@@ -109,6 +141,8 @@ int main(void)
     expect(sto_cancel(&worker), STO_NO_TRANSACTION, "cancel outside");
     expect(sto_pairs(&worker, pairs, 4, &count), STO_NO_TRANSACTION, "pairs outside");
     expect(sto_walk(&worker, 3, 0, pairs, 4, &count), STO_NO_TRANSACTION, "walk outside");
+    uint32_t changed = 9;
+    expect(sto_changed(&worker, &changed), STO_NO_TRANSACTION, "changed outside");
 
     /* within one: the transaction goes on */
     need(sto_begin(&worker), "sto_begin");

@@ -1,3 +1,4 @@
+pub mod Changing
 pub mod Kept
 pub mod Commits
 pub mod Attempts

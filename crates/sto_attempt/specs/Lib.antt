@@ -1,3 +1,4 @@
+pub mod Changes
 pub mod Commits
 pub mod Attempts
 pub mod Pausing

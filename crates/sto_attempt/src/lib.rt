@@ -2,6 +2,7 @@
 #![tactic(auto)]
 
 mod attempt;
+mod changed;
 mod pause;
 mod ready;
 mod resume;

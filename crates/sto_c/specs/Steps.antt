@@ -1,5 +1,5 @@
 -- What the calls on a worker lead to: from what a handle holds before a call to what it holds after it, by the status.
-use Rattle.std.specs.Prelude.{◌≡◌, ◌<◌, ◌≤◌, ◌⊎◌, ◌++◌, ℕ, List, length, map, drop, Result, Ok, Err, Option, Some, None, option_map, option_and_then, IfSome, OnOk, MatchOption}
+use Rattle.std.specs.Prelude.{◌≡◌, ◌<◌, ◌≤◌, ◌⊎◌, ◌++◌, ℕ, Bool, if◌then◌else◌, List, length, map, drop, Result, Ok, Err, Option, Some, None, option_map, option_and_then, IfSome, OnOk, MatchOption}
 use Rattle.std.specs.Arc.{arc_value}
 use Rattle.sto_model.specs.declared.call.Call.{Call}
 use Rattle.sto_model.specs.declared.reply.Reply.{Reply}
@@ -9,6 +9,9 @@ use Rattle.sto_interactive.specs.declared.asking.AskError.{AskError}
 use Rattle.sto_interactive.specs.declared.asking.AskError.TheVariants as ask_error
 use Rattle.sto_interactive.specs.declared.ending.CommitError.{CommitError}
 use Rattle.sto_interactive.specs.declared.ending.CommitError.TheVariants as commit_error
+use Rattle.sto_interactive.specs.declared.looking.LookError.{LookError}
+use Rattle.sto_interactive.specs.declared.looking.LookError.TheVariants as look_error
+use Rattle.sto_interactive.specs.Looking.{HasLookedIn}
 use Rattle.sto_interactive.specs.Steps as session
 use Rattle.sto_shared_store.specs.Owned.{Leads, replies_of}
 use Rattle.sto_c.specs.declared.crossing.CallIn.{CallIn}
@@ -49,6 +52,9 @@ module _ (h k : WorkerHandle) where
   abbrev pub Cancels : Result ℕ CommitError → Type 0
   Cancels r = IsOfSameStore × Leads (λ x y. session.HasEndedBy objects (arc_value h.worker.store).ty (arc_value h.worker.store).shared x r y
       (session.HasCancelledAfter objects (arc_value h.worker.store).ty (arc_value h.worker.store).shared)) h.worker.session k.worker.session
+
+  abbrev pub Looks : Result Bool LookError → Type 0
+  Looks r = IsOfSameStore × Leads (λ x y. HasLookedIn objects (arc_value h.worker.store).ty (arc_value h.worker.store).shared x r y) h.worker.session k.worker.session
 
 -- a transaction was begun, or why it was not
 abbrev pub HasBegun : WorkerHandle → Result (Unit {0}) Status → WorkerHandle → Type 0
@@ -96,6 +102,13 @@ HasCancelled h (Err status.NoTransaction) k = Cancels h k (Err commit_error.NoTr
 HasCancelled h (Err status.Aborted) k = Cancels h k (Err commit_error.Aborted)
 HasCancelled h (Err status.NoMemory) k = Cancels h k (Err commit_error.NoMemory)
 HasCancelled h (Err _) k = ⊥
+
+-- 1 where a part has changed that the calls of the transaction have observed, which then has ended without effect, and else 0
+abbrev pub HasToldChange : ℕ → WorkerHandle → Result (Unit {0}) Status → WorkerHandle → Type 0
+HasToldChange told h (Ok done) k = (changed : Bool) × (told ≡ (if changed then 1 else 0)) × Looks h k (Ok changed)
+HasToldChange told h (Err status.NoTransaction) k = Looks h k (Err look_error.NoTransaction)
+HasToldChange told h (Err status.NoMemory) k = Looks h k (Err look_error.NoMemory)
+HasToldChange told h (Err _) k = ⊥
 
 -- nothing changed, and so many more transactions may be begun
 abbrev pub HasToldLeft : ℕ → WorkerHandle → Result (Unit {0}) Status → WorkerHandle → Type 0

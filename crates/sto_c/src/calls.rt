@@ -4,7 +4,7 @@ ghost use Rattle.sto_c.specs.declared.content.HandleContent.TheVariants.{Worker}
 ghost use Rattle.sto_c.specs.Content.{IsHeld, IsWorker};
 ghost use Rattle.sto_c.specs.Crossing.{reply_out, last_of};
 ghost use Rattle.sto_c.specs.Stores.{HasGivenBack};
-ghost use Rattle.sto_c.specs.Steps.{IsOfSameStore, HasBegun, HasAnswered, HasAsked, HasCommitted, HasCancelled, last_reply_of};
+ghost use Rattle.sto_c.specs.Steps.{IsOfSameStore, HasBegun, HasAnswered, HasAsked, HasToldChange, HasCommitted, HasCancelled, last_reply_of};
 ghost use Rattle.sto_c.specs.Whole.{HaveAsked, HasNotAnswered, HasTriedWhole, HasRunWhole};
 
 use crate::checking::call_of;
@@ -13,7 +13,7 @@ use crate::crossing::{CallIn, ReplyOut};
 use crate::status::Status;
 use crossbeam_utils::Backoff;
 use std::alloc::Global;
-use sto_interactive::{AskError, BeginError, CommitError};
+use sto_interactive::{AskError, BeginError, CommitError, LookError};
 use sto_model::{Replies, Reply};
 use sto_shared_store::GiveBackError;
 
@@ -95,6 +95,24 @@ pub(crate) fn ask(
             Ok(())
         }
         Err(status) => Err(status),
+    }
+}
+
+/// Tells whether a part has changed that the calls of the transaction have observed: 1, and then it has ended, or 0.
+pub(crate) fn changed(held: &mut WorkerHandle, told: &mut u32) -> Result<(), Status>
+    requires { IsWorker held.old }
+    ensures worker { IsWorker held.new }
+    ensures store { IsOfSameStore held.old held.new }
+    ensures looked { HasToldChange told.new held.old result held.new }
+    ensures kept { OnErr result (told.new ≡ told.old) }
+{
+    match held.worker.has_changed() {
+        Ok(changed) => {
+            *told = u32::from(changed);
+            Ok(())
+        }
+        Err(LookError::NoTransaction) => Err(Status::NoTransaction),
+        Err(LookError::NoMemory) => Err(Status::NoMemory),
     }
 }
 

@@ -19,6 +19,7 @@ ghost use Rattle.sto_c.specs.Steps.{
   OfWorker,
   HasBegun,
   HasAsked,
+  HasToldChange,
   HasCommitted,
   HasCancelled,
   HasToldPairs,
@@ -234,6 +235,20 @@ pub(crate) fn walk(
     };
     let mut value = value;
     let done = holding::walk(alloc, &mut *value, object, from, pairs, count);
+    worker.put(value);
+    done
+}
+
+/// Tells whether a part has changed that the calls of the transaction have observed.
+pub(crate) fn changed(alloc: Global, worker: &mut Handle, told: &mut u32) -> Result<(), Status>
+    ensures looked { OfWorker (HasToldChange told.new) (held worker.old) result (held worker.new) }
+    ensures kept { OnErr result (told.new ≡ told.old) }
+{
+    let Some(value) = worker.take(alloc) else {
+        return Err(Status::Empty);
+    };
+    let mut value = value;
+    let done = holding::changed(&mut *value, told);
     worker.put(value);
     done
 }

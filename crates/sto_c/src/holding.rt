@@ -8,6 +8,7 @@ ghost use Rattle.sto_c.specs.Steps.{
   OfWorker,
   HasBegun,
   HasAsked,
+  HasToldChange,
   HasCommitted,
   HasCancelled,
   HasToldPairs,
@@ -154,6 +155,20 @@ pub(crate) fn walk(
         HandleContent::Nothing => Err(Status::Empty),
         HandleContent::Store(_) | HandleContent::Closed(_) => Err(Status::OtherHandle),
         HandleContent::Worker(worker) => walking::walk(alloc, worker, object, from, pairs, count),
+    }
+}
+
+/// Tells whether a part has changed that the calls of the transaction have observed.
+pub(crate) fn changed(held: &mut HandleContent, told: &mut u32) -> Result<(), Status>
+    requires { IsFull held.old }
+    ensures full { IsFull held.new }
+    ensures looked { OfWorker (HasToldChange told.new) held.old result held.new }
+    ensures kept { OnErr result (told.new ≡ told.old) }
+{
+    match held {
+        HandleContent::Nothing => Err(Status::Empty),
+        HandleContent::Store(_) | HandleContent::Closed(_) => Err(Status::OtherHandle),
+        HandleContent::Worker(worker) => calls::changed(worker, told),
     }
 }
 

@@ -22,6 +22,7 @@ ghost use Rattle.sto_c.specs.Steps.{
   OfWorker,
   HasBegun,
   HasAsked,
+  HasToldChange,
   HasCommitted,
   HasCancelled,
   HasToldPairs,
@@ -160,6 +161,15 @@ pub extern "C" fn sto_walk(
         (held worker.new) × OnErr done (count.new ≡ count.old)) }
 {
     number_of(handles::walk(alloc, worker, object, from, pairs, count))
+}
+
+/// Tells whether a part has changed that the calls of the transaction have observed.
+#[unsafe(no_mangle)]
+pub extern "C" fn sto_changed(alloc: Global, worker: &mut Handle, changed: &mut u32) -> u32
+    ensures { Answers result (λ done. OfWorker (HasToldChange changed.new) (held worker.old) done (held worker.new)
+        × OnErr done (changed.new ≡ changed.old)) }
+{
+    number_of(handles::changed(alloc, worker, changed))
 }
 
 /// Commits the transaction.

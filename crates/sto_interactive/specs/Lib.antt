@@ -4,6 +4,7 @@ pub mod Scripts
 pub mod Bodies
 pub mod Waiting
 pub mod Lives
+pub mod Looking
 pub mod Pausing
 pub mod ErrorTexts
 pub use Rattle.sto_table.specs.Rests

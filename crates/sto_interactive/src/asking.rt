@@ -112,7 +112,7 @@ fn ask<T: TxType>(
 }
 
 // A session in a transaction.
-fn waiting<T: TxType>(
+pub(crate) fn waiting<T: TxType>(
     rest: Rest<T>,
     left: u64,
     live: RestingTransaction,

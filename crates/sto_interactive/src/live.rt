@@ -11,6 +11,7 @@ ghost use Rattle.sto_interactive.specs.Scripts.{script_of};
 ghost use Rattle.sto_interactive.specs.Bodies.{asked};
 ghost use Rattle.sto_interactive.specs.Waiting.{IsWaiting, abort_of};
 ghost use Rattle.sto_interactive.specs.Lives.{IsLive, HasAsked, HasCommitted, HasCancelled};
+ghost use Rattle.sto_interactive.specs.Looking.{HasLooked};
 
 use crate::asked_calls::AskedCalls;
 use crate::memory::StepLists;
@@ -100,6 +101,19 @@ impl<'t, T: TxType> Live<'t, T> {
             },
             Err(NoMemory) => Err(StepError::NoMemory),
         }
+    }
+
+    /// Whether a part has changed that its calls have observed. Where one has, it is to be given up.
+    pub fn has_changed<C: Cells<T>>(&self, cells: &mut C) -> Result<bool, NoMemory>
+        requires { (ty : T) × (calls : List Call) × (rs : List PlainReply) × (begun : View)
+            × IsLive T.TxType ty calls rs self.now begun (C.view cells.old) }
+        ensures looked { (ty : T) (calls : List Call) (rs : List PlainReply) (begun : View)
+            → IsLive T.TxType ty calls rs self.now begun (C.view cells.old)
+            → IfOk result (λ changed. HasLooked T.TxType (C.passes cells.old) ty calls rs changed self.now begun (C.view cells.old) (C.view cells.new)) }
+        ensures kept { OnErr result (C.view cells.new ≡ C.view cells.old) }
+        ensures same { C.same cells.old cells.new }
+    {
+        self.attempt.has_changed(cells)
     }
 
     /// Puts back the lists that it was lent, where it has ended by an abort or for want of memory.

@@ -2,6 +2,7 @@
 ghost use Rattle.std.specs.Prelude.{◌≡◌, IfSome, IfOk, IfErr, is_some, option_map};
 ghost use Rattle.std.specs.Arc.{arc_value};
 ghost use Rattle.sto_shared_store.specs.Working.{IsWorker};
+ghost use Rattle.sto_interactive.specs.Looking.{HasLookedIn};
 ghost use Rattle.sto_interactive.specs.Steps.{HasBegun, HasAsked, HasEndedBy, HasCommittedAfter, HasCancelledAfter};
 ghost use Rattle.sto_shared_store.specs.Owned.{Leads, IsOwnedWorker, replies_of};
 ghost use Rattle.sto_shared_store.specs.Endings.{IsOfWorker, IsFreeWorker, StaysOut, worker_of};
@@ -12,7 +13,7 @@ use crate::worker::CountedRest;
 use std::alloc::Global;
 use std::mem;
 use std::sync::Arc;
-use sto_interactive::{AskError, BeginError, CommitError, Session, StepLists};
+use sto_interactive::{AskError, BeginError, CommitError, LookError, Session, StepLists};
 use sto_model::{Call, Replies};
 use sto_type::TxType;
 
@@ -142,6 +143,22 @@ impl<T: TxType + Drop> OwnedWorker<T> {
             unreachable!()
         };
         let (session, result) = session.cancel(alloc, &self.store.ty, &self.store.shared);
+        self.session = Some(session);
+        result
+    }
+
+    /// Whether a part has changed that the calls of the transaction have observed. Where one has, the transaction has ended.
+    pub fn has_changed(&mut self) -> Result<bool, LookError>
+        requires { IsOwnedWorker T.TxType self.old }
+        ensures worker { IsOwnedWorker T.TxType self.new }
+        ensures store { (self.new.store ≡ self.old.store) × (self.new.slot ≡ self.old.slot) }
+        ensures looked { Leads (λ x y. HasLookedIn T.TxType (arc_value self.old.store).ty (arc_value self.old.store).shared x result y)
+            self.old.session self.new.session }
+    {
+        let Some(session) = mem::replace(&mut self.session, None) else {
+            unreachable!()
+        };
+        let (session, result) = session.has_changed(&self.store.ty, &self.store.shared);
         self.session = Some(session);
         result
     }
