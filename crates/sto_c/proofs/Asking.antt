@@ -1,5 +1,5 @@
 -- A call with which nothing is wrong is answered, or ends its transaction.
-use Rattle.std.proofs.Common.{◌≡◌, ◌≢◌, List, Option, Some, None, Err, refl, ap}
+use Rattle.std.proofs.Common.{◌≡◌, ◌≢◌, List, Option, Some, None, Err, refl, ap, sym, ◌∙◌, subst}
 use Rattle.std.specs.Prelude.{option_map, option_and_then}
 use Rattle.std.specs.Arc.{arc_value}
 use Rattle.sto_model.specs.declared.call.Call.{Call}
@@ -19,7 +19,12 @@ use Rattle.sto_shared_store.proofs.Since.{is_session}
 use Rattle.sto_c.specs.declared.content.WorkerHandle.{WorkerHandle}
 use Rattle.sto_c.specs.declared.crossing.CallIn.{CallIn}
 use Rattle.sto_c.specs.Content.{objects, IsWorker}
-use Rattle.sto_c.specs.Calls.{IsLawfulCall}
+use Rattle.sto_c.specs.declared.status.Status.{Status}
+use Rattle.sto_c.specs.declared.status.Status.TheVariants as status
+use Rattle.sto_c.specs.Calls.{Takes, HasObject, IsLawfulCall, IsFault}
+use Rattle.sto_c.specs.Crossing.{call_in}
+use Rattle.sto_c.specs.Statuses.{of_unasked}
+use Rattle.sto_c.specs.Steps.{Asks, HasAnswered}
 
 -- the transaction has ended
 Ends : AskError → Type 0
@@ -47,7 +52,33 @@ module _ (s : Store Objects) (v : View) (call : Call) (takes : (objects.meaning 
       by_live x y error x.live refl (is_session objects s v x h) (λ none. within (ap (λ (o : Option RestingTransaction). option_map (λ p. p.attempt.table.replies) o) none)) l
 
 -- what becomes of it where it is not answered
-pub ends : (given : CallIn) (h : WorkerHandle) (call : Call) (error : AskError) (session : Option (Session Objects naming_ghosts)) → IsWorker h → IsLawfulCall given h call
+ends : (given : CallIn) (h : WorkerHandle) (call : Call) (error : AskError) (session : Option (Session Objects naming_ghosts)) → IsWorker h → IsLawfulCall given h call
     → Leads (λ x y. HasAsked objects (arc_value h.worker.store).ty (arc_value h.worker.store).shared x call (Err error) y) h.worker.session session → Ends error
 ends given h call error session is lawful l =
     by_session (arc_value h.worker.store) (view_at h.worker.slot) call lawful.0.2 error h.worker.session session is.at lawful.0.0.0 l
+
+-- so its status is that of an abort, or of want of memory
+pub unasked : (given : CallIn) (h k : WorkerHandle) (call : Call) (error : AskError) → IsWorker h → IsLawfulCall given h call → Asks h k call (Err error) → HasAnswered given h (Err (of_unasked error)) k
+unasked given h k call ask_error.NoTransaction is lawful asks = absurd (ends given h call ask_error.NoTransaction k.worker.session is lawful asks.1)
+unasked given h k call ask_error.Untaken is lawful asks = absurd (ends given h call ask_error.Untaken k.worker.session is lawful asks.1)
+unasked given h k call ask_error.Aborted is lawful asks = (call, lawful, asks)
+unasked given h k call ask_error.NoMemory is lawful asks = (call, lawful, asks)
+
+-- what is wrong with it is its status, and nothing changes
+pub faulted : (given : CallIn) (h : WorkerHandle) (why : Status) → IsFault given h why → HasAnswered given h (Err why) h
+faulted given h status.Aborted fault = absurd fault
+faulted given h status.NoMemory fault = absurd fault
+faulted given h why fault = (fault, refl)
+
+none_some : (call : Call) → None ≡ Some call → ⊥
+none_some call same = cc same
+
+some_same : (c d : Call) → Some c ≡ Some d → c ≡ d
+some_same c d same = cc same
+
+-- it is no call where its operation is none, and where the objects do not take it
+pub no_operation : (given : CallIn) (h : WorkerHandle) → HasObject given h → call_in given ≡ None → IsFault given h status.NoCall
+no_operation given h there none = (there, λ call is takes. none_some call (sym none ∙ is))
+
+pub not_taken : (given : CallIn) (h : WorkerHandle) (call : Call) → HasObject given h → call_in given ≡ Some call → (Takes h call → ⊥) → IsFault given h status.NoCall
+not_taken given h call there is no = (there, λ other same takes. no (subst (Takes h) (sym (some_same call other (sym is ∙ same))) takes))

@@ -1,10 +1,13 @@
 -- The pairs of a walk, one behind the other.
-use Rattle.std.proofs.Common.{◌≡◌, ◌≤◌, ◌<◌, ◌+◌, ℕ, ℤ, List, [], ◌∷◌, ◌++◌, length, take, drop, Option, Some, None, refl, sym, ap, ◌∙◌, subst}
+use Rattle.std.proofs.Common.{◌≡◌, ◌≤◌, ◌<◌, ◌+◌, ℕ, ℤ, List, [], ◌∷◌, ◌++◌, length, take, drop, Option, Some, None, Ok, refl, sym, ap, ◌∙◌, subst}
 use Rattle.std.specs.Prelude.{slice_set}
 use Rattle.std.proofs.lemmas.List.{length-take-le, take-append-drop, drop-set, drop-drop}
 use Rattle.sto_c.specs.declared.crossing.PairOut.{PairOut}
 use Rattle.sto_c.specs.declared.content.WorkerHandle.{WorkerHandle}
-use Rattle.sto_c.specs.Walks.{key_after, HasFound, HaveFound}
+use Rattle.sto_model.specs.declared.operation.Operation.TheVariants.{Get, Next}
+use Rattle.sto_c.specs.declared.crossing.ReplyOut.{ReplyOut}
+use Rattle.sto_c.specs.Steps.{HasAsked}
+use Rattle.sto_c.specs.Walks.{call_at, value_in, key_after, HasFound, HaveFound}
 
 some_same : (f g : ℤ) → Some f ≡ Some g → f ≡ g
 some_same f g same = cc same
@@ -28,3 +31,9 @@ pub left_behind : {X : Type 0} (n : ℕ) (pairs old : List X) (x : X) → n < le
 left_behind n pairs old x room same =
     let written : drop 1 (drop n (slice_set pairs n x)) ≡ drop (n + 1) pairs = ap (drop 1) (drop-set pairs n x room) in
     sym (drop-drop 1 n (slice_set pairs n x)) ∙ written ∙ sym (drop-drop 1 n pairs) ∙ ap (drop 1) same ∙ drop-drop 1 n old
+
+-- a key was answered, and then its value
+pub found_pair : (object : ℕ) (from key : ℤ) (first second : ReplyOut) (h m k : WorkerHandle) → HasAsked (call_at object Next from) first h (Ok tt) m → value_in first ≡ Some key
+    → HasAsked (call_at object Get key) second m (Ok tt) k → HasFound object from (record { key = key; value = second.value }) h k
+found_pair object from key first second h m k next is get =
+    record { at = m; key = first; value = second; asked_key = next; asked_value = get; is_key = is; is_value = refl }

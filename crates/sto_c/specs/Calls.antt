@@ -32,6 +32,10 @@ wanted s Scan = 2
 wanted s Push = 1
 wanted s Pop = 0
 
+-- the objects of the worker's store take the call
+abbrev pub Takes : WorkerHandle → Call → Type 0
+Takes h call = (objects.meaning (arc_value h.worker.store).ty).takes call
+
 -- a call that C gives to the worker h
 module _ (given : CallIn) (h : WorkerHandle) where
   -- the worker is in a transaction
@@ -42,13 +46,9 @@ module _ (given : CallIn) (h : WorkerHandle) where
   abbrev pub HasObject : Type 0
   HasObject = IsWithin × (given.object < h.objects.all)
 
-  -- the objects take the call
-  abbrev pub Takes : Call → Type 0
-  Takes call = (objects.meaning (arc_value h.worker.store).ty).takes call
-
   -- and its object takes it
   abbrev pub IsTakenCall : Call → Type 0
-  IsTakenCall call = HasObject × (call_in given ≡ Some call) × Takes call
+  IsTakenCall call = HasObject × (call_in given ≡ Some call) × Takes h call
 
   -- so many numbers are wanted
   abbrev pub wanted_by : Call → ℕ
@@ -62,6 +62,6 @@ module _ (given : CallIn) (h : WorkerHandle) where
   abbrev pub IsFault : Status → Type 0
   IsFault status.NoTransaction = replies_of h.worker ≡ None
   IsFault status.NoObject = IsWithin × (h.objects.all ≤ given.object)
-  IsFault status.NoCall = HasObject × ((call : Call) → call_in given ≡ Some call → Takes call → ⊥)
+  IsFault status.NoCall = HasObject × ((call : Call) → call_in given ≡ Some call → Takes h call → ⊥)
   IsFault status.BadNumbers = (call : Call) × IsTakenCall call × (given.numbers ≢ wanted_by call)
   IsFault _ = ⊥

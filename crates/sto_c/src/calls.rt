@@ -13,7 +13,7 @@ use crate::crossing::{CallIn, ReplyOut};
 use crate::status::Status;
 use crossbeam_utils::Backoff;
 use std::alloc::Global;
-use sto_interactive::{AskError, BeginError, CommitError};
+use sto_interactive::{BeginError, CommitError};
 use sto_model::{Replies, Reply};
 use sto_shared_store::GiveBackError;
 
@@ -70,9 +70,7 @@ fn answer(alloc: Global, held: &mut WorkerHandle, given: &CallIn) -> Result<(), 
     };
     match held.worker.ask(alloc, call) {
         Ok(()) => Ok(()),
-        Err(AskError::Aborted) => Err(Status::Aborted),
-        Err(AskError::NoMemory) => Err(Status::NoMemory),
-        Err(AskError::NoTransaction | AskError::Untaken) => unreachable!(),
+        Err(error) => Err(Status::from(error)),
     }
 }
 

@@ -1,6 +1,6 @@
 //! What is wrong with a call that C gives.
-ghost use Rattle.std.specs.Prelude.{◌≡◌, IfOk, IfErr};
-ghost use Rattle.sto_c.specs.Calls.{wanted, IsLawfulCall, IsFault};
+ghost use Rattle.std.specs.Prelude.{◌≡◌, ◌↔◌, IfOk, IfErr, IsTrue};
+ghost use Rattle.sto_c.specs.Calls.{wanted, Takes, IsLawfulCall, IsFault};
 
 use crate::content::WorkerHandle;
 use crate::crossing::CallIn;
@@ -30,6 +30,13 @@ fn wanted(is_scalar: bool, operation: Operation) -> u32
     }
 }
 
+// Whether the objects of its store take a call.
+fn is_taken(held: &WorkerHandle, call: &Call) -> bool
+    ensures { IsTrue result ↔ Takes held.now call.now }
+{
+    held.worker.store.ty.takes(call)
+}
+
 /// The call that C gives, of the transaction that a worker is in; or what is wrong with it first.
 pub(crate) fn call_of(held: &WorkerHandle, given: &CallIn) -> Result<Call, Status>
     ensures lawful { IfOk result (λ call. IsLawfulCall given.now held.now call) }
@@ -44,7 +51,7 @@ pub(crate) fn call_of(held: &WorkerHandle, given: &CallIn) -> Result<Call, Statu
     let Some(call) = given.call() else {
         return Err(Status::NoCall);
     };
-    if !held.worker.store.ty.takes(&call) {
+    if !is_taken(held, &call) {
         return Err(Status::NoCall);
     }
     if given.numbers != wanted(given.object < held.objects.scalars, call.operation) {

@@ -40,11 +40,7 @@ fn value_in(reply: &ReplyOut) -> Option<i64>
 fn key_after(key: i64) -> Option<i64>
     ensures { result ≡ key_after key }
 {
-    if key == i64::MAX {
-        None
-    } else {
-        Some(key + 1)
-    }
+    if key == i64::MAX { None } else { Some(key + 1) }
 }
 
 // The least key from this one on with its value, if there is one.
@@ -66,14 +62,24 @@ fn find(
         unused: 0,
         value: 0,
     };
-    match ask(alloc, held, &call_at(object, Operation::Next, from), &mut reply) {
+    match ask(
+        alloc,
+        held,
+        &call_at(object, Operation::Next, from),
+        &mut reply,
+    ) {
         Ok(()) => {}
         Err(status) => return Err(status),
     }
     let Some(key) = value_in(&reply) else {
         return Ok(None);
     };
-    match ask(alloc, held, &call_at(object, Operation::Get, key), &mut reply) {
+    match ask(
+        alloc,
+        held,
+        &call_at(object, Operation::Get, key),
+        &mut reply,
+    ) {
         Ok(()) => Ok(Some(PairOut {
             key,
             value: reply.value,

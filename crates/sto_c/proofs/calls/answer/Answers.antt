@@ -1,6 +1,5 @@
 -- The call is the one that C asks, and nothing is wrong with it.
 use Rattle.std.proofs.Common.{refl}
-use Rattle.sto_c.proofs.Asking.{ends}
 use Rattle.sto_c.proofs.calls.answer.Goals as goal
 
 pub returns-in-Ok-clause-asked : goal.returns-in-Ok-clause-asked
