@@ -71,6 +71,8 @@ returns-in-Some g c =
     let rs = map plain_reply l.table.replies.items in
     let asks = ap f (sym (append-nil rs)) ∙ sym (c.in-Ask.ensures.next ∙ i.log.then []) in
     let unknown = rw c.in-Some.is at c.in_ok-part-in-Ask.ensures.need in
+    let unread = unknown.0 in
+    let unput = unknown.1 in
     record {
       log = search rules;
       reached = record {
@@ -87,7 +89,7 @@ returns-in-Some g c =
             ran,
             ran_halts (g.T.TxType.meaning l.ty.now) (g.met.T.TxType.lawful l.ty.now) f r l.table.base.items l.table.set rs at.0 ran
                 (pending_of (g.T.TxType.meaning l.ty.now) f (words_in l.table.base.items) l.table.set.items l.table.set.updates rs i.log.log i.some) (known c.ask.new.cache) c.in_ok-part-in-Ask.ensures.cache c.in-Ask.call asks
-                c.in-Some.part (rw c.in-Some.is at c.in_ok-part-in-Ask.ensures.plan) unknown.0 unknown.1,
+                c.in-Some.part (rw c.in-Some.is at c.in_ok-part-in-Ask.ensures.plan) unread unput,
           ));
       left = search rules;
       asks = search rules;
