@@ -16,7 +16,7 @@ use sto_counter::add_answer;
 use sto_item::Item;
 use sto_model::{Call, Operation, Reply, Rows, Shape, State};
 use sto_part::{Change, Contents, Naming, NoMemory, PartWords};
-use sto_type::{Answer, AnswerPool, Home, KnownParts, TxType, one_item, one_update};
+use sto_type::{Answer, AnswerPool, Home, KnownParts, Said, TxType, one_item, one_update};
 
 /// An array of so many numbers. Its contents are a part of one word for each.
 #[derive(Drop)]
@@ -112,6 +112,33 @@ impl TxType for TArray {
                 _ => outside(pool),
             },
         }
+    }
+
+    fn say(
+        &self,
+        alloc: Global,
+        call: &Call,
+        first: u32,
+        cache: &KnownParts<'_>,
+        said: &mut Said,
+    ) -> Result<Option<u32>, NoMemory> {
+        let pool = &mut said.pool;
+        let answer = match place_in(self.len, call.a) {
+            None => outside(pool)?,
+            Some(place) => match call.operation {
+                Operation::Get => match cache.first_word(first + place) {
+                    None => Answer::Need(first + place),
+                    Some(value) => get_answer(pool, first + place, value)?,
+                },
+                Operation::Set => set_answer(pool, first + place, call.b)?,
+                Operation::Add => match cache.first_word(first + place) {
+                    None => Answer::Need(first + place),
+                    Some(value) => add_answer(pool, first + place, call.b, value)?,
+                },
+                _ => outside(pool)?,
+            },
+        };
+        Ok(said.pour(answer))
     }
 }
 
