@@ -2,7 +2,9 @@
 use Rattle.std.proofs.Common.{◌≡◌, ◌<◌, ◌+◌, ℕ, ℤ, pos, List, [], ◌∷◌, ◌++◌, map, length, take, set, Result, Ok, Err, refl, sym, ap, ◌∙◌, subst, arith, append-nil, append_assoc, length-append}
 use Rattle.std.specs.Prelude.{slice_index_or}
 use Rattle.std.proofs.lemmas.List.{map-append, length-map, take_all, take_more_set}
-use Rattle.sto_action.specs.Calls.{call_of, number}
+use Rattle.sto_model.specs.Calls.{call_of}
+use Rattle.sto_model.specs.declared.operation.Operation.TheVariants.{Get}
+use Rattle.sto_action.specs.Calls.{number}
 use Rattle.sto_action.specs.Progs.{Prog, Asks, Gives, IsAsked, Follows}
 use Rattle.sto_action.specs.Snapshots.{each_got, HasGot}
 use Rattle.sto_model.specs.declared.call.Call.{Call}
@@ -22,9 +24,9 @@ pub none_so_far : (held : List ℤ) (old : List ShortReply) → IsSoFar 0 held o
 none_so_far held old = record { heard = []; first = refl; many = refl; are = refl }
 
 -- one more
-pub one_more : (n : ℕ) (held : List ℤ) (old mid new : List ShortReply) (object : ℕ) (x : ℤ) → n < length held → IsSoFar n held old mid → Follows {A = ℤ} (Asks (call_of object 0 (pos 0) (pos 0)) (λ h. Gives (number h))) mid new (Ok x)
+pub one_more : (n : ℕ) (held : List ℤ) (old mid new : List ShortReply) (object : ℕ) (x : ℤ) → n < length held → IsSoFar n held old mid → Follows {A = ℤ} (Asks (call_of object Get (pos 0) (pos 0)) (λ h. Gives (number h))) mid new (Ok x)
     → IsSoFar (n + 1) (set held n x) old new
-one_more n held old mid new object x few so f = let asked = follows_asked (call_of object 0 (pos 0) (pos 0)) number mid new (Ok x) f in record {
+one_more n held old mid new object x few so f = let asked = follows_asked (call_of object Get (pos 0) (pos 0)) number mid new (Ok x) f in record {
   heard = so.heard ++ asked.0 ∷ [];
   first = so.first ∙ ap (λ l. so.heard ++ l) asked.1 ∙ sym (append_assoc so.heard (asked.0 ∷ []) new);
   many = (let a = so.many in let b = length-append so.heard (asked.0 ∷ []) in omega (arith, a, b));
@@ -37,16 +39,16 @@ all_got objects n held old new e f so = (so.heard, so.first, so.many ∙ sym e, 
 
 -- the next one was not answered
 pub not_reached : (objects : List ℕ) (n : ℕ) (held : List ℤ) (old mid new : List ShortReply) (object : ℕ) (s : Stop) → n < length objects → slice_index_or objects n 0 ≡ object → IsSoFar n held old mid
-    → Follows {A = ℤ} (Asks (call_of object 0 (pos 0) (pos 0)) (λ h. Gives (number h))) mid new (Err s) → HasGot objects old new (Err s)
+    → Follows {A = ℤ} (Asks (call_of object Get (pos 0) (pos 0)) (λ h. Gives (number h))) mid new (Err s) → HasGot objects old new (Err s)
 not_reached objects n held old mid new object s few is so f =
-    let asked = follows_asked (call_of object 0 (pos 0) (pos 0)) number mid new (Err s) f in
+    let asked = follows_asked (call_of object Get (pos 0) (pos 0)) number mid new (Err s) f in
     let reached : length old ≡ n = ap length so.first ∙ ap (λ l. length (so.heard ++ l)) asked.0 ∙ ap length (append-nil so.heard) ∙ so.many in (
       omega (arith, few, reached),
-      asked.1 ∙ ap (λ o. stops.Asks (call_of o 0 (pos 0) (pos 0))) (sym is ∙ ap (λ i. slice_index_or objects i 0) (sym reached)),
+      asked.1 ∙ ap (λ o. stops.Asks (call_of o Get (pos 0) (pos 0))) (sym is ∙ ap (λ i. slice_index_or objects i 0) (sym reached)),
     )
 
 module _ {X A : Type 0} (get : X → (ℤ → Prog A) → Prog A) (object : X → ℕ)
-    (asks : (x : X) (then : ℤ → Prog A) → get x then ≡ Asks (call_of (object x) 0 (pos 0) (pos 0)) (λ h. then (number h))) where
+    (asks : (x : X) (then : ℤ → Prog A) → get x then ≡ Asks (call_of (object x) Get (pos 0) (pos 0)) (λ h. then (number h))) where
   heard_on : (xs : List X) (then : List ℤ → Prog A) (hs mid new : List ShortReply) (r : Result A Stop) → length hs ≡ length xs → Follows (then (map number hs)) mid new r
       → Follows (each_got get xs then) (hs ++ mid) new r
   heard_on [] then [] mid new r e g = g
@@ -54,16 +56,16 @@ module _ {X A : Type 0} (get : X → (ℤ → Prog A) → Prog A) (object : X �
   heard_on (x ∷ xs) then [] mid new r e g = absurd (omega (arith, e))
   heard_on (x ∷ xs) then (h ∷ hs) mid new r e g =
       subst (λ (p : Prog A). Follows p (h ∷ (hs ++ mid)) new r) (sym (asks x (λ v. each_got get xs (λ vs. then (v ∷ vs)))))
-      (asks_on (call_of (object x) 0 (pos 0) (pos 0)) (λ h. each_got get xs (λ vs. then (number h ∷ vs))) h (hs ++ mid) new r
+      (asks_on (call_of (object x) Get (pos 0) (pos 0)) (λ h. each_got get xs (λ vs. then (number h ∷ vs))) h (hs ++ mid) new r
       (heard_on xs (λ vs. then (number h ∷ vs)) hs mid new r (omega (arith, e)) g))
 
   next_asked : (xs : List X) (then : List ℤ → Prog A) (hs : List ShortReply) → length hs < length (map object xs)
-      → IsAsked (each_got get xs then) hs (call_of (slice_index_or (map object xs) (length hs) 0) 0 (pos 0) (pos 0))
+      → IsAsked (each_got get xs then) hs (call_of (slice_index_or (map object xs) (length hs) 0) Get (pos 0) (pos 0))
   next_asked [] then hs few = absurd (omega (arith, few))
   next_asked (x ∷ xs) then [] few =
-      subst (λ (p : Prog A). IsAsked p [] (call_of (object x) 0 (pos 0) (pos 0))) (sym (asks x (λ v. each_got get xs (λ vs. then (v ∷ vs))))) refl
+      subst (λ (p : Prog A). IsAsked p [] (call_of (object x) Get (pos 0) (pos 0))) (sym (asks x (λ v. each_got get xs (λ vs. then (v ∷ vs))))) refl
   next_asked (x ∷ xs) then (h ∷ hs) few =
-      subst (λ (p : Prog A). IsAsked p (h ∷ hs) (call_of (slice_index_or (map object xs) (length hs) 0) 0 (pos 0) (pos 0))) (sym (asks x (λ v. each_got get xs (λ vs. then (v ∷ vs)))))
+      subst (λ (p : Prog A). IsAsked p (h ∷ hs) (call_of (slice_index_or (map object xs) (length hs) 0) Get (pos 0) (pos 0))) (sym (asks x (λ v. each_got get xs (λ vs. then (v ∷ vs)))))
       (next_asked xs (λ vs. then (number h ∷ vs)) hs (omega (arith, few)))
 
   -- code that gets these objects goes on with what they hold

@@ -5,6 +5,7 @@ pub mod Calls
 pub mod Steps
 pub mod Alone
 pub mod Snapshots
+pub mod ErrorTexts
 pub use Rattle.sto_history.specs.Added
 pub use Rattle.sto_transaction.specs.Resting
 pub use Rattle.sto_model.specs.PlainReplies

@@ -6,8 +6,7 @@ use Rattle.sto_model.specs.declared.call.Call.{Call}
 use Rattle.sto_model.specs.declared.body.Next.{Next}
 use Rattle.sto_model.specs.declared.body.Next.TheVariants.{Ask, Commit, Cancel}
 use Rattle.sto_model.specs.declared.shape.Shape.{Shape}
-use Rattle.sto_model.specs.Operations.{operation_of}
-use Rattle.sto_model.specs.Objects.{takes_by}
+use Rattle.sto_model.specs.Objects.{takes_call}
 use Rattle.sto_action.specs.declared.short_reply.ShortReply.{ShortReply}
 use Rattle.sto_action.specs.declared.tx.Stop.{Stop}
 use Rattle.sto_action.specs.declared.tx.Stop.TheVariants as stops
@@ -19,7 +18,7 @@ pub data Prog (A : Type 0) : Type 0 where
 
 -- the shape takes the call
 abbrev pub is_taken_by : Option Shape → Call → Bool
-is_taken_by (Some shape) call = takes_by shape (operation_of call.code) call.a
+is_taken_by (Some shape) call = takes_call shape call
 is_taken_by None call = false
 
 -- the object of the call takes it, among objects of these shapes

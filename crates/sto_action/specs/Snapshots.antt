@@ -1,6 +1,8 @@
 -- What many objects hold at one time.
 use Rattle.std.specs.Prelude.{◌≡◌, ◌<◌, ℕ, ℤ, pos, List, [], ◌∷◌, ◌++◌, map, length, slice_index_or, Result, Ok, Err}
-use Rattle.sto_action.specs.Calls.{call_of, number}
+use Rattle.sto_model.specs.Calls.{call_of}
+use Rattle.sto_model.specs.declared.operation.Operation.TheVariants.{Get}
+use Rattle.sto_action.specs.Calls.{number}
 use Rattle.sto_action.specs.Progs.{Prog, Gives}
 use Rattle.sto_action.specs.Steps.{box_get, counter_get}
 use Rattle.sto_action.specs.declared.handles.BoxId.{BoxId}
@@ -23,4 +25,4 @@ snapshot boxes counters =
 -- the objects with these numbers were got, by the first of what is heard; or that does not reach, and the code asks the next of them
 abbrev pub HasGot : List ℕ → (old new : List ShortReply) → Result (List ℤ) Stop → Type 0
 HasGot objects old new (Ok xs) = (hs : List ShortReply) × (old ≡ hs ++ new) × (length hs ≡ length objects) × (xs ≡ map number hs)
-HasGot objects old new (Err stop) = (length old < length objects) × (stop ≡ Asks (call_of (slice_index_or objects (length old) 0) 0 (pos 0) (pos 0)))
+HasGot objects old new (Err stop) = (length old < length objects) × (stop ≡ Asks (call_of (slice_index_or objects (length old) 0) Get (pos 0) (pos 0)))

@@ -1,7 +1,10 @@
 -- What code does, written call by call as the code is: each names its object and its numbers, and what follows by its answer.
 use Rattle.std.specs.Prelude.{ℤ, pos, Bool, Option}
 use Rattle.sto_part.specs.declared.pred.Test.{Test}
-use Rattle.sto_action.specs.Calls.{call_of, number, perhaps, is_yes, is_done, test_number}
+use Rattle.sto_model.specs.Operations.{test_number}
+use Rattle.sto_model.specs.Calls.{call_of}
+use Rattle.sto_model.specs.declared.operation.Operation.TheVariants.{Get, Set, Add, Test as TestWord, Take, Put, Remove, Has, Len, Next, Count, Push, Pop}
+use Rattle.sto_action.specs.Calls.{number, perhaps, is_yes, is_done}
 use Rattle.sto_action.specs.Progs.{Prog, Asks}
 use Rattle.sto_action.specs.declared.handles.BoxId.{BoxId}
 use Rattle.sto_action.specs.declared.handles.CounterId.{CounterId}
@@ -11,76 +14,76 @@ use Rattle.sto_action.specs.declared.handles.TreeId.{TreeId}
 use Rattle.sto_action.specs.declared.handles.VectorId.{VectorId}
 
 abbrev pub box_get : {A : Type 0} → BoxId → (ℤ → Prog A) → Prog A
-box_get x then = Asks (call_of x.number 0 (pos 0) (pos 0)) (λ h. then (number h))
+box_get x then = Asks (call_of x.number Get (pos 0) (pos 0)) (λ h. then (number h))
 
 abbrev pub box_set : {A : Type 0} → BoxId → ℤ → Prog A → Prog A
-box_set x value then = Asks (call_of x.number 1 value (pos 0)) (λ _. then)
+box_set x value then = Asks (call_of x.number Set value (pos 0)) (λ _. then)
 
 abbrev pub counter_get : {A : Type 0} → CounterId → (ℤ → Prog A) → Prog A
-counter_get x then = Asks (call_of x.number 0 (pos 0) (pos 0)) (λ h. then (number h))
+counter_get x then = Asks (call_of x.number Get (pos 0) (pos 0)) (λ h. then (number h))
 
 abbrev pub counter_add : {A : Type 0} → CounterId → ℤ → (Bool → Prog A) → Prog A
-counter_add x by then = Asks (call_of x.number 2 by (pos 0)) (λ h. then (is_done h))
+counter_add x by then = Asks (call_of x.number Add by (pos 0)) (λ h. then (is_done h))
 
 abbrev pub counter_test : {A : Type 0} → CounterId → Test → ℤ → (Bool → Prog A) → Prog A
-counter_test x test than then = Asks (call_of x.number 3 (pos (test_number test)) than) (λ h. then (is_yes h))
+counter_test x test than then = Asks (call_of x.number TestWord (pos (test_number test)) than) (λ h. then (is_yes h))
 
 abbrev pub counter_take : {A : Type 0} → CounterId → ℤ → (Bool → Prog A) → Prog A
-counter_take x by then = Asks (call_of x.number 4 by (pos 0)) (λ h. then (is_yes h))
+counter_take x by then = Asks (call_of x.number Take by (pos 0)) (λ h. then (is_yes h))
 
 abbrev pub array_get : {A : Type 0} → ArrayId → ℤ → (Option ℤ → Prog A) → Prog A
-array_get x place then = Asks (call_of x.number 0 place (pos 0)) (λ h. then (perhaps h))
+array_get x place then = Asks (call_of x.number Get place (pos 0)) (λ h. then (perhaps h))
 
 abbrev pub array_set : {A : Type 0} → ArrayId → ℤ → ℤ → (Bool → Prog A) → Prog A
-array_set x place value then = Asks (call_of x.number 1 place value) (λ h. then (is_done h))
+array_set x place value then = Asks (call_of x.number Set place value) (λ h. then (is_done h))
 
 abbrev pub array_add : {A : Type 0} → ArrayId → ℤ → ℤ → (Bool → Prog A) → Prog A
-array_add x place by then = Asks (call_of x.number 2 place by) (λ h. then (is_done h))
+array_add x place by then = Asks (call_of x.number Add place by) (λ h. then (is_done h))
 
 abbrev pub hash_get : {A : Type 0} → HashId → ℤ → (Option ℤ → Prog A) → Prog A
-hash_get x key then = Asks (call_of x.number 0 key (pos 0)) (λ h. then (perhaps h))
+hash_get x key then = Asks (call_of x.number Get key (pos 0)) (λ h. then (perhaps h))
 
 abbrev pub hash_put : {A : Type 0} → HashId → ℤ → ℤ → (Bool → Prog A) → Prog A
-hash_put x key value then = Asks (call_of x.number 5 key value) (λ h. then (is_done h))
+hash_put x key value then = Asks (call_of x.number Put key value) (λ h. then (is_done h))
 
 abbrev pub hash_remove : {A : Type 0} → HashId → ℤ → (Bool → Prog A) → Prog A
-hash_remove x key then = Asks (call_of x.number 6 key (pos 0)) (λ h. then (is_yes h))
+hash_remove x key then = Asks (call_of x.number Remove key (pos 0)) (λ h. then (is_yes h))
 
 abbrev pub hash_has : {A : Type 0} → HashId → ℤ → (Bool → Prog A) → Prog A
-hash_has x key then = Asks (call_of x.number 7 key (pos 0)) (λ h. then (is_yes h))
+hash_has x key then = Asks (call_of x.number Has key (pos 0)) (λ h. then (is_yes h))
 
 abbrev pub hash_len : {A : Type 0} → HashId → (ℤ → Prog A) → Prog A
-hash_len x then = Asks (call_of x.number 8 (pos 0) (pos 0)) (λ h. then (number h))
+hash_len x then = Asks (call_of x.number Len (pos 0) (pos 0)) (λ h. then (number h))
 
 abbrev pub tree_get : {A : Type 0} → TreeId → ℤ → (Option ℤ → Prog A) → Prog A
-tree_get x key then = Asks (call_of x.number 0 key (pos 0)) (λ h. then (perhaps h))
+tree_get x key then = Asks (call_of x.number Get key (pos 0)) (λ h. then (perhaps h))
 
 abbrev pub tree_put : {A : Type 0} → TreeId → ℤ → ℤ → (Bool → Prog A) → Prog A
-tree_put x key value then = Asks (call_of x.number 5 key value) (λ h. then (is_done h))
+tree_put x key value then = Asks (call_of x.number Put key value) (λ h. then (is_done h))
 
 abbrev pub tree_remove : {A : Type 0} → TreeId → ℤ → (Bool → Prog A) → Prog A
-tree_remove x key then = Asks (call_of x.number 6 key (pos 0)) (λ h. then (is_yes h))
+tree_remove x key then = Asks (call_of x.number Remove key (pos 0)) (λ h. then (is_yes h))
 
 abbrev pub tree_len : {A : Type 0} → TreeId → (ℤ → Prog A) → Prog A
-tree_len x then = Asks (call_of x.number 8 (pos 0) (pos 0)) (λ h. then (number h))
+tree_len x then = Asks (call_of x.number Len (pos 0) (pos 0)) (λ h. then (number h))
 
 abbrev pub tree_next : {A : Type 0} → TreeId → ℤ → (Option ℤ → Prog A) → Prog A
-tree_next x from then = Asks (call_of x.number 9 from (pos 0)) (λ h. then (perhaps h))
+tree_next x from then = Asks (call_of x.number Next from (pos 0)) (λ h. then (perhaps h))
 
 abbrev pub tree_count : {A : Type 0} → TreeId → ℤ → ℤ → (ℤ → Prog A) → Prog A
-tree_count x first last then = Asks (call_of x.number 10 first last) (λ h. then (number h))
+tree_count x first last then = Asks (call_of x.number Count first last) (λ h. then (number h))
 
 abbrev pub vector_get : {A : Type 0} → VectorId → ℤ → (Option ℤ → Prog A) → Prog A
-vector_get x place then = Asks (call_of x.number 0 place (pos 0)) (λ h. then (perhaps h))
+vector_get x place then = Asks (call_of x.number Get place (pos 0)) (λ h. then (perhaps h))
 
 abbrev pub vector_test : {A : Type 0} → VectorId → Test → ℤ → (Bool → Prog A) → Prog A
-vector_test x test than then = Asks (call_of x.number 3 (pos (test_number test)) than) (λ h. then (is_yes h))
+vector_test x test than then = Asks (call_of x.number TestWord (pos (test_number test)) than) (λ h. then (is_yes h))
 
 abbrev pub vector_len : {A : Type 0} → VectorId → (ℤ → Prog A) → Prog A
-vector_len x then = Asks (call_of x.number 8 (pos 0) (pos 0)) (λ h. then (number h))
+vector_len x then = Asks (call_of x.number Len (pos 0) (pos 0)) (λ h. then (number h))
 
 abbrev pub vector_push : {A : Type 0} → VectorId → ℤ → (Bool → Prog A) → Prog A
-vector_push x value then = Asks (call_of x.number 12 value (pos 0)) (λ h. then (is_done h))
+vector_push x value then = Asks (call_of x.number Push value (pos 0)) (λ h. then (is_done h))
 
 abbrev pub vector_pop : {A : Type 0} → VectorId → (Option ℤ → Prog A) → Prog A
-vector_pop x then = Asks (call_of x.number 13 (pos 0) (pos 0)) (λ h. then (perhaps h))
+vector_pop x then = Asks (call_of x.number Pop (pos 0) (pos 0)) (λ h. then (perhaps h))

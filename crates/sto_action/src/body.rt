@@ -6,7 +6,7 @@ ghost use Rattle.sto_action.specs.Progs.{is_taken, next_by as by_run, IsTakenCal
 use crate::code::Action;
 use crate::short_reply::{ShortReply, shortened};
 use crate::tx::{Stop, Tx};
-use sto_model::{Body, Call, Next, Reply, Shapes, takes_code};
+use sto_model::{Body, Call, Next, Reply, Shapes};
 use sto_part::{List, NoMemory};
 
 /// Code with what its calls were answered so far.
@@ -88,7 +88,7 @@ fn is_taken(shapes: &Shapes, call: Call) -> bool
     ensures { result ≡ is_taken shapes.now.items call }
 {
     match shapes.as_slice().get(call.object as usize) {
-        Some(shape) => takes_code(*shape, call.code, call.a),
+        Some(shape) => shape.takes_call(&call),
         None => false,
     }
 }

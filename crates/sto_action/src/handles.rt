@@ -1,34 +1,12 @@
 //! The objects of a store, as code names them, and their calls.
 ghost use Rattle.std.specs.Prelude.{◌≡◌, pos};
-ghost use Rattle.sto_action.specs.Calls.{call_of, test_number};
 ghost use Rattle.sto_action.specs.Progs.{Follows, Gives};
 ghost use Rattle.sto_action.specs.Steps.{box_get, box_set, counter_get, counter_add, counter_test, counter_take, array_get, array_set, array_add, hash_get, hash_put, hash_remove, hash_has, hash_len, tree_get, tree_put, tree_remove, tree_len, tree_next, tree_count, vector_get, vector_test, vector_len, vector_push, vector_pop};
 
 use crate::short_reply::{is_done, is_yes, number, perhaps};
 use crate::tx::{Stop, Tx};
-use sto_model::Call;
+use sto_model::{Call, Operation, test_number};
 use sto_part::Test;
-
-// A call of an object.
-fn call(object: u32, code: u8, a: i64, b: i64) -> Call
-    ensures { result ≡ call_of object code a b }
-{
-    Call { object, code, a, b }
-}
-
-// The number of a comparison.
-fn test_number(test: Test) -> i64
-    ensures { result ≡ pos (test_number test) }
-{
-    match test {
-        Test::Eq => 0,
-        Test::Ne => 1,
-        Test::Lt => 2,
-        Test::Le => 3,
-        Test::Gt => 4,
-        Test::Ge => 5,
-    }
-}
 
 /// A box of a store, by the number of the object.
 #[derive(Clone, Copy, PartialEq, Eq, Debug)]
@@ -42,7 +20,7 @@ impl BoxId {
     pub fn get(self, tx: &mut Tx<'_>) -> Result<i64, Stop>
         ensures { Follows (box_get self Gives) tx.old tx.new result }
     {
-        let heard = tx.ask(call(self.number, 0, 0, 0))?;
+        let heard = tx.ask(Call::new(self.number, Operation::Get, 0, 0))?;
         Ok(number(heard))
     }
 
@@ -50,7 +28,7 @@ impl BoxId {
     pub fn set(self, tx: &mut Tx<'_>, value: i64) -> Result<(), Stop>
         ensures { Follows (box_set self value (Gives tt)) tx.old tx.new result }
     {
-        let _heard = tx.ask(call(self.number, 1, value, 0))?;
+        let _heard = tx.ask(Call::new(self.number, Operation::Set, value, 0))?;
         Ok(())
     }
 }
@@ -67,7 +45,7 @@ impl CounterId {
     pub fn get(self, tx: &mut Tx<'_>) -> Result<i64, Stop>
         ensures { Follows (counter_get self Gives) tx.old tx.new result }
     {
-        let heard = tx.ask(call(self.number, 0, 0, 0))?;
+        let heard = tx.ask(Call::new(self.number, Operation::Get, 0, 0))?;
         Ok(number(heard))
     }
 
@@ -75,7 +53,7 @@ impl CounterId {
     pub fn add(self, tx: &mut Tx<'_>, by: i64) -> Result<bool, Stop>
         ensures { Follows (counter_add self by Gives) tx.old tx.new result }
     {
-        let heard = tx.ask(call(self.number, 2, by, 0))?;
+        let heard = tx.ask(Call::new(self.number, Operation::Add, by, 0))?;
         Ok(is_done(heard))
     }
 
@@ -83,7 +61,7 @@ impl CounterId {
     pub fn test(self, tx: &mut Tx<'_>, test: Test, than: i64) -> Result<bool, Stop>
         ensures { Follows (counter_test self test than Gives) tx.old tx.new result }
     {
-        let heard = tx.ask(call(self.number, 3, test_number(test), than))?;
+        let heard = tx.ask(Call::new(self.number, Operation::Test, test_number(test), than))?;
         Ok(is_yes(heard))
     }
 
@@ -91,7 +69,7 @@ impl CounterId {
     pub fn take(self, tx: &mut Tx<'_>, by: i64) -> Result<bool, Stop>
         ensures { Follows (counter_take self by Gives) tx.old tx.new result }
     {
-        let heard = tx.ask(call(self.number, 4, by, 0))?;
+        let heard = tx.ask(Call::new(self.number, Operation::Take, by, 0))?;
         Ok(is_yes(heard))
     }
 }
@@ -108,7 +86,7 @@ impl ArrayId {
     pub fn get(self, tx: &mut Tx<'_>, place: i64) -> Result<Option<i64>, Stop>
         ensures { Follows (array_get self place Gives) tx.old tx.new result }
     {
-        let heard = tx.ask(call(self.number, 0, place, 0))?;
+        let heard = tx.ask(Call::new(self.number, Operation::Get, place, 0))?;
         Ok(perhaps(heard))
     }
 
@@ -116,7 +94,7 @@ impl ArrayId {
     pub fn set(self, tx: &mut Tx<'_>, place: i64, value: i64) -> Result<bool, Stop>
         ensures { Follows (array_set self place value Gives) tx.old tx.new result }
     {
-        let heard = tx.ask(call(self.number, 1, place, value))?;
+        let heard = tx.ask(Call::new(self.number, Operation::Set, place, value))?;
         Ok(is_done(heard))
     }
 
@@ -124,7 +102,7 @@ impl ArrayId {
     pub fn add(self, tx: &mut Tx<'_>, place: i64, by: i64) -> Result<bool, Stop>
         ensures { Follows (array_add self place by Gives) tx.old tx.new result }
     {
-        let heard = tx.ask(call(self.number, 2, place, by))?;
+        let heard = tx.ask(Call::new(self.number, Operation::Add, place, by))?;
         Ok(is_done(heard))
     }
 }
@@ -141,7 +119,7 @@ impl HashId {
     pub fn get(self, tx: &mut Tx<'_>, key: i64) -> Result<Option<i64>, Stop>
         ensures { Follows (hash_get self key Gives) tx.old tx.new result }
     {
-        let heard = tx.ask(call(self.number, 0, key, 0))?;
+        let heard = tx.ask(Call::new(self.number, Operation::Get, key, 0))?;
         Ok(perhaps(heard))
     }
 
@@ -149,7 +127,7 @@ impl HashId {
     pub fn put(self, tx: &mut Tx<'_>, key: i64, value: i64) -> Result<bool, Stop>
         ensures { Follows (hash_put self key value Gives) tx.old tx.new result }
     {
-        let heard = tx.ask(call(self.number, 5, key, value))?;
+        let heard = tx.ask(Call::new(self.number, Operation::Put, key, value))?;
         Ok(is_done(heard))
     }
 
@@ -157,7 +135,7 @@ impl HashId {
     pub fn remove(self, tx: &mut Tx<'_>, key: i64) -> Result<bool, Stop>
         ensures { Follows (hash_remove self key Gives) tx.old tx.new result }
     {
-        let heard = tx.ask(call(self.number, 6, key, 0))?;
+        let heard = tx.ask(Call::new(self.number, Operation::Remove, key, 0))?;
         Ok(is_yes(heard))
     }
 
@@ -165,7 +143,7 @@ impl HashId {
     pub fn has(self, tx: &mut Tx<'_>, key: i64) -> Result<bool, Stop>
         ensures { Follows (hash_has self key Gives) tx.old tx.new result }
     {
-        let heard = tx.ask(call(self.number, 7, key, 0))?;
+        let heard = tx.ask(Call::new(self.number, Operation::Has, key, 0))?;
         Ok(is_yes(heard))
     }
 
@@ -173,7 +151,7 @@ impl HashId {
     pub fn len(self, tx: &mut Tx<'_>) -> Result<i64, Stop>
         ensures { Follows (hash_len self Gives) tx.old tx.new result }
     {
-        let heard = tx.ask(call(self.number, 8, 0, 0))?;
+        let heard = tx.ask(Call::new(self.number, Operation::Len, 0, 0))?;
         Ok(number(heard))
     }
 }
@@ -190,7 +168,7 @@ impl TreeId {
     pub fn get(self, tx: &mut Tx<'_>, key: i64) -> Result<Option<i64>, Stop>
         ensures { Follows (tree_get self key Gives) tx.old tx.new result }
     {
-        let heard = tx.ask(call(self.number, 0, key, 0))?;
+        let heard = tx.ask(Call::new(self.number, Operation::Get, key, 0))?;
         Ok(perhaps(heard))
     }
 
@@ -198,7 +176,7 @@ impl TreeId {
     pub fn put(self, tx: &mut Tx<'_>, key: i64, value: i64) -> Result<bool, Stop>
         ensures { Follows (tree_put self key value Gives) tx.old tx.new result }
     {
-        let heard = tx.ask(call(self.number, 5, key, value))?;
+        let heard = tx.ask(Call::new(self.number, Operation::Put, key, value))?;
         Ok(is_done(heard))
     }
 
@@ -206,7 +184,7 @@ impl TreeId {
     pub fn remove(self, tx: &mut Tx<'_>, key: i64) -> Result<bool, Stop>
         ensures { Follows (tree_remove self key Gives) tx.old tx.new result }
     {
-        let heard = tx.ask(call(self.number, 6, key, 0))?;
+        let heard = tx.ask(Call::new(self.number, Operation::Remove, key, 0))?;
         Ok(is_yes(heard))
     }
 
@@ -214,7 +192,7 @@ impl TreeId {
     pub fn len(self, tx: &mut Tx<'_>) -> Result<i64, Stop>
         ensures { Follows (tree_len self Gives) tx.old tx.new result }
     {
-        let heard = tx.ask(call(self.number, 8, 0, 0))?;
+        let heard = tx.ask(Call::new(self.number, Operation::Len, 0, 0))?;
         Ok(number(heard))
     }
 
@@ -222,7 +200,7 @@ impl TreeId {
     pub fn next(self, tx: &mut Tx<'_>, from: i64) -> Result<Option<i64>, Stop>
         ensures { Follows (tree_next self from Gives) tx.old tx.new result }
     {
-        let heard = tx.ask(call(self.number, 9, from, 0))?;
+        let heard = tx.ask(Call::new(self.number, Operation::Next, from, 0))?;
         Ok(perhaps(heard))
     }
 
@@ -230,7 +208,7 @@ impl TreeId {
     pub fn count(self, tx: &mut Tx<'_>, first: i64, last: i64) -> Result<i64, Stop>
         ensures { Follows (tree_count self first last Gives) tx.old tx.new result }
     {
-        let heard = tx.ask(call(self.number, 10, first, last))?;
+        let heard = tx.ask(Call::new(self.number, Operation::Count, first, last))?;
         Ok(number(heard))
     }
 }
@@ -247,7 +225,7 @@ impl VectorId {
     pub fn get(self, tx: &mut Tx<'_>, place: i64) -> Result<Option<i64>, Stop>
         ensures { Follows (vector_get self place Gives) tx.old tx.new result }
     {
-        let heard = tx.ask(call(self.number, 0, place, 0))?;
+        let heard = tx.ask(Call::new(self.number, Operation::Get, place, 0))?;
         Ok(perhaps(heard))
     }
 
@@ -255,7 +233,7 @@ impl VectorId {
     pub fn test(self, tx: &mut Tx<'_>, test: Test, than: i64) -> Result<bool, Stop>
         ensures { Follows (vector_test self test than Gives) tx.old tx.new result }
     {
-        let heard = tx.ask(call(self.number, 3, test_number(test), than))?;
+        let heard = tx.ask(Call::new(self.number, Operation::Test, test_number(test), than))?;
         Ok(is_yes(heard))
     }
 
@@ -263,7 +241,7 @@ impl VectorId {
     pub fn len(self, tx: &mut Tx<'_>) -> Result<i64, Stop>
         ensures { Follows (vector_len self Gives) tx.old tx.new result }
     {
-        let heard = tx.ask(call(self.number, 8, 0, 0))?;
+        let heard = tx.ask(Call::new(self.number, Operation::Len, 0, 0))?;
         Ok(number(heard))
     }
 
@@ -271,7 +249,7 @@ impl VectorId {
     pub fn push(self, tx: &mut Tx<'_>, value: i64) -> Result<bool, Stop>
         ensures { Follows (vector_push self value Gives) tx.old tx.new result }
     {
-        let heard = tx.ask(call(self.number, 12, value, 0))?;
+        let heard = tx.ask(Call::new(self.number, Operation::Push, value, 0))?;
         Ok(is_done(heard))
     }
 
@@ -279,7 +257,7 @@ impl VectorId {
     pub fn pop(self, tx: &mut Tx<'_>) -> Result<Option<i64>, Stop>
         ensures { Follows (vector_pop self Gives) tx.old tx.new result }
     {
-        let heard = tx.ask(call(self.number, 13, 0, 0))?;
+        let heard = tx.ask(Call::new(self.number, Operation::Pop, 0, 0))?;
         Ok(perhaps(heard))
     }
 }

@@ -5,6 +5,7 @@ mod atomic;
 mod attempt;
 mod body;
 mod code;
+mod display;
 mod handles;
 mod memory;
 mod outcome;

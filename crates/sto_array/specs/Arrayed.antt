@@ -12,8 +12,7 @@ use Rattle.sto_model.specs.declared.operation.Operation.{Operation}
 use Rattle.sto_model.specs.declared.operation.Operation.TheVariants.{Get, Set, Add}
 use Rattle.sto_model.specs.declared.shape.Shape.TheVariants.{Array}
 use Rattle.sto_model.specs.Rows.{Row}
-use Rattle.sto_model.specs.Operations.{operation_of}
-use Rattle.sto_model.specs.Objects.{machine_of, takes_by}
+use Rattle.sto_model.specs.Objects.{machine_of, takes}
 use Rattle.sto_type.specs.Known.{Parts, Known, ContentsFit}
 use Rattle.sto_type.specs.Meaning.{Meaning}
 use Rattle.sto_counter.specs.Sums.{add_items, add_updates}
@@ -29,9 +28,9 @@ asked i None = Some i
 asked i (Some ws) = None
 
 -- a get and an add need the part, and a set needs nothing; an index outside needs nothing
-abbrev pub array_need : Option Operation → Option ℕ → Known → Option ℕ
-array_need (Some Get) (Some i) k = asked i (k i)
-array_need (Some Add) (Some i) k = asked i (k i)
+abbrev pub array_need : Operation → Option ℕ → Known → Option ℕ
+array_need Get (Some i) k = asked i (k i)
+array_need Add (Some i) k = asked i (k i)
 array_need o i k = None
 
 -- the value that is known
@@ -40,15 +39,15 @@ value_known None = pos 0
 value_known (Some ws) = slice_index_or ws 0 (pos 0)
 
 -- a get observes the part, an add as a counter does, and a set nothing
-abbrev pub array_items : Option Operation → Option ℕ → ℤ → Known → List Item
-array_items (Some Get) (Some i) d k = Seen i ∷ []
-array_items (Some Add) (Some i) d k = add_items i d (value_known (k i))
+abbrev pub array_items : Operation → Option ℕ → ℤ → Known → List Item
+array_items Get (Some i) d k = Seen i ∷ []
+array_items Add (Some i) d k = add_items i d (value_known (k i))
 array_items o i d k = []
 
 -- a set puts, an add adds where the sum is in range
-abbrev pub array_updates : Option Operation → Option ℕ → ℤ → Parts → List Entry
-array_updates (Some Set) (Some i) v c = (i, Put v ∷ []) ∷ []
-array_updates (Some Add) (Some i) d c = add_updates i d (word_of c i 0)
+abbrev pub array_updates : Operation → Option ℕ → ℤ → Parts → List Entry
+array_updates Set (Some i) v c = (i, Put v ∷ []) ∷ []
+array_updates Add (Some i) d c = add_updates i d (word_of c i 0)
 array_updates o i d c = []
 
 -- each part with its number as its key, from i on
@@ -74,7 +73,8 @@ IsArrayOf (n ∷ sizes) c = IsArray n c
 -- a call that an array takes, with numbers of 64 bits
 pub record ArrayTakes (call : Call) : Type 0 where
   pub object : call.object ≡ 0
-  pub taken : IsTrue (takes_by (Array 0 (pos 0)) (operation_of call.code) call.a)
+  pub third : call.c ≡ pos 0
+  pub taken : IsTrue (takes (Array 0 (pos 0)) call.operation call.a)
   pub fits : FitsSigned w64 call.a
   pub fits_too : FitsSigned w64 call.b
 
@@ -87,7 +87,7 @@ array_meaning n first = record {
   valid = IsArray n;
   rows = λ c. array_rows 0 c ∷ [];
   takes = ArrayTakes;
-  need = λ call k. array_need (operation_of call.code) (place_of n call.a) k;
-  items = λ call k. array_items (operation_of call.code) (place_of n call.a) call.b k;
-  updates = λ call c. array_updates (operation_of call.code) (place_of n call.a) call.b c;
+  need = λ call k. array_need call.operation (place_of n call.a) k;
+  items = λ call k. array_items call.operation (place_of n call.a) call.b k;
+  updates = λ call c. array_updates call.operation (place_of n call.a) call.b c;
 }

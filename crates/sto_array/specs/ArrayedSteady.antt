@@ -1,7 +1,6 @@
 -- An array is steady.
 use Rattle.std.proofs.Common.{◌≡◌, ℕ, ℤ, Bool, true, false, nat_eq, Some, None, Option, List, [], ◌∷◌, refl, ap, sym, ◌∙◌, inl, inr}
 use Rattle.sto_model.specs.declared.operation.Operation.{Operation}
-use Rattle.sto_model.specs.Operations.{operation_of}
 use Rattle.sto_model.specs.declared.operation.Operation.TheVariants.{Get, Set, Add, Test as TestWord, Take, Put, Remove, Has, Len, Next, Count, Scan, Push, Pop}
 use Rattle.sto_type.specs.Known.{Known, IsWithin}
 use Rattle.sto_type.specs.Meaning.{IsSteady}
@@ -23,46 +22,44 @@ asked_off i k more w e = elim (by_known (k i)) [
   | inr known ↦ rw (w i known.0 known.1, known.1) (refl, refl)
 ]
 
-array_on : (o : Option Operation) (q : Option ℕ) (k more : Known) (p : ℕ) → more p ≡ None → array_need o q k ≡ Some p → array_need o q more ≡ Some p
-array_on (Some Get) (Some i) k more p none e = asked_on i k more p none e
-array_on (Some Get) None k more p none e = cc
-array_on (Some Set) q k more p none e = cc
-array_on (Some Add) (Some i) k more p none e = asked_on i k more p none e
-array_on (Some Add) None k more p none e = cc
-array_on (Some TestWord) q k more p none e = cc
-array_on (Some Take) q k more p none e = cc
-array_on (Some Put) q k more p none e = cc
-array_on (Some Remove) q k more p none e = cc
-array_on (Some Has) q k more p none e = cc
-array_on (Some Len) q k more p none e = cc
-array_on (Some Next) q k more p none e = cc
-array_on (Some Count) q k more p none e = cc
-array_on (Some Scan) q k more p none e = cc
-array_on (Some Push) q k more p none e = cc
-array_on (Some Pop) q k more p none e = cc
-array_on None q k more p none e = cc
+array_on : (o : Operation) (q : Option ℕ) (k more : Known) (p : ℕ) → more p ≡ None → array_need o q k ≡ Some p → array_need o q more ≡ Some p
+array_on Get (Some i) k more p none e = asked_on i k more p none e
+array_on Get None k more p none e = cc
+array_on Set q k more p none e = cc
+array_on Add (Some i) k more p none e = asked_on i k more p none e
+array_on Add None k more p none e = cc
+array_on TestWord q k more p none e = cc
+array_on Take q k more p none e = cc
+array_on Put q k more p none e = cc
+array_on Remove q k more p none e = cc
+array_on Has q k more p none e = cc
+array_on Len q k more p none e = cc
+array_on Next q k more p none e = cc
+array_on Count q k more p none e = cc
+array_on Scan q k more p none e = cc
+array_on Push q k more p none e = cc
+array_on Pop q k more p none e = cc
 
-array_off : (o : Option Operation) (q : Option ℕ) (d : ℤ) (k more : Known) → IsWithin k more → array_need o q k ≡ None → (array_need o q more ≡ None) × (array_items o q d more ≡ array_items o q d k)
-array_off (Some Get) (Some i) d k more w e = let it = asked_off i k more w e in (it.0, refl)
-array_off (Some Get) None d k more w e = (refl, refl)
-array_off (Some Set) q d k more w e = (refl, refl)
-array_off (Some Add) (Some i) d k more w e = let it = asked_off i k more w e in (it.0, ap (λ (x : Option (List ℤ)). add_items i d (value_known x)) it.1)
-array_off (Some Add) None d k more w e = (refl, refl)
-array_off (Some TestWord) q d k more w e = (refl, refl)
-array_off (Some Take) q d k more w e = (refl, refl)
-array_off (Some Put) q d k more w e = (refl, refl)
-array_off (Some Remove) q d k more w e = (refl, refl)
-array_off (Some Has) q d k more w e = (refl, refl)
-array_off (Some Len) q d k more w e = (refl, refl)
-array_off (Some Next) q d k more w e = (refl, refl)
-array_off (Some Count) q d k more w e = (refl, refl)
-array_off (Some Scan) q d k more w e = (refl, refl)
-array_off (Some Push) q d k more w e = (refl, refl)
-array_off (Some Pop) q d k more w e = (refl, refl)
-array_off None q d k more w e = (refl, refl)
+array_off : (o : Operation) (q : Option ℕ) (d : ℤ) (k more : Known) → IsWithin k more → array_need o q k ≡ None → (array_need o q more ≡ None) × (array_items o q d more ≡ array_items o q d k)
+array_off Get (Some i) d k more w e = let it = asked_off i k more w e in (it.0, refl)
+array_off Get None d k more w e = (refl, refl)
+array_off Set q d k more w e = (refl, refl)
+array_off Add (Some i) d k more w e = let it = asked_off i k more w e in (it.0, ap (λ (x : Option (List ℤ)). add_items i d (value_known x)) it.1)
+array_off Add None d k more w e = (refl, refl)
+array_off TestWord q d k more w e = (refl, refl)
+array_off Take q d k more w e = (refl, refl)
+array_off Put q d k more w e = (refl, refl)
+array_off Remove q d k more w e = (refl, refl)
+array_off Has q d k more w e = (refl, refl)
+array_off Len q d k more w e = (refl, refl)
+array_off Next q d k more w e = (refl, refl)
+array_off Count q d k more w e = (refl, refl)
+array_off Scan q d k more w e = (refl, refl)
+array_off Push q d k more w e = (refl, refl)
+array_off Pop q d k more w e = (refl, refl)
 
 pub array_steady : (n : ℕ) (first : ℤ) → IsSteady (array_meaning n first)
 array_steady n first = record {
-  steady = λ call k more p w none e. array_on (operation_of call.code) (place_of n call.a) k more p none e;
-  done = λ call k more w e. array_off (operation_of call.code) (place_of n call.a) call.b k more w e;
+  steady = λ call k more p w none e. array_on call.operation (place_of n call.a) k more p none e;
+  done = λ call k more w e. array_off call.operation (place_of n call.a) call.b k more w e;
 }

@@ -4,8 +4,6 @@ ghost use Rattle.std.specs.Int.{w64};
 ghost use Rattle.std.specs.Int.RustNames.{FitsSigned};
 ghost use Rattle.sto_part.specs.declared.change.Change.TheVariants.{Put};
 ghost use Rattle.sto_item.specs.declared.item.Item.TheVariants.{Seen};
-ghost use Rattle.sto_model.specs.Objects.{takes_by};
-ghost use Rattle.sto_model.specs.Operations.{operation_of};
 ghost use Rattle.sto_model.specs.PlainReplies.{Absent as ToldAbsent, Value as ToldValue, Done as ToldDone};
 ghost use Rattle.sto_model.specs.declared.shape.Shape.TheVariants.{Array};
 ghost use Rattle.sto_type.specs.Known.{known};
@@ -16,7 +14,7 @@ ghost use Rattle.sto_array.specs.ArrayedLaw.{array_lawful};
 use std::alloc::Global;
 use sto_counter::add_answer;
 use sto_item::Item;
-use sto_model::{Call, Operation, Reply, Rows, Shape, State, takes_code};
+use sto_model::{Call, Operation, Reply, Rows, Shape, State};
 use sto_part::{Change, Contents, Naming, NoMemory, PartWords};
 use sto_type::{Answer, AnswerPool, Home, KnownParts, TxType, one_item, one_update};
 
@@ -74,7 +72,7 @@ impl TxType for TArray {
     fn takes(&self, call: &Call) -> bool {
         let _first = call.a;
         let _second = call.b;
-        call.object == 0 && takes_code(Shape::Array { len: 0, value: 0 }, call.code, call.a)
+        call.object == 0 && Shape::Array { len: 0, value: 0 }.takes_call(call)
     }
 
     fn opening(&self, alloc: Global) -> Result<Contents, NoMemory> {
@@ -101,13 +99,13 @@ impl TxType for TArray {
     ) -> Result<Answer, NoMemory> {
         match place_in(self.len, call.a) {
             None => outside(pool),
-            Some(place) => match Operation::from_code(call.code) {
-                Some(Operation::Get) => match cache.first_word(place) {
+            Some(place) => match call.operation {
+                Operation::Get => match cache.first_word(place) {
                     None => Ok(Answer::Need(place)),
                     Some(value) => get_answer(pool, place, value),
                 },
-                Some(Operation::Set) => set_answer(pool, place, call.b),
-                Some(Operation::Add) => match cache.first_word(place) {
+                Operation::Set => set_answer(pool, place, call.b),
+                Operation::Add => match cache.first_word(place) {
                     None => Ok(Answer::Need(place)),
                     Some(value) => add_answer(pool, place, call.b, value),
                 },

@@ -23,15 +23,15 @@ pub under_way_at : {T B : Type 0} (t : OfType T) (b : OfBody B) (a : Attempt T B
 under_way_at t b a v old s e h = subst (λ (x : ReadPhase). IsUnderWay t b x a v) e h
 
 pub steps_at : {T B : Type 0} (t : OfType T) (b : OfBody B) (passes : ℕ) (a c : Attempt T B) (v w : View) (r : Result Turn NoMemory) (old s : ReadPhase) → old ≡ s
-    → Steps t b passes s (next_event (t.meaning a.log.ty.now).widths s a.words.items) a c v w r
-    → Steps t b passes old (next_event (t.meaning a.log.ty.now).widths old a.words.items) a c v w r
-steps_at t b passes a c v w r old s e h = subst (λ (x : ReadPhase). Steps t b passes x (next_event (t.meaning a.log.ty.now).widths x a.words.items) a c v w r) (sym e) h
+    → Steps t b passes s (next_event (t.meaning a.log.ty.now).widths s a.log.table.words.items) a c v w r
+    → Steps t b passes old (next_event (t.meaning a.log.ty.now).widths old a.log.table.words.items) a c v w r
+steps_at t b passes a c v w r old s e h = subst (λ (x : ReadPhase). Steps t b passes x (next_event (t.meaning a.log.ty.now).widths x a.log.table.words.items) a c v w r) (sym e) h
 
 -- where the event is the next one
 pub steps_as : {T B : Type 0} (t : OfType T) (b : OfBody B) (passes : ℕ) (a c : Attempt T B) (v w : View) (r : Result Turn NoMemory) (old s : ReadPhase) → old ≡ s → (e : Event)
-    → next_event (t.meaning a.log.ty.now).widths old a.words.items ≡ e → Steps t b passes s e a c v w r → Steps t b passes old (next_event (t.meaning a.log.ty.now).widths old a.words.items) a c v w r
+    → next_event (t.meaning a.log.ty.now).widths old a.log.table.words.items ≡ e → Steps t b passes s e a c v w r → Steps t b passes old (next_event (t.meaning a.log.ty.now).widths old a.log.table.words.items) a c v w r
 steps_as t b passes a c v w r old s is e to h =
-    subst (λ (x : ReadPhase). Steps t b passes x (next_event (t.meaning a.log.ty.now).widths old a.words.items) a c v w r) (sym is)
+    subst (λ (x : ReadPhase). Steps t b passes x (next_event (t.meaning a.log.ty.now).widths old a.log.table.words.items) a c v w r) (sym is)
     (subst (λ (x : Event). Steps t b passes s x a c v w r) (sym to) h)
 
 -- a renew is the same for each part
@@ -46,8 +46,8 @@ pub stepped_prefix : {T B C : Type 0} (t : OfType T) (b : OfBody B) (c : cells.G
 stepped_prefix t b c s e a d x y r h =
     let m = t.meaning a.log.ty.now in
     let f = b.script a.log.body in
-    let now = map plain_reply d.log.replies.items in
+    let now = map plain_reply d.log.table.replies.items in
     let w = c.view y in
-    any_prefix m t.valid (t.sizes a.log.ty.now) f d.at d.words.items d.extension d.log.base.items d.log.set.items d.log.set.updates now w d.read_phase r (IsLeft w) h.steps.turned
-    (ok_map r (IsLogOf t b a d) (IsLog m f (words_in d.log.base.items) d.log.set.items d.log.set.updates now) (λ k. k.log) h.steps.log)
+    any_prefix m t.valid (t.sizes a.log.ty.now) f d.at d.log.table.words.items d.log.table.extension d.log.table.base.items d.log.table.set.items d.log.table.set.updates now w d.read_phase r (IsLeft w) h.steps.turned
+    (ok_map r (IsLogOf t b a d) (IsLog m f (words_in d.log.table.base.items) d.log.table.set.items d.log.table.set.updates now) (λ k. k.log) h.steps.log)
     (err_both r (IsLeft w) (IsPrefix m f w d.at now) h.steps.err h.stopped)

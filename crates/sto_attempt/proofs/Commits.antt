@@ -19,4 +19,4 @@ module _ {T B : Type 0} (t : OfType T) (b : OfBody B) where
 
   pub prefix_after : (passes : ℕ) (r q : Ready T B) (v w : View) (result : Option Verdict) (s : CommitPhase) → IsBefore t b r.commit_phase r v
       → Advances t b passes s r q v w result → HasPrefix t b r w
-  prefix_after passes r q v w result s h e = step_prefix (deal_of t b r) r.found_tickets r.loaded_words.items r.commit_phase v h.stands passes w e.event
+  prefix_after passes r q v w result s h e = step_prefix (deal_of t b r) r.log.table.lists.found_tickets r.log.table.lists.loaded_words.items r.commit_phase v h.stands passes w e.event

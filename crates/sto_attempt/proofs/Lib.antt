@@ -3,3 +3,4 @@ pub mod Commits
 pub mod Attempts
 pub mod Next
 pub mod Extends
+pub mod Refutations

@@ -5,11 +5,4 @@ use Rattle.sto_attempt.specs.declared.pause.Paused.{Paused}
 
 -- the attempt that it is on a type
 abbrev pub with_type : {T B : Type 0} → Bor T → Paused B → Attempt T B
-with_type ty p = record {
-  log = record { ty = ty; body = p.body; replies = p.replies; set = p.set; base = p.base; cache = p.cache; scratch = p.scratch; pool = p.pool };
-  at = p.at;
-  read_phase = p.read_phase;
-  words = p.words;
-  extension = p.extension;
-  memory = p.memory;
-}
+with_type ty p = record { log = record { ty = ty; body = p.body; table = p.table }; at = p.at; read_phase = p.read_phase }

@@ -5,12 +5,13 @@ ghost use Rattle.sto_core.specs.Event.{Open, Close, Renew, Recheck};
 ghost use Rattle.sto_core.specs.declared.view.View.{View};
 ghost use Rattle.sto_attempt_log.specs.declared.read_phase.ReadPhase.TheVariants.{Unstarted, Opening, Reading, Renewing, Rechecking, Reopening, Rereading};
 ghost use Rattle.sto_attempt_log.specs.ReadSet.{IsTrueIn, AllTrueIn};
+ghost use Rattle.sto_attempt_log.specs.Tables.{with_words};
 ghost use Rattle.sto_attempt.specs.Attempts.{IsNew, IsOwnLog, IsUnderWay, IsBeforeWord, IsPrefixOf, FitsAt, IsExtending, HasGoneOn, MakesNext, HasStarted, HasStepped, HasReadOne, HasReadWord, ReadsAs, part_width, words_left};
 
 use std::alloc::Global;
 use std::mem;
 use sto_attempt_log::{
-    AttemptLists, Extension, Heard, Log, ReadPhase, Turn, Verdict, lead, learn_updated,
+    AttemptLists, Heard, Log, ReadPhase, Table, Turn, Verdict, lead, learn_updated,
 };
 use sto_core::Cells;
 use sto_model::{Body, Replies};
@@ -27,20 +28,14 @@ pub struct Attempt<'t, T: TxType, B: Body> {
     /// The value of the clock as of which it reads.
     pub(crate) at: u64,
     pub(crate) read_phase: ReadPhase,
-    /// The words of the open read, in order.
-    pub(crate) words: PartWords,
-    /// Of the running or the last extension.
-    pub(crate) extension: Extension,
-    /// The lists that are not in use.
-    pub(crate) memory: AttemptLists,
 }
 
 impl<'t, T: TxType, B: Body> Attempt<'t, T, B> {
     /// An attempt of a body, which it resets. It has made no event yet.
     ///
-    /// The type is to take every call that the body may ask. The memory is given back at the end.
+    /// The type is to take every call that the body may ask. The table is worked on in place; its end puts it back.
     #[inline(always)]
-    pub fn new(alloc: Global, ty: &'t T, body: B, memory: AttemptLists) -> Attempt<'t, T, B>
+    pub fn new(ty: &'t T, body: B, table: Table) -> Attempt<'t, T, B>
         requires { (call : Call) → B.may_ask body call → (T.meaning ty.now).takes call }
         ensures { IsNew T.TxType B.Body ty.now body result }
     {
@@ -48,59 +43,32 @@ impl<'t, T: TxType, B: Body> Attempt<'t, T, B> {
         body.reset();
         // so many replies at most: they fit a list
         let _left = body.left();
-        let mut memory = memory;
+        let mut table = table;
+        table.clear();
         Attempt {
-            log: Log {
-                ty,
-                body,
-                replies: memory.take_replies(),
-                set: memory.take_set(),
-                base: memory.take_base(),
-                cache: memory.take_cache(),
-                scratch: memory.take_scratch(),
-                pool: memory.take_pool(),
-            },
+            log: Log { ty, body, table },
             at: 0,
             read_phase: ReadPhase::Unstarted,
-            words: memory.take_words(),
-            extension: Extension::new(alloc, &mut memory),
-            memory,
         }
     }
 
     /// The replies so far, also after an abort.
     pub fn replies(&self) -> &Replies
-        ensures { result.now ≡ self.now.log.replies }
+        ensures { result.now ≡ self.now.log.table.replies }
     {
-        &self.log.replies
+        &self.log.table.replies
     }
 
-    /// The body and what it heard, of an attempt that has ended or is given up before its commit, and the memory that it was lent.
+    /// The body and what it heard, of an attempt that has ended or is given up before its commit. Its table goes back to the lists.
     #[inline(always)]
-    pub fn end(self) -> (Heard<B>, AttemptLists)
-        ensures body { result.0.body ≡ self.entry.log.body }
-        ensures replies { result.0.replies ≡ self.entry.log.replies }
+    pub fn end(self, lists: &mut AttemptLists) -> Heard<B>
+        ensures body { result.body ≡ self.entry.log.body }
+        ensures replies { result.replies ≡ self.entry.log.table.replies }
     {
-        let Attempt {
-            log,
-            words,
-            extension,
-            mut memory,
-            ..
-        } = self;
-        let Log {
-            body,
-            replies,
-            set,
-            base,
-            cache,
-            scratch,
-            pool,
-            ..
-        } = log;
-        memory.keep_log(set, base, cache, scratch, pool);
-        memory.keep_reads(words, extension.fresh);
-        (Heard { body, replies }, memory)
+        let Attempt { log, .. } = self;
+        let Log { body, table, .. } = log;
+        let replies = lists.keep(table);
+        Heard { body, replies }
     }
 
     /// Makes the next event, and runs the body up to the one after it.
@@ -118,7 +86,7 @@ impl<'t, T: TxType, B: Body> Attempt<'t, T, B> {
             ReadPhase::Unstarted => self.begin(alloc, cells),
             ReadPhase::Opening { part } => Ok(self.open(alloc, cells, part)),
             ReadPhase::Reading { part, ticket } => {
-                if self.words.len() < self.log.ty.width(part) {
+                if self.log.table.words.len() < self.log.ty.width(part) {
                     self.read_word(cells)
                 } else {
                     self.close(alloc, cells, part, ticket)
@@ -128,7 +96,7 @@ impl<'t, T: TxType, B: Body> Attempt<'t, T, B> {
             ReadPhase::Rechecking { part } => self.recheck(alloc, cells, part),
             ReadPhase::Reopening { part } => Ok(self.reopen(alloc, cells, part)),
             ReadPhase::Rereading { part, ticket } => {
-                if self.words.len() < self.log.ty.width(part) {
+                if self.log.table.words.len() < self.log.ty.width(part) {
                     self.read_word(cells)
                 } else {
                     self.reclose(alloc, cells, part, ticket)
@@ -142,11 +110,12 @@ impl<'t, T: TxType, B: Body> Attempt<'t, T, B> {
     pub fn words_left(&self) -> u32
         requires { (v : View) × IsUnderWay T.TxType B.Body self.now.read_phase self.now v }
         ensures left { result ≡ words_left T.TxType B.Body self.now }
-        ensures few { 0 < result → length self.now.words.items + result < 2 ^ 32 }
+        ensures few { 0 < result → length self.now.log.table.words.items + result < 2 ^ 32 }
     {
         match self.read_phase {
-            ReadPhase::Reading { part, .. } => self.log.ty.width(part) - self.words.len(),
-            ReadPhase::Rereading { part, .. } => self.log.ty.width(part) - self.words.len(),
+            ReadPhase::Reading { part, .. } => self.log.ty.width(part) - self.log.table.words.len(),
+            ReadPhase::Rereading { part, .. } => self.log.ty.width(part)
+                - self.log.table.words.len(),
             _ => 0,
         }
     }
@@ -155,7 +124,7 @@ impl<'t, T: TxType, B: Body> Attempt<'t, T, B> {
     pub fn read_word<C: Cells<T>>(&mut self, cells: &mut C) -> Result<Turn, NoMemory>
         requires before { IsUnderWay T.TxType B.Body self.old.read_phase self.old (C.view cells.old) }
         requires more { 0 < words_left T.TxType B.Body self.old }
-        requires few { length self.old.words.items + 1 < 2 ^ 32 }
+        requires few { length self.old.log.table.words.items + 1 < 2 ^ 32 }
         ensures { HasReadOne T.TxType B.Body C.Cells self.old self.new cells.old cells.new result }
     {
         match self.read_phase {
@@ -173,7 +142,7 @@ impl<'t, T: TxType, B: Body> Attempt<'t, T, B> {
         let at = cells.start();
         self.at = at;
         let reached = self.log.go_on(alloc)?;
-        let (read_phase, turn) = lead(&self.log.set, at, reached);
+        let (read_phase, turn) = lead(&self.log.table.set, at, reached);
         self.read_phase = read_phase;
         Ok(turn)
     }
@@ -183,8 +152,8 @@ impl<'t, T: TxType, B: Body> Attempt<'t, T, B> {
         requires { IsUnderWay T.TxType B.Body (Opening part) self.old (C.view cells.old) }
         ensures made { HasStepped T.TxType B.Body C.Cells (Opening part) (Open part) self.old self.new cells.old cells.new (Ok result) }
         ensures reads { ReadsAs T.TxType B.Body C.Cells (Opening part) (Open part) self.old self.new cells.old cells.new (Ok result) }
-        ensures log { self.new.log ≡ self.old.log }
-        ensures extension { self.new.extension ≡ self.old.extension }
+        ensures log { self.new.log ≡ with_words self.old.log self.new.log.table.words }
+        ensures extension { self.new.log.table.extension ≡ self.old.log.table.extension }
     {
         let found = cells.open(part);
         if found.is_locked() {
@@ -193,11 +162,12 @@ impl<'t, T: TxType, B: Body> Attempt<'t, T, B> {
         }
         let ticket = found.ticket();
         if ticket <= self.at {
-            make_room(&mut self.words, self.log.ty.width(part));
+            let ty = self.log.ty;
+            make_room(&mut self.log.table.words, ty.width(part));
             self.read_phase = ReadPhase::Reading { part, ticket };
             return Turn::More;
         }
-        if self.extension.extended {
+        if self.log.table.extension.extended {
             self.read_phase = ReadPhase::Over;
             return Turn::Ended(Verdict::Changed {
                 at: self.at,
@@ -214,8 +184,8 @@ impl<'t, T: TxType, B: Body> Attempt<'t, T, B> {
         requires { IsBeforeWord T.TxType B.Body (Reading part ticket) part self.old (C.view cells.old) }
         ensures { HasReadWord T.TxType B.Body C.Cells (Reading part ticket) part self.old self.new cells.old cells.new result }
     {
-        let value = cells.word(part, self.words.len());
-        self.words.push(value)?;
+        let value = cells.word(part, self.log.table.words.len());
+        self.log.table.words.push(value)?;
         Ok(Turn::More)
     }
 
@@ -228,7 +198,7 @@ impl<'t, T: TxType, B: Body> Attempt<'t, T, B> {
         ticket: u64,
     ) -> Result<Turn, NoMemory>
         requires before { IsUnderWay T.TxType B.Body (Reading part ticket) self.old (C.view cells.old) }
-        requires all { length self.old.words.items ≡ part_width T.TxType B.Body self.old part }
+        requires all { length self.old.log.table.words.items ≡ part_width T.TxType B.Body self.old part }
         ensures made { HasStepped T.TxType B.Body C.Cells (Reading part ticket) (Close part) self.old self.new cells.old cells.new result }
         ensures reads { ReadsAs T.TxType B.Body C.Cells (Reading part ticket) (Close part) self.old self.new cells.old cells.new result }
         ensures at { OnOk result (self.new.at ≡ self.old.at) }
@@ -247,25 +217,27 @@ impl<'t, T: TxType, B: Body> Attempt<'t, T, B> {
                 ticket: newer,
             }));
         }
-        if self.log.base.len() == u32::MAX {
+        if self.log.table.base.len() == u32::MAX {
             return Err(NoMemory);
         }
-        let words = self.words.as_slice();
-        let log = &mut self.log;
-        log.base.push(part, ticket, words)?;
+        let ty = self.log.ty;
+        let table = &mut self.log.table;
+        let words = table.words.as_slice();
+        table.base.push(part, ticket, words)?;
         // What was just read is known at once, so that the call is not planned once more only to ask for it.
         learn_updated(
-            log.ty,
-            &log.set,
+            ty,
+            &table.set,
             part,
             words,
-            &mut log.scratch,
-            &mut log.cache,
+            &mut table.scratch,
+            &mut table.cache,
         )?;
-        let heard = log.replies.len();
-        let reached = log.go_on(alloc)?;
-        let (read_phase, turn) = lead(&self.log.set, self.at, reached);
-        self.extension.extended = still(self.extension.extended, heard, self.log.replies.len());
+        let extended = table.extension.extended;
+        let heard = table.replies.len();
+        let reached = self.log.go_on(alloc)?;
+        let (read_phase, turn) = lead(&self.log.table.set, self.at, reached);
+        self.log.table.extension.extended = still(extended, heard, self.log.table.replies.len());
         self.read_phase = read_phase;
         Ok(turn)
     }
@@ -275,9 +247,9 @@ impl<'t, T: TxType, B: Body> Attempt<'t, T, B> {
         requires { IsExtending T.TxType B.Body self.old }
         ensures { HasGoneOn T.TxType B.Body self.old self.new result }
     {
-        let place = self.extension.fresh.len();
-        if place < self.extension.watches.len() {
-            let watch = self.extension.watches.get(place);
+        let place = self.log.table.extension.fresh.len();
+        if place < self.log.table.extension.watches.len() {
+            let watch = self.log.table.extension.watches.get(place);
             let part = watch.part;
             if watch.seen {
                 self.read_phase = ReadPhase::Rechecking { part };
@@ -286,14 +258,16 @@ impl<'t, T: TxType, B: Body> Attempt<'t, T, B> {
             }
             return Ok(Turn::More);
         }
-        self.at = self.extension.bound;
-        mem::swap(&mut self.log.base, &mut self.extension.fresh);
-        self.extension.fresh.clear();
-        self.log.cache.forget();
-        let heard = self.log.replies.len();
+        self.at = self.log.table.extension.bound;
+        let table = &mut self.log.table;
+        mem::swap(&mut table.base, &mut table.extension.fresh);
+        table.extension.fresh.clear();
+        table.cache.forget();
+        let extended = table.extension.extended;
+        let heard = table.replies.len();
         let reached = self.log.go_on(alloc)?;
-        let (read_phase, turn) = lead(&self.log.set, self.at, reached);
-        self.extension.extended = still(self.extension.extended, heard, self.log.replies.len());
+        let (read_phase, turn) = lead(&self.log.table.set, self.at, reached);
+        self.log.table.extension.extended = still(extended, heard, self.log.table.replies.len());
         self.read_phase = read_phase;
         Ok(turn)
     }
@@ -306,11 +280,12 @@ impl<'t, T: TxType, B: Body> Attempt<'t, T, B> {
         ensures { HasStepped T.TxType B.Body C.Cells (Renewing 0 0) Renew self.old self.new cells.old cells.new result }
     {
         let bound = cells.renew();
-        let watches = self.log.set.observed()?;
-        self.extension.fresh.clear();
-        self.extension.bound = bound;
-        self.extension.watches = watches;
-        self.extension.extended = true;
+        let watches = self.log.table.set.observed()?;
+        let extension = &mut self.log.table.extension;
+        extension.fresh.clear();
+        extension.bound = bound;
+        extension.watches = watches;
+        extension.extended = true;
         self.advance(alloc)
     }
 
@@ -324,7 +299,8 @@ impl<'t, T: TxType, B: Body> Attempt<'t, T, B> {
         requires { IsUnderWay T.TxType B.Body (Rechecking part) self.old (C.view cells.old) }
         ensures { HasStepped T.TxType B.Body C.Cells (Rechecking part) (Recheck part) self.old self.new cells.old cells.new result }
     {
-        let Some(read_entry) = self.log.base.find(part) else {
+        let table = &mut self.log.table;
+        let Some(read_entry) = table.base.find(part) else {
             unreachable!()
         };
         let ticket = read_entry.ticket;
@@ -342,10 +318,11 @@ impl<'t, T: TxType, B: Body> Attempt<'t, T, B> {
                 ticket: newer,
             }));
         }
-        if self.extension.fresh.len() == u32::MAX {
+        let fresh = &mut table.extension.fresh;
+        if fresh.len() == u32::MAX {
             return Err(NoMemory);
         }
-        self.extension.fresh.push(part, ticket, read_entry.words)?;
+        fresh.push(part, ticket, read_entry.words)?;
         self.advance(alloc)
     }
 
@@ -354,8 +331,8 @@ impl<'t, T: TxType, B: Body> Attempt<'t, T, B> {
         requires { IsUnderWay T.TxType B.Body (Reopening part) self.old (C.view cells.old) }
         ensures made { HasStepped T.TxType B.Body C.Cells (Reopening part) (Open part) self.old self.new cells.old cells.new (Ok result) }
         ensures reads { ReadsAs T.TxType B.Body C.Cells (Reopening part) (Open part) self.old self.new cells.old cells.new (Ok result) }
-        ensures log { self.new.log ≡ self.old.log }
-        ensures extension { self.new.extension ≡ self.old.extension }
+        ensures log { self.new.log ≡ with_words self.old.log self.new.log.table.words }
+        ensures extension { self.new.log.table.extension ≡ self.old.log.table.extension }
     {
         let found = cells.open(part);
         if found.is_locked() {
@@ -363,7 +340,7 @@ impl<'t, T: TxType, B: Body> Attempt<'t, T, B> {
             return Turn::Ended(Verdict::Locked { at: self.at, part });
         }
         let ticket = found.ticket();
-        if ticket > self.extension.bound {
+        if ticket > self.log.table.extension.bound {
             self.read_phase = ReadPhase::Over;
             return Turn::Ended(Verdict::Changed {
                 at: self.at,
@@ -371,7 +348,8 @@ impl<'t, T: TxType, B: Body> Attempt<'t, T, B> {
                 ticket,
             });
         }
-        make_room(&mut self.words, self.log.ty.width(part));
+        let ty = self.log.ty;
+        make_room(&mut self.log.table.words, ty.width(part));
         self.read_phase = ReadPhase::Rereading { part, ticket };
         Turn::More
     }
@@ -386,8 +364,8 @@ impl<'t, T: TxType, B: Body> Attempt<'t, T, B> {
         requires { IsBeforeWord T.TxType B.Body (Rereading part ticket) part self.old (C.view cells.old) }
         ensures { HasReadWord T.TxType B.Body C.Cells (Rereading part ticket) part self.old self.new cells.old cells.new result }
     {
-        let value = cells.word(part, self.words.len());
-        self.words.push(value)?;
+        let value = cells.word(part, self.log.table.words.len());
+        self.log.table.words.push(value)?;
         Ok(Turn::More)
     }
 
@@ -400,7 +378,7 @@ impl<'t, T: TxType, B: Body> Attempt<'t, T, B> {
         ticket: u64,
     ) -> Result<Turn, NoMemory>
         requires before { IsUnderWay T.TxType B.Body (Rereading part ticket) self.old (C.view cells.old) }
-        requires all { length self.old.words.items ≡ part_width T.TxType B.Body self.old part }
+        requires all { length self.old.log.table.words.items ≡ part_width T.TxType B.Body self.old part }
         ensures { HasStepped T.TxType B.Body C.Cells (Rereading part ticket) (Close part) self.old self.new cells.old cells.new result }
     {
         let found = cells.close(part);
@@ -417,9 +395,11 @@ impl<'t, T: TxType, B: Body> Attempt<'t, T, B> {
                 ticket: newer,
             }));
         }
-        let place = self.extension.fresh.len();
-        let watch = self.extension.watches.get(place);
-        if !are_true(self.log.ty, watch.preds.as_slice(), self.words.as_slice()) {
+        let ty = self.log.ty;
+        let table = &mut self.log.table;
+        let place = table.extension.fresh.len();
+        let watch = table.extension.watches.get(place);
+        if !are_true(ty, watch.preds.as_slice(), table.words.as_slice()) {
             self.read_phase = ReadPhase::Over;
             return Ok(Turn::Ended(Verdict::Changed {
                 at: self.at,
@@ -430,8 +410,8 @@ impl<'t, T: TxType, B: Body> Attempt<'t, T, B> {
         if place == u32::MAX {
             return Err(NoMemory);
         }
-        let words = self.words.as_slice();
-        self.extension.fresh.push(part, ticket, words)?;
+        let words = table.words.as_slice();
+        table.extension.fresh.push(part, ticket, words)?;
         self.advance(alloc)
     }
 }

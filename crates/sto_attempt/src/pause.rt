@@ -3,26 +3,17 @@ ghost use Rattle.std.specs.Prelude.{◌≡◌};
 ghost use Rattle.sto_attempt.specs.Pausing.{with_type};
 
 use crate::attempt::Attempt;
-use sto_attempt_log::{AttemptLists, Extension, Log, Observed, ReadPhase, ReadSet};
+use sto_attempt_log::{Log, ReadPhase, Table};
 use sto_model::{Body, Replies};
-use sto_part::PartWords;
-use sto_type::{AnswerPool, Cache, TxType};
+use sto_type::TxType;
 
 /// All of an attempt but its type, which it borrows no more.
 #[derive(Drop)]
 pub struct Paused<B: Body> {
     pub(crate) body: B,
-    pub(crate) replies: Replies,
-    pub(crate) set: Observed,
-    pub(crate) base: ReadSet,
-    pub(crate) cache: Cache,
-    pub(crate) scratch: PartWords,
-    pub(crate) pool: AnswerPool,
+    pub(crate) table: Table,
     pub(crate) at: u64,
     pub(crate) read_phase: ReadPhase,
-    pub(crate) words: PartWords,
-    pub(crate) extension: Extension,
-    pub(crate) memory: AttemptLists,
 }
 
 impl<T: TxType, B: Body> Attempt<'_, T, B> {
@@ -35,33 +26,13 @@ impl<T: TxType, B: Body> Attempt<'_, T, B> {
             log,
             at,
             read_phase,
-            words,
-            extension,
-            memory,
         } = self;
-        let Log {
-            body,
-            replies,
-            set,
-            base,
-            cache,
-            scratch,
-            pool,
-            ..
-        } = log;
+        let Log { body, table, .. } = log;
         Paused {
             body,
-            replies,
-            set,
-            base,
-            cache,
-            scratch,
-            pool,
+            table,
             at,
             read_phase,
-            words,
-            extension,
-            memory,
         }
     }
 }
@@ -73,41 +44,21 @@ impl<B: Body> Paused<B> {
     {
         let Paused {
             body,
-            replies,
-            set,
-            base,
-            cache,
-            scratch,
-            pool,
+            table,
             at,
             read_phase,
-            words,
-            extension,
-            memory,
         } = self;
         Attempt {
-            log: Log {
-                ty,
-                body,
-                replies,
-                set,
-                base,
-                cache,
-                scratch,
-                pool,
-            },
+            log: Log { ty, body, table },
             at,
             read_phase,
-            words,
-            extension,
-            memory,
         }
     }
 
     /// The replies so far.
     pub fn replies(&self) -> &Replies
-        ensures { result.now ≡ self.now.replies }
+        ensures { result.now ≡ self.now.table.replies }
     {
-        &self.replies
+        &self.table.replies
     }
 }

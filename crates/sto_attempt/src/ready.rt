@@ -4,16 +4,13 @@ ghost use Rattle.std.specs.List.{list_all};
 ghost use Rattle.sto_attempt_log.specs.declared.commit_phase.CommitPhase.TheVariants.{Locking, Loading, Drawing, Checking, Deciding, Putting, Releasing, Dropping, Leaving, Over};
 ghost use Rattle.sto_attempt_log.specs.CommitPhases.{IsAim, IsNextCheck, IsNextPut, is_so, goes_on, expected_of};
 ghost use Rattle.sto_core.specs.Allowed.{Rises};
-ghost use Rattle.sto_attempt.specs.Commits.{MovesOnly, IsBefore, AdvancesNext, HasAdvanced, HasPrefix};
+ghost use Rattle.sto_attempt.specs.Commits.{lists_of, MovesOnly, IsBefore, AdvancesNext, HasAdvanced, HasPrefix};
 
 use sto_attempt_log::{
-    AttemptLists, CommitPhase, FoundTicket, FoundTickets, Heard, Lists, LoadedWord, LoadedWords,
-    Log, Verdict, is_seen, is_written,
+    AttemptLists, CommitPhase, FoundTicket, Heard, LoadedWord, Log, Verdict, is_seen, is_written,
 };
 use sto_core::Cells;
-use sto_item::Updates;
 use sto_model::{Body, Replies};
-use sto_part::{List, Parts};
 use sto_type::TxType;
 
 /// An attempt whose body commits, with all memory that the commit takes.
@@ -22,75 +19,27 @@ pub struct Ready<'t, T: TxType, B: Body> {
     pub(crate) log: Log<'t, T, B>,
     /// The value of the clock as of which it has read.
     pub(crate) at: u64,
-    pub(crate) updates: Updates,
-    /// The parts that are seen.
-    pub(crate) seen: Parts,
-    /// The other parts that are observed.
-    pub(crate) loaded: Parts,
-    /// The parts whose words are loaded.
-    pub(crate) tasks: Parts,
-    /// The parts that are checked.
-    pub(crate) checks: Parts,
-    /// The words that are put: part and place.
-    pub(crate) places: List<(u32, u32)>,
-    /// What locks and tests have found.
-    pub(crate) found_tickets: FoundTickets,
-    /// What the commit has read.
-    pub(crate) loaded_words: LoadedWords,
     pub(crate) commit_phase: CommitPhase,
-    /// The lists that are not in use.
-    pub(crate) memory: AttemptLists,
 }
 
 impl<T: TxType, B: Body> Ready<'_, T, B> {
     /// The replies of the body.
     pub fn replies(&self) -> &Replies
-        ensures { result.now ≡ self.now.log.replies }
+        ensures { result.now ≡ self.now.log.table.replies }
     {
-        &self.log.replies
+        &self.log.table.replies
     }
 
-    /// The body and what it heard, and the memory that the attempt was lent.
+    /// The body and what it heard. Its table goes back to the lists.
     #[inline(always)]
-    pub fn end(self) -> (Heard<B>, AttemptLists)
-        ensures body { result.0.body ≡ self.entry.log.body }
-        ensures replies { result.0.replies ≡ self.entry.log.replies }
+    pub fn end(self, lists: &mut AttemptLists) -> Heard<B>
+        ensures body { result.body ≡ self.entry.log.body }
+        ensures replies { result.replies ≡ self.entry.log.table.replies }
     {
-        let Ready {
-            log,
-            updates,
-            seen,
-            loaded,
-            tasks,
-            checks,
-            places,
-            found_tickets,
-            loaded_words,
-            mut memory,
-            ..
-        } = self;
-        let lists = Lists {
-            updates,
-            seen,
-            loaded,
-            tasks,
-            checks,
-            places,
-            found_tickets,
-        };
-        let Log {
-            body,
-            replies,
-            set,
-            base,
-            cache,
-            scratch,
-            pool,
-            ..
-        } = log;
-        memory.keep_log(set, base, cache, scratch, pool);
-        memory.keep_lists(lists, loaded_words);
-        (Heard { body, replies }, memory)
+        let Ready { log, .. } = self;
+        let Log { body, table, .. } = log;
+        let replies = lists.keep(table);
+        Heard { body, replies }
     }
 
     /// Makes the next event of the commit, or of its giving up, and answers the verdict with the last one.
@@ -132,16 +81,17 @@ impl<T: TxType, B: Body> Ready<'_, T, B> {
         requires { IsBefore T.TxType B.Body (Locking place) self.old (C.view cells.old) }
         ensures { HasAdvanced T.TxType B.Body C.Cells (Locking place) self.old self.new cells.old cells.new result }
     {
-        let part = self.updates.get(place).0;
+        let part = self.log.table.lists.updates.get(place).0;
         let found = cells.lock(part);
         if found.is_locked() {
             let verdict = Verdict::Locked { at: self.at, part };
             return self.give_up(place, verdict);
         }
         let ticket = found.ticket();
-        self.found_tickets.push_spare(FoundTicket { part, ticket });
+        let lists = &mut self.log.table.lists;
+        lists.found_tickets.push_spare(FoundTicket { part, ticket });
         let next = place + 1;
-        self.commit_phase = if next < self.updates.len() {
+        self.commit_phase = if next < self.log.table.lists.updates.len() {
             CommitPhase::Locking { place: next }
         } else {
             self.aim(0)
@@ -151,13 +101,16 @@ impl<T: TxType, B: Body> Ready<'_, T, B> {
 
     // Where the loading of the part at a place begins; or the draw, where all are loaded.
     pub(crate) fn aim(&self, place: u32) -> CommitPhase
-        requires { place ≤ length self.now.tasks.items }
-        ensures { IsAim self.now.updates.items self.now.tasks.items place result }
+        requires { place ≤ length (lists_of self.now).tasks.items }
+        ensures { IsAim (lists_of self.now).updates.items (lists_of self.now).tasks.items place result }
     {
-        if place == self.tasks.len() {
+        if place == self.log.table.lists.tasks.len() {
             return CommitPhase::Drawing;
         }
-        if is_written(self.updates.as_slice(), *self.tasks.get(place)) {
+        if is_written(
+            self.log.table.lists.updates.as_slice(),
+            *self.log.table.lists.tasks.get(place),
+        ) {
             CommitPhase::Loading { place, word: 0 }
         } else {
             CommitPhase::Testing { place }
@@ -174,10 +127,12 @@ impl<T: TxType, B: Body> Ready<'_, T, B> {
         requires { IsBefore T.TxType B.Body (Loading place word) self.old (C.view cells.old) }
         ensures { HasAdvanced T.TxType B.Body C.Cells (Loading place word) self.old self.new cells.old cells.new result }
     {
-        let part = *self.tasks.get(place);
+        let part = *self.log.table.lists.tasks.get(place);
         let width = self.log.ty.width(part);
         let value = cells.word(part, word);
-        self.loaded_words
+        let lists = &mut self.log.table.lists;
+        lists
+            .loaded_words
             .push_spare(LoadedWord { part, word, value });
         if word + 1 < width {
             self.commit_phase = CommitPhase::Loading {
@@ -190,7 +145,7 @@ impl<T: TxType, B: Body> Ready<'_, T, B> {
             self.commit_phase = self.aim(place + 1);
             return None;
         }
-        let ticket = self.found_tickets.ticket(part);
+        let ticket = self.log.table.lists.found_tickets.ticket(part);
         let verdict = Verdict::Changed {
             at: self.at,
             part,
@@ -198,7 +153,7 @@ impl<T: TxType, B: Body> Ready<'_, T, B> {
         };
         self.commit_phase = CommitPhase::Leaving {
             place: 0,
-            end: self.updates.len(),
+            end: self.log.table.lists.updates.len(),
             verdict,
         };
         None
@@ -209,17 +164,18 @@ impl<T: TxType, B: Body> Ready<'_, T, B> {
         requires { IsBefore T.TxType B.Body Drawing self.old (C.view cells.old) }
         ensures { HasAdvanced T.TxType B.Body C.Cells Drawing self.old self.new cells.old cells.new result }
     {
-        let ticket = cells.draw(&self.updates, &self.seen, &self.loaded);
+        let lists = &self.log.table.lists;
+        let ticket = cells.draw(&lists.updates, &lists.seen, &lists.loaded);
         self.commit_phase = self.next_check(0, ticket);
         None
     }
 
     // The check of the part at a place; or the decision, where all are checked.
     fn next_check(&self, place: u32, ticket: u64) -> CommitPhase
-        requires { place ≤ length self.now.checks.items }
-        ensures { IsNextCheck self.now.checks.items place ticket result }
+        requires { place ≤ length (lists_of self.now).checks.items }
+        ensures { IsNextCheck (lists_of self.now).checks.items place ticket result }
     {
-        if place == self.checks.len() {
+        if place == self.log.table.lists.checks.len() {
             CommitPhase::Deciding { ticket }
         } else {
             CommitPhase::Checking { place, ticket }
@@ -236,9 +192,9 @@ impl<T: TxType, B: Body> Ready<'_, T, B> {
         requires { IsBefore T.TxType B.Body (Checking place ticket) self.old (C.view cells.old) }
         ensures { HasAdvanced T.TxType B.Body C.Cells (Checking place ticket) self.old self.new cells.old cells.new result }
     {
-        let part = *self.checks.get(place);
+        let part = *self.log.table.lists.checks.get(place);
         let found = cells.check(part);
-        if found.is_locked() && !is_written(self.updates.as_slice(), part) {
+        if found.is_locked() && !is_written(self.log.table.lists.updates.as_slice(), part) {
             let verdict = Verdict::Locked { at: self.at, part };
             self.commit_phase = CommitPhase::Dropping { ticket, verdict };
             return None;
@@ -259,28 +215,31 @@ impl<T: TxType, B: Body> Ready<'_, T, B> {
 
     // Whether the loading goes on after a part: the part is seen, and its version is for the check to find, or the predicates on it are true.
     fn goes_on(&self, part: u32) -> bool
-        requires { Rises self.now.seen.items }
-        ensures { result ≡ goes_on self.now.seen.items self.now.log.set.items self.now.loaded_words.items part }
+        requires { Rises (lists_of self.now).seen.items }
+        ensures { result ≡ goes_on (lists_of self.now).seen.items self.now.log.table.set.items (lists_of self.now).loaded_words.items part }
     {
-        is_seen(self.seen.as_slice(), part) || self.all_so(part)
+        is_seen(self.log.table.lists.seen.as_slice(), part) || self.all_so(part)
     }
 
     // Whether the type finds the predicates on a part to be true of the words that were loaded.
     pub(crate) fn all_so(&self, part: u32) -> bool
-        ensures { result ≡ list_all (is_so part self.now.loaded_words.items) self.now.log.set.items }
+        ensures { result ≡ list_all (is_so part (lists_of self.now).loaded_words.items) self.now.log.table.set.items }
     {
-        self.log.set.all_so(self.log.ty, &self.loaded_words, part)
+        let table = &self.log.table;
+        table
+            .set
+            .all_so(self.log.ty, &table.lists.loaded_words, part)
     }
 
     // The ticket that the check of a part is to find.
     fn expected(&self, part: u32) -> u64
-        requires { Rises self.now.seen.items }
-        ensures { result ≡ expected_of self.now.log.base.items self.now.found_tickets.items self.now.seen.items part }
+        requires { Rises (lists_of self.now).seen.items }
+        ensures { result ≡ expected_of self.now.log.table.base.items (lists_of self.now).found_tickets.items (lists_of self.now).seen.items part }
     {
-        if is_seen(self.seen.as_slice(), part) {
-            self.log.base.ticket(part)
+        if is_seen(self.log.table.lists.seen.as_slice(), part) {
+            self.log.table.base.ticket(part)
         } else {
-            self.found_tickets.ticket(part)
+            self.log.table.lists.found_tickets.ticket(part)
         }
     }
 
@@ -297,7 +256,7 @@ impl<T: TxType, B: Body> Ready<'_, T, B> {
         cells.decide(false);
         self.commit_phase = CommitPhase::Leaving {
             place: 0,
-            end: self.updates.len(),
+            end: self.log.table.lists.updates.len(),
             verdict,
         };
         None
@@ -315,10 +274,10 @@ impl<T: TxType, B: Body> Ready<'_, T, B> {
 
     // The put of the word at a place; or the first release, where all were put.
     fn next_put(&self, place: u32, ticket: u64) -> CommitPhase
-        requires { place ≤ length self.now.places.items }
-        ensures { IsNextPut self.now.places.items place ticket result }
+        requires { place ≤ length (lists_of self.now).places.items }
+        ensures { IsNextPut (lists_of self.now).places.items place ticket result }
     {
-        if place == self.places.len() {
+        if place == self.log.table.lists.places.len() {
             CommitPhase::Releasing { place: 0, ticket }
         } else {
             CommitPhase::Putting { place, ticket }
@@ -335,12 +294,10 @@ impl<T: TxType, B: Body> Ready<'_, T, B> {
         requires { IsBefore T.TxType B.Body (Putting place ticket) self.old (C.view cells.old) }
         ensures { HasAdvanced T.TxType B.Body C.Cells (Putting place ticket) self.old self.new cells.old cells.new result }
     {
-        let (part, word) = *self.places.get(place);
-        let change = self.log.set.pending(part, word);
-        let value = self
-            .log
-            .ty
-            .install(change, self.loaded_words.value(part, word));
+        let (part, word) = *self.log.table.lists.places.get(place);
+        let change = self.log.table.set.pending(part, word);
+        let words = &self.log.table.lists.loaded_words;
+        let value = self.log.ty.install(change, words.value(part, word));
         cells.put(part, word, value);
         self.commit_phase = self.next_put(place + 1, ticket);
         None
@@ -356,10 +313,10 @@ impl<T: TxType, B: Body> Ready<'_, T, B> {
         requires { IsBefore T.TxType B.Body (Releasing place ticket) self.old (C.view cells.old) }
         ensures { HasAdvanced T.TxType B.Body C.Cells (Releasing place ticket) self.old self.new cells.old cells.new result }
     {
-        let part = self.updates.get(place).0;
+        let part = self.log.table.lists.updates.get(place).0;
         cells.release(part);
         let next = place + 1;
-        if next < self.updates.len() {
+        if next < self.log.table.lists.updates.len() {
             self.commit_phase = CommitPhase::Releasing {
                 place: next,
                 ticket,
@@ -399,7 +356,7 @@ impl<T: TxType, B: Body> Ready<'_, T, B> {
         requires { IsBefore T.TxType B.Body (Leaving place end verdict) self.old (C.view cells.old) }
         ensures { HasAdvanced T.TxType B.Body C.Cells (Leaving place end verdict) self.old self.new cells.old cells.new result }
     {
-        let part = self.updates.get(place).0;
+        let part = self.log.table.lists.updates.get(place).0;
         cells.unlock(part);
         let next = place + 1;
         if next < end {

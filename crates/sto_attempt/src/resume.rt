@@ -28,9 +28,9 @@ impl<T: TxType, B: Body> Attempt<'_, T, B> {
         requires waits { (v : View) × Waits T.TxType B.Body self.old v }
         ensures { HasResumed T.TxType B.Body self.old self.new result }
     {
-        self.extension.extended = false;
+        self.log.table.extension.extended = false;
         let reached = self.log.go_on(alloc)?;
-        let (read_phase, turn) = lead(&self.log.set, self.at, reached);
+        let (read_phase, turn) = lead(&self.log.table.set, self.at, reached);
         self.read_phase = read_phase;
         Ok(turn)
     }

@@ -1,7 +1,7 @@
 //! The test of a part that a commit loads and does not hold.
 ghost use Rattle.std.specs.Prelude.{◌≡◌, ◌<◌, ◌≤◌};
 ghost use Rattle.sto_attempt_log.specs.declared.commit_phase.CommitPhase.TheVariants.{Testing, Tested};
-ghost use Rattle.sto_attempt.specs.Commits.{IsBefore, HasAdvanced, task_width};
+ghost use Rattle.sto_attempt.specs.Commits.{lists_of, IsBefore, HasAdvanced, task_width};
 
 use crate::ready::Ready;
 use sto_attempt_log::{CommitPhase, FoundTicket, LoadedWord, Verdict};
@@ -15,19 +15,20 @@ impl<T: TxType, B: Body> Ready<'_, T, B> {
         requires { IsBefore T.TxType B.Body (Testing place) self.old (C.view cells.old) }
         ensures { HasAdvanced T.TxType B.Body C.Cells (Testing place) self.old self.new cells.old cells.new result }
     {
-        let part = *self.tasks.get(place);
+        let part = *self.log.table.lists.tasks.get(place);
         let found = cells.test(part);
         if found.is_locked() {
             let verdict = Verdict::Locked { at: self.at, part };
             self.commit_phase = CommitPhase::Leaving {
                 place: 0,
-                end: self.updates.len(),
+                end: self.log.table.lists.updates.len(),
                 verdict,
             };
             return None;
         }
         let ticket = found.ticket();
-        self.found_tickets.push_spare(FoundTicket { part, ticket });
+        let lists = &mut self.log.table.lists;
+        lists.found_tickets.push_spare(FoundTicket { part, ticket });
         self.commit_phase = CommitPhase::Tested {
             place,
             word: 0,
@@ -47,7 +48,7 @@ impl<T: TxType, B: Body> Ready<'_, T, B> {
         requires { IsBefore T.TxType B.Body (Tested place word ticket) self.old (C.view cells.old) }
         ensures { HasAdvanced T.TxType B.Body C.Cells (Tested place word ticket) self.old self.new cells.old cells.new result }
     {
-        let width = self.log.ty.width(*self.tasks.get(place));
+        let width = self.log.ty.width(*self.log.table.lists.tasks.get(place));
         if word < width {
             self.load_tested(cells, place, word, ticket, width)
         } else {
@@ -69,9 +70,11 @@ impl<T: TxType, B: Body> Ready<'_, T, B> {
         requires more { word < width }
         ensures { HasAdvanced T.TxType B.Body C.Cells (Tested place word ticket) self.old self.new cells.old cells.new result }
     {
-        let part = *self.tasks.get(place);
+        let part = *self.log.table.lists.tasks.get(place);
         let value = cells.word(part, word);
-        self.loaded_words
+        let lists = &mut self.log.table.lists;
+        lists
+            .loaded_words
             .push_spare(LoadedWord { part, word, value });
         self.commit_phase = CommitPhase::Tested {
             place,
@@ -92,15 +95,15 @@ impl<T: TxType, B: Body> Ready<'_, T, B> {
         requires before { IsBefore T.TxType B.Body (Tested place word ticket) self.old (C.view cells.old) }
         requires all { task_width T.TxType B.Body self.old place ≤ word }
         ensures advanced { HasAdvanced T.TxType B.Body C.Cells (Tested place word ticket) self.old self.new cells.old cells.new result }
-        ensures loads { self.new.loaded_words ≡ self.old.loaded_words }
+        ensures loads { (lists_of self.new).loaded_words ≡ (lists_of self.old).loaded_words }
     {
-        let part = *self.tasks.get(place);
+        let part = *self.log.table.lists.tasks.get(place);
         let found = cells.close(part);
         if found.is_locked() {
             let verdict = Verdict::Locked { at: self.at, part };
             self.commit_phase = CommitPhase::Leaving {
                 place: 0,
-                end: self.updates.len(),
+                end: self.log.table.lists.updates.len(),
                 verdict,
             };
             return None;
@@ -114,7 +117,7 @@ impl<T: TxType, B: Body> Ready<'_, T, B> {
             };
             self.commit_phase = CommitPhase::Leaving {
                 place: 0,
-                end: self.updates.len(),
+                end: self.log.table.lists.updates.len(),
                 verdict,
             };
             return None;
@@ -130,7 +133,7 @@ impl<T: TxType, B: Body> Ready<'_, T, B> {
         };
         self.commit_phase = CommitPhase::Leaving {
             place: 0,
-            end: self.updates.len(),
+            end: self.log.table.lists.updates.len(),
             verdict,
         };
         None

@@ -63,3 +63,4 @@ pub mod Answering
 pub mod ReadRuns
 pub mod ReadSteps
 pub mod SameRising
+pub mod Refutations

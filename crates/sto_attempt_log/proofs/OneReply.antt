@@ -87,7 +87,7 @@ module _ (m : Meaning) (law : IsLawful m) (f : Behaviour) (base : Known) (items 
     written : has_written f (rs ++ reply ∷ []) ≡ not (is_empty (with_updates es v))
     written =
         let own : is_written (f rs) reply ≡ not (is_empty v) =
-        ap (λ n. is_written n reply) asks ∙ ap (is_write call.code) said.0
+        ap (λ n. is_written n reply) asks ∙ ap (is_write call.operation) said.0
         ∙ (law.updated call (applied_updates es d) t here.valid).writes ∙ ap (λ (l : List Entry). not (is_empty l)) (sym said.1) in
         written_more f rs reply ∙ ap (λ b. b || is_written (f rs) reply) was.written ∙ ap (λ b. not (is_empty es) || b) own
         ∙ sym (empty_with es v ordered.1)

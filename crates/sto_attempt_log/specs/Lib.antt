@@ -24,7 +24,7 @@ pub mod Doing
 pub mod Verdicts
 pub mod Ordered
 pub mod Predicates
-pub mod Kept
+pub mod Tables
 pub use Rattle.sto_part.specs.Changes
 pub use Rattle.sto_part.specs.Listed
 pub use Rattle.sto_part.specs.Preds

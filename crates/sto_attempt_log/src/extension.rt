@@ -1,7 +1,6 @@
 //! What an extension of the snapshot keeps while it is under way.
-ghost use Rattle.std.specs.Prelude.{◌≡◌, [], false};
+ghost use Rattle.std.specs.Prelude.{◌≡◌, false};
 
-use crate::memory::AttemptLists;
 use crate::read_entry::ReadSet;
 use std::alloc::Global;
 use sto_item::Watches;
@@ -21,15 +20,19 @@ pub struct Extension {
 
 impl Extension {
     /// Nothing to read anew.
-    pub fn new(alloc: Global, memory: &mut AttemptLists) -> Extension
-        ensures fresh { result.fresh.items ≡ [] }
-        ensures extended { result.extended ≡ false }
-    {
+    pub(crate) fn new(alloc: Global) -> Extension {
         Extension {
             bound: 0,
             extended: false,
-            fresh: memory.take_fresh(),
+            fresh: ReadSet::new(alloc),
             watches: Watches::new(alloc),
         }
+    }
+
+    /// Forgets the last extension. What it has read is used no more.
+    pub(crate) fn clear(&mut self)
+        ensures { self.new.extended ≡ false }
+    {
+        self.extended = false;
     }
 }

@@ -3,30 +3,32 @@
 //! The definitions in `specs/` and the lemmas in `proofs/` are of an attempt and its commit as a whole. The code here makes no event.
 #![tactic(auto)]
 
+mod attempt_lists;
 mod commit_phase;
 mod extension;
 mod found_tickets;
 mod lists;
 mod loaded_words;
 mod log;
-mod memory;
 mod observed;
 mod predicates;
 mod read_entry;
 mod read_phase;
 mod recall;
+mod table;
 mod verdict;
 
+pub use attempt_lists::AttemptLists;
 pub use commit_phase::{CommitPhase, FoundTicket, LoadedWord};
 pub use extension::Extension;
 pub use found_tickets::FoundTickets;
-pub use lists::{Lists, is_seen, is_written, lists_of, width_of_all};
+pub use lists::{Lists, is_seen, is_written, width_of_all};
 pub use loaded_words::LoadedWords;
 pub use log::{Log, Reached};
-pub use memory::AttemptLists;
 pub use observed::Observed;
 pub use predicates::Predicates;
 pub use read_entry::{ReadEntry, ReadRef, ReadSet};
 pub use read_phase::{ReadPhase, lead};
 pub use recall::learn_updated;
+pub use table::Table;
 pub use verdict::{Heard, Turn, Verdict};

@@ -4,14 +4,13 @@ ghost use Rattle.sto_type.specs.Known.{known};
 ghost use Rattle.sto_attempt_log.specs.Says.{SaysNext};
 ghost use Rattle.sto_attempt_log.specs.Going.{CanBe, IsInOrder, HasRunOn, HasTakenIn, replies_of};
 
-use crate::observed::Observed;
-use crate::read_entry::ReadSet;
 use crate::recall::{add_items, add_updates, ask, refresh};
+use crate::table::Table;
 use std::alloc::Global;
 use sto_item::{Items, Updates};
-use sto_model::{Body, Next, Replies, Reply};
-use sto_part::{NoMemory, PartWords};
-use sto_type::{Answer, AnswerPool, Cache, TxType};
+use sto_model::{Body, Next, Reply};
+use sto_part::NoMemory;
+use sto_type::{Answer, TxType};
 
 /// Where a body has come to.
 #[derive(Clone, Copy)]
@@ -24,22 +23,12 @@ pub enum Reached {
     Cancels,
 }
 
-/// What an attempt has found out.
+/// What an attempt has found out, on the table that it was lent.
 #[derive(Drop)]
 pub struct Log<'t, T: TxType, B: Body> {
     pub ty: &'t T,
     pub body: B,
-    pub replies: Replies,
-    /// What was observed of the parts that were read, and the pending updates.
-    pub set: Observed,
-    /// The parts that were read.
-    pub base: ReadSet,
-    /// What is known with the pending updates applied.
-    pub cache: Cache,
-    /// A list for the words of a part to which updates are applied. What stands in it is used no more.
-    pub scratch: PartWords,
-    /// Lists for the answers of the type.
-    pub pool: AnswerPool,
+    pub table: Table,
 }
 
 impl<T: TxType, B: Body> Log<'_, T, B> {
@@ -52,15 +41,16 @@ impl<T: TxType, B: Body> Log<'_, T, B> {
         loop {
             match self.body.next() {
                 Next::Ask(call) => {
+                    let table = &mut self.table;
                     match ask(
                         alloc,
                         self.ty,
                         &call,
-                        &self.base,
-                        &self.set,
-                        &mut self.scratch,
-                        &mut self.cache,
-                        &mut self.pool,
+                        &table.base,
+                        &table.set,
+                        &mut table.scratch,
+                        &mut table.cache,
+                        &mut table.pool,
                     )? {
                         Answer::Need(part) => return Ok(Reached::Needs(part)),
                         Answer::Done {
@@ -69,7 +59,7 @@ impl<T: TxType, B: Body> Log<'_, T, B> {
                             updates,
                         } => {
                             self.take_in(reply, &items, &updates)?;
-                            self.pool.keep(items, updates);
+                            self.table.pool.keep(items, updates);
                         }
                     }
                 }
@@ -83,22 +73,23 @@ impl<T: TxType, B: Body> Log<'_, T, B> {
     fn take_in(&mut self, reply: Reply, items: &Items, updates: &Updates) -> Result<(), NoMemory>
         requires some { CanBe T.TxType B.Body self.old }
         requires log { IsInOrder T.TxType B.Body self.old self.old }
-        requires says { SaysNext (T.meaning self.old.ty.now) (B.script self.old.body) (known self.old.cache)
+        requires says { SaysNext (T.meaning self.old.ty.now) (B.script self.old.body) (known self.old.table.cache)
             (replies_of self.old) (plain_reply reply) items.now.items updates.now.items }
         ensures { HasTakenIn T.TxType B.Body self.old self.new result }
     {
-        add_items(&mut self.set, items)?;
-        add_updates(&mut self.set, updates)?;
+        let table = &mut self.table;
+        add_items(&mut table.set, items)?;
+        add_updates(&mut table.set, updates)?;
         refresh(
             self.ty,
-            &self.base,
-            &self.set,
+            &table.base,
+            &table.set,
             updates,
-            &mut self.scratch,
-            &mut self.cache,
+            &mut table.scratch,
+            &mut table.cache,
         )?;
         self.body.hear(&reply);
-        self.replies.push(reply)?;
+        self.table.replies.push(reply)?;
         Ok(())
     }
 }

@@ -14,6 +14,7 @@ use crate::loaded_words::LoadedWords;
 use crate::predicates::Predicates;
 use std::alloc::Global;
 use std::marker::Model;
+use std::mem;
 use sto_item::{Item, ItemSet, Updates, Watches};
 use sto_part::{Change, NoMemory, Pred, Update, apply_word};
 use sto_type::TxType;
@@ -128,12 +129,14 @@ impl Observed {
         self.set.items()
     }
 
-    /// The pending updates, in the room of other ones, which are taken away.
-    pub(crate) fn updates_into(&self, other: Updates) -> Result<Updates, NoMemory>
-        ensures updates { IfOk result (λ l. l.items ≡ self.now.updates) }
+    /// Copies the pending updates into the room of other ones, which are taken away.
+    pub(crate) fn copy_updates(&self, alloc: Global, updates: &mut Updates) -> Result<(), NoMemory>
+        ensures updates { OnOk result (updates.new.items ≡ self.now.updates) }
         ensures ordered { AreUpdates self.now.updates }
     {
-        self.set.updates_into(other)
+        let room = mem::replace(updates, Updates::new(alloc));
+        *updates = self.set.updates_into(room)?;
+        Ok(())
     }
 
     /// Takes all items and updates away. Their room stays.

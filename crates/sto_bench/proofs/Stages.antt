@@ -8,6 +8,7 @@ use Rattle.sto_part.specs.declared.pred.Test.TheVariants.{Ge}
 use Rattle.sto_model.specs.PlainReplies.{PlainReply}
 use Rattle.sto_model.specs.Run.{IsAsk, MayAsk}
 use Rattle.sto_model.specs.declared.call.Call.{Call}
+use Rattle.sto_model.specs.declared.operation.Operation.TheVariants.{Put}
 use Rattle.sto_model.specs.declared.body.Next.{Next}
 use Rattle.sto_model.specs.declared.body.Next.TheVariants as next
 use Rattle.sto_lang.specs.declared.arg.Arg.{Arg}
@@ -22,7 +23,7 @@ use Rattle.sto_bench.specs.declared.body.TransferStage.TheVariants.{Balance, Out
 
 -- a note that is made where b holds
 abbrev note_if : Bool → ℕ → Arg → Arg → Statements
-note_if b object key value = if b then Ask None object 5 key value Nothing else Nothing
+note_if b object key value = if b then Ask None object Put key value Nothing else Nothing
 
 note_heard : (b c : Bool) (k v l w : Arg) (x : Values) (r : PlainReply) (rs : List PlainReply) → IsAsk (doing (note_if b 3 k v then note_if c 2 l w) committing x [])
     → (if b then doing (note_if c 2 l w) committing x rs else next.Commit) ≡ doing (note_if b 3 k v then note_if c 2 l w) committing x (r ∷ rs)
@@ -74,14 +75,14 @@ fewer_after_note false = omega arith
 -- what is asked for a note is asked by the statements
 may_if : (b c : Bool) (k v l w : ℤ) (x : Values) → FitsSigned w64 k → FitsSigned w64 v → FitsSigned w64 l → FitsSigned w64 w
     → MayAsk (Asks (note_if b 3 (Num k) (Num v) then note_if c 2 (Num l) (Num w))) (doing (note_if b 3 (Num k) (Num v) then note_if c 2 (Num l) (Num w)) committing x [])
-may_if true c k v l w x fk fv fl fw = inl (record { object_is = refl; code_is = refl; a_may_be = refl; b_may_be = refl; a_fits = fk; b_fits = fv })
-may_if false true k v l w x fk fv fl fw = inl (record { object_is = refl; code_is = refl; a_may_be = refl; b_may_be = refl; a_fits = fl; b_fits = fw })
+may_if true c k v l w x fk fv fl fw = inl (record { object_is = refl; operation_is = refl; a_may_be = refl; b_may_be = refl; no_third = refl; a_fits = fk; b_fits = fv })
+may_if false true k v l w x fk fv fl fw = inl (record { object_is = refl; operation_is = refl; a_may_be = refl; b_may_be = refl; no_third = refl; a_fits = fl; b_fits = fw })
 may_if false false k v l w x fk fv fl fw = tt
 
 owner_if : (b c : Bool) (k v l w : ℤ) (x : Values) → FitsSigned w64 l → FitsSigned w64 w
     → MayAsk (Asks (note_if b 3 (Num k) (Num v) then note_if c 2 (Num l) (Num w))) (doing (note_if c 2 (Num l) (Num w)) committing x [])
-owner_if true true k v l w x fl fw = inr (inl (record { object_is = refl; code_is = refl; a_may_be = refl; b_may_be = refl; a_fits = fl; b_fits = fw }))
-owner_if false true k v l w x fl fw = inl (record { object_is = refl; code_is = refl; a_may_be = refl; b_may_be = refl; a_fits = fl; b_fits = fw })
+owner_if true true k v l w x fl fw = inr (inl (record { object_is = refl; operation_is = refl; a_may_be = refl; b_may_be = refl; no_third = refl; a_fits = fl; b_fits = fw }))
+owner_if false true k v l w x fl fw = inl (record { object_is = refl; operation_is = refl; a_may_be = refl; b_may_be = refl; no_third = refl; a_fits = fl; b_fits = fw })
 owner_if true false k v l w x fl fw = tt
 owner_if false false k v l w x fl fw = tt
 

@@ -1,5 +1,6 @@
 -- What a transaction of the generated file still does, by how far it is.
 use Rattle.std.specs.Prelude.{ℕ, ◌+◌, None}
+use Rattle.sto_model.specs.declared.operation.Operation.TheVariants.{Add}
 use Rattle.sto_lang.specs.Statements.{Statements, Nothing, Ask, ◌then◌}
 use Rattle.sto_lang.specs.declared.arg.Arg.TheVariants.{Num}
 use Rattle.sto_script.specs.Meaning.{Doing, doing, committing}
@@ -14,11 +15,11 @@ notes thread position t = log_note thread position t.amount then owner_note thre
 
 -- `add done 1`
 abbrev pub counted : Statements
-counted = Ask None 0 2 (number 1) (number 0) Nothing
+counted = Ask None 0 Add (number 1) (number 0) Nothing
 
 -- `add acct J A`, and then that
 abbrev pub moved_in : Transfer → Statements
-moved_in t = Ask None 1 2 (number t.to) (number t.amount) counted
+moved_in t = Ask None 1 Add (number t.to) (number t.amount) counted
 
 -- what is done from a stage on, by what the variable holds
 abbrev pub doing_from : TransferStage → ℕ → ℕ → Transfer → Doing

@@ -2,6 +2,7 @@
 ghost use Rattle.std.specs.Prelude.{◌≡◌, ◌<◌, ◌≤◌, ◌==◌, ◌%◌, [], pos, if◌then◌else◌};
 ghost use Rattle.sto_part.specs.Preds.{compares};
 ghost use Rattle.sto_part.specs.declared.pred.Test.TheVariants.{Ge};
+ghost use Rattle.sto_model.specs.Calls.{call_of};
 ghost use Rattle.sto_model.specs.declared.call.Call.{Call};
 ghost use Rattle.sto_script.specs.Meaning.{Values, meaning_of, doing, committing};
 ghost use Rattle.sto_script.specs.Asks.{Asks};
@@ -9,8 +10,8 @@ ghost use Rattle.sto_gen.specs.Generated.{transaction, owner_note};
 ghost use Rattle.sto_bench.specs.Stages.{notes};
 ghost use Rattle.sto_bench.specs.declared.body.TransferStage.TheVariants.{Out, Log, Owner, End};
 
-use sto_gen::{ACCT, ADD, DONE, GET, LOG, OWNER, PUT, Transfer};
-use sto_model::{Body, Call, Next, Reply};
+use sto_gen::{ACCT, DONE, LOG, OWNER, Transfer};
+use sto_model::{Body, Call, Next, Operation, Reply};
 use sto_part::{Test, compare};
 use sto_script::taken;
 
@@ -90,12 +91,9 @@ impl GeneratedBody {
             ≡ doing (notes self.now.thread self.now.position self.now.transfer) committing values [] }
     {
         if self.position % 20 == 0 {
-            return Next::Ask(Call {
-                object: LOG,
-                code: PUT,
-                a: 1000 * i64::from(self.thread) + i64::from(self.position),
-                b: i64::from(self.transfer.amount),
-            });
+            let key = 1000 * i64::from(self.thread) + i64::from(self.position);
+            let amount = i64::from(self.transfer.amount);
+            return Next::Ask(Call::new(LOG, Operation::Put, key, amount));
         }
         self.next_owner()
     }
@@ -105,26 +103,17 @@ impl GeneratedBody {
         ensures { (values : Values) → result ≡ doing (owner_note self.now.thread self.now.position) committing values [] }
     {
         if self.position % 25 == 0 {
-            return Next::Ask(Call {
-                object: OWNER,
-                code: PUT,
-                a: 8 * i64::from(self.thread) + i64::from(self.position / 25),
-                b: i64::from(self.thread),
-            });
+            let key = 8 * i64::from(self.thread) + i64::from(self.position / 25);
+            return Next::Ask(Call::new(OWNER, Operation::Put, key, i64::from(self.thread)));
         }
         Next::Commit
     }
 
     /// Asks for a sum on an account.
     fn add(account: u8, sum: i64) -> Next
-        ensures { result ≡ Next.Ask (record { object = 1; code = 2; a = pos account; b = sum }) }
+        ensures { result ≡ Next.Ask (call_of 1 Operation.Add (pos account) sum) }
     {
-        Next::Ask(Call {
-            object: ACCT,
-            code: ADD,
-            a: i64::from(account),
-            b: sum,
-        })
+        Next::Ask(Call::new(ACCT, Operation::Add, i64::from(account), sum))
     }
 }
 
@@ -149,20 +138,12 @@ impl Body for GeneratedBody {
     fn next(&self) -> Next {
         let Transfer { from, to, amount } = self.transfer;
         match self.stage {
-            TransferStage::Balance => Next::Ask(Call {
-                object: ACCT,
-                code: GET,
-                a: i64::from(from),
-                b: 0,
-            }),
+            TransferStage::Balance => {
+                Next::Ask(Call::new(ACCT, Operation::Get, i64::from(from), 0))
+            }
             TransferStage::Out => GeneratedBody::add(from, -i64::from(amount)),
             TransferStage::In => GeneratedBody::add(to, i64::from(amount)),
-            TransferStage::Count => Next::Ask(Call {
-                object: DONE,
-                code: ADD,
-                a: 1,
-                b: 0,
-            }),
+            TransferStage::Count => Next::Ask(Call::new(DONE, Operation::Add, 1, 0)),
             TransferStage::Log => self.next_note(),
             TransferStage::Owner => self.next_owner(),
             TransferStage::End => Next::Commit,

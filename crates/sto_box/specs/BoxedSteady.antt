@@ -1,9 +1,9 @@
 -- A box is steady.
-use Rattle.std.proofs.Common.{◌≡◌, ℕ, ℤ, Bool, true, false, nat_eq, Some, None, Option, List, [], ◌∷◌, refl, ap, sym, ◌∙◌, inl, inr}
+use Rattle.std.proofs.Common.{◌≡◌, ℕ, ℤ, Bool, true, false, Some, None, Option, List, [], ◌∷◌, refl, ap, sym, ◌∙◌, inl, inr}
 use Rattle.sto_type.specs.Known.{Known, IsWithin}
 use Rattle.sto_type.specs.Meaning.{IsSteady}
 use Rattle.sto_type.specs.SteadyLaw.{by_known, no_part, same_part}
-use Rattle.sto_box.specs.Boxed.{box_meaning, asked}
+use Rattle.sto_box.specs.Boxed.{box_meaning, asked, is_get}
 
 asked_steady : (b : Bool) (k more : Known) (p : ℕ) → IsWithin k more → more p ≡ None → asked b (k 0) ≡ Some p → asked b (more 0) ≡ Some p
 asked_steady b k more p w none e = elim (by_known (k 0)) [
@@ -28,6 +28,6 @@ asked_done false k more w e = refl
 
 pub box_steady : (n : ℕ) (C : List ℤ → Type 0) (ws : List ℤ) → IsSteady (box_meaning n C ws)
 box_steady n C ws = record {
-  steady = λ call k more p. asked_steady (nat_eq call.code 0) k more p;
-  done = λ call k more w e. (asked_done (nat_eq call.code 0) k more w e, refl);
+  steady = λ call k more p. asked_steady (is_get call.operation) k more p;
+  done = λ call k more w e. (asked_done (is_get call.operation) k more w e, refl);
 }

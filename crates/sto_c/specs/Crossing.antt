@@ -1,5 +1,7 @@
 -- What the structs of include/sto.h stand for.
-use Rattle.std.specs.Prelude.{ℕ, pos, true, false, ◌+◌, ◌-◌, List, [], ◌∷◌, ◌++◌, length, map, Option, Some, slice_get}
+use Rattle.std.specs.Prelude.{ℕ, pos, true, false, ◌+◌, ◌-◌, List, [], ◌∷◌, ◌++◌, length, map, Option, Some, option_map, slice_get}
+use Rattle.sto_model.specs.Operations.{operation_of}
+use Rattle.sto_model.specs.Calls.{call_of}
 use Rattle.sto_model.specs.declared.call.Call.{Call}
 use Rattle.sto_model.specs.declared.reply.Reply.{Reply}
 use Rattle.sto_model.specs.declared.reply.Reply.TheVariants as reply
@@ -16,9 +18,9 @@ use Rattle.sto_c.specs.declared.crossing.RowOut.{RowOut}
 abbrev pub shape_in : ShapeIn → Option Shape
 shape_in g = slice_get (Single g.value ∷ Counter g.value ∷ Array g.size g.value ∷ Hash g.size g.places ∷ Tree g.size ∷ Vector g.size ∷ []) g.kind
 
--- the call that C asks by these numbers
-abbrev pub call_in : CallIn → Call
-call_in given = record { object = given.object; code = given.operation; a = given.a; b = given.b }
+-- the call that C asks by these numbers, if its operation is one
+abbrev pub call_in : CallIn → Option Call
+call_in given = option_map (λ operation. call_of given.object operation given.a given.b) (operation_of given.operation)
 
 -- what C is told of a reply; of pairs, how many they are
 abbrev pub reply_out : Reply → ReplyOut

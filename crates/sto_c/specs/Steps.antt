@@ -3,7 +3,6 @@ use Rattle.std.specs.Prelude.{◌≡◌, ◌<◌, ◌≤◌, ◌⊎◌, ◌++◌
 use Rattle.std.specs.Arc.{arc_value}
 use Rattle.sto_model.specs.declared.call.Call.{Call}
 use Rattle.sto_model.specs.declared.reply.Reply.{Reply}
-use Rattle.sto_model.specs.Operations.{operation_of}
 use Rattle.sto_interactive.specs.declared.starting.BeginError.{BeginError}
 use Rattle.sto_interactive.specs.declared.starting.BeginError.TheVariants as begin_error
 use Rattle.sto_interactive.specs.declared.asking.AskError.{AskError}
@@ -66,15 +65,19 @@ last_reply_of h = option_and_then (λ rs. last_of rs.items) (replies_of h.worker
 abbrev pub HasHeard : ReplyOut → WorkerHandle → Type 0
 HasHeard reply k = option_map reply_out (last_reply_of k) ≡ Some reply
 
+-- the call that C gives was asked
+abbrev pub AsksGiven : CallIn → WorkerHandle → WorkerHandle → Result (Unit {0}) AskError → Type 0
+AsksGiven given h k r = (call : Call) × (call_in given ≡ Some call) × Asks h k call r
+
 -- a call was asked, or why it was not
 abbrev pub HasAnswered : CallIn → WorkerHandle → Result (Unit {0}) Status → WorkerHandle → Type 0
-HasAnswered given h (Ok done) k = (given.object < h.objects) × Asks h k (call_in given) (Ok done)
+HasAnswered given h (Ok done) k = (given.object < h.objects) × AsksGiven given h k (Ok done)
 HasAnswered given h (Err status.NoObject) k = (h.objects ≤ given.object) × (k ≡ h)
 HasAnswered given h (Err status.NoCall) k = (given.object < h.objects)
-    × (((operation_of given.operation ≡ None) × (k ≡ h)) ⊎ Asks h k (call_in given) (Err ask_error.Untaken))
-HasAnswered given h (Err status.NoTransaction) k = (given.object < h.objects) × Asks h k (call_in given) (Err ask_error.NoTransaction)
-HasAnswered given h (Err status.Aborted) k = (given.object < h.objects) × Asks h k (call_in given) (Err ask_error.Aborted)
-HasAnswered given h (Err status.NoMemory) k = (given.object < h.objects) × Asks h k (call_in given) (Err ask_error.NoMemory)
+    × (((call_in given ≡ None) × (k ≡ h)) ⊎ AsksGiven given h k (Err ask_error.Untaken))
+HasAnswered given h (Err status.NoTransaction) k = (given.object < h.objects) × AsksGiven given h k (Err ask_error.NoTransaction)
+HasAnswered given h (Err status.Aborted) k = (given.object < h.objects) × AsksGiven given h k (Err ask_error.Aborted)
+HasAnswered given h (Err status.NoMemory) k = (given.object < h.objects) × AsksGiven given h k (Err ask_error.NoMemory)
 HasAnswered given h (Err _) k = ⊥
 
 -- the reply was told where it was answered

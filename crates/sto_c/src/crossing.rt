@@ -1,6 +1,5 @@
 //! What crosses between C and the library: the structs of include/sto.h.
-ghost use Rattle.std.specs.Prelude.{◌≡◌, None, IfSome, IfNone};
-ghost use Rattle.sto_model.specs.Operations.{operation_of};
+ghost use Rattle.std.specs.Prelude.{◌≡◌, Some, None, IfSome, IfNone};
 ghost use Rattle.sto_c.specs.Crossing.{shape_in, call_in, reply_out, pair_out, row_out};
 
 use sto_model::{Call, Operation, Reply, Shape};
@@ -55,19 +54,14 @@ pub struct CallIn {
 impl CallIn {
     /// The call; none where its operation is no operation.
     pub(crate) fn call(&self) -> Option<Call>
-        ensures some { IfSome result (λ call. call ≡ call_in self.now) }
-        ensures none { IfNone result (operation_of self.now.operation ≡ None) }
+        ensures some { IfSome result (λ call. call_in self.now ≡ Some call) }
+        ensures none { IfNone result (call_in self.now ≡ None) }
     {
-        let Ok(code) = u8::try_from(self.operation) else {
+        let Ok(number) = u8::try_from(self.operation) else {
             return None;
         };
-        match Operation::from_code(code) {
-            Some(_) => Some(Call {
-                object: self.object,
-                code,
-                a: self.a,
-                b: self.b,
-            }),
+        match Operation::from_code(number) {
+            Some(operation) => Some(Call::new(self.object, operation, self.a, self.b)),
             None => None,
         }
     }

@@ -63,7 +63,7 @@ module _ (means : List Shape → Meaning) (shapes : List Shape) (law : IsLawful 
       let es : List Entry = m.updates call done.contents in
       let up : IsUpdated m call done.contents es = law.updated call done.contents t v in
       let reply : PlainReply = reply_to m.machines call st in
-      let wrote : is_write call.code reply ≡ not (is_empty es) = ap (λ (s : State). is_write call.code (reply_to m.machines call s)) (sym r) ∙ up.writes in
+      let wrote : is_write call.operation reply ≡ not (is_empty es) = ap (λ (s : State). is_write call.operation (reply_to m.machines call s)) (sym r) ∙ up.writes in
       record {
         valid = more.valid;
         rows = more.rows;
@@ -73,7 +73,7 @@ module _ (means : List Shape → Meaning) (shapes : List Shape) (law : IsLawful 
             | inr y ↦ inr (subst (λ (b : Bool). IsOwned m.homes (cond b (call.object ∷ rest) rest) p) (sym (wrote ∙ some_named es p y))
                 (record { object = call.object; part = names_owned m.homes call.object es p up.owned y; among = here call.object rest }))
           ]
-          | inr x ↦ inr (more_owned (is_write call.code reply) call.object rest p x)
+          | inr x ↦ inr (more_owned (is_write call.operation reply) call.object rest p x)
         ];
       }
 

@@ -8,6 +8,7 @@ use Rattle.sto_part.specs.Changes.{wrapped_sum, wrapped_difference}
 use Rattle.sto_part.specs.Preds.{compares}
 use Rattle.sto_model.specs.PlainReplies.{PlainReply, Done, Value, Flag, Absent, Full, Range, Pairs}
 use Rattle.sto_model.specs.Run.{Behaviour, MayAsk}
+use Rattle.sto_model.specs.Calls.{call_of}
 use Rattle.sto_model.specs.declared.call.Call.{Call}
 use Rattle.sto_model.specs.declared.body.Next.{Next}
 use Rattle.sto_model.specs.declared.body.Next.TheVariants as next
@@ -31,7 +32,7 @@ ArgFits (Var place) = Unit {0}
 -- so are all arguments of the statements
 abbrev pub HaveNumbers : Statements → Type 0
 HaveNumbers Nothing = Unit {0}
-HaveNumbers (Ask to object code a b rest) = ArgFits a × ArgFits b × HaveNumbers rest
+HaveNumbers (Ask to object operation a b rest) = ArgFits a × ArgFits b × HaveNumbers rest
 HaveNumbers (Sum to a b rest) = ArgFits a × ArgFits b × HaveNumbers rest
 HaveNumbers (Diff to a b rest) = ArgFits a × ArgFits b × HaveNumbers rest
 HaveNumbers (Choose a test b first second rest) = ArgFits a × ArgFits b × HaveNumbers first × HaveNumbers second × HaveNumbers rest
@@ -91,15 +92,15 @@ repeated P body step (suc times) others h = step (times_over times body others) 
 
 asks_of : (P : Call → Type 0) (s : Statements) (others : Doing) → HaveNumbers s → ((call : Call) → Asks s call → P call) → AsksOf P others → AsksOf P (doing s others)
 asks_of P Nothing others n p h vs rs v r = h vs rs v r
-asks_of P (Ask to object code a b rest) others n p h vs [] v r =
+asks_of P (Ask to object operation a b rest) others n p h vs [] v r =
     let first : Fits (value_of vs a) = value_fits vs a v n.0 in
     let second : Fits (value_of vs b) = value_fits vs b v n.1 in
     record {
-      is = p (record { object = object; code = code; a = value_of vs a; b = value_of vs b })
-          (inl (record { object_is = refl; code_is = refl; a_may_be = may_be vs a; b_may_be = may_be vs b; a_fits = first; b_fits = second }));
+      is = p (call_of object operation (value_of vs a) (value_of vs b))
+          (inl (record { object_is = refl; operation_is = refl; a_may_be = may_be vs a; b_may_be = may_be vs b; no_third = refl; a_fits = first; b_fits = second }));
       fits = record { first = first; second = second };
     }
-asks_of P (Ask to object code a b rest) others n p h vs (reply ∷ rs) v r =
+asks_of P (Ask to object operation a b rest) others n p h vs (reply ∷ rs) v r =
     asks_of P rest others n.2 (λ call k. p call (inr k)) h (with_reply vs to reply) rs (reply_kept vs to reply v (All-head ToldFits reply rs r)) (All-tail ToldFits reply rs r)
 asks_of P (Sum to a b rest) others n p h vs rs v r =
     let sum : ℤ = wrapped_sum (value_of vs a) (value_of vs b) in

@@ -9,9 +9,8 @@ use Rattle.std.proofs.lemmas.Int.{ints}
 use Rattle.std.proofs.lemmas.List.Elements.{All-nil, All-cons, All-head, All-tail, All-weaker}
 use Rattle.sto_model.specs.PlainReplies.{PlainReply, Done, Value, Flag, Absent, Full, Range, Pairs}
 use Rattle.sto_model.specs.Rows.{Row, value_at, has_key, with_row, without, least_from, rows_between}
-use Rattle.sto_model.specs.Operations.{operation_of}
 use Rattle.sto_model.specs.SequentialObjects.{answered, changed}
-use Rattle.sto_model.specs.Objects.{Effect, effect, only_value, with_only, value_or_absent, in_range, done_in_range, box_effect, counter_effect, added_at, array_effect, put_effect, remove_effect, hash_effect, tree_effect, push_effect, popped, pop_effect, vector_effect, effect_by, machines_of}
+use Rattle.sto_model.specs.Objects.{Effect, effect, only_value, with_only, value_or_absent, in_range, done_in_range, box_effect, counter_effect, added_at, array_effect, put_effect, remove_effect, hash_effect, tree_effect, push_effect, popped, pop_effect, vector_effect, machines_of, effect_of}
 use Rattle.sto_model.specs.Ranges.{in_range-cases}
 use Rattle.sto_model.specs.declared.call.Call.{Call}
 use Rattle.sto_model.specs.declared.operation.Operation.{Operation}
@@ -240,14 +239,13 @@ module _ (n : ℕ) (small : n < 2 ^ 63) (rows : List Row) (h : HasFew n rows) wh
   vector_fits capacity Pop a b f g = pop_fits (length rows)
   vector_fits capacity o a b f g = same Absent tt
 
-  effect_fits : (shape : Shape) (o : Option Operation) (a b : ℤ) → Fits a → Fits b → EffectFits n (effect_by shape o a b rows)
-  effect_fits (Single v) (Some o) a b f g = box_fits o a f
-  effect_fits (Counter v) (Some o) a b f g = counter_fits o a b
-  effect_fits (Array len v) (Some o) a b f g = array_fits o a b f g
-  effect_fits (Hash buckets places) (Some o) a b f g = hash_fits buckets places o a b f g
-  effect_fits (Tree leaves) (Some o) a b f g = tree_fits leaves o a b f g
-  effect_fits (Vector capacity) (Some o) a b f g = vector_fits capacity o a b f g
-  effect_fits shape None a b f g = same Absent tt
+  effect_fits : (shape : Shape) (o : Operation) (a b : ℤ) → Fits a → Fits b → EffectFits n (effect_of shape o a b rows)
+  effect_fits (Single v) o a b f g = box_fits o a f
+  effect_fits (Counter v) o a b f g = counter_fits o a b
+  effect_fits (Array len v) o a b f g = array_fits o a b f g
+  effect_fits (Hash buckets places) o a b f g = hash_fits buckets places o a b f g
+  effect_fits (Tree leaves) o a b f g = tree_fits leaves o a b f g
+  effect_fits (Vector capacity) o a b f g = vector_fits capacity o a b f g
 
 -- Objects side by side.
 
@@ -257,13 +255,13 @@ every_more n st h = All-weaker (HasFew n) (HasFew (suc n)) (still n) st h
 pub reply_fits : (n : ℕ) → n < 2 ^ 63 → (shapes : List Shape) (number : ℕ) (call : Call) (st : List (List Row)) → All (HasFew n) st → Fits call.a → Fits call.b → ToldFits (answered (machines_of shapes) number call st)
 reply_fits n l [] number call st h f g = tt
 reply_fits n l (shape ∷ shapes) number call [] h f g = tt
-reply_fits n l (shape ∷ shapes) zero call (rows ∷ st) h f g = (effect_fits n l rows (All-head (HasFew n) rows st h) shape (operation_of call.code) call.a call.b f g).reply
+reply_fits n l (shape ∷ shapes) zero call (rows ∷ st) h f g = (effect_fits n l rows (All-head (HasFew n) rows st h) shape call.operation call.a call.b f g).reply
 reply_fits n l (shape ∷ shapes) (suc number) call (rows ∷ st) h f g = reply_fits n l shapes number call st (All-tail (HasFew n) rows st h) f g
 
 pub state_fits : (n : ℕ) → n < 2 ^ 63 → (shapes : List Shape) (number : ℕ) (call : Call) (st : List (List Row)) → All (HasFew n) st → Fits call.a → Fits call.b → All (HasFew (suc n)) (changed (machines_of shapes) number call st)
 state_fits n l [] number call st h f g = every_more n st h
 state_fits n l (shape ∷ shapes) number call [] h f g = All-nil (HasFew (suc n))
 state_fits n l (shape ∷ shapes) zero call (rows ∷ st) h f g =
-    All-cons (HasFew (suc n)) _ st (effect_fits n l rows (All-head (HasFew n) rows st h) shape (operation_of call.code) call.a call.b f g).after (every_more n st (All-tail (HasFew n) rows st h))
+    All-cons (HasFew (suc n)) _ st (effect_fits n l rows (All-head (HasFew n) rows st h) shape call.operation call.a call.b f g).after (every_more n st (All-tail (HasFew n) rows st h))
 state_fits n l (shape ∷ shapes) (suc number) call (rows ∷ st) h f g =
     All-cons (HasFew (suc n)) rows _ (still n rows (All-head (HasFew n) rows st h)) (state_fits n l shapes number call st (All-tail (HasFew n) rows st h) f g)

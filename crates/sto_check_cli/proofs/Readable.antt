@@ -13,7 +13,7 @@ use Rattle.sto_syntax.specs.declared.declared.Declared.{Declared}
 use Rattle.sto_syntax.specs.declared.declared.Declared.TheVariants as declares
 use Rattle.sto_syntax.specs.declared.operation.OperationWord.{OperationWord}
 use Rattle.sto_syntax.specs.declared.operation.OperationWord.TheVariants.{Compare}
-use Rattle.sto_syntax.specs.Operations.{test_number}
+use Rattle.sto_model.specs.Operations.{test_number}
 use Rattle.sto_lang.specs.declared.arg.Arg.{Arg}
 use Rattle.sto_lang.specs.declared.fault.ScriptFault.{ScriptFault}
 use Rattle.sto_lang.specs.declared.fault.FaultKind.{FaultKind}
@@ -67,7 +67,7 @@ pub record FileFits (file : File) : Type 0 where
 
 then_fits : (s more : Statements) → HaveNumbers s → HaveNumbers more → HaveNumbers (s then more)
 then_fits Nothing more h k = k
-then_fits (Ask to object code a b rest) more h k = (h.0, h.1, then_fits rest more h.2 k)
+then_fits (Ask to object operation a b rest) more h k = (h.0, h.1, then_fits rest more h.2 k)
 then_fits (Sum to a b rest) more h k = (h.0, h.1, then_fits rest more h.2 k)
 then_fits (Diff to a b rest) more h k = (h.0, h.1, then_fits rest more h.2 k)
 then_fits (Choose a test b first second rest) more h k = (h.0, h.1, h.2, h.3, then_fits rest more h.4 k)

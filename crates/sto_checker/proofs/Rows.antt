@@ -3,6 +3,7 @@ use Rattle.std.proofs.Common.{◌≡◌, ℕ, zero, suc, ◌<◌, ◌≤◌, pos
 use Rattle.std.specs.Fmt.{digits}
 use Rattle.std.specs.Int.{int_wrap}
 use Rattle.std.proofs.lemmas.List.Elements.{All-from_recursion, All-nil, All-head}
+use Rattle.sto_model.specs.declared.operation.Operation.TheVariants as op
 use Rattle.sto_model.specs.PlainReplies.{Value, Done}
 use Rattle.sto_model.specs.declared.shape.Shape.TheVariants.{Single}
 use Rattle.sto_lang.specs.declared.arg.Arg.{Arg}
@@ -25,7 +26,7 @@ abbrev adding : Script
 adding =
     record {
       variables = codes "x" ∷ codes "y" ∷ [];
-      body = Ask (Some 0) 0 0 nought nought (Sum 1 (Var 0) (Num (pos 1)) (Ask None 0 1 (Var 1) nought Nothing));
+      body = Ask (Some 0) 0 op.Get nought nought (Sum 1 (Var 0) (Num (pos 1)) (Ask None 0 op.Set (Var 1) nought Nothing));
       weight = 4;
     }
 

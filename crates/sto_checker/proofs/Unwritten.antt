@@ -3,8 +3,7 @@ use Rattle.std.proofs.Common.{◌≡◌, ℕ, zero, suc, ◌*◌, nat_le, length
 use Rattle.sto_model.specs.PlainReplies.{PlainReply, Done, Value, Flag, Absent, Full, is_write}
 use Rattle.sto_model.specs.Rows.{Row, value_at, has_key, with_row, without, keys_beside}
 use Rattle.sto_model.specs.SequentialObjects.{SequentialObject, answered, changed, reply_to, state_after}
-use Rattle.sto_model.specs.Operations.{operation_of}
-use Rattle.sto_model.specs.Objects.{Effect, effect, only_value, with_only, in_range, done_in_range, added_at, put_effect, remove_effect, popped, pop_effect, effect_of, effect_by, machine_of, machines_of}
+use Rattle.sto_model.specs.Objects.{Effect, effect, only_value, with_only, in_range, done_in_range, added_at, put_effect, remove_effect, popped, pop_effect, effect_of, machine_of, machines_of}
 use Rattle.sto_model.specs.Run.{Behaviour, State}
 use Rattle.sto_model.specs.Serial.{SerialRun, is_written, has_written, is_writer_run, by_next, ended, heard, run_within, settled, serial_run_of}
 use Rattle.sto_model.specs.declared.call.Call.{Call}
@@ -23,129 +22,82 @@ use Rattle.sto_script.specs.Meaning.{meaning_of}
 use Rattle.sto_report_spec.specs.Orders.{TransactionPlace, transaction_at}
 use Rattle.sto_report_spec.specs.Replay.{machines_for, script_run, run_at, is_writer}
 
-code_of : Operation → ℕ
-code_of O.Get = 0
-code_of O.Set = 1
-code_of O.Add = 2
-code_of O.Test = 3
-code_of O.Take = 4
-code_of O.Put = 5
-code_of O.Remove = 6
-code_of O.Has = 7
-code_of O.Len = 8
-code_of O.Next = 9
-code_of O.Count = 10
-code_of O.Scan = 11
-code_of O.Push = 12
-code_of O.Pop = 13
-
-code_in : Option Operation → ℕ
-unfolding code_of
-code_in None = 0
-code_in (Some o) = code_of o
-
-code_is : (code : ℕ) (o : Operation) → operation_of code ≡ Some o → code ≡ code_of o
-unfolding code_of code_in
-code_is zero o e = ap code_in e
-code_is (suc zero) o e = ap code_in e
-code_is (suc (suc zero)) o e = ap code_in e
-code_is (suc (suc (suc zero))) o e = ap code_in e
-code_is (suc (suc (suc (suc zero)))) o e = ap code_in e
-code_is (suc (suc (suc (suc (suc zero))))) o e = ap code_in e
-code_is (suc (suc (suc (suc (suc (suc zero)))))) o e = ap code_in e
-code_is (suc (suc (suc (suc (suc (suc (suc zero))))))) o e = ap code_in e
-code_is (suc (suc (suc (suc (suc (suc (suc (suc zero)))))))) o e = ap code_in e
-code_is (suc (suc (suc (suc (suc (suc (suc (suc (suc zero))))))))) o e = ap code_in e
-code_is (suc (suc (suc (suc (suc (suc (suc (suc (suc (suc zero)))))))))) o e = ap code_in e
-code_is (suc (suc (suc (suc (suc (suc (suc (suc (suc (suc (suc zero))))))))))) o e = ap code_in e
-code_is (suc (suc (suc (suc (suc (suc (suc (suc (suc (suc (suc (suc zero)))))))))))) o e = ap code_in e
-code_is (suc (suc (suc (suc (suc (suc (suc (suc (suc (suc (suc (suc (suc zero))))))))))))) o e = ap code_in e
-code_is (suc (suc (suc (suc (suc (suc (suc (suc (suc (suc (suc (suc (suc (suc n)))))))))))))) o e = absurd cc
-
 wrote : {A : Type 0} → true ≡ false → A
 wrote e = absurd cc
 
 -- the rows stay where nothing was written
-abbrev StaysAs : ℕ → List Row → Effect → Type 0
-StaysAs code rows x = is_write code x.reply ≡ false → x.after ≡ rows
+abbrev StaysAs : Operation → List Row → Effect → Type 0
+StaysAs o rows x = is_write o x.reply ≡ false → x.after ≡ rows
 
-sum_stays : (r : Option ℤ) (done : ℤ → List Row) (rows : List Row) → StaysAs 2 rows (done_in_range r (λ x. effect Done (done x)) rows)
+sum_stays : (r : Option ℤ) (done : ℤ → List Row) (rows : List Row) → StaysAs O.Add rows (done_in_range r (λ x. effect Done (done x)) rows)
 sum_stays None done rows h = refl
 sum_stays (Some x) done rows h = wrote h
 
-added_stays : (v : Option ℤ) (i d : ℤ) (rows : List Row) → StaysAs 2 rows (added_at v i d rows)
+added_stays : (v : Option ℤ) (i d : ℤ) (rows : List Row) → StaysAs O.Add rows (added_at v i d rows)
 added_stays None i d rows h = refl
 added_stays (Some x) i d rows h = sum_stays (in_range (x +ℤ d)) (λ y. with_row rows i y) rows h
 
-popped_stays : (o : Option ℤ) (k : ℤ) (rows : List Row) → StaysAs 13 rows (popped o k rows)
+popped_stays : (o : Option ℤ) (k : ℤ) (rows : List Row) → StaysAs O.Pop rows (popped o k rows)
 popped_stays None k rows h = refl
 popped_stays (Some x) k rows h = wrote h
 
-pop_stays : (n : ℕ) (rows : List Row) → StaysAs 13 rows (pop_effect n rows)
+pop_stays : (n : ℕ) (rows : List Row) → StaysAs O.Pop rows (pop_effect n rows)
 pop_stays zero rows h = refl
 pop_stays (suc n) rows h = popped_stays (value_at rows (pos n)) (pos n) rows h
 
-op_stays : (shape : Shape) (o : Operation) (a b : ℤ) (rows : List Row) → StaysAs (code_of o) rows (effect_of shape o a b rows)
-unfolding code_of
+op_stays : (shape : Shape) (o : Operation) (a b : ℤ) (rows : List Row) → StaysAs o rows (effect_of shape o a b rows)
 op_stays (Single v) O.Set a b rows h = wrote h
 op_stays (Single v) o a b rows h = refl
 op_stays (Counter v) O.Add a b rows h = sum_stays (in_range (only_value rows +ℤ a)) (λ x. with_only rows x) rows h
 op_stays (Counter v) O.Take a b rows h = taken (int_le a (only_value rows)) (in_range (only_value rows -ℤ a)) h
   where
-    taken : (t : Bool) (r : Option ℤ) → StaysAs 4 rows (cond t (done_in_range r (λ x. effect (Flag true) (with_only rows x)) rows) (effect (Flag false) rows))
+    taken : (t : Bool) (r : Option ℤ) → StaysAs O.Take rows (cond t (done_in_range r (λ x. effect (Flag true) (with_only rows x)) rows) (effect (Flag false) rows))
     taken true None h = refl
     taken true (Some x) h = wrote h
     taken false r h = refl
 op_stays (Counter v) o a b rows h = refl
 op_stays (Array n v) O.Set a b rows h = by (has_key rows a) h
   where
-    by : (t : Bool) → StaysAs 1 rows (cond t (effect Done (with_row rows a b)) (effect Absent rows))
+    by : (t : Bool) → StaysAs O.Set rows (cond t (effect Done (with_row rows a b)) (effect Absent rows))
     by true h = wrote h
     by false h = refl
 op_stays (Array n v) O.Add a b rows h = added_stays (value_at rows a) a b rows h
 op_stays (Array n v) o a b rows h = refl
 op_stays (Hash buckets places) O.Put a b rows h = by (not (has_key rows a) && nat_le places (keys_beside rows buckets a)) h
   where
-    by : (t : Bool) → StaysAs 5 rows (cond t (effect Full rows) (effect Done (with_row rows a b)))
+    by : (t : Bool) → StaysAs O.Put rows (cond t (effect Full rows) (effect Done (with_row rows a b)))
     by true h = refl
     by false h = wrote h
 op_stays (Hash buckets places) O.Remove a b rows h = by (has_key rows a) h
   where
-    by : (t : Bool) → StaysAs 6 rows (cond t (effect (Flag true) (without rows a)) (effect (Flag false) rows))
+    by : (t : Bool) → StaysAs O.Remove rows (cond t (effect (Flag true) (without rows a)) (effect (Flag false) rows))
     by true h = wrote h
     by false h = refl
 op_stays (Hash buckets places) o a b rows h = refl
 op_stays (Tree leaves) O.Put a b rows h = by (not (has_key rows a) && nat_le (4 * leaves) (length rows)) h
   where
-    by : (t : Bool) → StaysAs 5 rows (cond t (effect Full rows) (effect Done (with_row rows a b)))
+    by : (t : Bool) → StaysAs O.Put rows (cond t (effect Full rows) (effect Done (with_row rows a b)))
     by true h = refl
     by false h = wrote h
 op_stays (Tree leaves) O.Remove a b rows h = by (has_key rows a) h
   where
-    by : (t : Bool) → StaysAs 6 rows (cond t (effect (Flag true) (without rows a)) (effect (Flag false) rows))
+    by : (t : Bool) → StaysAs O.Remove rows (cond t (effect (Flag true) (without rows a)) (effect (Flag false) rows))
     by true h = wrote h
     by false h = refl
 op_stays (Tree leaves) o a b rows h = refl
 op_stays (Vector capacity) O.Push a b rows h = by (nat_le capacity (length rows)) h
   where
-    by : (t : Bool) → StaysAs 12 rows (cond t (effect Full rows) (effect Done (with_row rows (pos (length rows)) a)))
+    by : (t : Bool) → StaysAs O.Push rows (cond t (effect Full rows) (effect Done (with_row rows (pos (length rows)) a)))
     by true h = refl
     by false h = wrote h
 op_stays (Vector capacity) O.Pop a b rows h = pop_stays (length rows) rows h
 op_stays (Vector capacity) o a b rows h = refl
 
-effect_stays : (shape : Shape) (code : ℕ) (a b : ℤ) (rows : List Row) → StaysAs code rows (effect_by shape (operation_of code) a b rows)
-effect_stays shape code a b rows = by (operation_of code) refl
-  where
-    by : (x : Option Operation) → operation_of code ≡ x → StaysAs code rows (effect_by shape x a b rows)
-    by None e h = refl
-    by (Some o) e h = op_stays shape o a b rows (subst (λ (n : ℕ). is_write n (effect_of shape o a b rows).reply ≡ false) (code_is code o e) h)
-
-call_stays : (shapes : List Shape) (n : ℕ) (call : Call) (st : State) → is_write call.code (answered (machines_of shapes) n call st) ≡ false → changed (machines_of shapes) n call st ≡ st
+call_stays : (shapes : List Shape) (n : ℕ) (call : Call) (st : State) → is_write call.operation (answered (machines_of shapes) n call st) ≡ false → changed (machines_of shapes) n call st ≡ st
 call_stays [] n call st h = refl
 call_stays (s ∷ shapes) zero call [] h = refl
 call_stays (s ∷ shapes) (suc n) call [] h = refl
-call_stays (s ∷ shapes) zero call (rows ∷ st) h = ap (λ (r : List Row). r ∷ st) (effect_stays s call.code call.a call.b rows h)
+call_stays (s ∷ shapes) zero call (rows ∷ st) h = ap (λ (r : List Row). r ∷ st) (op_stays s call.operation call.a call.b rows h)
 call_stays (s ∷ shapes) (suc n) call (rows ∷ st) h = ap (λ (t : State). rows ∷ t) (call_stays shapes n call st h)
 
 both_false : (a b : Bool) → (a || b) ≡ false → (a ≡ false) × (b ≡ false)

@@ -13,7 +13,7 @@ use Rattle.sto_report_spec.specs.Replay.{run_at, is_writer, opening_state}
 -- the object of what is done next where that is a call that wrote something, before those of the calls after it; a body that
 -- ended calls nothing more
 abbrev pub onto_objects : Next → PlainReply → List ℕ → List ℕ
-onto_objects (Ask call) reply others = if is_write call.code reply then call.object ∷ others else others
+onto_objects (Ask call) reply others = if is_write call.operation reply then call.object ∷ others else others
 onto_objects Commit reply others = []
 onto_objects Cancel reply others = []
 

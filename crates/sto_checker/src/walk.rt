@@ -24,7 +24,7 @@ pub fn objects_written<B: Body>(
         let Next::Ask(call) = body.next() else {
             return Ok(objects);
         };
-        if writes(call.code, reply) {
+        if writes(call.operation, reply) {
             objects.push(call.object)?;
         }
         body.hear(reply);
@@ -44,7 +44,7 @@ pub fn is_unsettled<B: Body>(body: &mut B, replies: &[Reply]) -> bool
         let Next::Ask(call) = body.next() else {
             return false;
         };
-        written = written || writes(call.code, reply);
+        written = written || writes(call.operation, reply);
         body.hear(reply);
     }
     match body.next() {

@@ -14,7 +14,7 @@ pub(crate) fn has_written<B: Body>(body: &mut B, replies: &[Reply]) -> bool
     body.reset();
     for reply in replies {
         if let Next::Ask(call) = body.next() {
-            if writes(call.code, reply) {
+            if writes(call.operation, reply) {
                 return true;
             }
             body.hear(reply);

@@ -1,5 +1,5 @@
 -- What `explore` prints of a script, and why it refuses one.
-use Rattle.std.specs.Prelude.{◌≡◌, ℕ, List, Bool, Ok, Err}
+use Rattle.std.specs.Prelude.{◌≡◌, ◌≤◌, ℕ, List, Bool, Ok, Err}
 use Rattle.sto_lang.specs.Files.{file_of}
 use Rattle.sto_lang.specs.Scripts.{File}
 use Rattle.sto_report_spec.specs.Lawful.{IsLawfulIn}
@@ -11,7 +11,7 @@ use Rattle.sto_args.specs.declared.command.By.TheVariants as given
 use Rattle.sto_orders.specs.declared.same_by.SameBy.{SameBy}
 use Rattle.sto_orders.specs.declared.same_by.SameBy.TheVariants as compare
 use Rattle.sto_orders.specs.declared.limit.OrdersError.TheVariants as refusals
-use Rattle.sto_orders.specs.Causes.{IsCause}
+use Rattle.sto_orders.specs.Causes.{least_told, IsCause}
 use Rattle.sto_run_orders.specs.declared.report.OrderReport.{OrderReport}
 use Rattle.sto_run_orders.specs.Reports.{AreOrderReports, IsAmong}
 use Rattle.sto_run_orders.specs.Texts.{reports_in}
@@ -27,8 +27,10 @@ same_by given.Answers = compare.Answers
 same_by given.Order = compare.Order
 
 -- the text tells what all orders of the file's transactions lead to, each outcome once: by the report of a run that leads there, which `step`
--- prints with the schedule beside it. Whatever a lawful report tells, by any schedule, tries and threads, one of these tells
-pub record TellsOrders (by : SameBy) (json : Bool) (file : File) (text : List ℕ) : Type 0 where
+-- prints with the schedule beside it. An outcome without a schedule would have its report alone. Whatever a lawful report tells, by any
+-- schedule, tries and threads, one of these tells. No more nodes are allowed than were asked for
+pub record TellsOrders (by : SameBy) (states : ℕ) (json : Bool) (file : File) (text : List ℕ) : Type 0 where
+  pub allowed : least_told file.threads ≤ states
   pub reports : List OrderReport
   pub of_file : AreOrderReports by (form_for json) file 64 reports
   pub complete : (tries : ℕ) (report : List ℕ) → IsLawfulIn (form_for json) (updating_by means) file tries report → IsAmong by (form_for json) file reports report

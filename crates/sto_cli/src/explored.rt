@@ -51,7 +51,7 @@ fn orders_text(
     json: bool,
 ) -> Result<Text, Refusal>
     requires { IsSound (view file.now) }
-    ensures text { IfOk result (λ text. TellsOrders by json (view file.now) text.items) }
+    ensures text { IfOk result (λ text. TellsOrders by states json (view file.now) text.items) }
     ensures fault { IfErr result (λ e. IsRefusalFor (IsManyStates by (view file.now) states) e) }
 {
     match explore_orders(alloc, file, by, states, json) {

@@ -9,6 +9,7 @@ pub mod Outcomes
 pub mod Causes
 pub mod Workers
 pub mod Faults
+pub mod ErrorTexts
 pub use Rattle.sto_journal.specs.Journals
 pub use Rattle.sto_args.specs.Commands
 pub use Rattle.sto_lang.specs.Files

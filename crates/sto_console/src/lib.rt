@@ -3,6 +3,7 @@
 #![tactic(auto)]
 
 mod beside;
+mod display;
 mod give;
 mod memory;
 mod quiet;

@@ -50,3 +50,4 @@ pub mod Reopening
 pub mod Closing
 pub mod Cutting
 pub mod ClosedWords
+pub mod Refutations

@@ -1,5 +1,5 @@
 -- A counter is lawful.
-use Rattle.std.specs.Prelude.{◌≡◌, ◌<◌, ◌≤◌, ◌⊎◌, ◌↔◌, ◌+ℤ◌, ◌-ℤ◌, ℕ, zero, suc, ℤ, pos, negsuc, Bool, true, false, not, nat_eq, int_le, if◌then◌else◌, Option, Some, None, List, [], ◌∷◌, map, length, slice_index_or, slice_get, IsSome, IsTrue, is_some, refl}
+use Rattle.std.specs.Prelude.{◌≡◌, ◌<◌, ◌≤◌, ◌⊎◌, ◌↔◌, ◌+ℤ◌, ◌-ℤ◌, ℕ, suc, ℤ, pos, negsuc, Bool, true, false, not, nat_eq, int_le, if◌then◌else◌, Option, Some, None, List, [], ◌∷◌, map, length, slice_index_or, IsSome, IsTrue, is_some, refl}
 use Rattle.std.specs.Int.{w64, int_wrap}
 use Rattle.std.specs.Int.RustNames.{FitsSigned}
 use Rattle.std.proofs.Common.{ap, sym, ◌∙◌, arith, inl, inr, subst}
@@ -21,8 +21,9 @@ use Rattle.sto_model.specs.declared.operation.Operation.TheVariants.{Get, Set, A
 use Rattle.sto_model.specs.declared.shape.Shape.TheVariants.{Counter}
 use Rattle.sto_model.specs.PlainReplies.{PlainReply, is_write}
 use Rattle.sto_model.specs.PlainReplies as T
-use Rattle.sto_model.specs.Operations.{operation_of, test_of}
-use Rattle.sto_model.specs.Objects.{compared, effect_by, greatest, in_range, takes_by}
+use Rattle.sto_model.specs.Operations.{test_of}
+use Rattle.sto_model.specs.Calls.{call_of}
+use Rattle.sto_model.specs.Objects.{compared, effect_of, greatest, in_range, takes}
 use Rattle.sto_model.specs.Rows.{Row}
 use Rattle.sto_type.specs.Plans.{IsSaid, IsPlan, planned, said_is_plan}
 use Rattle.sto_type.specs.declared.answer.Answer.{Answer}
@@ -95,22 +96,21 @@ test_here : (t : Option Test) (k x : ℤ) → AllHere (test_items t k x)
 test_here (Some t) k x = (refl, refl, tt)
 test_here None k x = tt
 
-all_here : (o : Option Operation) (a b x : ℤ) → AllHere (counter_items o a b x)
-all_here (Some Get) a b x = (refl, tt)
-all_here (Some Add) a b x = (refl, refl, tt)
-all_here (Some TestWord) a b x = test_here (test_of a) b x
-all_here (Some Take) a b x = take_here a x (int_le a x) (falls a x) refl refl
-all_here (Some Set) a b x = tt
-all_here (Some Put) a b x = tt
-all_here (Some Remove) a b x = tt
-all_here (Some Has) a b x = tt
-all_here (Some Len) a b x = tt
-all_here (Some Next) a b x = tt
-all_here (Some Count) a b x = tt
-all_here (Some Scan) a b x = tt
-all_here (Some Push) a b x = tt
-all_here (Some Pop) a b x = tt
-all_here None a b x = tt
+all_here : (o : Operation) (a b x : ℤ) → AllHere (counter_items o a b x)
+all_here Get a b x = (refl, tt)
+all_here Add a b x = (refl, refl, tt)
+all_here TestWord a b x = test_here (test_of a) b x
+all_here Take a b x = take_here a x (int_le a x) (falls a x) refl refl
+all_here Set a b x = tt
+all_here Put a b x = tt
+all_here Remove a b x = tt
+all_here Has a b x = tt
+all_here Len a b x = tt
+all_here Next a b x = tt
+all_here Count a b x = tt
+all_here Scan a b x = tt
+all_here Push a b x = tt
+all_here Pop a b x = tt
 
 -- what a test observes
 pub test_observed : (t : Test) (k v x : ℤ) (b : Bool) → compares t v k ≡ b → FitsSigned w64 x → IsTrue (holds_of (word_pred_of 0 (if compares t v k then t else negated t) k) x) ↔ (compares t x k ≡ compares t v k)
@@ -202,72 +202,63 @@ module _ (a : ℤ) (f : FitsSigned w64 a) where
       let not_there : int_le a y ≡ false = not_is (int_le a y) (sym (not_enough a y 0 g) ∙ k.0) in
       rw (e, not_there) refl)
 
--- the calls of a counter
-abbrev call_of : ℕ → ℤ → ℤ → Call
-call_of code a b = record { object = 0; code = code; a = a; b = b }
-
-far : (n : ℕ) (a : ℤ) → takes_by (Counter (pos 0)) (slice_get (Put ∷ Remove ∷ Has ∷ Len ∷ Next ∷ Count ∷ Scan ∷ Push ∷ Pop ∷ []) n) a ≡ false
-far zero a = refl
-far (suc zero) a = refl
-far (suc (suc zero)) a = refl
-far (suc (suc (suc zero))) a = refl
-far (suc (suc (suc (suc zero)))) a = refl
-far (suc (suc (suc (suc (suc zero))))) a = refl
-far (suc (suc (suc (suc (suc (suc zero)))))) a = refl
-far (suc (suc (suc (suc (suc (suc (suc zero))))))) a = refl
-far (suc (suc (suc (suc (suc (suc (suc (suc zero)))))))) a = refl
-far (suc (suc (suc (suc (suc (suc (suc (suc (suc n))))))))) a = refl
-
 some_test : (o : Option Test) → is_some o ≡ true → (t : Test) × (o ≡ Some t)
 some_test None e = cc
 some_test (Some t) e = (t, refl)
 
-by_code :
-    {P : Type 0} (code : ℕ) (a : ℤ) → IsTrue (takes_by (Counter (pos 0)) (operation_of code) a)
-    → (code ≡ 0 → P) → (code ≡ 2 → P) → (code ≡ 3 → (t : Test) → test_of a ≡ Some t → P) → (code ≡ 4 → P) → P
-by_code zero a h get add test take = get refl
-by_code (suc zero) a h get add test take = cc
-by_code (suc (suc zero)) a h get add test take = add refl
-by_code (suc (suc (suc zero))) a h get add test take = let t : (t : Test) × (test_of a ≡ Some t) = some_test (test_of a) h in test refl t.0 t.1
-by_code (suc (suc (suc (suc zero)))) a h get add test take = take refl
-by_code (suc (suc (suc (suc (suc n))))) a h get add test take = let z : false ≡ true = sym (far n a) ∙ h in cc
+by_operation :
+    {P : Type 0} (o : Operation) (a : ℤ) → IsTrue (takes (Counter (pos 0)) o a)
+    → (o ≡ Get → P) → (o ≡ Add → P) → (o ≡ TestWord → (t : Test) → test_of a ≡ Some t → P) → (o ≡ Take → P) → P
+by_operation Get a h get add test take = get refl
+by_operation Set a h get add test take = cc
+by_operation Add a h get add test take = add refl
+by_operation TestWord a h get add test take = let t : (t : Test) × (test_of a ≡ Some t) = some_test (test_of a) h in test refl t.0 t.1
+by_operation Take a h get add test take = take refl
+by_operation Put a h get add test take = cc
+by_operation Remove a h get add test take = cc
+by_operation Has a h get add test take = cc
+by_operation Len a h get add test take = cc
+by_operation Next a h get add test take = cc
+by_operation Count a h get add test take = cc
+by_operation Scan a h get add test take = cc
+by_operation Push a h get add test take = cc
+by_operation Pop a h get add test take = cc
 
 -- what is so of the four calls is so of each call that is taken
 pub by_call :
-    (P : Call → Type 0) → ((a b : ℤ) → P (call_of 0 a b)) → ((a b : ℤ) → FitsSigned w64 a → P (call_of 2 a b)) → ((a b : ℤ) (t : Test) → test_of a ≡ Some t → P (call_of 3 a b))
-    → ((a b : ℤ) → FitsSigned w64 a → P (call_of 4 a b)) → (call : Call) → CounterTakes call → P call
+    (P : Call → Type 0) → ((a b : ℤ) → P (call_of 0 Get a b)) → ((a b : ℤ) → FitsSigned w64 a → P (call_of 0 Add a b)) → ((a b : ℤ) (t : Test) → test_of a ≡ Some t → P (call_of 0 TestWord a b))
+    → ((a b : ℤ) → FitsSigned w64 a → P (call_of 0 Take a b)) → (call : Call) → CounterTakes call → P call
 by_call P get add test take call t =
-    let same : (n : ℕ) → call.code ≡ n → call ≡ call_of n call.a call.b = λ n e i. record { object = t.object i; code = e i; a = call.a; b = call.b } in
-    by_code call.code call.a t.taken
-    (λ e. subst P (sym (same 0 e)) (get call.a call.b))
-    (λ e. subst P (sym (same 2 e)) (add call.a call.b t.fits))
-    (λ e s q. subst P (sym (same 3 e)) (test call.a call.b s q))
-    (λ e. subst P (sym (same 4 e)) (take call.a call.b t.fits))
+    let same : (o : Operation) → call.operation ≡ o → call ≡ call_of 0 o call.a call.b = λ o e i. record { object = t.object i; operation = e i; a = call.a; b = call.b; c = t.third i } in
+    by_operation call.operation call.a t.taken
+    (λ e. subst P (sym (same Get e)) (get call.a call.b))
+    (λ e. subst P (sym (same Add e)) (add call.a call.b t.fits))
+    (λ e s q. subst P (sym (same TestWord e)) (test call.a call.b s q))
+    (λ e. subst P (sym (same Take e)) (take call.a call.b t.fits))
 
 module _ (first : ℤ) where
   abbrev m : Meaning
   m = counter_meaning first
 
   -- the reply does not hang on the declared number
-  reply_any : (o : Option Operation) (a b : ℤ) (rows : List Row) → (effect_by (Counter (pos 0)) o a b rows).reply ≡ (effect_by (Counter first) o a b rows).reply
-  reply_any (Some o) a b rows = refl
-  reply_any None a b rows = refl
+  reply_any : (o : Operation) (a b : ℤ) (rows : List Row) → (effect_of (Counter (pos 0)) o a b rows).reply ≡ (effect_of (Counter first) o a b rows).reply
+  reply_any o a b rows = refl
 
   -- the replies
-  add_reply : (a b x : ℤ) → reply_to m.machines (call_of 2 a b) (only_row x ∷ []) ≡ (if grows a x then T.Done else T.Range)
+  add_reply : (a b x : ℤ) → reply_to m.machines (call_of 0 Add a b) (only_row x ∷ []) ≡ (if grows a x then T.Done else T.Range)
   add_reply a b x = by_test (grows a x) (λ e. rw (grown a x e).0 refl) (λ e. rw (not_grown a x e) refl)
 
   abbrev outcome_reply : Option Bool → PlainReply
   outcome_reply None = T.Flag false
   outcome_reply (Some b) = if b then T.Flag true else T.Range
 
-  take_reply : (a b x : ℤ) → reply_to m.machines (call_of 4 a b) (only_row x ∷ []) ≡ outcome_reply (take_outcome a x)
+  take_reply : (a b x : ℤ) → reply_to m.machines (call_of 0 Take a b) (only_row x ∷ []) ≡ outcome_reply (take_outcome a x)
   take_reply a b x =
       by_test (int_le a x)
       (λ e. by_test (falls a x) (λ r. rw (e, (fallen a x r).0) refl) (λ r. rw (e, not_fallen a x r) refl))
       (λ e. rw e refl)
 
-  test_reply : (a b x : ℤ) (t : Test) → test_of a ≡ Some t → reply_to m.machines (call_of 3 a b) (only_row x ∷ []) ≡ T.Flag (compares t x b)
+  test_reply : (a b x : ℤ) (t : Test) → test_of a ≡ Some t → reply_to m.machines (call_of 0 TestWord a b) (only_row x ∷ []) ≡ T.Flag (compares t x b)
   test_reply a b x t e = ap (λ o. T.Flag (compared o x b)) e
 
   abbrev outcome_updates : ℤ → Option Bool → List Entry
@@ -282,7 +273,7 @@ module _ (first : ℤ) where
 
   -- the items by the call alone
   abbrev own_items : Call → ℤ → List Item
-  own_items call x = counter_items (operation_of call.code) call.a call.b x
+  own_items call x = counter_items call.operation call.a call.b x
 
   abbrev HoldsAt : Call → Type 0
   HoldsAt call = (d : Parts) → IsCounter d → AreTrueOf d (own_items call (word_of d 0 0))
@@ -318,7 +309,8 @@ module _ (first : ℤ) where
       (λ a b f d e v w g. take_updates-is a (word_of e 0 0) ∙ ap (outcome_updates a) (take_same a f e d w.fits v.fits g) ∙ sym (take_updates-is a (word_of d 0 0)))
 
   -- the updates
-  changed_by : (call : Call) (w x y : ℤ) → call.object ≡ 0 → wrapped_sum w x ≡ y → m.rows ((y ∷ []) ∷ []) ≡ state_after m.machines call (only_row w ∷ []) → is_write call.code (reply_to m.machines call (only_row w ∷ [])) ≡ true
+  changed_by : (call : Call) (w x y : ℤ) → call.object ≡ 0 → wrapped_sum w x ≡ y → m.rows ((y ∷ []) ∷ []) ≡ state_after m.machines call (only_row w ∷ [])
+      → is_write call.operation (reply_to m.machines call (only_row w ∷ [])) ≡ true
       → IsUpdated m call ((w ∷ []) ∷ []) ((0, C.Add x ∷ []) ∷ [])
   changed_by call w x y o s r z = record {
     ordered = ((omega arith, tt), (refl, tt));
@@ -329,50 +321,51 @@ module _ (first : ℤ) where
     writes = z;
   }
 
-  left_alone : (call : Call) (w : ℤ) → IsCounter ((w ∷ []) ∷ []) → only_row w ∷ [] ≡ state_after m.machines call (only_row w ∷ []) → is_write call.code (reply_to m.machines call (only_row w ∷ [])) ≡ false
+  left_alone : (call : Call) (w : ℤ) → IsCounter ((w ∷ []) ∷ []) → only_row w ∷ [] ≡ state_after m.machines call (only_row w ∷ [])
+      → is_write call.operation (reply_to m.machines call (only_row w ∷ [])) ≡ false
       → IsUpdated m call ((w ∷ []) ∷ []) []
   left_alone call w v r z = record { ordered = (tt, tt); owned = tt; widths = tt; valid = v; rows = r; writes = z }
 
   abbrev Updated : Call → Type 0
   Updated call = (w : ℤ) → IsCounter ((w ∷ []) ∷ []) → IsUpdated m call ((w ∷ []) ∷ []) (m.updates call ((w ∷ []) ∷ []))
 
-  updated_add : (a b w : ℤ) → IsCounter ((w ∷ []) ∷ []) → IsUpdated m (call_of 2 a b) ((w ∷ []) ∷ []) (add_updates 0 a w)
+  updated_add : (a b w : ℤ) → IsCounter ((w ∷ []) ∷ []) → IsUpdated m (call_of 0 Add a b) ((w ∷ []) ∷ []) (add_updates 0 a w)
   updated_add a b w v =
       by_test (grows a w)
       (λ e.
       let g : (in_range (w +ℤ a) ≡ Some (w +ℤ a)) × (wrapped_sum w a ≡ w +ℤ a) = grown a w e in
-      let u : IsUpdated m (call_of 2 a b) ((w ∷ []) ∷ []) ((0, C.Add a ∷ []) ∷ []) = changed_by (call_of 2 a b) w a (w +ℤ a) refl g.1 (rw g.0 refl) (rw g.0 refl) in
-      subst (λ z. IsUpdated m (call_of 2 a b) ((w ∷ []) ∷ []) (if z then (0, C.Add a ∷ []) ∷ [] else [])) (sym e) u)
+      let u : IsUpdated m (call_of 0 Add a b) ((w ∷ []) ∷ []) ((0, C.Add a ∷ []) ∷ []) = changed_by (call_of 0 Add a b) w a (w +ℤ a) refl g.1 (rw g.0 refl) (rw g.0 refl) in
+      subst (λ z. IsUpdated m (call_of 0 Add a b) ((w ∷ []) ∷ []) (if z then (0, C.Add a ∷ []) ∷ [] else [])) (sym e) u)
       (λ e.
       let g : in_range (w +ℤ a) ≡ None = not_grown a w e in
-      let u : IsUpdated m (call_of 2 a b) ((w ∷ []) ∷ []) [] = left_alone (call_of 2 a b) w v (rw g refl) (rw g refl) in
-      subst (λ z. IsUpdated m (call_of 2 a b) ((w ∷ []) ∷ []) (if z then (0, C.Add a ∷ []) ∷ [] else [])) (sym e) u)
+      let u : IsUpdated m (call_of 0 Add a b) ((w ∷ []) ∷ []) [] = left_alone (call_of 0 Add a b) w v (rw g refl) (rw g refl) in
+      subst (λ z. IsUpdated m (call_of 0 Add a b) ((w ∷ []) ∷ []) (if z then (0, C.Add a ∷ []) ∷ [] else [])) (sym e) u)
 
-  updated_take : (a b w : ℤ) → IsCounter ((w ∷ []) ∷ []) → IsUpdated m (call_of 4 a b) ((w ∷ []) ∷ []) (take_updates 0 a w)
+  updated_take : (a b w : ℤ) → IsCounter ((w ∷ []) ∷ []) → IsUpdated m (call_of 0 Take a b) ((w ∷ []) ∷ []) (take_updates 0 a w)
   updated_take a b w v =
-      let P : List Entry → Type 0 = IsUpdated m (call_of 4 a b) ((w ∷ []) ∷ []) in
+      let P : List Entry → Type 0 = IsUpdated m (call_of 0 Take a b) ((w ∷ []) ∷ []) in
       by_test (int_le a w)
       (λ e. by_test (falls a w)
       (λ r.
       let g : (in_range (w -ℤ a) ≡ Some (w -ℤ a)) × (wrapped_sum w (less a) ≡ w -ℤ a) = fallen a w r in
-      let u : P ((0, C.Add (less a) ∷ []) ∷ []) = changed_by (call_of 4 a b) w (less a) (w -ℤ a) refl g.1 (rw (e, g.0) refl) (rw (e, g.0) refl) in
+      let u : P ((0, C.Add (less a) ∷ []) ∷ []) = changed_by (call_of 0 Take a b) w (less a) (w -ℤ a) refl g.1 (rw (e, g.0) refl) (rw (e, g.0) refl) in
       let es : take_updates 0 a w ≡ (0, C.Add (less a) ∷ []) ∷ [] = rw (e, r) refl in
       subst P (sym es) u)
       (λ r.
       let g : in_range (w -ℤ a) ≡ None = not_fallen a w r in
-      let u : P [] = left_alone (call_of 4 a b) w v (rw (e, g) refl) (rw (e, g) refl) in
+      let u : P [] = left_alone (call_of 0 Take a b) w v (rw (e, g) refl) (rw (e, g) refl) in
       let es : take_updates 0 a w ≡ [] = rw (e, r) refl in
       subst P (sym es) u))
       (λ e.
-      let u : P [] = left_alone (call_of 4 a b) w v (rw e refl) (rw e refl) in
+      let u : P [] = left_alone (call_of 0 Take a b) w v (rw e refl) (rw e refl) in
       let es : take_updates 0 a w ≡ [] = rw e refl in
       subst P (sym es) u)
 
   updated : (call : Call) → CounterTakes call → Updated call
   updated = by_call Updated
-      (λ a b w v. left_alone (call_of 0 a b) w v refl refl)
+      (λ a b w v. left_alone (call_of 0 Get a b) w v refl refl)
       (λ a b f w v. updated_add a b w v)
-      (λ a b t e w v. left_alone (call_of 3 a b) w v refl refl)
+      (λ a b t e w v. left_alone (call_of 0 TestWord a b) w v refl refl)
       (λ a b f w v. updated_take a b w v)
 
   pub counter_lawful : FitsSigned w64 first → IsLawful m
@@ -393,8 +386,8 @@ module _ (first : ℤ) where
     steady = counter_steady first;
     knows = λ call k d r.
         let s : (ws : List ℤ) × (k 0 ≡ Some ws) = asked_none (k 0) r.done in
-        known_here call.object k (m.items call k) r.takes.object (rw s.1 refl) (all_here (operation_of call.code) call.a call.b (value_known (k 0)));
-    inside = λ call k d r. inside_here (m.items call k) (all_here (operation_of call.code) call.a call.b (value_known (k 0)));
+        known_here call.object k (m.items call k) r.takes.object (rw s.1 refl) (all_here call.operation call.a call.b (value_known (k 0)));
+    inside = λ call k d r. inside_here (m.items call k) (all_here call.operation call.a call.b (value_known (k 0)));
     holds = λ call k d r.
         subst (λ (x : ℤ). AreTrueOf d (own_items call x)) (sym (value_same k d r.valid r.part r.done)) (holds_at call r.takes d r.valid);
     same_reply = λ call k d e r v a.
@@ -411,17 +404,17 @@ module _ (first : ℤ) where
   pub known_plan :
       (call : Call) (k : Known) (ws : List ℤ) (answer : Answer) → CounterTakes call → k 0 ≡ Some ws
       → IsSaid
-      (effect_by (Counter (pos 0)) (operation_of call.code) call.a call.b (only_row (slice_index_or ws 0 (pos 0)))).reply
+      (effect_of (Counter (pos 0)) call.operation call.a call.b (only_row (slice_index_or ws 0 (pos 0)))).reply
       (own_items call (slice_index_or ws 0 (pos 0)))
-      (counter_updates (operation_of call.code) call.a (slice_index_or ws 0 (pos 0)))
+      (counter_updates call.operation call.a (slice_index_or ws 0 (pos 0)))
       answer
       → IsPlan m call k (planned answer)
   known_plan call k ws answer t s h =
       said_is_plan m call k
-      (effect_by (Counter (pos 0)) (operation_of call.code) call.a call.b (only_row (slice_index_or ws 0 (pos 0)))).reply
+      (effect_of (Counter (pos 0)) call.operation call.a call.b (only_row (slice_index_or ws 0 (pos 0)))).reply
       (own_items call (slice_index_or ws 0 (pos 0)))
-      (counter_updates (operation_of call.code) call.a (slice_index_or ws 0 (pos 0)))
+      (counter_updates call.operation call.a (slice_index_or ws 0 (pos 0)))
       answer h (rw s refl) (rw s refl)
       (λ d v part.
       let x : word_of d 0 0 ≡ slice_index_or ws 0 (pos 0) = ap (λ (l : List ℤ). slice_index_or l 0 (pos 0)) (part.same 0 ws (there d v) s) in
-      (rw (t.object, x) (reply_any (operation_of call.code) call.a call.b (only_row (slice_index_or ws 0 (pos 0)))), rw x refl))
+      (rw (t.object, x) (reply_any call.operation call.a call.b (only_row (slice_index_or ws 0 (pos 0)))), rw x refl))

@@ -2,9 +2,8 @@
 ghost use Rattle.std.specs.Prelude.{◌≡◌, [], ◌∷◌, pos, IfOk, IsTrue};
 ghost use Rattle.std.specs.Int.{w64};
 ghost use Rattle.std.specs.Int.RustNames.{FitsSigned};
-ghost use Rattle.sto_model.specs.Objects.{effect_by, compared, takes_by};
+ghost use Rattle.sto_model.specs.Objects.{effect_of, compared};
 ghost use Rattle.sto_model.specs.PlainReplies.{Flag};
-ghost use Rattle.sto_model.specs.Operations.{operation_of};
 ghost use Rattle.sto_model.specs.declared.shape.Shape.TheVariants.{Counter};
 ghost use Rattle.sto_type.specs.Plans.{IsSaid};
 ghost use Rattle.sto_counter.specs.Counted.{counter_meaning, counter_items, counter_updates, only_row, test_items, IsCounter};
@@ -13,7 +12,7 @@ ghost use Rattle.sto_counter.specs.CountedLaw.{counter_lawful};
 use crate::sums::{add_answer, take_answer, word_pred};
 use std::alloc::Global;
 use sto_item::Item;
-use sto_model::{Call, Operation, Reply, Rows, Shape, State, takes_code, test_at};
+use sto_model::{Call, Operation, Reply, Rows, Shape, State, test_at};
 use sto_part::{Contents, Naming, NoMemory, PartWords, Test, compare, negate};
 use sto_type::{Answer, AnswerPool, Home, KnownParts, TxType, one_item};
 
@@ -68,7 +67,7 @@ impl TxType for TCounter {
     fn takes(&self, call: &Call) -> bool {
         let _first = call.a;
         let _second = call.b;
-        call.object == 0 && takes_code(Shape::Counter(0), call.code, call.a)
+        call.object == 0 && Shape::Counter(0).takes_call(call)
     }
 
     fn opening(&self, alloc: Global) -> Result<Contents, NoMemory> {
@@ -103,19 +102,19 @@ impl TxType for TCounter {
 
 // The answer where the value is known.
 fn answer(pool: &mut AnswerPool, call: &Call, value: i64) -> Result<Answer, NoMemory>
-    ensures { IfOk result (IsSaid (effect_by (Counter (pos 0)) (operation_of call.now.code) call.now.a call.now.b (only_row value)).reply
-        (counter_items (operation_of call.now.code) call.now.a call.now.b value)
-        (counter_updates (operation_of call.now.code) call.now.a value)) }
+    ensures { IfOk result (IsSaid (effect_of (Counter (pos 0)) call.now.operation call.now.a call.now.b (only_row value)).reply
+        (counter_items call.now.operation call.now.a call.now.b value)
+        (counter_updates call.now.operation call.now.a value)) }
 {
-    match Operation::from_code(call.code) {
-        Some(Operation::Get) => Ok(Answer::Done {
+    match call.operation {
+        Operation::Get => Ok(Answer::Done {
             reply: Reply::Value(value),
             items: one_item(pool, Item::Seen(0))?,
             updates: pool.updates(),
         }),
-        Some(Operation::Add) => add_answer(pool, 0, call.a, value),
-        Some(Operation::Test) => test_answer(pool, test_at(call.a), call.b, value),
-        Some(Operation::Take) => take_answer(pool, 0, call.a, value),
+        Operation::Add => add_answer(pool, 0, call.a, value),
+        Operation::Test => test_answer(pool, test_at(call.a), call.b, value),
+        Operation::Take => take_answer(pool, 0, call.a, value),
         _ => Ok(Answer::Done {
             reply: Reply::Absent,
             items: pool.items(),

@@ -81,7 +81,7 @@ IsGuest owner = pos 0 <ℤ owner
 abbrev pub AllGuests : List Row → Type 0
 AllGuests line = All (λ r. IsGuest r.1) line
 
--- what is in the till is what the seats cost that are sold: none was sold twice, and none without its price
+-- what is in the till is what the seats cost that are sold
 pub record IsPaid (state : State) : Type 0 where
   pub money : ℤ
   pub first : List Row

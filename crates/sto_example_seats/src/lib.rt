@@ -1,4 +1,4 @@
-//! A box office: two shows with a hall and a waiting list each, one till, and twelve guests. No seat is sold twice, and none unpaid.
+//! A box office: two shows with a hall and a waiting list each, one till, and twelve guests. What is in the till is what the seats cost that are sold.
 #![tactic(auto)]
 
 ghost use Rattle.std.specs.Prelude.{pos, IfOk};

@@ -7,4 +7,5 @@ pub mod Explored
 pub mod Branches
 pub mod Exploring
 pub mod NotMade
+pub mod ErrorTexts
 pub use Rattle.sto_lang.specs.Views

@@ -6,6 +6,7 @@
 
 mod aborted;
 mod branch;
+mod display;
 mod entries;
 mod exploration;
 mod json;

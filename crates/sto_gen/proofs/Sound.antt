@@ -4,6 +4,7 @@ use Rattle.std.specs.Prelude.{All, if◌then◌else◌, fold, sum_by}
 use Rattle.std.proofs.lemmas.List.Elements.{All-nil, All-cons, All-push}
 use Rattle.sto_syntax.specs.Words.{is_name}
 use Rattle.sto_part.specs.declared.pred.Test.TheVariants.{Ge}
+use Rattle.sto_model.specs.declared.operation.Operation.TheVariants.{Put}
 use Rattle.sto_model.specs.declared.shape.Shape.{Shape}
 use Rattle.sto_model.specs.declared.shape.Shape.TheVariants as shapes
 use Rattle.sto_lang.specs.declared.arg.Arg.TheVariants.{Var}
@@ -26,7 +27,7 @@ shapes_here = shapes_of objects
 -- ---- one transaction
 
 abbrev pub note_if : Bool → ℕ → ℕ → ℕ → Statements
-note_if b object key value = if b then Ask None object 5 (number key) (number value) Nothing else Nothing
+note_if b object key value = if b then Ask None object Put (number key) (number value) Nothing else Nothing
 
 -- a transaction with a note in the log where a holds, and one of an owner where b does
 abbrev pub noted : Bool → Bool → ℕ → ℕ → ℕ → ℕ → Transfer → Script

@@ -9,7 +9,7 @@ use Rattle.sto_gen.specs.Generated.{transaction, transactions, state_before, thr
 
 pub then_nothing : (all : Statements) → all ≡ all then Nothing
 then_nothing Nothing = refl
-then_nothing (Ask to object code a b rest) = ap (Ask to object code a b) (then_nothing rest)
+then_nothing (Ask to object operation a b rest) = ap (Ask to object operation a b) (then_nothing rest)
 then_nothing (Sum to a b rest) = ap (Sum to a b) (then_nothing rest)
 then_nothing (Diff to a b rest) = ap (Diff to a b) (then_nothing rest)
 then_nothing (Choose a test b first second rest) = ap (Choose a test b first second) (then_nothing rest)

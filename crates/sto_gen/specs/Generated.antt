@@ -1,6 +1,7 @@
 -- The file that a number generates: transfers between accounts, some of them noted in a log and some in a table of owners.
 use Rattle.std.specs.Prelude.{ℕ, zero, suc, ◌+◌, ◌*◌, ◌/◌, ◌%◌, ◌==◌, pos, neg_ℤ, List, [], ◌∷◌, ◌++◌, None, Some, codes, if◌then◌else◌}
 use Rattle.sto_part.specs.declared.pred.Test.TheVariants.{Ge}
+use Rattle.sto_model.specs.declared.operation.Operation.TheVariants.{Get, Add, Put}
 use Rattle.sto_model.specs.declared.shape.Shape.TheVariants as shapes
 use Rattle.sto_lang.specs.declared.arg.Arg.{Arg}
 use Rattle.sto_lang.specs.declared.arg.Arg.TheVariants.{Num, Var}
@@ -26,24 +27,24 @@ number n = Num (pos n)
 
 -- `x = get acct I`
 abbrev pub balance : ℕ → Statements → Statements
-balance account rest = Ask (Some 0) 1 0 (number account) (number 0) rest
+balance account rest = Ask (Some 0) 1 Get (number account) (number 0) rest
 
 -- `add acct I -A`, `add acct J A`, `add done 1`
 abbrev pub moves : Transfer → Statements
 moves t =
-    Ask None 1 2 (number t.from) (Num (neg_ℤ (pos t.amount)))
-    (Ask None 1 2 (number t.to) (number t.amount)
-    (Ask None 0 2 (number 1) (number 0) Nothing))
+    Ask None 1 Add (number t.from) (Num (neg_ℤ (pos t.amount)))
+    (Ask None 1 Add (number t.to) (number t.amount)
+    (Ask None 0 Add (number 1) (number 0) Nothing))
 
 -- `put log K A` in each 20th transaction
 abbrev pub log_note : ℕ → ℕ → ℕ → Statements
 log_note thread position amount =
-    if position % 20 == 0 then Ask None 3 5 (number (1000 * thread + position)) (number amount) Nothing else Nothing
+    if position % 20 == 0 then Ask None 3 Put (number (1000 * thread + position)) (number amount) Nothing else Nothing
 
 -- `put owner K T` in each 25th transaction
 abbrev pub owner_note : ℕ → ℕ → Statements
 owner_note thread position =
-    if position % 25 == 0 then Ask None 2 5 (number (8 * thread + position / 25)) (number thread) Nothing else Nothing
+    if position % 25 == 0 then Ask None 2 Put (number (8 * thread + position / 25)) (number thread) Nothing else Nothing
 
 -- the moves are made where the balance is large enough
 abbrev pub statements : ℕ → ℕ → Transfer → Statements

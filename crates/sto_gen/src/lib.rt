@@ -7,4 +7,4 @@ mod transaction;
 
 pub use draws::{Transfer, transfers};
 pub use file::{generate, objects};
-pub use transaction::{ACCT, ADD, DONE, GET, LOG, OWNER, PUT};
+pub use transaction::{ACCT, DONE, LOG, OWNER};

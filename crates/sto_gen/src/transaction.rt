@@ -9,6 +9,7 @@ ghost use Rattle.sto_gen.specs.Generated.{moves, log_note, owner_note, statement
 use crate::draws::Transfer;
 use std::alloc::Global;
 use sto_lang::{Arg, Names, Script, Stmt, Stmts, Text};
+use sto_model::Operation;
 use sto_part::{List, NoMemory, Test};
 
 /// The number of the counter of transfers among the objects of a generated file.
@@ -23,23 +24,14 @@ pub const OWNER: u32 = 2;
 /// The number of the log among the objects of a generated file.
 pub const LOG: u32 = 3;
 
-/// The code of the operation that reads an account.
-pub const GET: u8 = 0;
-
-/// The code of the operation that adds to an account or a counter.
-pub const ADD: u8 = 2;
-
-/// The code of the operation that puts a pair into the log or the table of owners.
-pub const PUT: u8 = 5;
-
 /// A call with two numbers, whose answer no variable takes.
-fn call(object: u32, code: u8, a: i64, b: i64) -> Stmt
-    ensures { result ≡ Ask None object code (Num a) (Num b) }
+fn call(object: u32, operation: Operation, a: i64, b: i64) -> Stmt
+    ensures { result ≡ Ask None object operation (Num a) (Num b) }
 {
     Stmt::Ask {
         to: None,
         object,
-        code,
+        operation,
         a: Arg::Num(a),
         b: Arg::Num(b),
     }
@@ -53,9 +45,9 @@ fn moves(alloc: Global, transfer: &Transfer) -> Result<Stmts, NoMemory>
 {
     let amount = transfer.amount as i64;
     let mut moves = Stmts::new(alloc);
-    moves.push(call(ACCT, ADD, transfer.from as i64, -amount))?;
-    moves.push(call(ACCT, ADD, transfer.to as i64, amount))?;
-    moves.push(call(DONE, ADD, 1, 0))?;
+    moves.push(call(ACCT, Operation::Add, transfer.from as i64, -amount))?;
+    moves.push(call(ACCT, Operation::Add, transfer.to as i64, amount))?;
+    moves.push(call(DONE, Operation::Add, 1, 0))?;
     Ok(moves)
 }
 
@@ -69,7 +61,7 @@ fn push_log_note(body: &mut Stmts, thread: u64, position: u64, amount: u8) -> Re
 {
     if position % 20 == 0 {
         let key = 1000 * thread + position;
-        body.push(call(LOG, PUT, key as i64, amount as i64))?;
+        body.push(call(LOG, Operation::Put, key as i64, amount as i64))?;
     }
     Ok(())
 }
@@ -83,7 +75,7 @@ fn push_owner_note(body: &mut Stmts, thread: u64, position: u64) -> Result<(), N
 {
     if position % 25 == 0 {
         let key = 8 * thread + position / 25;
-        body.push(call(OWNER, PUT, key as i64, thread as i64))?;
+        body.push(call(OWNER, Operation::Put, key as i64, thread as i64))?;
     }
     Ok(())
 }
@@ -105,7 +97,7 @@ fn statements(
     body.push(Stmt::Ask {
         to: Some(0),
         object: ACCT,
-        code: GET,
+        operation: Operation::Get,
         a: Arg::Num(transfer.from as i64),
         b: Arg::Num(0),
     })?;

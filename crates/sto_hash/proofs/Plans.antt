@@ -3,7 +3,6 @@ use Rattle.std.proofs.Common.{◌≡◌, ◌<◌, ◌+◌, ◌*◌, ℕ, ℤ, Op
 use Rattle.sto_model.specs.declared.call.Call.{Call}
 use Rattle.sto_model.specs.declared.operation.Operation.TheVariants.{Get, Has, Remove, Put}
 use Rattle.sto_item.specs.declared.item.Item.TheVariants.{Seen}
-use Rattle.sto_model.specs.Operations.{operation_of}
 use Rattle.sto_model.specs.PlainReplies as T
 use Rattle.sto_type.specs.Known.{Parts, Known, IsPartOf}
 use Rattle.sto_type.specs.Plans.{IsSaid, IsPlan, planned}
@@ -29,19 +28,19 @@ module _ (buckets places : ℕ) (some : 0 < buckets) (call : Call) (k : Known) (
   room_for n l = let h = key_room buckets places some call.a in omega (arith, h, l, is)
 
   module _ (o : Option ℕ) (found : o ≡ find ws call.a) (answer : Answer) (z : call.object ≡ 0) where
-    pub has_on : operation_of call.code ≡ Some Has → IsSaid (T.Flag (is_some o)) (find_items p call.a o) [] answer → IsPlan (hash_meaning buckets places) call k (planned answer)
+    pub has_on : call.operation ≡ Has → IsSaid (T.Flag (is_some o)) (find_items p call.a o) [] answer → IsPlan (hash_meaning buckets places) call k (planned answer)
     has_on e h =
         plan_has buckets places some call k ws answer z e there
         (subst (λ x. IsSaid (T.Flag (is_some x)) (find_items (key_part buckets places call.a) call.a x) [] answer) found (subst (λ q. IsSaid (T.Flag (is_some o)) (find_items q call.a o) [] answer) is h))
 
-    pub remove_on : operation_of call.code ≡ Some Remove → IsSaid (T.Flag (is_some o)) (find_items p call.a o) (remove_updates places p o) answer → IsPlan (hash_meaning buckets places) call k (planned answer)
+    pub remove_on : call.operation ≡ Remove → IsSaid (T.Flag (is_some o)) (find_items p call.a o) (remove_updates places p o) answer → IsPlan (hash_meaning buckets places) call k (planned answer)
     remove_on e h =
         plan_remove buckets places some call k ws answer z e there
         (subst (λ x. IsSaid (T.Flag (is_some x)) (find_items (key_part buckets places call.a) call.a x) (remove_updates places (key_part buckets places call.a) x) answer) found
         (subst (λ q. IsSaid (T.Flag (is_some o)) (find_items q call.a o) (remove_updates places q o) answer) is h))
 
     pub put_on :
-        (r : Option ℕ) → r ≡ free ws → operation_of call.code ≡ Some Put → IsSaid (put_told o r) (find_items p call.a o) (put_updates places p call.a call.b o r) answer
+        (r : Option ℕ) → r ≡ free ws → call.operation ≡ Put → IsSaid (put_told o r) (find_items p call.a o) (put_updates places p call.a call.b o r) answer
         → IsPlan (hash_meaning buckets places) call k (planned answer)
     put_on r room e h =
         plan_put buckets places some call k ws answer z e there
@@ -49,7 +48,7 @@ module _ (buckets places : ℕ) (some : 0 < buckets) (call : Call) (k : Known) (
         (subst (λ x. IsSaid (put_told x r) (find_items (key_part buckets places call.a) call.a x) (put_updates places (key_part buckets places call.a) call.a call.b x r) answer) found
         (subst (λ q. IsSaid (put_told o r) (find_items q call.a o) (put_updates places q call.a call.b o r) answer) is h)))
 
-  module _ (z : call.object ≡ 0) (e : operation_of call.code ≡ Some Get) where
+  module _ (z : call.object ≡ 0) (e : call.operation ≡ Get) where
     pub absent_on : (answer : Answer) → None ≡ find ws call.a → IsSaid T.Absent (Seen p ∷ []) [] answer → IsPlan (hash_meaning buckets places) call k (planned answer)
     absent_on answer f h = plan_absent buckets places some call k ws answer z e there (sym f) (subst (λ q. IsSaid T.Absent (Seen q ∷ []) [] answer) is h)
 

@@ -16,8 +16,7 @@ use Rattle.sto_model.specs.declared.operation.Operation.TheVariants.{Get, Put, R
 use Rattle.sto_model.specs.declared.shape.Shape.TheVariants.{Hash}
 use Rattle.sto_model.specs.Rows.{Row, with_row, bucket_of}
 use Rattle.sto_model.specs.PlainReplies.{PlainReply, Done, Full}
-use Rattle.sto_model.specs.Operations.{operation_of}
-use Rattle.sto_model.specs.Objects.{machine_of, takes_by}
+use Rattle.sto_model.specs.Objects.{machine_of, takes}
 use Rattle.sto_type.specs.Known.{Parts, Known, ContentsFit}
 use Rattle.sto_type.specs.Meaning.{Meaning}
 use Rattle.sto_block.specs.Blocks.{Place, places_of, is_present, find, free, AreApart}
@@ -92,7 +91,8 @@ pub record IsHash (buckets places : ℕ) (c : Parts) : Type 0 where
 -- a call that a hash table takes, with numbers of 64 bits
 pub record HashTakes (buckets : ℕ) (call : Call) : Type 0 where
   pub object : call.object ≡ 0
-  pub taken : IsTrue (takes_by (Hash buckets 0) (operation_of call.code) call.a)
+  pub third : call.c ≡ pos 0
+  pub taken : IsTrue (takes (Hash buckets 0) call.operation call.a)
   pub fits : FitsSigned w64 call.a
   pub fits_too : FitsSigned w64 call.b
 
@@ -127,12 +127,12 @@ get_asked p key None k = Some p
 get_asked p key (Some ws) k = value_asked p (find ws key) k
 
 -- put, remove and has need the key part; len needs all key parts
-abbrev pub hash_need : ℕ → ℕ → Option Operation → ℤ → Known → Option ℕ
-hash_need buckets places (Some Get) key k = get_asked (key_part buckets places key) key (k (key_part buckets places key)) k
-hash_need buckets places (Some Put) key k = asked (key_part buckets places key) (k (key_part buckets places key))
-hash_need buckets places (Some Remove) key k = asked (key_part buckets places key) (k (key_part buckets places key))
-hash_need buckets places (Some Has) key k = asked (key_part buckets places key) (k (key_part buckets places key))
-hash_need buckets places (Some Len) key k = first_asked places k 0 buckets
+abbrev pub hash_need : ℕ → ℕ → Operation → ℤ → Known → Option ℕ
+hash_need buckets places Get key k = get_asked (key_part buckets places key) key (k (key_part buckets places key)) k
+hash_need buckets places Put key k = asked (key_part buckets places key) (k (key_part buckets places key))
+hash_need buckets places Remove key k = asked (key_part buckets places key) (k (key_part buckets places key))
+hash_need buckets places Has key k = asked (key_part buckets places key) (k (key_part buckets places key))
+hash_need buckets places Len key k = first_asked places k 0 buckets
 hash_need buckets places o key k = None
 
 -- the word w of the part p is x
@@ -161,12 +161,12 @@ all_seen places b (suc n) = Seen (bucket_part places b) ∷ all_seen places (suc
 abbrev pub found_known : ℕ → ℕ → ℤ → Known → Option ℕ
 found_known buckets places key k = find (words_known (k (key_part buckets places key))) key
 
-abbrev pub hash_items : ℕ → ℕ → Option Operation → ℤ → Known → List Item
-hash_items buckets places (Some Get) key k = get_items (key_part buckets places key) key (found_known buckets places key k)
-hash_items buckets places (Some Put) key k = find_items (key_part buckets places key) key (found_known buckets places key k)
-hash_items buckets places (Some Remove) key k = find_items (key_part buckets places key) key (found_known buckets places key k)
-hash_items buckets places (Some Has) key k = find_items (key_part buckets places key) key (found_known buckets places key k)
-hash_items buckets places (Some Len) key k = all_seen places 0 buckets
+abbrev pub hash_items : ℕ → ℕ → Operation → ℤ → Known → List Item
+hash_items buckets places Get key k = get_items (key_part buckets places key) key (found_known buckets places key k)
+hash_items buckets places Put key k = find_items (key_part buckets places key) key (found_known buckets places key k)
+hash_items buckets places Remove key k = find_items (key_part buckets places key) key (found_known buckets places key k)
+hash_items buckets places Has key k = find_items (key_part buckets places key) key (found_known buckets places key k)
+hash_items buckets places Len key k = all_seen places 0 buckets
 hash_items buckets places o key k = []
 
 -- a put over a key puts its value; one of a new key takes the lowest free place, if there is one
@@ -192,10 +192,10 @@ remove_updates places p None = []
 abbrev pub keys_of : ℕ → ℕ → ℤ → Parts → List ℤ
 keys_of buckets places key c = part_of c (key_part buckets places key)
 
-abbrev pub hash_updates : ℕ → ℕ → Option Operation → ℤ → ℤ → Parts → List Entry
-hash_updates buckets places (Some Put) key v c =
+abbrev pub hash_updates : ℕ → ℕ → Operation → ℤ → ℤ → Parts → List Entry
+hash_updates buckets places Put key v c =
     put_updates places (key_part buckets places key) key v (find (keys_of buckets places key c) key) (free (keys_of buckets places key c))
-hash_updates buckets places (Some Remove) key v c = remove_updates places (key_part buckets places key) (find (keys_of buckets places key c) key)
+hash_updates buckets places Remove key v c = remove_updates places (key_part buckets places key) (find (keys_of buckets places key c) key)
 hash_updates buckets places o key v c = []
 
 -- how many keys are present in n key parts from the bucket b on, where these are known
@@ -223,7 +223,7 @@ hash_meaning buckets places = record {
   valid = IsHash buckets places;
   rows = λ c. rows_of (pairs_from places c 0 buckets) ∷ [];
   takes = HashTakes buckets;
-  need = λ call k. hash_need buckets places (operation_of call.code) call.a k;
-  items = λ call k. hash_items buckets places (operation_of call.code) call.a k;
-  updates = λ call c. hash_updates buckets places (operation_of call.code) call.a call.b c;
+  need = λ call k. hash_need buckets places call.operation call.a k;
+  items = λ call k. hash_items buckets places call.operation call.a k;
+  updates = λ call c. hash_updates buckets places call.operation call.a call.b c;
 }

@@ -1,50 +1,44 @@
 -- The calls of a hash table, one by one.
-use Rattle.std.specs.Prelude.{◌≡◌, ℕ, zero, suc, ℤ, false, true, [], ◌∷◌, slice_get, IsTrue, refl}
+use Rattle.std.specs.Prelude.{◌≡◌, ℕ, ℤ, IsTrue, refl}
 use Rattle.std.specs.Int.{w64}
 use Rattle.std.specs.Int.RustNames.{FitsSigned}
-use Rattle.std.proofs.Common.{sym, ◌∙◌, subst}
+use Rattle.std.proofs.Common.{sym, subst}
 use Rattle.sto_model.specs.declared.call.Call.{Call}
-use Rattle.sto_model.specs.declared.operation.Operation.TheVariants.{Next, Count, Scan, Push, Pop}
+use Rattle.sto_model.specs.declared.operation.Operation.{Operation}
+use Rattle.sto_model.specs.declared.operation.Operation.TheVariants.{Get, Set, Add, Test as TestWord, Take, Put, Remove, Has, Len, Next, Count, Scan, Push, Pop}
 use Rattle.sto_model.specs.declared.shape.Shape.TheVariants.{Hash}
-use Rattle.sto_model.specs.Operations.{operation_of}
-use Rattle.sto_model.specs.Objects.{takes_by}
+use Rattle.sto_model.specs.Calls.{call_of}
+use Rattle.sto_model.specs.Objects.{takes}
 use Rattle.sto_hash.specs.Hashed.{HashTakes}
 
--- the calls of a hash table
-abbrev pub call_of : ℕ → ℤ → ℤ → Call
-call_of code a b = record { object = 0; code = code; a = a; b = b }
-
-far : (buckets n : ℕ) (a : ℤ) → takes_by (Hash buckets 0) (slice_get (Next ∷ Count ∷ Scan ∷ Push ∷ Pop ∷ []) n) a ≡ false
-far buckets zero a = refl
-far buckets (suc zero) a = refl
-far buckets (suc (suc zero)) a = refl
-far buckets (suc (suc (suc zero))) a = refl
-far buckets (suc (suc (suc (suc zero)))) a = refl
-far buckets (suc (suc (suc (suc (suc n))))) a = refl
-
-pub by_code :
-    {P : Type 0} (buckets code : ℕ) (a : ℤ) → IsTrue (takes_by (Hash buckets 0) (operation_of code) a)
-    → (code ≡ 0 → P) → (code ≡ 5 → P) → (code ≡ 6 → P) → (code ≡ 7 → P) → (code ≡ 8 → P) → P
-by_code buckets zero a h get put remove has len = get refl
-by_code buckets (suc zero) a h get put remove has len = cc
-by_code buckets (suc (suc zero)) a h get put remove has len = cc
-by_code buckets (suc (suc (suc zero))) a h get put remove has len = cc
-by_code buckets (suc (suc (suc (suc zero)))) a h get put remove has len = cc
-by_code buckets (suc (suc (suc (suc (suc zero))))) a h get put remove has len = put refl
-by_code buckets (suc (suc (suc (suc (suc (suc zero)))))) a h get put remove has len = remove refl
-by_code buckets (suc (suc (suc (suc (suc (suc (suc zero))))))) a h get put remove has len = has refl
-by_code buckets (suc (suc (suc (suc (suc (suc (suc (suc zero)))))))) a h get put remove has len = len refl
-by_code buckets (suc (suc (suc (suc (suc (suc (suc (suc (suc n))))))))) a h get put remove has len = let z : false ≡ true = sym (far buckets n a) ∙ h in cc
+by_operation :
+    {P : Type 0} (buckets : ℕ) (o : Operation) (a : ℤ) → IsTrue (takes (Hash buckets 0) o a)
+    → (o ≡ Get → P) → (o ≡ Put → P) → (o ≡ Remove → P) → (o ≡ Has → P) → (o ≡ Len → P) → P
+by_operation buckets Get a h get put remove has len = get refl
+by_operation buckets Set a h get put remove has len = cc
+by_operation buckets Add a h get put remove has len = cc
+by_operation buckets TestWord a h get put remove has len = cc
+by_operation buckets Take a h get put remove has len = cc
+by_operation buckets Put a h get put remove has len = put refl
+by_operation buckets Remove a h get put remove has len = remove refl
+by_operation buckets Has a h get put remove has len = has refl
+by_operation buckets Len a h get put remove has len = len refl
+by_operation buckets Next a h get put remove has len = cc
+by_operation buckets Count a h get put remove has len = cc
+by_operation buckets Scan a h get put remove has len = cc
+by_operation buckets Push a h get put remove has len = cc
+by_operation buckets Pop a h get put remove has len = cc
 
 -- what is so of the five calls is so of each call that is taken
 pub by_call :
-    (buckets : ℕ) (P : Call → Type 0) → ((a b : ℤ) → P (call_of 0 a b)) → ((a b : ℤ) → FitsSigned w64 a → FitsSigned w64 b → P (call_of 5 a b)) → ((a b : ℤ) → P (call_of 6 a b)) → ((a b : ℤ) → P (call_of 7 a b))
-    → ((a b : ℤ) → P (call_of 8 a b)) → (call : Call) → HashTakes buckets call → P call
+    (buckets : ℕ) (P : Call → Type 0)
+    → ((a b : ℤ) → P (call_of 0 Get a b)) → ((a b : ℤ) → FitsSigned w64 a → FitsSigned w64 b → P (call_of 0 Put a b)) → ((a b : ℤ) → P (call_of 0 Remove a b))
+    → ((a b : ℤ) → P (call_of 0 Has a b)) → ((a b : ℤ) → P (call_of 0 Len a b)) → (call : Call) → HashTakes buckets call → P call
 by_call buckets P get put remove has len call t =
-    let same : (n : ℕ) → call.code ≡ n → call ≡ call_of n call.a call.b = λ n e i. record { object = t.object i; code = e i; a = call.a; b = call.b } in
-    by_code buckets call.code call.a t.taken
-    (λ e. subst P (sym (same 0 e)) (get call.a call.b))
-    (λ e. subst P (sym (same 5 e)) (put call.a call.b t.fits t.fits_too))
-    (λ e. subst P (sym (same 6 e)) (remove call.a call.b))
-    (λ e. subst P (sym (same 7 e)) (has call.a call.b))
-    (λ e. subst P (sym (same 8 e)) (len call.a call.b))
+    let same : (o : Operation) → call.operation ≡ o → call ≡ call_of 0 o call.a call.b = λ o e i. record { object = t.object i; operation = e i; a = call.a; b = call.b; c = t.third i } in
+    by_operation buckets call.operation call.a t.taken
+    (λ e. subst P (sym (same Get e)) (get call.a call.b))
+    (λ e. subst P (sym (same Put e)) (put call.a call.b t.fits t.fits_too))
+    (λ e. subst P (sym (same Remove e)) (remove call.a call.b))
+    (λ e. subst P (sym (same Has e)) (has call.a call.b))
+    (λ e. subst P (sym (same Len e)) (len call.a call.b))

@@ -22,8 +22,8 @@ use Rattle.sto_model.specs.declared.shape.Shape.TheVariants.{Hash}
 use Rattle.sto_model.specs.Rows.{Row, value_at, has_key, with_row, without, keys_beside}
 use Rattle.sto_model.specs.PlainReplies.{PlainReply, is_write}
 use Rattle.sto_model.specs.PlainReplies as T
-use Rattle.sto_model.specs.Operations.{operation_of}
-use Rattle.sto_model.specs.Objects.{effect, effect_by, value_or_absent}
+use Rattle.sto_model.specs.Calls.{call_of}
+use Rattle.sto_model.specs.Objects.{effect, effect_of, value_or_absent}
 use Rattle.sto_type.specs.Plans.{IsSaid, IsPlan, planned, said_is_plan}
 use Rattle.sto_type.specs.declared.answer.Answer.{Answer}
 use Rattle.sto_model.specs.SequentialObjects.{reply_to, state_after}
@@ -34,7 +34,7 @@ use Rattle.sto_block.specs.Found.{at, here_parts, parts_here, found_there, first
 use Rattle.sto_block.specs.Replaced.{place_changes, words_replaced, at_words, length-places, length-place_changes}
 use Rattle.sto_hash.specs.HashedSteady.{hash_steady}
 use Rattle.sto_hash.specs.Hashed.{bucket_part, bucket_number, key_part, value_part, hash_widths, homes_from, place_pairs, block_pairs, pairs_from, rows_of, AreOfBucket, IsBucket, IsHash, HashTakes, words_known, asked, asked_or, first_asked, value_asked, get_asked, hash_need, word_is, find_items, get_items, all_seen, found_known, known_total, hash_items, put_updates, put_told, remove_updates, hash_updates, hash_meaning}
-use Rattle.sto_hash.specs.HashedCalls.{call_of, by_call}
+use Rattle.sto_hash.specs.HashedCalls.{by_call}
 use Rattle.sto_hash.specs.HashedChanges.{place_changes-change}
 use Rattle.sto_hash.specs.HashedItems.{inside_find, inside_get, inside_seen}
 use Rattle.sto_hash.specs.HashedRows.{value_found, beside_is, rows_length, present_total}
@@ -114,7 +114,7 @@ module _ (buckets places : ℕ) (some : 0 < buckets) where
   found_is k d key ws v part e = ap (λ o. find (words_known o) key) e ∙ ap (λ l. find l key) (sym (known_keys k d key ws v part e))
 
   -- the needs
-  need_key : (k : Known) (p object : ℕ) (key : ℤ) → object ≡ 0 → asked (kp key) (k (kp key)) ≡ Some p → IsNeed m (record { object = object; code = 0; a = key; b = pos 0 }) k p
+  need_key : (k : Known) (p object : ℕ) (key : ℤ) → object ≡ 0 → asked (kp key) (k (kp key)) ≡ Some p → IsNeed m (call_of object Get key (pos 0)) k p
   need_key k p object key o e =
       let h : (k (kp key) ≡ None) × (p ≡ kp key) = asked_some (kp key) p (k (kp key)) e in
       record { unknown = subst (λ x. k x ≡ None) (sym h.1) h.0; owned = subst (IsPartOfObject m.homes object) (sym h.1) (own_bucket object (bucket_number buckets key) (below key) o) }
@@ -159,10 +159,10 @@ module _ (buckets places : ℕ) (some : 0 < buckets) where
 
   needs : (call : Call) → HashTakes buckets call → Needs call
   needs = by_call buckets Needs
-      (λ a b k d p v part e. needed_get (call_of 0 a b) k d p (k (kp a)) refl v part refl e)
-      (λ a b fa fb k d p v part e. needed_key (call_of 5 a b) k p refl e)
-      (λ a b k d p v part e. needed_key (call_of 6 a b) k p refl e)
-      (λ a b k d p v part e. needed_key (call_of 7 a b) k p refl e)
+      (λ a b k d p v part e. needed_get (call_of 0 Get a b) k d p (k (kp a)) refl v part refl e)
+      (λ a b fa fb k d p v part e. needed_key (call_of 0 Put a b) k p refl e)
+      (λ a b k d p v part e. needed_key (call_of 0 Remove a b) k p refl e)
+      (λ a b k d p v part e. needed_key (call_of 0 Has a b) k p refl e)
       (λ a b k d p v part e. needed_len 0 k p 0 buckets refl (omega arith) e)
 
   -- the items are of known parts
@@ -329,20 +329,20 @@ module _ (buckets places : ℕ) (some : 0 < buckets) where
   has_key_is : (c : Parts) (key : ℤ) → IsHash buckets places c → has_key (rows_in c) key ≡ is_some (find (part_of c (kp key)) key)
   has_key_is c key v = ap is_some (value_at_is buckets places some c key v) ∙ is_some_found c (kp key + 1) (find (part_of c (kp key)) key)
 
-  get_reply : (c : Parts) (a b : ℤ) → IsHash buckets places c → reply_to m.machines (call_of 0 a b) (m.rows c) ≡ value_or_absent (looked c a)
+  get_reply : (c : Parts) (a b : ℤ) → IsHash buckets places c → reply_to m.machines (call_of 0 Get a b) (m.rows c) ≡ value_or_absent (looked c a)
   get_reply c a b v = ap value_or_absent (value_at_is buckets places some c a v)
 
-  has_reply : (c : Parts) (a b : ℤ) → IsHash buckets places c → reply_to m.machines (call_of 7 a b) (m.rows c) ≡ T.Flag (is_some (find (part_of c (kp a)) a))
+  has_reply : (c : Parts) (a b : ℤ) → IsHash buckets places c → reply_to m.machines (call_of 0 Has a b) (m.rows c) ≡ T.Flag (is_some (find (part_of c (kp a)) a))
   has_reply c a b v = ap T.Flag (has_key_is c a v)
 
-  len_reply : (c : Parts) (a b : ℤ) → IsHash buckets places c → reply_to m.machines (call_of 8 a b) (m.rows c) ≡ T.Value (pos (present_total places c 0 buckets))
+  len_reply : (c : Parts) (a b : ℤ) → IsHash buckets places c → reply_to m.machines (call_of 0 Len a b) (m.rows c) ≡ T.Value (pos (present_total places c 0 buckets))
   len_reply c a b v = ap (λ n. T.Value (pos n)) (rows_length buckets places c v.each)
 
   told_remove : (z : Bool) (key : ℤ) (rows : List Row) → (if z then effect (T.Flag true) (without rows key) else effect (T.Flag false) rows).reply ≡ T.Flag z
   told_remove true key rows = refl
   told_remove false key rows = refl
 
-  remove_reply : (c : Parts) (a b : ℤ) → IsHash buckets places c → reply_to m.machines (call_of 6 a b) (m.rows c) ≡ T.Flag (is_some (find (part_of c (kp a)) a))
+  remove_reply : (c : Parts) (a b : ℤ) → IsHash buckets places c → reply_to m.machines (call_of 0 Remove a b) (m.rows c) ≡ T.Flag (is_some (find (part_of c (kp a)) a))
   remove_reply c a b v = told_remove (has_key (rows_in c) a) a (rows_in c) ∙ ap T.Flag (has_key_is c a v)
 
   -- a put finds no room
@@ -356,14 +356,14 @@ module _ (buckets places : ℕ) (some : 0 < buckets) where
   told_put true a b rows = refl
   told_put false a b rows = refl
 
-  put_reply : (c : Parts) (a b : ℤ) → IsHash buckets places c → reply_to m.machines (call_of 5 a b) (m.rows c) ≡ (if is_full (part_of c (kp a)) a then T.Full else T.Done)
+  put_reply : (c : Parts) (a b : ℤ) → IsHash buckets places c → reply_to m.machines (call_of 0 Put a b) (m.rows c) ≡ (if is_full (part_of c (kp a)) a then T.Full else T.Done)
   put_reply c a b v =
       told_put (not (has_key (rows_in c) a) && nat_le places (keys_beside (rows_in c) buckets a)) a b (rows_in c) ∙ ap (λ z. if z then T.Full else T.Done) (is_full-is c a v)
 
-  put_after : (c : Parts) (a b : ℤ) (z : Bool) → IsHash buckets places c → is_full (part_of c (kp a)) a ≡ z → state_after m.machines (call_of 5 a b) (m.rows c) ≡ (if z then effect T.Full (rows_in c) else effect T.Done (with_row (rows_in c) a b)).after ∷ []
+  put_after : (c : Parts) (a b : ℤ) (z : Bool) → IsHash buckets places c → is_full (part_of c (kp a)) a ≡ z → state_after m.machines (call_of 0 Put a b) (m.rows c) ≡ (if z then effect T.Full (rows_in c) else effect T.Done (with_row (rows_in c) a b)).after ∷ []
   put_after c a b z v e = ap (λ y. (if y then effect T.Full (rows_in c) else effect T.Done (with_row (rows_in c) a b)).after ∷ []) (is_full-is c a v ∙ e)
 
-  remove_after : (c : Parts) (a b : ℤ) (z : Bool) → IsHash buckets places c → is_some (find (part_of c (kp a)) a) ≡ z → state_after m.machines (call_of 6 a b) (m.rows c) ≡ (if z then effect (T.Flag true) (without (rows_in c) a) else effect (T.Flag false) (rows_in c)).after ∷ []
+  remove_after : (c : Parts) (a b : ℤ) (z : Bool) → IsHash buckets places c → is_some (find (part_of c (kp a)) a) ≡ z → state_after m.machines (call_of 0 Remove a b) (m.rows c) ≡ (if z then effect (T.Flag true) (without (rows_in c) a) else effect (T.Flag false) (rows_in c)).after ∷ []
   remove_after c a b z v e = ap (λ y. (if y then effect (T.Flag true) (without (rows_in c) a) else effect (T.Flag false) (rows_in c)).after ∷ []) (has_key_is c a v ∙ e)
 
   full_of_found : (ws : List ℤ) (key : ℤ) (i : ℕ) → find ws key ≡ Some i → is_full ws key ≡ false
@@ -440,10 +440,10 @@ module _ (buckets places : ℕ) (some : 0 < buckets) where
       (λ a b k d e v w part n g. refl)
 
   -- the updates
-  left_alone : (call : Call) (c : Parts) → IsHash buckets places c → m.rows c ≡ state_after m.machines call (m.rows c) → is_write call.code (reply_to m.machines call (m.rows c)) ≡ false → IsUpdated m call c []
+  left_alone : (call : Call) (c : Parts) → IsHash buckets places c → m.rows c ≡ state_after m.machines call (m.rows c) → is_write call.operation (reply_to m.machines call (m.rows c)) ≡ false → IsUpdated m call c []
   left_alone call c v r z = record { ordered = (tt, tt); owned = tt; widths = tt; valid = v; rows = r; writes = z }
 
-  no_write : (o : Option ℤ) → is_write 0 (value_or_absent o) ≡ false
+  no_write : (o : Option ℤ) → is_write Get (value_or_absent o) ≡ false
   no_write None = refl
   no_write (Some x) = refl
 
@@ -454,7 +454,7 @@ module _ (buckets places : ℕ) (some : 0 < buckets) where
   value_one : (c : Parts) (key : ℤ) (i : ℕ) → IsHash buckets places c → i < places → length (part_of c (value_part (kp key) i)) ≡ 1
   value_one c key i v l = value_width buckets places c v.widths (bucket_number buckets key) i (below key) l
 
-  updated_over : (c : Parts) (a b : ℤ) (i : ℕ) → IsHash buckets places c → FitsSigned w64 b → find (part_of c (kp a)) a ≡ Some i → IsUpdated m (call_of 5 a b) c ((value_part (kp a) i, PutWord b ∷ []) ∷ [])
+  updated_over : (c : Parts) (a b : ℤ) (i : ℕ) → IsHash buckets places c → FitsSigned w64 b → find (part_of c (kp a)) a ≡ Some i → IsUpdated m (call_of 0 Put a b) c ((value_part (kp a) i, PutWord b ∷ []) ∷ [])
   updated_over c a b i v fb e =
       let l : i < places = place_below buckets places some c a i v e in
       let same = value_changed c a b i v l in
@@ -465,7 +465,7 @@ module _ (buckets places : ℕ) (some : 0 < buckets) where
         widths = (value_in_range c a i l v, value_one c a i v l, tt);
         valid = subst (IsHash buckets places) (sym same) (put_value_valid buckets places some c v a b i l fb);
         rows = ap (λ d. rows_in d ∷ []) same ∙ ap (λ rows. rows ∷ []) (put_over buckets places some c v a b i l fb e) ∙ sym (put_after c a b false v full);
-        writes = ap (is_write 5) (put_reply c a b v ∙ ap (λ z. if z then T.Full else T.Done) full);
+        writes = ap (is_write Put) (put_reply c a b v ∙ ap (λ z. if z then T.Full else T.Done) full);
       }
 
   key_changed :
@@ -479,7 +479,7 @@ module _ (buckets places : ℕ) (some : 0 < buckets) where
 
   updated_new :
       (c : Parts) (a b : ℤ) (i : ℕ) → IsHash buckets places c → FitsSigned w64 a → FitsSigned w64 b → find (part_of c (kp a)) a ≡ None → free (part_of c (kp a)) ≡ Some i
-      → IsUpdated m (call_of 5 a b) c ((kp a, place_changes places i (PutWord (pos 1)) (PutWord a)) ∷ (value_part (kp a) i, PutWord b ∷ []) ∷ [])
+      → IsUpdated m (call_of 0 Put a b) c ((kp a, place_changes places i (PutWord (pos 1)) (PutWord a)) ∷ (value_part (kp a) i, PutWord b ∷ []) ∷ [])
   updated_new c a b i v fa fb e r =
       let l : i < places = free_below buckets places some c a i v r in
       let w : IsHash buckets places (with_key buckets places some c v a b i fa fb e r) = with_key_valid buckets places some c v a b i fa fb e r in
@@ -496,24 +496,24 @@ module _ (buckets places : ℕ) (some : 0 < buckets) where
         widths = (key_in_range c a v, key_wide c a i (PutWord (pos 1)) (PutWord a) v, (value_in_range c a i l v, value_one c a i v l, tt));
         valid = subst (IsHash buckets places) (sym same) (with_pair_valid buckets places some c v a b i fa fb e r);
         rows = ap (λ d. rows_in d ∷ []) same ∙ ap (λ rows. rows ∷ []) (put_rows buckets places some c v a b i fa fb e r) ∙ sym (put_after c a b false v full);
-        writes = ap (is_write 5) (put_reply c a b v ∙ ap (λ z. if z then T.Full else T.Done) full);
+        writes = ap (is_write Put) (put_reply c a b v ∙ ap (λ z. if z then T.Full else T.Done) full);
       }
     where
       not_le : (x y : ℕ) → y < x → nat_le x y ≡ false
       not_le x y l = grind (arith, nat_tests)
 
-  updated_full : (c : Parts) (a b : ℤ) → IsHash buckets places c → find (part_of c (kp a)) a ≡ None → free (part_of c (kp a)) ≡ None → IsUpdated m (call_of 5 a b) c []
+  updated_full : (c : Parts) (a b : ℤ) → IsHash buckets places c → find (part_of c (kp a)) a ≡ None → free (part_of c (kp a)) ≡ None → IsUpdated m (call_of 0 Put a b) c []
   updated_full c a b v e r =
       let long = length-places (part_of c (kp a)) places (key_width buckets places c v.widths (bucket_number buckets a) (below a)) in
       let all = full_count 0 (places_of (part_of c (kp a))) r in
       let no_room : nat_le places (count_by is_present (places_of (part_of c (kp a)))) ≡ true = le places (count_by is_present (places_of (part_of c (kp a)))) (omega (arith, all, long)) in
       let full : is_full (part_of c (kp a)) a ≡ true = full_of_none (part_of c (kp a)) a e ∙ no_room in
-      left_alone (call_of 5 a b) c v (sym (put_after c a b true v full)) (ap (is_write 5) (put_reply c a b v ∙ ap (λ z. if z then T.Full else T.Done) full))
+      left_alone (call_of 0 Put a b) c v (sym (put_after c a b true v full)) (ap (is_write Put) (put_reply c a b v ∙ ap (λ z. if z then T.Full else T.Done) full))
     where
       le : (x y : ℕ) → x ≤ y → nat_le x y ≡ true
       le x y l = grind (arith, nat_tests)
 
-  updated_removed : (c : Parts) (a b : ℤ) (i : ℕ) → IsHash buckets places c → find (part_of c (kp a)) a ≡ Some i → IsUpdated m (call_of 6 a b) c ((kp a, place_changes places i (PutWord (pos 0)) Keep) ∷ [])
+  updated_removed : (c : Parts) (a b : ℤ) (i : ℕ) → IsHash buckets places c → find (part_of c (kp a)) a ≡ Some i → IsUpdated m (call_of 0 Remove a b) c ((kp a, place_changes places i (PutWord (pos 0)) Keep) ∷ [])
   updated_removed c a b i v e =
       let l : i < places = place_below buckets places some c a i v e in
       let same = key_changed c a (pos 0) (slice_index_or (part_of c (kp a)) (2 * i + 1) (pos 0)) i (PutWord (pos 0)) Keep l refl refl in
@@ -524,23 +524,23 @@ module _ (buckets places : ℕ) (some : 0 < buckets) where
         widths = (key_in_range c a v, key_wide c a i (PutWord (pos 0)) Keep v, tt);
         valid = subst (IsHash buckets places) (sym same) (removed_valid buckets places some c v a i e);
         rows = ap (λ d. rows_in d ∷ []) same ∙ ap (λ rows. rows ∷ []) (removed_rows buckets places some c v a i e) ∙ sym (remove_after c a b true v found);
-        writes = ap (is_write 6) (remove_reply c a b v ∙ ap T.Flag found);
+        writes = ap (is_write Remove) (remove_reply c a b v ∙ ap T.Flag found);
       }
 
-  updated_put : (c : Parts) (a b : ℤ) → IsHash buckets places c → FitsSigned w64 a → FitsSigned w64 b → IsUpdated m (call_of 5 a b) c (put_updates places (kp a) a b (find (part_of c (kp a)) a) (free (part_of c (kp a))))
+  updated_put : (c : Parts) (a b : ℤ) → IsHash buckets places c → FitsSigned w64 a → FitsSigned w64 b → IsUpdated m (call_of 0 Put a b) c (put_updates places (kp a) a b (find (part_of c (kp a)) a) (free (part_of c (kp a))))
   updated_put c a b v fa fb =
-      let P : Option ℕ → Option ℕ → Type 0 = λ o r. IsUpdated m (call_of 5 a b) c (put_updates places (kp a) a b o r) in
+      let P : Option ℕ → Option ℕ → Type 0 = λ o r. IsUpdated m (call_of 0 Put a b) c (put_updates places (kp a) a b o r) in
       by_option (find (part_of c (kp a)) a)
       (λ e. by_option (free (part_of c (kp a)))
       (λ r. subst (λ o. P o (free (part_of c (kp a)))) (sym e) (subst (λ x. P None x) (sym r) (updated_full c a b v e r)))
       (λ i r. subst (λ o. P o (free (part_of c (kp a)))) (sym e) (subst (λ x. P None x) (sym r) (updated_new c a b i v fa fb e r))))
       (λ i e. subst (λ o. P o (free (part_of c (kp a)))) (sym e) (updated_over c a b i v fb e))
 
-  updated_remove : (c : Parts) (a b : ℤ) → IsHash buckets places c → IsUpdated m (call_of 6 a b) c (remove_updates places (kp a) (find (part_of c (kp a)) a))
+  updated_remove : (c : Parts) (a b : ℤ) → IsHash buckets places c → IsUpdated m (call_of 0 Remove a b) c (remove_updates places (kp a) (find (part_of c (kp a)) a))
   updated_remove c a b v =
-      let P : Option ℕ → Type 0 = λ o. IsUpdated m (call_of 6 a b) c (remove_updates places (kp a) o) in
+      let P : Option ℕ → Type 0 = λ o. IsUpdated m (call_of 0 Remove a b) c (remove_updates places (kp a) o) in
       by_option (find (part_of c (kp a)) a)
-      (λ e. subst P (sym e) (left_alone (call_of 6 a b) c v (sym (remove_after c a b false v (ap is_some e))) (ap (is_write 6) (remove_reply c a b v ∙ ap (λ o. T.Flag (is_some o)) e))))
+      (λ e. subst P (sym e) (left_alone (call_of 0 Remove a b) c v (sym (remove_after c a b false v (ap is_some e))) (ap (is_write Remove) (remove_reply c a b v ∙ ap (λ o. T.Flag (is_some o)) e))))
       (λ i e. subst P (sym e) (updated_removed c a b i v e))
 
   abbrev Updated : Call → Type 0
@@ -548,11 +548,11 @@ module _ (buckets places : ℕ) (some : 0 < buckets) where
 
   updated : (call : Call) → HashTakes buckets call → Updated call
   updated = by_call buckets Updated
-      (λ a b c v. left_alone (call_of 0 a b) c v refl (no_write (value_at (rows_in c) a)))
+      (λ a b c v. left_alone (call_of 0 Get a b) c v refl (no_write (value_at (rows_in c) a)))
       (λ a b fa fb c v. updated_put c a b v fa fb)
       (λ a b c v. updated_remove c a b v)
-      (λ a b c v. left_alone (call_of 7 a b) c v refl refl)
-      (λ a b c v. left_alone (call_of 8 a b) c v refl refl)
+      (λ a b c v. left_alone (call_of 0 Has a b) c v refl refl)
+      (λ a b c v. left_alone (call_of 0 Len a b) c v refl refl)
 
   -- the opening: no place is present
   zeros_widths : (ws : List ℕ) → map length (zeros ws) ≡ ws
@@ -635,17 +635,17 @@ module _ (buckets places : ℕ) (some : 0 < buckets) where
   }
 
   -- the answers
-  need_is : (call : Call) (k : Known) (o : Option Operation) → operation_of call.code ≡ o → m.need call k ≡ hash_need buckets places o call.a k
+  need_is : (call : Call) (k : Known) (o : Operation) → call.operation ≡ o → m.need call k ≡ hash_need buckets places o call.a k
   need_is call k o e = ap (λ z. hash_need buckets places z call.a k) e
 
-  items_are : (call : Call) (k : Known) (o : Option Operation) → operation_of call.code ≡ o → m.items call k ≡ hash_items buckets places o call.a k
+  items_are : (call : Call) (k : Known) (o : Operation) → call.operation ≡ o → m.items call k ≡ hash_items buckets places o call.a k
   items_are call k o e = ap (λ z. hash_items buckets places z call.a k) e
 
-  updates_are : (call : Call) (c : Parts) (o : Option Operation) → operation_of call.code ≡ o → m.updates call c ≡ hash_updates buckets places o call.a call.b c
+  updates_are : (call : Call) (c : Parts) (o : Operation) → call.operation ≡ o → m.updates call c ≡ hash_updates buckets places o call.a call.b c
   updates_are call c o e = ap (λ z. hash_updates buckets places z call.a call.b c) e
 
-  reply_is : (call : Call) (rows : List Row) (o : Option Operation) → call.object ≡ 0 → operation_of call.code ≡ o → reply_to m.machines call (rows ∷ []) ≡ (effect_by (Hash buckets places) o call.a call.b rows).reply
-  reply_is call rows o z e = rw z (ap (λ x. (effect_by (Hash buckets places) x call.a call.b rows).reply) e)
+  reply_is : (call : Call) (rows : List Row) (o : Operation) → call.object ≡ 0 → call.operation ≡ o → reply_to m.machines call (rows ∷ []) ≡ (effect_of (Hash buckets places) o call.a call.b rows).reply
+  reply_is call rows o z e = rw z (ap (λ x. (effect_of (Hash buckets places) x call.a call.b rows).reply) e)
 
   keys_known : (k : Known) (d : Parts) (key : ℤ) (ws : List ℤ) → IsHash buckets places d → IsPartOf k d → k (kp key) ≡ Some ws → find (part_of d (kp key)) key ≡ find ws key
   keys_known k d key ws v part s = ap (λ l. find l key) (known_keys k d key ws v part s)
@@ -653,58 +653,58 @@ module _ (buckets places : ℕ) (some : 0 < buckets) where
   item_found : (k : Known) (key : ℤ) (ws : List ℤ) → k (kp key) ≡ Some ws → found_known buckets places key k ≡ find ws key
   item_found k key ws s = ap (λ o. find (words_known o) key) s
 
-  pub plan_needs_key : (call : Call) (k : Known) (o : Option Operation) → operation_of call.code ≡ o → hash_need buckets places o call.a k ≡ Some (kp call.a) → m.need call k ≡ Some (kp call.a)
+  pub plan_needs_key : (call : Call) (k : Known) (o : Operation) → call.operation ≡ o → hash_need buckets places o call.a k ≡ Some (kp call.a) → m.need call k ≡ Some (kp call.a)
   plan_needs_key call k o e h = need_is call k o e ∙ h
 
   pub plan_has :
-      (call : Call) (k : Known) (ws : List ℤ) (answer : Answer) → call.object ≡ 0 → operation_of call.code ≡ Some Has → k (kp call.a) ≡ Some ws
+      (call : Call) (k : Known) (ws : List ℤ) (answer : Answer) → call.object ≡ 0 → call.operation ≡ Has → k (kp call.a) ≡ Some ws
       → IsSaid (T.Flag (is_some (find ws call.a))) (find_items (kp call.a) call.a (find ws call.a)) [] answer → IsPlan m call k (planned answer)
   plan_has call k ws answer z e s h =
-      said_is_plan m call k (T.Flag (is_some (find ws call.a))) (find_items (kp call.a) call.a (find ws call.a)) [] answer h (need_is call k (Some Has) e ∙ ap (asked (kp call.a)) s)
-      (sym (items_are call k (Some Has) e ∙ ap (find_items (kp call.a) call.a) (item_found k call.a ws s)))
+      said_is_plan m call k (T.Flag (is_some (find ws call.a))) (find_items (kp call.a) call.a (find ws call.a)) [] answer h (need_is call k Has e ∙ ap (asked (kp call.a)) s)
+      (sym (items_are call k Has e ∙ ap (find_items (kp call.a) call.a) (item_found k call.a ws s)))
       (λ d v part. (
-        sym (reply_is call (rows_in d) (Some Has) z e ∙ has_reply d call.a call.b v ∙ ap (λ o. T.Flag (is_some o)) (keys_known k d call.a ws v part s)),
-        sym (updates_are call d (Some Has) e),
+        sym (reply_is call (rows_in d) Has z e ∙ has_reply d call.a call.b v ∙ ap (λ o. T.Flag (is_some o)) (keys_known k d call.a ws v part s)),
+        sym (updates_are call d Has e),
       ))
 
   pub plan_remove :
-      (call : Call) (k : Known) (ws : List ℤ) (answer : Answer) → call.object ≡ 0 → operation_of call.code ≡ Some Remove → k (kp call.a) ≡ Some ws
+      (call : Call) (k : Known) (ws : List ℤ) (answer : Answer) → call.object ≡ 0 → call.operation ≡ Remove → k (kp call.a) ≡ Some ws
       → IsSaid (T.Flag (is_some (find ws call.a))) (find_items (kp call.a) call.a (find ws call.a)) (remove_updates places (kp call.a) (find ws call.a)) answer → IsPlan m call k (planned answer)
   plan_remove call k ws answer z e s h =
       said_is_plan m call k (T.Flag (is_some (find ws call.a))) (find_items (kp call.a) call.a (find ws call.a)) (remove_updates places (kp call.a) (find ws call.a)) answer h
-      (need_is call k (Some Remove) e ∙ ap (asked (kp call.a)) s)
-      (sym (items_are call k (Some Remove) e ∙ ap (find_items (kp call.a) call.a) (item_found k call.a ws s)))
+      (need_is call k Remove e ∙ ap (asked (kp call.a)) s)
+      (sym (items_are call k Remove e ∙ ap (find_items (kp call.a) call.a) (item_found k call.a ws s)))
       (λ d v part. (
-        sym (reply_is call (rows_in d) (Some Remove) z e ∙ remove_reply d call.a call.b v ∙ ap (λ o. T.Flag (is_some o)) (keys_known k d call.a ws v part s)),
-        sym (updates_are call d (Some Remove) e ∙ ap (remove_updates places (kp call.a)) (keys_known k d call.a ws v part s)),
+        sym (reply_is call (rows_in d) Remove z e ∙ remove_reply d call.a call.b v ∙ ap (λ o. T.Flag (is_some o)) (keys_known k d call.a ws v part s)),
+        sym (updates_are call d Remove e ∙ ap (remove_updates places (kp call.a)) (keys_known k d call.a ws v part s)),
       ))
 
   pub plan_absent :
-      (call : Call) (k : Known) (ws : List ℤ) (answer : Answer) → call.object ≡ 0 → operation_of call.code ≡ Some Get → k (kp call.a) ≡ Some ws → find ws call.a ≡ None
+      (call : Call) (k : Known) (ws : List ℤ) (answer : Answer) → call.object ≡ 0 → call.operation ≡ Get → k (kp call.a) ≡ Some ws → find ws call.a ≡ None
       → IsSaid T.Absent (Seen (kp call.a) ∷ []) [] answer → IsPlan m call k (planned answer)
   plan_absent call k ws answer z e s f h =
       said_is_plan m call k T.Absent (Seen (kp call.a) ∷ []) [] answer h
-      (need_is call k (Some Get) e ∙ ap (λ o. get_asked (kp call.a) call.a o k) s ∙ ap (λ o. value_asked (kp call.a) o k) f)
-      (sym (items_are call k (Some Get) e ∙ ap (get_items (kp call.a) call.a) (item_found k call.a ws s ∙ f)))
+      (need_is call k Get e ∙ ap (λ o. get_asked (kp call.a) call.a o k) s ∙ ap (λ o. value_asked (kp call.a) o k) f)
+      (sym (items_are call k Get e ∙ ap (get_items (kp call.a) call.a) (item_found k call.a ws s ∙ f)))
       (λ d v part. (
-        sym (reply_is call (rows_in d) (Some Get) z e ∙ get_reply d call.a call.b v ∙ ap (λ o. value_or_absent (value_found d (kp call.a + 1) o)) (keys_known k d call.a ws v part s ∙ f)),
-        sym (updates_are call d (Some Get) e),
+        sym (reply_is call (rows_in d) Get z e ∙ get_reply d call.a call.b v ∙ ap (λ o. value_or_absent (value_found d (kp call.a + 1) o)) (keys_known k d call.a ws v part s ∙ f)),
+        sym (updates_are call d Get e),
       ))
 
   pub plan_present :
-      (call : Call) (k : Known) (ws vs : List ℤ) (i : ℕ) (answer : Answer) → call.object ≡ 0 → operation_of call.code ≡ Some Get → k (kp call.a) ≡ Some ws → find ws call.a ≡ Some i
+      (call : Call) (k : Known) (ws vs : List ℤ) (i : ℕ) (answer : Answer) → call.object ≡ 0 → call.operation ≡ Get → k (kp call.a) ≡ Some ws → find ws call.a ≡ Some i
       → k (value_part (kp call.a) i) ≡ Some vs → IsSaid (T.Value (slice_index_or vs 0 (pos 0))) (get_items (kp call.a) call.a (Some i)) [] answer → IsPlan m call k (planned answer)
   plan_present call k ws vs i answer z e s f t h =
       said_is_plan m call k (T.Value (slice_index_or vs 0 (pos 0))) (get_items (kp call.a) call.a (Some i)) [] answer h
-      (need_is call k (Some Get) e ∙ ap (λ o. get_asked (kp call.a) call.a o k) s ∙ ap (λ o. value_asked (kp call.a) o k) f ∙ ap (asked (value_part (kp call.a) i)) t)
-      (sym (items_are call k (Some Get) e ∙ ap (get_items (kp call.a) call.a) (item_found k call.a ws s ∙ f)))
+      (need_is call k Get e ∙ ap (λ o. get_asked (kp call.a) call.a o k) s ∙ ap (λ o. value_asked (kp call.a) o k) f ∙ ap (asked (value_part (kp call.a) i)) t)
+      (sym (items_are call k Get e ∙ ap (get_items (kp call.a) call.a) (item_found k call.a ws s ∙ f)))
       (λ d v part.
       let found : find (part_of d (kp call.a)) call.a ≡ Some i = keys_known k d call.a ws v part s ∙ f in
       let value : part_of d (value_part (kp call.a) i) ≡ vs = part.same (value_part (kp call.a) i) vs (value_in_range d call.a i (place_below buckets places some d call.a i v found) v) t in (
         sym
-            (reply_is call (rows_in d) (Some Get) z e ∙ get_reply d call.a call.b v ∙ ap (λ o. value_or_absent (value_found d (kp call.a + 1) o)) found
+            (reply_is call (rows_in d) Get z e ∙ get_reply d call.a call.b v ∙ ap (λ o. value_or_absent (value_found d (kp call.a + 1) o)) found
             ∙ ap (λ l. T.Value (slice_index_or l 0 (pos 0))) value),
-        sym (updates_are call d (Some Get) e),
+        sym (updates_are call d Get e),
       ))
 
   -- a put, by what is found and what is free
@@ -731,16 +731,16 @@ module _ (buckets places : ℕ) (some : 0 < buckets) where
       above x y l = grind (arith, nat_tests)
 
   pub plan_put :
-      (call : Call) (k : Known) (ws : List ℤ) (answer : Answer) → call.object ≡ 0 → operation_of call.code ≡ Some Put → k (kp call.a) ≡ Some ws
+      (call : Call) (k : Known) (ws : List ℤ) (answer : Answer) → call.object ≡ 0 → call.operation ≡ Put → k (kp call.a) ≡ Some ws
       → IsSaid (put_told (find ws call.a) (free ws)) (find_items (kp call.a) call.a (find ws call.a)) (put_updates places (kp call.a) call.a call.b (find ws call.a) (free ws)) answer
       → IsPlan m call k (planned answer)
   plan_put call k ws answer z e s h =
       said_is_plan m call k (put_told (find ws call.a) (free ws)) (find_items (kp call.a) call.a (find ws call.a)) (put_updates places (kp call.a) call.a call.b (find ws call.a) (free ws)) answer h
-      (need_is call k (Some Put) e ∙ ap (asked (kp call.a)) s)
-      (sym (items_are call k (Some Put) e ∙ ap (find_items (kp call.a) call.a) (item_found k call.a ws s)))
+      (need_is call k Put e ∙ ap (asked (kp call.a)) s)
+      (sym (items_are call k Put e ∙ ap (find_items (kp call.a) call.a) (item_found k call.a ws s)))
       (λ d v part. (
-        sym (reply_is call (rows_in d) (Some Put) z e ∙ put_reply d call.a call.b v ∙ told_of_put d call.a v ∙ ap (λ l. put_told (find l call.a) (free l)) (known_keys k d call.a ws v part s)),
-        sym (updates_are call d (Some Put) e ∙ ap (λ l. put_updates places (kp call.a) call.a call.b (find l call.a) (free l)) (known_keys k d call.a ws v part s)),
+        sym (reply_is call (rows_in d) Put z e ∙ put_reply d call.a call.b v ∙ told_of_put d call.a v ∙ ap (λ l. put_told (find l call.a) (free l)) (known_keys k d call.a ws v part s)),
+        sym (updates_are call d Put e ∙ ap (λ l. put_updates places (kp call.a) call.a call.b (find l call.a) (free l)) (known_keys k d call.a ws v part s)),
       ))
 
   -- len: the sum of what is known of all key parts
@@ -756,13 +756,13 @@ module _ (buckets places : ℕ) (some : 0 < buckets) where
       λ i. count_by is_present (places_of (one i)) + rest i)
 
   pub plan_len :
-      (call : Call) (k : Known) (answer : Answer) → call.object ≡ 0 → operation_of call.code ≡ Some Len → first_asked places k 0 buckets ≡ None
+      (call : Call) (k : Known) (answer : Answer) → call.object ≡ 0 → call.operation ≡ Len → first_asked places k 0 buckets ≡ None
       → IsSaid (T.Value (pos (known_total places k 0 buckets))) (all_seen places 0 buckets) [] answer → IsPlan m call k (planned answer)
   plan_len call k answer z e n h =
-      said_is_plan m call k (T.Value (pos (known_total places k 0 buckets))) (all_seen places 0 buckets) [] answer h (need_is call k (Some Len) e ∙ n) (sym (items_are call k (Some Len) e))
+      said_is_plan m call k (T.Value (pos (known_total places k 0 buckets))) (all_seen places 0 buckets) [] answer h (need_is call k Len e ∙ n) (sym (items_are call k Len e))
       (λ d v part. (
-        ap (λ x. T.Value (pos x)) (total_known k d 0 buckets (omega arith) v part n) ∙ sym (reply_is call (rows_in d) (Some Len) z e ∙ len_reply d call.a call.b v),
-        sym (updates_are call d (Some Len) e),
+        ap (λ x. T.Value (pos x)) (total_known k d 0 buckets (omega arith) v part n) ∙ sym (reply_is call (rows_in d) Len z e ∙ len_reply d call.a call.b v),
+        sym (updates_are call d Len e),
       ))
 
   -- what is known of a key part has its width, and what is found in it is one of its places
@@ -782,6 +782,6 @@ module _ (buckets places : ℕ) (some : 0 < buckets) where
       let h : suc (bucket_number buckets key) * (1 + places) ≤ buckets * (1 + places) = mul-le-mul_right (1 + places) (below key) in omega (arith, h)
 
   pub plan_needs_value :
-      (call : Call) (k : Known) (ws : List ℤ) (i : ℕ) → operation_of call.code ≡ Some Get → k (kp call.a) ≡ Some ws → find ws call.a ≡ Some i → k (value_part (kp call.a) i) ≡ None → m.need call k ≡ Some (value_part (kp call.a) i)
+      (call : Call) (k : Known) (ws : List ℤ) (i : ℕ) → call.operation ≡ Get → k (kp call.a) ≡ Some ws → find ws call.a ≡ Some i → k (value_part (kp call.a) i) ≡ None → m.need call k ≡ Some (value_part (kp call.a) i)
   plan_needs_value call k ws i e s f n =
-      need_is call k (Some Get) e ∙ ap (λ o. get_asked (kp call.a) call.a o k) s ∙ ap (λ o. value_asked (kp call.a) o k) f ∙ ap (asked (value_part (kp call.a) i)) n
+      need_is call k Get e ∙ ap (λ o. get_asked (kp call.a) call.a o k) s ∙ ap (λ o. value_asked (kp call.a) o k) f ∙ ap (asked (value_part (kp call.a) i)) n

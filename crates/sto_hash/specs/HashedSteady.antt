@@ -1,7 +1,6 @@
 -- A hash table is steady.
 use Rattle.std.proofs.Common.{◌≡◌, ℕ, ℤ, Bool, true, false, nat_eq, Some, None, Option, List, zero, suc, [], ◌∷◌, refl, ap, sym, ◌∙◌, inl, inr}
 use Rattle.sto_model.specs.declared.operation.Operation.{Operation}
-use Rattle.sto_model.specs.Operations.{operation_of}
 use Rattle.sto_model.specs.declared.operation.Operation.TheVariants.{Get, Set, Add, Test as TestWord, Take, Put, Remove, Has, Len, Next, Count, Scan, Push, Pop}
 use Rattle.sto_type.specs.Known.{Known, IsWithin}
 use Rattle.sto_type.specs.Meaning.{IsSteady}
@@ -69,43 +68,41 @@ first_off places k more b (suc n) w e = elim (by_known (k (bucket_part places b)
       rw (w (bucket_part places b) known.0 known.1) (first_off places k more (suc b) n w on)
 ]
 
-hash_on : (buckets places : ℕ) (o : Option Operation) (key : ℤ) (k more : Known) (p : ℕ) → IsWithin k more → more p ≡ None → hash_need buckets places o key k ≡ Some p → hash_need buckets places o key more ≡ Some p
-hash_on buckets places (Some Get) key k more p w none e = get_on (key_part buckets places key) key k more p w none e
-hash_on buckets places (Some Set) key k more p w none e = cc
-hash_on buckets places (Some Add) key k more p w none e = cc
-hash_on buckets places (Some TestWord) key k more p w none e = cc
-hash_on buckets places (Some Take) key k more p w none e = cc
-hash_on buckets places (Some Put) key k more p w none e = asks_on (key_part buckets places key) k more p none e
-hash_on buckets places (Some Remove) key k more p w none e = asks_on (key_part buckets places key) k more p none e
-hash_on buckets places (Some Has) key k more p w none e = asks_on (key_part buckets places key) k more p none e
-hash_on buckets places (Some Len) key k more p w none e = first_on places k more p 0 buckets w none e
-hash_on buckets places (Some Next) key k more p w none e = cc
-hash_on buckets places (Some Count) key k more p w none e = cc
-hash_on buckets places (Some Scan) key k more p w none e = cc
-hash_on buckets places (Some Push) key k more p w none e = cc
-hash_on buckets places (Some Pop) key k more p w none e = cc
-hash_on buckets places None key k more p w none e = cc
+hash_on : (buckets places : ℕ) (o : Operation) (key : ℤ) (k more : Known) (p : ℕ) → IsWithin k more → more p ≡ None → hash_need buckets places o key k ≡ Some p → hash_need buckets places o key more ≡ Some p
+hash_on buckets places Get key k more p w none e = get_on (key_part buckets places key) key k more p w none e
+hash_on buckets places Set key k more p w none e = cc
+hash_on buckets places Add key k more p w none e = cc
+hash_on buckets places TestWord key k more p w none e = cc
+hash_on buckets places Take key k more p w none e = cc
+hash_on buckets places Put key k more p w none e = asks_on (key_part buckets places key) k more p none e
+hash_on buckets places Remove key k more p w none e = asks_on (key_part buckets places key) k more p none e
+hash_on buckets places Has key k more p w none e = asks_on (key_part buckets places key) k more p none e
+hash_on buckets places Len key k more p w none e = first_on places k more p 0 buckets w none e
+hash_on buckets places Next key k more p w none e = cc
+hash_on buckets places Count key k more p w none e = cc
+hash_on buckets places Scan key k more p w none e = cc
+hash_on buckets places Push key k more p w none e = cc
+hash_on buckets places Pop key k more p w none e = cc
 
-hash_off : (buckets places : ℕ) (o : Option Operation) (key : ℤ) (k more : Known) → IsWithin k more → hash_need buckets places o key k ≡ None
+hash_off : (buckets places : ℕ) (o : Operation) (key : ℤ) (k more : Known) → IsWithin k more → hash_need buckets places o key k ≡ None
     → (hash_need buckets places o key more ≡ None) × (hash_items buckets places o key more ≡ hash_items buckets places o key k)
-hash_off buckets places (Some Get) key k more w e = let it = get_off (key_part buckets places key) key k more w e in (it.0, ap (λ (x : Option (List ℤ)). get_items (key_part buckets places key) key (find (words_known x) key)) it.1)
-hash_off buckets places (Some Set) key k more w e = (refl, refl)
-hash_off buckets places (Some Add) key k more w e = (refl, refl)
-hash_off buckets places (Some TestWord) key k more w e = (refl, refl)
-hash_off buckets places (Some Take) key k more w e = (refl, refl)
-hash_off buckets places (Some Put) key k more w e = let it = asks_off (key_part buckets places key) k more w e in (it.0, ap (λ (x : Option (List ℤ)). find_items (key_part buckets places key) key (find (words_known x) key)) it.1)
-hash_off buckets places (Some Remove) key k more w e = let it = asks_off (key_part buckets places key) k more w e in (it.0, ap (λ (x : Option (List ℤ)). find_items (key_part buckets places key) key (find (words_known x) key)) it.1)
-hash_off buckets places (Some Has) key k more w e = let it = asks_off (key_part buckets places key) k more w e in (it.0, ap (λ (x : Option (List ℤ)). find_items (key_part buckets places key) key (find (words_known x) key)) it.1)
-hash_off buckets places (Some Len) key k more w e = (first_off places k more 0 buckets w e, refl)
-hash_off buckets places (Some Next) key k more w e = (refl, refl)
-hash_off buckets places (Some Count) key k more w e = (refl, refl)
-hash_off buckets places (Some Scan) key k more w e = (refl, refl)
-hash_off buckets places (Some Push) key k more w e = (refl, refl)
-hash_off buckets places (Some Pop) key k more w e = (refl, refl)
-hash_off buckets places None key k more w e = (refl, refl)
+hash_off buckets places Get key k more w e = let it = get_off (key_part buckets places key) key k more w e in (it.0, ap (λ (x : Option (List ℤ)). get_items (key_part buckets places key) key (find (words_known x) key)) it.1)
+hash_off buckets places Set key k more w e = (refl, refl)
+hash_off buckets places Add key k more w e = (refl, refl)
+hash_off buckets places TestWord key k more w e = (refl, refl)
+hash_off buckets places Take key k more w e = (refl, refl)
+hash_off buckets places Put key k more w e = let it = asks_off (key_part buckets places key) k more w e in (it.0, ap (λ (x : Option (List ℤ)). find_items (key_part buckets places key) key (find (words_known x) key)) it.1)
+hash_off buckets places Remove key k more w e = let it = asks_off (key_part buckets places key) k more w e in (it.0, ap (λ (x : Option (List ℤ)). find_items (key_part buckets places key) key (find (words_known x) key)) it.1)
+hash_off buckets places Has key k more w e = let it = asks_off (key_part buckets places key) k more w e in (it.0, ap (λ (x : Option (List ℤ)). find_items (key_part buckets places key) key (find (words_known x) key)) it.1)
+hash_off buckets places Len key k more w e = (first_off places k more 0 buckets w e, refl)
+hash_off buckets places Next key k more w e = (refl, refl)
+hash_off buckets places Count key k more w e = (refl, refl)
+hash_off buckets places Scan key k more w e = (refl, refl)
+hash_off buckets places Push key k more w e = (refl, refl)
+hash_off buckets places Pop key k more w e = (refl, refl)
 
 pub hash_steady : (buckets places : ℕ) → IsSteady (hash_meaning buckets places)
 hash_steady buckets places = record {
-  steady = λ call k more p w none e. hash_on buckets places (operation_of call.code) call.a k more p w none e;
-  done = λ call k more w e. hash_off buckets places (operation_of call.code) call.a k more w e;
+  steady = λ call k more p w none e. hash_on buckets places call.operation call.a k more p w none e;
+  done = λ call k more w e. hash_off buckets places call.operation call.a k more w e;
 }

@@ -1,6 +1,5 @@
 //! The plan of len: it needs every key part, and counts what is present there.
 ghost use Rattle.std.specs.Prelude.{◌≡◌, ◌+◌, ◌*◌, ◌<◌, ◌^◌, ℤ, List, [], Some, pos, length, count_by, IfOk};
-ghost use Rattle.sto_model.specs.Operations.{operation_of};
 ghost use Rattle.sto_model.specs.PlainReplies.{Value as ToldValue};
 ghost use Rattle.sto_type.specs.Known.{known, IsPartOf};
 ghost use Rattle.sto_type.specs.Plans.{planned, IsPlan, IsSaid};
@@ -22,7 +21,7 @@ pub(crate) fn plan_len(
     cache: &KnownParts<'_>,
 ) -> Result<Answer, NoMemory>
     requires takes { HashTakes buckets call.now }
-    requires code { operation_of call.now.code ≡ Some Operation.Len }
+    requires operation { call.now.operation ≡ Operation.Len }
     requires some { 0 < buckets }
     requires few { buckets * (1 + places) < 2 ^ 32 }
     requires words { 2 * places < 2 ^ 32 }

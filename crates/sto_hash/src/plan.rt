@@ -1,6 +1,5 @@
 //! The plan of the calls of one key.
 ghost use Rattle.std.specs.Prelude.{◌≡◌, ◌+◌, ◌*◌, ◌<◌, ◌^◌, ℤ, List, Some, pos, slice_index_or, IfOk};
-ghost use Rattle.sto_model.specs.Operations.{operation_of};
 ghost use Rattle.sto_type.specs.Known.{known, IsPartOf};
 ghost use Rattle.sto_type.specs.Plans.{planned, IsPlan};
 ghost use Rattle.sto_hash.specs.Hashed.{key_part, hash_meaning, HashTakes, IsHash};
@@ -20,7 +19,7 @@ pub(crate) fn plan_has(
     cache: &KnownParts<'_>,
 ) -> Result<Answer, NoMemory>
     requires takes { HashTakes buckets call.now }
-    requires code { operation_of call.now.code ≡ Some Operation.Has }
+    requires operation { call.now.operation ≡ Operation.Has }
     requires some { 0 < buckets }
     requires few { buckets * (1 + places) < 2 ^ 32 }
     requires words { 2 * places < 2 ^ 32 }
@@ -46,7 +45,7 @@ pub(crate) fn plan_remove(
     cache: &KnownParts<'_>,
 ) -> Result<Answer, NoMemory>
     requires takes { HashTakes buckets call.now }
-    requires code { operation_of call.now.code ≡ Some Operation.Remove }
+    requires operation { call.now.operation ≡ Operation.Remove }
     requires some { 0 < buckets }
     requires few { buckets * (1 + places) < 2 ^ 32 }
     requires words { 2 * places < 2 ^ 32 }
@@ -72,7 +71,7 @@ pub(crate) fn plan_put(
     cache: &KnownParts<'_>,
 ) -> Result<Answer, NoMemory>
     requires takes { HashTakes buckets call.now }
-    requires code { operation_of call.now.code ≡ Some Operation.Put }
+    requires operation { call.now.operation ≡ Operation.Put }
     requires some { 0 < buckets }
     requires few { buckets * (1 + places) < 2 ^ 32 }
     requires words { 2 * places < 2 ^ 32 }
@@ -99,7 +98,7 @@ pub(crate) fn plan_get(
     cache: &KnownParts<'_>,
 ) -> Result<Answer, NoMemory>
     requires takes { HashTakes buckets call.now }
-    requires code { operation_of call.now.code ≡ Some Operation.Get }
+    requires operation { call.now.operation ≡ Operation.Get }
     requires some { 0 < buckets }
     requires few { buckets * (1 + places) < 2 ^ 32 }
     requires words { 2 * places < 2 ^ 32 }

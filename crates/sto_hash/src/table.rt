@@ -1,7 +1,6 @@
 //! The type of a hash table.
 ghost use Rattle.std.specs.Prelude.{◌≡◌, ◌<◌, ◌+◌, ◌*◌, ◌^◌, [], ◌∷◌};
-ghost use Rattle.sto_model.specs.Objects.{takes_by};
-ghost use Rattle.sto_model.specs.Operations.{operation_of};
+ghost use Rattle.sto_model.specs.Objects.{takes};
 ghost use Rattle.sto_model.specs.declared.shape.Shape.TheVariants.{Hash};
 ghost use Rattle.sto_hash.specs.Hashed.{hash_meaning, IsHashOf};
 ghost use Rattle.sto_hash.specs.HashedLaw.{hash_lawful};
@@ -10,7 +9,7 @@ use crate::len::plan_len;
 use crate::plan::{plan_get, plan_has, plan_put, plan_remove};
 use crate::rows::table_rows;
 use std::alloc::Global;
-use sto_model::{Call, Operation, Shape, State, takes_code};
+use sto_model::{Call, Operation, Shape, State};
 use sto_part::{Contents, List, Naming, NoMemory};
 use sto_type::{Answer, AnswerPool, Home, KnownParts, TxType};
 
@@ -77,7 +76,7 @@ impl TxType for THash {
     fn takes(&self, call: &Call) -> bool {
         let _first = call.a;
         let _second = call.b;
-        call.object == 0 && takes_code(shape_with(self.buckets), call.code, call.a)
+        call.object == 0 && shape_with(self.buckets).takes_call(call)
     }
 
     fn opening(&self, alloc: Global) -> Result<Contents, NoMemory> {
@@ -102,12 +101,12 @@ impl TxType for THash {
         call: &Call,
         cache: &KnownParts<'_>,
     ) -> Result<Answer, NoMemory> {
-        match Operation::from_code(call.code) {
-            Some(Operation::Get) => plan_get(pool, self.buckets, self.places, call, cache),
-            Some(Operation::Put) => plan_put(pool, self.buckets, self.places, call, cache),
-            Some(Operation::Remove) => plan_remove(pool, self.buckets, self.places, call, cache),
-            Some(Operation::Has) => plan_has(pool, self.buckets, self.places, call, cache),
-            Some(Operation::Len) => plan_len(pool, self.buckets, self.places, call, cache),
+        match call.operation {
+            Operation::Get => plan_get(pool, self.buckets, self.places, call, cache),
+            Operation::Put => plan_put(pool, self.buckets, self.places, call, cache),
+            Operation::Remove => plan_remove(pool, self.buckets, self.places, call, cache),
+            Operation::Has => plan_has(pool, self.buckets, self.places, call, cache),
+            Operation::Len => plan_len(pool, self.buckets, self.places, call, cache),
             _ => unreachable!(),
         }
     }

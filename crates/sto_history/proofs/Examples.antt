@@ -6,6 +6,9 @@ use Rattle.sto_model.specs.PlainReplies.{PlainReply, Done, Value}
 use Rattle.sto_model.specs.SequentialObjects.{SequentialObject}
 use Rattle.sto_model.specs.Objects.{machines_of}
 use Rattle.sto_model.specs.Run.{Behaviour, State}
+use Rattle.sto_model.specs.Calls.{call_of}
+use Rattle.sto_model.specs.declared.operation.Operation.{Operation}
+use Rattle.sto_model.specs.declared.operation.Operation.TheVariants.{Get, Set}
 use Rattle.sto_model.specs.declared.body.Next.{Next}
 use Rattle.sto_model.specs.declared.body.Next.TheVariants.{Ask, Commit}
 use Rattle.sto_model.specs.declared.shape.Shape.TheVariants.{Single}
@@ -13,18 +16,18 @@ use Rattle.sto_history.specs.Records.{Wrote, Read}
 use Rattle.sto_history.specs.History.{Transaction, times_numbered, StandsIn, LeadTo}
 
 -- one call of the box, and the end
-abbrev pub one_call : ℕ → ℤ → Behaviour
-one_call code a [] = Ask (record { object = 0; code = code; a = a; b = pos 0 })
-one_call code a (r ∷ rs) = Commit
+abbrev pub one_call : Operation → ℤ → Behaviour
+one_call operation a [] = Ask (call_of 0 operation a (pos 0))
+one_call operation a (r ∷ rs) = Commit
 
 abbrev pub set_five : Transaction
-set_five = record { steps = one_call 1 (pos 5); replies = Done ∷ []; verdict = Wrote 1 }
+set_five = record { steps = one_call Set (pos 5); replies = Done ∷ []; verdict = Wrote 1 }
 
 abbrev pub read_before : Transaction
-read_before = record { steps = one_call 0 (pos 0); replies = Value (pos 1) ∷ []; verdict = Read 0 }
+read_before = record { steps = one_call Get (pos 0); replies = Value (pos 1) ∷ []; verdict = Read 0 }
 
 abbrev pub read_after : Transaction
-read_after = record { steps = one_call 0 (pos 0); replies = Value (pos 5) ∷ []; verdict = Read 1 }
+read_after = record { steps = one_call Get (pos 0); replies = Value (pos 5) ∷ []; verdict = Read 1 }
 
 abbrev pub boxes : List SequentialObject
 boxes = machines_of (Single (pos 1) ∷ [])

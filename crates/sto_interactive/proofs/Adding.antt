@@ -50,21 +50,21 @@ module _ {T : Type 0} (t : OfType T) (ty : T) (a : Attempt T AskedCalls) (calls 
     script_now : script_in b ≡ script_of (calls ++ more) other
     script_now = ap (λ (l : List Call). script_of l b.end) has ∙ ap (λ (e : End). script_of (calls ++ more) e) ends
 
-    log_now : IsLog (t.meaning a.log.ty.now) (script_in b) (words_in a.log.base.items) a.log.set.items a.log.set.updates (heard a)
+    log_now : IsLog (t.meaning a.log.ty.now) (script_in b) (words_in a.log.table.base.items) a.log.table.set.items a.log.table.set.updates (heard a)
     log_now =
         let m = t.meaning a.log.ty.now in
         let rs = heard a in
-        let before : IsLog m (script_of calls end) (words_in a.log.base.items) a.log.set.items a.log.set.updates rs =
-        subst (λ (g : Behaviour). IsLog m g (words_in a.log.base.items) a.log.set.items a.log.set.updates rs) own.same_script own.log.log in
-        subst (λ (g : Behaviour). IsLog m g (words_in a.log.base.items) a.log.set.items a.log.set.updates rs) (sym script_now)
-        (IsLog-alike m (script_of calls end) (script_of (calls ++ more) other) (words_in a.log.base.items) a.log.set.items a.log.set.updates rs
+        let before : IsLog m (script_of calls end) (words_in a.log.table.base.items) a.log.table.set.items a.log.table.set.updates rs =
+        subst (λ (g : Behaviour). IsLog m g (words_in a.log.table.base.items) a.log.table.set.items a.log.table.set.updates rs) own.same_script own.log.log in
+        subst (λ (g : Behaviour). IsLog m g (words_in a.log.table.base.items) a.log.table.set.items a.log.table.set.updates rs) (sym script_now)
+        (IsLog-alike m (script_of calls end) (script_of (calls ++ more) other) (words_in a.log.table.base.items) a.log.table.set.items a.log.table.set.updates rs
         (more_alike calls more end other rs all) (more_asked m calls more end other rs all) before)
 
     own_now : IsOwnLog t.meaning t.valid t.sizes script_in next_of left_of MayAskOf ty (script_of (calls ++ more) other) now
     own_now =
         let rs = heard a in
         let so_many : b.heard ≡ length rs = at ∙ heard_all all in
-        let long = length-map a.log.replies.items plain_reply in
+        let long = length-map a.log.table.replies.items plain_reply in
         let few = b.few in
         let within = b.within in
         record {

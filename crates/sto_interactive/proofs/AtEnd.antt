@@ -61,10 +61,10 @@ module _ {T B : Type 0} (t : OfType T) (b : OfBody B) (a : Attempt T B) (v : Vie
   -- a body that is at its end needs no further part
   pub no_more : HasBegun a.read_phase → IsFirst a.read_phase → (IsAsk (b.script a.log.body (heard a)) → ⊥) → HasTurned t b a a v More → ⊥
   no_more begins first none h =
-      no_goes (t.meaning a.log.ty.now) t.valid (t.sizes a.log.ty.now) (b.script a.log.body) a.at a.read_phase a.words.items a.extension a.log.base.items a.log.set.items a.log.set.updates (heard a) v begins first none h
+      no_goes (t.meaning a.log.ty.now) t.valid (t.sizes a.log.ty.now) (b.script a.log.body) a.at a.read_phase a.log.table.words.items a.log.table.extension a.log.table.base.items a.log.table.set.items a.log.table.set.updates (heard a) v begins first none h
 
   abbrev fits_at : ReadPhase → Type 0
-  fits_at read_phase = Fits (t.meaning a.log.ty.now) t.valid (t.sizes a.log.ty.now) (b.script a.log.body) a.at read_phase a.words.items a.log.base.items a.log.set.updates (heard a) v
+  fits_at read_phase = Fits (t.meaning a.log.ty.now) t.valid (t.sizes a.log.ty.now) (b.script a.log.body) a.at read_phase a.log.table.words.items a.log.table.base.items a.log.table.set.updates (heard a) v
 
   committing : HasTurned t b a a v Ready → fits_at Committing
   committing h = subst fits_at h.1 h.0
@@ -115,7 +115,7 @@ answers t b ty f a begun v h =
     let own = h.own in
     subst (λ (m : Meaning). IsPrefix m f v a.at (heard a)) (ap t.meaning own.same_type)
     (subst (λ (g : Behaviour). IsPrefix (t.meaning a.log.ty.now) g v a.at (heard a)) own.same_script
-    (prefix (t.meaning a.log.ty.now) (b.script a.log.body) v a.at a.log.base.items a.log.set.items a.log.set.updates (heard a) own.log.log h.waits.0.claimed))
+    (prefix (t.meaning a.log.ty.now) (b.script a.log.body) v a.at a.log.table.base.items a.log.table.set.items a.log.table.set.updates (heard a) own.log.log h.waits.0.claimed))
 
 -- they are no more than the calls
 pub so_many : {T B : Type 0} (t : OfType T) (b : OfBody B) (ty : T) (calls : List Call) (end : End) (a : Attempt T B) (begun v : View) → ((d : Parts) → t.valid (t.sizes a.log.ty.now) d → (t.meaning a.log.ty.now).valid d)
@@ -126,7 +126,7 @@ so_many t b ty calls end a begun v is h =
     let whole = claims_fit t.valid v a.at k.fit in
     let valid : m.valid whole.0 = is whole.0 (subst (λ (l : List ℕ). t.valid l whole.0) k.own.same_sizes whole.1) in
     let run : IsRun m.machines (b.script a.log.body) (m.rows whole.0) (heard a) =
-    prefix m (b.script a.log.body) v a.at a.log.base.items a.log.set.items a.log.set.updates (heard a) h.own.log.log k.claimed whole.0 valid whole.2 in
+    prefix m (b.script a.log.body) v a.at a.log.table.base.items a.log.table.set.items a.log.table.set.updates (heard a) h.own.log.log k.claimed whole.0 valid whole.2 in
     few_replies m.machines calls end (m.rows whole.0) (heard a) (subst (λ (f : Behaviour). IsRun m.machines f (m.rows whole.0) (heard a)) h.own.same_script run)
 
 -- one more reply

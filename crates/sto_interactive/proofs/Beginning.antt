@@ -23,10 +23,10 @@ use Rattle.sto_interactive.proofs.AtEnd.{commit_waits, so_many, none_more}
 use Rattle.sto_interactive.proofs.Coming.{own_now, own_turned}
 
 module _ {T : Type 0} (t : OfType T) (passes : ℕ) (ty : T) (a k : Attempt T AskedCalls) (begun w : View) (rest : IsAtRest (t.meaning ty) (t.sizes ty) begun) (draws : 0 < begun.draws)
-    (type : a.log.ty.now ≡ ty) (none : a.log.base.items ≡ []) (fresh : a.extension.extended ≡ false) (event : OneEvent (λ e. e ≡ Start) t.valid passes begun w) where
-  led : HasLed (t.meaning a.log.ty.now) t.valid (t.sizes a.log.ty.now) (script_in a.log.body) a.at a.words.items a.extension a.log.base.items a.log.set.items a.log.set.updates (heard a) passes begun begun w Unstarted
+    (type : a.log.ty.now ≡ ty) (none : a.log.table.base.items ≡ []) (fresh : a.log.table.extension.extended ≡ false) (event : OneEvent (λ e. e ≡ Start) t.valid passes begun w) where
+  led : HasLed (t.meaning a.log.ty.now) t.valid (t.sizes a.log.ty.now) (script_in a.log.body) a.at a.log.table.words.items a.log.table.extension a.log.table.base.items a.log.table.set.items a.log.table.set.updates (heard a) passes begun begun w Unstarted
   led =
-      has_led (t.meaning a.log.ty.now) t.valid (t.sizes a.log.ty.now) (script_in a.log.body) a.at a.words.items a.extension a.log.base.items a.log.set.items a.log.set.updates (heard a) passes begun begun w Unstarted
+      has_led (t.meaning a.log.ty.now) t.valid (t.sizes a.log.ty.now) (script_in a.log.body) a.at a.log.table.words.items a.log.table.extension a.log.table.base.items a.log.table.set.items a.log.table.set.updates (heard a) passes begun begun w Unstarted
       (rest.idle, rest.sized ∙ sym (ap t.sizes type), draws, none, fresh) refl event
 
   pub start_stops : IsLeft w → HasStopped (t.meaning ty) (t.sizes ty) begun w

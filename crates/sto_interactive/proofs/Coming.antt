@@ -34,14 +34,14 @@ module _ {T B : Type 0} (t : OfType T) (b : OfBody B) where
   -- what is told of an attempt by the type and the script of the one before, is told by its own
   own_log : (old a : Attempt T B) → a.log.ty.now ≡ old.log.ty.now → b.script a.log.body ≡ b.script old.log.body → IsLogOf t b old a → IsLogOf t b a a
   own_log old a types scripts h =
-      subst (λ (ty : T). IsOnLog (t.meaning ty) (b.then a.log.body) (b.script a.log.body) (b.left a.log.body) (b.may_ask a.log.body) a.log.base.items a.log.set a.log.cache a.log.replies.items) (sym types)
-      (subst (λ (f : Behaviour). IsOnLog (t.meaning old.log.ty.now) (b.then a.log.body) f (b.left a.log.body) (b.may_ask a.log.body) a.log.base.items a.log.set a.log.cache a.log.replies.items) (sym scripts) h)
+      subst (λ (ty : T). IsOnLog (t.meaning ty) (b.then a.log.body) (b.script a.log.body) (b.left a.log.body) (b.may_ask a.log.body) a.log.table.base.items a.log.table.set a.log.table.cache a.log.table.replies.items) (sym types)
+      (subst (λ (f : Behaviour). IsOnLog (t.meaning old.log.ty.now) (b.then a.log.body) f (b.left a.log.body) (b.may_ask a.log.body) a.log.table.base.items a.log.table.set a.log.table.cache a.log.table.replies.items) (sym scripts) h)
 
   pub own_turned : (old a : Attempt T B) (w : View) (turn : Turn) → a.log.ty ≡ old.log.ty → b.script a.log.body ≡ b.script old.log.body → HasTurned t b old a w turn → HasTurned t b a a w turn
   own_turned old a w turn types scripts h =
-      subst (λ (ty : T). Turned (t.meaning ty) t.valid (t.sizes ty) (b.script a.log.body) a.at a.read_phase a.words.items a.extension a.log.base.items a.log.set.items a.log.set.updates (heard a) w turn)
+      subst (λ (ty : T). Turned (t.meaning ty) t.valid (t.sizes ty) (b.script a.log.body) a.at a.read_phase a.log.table.words.items a.log.table.extension a.log.table.base.items a.log.table.set.items a.log.table.set.updates (heard a) w turn)
       (sym (ap (λ (r : Bor T). r.now) types))
-      (subst (λ (f : Behaviour). Turned (t.meaning old.log.ty.now) t.valid (t.sizes old.log.ty.now) f a.at a.read_phase a.words.items a.extension a.log.base.items a.log.set.items a.log.set.updates (heard a) w turn)
+      (subst (λ (f : Behaviour). Turned (t.meaning old.log.ty.now) t.valid (t.sizes old.log.ty.now) f a.at a.read_phase a.log.table.words.items a.log.table.extension a.log.table.base.items a.log.table.set.items a.log.table.set.updates (heard a) w turn)
       (sym scripts) h)
 
   pub own_now : (ty : T) (f : Behaviour) (old a : Attempt T B) → IsOwnLog t.meaning t.valid t.sizes b.script b.then b.left b.may_ask ty f old
@@ -80,7 +80,7 @@ module _ {T B : Type 0} (t : OfType T) (b : OfBody B) where
       alone = λ one. unaborted_turn x (alone one);
     }
 
-    waits_after : (x : Verdict) → EndsAs (t.meaning a.log.ty.now) t.valid (t.sizes a.log.ty.now) (b.script a.log.body) a.at a.words.items a.log.base.items a.log.set.updates (heard a) w x → WaitsAfter t b x ty f a begun w
+    waits_after : (x : Verdict) → EndsAs (t.meaning a.log.ty.now) t.valid (t.sizes a.log.ty.now) (b.script a.log.body) a.at a.log.table.words.items a.log.table.base.items a.log.table.set.updates (heard a) w x → WaitsAfter t b x ty f a begun w
     waits_after (Wrote n) h = h
     waits_after (Read n) h = record { own = own; waits = h.1; in_body = in_body }
     waits_after (Cancelled n) h = tt
@@ -92,12 +92,12 @@ module _ {T B : Type 0} (t : OfType T) (b : OfBody B) where
     come Ready begins turned alone = record {
       own = own;
       fits = subst
-          (λ (s : ReadPhase). Fits (t.meaning a.log.ty.now) t.valid (t.sizes a.log.ty.now) (b.script a.log.body) a.at s a.words.items a.log.base.items a.log.set.updates (heard a) w) turned.1 turned.0;
+          (λ (s : ReadPhase). Fits (t.meaning a.log.ty.now) t.valid (t.sizes a.log.ty.now) (b.script a.log.body) a.at s a.log.table.words.items a.log.table.base.items a.log.table.set.updates (heard a) w) turned.1 turned.0;
       in_body = in_body;
       committing = turned.1;
     }
     come (Ended x) begins turned alone = (
-      over x turned.1 turned.2 (ends_of (t.meaning a.log.ty.now) t.valid (t.sizes a.log.ty.now) (b.script a.log.body) a.at a.words.items a.log.base.items a.log.set.updates (heard a) w x turned.3)
+      over x turned.1 turned.2 (ends_of (t.meaning a.log.ty.now) t.valid (t.sizes a.log.ty.now) (b.script a.log.body) a.at a.log.table.words.items a.log.table.base.items a.log.table.set.updates (heard a) w x turned.3)
           (λ one. (alone one).1),
       waits_after x turned.3,
     )
@@ -107,12 +107,12 @@ module _ {T B : Type 0} (t : OfType T) (b : OfBody B) where
       → RunsBody t.meaning t.valid t.sizes b.script b.then b.left b.may_ask passes ty f old begun v
       → Steps t b passes old.read_phase (event_of t b old) old a v w r → HasRunOn t b passes ty f r a begun w
   stepped passes ty f old a begun v w (Ok turn) rest h s =
-      let led = has_led (t.meaning old.log.ty.now) t.valid (t.sizes old.log.ty.now) (b.script old.log.body) old.at old.words.items old.extension old.log.base.items old.log.set.items old.log.set.updates (heard old) passes begun v w
+      let led = has_led (t.meaning old.log.ty.now) t.valid (t.sizes old.log.ty.now) (b.script old.log.body) old.at old.log.table.words.items old.log.table.extension old.log.table.base.items old.log.table.set.items old.log.table.set.updates (heard old) passes begun v w
       old.read_phase h.goes h.gone s.event in
       let moved = led.moved a.read_phase a.at s.moves in
       come passes ty f a begun w rest (own_now ty f old a h.own s.ty s.script s.log) moved.in_body turn moved.begins (own_turned old a w turn s.ty s.script s.turned) (λ one. s.alone one (h.alone one))
   stepped passes ty f old a begun v w (Err error) rest h s =
-      let led = has_led (t.meaning old.log.ty.now) t.valid (t.sizes old.log.ty.now) (b.script old.log.body) old.at old.words.items old.extension old.log.base.items old.log.set.items old.log.set.updates (heard old) passes begun v w
+      let led = has_led (t.meaning old.log.ty.now) t.valid (t.sizes old.log.ty.now) (b.script old.log.body) old.at old.log.table.words.items old.log.table.extension old.log.table.base.items old.log.table.set.items old.log.table.set.updates (heard old) passes begun v w
       old.read_phase h.goes h.gone s.event in
       stopped (t.meaning ty) (t.sizes ty) begun w rest led.read s.err
 

@@ -5,6 +5,7 @@ pub mod Bodies
 pub mod Waiting
 pub mod Lives
 pub mod Pausing
+pub mod ErrorTexts
 pub use Rattle.sto_table.specs.Rests
 pub use Rattle.sto_transaction.specs.Machines
 pub use Rattle.sto_transaction.specs.Resting

@@ -42,7 +42,7 @@ module _ {T B : Type 0} (t : OfType T) (b : OfBody B) where
   -- it has ended so, and its record tells of it
   abbrev pub EndsSo : ℕ → T → Behaviour → Attempt T B → Verdict → View → View → Type 0
   EndsSo passes ty f a x begun w =
-      HasEnded t.meaning t.valid t.sizes b.script b.then b.left b.may_ask passes ty f (record { body = a.log.body; replies = a.log.replies; verdict = x }) begun w
+      HasEnded t.meaning t.valid t.sizes b.script b.then b.left b.may_ask passes ty f (record { body = a.log.body; replies = a.log.table.replies; verdict = x }) begun w
 
   -- after an end without an update it waits, too; a commit is not among the turns
   abbrev pub WaitsAfter : Verdict → T → Behaviour → Attempt T B → View → View → Type 0

@@ -57,7 +57,7 @@ impl<T: TxType> Session<T> {
 
     /// What the calls of the transaction were answered, in order; none where it is in no transaction.
     pub fn replies(&self) -> Option<&Replies>
-        ensures { option_map (λ r. r.now) result ≡ option_map (λ p. p.attempt.replies) self.now.live }
+        ensures { option_map (λ r. r.now) result ≡ option_map (λ p. p.attempt.table.replies) self.now.live }
     {
         match &self.live {
             Some(live) => Some(live.replies()),
@@ -87,20 +87,27 @@ fn ask<T: TxType>(
 {
     let mut pass = shared.pass(rest);
     let mut live = live.go_on(ty);
+    let mut memory = memory;
     match live.ask(alloc, &mut pass, call) {
         Ok(()) => (waiting(pass.rest(), left, live.pause(), memory), Ok(())),
         Err(StepError::Untaken) => (
             waiting(pass.rest(), left, live.pause(), memory),
             Err(AskError::Untaken),
         ),
-        Err(StepError::Aborted(_)) => (
-            Session::new(pass.rest(), left, live.into_memory()),
-            Err(AskError::Aborted),
-        ),
-        Err(StepError::NoMemory) => (
-            Session::new(pass.rest(), left, live.into_memory()),
-            Err(AskError::NoMemory),
-        ),
+        Err(StepError::Aborted(_)) => {
+            live.give_back(&mut memory);
+            (
+                Session::new(pass.rest(), left, memory),
+                Err(AskError::Aborted),
+            )
+        }
+        Err(StepError::NoMemory) => {
+            live.give_back(&mut memory);
+            (
+                Session::new(pass.rest(), left, memory),
+                Err(AskError::NoMemory),
+            )
+        }
     }
 }
 

@@ -3,6 +3,7 @@
 
 mod asked_calls;
 mod asking;
+mod display;
 mod ending;
 mod live;
 mod memory;

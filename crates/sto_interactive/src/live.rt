@@ -45,12 +45,12 @@ pub struct Live<'t, T: TxType> {
 }
 
 impl<'t, T: TxType> Live<'t, T> {
-    /// Begins a transaction on a pass that is at rest and has a draw left. It takes the memory, which its end puts back.
+    /// Begins a transaction on a pass that is at rest and has a draw left. It takes the lists, which its end puts back.
     pub fn begin<C: Cells<T>>(
         alloc: Global,
         ty: &'t T,
         cells: &mut C,
-        memory: &mut StepLists,
+        lists: &mut StepLists,
     ) -> Result<Live<'t, T>, NoMemory>
         requires rests { IsAtRest (T.meaning ty.now) (T.sizes ty.now) (C.view cells.old) }
         requires draws { 0 < (C.view cells.old).draws }
@@ -58,15 +58,15 @@ impl<'t, T: TxType> Live<'t, T> {
         ensures err { OnErr result (HasStopped (T.meaning ty.now) (T.sizes ty.now) (C.view cells.old) (C.view cells.new)) }
         ensures same { C.same cells.old cells.new }
     {
-        let body = AskedCalls::over(memory.take_calls());
-        let mut attempt = Attempt::new(alloc, ty, body, memory.attempts.take());
+        let body = AskedCalls::over(lists.take_calls());
+        let mut attempt = Attempt::new(ty, body, lists.attempts.take());
         attempt.begin(alloc, cells)?;
         Ok(Live { ty, attempt })
     }
 
     /// What its calls were answered, in order, also after an abort.
     pub fn replies(&self) -> &Replies
-        ensures { result.now ≡ self.now.attempt.log.replies }
+        ensures { result.now ≡ self.now.attempt.log.table.replies }
     {
         self.attempt.replies()
     }
@@ -102,11 +102,11 @@ impl<'t, T: TxType> Live<'t, T> {
         }
     }
 
-    /// Gives back the memory that it was lent, where it has ended by an abort or for want of memory.
-    pub fn into_memory(self) -> StepLists {
+    /// Puts back the lists that it was lent, where it has ended by an abort or for want of memory.
+    pub fn give_back(self, lists: &mut StepLists) {
         let Live { attempt, .. } = self;
-        let (heard, memory) = attempt.end();
-        StepLists::of_ended(memory, heard)
+        let heard = attempt.end(&mut lists.attempts);
+        lists.keep_heard(heard);
     }
 
     // Gives the body one more call.
@@ -132,7 +132,7 @@ impl<'t, T: TxType> Live<'t, T> {
         self,
         alloc: Global,
         cells: &mut C,
-        memory: &mut StepLists,
+        lists: &mut StepLists,
     ) -> Result<FinishedAttempt<AskedCalls>, NoMemory>
         requires { (ty : T) × (calls : List Call) × (rs : List PlainReply) × (begun : View)
             × IsLive T.TxType ty calls rs self begun (C.view cells.old) }
@@ -148,15 +148,14 @@ impl<'t, T: TxType> Live<'t, T> {
         let mut attempt = attempt;
         match attempt.resume(alloc)? {
             Turn::Ready => match attempt.seal(alloc) {
-                Ok(ready) => Ok(finish(ready, cells, &mut memory.attempts)),
+                Ok(ready) => Ok(finish(ready, cells, &mut lists.attempts)),
                 Err((attempt, error)) => {
                     mem::drop(attempt);
                     Err(error)
                 }
             },
             Turn::Ended(verdict) => {
-                let (heard, lent) = attempt.end();
-                memory.attempts = lent;
+                let heard = attempt.end(&mut lists.attempts);
                 Ok(FinishedAttempt {
                     body: heard.body,
                     replies: heard.replies,
@@ -171,7 +170,7 @@ impl<'t, T: TxType> Live<'t, T> {
     pub fn cancel(
         self,
         alloc: Global,
-        memory: &mut StepLists,
+        lists: &mut StepLists,
     ) -> Result<FinishedAttempt<AskedCalls>, NoMemory>
         requires { (ty : T) × (calls : List Call) × (rs : List PlainReply) × (begun : View) × (v : View)
             × IsLive T.TxType ty calls rs self begun v }
@@ -188,8 +187,7 @@ impl<'t, T: TxType> Live<'t, T> {
         mem::drop(attempt.replace_body(body));
         match attempt.resume(alloc)? {
             Turn::Ended(verdict) => {
-                let (heard, lent) = attempt.end();
-                memory.attempts = lent;
+                let heard = attempt.end(&mut lists.attempts);
                 Ok(FinishedAttempt {
                     body: heard.body,
                     replies: heard.replies,

@@ -1,4 +1,4 @@
-//! The memory that is lent to one transaction after the other whose calls come one by one.
+//! The lists that are lent to one transaction after the other whose calls come one by one.
 ghost use Rattle.std.specs.Prelude.{◌≡◌, []};
 
 use crate::asked_calls::AskedCalls;
@@ -39,16 +39,6 @@ impl StepLists {
         }
     }
 
-    /// The memory of an attempt that has ended, with the room of what it heard.
-    pub(crate) fn of_ended(attempts: AttemptLists, heard: Heard<AskedCalls>) -> StepLists {
-        let Heard { body, replies } = heard;
-        let mut attempts = attempts;
-        attempts.keep_replies(replies);
-        let mut calls = body.calls;
-        calls.clear();
-        StepLists { attempts, calls }
-    }
-
     /// A list for calls.
     pub(crate) fn take_calls(&mut self) -> List<Call>
         ensures { result.items ≡ [] }
@@ -60,6 +50,12 @@ impl StepLists {
     /// Keeps the room of what a transaction has left.
     pub fn keep(&mut self, ended: FinishedAttempt<AskedCalls>) {
         let FinishedAttempt { body, replies, .. } = ended;
+        self.keep_heard(Heard { body, replies });
+    }
+
+    /// Keeps the room of a body and of what it heard.
+    pub(crate) fn keep_heard(&mut self, heard: Heard<AskedCalls>) {
+        let Heard { body, replies } = heard;
         self.attempts.keep_replies(replies);
         let mut calls = body.calls;
         calls.clear();

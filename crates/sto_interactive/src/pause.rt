@@ -46,7 +46,7 @@ impl RestingTransaction {
 
     /// What its calls were answered, in order.
     pub fn replies(&self) -> &Replies
-        ensures { result.now ≡ self.now.attempt.replies }
+        ensures { result.now ≡ self.now.attempt.table.replies }
     {
         self.attempt.replies()
     }

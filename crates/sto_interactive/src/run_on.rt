@@ -57,25 +57,24 @@ fn step_on<T: TxType, B: Body, C: Cells<T>>(
     Ok(turn)
 }
 
-/// Makes the events of a commit, up to its verdict, and puts back the memory that the attempt was lent.
+/// Makes the events of a commit, up to its verdict, and puts the attempt's table back to the lists.
 pub(crate) fn finish<T: TxType, B: Body, C: Cells<T>>(
     ready: Ready<'_, T, B>,
     cells: &mut C,
-    memory: &mut AttemptLists,
+    lists: &mut AttemptLists,
 ) -> FinishedAttempt<B>
     requires { (ty : T) × (f : Behaviour) × (begun : View) × IsAtRest (T.meaning ty) (T.sizes ty) begun
         × Commits T.meaning T.valid T.sizes B.script B.then B.left B.may_ask (C.passes cells.old) ty f ready begun (C.view cells.old) }
     ensures ended { (ty : T) (f : Behaviour) (begun : View) → IsAtRest (T.meaning ty) (T.sizes ty) begun
         → Commits T.meaning T.valid T.sizes B.script B.then B.left B.may_ask (C.passes cells.old) ty f ready.entry begun (C.view cells.old)
         → HasEnded T.meaning T.valid T.sizes B.script B.then B.left B.may_ask (C.passes cells.old) ty f result begun (C.view cells.new) }
-    ensures replies { result.replies ≡ ready.entry.log.replies }
+    ensures replies { result.replies ≡ ready.entry.log.table.replies }
     ensures same { C.same cells.old cells.new }
 {
     let mut ready = ready;
     loop {
         if let Some(verdict) = ready.step(cells) {
-            let (heard, lent) = ready.end();
-            *memory = lent;
+            let heard = ready.end(lists);
             return FinishedAttempt {
                 body: heard.body,
                 replies: heard.replies,

@@ -2,6 +2,7 @@
 use Rattle.std.proofs.Common.{◌≡◌, pos, [], ◌∷◌, refl, None, Some, Ok, codes}
 use Rattle.std.specs.Fmt.{digits}
 use Rattle.std.specs.Int.{int_wrap}
+use Rattle.sto_model.specs.declared.operation.Operation.TheVariants as op
 use Rattle.sto_model.specs.declared.shape.Shape.TheVariants.{Single, Hash, Vector}
 use Rattle.sto_lang.specs.declared.arg.Arg.TheVariants.{Num, Var}
 use Rattle.sto_lang.specs.declared.fault.FaultKind.TheVariants.{BadLine, WrongPlace, TakenName, UnknownName, WrongKind, OutOfLimits}
@@ -83,7 +84,7 @@ vector_calls : with_lines opening 1 (lines_of (codes "sto 2\nvector q 2\nthread 
       names = codes "p" ∷ [];
       threads = (record {
         variables = codes "x" ∷ [];
-        body = Ask None 0 12 (Num (pos 5)) (Num (pos 0)) (Ask (Some 0) 0 13 (Num (pos 0)) (Num (pos 0)) (Ask (Some 0) 0 3 (Num (pos 5)) (Num (pos 1)) (Ask (Some 0) 0 0 (Num (pos 0)) (Num (pos 0)) (Ask (Some 0) 0 8 (Num (pos 0)) (Num (pos 0)) Nothing))));
+        body = Ask None 0 op.Push (Num (pos 5)) (Num (pos 0)) (Ask (Some 0) 0 op.Pop (Num (pos 0)) (Num (pos 0)) (Ask (Some 0) 0 op.Test (Num (pos 5)) (Num (pos 1)) (Ask (Some 0) 0 op.Get (Num (pos 0)) (Num (pos 0)) (Ask (Some 0) 0 op.Len (Num (pos 0)) (Num (pos 0)) Nothing))));
         weight = 6;
       } ∷ []) ∷ [];
       schedule = None;
@@ -96,7 +97,7 @@ named_threads : with_lines opening 1 (lines_of (codes "\nsto 2\nbox a 0\nthread 
       version = 2;
       declarations = record { name = codes "a"; shape = Single (pos 0); number = 0 } ∷ [];
       names = codes "up" ∷ codes "down" ∷ [];
-      threads = (record { variables = codes "x" ∷ codes "y" ∷ []; body = Ask (Some 0) 0 0 (Num (pos 0)) (Num (pos 0)) (Sum 1 (Var 0) (Num (pos 1)) (Ask None 0 1 (Var 1) (Num (pos 0)) Nothing)); weight = 4 } ∷ []) ∷ [] ∷ [];
+      threads = (record { variables = codes "x" ∷ codes "y" ∷ []; body = Ask (Some 0) 0 op.Get (Num (pos 0)) (Num (pos 0)) (Sum 1 (Var 0) (Num (pos 1)) (Ask None 0 op.Set (Var 1) (Num (pos 0)) Nothing)); weight = 4 } ∷ []) ∷ [] ∷ [];
       schedule = Some (record { thread = 0; steps = 4 } ∷ record { thread = 1; steps = 10 } ∷ []);
     })
 unfolding digits int_wrap

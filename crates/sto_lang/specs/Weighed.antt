@@ -2,7 +2,7 @@
 use Rattle.std.specs.Prelude.{◌≡◌, ℕ, List, Option, None, Some, min}
 use Rattle.std.specs.List.{All}
 use Rattle.sto_model.specs.declared.shape.Shape.{Shape}
-use Rattle.sto_syntax.specs.Operations.{code_of}
+use Rattle.sto_lang.specs.Named.{operation_named}
 use Rattle.sto_syntax.specs.Forms.{Form, CallLine, CommitLine}
 use Rattle.sto_lang.specs.Weights.{call_weight, weight_of}
 use Rattle.sto_lang.specs.Drafts.{Draft, OpenTransaction, script_of}
@@ -38,5 +38,5 @@ AreWeighed shapes t = IsWeighed shapes t.statements × All (IsWeighedBlock shape
 
 -- what the call of a line weighs on the object with this number
 abbrev pub line_weight : List Shape → ℕ → Form → ℕ
-line_weight shapes number (CallLine to operation object operands) = call_weight shapes number (code_of operation)
+line_weight shapes number (CallLine to operation object operands) = call_weight shapes number (operation_named operation)
 line_weight shapes number form = 0

@@ -8,7 +8,9 @@ use Rattle.sto_part.specs.declared.pred.Test.{Test}
 use Rattle.sto_part.specs.declared.pred.Test.TheVariants.{Eq, Ne, Lt, Le, Gt, Ge}
 use Rattle.sto_model.specs.PlainReplies.{PlainReply, Done, Value, Flag, Absent, Full, Range}
 use Rattle.sto_model.specs.Objects.{Effect, machine_of, machines_of, effect, value_or_absent, compared, in_range, least, greatest, done_in_range, with_only, added_at}
-use Rattle.sto_model.specs.Operations.{test_of}
+use Rattle.sto_model.specs.Operations.{test_of, test_number}
+use Rattle.sto_model.specs.Calls.{call_of}
+use Rattle.sto_model.specs.declared.operation.Operation.TheVariants.{Get, Set, Add, Test as TestWord, Take, Put, Remove, Has, Len, Next, Count, Push, Pop}
 use Rattle.sto_model.specs.Rows.{Row, value_at, has_key, with_row, without, least_from, rows_between}
 use Rattle.sto_model.specs.Run.{State}
 use Rattle.sto_model.specs.SequentialObjects.{answered, changed}
@@ -16,7 +18,7 @@ use Rattle.sto_model.specs.declared.call.Call.{Call}
 use Rattle.sto_model.specs.declared.shape.Shape.{Shape}
 use Rattle.sto_model.specs.declared.shape.Shape.TheVariants.{Single, Counter, Array, Hash, Tree, Vector}
 use Rattle.sto_action.specs.Alone.{run_of}
-use Rattle.sto_action.specs.Calls.{call_of, number, perhaps, is_yes, is_done, test_number}
+use Rattle.sto_action.specs.Calls.{number, perhaps, is_yes, is_done}
 use Rattle.sto_action.specs.Progs.{Prog, Asks}
 use Rattle.sto_action.specs.Shortened.{short_of}
 use Rattle.sto_action.specs.Steps.{box_get, box_set, counter_get, counter_add, counter_test, counter_take, array_get, array_set, array_add}
@@ -166,34 +168,34 @@ module _ {A : Type 0} (shapes : List Shape) (Q : A × State → Type 0) where
 
   pub box_get_at : (x : BoxId) (next : ℤ → Prog A) (st : State) {v value : ℤ} → HoldsAt shapes st x.number (Single v) ((pos 0, value) ∷ [])
       → Ends (next value) st → Ends (box_get x next) st
-  box_get_at x next st (s, r) h = reads_at (call_of x.number 0 (pos 0) (pos 0)) (λ h. next (number h)) st s r refl h
+  box_get_at x next st (s, r) h = reads_at (call_of x.number Get (pos 0) (pos 0)) (λ h. next (number h)) st s r refl h
 
   pub box_set_at : (x : BoxId) (new : ℤ) (next : Prog A) (st : State) {after : State} {v value : ℤ} → HoldsAt shapes st x.number (Single v) ((pos 0, value) ∷ [])
       → slice_set st x.number ((pos 0, new) ∷ []) ≡ after → Ends next after → Ends (box_set x new next) st
-  box_set_at x new next st (s, r) e h = asks_at (call_of x.number 1 new (pos 0)) (λ _. next) st s r (subst (Ends next) (sym e) h)
+  box_set_at x new next st (s, r) e h = asks_at (call_of x.number Set new (pos 0)) (λ _. next) st s r (subst (Ends next) (sym e) h)
 
   -- Counters
 
   pub counter_get_at : (x : CounterId) (next : ℤ → Prog A) (st : State) {v value : ℤ} → HoldsAt shapes st x.number (Counter v) ((pos 0, value) ∷ [])
       → Ends (next value) st → Ends (counter_get x next) st
-  counter_get_at x next st (s, r) h = reads_at (call_of x.number 0 (pos 0) (pos 0)) (λ h. next (number h)) st s r refl h
+  counter_get_at x next st (s, r) h = reads_at (call_of x.number Get (pos 0) (pos 0)) (λ h. next (number h)) st s r refl h
 
   pub counter_add_at : (x : CounterId) (by : ℤ) (next : Bool → Prog A) (st : State) {after : State} {v value : ℤ} → HoldsAt shapes st x.number (Counter v) ((pos 0, value) ∷ [])
       → slice_set st x.number ((pos 0, value +ℤ by) ∷ []) ≡ after → Ends (next true) after → Ends (next false) st → Ends (counter_add x by next) st
   counter_add_at x by next st {value = value} (s, r) e so not_so =
-      asks_at (call_of x.number 2 by (pos 0)) (λ h. next (is_done h)) st s r
+      asks_at (call_of x.number Add by (pos 0)) (λ h. next (is_done h)) st s r
       (ranged_by next st x.number (λ y. (pos 0, y) ∷ []) (value +ℤ by) (in_range (value +ℤ by)) (in_range_is (value +ℤ by)) r
       (subst (Ends (next true)) (sym e) so) not_so)
 
   pub counter_test_at : (x : CounterId) (test : Test) (than : ℤ) (next : Bool → Prog A) (st : State) {v value : ℤ} → HoldsAt shapes st x.number (Counter v) ((pos 0, value) ∷ [])
       → Ends (next (compares test value than)) st → Ends (counter_test x test than next) st
   counter_test_at x test than next st {v} {value} (s, r) h =
-      reads_at (call_of x.number 3 (pos (test_number test)) than) (λ h. next (is_yes h)) st s r refl (subst (λ (b : Bool). Ends (next b) st) (sym (compared_is test value than)) h)
+      reads_at (call_of x.number TestWord (pos (test_number test)) than) (λ h. next (is_yes h)) st s r refl (subst (λ (b : Bool). Ends (next b) st) (sym (compared_is test value than)) h)
 
   pub counter_take_at : (x : CounterId) (by : ℤ) (next : Bool → Prog A) (st : State) {after : State} {v value : ℤ} → HoldsAt shapes st x.number (Counter v) ((pos 0, value) ∷ [])
       → slice_set st x.number ((pos 0, value -ℤ by) ∷ []) ≡ after → (by ≤ℤ value → Ends (next true) after) → Ends (next false) st → Ends (counter_take x by next) st
   counter_take_at x by next st {value = value} (s, r) e so not_so =
-      asks_at (call_of x.number 4 by (pos 0)) (λ h. next (is_yes h)) st s r
+      asks_at (call_of x.number Take by (pos 0)) (λ h. next (is_yes h)) st s r
       (taken_by next st x.number (λ y. (pos 0, y) ∷ []) (value -ℤ by) (int_le by value) (in_range (value -ℤ by)) (in_range_is (value -ℤ by)) r
       (λ there. subst (Ends (next true)) (sym e) (so (grind (arith, ints, there)))) not_so)
 
@@ -201,102 +203,102 @@ module _ {A : Type 0} (shapes : List Shape) (Q : A × State → Type 0) where
 
   pub array_get_at : (x : ArrayId) (place : ℤ) (next : Option ℤ → Prog A) (st : State) {len : ℕ} {v : ℤ} {rows : List Row} → HoldsAt shapes st x.number (Array len v) rows
       → Ends (next (value_at rows place)) st → Ends (array_get x place next) st
-  array_get_at x place next st {rows = rows} (s, r) h = reads_at (call_of x.number 0 place (pos 0)) (λ h. next (perhaps h)) st s r refl (told_at next st (value_at rows place) h)
+  array_get_at x place next st {rows = rows} (s, r) h = reads_at (call_of x.number Get place (pos 0)) (λ h. next (perhaps h)) st s r refl (told_at next st (value_at rows place) h)
 
   pub array_set_at : (x : ArrayId) (place value : ℤ) (next : Bool → Prog A) (st : State) {after : State} {len : ℕ} {v : ℤ} {rows : List Row} → HoldsAt shapes st x.number (Array len v) rows
       → slice_set st x.number (with_row rows place value) ≡ after → (has_key rows place ≡ true → Ends (next true) after) → Ends (next false) st → Ends (array_set x place value next) st
   array_set_at x place value next st {rows = rows} (s, r) e so not_so =
-      asks_at (call_of x.number 1 place value) (λ h. next (is_done h)) st s r
+      asks_at (call_of x.number Set place value) (λ h. next (is_done h)) st s r
       (set_by next st x.number (with_row rows place value) (has_key rows place) r (λ there. subst (Ends (next true)) (sym e) (so there)) not_so)
 
   pub array_add_at : (x : ArrayId) (place by : ℤ) (next : Bool → Prog A) (st : State) {len : ℕ} {v : ℤ} {rows : List Row} → HoldsAt shapes st x.number (Array len v) rows
       → ((value : ℤ) → value_at rows place ≡ Some value → Ends (next true) (slice_set st x.number (with_row rows place (value +ℤ by)))) → Ends (next false) st → Ends (array_add x place by next) st
   array_add_at x place by next st {rows = rows} (s, r) so not_so =
-      asks_at (call_of x.number 2 place by) (λ h. next (is_done h)) st s r (added_by next st x.number place by (value_at rows place) r so not_so)
+      asks_at (call_of x.number Add place by) (λ h. next (is_done h)) st s r (added_by next st x.number place by (value_at rows place) r so not_so)
 
   -- Hash tables
 
   pub hash_get_at : (x : HashId) (key : ℤ) (next : Option ℤ → Prog A) (st : State) {buckets places : ℕ} {rows : List Row} → HoldsAt shapes st x.number (Hash buckets places) rows
       → Ends (next (value_at rows key)) st → Ends (hash_get x key next) st
-  hash_get_at x key next st {rows = rows} (s, r) h = reads_at (call_of x.number 0 key (pos 0)) (λ h. next (perhaps h)) st s r refl (told_at next st (value_at rows key) h)
+  hash_get_at x key next st {rows = rows} (s, r) h = reads_at (call_of x.number Get key (pos 0)) (λ h. next (perhaps h)) st s r refl (told_at next st (value_at rows key) h)
 
   pub hash_put_at : (x : HashId) (key value : ℤ) (next : Bool → Prog A) (st : State) {after : State} {buckets places : ℕ} {rows : List Row} → HoldsAt shapes st x.number (Hash buckets places) rows
       → slice_set st x.number (with_row rows key value) ≡ after → Ends (next true) after → Ends (next false) st → Ends (hash_put x key value next) st
   hash_put_at x key value next st {rows = rows} (s, r) e so not_so =
-      asks_at (call_of x.number 5 key value) (λ h. next (is_done h)) st s r (put_by next st x.number (with_row rows key value) _ r (subst (Ends (next true)) (sym e) so) not_so)
+      asks_at (call_of x.number Put key value) (λ h. next (is_done h)) st s r (put_by next st x.number (with_row rows key value) _ r (subst (Ends (next true)) (sym e) so) not_so)
 
   pub hash_remove_at : (x : HashId) (key : ℤ) (next : Bool → Prog A) (st : State) {after : State} {buckets places : ℕ} {rows : List Row} → HoldsAt shapes st x.number (Hash buckets places) rows
       → slice_set st x.number (without rows key) ≡ after → (has_key rows key ≡ true → Ends (next true) after) → Ends (next false) st → Ends (hash_remove x key next) st
   hash_remove_at x key next st {rows = rows} (s, r) e so not_so =
-      asks_at (call_of x.number 6 key (pos 0)) (λ h. next (is_yes h)) st s r
+      asks_at (call_of x.number Remove key (pos 0)) (λ h. next (is_yes h)) st s r
       (removed_by next st x.number (without rows key) (has_key rows key) r (λ there. subst (Ends (next true)) (sym e) (so there)) not_so)
 
   pub hash_has_at : (x : HashId) (key : ℤ) (next : Bool → Prog A) (st : State) {buckets places : ℕ} {rows : List Row} → HoldsAt shapes st x.number (Hash buckets places) rows
       → Ends (next (has_key rows key)) st → Ends (hash_has x key next) st
-  hash_has_at x key next st (s, r) h = reads_at (call_of x.number 7 key (pos 0)) (λ h. next (is_yes h)) st s r refl h
+  hash_has_at x key next st (s, r) h = reads_at (call_of x.number Has key (pos 0)) (λ h. next (is_yes h)) st s r refl h
 
   pub hash_len_at : (x : HashId) (next : ℤ → Prog A) (st : State) {buckets places : ℕ} {rows : List Row} → HoldsAt shapes st x.number (Hash buckets places) rows
       → Ends (next (pos (length rows))) st → Ends (hash_len x next) st
-  hash_len_at x next st (s, r) h = reads_at (call_of x.number 8 (pos 0) (pos 0)) (λ h. next (number h)) st s r refl h
+  hash_len_at x next st (s, r) h = reads_at (call_of x.number Len (pos 0) (pos 0)) (λ h. next (number h)) st s r refl h
 
   -- Trees
 
   pub tree_get_at : (x : TreeId) (key : ℤ) (next : Option ℤ → Prog A) (st : State) {leaves : ℕ} {rows : List Row} → HoldsAt shapes st x.number (Tree leaves) rows
       → Ends (next (value_at rows key)) st → Ends (tree_get x key next) st
-  tree_get_at x key next st {rows = rows} (s, r) h = reads_at (call_of x.number 0 key (pos 0)) (λ h. next (perhaps h)) st s r refl (told_at next st (value_at rows key) h)
+  tree_get_at x key next st {rows = rows} (s, r) h = reads_at (call_of x.number Get key (pos 0)) (λ h. next (perhaps h)) st s r refl (told_at next st (value_at rows key) h)
 
   pub tree_put_at : (x : TreeId) (key value : ℤ) (next : Bool → Prog A) (st : State) {after : State} {leaves : ℕ} {rows : List Row} → HoldsAt shapes st x.number (Tree leaves) rows
       → slice_set st x.number (with_row rows key value) ≡ after → Ends (next true) after → Ends (next false) st → Ends (tree_put x key value next) st
   tree_put_at x key value next st {rows = rows} (s, r) e so not_so =
-      asks_at (call_of x.number 5 key value) (λ h. next (is_done h)) st s r (put_by next st x.number (with_row rows key value) _ r (subst (Ends (next true)) (sym e) so) not_so)
+      asks_at (call_of x.number Put key value) (λ h. next (is_done h)) st s r (put_by next st x.number (with_row rows key value) _ r (subst (Ends (next true)) (sym e) so) not_so)
 
   pub tree_remove_at : (x : TreeId) (key : ℤ) (next : Bool → Prog A) (st : State) {after : State} {leaves : ℕ} {rows : List Row} → HoldsAt shapes st x.number (Tree leaves) rows
       → slice_set st x.number (without rows key) ≡ after → (has_key rows key ≡ true → Ends (next true) after) → Ends (next false) st → Ends (tree_remove x key next) st
   tree_remove_at x key next st {rows = rows} (s, r) e so not_so =
-      asks_at (call_of x.number 6 key (pos 0)) (λ h. next (is_yes h)) st s r
+      asks_at (call_of x.number Remove key (pos 0)) (λ h. next (is_yes h)) st s r
       (removed_by next st x.number (without rows key) (has_key rows key) r (λ there. subst (Ends (next true)) (sym e) (so there)) not_so)
 
   pub tree_len_at : (x : TreeId) (next : ℤ → Prog A) (st : State) {leaves : ℕ} {rows : List Row} → HoldsAt shapes st x.number (Tree leaves) rows
       → Ends (next (pos (length rows))) st → Ends (tree_len x next) st
-  tree_len_at x next st (s, r) h = reads_at (call_of x.number 8 (pos 0) (pos 0)) (λ h. next (number h)) st s r refl h
+  tree_len_at x next st (s, r) h = reads_at (call_of x.number Len (pos 0) (pos 0)) (λ h. next (number h)) st s r refl h
 
   pub tree_next_at : (x : TreeId) (from : ℤ) (next : Option ℤ → Prog A) (st : State) {leaves : ℕ} {rows : List Row} → HoldsAt shapes st x.number (Tree leaves) rows
       → Ends (next (least_from rows from)) st → Ends (tree_next x from next) st
-  tree_next_at x from next st {rows = rows} (s, r) h = reads_at (call_of x.number 9 from (pos 0)) (λ h. next (perhaps h)) st s r refl (told_at next st (least_from rows from) h)
+  tree_next_at x from next st {rows = rows} (s, r) h = reads_at (call_of x.number Next from (pos 0)) (λ h. next (perhaps h)) st s r refl (told_at next st (least_from rows from) h)
 
   pub tree_count_at : (x : TreeId) (first last : ℤ) (next : ℤ → Prog A) (st : State) {leaves : ℕ} {rows : List Row} → HoldsAt shapes st x.number (Tree leaves) rows
       → Ends (next (pos (length (rows_between rows first last)))) st → Ends (tree_count x first last next) st
-  tree_count_at x first last next st (s, r) h = reads_at (call_of x.number 10 first last) (λ h. next (number h)) st s r refl h
+  tree_count_at x first last next st (s, r) h = reads_at (call_of x.number Count first last) (λ h. next (number h)) st s r refl h
 
   -- Vectors, by their values, the last one first
 
   pub vector_get_at : (x : VectorId) (place : ℤ) (next : Option ℤ → Prog A) (st : State) {capacity : ℕ} {rows : List Row} → HoldsAt shapes st x.number (Vector capacity) rows
       → Ends (next (value_at rows place)) st → Ends (vector_get x place next) st
-  vector_get_at x place next st {rows = rows} (s, r) h = reads_at (call_of x.number 0 place (pos 0)) (λ h. next (perhaps h)) st s r refl (told_at next st (value_at rows place) h)
+  vector_get_at x place next st {rows = rows} (s, r) h = reads_at (call_of x.number Get place (pos 0)) (λ h. next (perhaps h)) st s r refl (told_at next st (value_at rows place) h)
 
   pub vector_test_at : (x : VectorId) (test : Test) (than : ℤ) (next : Bool → Prog A) (st : State) {capacity : ℕ} {rows : List Row} → HoldsAt shapes st x.number (Vector capacity) rows
       → Ends (next (compares test (pos (length rows)) than)) st → Ends (vector_test x test than next) st
   vector_test_at x test than next st {rows = rows} (s, r) h =
-      reads_at (call_of x.number 3 (pos (test_number test)) than) (λ h. next (is_yes h)) st s r refl (subst (λ (b : Bool). Ends (next b) st) (sym (compared_is test (pos (length rows)) than)) h)
+      reads_at (call_of x.number TestWord (pos (test_number test)) than) (λ h. next (is_yes h)) st s r refl (subst (λ (b : Bool). Ends (next b) st) (sym (compared_is test (pos (length rows)) than)) h)
 
   pub vector_len_at : (x : VectorId) (next : ℤ → Prog A) (st : State) {capacity : ℕ} {rows : List Row} → HoldsAt shapes st x.number (Vector capacity) rows
       → Ends (next (pos (length rows))) st → Ends (vector_len x next) st
-  vector_len_at x next st (s, r) h = reads_at (call_of x.number 8 (pos 0) (pos 0)) (λ h. next (number h)) st s r refl h
+  vector_len_at x next st (s, r) h = reads_at (call_of x.number Len (pos 0) (pos 0)) (λ h. next (number h)) st s r refl h
 
   pub vector_push_at : (x : VectorId) (value : ℤ) (next : Bool → Prog A) (st : State) (values : List ℤ) {after : State} {capacity : ℕ} → HoldsAt shapes st x.number (Vector capacity) (placed values)
       → slice_set st x.number (placed (value ∷ values)) ≡ after → Ends (next true) after → Ends (next false) st → Ends (vector_push x value next) st
   vector_push_at x value next st values (s, r) e so not_so =
-      asks_at (call_of x.number 12 value (pos 0)) (λ h. next (is_done h)) st s r
+      asks_at (call_of x.number Push value (pos 0)) (λ h. next (is_done h)) st s r
       (put_by next st x.number (with_row (placed values) (pos (length (placed values))) value) _ r
       (subst (Ends (next true)) (sym (ap (slice_set st x.number) (pushed_rows values value) ∙ e)) so) not_so)
 
   pub vector_pop_none_at : (x : VectorId) (next : Option ℤ → Prog A) (st : State) {capacity : ℕ} → HoldsAt shapes st x.number (Vector capacity) []
       → Ends (next None) st → Ends (vector_pop x next) st
-  vector_pop_none_at x next st (s, r) h = reads_at (call_of x.number 13 (pos 0) (pos 0)) (λ h. next (perhaps h)) st s r refl h
+  vector_pop_none_at x next st (s, r) h = reads_at (call_of x.number Pop (pos 0) (pos 0)) (λ h. next (perhaps h)) st s r refl h
 
   pub vector_pop_some_at : (x : VectorId) (next : Option ℤ → Prog A) (st : State) (value : ℤ) (values : List ℤ) {after : State} {capacity : ℕ}
       → HoldsAt shapes st x.number (Vector capacity) (placed (value ∷ values)) → slice_set st x.number (placed values) ≡ after → Ends (next (Some value)) after → Ends (vector_pop x next) st
   vector_pop_some_at x next st value values {after} {capacity} (s, r) e h =
-      asks_at (call_of x.number 13 (pos 0) (pos 0)) (λ h. next (perhaps h)) st s r
+      asks_at (call_of x.number Pop (pos 0) (pos 0)) (λ h. next (perhaps h)) st s r
       (subst (λ (e : Effect). Ends (next (perhaps (short_of e.reply))) (slice_set st x.number e.after)) (sym (pop_leaves capacity value values))
       (subst (Ends (next (Some value))) (sym e) h))

@@ -1,14 +1,13 @@
 -- In each state of a store the keys of each object rise.
 use Rattle.std.specs.Prelude.{IfSome}
 use Rattle.std.proofs.Common.{ℕ, zero, suc, List, [], ◌∷◌}
-use Rattle.sto_model.specs.Operations.{operation_of}
 use Rattle.sto_model.specs.SequentialObjects.{reply_to, state_after, changed}
 use Rattle.sto_model.specs.Objects.{machines_of}
 use Rattle.sto_model.specs.Rows.{AllRise}
 use Rattle.sto_model.specs.Run.{State}
 use Rattle.sto_model.specs.declared.call.Call.{Call}
 use Rattle.sto_model.specs.declared.shape.Shape.{Shape}
-use Rattle.sto_model.proofs.Maps.{effect_by-rises}
+use Rattle.sto_model.proofs.Maps.{effect_of-rises}
 use Rattle.sto_action.specs.Alone.{run_of}
 use Rattle.sto_action.specs.Progs.{Prog, Asks, Gives, Cancels}
 use Rattle.sto_action.specs.Shortened.{short_of}
@@ -16,7 +15,7 @@ use Rattle.sto_action.specs.Shortened.{short_of}
 changed_rises : (shapes : List Shape) (n : ℕ) (call : Call) (st : State) → AllRise st → AllRise (changed (machines_of shapes) n call st)
 changed_rises [] n call st h = h
 changed_rises (shape ∷ shapes) n call [] h = tt
-changed_rises (shape ∷ shapes) zero call (rows ∷ st) h = (effect_by-rises shape (operation_of call.code) call.a call.b rows h.0, h.1)
+changed_rises (shape ∷ shapes) zero call (rows ∷ st) h = (effect_of-rises shape call.operation call.a call.b rows h.0, h.1)
 changed_rises (shape ∷ shapes) (suc n) call (rows ∷ st) h = (h.0, changed_rises shapes n call st h.1)
 
 -- code leaves such a state

@@ -1,7 +1,7 @@
 -- Tasks that were done side by side.
 use Rattle.std.specs.List.{All}
 use Rattle.std.proofs.Common.{◌≡◌, ◌+◌, ◌<◌, ℕ, List, [], ◌∷◌, ◌++◌, map, length, reverse, take, drop, get_or, refl, sym, ap, ap₂, ◌∙◌, subst, arith, append_assoc, append-nil, length-append}
-use Rattle.std.proofs.lemmas.List.{map-append, reverse-append, length-map, length-reverse, take-append-drop}
+use Rattle.std.proofs.lemmas.List.{map-append, reverse-append, take-append-drop}
 use Rattle.std.proofs.lemmas.List.Elements.{All-nil, All-cons, All-push, All-append}
 use Rattle.sto_part.specs.declared.naming.Naming as naming
 use Rattle.sto_model.specs.declared.shape.Shape.{Shape}
@@ -43,11 +43,6 @@ module _ {T : Type 0} {n : naming.Ghosts T} (t : OfType T) where
         serve = subst (All P) (sym e) (All-push P workers worker h.serve one);
         were = h.were ∙ next_back (λ (x : CountedRest T n). x.rest.seat.me.0.view) new.views mid.views all workers worker e w.1;
       }
-
-  -- as many are hired as rested
-  pub all_rested : {old new : Stored T} {many : ℕ} {workers : List (CountedRest T n)} → AreHired t old new many workers → new.views ≡ [] → length old.views ≡ many
-  all_rested {old} {new} {many} {workers} h none =
-      ap length (h.were ∙ ap (λ l. l ++ reverse (views_of workers)) none) ∙ length-reverse (views_of workers) ∙ length-map workers (λ (w : CountedRest T n). w.rest.seat.me.0.view) ∙ h.count
 
 -- the first of a list
 pub first_of : {X : Type 0} (xs : List X) (x : X) → 0 < length xs → x ≡ get_or xs 0 x → (rest : List X) × (xs ≡ x ∷ rest)

@@ -8,6 +8,7 @@ pub mod Closings
 pub mod Tasks
 pub mod Kinds
 pub mod Looks
+pub mod ErrorTexts
 pub use Rattle.sto_action.specs.Atomic
 pub use Rattle.sto_action.specs.Alone
 pub use Rattle.sto_action.specs.Calls

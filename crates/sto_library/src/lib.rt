@@ -2,6 +2,7 @@
 #![tactic(auto)]
 
 mod contents;
+mod display;
 mod error;
 mod schema;
 mod store;
@@ -19,7 +20,7 @@ pub use sto_action::{
     Action, ArrayId, BoxId, CounterId, Done, HashId, ShortReply, Snapshot, SnapshotValues, Stop,
     TransactionError, TreeId, Tx, VectorId,
 };
-pub use sto_model::{Call, Rows, State};
+pub use sto_model::{Call, Operation, Rows, State};
 pub use sto_part::{NoMemory, Test, wrapping_difference, wrapping_sum};
 pub use sto_shared_store::{CountedRest, OpenError, PlanError};
 pub use sto_store::Objects;

@@ -46,7 +46,7 @@ impl<T: TxType, A: Task<T>, B: Task<T>> Task<T> for Either<A, B> {
 pub enum TaskError {
     /// Fewer workers rest in the store than there are tasks. None was done.
     NoWorker,
-    /// Memory was wanting as a worker came back, which is lost.
+    /// Memory was wanting. What the tasks gave is lost, and workers that had begun may be lost with it.
     NoMemory,
 }
 

@@ -191,7 +191,8 @@ impl<T: TxType + Drop + Send + Sync> SharedStore<T> {
     /// other, and with one or none all are done on this one. What is promised is the same for each number. Tasks of two kinds are tasks of
     /// one type by `Either`.
     ///
-    /// Errors: `NoWorker` where fewer workers rest than there are tasks, of which none was done then; `NoMemory` where memory was wanting.
+    /// Errors: `NoWorker` where fewer workers rest than there are tasks, of which none was done then; `NoMemory` where memory was
+    /// wanting: what the tasks gave is lost then, and some of the workers may be.
     pub fn run_tasks<R: Threads + Sync, K: Task<T> + Sync>(
         &mut self,
         rt: &R,

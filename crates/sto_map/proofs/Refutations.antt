@@ -5,7 +5,8 @@ use Rattle.std.specs.Int.{w64}
 use Rattle.std.specs.Int.RustNames.{FitsSigned}
 use Rattle.sto_part.specs.Parts.{part_of}
 use Rattle.sto_part.specs.declared.change.Change.TheVariants.{Put, Add, Keep}
-use Rattle.sto_model.specs.declared.call.Call.{Call}
+use Rattle.sto_model.specs.declared.operation.Operation.TheVariants as O
+use Rattle.sto_model.specs.Calls.{call_of}
 use Rattle.sto_model.specs.Rows.{Row, has_key, with_row}
 use Rattle.sto_model.specs.PlainReplies.{Done, Full, Absent}
 use Rattle.sto_model.specs.Objects.{effect, put_effect}
@@ -19,9 +20,6 @@ use Rattle.sto_container.specs.Places.{is_live}
 use Rattle.sto_map.specs.Counts.{total, one}
 use Rattle.sto_map.specs.Mapped.{Sizes, IsMap, IsNatural, key_part, over_part, passes, look_all, get_found, map_meaning}
 
-abbrev call_of : ℕ → ℤ → ℤ → Call
-call_of code a b = record { object = 0; code = code; a = a; b = b }
-
 -- a put is not answered that the map is full where one key fewer than it may hold is held, or fewer still
 module _ (z : Sizes) (opened : Parts) (rows : List Row) (k v : ℤ) (room : length rows < z.keys) where
   not_full : nat_le z.keys (length rows) ≡ false
@@ -31,10 +29,10 @@ module _ (z : Sizes) (opened : Parts) (rows : List Row) (k v : ℤ) (room : leng
   by_key true = refl
   by_key false = refl
 
-  done : reply_to (map_meaning z opened).machines (call_of 5 k v) (rows ∷ []) ≡ Done
+  done : reply_to (map_meaning z opened).machines (call_of 0 O.Put k v) (rows ∷ []) ≡ Done
   done = ap (λ b. (put_effect b k v rows).reply) not_full ∙ by_key (has_key rows k)
 
-  pub not_full_with_room : reply_to (map_meaning z opened).machines (call_of 5 k v) (rows ∷ []) ≡ Full → ⊥
+  pub not_full_with_room : reply_to (map_meaning z opened).machines (call_of 0 O.Put k v) (rows ∷ []) ≡ Full → ⊥
   not_full_with_room e = other (sym done ∙ e)
     where
       other : Done ≡ Full → ⊥
@@ -83,7 +81,7 @@ held_valid = record {
 abbrev looks_without_items : ℤ → Telling
 looks_without_items k = look_all one_place k (get_found one_place) (λ seen. Tell Absent [] [])
 
-pub absent_key_is_observed : IsTold m (call_of 0 (pos 7) (pos 0)) (looks_without_items (pos 7)) empty → ⊥
+pub absent_key_is_observed : IsTold m (call_of 0 O.Get (pos 7) (pos 0)) (looks_without_items (pos 7)) empty → ⊥
 absent_key_is_observed t = let e = t.same_told held held_valid tt in cc
 
 -- two keys of one home: the second passed over the place of the first
@@ -94,5 +92,5 @@ abbrev both_held : Parts
 both_held = (pos 0 ∷ []) ∷ (pos 1 ∷ pos 7 ∷ []) ∷ (pos 1 ∷ pos 8 ∷ []) ∷ (pos 1 ∷ []) ∷ (pos 0 ∷ []) ∷ (pos 5 ∷ []) ∷ (pos 6 ∷ []) ∷ []
 
 -- a remove of the second that leaves the over of the first place as it is
-pub remove_counts_down : (opened : Parts) → IsUpdated (map_meaning two_places opened) (call_of 6 (pos 8) (pos 0)) both_held ((0, Add (pos 1) ∷ []) ∷ (2, Put (pos 0) ∷ Keep ∷ []) ∷ []) → ⊥
+pub remove_counts_down : (opened : Parts) → IsUpdated (map_meaning two_places opened) (call_of 0 O.Remove (pos 8) (pos 0)) both_held ((0, Add (pos 1) ∷ []) ∷ (2, Put (pos 0) ∷ Keep ∷ []) ∷ []) → ⊥
 remove_counts_down opened u = let e = u.valid.overs 0 (omega arith) in cc

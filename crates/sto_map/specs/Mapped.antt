@@ -13,7 +13,6 @@ use Rattle.sto_item.specs.Pending.{Entry}
 use Rattle.sto_model.specs.declared.call.Call.{Call}
 use Rattle.sto_model.specs.declared.operation.Operation.{Operation}
 use Rattle.sto_model.specs.declared.operation.Operation.TheVariants.{Get, Set, Add, Put, Has, Remove}
-use Rattle.sto_model.specs.Operations.{operation_of}
 use Rattle.sto_model.specs.Rows.{Row, value_at, has_key, with_row}
 use Rattle.sto_model.specs.PlainReplies.{Done, Value, Flag, Absent, Full}
 use Rattle.sto_model.specs.Objects.{Effect, effect, value_or_absent, put_effect, remove_effect}
@@ -109,30 +108,30 @@ abbrev pub add_at : Option ℤ → ℤ → ℤ → List Row → Effect
 add_at None k d rows = effect Absent rows
 add_at (Some x) k d rows = effect Done (with_row rows k (wrapped_sum x d))
 
-abbrev pub map_effect : ℕ → Option Operation → ℤ → ℤ → List Row → Effect
-map_effect n (Some Get) k b rows = effect (value_or_absent (value_at rows k)) rows
-map_effect n (Some Has) k b rows = effect (Flag (has_key rows k)) rows
-map_effect n (Some Set) k v rows = set_at (value_at rows k) k v rows
-map_effect n (Some Add) k d rows = add_at (value_at rows k) k d rows
-map_effect n (Some Put) k v rows = put_effect (nat_le n (length rows)) k v rows
-map_effect n (Some Remove) k b rows = remove_effect k rows
+abbrev pub map_effect : ℕ → Operation → ℤ → ℤ → List Row → Effect
+map_effect n Get k b rows = effect (value_or_absent (value_at rows k)) rows
+map_effect n Has k b rows = effect (Flag (has_key rows k)) rows
+map_effect n Set k v rows = set_at (value_at rows k) k v rows
+map_effect n Add k d rows = add_at (value_at rows k) k d rows
+map_effect n Put k v rows = put_effect (nat_le n (length rows)) k v rows
+map_effect n Remove k b rows = remove_effect k rows
 map_effect n o a b rows = effect Absent rows
 
 abbrev pub map_machine : ℕ → SequentialObject
 map_machine n =
     record {
       opening = [];
-      reply = λ code a b rows. (map_effect n (operation_of code) a b rows).reply;
-      after = λ code a b rows. (map_effect n (operation_of code) a b rows).after;
+      reply = λ operation a b c rows. (map_effect n operation a b rows).reply;
+      after = λ operation a b c rows. (map_effect n operation a b rows).after;
     }
 
-abbrev pub takes_by : Option Operation → Bool
-takes_by (Some Get) = true
-takes_by (Some Has) = true
-takes_by (Some Set) = true
-takes_by (Some Add) = true
-takes_by (Some Remove) = true
-takes_by (Some Put) = true
+abbrev pub takes_by : Operation → Bool
+takes_by Get = true
+takes_by Has = true
+takes_by Set = true
+takes_by Add = true
+takes_by Remove = true
+takes_by Put = true
 takes_by o = false
 
 -- along the way of k from place p on, so many places at most: found at the place that holds k; absent with what was seen where an over is 0, or where all were met
@@ -193,24 +192,25 @@ module _ (z : Sizes) (k x : ℤ) where
   abbrev pub put_absent : List Item → Telling
   put_absent seen = room_walk z.stripes (z.stripe k) seen
 
-abbrev pub map_telling : Sizes → Option Operation → ℤ → ℤ → Telling
-map_telling z (Some Get) k b = look_all z k (get_found z) (λ seen. Tell Absent seen [])
-map_telling z (Some Has) k b = look_all z k (has_found z) (λ seen. Tell (Flag false) seen [])
-map_telling z (Some Set) k v = look_all z k (change_found z (C.Put v)) (λ seen. Tell Absent seen [])
-map_telling z (Some Add) k d = look_all z k (change_found z (C.Add d)) (λ seen. Tell Absent seen [])
-map_telling z (Some Remove) k b = look_all z k (remove_found z k) (λ seen. Tell (Flag false) seen [])
-map_telling z (Some Put) k x = look_all z k (change_found z (C.Put x)) (put_absent z k x)
+abbrev pub map_telling : Sizes → Operation → ℤ → ℤ → Telling
+map_telling z Get k b = look_all z k (get_found z) (λ seen. Tell Absent seen [])
+map_telling z Has k b = look_all z k (has_found z) (λ seen. Tell (Flag false) seen [])
+map_telling z Set k v = look_all z k (change_found z (C.Put v)) (λ seen. Tell Absent seen [])
+map_telling z Add k d = look_all z k (change_found z (C.Add d)) (λ seen. Tell Absent seen [])
+map_telling z Remove k b = look_all z k (remove_found z k) (λ seen. Tell (Flag false) seen [])
+map_telling z Put k x = look_all z k (change_found z (C.Put x)) (put_absent z k x)
 map_telling z o a b = Tell Absent [] []
 
 -- a call that a map takes, with numbers of 64 bits
 pub record MapTakes (call : Call) : Type 0 where
   pub object : call.object ≡ 0
-  pub taken : IsTrue (takes_by (operation_of call.code))
+  pub third : call.c ≡ pos 0
+  pub taken : IsTrue (takes_by call.operation)
   pub fits : FitsSigned w64 call.a
   pub fits_too : FitsSigned w64 call.b
 
 abbrev pub telling : Sizes → Call → Telling
-telling z call = map_telling z (operation_of call.code) call.a call.b
+telling z call = map_telling z call.operation call.a call.b
 
 abbrev pub map_meaning : Sizes → Parts → Meaning
 map_meaning z opened = meaning_of (map_machine z.keys) (map_widths z) opened (IsMap z) (map_rows z) MapTakes (telling z)

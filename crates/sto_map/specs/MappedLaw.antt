@@ -16,8 +16,9 @@ use Rattle.sto_item.specs.Pending.{Entry, is_keep, applied_updates}
 use Rattle.sto_item.specs.Agreement.{Agrees}
 use Rattle.sto_item.proofs.Applied.{part_of-set_other, part_of-set_same}
 use Rattle.sto_model.specs.declared.call.Call.{Call}
-use Rattle.sto_model.specs.declared.operation.Operation.TheVariants.{Get, Put, Has, Remove}
-use Rattle.sto_model.specs.Operations.{operation_of}
+use Rattle.sto_model.specs.declared.operation.Operation.{Operation}
+use Rattle.sto_model.specs.declared.operation.Operation.TheVariants.{Get, Set, Add, Test as TestWord, Take, Put, Remove, Has, Len, Next, Count, Scan, Push, Pop}
+use Rattle.sto_model.specs.Calls.{call_of}
 use Rattle.sto_model.specs.Rows.{Row, value_at, has_key, with_row, without}
 use Rattle.sto_model.specs.PlainReplies.{PlainReply, is_write}
 use Rattle.sto_model.specs.PlainReplies as T
@@ -44,39 +45,38 @@ use Rattle.sto_map.specs.PutFacts.{IsFirst, IsNowhere, ring_spec, live_at, no_ro
 use Rattle.sto_map.specs.Placing.{value_of, none_placed, one_placed, rows_with}
 use Rattle.sto_container.specs.Endings.{told_by}
 
--- the calls
-abbrev call_of : ℕ → ℤ → ℤ → Call
-call_of code a b = record { object = 0; code = code; a = a; b = b }
-
-by_code : {P : Type 0} (code : ℕ) → IsTrue (takes_by (operation_of code)) → (code ≡ 0 → P) → (code ≡ 1 → P) → (code ≡ 2 → P) → (code ≡ 5 → P) → (code ≡ 6 → P) → (code ≡ 7 → P) → P
-by_code zero h get set add put remove has = get refl
-by_code (suc zero) h get set add put remove has = set refl
-by_code (suc (suc zero)) h get set add put remove has = add refl
-by_code (suc (suc (suc zero))) h get set add put remove has = cc
-by_code (suc (suc (suc (suc zero)))) h get set add put remove has = cc
-by_code (suc (suc (suc (suc (suc zero))))) h get set add put remove has = put refl
-by_code (suc (suc (suc (suc (suc (suc zero)))))) h get set add put remove has = remove refl
-by_code (suc (suc (suc (suc (suc (suc (suc zero))))))) h get set add put remove has = has refl
-by_code (suc (suc (suc (suc (suc (suc (suc (suc zero)))))))) h get set add put remove has = cc
-by_code (suc (suc (suc (suc (suc (suc (suc (suc (suc zero))))))))) h get set add put remove has = cc
-by_code (suc (suc (suc (suc (suc (suc (suc (suc (suc (suc zero)))))))))) h get set add put remove has = cc
-by_code (suc (suc (suc (suc (suc (suc (suc (suc (suc (suc (suc zero))))))))))) h get set add put remove has = cc
-by_code (suc (suc (suc (suc (suc (suc (suc (suc (suc (suc (suc (suc zero)))))))))))) h get set add put remove has = cc
-by_code (suc (suc (suc (suc (suc (suc (suc (suc (suc (suc (suc (suc (suc zero))))))))))))) h get set add put remove has = cc
-by_code (suc (suc (suc (suc (suc (suc (suc (suc (suc (suc (suc (suc (suc (suc n)))))))))))))) h get set add put remove has = cc
+-- the operations that a map takes
+by_operation :
+    {P : Type 0} (operation : Operation) → IsTrue (takes_by operation) → (operation ≡ Get → P) → (operation ≡ Set → P) → (operation ≡ Add → P)
+    → (operation ≡ Put → P) → (operation ≡ Remove → P) → (operation ≡ Has → P) → P
+by_operation Get h get set add put remove has = get refl
+by_operation Set h get set add put remove has = set refl
+by_operation Add h get set add put remove has = add refl
+by_operation TestWord h get set add put remove has = cc
+by_operation Take h get set add put remove has = cc
+by_operation Put h get set add put remove has = put refl
+by_operation Remove h get set add put remove has = remove refl
+by_operation Has h get set add put remove has = has refl
+by_operation Len h get set add put remove has = cc
+by_operation Next h get set add put remove has = cc
+by_operation Count h get set add put remove has = cc
+by_operation Scan h get set add put remove has = cc
+by_operation Push h get set add put remove has = cc
+by_operation Pop h get set add put remove has = cc
 
 by_call :
-    (P : Call → Type 0) → ((a b : ℤ) → P (call_of 0 a b)) → ((a b : ℤ) → FitsSigned w64 b → P (call_of 1 a b)) → ((a b : ℤ) → P (call_of 2 a b)) → ((a b : ℤ) → FitsSigned w64 a → FitsSigned w64 b → P (call_of 5 a b)) → ((a b : ℤ) → P (call_of 6 a b)) → ((a b : ℤ) → P (call_of 7 a b))
+    (P : Call → Type 0) → ((a b : ℤ) → P (call_of 0 Get a b)) → ((a b : ℤ) → FitsSigned w64 b → P (call_of 0 Set a b)) → ((a b : ℤ) → P (call_of 0 Add a b))
+    → ((a b : ℤ) → FitsSigned w64 a → FitsSigned w64 b → P (call_of 0 Put a b)) → ((a b : ℤ) → P (call_of 0 Remove a b)) → ((a b : ℤ) → P (call_of 0 Has a b))
     → (call : Call) → MapTakes call → P call
 by_call P get set add put remove has call t =
-    let same : (n : ℕ) → call.code ≡ n → call ≡ call_of n call.a call.b = λ n e i. record { object = t.object i; code = e i; a = call.a; b = call.b } in
-    by_code call.code t.taken
-    (λ e. subst P (sym (same 0 e)) (get call.a call.b))
-    (λ e. subst P (sym (same 1 e)) (set call.a call.b t.fits_too))
-    (λ e. subst P (sym (same 2 e)) (add call.a call.b))
-    (λ e. subst P (sym (same 5 e)) (put call.a call.b t.fits t.fits_too))
-    (λ e. subst P (sym (same 6 e)) (remove call.a call.b))
-    (λ e. subst P (sym (same 7 e)) (has call.a call.b))
+    let same : (o : Operation) → call.operation ≡ o → call ≡ call_of 0 o call.a call.b = λ o e i. record { object = t.object i; operation = e i; a = call.a; b = call.b; c = t.third i } in
+    by_operation call.operation t.taken
+    (λ e. subst P (sym (same Get e)) (get call.a call.b))
+    (λ e. subst P (sym (same Set e)) (set call.a call.b t.fits_too))
+    (λ e. subst P (sym (same Add e)) (add call.a call.b))
+    (λ e. subst P (sym (same Put e)) (put call.a call.b t.fits t.fits_too))
+    (λ e. subst P (sym (same Remove e)) (remove call.a call.b))
+    (λ e. subst P (sym (same Has e)) (has call.a call.b))
 
 -- a key stands somewhere, or nowhere
 true_is_not : true ≡ false → ⊥
@@ -138,7 +138,7 @@ module _ (z : Sizes) (a : AreSizes z) (opened : Parts) where
 
   -- the law of one call: what it says where the key is found and where it is not
   module _ (c : Parts) (v : IsMap z c) (k : ℤ) where
-    left_alone : (call : Call) → map_rows z c ∷ [] ≡ state_after m.machines call (map_rows z c ∷ []) → is_write call.code (reply_to m.machines call (map_rows z c ∷ [])) ≡ false → IsUpdated m call c []
+    left_alone : (call : Call) → map_rows z c ∷ [] ≡ state_after m.machines call (map_rows z c ∷ []) → is_write call.operation (reply_to m.machines call (map_rows z c ∷ [])) ≡ false → IsUpdated m call c []
     left_alone call r w = record { ordered = (tt, tt); owned = tt; widths = tt; valid = v; rows = r; writes = w }
 
     once_at : (p : ℕ) → IsHere z c k p → (q : ℕ) → q < z.places → holds k (part_of c (key_part z q)) ≡ true → q ≡ p
@@ -185,14 +185,14 @@ module _ (z : Sizes) (a : AreSizes z) (opened : Parts) where
   get_in c p x l (inr r) = absurd r
 
   module _ (c : Parts) (v : IsMap z c) (k : ℤ) where
-    get_told : (b : ℤ) → IsTold m (call_of 0 k b) (map_telling z (Some Get) k b) c
+    get_told : (b : ℤ) → IsTold m (call_of 0 Get k b) (map_telling z Get k b) c
     get_told b = elim (find z c k z.places) [
       | inl f ↦
           let p : ℕ = f.0 in
           let h : IsHere z c k p = record { below = f.1; holds = f.2 } in
           let absent : List Item → Telling = λ is. Tell T.Absent is [] in
           let w : IsWalk z (get_found z) c (look_all z k (get_found z) absent) p = walk c v k (get_found z) absent p c v h in
-          told_by m (call_of 0 k b) (look_all z k (get_found z) absent) c (T.Value (value_of z c p)) (Seen (key_part z p) ∷ Seen (value_part z p) ∷ []) [] (w.ends.told, w.ends.items, w.ends.updates)
+          told_by m (call_of 0 Get k b) (look_all z k (get_found z) absent) c (T.Value (value_of z c p)) (Seen (key_part z p) ∷ Seen (value_part z p) ∷ []) [] (w.ends.told, w.ends.items, w.ends.updates)
           (within c v k (get_found z) absent (get_in c) (λ is x r. absurd r))
           (w.reads_key, (w.reads (value_part z p) (inl refl), tt))
           tt
@@ -202,20 +202,20 @@ module _ (z : Sizes) (a : AreSizes z) (opened : Parts) where
           let y : IsWalk z (get_found z) e (look_all z k (get_found z) absent) p = walk c v k (get_found z) absent p e x there_too in
           (y.ends.told ∙ ap (λ ws. T.Value (word ws 0)) g.1.0, y.ends.updates))
           (sym (ap value_or_absent (there c v k p h)))
-          (left_alone c v k (call_of 0 k b) refl (ap (λ o. is_write 0 (value_or_absent o)) (there c v k p h)))
+          (left_alone c v k (call_of 0 Get k b) refl (ap (λ o. is_write Get (value_or_absent o)) (there c v k p h)))
       | inr none ↦
-          absent_told c v k (call_of 0 k b) (get_found z) T.Absent none (get_in c) (sym (ap value_or_absent (nowhere c v k none)))
-          (left_alone c v k (call_of 0 k b) refl (ap (λ o. is_write 0 (value_or_absent o)) (nowhere c v k none)))
+          absent_told c v k (call_of 0 Get k b) (get_found z) T.Absent none (get_in c) (sym (ap value_or_absent (nowhere c v k none)))
+          (left_alone c v k (call_of 0 Get k b) refl (ap (λ o. is_write Get (value_or_absent o)) (nowhere c v k none)))
     ]
 
-    has_told : (b : ℤ) → IsTold m (call_of 7 k b) (map_telling z (Some Has) k b) c
+    has_told : (b : ℤ) → IsTold m (call_of 0 Has k b) (map_telling z Has k b) c
     has_told b = elim (find z c k z.places) [
       | inl f ↦
           let p : ℕ = f.0 in
           let h : IsHere z c k p = record { below = f.1; holds = f.2 } in
           let absent : List Item → Telling = λ is. Tell (T.Flag false) is [] in
           let w : IsWalk z (has_found z) c (look_all z k (has_found z) absent) p = walk c v k (has_found z) absent p c v h in
-          told_by m (call_of 7 k b) (look_all z k (has_found z) absent) c (T.Flag true) (Seen (key_part z p) ∷ []) [] (w.ends.told, w.ends.items, w.ends.updates)
+          told_by m (call_of 0 Has k b) (look_all z k (has_found z) absent) c (T.Flag true) (Seen (key_part z p) ∷ []) [] (w.ends.told, w.ends.items, w.ends.updates)
           (within c v k (has_found z) absent (λ q x l r. absurd r) (λ is x r. absurd r))
           (w.reads_key, tt)
           tt
@@ -225,10 +225,10 @@ module _ (z : Sizes) (a : AreSizes z) (opened : Parts) where
           let y : IsWalk z (has_found z) e (look_all z k (has_found z) absent) p = walk c v k (has_found z) absent p e x there_too in
           (y.ends.told, y.ends.updates))
           (sym (ap (λ o. T.Flag (is_some o)) (there c v k p h)))
-          (left_alone c v k (call_of 7 k b) refl refl)
+          (left_alone c v k (call_of 0 Has k b) refl refl)
       | inr none ↦
-          absent_told c v k (call_of 7 k b) (has_found z) (T.Flag false) none (λ q x l r. absurd r) (sym (ap (λ o. T.Flag (is_some o)) (nowhere c v k none)))
-          (left_alone c v k (call_of 7 k b) refl refl)
+          absent_told c v k (call_of 0 Has k b) (has_found z) (T.Flag false) none (λ q x l r. absurd r) (sym (ap (λ o. T.Flag (is_some o)) (nowhere c v k none)))
+          (left_alone c v k (call_of 0 Has k b) refl refl)
     ]
 
   -- the value of one place changes
@@ -280,7 +280,7 @@ module _ (z : Sizes) (a : AreSizes z) (opened : Parts) where
     changed_rows : (k : ℤ) → IsHere z c k p → map_rows z after ≡ with_row (map_rows z c) k (applied ch (value_of z c p))
     changed_rows k h = rows_with z c after key_kept k (applied ch (value_of z c p)) p l h.holds (once_at c v k p h) (ap (λ ws. word ws 0) value_new) value_kept
 
-  module _ (c : Parts) (v : IsMap z c) (k : ℤ) (call : Call) (ch : Change) (object : call.object ≡ 0) (keeps : is_keep ch ≡ false) (fit : ChangeFits ch) (writes : is_write call.code T.Done ≡ true)
+  module _ (c : Parts) (v : IsMap z c) (k : ℤ) (call : Call) (ch : Change) (object : call.object ≡ 0) (keeps : is_keep ch ≡ false) (fit : ChangeFits ch) (writes : is_write call.operation T.Done ≡ true)
       (done : (x : ℤ) → value_at (map_rows z c) k ≡ Some x → (T.Done ≡ reply_to m.machines call (map_rows z c ∷ [])) × (with_row (map_rows z c) k (applied ch x) ∷ [] ≡ state_after m.machines call (map_rows z c ∷ [])))
       (not_done : value_at (map_rows z c) k ≡ None → (T.Absent ≡ reply_to m.machines call (map_rows z c ∷ [])) × (map_rows z c ∷ [] ≡ state_after m.machines call (map_rows z c ∷ []))) where
     change_told : IsTold m call (look_all z k (change_found z ch) (λ seen. Tell T.Absent seen [])) c
@@ -308,16 +308,16 @@ module _ (z : Sizes) (a : AreSizes z) (opened : Parts) where
             widths = (vin.0, vin.1, tt);
             valid = changed_map c v p f.1 ch fit;
             rows = ap (λ r. r ∷ []) (changed_rows c v p f.1 ch k h) ∙ said.1;
-            writes = ap (is_write call.code) (sym said.0) ∙ writes;
+            writes = ap (is_write call.operation) (sym said.0) ∙ writes;
           })
       | inr none ↦
           let said : (T.Absent ≡ reply_to m.machines call (map_rows z c ∷ [])) × (map_rows z c ∷ [] ≡ state_after m.machines call (map_rows z c ∷ [])) = not_done (nowhere c v k none) in
           absent_told c v k call (change_found z ch) T.Absent none (λ q x l r. absurd r) said.0
-          (left_alone c v k call said.1 (ap (is_write call.code) (sym said.0)))
+          (left_alone c v k call said.1 (ap (is_write call.operation) (sym said.0)))
     ]
 
   -- remove
-  remove_told : (c : Parts) (v : IsMap z c) (k b : ℤ) → IsTold m (call_of 6 k b) (map_telling z (Some Remove) k b) c
+  remove_told : (c : Parts) (v : IsMap z c) (k b : ℤ) → IsTold m (call_of 0 Remove k b) (map_telling z Remove k b) c
   remove_told c v k b = elim (find z c k z.places) [
     | inl f ↦
         let p : ℕ = f.0 in
@@ -325,7 +325,7 @@ module _ (z : Sizes) (a : AreSizes z) (opened : Parts) where
         let absent : List Item → Telling = λ is. Tell (T.Flag false) is [] in
         let w : IsWalk z (remove_found z k) c (look_all z k (remove_found z k) absent) p = walk c v k (remove_found z k) absent p c v h in
         let has : has_key (map_rows z c) k ≡ true = ap is_some (there c v k p h) in
-        told_by m (call_of 6 k b) (look_all z k (remove_found z k) absent) c (T.Flag true) (Seen (key_part z p) ∷ []) (removed z k p) (w.ends.told, w.ends.items, w.ends.updates)
+        told_by m (call_of 0 Remove k b) (look_all z k (remove_found z k) absent) c (T.Flag true) (Seen (key_part z p) ∷ []) (removed z k p) (w.ends.told, w.ends.items, w.ends.updates)
         (within c v k (remove_found z k) absent (λ q x l r. absurd r) (λ is x r. absurd r))
         (w.reads_key, tt)
         tt
@@ -341,12 +341,12 @@ module _ (z : Sizes) (a : AreSizes z) (opened : Parts) where
           widths = wide z c v k p h (a.rooms k) a.small;
           valid = is_removed z c v k p h (a.rooms k) a.small;
           rows = ap (λ r. r ∷ []) (rows_without z c v k p h (a.rooms k) a.small ∙ sym (after_by true has));
-          writes = ap (is_write 6) (reply_by true has);
+          writes = ap (is_write Remove) (reply_by true has);
         })
     | inr none ↦
         let has : has_key (map_rows z c) k ≡ false = ap is_some (nowhere c v k none) in
-        absent_told c v k (call_of 6 k b) (remove_found z k) (T.Flag false) none (λ q x l r. absurd r) (sym (reply_by false has))
-        (left_alone c v k (call_of 6 k b) (ap (λ r. r ∷ []) (sym (after_by false has))) (ap (is_write 6) (reply_by false has)))
+        absent_told c v k (call_of 0 Remove k b) (remove_found z k) (T.Flag false) none (λ q x l r. absurd r) (sym (reply_by false has))
+        (left_alone c v k (call_of 0 Remove k b) (ap (λ r. r ∷ []) (sym (after_by false has))) (ap (is_write Remove) (reply_by false has)))
   ]
     where
       reply_by : (x : Bool) → has_key (map_rows z c) k ≡ x → (remove_effect k (map_rows z c)).reply ≡ T.Flag x
@@ -360,7 +360,7 @@ module _ (z : Sizes) (a : AreSizes z) (opened : Parts) where
   -- put
   found_told :
       (c : Parts) (v : IsMap z c) (k x : ℤ) (absent : List Item → Telling) → FitsSigned w64 x → ((is : List Item) (y : ℕ) → IsRead (reading_of (absent is)) c y → y < length (map_widths z)) → (p : ℕ) → IsHere z c k p
-      → IsTold m (call_of 5 k x) (look_all z k (change_found z (C.Put x)) absent) c
+      → IsTold m (call_of 0 Put k x) (look_all z k (change_found z (C.Put x)) absent) c
   found_told c v k x absent fit absent_in p h =
       let found : ℕ → Telling = change_found z (C.Put x) in
       let w : IsWalk z found c (look_all z k found absent) p = walk c v k found absent p c v h in
@@ -369,7 +369,7 @@ module _ (z : Sizes) (a : AreSizes z) (opened : Parts) where
       let reply : (put_effect full k x (map_rows z c)).reply ≡ T.Done = ap (λ b. (if not b && full then effect T.Full (map_rows z c) else effect T.Done (with_row (map_rows z c) k x)).reply) has in
       let rows : (put_effect full k x (map_rows z c)).after ≡ with_row (map_rows z c) k x = ap (λ b. (if not b && full then effect T.Full (map_rows z c) else effect T.Done (with_row (map_rows z c) k x)).after) has in
       let vin : (value_part z p < length c) × (length (part_of c (value_part z p)) ≡ 1) = value_in c v p h.below (C.Put x) in
-      told_by m (call_of 5 k x) (look_all z k found absent) c T.Done (Seen (key_part z p) ∷ []) ((value_part z p, C.Put x ∷ []) ∷ []) (w.ends.told, w.ends.items, w.ends.updates)
+      told_by m (call_of 0 Put k x) (look_all z k found absent) c T.Done (Seen (key_part z p) ∷ []) ((value_part z p, C.Put x ∷ []) ∷ []) (w.ends.told, w.ends.items, w.ends.updates)
       (within c v k found absent (λ q y l r. absurd r) absent_in)
       (w.reads_key, tt)
       tt
@@ -385,7 +385,7 @@ module _ (z : Sizes) (a : AreSizes z) (opened : Parts) where
         widths = (vin.0, vin.1, tt);
         valid = changed_map c v p h.below (C.Put x) fit;
         rows = ap (λ r. r ∷ []) (changed_rows c v p h.below (C.Put x) k h ∙ sym rows);
-        writes = ap (is_write 5) reply;
+        writes = ap (is_write Put) reply;
       })
 
   room_none : (w : ℤ) → IsNatural w → int_lt w (pos 1) ≡ true → natural w ≡ 0
@@ -501,12 +501,12 @@ module _ (z : Sizes) (a : AreSizes z) (opened : Parts) where
           (subst (λ (o : Option ℕ). EndAlike (absent gone_too) (room_end z k x o roomed_too) e) (room_alike z k x e c w.fits z.stripes (z.stripe k) gone g) (room_walks z k x e z.stripes (z.stripe k) gone_too))
 
     -- no room
-    put_full : IsNowhere z.stripes (no_room z k x c) (stripe_found c) → IsTold m (call_of 5 k x) whole c
+    put_full : IsNowhere z.stripes (no_room z k x c) (stripe_found c) → IsTold m (call_of 0 Put k x) whole c
     put_full f =
         let to_end : EndAlike whole (Tell T.Full roomed []) c = subst (λ (o : Option ℕ). EndAlike whole (room_end z k x o roomed) c) f.is to_rooms in
         let nothing : rooms z c ≡ 0 = total-none z.stripes (λ s. natural (word (part_of c s) 0)) (λ s l. room_none (word (part_of c s) 0) (v.natural_rooms s l) (f.all s l)) in
         let is_full : full ≡ true = le_true z.keys (length rows) (omega (arith, nothing, v.counted, rows_counted)) in
-        told_by m (call_of 5 k x) whole c T.Full roomed [] (to_end.told, to_end.items, to_end.updates)
+        told_by m (call_of 0 Put k x) whole c T.Full roomed [] (to_end.told, to_end.items, to_end.updates)
         all_within
         roomed_read
         roomed_inside
@@ -515,7 +515,7 @@ module _ (z : Sizes) (a : AreSizes z) (opened : Parts) where
         let y : EndAlike whole (Tell T.Full (roomed_too e w g) []) e = subst (λ (o : Option ℕ). EndAlike whole (room_end z k x o (roomed_too e w g)) e) f.is (ends_too e w g) in
         (y.told, y.updates))
         (sym (put_reply true is_full))
-        (left_alone c v k (call_of 5 k x) (ap (λ r. r ∷ []) (sym (put_after true is_full))) (ap (is_write 5) (put_reply true is_full)))
+        (left_alone c v k (call_of 0 Put k x) (ap (λ r. r ∷ []) (sym (put_after true is_full))) (ap (is_write Put) (put_reply true is_full)))
 
     -- room at stripe s, and a place
     module _ (s : ℕ) (f : IsFirst z.stripes (no_room z k x c) (stripe_found c) s) where
@@ -539,10 +539,10 @@ module _ (z : Sizes) (a : AreSizes z) (opened : Parts) where
           then_alike whole (place_from_home z k x s roomed) (place_end z k x s (home_found c) placed_seen) c (subst (λ (o : Option ℕ). EndAlike whole (room_end z k x o roomed) c) f.is to_rooms)
           (place_walks z k x c s z.places (z.home k) roomed)
 
-      put_at : (p : ℕ) → IsFirst z.places (live_at z k x c) (home_found c) p → IsTold m (call_of 5 k x) whole c
+      put_at : (p : ℕ) → IsFirst z.places (live_at z k x c) (home_found c) p → IsTold m (call_of 0 Put k x) whole c
       put_at p h =
           let to_end : EndAlike whole (Tell T.Done placed_seen (added z k x s p)) c = subst (λ (o : Option ℕ). EndAlike whole (place_end z k x s o placed_seen) c) h.is to_places in
-          told_by m (call_of 5 k x) whole c T.Done placed_seen (added z k x s p) (to_end.told, to_end.items, to_end.updates)
+          told_by m (call_of 0 Put k x) whole c T.Done placed_seen (added z k x s p) (to_end.told, to_end.items, to_end.updates)
           all_within
           (place_reads z k x c whole s z.places (z.home k) roomed (λ y r. up_absent y (room_then z k x c z.stripes (z.stripe k) s gone f.is y r)) roomed_read)
           (place_inside z k x c (map_widths z) z.places (z.home k) roomed roomed_inside)
@@ -563,10 +563,10 @@ module _ (z : Sizes) (a : AreSizes z) (opened : Parts) where
             widths = added_wide z c v k x s p f.below h.below none h.fails some_room.0 some_room.1 a.small k_fits x_fits;
             valid = is_added z c v k x s p f.below h.below none h.fails some_room.0 some_room.1 a.small k_fits x_fits;
             rows = ap (λ r. r ∷ []) (rows_more z c v k x s p f.below h.below none h.fails some_room.0 some_room.1 a.small k_fits x_fits ∙ sym (put_after false not_full));
-            writes = ap (is_write 5) (put_reply false not_full);
+            writes = ap (is_write Put) (put_reply false not_full);
           })
 
-      put_there : IsTold m (call_of 5 k x) whole c
+      put_there : IsTold m (call_of 0 Put k x) whole c
       put_there = elim (ring_spec z.places (z.home k) (live_at z k x c) (a.homes k) z.places 0 (z.home k) (omega arith) (start_below z a k) (λ t l o. absurd (omega (arith, o)))) [
         | inl h ↦ put_at h.0 (record { is = place_first z k x c z.places (z.home k) ∙ h.1.is; below = h.1.below; fails = h.1.fails })
         | inr h ↦
@@ -574,7 +574,7 @@ module _ (z : Sizes) (a : AreSizes z) (opened : Parts) where
             absurd (omega (arith, all, few, a.enough))
       ]
 
-    put_new : IsTold m (call_of 5 k x) whole c
+    put_new : IsTold m (call_of 0 Put k x) whole c
     put_new = elim (ring_spec z.stripes (z.stripe k) (no_room z k x c) (a.rooms k) z.stripes 0 (z.stripe k) (omega arith) (stripe_below (z.stripe k) (a.rooms k)) (λ t l o. absurd (omega (arith, o)))) [
       | inl h ↦ put_there h.0 (record { is = room_first z k x c z.stripes (z.stripe k) ∙ h.1.is; below = h.1.below; fails = h.1.fails })
       | inr h ↦ put_full (record { is = room_first z k x c z.stripes (z.stripe k) ∙ h.is; all = h.all })
@@ -583,7 +583,7 @@ module _ (z : Sizes) (a : AreSizes z) (opened : Parts) where
         stripe_below : (s : ℕ) → s < z.stripes → s ≡ wrapped z.stripes (s + 0)
         stripe_below s l = grind (arith, nat_tests)
 
-  put_told : (c : Parts) (v : IsMap z c) (k x : ℤ) → FitsSigned w64 k → FitsSigned w64 x → IsTold m (call_of 5 k x) (map_telling z (Some Put) k x) c
+  put_told : (c : Parts) (v : IsMap z c) (k x : ℤ) → FitsSigned w64 k → FitsSigned w64 x → IsTold m (call_of 0 Put k x) (map_telling z Put k x) c
   put_told c v k x f g = elim (find z c k z.places) [
     | inl h ↦ found_told c v k x (put_absent z k x) g (λ is y r. room_within z k x c (length (map_widths z)) (λ q l. omega (arith, l, many)) (λ s l. omega (arith, l, many)) (a.homes k) z.stripes (z.stripe k) is (a.rooms k) y r) h.0 (record { below = h.1; holds = h.2 })
     | inr none ↦ put_new c v k x f g none
@@ -595,10 +595,10 @@ module _ (z : Sizes) (a : AreSizes z) (opened : Parts) where
   told : (call : Call) → MapTakes call → ToldAt call
   told = by_call ToldAt
       (λ k b c v. get_told c v k b)
-      (λ k b f c v. change_told c v k (call_of 1 k b) (C.Put b) refl refl f refl
+      (λ k b f c v. change_told c v k (call_of 0 Set k b) (C.Put b) refl refl f refl
       (λ x e. (sym (ap (λ o. (set_at o k b (map_rows z c)).reply) e), sym (ap (λ o. (set_at o k b (map_rows z c)).after ∷ []) e)))
       (λ e. (sym (ap (λ o. (set_at o k b (map_rows z c)).reply) e), sym (ap (λ o. (set_at o k b (map_rows z c)).after ∷ []) e))))
-      (λ k b c v. change_told c v k (call_of 2 k b) (C.Add b) refl refl tt refl
+      (λ k b c v. change_told c v k (call_of 0 Add k b) (C.Add b) refl refl tt refl
       (λ x e. (sym (ap (λ o. (add_at o k b (map_rows z c)).reply) e), sym (ap (λ o. (add_at o k b (map_rows z c)).after ∷ []) e)))
       (λ e. (sym (ap (λ o. (add_at o k b (map_rows z c)).reply) e), sym (ap (λ o. (add_at o k b (map_rows z c)).after ∷ []) e))))
       (λ k b f g c v. put_told c v k b f g)

@@ -2,7 +2,6 @@
 ghost use Rattle.std.specs.Prelude.{◌≡◌, ◌<◌, IfOk};
 ghost use Rattle.std.specs.Int.{w64};
 ghost use Rattle.std.specs.Int.RustNames.{FitsSigned};
-ghost use Rattle.sto_model.specs.Operations.{operation_of};
 ghost use Rattle.sto_type.specs.Known.{known};
 ghost use Rattle.sto_type.specs.Plans.{planned};
 ghost use Rattle.sto_type.specs.Telling.{plan_of};
@@ -16,20 +15,18 @@ use sto_model::{Call, Operation};
 use sto_part::{Change, NoMemory};
 use sto_type::{Answer, AnswerPool, KnownParts};
 
-/// Whether a map takes calls of this code.
-pub(crate) fn is_taken(code: u8) -> bool
-    ensures { result ≡ takes_by (operation_of code) }
+/// Whether a map takes calls of this operation.
+pub(crate) fn is_taken(operation: Operation) -> bool
+    ensures { result ≡ takes_by operation }
 {
     matches!(
-        Operation::from_code(code),
-        Some(
-            Operation::Get
-                | Operation::Has
-                | Operation::Set
-                | Operation::Add
-                | Operation::Remove
-                | Operation::Put
-        )
+        operation,
+        Operation::Get
+            | Operation::Has
+            | Operation::Set
+            | Operation::Add
+            | Operation::Remove
+            | Operation::Put
     )
 }
 
@@ -47,15 +44,15 @@ pub(crate) fn answer(
     requires fits { FitsSigned w64 call.now.a }
     requires fits_too { FitsSigned w64 call.now.b }
     ensures { IfOk result (λ a. (z : Sizes) → z.places ≡ size.now.places → z.stripes ≡ size.now.stripes → z.home call.now.a ≡ home → z.stripe call.now.a ≡ stripe
-        → planned a ≡ plan_of (map_telling z (operation_of call.now.code) call.now.a call.now.b) (known cache.now)) }
+        → planned a ≡ plan_of (map_telling z call.now.operation call.now.a call.now.b) (known cache.now)) }
 {
-    match Operation::from_code(call.code) {
-        Some(Operation::Get) => plan_get(pool, cache, size, home, call.a),
-        Some(Operation::Has) => plan_has(pool, cache, size, home, call.a),
-        Some(Operation::Set) => plan_change(pool, cache, size, home, call.a, Change::Put(call.b)),
-        Some(Operation::Add) => plan_change(pool, cache, size, home, call.a, Change::Add(call.b)),
-        Some(Operation::Remove) => plan_remove(pool, cache, size, home, stripe, call.a),
-        Some(Operation::Put) => plan_put(pool, cache, size, home, stripe, call.a, call.b),
+    match call.operation {
+        Operation::Get => plan_get(pool, cache, size, home, call.a),
+        Operation::Has => plan_has(pool, cache, size, home, call.a),
+        Operation::Set => plan_change(pool, cache, size, home, call.a, Change::Put(call.b)),
+        Operation::Add => plan_change(pool, cache, size, home, call.a, Change::Add(call.b)),
+        Operation::Remove => plan_remove(pool, cache, size, home, stripe, call.a),
+        Operation::Put => plan_put(pool, cache, size, home, stripe, call.a, call.b),
         _ => absent(pool),
     }
 }

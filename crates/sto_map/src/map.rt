@@ -98,7 +98,7 @@ impl TxType for TMap {
     fn takes(&self, call: &Call) -> bool {
         let _first = call.a;
         let _second = call.b;
-        call.object == 0 && is_taken(call.code)
+        call.object == 0 && call.c == 0 && is_taken(call.operation)
     }
 
     fn opening(&self, alloc: Global) -> Result<Contents, NoMemory> {

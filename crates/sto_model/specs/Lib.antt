@@ -1,6 +1,7 @@
 pub mod PlainReplies
 pub mod Rows
 pub mod Operations
+pub mod Calls
 pub mod SequentialObjects
 pub mod Objects
 pub mod Run

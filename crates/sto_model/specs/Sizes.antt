@@ -1,4 +1,4 @@
--- How large the objects of a shape are.
+-- How large the objects of a shape are, and the order of kinds.
 use Rattle.std.specs.Prelude.{ℕ, ◌+◌, ◌*◌}
 use Rattle.sto_model.specs.declared.shape.Shape.{Shape}
 use Rattle.sto_model.specs.declared.shape.Shape.TheVariants.{Single, Counter, Array, Hash, Tree, Vector}
@@ -21,3 +21,12 @@ word_count (Array len value) = len
 word_count (Hash buckets places) = buckets * (3 * places)
 word_count (Tree leaves) = 1 + 27 * leaves
 word_count (Vector capacity) = 1 + capacity
+
+-- where a kind stands in the order of kinds
+abbrev pub rank : Shape → ℕ
+rank (Single value) = 0
+rank (Counter value) = 1
+rank (Array len value) = 2
+rank (Hash buckets places) = 3
+rank (Tree leaves) = 4
+rank (Vector capacity) = 5

@@ -2,8 +2,7 @@
 ghost use Rattle.std.specs.Prelude.{◌≡◌, ◌<◌, ◌^◌, ◌↔◌, ◌+ℤ◌, ◌-ℤ◌, pos, length, Some, OnOk, OnErr, IfOk, IsTrue};
 ghost use Rattle.sto_model.specs.PlainReplies.{plain_reply};
 ghost use Rattle.sto_model.specs.Rows.{keys_beside};
-ghost use Rattle.sto_model.specs.Operations.{operation_of};
-ghost use Rattle.sto_model.specs.Objects.{only_value, value_or_absent, in_range, added_at, box_effect, counter_effect, array_effect, hash_effect, tree_effect, put_effect, remove_effect, vector_effect, push_effect, pop_effect, effect_by, takes_by, takes as takes_operation, IsTaken};
+ghost use Rattle.sto_model.specs.Objects.{only_value, value_or_absent, in_range, added_at, box_effect, counter_effect, array_effect, hash_effect, tree_effect, put_effect, remove_effect, vector_effect, push_effect, pop_effect, effect_of, takes_call, IsTaken};
 
 use crate::call::Call;
 use crate::operation::{Operation, test_at};
@@ -22,66 +21,9 @@ pub fn takes(shapes: &Shapes, call: &Call) -> bool
     ensures { IsTrue result ↔ IsTaken shapes.now.items call.now }
 {
     if call.object < shapes.len() {
-        takes_code(*shapes.get(call.object), call.code, call.a)
+        shapes.get(call.object).takes_call(call)
     } else {
         false
-    }
-}
-
-/// Whether an object of a shape takes calls of this code with this first number, as `takes` says.
-pub fn takes_code(shape: Shape, code: u8, a: i64) -> bool
-    ensures { result ≡ takes_by shape (operation_of code) a }
-{
-    match Operation::from_code(code) {
-        Some(operation) => match shape {
-            Shape::Single(_) => matches!(operation, Operation::Get | Operation::Set),
-            Shape::Counter(_) => match operation {
-                Operation::Get | Operation::Add | Operation::Take => true,
-                Operation::Test => test_at(a).is_some(),
-                _ => false,
-            },
-            Shape::Array { .. } => {
-                matches!(operation, Operation::Get | Operation::Set | Operation::Add)
-            }
-            Shape::Hash { buckets, .. } => buckets > 0 && is_of_a_table(operation),
-            Shape::Tree { .. } => is_of_a_tree(operation),
-            Shape::Vector { .. } => is_of_a_vector(operation, a),
-        },
-        None => false,
-    }
-}
-
-fn is_of_a_table(operation: Operation) -> bool
-    ensures { result ≡ takes_operation (Shape.Hash 1 0) operation (pos 0) }
-{
-    matches!(
-        operation,
-        Operation::Get | Operation::Put | Operation::Remove | Operation::Has | Operation::Len
-    )
-}
-
-fn is_of_a_tree(operation: Operation) -> bool
-    ensures { result ≡ takes_operation (Shape.Tree 0) operation (pos 0) }
-{
-    matches!(
-        operation,
-        Operation::Get
-            | Operation::Put
-            | Operation::Remove
-            | Operation::Len
-            | Operation::Next
-            | Operation::Count
-            | Operation::Scan
-    )
-}
-
-fn is_of_a_vector(operation: Operation, a: i64) -> bool
-    ensures { result ≡ takes_operation (Shape.Vector 0) operation a }
-{
-    match operation {
-        Operation::Get | Operation::Len | Operation::Push | Operation::Pop => true,
-        Operation::Test => test_at(a).is_some(),
-        _ => false,
     }
 }
 
@@ -91,24 +33,19 @@ pub(crate) fn ask_rows(
     shape: Shape,
     call: &Call,
 ) -> Result<Reply, NoMemory>
-    requires { IsTrue (takes_by shape (operation_of call.now.code) call.now.a) }
-    ensures reply { IfOk result (λ r. plain_reply r ≡ (effect_by shape (operation_of call.now.code) call.now.a call.now.b rows.old.items).reply) }
-    ensures after { OnOk result (rows.new.items ≡ (effect_by shape (operation_of call.now.code) call.now.a call.now.b
-        rows.old.items).after) }
+    requires { IsTrue (takes_call shape call.now) }
+    ensures reply { IfOk result (λ r. plain_reply r ≡ (effect_of shape call.now.operation call.now.a call.now.b rows.old.items).reply) }
+    ensures after { OnOk result (rows.new.items ≡ (effect_of shape call.now.operation call.now.a call.now.b rows.old.items).after) }
     ensures err { OnErr result (rows.new.items ≡ rows.old.items) }
 {
-    match Operation::from_code(call.code) {
-        Some(operation) => match shape {
-            Shape::Single(_) => ask_box(rows, operation, call.a),
-            Shape::Counter(_) => ask_counter(rows, operation, call.a, call.b),
-            Shape::Array { .. } => ask_array(rows, operation, call.a, call.b),
-            Shape::Hash { buckets, places } => ask_hash(
-                rows, buckets, places, operation, call.a, call.b,
-            ),
-            Shape::Tree { leaves } => ask_tree(alloc, rows, leaves, operation, call.a, call.b),
-            Shape::Vector { capacity } => ask_vector(rows, capacity, operation, call.a, call.b),
-        },
-        None => Ok(Reply::Absent),
+    let (operation, a, b) = (call.operation, call.a, call.b);
+    match shape {
+        Shape::Single(_) => ask_box(rows, operation, a),
+        Shape::Counter(_) => ask_counter(rows, operation, a, b),
+        Shape::Array { .. } => ask_array(rows, operation, a, b),
+        Shape::Hash { buckets, places } => ask_hash(rows, buckets, places, operation, a, b),
+        Shape::Tree { leaves } => ask_tree(alloc, rows, leaves, operation, a, b),
+        Shape::Vector { capacity } => ask_vector(rows, capacity, operation, a, b),
     }
 }
 

@@ -137,7 +137,7 @@ module _ {T C A : Type 0} (t : OfType T) (c : cells.Ghosts C T) (k : OverKey T C
       → HasTriedOnce (t.meaning k.ty) (t.sizes k.ty) passes k.begun w k.shapes p (Ok None)
   abort_once passes w (stops.Aborted x) l same is h =
       subst (λ (n : ℕ). HasTriedOnce (t.meaning k.ty) (t.sizes k.ty) n k.begun w k.shapes p (Ok None)) same
-      (aborted_once t k p (c.passes k.start) w h.0 (record { body = l.attempt.log.body; replies = l.attempt.log.replies; verdict = x }) h.2 h.1)
+      (aborted_once t k p (c.passes k.start) w h.0 (record { body = l.attempt.log.body; replies = l.attempt.log.table.replies; verdict = x }) h.2 h.1)
   abort_once passes w stops.Untaken l same is h = absurd h
   abort_once passes w stops.NoMemory l same is h = absurd (true≢false (sym is))
 

@@ -97,7 +97,7 @@ fn end<T: TxType, C: Cells<T>, A: Drop>(
 {
     match stopped {
         Some(stop) => {
-            *memory = live.into_memory();
+            live.give_back(memory);
             if is_aborted(stop) {
                 Ok(None)
             } else {

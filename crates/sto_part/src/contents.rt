@@ -99,6 +99,18 @@ impl Contents {
         self.parts.push(item)
     }
 
+    /// Moves all parts of other contents to the end of these.
+    pub fn append(&mut self, more: Contents) -> Result<(), NoMemory>
+        requires { length self.old.items + length more.items < 2 ^ 32 }
+        ensures ok { OnOk result (self.new.items ≡ self.old.items ++ more.items) }
+        ensures succeeds { length more.items ≤ self.old.spare → IsOk result }
+        ensures room { self.old.spare ≤ self.new.spare + length more.items }
+        ensures err { OnErr result (self.new ≡ self.old) }
+    {
+        let Contents { parts } = more;
+        self.parts.append(parts)
+    }
+
     /// Takes the last part; there is none exactly where the list is empty.
     pub fn pop(&mut self) -> Option<PartWords>
         ensures { MatchOption result ((self.old.items ≡ []) × (self.new ≡ self.old))

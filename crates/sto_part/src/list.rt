@@ -180,6 +180,21 @@ impl<T: Drop> List<T> {
     {
         self.vec.clear();
     }
+
+    /// Moves all items of another list to the end of this one.
+    pub fn append(&mut self, mut more: List<T>) -> Result<(), NoMemory>
+        requires { length self.old.items + length more.items < 2 ^ 32 }
+        ensures ok { OnOk result (self.new.items ≡ self.old.items ++ more.items) }
+        ensures succeeds { length more.items ≤ self.old.spare → IsOk result }
+        ensures room { self.old.spare ≤ self.new.spare + length more.items }
+        ensures err { OnErr result (self.new ≡ self.old) }
+    {
+        self.reserve(more.len())?;
+        match self.vec.append(&mut more.vec) {
+            Ok(()) => Ok(()),
+            Err(AllocError) => unreachable!(),
+        }
+    }
 }
 
 impl<T: Copy> List<T> {

@@ -13,9 +13,8 @@ ghost use Rattle.sto_plain.specs.Passes.{view_of, noted, Steps};
 
 use std::alloc::Global;
 use std::marker::{Brand, Model, PhantomData};
-use sto_core::{Closed, EventName, Notebook, Noted, Versions};
-use sto_item::Updates;
-use sto_part::{Contents, List, Naming, NoMemory, Parts};
+use sto_core::{Closed, CommitLists, EventName, Notebook, Noted, Versions};
+use sto_part::{Contents, List, Naming, NoMemory};
 use sto_version::{FREE0, Version};
 
 /// Several passes in one thread, over words that they share.
@@ -234,14 +233,8 @@ impl<T: Naming> Plain<T> {
     }
 
     // The clock raised by 1, as by `fetch_add`.
-    pub(crate) fn raise_clock<E: EventName>(
-        &mut self,
-        pass: u32,
-        updates: &Updates,
-        seen: &Parts,
-        loaded: &Parts,
-    ) -> u64
-        requires event { E.event ≡ Draw updates.now.items seen.now.items loaded.now.items }
+    pub(crate) fn raise_clock<E: EventName, L: CommitLists>(&mut self, pass: u32, lists: &L) -> u64
+        requires event { E.event ≡ Draw (L.updates lists.now) (L.seen lists.now) (L.loaded lists.now) }
         requires inside { pass < length self.old.views }
         requires allowed { Allowed T.valid E.event (view_of self.old pass) }
         ensures ticket { result ≡ suc self.old.clock }

@@ -6,7 +6,6 @@ use Rattle.sto_part.specs.Parts.{part_of}
 use Rattle.sto_model.specs.declared.call.Call.{Call}
 use Rattle.sto_model.specs.declared.operation.Operation.{Operation}
 use Rattle.sto_model.specs.declared.operation.Operation.TheVariants.{Get, Set, Add, Scan}
-use Rattle.sto_model.specs.Operations.{operation_of}
 use Rattle.sto_type.specs.Known.{Parts, Known, IsPartOf}
 use Rattle.sto_type.specs.Plans.{IsPlan, planned}
 use Rattle.sto_type.specs.declared.answer.Answer.{Answer}
@@ -17,22 +16,22 @@ use Rattle.sto_record.specs.Recorded.{record_machine, record_telling, telling, I
 use Rattle.sto_record.specs.RecordedLaw.{record_type}
 
 -- only the one part counts
-plan_first : (w : ℕ) (o : Option Operation) (i : Option ℕ) (b : ℤ) (k : Known) → plan_of (record_telling w o i b) (λ p. k 0) ≡ plan_of (record_telling w o i b) k
-plan_first w (Some Scan) i b k = refl
-plan_first w (Some Get) (Some i) b k = refl
-plan_first w (Some Get) None b k = refl
-plan_first w (Some Set) (Some i) b k = refl
-plan_first w (Some Set) None b k = refl
-plan_first w (Some Add) (Some i) b k = refl
-plan_first w (Some Add) None b k = refl
+plan_first : (w : ℕ) (o : Operation) (i : Option ℕ) (b : ℤ) (k : Known) → plan_of (record_telling w o i b) (λ p. k 0) ≡ plan_of (record_telling w o i b) k
+plan_first w Scan i b k = refl
+plan_first w Get (Some i) b k = refl
+plan_first w Get None b k = refl
+plan_first w Set (Some i) b k = refl
+plan_first w Set None b k = refl
+plan_first w Add (Some i) b k = refl
+plan_first w Add None b k = refl
 plan_first w o i b k = refl
 
 pub answered : (w : ℕ) (first : ℤ) (f : FitsSigned w64 first) (call : Call) (k : Known) (d : Parts) (t : RecordTakes call) (v : IsRecord w d) (part : IsPartOf k d) (words : Option (List ℤ)) (answer : Answer)
-    → k 0 ≡ words → planned answer ≡ plan_of (record_telling w (operation_of call.code) (index_of w call.a) call.b) (λ p. words)
+    → k 0 ≡ words → planned answer ≡ plan_of (record_telling w call.operation (index_of w call.a) call.b) (λ p. words)
     → IsPlan (record_meaning w first) call k (planned answer)
 answered w first f call k d t v part words answer e h =
     let same : planned answer ≡ plan_of (telling w call) k =
-    h ∙ ap (λ o. plan_of (record_telling w (operation_of call.code) (index_of w call.a) call.b) (λ p. o)) (sym e) ∙ plan_first w (operation_of call.code) (index_of w call.a) call.b k in
+    h ∙ ap (λ o. plan_of (record_telling w call.operation (index_of w call.a) call.b) (λ p. o)) (sym e) ∙ plan_first w call.operation (index_of w call.a) call.b k in
     subst (IsPlan (record_meaning w first) call k) (sym same)
     (planned_as (record_machine w first) (w ∷ []) (record_meaning w first).opened (IsRecord w) (λ c. numbered 0 (part_of c 0)) RecordTakes (telling w) (record_type w first f) call k d t v part)
 

@@ -9,8 +9,9 @@ use Rattle.sto_part.specs.declared.change.Change.{Change}
 use Rattle.sto_part.specs.declared.change.Change.TheVariants as C
 use Rattle.sto_item.specs.Pending.{is_keep}
 use Rattle.sto_model.specs.declared.call.Call.{Call}
-use Rattle.sto_model.specs.declared.operation.Operation.TheVariants.{Get, Set, Add, Scan}
-use Rattle.sto_model.specs.Operations.{operation_of}
+use Rattle.sto_model.specs.declared.operation.Operation.{Operation}
+use Rattle.sto_model.specs.declared.operation.Operation.TheVariants.{Get, Set, Add, Test as TestWord, Take, Put, Remove, Has, Len, Next, Count, Scan, Push, Pop}
+use Rattle.sto_model.specs.Calls.{call_of}
 use Rattle.sto_model.specs.Rows.{value_at, with_row}
 use Rattle.sto_model.specs.PlainReplies.{is_write}
 use Rattle.sto_model.specs.PlainReplies as T
@@ -25,37 +26,34 @@ use Rattle.sto_type.specs.Numbered.{numbered, index_of, at_index, value_numbered
 use Rattle.sto_type.specs.Words.{word, is_equal, tells_equal, at_word, at_word-applied, at_word-changes, at_word-width, at_word-fits, ChangeFits, fits_after, widths_after, owned_all}
 use Rattle.sto_record.specs.Recorded.{record_machine, set_at, add_at, record_telling, takes_by, IsRecord, RecordTakes, telling, record_meaning}
 
--- the calls of a record
-abbrev call_of : ℕ → ℤ → ℤ → Call
-call_of code a b = record { object = 0; code = code; a = a; b = b }
-
-by_code : {P : Type 0} (code : ℕ) → IsTrue (takes_by (operation_of code)) → (code ≡ 0 → P) → (code ≡ 1 → P) → (code ≡ 2 → P) → (code ≡ 11 → P) → P
-by_code zero h get set add scan = get refl
-by_code (suc zero) h get set add scan = set refl
-by_code (suc (suc zero)) h get set add scan = add refl
-by_code (suc (suc (suc zero))) h get set add scan = cc
-by_code (suc (suc (suc (suc zero)))) h get set add scan = cc
-by_code (suc (suc (suc (suc (suc zero))))) h get set add scan = cc
-by_code (suc (suc (suc (suc (suc (suc zero)))))) h get set add scan = cc
-by_code (suc (suc (suc (suc (suc (suc (suc zero))))))) h get set add scan = cc
-by_code (suc (suc (suc (suc (suc (suc (suc (suc zero)))))))) h get set add scan = cc
-by_code (suc (suc (suc (suc (suc (suc (suc (suc (suc zero))))))))) h get set add scan = cc
-by_code (suc (suc (suc (suc (suc (suc (suc (suc (suc (suc zero)))))))))) h get set add scan = cc
-by_code (suc (suc (suc (suc (suc (suc (suc (suc (suc (suc (suc zero))))))))))) h get set add scan = scan refl
-by_code (suc (suc (suc (suc (suc (suc (suc (suc (suc (suc (suc (suc zero)))))))))))) h get set add scan = cc
-by_code (suc (suc (suc (suc (suc (suc (suc (suc (suc (suc (suc (suc (suc zero))))))))))))) h get set add scan = cc
-by_code (suc (suc (suc (suc (suc (suc (suc (suc (suc (suc (suc (suc (suc (suc n)))))))))))))) h get set add scan = cc
+-- the operations that a record takes
+by_operation :
+    {P : Type 0} (operation : Operation) → IsTrue (takes_by operation) → (operation ≡ Get → P) → (operation ≡ Set → P) → (operation ≡ Add → P) → (operation ≡ Scan → P) → P
+by_operation Get h get set add scan = get refl
+by_operation Set h get set add scan = set refl
+by_operation Add h get set add scan = add refl
+by_operation TestWord h get set add scan = cc
+by_operation Take h get set add scan = cc
+by_operation Put h get set add scan = cc
+by_operation Remove h get set add scan = cc
+by_operation Has h get set add scan = cc
+by_operation Len h get set add scan = cc
+by_operation Next h get set add scan = cc
+by_operation Count h get set add scan = cc
+by_operation Scan h get set add scan = scan refl
+by_operation Push h get set add scan = cc
+by_operation Pop h get set add scan = cc
 
 by_call :
-    (P : Call → Type 0) → ((a b : ℤ) → P (call_of 0 a b)) → ((a b : ℤ) → FitsSigned w64 b → P (call_of 1 a b)) → ((a b : ℤ) → P (call_of 2 a b)) → ((a b : ℤ) → P (call_of 11 a b))
+    (P : Call → Type 0) → ((a b : ℤ) → P (call_of 0 Get a b)) → ((a b : ℤ) → FitsSigned w64 b → P (call_of 0 Set a b)) → ((a b : ℤ) → P (call_of 0 Add a b)) → ((a b : ℤ) → P (call_of 0 Scan a b))
     → (call : Call) → RecordTakes call → P call
 by_call P get set add scan call t =
-    let same : (n : ℕ) → call.code ≡ n → call ≡ call_of n call.a call.b = λ n e i. record { object = t.object i; code = e i; a = call.a; b = call.b } in
-    by_code call.code t.taken
-    (λ e. subst P (sym (same 0 e)) (get call.a call.b))
-    (λ e. subst P (sym (same 1 e)) (set call.a call.b t.fits_too))
-    (λ e. subst P (sym (same 2 e)) (add call.a call.b))
-    (λ e. subst P (sym (same 11 e)) (scan call.a call.b))
+    let same : (o : Operation) → call.operation ≡ o → call ≡ call_of 0 o call.a call.b = λ o e i. record { object = t.object i; operation = e i; a = call.a; b = call.b; c = t.third i } in
+    by_operation call.operation t.taken
+    (λ e. subst P (sym (same Get e)) (get call.a call.b))
+    (λ e. subst P (sym (same Set e)) (set call.a call.b t.fits_too))
+    (λ e. subst P (sym (same Add e)) (add call.a call.b))
+    (λ e. subst P (sym (same Scan e)) (scan call.a call.b))
 
 -- contents of one part
 heads : (x y : ℕ) (xs ys : List ℕ) → x ∷ xs ≡ y ∷ ys → (x ≡ y) × (xs ≡ ys)
@@ -77,12 +75,14 @@ module _ (w : ℕ) (first : ℤ) where
     value : (a : ℤ) → value_at (numbered 0 ws) a ≡ at_index (index_of w a) ws
     value a = value_numbered ws a ∙ ap (λ n. at_index (index_of n a) ws) l
 
-    left_alone : (call : Call) → numbered 0 ws ∷ [] ≡ state_after m.machines call (numbered 0 ws ∷ []) → is_write call.code (reply_to m.machines call (numbered 0 ws ∷ [])) ≡ false → IsUpdated m call c []
+    left_alone : (call : Call) → numbered 0 ws ∷ [] ≡ state_after m.machines call (numbered 0 ws ∷ [])
+        → is_write call.operation (reply_to m.machines call (numbered 0 ws ∷ [])) ≡ false → IsUpdated m call c []
     left_alone call r z = record { ordered = (tt, tt); owned = tt; widths = tt; valid = v; rows = r; writes = z }
 
     -- one word changes
     changed : (call : Call) (i : ℕ) (ch : Change) → call.object ≡ 0 → i < w → is_keep ch ≡ false → ChangeFits ch
-        → numbered 0 (slice_set ws i (applied ch (word ws i))) ∷ [] ≡ state_after m.machines call (numbered 0 ws ∷ []) → is_write call.code (reply_to m.machines call (numbered 0 ws ∷ [])) ≡ true
+        → numbered 0 (slice_set ws i (applied ch (word ws i))) ∷ [] ≡ state_after m.machines call (numbered 0 ws ∷ [])
+        → is_write call.operation (reply_to m.machines call (numbered 0 ws ∷ [])) ≡ true
         → IsUpdated m call c ((0, at_word w i ch) ∷ [])
     changed call i ch o s k f r z =
         let fitting : length ws ≡ length (at_word w i ch) = l ∙ sym (at_word-width w i ch) in
@@ -108,10 +108,10 @@ module _ (w : ℕ) (first : ℤ) where
       updated = u;
     }
 
-    get_told : (a b : ℤ) (q : Option ℕ) → index_of w a ≡ q → IsTold m (call_of 0 a b) (record_telling w (Some Get) q b) c
+    get_told : (a b : ℤ) (q : Option ℕ) → index_of w a ≡ q → IsTold m (call_of 0 Get a b) (record_telling w Get q b) c
     get_told a b None e =
-        absent (call_of 0 a b)
-        (left_alone (call_of 0 a b) refl (ap (λ o. is_write 0 (value_or_absent o)) (value a ∙ ap (λ o. at_index o ws) e)))
+        absent (call_of 0 Get a b)
+        (left_alone (call_of 0 Get a b) refl (ap (λ o. is_write Get (value_or_absent o)) (value a ∙ ap (λ o. at_index o ws) e)))
         (sym (ap value_or_absent (value a ∙ ap (λ o. at_index o ws) e)))
     get_told a b (Some i) e =
         let s : i < w = (index_some w a i e).1 in
@@ -124,14 +124,14 @@ module _ (w : ℕ) (first : ℤ) where
           same_told = λ d y a. ap T.Value (tells_equal d c 0 i (word ws i) [] y.fits a);
           same_updates = λ d y a. refl;
           tells = sym (ap value_or_absent x);
-          updated = left_alone (call_of 0 a b) refl (ap (λ o. is_write 0 (value_or_absent o)) x);
+          updated = left_alone (call_of 0 Get a b) refl (ap (λ o. is_write Get (value_or_absent o)) x);
         }
 
-    set_told : (a b : ℤ) (q : Option ℕ) → FitsSigned w64 b → index_of w a ≡ q → IsTold m (call_of 1 a b) (record_telling w (Some Set) q b) c
+    set_told : (a b : ℤ) (q : Option ℕ) → FitsSigned w64 b → index_of w a ≡ q → IsTold m (call_of 0 Set a b) (record_telling w Set q b) c
     set_told a b None f e =
         let x : value_at (numbered 0 ws) a ≡ None = value a ∙ ap (λ o. at_index o ws) e in
-        absent (call_of 1 a b)
-        (left_alone (call_of 1 a b) (sym (ap (λ o. (set_at o a b (numbered 0 ws)).after ∷ []) x)) (ap (λ o. is_write 1 (set_at o a b (numbered 0 ws)).reply) x))
+        absent (call_of 0 Set a b)
+        (left_alone (call_of 0 Set a b) (sym (ap (λ o. (set_at o a b (numbered 0 ws)).after ∷ []) x)) (ap (λ o. is_write Set (set_at o a b (numbered 0 ws)).reply) x))
         (sym (ap (λ o. (set_at o a b (numbered 0 ws)).reply) x))
     set_told a b (Some i) f e =
         let p : (a ≡ pos i) × (i < w) = index_some w a i e in
@@ -145,14 +145,15 @@ module _ (w : ℕ) (first : ℤ) where
           same_told = λ d y a. refl;
           same_updates = λ d y a. refl;
           tells = sym (ap (λ o. (set_at o a b (numbered 0 ws)).reply) x);
-          updated = changed (call_of 1 a b) i (C.Put b) refl p.1 refl f (sym (ap (λ o. (set_at o a b (numbered 0 ws)).after ∷ []) x ∙ ap (λ r. r ∷ []) rows)) (ap (λ o. is_write 1 (set_at o a b (numbered 0 ws)).reply) x);
+          updated = changed (call_of 0 Set a b) i (C.Put b) refl p.1 refl f
+              (sym (ap (λ o. (set_at o a b (numbered 0 ws)).after ∷ []) x ∙ ap (λ r. r ∷ []) rows)) (ap (λ o. is_write Set (set_at o a b (numbered 0 ws)).reply) x);
         }
 
-    add_told : (a b : ℤ) (q : Option ℕ) → index_of w a ≡ q → IsTold m (call_of 2 a b) (record_telling w (Some Add) q b) c
+    add_told : (a b : ℤ) (q : Option ℕ) → index_of w a ≡ q → IsTold m (call_of 0 Add a b) (record_telling w Add q b) c
     add_told a b None e =
         let x : value_at (numbered 0 ws) a ≡ None = value a ∙ ap (λ o. at_index o ws) e in
-        absent (call_of 2 a b)
-        (left_alone (call_of 2 a b) (sym (ap (λ o. (add_at o a b (numbered 0 ws)).after ∷ []) x)) (ap (λ o. is_write 2 (add_at o a b (numbered 0 ws)).reply) x))
+        absent (call_of 0 Add a b)
+        (left_alone (call_of 0 Add a b) (sym (ap (λ o. (add_at o a b (numbered 0 ws)).after ∷ []) x)) (ap (λ o. is_write Add (add_at o a b (numbered 0 ws)).reply) x))
         (sym (ap (λ o. (add_at o a b (numbered 0 ws)).reply) x))
     add_told a b (Some i) e =
         let p : (a ≡ pos i) × (i < w) = index_some w a i e in
@@ -167,10 +168,11 @@ module _ (w : ℕ) (first : ℤ) where
           same_told = λ d z a. refl;
           same_updates = λ d z a. refl;
           tells = sym (ap (λ o. (add_at o a b (numbered 0 ws)).reply) x);
-          updated = changed (call_of 2 a b) i (C.Add b) refl p.1 refl tt (sym (ap (λ o. (add_at o a b (numbered 0 ws)).after ∷ []) x ∙ ap (λ r. r ∷ []) rows)) (ap (λ o. is_write 2 (add_at o a b (numbered 0 ws)).reply) x);
+          updated = changed (call_of 0 Add a b) i (C.Add b) refl p.1 refl tt
+              (sym (ap (λ o. (add_at o a b (numbered 0 ws)).after ∷ []) x ∙ ap (λ r. r ∷ []) rows)) (ap (λ o. is_write Add (add_at o a b (numbered 0 ws)).reply) x);
         }
 
-    scan_told : (a b : ℤ) → IsTold m (call_of 11 a b) (record_telling w (Some Scan) (index_of w a) b) c
+    scan_told : (a b : ℤ) → IsTold m (call_of 0 Scan a b) (record_telling w Scan (index_of w a) b) c
     scan_told a b = record {
       within = λ q h. elim h [ inl z ↦ omega (arith, z) | inr z ↦ absurd z ];
       observed = (inl refl, tt);
@@ -179,7 +181,7 @@ module _ (w : ℕ) (first : ℤ) where
       same_told = λ d y a. ap (λ xs. T.Pairs (numbered 0 xs)) a.0;
       same_updates = λ d y a. refl;
       tells = refl;
-      updated = left_alone (call_of 11 a b) refl refl;
+      updated = left_alone (call_of 0 Scan a b) refl refl;
     }
 
   abbrev ToldAt : Call → Type 0
@@ -192,10 +194,10 @@ module _ (w : ℕ) (first : ℤ) where
 
   told : (call : Call) → RecordTakes call → ToldAt call
   told = by_call ToldAt
-      (λ a b. on_parts (call_of 0 a b) (λ ws l v. get_told ws l v a b (index_of w a) refl))
-      (λ a b f. on_parts (call_of 1 a b) (λ ws l v. set_told ws l v a b (index_of w a) f refl))
-      (λ a b. on_parts (call_of 2 a b) (λ ws l v. add_told ws l v a b (index_of w a) refl))
-      (λ a b. on_parts (call_of 11 a b) (λ ws l v. scan_told ws l v a b))
+      (λ a b. on_parts (call_of 0 Get a b) (λ ws l v. get_told ws l v a b (index_of w a) refl))
+      (λ a b f. on_parts (call_of 0 Set a b) (λ ws l v. set_told ws l v a b (index_of w a) f refl))
+      (λ a b. on_parts (call_of 0 Add a b) (λ ws l v. add_told ws l v a b (index_of w a) refl))
+      (λ a b. on_parts (call_of 0 Scan a b) (λ ws l v. scan_told ws l v a b))
 
   length_opened : (n : ℕ) → length (replicate {A = ℤ} n first) ≡ n
   length_opened zero = refl

@@ -3,7 +3,6 @@ ghost use Rattle.std.specs.Prelude.{◌≡◌, ◌<◌, ◌^◌, [], ◌∷◌, 
 ghost use Rattle.std.specs.Int.{w64};
 ghost use Rattle.std.specs.Int.RustNames.{FitsSigned};
 ghost use Rattle.std.specs.Option.{option_map};
-ghost use Rattle.sto_model.specs.Operations.{operation_of};
 ghost use Rattle.sto_model.specs.PlainReplies.{Done as ToldDone, Value as ToldValue, Pairs as ToldPairs};
 ghost use Rattle.sto_part.specs.declared.pred.Test.TheVariants.{Eq as TestEq};
 ghost use Rattle.sto_item.specs.declared.item.Item.TheVariants.{Seen};
@@ -80,7 +79,7 @@ impl TxType for TRecord {
     fn takes(&self, call: &Call) -> bool {
         let _first = call.a;
         let _second = call.b;
-        call.object == 0 && is_taken(call.code)
+        call.object == 0 && call.c == 0 && is_taken(call.operation)
     }
 
     fn opening(&self, alloc: Global) -> Result<Contents, NoMemory> {
@@ -107,13 +106,13 @@ impl TxType for TRecord {
     }
 }
 
-// Whether a record takes calls of this code.
-fn is_taken(code: u8) -> bool
-    ensures { result ≡ takes_by (operation_of code) }
+// Whether a record takes calls of this operation.
+fn is_taken(operation: Operation) -> bool
+    ensures { result ≡ takes_by operation }
 {
     matches!(
-        Operation::from_code(code),
-        Some(Operation::Get | Operation::Set | Operation::Add | Operation::Scan)
+        operation,
+        Operation::Get | Operation::Set | Operation::Add | Operation::Scan
     )
 }
 
@@ -126,20 +125,20 @@ fn answer(
     words: Option<&[i64]>,
 ) -> Result<Answer, NoMemory>
     requires { (ws : Seq ℤ) → option_map (λ w. w.now) words ≡ Some ws → length ws < 2 ^ 32 }
-    ensures { IfOk result (λ a. planned a ≡ plan_of (record_telling width (operation_of call.now.code) (index_of width call.now.a) call.now.b)
+    ensures { IfOk result (λ a. planned a ≡ plan_of (record_telling width call.now.operation (index_of width call.now.a) call.now.b)
         (λ p. option_map (λ w. w.now) words.entry)) }
 {
-    match Operation::from_code(call.code) {
-        Some(Operation::Scan) => scan_answer(alloc, pool, words),
-        Some(Operation::Get) => match index_in(width, call.a) {
+    match call.operation {
+        Operation::Scan => scan_answer(alloc, pool, words),
+        Operation::Get => match index_in(width, call.a) {
             None => absent(pool),
             Some(place) => get_answer(pool, place, words),
         },
-        Some(Operation::Set) => match index_in(width, call.a) {
+        Operation::Set => match index_in(width, call.a) {
             None => absent(pool),
             Some(place) => change_answer(pool, width, place, Change::Put(call.b)),
         },
-        Some(Operation::Add) => match index_in(width, call.a) {
+        Operation::Add => match index_in(width, call.a) {
             None => absent(pool),
             Some(place) => change_answer(pool, width, place, Change::Add(call.b)),
         },

@@ -4,6 +4,7 @@ use Rattle.std.specs.Fmt.{digits}
 use Rattle.std.specs.Int.{int_wrap}
 use Rattle.json.specs.Print.{escape_byte}
 use Rattle.json.proofs.OnLiterals.{json_on_literals}
+use Rattle.sto_model.specs.declared.operation.Operation.TheVariants as op
 use Rattle.sto_part.specs.declared.pred.Test.TheVariants.{Lt}
 use Rattle.sto_model.specs.PlainReplies.{Value, Done}
 use Rattle.sto_model.specs.declared.shape.Shape.TheVariants.{Single, Counter, Array}
@@ -31,7 +32,7 @@ one_box =
       version = 1;
       declarations = record { name = codes "a"; shape = Single (pos 5); number = 0 } ∷ [];
       names = codes "t0" ∷ [];
-      threads = (record { variables = codes "x" ∷ []; body = Ask (Some 0) 0 0 nought nought Nothing; weight = 2 } ∷ []) ∷ [];
+      threads = (record { variables = codes "x" ∷ []; body = Ask (Some 0) 0 op.Get nought nought Nothing; weight = 2 } ∷ []) ∷ [];
       schedule = None;
     }
 
@@ -47,7 +48,7 @@ abbrev adding : Script
 adding =
     record {
       variables = codes "x" ∷ codes "y" ∷ [];
-      body = Ask (Some 0) 0 0 nought nought (Sum 1 (Var 0) (Num (pos 1)) (Ask None 0 1 (Var 1) nought Nothing));
+      body = Ask (Some 0) 0 op.Get nought nought (Sum 1 (Var 0) (Num (pos 1)) (Ask None 0 op.Set (Var 1) nought Nothing));
       weight = 4;
     }
 
@@ -105,7 +106,7 @@ abbrev choosing : Script
 choosing =
     record {
       variables = codes "x" ∷ [];
-      body = Ask (Some 0) 0 0 nought nought (Choose (Var 0) Lt (Num (pos 1)) (Ask None 0 1 (Num (pos 5)) nought Nothing) (Ask None 0 1 (Num (pos 9)) nought (Cancel Nothing)) Nothing);
+      body = Ask (Some 0) 0 op.Get nought nought (Choose (Var 0) Lt (Num (pos 1)) (Ask None 0 op.Set (Num (pos 5)) nought Nothing) (Ask None 0 op.Set (Num (pos 9)) nought (Cancel Nothing)) Nothing);
       weight = 5;
     }
 
@@ -118,7 +119,7 @@ abbrev ending : Script
 ending =
     record {
       variables = codes "x" ∷ codes "y" ∷ [];
-      body = Ask None 0 2 (Num (pos 1)) nought (Ask (Some 0) 0 0 nought nought (Ask (Some 1) 1 0 (Num (negsuc 0)) nought (Ask (Some 1) 1 0 (Num (pos 2)) nought (Ask None 1 1 (Num (pos 2)) (Num (pos 5)) (Ask (Some 1) 1 0 (Num (pos 1)) nought Nothing)))));
+      body = Ask None 0 op.Add (Num (pos 1)) nought (Ask (Some 0) 0 op.Get nought nought (Ask (Some 1) 1 op.Get (Num (negsuc 0)) nought (Ask (Some 1) 1 op.Get (Num (pos 2)) nought (Ask None 1 op.Set (Num (pos 2)) (Num (pos 5)) (Ask (Some 1) 1 op.Get (Num (pos 1)) nought Nothing)))));
       weight = 7;
     }
 
@@ -139,7 +140,7 @@ abbrev taking : Script
 taking =
     record {
       variables = codes "x" ∷ codes "y" ∷ [];
-      body = Ask (Some 0) 0 0 nought nought (Diff 1 (Var 0) (Num (pos 1)) (Ask None 0 1 (Var 1) nought Nothing));
+      body = Ask (Some 0) 0 op.Get nought nought (Diff 1 (Var 0) (Num (pos 1)) (Ask None 0 op.Set (Var 1) nought Nothing));
       weight = 4;
     }
 

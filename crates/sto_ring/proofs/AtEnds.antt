@@ -3,7 +3,6 @@ use Rattle.std.proofs.Common.{◌≡◌, ◌<◌, ◌+◌, ◌^◌, ℕ, ℤ, po
 use Rattle.std.proofs.lemmas.List.{length-map}
 use Rattle.sto_model.specs.declared.call.Call.{Call}
 use Rattle.sto_model.specs.declared.operation.Operation.{Operation}
-use Rattle.sto_model.specs.Operations.{operation_of}
 use Rattle.sto_type.specs.Known.{Parts, Known, IsPartOf, word_known}
 use Rattle.sto_type.specs.Plans.{Ask, IsPlan, planned}
 use Rattle.sto_type.specs.declared.answer.Answer.{Answer}
@@ -39,18 +38,18 @@ module _ (n : ℕ) (k : Known) (d : Parts) (v : IsRing n d) (part : IsPartOf k d
       (h.0, sym w.2 ∙ h.1, h.2)
 
 -- a call that reads an end
-module _ (n : ℕ) (k : Known) (code : ℕ) (a : ℤ) (o : Operation) (e : operation_of code ≡ Some o) (p : ℕ) (f : ℕ → List ℤ → Telling) (same : ring_telling n (Some o) a ≡ at_end p f) where
-  pub asks : (q : ℕ) → ((g : ℕ → List ℤ → Telling) → plan_of (at_end p g) k ≡ Ask q) → Ask q ≡ plan_of (ring_telling n (operation_of code) a) k
+module _ (n : ℕ) (k : Known) (operation : Operation) (a : ℤ) (o : Operation) (e : operation ≡ o) (p : ℕ) (f : ℕ → List ℤ → Telling) (same : ring_telling n o a ≡ at_end p f) where
+  pub asks : (q : ℕ) → ((g : ℕ → List ℤ → Telling) → plan_of (at_end p g) k ≡ Ask q) → Ask q ≡ plan_of (ring_telling n operation a) k
   asks q h = sym (ap (λ x. plan_of (ring_telling n x a) k) e ∙ ap (λ r. plan_of r k) same ∙ h f)
 
   pub says :
       (answer : Answer) (x : ℕ) (ws : List ℤ) → ((g : ℕ → List ℤ → Telling) → plan_of (at_end p g) k ≡ plan_of (g x ws) k) → ((j : Known) → planned answer ≡ plan_of (f x ws) j)
-      → planned answer ≡ plan_of (ring_telling n (operation_of code) a) k
+      → planned answer ≡ plan_of (ring_telling n operation a) k
   says answer x ws found said = said k ∙ sym (ap (λ x. plan_of (ring_telling n x a) k) e ∙ ap (λ r. plan_of r k) same ∙ found f)
 
 -- the answer is what the meaning says
 pub answered :
     (n : ℕ) (small : n + 2 < 2 ^ 32) (some : 0 < n) (call : Call) (k : Known) (d : Parts) (t : RingTakes call) (v : IsRing n d) (part : IsPartOf k d) (answer : Answer)
-    → planned answer ≡ plan_of (ring_telling n (operation_of call.code) call.a) k → IsPlan (ring_meaning n) call k (planned answer)
+    → planned answer ≡ plan_of (ring_telling n call.operation call.a) k → IsPlan (ring_meaning n) call k (planned answer)
 answered n small some call k d t v part answer h =
     subst (IsPlan (ring_meaning n) call k) (sym h) (planned_as (ring_machine n) (ring_widths n) (ring_opened n) (IsRing n) (ring_rows n) RingTakes (telling n) (ring_type n small some) call k d t v part)

@@ -7,6 +7,8 @@ use Rattle.sto_part.specs.Parts.{part_of}
 use Rattle.sto_part.specs.declared.change.Change.TheVariants.{Put}
 use Rattle.sto_part.specs.declared.pred.Test.TheVariants.{Eq}
 use Rattle.sto_model.specs.declared.call.Call.{Call}
+use Rattle.sto_model.specs.declared.operation.Operation.TheVariants.{Push, Pop}
+use Rattle.sto_model.specs.Calls.{call_of}
 use Rattle.sto_model.specs.Rows.{Row}
 use Rattle.sto_model.specs.PlainReplies.{Done, Full}
 use Rattle.sto_model.specs.Objects.{push_effect}
@@ -20,10 +22,10 @@ use Rattle.sto_container.specs.Places.{next, offset, is_live}
 use Rattle.sto_ring.specs.Ringed.{at_end, bit, place_part, IsRing, ring_meaning}
 
 abbrev push : ℤ → Call
-push v = record { object = 0; code = 12; a = v; b = pos 0 }
+push v = call_of 0 Push v (pos 0)
 
 abbrev pop : Call
-pop = record { object = 0; code = 13; a = pos 0; b = pos 0 }
+pop = call_of 0 Pop (pos 0) (pos 0)
 
 -- a push is not answered that the ring is full where one value fewer than places are held, or fewer still
 module _ (n : ℕ) (rows : List Row) (v : ℤ) (room : length rows < n) where

@@ -11,7 +11,6 @@ use Rattle.sto_item.specs.Agreement.{word_of}
 use Rattle.sto_model.specs.declared.call.Call.{Call}
 use Rattle.sto_model.specs.declared.operation.Operation.{Operation}
 use Rattle.sto_model.specs.declared.operation.Operation.TheVariants.{Get, Has, Len, Push, Pop}
-use Rattle.sto_model.specs.Operations.{operation_of}
 use Rattle.sto_model.specs.Rows.{Row}
 use Rattle.sto_model.specs.PlainReplies.{PlainReply, Done, Value, Flag, Absent, Full}
 use Rattle.sto_model.specs.Objects.{Effect, effect, push_effect}
@@ -35,29 +34,29 @@ abbrev pub pop_front : List Row → Effect
 pop_front [] = effect Absent []
 pop_front (r ∷ rows) = effect (Value r.1) (numbered 0 (values_of rows))
 
-abbrev pub ring_effect : ℕ → Option Operation → ℤ → ℤ → List Row → Effect
-ring_effect n (Some Push) v b rows = push_effect (nat_le n (length rows)) v rows
-ring_effect n (Some Pop) a b rows = pop_front rows
-ring_effect n (Some Get) a b rows = effect (front_of rows) rows
-ring_effect n (Some Has) a b rows = effect (Flag (nat_lt 0 (length rows))) rows
-ring_effect n (Some Len) a b rows = effect (Value (pos (length rows))) rows
+abbrev pub ring_effect : ℕ → Operation → ℤ → ℤ → List Row → Effect
+ring_effect n Push v b rows = push_effect (nat_le n (length rows)) v rows
+ring_effect n Pop a b rows = pop_front rows
+ring_effect n Get a b rows = effect (front_of rows) rows
+ring_effect n Has a b rows = effect (Flag (nat_lt 0 (length rows))) rows
+ring_effect n Len a b rows = effect (Value (pos (length rows))) rows
 ring_effect n o a b rows = effect Absent rows
 
 abbrev pub ring_machine : ℕ → SequentialObject
 ring_machine n =
     record {
       opening = [];
-      reply = λ code a b rows. (ring_effect n (operation_of code) a b rows).reply;
-      after = λ code a b rows. (ring_effect n (operation_of code) a b rows).after;
+      reply = λ operation a b c rows. (ring_effect n operation a b rows).reply;
+      after = λ operation a b c rows. (ring_effect n operation a b rows).after;
     }
 
--- which words a ring takes: get is front, has is some
-abbrev pub takes_by : Option Operation → Bool
-takes_by (Some Push) = true
-takes_by (Some Pop) = true
-takes_by (Some Get) = true
-takes_by (Some Has) = true
-takes_by (Some Len) = true
+-- which operations a ring takes: get is front, has is some
+abbrev pub takes_by : Operation → Bool
+takes_by Push = true
+takes_by Pop = true
+takes_by Get = true
+takes_by Has = true
+takes_by Len = true
 takes_by o = false
 
 -- 0 or 1
@@ -136,12 +135,12 @@ len_told n h t false = Tell (Value (pos (offset n h t))) (compared 0 0 Eq (pos h
 abbrev pub at_end : ℕ → (ℕ → List ℤ → Telling) → Telling
 at_end p f = Read p (λ es. Read (place_part (natural (word es 0))) (λ ws. f (natural (word es 0)) ws))
 
-abbrev pub ring_telling : ℕ → Option Operation → ℤ → Telling
-ring_telling n (Some Push) v = at_end 1 (λ t ws. push_told n v t (is_live ws))
-ring_telling n (Some Pop) a = at_end 0 (λ h ws. pop_told n h ws (is_live ws))
-ring_telling n (Some Get) a = at_end 0 (λ h ws. front_told h ws (is_live ws))
-ring_telling n (Some Has) a = at_end 0 (λ h ws. some_told h (is_live ws))
-ring_telling n (Some Len) a = Read 0 (λ hs. Read 1 (λ ts. len_told n (natural (word hs 0)) (natural (word ts 0)) (nat_eq (natural (word hs 0)) (natural (word ts 0)))))
+abbrev pub ring_telling : ℕ → Operation → ℤ → Telling
+ring_telling n Push v = at_end 1 (λ t ws. push_told n v t (is_live ws))
+ring_telling n Pop a = at_end 0 (λ h ws. pop_told n h ws (is_live ws))
+ring_telling n Get a = at_end 0 (λ h ws. front_told h ws (is_live ws))
+ring_telling n Has a = at_end 0 (λ h ws. some_told h (is_live ws))
+ring_telling n Len a = Read 0 (λ hs. Read 1 (λ ts. len_told n (natural (word hs 0)) (natural (word ts 0)) (nat_eq (natural (word hs 0)) (natural (word ts 0)))))
 ring_telling n o a = Tell Absent [] []
 
 -- what a len says: the size, by both ends, and where it was read by whether the place of the head is live
@@ -155,12 +154,13 @@ len_said size h t live = Say (Value (pos size)) (len_items h t live) []
 -- a call that a ring takes, with numbers of 64 bits
 pub record RingTakes (call : Call) : Type 0 where
   pub object : call.object ≡ 0
-  pub taken : IsTrue (takes_by (operation_of call.code))
+  pub third : call.c ≡ pos 0
+  pub taken : IsTrue (takes_by call.operation)
   pub fits : FitsSigned w64 call.a
   pub fits_too : FitsSigned w64 call.b
 
 abbrev pub telling : ℕ → Call → Telling
-telling n call = ring_telling n (operation_of call.code) call.a
+telling n call = ring_telling n call.operation call.a
 
 abbrev pub ring_widths : ℕ → List ℕ
 ring_widths n = 1 ∷ 1 ∷ replicate n 2

@@ -1,5 +1,5 @@
 -- A ring is lawful.
-use Rattle.std.specs.Prelude.{◌≡◌, ◌<◌, ◌≤◌, ◌+◌, ◌^◌, ◌⊎◌, ℕ, zero, suc, ℤ, pos, nat_lt, nat_le, nat_eq, not, Bool, true, false, if◌then◌else◌, Some, List, [], ◌∷◌, ◌++◌, map, length, replicate, slice_index_or, IsTrue, refl}
+use Rattle.std.specs.Prelude.{◌≡◌, ◌<◌, ◌≤◌, ◌+◌, ◌^◌, ◌⊎◌, ℕ, zero, suc, ℤ, pos, nat_lt, nat_le, nat_eq, not, Bool, true, false, if◌then◌else◌, List, [], ◌∷◌, ◌++◌, map, length, replicate, slice_index_or, IsTrue, refl}
 use Rattle.std.specs.Ordering.{int_eq}
 use Rattle.std.specs.Int.{w64}
 use Rattle.std.specs.Int.RustNames.{FitsSigned}
@@ -14,8 +14,9 @@ use Rattle.sto_item.specs.Pending.{Entry, applied_updates}
 use Rattle.sto_item.specs.Agreement.{Agrees, word_of}
 use Rattle.sto_item.proofs.Applied.{part_of-set_other, part_of-set_same}
 use Rattle.sto_model.specs.declared.call.Call.{Call}
-use Rattle.sto_model.specs.declared.operation.Operation.TheVariants.{Get, Has, Len, Push, Pop}
-use Rattle.sto_model.specs.Operations.{operation_of}
+use Rattle.sto_model.specs.declared.operation.Operation.{Operation}
+use Rattle.sto_model.specs.declared.operation.Operation.TheVariants.{Get, Set, Add, Test as TestWord, Take, Put, Remove, Has, Len, Next, Count, Scan, Push, Pop}
+use Rattle.sto_model.specs.Calls.{call_of}
 use Rattle.sto_model.specs.Rows.{Row, with_row}
 use Rattle.sto_model.specs.PlainReplies.{is_write}
 use Rattle.sto_model.specs.PlainReplies as T
@@ -36,38 +37,35 @@ use Rattle.sto_ring.specs.Ringed.{front_of, pop_front, ring_machine, takes_by, b
 use Rattle.sto_ring.specs.RingedRows.{bit_live, value_at, length-along, along-same, along-more, live_is, size_is, rows_are}
 use Rattle.sto_container.specs.Endings.{told_by}
 
--- the calls of a ring
-abbrev call_of : ℕ → ℤ → ℤ → Call
-call_of code a b = record { object = 0; code = code; a = a; b = b }
-
-by_code : {P : Type 0} (code : ℕ) → IsTrue (takes_by (operation_of code)) → (code ≡ 0 → P) → (code ≡ 7 → P) → (code ≡ 8 → P) → (code ≡ 12 → P) → (code ≡ 13 → P) → P
-by_code zero h front some len push pop = front refl
-by_code (suc zero) h front some len push pop = cc
-by_code (suc (suc zero)) h front some len push pop = cc
-by_code (suc (suc (suc zero))) h front some len push pop = cc
-by_code (suc (suc (suc (suc zero)))) h front some len push pop = cc
-by_code (suc (suc (suc (suc (suc zero))))) h front some len push pop = cc
-by_code (suc (suc (suc (suc (suc (suc zero)))))) h front some len push pop = cc
-by_code (suc (suc (suc (suc (suc (suc (suc zero))))))) h front some len push pop = some refl
-by_code (suc (suc (suc (suc (suc (suc (suc (suc zero)))))))) h front some len push pop = len refl
-by_code (suc (suc (suc (suc (suc (suc (suc (suc (suc zero))))))))) h front some len push pop = cc
-by_code (suc (suc (suc (suc (suc (suc (suc (suc (suc (suc zero)))))))))) h front some len push pop = cc
-by_code (suc (suc (suc (suc (suc (suc (suc (suc (suc (suc (suc zero))))))))))) h front some len push pop = cc
-by_code (suc (suc (suc (suc (suc (suc (suc (suc (suc (suc (suc (suc zero)))))))))))) h front some len push pop = push refl
-by_code (suc (suc (suc (suc (suc (suc (suc (suc (suc (suc (suc (suc (suc zero))))))))))))) h front some len push pop = pop refl
-by_code (suc (suc (suc (suc (suc (suc (suc (suc (suc (suc (suc (suc (suc (suc n)))))))))))))) h front some len push pop = cc
+-- the operations that a ring takes
+by_operation :
+    {P : Type 0} (operation : Operation) → IsTrue (takes_by operation) → (operation ≡ Get → P) → (operation ≡ Has → P) → (operation ≡ Len → P) → (operation ≡ Push → P) → (operation ≡ Pop → P) → P
+by_operation Get h front some len push pop = front refl
+by_operation Set h front some len push pop = cc
+by_operation Add h front some len push pop = cc
+by_operation TestWord h front some len push pop = cc
+by_operation Take h front some len push pop = cc
+by_operation Put h front some len push pop = cc
+by_operation Remove h front some len push pop = cc
+by_operation Has h front some len push pop = some refl
+by_operation Len h front some len push pop = len refl
+by_operation Next h front some len push pop = cc
+by_operation Count h front some len push pop = cc
+by_operation Scan h front some len push pop = cc
+by_operation Push h front some len push pop = push refl
+by_operation Pop h front some len push pop = pop refl
 
 by_call :
-    (P : Call → Type 0) → ((a b : ℤ) → P (call_of 0 a b)) → ((a b : ℤ) → P (call_of 7 a b)) → ((a b : ℤ) → P (call_of 8 a b)) → ((a b : ℤ) → FitsSigned w64 a → P (call_of 12 a b))
-    → ((a b : ℤ) → P (call_of 13 a b)) → (call : Call) → RingTakes call → P call
+    (P : Call → Type 0) → ((a b : ℤ) → P (call_of 0 Get a b)) → ((a b : ℤ) → P (call_of 0 Has a b)) → ((a b : ℤ) → P (call_of 0 Len a b)) → ((a b : ℤ) → FitsSigned w64 a → P (call_of 0 Push a b))
+    → ((a b : ℤ) → P (call_of 0 Pop a b)) → (call : Call) → RingTakes call → P call
 by_call P front some len push pop call t =
-    let same : (n : ℕ) → call.code ≡ n → call ≡ call_of n call.a call.b = λ n e i. record { object = t.object i; code = e i; a = call.a; b = call.b } in
-    by_code call.code t.taken
-    (λ e. subst P (sym (same 0 e)) (front call.a call.b))
-    (λ e. subst P (sym (same 7 e)) (some call.a call.b))
-    (λ e. subst P (sym (same 8 e)) (len call.a call.b))
-    (λ e. subst P (sym (same 12 e)) (push call.a call.b t.fits))
-    (λ e. subst P (sym (same 13 e)) (pop call.a call.b))
+    let same : (o : Operation) → call.operation ≡ o → call ≡ call_of 0 o call.a call.b = λ o e i. record { object = t.object i; operation = e i; a = call.a; b = call.b; c = t.third i } in
+    by_operation call.operation t.taken
+    (λ e. subst P (sym (same Get e)) (front call.a call.b))
+    (λ e. subst P (sym (same Has e)) (some call.a call.b))
+    (λ e. subst P (sym (same Len e)) (len call.a call.b))
+    (λ e. subst P (sym (same Push e)) (push call.a call.b t.fits))
+    (λ e. subst P (sym (same Pop e)) (pop call.a call.b))
 
 heads : (x y : ℕ) (xs ys : List ℕ) → x ∷ xs ≡ y ∷ ys → (x ≡ y) × (xs ≡ ys)
 heads x y xs ys e = (cc, cc)
@@ -212,7 +210,7 @@ module _ (n : ℕ) (small : n + 2 < 2 ^ 32) where
     inside_place : (i : ℕ) → i < n → 0 < slice_index_or (ring_widths n) (place_part i) 0
     inside_place i l = omega (arith, width_at n i l)
 
-    left_alone : (call : Call) → ring_rows n c ∷ [] ≡ state_after m.machines call (ring_rows n c ∷ []) → is_write call.code (reply_to m.machines call (ring_rows n c ∷ [])) ≡ false → IsUpdated m call c []
+    left_alone : (call : Call) → ring_rows n c ∷ [] ≡ state_after m.machines call (ring_rows n c ∷ []) → is_write call.operation (reply_to m.machines call (ring_rows n c ∷ [])) ≡ false → IsUpdated m call c []
     left_alone call r z = record { ordered = (tt, tt); owned = tt; widths = tt; valid = v; rows = r; writes = z }
 
     -- push
@@ -283,12 +281,12 @@ module _ (n : ℕ) (small : n + 2 < 2 ^ 32) where
     end_fits : word_of c 1 0 ≡ pos t
     end_fits = refl
 
-    push_told_at : (a b : ℤ) → FitsSigned w64 a → IsTold m (call_of 12 a b) (ring_telling n (Some Push) a) c
+    push_told_at : (a b : ℤ) → FitsSigned w64 a → IsTold m (call_of 0 Push a b) (ring_telling n Push a) c
     push_told_at a b f = by_test (nat_lt s n)
         (λ room.
         let below_n : s < n = lt_of room in
         let quiet : is_live (part_of ps t) ≡ false = live_tail ∙ ap not room in
-        told_by m (call_of 12 a b) (ring_telling n (Some Push) a) c T.Done (compared 1 0 Eq (pos t) ∷ compared (place_part t) 0 Eq (pos 0) ∷ []) (pushed a)
+        told_by m (call_of 0 Push a b) (ring_telling n Push a) c T.Done (compared 1 0 Eq (pos t) ∷ compared (place_part t) 0 Eq (pos 0) ∷ []) (pushed a)
         (ap (λ x. told_at (push_told n a t x) c) quiet, ap (λ x. items_at (reading_of (push_told n a t x)) c) quiet, ap (λ x. updates_at (reading_of (push_told n a t x)) c) quiet)
         (λ q r. within_two 1 t q (IsRead (reading_of (push_told n a t (is_live (part_of ps t)))) c q) (omega arith) tail_in (no_push n t a (is_live (part_of ps t)) c q) r)
         (inl refl, (inr (inl refl), tt))
@@ -307,11 +305,11 @@ module _ (n : ℕ) (small : n + 2 < 2 ^ 32) where
           widths = (omega arith, refl, (omega (arith, (place t tail_in).0), (place t tail_in).1, tt));
           valid = is_pushed a f below_n;
           rows = ap (λ r. r ∷ []) (rows_pushed a f below_n ∙ sym (push_after a room));
-          writes = ap (is_write 12) (push_reply a ∙ ap (λ x. if x then T.Done else T.Full) room);
+          writes = ap (is_write Push) (push_reply a ∙ ap (λ x. if x then T.Done else T.Full) room);
         }))
         (λ full.
         let loud : is_live (part_of ps t) ≡ true = live_tail ∙ ap not full in
-        told_by m (call_of 12 a b) (ring_telling n (Some Push) a) c T.Full (compared 1 0 Eq (pos t) ∷ compared (place_part t) 0 Eq (pos 1) ∷ []) []
+        told_by m (call_of 0 Push a b) (ring_telling n Push a) c T.Full (compared 1 0 Eq (pos t) ∷ compared (place_part t) 0 Eq (pos 1) ∷ []) []
         (ap (λ x. told_at (push_told n a t x) c) loud, ap (λ x. items_at (reading_of (push_told n a t x)) c) loud, ap (λ x. updates_at (reading_of (push_told n a t x)) c) loud)
         (λ q r. within_two 1 t q (IsRead (reading_of (push_told n a t (is_live (part_of ps t)))) c q) (omega arith) tail_in (no_push n t a (is_live (part_of ps t)) c q) r)
         (inl refl, (inr (inl refl), tt))
@@ -324,7 +322,7 @@ module _ (n : ℕ) (small : n + 2 < 2 ^ 32) where
           end_updates e 1 t (λ x ws. push_told n a x (is_live ws)) at ∙ ap (λ x. updates_at (reading_of (push_told n a t x)) e) still,
         ))
         (sym (push_reply a ∙ ap (λ x. if x then T.Done else T.Full) full))
-        (left_alone (call_of 12 a b) (ap (λ r. r ∷ []) (sym (push_kept a full))) (ap (is_write 12) (push_reply a ∙ ap (λ x. if x then T.Done else T.Full) full))))
+        (left_alone (call_of 0 Push a b) (ap (λ r. r ∷ []) (sym (push_kept a full))) (ap (is_write Push) (push_reply a ∙ ap (λ x. if x then T.Done else T.Full) full))))
       where
         lt_of : nat_lt s n ≡ true → s < n
         lt_of e = grind (arith, nat_tests)
@@ -391,11 +389,11 @@ module _ (n : ℕ) (small : n + 2 < 2 ^ 32) where
         rows_are n after_pop (is_popped r e)
         ∙ ap (numbered 0) (along-same n after_pop c (next n h) r (next_below n h below) (omega (arith, room)) (λ j b. value_left (wrapped n (next n h + j))))
 
-    pop_told_at : (a b : ℤ) → IsTold m (call_of 13 a b) (ring_telling n (Some Pop) a) c
+    pop_told_at : (a b : ℤ) → IsTold m (call_of 0 Pop a b) (ring_telling n Pop a) c
     pop_told_at a b = by_size
         (λ none.
         let quiet : is_live (part_of ps h) ≡ false = none_live none in
-        told_by m (call_of 13 a b) (ring_telling n (Some Pop) a) c T.Absent (compared 0 0 Eq (pos h) ∷ compared (place_part h) 0 Eq (pos 0) ∷ []) []
+        told_by m (call_of 0 Pop a b) (ring_telling n Pop a) c T.Absent (compared 0 0 Eq (pos h) ∷ compared (place_part h) 0 Eq (pos 0) ∷ []) []
         (ap (λ x. told_at (pop_told n h (part_of ps h) x) c) quiet, ap (λ x. items_at (reading_of (pop_told n h (part_of ps h) x)) c) quiet, ap (λ x. updates_at (reading_of (pop_told n h (part_of ps h) x)) c) quiet)
         (λ q r. within_two 0 h q (IsRead (reading_of (pop_told n h (part_of ps h) (is_live (part_of ps h)))) c q) (omega arith) below (no_pop n h (part_of ps h) (is_live (part_of ps h)) c q) r)
         (inl refl, (inr (inl refl), tt))
@@ -408,10 +406,10 @@ module _ (n : ℕ) (small : n + 2 < 2 ^ 32) where
           end_updates e 0 h (λ x ws. pop_told n x ws (is_live ws)) at ∙ ap (λ x. updates_at (reading_of (pop_told n h (part_of e (place_part h)) x)) e) still,
         ))
         (sym (ap (λ r. (pop_front r).reply) (no_rows none)))
-        (left_alone (call_of 13 a b) (ap (λ r. r ∷ []) (no_rows none ∙ sym (ap (λ r. (pop_front r).after) (no_rows none)))) (ap (λ r. is_write 13 (pop_front r).reply) (no_rows none))))
+        (left_alone (call_of 0 Pop a b) (ap (λ r. r ∷ []) (no_rows none ∙ sym (ap (λ r. (pop_front r).after) (no_rows none)))) (ap (λ r. is_write Pop (pop_front r).reply) (no_rows none))))
         (λ r some.
         let loud : is_live (part_of ps h) ≡ true = some_live r some in
-        told_by m (call_of 13 a b) (ring_telling n (Some Pop) a) c (T.Value (value_at c h)) (compared 0 0 Eq (pos h) ∷ Seen (place_part h) ∷ []) popped
+        told_by m (call_of 0 Pop a b) (ring_telling n Pop a) c (T.Value (value_at c h)) (compared 0 0 Eq (pos h) ∷ Seen (place_part h) ∷ []) popped
         (ap (λ x. told_at (pop_told n h (part_of ps h) x) c) loud, ap (λ x. items_at (reading_of (pop_told n h (part_of ps h) x)) c) loud, ap (λ x. updates_at (reading_of (pop_told n h (part_of ps h) x)) c) loud)
         (λ q r. within_two 0 h q (IsRead (reading_of (pop_told n h (part_of ps h) (is_live (part_of ps h)))) c q) (omega arith) below (no_pop n h (part_of ps h) (is_live (part_of ps h)) c q) r)
         (inl refl, (inr (inl refl), tt))
@@ -430,14 +428,14 @@ module _ (n : ℕ) (small : n + 2 < 2 ^ 32) where
           widths = (omega arith, refl, (omega (arith, (place h below).0), (place h below).1, tt));
           valid = is_popped r some;
           rows = ap (λ x. x ∷ []) (rows_popped r some ∙ ap (numbered 0) (sym (values-numbered 1 (along n c (next n h) r))) ∙ sym (ap (λ x. (pop_front x).after) (some_rows r some)));
-          writes = ap (λ x. is_write 13 (pop_front x).reply) (some_rows r some);
+          writes = ap (λ x. is_write Pop (pop_front x).reply) (some_rows r some);
         }))
 
-    front_told_at : (a b : ℤ) → IsTold m (call_of 0 a b) (ring_telling n (Some Get) a) c
+    front_told_at : (a b : ℤ) → IsTold m (call_of 0 Get a b) (ring_telling n Get a) c
     front_told_at a b = by_size
         (λ none.
         let quiet : is_live (part_of ps h) ≡ false = none_live none in
-        told_by m (call_of 0 a b) (ring_telling n (Some Get) a) c T.Absent (compared 0 0 Eq (pos h) ∷ compared (place_part h) 0 Eq (pos 0) ∷ []) []
+        told_by m (call_of 0 Get a b) (ring_telling n Get a) c T.Absent (compared 0 0 Eq (pos h) ∷ compared (place_part h) 0 Eq (pos 0) ∷ []) []
         (ap (λ x. told_at (front_told h (part_of ps h) x) c) quiet, ap (λ x. items_at (reading_of (front_told h (part_of ps h) x)) c) quiet, ap (λ x. updates_at (reading_of (front_told h (part_of ps h) x)) c) quiet)
         (λ q r. within_two 0 h q (IsRead (reading_of (front_told h (part_of ps h) (is_live (part_of ps h)))) c q) (omega arith) below (no_front h (part_of ps h) (is_live (part_of ps h)) c q) r)
         (inl refl, (inr (inl refl), tt))
@@ -450,10 +448,10 @@ module _ (n : ℕ) (small : n + 2 < 2 ^ 32) where
           end_updates e 0 h (λ x ws. front_told x ws (is_live ws)) at ∙ ap (λ x. updates_at (reading_of (front_told h (part_of e (place_part h)) x)) e) still,
         ))
         (sym (ap front_of (no_rows none)))
-        (left_alone (call_of 0 a b) refl (ap (λ r. is_write 0 (front_of r)) (no_rows none))))
+        (left_alone (call_of 0 Get a b) refl (ap (λ r. is_write Get (front_of r)) (no_rows none))))
         (λ r some.
         let loud : is_live (part_of ps h) ≡ true = some_live r some in
-        told_by m (call_of 0 a b) (ring_telling n (Some Get) a) c (T.Value (value_at c h)) (compared 0 0 Eq (pos h) ∷ Seen (place_part h) ∷ []) []
+        told_by m (call_of 0 Get a b) (ring_telling n Get a) c (T.Value (value_at c h)) (compared 0 0 Eq (pos h) ∷ Seen (place_part h) ∷ []) []
         (ap (λ x. told_at (front_told h (part_of ps h) x) c) loud, ap (λ x. items_at (reading_of (front_told h (part_of ps h) x)) c) loud, ap (λ x. updates_at (reading_of (front_told h (part_of ps h) x)) c) loud)
         (λ q r. within_two 0 h q (IsRead (reading_of (front_told h (part_of ps h) (is_live (part_of ps h)))) c q) (omega arith) below (no_front h (part_of ps h) (is_live (part_of ps h)) c q) r)
         (inl refl, (inr (inl refl), tt))
@@ -466,16 +464,16 @@ module _ (n : ℕ) (small : n + 2 < 2 ^ 32) where
           end_updates e 0 h (λ x ws. front_told x ws (is_live ws)) at ∙ ap (λ x. updates_at (reading_of (front_told h (part_of e (place_part h)) x)) e) still,
         ))
         (sym (ap front_of (some_rows r some)))
-        (left_alone (call_of 0 a b) refl (ap (λ x. is_write 0 (front_of x)) (some_rows r some))))
+        (left_alone (call_of 0 Get a b) refl (ap (λ x. is_write Get (front_of x)) (some_rows r some))))
 
     -- some
     live_same : (e : Parts) (b : Bool) → ContentsFit e → Agrees e (compared (place_part h) 0 Eq (bit b) ∷ []) c → is_live (part_of e (place_part h)) ≡ b
     live_same e b f g = ap (λ x. int_eq x (pos 1)) (tells_equal e c (place_part h) 0 (bit b) [] f g) ∙ bit_live b
 
-    some_told_at : (a b : ℤ) → IsTold m (call_of 7 a b) (ring_telling n (Some Has) a) c
+    some_told_at : (a b : ℤ) → IsTold m (call_of 0 Has a b) (ring_telling n Has a) c
     some_told_at a b =
         let b0 : Bool = is_live (part_of ps h) in
-        told_by m (call_of 7 a b) (ring_telling n (Some Has) a) c (T.Flag b0) (compared 0 0 Eq (pos h) ∷ compared (place_part h) 0 Eq (bit b0) ∷ []) []
+        told_by m (call_of 0 Has a b) (ring_telling n Has a) c (T.Flag b0) (compared 0 0 Eq (pos h) ∷ compared (place_part h) 0 Eq (bit b0) ∷ []) []
         (refl, refl, refl)
         (λ q r. within_two 0 h q ⊥ (omega arith) below (λ z. z) r)
         (inl refl, (inr (inl refl), tt))
@@ -487,10 +485,10 @@ module _ (n : ℕ) (small : n + 2 < 2 ^ 32) where
           end_updates e 0 h (λ x ws. some_told x (is_live ws)) at,
         ))
         (ap T.Flag (live_head ∙ ap (nat_lt 0) (sym many)))
-        (left_alone (call_of 7 a b) refl refl)
+        (left_alone (call_of 0 Has a b) refl refl)
 
     -- len
-    len_ends : (e : Parts) (x y : ℕ) → word_of e 0 0 ≡ pos x → word_of e 1 0 ≡ pos y → (told_at (ring_telling n (Some Len) (pos 0)) e ≡ told_at (len_told n x y (nat_eq x y)) e) × (updates_at (reading_of (ring_telling n (Some Len) (pos 0))) e ≡ updates_at (reading_of (len_told n x y (nat_eq x y))) e)
+    len_ends : (e : Parts) (x y : ℕ) → word_of e 0 0 ≡ pos x → word_of e 1 0 ≡ pos y → (told_at (ring_telling n Len (pos 0)) e ≡ told_at (len_told n x y (nat_eq x y)) e) × (updates_at (reading_of (ring_telling n Len (pos 0))) e ≡ updates_at (reading_of (len_told n x y (nat_eq x y))) e)
     len_ends e x y p q = (
       ap (λ z. told_at (len_told n (natural z) (natural (word_of e 1 0)) (nat_eq (natural z) (natural (word_of e 1 0)))) e) p ∙ ap (λ z. told_at (len_told n x (natural z) (nat_eq x (natural z))) e) q,
       ap (λ z. updates_at (reading_of (len_told n (natural z) (natural (word_of e 1 0)) (nat_eq (natural z) (natural (word_of e 1 0))))) e) p ∙ ap (λ z. updates_at (reading_of (len_told n x (natural z) (nat_eq x (natural z)))) e) q,
@@ -503,11 +501,11 @@ module _ (n : ℕ) (small : n + 2 < 2 ^ 32) where
     within_ends q true (inr (inr (inr z))) = absurd z
     within_ends q false (inr (inr z)) = absurd z
 
-    len_told_at : (a b : ℤ) → IsTold m (call_of 8 a b) (ring_telling n (Some Len) a) c
+    len_told_at : (a b : ℤ) → IsTold m (call_of 0 Len a b) (ring_telling n Len a) c
     len_told_at a b = by_test (nat_eq h t)
         (λ same.
         let b0 : Bool = is_live (part_of ps h) in
-        told_by m (call_of 8 a b) (ring_telling n (Some Len) a) c (T.Value (pos (if b0 then n else 0))) (compared 0 0 Eq (pos h) ∷ compared 1 0 Eq (pos t) ∷ compared (place_part h) 0 Eq (bit b0) ∷ []) []
+        told_by m (call_of 0 Len a b) (ring_telling n Len a) c (T.Value (pos (if b0 then n else 0))) (compared 0 0 Eq (pos h) ∷ compared 1 0 Eq (pos t) ∷ compared (place_part h) 0 Eq (bit b0) ∷ []) []
         (ap (λ x. told_at (len_told n h t x) c) same, ap (λ x. items_at (reading_of (len_told n h t x)) c) same, ap (λ x. updates_at (reading_of (len_told n h t x)) c) same)
         (λ q r. within_ends q (nat_eq h t) r)
         (inl refl, (inr (inl refl), (inr (inr (read_of (nat_eq h t) same)), tt)))
@@ -520,9 +518,9 @@ module _ (n : ℕ) (small : n + 2 < 2 ^ 32) where
           (len_ends e h t at to).1 ∙ ap (λ x. updates_at (reading_of (len_told n h t x)) e) same,
         ))
         (ap (λ k. T.Value (pos k)) (sym (ap (λ x. if x then (if b0 then n else 0) else offset n h t) same) ∙ size_is n c v ∙ sym many))
-        (left_alone (call_of 8 a b) refl refl))
+        (left_alone (call_of 0 Len a b) refl refl))
         (λ other.
-        told_by m (call_of 8 a b) (ring_telling n (Some Len) a) c (T.Value (pos (offset n h t))) (compared 0 0 Eq (pos h) ∷ compared 1 0 Eq (pos t) ∷ []) []
+        told_by m (call_of 0 Len a b) (ring_telling n Len a) c (T.Value (pos (offset n h t))) (compared 0 0 Eq (pos h) ∷ compared 1 0 Eq (pos t) ∷ []) []
         (ap (λ x. told_at (len_told n h t x) c) other, ap (λ x. items_at (reading_of (len_told n h t x)) c) other, ap (λ x. updates_at (reading_of (len_told n h t x)) c) other)
         (λ q r. within_ends q (nat_eq h t) r)
         (inl refl, (inr (inl refl), tt))
@@ -535,7 +533,7 @@ module _ (n : ℕ) (small : n + 2 < 2 ^ 32) where
           (len_ends e h t at to).1 ∙ ap (λ x. updates_at (reading_of (len_told n h t x)) e) other,
         ))
         (ap (λ k. T.Value (pos k)) (sym (ap (λ x. if x then (if is_live (part_of ps h) then n else 0) else offset n h t) other) ∙ size_is n c v ∙ sym many))
-        (left_alone (call_of 8 a b) refl refl))
+        (left_alone (call_of 0 Len a b) refl refl))
       where
         read_of : (x : Bool) → x ≡ true → IsRead (reading_of (len_told n h t x)) c (place_part h)
         read_of true e = inl refl
@@ -557,11 +555,11 @@ module _ (n : ℕ) (small : n + 2 < 2 ^ 32) where
 
   told : (call : Call) → RingTakes call → ToldAt call
   told = by_call ToldAt
-      (λ a b. on_parts (call_of 0 a b) (λ h s ps below few widths fits lives. front_told_at h s ps below few widths fits lives a b))
-      (λ a b. on_parts (call_of 7 a b) (λ h s ps below few widths fits lives. some_told_at h s ps below few widths fits lives a b))
-      (λ a b. on_parts (call_of 8 a b) (λ h s ps below few widths fits lives. len_told_at h s ps below few widths fits lives a b))
-      (λ a b f. on_parts (call_of 12 a b) (λ h s ps below few widths fits lives. push_told_at h s ps below few widths fits lives a b f))
-      (λ a b. on_parts (call_of 13 a b) (λ h s ps below few widths fits lives. pop_told_at h s ps below few widths fits lives a b))
+      (λ a b. on_parts (call_of 0 Get a b) (λ h s ps below few widths fits lives. front_told_at h s ps below few widths fits lives a b))
+      (λ a b. on_parts (call_of 0 Has a b) (λ h s ps below few widths fits lives. some_told_at h s ps below few widths fits lives a b))
+      (λ a b. on_parts (call_of 0 Len a b) (λ h s ps below few widths fits lives. len_told_at h s ps below few widths fits lives a b))
+      (λ a b f. on_parts (call_of 0 Push a b) (λ h s ps below few widths fits lives. push_told_at h s ps below few widths fits lives a b f))
+      (λ a b. on_parts (call_of 0 Pop a b) (λ h s ps below few widths fits lives. pop_told_at h s ps below few widths fits lives a b))
 
   -- the opening
   opened_widths : (k : ℕ) → map length (replicate k (pos 0 ∷ pos 0 ∷ [])) ≡ replicate k 2

@@ -3,7 +3,6 @@ ghost use Rattle.std.specs.Prelude.{◌≡◌, ◌<◌, ◌+◌, ◌^◌, ℤ, L
 ghost use Rattle.sto_model.specs.declared.operation.Operation.TheVariants.{Len};
 ghost use Rattle.std.specs.Int.{w64};
 ghost use Rattle.std.specs.Int.RustNames.{FitsSigned};
-ghost use Rattle.sto_model.specs.Operations.{operation_of};
 ghost use Rattle.sto_type.specs.Known.{known, IsPartOf};
 ghost use Rattle.sto_type.specs.Plans.{planned};
 ghost use Rattle.sto_type.specs.Telling.{plan_of};
@@ -16,13 +15,13 @@ use sto_model::{Call, Operation};
 use sto_part::NoMemory;
 use sto_type::{Answer, AnswerPool, KnownParts};
 
-/// Whether a ring takes calls of this code.
-pub(crate) fn is_taken(code: u8) -> bool
-    ensures { result ≡ takes_by (operation_of code) }
+/// Whether a ring takes calls of this operation.
+pub(crate) fn is_taken(operation: Operation) -> bool
+    ensures { result ≡ takes_by operation }
 {
     matches!(
-        Operation::from_code(code),
-        Some(Operation::Push | Operation::Pop | Operation::Get | Operation::Has | Operation::Len)
+        operation,
+        Operation::Push | Operation::Pop | Operation::Get | Operation::Has | Operation::Len
     )
 }
 
@@ -54,7 +53,7 @@ fn len_between(
 fn plan_len(pool: &mut AnswerPool, places: u32, cache: &KnownParts<'_>) -> Result<Answer, NoMemory>
     requires few { places + 2 < 2 ^ 32 }
     requires part { (d : Seq (Seq ℤ)) × IsRing places d × IsPartOf (known cache.now) d }
-    ensures { IfOk result (λ a. planned a ≡ plan_of (ring_telling places (Some Len) (pos 0)) (known cache.now)) }
+    ensures { IfOk result (λ a. planned a ≡ plan_of (ring_telling places Len (pos 0)) (known cache.now)) }
 {
     let Some(head) = cache.first_word(0) else {
         return Ok(Answer::Need(0));
@@ -81,26 +80,26 @@ pub(crate) fn answer(
     requires few { places + 2 < 2 ^ 32 }
     requires fits { FitsSigned w64 call.now.a }
     requires part { (d : Seq (Seq ℤ)) × IsRing places d × IsPartOf (known cache.now) d }
-    ensures { IfOk result (λ a. planned a ≡ plan_of (ring_telling places (operation_of call.now.code) call.now.a) (known cache.now)) }
+    ensures { IfOk result (λ a. planned a ≡ plan_of (ring_telling places call.now.operation call.now.a) (known cache.now)) }
 {
-    match Operation::from_code(call.code) {
-        Some(Operation::Push) => match at_end(cache, places, 1) {
+    match call.operation {
+        Operation::Push => match at_end(cache, places, 1) {
             Err(part) => Ok(Answer::Need(part)),
             Ok(end) => push_answer(pool, places, &end, call.a),
         },
-        Some(Operation::Pop) => match at_end(cache, places, 0) {
+        Operation::Pop => match at_end(cache, places, 0) {
             Err(part) => Ok(Answer::Need(part)),
             Ok(end) => pop_answer(pool, places, &end),
         },
-        Some(Operation::Get) => match at_end(cache, places, 0) {
+        Operation::Get => match at_end(cache, places, 0) {
             Err(part) => Ok(Answer::Need(part)),
             Ok(end) => front_answer(pool, places, &end),
         },
-        Some(Operation::Has) => match at_end(cache, places, 0) {
+        Operation::Has => match at_end(cache, places, 0) {
             Err(part) => Ok(Answer::Need(part)),
             Ok(end) => some_answer(pool, places, &end),
         },
-        Some(Operation::Len) => plan_len(pool, places, cache),
+        Operation::Len => plan_len(pool, places, cache),
         _ => absent(pool),
     }
 }

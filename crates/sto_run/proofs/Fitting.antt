@@ -12,7 +12,8 @@ use Rattle.sto_lang.specs.Limits.{most_parts}
 use Rattle.sto_lang.specs.Objects.{Declaration, shapes_of}
 use Rattle.sto_lang.specs.Scripts.{File}
 use Rattle.sto_lang.specs.Sound.{HasRanges, IsSound}
-use Rattle.sto_store.specs.Stores.{rank, of_kind, IsFit, AreFit}
+use Rattle.sto_model.specs.Sizes.{rank}
+use Rattle.sto_store.specs.Stores.{of_kind, IsFit, AreFit}
 use Rattle.sto_run.proofs.Ordered.{by_test, order_is}
 
 is_fit : (version : ℕ) (s : Shape) → HasRanges version s → IsFit s

@@ -5,7 +5,8 @@ use Rattle.std.proofs.lemmas.Bool.Decides.{nat_tests}
 use Rattle.sto_model.specs.declared.shape.Shape.{Shape}
 use Rattle.sto_model.specs.declared.shape.Shape.TheVariants.{Single, Counter, Array, Hash, Tree, Vector}
 use Rattle.sto_lang.specs.Shapes.{of_rank, in_order}
-use Rattle.sto_store.specs.Stores.{rank, of_kind, AreInOrder}
+use Rattle.sto_model.specs.Sizes.{rank}
+use Rattle.sto_store.specs.Stores.{of_kind, AreInOrder}
 use Rattle.sto_store.proofs.Built.{kind_append}
 
 pub by_test : {P : Type 0} (b : Bool) → (b ≡ true → P) → (b ≡ false → P) → P

@@ -20,8 +20,8 @@ script_left t trial = machine_left t.meaning t.valid t.sizes script_of then_of l
 
 -- what its calls have been answered so far
 abbrev pub heard_by : {T : Type 0} → Machine T ScriptBody → List PlainReply
-heard_by (Running a) = map plain_reply a.log.replies.items
-heard_by (Committing r) = map plain_reply r.log.replies.items
+heard_by (Running a) = map plain_reply a.log.table.replies.items
+heard_by (Committing r) = map plain_reply r.log.table.replies.items
 heard_by Over = []
 
 -- on words with so many passes, the attempt is one of the transaction of the file at a place, on a type, and has led from the view

@@ -8,8 +8,8 @@ use Rattle.std.proofs.lemmas.List.{append_assoc}
 use Rattle.std.proofs.lemmas.List.Sums.{sum_by-cons}
 use Rattle.sto_model.specs.declared.shape.Shape.{Shape}
 use Rattle.sto_model.specs.declared.shape.Shape.TheVariants.{Single, Counter, Array, Hash, Tree, Vector}
-use Rattle.sto_model.specs.Sizes.{part_count}
-use Rattle.sto_store.specs.Stores.{rank, of_kind, IsFit, AreFit, AreInOrder}
+use Rattle.sto_model.specs.Sizes.{part_count, rank}
+use Rattle.sto_store.specs.Stores.{of_kind, IsFit, AreFit, AreInOrder}
 use Rattle.sto_store.proofs.Built.{kind_append}
 use Rattle.sto_shared_store.specs.Plans.{IsPlan, last_rank}
 

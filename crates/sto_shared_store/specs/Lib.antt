@@ -5,6 +5,7 @@ pub mod Plans
 pub mod Refusals
 pub mod Closings
 pub mod Working
+pub mod ErrorTexts
 pub use Rattle.sto_interactive.specs.Sessions
 pub use Rattle.sto_interactive.specs.Steps
 pub use Rattle.sto_core.specs.Allowed

@@ -31,7 +31,7 @@ Leads to _ _ = ⊥
 
 -- what the calls of its transaction were answered so far, if it is in one
 abbrev pub replies_of : {T : Type 0} {n : naming.Ghosts T} → OwnedWorker T n → Option (Listed Reply)
-replies_of w = option_and_then (λ x. option_map (λ p. p.attempt.replies) x.live) w.session
+replies_of w = option_and_then (λ x. option_map (λ p. p.attempt.table.replies) x.live) w.session
 
 -- what a worker knew when it was given out, to whom this slot was lent
 abbrev pub view_at : {T : Type 0} {n : naming.Ghosts T} → Arc (Hired T n) Global → View

@@ -2,8 +2,8 @@
 use Rattle.std.specs.Prelude.{◌≡◌, ◌<◌, ◌≤◌, ◌+◌, ◌*◌, ◌^◌, ℕ, max, nat_lt, Bool, true, false, ◌&&◌, ◌⊎◌, List, [], ◌∷◌, ◌++◌, length, sum_by}
 use Rattle.sto_model.specs.declared.shape.Shape.{Shape}
 use Rattle.sto_model.specs.declared.shape.Shape.TheVariants.{Single, Counter, Array, Hash, Tree, Vector}
-use Rattle.sto_model.specs.Sizes.{part_count}
-use Rattle.sto_store.specs.Stores.{rank, AreFit, AreInOrder}
+use Rattle.sto_model.specs.Sizes.{part_count, rank}
+use Rattle.sto_store.specs.Stores.{AreFit, AreInOrder}
 use Rattle.sto_shared_store.specs.declared.plan_error.PlanError.{PlanError}
 use Rattle.sto_shared_store.specs.declared.plan_error.PlanError.TheVariants.{OutOfOrder, NoRoom, TooMany, NoMemory}
 

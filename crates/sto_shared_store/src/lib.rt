@@ -2,6 +2,7 @@
 #![tactic(auto)]
 
 mod closing;
+mod display;
 mod given;
 mod open_error;
 mod opening;

@@ -6,7 +6,7 @@ ghost use Rattle.sto_store.specs.StoresLaw.{IsFitting};
 ghost use Rattle.sto_shared_store.specs.Plans.{IsPlan, IsReason, CanStand};
 
 use crate::plan_error::PlanError;
-use crate::sizes::{is_fit, part_count, rank};
+use crate::sizes::is_fit;
 use std::alloc::Global;
 use std::marker::Model;
 use sto_model::{Shape, Shapes};
@@ -22,8 +22,8 @@ pub struct ObjectPlan {
     shapes: Shapes,
     // How many parts they have together.
     parts: u32,
-    // The number of the last kind.
-    last: u32,
+    // Where the last kind stands in the order of kinds.
+    last: u8,
 }
 
 impl Model for ObjectPlan {
@@ -74,14 +74,14 @@ impl ObjectPlan {
         ensures kept { OnErr result (self.new ≡ self.old) }
         ensures reason { IfErr result (λ error. IsReason error self.old shape) }
     {
-        let kind = rank(&shape);
+        let kind = shape.rank();
         if kind < self.last {
             return Err(PlanError::OutOfOrder);
         }
         if !is_fit(&shape) {
             return Err(PlanError::NoRoom);
         }
-        let count = part_count(&shape);
+        let count = shape.part_count();
         let number = self.shapes.len();
         if u64::from(u32::MAX - self.parts) < count || number == u32::MAX {
             return Err(PlanError::TooMany);

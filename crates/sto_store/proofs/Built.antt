@@ -6,7 +6,7 @@ use Rattle.std.proofs.lemmas.List.Sums.{sum_by-cons}
 use Rattle.std.proofs.lemmas.Option.{slice_get_within}
 use Rattle.sto_model.specs.declared.shape.Shape.{Shape}
 use Rattle.sto_model.specs.declared.shape.Shape.TheVariants.{Single, Counter, Array, Hash, Tree, Vector}
-use Rattle.sto_model.specs.Sizes.{part_count}
+use Rattle.sto_model.specs.Sizes.{part_count, rank}
 use Rattle.sto_array.specs.ArrayedRows.{length-replicate}
 use Rattle.sto_hash.specs.HashedParts.{length-widths}
 use Rattle.sto_tree.specs.Layout.{listed, width_of}
@@ -16,7 +16,7 @@ use Rattle.sto_type.specs.JoinedLaw.{joined_lawful}
 use Rattle.sto_type.specs.Members.{AreFew, parts_of}
 use Rattle.sto_type.proofs.Answering.{take_get}
 use Rattle.sto_type.proofs.Members.{parts-all, parts-append}
-use Rattle.sto_store.specs.Stores.{rank, of_kind, mean_of, means_of, sized_means, means, IsFit, AreFit, AreSized, AreWide}
+use Rattle.sto_store.specs.Stores.{of_kind, mean_of, means_of, sized_means, means, IsFit, AreFit, AreSized, AreWide}
 use Rattle.sto_store.specs.StoresLaw.{all_machines, length-machines, map_shapes, sized_is, wide_is}
 
 by_test : {P : Type 0} (b : Bool) → (b ≡ true → P) → (b ≡ false → P) → P

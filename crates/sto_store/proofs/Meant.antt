@@ -17,7 +17,8 @@ use Rattle.sto_array.specs.ArrayedLaw.{array_lawful}
 use Rattle.sto_hash.specs.HashedLaw.{hash_lawful}
 use Rattle.sto_tree.specs.Lawful.{tree_is_lawful}
 use Rattle.sto_vector.specs.VectoredLaw.{vector_lawful}
-use Rattle.sto_store.specs.Stores.{rank, of_kind, mean_of, means, means_of, IsFit, AreFit}
+use Rattle.sto_model.specs.Sizes.{rank}
+use Rattle.sto_store.specs.Stores.{of_kind, mean_of, means, means_of, IsFit, AreFit}
 use Rattle.sto_store.proofs.Built.{means_lawful, kind_lawful}
 
 -- the value that a shape opens with is of 64 bits

@@ -3,6 +3,7 @@ use Rattle.std.specs.Prelude.{◌≡◌, ◌<◌, ◌≤◌, ◌+◌, ◌*◌, �
 use Rattle.sto_part.specs.Codes.{IsSignedCode}
 use Rattle.sto_model.specs.declared.shape.Shape.{Shape}
 use Rattle.sto_model.specs.declared.shape.Shape.TheVariants.{Single, Counter, Array, Hash, Tree, Vector}
+use Rattle.sto_model.specs.Sizes.{rank}
 use Rattle.sto_type.specs.Meaning.{Meaning}
 use Rattle.sto_type.specs.Joined.{joined, all_joined}
 use Rattle.sto_box.specs.Boxed.{box_meaning}
@@ -12,15 +13,6 @@ use Rattle.sto_hash.specs.Hashed.{hash_meaning}
 use Rattle.sto_tree.specs.Layout.{parts_of}
 use Rattle.sto_tree.specs.Meaning.{tree_meaning}
 use Rattle.sto_vector.specs.Vectored.{vector_meaning}
-
--- the number of a shape's kind
-abbrev pub rank : Shape → ℕ
-rank (Single v) = 0
-rank (Counter v) = 1
-rank (Array len v) = 2
-rank (Hash buckets places) = 3
-rank (Tree leaves) = 4
-rank (Vector capacity) = 5
 
 -- the shapes of one kind, as they stand
 abbrev pub of_kind : ℕ → List Shape → List Shape

@@ -1,5 +1,5 @@
 -- The meaning of a store has the plain objects of its shapes, takes what they take, and numbers its parts in the order of the objects.
-use Rattle.std.specs.Prelude.{◌≡◌, ◌<◌, ◌≤◌, ◌+◌, ◌-◌, ◌*◌, ℕ, zero, suc, ℤ, pos, nat_lt, Bool, true, false, Option, Some, None, List, [], ◌∷◌, ◌++◌, map, length, slice_get, IsTrue, refl}
+use Rattle.std.specs.Prelude.{◌≡◌, ◌<◌, ◌≤◌, ◌+◌, ◌-◌, ◌*◌, ℕ, zero, suc, ℤ, pos, nat_lt, Bool, true, false, Some, List, [], ◌∷◌, ◌++◌, map, length, slice_get, IsTrue, refl}
 use Rattle.std.specs.Int.{w64}
 use Rattle.std.specs.Int.RustNames.{FitsSigned}
 use Rattle.std.proofs.Common.{ap, sym, ◌∙◌, arith, subst, length-append, append_assoc}
@@ -10,11 +10,11 @@ use Rattle.sto_model.specs.declared.operation.Operation.{Operation}
 use Rattle.sto_model.specs.declared.operation.Operation.TheVariants.{Get, Set, Add, Test as TestWord, Take, Put, Remove, Has, Len, Next, Count, Scan, Push, Pop}
 use Rattle.sto_model.specs.declared.shape.Shape.{Shape}
 use Rattle.sto_model.specs.declared.shape.Shape.TheVariants.{Single, Counter, Array, Hash, Tree, Vector}
-use Rattle.sto_model.specs.Operations.{operation_of}
 use Rattle.sto_model.specs.Sizes.{part_count}
-use Rattle.sto_model.specs.Objects.{machine_of, machines_of, takes_by, IsTaken}
+use Rattle.sto_model.specs.Objects.{machine_of, machines_of, takes, takes_call, IsTaken}
 use Rattle.sto_type.specs.Meaning.{Meaning}
 use Rattle.sto_type.specs.Joined.{call_beyond, home_moved, joined, no_meaning, all_joined}
+use Rattle.sto_model.proofs.CallFacts.{taken_call}
 use Rattle.sto_type.proofs.Answering.{home_past}
 use Rattle.sto_array.specs.Arrayed.{homes_from as array_homes}
 use Rattle.sto_hash.specs.Hashed.{homes_from as hash_homes}
@@ -88,137 +88,129 @@ one_got s t zero e = (refl, cc)
 one_got s t (suc zero) e = cc
 one_got s t (suc (suc i)) e = cc
 
--- a box takes the codes 0 and 1
-box_far : (v : ℤ) (n : ℕ) (a : ℤ) → takes_by (Single v) (slice_get (Add ∷ TestWord ∷ Take ∷ Put ∷ Remove ∷ Has ∷ Len ∷ Next ∷ Count ∷ Scan ∷ Push ∷ Pop ∷ []) n) a ≡ false
-box_far v zero a = refl
-box_far v (suc zero) a = refl
-box_far v (suc (suc zero)) a = refl
-box_far v (suc (suc (suc zero))) a = refl
-box_far v (suc (suc (suc (suc zero)))) a = refl
-box_far v (suc (suc (suc (suc (suc zero))))) a = refl
-box_far v (suc (suc (suc (suc (suc (suc zero)))))) a = refl
-box_far v (suc (suc (suc (suc (suc (suc (suc zero))))))) a = refl
-box_far v (suc (suc (suc (suc (suc (suc (suc (suc zero)))))))) a = refl
-box_far v (suc (suc (suc (suc (suc (suc (suc (suc (suc zero))))))))) a = refl
-box_far v (suc (suc (suc (suc (suc (suc (suc (suc (suc (suc zero)))))))))) a = refl
-box_far v (suc (suc (suc (suc (suc (suc (suc (suc (suc (suc (suc zero))))))))))) a = refl
-box_far v (suc (suc (suc (suc (suc (suc (suc (suc (suc (suc (suc (suc n)))))))))))) a = refl
+-- what a box, a counter, an array, a hash table and a vector take does not hang on their numbers
+box_alike : (v : ℤ) (o : Operation) (a : ℤ) → takes (Single v) o a ≡ takes (Single (pos 0)) o a
+box_alike v Get a = refl
+box_alike v Set a = refl
+box_alike v Add a = refl
+box_alike v TestWord a = refl
+box_alike v Take a = refl
+box_alike v Put a = refl
+box_alike v Remove a = refl
+box_alike v Has a = refl
+box_alike v Len a = refl
+box_alike v Next a = refl
+box_alike v Count a = refl
+box_alike v Scan a = refl
+box_alike v Push a = refl
+box_alike v Pop a = refl
 
-box_code : (v : ℤ) (code : ℕ) (a : ℤ) → takes_by (Single v) (operation_of code) a ≡ true → code ≤ 1
-box_code v zero a e = omega arith
-box_code v (suc zero) a e = omega arith
-box_code v (suc (suc n)) a e = let z : false ≡ true = sym (box_far v n a) ∙ e in cc
+counter_alike : (v : ℤ) (o : Operation) (a : ℤ) → takes (Counter v) o a ≡ takes (Counter (pos 0)) o a
+counter_alike v Get a = refl
+counter_alike v Set a = refl
+counter_alike v Add a = refl
+counter_alike v TestWord a = refl
+counter_alike v Take a = refl
+counter_alike v Put a = refl
+counter_alike v Remove a = refl
+counter_alike v Has a = refl
+counter_alike v Len a = refl
+counter_alike v Next a = refl
+counter_alike v Count a = refl
+counter_alike v Scan a = refl
+counter_alike v Push a = refl
+counter_alike v Pop a = refl
 
--- what a counter, an array, a hash table and a vector take does not hang on their numbers
-counter_alike : (v : ℤ) (o : Option Operation) (a : ℤ) → takes_by (Counter v) o a ≡ takes_by (Counter (pos 0)) o a
-counter_alike v None a = refl
-counter_alike v (Some Get) a = refl
-counter_alike v (Some Set) a = refl
-counter_alike v (Some Add) a = refl
-counter_alike v (Some TestWord) a = refl
-counter_alike v (Some Take) a = refl
-counter_alike v (Some Put) a = refl
-counter_alike v (Some Remove) a = refl
-counter_alike v (Some Has) a = refl
-counter_alike v (Some Len) a = refl
-counter_alike v (Some Next) a = refl
-counter_alike v (Some Count) a = refl
-counter_alike v (Some Scan) a = refl
-counter_alike v (Some Push) a = refl
-counter_alike v (Some Pop) a = refl
+array_alike : (n : ℕ) (v : ℤ) (o : Operation) (a : ℤ) → takes (Array n v) o a ≡ takes (Array 0 (pos 0)) o a
+array_alike n v Get a = refl
+array_alike n v Set a = refl
+array_alike n v Add a = refl
+array_alike n v TestWord a = refl
+array_alike n v Take a = refl
+array_alike n v Put a = refl
+array_alike n v Remove a = refl
+array_alike n v Has a = refl
+array_alike n v Len a = refl
+array_alike n v Next a = refl
+array_alike n v Count a = refl
+array_alike n v Scan a = refl
+array_alike n v Push a = refl
+array_alike n v Pop a = refl
 
-array_alike : (n : ℕ) (v : ℤ) (o : Option Operation) (a : ℤ) → takes_by (Array n v) o a ≡ takes_by (Array 0 (pos 0)) o a
-array_alike n v None a = refl
-array_alike n v (Some Get) a = refl
-array_alike n v (Some Set) a = refl
-array_alike n v (Some Add) a = refl
-array_alike n v (Some TestWord) a = refl
-array_alike n v (Some Take) a = refl
-array_alike n v (Some Put) a = refl
-array_alike n v (Some Remove) a = refl
-array_alike n v (Some Has) a = refl
-array_alike n v (Some Len) a = refl
-array_alike n v (Some Next) a = refl
-array_alike n v (Some Count) a = refl
-array_alike n v (Some Scan) a = refl
-array_alike n v (Some Push) a = refl
-array_alike n v (Some Pop) a = refl
+hash_alike : (b p : ℕ) (o : Operation) (a : ℤ) → takes (Hash b p) o a ≡ takes (Hash b 0) o a
+hash_alike b p Get a = refl
+hash_alike b p Set a = refl
+hash_alike b p Add a = refl
+hash_alike b p TestWord a = refl
+hash_alike b p Take a = refl
+hash_alike b p Put a = refl
+hash_alike b p Remove a = refl
+hash_alike b p Has a = refl
+hash_alike b p Len a = refl
+hash_alike b p Next a = refl
+hash_alike b p Count a = refl
+hash_alike b p Scan a = refl
+hash_alike b p Push a = refl
+hash_alike b p Pop a = refl
 
-hash_alike : (b p : ℕ) (o : Option Operation) (a : ℤ) → takes_by (Hash b p) o a ≡ takes_by (Hash b 0) o a
-hash_alike b p None a = refl
-hash_alike b p (Some Get) a = refl
-hash_alike b p (Some Set) a = refl
-hash_alike b p (Some Add) a = refl
-hash_alike b p (Some TestWord) a = refl
-hash_alike b p (Some Take) a = refl
-hash_alike b p (Some Put) a = refl
-hash_alike b p (Some Remove) a = refl
-hash_alike b p (Some Has) a = refl
-hash_alike b p (Some Len) a = refl
-hash_alike b p (Some Next) a = refl
-hash_alike b p (Some Count) a = refl
-hash_alike b p (Some Scan) a = refl
-hash_alike b p (Some Push) a = refl
-hash_alike b p (Some Pop) a = refl
+vector_alike : (n : ℕ) (o : Operation) (a : ℤ) → takes (Vector n) o a ≡ takes (Vector 0) o a
+vector_alike n Get a = refl
+vector_alike n Set a = refl
+vector_alike n Add a = refl
+vector_alike n TestWord a = refl
+vector_alike n Take a = refl
+vector_alike n Put a = refl
+vector_alike n Remove a = refl
+vector_alike n Has a = refl
+vector_alike n Len a = refl
+vector_alike n Next a = refl
+vector_alike n Count a = refl
+vector_alike n Scan a = refl
+vector_alike n Push a = refl
+vector_alike n Pop a = refl
 
-vector_alike : (n : ℕ) (o : Option Operation) (a : ℤ) → takes_by (Vector n) o a ≡ takes_by (Vector 0) o a
-vector_alike n None a = refl
-vector_alike n (Some Get) a = refl
-vector_alike n (Some Set) a = refl
-vector_alike n (Some Add) a = refl
-vector_alike n (Some TestWord) a = refl
-vector_alike n (Some Take) a = refl
-vector_alike n (Some Put) a = refl
-vector_alike n (Some Remove) a = refl
-vector_alike n (Some Has) a = refl
-vector_alike n (Some Len) a = refl
-vector_alike n (Some Next) a = refl
-vector_alike n (Some Count) a = refl
-vector_alike n (Some Scan) a = refl
-vector_alike n (Some Push) a = refl
-vector_alike n (Some Pop) a = refl
-
-one_taken : (s : Shape) (call : Call) → IsTaken (s ∷ []) call → (call.object ≡ 0) × IsTrue (takes_by s (operation_of call.code) call.a)
+one_taken : (s : Shape) (call : Call) → IsTaken (s ∷ []) call → (call.object ≡ 0) × (call.c ≡ pos 0) × IsTrue (takes s call.operation call.a)
 one_taken s call t =
     let g : (call.object ≡ 0) × (s ≡ t.0) = one_got s t.0 call.object t.1 in
-    (g.0, subst (λ x. IsTrue (takes_by x (operation_of call.code) call.a)) (sym g.1) t.2)
+    let h : (call.c ≡ pos 0) × IsTrue (takes s call.operation call.a) = taken_call s call (subst (λ x. IsTrue (takes_call x call)) (sym g.1) t.2) in
+    (g.0, h.0, h.1)
 
 pub one_takes : (s : Shape) → TakesAll (mean_of s) (s ∷ [])
 one_takes (Single v) = record {
   many = refl;
   takes = λ call t f.
-      let g : (call.object ≡ 0) × IsTrue (takes_by (Single v) (operation_of call.code) call.a) = one_taken (Single v) call t in
-      record { object = g.0; code = box_code v call.code call.a g.1; value = λ e. ∣ tt ∣₁; fits = f.first; fits_too = f.second };
+      let g : (call.object ≡ 0) × (call.c ≡ pos 0) × IsTrue (takes (Single v) call.operation call.a) = one_taken (Single v) call t in
+      record { object = g.0; third = g.1; taken = sym (box_alike v call.operation call.a) ∙ g.2; value = λ e. ∣ tt ∣₁; fits = f.first; fits_too = f.second };
 }
 one_takes (Counter v) = record {
   many = refl;
   takes = λ call t f.
-      let g : (call.object ≡ 0) × IsTrue (takes_by (Counter v) (operation_of call.code) call.a) = one_taken (Counter v) call t in
-      record { object = g.0; taken = sym (counter_alike v (operation_of call.code) call.a) ∙ g.1; fits = f.first; fits_too = f.second };
+      let g : (call.object ≡ 0) × (call.c ≡ pos 0) × IsTrue (takes (Counter v) call.operation call.a) = one_taken (Counter v) call t in
+      record { object = g.0; third = g.1; taken = sym (counter_alike v call.operation call.a) ∙ g.2; fits = f.first; fits_too = f.second };
 }
 one_takes (Array len v) = record {
   many = refl;
   takes = λ call t f.
-      let g : (call.object ≡ 0) × IsTrue (takes_by (Array len v) (operation_of call.code) call.a) = one_taken (Array len v) call t in
-      record { object = g.0; taken = sym (array_alike len v (operation_of call.code) call.a) ∙ g.1; fits = f.first; fits_too = f.second };
+      let g : (call.object ≡ 0) × (call.c ≡ pos 0) × IsTrue (takes (Array len v) call.operation call.a) = one_taken (Array len v) call t in
+      record { object = g.0; third = g.1; taken = sym (array_alike len v call.operation call.a) ∙ g.2; fits = f.first; fits_too = f.second };
 }
 one_takes (Hash buckets places) = record {
   many = refl;
   takes = λ call t f.
-      let g : (call.object ≡ 0) × IsTrue (takes_by (Hash buckets places) (operation_of call.code) call.a) = one_taken (Hash buckets places) call t in
-      record { object = g.0; taken = sym (hash_alike buckets places (operation_of call.code) call.a) ∙ g.1; fits = f.first; fits_too = f.second };
+      let g : (call.object ≡ 0) × (call.c ≡ pos 0) × IsTrue (takes (Hash buckets places) call.operation call.a) = one_taken (Hash buckets places) call t in
+      record { object = g.0; third = g.1; taken = sym (hash_alike buckets places call.operation call.a) ∙ g.2; fits = f.first; fits_too = f.second };
 }
 one_takes (Tree leaves) = record {
   many = refl;
   takes = λ call t f.
-      let g : (call.object ≡ 0) × IsTrue (takes_by (Tree leaves) (operation_of call.code) call.a) = one_taken (Tree leaves) call t in
-      record { object = g.0; operation = g.1; fits = f.first; fits_too = f.second };
+      let g : (call.object ≡ 0) × (call.c ≡ pos 0) × IsTrue (takes (Tree leaves) call.operation call.a) = one_taken (Tree leaves) call t in
+      record { object = g.0; third = g.1; operation = g.2; fits = f.first; fits_too = f.second };
 }
 one_takes (Vector capacity) = record {
   many = refl;
   takes = λ call t f.
-      let g : (call.object ≡ 0) × IsTrue (takes_by (Vector capacity) (operation_of call.code) call.a) = one_taken (Vector capacity) call t in
-      record { object = g.0; taken = sym (vector_alike capacity (operation_of call.code) call.a) ∙ g.1; fits = f.first; fits_too = f.second };
+      let g : (call.object ≡ 0) × (call.c ≡ pos 0) × IsTrue (takes (Vector capacity) call.operation call.a) = one_taken (Vector capacity) call t in
+      record { object = g.0; third = g.1; taken = sym (vector_alike capacity call.operation call.a) ∙ g.2; fits = f.first; fits_too = f.second };
 }
 
 pub all_take : (ss : List Shape) → TakesAll (all_joined (map mean_of ss)) ss

@@ -1,4 +1,4 @@
--- The operations: their words, their codes, and which kinds have them.
+-- The operations: their words, and which kinds have them.
 use Rattle.std.specs.Prelude.{ℕ, List, [], ◌∷◌, ◌==◌, Option, None, Some, if◌then◌else◌, codes}
 use Rattle.std.specs.Str.{bytes_eq}
 use Rattle.sto_part.specs.declared.pred.Test.{Test}
@@ -22,14 +22,6 @@ test_word Lt = codes "lt"
 test_word Le = codes "le"
 test_word Gt = codes "gt"
 test_word Ge = codes "ge"
-
-abbrev pub test_number : Test → ℕ
-test_number Eq = 0
-test_number Ne = 1
-test_number Lt = 2
-test_number Le = 3
-test_number Gt = 4
-test_number Ge = 5
 
 -- the operation that a word is in version 2 alone
 abbrev pub late_operation_of : List ℕ → Option OperationWord
@@ -61,22 +53,6 @@ operation_word Count = codes "count"
 operation_word Scan = codes "scan"
 operation_word Push = codes "push"
 operation_word Pop = codes "pop"
-
-abbrev pub code_of : OperationWord → ℕ
-code_of Get = 0
-code_of Set = 1
-code_of Add = 2
-code_of (Compare test) = 3
-code_of Take = 4
-code_of Put = 5
-code_of Remove = 6
-code_of Has = 7
-code_of Len = 8
-code_of Next = 9
-code_of Count = 10
-code_of Scan = 11
-code_of Push = 12
-code_of Pop = 13
 
 -- the kinds that have an operation with such arguments: the table of operations.
 -- Where there are none, no form of the operation has so many.

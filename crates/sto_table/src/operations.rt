@@ -13,8 +13,8 @@ use crate::law::{Steps, Telling};
 use crate::shared::Shared;
 use crate::stance::Stance;
 use atomic_table::Seat;
-use sto_item::Updates;
-use sto_part::{Naming, Parts};
+use sto_core::CommitLists;
+use sto_part::Naming;
 
 impl<T: Naming> Shared<T> {
     // Where the version of the part stands.
@@ -93,16 +93,14 @@ impl<T: Naming> Shared<T> {
     }
 
     // Raises the clock, and gives the clock before.
-    pub(crate) fn raise_clock<J: Telling>(
+    pub(crate) fn raise_clock<J: Telling, L: CommitLists>(
         &self,
         seat: &mut Seat<(), Stance>,
-        updates: &Updates,
-        seen: &Parts,
-        loaded: &Parts,
+        lists: &L,
     ) -> u64
         requires fits { FitsIn self.now.table.shared.table_id self.now.table.shared.key.opening.value.items seat.old }
         requires passes { J.passes ≡ self.now.table.shared.key.passes }
-        requires event { J.event ≡ Draw updates.now.items seen.now.items loaded.now.items }
+        requires event { J.event ≡ Draw (L.updates lists.now) (L.seen lists.now) (L.loaded lists.now) }
         requires allowed { Allowed T.valid J.event seat.old.me.0.view }
         ensures table { seat.new.table_id ≡ seat.old.table_id }
         ensures tells { Plays T.valid J.passes J.event seat.old.me result seat.new.me }

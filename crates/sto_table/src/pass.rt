@@ -9,9 +9,8 @@ use crate::shared::{Rest, Shared};
 use crate::stance::Stance;
 use atomic_table::Seat;
 use std::marker::{Brand, PhantomData};
-use sto_core::Cells;
-use sto_item::Updates;
-use sto_part::{Naming, Parts};
+use sto_core::{Cells, CommitLists};
+use sto_part::Naming;
 use sto_version::Version;
 
 /// A running pass, which borrows the words.
@@ -80,10 +79,8 @@ impl<'t, T: Naming> Cells<T> for Pass<'t, T> {
         Version(self.shared.load_version::<Brand>(&mut self.seat, part))
     }
 
-    fn draw(&mut self, updates: &Updates, seen: &Parts, loaded: &Parts) -> u64 {
-        let clock = self
-            .shared
-            .raise_clock::<Brand>(&mut self.seat, updates, seen, loaded);
+    fn draw_by<L: CommitLists>(&mut self, lists: &L) -> u64 {
+        let clock = self.shared.raise_clock::<Brand, L>(&mut self.seat, lists);
         self.ticket = clock + 1;
         self.ticket
     }

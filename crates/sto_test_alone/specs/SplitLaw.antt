@@ -1,38 +1,44 @@
 -- The tests' type is lawful.
-use Rattle.std.specs.Prelude.{◌≡◌, ◌≤◌, ◌⊎◌, ℕ, zero, suc, ℤ, Bool, true, false, nat_eq, Option, Some, None, List, [], ◌∷◌, map, length, IsSome, refl}
+use Rattle.std.specs.Prelude.{◌≡◌, ℕ, ℤ, pos, Bool, true, false, Option, Some, None, List, [], ◌∷◌, map, length, IsSome, IsTrue, refl}
 use Rattle.std.specs.Int.{w64}
 use Rattle.std.specs.Int.RustNames.{FitsSigned}
 use Rattle.std.proofs.Common.{ap, sym, ◌∙◌, arith, inl, inr, subst}
 use Rattle.sto_item.specs.Agreement.{Agrees}
 use Rattle.sto_model.specs.declared.call.Call.{Call}
+use Rattle.sto_model.specs.declared.operation.Operation.{Operation}
+use Rattle.sto_model.specs.declared.operation.Operation.TheVariants.{Get, Set, Add, Test as TestWord, Take, Put, Remove, Has, Len, Next, Count, Scan, Push, Pop}
+use Rattle.sto_model.specs.declared.shape.Shape.TheVariants.{Single}
+use Rattle.sto_model.specs.Calls.{call_of}
+use Rattle.sto_model.specs.Objects.{takes}
 use Rattle.sto_model.specs.SequentialObjects.{reply_to}
 use Rattle.sto_type.specs.Known.{Parts, Known, IsWithin}
 use Rattle.sto_type.specs.SteadyLaw.{by_known, no_part, same_part}
 use Rattle.sto_type.specs.Meaning.{Meaning, IsLawful, IsSteady, IsNeed, IsUpdated, IsPartOfObject, EachKnown, EachInside}
-use Rattle.sto_test_alone.specs.Split.{split_meaning, split_asked, split_rows, SplitTakes}
+use Rattle.sto_test_alone.specs.Split.{split_meaning, is_get, split_asked, split_rows, SplitTakes}
 
--- a get and a set
-abbrev a_get : ℤ → ℤ → Call
-a_get a b = record { object = 0; code = 0; a = a; b = b }
-
-abbrev a_set : ℤ → ℤ → Call
-a_set a b = record { object = 0; code = 1; a = a; b = b }
-
-low : (c : ℕ) → c ≤ 1 → (c ≡ 0) ⊎ (c ≡ 1)
-low zero l = inl refl
-low (suc zero) l = inr refl
-low (suc (suc c)) l = absurd (omega (arith, l))
+by_operation : {P : Type 0} (o : Operation) (a : ℤ) → IsTrue (takes (Single (pos 0)) o a) → (o ≡ Get → P) → (o ≡ Set → P) → P
+by_operation Get a h get set = get refl
+by_operation Set a h get set = set refl
+by_operation Add a h get set = cc
+by_operation TestWord a h get set = cc
+by_operation Take a h get set = cc
+by_operation Put a h get set = cc
+by_operation Remove a h get set = cc
+by_operation Has a h get set = cc
+by_operation Len a h get set = cc
+by_operation Next a h get set = cc
+by_operation Count a h get set = cc
+by_operation Scan a h get set = cc
+by_operation Push a h get set = cc
+by_operation Pop a h get set = cc
 
 -- what is so of both is so of each call that is taken
-by_call : (P : Call → Type 0) → ((a b : ℤ) → P (a_get a b)) → ((a b : ℤ) → FitsSigned w64 a → FitsSigned w64 b → P (a_set a b)) → (call : Call) → SplitTakes call → P call
-by_call P get set call t = elim (low call.code t.code) [
-  | inl none ↦
-      let same : call ≡ a_get call.a call.b = λ i. record { object = t.object i; code = none i; a = call.a; b = call.b } in
-      subst P (sym same) (get call.a call.b)
-  | inr one ↦
-      let same : call ≡ a_set call.a call.b = λ i. record { object = t.object i; code = one i; a = call.a; b = call.b } in
-      subst P (sym same) (set call.a call.b t.fits t.fits_too)
-]
+by_call : (P : Call → Type 0) → ((a b : ℤ) → P (call_of 0 Get a b)) → ((a b : ℤ) → FitsSigned w64 a → FitsSigned w64 b → P (call_of 0 Set a b)) → (call : Call) → SplitTakes call → P call
+by_call P get set call t =
+    let same : (o : Operation) → call.operation ≡ o → call ≡ call_of 0 o call.a call.b = λ o e i. record { object = t.object i; operation = e i; a = call.a; b = call.b; c = t.third i } in
+    by_operation call.operation call.a t.taken
+    (λ e. subst P (sym (same Get e)) (get call.a call.b))
+    (λ e. subst P (sym (same Set e)) (set call.a call.b t.fits t.fits_too))
 
 -- both parts belong to the one object
 first_own : IsPartOfObject ((0, 0) ∷ (0, 1) ∷ []) 0 0
@@ -42,13 +48,13 @@ second_own : IsPartOfObject ((0, 0) ∷ (0, 1) ∷ []) 0 1
 second_own = record { in_range = omega arith; owner = refl }
 
 -- what a get needs
-get_needs : (first second : ℤ) (a b : ℤ) (k : Known) (p : ℕ) (o v : Option (List ℤ)) → k 0 ≡ o → k 1 ≡ v → split_asked true o v ≡ Some p → IsNeed (split_meaning first second) (a_get a b) k p
+get_needs : (first second : ℤ) (a b : ℤ) (k : Known) (p : ℕ) (o v : Option (List ℤ)) → k 0 ≡ o → k 1 ≡ v → split_asked true o v ≡ Some p → IsNeed (split_meaning first second) (call_of 0 Get a b) k p
 get_needs first second a b k p None v e f h =
     let same : 0 ≡ p = cc in
-    subst (λ (q : ℕ). IsNeed (split_meaning first second) (a_get a b) k q) same (record { unknown = e; owned = first_own })
+    subst (λ (q : ℕ). IsNeed (split_meaning first second) (call_of 0 Get a b) k q) same (record { unknown = e; owned = first_own })
 get_needs first second a b k p (Some ws) None e f h =
     let same : 1 ≡ p = cc in
-    subst (λ (q : ℕ). IsNeed (split_meaning first second) (a_get a b) k q) same (record { unknown = f; owned = second_own })
+    subst (λ (q : ℕ). IsNeed (split_meaning first second) (call_of 0 Get a b) k q) same (record { unknown = f; owned = second_own })
 get_needs first second a b k p (Some ws) (Some vs) e f h = cc
 
 get_knows : (o v : Option (List ℤ)) → split_asked true o v ≡ None → IsSome o × IsSome v
@@ -101,15 +107,15 @@ split_off true k more w e = elim (by_known (k 0)) [
 
 split_steady : (first second : ℤ) → IsSteady (split_meaning first second)
 split_steady first second = record {
-  steady = λ call k more p w none e. split_on (nat_eq call.code 0) k more p w none e;
-  done = λ call k more w e. (split_off (nat_eq call.code 0) k more w e, refl);
+  steady = λ call k more p w none e. split_on (is_get call.operation) k more p w none e;
+  done = λ call k more w e. (split_off (is_get call.operation) k more w e, refl);
 }
 
 module _ (first second : ℤ) where
   abbrev m : Meaning
   m = split_meaning first second
 
-  set_both : (a b x y : ℤ) → FitsSigned w64 a → FitsSigned w64 b → IsUpdated m (a_set a b) ((x ∷ []) ∷ (y ∷ []) ∷ []) (m.updates (a_set a b) ((x ∷ []) ∷ (y ∷ []) ∷ []))
+  set_both : (a b x y : ℤ) → FitsSigned w64 a → FitsSigned w64 b → IsUpdated m (call_of 0 Set a b) ((x ∷ []) ∷ (y ∷ []) ∷ []) (m.updates (call_of 0 Set a b) ((x ∷ []) ∷ (y ∷ []) ∷ []))
   set_both a b x y f g = record {
     ordered = ((omega arith, (omega arith, tt)), (refl, (refl, tt)));
     owned = (first_own, (second_own, tt));
@@ -140,7 +146,7 @@ module _ (first second : ℤ) where
     holds = λ call k d r. by_call (λ c. Agrees d (m.items c k) d) (λ a b. (refl, (refl, tt))) (λ a b x y. tt) call r.takes;
     same_reply = λ call k d e r v a.
         by_call (λ c. Agrees e (m.items c k) d → reply_to m.machines c (m.rows e) ≡ reply_to m.machines c (m.rows d))
-        (λ a b h. ap (λ (ps : List ℤ × List ℤ). reply_to m.machines (a_get a b) (split_rows (ps.0 ∷ ps.1 ∷ []) ∷ [])) (λ i. (h.0 i, h.1.0 i)))
+        (λ a b h. ap (λ (ps : List ℤ × List ℤ). reply_to m.machines (call_of 0 Get a b) (split_rows (ps.0 ∷ ps.1 ∷ []) ∷ [])) (λ i. (h.0 i, h.1.0 i)))
         (λ a b x y h. refl) call r.takes a;
     same_updates = λ call k d e r v a. refl;
     updated = λ call c t v.
@@ -148,6 +154,6 @@ module _ (first second : ℤ) where
         (λ a b. record { ordered = (tt, tt); owned = tt; widths = tt; valid = v; rows = refl; writes = refl })
         (λ a b x y.
         let parts : (x : ℤ) × (y : ℤ) × (c ≡ (x ∷ []) ∷ (y ∷ []) ∷ []) = two_parts c v.widths in
-        subst (λ (d : Parts). IsUpdated m (a_set a b) d (m.updates (a_set a b) d)) (sym parts.2) (set_both a b parts.0 parts.1 x y))
+        subst (λ (d : Parts). IsUpdated m (call_of 0 Set a b) d (m.updates (call_of 0 Set a b) d)) (sym parts.2) (set_both a b parts.0 parts.1 x y))
         call t;
   }

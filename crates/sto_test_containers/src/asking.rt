@@ -4,7 +4,7 @@ ghost use Rattle.std.specs.Prelude.{IfOk};
 use crate::once::Once;
 use std::alloc::{AllocError, Global};
 use sto_item::{Items, Updates};
-use sto_model::{Call, Reply};
+use sto_model::{Call, Operation, Reply};
 use sto_part::{Contents, NoMemory};
 use sto_test_alone::{Ran, run_alone};
 use sto_type::TxType;
@@ -29,13 +29,8 @@ impl Answer {
 }
 
 /// A call of the one object.
-pub(crate) fn call(code: u8, a: i64, b: i64) -> Call {
-    Call {
-        object: 0,
-        code,
-        a,
-        b,
-    }
+pub(crate) fn call(operation: Operation, a: i64, b: i64) -> Call {
+    Call::new(0, operation, a, b)
 }
 
 /// What the call is answered, where the type takes it; the contents become those after it.

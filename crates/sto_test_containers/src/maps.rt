@@ -11,7 +11,7 @@ use std::alloc::{AllocError, Global};
 use std::collections::BTreeMap;
 use sto_item::Item;
 use sto_map::TMap;
-use sto_model::{Call, Reply};
+use sto_model::{Call, Operation, Reply};
 use sto_part::{Change, Test};
 
 #[test]
@@ -38,7 +38,7 @@ fn put_new(alloc: Global) -> Result<bool, AllocError> {
     is_answered(
         alloc,
         &TMap::new(1, 1, 1, 0),
-        &[call(5, 8, 3)],
+        &[call(Operation::Put, 8, 3)],
         &Reply::Done,
         &items,
         &[
@@ -51,7 +51,7 @@ fn put_new(alloc: Global) -> Result<bool, AllocError> {
 
 // No stripe has room.
 fn put_too_many(alloc: Global) -> Result<bool, AllocError> {
-    let calls = [call(5, 8, 3), call(5, 9, 4)];
+    let calls = [call(Operation::Put, 8, 3), call(Operation::Put, 9, 4)];
     let items = [Item::Seen(1), Item::Seen(2), compares(0, 0, Test::Lt, 1)];
     is_answered(
         alloc,
@@ -65,7 +65,7 @@ fn put_too_many(alloc: Global) -> Result<bool, AllocError> {
 
 // A key that is there takes no room, also where there is none.
 fn put_present(alloc: Global) -> Result<bool, AllocError> {
-    let calls = [call(5, 8, 3), call(5, 8, 4)];
+    let calls = [call(Operation::Put, 8, 3), call(Operation::Put, 8, 4)];
     is_answered(
         alloc,
         &TMap::new(1, 1, 1, 0),
@@ -78,7 +78,7 @@ fn put_present(alloc: Global) -> Result<bool, AllocError> {
 
 // A removed key gives its room back.
 fn remove_one(alloc: Global) -> Result<bool, AllocError> {
-    let calls = [call(5, 8, 3), call(6, 8, 0)];
+    let calls = [call(Operation::Put, 8, 3), call(Operation::Remove, 8, 0)];
     is_answered(
         alloc,
         &TMap::new(1, 1, 1, 0),
@@ -90,7 +90,7 @@ fn remove_one(alloc: Global) -> Result<bool, AllocError> {
 }
 
 fn get_none(alloc: Global) -> Result<bool, AllocError> {
-    let calls = [call(5, 8, 3), call(0, 9, 0)];
+    let calls = [call(Operation::Put, 8, 3), call(Operation::Get, 9, 0)];
     let items = [Item::Seen(1), Item::Seen(2)];
     is_answered(
         alloc,
@@ -116,7 +116,7 @@ fn keys_that_collide(rt: HostRuntime) {
 
 // The key 3 passes over the place of the key 1.
 fn put_past_another(alloc: Global) -> Result<bool, AllocError> {
-    let calls = [call(5, 1, 10), call(5, 3, 30)];
+    let calls = [call(Operation::Put, 1, 10), call(Operation::Put, 3, 30)];
     let items = [
         Item::Seen(2),
         Item::Seen(5),
@@ -141,7 +141,7 @@ fn put_past_another(alloc: Global) -> Result<bool, AllocError> {
 
 // The key 2 passes over the last place, and stands at the first.
 fn put_round_the_end(alloc: Global) -> Result<bool, AllocError> {
-    let calls = [call(5, 0, 10), call(5, 2, 20)];
+    let calls = [call(Operation::Put, 0, 10), call(Operation::Put, 2, 20)];
     let items = [
         Item::Seen(3),
         Item::Seen(6),
@@ -166,7 +166,12 @@ fn put_round_the_end(alloc: Global) -> Result<bool, AllocError> {
 
 // The place of the key 1 is free, and the key 3 still stands behind it.
 fn get_past_a_removed(alloc: Global) -> Result<bool, AllocError> {
-    let calls = [call(5, 1, 10), call(5, 3, 30), call(6, 1, 0), call(0, 3, 0)];
+    let calls = [
+        call(Operation::Put, 1, 10),
+        call(Operation::Put, 3, 30),
+        call(Operation::Remove, 1, 0),
+        call(Operation::Get, 3, 0),
+    ];
     let items = [Item::Seen(3), Item::Seen(9)];
     is_answered(
         alloc,
@@ -180,7 +185,11 @@ fn get_past_a_removed(alloc: Global) -> Result<bool, AllocError> {
 
 // Past the place of the key 1 goes one key less.
 fn remove_past_another(alloc: Global) -> Result<bool, AllocError> {
-    let calls = [call(5, 1, 10), call(5, 3, 30), call(6, 3, 0)];
+    let calls = [
+        call(Operation::Put, 1, 10),
+        call(Operation::Put, 3, 30),
+        call(Operation::Remove, 3, 0),
+    ];
     is_answered(
         alloc,
         &TMap::new(3, 3, 1, 0),
@@ -239,12 +248,12 @@ fn random_call(random: &mut Pcg32, span: u32) -> Call
     let key = random_key(random, span);
     let other = i64::MAX - i64::from(random.next_word());
     match random.next_word() % 10 {
-        0..4 => call(5, key, other),
-        4..6 => call(6, key, 0),
-        6 => call(0, key, 0),
-        7 => call(7, key, 0),
-        8 => call(1, key, other),
-        _ => call(2, key, other),
+        0..4 => call(Operation::Put, key, other),
+        4..6 => call(Operation::Remove, key, 0),
+        6 => call(Operation::Get, key, 0),
+        7 => call(Operation::Has, key, 0),
+        8 => call(Operation::Set, key, other),
+        _ => call(Operation::Add, key, other),
     }
 }
 

@@ -1,7 +1,7 @@
 //! Plain objects of std, which answer calls as containers are to.
 use std::alloc::{AllocError, Global};
 use std::collections::{BTreeMap, VecDeque};
-use sto_model::{Call, Pairs, Reply};
+use sto_model::{Call, Operation, Pairs, Reply};
 
 /// A plain object.
 pub(crate) trait Plain {
@@ -29,15 +29,18 @@ pub(crate) struct PlainRing {
 impl Plain for PlainRows {
     fn answer(&mut self, alloc: Global, call: &Call) -> Result<Reply, AllocError> {
         let here = self.values.get(&call.a).copied();
-        match (call.code, here) {
-            (0, Some(value)) => Ok(Reply::Value(value)),
-            (1, Some(_)) => self.set(call.a, call.b),
-            (2, Some(value)) => self.set(call.a, value.wrapping_add(call.b)),
-            (5, None) if self.values.len() >= self.most => Ok(Reply::Full),
-            (5, _) => self.set(call.a, call.b),
-            (6, _) => Ok(Reply::Flag(self.values.remove(&call.a).is_some())),
-            (7, _) => Ok(Reply::Flag(here.is_some())),
-            (11, _) => Ok(Reply::Pairs(pairs_of(alloc, self.rows(alloc)?.as_slice())?)),
+        match (call.operation, here) {
+            (Operation::Get, Some(value)) => Ok(Reply::Value(value)),
+            (Operation::Set, Some(_)) => self.set(call.a, call.b),
+            (Operation::Add, Some(value)) => self.set(call.a, value.wrapping_add(call.b)),
+            (Operation::Put, None) if self.values.len() >= self.most => Ok(Reply::Full),
+            (Operation::Put, _) => self.set(call.a, call.b),
+            (Operation::Remove, _) => Ok(Reply::Flag(self.values.remove(&call.a).is_some())),
+            (Operation::Has, _) => Ok(Reply::Flag(here.is_some())),
+            (Operation::Scan, _) => {
+                let rows = self.rows(alloc)?;
+                Ok(Reply::Pairs(pairs_of(alloc, rows.as_slice())?))
+            }
             _ => Ok(Reply::Absent),
         }
     }
@@ -60,15 +63,15 @@ impl PlainRows {
 
 impl Plain for PlainRing {
     fn answer(&mut self, _alloc: Global, call: &Call) -> Result<Reply, AllocError> {
-        match call.code {
-            7 => Ok(Reply::Flag(!self.values.is_empty())),
-            8 => Ok(Reply::Value(self.values.len() as i64)),
-            12 if self.values.len() >= self.most => Ok(Reply::Full),
-            12 => {
+        match call.operation {
+            Operation::Has => Ok(Reply::Flag(!self.values.is_empty())),
+            Operation::Len => Ok(Reply::Value(self.values.len() as i64)),
+            Operation::Push if self.values.len() >= self.most => Ok(Reply::Full),
+            Operation::Push => {
                 self.values.push_back(call.a)?;
                 Ok(Reply::Done)
             }
-            13 => Ok(value_or_absent(self.values.pop_front())),
+            Operation::Pop => Ok(value_or_absent(self.values.pop_front())),
             _ => Ok(value_or_absent(self.values.front().copied())),
         }
     }

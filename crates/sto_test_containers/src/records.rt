@@ -9,7 +9,7 @@ use rand_core::utils::NextWord;
 use rand_pcg::Pcg32;
 use std::alloc::{AllocError, Global};
 use std::collections::BTreeMap;
-use sto_model::{Call, Reply};
+use sto_model::{Call, Operation, Reply};
 use sto_part::{Change, Test};
 use sto_record::TRecord;
 
@@ -26,7 +26,7 @@ fn worked_records(rt: HostRuntime) {
 
 // A get observes its word alone.
 fn get_one(alloc: Global) -> Result<bool, AllocError> {
-    let calls = [call(1, 1, 5), call(0, 1, 0)];
+    let calls = [call(Operation::Set, 1, 5), call(Operation::Get, 1, 0)];
     let items = [compares(0, 1, Test::Eq, 5)];
     is_answered(
         alloc,
@@ -41,7 +41,7 @@ fn get_one(alloc: Global) -> Result<bool, AllocError> {
 // An add observes nothing, and goes round at the end of the numbers.
 fn add_to_one(alloc: Global) -> Result<bool, AllocError> {
     let record = TRecord::new(2, i64::MAX);
-    let add = [call(2, 0, 1)];
+    let add = [call(Operation::Add, 0, 1)];
     let written = is_answered(
         alloc,
         &record,
@@ -50,7 +50,7 @@ fn add_to_one(alloc: Global) -> Result<bool, AllocError> {
         &[],
         &[(0, &[Change::Add(1), Change::Keep])],
     )?;
-    let calls = [call(2, 0, 1), call(0, 0, 0)];
+    let calls = [call(Operation::Add, 0, 1), call(Operation::Get, 0, 0)];
     let items = [compares(0, 0, Test::Eq, i64::MIN)];
     let round = is_answered(alloc, &record, &calls, &Reply::Value(i64::MIN), &items, &[])?;
     Ok(written && round)
@@ -58,8 +58,10 @@ fn add_to_one(alloc: Global) -> Result<bool, AllocError> {
 
 fn none_there(alloc: Global) -> Result<bool, AllocError> {
     let record = TRecord::new(2, 0);
-    let below = is_answered(alloc, &record, &[call(1, -1, 4)], &Reply::Absent, &[], &[])?;
-    let above = is_answered(alloc, &record, &[call(0, 2, 0)], &Reply::Absent, &[], &[])?;
+    let set_below = [call(Operation::Set, -1, 4)];
+    let get_above = [call(Operation::Get, 2, 0)];
+    let below = is_answered(alloc, &record, &set_below, &Reply::Absent, &[], &[])?;
+    let above = is_answered(alloc, &record, &get_above, &Reply::Absent, &[], &[])?;
     Ok(below && above)
 }
 
@@ -107,9 +109,9 @@ fn random_call(random: &mut Pcg32, width: u32) -> Call
     let index = i64::from(random.next_word() % (width + 2)) - 1;
     let other = i64::MAX - i64::from(random.next_word());
     match random.next_word() % 8 {
-        0 => call(11, 0, 0),
-        1..3 => call(0, index, 0),
-        3..5 => call(1, index, other),
-        _ => call(2, index, other),
+        0 => call(Operation::Scan, 0, 0),
+        1..3 => call(Operation::Get, index, 0),
+        3..5 => call(Operation::Set, index, other),
+        _ => call(Operation::Add, index, other),
     }
 }

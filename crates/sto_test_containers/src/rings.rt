@@ -8,7 +8,7 @@ use rand_pcg::Pcg32;
 use std::alloc::{AllocError, Global};
 use std::collections::VecDeque;
 use sto_item::Item;
-use sto_model::{Call, Reply};
+use sto_model::{Call, Operation, Reply};
 use sto_part::{Change, Test};
 use sto_ring::TRing;
 
@@ -31,7 +31,7 @@ fn push_one(alloc: Global) -> Result<bool, AllocError> {
     is_answered(
         alloc,
         &TRing::new(2),
-        &[call(12, 5, 0)],
+        &[call(Operation::Push, 5, 0)],
         &Reply::Done,
         &items,
         &[
@@ -42,14 +42,22 @@ fn push_one(alloc: Global) -> Result<bool, AllocError> {
 }
 
 fn push_too_many(alloc: Global) -> Result<bool, AllocError> {
-    let calls = [call(12, 5, 0), call(12, 6, 0), call(12, 7, 0)];
+    let calls = [
+        call(Operation::Push, 5, 0),
+        call(Operation::Push, 6, 0),
+        call(Operation::Push, 7, 0),
+    ];
     let items = [compares(1, 0, Test::Eq, 0), compares(2, 0, Test::Eq, 1)];
     is_answered(alloc, &TRing::new(2), &calls, &Reply::Full, &items, &[])
 }
 
 // A pop observes the head and its place, and never the tail.
 fn pop_the_first(alloc: Global) -> Result<bool, AllocError> {
-    let calls = [call(12, 5, 0), call(12, 6, 0), call(13, 0, 0)];
+    let calls = [
+        call(Operation::Push, 5, 0),
+        call(Operation::Push, 6, 0),
+        call(Operation::Pop, 0, 0),
+    ];
     let items = [compares(0, 0, Test::Eq, 0), Item::Seen(2)];
     is_answered(
         alloc,
@@ -63,20 +71,20 @@ fn pop_the_first(alloc: Global) -> Result<bool, AllocError> {
 
 fn pop_of_none(alloc: Global) -> Result<bool, AllocError> {
     let items = [compares(0, 0, Test::Eq, 0), compares(2, 0, Test::Eq, 0)];
-    let calls = [call(13, 0, 0)];
+    let calls = [call(Operation::Pop, 0, 0)];
     is_answered(alloc, &TRing::new(2), &calls, &Reply::Absent, &items, &[])
 }
 
 // The tail stands before the head.
 fn size_round_the_end(alloc: Global) -> Result<bool, AllocError> {
     let calls = [
-        call(12, 5, 0),
-        call(12, 6, 0),
-        call(13, 0, 0),
-        call(13, 0, 0),
-        call(12, 7, 0),
-        call(12, 8, 0),
-        call(8, 0, 0),
+        call(Operation::Push, 5, 0),
+        call(Operation::Push, 6, 0),
+        call(Operation::Pop, 0, 0),
+        call(Operation::Pop, 0, 0),
+        call(Operation::Push, 7, 0),
+        call(Operation::Push, 8, 0),
+        call(Operation::Len, 0, 0),
     ];
     let items = [compares(0, 0, Test::Eq, 2), compares(1, 0, Test::Eq, 1)];
     is_answered(alloc, &TRing::new(3), &calls, &Reply::Value(2), &items, &[])
@@ -115,10 +123,10 @@ fn walk_rings(alloc: Global, ring: &TRing, places: u32) -> Result<Tally, AllocEr
 
 fn random_call(random: &mut Pcg32) -> Call {
     match random.next_word() % 8 {
-        0..3 => call(12, i64::from(random.next_word()), 0),
-        3..5 => call(13, 0, 0),
-        5 => call(0, 0, 0),
-        6 => call(7, 0, 0),
-        _ => call(8, 0, 0),
+        0..3 => call(Operation::Push, i64::from(random.next_word()), 0),
+        3..5 => call(Operation::Pop, 0, 0),
+        5 => call(Operation::Get, 0, 0),
+        6 => call(Operation::Has, 0, 0),
+        _ => call(Operation::Len, 0, 0),
     }
 }

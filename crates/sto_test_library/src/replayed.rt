@@ -1,16 +1,11 @@
 //! Code that is run over replies by hand.
 use crate::codes::{GiveUp, Swap};
-use sto_library::{Action, BoxId, Call, ShortReply, Stop, Tx};
+use sto_library::{Action, BoxId, Call, Operation, ShortReply, Stop, Tx};
 use sto_model::Reply;
 
 // What a call on the first object asks.
-fn call(code: u8, a: i64) -> Call {
-    Call {
-        object: 0,
-        code,
-        a,
-        b: 0,
-    }
+fn call(operation: Operation, a: i64) -> Call {
+    Call::new(0, operation, a, 0)
 }
 
 #[test]
@@ -19,11 +14,11 @@ fn code_stops_at_a_call_without_a_reply(rt: HostRuntime) {
     let swap = Swap(of, 8);
     assert_eq!(rt;
         swap.run(&mut Tx::of_heard(&[])),
-        Err(Stop::Asks(call(0, 0)))
+        Err(Stop::Asks(call(Operation::Get, 0)))
     );
     assert_eq!(rt;
         swap.run(&mut Tx::of_heard(&[ShortReply::Value(7)])),
-        Err(Stop::Asks(call(1, 8)))
+        Err(Stop::Asks(call(Operation::Set, 8)))
     );
     let all = [ShortReply::Value(7), ShortReply::Done];
     assert_eq!(rt; swap.run(&mut Tx::of_heard(&all)), Ok(7));
@@ -51,6 +46,12 @@ fn code_gives_up(rt: HostRuntime) {
 fn a_call_is_answered_by_what_was_heard(rt: HostRuntime) {
     let heard = [ShortReply::Flag(true)];
     let mut tx = Tx::of_heard(&heard);
-    assert_eq!(rt; tx.ask(call(4, 3)), Ok(ShortReply::Flag(true)));
-    assert_eq!(rt; tx.ask(call(4, 3)), Err(Stop::Asks(call(4, 3))));
+    assert_eq!(rt;
+        tx.ask(call(Operation::Take, 3)),
+        Ok(ShortReply::Flag(true))
+    );
+    assert_eq!(rt;
+        tx.ask(call(Operation::Take, 3)),
+        Err(Stop::Asks(call(Operation::Take, 3)))
+    );
 }

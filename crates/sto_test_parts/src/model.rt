@@ -3,36 +3,14 @@ ghost use Rattle.std.specs.Prelude.{◌≡◌, length};
 
 use crate::said::{Said, is_said};
 use std::alloc::Global;
-use sto_model::{Call, Shape, Shapes, State, takes};
+use sto_model::{Call, Operation, Shape, Shapes, State, takes};
 use sto_part::NoMemory;
-
-const GET: u8 = 0;
-
-const SET: u8 = 1;
-
-const ADD: u8 = 2;
-
-const TEST: u8 = 3;
-
-const TAKE: u8 = 4;
-
-const PUT: u8 = 5;
-
-const REMOVE: u8 = 6;
-
-const LEN: u8 = 8;
-
-const NEXT: u8 = 9;
-
-const COUNT: u8 = 10;
-
-const SCAN: u8 = 11;
 
 /// The number of the comparison `ge` in a test.
 const GE: i64 = 5;
 
-// A call of the one object by its code and both numbers, and what it is to answer.
-type Asked = (u8, i64, i64, Said);
+// A call of the one object by its operation and both numbers, and what it is to answer.
+type Asked = (Operation, i64, i64, Said);
 
 // Calls of one object, and the rows that they leave.
 struct Case {
@@ -44,10 +22,10 @@ struct Case {
 const COUNTER: Case = Case {
     shape: Shape::Counter(2),
     calls: &[
-        (ADD, 1, 0, Said::Done),
-        (ADD, 3, 0, Said::Done),
-        (TEST, GE, 5, Said::Flag(true)),
-        (TAKE, 5, 0, Said::Flag(true)),
+        (Operation::Add, 1, 0, Said::Done),
+        (Operation::Add, 3, 0, Said::Done),
+        (Operation::Test, GE, 5, Said::Flag(true)),
+        (Operation::Take, 5, 0, Said::Flag(true)),
     ],
     rows: &[(0, 1)],
 };
@@ -55,8 +33,8 @@ const COUNTER: Case = Case {
 const GREATEST_COUNTER: Case = Case {
     shape: Shape::Counter(9223372036854775807),
     calls: &[
-        (ADD, 1, 0, Said::Range),
-        (GET, 0, 0, Said::Value(9223372036854775807)),
+        (Operation::Add, 1, 0, Said::Range),
+        (Operation::Get, 0, 0, Said::Value(9223372036854775807)),
     ],
     rows: &[(0, 9223372036854775807)],
 };
@@ -64,10 +42,10 @@ const GREATEST_COUNTER: Case = Case {
 const BESIDE_AN_ARRAY: Case = Case {
     shape: Shape::Array { len: 2, value: 0 },
     calls: &[
-        (GET, -1, 0, Said::Absent),
-        (GET, 2, 0, Said::Absent),
-        (SET, 2, 5, Said::Absent),
-        (GET, 1, 0, Said::Value(0)),
+        (Operation::Get, -1, 0, Said::Absent),
+        (Operation::Get, 2, 0, Said::Absent),
+        (Operation::Set, 2, 5, Said::Absent),
+        (Operation::Get, 1, 0, Said::Value(0)),
     ],
     rows: &[(0, 0), (1, 0)],
 };
@@ -78,11 +56,11 @@ const FULL_BUCKET: Case = Case {
         places: 2,
     },
     calls: &[
-        (PUT, 1, 1, Said::Done),
-        (PUT, 2, 2, Said::Done),
-        (PUT, 3, 3, Said::Full),
-        (REMOVE, 1, 0, Said::Flag(true)),
-        (PUT, 3, 3, Said::Done),
+        (Operation::Put, 1, 1, Said::Done),
+        (Operation::Put, 2, 2, Said::Done),
+        (Operation::Put, 3, 3, Said::Full),
+        (Operation::Remove, 1, 0, Said::Flag(true)),
+        (Operation::Put, 3, 3, Said::Done),
     ],
     rows: &[(2, 2), (3, 3)],
 };
@@ -93,9 +71,9 @@ const FULL_BUCKET_OF_TWO: Case = Case {
         places: 1,
     },
     calls: &[
-        (PUT, -1, 1, Said::Done),
-        (PUT, 1, 1, Said::Full),
-        (PUT, 0, 4, Said::Done),
+        (Operation::Put, -1, 1, Said::Done),
+        (Operation::Put, 1, 1, Said::Full),
+        (Operation::Put, 0, 4, Said::Done),
     ],
     rows: &[(-1, 1), (0, 4)],
 };
@@ -103,33 +81,33 @@ const FULL_BUCKET_OF_TWO: Case = Case {
 const SPLIT_AND_REPACK: Case = Case {
     shape: Shape::Tree { leaves: 3 },
     calls: &[
-        (PUT, 10, 10, Said::Done),
-        (PUT, 20, 20, Said::Done),
-        (PUT, 30, 30, Said::Done),
-        (PUT, 40, 40, Said::Done),
-        (PUT, 50, 50, Said::Done),
-        (PUT, 60, 60, Said::Done),
-        (PUT, 70, 70, Said::Done),
-        (PUT, 80, 80, Said::Done),
-        (PUT, 90, 90, Said::Done),
-        (REMOVE, 10, 0, Said::Flag(true)),
-        (REMOVE, 20, 0, Said::Flag(true)),
-        (REMOVE, 30, 0, Said::Flag(true)),
-        (PUT, 100, 100, Said::Done),
-        (PUT, 110, 110, Said::Done),
-        (PUT, 120, 120, Said::Done),
-        (PUT, 130, 130, Said::Done),
-        (REMOVE, 50, 0, Said::Flag(true)),
-        (REMOVE, 60, 0, Said::Flag(true)),
-        (REMOVE, 70, 0, Said::Flag(true)),
-        (PUT, 140, 140, Said::Done),
-        (PUT, 150, 150, Said::Done),
-        (PUT, 160, 160, Said::Done),
-        (PUT, 170, 170, Said::Done),
-        (NEXT, 81, 0, Said::Value(90)),
-        (COUNT, 40, 100, Said::Value(4)),
+        (Operation::Put, 10, 10, Said::Done),
+        (Operation::Put, 20, 20, Said::Done),
+        (Operation::Put, 30, 30, Said::Done),
+        (Operation::Put, 40, 40, Said::Done),
+        (Operation::Put, 50, 50, Said::Done),
+        (Operation::Put, 60, 60, Said::Done),
+        (Operation::Put, 70, 70, Said::Done),
+        (Operation::Put, 80, 80, Said::Done),
+        (Operation::Put, 90, 90, Said::Done),
+        (Operation::Remove, 10, 0, Said::Flag(true)),
+        (Operation::Remove, 20, 0, Said::Flag(true)),
+        (Operation::Remove, 30, 0, Said::Flag(true)),
+        (Operation::Put, 100, 100, Said::Done),
+        (Operation::Put, 110, 110, Said::Done),
+        (Operation::Put, 120, 120, Said::Done),
+        (Operation::Put, 130, 130, Said::Done),
+        (Operation::Remove, 50, 0, Said::Flag(true)),
+        (Operation::Remove, 60, 0, Said::Flag(true)),
+        (Operation::Remove, 70, 0, Said::Flag(true)),
+        (Operation::Put, 140, 140, Said::Done),
+        (Operation::Put, 150, 150, Said::Done),
+        (Operation::Put, 160, 160, Said::Done),
+        (Operation::Put, 170, 170, Said::Done),
+        (Operation::Next, 81, 0, Said::Value(90)),
+        (Operation::Count, 40, 100, Said::Value(4)),
         (
-            SCAN,
+            Operation::Scan,
             40,
             100,
             Said::Pairs(&[(40, 40), (80, 80), (90, 90), (100, 100)]),
@@ -199,11 +177,6 @@ fn answers(
     requires { length state.old.items ≡ length shapes.now.items }
     ensures { length state.new.items ≡ length state.old.items }
 {
-    let call = Call {
-        object: 0,
-        code: asked.0,
-        a: asked.1,
-        b: asked.2,
-    };
+    let call = Call::new(0, asked.0, asked.1, asked.2);
     Ok(takes(shapes, &call) && is_said(&state.ask(alloc, shapes, &call)?, &asked.3))
 }

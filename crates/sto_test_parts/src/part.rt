@@ -13,8 +13,9 @@ fn calls_with_ample_memory(rt: HostRuntime) {
         largest_contents(alloc),
         calls_of_lists(alloc),
         calls_of_contents(alloc),
+        appended_contents(alloc),
     ];
-    assert_eq!(rt; cases, [Ok(true); 4]);
+    assert_eq!(rt; cases, [Ok(true); 5]);
 }
 
 // A counter of one part holds 10. One update adds 3 to it and a second takes 5 away; they are one
@@ -223,7 +224,8 @@ fn filled(alloc: Global) -> Result<Parts, NoMemory>
     list.reserve(2)?;
     list.push_spare(6);
     list.insert_spare(1, 5);
-    list.extend(&[7, 8])?;
+    list.extend(&[7])?;
+    list.append(List::filled(alloc, 8, 1)?)?;
     list.set(0, 3);
     *list.get_mut(4) += 1;
     Ok(list)
@@ -248,5 +250,25 @@ fn two_parts(alloc: Global) -> Result<Contents, NoMemory>
     contents.push(PartWords::filled(alloc, 1, 2)?)?;
     contents.reserve(1)?;
     contents.push_spare(PartWords::filled(alloc, 2, 1)?);
+    Ok(contents)
+}
+
+const ONE_TWO: &[i64] = &[2];
+
+const THREE_ZEROS: &[i64] = &[0, 0, 0];
+
+fn appended_contents(alloc: Global) -> Result<bool, NoMemory> {
+    let mut contents = three_parts(alloc)?;
+    contents.append(Contents::new(alloc, &[])?)?;
+    let is_behind = contents.get(2).as_slice() == THREE_ZEROS;
+    Ok(contents.len() == 3 && is_behind && contents.get(1).as_slice() == ONE_TWO)
+}
+
+// Two parts, and behind them one of three words.
+fn three_parts(alloc: Global) -> Result<Contents, NoMemory>
+    ensures { IfOk result (λ c. length c.items ≡ 3) }
+{
+    let mut contents = two_parts(alloc)?;
+    contents.append(Contents::new(alloc, &[3])?)?;
     Ok(contents)
 }

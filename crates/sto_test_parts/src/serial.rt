@@ -4,7 +4,9 @@ ghost use Rattle.sto_model.specs.TestBodies.{filling_step, IsFillingCall, choosi
 
 use crate::said::{Said, are_said};
 use std::alloc::Global;
-use sto_model::{Body, Call, End, Next, Outcome, Reply, Shape, Shapes, State, serial_run};
+use sto_model::{
+    Body, Call, End, Next, Operation, Outcome, Reply, Shape, Shapes, State, serial_run,
+};
 use sto_part::NoMemory;
 
 // Puts nine keys, one of them again, and asks for the length.
@@ -29,18 +31,14 @@ impl Body for Filling {
     }
 
     fn next(&self) -> Next {
-        let (code, a, b) = match self.heard {
-            0..9 => (5, i64::from(self.heard) + 1, i64::from(self.heard) + 1),
-            9 => (5, 8, 5),
-            10 => (8, 0, 0),
+        let number = i64::from(self.heard) + 1;
+        let (operation, a, b) = match self.heard {
+            0..9 => (Operation::Put, number, number),
+            9 => (Operation::Put, 8, 5),
+            10 => (Operation::Len, 0, 0),
             _ => return Next::Commit,
         };
-        Next::Ask(Call {
-            object: 0,
-            code,
-            a,
-            b,
-        })
+        Next::Ask(Call::new(0, operation, a, b))
     }
 
     fn hear(&mut self, _reply: &Reply) {
@@ -76,9 +74,9 @@ impl Body for Choosing {
     }
 
     fn next(&self) -> Next {
-        let (code, a) = match self.heard {
-            0 => (0, 0),
-            1 => (1, if self.value < 1 { 5 } else { 9 }),
+        let (operation, a) = match self.heard {
+            0 => (Operation::Get, 0),
+            1 => (Operation::Set, if self.value < 1 { 5 } else { 9 }),
             _ => {
                 return if self.value < 1 {
                     Next::Commit
@@ -87,12 +85,7 @@ impl Body for Choosing {
                 };
             }
         };
-        Next::Ask(Call {
-            object: 0,
-            code,
-            a,
-            b: 0,
-        })
+        Next::Ask(Call::new(0, operation, a, 0))
     }
 
     fn hear(&mut self, reply: &Reply) {

@@ -6,6 +6,8 @@ use Rattle.std.specs.Int.RustNames.{FitsSigned}
 use Rattle.std.proofs.Common.{◌≡◌, ℕ, zero, suc, ℤ, pos, ◌<◌, ◌≤◌, List, [], ◌∷◌, length, None, refl, ap, ◌∙◌, sym, subst, arith, Bool, true, false, if◌then◌else◌, inl, Ok}
 use Rattle.sto_part.specs.Codes.{IsSignedCode}
 use Rattle.sto_part.specs.Parts.{part_of}
+use Rattle.sto_model.specs.Calls.{call_of}
+use Rattle.sto_model.specs.declared.operation.Operation.TheVariants.{Get, Set}
 use Rattle.sto_model.specs.declared.shape.Shape.TheVariants.{Single}
 use Rattle.sto_lang.specs.Objects.{shapes_of}
 use Rattle.sto_lang.specs.Files.{file_of}
@@ -125,14 +127,14 @@ may_draw y fits v phase draws opening held seen = record {
 -- What it finds
 
 -- the calls of either transaction are taken: a get of the box, and a set of it to a number
-get_taken : BoxTakes 1 IsSignedCode (record { object = 0; code = 0; a = pos 0; b = pos 0 })
-get_taken = record { object = refl; code = omega arith; value = λ e. ∣ tt ∣₁; fits = record { sfits = omega arith }; fits_too = record { sfits = omega arith } }
+get_taken : BoxTakes 1 IsSignedCode (call_of 0 Get (pos 0) (pos 0))
+get_taken = record { object = refl; third = refl; taken = refl; value = λ e. ∣ tt ∣₁; fits = record { sfits = omega arith }; fits_too = record { sfits = omega arith } }
 
-set_taken : (y : ℤ) → FitsSigned w64 y → BoxTakes 1 IsSignedCode (record { object = 0; code = 1; a = y; b = pos 0 })
-set_taken y fits = record { object = refl; code = omega arith; value = λ e. ∣ tt ∣₁; fits = fits; fits_too = record { sfits = omega arith } }
+set_taken : (y : ℤ) → FitsSigned w64 y → BoxTakes 1 IsSignedCode (call_of 0 Set y (pos 0))
+set_taken y fits = record { object = refl; third = refl; taken = refl; value = λ e. ∣ tt ∣₁; fits = fits; fits_too = record { sfits = omega arith } }
 
 -- the get may touch the part: where nothing is known, it needs it
-pub get_touches : Touches box 0 (record { object = 0; code = 0; a = pos 0; b = pos 0 })
+pub get_touches : Touches box 0 (call_of 0 Get (pos 0) (pos 0))
 get_touches = record { takes = get_taken; contents = box.opened; valid = box_opened; knowledge = λ p. None; known = record { same = λ p ws l e. absurd cc }; does = inl refl }
 
 -- their run on a box with 0, and on one with 1

@@ -4,6 +4,7 @@ use Rattle.std.specs.Prelude.{ℕ, ℤ, pos, List, [], ◌∷◌, ◌++◌, map,
 use Rattle.sto_part.specs.Codes.{IsSignedCode}
 use Rattle.sto_part.specs.declared.change.Change.TheVariants.{Put as PutValue}
 use Rattle.sto_model.specs.PlainReplies.{PlainReply, Value, Done}
+use Rattle.sto_model.specs.declared.operation.Operation.TheVariants.{Get, Set}
 use Rattle.sto_model.specs.declared.shape.Shape.TheVariants.{Single}
 use Rattle.sto_lang.specs.declared.arg.Arg.TheVariants.{Num, Var}
 use Rattle.sto_lang.specs.Statements.{Nothing, Ask, Sum}
@@ -23,7 +24,7 @@ script = codes "box a 0\nthread\nbegin\nx = get a\ny = sum x 1\nset a y\ncommit\
 abbrev pub adding : Script
 adding = record {
   variables = codes "x" ∷ codes "y" ∷ [];
-  body = Ask (Some 0) 0 0 (Num (pos 0)) (Num (pos 0)) (Sum 1 (Var 0) (Num (pos 1)) (Ask None 0 1 (Var 1) (Num (pos 0)) Nothing));
+  body = Ask (Some 0) 0 Get (Num (pos 0)) (Num (pos 0)) (Sum 1 (Var 0) (Num (pos 1)) (Ask None 0 Set (Var 1) (Num (pos 0)) Nothing));
   weight = 4;
 }
 

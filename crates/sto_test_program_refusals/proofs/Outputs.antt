@@ -2,7 +2,7 @@
 use Rattle.std.specs.Fmt.{digits}
 use Rattle.std.specs.Int.{int_wrap}
 use Rattle.std.specs.List.{flat_map, enumerate_from}
-use Rattle.std.proofs.Common.{◌≡◌, ℕ, List, [], length, Bool, true, false, Option, Some, Ok, refl, sym, ap, ◌∙◌, subst, arith}
+use Rattle.std.proofs.Common.{◌≡◌, ◌≤◌, ◌<◌, ℕ, List, [], length, Bool, true, false, Option, Some, Ok, refl, sym, ap, ◌∙◌, subst, arith}
 use Rattle.sto_lang.specs.Files.{file_of}
 use Rattle.sto_lang.specs.Scripts.{File}
 use Rattle.sto_write.specs.Texts.{text_of, upgraded}
@@ -11,6 +11,7 @@ use Rattle.sto_report_spec.specs.declared.form.ReportForm.TheVariants.{Text}
 use Rattle.sto_run.specs.Meanings.{updating_by}
 use Rattle.sto_run.specs.Stores.{means}
 use Rattle.sto_run.specs.Forms.{form_for, IsAlone}
+use Rattle.sto_orders.specs.Causes.{least_told}
 use Rattle.sto_explore.specs.declared.outcome.Outcomes.{Outcomes}
 use Rattle.sto_explore.specs.Texts.{outcome_text, sum_line, outcomes_in}
 use Rattle.sto_run_orders.specs.declared.report.OrderReport.{OrderReport}
@@ -36,6 +37,10 @@ use Rattle.sto_test_program_refusals.proofs.Texts.{no_front, none_gained}
 -- the script says one file
 pub read_as : (f : File) → file_of script ≡ Ok f → f ≡ file
 read_as f reads = let e = sym reads ∙ reads_file in cc
+
+-- bytes say one file
+one_file : (bytes : List ℕ) (f g : File) → file_of bytes ≡ Ok f → file_of bytes ≡ Ok g → f ≡ g
+one_file bytes f g one other = let e = sym one ∙ other in cc
 
 -- what `run` and `step` print of it is lawful
 pub run_lawful : (threads : Option ℕ) (text : List ℕ) → IsOutput (Run threads 64 false) script text → IsLawful (updating_by means) file 64 text
@@ -107,6 +112,12 @@ told_no_orders false f reports e = no_front (none_behind (flat_map (orders.repor
 
 pub explore_nothing : (by : By) (states : ℕ) (json : Bool) (bytes : List ℕ) → IsOutput (Explore by states json) bytes [] → ⊥
 explore_nothing by states json bytes o = told_no_orders json o.0 o.2.reports o.2.told
+
+-- nor anything of a script whose orders need more nodes than are allowed
+pub explore_beyond : (by : By) (states : ℕ) (json : Bool) (bytes text : List ℕ) (f : File) → file_of bytes ≡ Ok f → states < least_told f.threads → IsOutput (Explore by states json) bytes text → ⊥
+explore_beyond by states json bytes text f reads beyond o =
+    let same = subst (λ (g : File). least_told g.threads ≤ states) (one_file bytes o.0 f o.1 reads) o.2.allowed in
+    omega (arith, same, beyond)
 
 -- what `upgrade` prints begins with its version
 pub upgrade_same : IsOutput Upgrade script script → ⊥

@@ -1,5 +1,8 @@
 //! What `sto` does not print or tell.
-ghost use Rattle.std.specs.Prelude.{◌≡◌, ℕ, List, [], Bool, true, false, Option, Some};
+ghost use Rattle.std.specs.Prelude.{◌≡◌, ◌<◌, ℕ, List, [], Bool, true, false, Option, Some, Ok};
+ghost use Rattle.sto_lang.specs.Files.{file_of};
+ghost use Rattle.sto_lang.specs.Scripts.{File};
+ghost use Rattle.sto_orders.specs.Causes.{least_told};
 ghost use Rattle.sto_args.specs.declared.command.Command.{Command};
 ghost use Rattle.sto_args.specs.declared.command.Command.TheVariants.{Run, Step, Trace, Draw, Explore, Schedules, Upgrade, Gen, Bench};
 ghost use Rattle.sto_args.specs.declared.command.By.{By};
@@ -44,6 +47,9 @@ pub fn not_stepped()
     ensures step_nothing { (tries : ℕ) (json : Bool) (bytes : List ℕ) → IsOutput (Step tries json) bytes [] → ⊥ }
     ensures trace_nothing { (json : Bool) → IsOutput (Trace 64 json) lost_update [] → ⊥ }
     ensures explore_nothing { (by : By) (states : ℕ) (json : Bool) (bytes : List ℕ) → IsOutput (Explore by states json) bytes [] → ⊥ }
+    // Anything of a script whose orders need more nodes than are allowed.
+    ensures explore_beyond { (by : By) (states : ℕ) (json : Bool) (bytes text : List ℕ) (f : File)
+        → file_of bytes ≡ Ok f → states < least_told f.threads → IsOutput (Explore by states json) bytes text → ⊥ }
     ensures schedules_nothing { (switches tries : ℕ) (json : Bool) (bytes : List ℕ) → IsOutput (Schedules switches tries json) bytes [] → ⊥ }
     // A picture of two threads without an event.
     ensures no_event { (text : List ℕ) (p : IsPicture 64 lost_update_file text) → p.steps ≡ [] → ⊥ }

@@ -1,5 +1,7 @@
 -- What `run` of a worker says, code that is asked of it, and one transaction that adds 1 to a box which holds 0.
 use Rattle.std.specs.Prelude.{◌^◌, ℕ, pos, List, [], ◌∷◌, Result}
+use Rattle.sto_model.specs.Calls.{call_of}
+use Rattle.sto_model.specs.declared.operation.Operation.TheVariants.{Get}
 use Rattle.sto_model.specs.declared.shape.Shape.{Shape}
 use Rattle.sto_model.specs.declared.shape.Shape.TheVariants.{Single}
 use Rattle.sto_model.specs.Run.{State}
@@ -30,7 +32,7 @@ AlwaysGives Cancels = ⊥
 
 -- code that gives what a get of the first object answers
 abbrev pub gets : Prog ShortReply
-gets = Asks (record { object = 0; code = 0; a = pos 0; b = pos 0 }) (λ h. Gives h)
+gets = Asks (call_of 0 Get (pos 0) (pos 0)) (λ h. Gives h)
 
 -- a store of one box
 abbrev pub shapes : List Shape

@@ -6,7 +6,9 @@ ghost use Rattle.sto_model.specs.declared.shape.Shape.TheVariants.{Single, Tree}
 
 use std::alloc::Global;
 use sto_lang::{Arg, Names, Script, Stmt, Stmts, Text};
-use sto_model::{Body, Call, End, Next, Outcome, Reply, Shape, Shapes, State, serial_run};
+use sto_model::{
+    Body, Call, End, Next, Operation, Outcome, Reply, Shape, Shapes, State, serial_run,
+};
 use sto_part::{List, NoMemory, Test};
 use sto_script::ScriptBody;
 
@@ -90,11 +92,11 @@ fn has_left(ran: &Ran, rows: &[(i64, i64)]) -> bool {
 
 // A call of the one object.
 macro_rules! ask {
-    ($to:expr, $code:literal, $a:expr, $b:expr) => {
+    ($to:expr, $operation:expr, $a:expr, $b:expr) => {
         Stmt::Ask {
             to: $to,
             object: 0,
-            code: $code,
+            operation: $operation,
             a: $a,
             b: $b,
         }
@@ -130,38 +132,33 @@ fn example_of_a_body(alloc: Global) -> Result<bool, NoMemory> {
         a: SECOND,
         b: FIRST,
     };
-    let body = list!(alloc; ask!(Some(0), 0, ZERO, ZERO), set, ask!(None, 1, SECOND, ZERO));
+    let body =
+        list!(alloc; ask!(Some(0), Operation::Get, ZERO, ZERO), set, ask!(None, Operation::Set, SECOND, ZERO));
     let script = script_of(alloc, 2, body, 4)?;
     let mut body = ScriptBody::new(alloc, &script)?;
     let first = asks_and_commits(&mut body);
     body.reset();
-    Ok(first && asks_for_five(&mut body) && body.next() == Next::Ask(SET_FIVE))
+    Ok(first && asks_for_five(&mut body) && body.next() == Next::Ask(set_five()))
 }
 
-const GET: Call = Call {
-    object: 0,
-    code: 0,
-    a: 0,
-    b: 0,
-};
+fn get() -> Call {
+    Call::new(0, Operation::Get, 0, 0)
+}
 
-const SET_FIVE: Call = Call {
-    object: 0,
-    code: 1,
-    a: 5,
-    b: 0,
-};
+fn set_five() -> Call {
+    Call::new(0, Operation::Set, 5, 0)
+}
 
 fn asks_and_commits(body: &mut ScriptBody<'_>) -> bool {
     asks_for_five(body)
         && body.left() == 3
-        && is_told(body, SET_FIVE, &Reply::Done)
+        && is_told(body, set_five(), &Reply::Done)
         && body.next() == Next::Commit
 }
 
 // Whether a body that has heard nothing asks for the value, which it is told to be 5.
 fn asks_for_five(body: &mut ScriptBody<'_>) -> bool {
-    body.left() == 4 && is_told(body, GET, &Reply::Value(5))
+    body.left() == 4 && is_told(body, get(), &Reply::Value(5))
 }
 
 // Whether the body asks this call, which is answered so.
@@ -190,11 +187,11 @@ fn filling(alloc: Global) -> Result<Stmts, NoMemory>
         a: FIRST,
         b: Arg::Num(1),
     };
-    let turn = list!(alloc; next, ask!(None, 5, FIRST, FIRST));
+    let turn = list!(alloc; next, ask!(None, Operation::Put, FIRST, FIRST));
     let mut all = list!(alloc; begin);
     all.push_repetition(9, &turn)?;
-    all.push(ask!(None, 5, Arg::Num(8), Arg::Num(5)))?;
-    all.push(ask!(Some(1), 8, ZERO, ZERO))?;
+    all.push(ask!(None, Operation::Put, Arg::Num(8), Arg::Num(5)))?;
+    all.push(ask!(Some(1), Operation::Len, ZERO, ZERO))?;
     Ok(all)
 }
 
@@ -238,9 +235,9 @@ fn cancelling(alloc: Global) -> Result<Stmts, NoMemory>
     ensures calls { IfOk result (λ s. calls_of s ≤ 6) }
     ensures taken { IfOk result (λ s. are_taken (Single (pos 1) ∷ []) s ≡ true) }
 {
-    let first = list!(alloc; ask!(None, 1, Arg::Num(5), ZERO));
-    let second = list!(alloc; ask!(None, 1, Arg::Num(9), ZERO), Stmt::Cancel);
-    let mut all = list!(alloc; ask!(Some(0), 0, ZERO, ZERO));
+    let first = list!(alloc; ask!(None, Operation::Set, Arg::Num(5), ZERO));
+    let second = list!(alloc; ask!(None, Operation::Set, Arg::Num(9), ZERO), Stmt::Cancel);
+    let mut all = list!(alloc; ask!(Some(0), Operation::Get, ZERO, ZERO));
     all.push_choice(FIRST, Test::Lt, Arg::Num(1), &first, &second)?;
     Ok(all)
 }
@@ -261,9 +258,9 @@ fn cancels_in_a_branch(alloc: Global) -> Result<bool, NoMemory> {
 fn sees_its_own_writes(alloc: Global) -> Result<bool, NoMemory> {
     let body = list!(
         alloc;
-        ask!(None, 2, Arg::Num(3), ZERO),
-        ask!(Some(0), 3, Arg::Num(5), Arg::Num(5)),
-        ask!(None, 4, Arg::Num(5), ZERO)
+        ask!(None, Operation::Add, Arg::Num(3), ZERO),
+        ask!(Some(0), Operation::Test, Arg::Num(5), Arg::Num(5)),
+        ask!(None, Operation::Take, Arg::Num(5), ZERO)
     );
     let script = script_of(alloc, 1, body, 4)?;
     let ran = run_on(alloc, &script, Shape::Counter(3))?;
@@ -281,7 +278,7 @@ fn wrapping(alloc: Global) -> Result<Stmts, NoMemory>
 {
     let mut empty = Stmts::new(alloc);
     empty.push_repetition(4096, &Stmts::new(alloc))?;
-    let never = list!(alloc; ask!(None, 1, Arg::Num(1), ZERO));
+    let never = list!(alloc; ask!(None, Operation::Set, Arg::Num(1), ZERO));
     let mut all = Stmts::new(alloc);
     all.push_repetition(4000, &empty)?;
     all.push_repetition(0, &never)?;
@@ -290,15 +287,15 @@ fn wrapping(alloc: Global) -> Result<Stmts, NoMemory>
         a: Arg::Num(i64::MAX),
         b: Arg::Num(1),
     })?;
-    all.push(ask!(None, 1, FIRST, ZERO))?;
-    all.push(ask!(None, 0, ZERO, ZERO))?;
+    all.push(ask!(None, Operation::Set, FIRST, ZERO))?;
+    all.push(ask!(None, Operation::Get, ZERO, ZERO))?;
     all.push(Stmt::Diff {
         to: 0,
         a: FIRST,
         b: Arg::Num(1),
     })?;
-    all.push(ask!(None, 1, FIRST, ZERO))?;
-    all.push(ask!(None, 0, ZERO, ZERO))?;
+    all.push(ask!(None, Operation::Set, FIRST, ZERO))?;
+    all.push(ask!(None, Operation::Get, ZERO, ZERO))?;
     Ok(all)
 }
 

@@ -10,7 +10,7 @@ use split::Split;
 use std::alloc::Global;
 use sto_box::TBox;
 use sto_item::{Item, Updates};
-use sto_model::{Call, End, Reply, State};
+use sto_model::{Call, End, Operation, Reply, State};
 use sto_part::{Change, NoMemory, Update};
 use sto_test_alone::{Ran, run_alone};
 use sto_type::{Both, Many, TxType};
@@ -128,15 +128,11 @@ pub(crate) fn boxes(alloc: Global, values: &[i64]) -> Result<Many<TBox<i64>>, No
 }
 
 pub(crate) fn get(object: u32) -> Call {
-    call(object, 0, 0, 0)
+    Call::new(object, Operation::Get, 0, 0)
 }
 
 pub(crate) fn set(object: u32, a: i64, b: i64) -> Call {
-    call(object, 1, a, b)
-}
-
-pub(crate) fn call(object: u32, code: u8, a: i64, b: i64) -> Call {
-    Call { object, code, a, b }
+    Call::new(object, Operation::Set, a, b)
 }
 
 #[test]
@@ -228,7 +224,7 @@ fn is_cancelled(ran: &Ran) -> bool {
 
 const TEN_AND_TWENTY: &[i64] = &[10, 20];
 
-fn mixture(alloc: Global) -> Result<Both<Many<TBox<i64>>, Many<Split>>, NoMemory> {
+pub(crate) fn mixture(alloc: Global) -> Result<Both<Many<TBox<i64>>, Many<Split>>, NoMemory> {
     let mut splits = Many::new(alloc);
     splits.push(Split::new(1, 2))?;
     splits.push(Split::new(3, 4))?;

@@ -1,7 +1,8 @@
 //! Values in calls and replies.
+use crate::alone::set;
 use std::alloc::Global;
 use sto_box::TBox;
-use sto_model::{Call, Pairs, Reply};
+use sto_model::{Pairs, Reply};
 use sto_part::{NoMemory, Word, Words};
 
 type TPair = TBox<(i64, bool)>;
@@ -12,16 +13,7 @@ fn values_in_calls(rt: HostRuntime) {
         TBox::<char>::set_call(2, &'a'),
         TPair::set_call(0, &(7, true)),
     ];
-    assert_eq!(rt; calls, [set_call(2, 97, 0), set_call(0, 7, 1)]);
-}
-
-fn set_call(object: u32, a: i64, b: i64) -> Call {
-    Call {
-        object,
-        code: 1,
-        a,
-        b,
-    }
+    assert_eq!(rt; calls, [set(2, 97, 0), set(0, 7, 1)]);
 }
 
 #[test]

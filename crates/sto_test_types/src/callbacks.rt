@@ -4,12 +4,12 @@ ghost use Rattle.sto_counter.specs.Counted.{counter_meaning};
 ghost use Rattle.sto_counter.specs.CountedLaw.{counter_lawful};
 
 use crate::alone::calls::Calls;
-use crate::alone::{NotRun, are_taken, boxes, call, get, set, side_by_side};
+use crate::alone::{NotRun, are_taken, boxes, get, set, side_by_side};
 use std::alloc::Global;
 use std::cell::Cell;
 use sto_counter::TCounter;
 use sto_item::Item;
-use sto_model::{Call, End, State};
+use sto_model::{Call, End, Operation, State};
 use sto_part::{Change, Contents, Naming, NoMemory, Pred, apply_word, holds};
 use sto_plain::Plain;
 use sto_test_alone::run_transaction_alone;
@@ -154,7 +154,7 @@ fn commit<T: TxType>(alloc: Global, ty: &T, calls: &[Call]) -> Result<(), NotRun
 }
 
 fn take(object: u32, amount: i64) -> Call {
-    call(object, 4, amount, 0)
+    Call::new(object, Operation::Take, amount, 0)
 }
 
 // How often the callbacks of a counter of 10 are called where these calls commit.

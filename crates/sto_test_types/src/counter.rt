@@ -1,9 +1,9 @@
 //! What adds and takes answer, observe and write, near the ends of the numbers of 64 bits.
-use crate::alone::{Entry, NotRun, are_updates, call, replies, run_twice};
+use crate::alone::{Entry, NotRun, are_updates, replies, run_twice};
 use std::alloc::Global;
 use sto_counter::TCounter;
 use sto_item::Item;
-use sto_model::{End, Reply};
+use sto_model::{Call, End, Operation, Reply};
 use sto_part::{Change, NoMemory, Pred, Test};
 use sto_test_alone::Ran;
 use sto_type::TxType;
@@ -11,10 +11,6 @@ use sto_type::TxType;
 const MAX: i64 = i64::MAX;
 
 const MIN: i64 = i64::MIN;
-
-const ADD: u8 = 2;
-
-const TAKE: u8 = 4;
 
 // A comparison of the counter with a bound, as it is observed.
 macro_rules! seen {
@@ -36,47 +32,68 @@ enum Said {
     Flag(bool),
 }
 
-// A call by its code and number on a counter with this value, what it answers, the comparisons that it observes, and
+// A call by its operation and number on a counter with this value, what it answers, the comparisons that it observes, and
 // what it writes.
-type Case = (u8, i64, i64, Said, &'static [Item], &'static [Entry]);
+type Case = (Operation, i64, i64, Said, &'static [Item], &'static [Entry]);
 
 const CASES: &[Case] = &[
     (
-        ADD,
+        Operation::Add,
         3,
         5,
         Said::Done,
         &[seen!(Le, MAX - 3)],
         &[(0, &[Change::Add(3)])],
     ),
-    (ADD, 1, MAX, Said::Range, &[seen!(Gt, MAX - 1)], &[]),
     (
-        ADD,
+        Operation::Add,
+        1,
+        MAX,
+        Said::Range,
+        &[seen!(Gt, MAX - 1)],
+        &[],
+    ),
+    (
+        Operation::Add,
         -1,
         0,
         Said::Done,
         &[seen!(Ge, MIN + 1)],
         &[(0, &[Change::Add(-1)])],
     ),
-    (ADD, -1, MIN, Said::Range, &[seen!(Lt, MIN + 1)], &[]),
     (
-        TAKE,
+        Operation::Add,
+        -1,
+        MIN,
+        Said::Range,
+        &[seen!(Lt, MIN + 1)],
+        &[],
+    ),
+    (
+        Operation::Take,
         5,
         8,
         Said::Flag(true),
         &[seen!(Ge, 5)],
         &[(0, &[Change::Add(-5)])],
     ),
-    (TAKE, 5, 3, Said::Flag(false), &[seen!(Lt, 5)], &[]),
     (
-        TAKE,
+        Operation::Take,
+        5,
+        3,
+        Said::Flag(false),
+        &[seen!(Lt, 5)],
+        &[],
+    ),
+    (
+        Operation::Take,
         MIN,
         -2,
         Said::Flag(true),
         &[seen!(Ge, MIN), seen!(Le, -1)],
         &[(0, &[Change::Add(MIN)])],
     ),
-    (TAKE, MIN, 5, Said::Range, &[seen!(Gt, -1)], &[]),
+    (Operation::Take, MIN, 5, Said::Range, &[seen!(Gt, -1)], &[]),
 ];
 
 #[test]
@@ -87,7 +104,7 @@ fn adds_and_takes(rt: HostRuntime) {
 }
 
 fn has_run(alloc: Global, case: &Case) -> Result<bool, NotRun> {
-    let calls = [call(0, case.0, case.1, 0)];
+    let calls = [Call::new(0, case.0, case.1, 0)];
     let twice = run_twice(alloc, &TCounter::new(case.2), &calls, &[], End::Commit)?;
     Ok(is_said(&twice.first, case.3) && is_recorded(&twice.first, case.4, case.5))
 }
@@ -108,7 +125,7 @@ fn is_recorded(ran: &Ran, seen: &[Item], written: &[Entry]) -> bool {
 fn one_part(rt: HostRuntime) {
     let counter = TCounter::new(5);
     assert_eq!(rt; opens_with(rt.alloc(), &counter, &[5]), Ok(true));
-    assert!(rt; !counter.takes(&call(0, 3, 6, 0)));
+    assert!(rt; !counter.takes(&Call::new(0, Operation::Test, 6, 0)));
 }
 
 // Whether these are the words of the first part.

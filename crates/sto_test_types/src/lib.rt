@@ -10,6 +10,8 @@ mod callbacks;
 #[cfg(test)]
 mod counter;
 #[cfg(test)]
+mod said;
+#[cfg(test)]
 mod store;
 #[cfg(test)]
 mod tables;

@@ -3,15 +3,10 @@ ghost use Rattle.std.specs.Prelude.{IfOk};
 ghost use Rattle.sto_type.specs.Known.{known, IsPartOf};
 
 use std::alloc::Global;
-use sto_model::{Call, Reply, Shape, Shapes};
+use sto_model::{Call, Operation, Reply, Shape, Shapes};
 use sto_part::NoMemory;
 use sto_store::{Objects, build};
 use sto_type::{Answer, AnswerPool, Cache, TxType};
-
-// The codes of two calls.
-const GET: u8 = 0;
-
-const LEN: u8 = 8;
 
 const ONE_OF_EACH_KIND: &[Shape] = &[
     Shape::Single(7),
@@ -31,19 +26,19 @@ fn one_of_each_kind(alloc: Global) -> Result<Objects, NoMemory> {
     build(alloc, &shapes)
 }
 
-// An object, the code and the number of a call on it, and the value that it answers; none where it answers no value or
+// An object, the operation and the number of a call on it, and the value that it answers; none where it answers no value or
 // is not taken.
-type Row = (u32, u8, i64, Option<i64>);
+type Row = (u32, Operation, i64, Option<i64>);
 
 const ROWS: &[Row] = &[
-    (0, GET, 0, Some(7)),
-    (1, GET, 0, Some(5)),
-    (2, GET, 2, Some(2)),
-    (2, GET, 3, None),
-    (3, LEN, 0, Some(0)),
-    (4, LEN, 0, Some(0)),
-    (4, GET, 9, None),
-    (5, GET, 0, None),
+    (0, Operation::Get, 0, Some(7)),
+    (1, Operation::Get, 0, Some(5)),
+    (2, Operation::Get, 2, Some(2)),
+    (2, Operation::Get, 3, None),
+    (3, Operation::Len, 0, Some(0)),
+    (4, Operation::Len, 0, Some(0)),
+    (4, Operation::Get, 9, None),
+    (5, Operation::Get, 0, None),
 ];
 
 #[test]
@@ -66,12 +61,7 @@ fn all_answer<T: TxType>(alloc: Global, ty: &T) -> Result<bool, NoMemory> {
 }
 
 fn answers<T: TxType>(alloc: Global, ty: &T, row: &Row) -> Result<bool, NoMemory> {
-    let call = Call {
-        object: row.0,
-        code: row.1,
-        a: row.2,
-        b: 0,
-    };
+    let call = Call::new(row.0, row.1, row.2, 0);
     Ok(value_at_opening(alloc, ty, &call)? == row.3)
 }
 

@@ -1,10 +1,10 @@
 //! Arrays and hash tables: what is set, and a bucket that is full or has a free place.
-use crate::alone::{Entry, NotRun, are_updates, call, replies, run_twice};
+use crate::alone::{Entry, NotRun, are_updates, replies, run_twice};
 use std::alloc::Global;
 use sto_array::TArray;
 use sto_hash::THash;
 use sto_item::Item;
-use sto_model::{End, Reply};
+use sto_model::{Call, End, Operation, Reply};
 use sto_part::{Change, NoMemory};
 use sto_test_alone::Ran;
 use sto_type::TxType;
@@ -26,9 +26,9 @@ fn parts_and_calls(rt: HostRuntime) {
     ];
     assert_eq!(rt; opened, [Ok(3), Ok(4)]);
     let taken = [
-        array.takes(&call(0, 3, 0, 0)),
-        table.takes(&call(0, 8, 0, 0)),
-        table.takes(&call(0, 1, 0, 0)),
+        array.takes(&Call::new(0, Operation::Test, 0, 0)),
+        table.takes(&Call::new(0, Operation::Len, 0, 0)),
+        table.takes(&Call::new(0, Operation::Set, 0, 0)),
     ];
     assert_eq!(rt; taken, [false, true, false]);
 }
@@ -40,7 +40,7 @@ fn parts_at_opening<T: TxType>(alloc: Global, ty: &T) -> Result<u32, NoMemory> {
 const FIVE_AT_TWO: &[Entry] = &[(2, &[Change::Put(5)])];
 
 fn example_array(alloc: Global) -> Result<bool, NotRun> {
-    let set = [call(0, 1, 2, 5)];
+    let set = [Call::new(0, Operation::Set, 2, 5)];
     let twice = run_twice(alloc, &TArray::new(3, 7), &[], &set, End::Commit)?;
     let said = matches!(replies(&twice.second), [Reply::Done]);
     Ok(said && has_recorded(&twice.second, &[], FIVE_AT_TWO))
@@ -54,7 +54,10 @@ fn has_recorded(ran: &Ran, seen: &[Item], written: &[Entry]) -> bool {
 
 // Of two buckets with one place each, the second has the odd keys.
 fn full_bucket(alloc: Global) -> Result<bool, NotRun> {
-    let (five, seven) = ([call(0, 5, 5, 1)], [call(0, 5, 7, 9)]);
+    let (five, seven) = (
+        [Call::new(0, Operation::Put, 5, 1)],
+        [Call::new(0, Operation::Put, 7, 9)],
+    );
     let twice = run_twice(alloc, &THash::new(2, 1), &five, &seven, End::Commit)?;
     let said = matches!(replies(&twice.second), [Reply::Full]);
     Ok(said && has_recorded(&twice.second, SEEN, &[]))
@@ -66,7 +69,7 @@ const NINE_AT_SEVEN: &[Entry] = &[
 ];
 
 fn free_place(alloc: Global) -> Result<bool, NotRun> {
-    let seven = [call(0, 5, 7, 9)];
+    let seven = [Call::new(0, Operation::Put, 7, 9)];
     let twice = run_twice(alloc, &THash::new(2, 1), &[], &seven, End::Commit)?;
     let said = matches!(replies(&twice.second), [Reply::Done]);
     Ok(said && has_recorded(&twice.second, SEEN, NINE_AT_SEVEN))

@@ -2,9 +2,8 @@
 ghost use Rattle.sto_trace.specs.Noted.{Notes, notes_nothing, notes_further};
 
 use crate::Deed;
-use sto_core::Cells;
-use sto_item::Updates;
-use sto_part::{Naming, Parts};
+use sto_core::{Cells, CommitLists};
+use sto_part::Naming;
 use sto_version::Version;
 
 /// A pass, and what the last event did that was made on it since it was taken in.
@@ -81,8 +80,8 @@ impl<T: Naming, C: Cells<T>> Cells<T> for Noting<C> {
         version
     }
 
-    fn draw(&mut self, updates: &Updates, seen: &Parts, loaded: &Parts) -> u64 {
-        let ticket = self.cells.draw(updates, seen, loaded);
+    fn draw_by<L: CommitLists>(&mut self, lists: &L) -> u64 {
+        let ticket = self.cells.draw_by(lists);
         self.deed = Some(Deed::Draw { ticket });
         ticket
     }

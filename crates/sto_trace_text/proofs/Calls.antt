@@ -15,7 +15,7 @@ use Rattle.sto_lang.specs.Objects.{Declaration, HaveNames, with_number}
 use Rattle.sto_lang.specs.Shapes.{kind_of}
 use Rattle.sto_lang.specs.declared.arg.Arg.{Arg}
 use Rattle.sto_lang.specs.declared.arg.Arg.TheVariants.{Num}
-use Rattle.sto_write.specs.Texts.{call_words, form_words, operand, operand_word, operation_with, arguments_of, call_on, option_list, call_text}
+use Rattle.sto_write.specs.Texts.{call_words, form_words, operand, operand_word, word_with, arguments_of, call_on, option_list, call_text}
 use Rattle.sto_report_spec.specs.Aborts.{name_of}
 use Rattle.sto_report_spec.proofs.Names.{name_printable}
 use Rattle.sto_report_spec.proofs.Printable.{IsPrintable, is_printable, printable_append, printable_signed}
@@ -143,7 +143,7 @@ module _ (x y : ℤ) where
 
 pub call_printable : (ds : List Declaration) (call : Call) → HaveNames ds → IsPrintable (call_text ds call)
 call_printable ds call h =
-    let operation = operation_with call.code (Num call.a) in
+    let operation = word_with call.operation (Num call.a) in
     let made = call_on [] None operation (Num call.a) (Num call.b) in
     with_object (λ o. IsPrintable (join_with_byte 32 (flat_map form_words (option_list (option_map made o) ++ [])))) ds call.object h tt
     (λ d named. subst (λ (words : List (List ℕ)). IsPrintable (join_with_byte 32 words)) (sym (append-nil (form_words (made d)))) (joined (form_words (made d)) (words_printable call.a call.b operation d named)))

@@ -13,6 +13,8 @@ use Rattle.sto_core.specs.declared.view.View.{View}
 use Rattle.sto_core.specs.History.{Validity}
 use Rattle.sto_attempt.specs.declared.attempt.Attempt.{Attempt}
 use Rattle.sto_attempt_log.specs.declared.log.Log.{Log}
+use Rattle.sto_attempt_log.specs.Tables.{with_lists}
+use Rattle.sto_attempt.specs.Commits.{lists_of, having_found}
 use Rattle.sto_attempt.specs.declared.ready.Ready.{Ready}
 use Rattle.sto_attempt_log.specs.declared.read_phase.ReadPhase.{ReadPhase}
 use Rattle.sto_attempt_log.specs.declared.read_phase.ReadPhase.TheVariants as Stood
@@ -43,10 +45,10 @@ turn_of (Some x) = Turns.Ended x
 module _ {T B : Type 0} (meaning : T → Meaning) (valid : Validity) (sizes : T → List ℕ) (script : B → Behaviour) (next : B → List PlainReply → Next) (left : B → ℕ) (may : B → Call → Type 0) where
   module _ (passes : ℕ) (a b : Attempt T B) (begun v w : View) (same_type : b.log.ty.now ≡ a.log.ty.now) (same_script : script b.log.body ≡ script a.log.body)
       (rest : IsAtRest (meaning a.log.ty.now) (sizes a.log.ty.now) begun)
-      (led : HasLed (meaning a.log.ty.now) valid (sizes a.log.ty.now) (script a.log.body) a.at a.words.items a.extension a.log.base.items a.log.set.items a.log.set.updates (map plain_reply a.log.replies.items) passes begun v w a.read_phase)
+      (led : HasLed (meaning a.log.ty.now) valid (sizes a.log.ty.now) (script a.log.body) a.at a.log.table.words.items a.log.table.extension a.log.table.base.items a.log.table.set.items a.log.table.set.updates (map plain_reply a.log.table.replies.items) passes begun v w a.read_phase)
     where
       OnLog : T → Behaviour → Type 0
-      OnLog ty f = IsOnLog (meaning ty) (next b.log.body) f (left b.log.body) (may b.log.body) b.log.base.items b.log.set b.log.cache b.log.replies.items
+      OnLog ty f = IsOnLog (meaning ty) (next b.log.body) f (left b.log.body) (may b.log.body) b.log.table.base.items b.log.table.set b.log.table.cache b.log.table.replies.items
 
       own : OnLog a.log.ty.now (script a.log.body) → IsOwnLog meaning valid sizes script next left may a.log.ty.now (script a.log.body) b
       unfolding OnLog
@@ -57,10 +59,10 @@ module _ {T B : Type 0} (meaning : T → Meaning) (valid : Validity) (sizes : T 
       }
 
       goes : T → Behaviour → Type 0
-      goes ty f = Goes (meaning ty) valid (sizes ty) f b.at b.read_phase b.words.items b.extension b.log.base.items b.log.set.items b.log.set.updates (map plain_reply b.log.replies.items) w
+      goes ty f = Goes (meaning ty) valid (sizes ty) f b.at b.read_phase b.log.table.words.items b.log.table.extension b.log.table.base.items b.log.table.set.items b.log.table.set.updates (map plain_reply b.log.table.replies.items) w
 
       fits : ReadPhase → T → Behaviour → Type 0
-      fits read_phase ty f = Fits (meaning ty) valid (sizes ty) f b.at read_phase b.words.items b.log.base.items b.log.set.updates (map plain_reply b.log.replies.items) w
+      fits read_phase ty f = Fits (meaning ty) valid (sizes ty) f b.at read_phase b.log.table.words.items b.log.table.base.items b.log.table.set.updates (map plain_reply b.log.table.replies.items) w
 
       more : OnLog a.log.ty.now (script a.log.body) → goes a.log.ty.now (script a.log.body) → HasMoved begun w b.read_phase b.at → (passes ≡ 1 → IsFirst b.read_phase)
           → RunsBody meaning valid sizes script next left may passes a.log.ty.now (script a.log.body) b begun w
@@ -83,20 +85,20 @@ module _ {T B : Type 0} (meaning : T → Meaning) (valid : Validity) (sizes : T 
         committing = stands;
       }
 
-      over : (x : Verdict) → OnLog a.log.ty.now (script a.log.body) → IsLeft w → b.at ≤ w.at → Ends (meaning a.log.ty.now) (script a.log.body) w b.at (map plain_reply b.log.replies.items) x
+      over : (x : Verdict) → OnLog a.log.ty.now (script a.log.body) → IsLeft w → b.at ≤ w.at → Ends (meaning a.log.ty.now) (script a.log.body) w b.at (map plain_reply b.log.table.replies.items) x
           → HasMoved begun w b.read_phase b.at → (passes ≡ 1 → IsUnaborted (Turns.Ended x))
-          → HasEnded meaning valid sizes script next left may passes a.log.ty.now (script a.log.body) (record { body = b.log.body; replies = b.log.replies; verdict = x }) begun w
+          → HasEnded meaning valid sizes script next left may passes a.log.ty.now (script a.log.body) (record { body = b.log.body; replies = b.log.table.replies; verdict = x }) begun w
       unfolding OnLog
       over x log leaves within ends moved alone = record {
         same_script = same_script;
         taken = log.taken;
-        tried = λ place. ended_reading (meaning a.log.ty.now) (script a.log.body) begun w b.at (map plain_reply b.log.replies.items) x moved.in_body leaves within ends place;
+        tried = λ place. ended_reading (meaning a.log.ty.now) (script a.log.body) begun w b.at (map plain_reply b.log.table.replies.items) x moved.in_body leaves within ends place;
         rests = rests_after (meaning a.log.ty.now) (sizes a.log.ty.now) begun w rest led.read.running leaves;
         alone = λ one. unaborted_turn x (alone one);
       }
 
       turned_to : (r : Result Turn NoMemory) → OnOk r (OnLog a.log.ty.now (script a.log.body))
-          → IfOk r (λ turn. Turned (meaning a.log.ty.now) valid (sizes a.log.ty.now) (script a.log.body) b.at b.read_phase b.words.items b.extension b.log.base.items b.log.set.items b.log.set.updates (map plain_reply b.log.replies.items) w turn)
+          → IfOk r (λ turn. Turned (meaning a.log.ty.now) valid (sizes a.log.ty.now) (script a.log.body) b.at b.read_phase b.log.table.words.items b.log.table.extension b.log.table.base.items b.log.table.set.items b.log.table.set.updates (map plain_reply b.log.table.replies.items) w turn)
           → (passes ≡ 1 → IfOk r (λ turn. IsFirst b.read_phase × IsUnaborted turn))
           → OnOk r (Moves a.read_phase a.at b.read_phase b.at w) → OnErr r (IsLeft w)
           → HasTurned meaning valid sizes script next left may passes a.log.ty.now (script a.log.body) r (Running b) begun w
@@ -104,7 +106,7 @@ module _ {T B : Type 0} (meaning : T → Meaning) (valid : Validity) (sizes : T 
       turned_to (Ok Turns.More) log turned alone moves err = (rest, more log turned (led.moved b.read_phase b.at moves) (λ one. (alone one).0))
       turned_to (Ok Turns.Ready) log turned alone moves err = (rest, ready log turned.0 turned.1 (led.moved b.read_phase b.at moves))
       turned_to (Ok (Turns.Ended x)) log turned alone moves err =
-          let ends = ends_of (meaning a.log.ty.now) valid (sizes a.log.ty.now) (script a.log.body) b.at b.words.items b.log.base.items b.log.set.updates (map plain_reply b.log.replies.items) w x turned.3 in
+          let ends = ends_of (meaning a.log.ty.now) valid (sizes a.log.ty.now) (script a.log.body) b.at b.log.table.words.items b.log.table.base.items b.log.table.set.updates (map plain_reply b.log.table.replies.items) w x turned.3 in
           over x log turned.1 turned.2 ends (led.moved b.read_phase b.at moves) (λ one. (alone one).1)
       turned_to (Err e) log turned alone moves err = stopped (meaning a.log.ty.now) (sizes a.log.ty.now) begun w rest led.read err
 
@@ -112,9 +114,9 @@ module _ {T B : Type 0} (meaning : T → Meaning) (valid : Validity) (sizes : T 
   pub reads_on : (passes : ℕ) (ty : T) (f : Behaviour) (a b : Attempt T B) (begun v w : View) (r : Result Turn NoMemory)
       → IsAtRest (meaning ty) (sizes ty) begun → RunsBody meaning valid sizes script next left may passes ty f a begun v
       → b.log.ty ≡ a.log.ty → script b.log.body ≡ script a.log.body
-      → OneEvent (λ e. e ≡ next_event (meaning a.log.ty.now).widths a.read_phase a.words.items) valid passes v w
-      → OnOk r (IsOnLog (meaning a.log.ty.now) (next b.log.body) (script a.log.body) (left b.log.body) (may b.log.body) b.log.base.items b.log.set b.log.cache b.log.replies.items)
-      → IfOk r (λ turn. Turned (meaning a.log.ty.now) valid (sizes a.log.ty.now) (script a.log.body) b.at b.read_phase b.words.items b.extension b.log.base.items b.log.set.items b.log.set.updates (map plain_reply b.log.replies.items) w turn)
+      → OneEvent (λ e. e ≡ next_event (meaning a.log.ty.now).widths a.read_phase a.log.table.words.items) valid passes v w
+      → OnOk r (IsOnLog (meaning a.log.ty.now) (next b.log.body) (script a.log.body) (left b.log.body) (may b.log.body) b.log.table.base.items b.log.table.set b.log.table.cache b.log.table.replies.items)
+      → IfOk r (λ turn. Turned (meaning a.log.ty.now) valid (sizes a.log.ty.now) (script a.log.body) b.at b.read_phase b.log.table.words.items b.log.table.extension b.log.table.base.items b.log.table.set.items b.log.table.set.updates (map plain_reply b.log.table.replies.items) w turn)
       → (passes ≡ 1 → IsFirst a.read_phase → IfOk r (λ turn. IsFirst b.read_phase × IsUnaborted turn))
       → OnOk r (Moves a.read_phase a.at b.read_phase b.at w) → OnErr r (IsLeft w)
       → HasTurned meaning valid sizes script next left may passes ty f r (Running b) begun w
@@ -123,7 +125,7 @@ module _ {T B : Type 0} (meaning : T → Meaning) (valid : Validity) (sizes : T 
       let types : a.log.ty.now ≡ ty = h.own.same_type in
       let scripts : script a.log.body ≡ f = h.own.same_script in
       let rest_there : IsAtRest (meaning a.log.ty.now) (sizes a.log.ty.now) begun = subst (λ (t : T). IsAtRest (meaning t) (sizes t) begun) (sym types) rest in
-      let led = has_led (meaning a.log.ty.now) valid (sizes a.log.ty.now) (script a.log.body) a.at a.words.items a.extension a.log.base.items a.log.set.items a.log.set.updates (map plain_reply a.log.replies.items) passes begun v w a.read_phase h.goes h.gone o in
+      let led = has_led (meaning a.log.ty.now) valid (sizes a.log.ty.now) (script a.log.body) a.at a.log.table.words.items a.log.table.extension a.log.table.base.items a.log.table.set.items a.log.table.set.updates (map plain_reply a.log.table.replies.items) passes begun v w a.read_phase h.goes h.gone o in
       subst (λ (t : T). HasTurned meaning valid sizes script next left may passes t f r (Running b) begun w) types
       (subst (λ (g : Behaviour). HasTurned meaning valid sizes script next left may passes a.log.ty.now g r (Running b) begun w) scripts
       (turned_to passes a b begun v w (ap (λ (k : Bor T). k.now) same_ref) same_script rest_there led r log turned (λ one. alone one (h.alone one)) moves err))
@@ -138,29 +140,29 @@ module _ {T B : Type 0} (meaning : T → Meaning) (valid : Validity) (sizes : T 
 
   -- The events left, by the type before the step.
   pub fewer_left : (a b : Attempt T B) → b.log.ty ≡ a.log.ty
-      → events_left (left b.log.body) (meaning a.log.ty.now).widths b.read_phase b.words.items b.extension b.log.base.items < machine_left meaning valid sizes script next left may (Running a)
+      → events_left (left b.log.body) (meaning a.log.ty.now).widths b.read_phase b.log.table.words.items b.log.table.extension b.log.table.base.items < machine_left meaning valid sizes script next left may (Running a)
       → machine_left meaning valid sizes script next left may (Running b) < machine_left meaning valid sizes script next left may (Running a)
   fewer_left a b same h =
-      subst (λ (k : Bor T). events_left (left b.log.body) (meaning k.now).widths b.read_phase b.words.items b.extension b.log.base.items < machine_left meaning valid sizes script next left may (Running a)) (sym same) h
+      subst (λ (k : Bor T). events_left (left b.log.body) (meaning k.now).widths b.read_phase b.log.table.words.items b.log.table.extension b.log.table.base.items < machine_left meaning valid sizes script next left may (Running a)) (sym same) h
 
   -- where a step of the commit leads
   abbrev HasCommitted : ℕ → T → Behaviour → Option Verdict → Ready T B → View → View → Type 0
   HasCommitted passes ty f None r begun w = Commits meaning valid sizes script next left may passes ty f r begun w
   HasCommitted passes ty f (Some x) r begun w =
-      HasEnded meaning valid sizes script next left may passes ty f (record { body = r.log.body; replies = r.log.replies; verdict = x }) begun w
+      HasEnded meaning valid sizes script next left may passes ty f (record { body = r.log.body; replies = r.log.table.replies; verdict = x }) begun w
 
   module _ (passes : ℕ) (r s : Ready T B) (begun v w : View)
-      (kept : s ≡ record r { found_tickets = s.found_tickets; loaded_words = s.loaded_words; commit_phase = s.commit_phase })
+      (kept : s ≡ having_found r (lists_of s).found_tickets (lists_of s).loaded_words s.commit_phase)
       (rest : IsAtRest (meaning r.log.ty.now) (sizes r.log.ty.now) begun)
       (h : Commits meaning valid sizes script next left may passes r.log.ty.now (script r.log.body) r begun v)
-      (o : OneEvent (IsCommitEvent r.updates.items) valid passes v w)
+      (o : OneEvent (IsCommitEvent (lists_of r).updates.items) valid passes v w)
     where
       now : Ready T B
-      now = record r { found_tickets = s.found_tickets; loaded_words = s.loaded_words; commit_phase = s.commit_phase }
+      now = having_found r (lists_of s).found_tickets (lists_of s).loaded_words s.commit_phase
 
-      committed_to : (x : Option Verdict) → Said (deal_of meaning valid sizes script next left may r) s.found_tickets s.loaded_words.items s.commit_phase w x
-          → SpaceAt (meaning r.log.ty.now).widths r.tasks.items s.loaded_words s.commit_phase
-          → (passes ≡ 1 → IsUndisturbed r.at r.found_tickets.items None r.commit_phase → IsUndisturbed r.at s.found_tickets.items x s.commit_phase)
+      committed_to : (x : Option Verdict) → Said (deal_of meaning valid sizes script next left may r) (lists_of s).found_tickets (lists_of s).loaded_words.items s.commit_phase w x
+          → SpaceAt (meaning r.log.ty.now).widths (lists_of r).tasks.items (lists_of s).loaded_words s.commit_phase
+          → (passes ≡ 1 → IsUndisturbed r.at (lists_of r).found_tickets.items None r.commit_phase → IsUndisturbed r.at (lists_of s).found_tickets.items x s.commit_phase)
           → EndsBy v.phase x
           → HasCommitted passes r.log.ty.now (script r.log.body) x now begun w
       unfolding now
@@ -210,11 +212,11 @@ module _ {T B : Type 0} (meaning : T → Meaning) (valid : Validity) (sizes : T 
   -- A step of the commit.
   pub commits_on : (passes : ℕ) (ty : T) (f : Behaviour) (r s : Ready T B) (begun v w : View) (x : Option Verdict)
       → IsAtRest (meaning ty) (sizes ty) begun → Commits meaning valid sizes script next left may passes ty f r begun v
-      → s ≡ record r { found_tickets = s.found_tickets; loaded_words = s.loaded_words; commit_phase = s.commit_phase }
-      → OneEvent (IsCommitEvent r.updates.items) valid passes v w
-      → Said (deal_of meaning valid sizes script next left may r) s.found_tickets s.loaded_words.items s.commit_phase w x
-      → SpaceAt (meaning r.log.ty.now).widths r.tasks.items s.loaded_words s.commit_phase
-      → (passes ≡ 1 → IsUndisturbed r.at r.found_tickets.items None r.commit_phase → IsUndisturbed r.at s.found_tickets.items x s.commit_phase)
+      → s ≡ having_found r (lists_of s).found_tickets (lists_of s).loaded_words s.commit_phase
+      → OneEvent (IsCommitEvent (lists_of r).updates.items) valid passes v w
+      → Said (deal_of meaning valid sizes script next left may r) (lists_of s).found_tickets (lists_of s).loaded_words.items s.commit_phase w x
+      → SpaceAt (meaning r.log.ty.now).widths (lists_of r).tasks.items (lists_of s).loaded_words s.commit_phase
+      → (passes ≡ 1 → IsUndisturbed r.at (lists_of r).found_tickets.items None r.commit_phase → IsUndisturbed r.at (lists_of s).found_tickets.items x s.commit_phase)
       → EndsBy v.phase x
       → HasTurned meaning valid sizes script next left may passes ty f (Ok (turn_of x)) (Committing s) begun w
   commits_on passes ty f r s begun v w x rest h kept o said space alone by =
@@ -230,11 +232,11 @@ module _ {T B : Type 0} (meaning : T → Meaning) (valid : Validity) (sizes : T 
   -- The commit of an attempt that is ready, as its seal makes it.
   pub seals : (passes : ℕ) (ty : T) (f : Behaviour) (a : Attempt T B) (r : Ready T B) (begun v : View)
       → IsReady meaning valid sizes script next left may ty f a begun v
-      → r.log ≡ a.log → r.at ≡ a.at
-      → Stands (deal_of meaning valid sizes script next left may r) r.found_tickets r.loaded_words.items r.commit_phase v
-      → SpaceAt (meaning r.log.ty.now).widths r.tasks.items r.loaded_words r.commit_phase
-      → r.log.set.updates ≡ r.updates.items
-      → IsUndisturbed r.at r.found_tickets.items None r.commit_phase
+      → r.log ≡ with_lists a.log (lists_of r) → r.at ≡ a.at
+      → Stands (deal_of meaning valid sizes script next left may r) (lists_of r).found_tickets (lists_of r).loaded_words.items r.commit_phase v
+      → SpaceAt (meaning r.log.ty.now).widths (lists_of r).tasks.items (lists_of r).loaded_words r.commit_phase
+      → r.log.table.set.updates ≡ (lists_of r).updates.items
+      → IsUndisturbed r.at (lists_of r).found_tickets.items None r.commit_phase
       → Commits meaning valid sizes script next left may passes ty f r begun v
   seals passes ty f a r begun v h same at stands space copy undisturbed = record {
     same_type = ap (λ (k : Log T B). k.ty.now) same ∙ h.own.same_type;

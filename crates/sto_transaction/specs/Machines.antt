@@ -27,6 +27,7 @@ use Rattle.sto_history.specs.Running.{IsRunning}
 use Rattle.sto_history.specs.Tried.{HasTried}
 use Rattle.sto_transaction.specs.Going.{HasGone, InBody}
 use Rattle.sto_transaction.specs.Plain.{verdict}
+use Rattle.sto_attempt.specs.Commits.{lists_of}
 use Rattle.sto_transaction.specs.Resting.{IsAtRest}
 use Rattle.sto_transaction.specs.declared.machine.Machine.{Machine}
 use Rattle.sto_transaction.specs.declared.machine.Machine.TheVariants.{Running, Committing, Over}
@@ -52,8 +53,8 @@ module _ {T B : Type 0} (meaning : T → Meaning) (valid : Validity) (sizes : T 
   -- what a commit is to do
   abbrev pub deal_of : Ready T B → Deal
   deal_of r =
-      deal (meaning r.log.ty.now) valid (sizes r.log.ty.now) (script r.log.body) r.at r.log.base.items r.log.set.items (map plain_reply r.log.replies.items)
-      r.updates.items r.seen.items r.loaded.items r.tasks.items r.checks.items r.places.items
+      deal (meaning r.log.ty.now) valid (sizes r.log.ty.now) (script r.log.body) r.at r.log.table.base.items r.log.table.set.items (map plain_reply r.log.table.replies.items)
+      (lists_of r).updates.items (lists_of r).seen.items (lists_of r).loaded.items (lists_of r).tasks.items (lists_of r).checks.items (lists_of r).places.items
 
   -- the log of an attempt of a body with the script f, on a type
   pub record IsOwnLog (ty : T) (f : Behaviour) (a : Attempt T B) : Type 0 where
@@ -61,14 +62,14 @@ module _ {T B : Type 0} (meaning : T → Meaning) (valid : Validity) (sizes : T 
     pub same_script : script a.log.body ≡ f
     pub log :
         IsOnLog (meaning a.log.ty.now) (next a.log.body) (script a.log.body) (left a.log.body) (may a.log.body)
-        a.log.base.items a.log.set a.log.cache a.log.replies.items
+        a.log.table.base.items a.log.table.set a.log.table.cache a.log.table.replies.items
 
   -- the body runs; beside no other pass it has come to no extension
   pub record RunsBody (passes : ℕ) (ty : T) (f : Behaviour) (a : Attempt T B) (begun v : View) : Type 0 where
     pub own : IsOwnLog ty f a
     pub goes :
-        Goes (meaning a.log.ty.now) valid (sizes a.log.ty.now) (script a.log.body) a.at a.read_phase a.words.items a.extension
-        a.log.base.items a.log.set.items a.log.set.updates (map plain_reply a.log.replies.items) v
+        Goes (meaning a.log.ty.now) valid (sizes a.log.ty.now) (script a.log.body) a.at a.read_phase a.log.table.words.items a.log.table.extension
+        a.log.table.base.items a.log.table.set.items a.log.table.set.updates (map plain_reply a.log.table.replies.items) v
     pub gone : HasGone a.read_phase begun v a.at
     pub alone : passes ≡ 1 → IsFirst a.read_phase
 
@@ -76,8 +77,8 @@ module _ {T B : Type 0} (meaning : T → Meaning) (valid : Validity) (sizes : T 
   pub record IsReady (ty : T) (f : Behaviour) (a : Attempt T B) (begun v : View) : Type 0 where
     pub own : IsOwnLog ty f a
     pub fits :
-        Fits (meaning a.log.ty.now) valid (sizes a.log.ty.now) (script a.log.body) a.at CommittingReadPhase a.words.items
-        a.log.base.items a.log.set.updates (map plain_reply a.log.replies.items) v
+        Fits (meaning a.log.ty.now) valid (sizes a.log.ty.now) (script a.log.body) a.at CommittingReadPhase a.log.table.words.items
+        a.log.table.base.items a.log.table.set.updates (map plain_reply a.log.table.replies.items) v
     pub in_body : InBody begun v a.at
     pub committing : a.read_phase ≡ CommittingReadPhase
 
@@ -86,12 +87,12 @@ module _ {T B : Type 0} (meaning : T → Meaning) (valid : Validity) (sizes : T 
     pub same_type : r.log.ty.now ≡ ty
     pub same_script : script r.log.body ≡ f
     pub taken : (call : Call) → may r.log.body call → (meaning r.log.ty.now).takes call
-    pub stands : Stands (deal_of r) r.found_tickets r.loaded_words.items r.commit_phase v
-    pub space : SpaceAt (meaning r.log.ty.now).widths r.tasks.items r.loaded_words r.commit_phase
-    pub copy : r.log.set.updates ≡ r.updates.items
+    pub stands : Stands (deal_of r) (lists_of r).found_tickets (lists_of r).loaded_words.items r.commit_phase v
+    pub space : SpaceAt (meaning r.log.ty.now).widths (lists_of r).tasks.items (lists_of r).loaded_words r.commit_phase
+    pub copy : r.log.table.set.updates ≡ (lists_of r).updates.items
     pub running : IsRunning begun v
     pub late : (k : ℕ) → IsKnown begun k → k ≤ r.at
-    pub alone : passes ≡ 1 → IsUndisturbed r.at r.found_tickets.items None r.commit_phase
+    pub alone : passes ≡ 1 → IsUndisturbed r.at (lists_of r).found_tickets.items None r.commit_phase
 
   -- an attempt of a body with the script f, on a type and one of so many passes, has led from the view `begun` to the view v, and has
   -- further events
@@ -117,8 +118,8 @@ module _ {T B : Type 0} (meaning : T → Meaning) (valid : Validity) (sizes : T 
 
   -- it has ended so, and what is left of it was not yet taken
   abbrev pub IsAtEnd : ℕ → T → Behaviour → Machine T B → Verdict → View → View → Type 0
-  IsAtEnd passes ty f (Running a) x begun w = HasEnded passes ty f (record { body = a.log.body; replies = a.log.replies; verdict = x }) begun w
-  IsAtEnd passes ty f (Committing r) x begun w = HasEnded passes ty f (record { body = r.log.body; replies = r.log.replies; verdict = x }) begun w
+  IsAtEnd passes ty f (Running a) x begun w = HasEnded passes ty f (record { body = a.log.body; replies = a.log.table.replies; verdict = x }) begun w
+  IsAtEnd passes ty f (Committing r) x begun w = HasEnded passes ty f (record { body = r.log.body; replies = r.log.table.replies; verdict = x }) begun w
   IsAtEnd passes ty f Over x begun w = ⊥
 
   -- where an event leads it
@@ -147,7 +148,7 @@ module _ {T B : Type 0} (meaning : T → Meaning) (valid : Validity) (sizes : T 
 
   -- how many events it has left at most
   abbrev pub machine_left : Machine T B → ℕ
-  machine_left (Running a) = events_left (left a.log.body) (meaning a.log.ty.now).widths a.read_phase a.words.items a.extension a.log.base.items
+  machine_left (Running a) = events_left (left a.log.body) (meaning a.log.ty.now).widths a.read_phase a.log.table.words.items a.log.table.extension a.log.table.base.items
   machine_left (Committing r) = commit_left (deal_of r) r.commit_phase
   machine_left Over = 0
 

@@ -8,7 +8,7 @@ ghost use Rattle.sto_transaction.specs.Leading.{IsLedTo, MayGoOn, MakesOne, Turn
 
 use std::alloc::Global;
 use std::mem;
-use sto_attempt::{Attempt, AttemptLists, Ready, Turn, Verdict};
+use sto_attempt::{Attempt, AttemptLists, Ready, Table, Turn, Verdict};
 use sto_core::Cells;
 use sto_model::{Body, Replies};
 use sto_part::NoMemory;
@@ -39,9 +39,9 @@ pub struct FinishedAttempt<B> {
 impl<'t, T: TxType, B: Body + Drop> Machine<'t, T, B> {
     /// An attempt of a body, which it resets, on a pass that is at rest and has a draw left. It has made no event yet.
     ///
-    /// The type is to take every call that the body may ask. The memory is lent to the attempt, which gives it back at its end.
+    /// The type is to take every call that the body may ask. The table is worked on in place; the last step puts it back.
     #[inline(always)]
-    pub fn new(alloc: Global, ty: &'t T, body: B, memory: AttemptLists) -> Machine<'t, T, B>
+    pub fn new(ty: &'t T, body: B, table: Table) -> Machine<'t, T, B>
         requires { (call : Call) → B.may_ask body call → (T.meaning ty.now).takes call }
         ensures proceeds { (passes : ℕ) (v : View) → IsAtRest (T.meaning ty.now) (T.sizes ty.now) v → 0 < v.draws
             → IsLedTo T.TxType B.Body passes ty.now (B.script body) result v v }
@@ -49,18 +49,18 @@ impl<'t, T: TxType, B: Body + Drop> Machine<'t, T, B> {
             ≤ bound (B.left_at_reset body) (length (T.meaning ty.now).widths) (words_of (T.meaning ty.now).widths) }
         ensures calls { calls_at T.TxType B.Body result ≡ B.left_at_reset body }
     {
-        Machine::Running(Attempt::new(alloc, ty, body, memory))
+        Machine::Running(Attempt::new(ty, body, table))
     }
 
     /// Makes exactly one event. It answers what is left of the attempt where that was the last one, and else goes on to the next.
     ///
     /// The pass is that of the earlier steps, with its view as they left it; steps of other passes leave it so. After `NoMemory` the
-    /// attempt has ended: the pass is at rest, and nothing was drawn. With the last event the memory that it was lent is put back.
+    /// attempt has ended: the pass is at rest, and nothing was drawn. With the last event its table goes back to the lists.
     pub fn step<C: Cells<T>>(
         &mut self,
         alloc: Global,
         cells: &mut C,
-        memory: &mut AttemptLists,
+        lists: &mut AttemptLists,
     ) -> Result<Option<FinishedAttempt<B>>, NoMemory>
         requires { MayGoOn T.TxType B.Body C.Cells self.old cells.old }
         ensures event { MakesOne T.TxType B.Body C.Cells cells.old cells.new }
@@ -71,7 +71,7 @@ impl<'t, T: TxType, B: Body + Drop> Machine<'t, T, B> {
     {
         match self.advance(alloc, cells)? {
             None => Ok(None),
-            Some(verdict) => Ok(Some(self.end(verdict, memory))),
+            Some(verdict) => Ok(Some(self.end(verdict, lists))),
         }
     }
 
@@ -143,19 +143,18 @@ impl<'t, T: TxType, B: Body + Drop> Machine<'t, T, B> {
         }
     }
 
-    // Takes what is left of an attempt that has ended, and puts back the memory that it was lent.
+    // Takes what is left of an attempt that has ended, and puts its table back to the lists.
     #[inline(never)]
-    pub(crate) fn end(&mut self, verdict: Verdict, memory: &mut AttemptLists) -> FinishedAttempt<B>
+    pub(crate) fn end(&mut self, verdict: Verdict, lists: &mut AttemptLists) -> FinishedAttempt<B>
         requires { MayEnd T.TxType B.Body self.old verdict }
         ensures calls { B.left_at_reset result.body ≡ calls_at T.TxType B.Body self.old }
         ensures ended { Ends T.TxType B.Body self.old verdict result }
     {
-        let (heard, lent) = match mem::replace(self, Machine::Over) {
-            Machine::Running(attempt) => attempt.end(),
-            Machine::Committing(ready) => ready.end(),
+        let heard = match mem::replace(self, Machine::Over) {
+            Machine::Running(attempt) => attempt.end(lists),
+            Machine::Committing(ready) => ready.end(lists),
             Machine::Over => unreachable!(),
         };
-        *memory = lent;
         FinishedAttempt {
             body: heard.body,
             replies: heard.replies,

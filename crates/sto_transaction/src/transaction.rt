@@ -57,13 +57,13 @@ impl<T: TxType, B: Body + Drop> Transaction<'_, T, B> {
     /// aborted.
     ///
     /// Each attempt adds its record: what its calls were answered, and how it ended. Room for the record is made before the attempt.
-    /// After `NoMemory` the pass is at rest again, and the records of the attempts before stay. The memory is lent to each attempt in turn.
+    /// After `NoMemory` the pass is at rest again, and the records of the attempts before stay. The lists are lent to each attempt in turn.
     pub fn run<C: Cells<T>, W: AttemptWatch>(
         self,
         alloc: Global,
         cells: &mut C,
         watch: &mut W,
-        memory: &mut AttemptLists,
+        lists: &mut AttemptLists,
         records: &mut Vec<Record>,
     ) -> Result<Transacted<B>, NoMemory>
         requires takes { (call : Call) → B.may_ask self.body call → (T.meaning self.ty.now).takes call }
@@ -93,7 +93,7 @@ impl<T: TxType, B: Body + Drop> Transaction<'_, T, B> {
             if let Err(AllocError) = records.reserve(1) {
                 return Err(NoMemory);
             }
-            let attempt = run_attempt(alloc, ty, body, cells, watch, memory)?;
+            let attempt = run_attempt(alloc, ty, body, cells, watch, lists)?;
             body = attempt.body;
             let ended = !is_abort(attempt.verdict);
             records.push_reserved(Record {
@@ -117,7 +117,7 @@ fn run_attempt<T: TxType, B: Body + Drop, C: Cells<T>, W: AttemptWatch>(
     body: B,
     cells: &mut C,
     watch: &mut W,
-    memory: &mut AttemptLists,
+    lists: &mut AttemptLists,
 ) -> Result<FinishedAttempt<B>, NoMemory>
     requires takes { (call : Call) → B.may_ask body call → (T.meaning ty.now).takes call }
     requires rests { IsAtRest (T.meaning ty.now) (T.sizes ty.now) (C.view cells.old) }
@@ -129,8 +129,8 @@ fn run_attempt<T: TxType, B: Body + Drop, C: Cells<T>, W: AttemptWatch>(
     ensures steps { (C.view cells.new).steps ≤ (C.view cells.old).steps + most_steps (T.meaning ty.now) (B.left_at_reset body) }
     ensures same { C.same cells.old cells.new }
 {
-    let mut machine = Machine::new(alloc, ty, body, memory.take());
-    let ended = finish(alloc, &mut machine, cells, watch, memory);
+    let mut machine = Machine::new(ty, body, lists.take());
+    let ended = finish(alloc, &mut machine, cells, watch, lists);
     mem::drop(machine);
     ended
 }
@@ -141,7 +141,7 @@ fn finish<T: TxType, B: Body + Drop, C: Cells<T>, W: AttemptWatch>(
     machine: &mut Machine<'_, T, B>,
     cells: &mut C,
     watch: &mut W,
-    memory: &mut AttemptLists,
+    lists: &mut AttemptLists,
 ) -> Result<FinishedAttempt<B>, NoMemory>
     requires { MayGoOn T.TxType B.Body C.Cells machine.old cells.old }
     ensures ended { Finishes T.TxType B.Body C.Cells machine.old cells.old cells.new result }
@@ -155,7 +155,7 @@ fn finish<T: TxType, B: Body + Drop, C: Cells<T>, W: AttemptWatch>(
         watch.before_event(events);
         match machine.advance(alloc, cells)? {
             None => events = read_part(machine, cells, watch, events.saturating_add(1))?,
-            Some(verdict) => return Ok(machine.end(verdict, memory)),
+            Some(verdict) => return Ok(machine.end(verdict, lists)),
         }
     }
 }

@@ -7,6 +7,9 @@ use Rattle.std.specs.Ordering.{int_eq}
 use Rattle.sto_item.specs.declared.item.Item.{Item}
 use Rattle.sto_item.specs.Pending.{Entry}
 use Rattle.sto_model.specs.declared.call.Call.{Call}
+use Rattle.sto_model.specs.declared.operation.Operation.{Operation}
+use Rattle.sto_model.specs.declared.operation.Operation.TheVariants.{Count, Scan}
+use Rattle.sto_model.specs.Calls.{call_of}
 use Rattle.sto_model.specs.SequentialObjects.{reply_to}
 use Rattle.sto_model.specs.Rows.{value_at, rows_between}
 use Rattle.sto_model.specs.PlainReplies.{PlainReply}
@@ -22,7 +25,6 @@ use Rattle.sto_tree.specs.BetweenLaw.{none_between, key_row_there, reads_keys, r
 use Rattle.sto_tree.specs.LeavesBetween.{lies_in_part, listed_meets, meets_listed}
 use Rattle.sto_tree.specs.Lookup.{place_is}
 use Rattle.sto_tree.specs.Members.{IsIn, key_in}
-use Rattle.sto_tree.specs.Observing.{a_call}
 use Rattle.sto_tree.specs.RowsBetween.{lies, value_at-between}
 use Rattle.sto_tree.specs.Sized.{tree_length}
 use Rattle.sto_tree.specs.Tests.{and_true, true_equal}
@@ -101,37 +103,38 @@ module _ (leaves : ℕ) (k : Known) (scans : Bool) (a b : ℤ) (fits_a : FitsSig
     pub known_is_told : known_told scans leaves k dir a b ≡ told_of scans (rows_between (known_rows leaves k dir a b) a b)
     known_is_told = told_known scans leaves k dir a b all_known d t part
 
--- the code of a scan, or of a count
-abbrev pub code_of : Bool → ℕ
-code_of scans = if scans then 11 else 10
+-- the operation of a scan, or of a count
+abbrev pub between_operation : Bool → Operation
+between_operation scans = if scans then Scan else Count
 
-reading_is : (leaves : ℕ) (scans : Bool) (a b : ℤ) → reading leaves (a_call (code_of scans) a b) ≡ between_reading leaves scans a b
+reading_is : (leaves : ℕ) (scans : Bool) (a b : ℤ) → reading leaves (call_of 0 (between_operation scans) a b) ≡ between_reading leaves scans a b
 reading_is leaves true a b = refl
 reading_is leaves false a b = refl
 
-reply_is : (leaves : ℕ) (scans : Bool) (a b : ℤ) (d : Parts) → reply_to (tree_meaning leaves).machines (a_call (code_of scans) a b) ((tree_meaning leaves).rows d) ≡ told_of scans (rows_between (tree_rows leaves d) a b)
+reply_is : (leaves : ℕ) (scans : Bool) (a b : ℤ) (d : Parts) → reply_to (tree_meaning leaves).machines (call_of 0 (between_operation scans) a b) ((tree_meaning leaves).rows d) ≡ told_of scans (rows_between (tree_rows leaves d) a b)
 reply_is leaves true a b d = refl
 reply_is leaves false a b d = refl
 
-module _ (leaves : ℕ) (k : Known) (scans : Bool) (call : Call) (object : call.object ≡ 0) (code : call.code ≡ code_of scans) (fits_a : FitsSigned w64 call.a) (fits_b : FitsSigned w64 call.b) where
+module _ (leaves : ℕ) (k : Known) (scans : Bool) (call : Call) (object : call.object ≡ 0) (third : call.c ≡ pos 0) (operation : call.operation ≡ between_operation scans)
+    (fits_a : FitsSigned w64 call.a) (fits_b : FitsSigned w64 call.b) where
   -- nothing where the range is empty
   pub says_empty : (t : PlainReply) (is : List Item) (us : List Entry) → int_le call.a call.b ≡ false → t ≡ told_of scans [] → is ≡ [] → us ≡ [] → IsPlan (tree_meaning leaves) call k (Say t is us)
   says_empty t is us none told items updates =
-      let r : reading leaves (a_call (code_of scans) call.a call.b) ≡ between_reading leaves scans call.a call.b = reading_is leaves scans call.a call.b in
+      let r : reading leaves (call_of 0 (between_operation scans) call.a call.b) ≡ between_reading leaves scans call.a call.b = reading_is leaves scans call.a call.b in
       let e : between_reading leaves scans call.a call.b ≡ Nothing [] [] = between_false leaves scans call.a call.b none in
-      plan_as leaves (code_of scans) call k (Say t is us) object code (
+      plan_as leaves (between_operation scans) call k (Say t is us) object third operation (
         ap (λ x. need_of x k) (r ∙ e),
         items ∙ sym (ap (λ x. items_of x k) (r ∙ e)),
         λ d v part. (told ∙ ap (told_of scans) (sym (none_between (tree_rows leaves d) call.a call.b none)) ∙ sym (reply_is leaves scans call.a call.b d), updates ∙ sym (ap (λ x. updates_at x d) (r ∙ e))),
       )
 
   module _ (some : int_le call.a call.b ≡ true) where
-    read_is : reading leaves (a_call (code_of scans) call.a call.b) ≡ Read 1 (λ x. between_each scans x call.a call.b (leaves_between leaves x call.a call.b) [])
+    read_is : reading leaves (call_of 0 (between_operation scans) call.a call.b) ≡ Read 1 (λ x. between_each scans x call.a call.b (leaves_between leaves x call.a call.b) [])
     read_is = reading_is leaves scans call.a call.b ∙ between_true leaves scans call.a call.b some
 
     pub needs_directory : k 1 ≡ None → IsPlan (tree_meaning leaves) call k (Ask 1)
     needs_directory e =
-        plan_as leaves (code_of scans) call k (Ask 1) object code
+        plan_as leaves (between_operation scans) call k (Ask 1) object third operation
         (ap (λ x. need_of x k) read_is ∙ ap (λ o. when_known o (Some 1) (λ x. need_of (between_each scans x call.a call.b (leaves_between leaves x call.a call.b) []) k)) e)
 
     module _ (dir : List ℤ) (known_dir : k 1 ≡ Some dir) where
@@ -139,12 +142,14 @@ module _ (leaves : ℕ) (k : Known) (scans : Bool) (call : Call) (object : call.
       seen = between_each scans dir call.a call.b (leaves_between leaves dir call.a call.b) []
 
       pub needs_part : (p : ℕ) → need_of seen k ≡ Some p → IsPlan (tree_meaning leaves) call k (Ask p)
-      needs_part p e = plan_as leaves (code_of scans) call k (Ask p) object code (ap (λ x. need_of x k) read_is ∙ whole_need leaves k scans call.a call.b fits_a fits_b dir known_dir ∙ e)
+      needs_part p e =
+          plan_as leaves (between_operation scans) call k (Ask p) object third operation
+          (ap (λ x. need_of x k) read_is ∙ whole_need leaves k scans call.a call.b fits_a fits_b dir known_dir ∙ e)
 
       pub says_range :
           (t : PlainReply) (is : List Item) (us : List Entry) → IsSaid seen k is → t ≡ told_of scans (rows_between (known_rows leaves k dir call.a call.b) call.a call.b) → us ≡ [] → IsPlan (tree_meaning leaves) call k (Say t is us)
       says_range t is us said told updates =
-          plan_as leaves (code_of scans) call k (Say t is us) object code (
+          plan_as leaves (between_operation scans) call k (Say t is us) object third operation (
             ap (λ x. need_of x k) read_is ∙ whole_need leaves k scans call.a call.b fits_a fits_b dir known_dir ∙ said.0,
             said.1 ∙ sym (ap (λ x. items_of x k) read_is ∙ whole_items leaves k scans call.a call.b fits_a fits_b dir known_dir),
             λ d v part. (

@@ -1,10 +1,12 @@
 -- Calls that read in the leaf of a key, on what is known.
-use Rattle.std.proofs.Common.{◌≡◌, ◌<◌, ◌*◌, ℕ, ℤ, Some, None, List, [], length, sym, ◌∙◌, ap, subst, arith}
+use Rattle.std.proofs.Common.{◌≡◌, ◌<◌, ◌*◌, ℕ, ℤ, pos, Some, None, List, [], length, sym, ◌∙◌, ap, subst, arith}
 use Rattle.std.specs.Int.{w64}
 use Rattle.std.specs.Int.RustNames.{FitsSigned}
 use Rattle.sto_item.specs.declared.item.Item.{Item}
 use Rattle.sto_item.specs.Pending.{Entry}
 use Rattle.sto_model.specs.declared.call.Call.{Call}
+use Rattle.sto_model.specs.declared.operation.Operation.{Operation}
+use Rattle.sto_model.specs.Calls.{call_of}
 use Rattle.sto_model.specs.PlainReplies.{PlainReply}
 use Rattle.sto_model.specs.SequentialObjects.{reply_to}
 use Rattle.sto_type.specs.Known.{Parts, Known, IsPartOf}
@@ -17,7 +19,6 @@ use Rattle.sto_tree.specs.Found.{IsAtLeaf, NeedsFirst}
 use Rattle.sto_tree.specs.Meaning.{tree_meaning, reading}
 use Rattle.sto_tree.specs.Searches.{first_some}
 use Rattle.sto_tree.specs.Lookup.{leaf_there}
-use Rattle.sto_tree.specs.Observing.{a_call}
 use Rattle.sto_tree.specs.Sized.{tree_length, key_width, value_width}
 use Rattle.sto_tree.proofs.Parts.{known_part, known_width}
 
@@ -100,8 +101,10 @@ module _ (leaves : ℕ) (k : Known) (key : ℤ) (dir : List ℤ) (l : ℕ) (ks :
   leaf_asks call f e p need = ap (λ r. need_of r k) e ∙ leaf_need f ∙ need
 
 -- a call of the one object
-pub as_call : (n : ℕ) (call : Call) → call.object ≡ 0 → call.code ≡ n → a_call n call.a call.b ≡ call
-as_call n call o e = λ i. record { object = sym o i; code = sym e i; a = call.a; b = call.b }
+pub as_call : (o : Operation) (call : Call) → call.object ≡ 0 → call.c ≡ pos 0 → call.operation ≡ o → call_of 0 o call.a call.b ≡ call
+as_call o call z third e = λ i. record { object = sym z i; operation = sym e i; a = call.a; b = call.b; c = sym third i }
 
-pub plan_as : (leaves n : ℕ) (call : Call) (k : Known) (p : Plan) → call.object ≡ 0 → call.code ≡ n → IsPlan (tree_meaning leaves) (a_call n call.a call.b) k p → IsPlan (tree_meaning leaves) call k p
-plan_as leaves n call k p o e h = subst (λ (x : Call). IsPlan (tree_meaning leaves) x k p) (as_call n call o e) h
+pub plan_as :
+    (leaves : ℕ) (o : Operation) (call : Call) (k : Known) (p : Plan) → call.object ≡ 0 → call.c ≡ pos 0 → call.operation ≡ o → IsPlan (tree_meaning leaves) (call_of 0 o call.a call.b) k p
+    → IsPlan (tree_meaning leaves) call k p
+plan_as leaves o call k p z third e h = subst (λ (x : Call). IsPlan (tree_meaning leaves) x k p) (as_call o call z third e) h

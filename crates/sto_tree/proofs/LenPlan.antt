@@ -1,20 +1,23 @@
 -- What a len comes to, on what is known.
-use Rattle.std.proofs.Common.{◌≡◌, ℕ, ℤ, Option, Some, None, List, [], ◌∷◌, refl, sym, ◌∙◌, ap, arith}
+use Rattle.std.proofs.Common.{◌≡◌, ℕ, ℤ, pos, Option, Some, None, List, [], ◌∷◌, refl, sym, ◌∙◌, ap, arith}
 use Rattle.sto_part.specs.Parts.{part_of}
 use Rattle.sto_item.specs.declared.item.Item.{Item}
 use Rattle.sto_item.specs.declared.item.Item.TheVariants.{Seen}
 use Rattle.sto_model.specs.declared.call.Call.{Call}
+use Rattle.sto_model.specs.declared.operation.Operation.TheVariants.{Len}
+use Rattle.sto_model.specs.Calls.{call_of}
 use Rattle.sto_model.specs.PlainReplies.{Value}
 use Rattle.sto_type.specs.Known.{Known}
 use Rattle.sto_type.specs.Plans.{Say, IsPlan}
 use Rattle.sto_type.specs.Reading.{when_known}
 use Rattle.sto_tree.specs.Layout.{word}
 use Rattle.sto_tree.specs.Meaning.{tree_meaning}
-use Rattle.sto_tree.specs.Observing.{a_call}
 use Rattle.sto_tree.specs.LenLaw.{size_is}
 use Rattle.sto_tree.proofs.Parts.{known_part}
 
-pub says_size : (leaves : ℕ) (k : Known) (a b : ℤ) (is : List Item) (ws : List ℤ) → k 0 ≡ Some ws → is ≡ Seen 0 ∷ [] → IsPlan (tree_meaning leaves) (a_call 8 a b) k (Say (Value (word ws 0)) is [])
+pub says_size :
+    (leaves : ℕ) (k : Known) (a b : ℤ) (is : List Item) (ws : List ℤ) → k 0 ≡ Some ws → is ≡ Seen 0 ∷ []
+    → IsPlan (tree_meaning leaves) (call_of 0 Len a b) k (Say (Value (word ws 0)) is [])
 says_size leaves k a b is ws known items = (
   ap (λ o. when_known {A = Option ℕ} o (Some 0) (λ xs. None)) known,
   items ∙ sym (ap (λ o. when_known {A = List Item} o [] (λ xs. Seen 0 ∷ [])) known),
@@ -23,6 +26,6 @@ says_size leaves k a b is ws known items = (
       (ap Value (ap (λ xs. word xs 0) (sym same) ∙ size_is leaves d t), refl),
 )
 
--- a call of code 8 is a len
-pub as_len : (call : Call) → call.object ≡ 0 → call.code ≡ 8 → a_call 8 call.a call.b ≡ call
-as_len call o e = λ i. record { object = sym o i; code = sym e i; a = call.a; b = call.b }
+-- a len of the one object
+pub as_len : (call : Call) → call.object ≡ 0 → call.c ≡ pos 0 → call.operation ≡ Len → call_of 0 Len call.a call.b ≡ call
+as_len call o third e = λ i. record { object = sym o i; operation = sym e i; a = call.a; b = call.b; c = sym third i }

@@ -1,10 +1,11 @@
 -- What a next comes to, on what is known.
-use Rattle.std.proofs.Common.{◌≡◌, ◌<◌, ℕ, ℤ, Option, Some, None, List, [], ◌∷◌, refl, sym, ◌∙◌, ap, subst, arith, inl, inr}
+use Rattle.std.proofs.Common.{◌≡◌, ◌<◌, ℕ, ℤ, pos, Option, Some, None, List, [], ◌∷◌, refl, sym, ◌∙◌, ap, subst, arith, inl, inr}
 use Rattle.std.specs.Int.{w64}
 use Rattle.std.specs.Int.RustNames.{FitsSigned}
 use Rattle.sto_item.specs.declared.item.Item.{Item}
 use Rattle.sto_item.specs.Pending.{Entry}
 use Rattle.sto_model.specs.declared.call.Call.{Call}
+use Rattle.sto_model.specs.declared.operation.Operation.TheVariants.{Next}
 use Rattle.sto_model.specs.Objects.{value_or_absent}
 use Rattle.sto_model.specs.Rows.{least_from}
 use Rattle.sto_model.specs.PlainReplies.{PlainReply}
@@ -25,10 +26,10 @@ use Rattle.sto_tree.proofs.Parts.{known_part}
 use Rattle.sto_tree.proofs.Leaves.{plan_as}
 use Rattle.sto_tree.proofs.Walks.{next_stops, next_need_past, next_found_past, need_next, items_next, end_of}
 
-module _ (leaves : ℕ) (k : Known) (call : Call) (object : call.object ≡ 0) (code : call.code ≡ 9) (fits : FitsSigned w64 call.a) where
+module _ (leaves : ℕ) (k : Known) (call : Call) (object : call.object ≡ 0) (third : call.c ≡ pos 0) (operation : call.operation ≡ Next) (fits : FitsSigned w64 call.a) where
   pub next_directory : k 1 ≡ None → IsPlan (tree_meaning leaves) call k (Ask 1)
   next_directory e =
-      plan_as leaves 9 call k (Ask 1) object code
+      plan_as leaves Next call k (Ask 1) object third operation
       (ap (λ o. when_known o (Some 1) (λ x. need_of (next_each leaves x call.a (leaves_between leaves x call.a greatest)) k)) e)
 
   module _ (dir : List ℤ) (known_dir : k 1 ≡ Some dir) where
@@ -40,7 +41,7 @@ module _ (leaves : ℕ) (k : Known) (call : Call) (object : call.object ≡ 0) (
 
     pub next_needs : (p : ℕ) → next_need k call.a listed ≡ Some p → IsPlan (tree_meaning leaves) call k (Ask p)
     next_needs p e =
-        plan_as leaves 9 call k (Ask p) object code
+        plan_as leaves Next call k (Ask p) object third operation
         (ap (λ o. when_known o (Some 1) (λ x. need_of (next_each leaves x call.a (leaves_between leaves x call.a greatest)) k)) known_dir ∙ whole_need ∙ e)
 
     module _ (d : Parts) (t : IsTree leaves d) (part : IsPartOf k d) where
@@ -74,7 +75,7 @@ module _ (leaves : ℕ) (k : Known) (call : Call) (object : call.object ≡ 0) (
         (o : Option ℤ) (t : PlainReply) (is : List Item) (us : List Entry) → next_need k call.a listed ≡ None → o ≡ next_found k call.a listed → t ≡ value_or_absent o → is ≡ all_between leaves dir call.a (end_of o) → us ≡ []
         → IsPlan (tree_meaning leaves) call k (Say t is us)
     says_next o t is us need found told items updates =
-        plan_as leaves 9 call k (Say t is us) object code (
+        plan_as leaves Next call k (Say t is us) object third operation (
           ap (λ u. when_known u (Some 1) (λ x. need_of (next_each leaves x call.a (leaves_between leaves x call.a greatest)) k)) known_dir ∙ whole_need ∙ need,
           items ∙ ap (λ u. all_between leaves dir call.a (end_of u)) found ∙ sym (items_next k leaves dir call.a listed need)
               ∙ sym (ap (λ u. when_known u [] (λ x. items_of (next_each leaves x call.a (leaves_between leaves x call.a greatest)) k)) known_dir),

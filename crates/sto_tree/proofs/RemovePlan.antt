@@ -5,6 +5,8 @@ use Rattle.sto_item.specs.declared.item.Item.{Item}
 use Rattle.sto_item.specs.declared.item.Item.TheVariants.{Seen}
 use Rattle.sto_item.specs.Pending.{Entry}
 use Rattle.sto_model.specs.declared.call.Call.{Call}
+use Rattle.sto_model.specs.declared.operation.Operation.TheVariants.{Remove}
+use Rattle.sto_model.specs.Calls.{call_of}
 use Rattle.sto_model.specs.PlainReplies.{Flag}
 use Rattle.sto_type.specs.Known.{Known}
 use Rattle.sto_type.specs.Plans.{Ask, Say, IsPlan}
@@ -14,22 +16,22 @@ use Rattle.sto_tree.specs.Said.{cover, here, size_grows, key_changes, at_place}
 use Rattle.sto_tree.specs.Remove.{remove_there}
 use Rattle.sto_tree.specs.Found.{IsAtLeaf, NeedsFirst}
 use Rattle.sto_tree.specs.Meaning.{tree_meaning}
-use Rattle.sto_tree.specs.Observing.{a_call, value_found, value_absent}
+use Rattle.sto_tree.specs.Observing.{value_found, value_absent}
 use Rattle.sto_tree.specs.RemoveLaw.{removed_none, removed_some}
 use Rattle.sto_tree.proofs.Leaves.{leaf_says, plan_as}
 
-module _ (leaves : ℕ) (k : Known) (call : Call) (object : call.object ≡ 0) (code : call.code ≡ 6) where
+module _ (leaves : ℕ) (k : Known) (call : Call) (object : call.object ≡ 0) (third : call.c ≡ pos 0) (operation : call.operation ≡ Remove) where
   abbrev f : List ℤ → ℕ → List ℤ → Reading
   f dir l ks = remove_there call.a l (place_of ks call.a)
 
   pub remove_first : (p : ℕ) → NeedsFirst leaves k call.a p → IsPlan (tree_meaning leaves) call k (Ask p)
-  remove_first p h = plan_as leaves 6 call k (Ask p) object code (h f)
+  remove_first p h = plan_as leaves Remove call k (Ask p) object third operation (h f)
 
   module _ (dir : List ℤ) (l : ℕ) (ks : List ℤ) (at : IsAtLeaf leaves k call.a dir l ks) where
     pub says_not_there : (is : List Item) (us : List Entry) → place_of ks call.a ≡ None → is ≡ cover l call.a call.a (Seen (key_part l) ∷ []) → us ≡ [] → IsPlan (tree_meaning leaves) call k (Say (Flag false) is us)
     says_not_there is us none items updates =
-        plan_as leaves 6 call k (Say (Flag false) is us) object code
-        (leaf_says leaves k call.a dir l ks at (a_call 6 call.a call.b) f refl (Flag false) is us
+        plan_as leaves Remove call k (Say (Flag false) is us) object third operation
+        (leaf_says leaves k call.a dir l ks at (call_of 0 Remove call.a call.b) f refl (Flag false) is us
         (ap (λ o. need_of (remove_there call.a l o) k) none)
         (items ∙ sym (ap (λ o. items_of (remove_there call.a l o) k) none))
         (λ d t part leaf same. (
@@ -42,8 +44,8 @@ module _ (leaves : ℕ) (k : Known) (call : Call) (object : call.object ≡ 0) (
 
     pub says_removed : (is : List Item) (us : List Entry) (i : ℕ) → place_of ks call.a ≡ Some i → is ≡ cover l call.a call.a (here l i call.a []) → us ≡ removed_at i → IsPlan (tree_meaning leaves) call k (Say (Flag true) is us)
     says_removed is us i some items updates =
-        plan_as leaves 6 call k (Say (Flag true) is us) object code
-        (leaf_says leaves k call.a dir l ks at (a_call 6 call.a call.b) f refl (Flag true) is us
+        plan_as leaves Remove call k (Say (Flag true) is us) object third operation
+        (leaf_says leaves k call.a dir l ks at (call_of 0 Remove call.a call.b) f refl (Flag true) is us
         (ap (λ o. need_of (remove_there call.a l o) k) some)
         (items ∙ sym (ap (λ o. items_of (remove_there call.a l o) k) some))
         (λ d t part leaf same. (

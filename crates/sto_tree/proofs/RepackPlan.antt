@@ -9,6 +9,7 @@ use Rattle.sto_item.specs.declared.item.Item.{Item}
 use Rattle.sto_item.specs.declared.item.Item.TheVariants.{Seen}
 use Rattle.sto_item.specs.Pending.{Entry, AreUpdates}
 use Rattle.sto_model.specs.declared.call.Call.{Call}
+use Rattle.sto_model.specs.declared.operation.Operation.TheVariants.{Put}
 use Rattle.sto_model.specs.Rows.{Row, with_row}
 use Rattle.sto_model.specs.PlainReplies.{Done}
 use Rattle.sto_model.proofs.RowFacts.{by_test}
@@ -58,7 +59,8 @@ at_most x f = true_le x greatest (bound x f) where
   bound : (x : ℤ) → FitsSigned w64 x → x ≤ℤ greatest
   bound x f = search (arith, ints)
 
-module _ (leaves : ℕ) (few : parts_of leaves < 2 ^ 32) (k : Known) (call : Call) (object : call.object ≡ 0) (code : call.code ≡ 5) (fits_a : FitsSigned w64 call.a) (fits_b : FitsSigned w64 call.b)
+module _ (leaves : ℕ) (few : parts_of leaves < 2 ^ 32) (k : Known) (call : Call) (object : call.object ≡ 0) (third : call.c ≡ pos 0) (operation : call.operation ≡ Put)
+    (fits_a : FitsSigned w64 call.a) (fits_b : FitsSigned w64 call.b)
     (dir : List ℤ) (l : ℕ) (ks : List ℤ) (at : IsAtLeaf leaves k call.a dir l ks) (crowded : IsCrowded leaves k call.a ks) (free : free_leaf leaves dir ≡ None) where
   abbrev all_keys : List ℕ
   all_keys = key_parts leaves
@@ -77,7 +79,7 @@ module _ (leaves : ℕ) (few : parts_of leaves < 2 ^ 32) (k : Known) (call : Cal
 
   pub asks_keys : (p : ℕ) → Some p ≡ first_unknown k all_keys → IsPlan (tree_meaning leaves) call k (Ask p)
   asks_keys p e =
-      crowded_asks leaves k call object code dir l ks at crowded.new crowded.size crowded.size_known crowded.room crowded.filled None free p
+      crowded_asks leaves k call object third operation dir l ks at crowded.new crowded.size crowded.size_known crowded.room crowded.filled None free p
       (need_each_some k all_keys read_values p (sym e))
 
   module _ (keys_known : None ≡ first_unknown k all_keys) where
@@ -199,13 +201,13 @@ module _ (leaves : ℕ) (few : parts_of leaves < 2 ^ 32) (k : Known) (call : Cal
     module _ (witness : (d : Parts) × IsTree leaves d × IsPartOf k d) where
       pub asks_values : (p : ℕ) → Some p ≡ first_unknown k values → IsPlan (tree_meaning leaves) call k (Ask p)
       asks_values p e =
-          crowded_asks leaves k call object code dir l ks at crowded.new crowded.size crowded.size_known crowded.room crowded.filled None free p
+          crowded_asks leaves k call object third operation dir l ks at crowded.new crowded.size crowded.size_known crowded.room crowded.filled None free p
           (need_here witness.0 witness.1 witness.2 ∙ sym e)
 
       pub says_packed :
           (is : List Item) (us : List Entry) → None ≡ first_unknown k values → is ≡ Seen 1 ∷ all_seen all_keys ++ (all_seen values ++ has_room leaves ∷ []) → us ≡ packed_updates leaves all_rows → IsPlan (tree_meaning leaves) call k (Say Done is us)
       says_packed is us e items updates =
-          crowded_says leaves k call object code dir l ks at crowded.new crowded.size crowded.size_known crowded.room crowded.filled None free is us
+          crowded_says leaves k call object third operation dir l ks at crowded.new crowded.size crowded.size_known crowded.room crowded.filled None free is us
           (need_here witness.0 witness.1 witness.2 ∙ sym e)
           (items ∙ sym (items_here witness.0 witness.1 witness.2 (sym e)))
           (λ d t part. updates ∙ updates_there d t part e)

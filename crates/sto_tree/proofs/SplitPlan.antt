@@ -10,6 +10,7 @@ use Rattle.sto_item.specs.declared.item.Item.{Item}
 use Rattle.sto_item.specs.Pending.{Entry, AreUpdates, with_updates}
 use Rattle.sto_item.specs.Agreement.{HasWidths}
 use Rattle.sto_model.specs.declared.call.Call.{Call}
+use Rattle.sto_model.specs.declared.operation.Operation.TheVariants.{Put}
 use Rattle.sto_model.specs.Rows.{Row}
 use Rattle.sto_model.specs.PlainReplies.{Done}
 use Rattle.sto_model.proofs.RowFacts.{by_test}
@@ -71,7 +72,8 @@ pub slot_alike : (b : Bool) (k v x : ℤ) → (b ≡ true → v ≡ x) → slot_
 slot_alike true k v x h = ap (λ y. Some (k, y)) (h refl)
 slot_alike false k v x h = refl
 
-module _ (leaves : ℕ) (few : parts_of leaves < 2 ^ 32) (k : Known) (call : Call) (object : call.object ≡ 0) (code : call.code ≡ 5) (fits_a : FitsSigned w64 call.a) (fits_b : FitsSigned w64 call.b)
+module _ (leaves : ℕ) (few : parts_of leaves < 2 ^ 32) (k : Known) (call : Call) (object : call.object ≡ 0) (third : call.c ≡ pos 0) (operation : call.operation ≡ Put)
+    (fits_a : FitsSigned w64 call.a) (fits_b : FitsSigned w64 call.b)
     (dir : List ℤ) (l : ℕ) (ks : List ℤ) (at : IsAtLeaf leaves k call.a dir l ks) (crowded : IsCrowded leaves k call.a ks) (m : ℕ) (free : free_leaf leaves dir ≡ Some m) where
   abbrev moved : List ℕ
   moved = moved_values l ks 8
@@ -85,7 +87,7 @@ module _ (leaves : ℕ) (few : parts_of leaves < 2 ^ 32) (k : Known) (call : Cal
 
   pub split_asks : (p : ℕ) → Some p ≡ first_unknown k moved → IsPlan (tree_meaning leaves) call k (Ask p)
   split_asks p e =
-      crowded_asks leaves k call object code dir l ks at crowded.new crowded.size crowded.size_known crowded.room crowded.filled (Some m) free p
+      crowded_asks leaves k call object third operation dir l ks at crowded.new crowded.size crowded.size_known crowded.room crowded.filled (Some m) free p
       (need_each k moved split (λ words. refl) ∙ sym e)
 
   module _ (d : Parts) (t : IsTree leaves d) (part : IsPartOf k d) where
@@ -189,7 +191,7 @@ module _ (leaves : ℕ) (few : parts_of leaves < 2 ^ 32) (k : Known) (call : Cal
       (is : List Item) (us : List Entry) → None ≡ first_unknown k moved → is ≡ split_items leaves call.a call.b dir l ks m
       → us ≡ with_updates (move_updates leaves dir l ks m (rows_of_leaf leaf_rows 1)) (new_row (split_place call.a l ks m).0 (split_place call.a l ks m).1 call.a call.b) → IsPlan (tree_meaning leaves) call k (Say Done is us)
   split_says is us all items updates =
-      crowded_says leaves k call object code dir l ks at crowded.new crowded.size crowded.size_known crowded.room crowded.filled (Some m) free is us
+      crowded_says leaves k call object third operation dir l ks at crowded.new crowded.size crowded.size_known crowded.room crowded.filled (Some m) free is us
       (need_each k moved split (λ words. refl) ∙ sym all)
       (items ∙ sym (items_each k moved split (split_items leaves call.a call.b dir l ks m) (λ words. refl) (sym all)))
       (λ d t part. updates ∙ split_says_here d t part all)

@@ -12,6 +12,8 @@ use Rattle.sto_item.specs.declared.item.Item.{Item}
 use Rattle.sto_item.specs.declared.item.Item.TheVariants.{Seen}
 use Rattle.sto_item.specs.Agreement.{Agrees}
 use Rattle.sto_model.specs.declared.call.Call.{Call}
+use Rattle.sto_model.specs.declared.operation.Operation.TheVariants.{Count, Scan}
+use Rattle.sto_model.specs.Calls.{call_of}
 use Rattle.sto_model.specs.PlainReplies.{Value, Pairs}
 use Rattle.sto_model.specs.Rows.{Row, value_at, rows_between}
 use Rattle.sto_model.proofs.RowFacts.{by_test}
@@ -31,7 +33,7 @@ use Rattle.sto_type.specs.Observing.{EachRead}
 use Rattle.sto_tree.specs.CallLaw.{IsObservation, IsCallLawful}
 use Rattle.sto_tree.specs.Agreeing.{cover_agrees, agrees_cover}
 use Rattle.sto_tree.specs.Insides.{AreInside, inside_cover, inside_seen, inside_each}
-use Rattle.sto_tree.specs.Observing.{a_call, SameReply, observation_by}
+use Rattle.sto_tree.specs.Observing.{SameReply, observation_by}
 use Rattle.sto_tree.specs.RowsBetween.{lies, bare_value, value_at-between, same_between, same_count}
 use Rattle.sto_tree.specs.Members.{IsIn, key_in, agrees_each, each_agrees, seen_agrees, agrees_seen, read_each_of, read_seen, items_read_all, updates_read_all, reads_of_all, reads_all}
 use Rattle.sto_tree.specs.LeavesBetween.{part_covered, part_has, lies_in_part, lies_in, le_trans, listed_meets, meets_listed, leaf_meets, covers_has}
@@ -248,22 +250,22 @@ nothing_between leaves c scans a b call reply h =
     subst (λ (r : Reading). IsObservation leaves call r c) (sym (rw h refl))
     (observation_by leaves call (Say [] []) c [] [] refl refl (λ q bad. absurd bad) tt tt tt (λ e te ag. (reply e te, refl)))
 
-pub count_lawful : (leaves : ℕ) (c : Parts) → IsTree leaves c → (a b : ℤ) → FitsSigned w64 a → FitsSigned w64 b → IsCallLawful leaves (a_call 10 a b) c
+pub count_lawful : (leaves : ℕ) (c : Parts) → IsTree leaves c → (a b : ℤ) → FitsSigned w64 a → FitsSigned w64 b → IsCallLawful leaves (call_of 0 Count a b) c
 count_lawful leaves c t a b fa fb = record {
   observation =
       by_test (int_le a b)
-      (between_observation leaves c t false a b fa fb (a_call 10 a b) (λ e te same. ap (λ n. Value (pos n))
+      (between_observation leaves c t false a b fa fb (call_of 0 Count a b) (λ e te same. ap (λ n. Value (pos n))
       (same_count (tree_rows leaves e) (tree_rows leaves c) a b (gathered_rises (tree_slot e) (8 * leaves)) (gathered_rises (tree_slot c) (8 * leaves)) same)))
-      (λ h. nothing_between leaves c false a b (a_call 10 a b) (λ e te. ap (λ rows. Value (pos (length rows))) (none_between (tree_rows leaves e) a b h ∙ sym (none_between (tree_rows leaves c) a b h))) h);
-  updated = subst (λ es. IsUpdated (tree_meaning leaves) (a_call 10 a b) c es) (sym (between_updates leaves c t false a b fa fb)) (record { ordered = (tt, tt); owned = tt; widths = tt; valid = t; rows = refl; writes = refl });
+      (λ h. nothing_between leaves c false a b (call_of 0 Count a b) (λ e te. ap (λ rows. Value (pos (length rows))) (none_between (tree_rows leaves e) a b h ∙ sym (none_between (tree_rows leaves c) a b h))) h);
+  updated = subst (λ es. IsUpdated (tree_meaning leaves) (call_of 0 Count a b) c es) (sym (between_updates leaves c t false a b fa fb)) (record { ordered = (tt, tt); owned = tt; widths = tt; valid = t; rows = refl; writes = refl });
 }
 
-pub scan_lawful : (leaves : ℕ) (c : Parts) → IsTree leaves c → (a b : ℤ) → FitsSigned w64 a → FitsSigned w64 b → IsCallLawful leaves (a_call 11 a b) c
+pub scan_lawful : (leaves : ℕ) (c : Parts) → IsTree leaves c → (a b : ℤ) → FitsSigned w64 a → FitsSigned w64 b → IsCallLawful leaves (call_of 0 Scan a b) c
 scan_lawful leaves c t a b fa fb = record {
   observation =
       by_test (int_le a b)
-      (between_observation leaves c t true a b fa fb (a_call 11 a b) (λ e te same. ap Pairs
+      (between_observation leaves c t true a b fa fb (call_of 0 Scan a b) (λ e te same. ap Pairs
       (same_between (tree_rows leaves e) (tree_rows leaves c) a b (gathered_rises (tree_slot e) (8 * leaves)) (gathered_rises (tree_slot c) (8 * leaves)) same)))
-      (λ h. nothing_between leaves c true a b (a_call 11 a b) (λ e te. ap Pairs (none_between (tree_rows leaves e) a b h ∙ sym (none_between (tree_rows leaves c) a b h))) h);
-  updated = subst (λ es. IsUpdated (tree_meaning leaves) (a_call 11 a b) c es) (sym (between_updates leaves c t true a b fa fb)) (record { ordered = (tt, tt); owned = tt; widths = tt; valid = t; rows = refl; writes = refl });
+      (λ h. nothing_between leaves c true a b (call_of 0 Scan a b) (λ e te. ap Pairs (none_between (tree_rows leaves e) a b h ∙ sym (none_between (tree_rows leaves c) a b h))) h);
+  updated = subst (λ es. IsUpdated (tree_meaning leaves) (call_of 0 Scan a b) c es) (sym (between_updates leaves c t true a b fa fb)) (record { ordered = (tt, tt); owned = tt; widths = tt; valid = t; rows = refl; writes = refl });
 }

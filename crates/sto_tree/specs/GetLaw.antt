@@ -4,6 +4,8 @@ use Rattle.std.specs.Int.{w64}
 use Rattle.std.specs.Int.RustNames.{FitsSigned}
 use Rattle.sto_item.specs.declared.item.Item.TheVariants.{Seen}
 use Rattle.sto_item.specs.Agreement.{Agrees}
+use Rattle.sto_model.specs.declared.operation.Operation.TheVariants.{Get}
+use Rattle.sto_model.specs.Calls.{call_of}
 use Rattle.sto_model.specs.Objects.{value_or_absent}
 use Rattle.sto_model.specs.PlainReplies.{is_write}
 use Rattle.sto_model.specs.Rows.{value_at}
@@ -21,7 +23,7 @@ use Rattle.sto_tree.specs.Lookup.{leaf_there, leaf_has}
 use Rattle.sto_tree.specs.CallLaw.{IsObservation, IsCallLawful}
 use Rattle.sto_tree.specs.Agreeing.{agrees_cover, agrees_here, at_leaf_items, at_leaf_updates, at_leaf_within, at_leaf_reads_directory, at_leaf_reads_keys, at_leaf_reads}
 use Rattle.sto_tree.specs.Insides.{inside_cover, inside_here}
-use Rattle.sto_tree.specs.Observing.{a_call, observation_by, seen_leaf, here_leaf, value_found, value_absent}
+use Rattle.sto_tree.specs.Observing.{observation_by, seen_leaf, here_leaf, value_found, value_absent}
 
 module _ (leaves : ℕ) (c : Parts) (t : IsTree leaves c) (k b : ℤ) (l : ℕ) (there : leaf_of leaves (directory c) k ≡ Some l) where
   abbrev f : List ℤ → ℕ → List ℤ → Reading
@@ -41,9 +43,9 @@ module _ (leaves : ℕ) (c : Parts) (t : IsTree leaves c) (k b : ℤ) (l : ℕ) 
   get_updates e m (Some i) = refl
   get_updates e m None = refl
 
-  absent : place_of (keys c l) k ≡ None → IsObservation leaves (a_call 0 k b) (get_reading leaves k) c
+  absent : place_of (keys c l) k ≡ None → IsObservation leaves (call_of 0 Get k b) (get_reading leaves k) c
   absent none =
-      observation_by leaves (a_call 0 k b) (get_reading leaves k) c (cover l k k (Seen (key_part l) ∷ [])) []
+      observation_by leaves (call_of 0 Get k b) (get_reading leaves k) c (cover l k k (Seen (key_part l) ∷ [])) []
       (at_leaf_items leaves c v k f l there ∙ ap (λ o. items_at (get_there k l o) c) none)
       (at_leaf_updates leaves c v k f l there ∙ get_updates c l (place_of (keys c l) k))
       (at_leaf_within leaves c v k f l there (λ q h. absurd (subst (λ (o : Option ℕ). IsRead (get_there k l o) c q) none h)))
@@ -57,11 +59,11 @@ module _ (leaves : ℕ) (c : Parts) (t : IsTree leaves c) (k b : ℤ) (l : ℕ) 
         at_leaf_updates leaves e te.shaped k f l s.0 ∙ get_updates e l (place_of (keys e l) k),
       ))
 
-  present : (i : ℕ) → place_of (keys c l) k ≡ Some i → IsObservation leaves (a_call 0 k b) (get_reading leaves k) c
+  present : (i : ℕ) → place_of (keys c l) k ≡ Some i → IsObservation leaves (call_of 0 Get k b) (get_reading leaves k) c
   present i some =
       let g : (i < 8) × (holds_key (keys c l) k i ≡ true) = first_some (holds_key (keys c l) k) 8 i some in
       let value_read : IsRead (get_there k l (place_of (keys c l) k)) c (value_part l i) = subst (λ (o : Option ℕ). IsRead (get_there k l o) c (value_part l i)) (sym some) (inl refl) in
-      observation_by leaves (a_call 0 k b) (get_reading leaves k) c (cover l k k (here l i k (Seen (value_part l i) ∷ []))) []
+      observation_by leaves (call_of 0 Get k b) (get_reading leaves k) c (cover l k k (here l i k (Seen (value_part l i) ∷ []))) []
       (at_leaf_items leaves c v k f l there ∙ ap (λ o. items_at (get_there k l o) c) some)
       (at_leaf_updates leaves c v k f l there ∙ get_updates c l (place_of (keys c l) k))
       (at_leaf_within leaves c v k f l there (λ q h. elim (subst (λ (o : Option ℕ). IsRead (get_there k l o) c q) some h) [
@@ -78,20 +80,20 @@ module _ (leaves : ℕ) (c : Parts) (t : IsTree leaves c) (k b : ℤ) (l : ℕ) 
         at_leaf_updates leaves e te.shaped k f l s.0 ∙ get_updates e l (place_of (keys e l) k),
       ))
 
-  get_observation : IsObservation leaves (a_call 0 k b) (get_reading leaves k) c
-  get_observation = by_option (IsObservation leaves (a_call 0 k b) (get_reading leaves k) c) (place_of (keys c l) k) absent present
+  get_observation : IsObservation leaves (call_of 0 Get k b) (get_reading leaves k) c
+  get_observation = by_option (IsObservation leaves (call_of 0 Get k b) (get_reading leaves k) c) (place_of (keys c l) k) absent present
 
-  pub get_lawful_in : IsCallLawful leaves (a_call 0 k b) c
+  pub get_lawful_in : IsCallLawful leaves (call_of 0 Get k b) c
   get_lawful_in = record {
     observation = get_observation;
-    updated = subst (λ es. IsUpdated (tree_meaning leaves) (a_call 0 k b) c es) (sym (at_leaf_updates leaves c v k f l there ∙ get_updates c l (place_of (keys c l) k)))
+    updated = subst (λ es. IsUpdated (tree_meaning leaves) (call_of 0 Get k b) c es) (sym (at_leaf_updates leaves c v k f l there ∙ get_updates c l (place_of (keys c l) k)))
         (record { ordered = (tt, tt); owned = tt; widths = tt; valid = t; rows = refl; writes = writes_none (value_at (tree_rows leaves c) k) });
   } where
-    writes_none : (o : Option ℤ) → is_write 0 (value_or_absent o) ≡ false
+    writes_none : (o : Option ℤ) → is_write Get (value_or_absent o) ≡ false
     writes_none None = refl
     writes_none (Some x) = refl
 
-pub get_lawful : (leaves : ℕ) (c : Parts) → IsTree leaves c → (k b : ℤ) → FitsSigned w64 k → IsCallLawful leaves (a_call 0 k b) c
+pub get_lawful : (leaves : ℕ) (c : Parts) → IsTree leaves c → (k b : ℤ) → FitsSigned w64 k → IsCallLawful leaves (call_of 0 Get k b) c
 get_lawful leaves c t k b fits =
     let w : (l : ℕ) × (leaf_of leaves (directory c) k ≡ Some l) = leaf_there leaves c t.shaped k fits in
     get_lawful_in leaves c t k b w.0 w.1

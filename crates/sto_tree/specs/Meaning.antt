@@ -1,13 +1,12 @@
 -- What a tree of so many leaves means.
-use Rattle.std.specs.Prelude.{◌≡◌, ℕ, ℤ, Some, None, Option, [], ◌∷◌, true, false, IsTrue}
+use Rattle.std.specs.Prelude.{◌≡◌, ℕ, ℤ, pos, [], ◌∷◌, true, false, IsTrue}
 use Rattle.std.specs.Int.{w64}
 use Rattle.std.specs.Int.RustNames.{FitsSigned}
 use Rattle.sto_model.specs.declared.call.Call.{Call}
 use Rattle.sto_model.specs.declared.operation.Operation.{Operation}
 use Rattle.sto_model.specs.declared.operation.Operation.TheVariants.{Get, Put, Remove, Len, Next, Count, Scan}
 use Rattle.sto_model.specs.declared.shape.Shape.TheVariants.{Tree}
-use Rattle.sto_model.specs.Objects.{machine_of, takes_by}
-use Rattle.sto_model.specs.Operations.{operation_of}
+use Rattle.sto_model.specs.Objects.{machine_of, takes}
 use Rattle.sto_type.specs.Meaning.{Meaning}
 use Rattle.sto_type.specs.Reading.{Reading, Say, need_of, items_of, updates_at}
 use Rattle.sto_tree.specs.Layout.{listed, parts_of, width_of, opening, tree_rows}
@@ -30,17 +29,14 @@ reading_of leaves Count a b = between_reading leaves false a b
 reading_of leaves Scan a b = between_reading leaves true a b
 reading_of leaves o a b = Say [] []
 
-abbrev pub reading_by : ℕ → Option Operation → ℤ → ℤ → Reading
-reading_by leaves (Some o) a b = reading_of leaves o a b
-reading_by leaves None a b = Say [] []
-
 abbrev pub reading : ℕ → Call → Reading
-reading leaves call = reading_by leaves (operation_of call.code) call.a call.b
+reading leaves call = reading_of leaves call.operation call.a call.b
 
 -- a call of the one object, of an operation of a tree, with numbers of i64
 pub record TreeTakes (leaves : ℕ) (call : Call) : Type 0 where
   pub object : call.object ≡ 0
-  pub operation : IsTrue (takes_by (Tree leaves) (operation_of call.code) call.a)
+  pub third : call.c ≡ pos 0
+  pub operation : IsTrue (takes (Tree leaves) call.operation call.a)
   pub fits : FitsSigned w64 call.a
   pub fits_too : FitsSigned w64 call.b
 

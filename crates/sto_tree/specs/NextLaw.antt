@@ -5,6 +5,8 @@ use Rattle.std.specs.Int.RustNames.{FitsSigned}
 use Rattle.std.specs.Ordering.{int_eq}
 use Rattle.std.proofs.lemmas.Int.{ints}
 use Rattle.sto_item.specs.Agreement.{Agrees}
+use Rattle.sto_model.specs.declared.operation.Operation.TheVariants.{Next}
+use Rattle.sto_model.specs.Calls.{call_of}
 use Rattle.sto_model.specs.Objects.{value_or_absent}
 use Rattle.sto_model.specs.PlainReplies.{is_write}
 use Rattle.sto_model.specs.Rows.{Row, RisesFrom, IsRising, value_at, least_from}
@@ -23,7 +25,7 @@ use Rattle.sto_tree.specs.Lookup.{leaf_there, leaf_has, leaf_is, value_there, va
 use Rattle.sto_tree.specs.Between.{leaf_slots, leaf_number, leaves_between, key_rows, meets}
 use Rattle.sto_tree.specs.Next.{leaf_seen, all_between, next_in, next_each, next_reading}
 use Rattle.sto_tree.specs.CallLaw.{IsObservation, IsCallLawful}
-use Rattle.sto_tree.specs.Observing.{a_call, observation_by}
+use Rattle.sto_tree.specs.Observing.{observation_by}
 use Rattle.sto_tree.specs.RowsBetween.{lies, bare_value, IsLeast, least_none, least_some, least_is, least_absent}
 use Rattle.sto_tree.specs.Members.{IsIn, AllRows, read_each_of}
 use Rattle.sto_tree.specs.LeavesBetween.{le_trans, le_same, listed_meets, meets_listed, leaf_meets, leaf_rows_are, IsLeafRow, HasRange, covers_has, has_covers}
@@ -305,9 +307,9 @@ module _ (leaves : ℕ) (c : Parts) (t : IsTree leaves c) (k : ℤ) (fits_k : Fi
         lt_le : (a b : ℤ) → a <ℤ b → a ≤ℤ b
         lt_le a b h = grind (arith, ints)
 
-    pub found_observation : (b : ℤ) → IsObservation leaves (a_call 9 k b) whole c
+    pub found_observation : (b : ℤ) → IsObservation leaves (call_of 0 Next k b) whole c
     found_observation b =
-        observation_by leaves (a_call 9 k b) whole c (all_between leaves dir k x) [] f.said (next_updates dir ls c) within
+        observation_by leaves (call_of 0 Next k b) whole c (all_between leaves dir k x) [] f.said (next_updates dir ls c) within
         (read_each_of whole c (leaf_seen dir k x) (leaves_between leaves dir k x) (λ m i. (inl refl, (inl refl, (inl refl, (found_read m i, tt))))))
         (inside leaves c t false k x fits_k fits_x)
         (holds leaves c t false k x fits_k fits_x)
@@ -336,9 +338,9 @@ module _ (leaves : ℕ) (c : Parts) (t : IsTree leaves c) (k : ℤ) (fits_k : Fi
         let z : true ≡ false = sym (le_trans q (high (directory e) m) greatest r.to (le_fits (high (directory e) m) (fits_at e 1 (3 * m + 2) te.shaped.fits))) ∙ h in
         absurd (cc)))
 
-    pub passed_observation : (b : ℤ) → IsObservation leaves (a_call 9 k b) whole c
+    pub passed_observation : (b : ℤ) → IsObservation leaves (call_of 0 Next k b) whole c
     passed_observation b =
-        observation_by leaves (a_call 9 k b) whole c (all_between leaves dir k greatest) [] p.said (next_updates dir ls c) within
+        observation_by leaves (call_of 0 Next k b) whole c (all_between leaves dir k greatest) [] p.said (next_updates dir ls c) within
         (read_each_of whole c (leaf_seen dir k greatest) ls (λ m i. (inl refl, (inl refl, (inl refl, (inr (p.each m i).1, tt))))))
         (inside leaves c t false k greatest fits_k greatest_fits)
         (holds leaves c t false k greatest fits_k greatest_fits)
@@ -355,14 +357,14 @@ module _ (leaves : ℕ) (c : Parts) (t : IsTree leaves c) (k : ℤ) (fits_k : Fi
     | inr p ↦ least_absent (tree_rows leaves c) k (gathered_rises (tree_slot c) (8 * leaves)) (all_none p) ∙ sym p.first
   ]
 
-  pub next_lawful_in : (b : ℤ) → IsCallLawful leaves (a_call 9 k b) c
+  pub next_lawful_in : (b : ℤ) → IsCallLawful leaves (call_of 0 Next k b) c
   next_lawful_in b = record {
     observation = elim (outcome ls ls_rise) [ inl f ↦ found_observation f b | inr p ↦ passed_observation p b ];
-    updated = subst (λ es. IsUpdated (tree_meaning leaves) (a_call 9 k b) c es) (sym (next_updates dir ls c)) (record { ordered = (tt, tt); owned = tt; widths = tt; valid = t; rows = refl; writes = writes_none (least_from (tree_rows leaves c) k) });
+    updated = subst (λ es. IsUpdated (tree_meaning leaves) (call_of 0 Next k b) c es) (sym (next_updates dir ls c)) (record { ordered = (tt, tt); owned = tt; widths = tt; valid = t; rows = refl; writes = writes_none (least_from (tree_rows leaves c) k) });
   } where
-    writes_none : (o : Option ℤ) → is_write 9 (value_or_absent o) ≡ false
+    writes_none : (o : Option ℤ) → is_write Next (value_or_absent o) ≡ false
     writes_none None = refl
     writes_none (Some x) = refl
 
-pub next_lawful : (leaves : ℕ) (c : Parts) → IsTree leaves c → (k b : ℤ) → FitsSigned w64 k → IsCallLawful leaves (a_call 9 k b) c
+pub next_lawful : (leaves : ℕ) (c : Parts) → IsTree leaves c → (k b : ℤ) → FitsSigned w64 k → IsCallLawful leaves (call_of 0 Next k b) c
 next_lawful leaves c t k b fits = next_lawful_in leaves c t k fits b

@@ -22,10 +22,6 @@ use Rattle.sto_tree.specs.Insides.{AreInside}
 use Rattle.sto_tree.specs.Agreeing.{cover_agrees, here_agrees}
 use Rattle.std.specs.Prelude.{◌&&◌, int_le, true}
 
--- a call of code n
-abbrev pub a_call : ℕ → ℤ → ℤ → Call
-a_call n a b = record { object = 0; code = n; a = a; b = b }
-
 -- the reply on contents
 abbrev pub SameReply : ℕ → Call → Parts → Parts → Type 0
 SameReply leaves call e c = reply_to (tree_meaning leaves).machines call ((tree_meaning leaves).rows e) ≡ reply_to (tree_meaning leaves).machines call ((tree_meaning leaves).rows c)

@@ -8,6 +8,8 @@ use Rattle.std.proofs.lemmas.Int.{ints}
 use Rattle.sto_item.specs.declared.item.Item.TheVariants.{Seen}
 use Rattle.sto_item.specs.Pending.{Entry}
 use Rattle.sto_item.specs.Agreement.{Agrees}
+use Rattle.sto_model.specs.declared.operation.Operation.TheVariants.{Put}
+use Rattle.sto_model.specs.Calls.{call_of}
 use Rattle.sto_model.specs.Objects.{effect, put_effect}
 use Rattle.sto_model.specs.PlainReplies.{is_write, Done, Full}
 use Rattle.sto_model.specs.Rows.{Row, value_at, has_key, with_row}
@@ -26,7 +28,7 @@ use Rattle.sto_tree.specs.Lookup.{leaf_there, leaf_has}
 use Rattle.sto_tree.specs.CallLaw.{IsCallLawful}
 use Rattle.sto_tree.specs.Agreeing.{agrees_cover, agrees_here, agrees_ge, agrees_lt, ge_agrees, lt_agrees, at_leaf_items, at_leaf_updates, at_leaf_within, at_leaf_reads, at_leaf_reads_directory, at_leaf_reads_keys}
 use Rattle.sto_tree.specs.Insides.{inside_cover, inside_here, in_size}
-use Rattle.sto_tree.specs.Observing.{a_call, observation_by, seen_leaf, here_leaf, value_found, value_absent}
+use Rattle.sto_tree.specs.Observing.{observation_by, seen_leaf, here_leaf, value_found, value_absent}
 use Rattle.sto_tree.specs.Updating.{new_widths, new_ordered, new_owned, new_rows, new_tree}
 use Rattle.sto_tree.specs.Overwriting.{over_widths, over_ordered, over_owned, over_rows, over_tree}
 use Rattle.sto_tree.specs.LenLaw.{size_is}
@@ -65,7 +67,7 @@ not_true false e = refl
 abbrev pub CrowdedLaw : ℕ → Parts → ℤ → ℤ → Type 0
 CrowdedLaw leaves c k w =
     (l : ℕ) → leaf_of leaves (directory c) k ≡ Some l → place_of (keys c l) k ≡ None → int_le (pos (4 * leaves)) (size c) ≡ false → free_place (keys c l) ≡ None
-    → IsCallLawful leaves (a_call 5 k w) c
+    → IsCallLawful leaves (call_of 0 Put k w) c
 
 module _ (leaves : ℕ) (c : Parts) (t : IsTree leaves c) (few : parts_of leaves < 2 ^ 32) (k w : ℤ) (fits_k : FitsSigned w64 k) (fits_w : FitsSigned w64 w) (l : ℕ) (there : leaf_of leaves (directory c) k ≡ Some l) where
   abbrev f : List ℤ → ℕ → List ℤ → Reading
@@ -89,7 +91,7 @@ module _ (leaves : ℕ) (c : Parts) (t : IsTree leaves c) (few : parts_of leaves
   pub model_full : (e : Parts) → IsTree leaves e → (b : Bool) → full e ≡ b → put_effect (nat_le (4 * leaves) (length (tree_rows leaves e))) k w (tree_rows leaves e) ≡ put_effect b k w (tree_rows leaves e)
   model_full e te b h = ap (λ x. put_effect x k w (tree_rows leaves e)) (full_is leaves e te ∙ h)
 
-  present : (i : ℕ) → place_of (keys c l) k ≡ Some i → IsCallLawful leaves (a_call 5 k w) c
+  present : (i : ℕ) → place_of (keys c l) k ≡ Some i → IsCallLawful leaves (call_of 0 Put k w) c
   present i some =
       let g : (i < 8) × (holds_key (keys c l) k i ≡ true) = first_some (holds_key (keys c l) k) 8 i some in
       let es : List Entry = updates_at (put_there leaves k w (directory c) l (keys c l) (Some i)) c in
@@ -99,7 +101,7 @@ module _ (leaves : ℕ) (c : Parts) (t : IsTree leaves c) (few : parts_of leaves
       λ e te leaf place. put_over (nat_le (4 * leaves) (length (tree_rows leaves e))) (tree_rows leaves e) k w (value e l i) (value_found leaves e l i k te.shaped leaf place) in
       record {
         observation =
-            observation_by leaves (a_call 5 k w) r c (cover l k k (here l i k [])) es items updates
+            observation_by leaves (call_of 0 Put k w) r c (cover l k k (here l i k [])) es items updates
             (at_leaf_within leaves c v k f l there (λ q h. absurd (subst (λ (o : Option ℕ). IsRead (put_there leaves k w (directory c) l (keys c l) o) c q) some h)))
             (at_leaf_reads_directory leaves c v k f l there, (at_leaf_reads_directory leaves c v k f l there, (at_leaf_reads_directory leaves c v k f l there, (at_leaf_reads_keys leaves c v k f l there, (at_leaf_reads_keys leaves c v k f l there, tt)))))
             (inside_cover leaves l k k (here l i k []) leaf_in (inside_here leaves l i k [] leaf_in g.0 tt))
@@ -109,14 +111,14 @@ module _ (leaves : ℕ) (c : Parts) (t : IsTree leaves c) (few : parts_of leaves
               ap (λ x. x.reply) (done e te s.0 s.1) ∙ sym (ap (λ x. x.reply) (done c t there some)),
               at_leaf_updates leaves e te.shaped k f l s.0 ∙ ap (λ o. updates_at (put_there leaves k w (directory e) l (keys e l) o) e) s.1,
             ));
-        updated = subst (λ x. IsUpdated (tree_meaning leaves) (a_call 5 k w) c x) (sym updates)
+        updated = subst (λ x. IsUpdated (tree_meaning leaves) (call_of 0 Put k w) c x) (sym updates)
             (record {
               ordered = over_ordered leaves c t k w l i fits_w there some;
               owned = over_owned leaves c t k w l i fits_w there some;
               widths = over_widths leaves c t k w l i fits_w there some;
               valid = over_tree leaves c t k w l i fits_w there some;
               rows = ap (λ x. x ∷ []) (over_rows leaves c t k w l i fits_w there some) ∙ ap (λ x. x.after ∷ []) (sym (done c t there some));
-              writes = ap (λ x. is_write 5 x.reply) (done c t there some);
+              writes = ap (λ x. is_write Put x.reply) (done c t there some);
             });
       }
 
@@ -135,7 +137,7 @@ module _ (leaves : ℕ) (c : Parts) (t : IsTree leaves c) (few : parts_of leaves
       let n : (0 ≡ q) ⊎ IsRead (put_new leaves k w (directory c) l (keys c l) (full c)) c q = subst (λ (o : Option ℕ). IsRead (put_there leaves k w (directory c) l (keys c l) o) c q) none m in
       elim n [ inl a ↦ inl a | inr a ↦ inr (subst (λ (x : Bool). IsRead (put_new leaves k w (directory c) l (keys c l) x) c q) h a) ]
 
-  is_full_case : place_of (keys c l) k ≡ None → full c ≡ true → IsCallLawful leaves (a_call 5 k w) c
+  is_full_case : place_of (keys c l) k ≡ None → full c ≡ true → IsCallLawful leaves (call_of 0 Put k w) c
   is_full_case none h =
       let items : items_at r c ≡ cover l k k (Seen (key_part l) ∷ is_full leaves ∷ []) = at_leaf_items leaves c v k f l there ∙ items_new c none true h in
       let updates : updates_at r c ≡ [] = at_leaf_updates leaves c v k f l there ∙ updates_new c none true h in
@@ -143,7 +145,7 @@ module _ (leaves : ℕ) (c : Parts) (t : IsTree leaves c) (few : parts_of leaves
       λ e te leaf place g. model_full e te true g ∙ put_full (tree_rows leaves e) k w (value_absent leaves e l k te.shaped leaf place) in
       record {
         observation =
-            observation_by leaves (a_call 5 k w) r c (cover l k k (Seen (key_part l) ∷ is_full leaves ∷ [])) [] items updates
+            observation_by leaves (call_of 0 Put k w) r c (cover l k k (Seen (key_part l) ∷ is_full leaves ∷ [])) [] items updates
             (at_leaf_within leaves c v k f l there (λ q m. elim (reads_new none true h q m) [ inl at ↦ omega (arith, at) | inr bad ↦ absurd bad ]))
             (at_leaf_reads_directory leaves c v k f l there, (at_leaf_reads_directory leaves c v k f l there, (at_leaf_reads_directory leaves c v k f l there, (at_leaf_reads_keys leaves c v k f l there, (reads_size none, tt)))))
             (inside_cover leaves l k k (Seen (key_part l) ∷ is_full leaves ∷ []) leaf_in (in_size leaves, tt))
@@ -155,11 +157,11 @@ module _ (leaves : ℕ) (c : Parts) (t : IsTree leaves c) (few : parts_of leaves
               ap (λ x. x.reply) (done e te s.0 place g) ∙ sym (ap (λ x. x.reply) (done c t there none h)),
               at_leaf_updates leaves e te.shaped k f l s.0 ∙ updates_new e place true g,
             ));
-        updated = subst (λ x. IsUpdated (tree_meaning leaves) (a_call 5 k w) c x) (sym updates)
-            (record { ordered = (tt, tt); owned = tt; widths = tt; valid = t; rows = ap (λ x. x.after ∷ []) (sym (done c t there none h)); writes = ap (λ x. is_write 5 x.reply) (done c t there none h) });
+        updated = subst (λ x. IsUpdated (tree_meaning leaves) (call_of 0 Put k w) c x) (sym updates)
+            (record { ordered = (tt, tt); owned = tt; widths = tt; valid = t; rows = ap (λ x. x.after ∷ []) (sym (done c t there none h)); writes = ap (λ x. is_write Put x.reply) (done c t there none h) });
       }
 
-  is_free_case : place_of (keys c l) k ≡ None → full c ≡ false → (i : ℕ) → free_place (keys c l) ≡ Some i → IsCallLawful leaves (a_call 5 k w) c
+  is_free_case : place_of (keys c l) k ≡ None → full c ≡ false → (i : ℕ) → free_place (keys c l) ≡ Some i → IsCallLawful leaves (call_of 0 Put k w) c
   is_free_case none h i free =
       let fp : (i < 8) × (not (is_present (keys c l) i) ≡ true) = first_some (λ j. not (is_present (keys c l) j)) 8 i free in
       let unused : is_present (keys c l) i ≡ false = not_true (is_present (keys c l) i) fp.1 in
@@ -173,7 +175,7 @@ module _ (leaves : ℕ) (c : Parts) (t : IsTree leaves c) (few : parts_of leaves
       λ e te g. model_full e te false g ∙ put_more (tree_rows leaves e) k w in
       record {
         observation =
-            observation_by leaves (a_call 5 k w) r c (cover l k k (Seen (key_part l) ∷ has_room leaves ∷ [])) es items updates
+            observation_by leaves (call_of 0 Put k w) r c (cover l k k (Seen (key_part l) ∷ has_room leaves ∷ [])) es items updates
             (at_leaf_within leaves c v k f l there (λ q m. elim (reads_new none false h q m) [
               | inl at ↦ omega (arith, at)
               | inr a ↦ absurd (subst (λ (o : Option ℕ). IsRead (put_free leaves k w (directory c) l (keys c l) o) c q) free a)
@@ -188,25 +190,25 @@ module _ (leaves : ℕ) (c : Parts) (t : IsTree leaves c) (few : parts_of leaves
               ap (λ x. x.reply) (done e te g) ∙ sym (ap (λ x. x.reply) (done c t h)),
               at_leaf_updates leaves e te.shaped k f l s.0 ∙ updates_on e place g (ap free_place s.1 ∙ free),
             ));
-        updated = subst (λ x. IsUpdated (tree_meaning leaves) (a_call 5 k w) c x) (sym updates)
+        updated = subst (λ x. IsUpdated (tree_meaning leaves) (call_of 0 Put k w) c x) (sym updates)
             (record {
               ordered = new_ordered leaves c t few k w l i fits_k fits_w there none fp.0 unused room;
               owned = new_owned leaves c t few k w l i fits_k fits_w there none fp.0 unused room;
               widths = new_widths leaves c t few k w l i fits_k fits_w there none fp.0 unused room;
               valid = new_tree leaves c t few k w l i fits_k fits_w there none fp.0 unused room;
               rows = ap (λ x. x ∷ []) (new_rows leaves c t few k w l i fits_k fits_w there none fp.0 unused room) ∙ ap (λ x. x.after ∷ []) (sym (done c t h));
-              writes = ap (λ x. is_write 5 x.reply) (done c t h);
+              writes = ap (λ x. is_write Put x.reply) (done c t h);
             });
       }
 
-  pub put_lawful_in : CrowdedLaw leaves c k w → IsCallLawful leaves (a_call 5 k w) c
+  pub put_lawful_in : CrowdedLaw leaves c k w → IsCallLawful leaves (call_of 0 Put k w) c
   put_lawful_in crowded =
-      by_option (IsCallLawful leaves (a_call 5 k w) c) (place_of (keys c l) k)
+      by_option (IsCallLawful leaves (call_of 0 Put k w) c) (place_of (keys c l) k)
       (λ none. by_test (full c) (is_full_case none) (λ h.
-      by_option (IsCallLawful leaves (a_call 5 k w) c) (free_place (keys c l)) (λ g. crowded l there none h g) (is_free_case none h)))
+      by_option (IsCallLawful leaves (call_of 0 Put k w) c) (free_place (keys c l)) (λ g. crowded l there none h g) (is_free_case none h)))
       present
 
-pub put_lawful : (leaves : ℕ) (c : Parts) → IsTree leaves c → parts_of leaves < 2 ^ 32 → (k w : ℤ) → FitsSigned w64 k → FitsSigned w64 w → CrowdedLaw leaves c k w → IsCallLawful leaves (a_call 5 k w) c
+pub put_lawful : (leaves : ℕ) (c : Parts) → IsTree leaves c → parts_of leaves < 2 ^ 32 → (k w : ℤ) → FitsSigned w64 k → FitsSigned w64 w → CrowdedLaw leaves c k w → IsCallLawful leaves (call_of 0 Put k w) c
 put_lawful leaves c t few k w fits_k fits_w crowded =
     let s : (l : ℕ) × (leaf_of leaves (directory c) k ≡ Some l) = leaf_there leaves c t.shaped k fits_k in
     put_lawful_in leaves c t few k w fits_k fits_w s.0 s.1 crowded

@@ -5,6 +5,8 @@ use Rattle.std.specs.Int.RustNames.{FitsSigned}
 use Rattle.sto_item.specs.declared.item.Item.TheVariants.{Seen}
 use Rattle.sto_item.specs.Pending.{Entry}
 use Rattle.sto_item.specs.Agreement.{Agrees}
+use Rattle.sto_model.specs.declared.operation.Operation.TheVariants.{Remove}
+use Rattle.sto_model.specs.Calls.{call_of}
 use Rattle.sto_model.specs.Objects.{effect, remove_effect}
 use Rattle.sto_model.specs.PlainReplies.{is_write, Flag}
 use Rattle.sto_model.specs.Rows.{Row, value_at, without}
@@ -22,7 +24,7 @@ use Rattle.sto_tree.specs.Lookup.{leaf_there, leaf_has}
 use Rattle.sto_tree.specs.CallLaw.{IsCallLawful}
 use Rattle.sto_tree.specs.Agreeing.{agrees_cover, agrees_here, at_leaf_items, at_leaf_updates, at_leaf_within, at_leaf_reads_directory, at_leaf_reads_keys}
 use Rattle.sto_tree.specs.Insides.{inside_cover, inside_here}
-use Rattle.sto_tree.specs.Observing.{a_call, observation_by, seen_leaf, here_leaf, value_found, value_absent}
+use Rattle.sto_tree.specs.Observing.{observation_by, seen_leaf, here_leaf, value_found, value_absent}
 use Rattle.sto_tree.specs.Removing.{gone_widths, gone_ordered, gone_owned, gone_rows, gone_tree}
 
 pub removed_none : (rows : List Row) (k : ℤ) → value_at rows k ≡ None → remove_effect k rows ≡ effect (Flag false) rows
@@ -55,7 +57,7 @@ module _ (leaves : ℕ) (c : Parts) (t : IsTree leaves c) (few : parts_of leaves
   within : (q : ℕ) → IsRead r c q → q < parts_of leaves
   within = at_leaf_within leaves c v k f l there (λ q h. absurd (reads_none c l (place_of (keys c l) k) q h))
 
-  absent : place_of (keys c l) k ≡ None → IsCallLawful leaves (a_call 6 k b) c
+  absent : place_of (keys c l) k ≡ None → IsCallLawful leaves (call_of 0 Remove k b) c
   absent none =
       let items : items_at r c ≡ cover l k k (Seen (key_part l) ∷ []) = at_leaf_items leaves c v k f l there ∙ ap (λ o. items_at (remove_there k l o) c) none in
       let updates : updates_at r c ≡ [] = at_leaf_updates leaves c v k f l there ∙ ap (λ o. updates_at (remove_there k l o) c) none in
@@ -63,7 +65,7 @@ module _ (leaves : ℕ) (c : Parts) (t : IsTree leaves c) (few : parts_of leaves
       let done : remove_effect k (tree_rows leaves c) ≡ effect (Flag false) (tree_rows leaves c) = removed_none (tree_rows leaves c) k gone in
       record {
         observation =
-            observation_by leaves (a_call 6 k b) r c (cover l k k (Seen (key_part l) ∷ [])) [] items updates within
+            observation_by leaves (call_of 0 Remove k b) r c (cover l k k (Seen (key_part l) ∷ [])) [] items updates within
             (at_leaf_reads_directory leaves c v k f l there, (at_leaf_reads_directory leaves c v k f l there, (at_leaf_reads_directory leaves c v k f l there, (at_leaf_reads_keys leaves c v k f l there, tt))))
             (inside_cover leaves l k k (Seen (key_part l) ∷ []) leaf_in tt)
             (agrees_cover c c l k k (Seen (key_part l) ∷ []) v.fits leaf_covers (refl, tt))
@@ -73,11 +75,11 @@ module _ (leaves : ℕ) (c : Parts) (t : IsTree leaves c) (few : parts_of leaves
               ap (λ x. x.reply) (removed_none (tree_rows leaves e) k (value_absent leaves e l k te.shaped s.0 place)) ∙ sym (ap (λ x. x.reply) done),
               at_leaf_updates leaves e te.shaped k f l s.0 ∙ ap (λ o. updates_at (remove_there k l o) e) place,
             ));
-        updated = subst (λ es. IsUpdated (tree_meaning leaves) (a_call 6 k b) c es) (sym updates)
-            (record { ordered = (tt, tt); owned = tt; widths = tt; valid = t; rows = ap (λ x. x.after ∷ []) (sym done); writes = ap (λ x. is_write 6 x.reply) done });
+        updated = subst (λ es. IsUpdated (tree_meaning leaves) (call_of 0 Remove k b) c es) (sym updates)
+            (record { ordered = (tt, tt); owned = tt; widths = tt; valid = t; rows = ap (λ x. x.after ∷ []) (sym done); writes = ap (λ x. is_write Remove x.reply) done });
       }
 
-  present : (i : ℕ) → place_of (keys c l) k ≡ Some i → IsCallLawful leaves (a_call 6 k b) c
+  present : (i : ℕ) → place_of (keys c l) k ≡ Some i → IsCallLawful leaves (call_of 0 Remove k b) c
   present i some =
       let g : (i < 8) × (holds_key (keys c l) k i ≡ true) = first_some (holds_key (keys c l) k) 8 i some in
       let es : List Entry = updates_at (remove_there k l (Some i)) c in
@@ -87,7 +89,7 @@ module _ (leaves : ℕ) (c : Parts) (t : IsTree leaves c) (few : parts_of leaves
       let done : remove_effect k (tree_rows leaves c) ≡ effect (Flag true) (without (tree_rows leaves c) k) = removed_some (tree_rows leaves c) k (value c l i) was in
       record {
         observation =
-            observation_by leaves (a_call 6 k b) r c (cover l k k (here l i k [])) es items updates within
+            observation_by leaves (call_of 0 Remove k b) r c (cover l k k (here l i k [])) es items updates within
             (at_leaf_reads_directory leaves c v k f l there, (at_leaf_reads_directory leaves c v k f l there, (at_leaf_reads_directory leaves c v k f l there, (at_leaf_reads_keys leaves c v k f l there, (at_leaf_reads_keys leaves c v k f l there, tt)))))
             (inside_cover leaves l k k (here l i k []) leaf_in (inside_here leaves l i k [] leaf_in g.0 tt))
             (agrees_cover c c l k k (here l i k []) v.fits leaf_covers (agrees_here c c l i k [] v.fits g.1 tt))
@@ -96,21 +98,21 @@ module _ (leaves : ℕ) (c : Parts) (t : IsTree leaves c) (few : parts_of leaves
               ap (λ x. x.reply) (removed_some (tree_rows leaves e) k (value e l i) (value_found leaves e l i k te.shaped s.0 s.1)) ∙ sym (ap (λ x. x.reply) done),
               at_leaf_updates leaves e te.shaped k f l s.0 ∙ ap (λ o. updates_at (remove_there k l o) e) s.1,
             ));
-        updated = subst (λ x. IsUpdated (tree_meaning leaves) (a_call 6 k b) c x) (sym updates)
+        updated = subst (λ x. IsUpdated (tree_meaning leaves) (call_of 0 Remove k b) c x) (sym updates)
             (record {
               ordered = gone_ordered leaves c t few k l i there some;
               owned = gone_owned leaves c t few k l i there some;
               widths = gone_widths leaves c t few k l i there some;
               valid = gone_tree leaves c t few k l i there some;
               rows = ap (λ x. x ∷ []) (gone_rows leaves c t few k l i there some) ∙ ap (λ x. x.after ∷ []) (sym done);
-              writes = ap (λ x. is_write 6 x.reply) done;
+              writes = ap (λ x. is_write Remove x.reply) done;
             });
       }
 
-  pub remove_lawful_in : IsCallLawful leaves (a_call 6 k b) c
-  remove_lawful_in = by_option (IsCallLawful leaves (a_call 6 k b) c) (place_of (keys c l) k) absent present
+  pub remove_lawful_in : IsCallLawful leaves (call_of 0 Remove k b) c
+  remove_lawful_in = by_option (IsCallLawful leaves (call_of 0 Remove k b) c) (place_of (keys c l) k) absent present
 
-pub remove_lawful : (leaves : ℕ) (c : Parts) → IsTree leaves c → parts_of leaves < 2 ^ 32 → (k b : ℤ) → FitsSigned w64 k → IsCallLawful leaves (a_call 6 k b) c
+pub remove_lawful : (leaves : ℕ) (c : Parts) → IsTree leaves c → parts_of leaves < 2 ^ 32 → (k b : ℤ) → FitsSigned w64 k → IsCallLawful leaves (call_of 0 Remove k b) c
 remove_lawful leaves c t few k b fits =
     let w : (l : ℕ) × (leaf_of leaves (directory c) k ≡ Some l) = leaf_there leaves c t.shaped k fits in
     remove_lawful_in leaves c t few k b w.0 w.1

@@ -8,6 +8,8 @@ use Rattle.sto_part.specs.Parts.{part_of}
 use Rattle.sto_item.specs.declared.item.Item.{Item}
 use Rattle.sto_item.specs.Pending.{Entry, AreUpdates}
 use Rattle.sto_item.specs.Agreement.{Agrees, HasWidths}
+use Rattle.sto_model.specs.declared.operation.Operation.TheVariants.{Put}
+use Rattle.sto_model.specs.Calls.{call_of}
 use Rattle.sto_model.specs.Objects.{effect, put_effect}
 use Rattle.sto_model.specs.PlainReplies.{is_write, Done}
 use Rattle.sto_model.specs.Rows.{Row, IsRising, value_at, with_row}
@@ -32,7 +34,7 @@ use Rattle.sto_type.specs.Observing.{EachRead}
 use Rattle.sto_tree.specs.CallLaw.{IsCallLawful}
 use Rattle.sto_tree.specs.Agreeing.{lt_agrees, agrees_lt, at_leaf_items, at_leaf_updates, at_leaf_within, at_leaf_reads, at_leaf_reads_directory}
 use Rattle.sto_tree.specs.Insides.{AreInside, inside_append, inside_seen, in_size}
-use Rattle.sto_tree.specs.Observing.{a_call, observation_by, value_absent}
+use Rattle.sto_tree.specs.Observing.{observation_by, value_absent}
 use Rattle.sto_tree.specs.Updating.{count_is}
 use Rattle.sto_tree.specs.PutLaw.{put_more, less_of, lt_of, not_le, full, model_full, items_new, updates_new, reads_new, reads_size}
 use Rattle.sto_tree.specs.Members.{IsIn, agrees_append, agrees_split, seen_agrees, agrees_seen, read_append, read_seen}
@@ -318,22 +320,22 @@ module _ (leaves : ℕ) (c : Parts) (t : IsTree leaves c) (few : parts_of leaves
   inside : AreInside leaves items
   inside = inside_append leaves (all_seen (key_parts leaves)) (all_seen listed_values ++ has_room leaves ∷ []) (inside_seen leaves (key_parts leaves)) (inside_append leaves (all_seen listed_values) (has_room leaves ∷ []) (inside_seen leaves listed_values) (in_size leaves, tt))
 
-  pub repack_lawful : IsCallLawful leaves (a_call 5 k x) c
+  pub repack_lawful : IsCallLawful leaves (call_of 0 Put k x) c
   repack_lawful =
       let widths : HasWidths es c = packed_widths leaves c v.widths v.fits all all_rise all_some all_enough all_fit in
       record {
         observation =
-            observation_by leaves (a_call 5 k x) r c items es all_items all_updates within observed inside holds
+            observation_by leaves (call_of 0 Put k x) r c items es all_items all_updates within observed inside holds
             (λ d td h.
             let g : IsAgreed d = agreed d td h in
             (ap (λ y. y.reply) (done d td g.full_same) ∙ sym (ap (λ y. y.reply) (done c t not_full)), same_updates d td g));
-        updated = subst (λ y. IsUpdated (tree_meaning leaves) (a_call 5 k x) c y) (sym all_updates)
+        updated = subst (λ y. IsUpdated (tree_meaning leaves) (call_of 0 Put k x) c y) (sym all_updates)
             (record {
               ordered = all_ordered;
               owned = owned_by_widths leaves es c (tree_length leaves c v.widths) widths;
               widths = widths;
               valid = packed_tree leaves c v.widths v.fits all all_rise all_some all_enough all_fit (count_present leaves c) all_length t.counted (omega (arith, room, few));
               rows = ap (λ y. y ∷ []) (packed_rows leaves c v.widths v.fits all all_rise all_some all_enough all_fit ∙ all_is) ∙ ap (λ y. y.after ∷ []) (sym (done c t not_full));
-              writes = ap (λ y. is_write 5 y.reply) (done c t not_full);
+              writes = ap (λ y. is_write Put y.reply) (done c t not_full);
             });
       }

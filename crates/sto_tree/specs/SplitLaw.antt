@@ -9,13 +9,15 @@ use Rattle.std.proofs.lemmas.Int.{ints}
 use Rattle.std.proofs.lemmas.Bool.Decides.{nat_tests}
 use Rattle.sto_part.specs.Parts.{part_of}
 use Rattle.sto_part.specs.declared.change.Change.{Change}
-use Rattle.sto_part.specs.declared.change.Change.TheVariants.{Keep, Put}
+use Rattle.sto_part.specs.declared.change.Change.TheVariants.{Keep, Put as PutWord}
 use Rattle.sto_part.specs.declared.pred.Test.TheVariants.{Eq, Le}
 use Rattle.sto_item.specs.declared.item.Item.{Item}
 use Rattle.sto_item.specs.declared.item.Item.TheVariants.{Seen}
 use Rattle.sto_item.specs.Pending.{Entry, AreUpdates, EachChanges, applied_updates, with_update, with_updates, inserted, is_keep}
 use Rattle.sto_item.specs.Agreement.{Agrees, HasWidths}
 use Rattle.sto_item.proofs.Widths.{AreUpdates-with_updates, HasWidths-below, HasWidths-with_updates, applied_updates-with_updates}
+use Rattle.sto_model.specs.declared.operation.Operation.TheVariants.{Put}
+use Rattle.sto_model.specs.Calls.{call_of}
 use Rattle.sto_model.specs.Objects.{effect, put_effect}
 use Rattle.sto_model.specs.PlainReplies.{is_write, Done}
 use Rattle.sto_model.specs.Rows.{Row, value_at, with_row}
@@ -39,7 +41,7 @@ use Rattle.sto_type.specs.Observing.{EachRead}
 use Rattle.sto_tree.specs.CallLaw.{IsCallLawful}
 use Rattle.sto_tree.specs.Agreeing.{eq_agrees, le_agrees, lt_agrees, agrees_eq, agrees_le, agrees_lt, at_leaf_items, at_leaf_updates, at_leaf_within, at_leaf_reads, at_leaf_reads_directory, at_leaf_reads_keys}
 use Rattle.sto_tree.specs.Insides.{AreInside, inside_append, in_directory, inside_seen, in_size}
-use Rattle.sto_tree.specs.Observing.{a_call, observation_by, value_absent}
+use Rattle.sto_tree.specs.Observing.{observation_by, value_absent}
 use Rattle.sto_tree.specs.Updating.{owned_at, count_is, new_widths, new_rows, new_tree}
 use Rattle.sto_tree.specs.PutLaw.{put_more, less_of, lt_of, not_le, not_true, full, model_full, items_new, updates_new, reads_new, reads_size}
 use Rattle.sto_tree.specs.LeavesBetween.{HasRange, covers_has, has_covers}
@@ -96,7 +98,7 @@ moved_within leaves l ks (suc n) q h b i = elim (apart q (moved_values l ks n) (
 split_by : (leaves : ℕ) (k w : ℤ) (l : ℕ) (ks : List ℤ) (m : ℕ) (upper : List Row) (d e : List ℤ) → high d l ≡ high e l → split_updates leaves k w d l ks m upper ≡ split_updates leaves k w e l ks m upper
 split_by leaves k w l ks m upper d e h =
     let ranges : split_ranges leaves d l ks m ≡ split_ranges leaves e l ks m =
-    λ i j. if nat_eq j l then (Keep, Keep, Put (middle ks -ℤ pos 1)) else if nat_eq j m then (Put (pos 1), Put (middle ks), Put (h i)) else (Keep, Keep, Keep) in
+    λ i j. if nat_eq j l then (Keep, Keep, PutWord (middle ks -ℤ pos 1)) else if nat_eq j m then (PutWord (pos 1), PutWord (middle ks), PutWord (h i)) else (Keep, Keep, Keep) in
     ap (λ (f : ℕ → Change × Change × Change). with_updates ((1, in_threes f 0 leaves) ∷ (key_part l, key_changes (split_lower leaves e l ks m)) ∷ (key_part m, key_changes (split_upper leaves e l ks m upper)) ∷ upper_values leaves e l ks m 0 upper) (new_row (split_place k l ks m).0 (split_place k l ks m).1 k w)) ranges
 
 -- a key that the rows do not have stands at no place of its leaf
@@ -453,20 +455,20 @@ module _ (leaves : ℕ) (c : Parts) (t : IsTree leaves c) (few : parts_of leaves
         ),
       )
 
-  pub split_lawful : IsCallLawful leaves (a_call 5 k x) c
+  pub split_lawful : IsCallLawful leaves (call_of 0 Put k x) c
   split_lawful = record {
     observation =
-        observation_by leaves (a_call 5 k x) r c items es all_items all_updates within observed inside holds
+        observation_by leaves (call_of 0 Put k x) r c items es all_items all_updates within observed inside holds
         (λ d td h.
         let g : IsAgreed d = agreed d td h in
         (ap (λ y. y.reply) (done d td g.full_same) ∙ sym (ap (λ y. y.reply) (done c t not_full)), same_updates d td g));
-    updated = subst (λ y. IsUpdated (tree_meaning leaves) (a_call 5 k x) c y) (sym all_updates)
+    updated = subst (λ y. IsUpdated (tree_meaning leaves) (call_of 0 Put k x) c y) (sym all_updates)
         (record {
           ordered = split_ordered;
           owned = owned_by_widths leaves es c (tree_length leaves c v.widths) split_widths;
           widths = split_widths;
           valid = split_tree;
           rows = ap (λ y. y ∷ []) split_rows ∙ ap (λ y. y.after ∷ []) (sym (done c t not_full));
-          writes = ap (λ y. is_write 5 y.reply) (done c t not_full) ∙ sym (ap not (with_updates_some move more refl));
+          writes = ap (λ y. is_write Put y.reply) (done c t not_full) ∙ sym (ap not (with_updates_some move more refl));
         });
   }

@@ -6,9 +6,11 @@ use Rattle.sto_item.specs.declared.item.Item.{Item}
 use Rattle.sto_item.specs.Observed.{part_of_item}
 use Rattle.sto_item.specs.Agreement.{Agrees, AreTrueOf}
 use Rattle.sto_model.specs.declared.call.Call.{Call}
+use Rattle.sto_model.specs.declared.operation.Operation.{Operation}
+use Rattle.sto_model.specs.declared.operation.Operation.TheVariants.{Get, Set, Add, Test as TestWord, Take, Put, Remove, Has, Len, Next, Count, Scan, Push, Pop}
 use Rattle.sto_model.specs.declared.shape.Shape.TheVariants.{Tree}
-use Rattle.sto_model.specs.Objects.{takes_by}
-use Rattle.sto_model.specs.Operations.{operation_of}
+use Rattle.sto_model.specs.Calls.{call_of}
+use Rattle.sto_model.specs.Objects.{takes}
 use Rattle.sto_type.specs.Known.{Parts, Known, IsPartOf}
 use Rattle.sto_type.specs.SteadyLaw.{reading_steady, reading_done}
 use Rattle.sto_type.specs.Meaning.{Meaning, IsLawful, IsReady, IsNeed, IsPartOfObject, EachKnown, EachInside, EachOwner}
@@ -18,7 +20,6 @@ use Rattle.sto_tree.specs.Meaning.{TreeTakes, tree_meaning, reading}
 use Rattle.sto_tree.specs.Sized.{length-listed, tree_length}
 use Rattle.sto_tree.specs.CallLaw.{IsCallLawful}
 use Rattle.sto_type.specs.Observing.{IsReading, reading_needs, reading_knows, reading_inside, reading_holds, reading_reply, reading_updates, reading_updated}
-use Rattle.sto_tree.specs.Observing.{a_call}
 use Rattle.sto_tree.specs.Updating.{owned_at}
 use Rattle.sto_tree.specs.GetLaw.{get_lawful}
 use Rattle.sto_tree.specs.RemoveLaw.{remove_lawful}
@@ -29,25 +30,24 @@ use Rattle.sto_tree.specs.NextLaw.{next_lawful}
 use Rattle.sto_tree.specs.Opened.{opened_tree, opened_rows}
 
 -- what is so of each operation of a tree is so of each call that is taken
-pub by_code :
+pub by_operation :
     (leaves : ℕ) (P : Call → Type 0) (a b : ℤ)
-    → P (a_call 0 a b) → P (a_call 5 a b) → P (a_call 6 a b) → P (a_call 8 a b) → P (a_call 9 a b) → P (a_call 10 a b) → P (a_call 11 a b)
-    → (code : ℕ) → IsTrue (takes_by (Tree leaves) (operation_of code) a) → P (a_call code a b)
-by_code leaves P a b get put remove len next count scan zero t = get
-by_code leaves P a b get put remove len next count scan (suc zero) t = cc
-by_code leaves P a b get put remove len next count scan (suc (suc zero)) t = cc
-by_code leaves P a b get put remove len next count scan (suc (suc (suc zero))) t = cc
-by_code leaves P a b get put remove len next count scan (suc (suc (suc (suc zero)))) t = cc
-by_code leaves P a b get put remove len next count scan (suc (suc (suc (suc (suc zero))))) t = put
-by_code leaves P a b get put remove len next count scan (suc (suc (suc (suc (suc (suc zero)))))) t = remove
-by_code leaves P a b get put remove len next count scan (suc (suc (suc (suc (suc (suc (suc zero))))))) t = cc
-by_code leaves P a b get put remove len next count scan (suc (suc (suc (suc (suc (suc (suc (suc zero)))))))) t = len
-by_code leaves P a b get put remove len next count scan (suc (suc (suc (suc (suc (suc (suc (suc (suc zero))))))))) t = next
-by_code leaves P a b get put remove len next count scan (suc (suc (suc (suc (suc (suc (suc (suc (suc (suc zero)))))))))) t = count
-by_code leaves P a b get put remove len next count scan (suc (suc (suc (suc (suc (suc (suc (suc (suc (suc (suc zero))))))))))) t = scan
-by_code leaves P a b get put remove len next count scan (suc (suc (suc (suc (suc (suc (suc (suc (suc (suc (suc (suc zero)))))))))))) t = cc
-by_code leaves P a b get put remove len next count scan (suc (suc (suc (suc (suc (suc (suc (suc (suc (suc (suc (suc (suc zero))))))))))))) t = cc
-by_code leaves P a b get put remove len next count scan (suc (suc (suc (suc (suc (suc (suc (suc (suc (suc (suc (suc (suc (suc n)))))))))))))) t = cc
+    → P (call_of 0 Get a b) → P (call_of 0 Put a b) → P (call_of 0 Remove a b) → P (call_of 0 Len a b) → P (call_of 0 Next a b) → P (call_of 0 Count a b) → P (call_of 0 Scan a b)
+    → (o : Operation) → IsTrue (takes (Tree leaves) o a) → P (call_of 0 o a b)
+by_operation leaves P a b get put remove len next count scan Get t = get
+by_operation leaves P a b get put remove len next count scan Set t = cc
+by_operation leaves P a b get put remove len next count scan Add t = cc
+by_operation leaves P a b get put remove len next count scan TestWord t = cc
+by_operation leaves P a b get put remove len next count scan Take t = cc
+by_operation leaves P a b get put remove len next count scan Put t = put
+by_operation leaves P a b get put remove len next count scan Remove t = remove
+by_operation leaves P a b get put remove len next count scan Has t = cc
+by_operation leaves P a b get put remove len next count scan Len t = len
+by_operation leaves P a b get put remove len next count scan Next t = next
+by_operation leaves P a b get put remove len next count scan Count t = count
+by_operation leaves P a b get put remove len next count scan Scan t = scan
+by_operation leaves P a b get put remove len next count scan Push t = cc
+by_operation leaves P a b get put remove len next count scan Pop t = cc
 
 -- each home is the one object
 homes_owned : (i n : ℕ) → EachOwner 1 (listed (λ (q : ℕ). (0, q)) i n)
@@ -65,9 +65,9 @@ module _ (leaves : ℕ) (some : 1 ≤ leaves) (few : parts_of leaves < 2 ^ 32) (
   -- each call that is taken is lawful
   pub call_lawful : (call : Call) (c : Parts) → TreeTakes leaves call → IsTree leaves c → IsCallLawful leaves call c
   call_lawful call c t v =
-      let same : a_call call.code call.a call.b ≡ call = λ i. record { object = sym t.object i; code = call.code; a = call.a; b = call.b } in
+      let same : call_of 0 call.operation call.a call.b ≡ call = λ i. record { object = sym t.object i; operation = call.operation; a = call.a; b = call.b; c = sym t.third i } in
       subst (λ (x : Call). IsCallLawful leaves x c) same
-      (by_code leaves (λ x. IsCallLawful leaves x c) call.a call.b
+      (by_operation leaves (λ x. IsCallLawful leaves x c) call.a call.b
       (get_lawful leaves c v call.a call.b t.fits)
       (put_lawful leaves c v few call.a call.b t.fits t.fits_too (crowded c v call.a call.b t.fits t.fits_too))
       (remove_lawful leaves c v few call.a call.b t.fits)
@@ -75,7 +75,7 @@ module _ (leaves : ℕ) (some : 1 ≤ leaves) (few : parts_of leaves < 2 ^ 32) (
       (next_lawful leaves c v call.a call.b t.fits)
       (count_lawful leaves c v call.a call.b t.fits t.fits_too)
       (scan_lawful leaves c v call.a call.b t.fits t.fits_too)
-      call.code t.operation)
+      call.operation t.operation)
 
   owned : (call : Call) → TreeTakes leaves call → (p : ℕ) → p < length m.widths → IsPartOfObject m.homes call.object p
   owned call t p h =

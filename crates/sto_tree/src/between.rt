@@ -14,7 +14,7 @@ use crate::listing::listed_leaves;
 use crate::range::known_rows;
 use crate::walk::see_leaves;
 use std::alloc::Global;
-use sto_model::{Call, Pairs, Reply};
+use sto_model::{Call, Operation, Pairs, Reply};
 use sto_part::NoMemory;
 use sto_type::{Answer, AnswerPool, KnownParts};
 
@@ -29,7 +29,7 @@ pub(crate) fn plan_between(
 ) -> Result<Answer, NoMemory>
     requires few { parts_of leaves < 2 ^ 32 }
     requires takes { TreeTakes leaves call.now }
-    requires code { call.now.code ≡ (if scans then 11 else 10) }
+    requires operation { call.now.operation ≡ (if scans then Operation.Scan else Operation.Count) }
     requires part { (d : List (List ℤ)) × IsTree leaves d × IsPartOf (known cache.now) d }
     ensures { IfOk result (λ a. IsPlan (tree_meaning leaves) call.now (known cache.now) (planned a)) }
 {

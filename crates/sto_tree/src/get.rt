@@ -9,7 +9,7 @@ ghost use Rattle.sto_tree.specs.Meaning.{tree_meaning, TreeTakes};
 use crate::leaf::find_leaf;
 use crate::said::{leaf_items, value_items, value_part};
 use crate::search::place_of;
-use sto_model::{Call, Reply};
+use sto_model::{Call, Operation, Reply};
 use sto_part::NoMemory;
 use sto_type::{Answer, AnswerPool, KnownParts};
 
@@ -22,7 +22,7 @@ pub(crate) fn plan_get(
 ) -> Result<Answer, NoMemory>
     requires few { parts_of leaves < 2 ^ 32 }
     requires takes { TreeTakes leaves call.now }
-    requires get { call.now.code ≡ 0 }
+    requires get { call.now.operation ≡ Operation.Get }
     requires part { (d : List (List ℤ)) × IsTree leaves d × IsPartOf (known cache.now) d }
     ensures { IfOk result (λ a. IsPlan (tree_meaning leaves) call.now (known cache.now) (planned a)) }
 {

@@ -7,7 +7,7 @@ ghost use Rattle.sto_type.specs.Plans.{IsPlan, planned};
 
 use crate::get::only_word;
 use sto_item::Item;
-use sto_model::{Call, Reply};
+use sto_model::{Call, Operation, Reply};
 use sto_part::NoMemory;
 use sto_type::{Answer, AnswerPool, KnownParts, one_item};
 
@@ -19,7 +19,7 @@ pub(crate) fn plan_len(
     cache: &KnownParts<'_>,
 ) -> Result<Answer, NoMemory>
     requires takes { TreeTakes leaves call.now }
-    requires len { call.now.code ≡ 8 }
+    requires len { call.now.operation ≡ Operation.Len }
     requires part { (d : List (List ℤ)) × IsTree leaves d × IsPartOf (known cache.now) d }
     ensures { IfOk result (λ a. IsPlan (tree_meaning leaves) call.now (known cache.now) (planned a)) }
 {

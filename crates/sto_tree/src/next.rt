@@ -13,7 +13,7 @@ use crate::said::key_part;
 use crate::walk::see_keys;
 use std::alloc::Global;
 use sto_item::Items;
-use sto_model::{Call, Reply};
+use sto_model::{Call, Operation, Reply};
 use sto_part::NoMemory;
 use sto_type::{Answer, AnswerPool, KnownParts};
 
@@ -27,7 +27,7 @@ pub(crate) fn plan_next(
 ) -> Result<Answer, NoMemory>
     requires few { parts_of leaves < 2 ^ 32 }
     requires takes { TreeTakes leaves call.now }
-    requires next { call.now.code ≡ 9 }
+    requires next { call.now.operation ≡ Operation.Next }
     requires part { (d : Seq (Seq ℤ)) × IsTree leaves d × IsPartOf (known cache.now) d }
     ensures { IfOk result (λ a. IsPlan (tree_meaning leaves) call.now (known cache.now) (planned a)) }
 {

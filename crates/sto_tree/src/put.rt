@@ -19,7 +19,7 @@ use crate::search::{free_place, place_of};
 use crate::split::plan_split;
 use std::alloc::Global;
 use sto_item::Items;
-use sto_model::{Call, Reply};
+use sto_model::{Call, Operation, Reply};
 use sto_part::{Change, NoMemory, Test};
 use sto_type::{Answer, AnswerPool, KnownParts, one_update};
 
@@ -33,7 +33,7 @@ pub(crate) fn plan_put(
 ) -> Result<Answer, NoMemory>
     requires few { parts_of leaves < 2 ^ 32 }
     requires takes { TreeTakes leaves call.now }
-    requires put { call.now.code ≡ 5 }
+    requires put { call.now.operation ≡ Operation.Put }
     requires part { (d : List (List ℤ)) × IsTree leaves d × IsPartOf (known cache.now) d }
     ensures { IfOk result (λ a. IsPlan (tree_meaning leaves) call.now (known cache.now) (planned a)) }
 {
@@ -60,7 +60,7 @@ fn put_in_leaf(
 ) -> Result<Option<Answer>, NoMemory>
     requires few { parts_of leaves < 2 ^ 32 }
     requires takes { TreeTakes leaves call.now }
-    requires put { call.now.code ≡ 5 }
+    requires put { call.now.operation ≡ Operation.Put }
     requires part { (d : List (List ℤ)) × IsTree leaves d × IsPartOf (known cache.now) d }
     requires at { IsAtLeaf leaves (known cache.now) call.now.a found.directory.now found.number found.keys.now }
     requires below { found.number < leaves }

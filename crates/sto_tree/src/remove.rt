@@ -13,7 +13,7 @@ use crate::leaf::find_leaf;
 use crate::said::{here_items, key_part, leaf_items};
 use crate::search::place_of;
 use sto_item::Updates;
-use sto_model::{Call, Reply};
+use sto_model::{Call, Operation, Reply};
 use sto_part::{Change, NoMemory};
 use sto_type::{Answer, AnswerPool, KnownParts};
 
@@ -26,7 +26,7 @@ pub(crate) fn plan_remove(
 ) -> Result<Answer, NoMemory>
     requires few { parts_of leaves < 2 ^ 32 }
     requires takes { TreeTakes leaves call.now }
-    requires remove { call.now.code ≡ 6 }
+    requires remove { call.now.operation ≡ Operation.Remove }
     requires part { (d : List (List ℤ)) × IsTree leaves d × IsPartOf (known cache.now) d }
     ensures { IfOk result (λ a. IsPlan (tree_meaning leaves) call.now (known cache.now) (planned a)) }
 {

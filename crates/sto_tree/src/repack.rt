@@ -22,7 +22,7 @@ use crate::search::is_present;
 use crate::seen::{add_item, see_parts};
 use std::alloc::Global;
 use sto_item::{Item, Updates};
-use sto_model::{Call, Reply, Rows};
+use sto_model::{Call, Operation, Reply, Rows};
 use sto_part::{Change, List, NoMemory, Test, Update};
 use sto_type::{Answer, AnswerPool, KnownParts};
 
@@ -37,7 +37,7 @@ pub(crate) fn plan_repack(
 ) -> Result<Answer, NoMemory>
     requires few { parts_of leaves < 2 ^ 32 }
     requires takes { TreeTakes leaves call.now }
-    requires put { call.now.code ≡ 5 }
+    requires put { call.now.operation ≡ Operation.Put }
     requires part { (d : Seq (Seq ℤ)) × IsTree leaves d × IsPartOf (known cache.now) d }
     requires at { IsAtLeaf leaves (known cache.now) call.now.a found.directory.now found.number found.keys.now }
     requires directory { length found.directory.now ≡ 3 * leaves }

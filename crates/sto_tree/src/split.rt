@@ -32,7 +32,7 @@ use crate::search::{high, is_present};
 use crate::seen::{add_item, see_parts};
 use std::alloc::Global;
 use sto_item::{Item, Items, Updates};
-use sto_model::{Call, Reply, Rows};
+use sto_model::{Call, Operation, Reply, Rows};
 use sto_part::{Change, List, NoMemory, Test, Update};
 use sto_type::{Answer, AnswerPool, KnownParts};
 
@@ -48,7 +48,7 @@ pub(crate) fn plan_split(
 ) -> Result<Answer, NoMemory>
     requires few { parts_of leaves < 2 ^ 32 }
     requires takes { TreeTakes leaves call.now }
-    requires put { call.now.code ≡ 5 }
+    requires put { call.now.operation ≡ Operation.Put }
     requires part { (d : Seq (Seq ℤ)) × IsTree leaves d × IsPartOf (known cache.now) d }
     requires at { IsAtLeaf leaves (known cache.now) call.now.a found.directory.now found.number found.keys.now }
     requires below { found.number < leaves }

@@ -1,5 +1,6 @@
 //! The type of a tree.
 ghost use Rattle.std.specs.Prelude.{◌≡◌, ◌<◌, ◌≤◌, ◌^◌, [], ◌∷◌};
+ghost use Rattle.sto_model.specs.Objects.{takes};
 ghost use Rattle.sto_tree.specs.Layout.{parts_of};
 ghost use Rattle.sto_tree.specs.Meaning.{tree_meaning};
 ghost use Rattle.sto_tree.specs.Lawful.{tree_is_lawful};
@@ -13,7 +14,7 @@ use crate::next::plan_next;
 use crate::put::plan_put;
 use crate::remove::plan_remove;
 use std::alloc::Global;
-use sto_model::{Call, State};
+use sto_model::{Call, Operation, Shape, State};
 use sto_part::{Contents, Naming, NoMemory};
 use sto_type::{Answer, AnswerPool, Home, KnownParts, TxType};
 
@@ -71,7 +72,10 @@ impl TxType for TTree {
     fn takes(&self, call: &Call) -> bool {
         let _first = call.a;
         let _second = call.b;
-        call.object == 0 && matches!(call.code, 0 | 5 | 6 | 8 | 9 | 10 | 11)
+        let shape = Shape::Tree {
+            leaves: self.leaves,
+        };
+        call.object == 0 && shape.takes_call(call)
     }
 
     fn opening(&self, alloc: Global) -> Result<Contents, NoMemory> {
@@ -93,14 +97,14 @@ impl TxType for TTree {
         cache: &KnownParts<'_>,
     ) -> Result<Answer, NoMemory> {
         let leaves = self.leaves;
-        match call.code {
-            0 => plan_get(pool, leaves, call, cache),
-            5 => plan_put(alloc, pool, leaves, call, cache),
-            6 => plan_remove(pool, leaves, call, cache),
-            8 => plan_len(pool, leaves, call, cache),
-            9 => plan_next(alloc, pool, leaves, call, cache),
-            10 => plan_between(alloc, pool, leaves, call, cache, false),
-            11 => plan_between(alloc, pool, leaves, call, cache, true),
+        match call.operation {
+            Operation::Get => plan_get(pool, leaves, call, cache),
+            Operation::Put => plan_put(alloc, pool, leaves, call, cache),
+            Operation::Remove => plan_remove(pool, leaves, call, cache),
+            Operation::Len => plan_len(pool, leaves, call, cache),
+            Operation::Next => plan_next(alloc, pool, leaves, call, cache),
+            Operation::Count => plan_between(alloc, pool, leaves, call, cache, false),
+            Operation::Scan => plan_between(alloc, pool, leaves, call, cache, true),
             _ => unreachable!(),
         }
     }

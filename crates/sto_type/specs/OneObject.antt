@@ -1,6 +1,7 @@
 -- A type of one object, by its tellings.
 use Rattle.std.specs.Prelude.{◌≡◌, ◌<◌, ℕ, zero, suc, List, [], ◌∷◌, map, length}
 use Rattle.sto_model.specs.declared.call.Call.{Call}
+use Rattle.sto_model.specs.declared.operation.Operation.{Operation}
 use Rattle.sto_model.specs.Rows.{Row}
 use Rattle.sto_model.specs.SequentialObjects.{SequentialObject}
 use Rattle.sto_item.specs.Agreement.{Agrees, AreTrueOf}
@@ -44,9 +45,9 @@ pub record IsTold (m : Meaning) (call : Call) (r : Telling) (c : Parts) : Type 0
   pub tells : told_at r c ≡ reply_to m.machines call (m.rows c)
   pub updated : IsUpdated m call c (updates_at (reading_of r) c)
 
--- a call of the one object
-abbrev pub call_of : ℕ → Call → Call
-call_of code call = record call { object = 0; code = code }
+-- a call of this operation of the one object, with the numbers of another
+abbrev pub asked_as : Operation → Call → Call
+asked_as operation call = record call { object = 0; operation = operation }
 
 -- a type of one object whose calls are lawful
 pub record IsType (m : Meaning) (telling : Call → Telling) : Type 0 where

@@ -2,7 +2,6 @@
 use Rattle.std.proofs.Common.{◌≡◌, ◌<◌, ◌+◌, ◌^◌, ℕ, ℤ, pos, Some, None, List, [], ◌∷◌, length, slice_index_or, ap, sym, ◌∙◌, subst, arith}
 use Rattle.std.specs.Option.{option_map}
 use Rattle.sto_model.specs.declared.call.Call.{Call}
-use Rattle.sto_model.specs.Operations.{operation_of}
 use Rattle.sto_type.specs.Known.{Parts, Known, IsPartOf, word_known}
 use Rattle.sto_type.specs.Plans.{IsPlan, planned}
 use Rattle.sto_type.specs.declared.answer.Answer.{Answer}
@@ -22,11 +21,11 @@ known_size capacity k d x v part e =
     subst (IsSize capacity) (ap (λ (l : List ℤ). slice_index_or l 0 (pos 0)) (part.same 0 w.0 (there capacity d v) w.1) ∙ w.2) v.sized
 
 module _ (capacity : ℕ) (few : 1 + capacity < 2 ^ 32) (call : Call) (k : Known) (t : VectorTakes call) (answer : Answer) where
-  pub first_planned : word_known (k 0) ≡ None → planned answer ≡ first_plan (operation_of call.code) (place_of capacity call.a) → IsPlan (vector_meaning capacity) call k (planned answer)
+  pub first_planned : word_known (k 0) ≡ None → planned answer ≡ first_plan call.operation (place_of capacity call.a) → IsPlan (vector_meaning capacity) call k (planned answer)
   first_planned e p = subst (IsPlan (vector_meaning capacity) call k) (sym p) (first_is capacity few k (ap (option_map size_of) e) call t)
 
   pub then_planned :
       (n : ℕ) (x : ℤ) → word_known (k 0) ≡ Some x → pos n ≡ x
-      → planned answer ≡ vector_plan capacity (operation_of call.code) (place_of capacity call.a) call.a call.b n (λ p. word_known (k p))
+      → planned answer ≡ vector_plan capacity call.operation (place_of capacity call.a) call.a call.b n (λ p. word_known (k p))
       → IsPlan (vector_meaning capacity) call k (planned answer)
   then_planned n x e is p = subst (IsPlan (vector_meaning capacity) call k) (sym p) (plan_is capacity few k n (ap (option_map size_of) (e ∙ ap Some (sym is))) call t)

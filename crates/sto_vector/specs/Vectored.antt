@@ -15,8 +15,8 @@ use Rattle.sto_model.specs.declared.operation.Operation.{Operation}
 use Rattle.sto_model.specs.declared.operation.Operation.TheVariants.{Get, Test as TestWord, Len, Push, Pop}
 use Rattle.sto_model.specs.declared.shape.Shape.TheVariants.{Vector}
 use Rattle.sto_model.specs.Rows.{Row}
-use Rattle.sto_model.specs.Operations.{operation_of, test_of}
-use Rattle.sto_model.specs.Objects.{machine_of, takes_by}
+use Rattle.sto_model.specs.Operations.{test_of}
+use Rattle.sto_model.specs.Objects.{machine_of, takes}
 use Rattle.sto_type.specs.Known.{Parts, Known, ContentsFit, word_known}
 use Rattle.sto_type.specs.Meaning.{Meaning}
 use Rattle.sto_counter.specs.Sums.{word_pred_of}
@@ -33,9 +33,9 @@ abbrev pub size_known : Known → Option ℕ
 size_known k = option_map size_of (word_known (k 0))
 
 -- with this size a get of a place below it needs the place, and a pop the last one; the others need no place
-abbrev pub place_need : Option Operation → Option ℕ → Known → ℕ → Option ℕ
-place_need (Some Get) (Some i) k n = if nat_lt i n then asked (suc i) (k (suc i)) else None
-place_need (Some Pop) q k (suc n) = asked (suc n) (k (suc n))
+abbrev pub place_need : Operation → Option ℕ → Known → ℕ → Option ℕ
+place_need Get (Some i) k n = if nat_lt i n then asked (suc i) (k (suc i)) else None
+place_need Pop q k (suc n) = asked (suc n) (k (suc n))
 place_need o q k n = None
 
 -- the size is needed first
@@ -44,8 +44,8 @@ after_size None need = Some 0
 after_size (Some n) need = need n
 
 -- a get of an index that is no place needs nothing
-abbrev pub vector_need : Option Operation → Option ℕ → Known → Option ℕ
-vector_need (Some Get) None k = None
+abbrev pub vector_need : Operation → Option ℕ → Known → Option ℕ
+vector_need Get None k = None
 vector_need o q k = after_size (size_known k) (place_need o q k)
 
 -- that the size compares with a number
@@ -66,12 +66,12 @@ pop_items zero = size_holds Le 0 ∷ []
 pop_items (suc n) = size_holds Eq (suc n) ∷ Seen (suc n) ∷ []
 
 -- what a call observes with this size; a test does as a counter of that number
-abbrev pub vector_items : ℕ → Option Operation → Option ℕ → ℤ → ℤ → ℕ → List Item
-vector_items capacity (Some Get) (Some i) a b n = get_items i n
-vector_items capacity (Some TestWord) q cmp k n = test_items (test_of cmp) k (pos n)
-vector_items capacity (Some Len) q a b n = Seen 0 ∷ []
-vector_items capacity (Some Push) q a b n = push_items capacity n
-vector_items capacity (Some Pop) q a b n = pop_items n
+abbrev pub vector_items : ℕ → Operation → Option ℕ → ℤ → ℤ → ℕ → List Item
+vector_items capacity Get (Some i) a b n = get_items i n
+vector_items capacity TestWord q cmp k n = test_items (test_of cmp) k (pos n)
+vector_items capacity Len q a b n = Seen 0 ∷ []
+vector_items capacity Push q a b n = push_items capacity n
+vector_items capacity Pop q a b n = pop_items n
 vector_items capacity o q a b n = []
 
 -- a push of v with this size adds to the size and puts v behind the last place
@@ -83,9 +83,9 @@ abbrev pub pop_updates : ℕ → List Entry
 pop_updates zero = []
 pop_updates (suc n) = (0, Add (negsuc 0) ∷ []) ∷ []
 
-abbrev pub vector_updates : ℕ → Option Operation → ℤ → ℕ → List Entry
-vector_updates capacity (Some Push) v n = push_updates capacity v n
-vector_updates capacity (Some Pop) v n = pop_updates n
+abbrev pub vector_updates : ℕ → Operation → ℤ → ℕ → List Entry
+vector_updates capacity Push v n = push_updates capacity v n
+vector_updates capacity Pop v n = pop_updates n
 vector_updates capacity o v n = []
 
 -- the places below the size, each with its number as its key
@@ -112,7 +112,8 @@ IsVectorOf (capacity ∷ sizes) c = IsVector capacity c
 -- a call that a vector takes, with numbers of 64 bits
 pub record VectorTakes (call : Call) : Type 0 where
   pub object : call.object ≡ 0
-  pub taken : IsTrue (takes_by (Vector 0) (operation_of call.code) call.a)
+  pub third : call.c ≡ pos 0
+  pub taken : IsTrue (takes (Vector 0) call.operation call.a)
   pub fits : FitsSigned w64 call.a
   pub fits_too : FitsSigned w64 call.b
 
@@ -125,7 +126,7 @@ vector_meaning capacity = record {
   valid = IsVector capacity;
   rows = λ c. vector_rows c ∷ [];
   takes = VectorTakes;
-  need = λ call k. vector_need (operation_of call.code) (place_of capacity call.a) k;
-  items = λ call k. vector_items capacity (operation_of call.code) (place_of capacity call.a) call.a call.b (unwrap_or (size_known k) 0);
-  updates = λ call c. vector_updates capacity (operation_of call.code) call.a (size_of (word_of c 0 0));
+  need = λ call k. vector_need call.operation (place_of capacity call.a) k;
+  items = λ call k. vector_items capacity call.operation (place_of capacity call.a) call.a call.b (unwrap_or (size_known k) 0);
+  updates = λ call c. vector_updates capacity call.operation call.a (size_of (word_of c 0 0));
 }

@@ -16,13 +16,15 @@ use Rattle.sto_item.specs.declared.item.Item.{Item}
 use Rattle.sto_item.specs.Pending.{Entry}
 use Rattle.sto_item.specs.Agreement.{Agrees, AreTrueOf, word_of}
 use Rattle.sto_model.specs.declared.call.Call.{Call}
-use Rattle.sto_model.specs.declared.operation.Operation.TheVariants.{Get, Test as TestWord, Len, Push, Pop}
+use Rattle.sto_model.specs.declared.operation.Operation.{Operation}
+use Rattle.sto_model.specs.declared.operation.Operation.TheVariants.{Get, Set, Add, Test as TestWord, Take, Put, Remove, Has, Len, Next, Count, Scan, Push, Pop}
 use Rattle.sto_model.specs.declared.shape.Shape.TheVariants.{Vector}
 use Rattle.sto_model.specs.Rows.{Row, value_at, with_row, without}
 use Rattle.sto_model.specs.PlainReplies.{PlainReply, is_write}
 use Rattle.sto_model.specs.PlainReplies as T
-use Rattle.sto_model.specs.Operations.{operation_of, test_of}
-use Rattle.sto_model.specs.Objects.{compared, value_or_absent, push_effect, popped, pop_effect, takes_by}
+use Rattle.sto_model.specs.Calls.{call_of}
+use Rattle.sto_model.specs.Operations.{test_of}
+use Rattle.sto_model.specs.Objects.{compared, value_or_absent, push_effect, popped, pop_effect, takes}
 use Rattle.sto_model.specs.SequentialObjects.{reply_to, state_after}
 use Rattle.sto_model.proofs.RowFacts.{by_test}
 use Rattle.sto_type.specs.Known.{Parts, Known, IsPartOf, word_known}
@@ -37,45 +39,40 @@ use Rattle.sto_vector.specs.VectoredSteady.{vector_steady}
 use Rattle.sto_vector.specs.Vectored.{size_of, size_known, place_need, after_size, vector_need, get_items, push_items, pop_items, vector_items, push_updates, pop_updates, vector_updates, vector_rows, IsVector, VectorTakes, vector_meaning}
 use Rattle.sto_vector.specs.VectoredRows.{count, take_none, with_end, without_end, lt_of, ge_of, value_below, value_in, value_is}
 
--- the calls of a vector
-abbrev pub call_of : ℕ → ℤ → ℤ → Call
-call_of code a b = record { object = 0; code = code; a = a; b = b }
-
 some_test : (o : Option Test) → is_some o ≡ true → (t : Test) × (o ≡ Some t)
 some_test None e = cc
 some_test (Some t) e = (t, refl)
 
-by_code :
-    {P : Type 0} (code : ℕ) (a : ℤ) → IsTrue (takes_by (Vector 0) (operation_of code) a)
-    → (code ≡ 0 → P) → (code ≡ 3 → (t : Test) → test_of a ≡ Some t → P) → (code ≡ 8 → P) → (code ≡ 12 → P) → (code ≡ 13 → P) → P
-by_code zero a h get test len push pop = get refl
-by_code (suc zero) a h get test len push pop = cc
-by_code (suc (suc zero)) a h get test len push pop = cc
-by_code (suc (suc (suc zero))) a h get test len push pop = let t : (t : Test) × (test_of a ≡ Some t) = some_test (test_of a) h in test refl t.0 t.1
-by_code (suc (suc (suc (suc zero)))) a h get test len push pop = cc
-by_code (suc (suc (suc (suc (suc zero))))) a h get test len push pop = cc
-by_code (suc (suc (suc (suc (suc (suc zero)))))) a h get test len push pop = cc
-by_code (suc (suc (suc (suc (suc (suc (suc zero))))))) a h get test len push pop = cc
-by_code (suc (suc (suc (suc (suc (suc (suc (suc zero)))))))) a h get test len push pop = len refl
-by_code (suc (suc (suc (suc (suc (suc (suc (suc (suc zero))))))))) a h get test len push pop = cc
-by_code (suc (suc (suc (suc (suc (suc (suc (suc (suc (suc zero)))))))))) a h get test len push pop = cc
-by_code (suc (suc (suc (suc (suc (suc (suc (suc (suc (suc (suc zero))))))))))) a h get test len push pop = cc
-by_code (suc (suc (suc (suc (suc (suc (suc (suc (suc (suc (suc (suc zero)))))))))))) a h get test len push pop = push refl
-by_code (suc (suc (suc (suc (suc (suc (suc (suc (suc (suc (suc (suc (suc zero))))))))))))) a h get test len push pop = pop refl
-by_code (suc (suc (suc (suc (suc (suc (suc (suc (suc (suc (suc (suc (suc (suc n)))))))))))))) a h get test len push pop = cc
+by_operation :
+    {P : Type 0} (o : Operation) (a : ℤ) → IsTrue (takes (Vector 0) o a)
+    → (o ≡ Get → P) → (o ≡ TestWord → (t : Test) → test_of a ≡ Some t → P) → (o ≡ Len → P) → (o ≡ Push → P) → (o ≡ Pop → P) → P
+by_operation Get a h get test len push pop = get refl
+by_operation Set a h get test len push pop = cc
+by_operation Add a h get test len push pop = cc
+by_operation TestWord a h get test len push pop = let t : (t : Test) × (test_of a ≡ Some t) = some_test (test_of a) h in test refl t.0 t.1
+by_operation Take a h get test len push pop = cc
+by_operation Put a h get test len push pop = cc
+by_operation Remove a h get test len push pop = cc
+by_operation Has a h get test len push pop = cc
+by_operation Len a h get test len push pop = len refl
+by_operation Next a h get test len push pop = cc
+by_operation Count a h get test len push pop = cc
+by_operation Scan a h get test len push pop = cc
+by_operation Push a h get test len push pop = push refl
+by_operation Pop a h get test len push pop = pop refl
 
 -- what is so of the five calls is so of each call that is taken
 pub by_call :
-    (P : Call → Type 0) → ((a b : ℤ) → P (call_of 0 a b)) → ((a b : ℤ) (t : Test) → test_of a ≡ Some t → P (call_of 3 a b)) → ((a b : ℤ) → P (call_of 8 a b))
-    → ((a b : ℤ) → FitsSigned w64 a → P (call_of 12 a b)) → ((a b : ℤ) → P (call_of 13 a b)) → (call : Call) → VectorTakes call → P call
+    (P : Call → Type 0) → ((a b : ℤ) → P (call_of 0 Get a b)) → ((a b : ℤ) (t : Test) → test_of a ≡ Some t → P (call_of 0 TestWord a b)) → ((a b : ℤ) → P (call_of 0 Len a b))
+    → ((a b : ℤ) → FitsSigned w64 a → P (call_of 0 Push a b)) → ((a b : ℤ) → P (call_of 0 Pop a b)) → (call : Call) → VectorTakes call → P call
 by_call P get test len push pop call t =
-    let same : (n : ℕ) → call.code ≡ n → call ≡ call_of n call.a call.b = λ n e i. record { object = t.object i; code = e i; a = call.a; b = call.b } in
-    by_code call.code call.a t.taken
-    (λ e. subst P (sym (same 0 e)) (get call.a call.b))
-    (λ e s q. subst P (sym (same 3 e)) (test call.a call.b s q))
-    (λ e. subst P (sym (same 8 e)) (len call.a call.b))
-    (λ e. subst P (sym (same 12 e)) (push call.a call.b t.fits))
-    (λ e. subst P (sym (same 13 e)) (pop call.a call.b))
+    let same : (o : Operation) → call.operation ≡ o → call ≡ call_of 0 o call.a call.b = λ o e i. record { object = t.object i; operation = e i; a = call.a; b = call.b; c = t.third i } in
+    by_operation call.operation call.a t.taken
+    (λ e. subst P (sym (same Get e)) (get call.a call.b))
+    (λ e s q. subst P (sym (same TestWord e)) (test call.a call.b s q))
+    (λ e. subst P (sym (same Len e)) (len call.a call.b))
+    (λ e. subst P (sym (same Push e)) (push call.a call.b t.fits))
+    (λ e. subst P (sym (same Pop e)) (pop call.a call.b))
 
 -- contents of a size and places
 abbrev pub sized : ℕ → Parts → Parts
@@ -176,7 +173,7 @@ module _ (capacity : ℕ) (few : 1 + capacity < 2 ^ 32) where
     held test i h = sym (holds_plain 0 test (pos i) (pos n) size_fits) ∙ h
 
   -- the items are true
-  get_true : (q : Option ℕ) (a b : ℤ) (n : ℕ) (places : Parts) → IsVector capacity (sized n places) → AreTrueOf (sized n places) (vector_items capacity (Some Get) q a b n)
+  get_true : (q : Option ℕ) (a b : ℤ) (n : ℕ) (places : Parts) → IsVector capacity (sized n places) → AreTrueOf (sized n places) (vector_items capacity Get q a b n)
   get_true None a b n places v = tt
   get_true (Some i) a b n places v =
       by_test (nat_lt i n)
@@ -203,10 +200,10 @@ module _ (capacity : ℕ) (few : 1 + capacity < 2 ^ 32) where
 
   -- the items by the call and the size
   abbrev pub own_items : Call → ℕ → List Item
-  own_items call n = vector_items capacity (operation_of call.code) (place_of capacity call.a) call.a call.b n
+  own_items call n = vector_items capacity call.operation (place_of capacity call.a) call.a call.b n
 
   abbrev pub own_updates : Call → ℕ → List Entry
-  own_updates call n = vector_updates capacity (operation_of call.code) call.a n
+  own_updates call n = vector_updates capacity call.operation call.a n
 
   abbrev HoldsAt : Call → Type 0
   HoldsAt call = (n : ℕ) (places : Parts) → IsVector capacity (sized n places) → AreTrueOf (sized n places) (own_items call n)
@@ -236,16 +233,18 @@ module _ (capacity : ℕ) (few : 1 + capacity < 2 ^ 32) where
   full_is : (n : ℕ) → nat_le capacity n ≡ not (nat_lt n capacity)
   full_is n = by_test (nat_lt n capacity) (λ t. rw t (free_of capacity n t)) (λ t. rw t (full_of capacity n t))
 
-  pub get_replies : (a b : ℤ) (n : ℕ) (places : Parts) → IsVector capacity (sized n places) → reply_to m.machines (call_of 0 a b) (m.rows (sized n places)) ≡ value_or_absent (value_in (place_of capacity a) n places)
+  pub get_replies : (a b : ℤ) (n : ℕ) (places : Parts) → IsVector capacity (sized n places)
+      → reply_to m.machines (call_of 0 Get a b) (m.rows (sized n places)) ≡ value_or_absent (value_in (place_of capacity a) n places)
   get_replies a b n places v = ap value_or_absent (value n places v a)
 
-  pub test_replies : (a b : ℤ) (n : ℕ) (places : Parts) → IsVector capacity (sized n places) → reply_to m.machines (call_of 3 a b) (m.rows (sized n places)) ≡ T.Flag (compared (test_of a) (pos n) b)
+  pub test_replies : (a b : ℤ) (n : ℕ) (places : Parts) → IsVector capacity (sized n places)
+      → reply_to m.machines (call_of 0 TestWord a b) (m.rows (sized n places)) ≡ T.Flag (compared (test_of a) (pos n) b)
   test_replies a b n places v = ap (λ x. T.Flag (compared (test_of a) (pos x) b)) (row_count n places v)
 
-  pub len_replies : (a b : ℤ) (n : ℕ) (places : Parts) → IsVector capacity (sized n places) → reply_to m.machines (call_of 8 a b) (m.rows (sized n places)) ≡ T.Value (pos n)
+  pub len_replies : (a b : ℤ) (n : ℕ) (places : Parts) → IsVector capacity (sized n places) → reply_to m.machines (call_of 0 Len a b) (m.rows (sized n places)) ≡ T.Value (pos n)
   len_replies a b n places v = ap (λ x. T.Value (pos x)) (row_count n places v)
 
-  pub push_replies : (a b : ℤ) (n : ℕ) (places : Parts) → IsVector capacity (sized n places) → reply_to m.machines (call_of 12 a b) (m.rows (sized n places)) ≡ push_reply n
+  pub push_replies : (a b : ℤ) (n : ℕ) (places : Parts) → IsVector capacity (sized n places) → reply_to m.machines (call_of 0 Push a b) (m.rows (sized n places)) ≡ push_reply n
   push_replies a b n places v =
       ap (λ x. (push_effect (nat_le capacity x) a (array_rows 0 (take n places))).reply) (row_count n places v)
       ∙ push_replied (nat_le capacity n) a (array_rows 0 (take n places)) (nat_lt n capacity) (full_is n)
@@ -257,12 +256,12 @@ module _ (capacity : ℕ) (few : 1 + capacity < 2 ^ 32) where
   popped_reply zero places v = refl
   popped_reply (suc n) places v = ap (λ o. (popped o (pos n) (array_rows 0 (take (suc n) places))).reply) (last_value n places v)
 
-  pub pop_replies : (a b : ℤ) (n : ℕ) (places : Parts) → IsVector capacity (sized n places) → reply_to m.machines (call_of 13 a b) (m.rows (sized n places)) ≡ pop_reply n places
+  pub pop_replies : (a b : ℤ) (n : ℕ) (places : Parts) → IsVector capacity (sized n places) → reply_to m.machines (call_of 0 Pop a b) (m.rows (sized n places)) ≡ pop_reply n places
   pop_replies a b n places v = ap (λ x. (pop_effect x (array_rows 0 (take n places))).reply) (row_count n places v) ∙ popped_reply n places v
 
   -- what agrees with the items is answered alike
   module _ (n k : ℕ) (places others : Parts) (v : IsVector capacity (sized n places)) (w : IsVector capacity (sized k others)) where
-    same_value : (q : Option ℕ) (a b : ℤ) → Agrees (sized k others) (vector_items capacity (Some Get) q a b n) (sized n places) → value_in q k others ≡ value_in q n places
+    same_value : (q : Option ℕ) (a b : ℤ) → Agrees (sized k others) (vector_items capacity Get q a b n) (sized n places) → value_in q k others ≡ value_in q n places
     same_value None a b g = refl
     same_value (Some i) a b g =
         by_test (nat_lt i n)
@@ -348,7 +347,7 @@ module _ (capacity : ℕ) (few : 1 + capacity < 2 ^ 32) where
   -- the updates
   left_alone :
       (call : Call) (n : ℕ) (places : Parts) → IsVector capacity (sized n places) → m.rows (sized n places) ≡ state_after m.machines call (m.rows (sized n places))
-      → is_write call.code (reply_to m.machines call (m.rows (sized n places))) ≡ false → IsUpdated m call (sized n places) []
+      → is_write call.operation (reply_to m.machines call (m.rows (sized n places))) ≡ false → IsUpdated m call (sized n places) []
   left_alone call n places v r z = record { ordered = (tt, tt); owned = tt; widths = tt; valid = v; rows = r; writes = z }
 
   small_fits : (n : ℕ) → n ≤ suc capacity → FitsSigned w64 (pos n)
@@ -360,7 +359,8 @@ module _ (capacity : ℕ) (few : 1 + capacity < 2 ^ 32) where
   down : (n : ℕ) → n ≤ capacity → wrapped_sum (pos (suc n)) (negsuc 0) ≡ pos n
   down n l = let e : pos (suc n) +ℤ negsuc 0 ≡ pos n = omega (arith, ints) in ap (int_wrap w64) e ∙ int_wrap_fits w64 (pos n) (small_fits n (omega (arith, l)))
 
-  pushed : (a b : ℤ) (n : ℕ) (places : Parts) → IsVector capacity (sized n places) → nat_lt n capacity ≡ true → state_after m.machines (call_of 12 a b) (m.rows (sized n places)) ≡ array_rows 0 (take (suc n) (slice_set places n (a ∷ []))) ∷ []
+  pushed : (a b : ℤ) (n : ℕ) (places : Parts) → IsVector capacity (sized n places) → nat_lt n capacity ≡ true
+      → state_after m.machines (call_of 0 Push a b) (m.rows (sized n places)) ≡ array_rows 0 (take (suc n) (slice_set places n (a ∷ []))) ∷ []
   pushed a b n places v t =
       let rows : List Row = array_rows 0 (take n places) in
       let z : 0 + n ≡ n = omega arith in
@@ -369,13 +369,15 @@ module _ (capacity : ℕ) (few : 1 + capacity < 2 ^ 32) where
       ∙ ap (λ x. with_row rows (pos x) a ∷ []) (row_count n places v ∙ sym z)
       ∙ ap (λ x. x ∷ []) (with_end 0 n places a (omega (arith, lt_of n capacity t, many n places v)))
 
-  full_after : (a b : ℤ) (n : ℕ) (places : Parts) → IsVector capacity (sized n places) → nat_lt n capacity ≡ false → state_after m.machines (call_of 12 a b) (m.rows (sized n places)) ≡ m.rows (sized n places)
+  full_after : (a b : ℤ) (n : ℕ) (places : Parts) → IsVector capacity (sized n places) → nat_lt n capacity ≡ false
+      → state_after m.machines (call_of 0 Push a b) (m.rows (sized n places)) ≡ m.rows (sized n places)
   full_after a b n places v t =
       let rows : List Row = array_rows 0 (take n places) in
       ap (λ x. (push_effect (nat_le capacity x) a rows).after ∷ []) (row_count n places v)
       ∙ ap (λ x. (push_effect x a rows).after ∷ []) (full_of capacity n t)
 
-  updated_push : (a b : ℤ) (n : ℕ) (places : Parts) → FitsSigned w64 a → IsVector capacity (sized n places) → nat_lt n capacity ≡ true → IsUpdated m (call_of 12 a b) (sized n places) ((0, C.Add (pos 1) ∷ []) ∷ (suc n, C.Put a ∷ []) ∷ [])
+  updated_push : (a b : ℤ) (n : ℕ) (places : Parts) → FitsSigned w64 a → IsVector capacity (sized n places) → nat_lt n capacity ≡ true
+      → IsUpdated m (call_of 0 Push a b) (sized n places) ((0, C.Add (pos 1) ∷ []) ∷ (suc n, C.Put a ∷ []) ∷ [])
   updated_push a b n places f v t =
       let l : n < capacity = lt_of n capacity t in
       let part : part_of places n ≡ word_of places n 0 ∷ [] = part_is capacity places n (place_widths n places v) l in
@@ -393,10 +395,11 @@ module _ (capacity : ℕ) (few : 1 + capacity < 2 ^ 32) where
         widths = (omega arith, refl, (omega (arith, l, many n places v), ap length part, tt));
         valid = subst (IsVector capacity) (sym same) made;
         rows = ap (λ p. vector_rows p ∷ []) same ∙ sym (pushed a b n places v t);
-        writes = ap (is_write 12) (push_replies a b n places v ∙ ap (λ x. if x then T.Done else T.Full) t);
+        writes = ap (is_write Push) (push_replies a b n places v ∙ ap (λ x. if x then T.Done else T.Full) t);
       }
 
-  popped_rows : (a b : ℤ) (n : ℕ) (places : Parts) → IsVector capacity (sized (suc n) places) → state_after m.machines (call_of 13 a b) (m.rows (sized (suc n) places)) ≡ array_rows 0 (take n places) ∷ []
+  popped_rows : (a b : ℤ) (n : ℕ) (places : Parts) → IsVector capacity (sized (suc n) places)
+      → state_after m.machines (call_of 0 Pop a b) (m.rows (sized (suc n) places)) ≡ array_rows 0 (take n places) ∷ []
   popped_rows a b n places v =
       let rows : List Row = array_rows 0 (take (suc n) places) in
       let z : 0 + n ≡ n = omega arith in
@@ -405,9 +408,9 @@ module _ (capacity : ℕ) (few : 1 + capacity < 2 ^ 32) where
       ∙ ap (λ x. without rows (pos x) ∷ []) (sym z)
       ∙ ap (λ x. x ∷ []) (without_end 0 n places (omega (arith, enough (suc n) places v)))
 
-  updated_pop : (a b : ℤ) (n : ℕ) (places : Parts) → IsVector capacity (sized n places) → IsUpdated m (call_of 13 a b) (sized n places) (pop_updates n)
+  updated_pop : (a b : ℤ) (n : ℕ) (places : Parts) → IsVector capacity (sized n places) → IsUpdated m (call_of 0 Pop a b) (sized n places) (pop_updates n)
   updated_pop a b zero places v =
-      left_alone (call_of 13 a b) 0 places v (sym (ap (λ x. (pop_effect x (array_rows 0 (take 0 places))).after ∷ []) (row_count 0 places v))) (ap (is_write 13) (pop_replies a b 0 places v))
+      left_alone (call_of 0 Pop a b) 0 places v (sym (ap (λ x. (pop_effect x (array_rows 0 (take 0 places))).after ∷ []) (row_count 0 places v))) (ap (is_write Pop) (pop_replies a b 0 places v))
   updated_pop a b (suc n) places v =
       let l : suc n ≤ capacity = small (suc n) places v in
       let same : (wrapped_sum (pos (suc n)) (negsuc 0) ∷ []) ∷ places ≡ sized n places = (λ i. (down n (omega (arith, l)) i ∷ []) ∷ places) in
@@ -417,7 +420,7 @@ module _ (capacity : ℕ) (few : 1 + capacity < 2 ^ 32) where
         widths = (omega arith, refl, tt);
         valid = subst (IsVector capacity) (sym same) (record { widths = v.widths; fits = ((small_fits n (omega (arith, l)), tt), v.fits.1); sized = omega (arith, l) });
         rows = ap (λ p. vector_rows p ∷ []) same ∙ sym (popped_rows a b n places v);
-        writes = ap (is_write 13) (pop_replies a b (suc n) places v);
+        writes = ap (is_write Pop) (pop_replies a b (suc n) places v);
       }
 
   abbrev Updated : Call → Type 0
@@ -425,17 +428,17 @@ module _ (capacity : ℕ) (few : 1 + capacity < 2 ^ 32) where
 
   updated : (call : Call) → VectorTakes call → Updated call
   updated = by_call Updated
-      (λ a b n places v. left_alone (call_of 0 a b) n places v refl (ap (is_write 0) (get_replies a b n places v) ∙ shown_writes_not (value_in (place_of capacity a) n places)))
-      (λ a b t e n places v. left_alone (call_of 3 a b) n places v refl refl)
-      (λ a b n places v. left_alone (call_of 8 a b) n places v refl refl)
+      (λ a b n places v. left_alone (call_of 0 Get a b) n places v refl (ap (is_write Get) (get_replies a b n places v) ∙ shown_writes_not (value_in (place_of capacity a) n places)))
+      (λ a b t e n places v. left_alone (call_of 0 TestWord a b) n places v refl refl)
+      (λ a b n places v. left_alone (call_of 0 Len a b) n places v refl refl)
       (λ a b f n places v.
-      let P : Bool → Type 0 = λ z. IsUpdated m (call_of 12 a b) (sized n places) (if z then (0, C.Add (pos 1) ∷ []) ∷ (suc n, C.Put a ∷ []) ∷ [] else []) in
+      let P : Bool → Type 0 = λ z. IsUpdated m (call_of 0 Push a b) (sized n places) (if z then (0, C.Add (pos 1) ∷ []) ∷ (suc n, C.Put a ∷ []) ∷ [] else []) in
       by_test (nat_lt n capacity)
       (λ t. subst P (sym t) (updated_push a b n places f v t))
-      (λ t. subst P (sym t) (left_alone (call_of 12 a b) n places v (sym (full_after a b n places v t)) (ap (is_write 12) (push_replies a b n places v ∙ ap (λ x. if x then T.Done else T.Full) t)))))
+      (λ t. subst P (sym t) (left_alone (call_of 0 Push a b) n places v (sym (full_after a b n places v t)) (ap (is_write Push) (push_replies a b n places v ∙ ap (λ x. if x then T.Done else T.Full) t)))))
       (λ a b n places v. updated_pop a b n places v)
     where
-      shown_writes_not : (o : Option ℤ) → is_write 0 (value_or_absent o) ≡ false
+      shown_writes_not : (o : Option ℤ) → is_write Get (value_or_absent o) ≡ false
       shown_writes_not None = refl
       shown_writes_not (Some x) = refl
 
@@ -479,16 +482,16 @@ module _ (capacity : ℕ) (few : 1 + capacity < 2 ^ 32) where
       (subst (λ x. k x ≡ None) q none, omega (arith, q)))
       (λ some s. rest (sym (ap (λ o. after_size o need) s) ∙ e))
 
-  get_missing : (k : Known) (n p : ℕ) (q : Option ℕ) (places : Parts) → IsVector capacity (sized n places) → IsPartOf k (sized n places) → vector_need (Some Get) q k ≡ Some p → Missing k p
+  get_missing : (k : Known) (n p : ℕ) (q : Option ℕ) (places : Parts) → IsVector capacity (sized n places) → IsPartOf k (sized n places) → vector_need Get q k ≡ Some p → Missing k p
   get_missing k n p None places v part e = none_is_not p e
   get_missing k n p (Some i) places v part e =
-      first_or k n p places (place_need (Some Get) (Some i) k) part
+      first_or k n p places (place_need Get (Some i) k) part
       (λ g. by_test (nat_lt i n)
       (λ t. missing_at k (suc i) p (omega (arith, lt_of i n t, small n places v)) (rw t at g))
       (λ t. none_is_not p (rw t at g)))
       e
 
-  pop_missing : (k : Known) (n p : ℕ) (q : Option ℕ) → n ≤ capacity → place_need (Some Pop) q k n ≡ Some p → Missing k p
+  pop_missing : (k : Known) (n p : ℕ) (q : Option ℕ) → n ≤ capacity → place_need Pop q k n ≡ Some p → Missing k p
   pop_missing k zero p q l e = none_is_not p e
   pop_missing k (suc n) p q l e = missing_at k (suc n) p l e
 
@@ -498,10 +501,10 @@ module _ (capacity : ℕ) (few : 1 + capacity < 2 ^ 32) where
   needs_at : (call : Call) → VectorTakes call → NeedsAt call
   needs_at = by_call NeedsAt
       (λ a b k n p places v part e. get_missing k n p (place_of capacity a) places v part e)
-      (λ a b t s k n p places v part e. first_or k n p places (place_need (Some TestWord) (place_of capacity a) k) part (λ g. none_is_not p g) e)
-      (λ a b k n p places v part e. first_or k n p places (place_need (Some Len) (place_of capacity a) k) part (λ g. none_is_not p g) e)
-      (λ a b f k n p places v part e. first_or k n p places (place_need (Some Push) (place_of capacity a) k) part (λ g. none_is_not p g) e)
-      (λ a b k n p places v part e. first_or k n p places (place_need (Some Pop) (place_of capacity a) k) part (pop_missing k n p (place_of capacity a) (small n places v)) e)
+      (λ a b t s k n p places v part e. first_or k n p places (place_need TestWord (place_of capacity a) k) part (λ g. none_is_not p g) e)
+      (λ a b k n p places v part e. first_or k n p places (place_need Len (place_of capacity a) k) part (λ g. none_is_not p g) e)
+      (λ a b f k n p places v part e. first_or k n p places (place_need Push (place_of capacity a) k) part (λ g. none_is_not p g) e)
+      (λ a b k n p places v part e. first_or k n p places (place_need Pop (place_of capacity a) k) part (pop_missing k n p (place_of capacity a) (small n places v)) e)
 
   size_ready : (k : Known) (n : ℕ) (places : Parts) (need : ℕ → Option ℕ) → IsPartOf k (sized n places) → after_size (size_known k) need ≡ None → IsSized k n need
   size_ready k n places need part e =
@@ -519,23 +522,24 @@ module _ (capacity : ℕ) (few : 1 + capacity < 2 ^ 32) where
   abbrev ItemsAt : Call → Type 0
   ItemsAt call = (k : Known) (n : ℕ) (places : Parts) → IsPartOf k (sized n places) → m.need call k ≡ None → m.items call k ≡ own_items call n
 
-  get_items_at : (q : Option ℕ) (a b : ℤ) (k : Known) (n : ℕ) (places : Parts) → IsPartOf k (sized n places) → vector_need (Some Get) q k ≡ None → vector_items capacity (Some Get) q a b (same_size k) ≡ vector_items capacity (Some Get) q a b n
+  get_items_at : (q : Option ℕ) (a b : ℤ) (k : Known) (n : ℕ) (places : Parts) → IsPartOf k (sized n places) → vector_need Get q k ≡ None
+      → vector_items capacity Get q a b (same_size k) ≡ vector_items capacity Get q a b n
   get_items_at None a b k n places part e = refl
-  get_items_at (Some i) a b k n places part e = ap (get_items i) (size_same k n (size_ready k n places (place_need (Some Get) (Some i) k) part e).size)
+  get_items_at (Some i) a b k n places part e = ap (get_items i) (size_same k n (size_ready k n places (place_need Get (Some i) k) part e).size)
 
   items_at : (call : Call) → VectorTakes call → ItemsAt call
   items_at = by_call ItemsAt
       (λ a b k n places part e. get_items_at (place_of capacity a) a b k n places part e)
-      (λ a b t s k n places part e. ap (λ x. test_items (test_of a) b (pos x)) (size_same k n (size_ready k n places (place_need (Some TestWord) (place_of capacity a) k) part e).size))
+      (λ a b t s k n places part e. ap (λ x. test_items (test_of a) b (pos x)) (size_same k n (size_ready k n places (place_need TestWord (place_of capacity a) k) part e).size))
       (λ a b k n places part e. refl)
-      (λ a b f k n places part e. ap (push_items capacity) (size_same k n (size_ready k n places (place_need (Some Push) (place_of capacity a) k) part e).size))
-      (λ a b k n places part e. ap pop_items (size_same k n (size_ready k n places (place_need (Some Pop) (place_of capacity a) k) part e).size))
+      (λ a b f k n places part e. ap (push_items capacity) (size_same k n (size_ready k n places (place_need Push (place_of capacity a) k) part e).size))
+      (λ a b k n places part e. ap pop_items (size_same k n (size_ready k n places (place_need Pop (place_of capacity a) k) part e).size))
 
   -- each item names a known part
   abbrev Knows : Known → List Item → Type 0
   Knows k is = EachKnown (homes_from 0 (suc capacity)) 0 k is
 
-  get_knows : (k : Known) (n i : ℕ) → n ≤ capacity → IsSized k n (place_need (Some Get) (Some i) k) → Knows k (get_items i n)
+  get_knows : (k : Known) (n i : ℕ) → n ≤ capacity → IsSized k n (place_need Get (Some i) k) → Knows k (get_items i n)
   get_knows k n i l s =
       by_test (nat_lt i n)
       (λ t.
@@ -550,13 +554,14 @@ module _ (capacity : ℕ) (few : 1 + capacity < 2 ^ 32) where
   push_knows : (k : Known) (n : ℕ) → IsSome (k 0) → Knows k (push_items capacity n)
   push_knows k n s = by_test (nat_lt n capacity) (λ t. rw t (here 0 0 (omega arith) refl, s, tt)) (λ t. rw t (here 0 0 (omega arith) refl, s, tt))
 
-  pop_knows : (k : Known) (n : ℕ) (q : Option ℕ) → n ≤ capacity → IsSized k n (place_need (Some Pop) q k) → Knows k (pop_items n)
+  pop_knows : (k : Known) (n : ℕ) (q : Option ℕ) → n ≤ capacity → IsSized k n (place_need Pop q k) → Knows k (pop_items n)
   pop_knows k zero q l s = (here 0 0 (omega arith) refl, s.some, tt)
   pop_knows k (suc n) q l s = (here 0 0 (omega arith) refl, s.some, (here (suc n) 0 l refl, asked_none (suc n) (k (suc n)) s.done, tt))
 
-  get_knows_at : (q : Option ℕ) (a b : ℤ) (k : Known) (n : ℕ) (places : Parts) → IsVector capacity (sized n places) → IsPartOf k (sized n places) → vector_need (Some Get) q k ≡ None → Knows k (vector_items capacity (Some Get) q a b n)
+  get_knows_at : (q : Option ℕ) (a b : ℤ) (k : Known) (n : ℕ) (places : Parts) → IsVector capacity (sized n places) → IsPartOf k (sized n places) → vector_need Get q k ≡ None
+      → Knows k (vector_items capacity Get q a b n)
   get_knows_at None a b k n places v part e = tt
-  get_knows_at (Some i) a b k n places v part e = get_knows k n i (small n places v) (size_ready k n places (place_need (Some Get) (Some i) k) part e)
+  get_knows_at (Some i) a b k n places v part e = get_knows k n i (small n places v) (size_ready k n places (place_need Get (Some i) k) part e)
 
   abbrev KnowsAt : Call → Type 0
   KnowsAt call = (k : Known) (n : ℕ) (places : Parts) → IsVector capacity (sized n places) → IsPartOf k (sized n places) → m.need call k ≡ None → EachKnown m.homes call.object k (own_items call n)
@@ -564,16 +569,16 @@ module _ (capacity : ℕ) (few : 1 + capacity < 2 ^ 32) where
   knows_at : (call : Call) → VectorTakes call → KnowsAt call
   knows_at = by_call KnowsAt
       (λ a b k n places v part e. get_knows_at (place_of capacity a) a b k n places v part e)
-      (λ a b t s k n places v part e. test_knows k (test_of a) b n (size_ready k n places (place_need (Some TestWord) (place_of capacity a) k) part e).some)
-      (λ a b k n places v part e. (here 0 0 (omega arith) refl, (size_ready k n places (place_need (Some Len) (place_of capacity a) k) part e).some, tt))
-      (λ a b f k n places v part e. push_knows k n (size_ready k n places (place_need (Some Push) (place_of capacity a) k) part e).some)
-      (λ a b k n places v part e. pop_knows k n (place_of capacity a) (small n places v) (size_ready k n places (place_need (Some Pop) (place_of capacity a) k) part e))
+      (λ a b t s k n places v part e. test_knows k (test_of a) b n (size_ready k n places (place_need TestWord (place_of capacity a) k) part e).some)
+      (λ a b k n places v part e. (here 0 0 (omega arith) refl, (size_ready k n places (place_need Len (place_of capacity a) k) part e).some, tt))
+      (λ a b f k n places v part e. push_knows k n (size_ready k n places (place_need Push (place_of capacity a) k) part e).some)
+      (λ a b k n places v part e. pop_knows k n (place_of capacity a) (small n places v) (size_ready k n places (place_need Pop (place_of capacity a) k) part e))
 
   -- each predicate names the one word of the size
   abbrev Inside : List Item → Type 0
   Inside is = EachInside (replicate (suc capacity) 1) is
 
-  get_inside : (q : Option ℕ) (a b : ℤ) (n : ℕ) → Inside (vector_items capacity (Some Get) q a b n)
+  get_inside : (q : Option ℕ) (a b : ℤ) (n : ℕ) → Inside (vector_items capacity Get q a b n)
   get_inside None a b n = tt
   get_inside (Some i) a b n = by_test (nat_lt i n) (λ t. rw t (omega arith, tt)) (λ t. rw t (omega arith, tt))
 

@@ -1,6 +1,5 @@
 //! The type of a vector.
 ghost use Rattle.std.specs.Prelude.{◌≡◌, ◌<◌, ◌≤◌, ◌+◌, ◌^◌, [], ◌∷◌, pos, IfOk};
-ghost use Rattle.sto_model.specs.Operations.{operation_of};
 ghost use Rattle.sto_type.specs.Known.{known, word_known};
 ghost use Rattle.sto_type.specs.Plans.{planned};
 ghost use Rattle.sto_array.specs.Arrayed.{place_of};
@@ -13,7 +12,7 @@ use crate::answers::{
 };
 use std::alloc::Global;
 use sto_array::{array_rows_at, place_in};
-use sto_model::{Call, Operation, Shape, State, takes_code};
+use sto_model::{Call, Operation, Shape, State};
 use sto_part::{Contents, Naming, NoMemory, PartWords};
 use sto_type::{Answer, AnswerPool, Home, KnownParts, TxType};
 
@@ -69,7 +68,7 @@ impl TxType for TVector {
     fn takes(&self, call: &Call) -> bool {
         let _first = call.a;
         let _second = call.b;
-        call.object == 0 && takes_code(Shape::Vector { capacity: 0 }, call.code, call.a)
+        call.object == 0 && Shape::Vector { capacity: 0 }.takes_call(call)
     }
 
     fn opening(&self, alloc: Global) -> Result<Contents, NoMemory> {
@@ -128,10 +127,10 @@ fn size_in(capacity: u32, word: i64) -> u32
 
 // The answer where the size is not known.
 fn first_answer(pool: &mut AnswerPool, capacity: u32, call: &Call) -> Result<Answer, NoMemory>
-    ensures { IfOk result (λ a. planned a ≡ first_plan (operation_of call.now.code) (place_of capacity call.now.a)) }
+    ensures { IfOk result (λ a. planned a ≡ first_plan call.now.operation (place_of capacity call.now.a)) }
 {
-    match (Operation::from_code(call.code), place_in(capacity, call.a)) {
-        (Some(Operation::Get), None) => outside(pool),
+    match (call.operation, place_in(capacity, call.a)) {
+        (Operation::Get, None) => outside(pool),
         _ => Ok(Answer::Need(0)),
     }
 }
@@ -146,18 +145,18 @@ fn answer(
 ) -> Result<Answer, NoMemory>
     requires few { 1 + capacity < 2 ^ 32 }
     requires range { size ≤ capacity }
-    ensures { IfOk result (λ a. planned a ≡ vector_plan capacity (operation_of call.now.code) (place_of capacity call.now.a) call.now.a
+    ensures { IfOk result (λ a. planned a ≡ vector_plan capacity call.now.operation (place_of capacity call.now.a) call.now.a
         call.now.b size (λ p. word_known (known cache.now p))) }
 {
-    match Operation::from_code(call.code) {
-        Some(Operation::Get) => match place_in(capacity, call.a) {
+    match call.operation {
+        Operation::Get => match place_in(capacity, call.a) {
             None => outside(pool),
             Some(place) => get_answer(pool, place, size, cache.first_word(place_part(place))),
         },
-        Some(Operation::Test) => size_answer(pool, call.a, call.b, size),
-        Some(Operation::Len) => len_answer(pool, size),
-        Some(Operation::Push) => push_answer(pool, capacity, size, call.a),
-        Some(Operation::Pop) => pop_answer(pool, size, cache.first_word(size)),
+        Operation::Test => size_answer(pool, call.a, call.b, size),
+        Operation::Len => len_answer(pool, size),
+        Operation::Push => push_answer(pool, capacity, size, call.a),
+        Operation::Pop => pop_answer(pool, size, cache.first_word(size)),
         _ => outside(pool),
     }
 }

@@ -1,6 +1,8 @@
 -- Worked cases of version 2, computed on the definitions: their expected texts were written by hand.
 use Rattle.std.proofs.Common.{◌≡◌, pos, negsuc, List, [], ◌∷◌, refl, Some, codes}
 use Rattle.std.specs.Fmt.{digits}
+use Rattle.sto_model.specs.Calls.{call_of}
+use Rattle.sto_model.specs.declared.operation.Operation.TheVariants as model
 use Rattle.sto_model.specs.declared.shape.Shape.TheVariants.{Single, Array, Hash}
 use Rattle.sto_lang.specs.declared.arg.Arg.TheVariants.{Num}
 use Rattle.sto_lang.specs.Statements.{Nothing, Ask}
@@ -14,7 +16,7 @@ one_get =
       version = 1;
       declarations = record { name = codes "a"; shape = Single (pos 5); number = 0 } ∷ [];
       names = codes "t0" ∷ [];
-      threads = (record { variables = codes "x" ∷ []; body = Ask (Some 0) 0 0 (Num (pos 0)) (Num (pos 0)) Nothing; weight = 2 } ∷ []) ∷ [];
+      threads = (record { variables = codes "x" ∷ []; body = Ask (Some 0) 0 model.Get (Num (pos 0)) (Num (pos 0)) Nothing; weight = 2 } ∷ []) ∷ [];
       schedule = Some (record { thread = 0; steps = 3 } ∷ []);
     }
 
@@ -33,18 +35,18 @@ three_objects =
     record { name = codes "m"; shape = Hash 1 1; number = 2 } ∷ record { name = codes "a"; shape = Single (pos 5); number = 0 }
     ∷ record { name = codes "row"; shape = Array 4 (pos 0); number = 1 } ∷ []
 
-get_of_box : call_text three_objects (record { object = 0; code = 0; a = pos 0; b = pos 0 }) ≡ codes "get a"
+get_of_box : call_text three_objects (call_of 0 model.Get (pos 0) (pos 0)) ≡ codes "get a"
 unfolding digits
 get_of_box = refl
 
-set_in_array : call_text three_objects (record { object = 1; code = 1; a = pos 3; b = negsuc 6 }) ≡ codes "set row 3 -7"
+set_in_array : call_text three_objects (call_of 1 model.Set (pos 3) (negsuc 6)) ≡ codes "set row 3 -7"
 unfolding digits
 set_in_array = refl
 
-comparison_of_box : call_text three_objects (record { object = 0; code = 3; a = pos 2; b = pos 9 }) ≡ codes "test a lt 9"
+comparison_of_box : call_text three_objects (call_of 0 model.Test (pos 2) (pos 9)) ≡ codes "test a lt 9"
 unfolding digits
 comparison_of_box = refl
 
-length_of_hash : call_text three_objects (record { object = 2; code = 8; a = pos 0; b = pos 0 }) ≡ codes "len m"
+length_of_hash : call_text three_objects (call_of 2 model.Len (pos 0) (pos 0)) ≡ codes "len m"
 unfolding digits
 length_of_hash = refl

@@ -12,6 +12,8 @@ use Rattle.sto_syntax.specs.Kinds.{Kind, Box, Counter}
 use Rattle.sto_lang.specs.Shapes.{kind_of}
 use Rattle.sto_syntax.specs.declared.declared.Declared.{Declared}
 use Rattle.sto_syntax.specs.declared.declared.Declared.TheVariants as declares
+use Rattle.sto_model.specs.declared.operation.Operation.{Operation}
+use Rattle.sto_model.specs.declared.operation.Operation.TheVariants as model
 use Rattle.sto_syntax.specs.declared.operation.OperationWord.{OperationWord}
 use Rattle.sto_syntax.specs.declared.operation.OperationWord.TheVariants.{Get, Set, Add, Compare, Take, Put, Remove, Has, Len, Next, Count, Scan, Push, Pop}
 use Rattle.sto_syntax.specs.Operations.{operation_word, test_word}
@@ -107,13 +109,22 @@ abbrev pub test_with : Arg → Test
 test_with (Num (pos n)) = if n == 0 then Eq else if n == 1 then Ne else if n == 2 then Lt else if n == 3 then Le else if n == 4 then Gt else Ge
 test_with other = Eq
 
--- the operation of a code
-abbrev pub operation_with : ℕ → Arg → OperationWord
-operation_with code a =
-    if code == 0 then Get else if code == 1 then Set else if code == 2 then Add else if code == 3 then Compare (test_with a)
-    else if code == 4 then Take else if code == 5 then Put else if code == 6 then Remove else if code == 7 then Has
-    else if code == 8 then Len else if code == 9 then Next else if code == 10 then Count else if code == 11 then Scan
-    else if code == 12 then Push else Pop
+-- the word of an operation; that of a test has its comparison
+abbrev pub word_with : Operation → Arg → OperationWord
+word_with model.Get a = Get
+word_with model.Set a = Set
+word_with model.Add a = Add
+word_with model.Test a = Compare (test_with a)
+word_with model.Take a = Take
+word_with model.Put a = Put
+word_with model.Remove a = Remove
+word_with model.Has a = Has
+word_with model.Len a = Len
+word_with model.Next a = Next
+word_with model.Count a = Count
+word_with model.Scan a = Scan
+word_with model.Push a = Push
+word_with model.Pop a = Pop
 
 -- the arguments that an operation has on an object of a kind
 abbrev pub arguments_of : OperationWord → Kind → Arg → Arg → List Arg
@@ -146,8 +157,8 @@ option_list (Some x) = x ∷ []
 
 abbrev pub statement_lines : List Declaration → List (List ℕ) → Statements → List Form
 statement_lines ds vs Nothing = []
-statement_lines ds vs (Ask to object code a b rest) =
-    option_list (option_map (call_on vs (option_map (variable_name vs) to) (operation_with code a) a b) (with_number object ds))
+statement_lines ds vs (Ask to object operation a b rest) =
+    option_list (option_map (call_on vs (option_map (variable_name vs) to) (word_with operation a) a b) (with_number object ds))
     ++ statement_lines ds vs rest
 statement_lines ds vs (Sum to a b rest) = SumLine (variable_name vs to) (operand vs a) (operand vs b) ∷ statement_lines ds vs rest
 statement_lines ds vs (Diff to a b rest) = DiffLine (variable_name vs to) (operand vs a) (operand vs b) ∷ statement_lines ds vs rest
@@ -210,7 +221,7 @@ text_of file = flat_map line_text (lines_for file)
 
 -- a call as a statement: its arguments are numbers, and no variable takes its reply
 abbrev pub statement_of : Call → Statements
-statement_of call = Ask None call.object call.code (Num call.a) (Num call.b) Nothing
+statement_of call = Ask None call.object call.operation (Num call.a) (Num call.b) Nothing
 
 -- the text of a call: the words of its statement
 abbrev pub call_text : List Declaration → Call → List ℕ

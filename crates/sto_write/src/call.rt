@@ -22,7 +22,7 @@ pub fn call_text(alloc: Global, decls: &[Decl], call: Call) -> Result<Text, NoMe
     let no_variables = Names::of(alloc, List::new(alloc))?;
     let ask = Ask {
         object: call.object,
-        code: call.code,
+        operation: call.operation,
         a: Arg::Num(call.a),
         b: Arg::Num(call.b),
     };

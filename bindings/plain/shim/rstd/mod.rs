@@ -8,6 +8,8 @@ pub mod snapshot;
 pub mod sync;
 pub mod vec;
 
+pub use std::fmt;
+
 pub mod hash {
     pub use std::hash::{Hash, Hasher};
 }

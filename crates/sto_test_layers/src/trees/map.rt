@@ -2,7 +2,7 @@
 use crate::trees::asking::no_memory;
 use std::alloc::{AllocError, Global};
 use std::collections::BTreeMap;
-use sto_model::{Call, Pairs, Reply};
+use sto_model::{Call, Operation, Pairs, Reply};
 
 /// What a tree that takes so many pairs is to answer to a call that it takes, and its pairs after it.
 pub(crate) fn answer(
@@ -11,20 +11,21 @@ pub(crate) fn answer(
     most: usize,
     call: &Call,
 ) -> Result<Reply, AllocError> {
-    match call.code {
-        0 => Ok(match map.get(&call.a) {
+    match call.operation {
+        Operation::Get => Ok(match map.get(&call.a) {
             Some(value) => Reply::Value(*value),
             None => Reply::Absent,
         }),
-        5 => put(map, most, call.a, call.b),
-        6 => Ok(Reply::Flag(map.remove(&call.a).is_some())),
-        8 => Ok(Reply::Value(map.len() as i64)),
-        9 => Ok(match map.range(call.a..).next() {
+        Operation::Put => put(map, most, call.a, call.b),
+        Operation::Remove => Ok(Reply::Flag(map.remove(&call.a).is_some())),
+        Operation::Len => Ok(Reply::Value(map.len() as i64)),
+        Operation::Next => Ok(match map.range(call.a..).next() {
             Some((key, _)) => Reply::Value(*key),
             None => Reply::Absent,
         }),
-        10 => Ok(Reply::Value(i64::from(between(alloc, map, call.a, call.b)?.len()))),
-        _ => Ok(Reply::Pairs(between(alloc, map, call.a, call.b)?)),
+        Operation::Count => Ok(Reply::Value(i64::from(between(alloc, map, call.a, call.b)?.len()))),
+        Operation::Scan => Ok(Reply::Pairs(between(alloc, map, call.a, call.b)?)),
+        _ => Ok(Reply::Absent),
     }
 }
 

@@ -8,7 +8,7 @@ use rand_core::utils::NextWord;
 use rand_pcg::Pcg32;
 use std::alloc::{AllocError, Global};
 use std::collections::BTreeMap;
-use sto_model::{Call, Reply};
+use sto_model::{Call, Operation, Reply};
 use sto_tree::TTree;
 
 /// What the calls of a walk were answered.
@@ -74,13 +74,13 @@ fn random_call(random: &mut Pcg32, span: u32) -> Call
     let key = random_key(random, span);
     let other = i64::from(random.next_word() % 100);
     match random.next_word() % 20 {
-        0..8 => call(5, key, other),
-        8..12 => call(6, key, 0),
-        12 | 13 => call(0, key, 0),
-        14 => call(8, 0, 0),
-        15 | 16 => call(9, key, 0),
-        17 | 18 => call(10, key, key.saturating_add(other)),
-        _ => call(11, key, key.saturating_add(other)),
+        0..8 => call(Operation::Put, key, other),
+        8..12 => call(Operation::Remove, key, 0),
+        12 | 13 => call(Operation::Get, key, 0),
+        14 => call(Operation::Len, 0, 0),
+        15 | 16 => call(Operation::Next, key, 0),
+        17 | 18 => call(Operation::Count, key, key.saturating_add(other)),
+        _ => call(Operation::Scan, key, key.saturating_add(other)),
     }
 }
 

@@ -10,7 +10,7 @@ ghost use Rattle.sto_type.specs.Plans.{Say, planned};
 
 use std::alloc::Global;
 use sto_item::{Item, Items, Updates};
-use sto_model::{Call, Pairs, Reply, Rows, State};
+use sto_model::{Call, Operation, Pairs, Reply, Rows, Shape, State};
 use sto_part::{Change, Contents, Naming, NoMemory, Update};
 use sto_type::{Answer, AnswerPool, Home, KnownParts, TxType};
 
@@ -63,7 +63,7 @@ impl TxType for Split {
     fn takes(&self, call: &Call) -> bool {
         let _first = call.a;
         let _second = call.b;
-        call.object == 0 && call.code <= 1
+        call.object == 0 && Shape::Single(0).takes_call(call)
     }
 
     fn opening(&self, alloc: Global) -> Result<Contents, NoMemory> {
@@ -88,20 +88,21 @@ impl TxType for Split {
         call: &Call,
         cache: &KnownParts<'_>,
     ) -> Result<Answer, NoMemory> {
-        if call.code == 0 {
-            let Some(first) = cache.get(0) else {
-                return Ok(Answer::Need(0));
-            };
-            let Some(second) = cache.get(1) else {
-                return Ok(Answer::Need(1));
-            };
-            both_read(alloc, first[0], second[0])
-        } else {
-            Ok(Answer::Done {
+        match call.operation {
+            Operation::Get => {
+                let Some(first) = cache.get(0) else {
+                    return Ok(Answer::Need(0));
+                };
+                let Some(second) = cache.get(1) else {
+                    return Ok(Answer::Need(1));
+                };
+                both_read(alloc, first[0], second[0])
+            }
+            _ => Ok(Answer::Done {
                 reply: Reply::Done,
                 items: Items::new(alloc),
                 updates: put_both(alloc, call.a, call.b)?,
-            })
+            }),
         }
     }
 }

@@ -15,7 +15,7 @@ pub returns-clause-text : goal.returns-clause-text
 returns-clause-text c =
     let file = view c.in_ok-file.file in
     IfOk-weaker c.orders_text.result _ _
-    (λ text h. (file, c.in_ok-file.ensures.file, subst (λ (by : SameBy). TellsOrders by c.args.json file text.items) c.same_by.ensures h))
+    (λ text h. (file, c.in_ok-file.ensures.file, subst (λ (by : SameBy). TellsOrders by c.args.states c.args.json file text.items) c.same_by.ensures h))
     c.orders_text.ensures.text
 
 pub returns-clause-fault : goal.returns-clause-fault

@@ -5,6 +5,7 @@ use Rattle.sto_cli.proofs.explored.orders_text.Goals as goal
 
 pub returns-in_ok-reports_text-in-Ok-clause-text : goal.returns-in_ok-reports_text-in-Ok-clause-text
 returns-in_ok-reports_text-in-Ok-clause-text c = record {
+  allowed = c.in-Ok.ensures.allowed;
   reports = c.in-Ok.reports.items;
   of_file = c.in-Ok.ensures.reports;
   complete = c.in-Ok.ensures.complete;

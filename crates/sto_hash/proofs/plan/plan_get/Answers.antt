@@ -63,7 +63,7 @@ returns-in-None-found c =
     let p = simp to_z-of_z at c.key_part_of-part.ensures in
     let at = simp to_z-of_z at c.in-None-found.ensures in
     IfOk-weaker c.absent_answer.result _ _
-    (λ a h. absent_on c.args.buckets c.args.places c.requires.some c.args.call.now (known c.args.cache.now) c.key_part_of-part.result p c.in-Some.keys.now c.in-Some.ensures c.requires.takes.object c.requires.code a at h)
+    (λ a h. absent_on c.args.buckets c.args.places c.requires.some c.args.call.now (known c.args.cache.now) c.key_part_of-part.result p c.in-Some.keys.now c.in-Some.ensures c.requires.takes.object c.requires.operation a at h)
     c.absent_answer.ensures
 
 pub returns-in-Some-first_word : goal.returns-in-Some-first_word
@@ -74,5 +74,5 @@ returns-in-Some-first_word c =
     let at = simp to_z-of_z at c.in-Some-found.ensures in
     let said = simp to_z-of_z at c.present_answer.ensures in
     IfOk-weaker c.present_answer.result _ _
-    (λ a h. present_on c.args.buckets c.args.places c.requires.some c.args.call.now (known c.args.cache.now) c.key_part_of-part.result p c.in-Some.keys.now c.in-Some.ensures c.requires.takes.object c.requires.code c.in-Some-found.place c.in-Some-first_word.value a at c.in-Some-first_word.ensures h)
+    (λ a h. present_on c.args.buckets c.args.places c.requires.some c.args.call.now (known c.args.cache.now) c.key_part_of-part.result p c.in-Some.keys.now c.in-Some.ensures c.requires.takes.object c.requires.operation c.in-Some-found.place c.in-Some-first_word.value a at c.in-Some-first_word.ensures h)
     said

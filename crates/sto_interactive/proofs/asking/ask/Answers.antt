@@ -157,7 +157,7 @@ returns-in-Err-Aborted-clause-asked g c calls rs begun w =
     let of = same_words s c.pass-pass.result.shared.now.table.shared.key.passes c.ask.new.cells.shared.now.table.shared.key.passes b d c.in-Err-Aborted.ensures.same (subst (λ (e : Pass). IsOf s e) (sym c.pass-pass.ensures.seat) w.of) in
     let same = ap (λ (r : Rest g.row.T.Denot g.T.Naming). r.seat) c.new.ensures.rest ∙ c.rest-in-Err-Aborted.ensures in
     let h = (stopped t c.pass-pass.result.shared.now.table.shared.key.passes ty calls rs c.args.call c.go_on-live.result c.ask.new.self begun b.me.0.view c.ask.new.cells.seat.me.0.view c.in-Err-Aborted.field-0 (Aborted c.in-Err-Aborted.field-0-0) c.in-Err-Aborted.field-0-is (c.in-Err-Aborted.ensures.asked ty calls rs begun on)) in
-    aborted t ty s (calls ++ c.args.call ∷ []) begun c.new.result d (record { body = c.ask.new.self.attempt.log.body; replies = c.ask.new.self.attempt.log.replies; verdict = c.in-Err-Aborted.field-0-0 }) c.pass-pass.result.shared.now.table.shared.key.passes c.pass-pass.ensures.passes c.new.ensures.free same of h.0 h.1
+    aborted t ty s (calls ++ c.args.call ∷ []) begun c.new.result d (record { body = c.ask.new.self.attempt.log.body; replies = c.ask.new.self.attempt.log.table.replies; verdict = c.in-Err-Aborted.field-0-0 }) c.pass-pass.result.shared.now.table.shared.key.passes c.pass-pass.ensures.passes c.new.ensures.free same of h.0 h.1
 
 pub returns-in-Err-NoMemory-clause-asked : goal.returns-in-Err-NoMemory-clause-asked
 returns-in-Err-NoMemory-clause-asked g c calls rs begun w =

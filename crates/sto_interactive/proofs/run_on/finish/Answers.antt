@@ -1,7 +1,6 @@
 -- Each step is one of the commit of a transaction.
 use Rattle.std.proofs.Common.{◌≡◌, ◌<◌, ℕ, Ok, Option, refl, sym, ap, ◌∙◌, subst}
 use Rattle.sto_attempt_log.specs.declared.verdict.Verdict.{Verdict}
-use Rattle.sto_attempt_log.specs.declared.log.Log.{Log}
 use Rattle.sto_attempt_log.specs.Remaining.{commit_left}
 use Rattle.sto_attempt_log.specs.CommitPhases.{Deal}
 use Rattle.sto_type.specs.Traits.{of_type}
@@ -13,7 +12,7 @@ use Rattle.sto_transaction.proofs.Steps.{turn_of, commits_on, ended_as}
 use Rattle.sto_interactive.proofs.run_on.finish.Goals as goal
 
 pub loop-verdict-init : goal.loop-verdict-init
-loop-verdict-init g c = record { commits = λ ty f begun rest h. h; log = refl; same = g.met.C.Cells.same_as_itself c.args.cells.now }
+loop-verdict-init g c = record { commits = λ ty f begun rest h. h; replies = refl; same = g.met.C.Cells.same_as_itself c.args.cells.now }
 
 pub step-requires : goal.step-requires
 step-requires g c =
@@ -30,7 +29,7 @@ returns-in-Some-clause-ended g c ty f begun rest h =
     let v = g.C.Cells.view c.loop-verdict.cells in
     let w = g.C.Cells.view c.step.new.cells in
     let k = subst (λ (n : ℕ). Advances t g.B.Body n r.commit_phase r s v w c.step.result) (g.met.C.Cells.same_passes c.args.cells.now c.loop-verdict.cells c.loop-verdict.invariant.same) c.step.ensures.advances in
-    ended_as g.T.TxType.meaning g.T.Naming.valid g.T.Naming.sizes g.B.Body.script g.B.Body.then g.B.Body.left g.B.Body.may_ask first ty f s.log.body c.end-heard.result.0.body s.log.replies c.end-heard.result.0.replies
+    ended_as g.T.TxType.meaning g.T.Naming.valid g.T.Naming.sizes g.B.Body.script g.B.Body.then g.B.Body.left g.B.Body.may_ask first ty f s.log.body c.end-heard.result.body s.log.table.replies c.end-heard.result.replies
     c.in-Some.verdict begun w c.end-heard.ensures.body c.end-heard.ensures.replies
     (subst (λ (x : Option Verdict). HasTurned g.T.TxType.meaning g.T.Naming.valid g.T.Naming.sizes g.B.Body.script g.B.Body.then g.B.Body.left g.B.Body.may_ask first ty f (Ok (turn_of x)) (Committing s) begun w) c.in-Some.is
     (commits_on g.T.TxType.meaning g.T.Naming.valid g.T.Naming.sizes g.B.Body.script g.B.Body.then g.B.Body.left g.B.Body.may_ask first ty f r s begun v w c.step.result rest
@@ -38,7 +37,7 @@ returns-in-Some-clause-ended g c ty f begun rest h =
 
 pub returns-in-Some-clause-replies : goal.returns-in-Some-clause-replies
 returns-in-Some-clause-replies g c =
-    c.end-heard.ensures.replies ∙ ap (λ (r : Ready g.row.T.Denot g.row.B.Denot). r.log.replies) c.step.ensures.advances.kept ∙ ap (λ (l : Log g.row.T.Denot g.row.B.Denot). l.replies) c.loop-verdict.invariant.log
+    c.end-heard.ensures.replies ∙ ap (λ (r : Ready g.row.T.Denot g.row.B.Denot). r.log.table.replies) c.step.ensures.advances.kept ∙ c.loop-verdict.invariant.replies
 
 pub returns-in-Some-clause-same : goal.returns-in-Some-clause-same
 returns-in-Some-clause-same g c = g.met.C.Cells.same_through c.args.cells.now c.loop-verdict.cells c.step.new.cells c.loop-verdict.invariant.same c.step.ensures.same
@@ -66,6 +65,6 @@ loop-verdict-preserved g c =
           (subst (λ (x : Option Verdict). HasTurned g.T.TxType.meaning g.T.Naming.valid g.T.Naming.sizes g.B.Body.script g.B.Body.then g.B.Body.left g.B.Body.may_ask first ty f (Ok (turn_of x)) (Committing s) begun w) c.in_default.is
           (commits_on g.T.TxType.meaning g.T.Naming.valid g.T.Naming.sizes g.B.Body.script g.B.Body.then g.B.Body.left g.B.Body.may_ask first ty f r s begun v w c.step.result rest
           (c.loop-verdict.invariant.commits ty f begun rest h) k.kept k.event k.said k.space k.alone k.by)).1;
-      log = ap (λ (x : Ready g.row.T.Denot g.row.B.Denot). x.log) k.kept ∙ c.loop-verdict.invariant.log;
+      replies = ap (λ (x : Ready g.row.T.Denot g.row.B.Denot). x.log.table.replies) k.kept ∙ c.loop-verdict.invariant.replies;
       same = g.met.C.Cells.same_through c.args.cells.now c.loop-verdict.cells c.step.new.cells c.loop-verdict.invariant.same c.step.ensures.same;
     }

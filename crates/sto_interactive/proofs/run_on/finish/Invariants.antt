@@ -15,7 +15,7 @@ invariant-loop-verdict g l = record {
       (ty : g.row.T.Denot) (f : Behaviour) (begun : View) → IsAtRest (g.T.TxType.meaning ty) (g.T.Naming.sizes ty) begun
       → Commits g.T.TxType.meaning g.T.Naming.valid g.T.Naming.sizes g.B.Body.script g.B.Body.then g.B.Body.left g.B.Body.may_ask (g.C.Cells.passes l.fn.cells) ty f l.fn.ready begun (g.C.Cells.view l.fn.cells)
       → Commits g.T.TxType.meaning g.T.Naming.valid g.T.Naming.sizes g.B.Body.script g.B.Body.then g.B.Body.left g.B.Body.may_ask (g.C.Cells.passes l.fn.cells) ty f l.ready begun (g.C.Cells.view l.cells);
-  log : l.ready.log ≡ l.fn.ready.log;
+  replies : l.ready.log.table.replies ≡ l.fn.ready.log.table.replies;
   same : g.C.Cells.same l.fn.cells l.cells;
 }
 

@@ -48,8 +48,8 @@ loop-turn-smaller g c =
     let k = c.step.new.self in
     let s = c.in_ok-turn.ensures.steps in
     subst
-    (λ (r : Bor g.row.T.Denot). events_left (g.B.Body.left k.log.body) (g.T.TxType.meaning r.now).widths k.read_phase k.words.items k.extension k.log.base.items
-    < events_left (g.B.Body.left a.log.body) (g.T.TxType.meaning a.log.ty.now).widths a.read_phase a.words.items a.extension a.log.base.items) (sym s.ty) s.left
+    (λ (r : Bor g.row.T.Denot). events_left (g.B.Body.left k.log.body) (g.T.TxType.meaning r.now).widths k.read_phase k.log.table.words.items k.log.table.extension k.log.table.base.items
+    < events_left (g.B.Body.left a.log.body) (g.T.TxType.meaning a.log.ty.now).widths a.read_phase a.log.table.words.items a.log.table.extension a.log.table.base.items) (sym s.ty) s.left
 
 pub loop-turn-preserved : goal.loop-turn-preserved
 loop-turn-preserved g c =

@@ -19,4 +19,4 @@ invariant-loop-turn g l = record {
 }
 
 abbrev pub decreases-loop-turn : goal.decreases-loop-turn
-decreases-loop-turn g l = events_left (g.B.Body.left l.attempt.log.body) (g.T.TxType.meaning l.attempt.log.ty.now).widths l.attempt.read_phase l.attempt.words.items l.attempt.extension l.attempt.log.base.items
+decreases-loop-turn g l = events_left (g.B.Body.left l.attempt.log.body) (g.T.TxType.meaning l.attempt.log.ty.now).widths l.attempt.read_phase l.attempt.log.table.words.items l.attempt.log.table.extension l.attempt.log.table.base.items

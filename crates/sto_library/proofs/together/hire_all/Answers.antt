@@ -1,6 +1,6 @@
 use Rattle.std.proofs.Common.{rules, ◌≡◌, length, ap, ◌∙◌, arith}
 use Rattle.sto_type.specs.Traits.{of_type}
-use Rattle.sto_library.proofs.SideBySide.{none_hired, one_hired, all_rested}
+use Rattle.sto_library.proofs.SideBySide.{none_hired, one_hired}
 use Rattle.sto_library.proofs.together.hire_all.Goals as goal
 
 pub loop-turn-init : goal.loop-turn-init

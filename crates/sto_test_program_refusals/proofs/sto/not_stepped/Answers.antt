@@ -2,7 +2,7 @@ use Rattle.sto_run.specs.Meanings.{updating_by}
 use Rattle.sto_run.specs.Stores.{means}
 use Rattle.sto_test_refusals.specs.Texts.{left_out, other_reply}
 use Rattle.sto_test_refusals.proofs.Unlawful.{left_out_is_none, other_reply_is_none}
-use Rattle.sto_test_program_refusals.proofs.Outputs.{step_lawful, step_nothing, explore_nothing, schedules_nothing}
+use Rattle.sto_test_program_refusals.proofs.Outputs.{step_lawful, step_nothing, explore_nothing, explore_beyond, schedules_nothing}
 use Rattle.sto_test_program_refusals.proofs.Faults.{trace_fault, draw_fault}
 use Rattle.sto_test_program_refusals.proofs.Traces.{trace_nothing, no_event_drawn}
 use Rattle.sto_test_program_refusals.proofs.sto.not_stepped.Goals as goal
@@ -21,6 +21,9 @@ returns-clause-trace_nothing c = trace_nothing
 
 pub returns-clause-explore_nothing : goal.returns-clause-explore_nothing
 returns-clause-explore_nothing c = explore_nothing
+
+pub returns-clause-explore_beyond : goal.returns-clause-explore_beyond
+returns-clause-explore_beyond c = explore_beyond
 
 pub returns-clause-schedules_nothing : goal.returns-clause-schedules_nothing
 returns-clause-schedules_nothing c = schedules_nothing

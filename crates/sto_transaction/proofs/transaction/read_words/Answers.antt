@@ -92,5 +92,5 @@ returns-in_err-read_word-clause-steps g c =
     let a = c.loop.attempt in
     let v = g.C.Cells.view c.loop.cells in
     let h = c.loop.invariant.proceeds r.0 r.1 r.2 r.3 in
-    let some = some_left (g.T.TxType.meaning a.log.ty.now) (g.met.T.TxType.lawful a.log.ty.now) g.T.Naming.valid (g.T.Naming.sizes a.log.ty.now) (g.B.Body.script a.log.body) a.at (g.B.Body.left a.log.body) a.words.items a.extension a.log.base.items a.log.set.items a.log.set.updates (map plain_reply a.log.replies.items) v a.read_phase h.1.goes in
+    let some = some_left (g.T.TxType.meaning a.log.ty.now) (g.met.T.TxType.lawful a.log.ty.now) g.T.Naming.valid (g.T.Naming.sizes a.log.ty.now) (g.B.Body.script a.log.body) a.at (g.B.Body.left a.log.body) a.log.table.words.items a.log.table.extension a.log.table.base.items a.log.table.set.items a.log.table.set.updates (map plain_reply a.log.table.replies.items) v a.read_phase h.1.goes in
     omega (arith, c.read_word.ensures.steps.event.tells.counts, some, c.loop.invariant.goes.taken)

@@ -16,6 +16,6 @@ invariant-loop g l = record {
       → Proceeds g.T.TxType.meaning g.T.Naming.valid g.T.Naming.sizes g.B.Body.script g.B.Body.then g.B.Body.left g.B.Body.may_ask (g.C.Cells.passes l.cells) ty f (Running l.attempt) begun (g.C.Cells.view l.cells);
   goes : HasSpent g.T.TxType.meaning g.T.Naming.valid g.T.Naming.sizes g.B.Body.script g.B.Body.then g.B.Body.left g.B.Body.may_ask g.B.Body.left_at_reset (Running l.fn.attempt) (Running l.attempt) (g.C.Cells.view l.fn.cells) (g.C.Cells.view l.cells);
   words : words_left (of_type g.T.Naming g.T.TxType) g.B.Body l.attempt + l.counter ≡ words_left (of_type g.T.Naming g.T.TxType) g.B.Body l.fn.attempt;
-  long : length l.attempt.words.items ≡ length l.fn.attempt.words.items + l.counter;
+  long : length l.attempt.log.table.words.items ≡ length l.fn.attempt.log.table.words.items + l.counter;
   same : g.C.Cells.same l.fn.cells l.cells;
 }

@@ -26,7 +26,7 @@ returns-then-call c =
     let fb : FitsSigned w64 c.args.call.now.b = c.requires.takes.fits_too in
     let above = simp to_z-of_z at c.if-call.true in
     let none : int_le call.a call.b ≡ false = above_false call.a call.b above in
-    says_empty c.args.leaves k c.args.scans call c.requires.takes.object c.requires.code fa fb _ c.items.result.items c.updates.result.items none
+    says_empty c.args.leaves k c.args.scans call c.requires.takes.object c.requires.takes.third c.requires.operation fa fb _ c.items.result.items c.updates.result.items none
     c.empty_reply.ensures c.items.ensures c.updates.ensures
 
 pub listed_leaves-requires : goal.listed_leaves-requires
@@ -51,7 +51,7 @@ returns-in-Err c =
     let all : c.as_slice.result.now ≡ leaves_between c.args.leaves dir call.a call.b = c.as_slice.ensures.items ∙ listed in
     let raw = rw c.in-Err.is at c.in_ok-seen.ensures in
     let need = simp to_z-of_z at raw in
-    needs_part c.args.leaves k c.args.scans call c.requires.takes.object c.requires.code fa fb some dir c.in-Some.ensures c.in-Err.part
+    needs_part c.args.leaves k c.args.scans call c.requires.takes.object c.requires.takes.third c.requires.operation fa fb some dir c.in-Some.ensures c.in-Err.part
     (subst (λ (xs : List ℕ). need_of (between_each c.args.scans dir call.a call.b xs []) k ≡ Some c.in-Err.part) all need)
 
 pub reply_of-requires-clause-width : goal.reply_of-requires-clause-width
@@ -73,7 +73,7 @@ returns c =
     let range : IsSaid (between_each c.args.scans dir call.a call.b (leaves_between c.args.leaves dir call.a call.b) []) k c.in-Ok.items.items =
     subst (λ (xs : List ℕ). IsSaid (between_each c.args.scans dir call.a call.b xs []) k c.in-Ok.items.items) all said in
     let told = simp to_z-of_z at c.in_ok-reply_of-in-Ok.ensures in
-    says_range c.args.leaves k c.args.scans call c.requires.takes.object c.requires.code fa fb some dir c.in-Some.ensures _ c.in-Ok.items.items c.updates-in-Ok.result.items
+    says_range c.args.leaves k c.args.scans call c.requires.takes.object c.requires.takes.third c.requires.operation fa fb some dir c.in-Some.ensures _ c.in-Ok.items.items c.updates-in-Ok.result.items
     range
     (told ∙ known_is_told c.args.leaves k c.args.scans call.a call.b fa fb dir c.in-Some.ensures range.0 c.requires.part.0 c.requires.part.1 c.requires.part.2)
     c.updates-in-Ok.ensures

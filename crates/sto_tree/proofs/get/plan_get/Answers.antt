@@ -12,7 +12,7 @@ pub returns-in-Err : goal.returns-in-Err
 returns-in-Err c =
     let f : FitsSigned w64 c.args.call.now.a = c.requires.takes.fits in
     let first : NeedsFirst c.args.leaves (known c.args.cache.now) c.args.call.now.a c.in-Err.part = subst (λ (x : ℤ). NeedsFirst c.args.leaves (known c.args.cache.now) x c.in-Err.part) (to_z-of_z w64 c.args.call.now.a f) c.in-Err.ensures.needs in
-    get_first c.args.leaves (known c.args.cache.now) c.args.call.now c.requires.takes.object c.requires.get c.in-Err.part first
+    get_first c.args.leaves (known c.args.cache.now) c.args.call.now c.requires.takes.object c.requires.takes.third c.requires.get c.in-Err.part first
 
 pub returns-in_default : goal.returns-in_default
 returns-in_default c =
@@ -20,7 +20,7 @@ returns-in_default c =
     let at = simp to_z-of_z at c.in-Ok.ensures.at in
     let none = simp to_z-of_z at (sym c.place_of.ensures ∙ c.in_default.is) in
     let items = simp to_z-of_z at c.in_ok-leaf_items.ensures in
-    says_absent c.args.leaves (known c.args.cache.now) c.args.call.now c.requires.takes.object c.requires.get c.in-Ok.found.directory.now c.in-Ok.found.number c.in-Ok.found.keys.now at
+    says_absent c.args.leaves (known c.args.cache.now) c.args.call.now c.requires.takes.object c.requires.takes.third c.requires.get c.in-Ok.found.directory.now c.in-Ok.found.number c.in-Ok.found.keys.now at
     c.in_ok-leaf_items.field-0.items c.updates.result.items none items c.updates.ensures
 
 pub value_part-part-requires : goal.value_part-part-requires
@@ -45,6 +45,6 @@ returns c =
     let items = simp to_z-of_z at c.in_ok-value_items.ensures in
     let g : FitsSigned w64 c.only_word.result = search rules in
     let value : known c.args.cache.now (value_part c.in-Ok.found.number c.in-Some.place) ≡ Some c.in-Some-get.value.now = subst (λ (p : ℕ). known c.args.cache.now p ≡ Some c.in-Some-get.value.now) c.value_part-part.ensures c.in-Some-get.ensures in
-    says_value c.args.leaves (known c.args.cache.now) c.args.call.now c.requires.takes.object c.requires.get c.in-Ok.found.directory.now c.in-Ok.found.number c.in-Ok.found.keys.now at
+    says_value c.args.leaves (known c.args.cache.now) c.args.call.now c.requires.takes.object c.requires.takes.third c.requires.get c.in-Ok.found.directory.now c.in-Ok.found.number c.in-Ok.found.keys.now at
     c.in_ok-value_items.field-0.items c.updates-2.result.items c.in-Some.place c.in-Some-get.value.now (to_z w64 (of_z w64 c.only_word.result)) (to_z-of_z w64 c.only_word.result g ∙ c.only_word.ensures)
     some value items c.updates-2.ensures

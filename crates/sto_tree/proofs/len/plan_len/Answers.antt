@@ -23,7 +23,7 @@ returns c =
     let g : FitsSigned w64 c.only_word.result = search rules in
     let said : word c.in-Some.size.now 0 ≡ to_z w64 (of_z w64 c.only_word.result) = sym (to_z-of_z w64 c.only_word.result g ∙ c.only_word.ensures) in
     let base : IsPlan (tree_meaning n) call k (Say (Value (word c.in-Some.size.now 0)) c.in_ok-one_item.field-0.items []) =
-    subst (λ (x : Call). IsPlan (tree_meaning n) x k (Say (Value (word c.in-Some.size.now 0)) c.in_ok-one_item.field-0.items [])) (as_len call c.requires.takes.object c.requires.len)
+    subst (λ (x : Call). IsPlan (tree_meaning n) x k (Say (Value (word c.in-Some.size.now 0)) c.in_ok-one_item.field-0.items [])) (as_len call c.requires.takes.object c.requires.takes.third c.requires.len)
     (says_size n k call.a call.b c.in_ok-one_item.field-0.items c.in-Some.size.now c.in-Some.ensures c.in_ok-one_item.ensures) in
     let spoken : IsPlan (tree_meaning n) call k (Say (Value (to_z w64 (of_z w64 c.only_word.result))) c.in_ok-one_item.field-0.items []) =
     subst (λ (x : ℤ). IsPlan (tree_meaning n) call k (Say (Value x) c.in_ok-one_item.field-0.items [])) said base in

@@ -24,7 +24,7 @@ returns-in-Err c =
     let all : c.as_slice.result.now ≡ leaves_between c.args.leaves dir call.a greatest = c.as_slice.ensures.items ∙ listed in
     let raw = rw c.in-Err.is at c.in_ok-part.ensures in
     let need = simp to_z-of_z at raw in
-    next_needs c.args.leaves k call c.requires.takes.object c.requires.next fa dir c.in-Some.ensures c.in-Err.part
+    next_needs c.args.leaves k call c.requires.takes.object c.requires.takes.third c.requires.next fa dir c.in-Some.ensures c.in-Err.part
     (subst (λ (xs : List ℕ). next_need k call.a xs ≡ Some c.in-Err.part) all need)
 
 pub all_between-requires-clause-width : goal.all_between-requires-clause-width
@@ -42,7 +42,7 @@ returns-in-Ok-Some c =
     let said = simp to_z-of_z at raw in
     let g : FitsSigned w64 c.in-Ok-Some.key = search rules in
     let items = simp to_z-of_z at c.in_ok-all_between-in-Ok-Some.ensures in
-    says_next c.args.leaves k call c.requires.takes.object c.requires.next fa dir c.in-Some.ensures (Some c.in-Ok-Some.key) (Value (to_z w64 (of_z w64 c.in-Ok-Some.key))) c.in_ok-all_between-in-Ok-Some.field-0.items c.updates.result.items
+    says_next c.args.leaves k call c.requires.takes.object c.requires.takes.third c.requires.next fa dir c.in-Some.ensures (Some c.in-Ok-Some.key) (Value (to_z w64 (of_z w64 c.in-Ok-Some.key))) c.in_ok-all_between-in-Ok-Some.field-0.items c.updates.result.items
     (subst (λ (xs : List ℕ). next_need k call.a xs ≡ None) all said.0)
     (subst (λ (xs : List ℕ). Some c.in-Ok-Some.key ≡ next_found k call.a xs) all (sym c.in-Ok-Some.field-0-is ∙ said.1))
     (ap Value (to_z-of_z w64 c.in-Ok-Some.key g)) items c.updates.ensures
@@ -61,7 +61,7 @@ returns c =
     let raw = rw c.in-Ok-None.is at c.in_ok-part.ensures in
     let said = simp to_z-of_z at raw in
     let items = simp to_z-of_z at c.in_ok-all_between-in-Ok-None.ensures in
-    says_next c.args.leaves k call c.requires.takes.object c.requires.next fa dir c.in-Some.ensures None Absent c.in_ok-all_between-in-Ok-None.field-0.items c.updates-in-Ok-None.result.items
+    says_next c.args.leaves k call c.requires.takes.object c.requires.takes.third c.requires.next fa dir c.in-Some.ensures None Absent c.in_ok-all_between-in-Ok-None.field-0.items c.updates-in-Ok-None.result.items
     (subst (λ (xs : List ℕ). next_need k call.a xs ≡ None) all said.0)
     (subst (λ (xs : List ℕ). None ≡ next_found k call.a xs) all (sym c.in-Ok-None.field-0-is ∙ said.1))
     refl items c.updates-in-Ok-None.ensures

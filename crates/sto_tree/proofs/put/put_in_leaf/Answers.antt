@@ -27,7 +27,7 @@ returns-in-Some c =
     let items = simp to_z-of_z at c.in_ok-here_items.ensures in
     let put = simp to_z-of_z at c.in_ok-one_update.ensures in
     let updates : c.in_ok-one_update.field-0.items ≡ value_is c.args.found.number c.in-Some.place c.args.call.now.b ∷ [] = put ∙ ap {B = List Entry} (λ (p : ℕ). (p, Put c.args.call.now.b ∷ []) ∷ []) c.value_part.ensures in
-    says_over c.args.leaves (known c.args.cache.now) c.args.call.now c.requires.takes.object c.requires.put c.args.found.directory.now c.args.found.number c.args.found.keys.now at
+    says_over c.args.leaves (known c.args.cache.now) c.args.call.now c.requires.takes.object c.requires.takes.third c.requires.put c.args.found.directory.now c.args.found.number c.args.found.keys.now at
     c.in_ok-here_items.field-0.items c.in_ok-one_update.field-0.items c.in-Some.place some items updates
 
 pub is_full-requires-clause-width : goal.is_full-requires-clause-width
@@ -40,7 +40,7 @@ returns-then-is_full c =
     let none = simp to_z-of_z at (sym c.place_of.ensures ∙ c.in_default.is) in
     let full : int_le (pos (4 * c.args.leaves)) (word c.in-Some-get.size.now 0) ≡ true = sym c.is_full.ensures ∙ c.if-is_full.true in
     let items = simp to_z-of_z at c.in_ok-room_items.ensures in
-    says_full c.args.leaves (known c.args.cache.now) c.args.call.now c.requires.takes.object c.requires.put c.args.found.directory.now c.args.found.number c.args.found.keys.now at none c.in-Some-get.size.now c.in-Some-get.ensures
+    says_full c.args.leaves (known c.args.cache.now) c.args.call.now c.requires.takes.object c.requires.takes.third c.requires.put c.args.found.directory.now c.args.found.number c.args.found.keys.now at none c.in-Some-get.size.now c.in-Some-get.ensures
     c.in_ok-room_items.field-0.items c.updates.result.items full items c.updates.ensures
 
 pub returns-in_default-free_place : goal.returns-in_default-free_place
@@ -64,11 +64,11 @@ returns c =
     let room : int_le (pos (4 * c.args.leaves)) (word c.in-Some-get.size.now 0) ≡ false = sym c.is_full.ensures ∙ c.if-is_full.false in
     let items = simp to_z-of_z at c.in_ok-room_items-2.ensures in
     let updates = simp to_z-of_z at c.in_ok-new_row.ensures in
-    says_new c.args.leaves (known c.args.cache.now) c.args.call.now c.requires.takes.object c.requires.put c.args.found.directory.now c.args.found.number c.args.found.keys.now at none c.in-Some-get.size.now c.in-Some-get.ensures
+    says_new c.args.leaves (known c.args.cache.now) c.args.call.now c.requires.takes.object c.requires.takes.third c.requires.put c.args.found.directory.now c.args.found.number c.args.found.keys.now at none c.in-Some-get.size.now c.in-Some-get.ensures
     c.in_ok-room_items-2.field-0.items c.in_ok-new_row.field-0.items c.in-Some-free_place.place room (sym c.free_place.ensures ∙ c.in-Some-free_place.is) items updates
 
 pub returns-in_default-get : goal.returns-in_default-get
 returns-in_default-get c =
     let f : FitsSigned w64 c.args.call.now.a = c.requires.takes.fits in
     let none = simp to_z-of_z at (sym c.place_of.ensures ∙ c.in_default.is) in
-    needs_size c.args.leaves (known c.args.cache.now) c.args.call.now c.requires.takes.object c.requires.put c.args.found.directory.now c.args.found.number c.args.found.keys.now c.requires.at none c.in_default-get.ensures
+    needs_size c.args.leaves (known c.args.cache.now) c.args.call.now c.requires.takes.object c.requires.takes.third c.requires.put c.args.found.directory.now c.args.found.number c.args.found.keys.now c.requires.at none c.in_default-get.ensures

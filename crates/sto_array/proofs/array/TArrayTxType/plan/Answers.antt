@@ -1,4 +1,4 @@
-use Rattle.std.proofs.Common.{Some, sym, ap, ◌∙◌, rules, FitsSigned}
+use Rattle.std.proofs.Common.{sym, rules, FitsSigned}
 use Rattle.std.specs.Int.{w64}
 use Rattle.std.proofs.lemmas.Int.{to_z-of_z}
 use Rattle.std.proofs.lemmas.Result.{IfOk-weaker}
@@ -13,12 +13,12 @@ returns-in-None c =
     let p = simp to_z-of_z at c.in-None.ensures in
     IfOk-weaker c.outside.result _ _ (λ a said. plan_outside c.args.self.now.len c.args.self.now.first c.args.call.now (known c.args.cache.now) a c.requires.takes (sym p) said) c.outside.ensures
 
-pub returns-in-Some-Set : goal.returns-in-Some-Set
-returns-in-Some-Set c =
+pub returns-in-Set : goal.returns-in-Set
+returns-in-Set c =
     let f = c.requires.takes.fits in
     let g = c.requires.takes.fits_too in
     let p = simp to_z-of_z at c.in-Some.ensures in
-    let e = sym c.in-Some-Set.ensures ∙ ap Some c.in-Some-Set.field-0-is in
+    let e = c.in-Set.is in
     let said = simp to_z-of_z at c.set_answer.ensures in
     IfOk-weaker c.set_answer.result _ _ (λ a h. plan_set c.args.self.now.len c.args.self.now.first c.args.call.now (known c.args.cache.now) c.in-Some.place a c.requires.takes.object e (sym p) h) said
 
@@ -28,7 +28,7 @@ returns-in-Some-first_word c =
     let g = c.requires.takes.fits_too in
     let r : FitsSigned w64 c.in-Some-first_word.value = search rules in
     let p = simp to_z-of_z at c.in-Some.ensures in
-    let e = sym c.in-Some-Get.ensures ∙ ap Some c.in-Some-Get.field-0-is in
+    let e = c.in-Get.is in
     let said = simp to_z-of_z at c.get_answer.ensures in
     IfOk-weaker c.get_answer.result _ _ (λ a h. get_on c.args.self.now.len c.args.self.now.first c.args.call.now (known c.args.cache.now) c.in-Some.place c.in-Some-first_word.value a c.requires.takes.object e (sym p) c.in-Some-first_word.ensures h) said
 
@@ -38,6 +38,6 @@ returns-in-Some-first_word-2 c =
     let g = c.requires.takes.fits_too in
     let r : FitsSigned w64 c.in-Some-first_word-2.value = search rules in
     let p = simp to_z-of_z at c.in-Some.ensures in
-    let e = sym c.in-Some-Add.ensures ∙ ap Some c.in-Some-Add.field-0-is in
+    let e = c.in-Add.is in
     let said = simp to_z-of_z at c.add_answer.ensures in
     IfOk-weaker c.add_answer.result _ _ (λ a h. add_on c.args.self.now.len c.args.self.now.first c.args.call.now (known c.args.cache.now) c.in-Some.place c.in-Some-first_word-2.value a c.requires.takes.object e (sym p) c.in-Some-first_word-2.ensures h) said

@@ -38,22 +38,22 @@ go_on-requires-clause-log g c =
     let m = g.T.TxType.meaning a.log.ty.now in
     let law = g.met.T.TxType.lawful a.log.ty.now in
     let f = g.B.Body.script a.log.body in
-    let rs = map plain_reply a.log.replies.items in
-    let old = words_in a.log.base.items in
-    let fresh = a.extension.fresh.items in
-    let ws = a.extension.watches.items in
+    let rs = map plain_reply a.log.table.replies.items in
+    let old = words_in a.log.table.base.items in
+    let fresh = a.log.table.extension.fresh.items in
+    let ws = a.log.table.extension.watches.items in
     let was = c.requires.log in
     let last : length (map watched ws) ≤ length fresh = omega (arith, length-map ws watched, c.if-place-len.false, c.len-place.ensures, c.len.ensures) in
     let stays = all_renewed (length m.widths) old fresh (map watched ws) c.requires.renewed.0 c.requires.renewed.1 last in
-    let h : IsOnLog m (g.B.Body.then a.log.body) f (g.B.Body.left a.log.body) (g.B.Body.may_ask a.log.body) fresh a.log.set [] a.log.replies.items = record {
+    let h : IsOnLog m (g.B.Body.then a.log.body) f (g.B.Body.left a.log.body) (g.B.Body.may_ask a.log.body) fresh a.log.table.set [] a.log.table.replies.items = record {
       then = was.then;
       taken = was.taken;
       few = was.few;
-      log = log_renewed m law f a.log.base.items a.log.set.items a.log.set.updates rs was.log c.requires.some.0 c.requires.some.1 c.requires.some.2 fresh (map watched ws) c.requires.observed stays;
-      known_above = cache_none m (words_in fresh) a.log.set.updates;
+      log = log_renewed m law f a.log.table.base.items a.log.table.set.items a.log.table.set.updates rs was.log c.requires.some.0 c.requires.some.1 c.requires.some.2 fresh (map watched ws) c.requires.observed stays;
+      known_above = cache_none m (words_in fresh) a.log.table.set.updates;
     } in
-    subst (λ (b : Listed ReadEntry). IsOnLog m (g.B.Body.then a.log.body) f (g.B.Body.left a.log.body) (g.B.Body.may_ask a.log.body) b.items a.log.set c.forget.new.self a.log.replies.items) (sym c.swap.ensures.x_after)
-    (subst (λ (k : List (ℕ × List ℤ)). IsOnLog m (g.B.Body.then a.log.body) f (g.B.Body.left a.log.body) (g.B.Body.may_ask a.log.body) fresh a.log.set k a.log.replies.items) (sym c.forget.ensures) h)
+    subst (λ (b : Listed ReadEntry). IsOnLog m (g.B.Body.then a.log.body) f (g.B.Body.left a.log.body) (g.B.Body.may_ask a.log.body) b.items a.log.table.set c.forget.new.self a.log.table.replies.items) (sym c.swap.ensures.x_after)
+    (subst (λ (k : List (ℕ × List ℤ)). IsOnLog m (g.B.Body.then a.log.body) f (g.B.Body.left a.log.body) (g.B.Body.may_ask a.log.body) fresh a.log.table.set k a.log.table.replies.items) (sym c.forget.ensures) h)
 
 pub returns-then-watch : goal.returns-then-watch
 returns-then-watch g c =
@@ -62,26 +62,26 @@ returns-then-watch g c =
       log = search rules;
       turned = λ v spans phase. (let a = c.args.self.now in
           let m = g.T.TxType.meaning a.log.ty.now in
-          let old = words_in a.log.base.items in
-          let fresh = a.extension.fresh.items in
-          let ws = a.extension.watches.items in
+          let old = words_in a.log.table.base.items in
+          let fresh = a.log.table.extension.fresh.items in
+          let ws = a.log.table.extension.watches.items in
           let w = c.get-watch.result.now in
           let e : slice_get (map watched ws) (length fresh) ≡ Some (watched w) =
           slice_get-map watched ws (length fresh) ∙ ap (option_map watched) (ap (slice_get ws) (sym c.len-place.ensures) ∙ c.get-watch.ensures) in
           let next : IsNext (length m.widths) old fresh (map watched ws) w.seen w.part = ahead (length m.widths) old fresh (map watched ws) c.requires.renewed.0 c.requires.renewed.1 (watched w) e in
           record { spans = spans; observed = c.requires.observed; extended = c.requires.extended; asks = c.requires.asks; stands = (phase, subst (λ (b : Bool). IsNext (length m.widths) old fresh (map watched ws) b w.part) c.if-watch.true next) });
       unaborted = search rules;
-      grown = heard_none (g.T.TxType.meaning a.log.ty.now) (g.B.Body.script a.log.body) (words_in a.log.base.items) (map plain_reply a.log.replies.items) a.log.set;
+      grown = heard_none (g.T.TxType.meaning a.log.ty.now) (g.B.Body.script a.log.body) (words_in a.log.table.base.items) (map plain_reply a.log.table.replies.items) a.log.table.set;
       renewed = search rules;
       moves = search rules;
       comes =
-          let ws = a.extension.watches.items in
-          let fresh = a.extension.fresh.items in
+          let ws = a.log.table.extension.watches.items in
+          let fresh = a.log.table.extension.fresh.items in
           let w = c.get-watch.result.now in
           let e : slice_get (map watched ws) (length fresh) ≡ Some (watched w) =
           slice_get-map watched ws (length fresh) ∙ ap (option_map watched) (ap (slice_get ws) (sym c.len-place.ensures) ∙ c.get-watch.ensures) in
           goes_seen_is (g.T.TxType.meaning a.log.ty.now) (g.B.Body.script a.log.body) (reader_of a) (watched w) e c.if-watch.true;
-      left = less_next (left_extending (g.B.Body.left a.log.body - 1) (g.T.TxType.meaning a.log.ty.now).widths (drop (length a.extension.fresh.items) (map watched a.extension.watches.items)));
+      left = less_next (left_extending (g.B.Body.left a.log.body - 1) (g.T.TxType.meaning a.log.ty.now).widths (drop (length a.log.table.extension.fresh.items) (map watched a.log.table.extension.watches.items)));
       stopped = search rules;
       script = search rules;
       left_at_reset = search rules;
@@ -95,26 +95,26 @@ returns-else-watch g c =
       log = search rules;
       turned = λ v spans phase. (let a = c.args.self.now in
           let m = g.T.TxType.meaning a.log.ty.now in
-          let old = words_in a.log.base.items in
-          let fresh = a.extension.fresh.items in
-          let ws = a.extension.watches.items in
+          let old = words_in a.log.table.base.items in
+          let fresh = a.log.table.extension.fresh.items in
+          let ws = a.log.table.extension.watches.items in
           let w = c.get-watch.result.now in
           let e : slice_get (map watched ws) (length fresh) ≡ Some (watched w) =
           slice_get-map watched ws (length fresh) ∙ ap (option_map watched) (ap (slice_get ws) (sym c.len-place.ensures) ∙ c.get-watch.ensures) in
           let next : IsNext (length m.widths) old fresh (map watched ws) w.seen w.part = ahead (length m.widths) old fresh (map watched ws) c.requires.renewed.0 c.requires.renewed.1 (watched w) e in
           record { spans = spans; observed = c.requires.observed; extended = c.requires.extended; asks = c.requires.asks; stands = (phase, subst (λ (b : Bool). IsNext (length m.widths) old fresh (map watched ws) b w.part) c.if-watch.false next) });
       unaborted = search rules;
-      grown = heard_none (g.T.TxType.meaning a.log.ty.now) (g.B.Body.script a.log.body) (words_in a.log.base.items) (map plain_reply a.log.replies.items) a.log.set;
+      grown = heard_none (g.T.TxType.meaning a.log.ty.now) (g.B.Body.script a.log.body) (words_in a.log.table.base.items) (map plain_reply a.log.table.replies.items) a.log.table.set;
       renewed = search rules;
       moves = search rules;
       comes =
-          let ws = a.extension.watches.items in
-          let fresh = a.extension.fresh.items in
+          let ws = a.log.table.extension.watches.items in
+          let fresh = a.log.table.extension.fresh.items in
           let w = c.get-watch.result.now in
           let e : slice_get (map watched ws) (length fresh) ≡ Some (watched w) =
           slice_get-map watched ws (length fresh) ∙ ap (option_map watched) (ap (slice_get ws) (sym c.len-place.ensures) ∙ c.get-watch.ensures) in
           goes_tested_is (g.T.TxType.meaning a.log.ty.now) (g.B.Body.script a.log.body) (reader_of a) (watched w) e c.if-watch.false;
-      left = less_next (left_extending (g.B.Body.left a.log.body - 1) (g.T.TxType.meaning a.log.ty.now).widths (drop (length a.extension.fresh.items) (map watched a.extension.watches.items)));
+      left = less_next (left_extending (g.B.Body.left a.log.body - 1) (g.T.TxType.meaning a.log.ty.now).widths (drop (length a.log.table.extension.fresh.items) (map watched a.log.table.extension.watches.items)));
       stopped = search rules;
       script = search rules;
       left_at_reset = search rules;
@@ -126,74 +126,70 @@ returns g c =
     let a = c.args.self.now in
     let grown = c.in_ok-reached.ensures.grown.grown in
     let m = g.T.TxType.meaning a.log.ty.now in
-    let heard = length a.log.replies.items in
-    let now = length c.go_on.new.self.replies.items in
-    let on : heard ≤ now = replies_on a.log.replies.items c.go_on.new.self.replies.items grown.more grown.replies in
+    let heard = length a.log.table.replies.items in
+    let now = length c.go_on.new.self.table.replies.items in
+    let on : heard ≤ now = replies_on a.log.table.replies.items c.go_on.new.self.table.replies.items grown.more grown.replies in
     let before = g.B.Body.left a.log.body in
     let calls = g.B.Body.left c.go_on.new.self.body in
-    let extension : Extension = record { bound = a.extension.bound; extended = c.still-self.result; fresh = c.clear.new.self; watches = a.extension.watches } in
+    let extension : Extension = record { bound = a.log.table.extension.bound; extended = c.still-self.result; fresh = c.clear.new.self; watches = a.log.table.extension.watches } in
     let heard_is : c.len-heard.result ≡ heard = c.len-heard.ensures in
     let now_is : c.len-2.result ≡ now = c.len-2.ensures in
-    let iff : IsTrue c.still-self.result ↔ (IsTrue a.extension.extended × (now ≡ heard)) =
+    let iff : IsTrue c.still-self.result ↔ (IsTrue a.log.table.extension.extended × (now ≡ heard)) =
     ((λ e. let h = c.still-self.ensures.0 e in (h.0, omega (arith, h.1, heard_is, now_is))), (λ h. c.still-self.ensures.1 (h.0, omega (arith, h.1, heard_is, now_is)))) in
-    record {
+    rw c.in_ok-reached.ensures.rest (record {
       log = search rules;
       turned = λ v spans phase. (let a = c.args.self.now in
           let m = g.T.TxType.meaning a.log.ty.now in
           let sizes = g.T.Naming.sizes a.log.ty.now in
           let f = g.B.Body.script a.log.body in
-          let bound = a.extension.bound in
+          let bound = a.log.table.extension.bound in
           let made = c.swap.new.x.items in
-          let same : made ≡ a.extension.fresh.items = ap (λ (l : Listed ReadEntry). l.items) c.swap.ensures.x_after in
-          let now : Extension = record { bound = a.extension.bound; extended = c.still-self.result; fresh = c.clear.new.self; watches = a.extension.watches } in
-          let rest = rests m g.T.Naming.valid sizes a.at bound a.log.base.items a.extension.fresh.items f (map plain_reply a.log.replies.items) v spans phase in
+          let same : made ≡ a.log.table.extension.fresh.items = ap (λ (l : Listed ReadEntry). l.items) c.swap.ensures.x_after in
+          let now : Extension = record { bound = a.log.table.extension.bound; extended = c.still-self.result; fresh = c.clear.new.self; watches = a.log.table.extension.watches } in
+          let rest = rests m g.T.Naming.valid sizes a.at bound a.log.table.base.items a.log.table.extension.fresh.items f (map plain_reply a.log.table.replies.items) v spans phase in
           let claimed : AreClaimed v bound made = subst (λ (l : List ReadEntry). AreClaimed v bound l) (sym same) spans.renewed in
           let only : AreOnly v bound made = subst (λ (l : List ReadEntry). AreOnly v bound l) (sym same) spans.only in
-          let kept : c.go_on.new.self.base.items ≡ made = ap (λ (l : Listed ReadEntry). l.items) c.in_ok-reached.ensures.base in
-          subst (λ (b : List ReadEntry). Turned m g.T.Naming.valid sizes f bound c.lead-read_phase.result.0 a.words.items now b c.go_on.new.self.set.items c.go_on.new.self.set.updates (map plain_reply c.go_on.new.self.replies.items) v c.lead-read_phase.result.1) (sym kept)
-          (turned m g.T.Naming.valid sizes f bound a.words.items made c.go_on.new.self.set.items c.go_on.new.self.set.updates (map plain_reply c.go_on.new.self.replies.items) v rest claimed only spans.below now (λ e. refl) c.in_ok-reached.ensures.log.log
-          c.in_ok-reached.reached c.lead-read_phase.result.0 c.lead-read_phase.result.1 c.in_ok-reached.ensures.reached c.lead-read_phase.ensures));
-      unaborted = (led_alone c.args.self.now.extension.bound c.go_on.new.self.set.updates c.in_ok-reached.reached c.lead-read_phase.result.0 c.lead-read_phase.result.1 c.lead-read_phase.ensures).1;
+          turned m g.T.Naming.valid sizes f bound a.log.table.words.items made c.go_on.new.self.table.set.items c.go_on.new.self.table.set.updates (map plain_reply c.go_on.new.self.table.replies.items) v rest claimed only spans.below now (λ e. refl) c.in_ok-reached.ensures.log.log
+          c.in_ok-reached.reached c.lead-read_phase.result.0 c.lead-read_phase.result.1 c.in_ok-reached.ensures.reached c.lead-read_phase.ensures);
+      unaborted = (led_alone c.args.self.now.log.table.extension.bound c.go_on.new.self.table.set.updates c.in_ok-reached.reached c.lead-read_phase.result.0 c.lead-read_phase.result.1 c.lead-read_phase.ensures).1;
       grown = search rules;
       renewed = (
         refl,
         λ e.
             let h = c.still-self.ensures.0 e in
-            let same : length c.go_on.new.self.replies.items ≡ length a.log.replies.items = omega (arith, h.1, c.len-heard.ensures, c.len-2.ensures) in
-            replies_same a.log.replies.items c.go_on.new.self.replies.items grown.more grown.replies same,
+            let same : length c.go_on.new.self.table.replies.items ≡ length a.log.table.replies.items = omega (arith, h.1, c.len-heard.ensures, c.len-2.ensures) in
+            replies_same a.log.table.replies.items c.go_on.new.self.table.replies.items grown.more grown.replies same,
       );
       moves = (
-        led_begun c.args.self.now.extension.bound c.go_on.new.self.set.updates c.in_ok-reached.reached c.lead-read_phase.result.0 c.lead-read_phase.result.1 c.lead-read_phase.ensures,
+        led_begun c.args.self.now.log.table.extension.bound c.go_on.new.self.table.set.updates c.in_ok-reached.reached c.lead-read_phase.result.0 c.lead-read_phase.result.1 c.lead-read_phase.ensures,
         c.requires.bound,
       );
       comes =
           let f = g.B.Body.script a.log.body in
-          let bound = a.extension.bound in
-          let last : length (map watched a.extension.watches.items) ≤ length a.extension.fresh.items = omega (arith, length-map a.extension.watches.items watched, c.if-place-len.false, c.len-place.ensures, c.len.ensures) in
+          let bound = a.log.table.extension.bound in
+          let last : length (map watched a.log.table.extension.watches.items) ≤ length a.log.table.extension.fresh.items = omega (arith, length-map a.log.table.extension.watches.items watched, c.if-place-len.false, c.len-place.ensures, c.len.ensures) in
           let base = c.swap.new.x.items in
           let fresh = c.clear.new.self.items in
-          let same : base ≡ a.extension.fresh.items = ap (λ (l : Listed ReadEntry). l.items) c.swap.ensures.x_after in
-          let kept : c.go_on.new.self.base.items ≡ base = ap (λ (l : Listed ReadEntry). l.items) c.in_ok-reached.ensures.base in
+          let same : base ≡ a.log.table.extension.fresh.items = ap (λ (l : Listed ReadEntry). l.items) c.swap.ensures.x_after in
           let r : Reader = record (reader_of a) { at = bound; base = base; fresh = fresh } in
-          let set : Recorded = c.go_on.new.self.set in
-          let all = map plain_reply c.go_on.new.self.replies.items in
+          let set : Recorded = c.go_on.new.self.table.set in
+          let all = map plain_reply c.go_on.new.self.table.replies.items in
           let phase = c.lead-read_phase.result.0 in
           let turn = c.lead-read_phase.result.1 in
-          let s : Reader = record r { phase = phase; base = c.go_on.new.self.base.items; set = set; heard = all; extended = c.still-self.result } in
-          let here : s ≡ record r { set = set; heard = all; extended = s.extended; phase = s.phase } = λ i. record r { phase = phase; base = kept i; set = set; heard = all; extended = c.still-self.result } in
-          let first : length (map plain_reply a.log.replies.items) ≡ heard = length-map a.log.replies.items plain_reply in
-          let last_one : length all ≡ now = length-map c.go_on.new.self.replies.items plain_reply in
-          let extended : IsTrue c.still-self.result ↔ (IsTrue a.extension.extended × (length all ≡ length (map plain_reply a.log.replies.items))) =
+          let s : Reader = record r { phase = phase; set = set; heard = all; extended = c.still-self.result } in
+          let first : length (map plain_reply a.log.table.replies.items) ≡ heard = length-map a.log.table.replies.items plain_reply in
+          let last_one : length all ≡ now = length-map c.go_on.new.self.table.replies.items plain_reply in
+          let extended : IsTrue c.still-self.result ↔ (IsTrue a.log.table.extension.extended × (length all ≡ length (map plain_reply a.log.table.replies.items))) =
           ((λ e. let h = iff.0 e in (h.0, omega (arith, h.1, first, last_one))), (λ h. iff.1 (h.0, omega (arith, h.1, first, last_one)))) in
           let come : HasComeTo m f r set all c.in_ok-reached.reached = c.in_ok-reached.ensures.comes r (refl, refl, refl) in
-          goes_over_is m f (reader_of a) s turn base fresh last same c.clear.ensures (runs_on_is m f r s set all c.in_ok-reached.reached turn come.0 come.1 c.lead-read_phase.ensures here extended);
-      left = advance_fewer m.widths a.extension.bound c.go_on.new.self.set.updates c.in_ok-reached.reached c.lead-read_phase.result.0 c.lead-read_phase.result.1 c.lead-read_phase.ensures before calls heard now a.extension.extended c.still-self.result a.words.items extension
-          c.go_on.new.self.base.items (drop (length a.extension.fresh.items) (map watched a.extension.watches.items)) refl c.requires.extended c.in_ok-reached.ensures.left on c.in_ok-reached.ensures.asks iff;
+          goes_over_is m f (reader_of a) s turn base fresh last same c.clear.ensures (runs_on_is m f r s set all c.in_ok-reached.reached turn come.0 come.1 c.lead-read_phase.ensures refl extended);
+      left = advance_fewer m.widths a.log.table.extension.bound c.go_on.new.self.table.set.updates c.in_ok-reached.reached c.lead-read_phase.result.0 c.lead-read_phase.result.1 c.lead-read_phase.ensures before calls heard now a.log.table.extension.extended c.still-self.result a.log.table.words.items extension
+          c.swap.new.x.items (drop (length a.log.table.extension.fresh.items) (map watched a.log.table.extension.watches.items)) refl c.requires.extended c.in_ok-reached.ensures.left on c.in_ok-reached.ensures.asks iff;
       stopped = search rules;
       script = search rules;
       left_at_reset = search rules;
       ty = search rules;
-    }
+    })
 
 pub returns-in_err-reached : goal.returns-in_err-reached
 returns-in_err-reached g c =
@@ -209,11 +205,11 @@ returns-in_err-reached g c =
       stopped = λ v spans. (let a = c.args.self.now in
           let m = g.T.TxType.meaning a.log.ty.now in
           let f = g.B.Body.script a.log.body in
-          let now = map plain_reply c.go_on.new.self.replies.items in
+          let now = map plain_reply c.go_on.new.self.table.replies.items in
           let made = c.swap.new.x.items in
-          let same : made ≡ a.extension.fresh.items = ap (λ (l : Listed ReadEntry). l.items) c.swap.ensures.x_after in
-          let claimed : AreClaimed v a.extension.bound made = subst (λ (l : List ReadEntry). AreClaimed v a.extension.bound l) (sym same) spans.renewed in
-          always_err c.from_residual.result (IsPrefix m f v a.extension.bound now) (prefix_of m f v a.extension.bound made now c.go_on.ensures.runs claimed));
+          let same : made ≡ a.log.table.extension.fresh.items = ap (λ (l : Listed ReadEntry). l.items) c.swap.ensures.x_after in
+          let claimed : AreClaimed v a.log.table.extension.bound made = subst (λ (l : List ReadEntry). AreClaimed v a.log.table.extension.bound l) (sym same) spans.renewed in
+          always_err c.from_residual.result (IsPrefix m f v a.log.table.extension.bound now) (prefix_of m f v a.log.table.extension.bound made now c.go_on.ensures.runs claimed));
       script = search rules;
       left_at_reset = search rules;
       ty = search rules;

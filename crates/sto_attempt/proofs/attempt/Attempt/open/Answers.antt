@@ -26,7 +26,7 @@ open-found-requires g c =
     let sizes = g.T.Naming.sizes a.log.ty.now in
     let valid = g.T.Naming.valid in
     let f = g.B.Body.script a.log.body in
-    let rs = map plain_reply a.log.replies.items in
+    let rs = map plain_reply a.log.table.replies.items in
     let v = g.C.Cells.view c.args.cells.now in
     let fits = c.requires.goes.0 in
     (fits.stands, has_part m law valid sizes f a.at c.args.part rs v fits.own (touched_next m f rs c.args.part fits.awaits.by_next))
@@ -37,13 +37,13 @@ returns-then-is_locked-clause-made g c =
     let n = c.open-found.result.0 in
     let locked : is_free n ≡ false = unlocked_is (is_free n) (sym c.is_locked.ensures ∙ c.if-is_locked.true) in
     let h =
-    open_locked (g.T.TxType.meaning a.log.ty.now) g.T.Naming.valid (g.T.Naming.sizes a.log.ty.now) (g.B.Body.script a.log.body) a.at c.args.part a.words.items a.log.base.items a.log.set.items a.log.set.updates
-    (map plain_reply a.log.replies.items) (g.C.Cells.view c.args.cells.now) (g.C.Cells.view c.open-found.new.self) (g.C.Cells.passes c.args.cells.now) n c.requires.goes.0 c.requires.log.log c.open-found.ensures.tells locked in
+    open_locked (g.T.TxType.meaning a.log.ty.now) g.T.Naming.valid (g.T.Naming.sizes a.log.ty.now) (g.B.Body.script a.log.body) a.at c.args.part a.log.table.words.items a.log.table.base.items a.log.table.set.items a.log.table.set.updates
+    (map plain_reply a.log.table.replies.items) (g.C.Cells.view c.args.cells.now) (g.C.Cells.view c.open-found.new.self) (g.C.Cells.passes c.args.cells.now) n c.requires.goes.0 c.requires.log.log c.open-found.ensures.tells locked in
     record {
       steps = record {
         event = search rules;
         log = c.requires.log;
-        turned = (refl, h.0, open_within (g.T.TxType.meaning a.log.ty.now) g.T.Naming.valid (g.T.Naming.sizes a.log.ty.now) (g.B.Body.script a.log.body) a.at c.args.part a.words.items a.log.base.items a.log.set.items a.log.set.updates (map plain_reply a.log.replies.items) (g.C.Cells.view c.args.cells.now) (g.C.Cells.view c.open-found.new.self) (g.C.Cells.passes c.args.cells.now) n c.requires.goes.0 c.requires.log.log c.open-found.ensures.tells, (refl, h.1));
+        turned = (refl, h.0, open_within (g.T.TxType.meaning a.log.ty.now) g.T.Naming.valid (g.T.Naming.sizes a.log.ty.now) (g.B.Body.script a.log.body) a.at c.args.part a.log.table.words.items a.log.table.base.items a.log.table.set.items a.log.table.set.updates (map plain_reply a.log.table.replies.items) (g.C.Cells.view c.args.cells.now) (g.C.Cells.view c.open-found.new.self) (g.C.Cells.passes c.args.cells.now) n c.requires.goes.0 c.requires.log.log c.open-found.ensures.tells, (refl, h.1));
         grown = heard_none _ _ _ _ _;
         alone = λ one first. (let v = g.C.Cells.view c.args.cells.now in
             let n = c.open-found.result.0 in
@@ -68,13 +68,13 @@ returns-then-ticket-self-clause-made g c =
     let m = g.T.TxType.meaning a.log.ty.now in
     let sizes = g.T.Naming.sizes a.log.ty.now in
     let f = g.B.Body.script a.log.body in
-    let rs = map plain_reply a.log.replies.items in
+    let rs = map plain_reply a.log.table.replies.items in
     let w = g.C.Cells.view c.open-found.new.self in
     let n = c.open-found.result.0 in
     let free : is_free n ≡ true = locked_is (is_free n) (sym c.is_locked.ensures ∙ c.if-is_locked.false) in
     let early : ticket_of n ≤ a.at = omega (arith, c.if-ticket-self.true, c.ticket-ticket.ensures.ticket) in
     let h =
-    open_goes m g.T.Naming.valid sizes f a.at c.args.part a.words.items a.log.base.items a.log.set.items a.log.set.updates rs (g.C.Cells.view c.args.cells.now) w (g.C.Cells.passes c.args.cells.now) n c.requires.goes.0
+    open_goes m g.T.Naming.valid sizes f a.at c.args.part a.log.table.words.items a.log.table.base.items a.log.table.set.items a.log.table.set.updates rs (g.C.Cells.view c.args.cells.now) w (g.C.Cells.passes c.args.cells.now) n c.requires.goes.0
     c.requires.log.log c.open-found.ensures.tells free early in
     let none : c.make_room.new.words.items ≡ [] = c.make_room.ensures in
     record {
@@ -82,8 +82,8 @@ returns-then-ticket-self-clause-made g c =
         event = search rules;
         log = c.requires.log;
         turned = (
-          subst (λ (ws : List ℤ). Fits m g.T.Naming.valid sizes f a.at (Reading c.args.part c.ticket-ticket.result) ws a.log.base.items a.log.set.updates rs w) (sym none)
-              (subst (λ (s : ℕ). Fits m g.T.Naming.valid sizes f a.at (Reading c.args.part s) [] a.log.base.items a.log.set.updates rs w) (sym c.ticket-ticket.ensures.ticket) h),
+          subst (λ (ws : List ℤ). Fits m g.T.Naming.valid sizes f a.at (Reading c.args.part c.ticket-ticket.result) ws a.log.table.base.items a.log.table.set.updates rs w) (sym none)
+              (subst (λ (s : ℕ). Fits m g.T.Naming.valid sizes f a.at (Reading c.args.part s) [] a.log.table.base.items a.log.table.set.updates rs w) (sym c.ticket-ticket.ensures.ticket) h),
           c.requires.goes.1,
         );
         grown = heard_none _ _ _ _ _;
@@ -106,25 +106,25 @@ returns-then-self-clause-made g c =
     let a = c.args.self.now in
     let m = g.T.TxType.meaning a.log.ty.now in
     let f = g.B.Body.script a.log.body in
-    let rs = map plain_reply a.log.replies.items in
+    let rs = map plain_reply a.log.table.replies.items in
     let w = g.C.Cells.view c.open-found.new.self in
     let n = c.open-found.result.0 in
     let free : is_free n ≡ true = locked_is (is_free n) (sym c.is_locked.ensures ∙ c.if-is_locked.false) in
     let later : a.at < ticket_of n = omega (arith, c.if-ticket-self.false, c.ticket-ticket.ensures.ticket) in
     let h =
-    open_changed m g.T.Naming.valid (g.T.Naming.sizes a.log.ty.now) f a.at c.args.part a.words.items a.log.base.items a.log.set.items a.log.set.updates rs (g.C.Cells.view c.args.cells.now) w
+    open_changed m g.T.Naming.valid (g.T.Naming.sizes a.log.ty.now) f a.at c.args.part a.log.table.words.items a.log.table.base.items a.log.table.set.items a.log.table.set.updates rs (g.C.Cells.view c.args.cells.now) w
     (g.C.Cells.passes c.args.cells.now) n c.requires.goes.0 c.requires.log.log c.open-found.ensures.tells free later in
     record {
       steps = record {
         event = search rules;
         log = c.requires.log;
-        turned = (refl, h.0, open_within (g.T.TxType.meaning a.log.ty.now) g.T.Naming.valid (g.T.Naming.sizes a.log.ty.now) (g.B.Body.script a.log.body) a.at c.args.part a.words.items a.log.base.items a.log.set.items a.log.set.updates (map plain_reply a.log.replies.items) (g.C.Cells.view c.args.cells.now) (g.C.Cells.view c.open-found.new.self) (g.C.Cells.passes c.args.cells.now) n c.requires.goes.0 c.requires.log.log c.open-found.ensures.tells, (refl, subst (λ (s : ℕ). WasChanged m f w a.at c.args.part s rs) (sym c.ticket-ticket.ensures.ticket) h.1));
+        turned = (refl, h.0, open_within (g.T.TxType.meaning a.log.ty.now) g.T.Naming.valid (g.T.Naming.sizes a.log.ty.now) (g.B.Body.script a.log.body) a.at c.args.part a.log.table.words.items a.log.table.base.items a.log.table.set.items a.log.table.set.updates (map plain_reply a.log.table.replies.items) (g.C.Cells.view c.args.cells.now) (g.C.Cells.view c.open-found.new.self) (g.C.Cells.passes c.args.cells.now) n c.requires.goes.0 c.requires.log.log c.open-found.ensures.tells, (refl, subst (λ (s : ℕ). WasChanged m f w a.at c.args.part s rs) (sym c.ticket-ticket.ensures.ticket) h.1));
         grown = heard_none _ _ _ _ _;
         alone = λ one first. (let v = g.C.Cells.view c.args.cells.now in
             let n = c.open-found.result.0 in
             let h = open_alone g.T.Naming.valid (g.C.Cells.passes c.args.cells.now) v (g.C.Cells.view c.open-found.new.self) c.args.part n (pos 0) c.requires.goes.0.unheld c.open-found.ensures.tells one in
             absurd (omega (arith, h.1, c.requires.goes.0.number, c.if-ticket-self.false, c.ticket-ticket.ensures.ticket)));
-        reason = by_open a.log.set.items (g.C.Cells.view c.open-found.new.self) c.args.part c.ticket-ticket.result a.extension.extended a.extension.bound c.if-self.true (omega (arith, c.if-ticket-self.false, c.requires.goes.1 c.if-self.true));
+        reason = by_open a.log.table.set.items (g.C.Cells.view c.open-found.new.self) c.args.part c.ticket-ticket.result a.log.table.extension.extended a.log.table.extension.bound c.if-self.true (omega (arith, c.if-ticket-self.false, c.requires.goes.1 c.if-self.true));
         renewed = (refl, λ e. (e, refl));
         moves = (tt, omega arith);
         left = search rules;
@@ -146,17 +146,17 @@ returns-clause-made g c =
     let m = g.T.TxType.meaning a.log.ty.now in
     let sizes = g.T.Naming.sizes a.log.ty.now in
     let f = g.B.Body.script a.log.body in
-    let rs = map plain_reply a.log.replies.items in
+    let rs = map plain_reply a.log.table.replies.items in
     let w = g.C.Cells.view c.open-found.new.self in
     let law = g.met.T.TxType.lawful a.log.ty.now in
-    let base = a.log.base.items in
+    let base = a.log.table.base.items in
     record {
       steps = record {
         event = search rules;
         log = c.requires.log;
-        turned = subst (λ (s : ℕ). Fits m g.T.Naming.valid sizes f a.at (Renewing c.args.part s) a.words.items a.log.base.items a.log.set.updates rs w) (sym c.ticket-ticket.ensures.ticket)
-            (open_renews (g.T.TxType.meaning a.log.ty.now) g.T.Naming.valid (g.T.Naming.sizes a.log.ty.now) (g.B.Body.script a.log.body) a.at c.args.part a.words.items a.log.base.items a.log.set.items a.log.set.updates
-            (map plain_reply a.log.replies.items) (g.C.Cells.view c.args.cells.now) (g.C.Cells.view c.open-found.new.self) (g.C.Cells.passes c.args.cells.now) n c.requires.goes.0 c.requires.log.log c.open-found.ensures.tells free later);
+        turned = subst (λ (s : ℕ). Fits m g.T.Naming.valid sizes f a.at (Renewing c.args.part s) a.log.table.words.items a.log.table.base.items a.log.table.set.updates rs w) (sym c.ticket-ticket.ensures.ticket)
+            (open_renews (g.T.TxType.meaning a.log.ty.now) g.T.Naming.valid (g.T.Naming.sizes a.log.ty.now) (g.B.Body.script a.log.body) a.at c.args.part a.log.table.words.items a.log.table.base.items a.log.table.set.items a.log.table.set.updates
+            (map plain_reply a.log.table.replies.items) (g.C.Cells.view c.args.cells.now) (g.C.Cells.view c.open-found.new.self) (g.C.Cells.passes c.args.cells.now) n c.requires.goes.0 c.requires.log.log c.open-found.ensures.tells free later);
         grown = heard_none _ _ _ _ _;
         alone = λ one first. (let v = g.C.Cells.view c.args.cells.now in
             let n = c.open-found.result.0 in
@@ -165,7 +165,7 @@ returns-clause-made g c =
         reason = search rules;
         renewed = (refl, λ e. (e, refl));
         moves = (tt, omega arith);
-        left = open_renew m law f rs c.args.part base a.log.set.updates c.requires.goes.0.awaits (g.B.Body.left a.log.body - 1) a.extension.extended c.if-self.false;
+        left = open_renew m law f rs c.args.part base a.log.table.set.updates c.requires.goes.0.awaits (g.B.Body.left a.log.body - 1) a.log.table.extension.extended c.if-self.false;
         err = tt;
         script = refl;
         left_at_reset = refl;

@@ -34,13 +34,13 @@ unreachable-requires g c =
     let sizes = g.T.Naming.sizes a.log.ty.now in
     let is : (d : Parts) → g.T.Naming.valid sizes d → m.valid d = λ d h. (g.met.T.TxType.valid_is a.log.ty.now d).1 h in
     let f = g.B.Body.script a.log.body in
-    let rs = map plain_reply a.log.replies.items in
+    let rs = map plain_reply a.log.table.replies.items in
     let v = g.C.Cells.view c.args.cells.now in
-    let fresh = a.extension.fresh.items in
-    let ws = map watched a.extension.watches.items in
+    let fresh = a.log.table.extension.fresh.items in
+    let ws = map watched a.log.table.extension.watches.items in
     let goes = c.requires.goes in
-    let none : words_in a.log.base.items c.args.part ≡ None = c.in_default.ensures.words in
-    some_none (words_in a.log.base.items c.args.part) (was_read m law g.T.Naming.valid sizes is f a.at a.extension.bound c.args.part true a.log.base.items fresh a.log.set.items ws a.log.set.updates rs v goes.spans goes.observed goes.stands.1 c.requires.log.log) none
+    let none : words_in a.log.table.base.items c.args.part ≡ None = c.in_default.ensures.words in
+    some_none (words_in a.log.table.base.items c.args.part) (was_read m law g.T.Naming.valid sizes is f a.at a.log.table.extension.bound c.args.part true a.log.table.base.items fresh a.log.table.set.items ws a.log.table.set.updates rs v goes.spans goes.observed goes.stands.1 c.requires.log.log) none
 
 pub recheck-found-requires : goal.recheck-found-requires
 recheck-found-requires g c =
@@ -50,14 +50,14 @@ recheck-found-requires g c =
     let sizes = g.T.Naming.sizes a.log.ty.now in
     let is : (d : Parts) → g.T.Naming.valid sizes d → m.valid d = λ d h. (g.met.T.TxType.valid_is a.log.ty.now d).1 h in
     let f = g.B.Body.script a.log.body in
-    let rs = map plain_reply a.log.replies.items in
+    let rs = map plain_reply a.log.table.replies.items in
     let v = g.C.Cells.view c.args.cells.now in
-    let fresh = a.extension.fresh.items in
-    let ws = map watched a.extension.watches.items in
+    let fresh = a.log.table.extension.fresh.items in
+    let ws = map watched a.log.table.extension.watches.items in
     let goes = c.requires.goes in
     let s : ReadEntry = entry_with c.in-Some.read_entry.part c.in-Some.read_entry.ticket c.in-Some.read_entry.words.now in
-    let there : Contains a.log.base.items s = c.in-Some.ensures.among in
-    recheck_allowed m law g.T.Naming.valid sizes is f a.at a.extension.bound c.args.part true a.log.base.items fresh a.log.set.items ws a.log.set.updates rs v goes.spans goes.observed goes.stands.1 c.requires.log.log goes.stands.0 s there c.in-Some.ensures.part
+    let there : Contains a.log.table.base.items s = c.in-Some.ensures.among in
+    recheck_allowed m law g.T.Naming.valid sizes is f a.at a.log.table.extension.bound c.args.part true a.log.table.base.items fresh a.log.table.set.items ws a.log.table.set.updates rs v goes.spans goes.observed goes.stands.1 c.requires.log.log goes.stands.0 s there c.in-Some.ensures.part
 
 pub returns-then-is_locked : goal.returns-then-is_locked
 returns-then-is_locked g c =
@@ -67,13 +67,13 @@ returns-then-is_locked g c =
     let sizes = g.T.Naming.sizes a.log.ty.now in
     let is : (d : Parts) → g.T.Naming.valid sizes d → m.valid d = λ d h. (g.met.T.TxType.valid_is a.log.ty.now d).1 h in
     let f = g.B.Body.script a.log.body in
-    let rs = map plain_reply a.log.replies.items in
+    let rs = map plain_reply a.log.table.replies.items in
     let v = g.C.Cells.view c.args.cells.now in
-    let fresh = a.extension.fresh.items in
-    let ws = map watched a.extension.watches.items in
+    let fresh = a.log.table.extension.fresh.items in
+    let ws = map watched a.log.table.extension.watches.items in
     let goes = c.requires.goes in
     let s : ReadEntry = entry_with c.in-Some.read_entry.part c.in-Some.read_entry.ticket c.in-Some.read_entry.words.now in
-    let there : Contains a.log.base.items s = c.in-Some.ensures.among in
+    let there : Contains a.log.table.base.items s = c.in-Some.ensures.among in
     let w = g.C.Cells.view c.recheck-found.new.self in
     let passes = g.C.Cells.passes c.args.cells.now in
     let n = c.recheck-found.result.0 in
@@ -82,13 +82,13 @@ returns-then-is_locked g c =
       steps = record {
         event = search rules;
         log = c.requires.log;
-        turned = (refl, rechecked_left m law g.T.Naming.valid sizes is f a.at a.extension.bound c.args.part true a.log.base.items fresh a.log.set.items ws a.log.set.updates rs v goes.spans goes.observed goes.stands.1 c.requires.log.log goes.stands.0 s there c.in-Some.ensures.part w passes n (pos 0) c.recheck-found.ensures.tells, rechecked_within m law g.T.Naming.valid sizes is f a.at a.extension.bound c.args.part true a.log.base.items fresh a.log.set.items ws a.log.set.updates rs v goes.spans goes.observed goes.stands.1 c.requires.log.log goes.stands.0 s there c.in-Some.ensures.part w passes n (pos 0) c.recheck-found.ensures.tells, (refl, rechecked_locked m law g.T.Naming.valid sizes is f a.at a.extension.bound c.args.part true a.log.base.items fresh a.log.set.items ws a.log.set.updates rs v goes.spans goes.observed goes.stands.1 c.requires.log.log goes.stands.0 s there c.in-Some.ensures.part w passes n (pos 0) c.recheck-found.ensures.tells (unsettled_calling f rs goes.asks) locked));
-        grown = heard_none (g.T.TxType.meaning a.log.ty.now) (g.B.Body.script a.log.body) (words_in a.log.base.items) (map plain_reply a.log.replies.items) a.log.set;
+        turned = (refl, rechecked_left m law g.T.Naming.valid sizes is f a.at a.log.table.extension.bound c.args.part true a.log.table.base.items fresh a.log.table.set.items ws a.log.table.set.updates rs v goes.spans goes.observed goes.stands.1 c.requires.log.log goes.stands.0 s there c.in-Some.ensures.part w passes n (pos 0) c.recheck-found.ensures.tells, rechecked_within m law g.T.Naming.valid sizes is f a.at a.log.table.extension.bound c.args.part true a.log.table.base.items fresh a.log.table.set.items ws a.log.table.set.updates rs v goes.spans goes.observed goes.stands.1 c.requires.log.log goes.stands.0 s there c.in-Some.ensures.part w passes n (pos 0) c.recheck-found.ensures.tells, (refl, rechecked_locked m law g.T.Naming.valid sizes is f a.at a.log.table.extension.bound c.args.part true a.log.table.base.items fresh a.log.table.set.items ws a.log.table.set.updates rs v goes.spans goes.observed goes.stands.1 c.requires.log.log goes.stands.0 s there c.in-Some.ensures.part w passes n (pos 0) c.recheck-found.ensures.tells (unsettled_calling f rs goes.asks) locked));
+        grown = heard_none (g.T.TxType.meaning a.log.ty.now) (g.B.Body.script a.log.body) (words_in a.log.table.base.items) (map plain_reply a.log.table.replies.items) a.log.table.set;
         alone = λ one first. absurd first;
         reason = tt;
         renewed = (refl, λ e. (e, refl));
         moves = (tt, omega arith);
-        left = recheck_over m.widths (words_in a.log.base.items) fresh ws c.args.part goes.stands.1 (g.B.Body.left a.log.body - 1);
+        left = recheck_over m.widths (words_in a.log.table.base.items) fresh ws c.args.part goes.stands.1 (g.B.Body.left a.log.body - 1);
         err = tt;
         script = refl;
         left_at_reset = refl;
@@ -105,32 +105,32 @@ returns-then-newer-ticket g c =
     let law = g.met.T.TxType.lawful a.log.ty.now in
     let sizes = g.T.Naming.sizes a.log.ty.now in
     let f = g.B.Body.script a.log.body in
-    let rs = map plain_reply a.log.replies.items in
+    let rs = map plain_reply a.log.table.replies.items in
     let v = g.C.Cells.view c.args.cells.now in
-    let fresh = a.extension.fresh.items in
-    let ws = map watched a.extension.watches.items in
+    let fresh = a.log.table.extension.fresh.items in
+    let ws = map watched a.log.table.extension.watches.items in
     let goes = c.requires.goes in
     let s : ReadEntry = entry_with c.in-Some.read_entry.part c.in-Some.read_entry.ticket c.in-Some.read_entry.words.now in
-    let there : Contains a.log.base.items s = c.in-Some.ensures.among in
+    let there : Contains a.log.table.base.items s = c.in-Some.ensures.among in
     let w = g.C.Cells.view c.recheck-found.new.self in
     let passes = g.C.Cells.passes c.args.cells.now in
     let n = c.recheck-found.result.0 in
     let free : is_free n ≡ true = locked_is (is_free n) (sym c.is_locked.ensures ∙ c.if-is_locked.false) in
     let is : (d : Parts) → g.T.Naming.valid sizes d → m.valid d = λ d h. (g.met.T.TxType.valid_is a.log.ty.now d).1 h in
     let ne : ticket_of n ≡ s.ticket → ⊥ = λ h. c.if-newer-ticket.true (c.ticket-newer.ensures.ticket ∙ h) in
-    let h = rechecked_changed m law g.T.Naming.valid sizes is f a.at a.extension.bound c.args.part true a.log.base.items fresh a.log.set.items ws a.log.set.updates rs v goes.spans goes.observed goes.stands.1 c.requires.log.log goes.stands.0 s there c.in-Some.ensures.part w passes n (pos 0) c.recheck-found.ensures.tells (unsettled_calling f rs goes.asks) free ne in
+    let h = rechecked_changed m law g.T.Naming.valid sizes is f a.at a.log.table.extension.bound c.args.part true a.log.table.base.items fresh a.log.table.set.items ws a.log.table.set.updates rs v goes.spans goes.observed goes.stands.1 c.requires.log.log goes.stands.0 s there c.in-Some.ensures.part w passes n (pos 0) c.recheck-found.ensures.tells (unsettled_calling f rs goes.asks) free ne in
     record {
       steps = record {
         event = search rules;
         log = c.requires.log;
-        turned = (refl, rechecked_left m law g.T.Naming.valid sizes is f a.at a.extension.bound c.args.part true a.log.base.items fresh a.log.set.items ws a.log.set.updates rs v goes.spans goes.observed goes.stands.1 c.requires.log.log goes.stands.0 s there c.in-Some.ensures.part w passes n (pos 0) c.recheck-found.ensures.tells, rechecked_within m law g.T.Naming.valid sizes is f a.at a.extension.bound c.args.part true a.log.base.items fresh a.log.set.items ws a.log.set.updates rs v goes.spans goes.observed goes.stands.1 c.requires.log.log goes.stands.0 s there c.in-Some.ensures.part w passes n (pos 0) c.recheck-found.ensures.tells, (refl, subst (λ (k : ℕ). WasChanged m f w a.at c.args.part k rs) (sym c.ticket-newer.ensures.ticket) h));
-        grown = heard_none (g.T.TxType.meaning a.log.ty.now) (g.B.Body.script a.log.body) (words_in a.log.base.items) (map plain_reply a.log.replies.items) a.log.set;
+        turned = (refl, rechecked_left m law g.T.Naming.valid sizes is f a.at a.log.table.extension.bound c.args.part true a.log.table.base.items fresh a.log.table.set.items ws a.log.table.set.updates rs v goes.spans goes.observed goes.stands.1 c.requires.log.log goes.stands.0 s there c.in-Some.ensures.part w passes n (pos 0) c.recheck-found.ensures.tells, rechecked_within m law g.T.Naming.valid sizes is f a.at a.log.table.extension.bound c.args.part true a.log.table.base.items fresh a.log.table.set.items ws a.log.table.set.updates rs v goes.spans goes.observed goes.stands.1 c.requires.log.log goes.stands.0 s there c.in-Some.ensures.part w passes n (pos 0) c.recheck-found.ensures.tells, (refl, subst (λ (k : ℕ). WasChanged m f w a.at c.args.part k rs) (sym c.ticket-newer.ensures.ticket) h));
+        grown = heard_none (g.T.TxType.meaning a.log.ty.now) (g.B.Body.script a.log.body) (words_in a.log.table.base.items) (map plain_reply a.log.table.replies.items) a.log.table.set;
         alone = λ one first. absurd first;
-        reason = by_read_entry a.log.set.items (g.C.Cells.view c.recheck-found.new.self) c.args.part c.ticket-newer.result a.extension.extended a.extension.bound
-            (next_seen (length (g.T.TxType.meaning a.log.ty.now).widths) (words_in a.log.base.items) a.extension.fresh.items ws c.args.part a.log.set.items c.requires.goes.observed c.requires.goes.stands.1);
+        reason = by_read_entry a.log.table.set.items (g.C.Cells.view c.recheck-found.new.self) c.args.part c.ticket-newer.result a.log.table.extension.extended a.log.table.extension.bound
+            (next_seen (length (g.T.TxType.meaning a.log.ty.now).widths) (words_in a.log.table.base.items) a.log.table.extension.fresh.items ws c.args.part a.log.table.set.items c.requires.goes.observed c.requires.goes.stands.1);
         renewed = (refl, λ e. (e, refl));
         moves = (tt, omega arith);
-        left = recheck_over m.widths (words_in a.log.base.items) fresh ws c.args.part goes.stands.1 (g.B.Body.left a.log.body - 1);
+        left = recheck_over m.widths (words_in a.log.table.base.items) fresh ws c.args.part goes.stands.1 (g.B.Body.left a.log.body - 1);
         err = tt;
         script = refl;
         left_at_reset = refl;
@@ -147,20 +147,20 @@ advance-requires g c =
     let law = g.met.T.TxType.lawful a.log.ty.now in
     let sizes = g.T.Naming.sizes a.log.ty.now in
     let f = g.B.Body.script a.log.body in
-    let rs = map plain_reply a.log.replies.items in
+    let rs = map plain_reply a.log.table.replies.items in
     let v = g.C.Cells.view c.args.cells.now in
-    let fresh = a.extension.fresh.items in
-    let ws = map watched a.extension.watches.items in
+    let fresh = a.log.table.extension.fresh.items in
+    let ws = map watched a.log.table.extension.watches.items in
     let goes = c.requires.goes in
     let s : ReadEntry = entry_with c.in-Some.read_entry.part c.in-Some.read_entry.ticket c.in-Some.read_entry.words.now in
-    let there : Contains a.log.base.items s = c.in-Some.ensures.among in
+    let there : Contains a.log.table.base.items s = c.in-Some.ensures.among in
     let w = g.C.Cells.view c.recheck-found.new.self in
     let passes = g.C.Cells.passes c.args.cells.now in
     let n = c.recheck-found.result.0 in
     let free : is_free n ≡ true = locked_is (is_free n) (sym c.is_locked.ensures ∙ c.if-is_locked.false) in
     let same : ticket_of n ≡ s.ticket = sym c.ticket-newer.ensures.ticket ∙ c.if-newer-ticket.false in
     let y : ReadEntry = entry_with c.args.part c.in-Some.read_entry.ticket c.in-Some.read_entry.words.now in
-    let known : words_in a.log.base.items c.args.part ≡ Some s.words.items = c.in-Some.ensures.words in
+    let known : words_in a.log.table.base.items c.args.part ≡ Some s.words.items = c.in-Some.ensures.words in
     let made : c.push.new.self.items ≡ fresh ++ y ∷ [] = c.in_ok-push.ensures.ok in
     record {
       log = c.requires.log;
@@ -169,16 +169,16 @@ advance-requires g c =
       asks = c.requires.goes.asks;
       renewed =
           let is : (d : Parts) → g.T.Naming.valid sizes d → m.valid d = λ d h. (g.met.T.TxType.valid_is a.log.ty.now d).1 h in
-          let h = rechecked_renewed m law g.T.Naming.valid sizes is f a.at a.extension.bound c.args.part true a.log.base.items fresh a.log.set.items ws a.log.set.updates rs v goes.spans goes.observed goes.stands.1 c.requires.log.log goes.stands.0 s there c.in-Some.ensures.part w passes n (pos 0) c.recheck-found.ensures.tells free same y refl refl refl known refl in
-          (goes.stands.1.more, subst (λ (l : List ReadEntry). IsRenewed (length m.widths) (words_in a.log.base.items) l ws goes.stands.1.more) (sym made) h);
+          let h = rechecked_renewed m law g.T.Naming.valid sizes is f a.at a.log.table.extension.bound c.args.part true a.log.table.base.items fresh a.log.table.set.items ws a.log.table.set.updates rs v goes.spans goes.observed goes.stands.1 c.requires.log.log goes.stands.0 s there c.in-Some.ensures.part w passes n (pos 0) c.recheck-found.ensures.tells free same y refl refl refl known refl in
+          (goes.stands.1.more, subst (λ (l : List ReadEntry). IsRenewed (length m.widths) (words_in a.log.table.base.items) l ws goes.stands.1.more) (sym made) h);
       bound = omega (arith, c.requires.goes.spans.above);
       some =
           let is : (d : Parts) → g.T.Naming.valid sizes d → m.valid d = λ d h. (g.met.T.TxType.valid_is a.log.ty.now d).1 h in
-          some_old m law g.T.Naming.valid sizes is f a.at a.extension.bound c.args.part true a.log.base.items fresh a.log.set.items ws a.log.set.updates rs v goes.spans goes.observed goes.stands.1 c.requires.log.log;
+          some_old m law g.T.Naming.valid sizes is f a.at a.log.table.extension.bound c.args.part true a.log.table.base.items fresh a.log.table.set.items ws a.log.table.set.updates rs v goes.spans goes.observed goes.stands.1 c.requires.log.log;
       some_new =
           let is : (d : Parts) → g.T.Naming.valid sizes d → m.valid d = λ d h. (g.met.T.TxType.valid_is a.log.ty.now d).1 h in
-          let h = rechecked_spans m law g.T.Naming.valid sizes is f a.at a.extension.bound c.args.part true a.log.base.items fresh a.log.set.items ws a.log.set.updates rs v goes.spans goes.observed goes.stands.1 c.requires.log.log goes.stands.0 s there c.in-Some.ensures.part w passes n (pos 0) c.recheck-found.ensures.tells free same y refl refl refl known in
-          let d = some_anew m law g.T.Naming.valid sizes is f a.at a.extension.bound c.args.part true a.log.base.items fresh a.log.set.items ws a.log.set.updates rs v goes.spans goes.observed goes.stands.1 c.requires.log.log w (fresh ++ y ∷ []) h.0 in
+          let h = rechecked_spans m law g.T.Naming.valid sizes is f a.at a.log.table.extension.bound c.args.part true a.log.table.base.items fresh a.log.table.set.items ws a.log.table.set.updates rs v goes.spans goes.observed goes.stands.1 c.requires.log.log goes.stands.0 s there c.in-Some.ensures.part w passes n (pos 0) c.recheck-found.ensures.tells free same y refl refl refl known in
+          let d = some_anew m law g.T.Naming.valid sizes is f a.at a.log.table.extension.bound c.args.part true a.log.table.base.items fresh a.log.table.set.items ws a.log.table.set.updates rs v goes.spans goes.observed goes.stands.1 c.requires.log.log w (fresh ++ y ∷ []) h.0 in
           subst (λ (l : List ReadEntry). (d : Parts) × m.valid d × IsPartOf (words_in l) d) (sym made) d;
     }
 
@@ -189,23 +189,23 @@ returns g c =
     let law = g.met.T.TxType.lawful a.log.ty.now in
     let sizes = g.T.Naming.sizes a.log.ty.now in
     let f = g.B.Body.script a.log.body in
-    let rs = map plain_reply a.log.replies.items in
+    let rs = map plain_reply a.log.table.replies.items in
     let v = g.C.Cells.view c.args.cells.now in
-    let fresh = a.extension.fresh.items in
-    let ws = map watched a.extension.watches.items in
+    let fresh = a.log.table.extension.fresh.items in
+    let ws = map watched a.log.table.extension.watches.items in
     let goes = c.requires.goes in
     let s : ReadEntry = entry_with c.in-Some.read_entry.part c.in-Some.read_entry.ticket c.in-Some.read_entry.words.now in
-    let there : Contains a.log.base.items s = c.in-Some.ensures.among in
+    let there : Contains a.log.table.base.items s = c.in-Some.ensures.among in
     let w = g.C.Cells.view c.recheck-found.new.self in
     let passes = g.C.Cells.passes c.args.cells.now in
     let n = c.recheck-found.result.0 in
     let free : is_free n ≡ true = locked_is (is_free n) (sym c.is_locked.ensures ∙ c.if-is_locked.false) in
     let same : ticket_of n ≡ s.ticket = sym c.ticket-newer.ensures.ticket ∙ c.if-newer-ticket.false in
     let y : ReadEntry = entry_with c.args.part c.in-Some.read_entry.ticket c.in-Some.read_entry.words.now in
-    let known : words_in a.log.base.items c.args.part ≡ Some s.words.items = c.in-Some.ensures.words in
+    let known : words_in a.log.table.base.items c.args.part ≡ Some s.words.items = c.in-Some.ensures.words in
     let made : c.push.new.self.items ≡ fresh ++ y ∷ [] = c.in_ok-push.ensures.ok in
     let b = c.advance.new.self in
-    let old = words_in a.log.base.items in
+    let old = words_in a.log.table.base.items in
     let next = goes.stands.1 in
     let before = g.B.Body.left a.log.body in
     record {
@@ -214,28 +214,28 @@ returns g c =
         log = c.advance.ensures.log;
         turned =
             let is : (d : Parts) → g.T.Naming.valid sizes d → m.valid d = λ d h. (g.met.T.TxType.valid_is a.log.ty.now d).1 h in
-            let h = rechecked_spans m law g.T.Naming.valid sizes is f a.at a.extension.bound c.args.part true a.log.base.items fresh a.log.set.items ws a.log.set.updates rs v goes.spans goes.observed goes.stands.1 c.requires.log.log goes.stands.0 s there c.in-Some.ensures.part w passes n (pos 0) c.recheck-found.ensures.tells free same y refl refl refl known in
-            c.advance.ensures.turned w (subst (λ (l : List ReadEntry). Spans m g.T.Naming.valid sizes a.at a.extension.bound a.log.base.items l w) (sym made) h.0) h.1;
+            let h = rechecked_spans m law g.T.Naming.valid sizes is f a.at a.log.table.extension.bound c.args.part true a.log.table.base.items fresh a.log.table.set.items ws a.log.table.set.updates rs v goes.spans goes.observed goes.stands.1 c.requires.log.log goes.stands.0 s there c.in-Some.ensures.part w passes n (pos 0) c.recheck-found.ensures.tells free same y refl refl refl known in
+            c.advance.ensures.turned w (subst (λ (l : List ReadEntry). Spans m g.T.Naming.valid sizes a.at a.log.table.extension.bound a.log.table.base.items l w) (sym made) h.0) h.1;
         grown = c.advance.ensures.grown;
         alone = λ one first. absurd first;
-        reason = unaborted_ok (Recheck c.args.part) c.advance.new.self.log.set.items (g.C.Cells.view c.recheck-found.new.self) a.extension c.advance.result c.advance.ensures.unaborted;
+        reason = unaborted_ok (Recheck c.args.part) c.advance.new.self.log.table.set.items (g.C.Cells.view c.recheck-found.new.self) a.log.table.extension c.advance.result c.advance.ensures.unaborted;
         renewed =
-            let now = map plain_reply b.log.replies.items in
-            ok_map c.advance.result ((b.extension.bound ≡ a.extension.bound) × (b.extension.extended ≡ true → now ≡ rs)) ((b.extension.bound ≡ a.extension.bound) × (b.extension.extended ≡ true → (a.extension.extended ≡ true) × (now ≡ rs)))
+            let now = map plain_reply b.log.table.replies.items in
+            ok_map c.advance.result ((b.log.table.extension.bound ≡ a.log.table.extension.bound) × (b.log.table.extension.extended ≡ true → now ≡ rs)) ((b.log.table.extension.bound ≡ a.log.table.extension.bound) × (b.log.table.extension.extended ≡ true → (a.log.table.extension.extended ≡ true) × (now ≡ rs)))
             (λ h. (h.0, λ e. (c.requires.goes.extended, h.1 e))) c.advance.ensures.renewed;
         moves = c.advance.ensures.moves;
         left =
             let is : (d : Parts) → g.T.Naming.valid sizes d → m.valid d = λ d h. (g.met.T.TxType.valid_is a.log.ty.now d).1 h in
-            let h = rechecked_renewed m law g.T.Naming.valid sizes is f a.at a.extension.bound c.args.part true a.log.base.items fresh a.log.set.items ws a.log.set.updates rs v goes.spans goes.observed goes.stands.1 c.requires.log.log goes.stands.0 s there c.in-Some.ensures.part w passes n (pos 0) c.recheck-found.ensures.tells free same y refl refl refl known refl in
+            let h = rechecked_renewed m law g.T.Naming.valid sizes is f a.at a.log.table.extension.bound c.args.part true a.log.table.base.items fresh a.log.table.set.items ws a.log.table.set.updates rs v goes.spans goes.observed goes.stands.1 c.requires.log.log goes.stands.0 s there c.in-Some.ensures.part w passes n (pos 0) c.recheck-found.ensures.tells free same y refl refl refl known refl in
             let gone : drop (length c.push.new.self.items) ws ≡ next.more = ap (λ (l : List ReadEntry). drop (length l) ws) made ∙ left_watches (length m.widths) old (fresh ++ y ∷ []) ws next.more h in
-            let now = events_left (g.B.Body.left b.log.body) m.widths b.read_phase b.words.items b.extension b.log.base.items in
+            let now = events_left (g.B.Body.left b.log.body) m.widths b.read_phase b.log.table.words.items b.log.table.extension b.log.table.base.items in
             let fewer : OnOk c.advance.result (now < 1 + left_extending (before - 1) m.widths next.more) =
             subst (λ (l : List Watched). OnOk c.advance.result (now < 1 + left_extending (before - 1) m.widths l)) gone c.advance.ensures.left in
             ok_map c.advance.result (now < 1 + left_extending (before - 1) m.widths next.more) (now < left_extending (before - 1) m.widths (drop (length fresh) ws))
             (recheck_fewer m.widths old fresh ws c.args.part next (before - 1) now) fewer;
         err =
             let is : (d : Parts) → g.T.Naming.valid sizes d → m.valid d = λ d h. (g.met.T.TxType.valid_is a.log.ty.now d).1 h in
-            let left : IsLeft w = rechecked_left m law g.T.Naming.valid sizes is f a.at a.extension.bound c.args.part true a.log.base.items fresh a.log.set.items ws a.log.set.updates rs v goes.spans goes.observed goes.stands.1 c.requires.log.log goes.stands.0 s there c.in-Some.ensures.part w passes n (pos 0) c.recheck-found.ensures.tells in
+            let left : IsLeft w = rechecked_left m law g.T.Naming.valid sizes is f a.at a.log.table.extension.bound c.args.part true a.log.table.base.items fresh a.log.table.set.items ws a.log.table.set.updates rs v goes.spans goes.observed goes.stands.1 c.requires.log.log goes.stands.0 s there c.in-Some.ensures.part w passes n (pos 0) c.recheck-found.ensures.tells in
             always_err c.advance.result (IsLeft w) left;
         script = c.advance.ensures.script;
         left_at_reset = c.advance.ensures.left_at_reset;
@@ -243,8 +243,8 @@ returns g c =
       };
       stopped =
           let is : (d : Parts) → g.T.Naming.valid sizes d → m.valid d = λ d h. (g.met.T.TxType.valid_is a.log.ty.now d).1 h in
-          let h = rechecked_spans m law g.T.Naming.valid sizes is f a.at a.extension.bound c.args.part true a.log.base.items fresh a.log.set.items ws a.log.set.updates rs v goes.spans goes.observed goes.stands.1 c.requires.log.log goes.stands.0 s there c.in-Some.ensures.part w passes n (pos 0) c.recheck-found.ensures.tells free same y refl refl refl known in
-          c.advance.ensures.stopped w (subst (λ (l : List ReadEntry). Spans m g.T.Naming.valid sizes a.at a.extension.bound a.log.base.items l w) (sym made) h.0);
+          let h = rechecked_spans m law g.T.Naming.valid sizes is f a.at a.log.table.extension.bound c.args.part true a.log.table.base.items fresh a.log.table.set.items ws a.log.table.set.updates rs v goes.spans goes.observed goes.stands.1 c.requires.log.log goes.stands.0 s there c.in-Some.ensures.part w passes n (pos 0) c.recheck-found.ensures.tells free same y refl refl refl known in
+          c.advance.ensures.stopped w (subst (λ (l : List ReadEntry). Spans m g.T.Naming.valid sizes a.at a.log.table.extension.bound a.log.table.base.items l w) (sym made) h.0);
       same = c.recheck-found.ensures.same;
     }
 
@@ -256,17 +256,17 @@ returns-then-len g c =
     let sizes = g.T.Naming.sizes a.log.ty.now in
     let is : (d : Parts) → g.T.Naming.valid sizes d → m.valid d = λ d h. (g.met.T.TxType.valid_is a.log.ty.now d).1 h in
     let f = g.B.Body.script a.log.body in
-    let rs = map plain_reply a.log.replies.items in
+    let rs = map plain_reply a.log.table.replies.items in
     let v = g.C.Cells.view c.args.cells.now in
-    let fresh = a.extension.fresh.items in
-    let ws = map watched a.extension.watches.items in
+    let fresh = a.log.table.extension.fresh.items in
+    let ws = map watched a.log.table.extension.watches.items in
     let goes = c.requires.goes in
     let passes = g.C.Cells.passes c.args.cells.now in
     let s : ReadEntry = entry_with c.in-Some.read_entry.part c.in-Some.read_entry.ticket c.in-Some.read_entry.words.now in
-    let there : Contains a.log.base.items s = c.in-Some.ensures.among in
+    let there : Contains a.log.table.base.items s = c.in-Some.ensures.among in
     let w = g.C.Cells.view c.recheck-found.new.self in
     let n = c.recheck-found.result.0 in
-    let stops : IsLeft w × IsPrefix m f w a.at rs = (rechecked_left m law g.T.Naming.valid sizes is f a.at a.extension.bound c.args.part true a.log.base.items fresh a.log.set.items ws a.log.set.updates rs v goes.spans goes.observed goes.stands.1 c.requires.log.log goes.stands.0 s there c.in-Some.ensures.part w passes n (pos 0) c.recheck-found.ensures.tells, rechecked_prefix m law g.T.Naming.valid sizes is f a.at a.extension.bound c.args.part true a.log.base.items fresh a.log.set.items ws a.log.set.updates rs v goes.spans goes.observed goes.stands.1 c.requires.log.log goes.stands.0 s there c.in-Some.ensures.part w passes n (pos 0) c.recheck-found.ensures.tells) in
+    let stops : IsLeft w × IsPrefix m f w a.at rs = (rechecked_left m law g.T.Naming.valid sizes is f a.at a.log.table.extension.bound c.args.part true a.log.table.base.items fresh a.log.table.set.items ws a.log.table.set.updates rs v goes.spans goes.observed goes.stands.1 c.requires.log.log goes.stands.0 s there c.in-Some.ensures.part w passes n (pos 0) c.recheck-found.ensures.tells, rechecked_prefix m law g.T.Naming.valid sizes is f a.at a.log.table.extension.bound c.args.part true a.log.table.base.items fresh a.log.table.set.items ws a.log.table.set.updates rs v goes.spans goes.observed goes.stands.1 c.requires.log.log goes.stands.0 s there c.in-Some.ensures.part w passes n (pos 0) c.recheck-found.ensures.tells) in
     record {
       steps = record {
         event = search rules;
@@ -295,17 +295,17 @@ returns-in_err-push g c =
     let sizes = g.T.Naming.sizes a.log.ty.now in
     let is : (d : Parts) → g.T.Naming.valid sizes d → m.valid d = λ d h. (g.met.T.TxType.valid_is a.log.ty.now d).1 h in
     let f = g.B.Body.script a.log.body in
-    let rs = map plain_reply a.log.replies.items in
+    let rs = map plain_reply a.log.table.replies.items in
     let v = g.C.Cells.view c.args.cells.now in
-    let fresh = a.extension.fresh.items in
-    let ws = map watched a.extension.watches.items in
+    let fresh = a.log.table.extension.fresh.items in
+    let ws = map watched a.log.table.extension.watches.items in
     let goes = c.requires.goes in
     let passes = g.C.Cells.passes c.args.cells.now in
     let s : ReadEntry = entry_with c.in-Some.read_entry.part c.in-Some.read_entry.ticket c.in-Some.read_entry.words.now in
-    let there : Contains a.log.base.items s = c.in-Some.ensures.among in
+    let there : Contains a.log.table.base.items s = c.in-Some.ensures.among in
     let w = g.C.Cells.view c.recheck-found.new.self in
     let n = c.recheck-found.result.0 in
-    let stops : IsLeft w × IsPrefix m f w a.at rs = (rechecked_left m law g.T.Naming.valid sizes is f a.at a.extension.bound c.args.part true a.log.base.items fresh a.log.set.items ws a.log.set.updates rs v goes.spans goes.observed goes.stands.1 c.requires.log.log goes.stands.0 s there c.in-Some.ensures.part w passes n (pos 0) c.recheck-found.ensures.tells, rechecked_prefix m law g.T.Naming.valid sizes is f a.at a.extension.bound c.args.part true a.log.base.items fresh a.log.set.items ws a.log.set.updates rs v goes.spans goes.observed goes.stands.1 c.requires.log.log goes.stands.0 s there c.in-Some.ensures.part w passes n (pos 0) c.recheck-found.ensures.tells) in
+    let stops : IsLeft w × IsPrefix m f w a.at rs = (rechecked_left m law g.T.Naming.valid sizes is f a.at a.log.table.extension.bound c.args.part true a.log.table.base.items fresh a.log.table.set.items ws a.log.table.set.updates rs v goes.spans goes.observed goes.stands.1 c.requires.log.log goes.stands.0 s there c.in-Some.ensures.part w passes n (pos 0) c.recheck-found.ensures.tells, rechecked_prefix m law g.T.Naming.valid sizes is f a.at a.log.table.extension.bound c.args.part true a.log.table.base.items fresh a.log.table.set.items ws a.log.table.set.updates rs v goes.spans goes.observed goes.stands.1 c.requires.log.log goes.stands.0 s there c.in-Some.ensures.part w passes n (pos 0) c.recheck-found.ensures.tells) in
     record {
       steps = record {
         event = search rules;

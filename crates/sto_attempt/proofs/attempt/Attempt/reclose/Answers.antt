@@ -42,22 +42,22 @@ close-found-requires g c =
     let sizes = g.T.Naming.sizes a.log.ty.now in
     let is : (d : Parts) → g.T.Naming.valid sizes d → m.valid d = λ d h. (g.met.T.TxType.valid_is a.log.ty.now d).1 h in
     let f = g.B.Body.script a.log.body in
-    let rs = map plain_reply a.log.replies.items in
+    let rs = map plain_reply a.log.table.replies.items in
     let v = g.C.Cells.view c.args.cells.now in
-    let fresh = a.extension.fresh.items in
-    let ws = map watched a.extension.watches.items in
+    let fresh = a.log.table.extension.fresh.items in
+    let ws = map watched a.log.table.extension.watches.items in
     let goes = c.requires.before.goes in
-    reclose_allowed m law g.T.Naming.valid sizes is f a.at a.extension.bound c.args.part false a.log.base.items fresh a.log.set.items ws a.log.set.updates rs v goes.spans goes.observed goes.stands.3 c.requires.before.log.log c.args.ticket a.words.items goes.stands.0 goes.stands.1 c.requires.all
+    reclose_allowed m law g.T.Naming.valid sizes is f a.at a.log.table.extension.bound c.args.part false a.log.table.base.items fresh a.log.table.set.items ws a.log.table.set.updates rs v goes.spans goes.observed goes.stands.3 c.requires.before.log.log c.args.ticket a.log.table.words.items goes.stands.0 goes.stands.1 c.requires.all
 
 pub get-watch-requires : goal.get-watch-requires
 get-watch-requires g c =
     let a = c.args.self.now in
     let m = g.T.TxType.meaning a.log.ty.now in
-    let fresh = a.extension.fresh.items in
-    let ws = map watched a.extension.watches.items in
+    let fresh = a.log.table.extension.fresh.items in
+    let ws = map watched a.log.table.extension.watches.items in
     let goes = c.requires.before.goes in
-    let short = next_short (length m.widths) (words_in a.log.base.items) fresh ws false c.args.part goes.stands.3 in
-    omega (arith, short, length-map a.extension.watches.items watched, c.len-place.ensures)
+    let short = next_short (length m.widths) (words_in a.log.table.base.items) fresh ws false c.args.part goes.stands.3 in
+    omega (arith, short, length-map a.log.table.extension.watches.items watched, c.len-place.ensures)
 
 pub returns-then-is_locked : goal.returns-then-is_locked
 returns-then-is_locked g c =
@@ -67,10 +67,10 @@ returns-then-is_locked g c =
     let sizes = g.T.Naming.sizes a.log.ty.now in
     let is : (d : Parts) → g.T.Naming.valid sizes d → m.valid d = λ d h. (g.met.T.TxType.valid_is a.log.ty.now d).1 h in
     let f = g.B.Body.script a.log.body in
-    let rs = map plain_reply a.log.replies.items in
+    let rs = map plain_reply a.log.table.replies.items in
     let v = g.C.Cells.view c.args.cells.now in
-    let fresh = a.extension.fresh.items in
-    let ws = map watched a.extension.watches.items in
+    let fresh = a.log.table.extension.fresh.items in
+    let ws = map watched a.log.table.extension.watches.items in
     let goes = c.requires.before.goes in
     let w = g.C.Cells.view c.close-found.new.self in
     let passes = g.C.Cells.passes c.args.cells.now in
@@ -80,13 +80,13 @@ returns-then-is_locked g c =
       steps = record {
         event = search rules;
         log = c.requires.before.log;
-        turned = (refl, reclosed_left m law g.T.Naming.valid sizes is f a.at a.extension.bound c.args.part false a.log.base.items fresh a.log.set.items ws a.log.set.updates rs v goes.spans goes.observed goes.stands.3 c.requires.before.log.log c.args.ticket a.words.items goes.stands.0 goes.stands.1 c.requires.all w passes n c.close-found.ensures.tells, reclosed_within m law g.T.Naming.valid sizes is f a.at a.extension.bound c.args.part false a.log.base.items fresh a.log.set.items ws a.log.set.updates rs v goes.spans goes.observed goes.stands.3 c.requires.before.log.log c.args.ticket a.words.items goes.stands.0 goes.stands.1 c.requires.all w passes n c.close-found.ensures.tells, (refl, reclosed_locked m law g.T.Naming.valid sizes is f a.at a.extension.bound c.args.part false a.log.base.items fresh a.log.set.items ws a.log.set.updates rs v goes.spans goes.observed goes.stands.3 c.requires.before.log.log c.args.ticket a.words.items goes.stands.0 goes.stands.1 c.requires.all w passes n c.close-found.ensures.tells (unsettled_calling f rs goes.asks) locked));
-        grown = heard_none (g.T.TxType.meaning a.log.ty.now) (g.B.Body.script a.log.body) (words_in a.log.base.items) (map plain_reply a.log.replies.items) a.log.set;
+        turned = (refl, reclosed_left m law g.T.Naming.valid sizes is f a.at a.log.table.extension.bound c.args.part false a.log.table.base.items fresh a.log.table.set.items ws a.log.table.set.updates rs v goes.spans goes.observed goes.stands.3 c.requires.before.log.log c.args.ticket a.log.table.words.items goes.stands.0 goes.stands.1 c.requires.all w passes n c.close-found.ensures.tells, reclosed_within m law g.T.Naming.valid sizes is f a.at a.log.table.extension.bound c.args.part false a.log.table.base.items fresh a.log.table.set.items ws a.log.table.set.updates rs v goes.spans goes.observed goes.stands.3 c.requires.before.log.log c.args.ticket a.log.table.words.items goes.stands.0 goes.stands.1 c.requires.all w passes n c.close-found.ensures.tells, (refl, reclosed_locked m law g.T.Naming.valid sizes is f a.at a.log.table.extension.bound c.args.part false a.log.table.base.items fresh a.log.table.set.items ws a.log.table.set.updates rs v goes.spans goes.observed goes.stands.3 c.requires.before.log.log c.args.ticket a.log.table.words.items goes.stands.0 goes.stands.1 c.requires.all w passes n c.close-found.ensures.tells (unsettled_calling f rs goes.asks) locked));
+        grown = heard_none (g.T.TxType.meaning a.log.ty.now) (g.B.Body.script a.log.body) (words_in a.log.table.base.items) (map plain_reply a.log.table.replies.items) a.log.table.set;
         alone = λ one first. absurd first;
         reason = tt;
         renewed = (refl, λ e. (e, refl));
         moves = (tt, omega arith);
-        left = reclose_over m.widths (words_in a.log.base.items) fresh ws c.args.part goes.stands.3 (g.B.Body.left a.log.body - 1) (length a.words.items) c.requires.all;
+        left = reclose_over m.widths (words_in a.log.table.base.items) fresh ws c.args.part goes.stands.3 (g.B.Body.left a.log.body - 1) (length a.log.table.words.items) c.requires.all;
         err = tt;
         script = refl;
         left_at_reset = refl;
@@ -103,10 +103,10 @@ returns-then-newer-ticket g c =
     let law = g.met.T.TxType.lawful a.log.ty.now in
     let sizes = g.T.Naming.sizes a.log.ty.now in
     let f = g.B.Body.script a.log.body in
-    let rs = map plain_reply a.log.replies.items in
+    let rs = map plain_reply a.log.table.replies.items in
     let v = g.C.Cells.view c.args.cells.now in
-    let fresh = a.extension.fresh.items in
-    let ws = map watched a.extension.watches.items in
+    let fresh = a.log.table.extension.fresh.items in
+    let ws = map watched a.log.table.extension.watches.items in
     let goes = c.requires.before.goes in
     let w = g.C.Cells.view c.close-found.new.self in
     let passes = g.C.Cells.passes c.args.cells.now in
@@ -114,18 +114,18 @@ returns-then-newer-ticket g c =
     let free : is_free n ≡ true = locked_is (is_free n) (sym c.is_locked.ensures ∙ c.if-is_locked.false) in
     let is : (d : Parts) → g.T.Naming.valid sizes d → m.valid d = λ d h. (g.met.T.TxType.valid_is a.log.ty.now d).1 h in
     let ne : ticket_of n ≡ c.args.ticket → ⊥ = λ h. c.if-newer-ticket.true (c.ticket-newer.ensures.ticket ∙ h) in
-    let h = reclosed_changed m law g.T.Naming.valid sizes is f a.at a.extension.bound c.args.part false a.log.base.items fresh a.log.set.items ws a.log.set.updates rs v goes.spans goes.observed goes.stands.3 c.requires.before.log.log c.args.ticket a.words.items goes.stands.0 goes.stands.1 c.requires.all w passes n c.close-found.ensures.tells (unsettled_calling f rs goes.asks) free ne in
+    let h = reclosed_changed m law g.T.Naming.valid sizes is f a.at a.log.table.extension.bound c.args.part false a.log.table.base.items fresh a.log.table.set.items ws a.log.table.set.updates rs v goes.spans goes.observed goes.stands.3 c.requires.before.log.log c.args.ticket a.log.table.words.items goes.stands.0 goes.stands.1 c.requires.all w passes n c.close-found.ensures.tells (unsettled_calling f rs goes.asks) free ne in
     record {
       steps = record {
         event = search rules;
         log = c.requires.before.log;
-        turned = (refl, reclosed_left m law g.T.Naming.valid sizes is f a.at a.extension.bound c.args.part false a.log.base.items fresh a.log.set.items ws a.log.set.updates rs v goes.spans goes.observed goes.stands.3 c.requires.before.log.log c.args.ticket a.words.items goes.stands.0 goes.stands.1 c.requires.all w passes n c.close-found.ensures.tells, reclosed_within m law g.T.Naming.valid sizes is f a.at a.extension.bound c.args.part false a.log.base.items fresh a.log.set.items ws a.log.set.updates rs v goes.spans goes.observed goes.stands.3 c.requires.before.log.log c.args.ticket a.words.items goes.stands.0 goes.stands.1 c.requires.all w passes n c.close-found.ensures.tells, (refl, subst (λ (k : ℕ). WasChanged m f w a.at c.args.part k rs) (sym c.ticket-newer.ensures.ticket) h));
-        grown = heard_none (g.T.TxType.meaning a.log.ty.now) (g.B.Body.script a.log.body) (words_in a.log.base.items) (map plain_reply a.log.replies.items) a.log.set;
+        turned = (refl, reclosed_left m law g.T.Naming.valid sizes is f a.at a.log.table.extension.bound c.args.part false a.log.table.base.items fresh a.log.table.set.items ws a.log.table.set.updates rs v goes.spans goes.observed goes.stands.3 c.requires.before.log.log c.args.ticket a.log.table.words.items goes.stands.0 goes.stands.1 c.requires.all w passes n c.close-found.ensures.tells, reclosed_within m law g.T.Naming.valid sizes is f a.at a.log.table.extension.bound c.args.part false a.log.table.base.items fresh a.log.table.set.items ws a.log.table.set.updates rs v goes.spans goes.observed goes.stands.3 c.requires.before.log.log c.args.ticket a.log.table.words.items goes.stands.0 goes.stands.1 c.requires.all w passes n c.close-found.ensures.tells, (refl, subst (λ (k : ℕ). WasChanged m f w a.at c.args.part k rs) (sym c.ticket-newer.ensures.ticket) h));
+        grown = heard_none (g.T.TxType.meaning a.log.ty.now) (g.B.Body.script a.log.body) (words_in a.log.table.base.items) (map plain_reply a.log.table.replies.items) a.log.table.set;
         alone = λ one first. absurd first;
-        reason = by_close a.log.set.items (g.C.Cells.view c.close-found.new.self) c.args.part c.ticket-newer.result a.extension.extended a.extension.bound;
+        reason = by_close a.log.table.set.items (g.C.Cells.view c.close-found.new.self) c.args.part c.ticket-newer.result a.log.table.extension.extended a.log.table.extension.bound;
         renewed = (refl, λ e. (e, refl));
         moves = (tt, omega arith);
-        left = reclose_over m.widths (words_in a.log.base.items) fresh ws c.args.part goes.stands.3 (g.B.Body.left a.log.body - 1) (length a.words.items) c.requires.all;
+        left = reclose_over m.widths (words_in a.log.table.base.items) fresh ws c.args.part goes.stands.3 (g.B.Body.left a.log.body - 1) (length a.log.table.words.items) c.requires.all;
         err = tt;
         script = refl;
         left_at_reset = refl;
@@ -143,38 +143,38 @@ returns-then-not-are_true g c =
     let sizes = g.T.Naming.sizes a.log.ty.now in
     let is : (d : Parts) → g.T.Naming.valid sizes d → m.valid d = λ d h. (g.met.T.TxType.valid_is a.log.ty.now d).1 h in
     let f = g.B.Body.script a.log.body in
-    let rs = map plain_reply a.log.replies.items in
+    let rs = map plain_reply a.log.table.replies.items in
     let v = g.C.Cells.view c.args.cells.now in
-    let fresh = a.extension.fresh.items in
-    let ws = map watched a.extension.watches.items in
+    let fresh = a.log.table.extension.fresh.items in
+    let ws = map watched a.log.table.extension.watches.items in
     let goes = c.requires.before.goes in
     let w = g.C.Cells.view c.close-found.new.self in
     let passes = g.C.Cells.passes c.args.cells.now in
     let n = c.close-found.result.0 in
     let free : is_free n ≡ true = locked_is (is_free n) (sym c.is_locked.ensures ∙ c.if-is_locked.false) in
     let same : ticket_of n ≡ c.args.ticket = sym c.ticket-newer.ensures.ticket ∙ c.if-newer-ticket.false in
-    let old = words_in a.log.base.items in
+    let old = words_in a.log.table.base.items in
     let e : slice_get ws (length fresh) ≡ Some (watched c.get-watch.result.now) =
-    slice_get-map watched a.extension.watches.items (length fresh) ∙ ap (option_map watched) (ap (slice_get a.extension.watches.items) (sym c.len-place.ensures) ∙ c.get-watch.ensures) in
+    slice_get-map watched a.log.table.extension.watches.items (length fresh) ∙ ap (option_map watched) (ap (slice_get a.log.table.extension.watches.items) (sym c.len-place.ensures) ∙ c.get-watch.ensures) in
     let next : IsNext (length m.widths) old fresh ws false c.args.part = goes.stands.3 in
     let is_next : next.next ≡ watched c.get-watch.result.now = some_same next.next (watched c.get-watch.result.now) (sym (next_place (length m.widths) old fresh ws false c.args.part next) ∙ e) in
     let preds : List Pred = c.get-watch.result.now.preds.items in
     let same_preds : next.next.preds ≡ preds = ap (λ (x : Watched). x.preds) is_next in
-    let are : preds ≡ preds_on c.args.part a.log.set.items = sym same_preds ∙ next_preds (length m.widths) old fresh ws c.args.part a.log.set.items goes.observed next in
-    let fails : AllTrueIn a.words.items preds → ⊥ = λ h. true≢false (sym (c.are_true.ensures.1 (subst (λ (l : List ℤ). AllTrueIn l c.as_slice.result.now) (sym c.as_slice-2.ensures.items) (subst (λ (l : List Pred). AllTrueIn a.words.items l) (sym c.as_slice.ensures.items) h))) ∙ c.if-not-are_true.true) in
+    let are : preds ≡ preds_on c.args.part a.log.table.set.items = sym same_preds ∙ next_preds (length m.widths) old fresh ws c.args.part a.log.table.set.items goes.observed next in
+    let fails : AllTrueIn a.log.table.words.items preds → ⊥ = λ h. true≢false (sym (c.are_true.ensures.1 (subst (λ (l : List ℤ). AllTrueIn l c.as_slice.result.now) (sym c.as_slice-2.ensures.items) (subst (λ (l : List Pred). AllTrueIn a.log.table.words.items l) (sym c.as_slice.ensures.items) h))) ∙ c.if-not-are_true.true) in
     record {
       steps = record {
         event = search rules;
         log = c.requires.before.log;
-        turned = (refl, reclosed_left m law g.T.Naming.valid sizes is f a.at a.extension.bound c.args.part false a.log.base.items fresh a.log.set.items ws a.log.set.updates rs v goes.spans goes.observed goes.stands.3 c.requires.before.log.log c.args.ticket a.words.items goes.stands.0 goes.stands.1 c.requires.all w passes n c.close-found.ensures.tells, reclosed_within m law g.T.Naming.valid sizes is f a.at a.extension.bound c.args.part false a.log.base.items fresh a.log.set.items ws a.log.set.updates rs v goes.spans goes.observed goes.stands.3 c.requires.before.log.log c.args.ticket a.words.items goes.stands.0 goes.stands.1 c.requires.all w passes n c.close-found.ensures.tells, (refl, reclosed_false m law g.T.Naming.valid sizes is f a.at a.extension.bound c.args.part false a.log.base.items fresh a.log.set.items ws a.log.set.updates rs v goes.spans goes.observed goes.stands.3 c.requires.before.log.log c.args.ticket a.words.items goes.stands.0 goes.stands.1 c.requires.all w passes n c.close-found.ensures.tells free same (unsettled_calling f rs goes.asks) preds are fails));
-        grown = heard_none (g.T.TxType.meaning a.log.ty.now) (g.B.Body.script a.log.body) (words_in a.log.base.items) (map plain_reply a.log.replies.items) a.log.set;
+        turned = (refl, reclosed_left m law g.T.Naming.valid sizes is f a.at a.log.table.extension.bound c.args.part false a.log.table.base.items fresh a.log.table.set.items ws a.log.table.set.updates rs v goes.spans goes.observed goes.stands.3 c.requires.before.log.log c.args.ticket a.log.table.words.items goes.stands.0 goes.stands.1 c.requires.all w passes n c.close-found.ensures.tells, reclosed_within m law g.T.Naming.valid sizes is f a.at a.log.table.extension.bound c.args.part false a.log.table.base.items fresh a.log.table.set.items ws a.log.table.set.updates rs v goes.spans goes.observed goes.stands.3 c.requires.before.log.log c.args.ticket a.log.table.words.items goes.stands.0 goes.stands.1 c.requires.all w passes n c.close-found.ensures.tells, (refl, reclosed_false m law g.T.Naming.valid sizes is f a.at a.log.table.extension.bound c.args.part false a.log.table.base.items fresh a.log.table.set.items ws a.log.table.set.updates rs v goes.spans goes.observed goes.stands.3 c.requires.before.log.log c.args.ticket a.log.table.words.items goes.stands.0 goes.stands.1 c.requires.all w passes n c.close-found.ensures.tells free same (unsettled_calling f rs goes.asks) preds are fails));
+        grown = heard_none (g.T.TxType.meaning a.log.ty.now) (g.B.Body.script a.log.body) (words_in a.log.table.base.items) (map plain_reply a.log.table.replies.items) a.log.table.set;
         alone = λ one first. absurd first;
-        reason = by_predicate (Close c.args.part) a.log.set.items w c.args.part c.args.ticket a.extension.extended a.extension.bound a.words.items
-            (next_unseen (length m.widths) old fresh ws c.args.part a.log.set.items goes.observed next) (λ h. fails (subst (λ (l : List Pred). AllTrueIn a.words.items l) (sym are) h))
-            (reclosed_read m law g.T.Naming.valid sizes is f a.at a.extension.bound c.args.part false a.log.base.items fresh a.log.set.items ws a.log.set.updates rs v goes.spans goes.observed goes.stands.3 c.requires.before.log.log c.args.ticket a.words.items goes.stands.0 goes.stands.1 c.requires.all w passes n c.close-found.ensures.tells free same);
+        reason = by_predicate (Close c.args.part) a.log.table.set.items w c.args.part c.args.ticket a.log.table.extension.extended a.log.table.extension.bound a.log.table.words.items
+            (next_unseen (length m.widths) old fresh ws c.args.part a.log.table.set.items goes.observed next) (λ h. fails (subst (λ (l : List Pred). AllTrueIn a.log.table.words.items l) (sym are) h))
+            (reclosed_read m law g.T.Naming.valid sizes is f a.at a.log.table.extension.bound c.args.part false a.log.table.base.items fresh a.log.table.set.items ws a.log.table.set.updates rs v goes.spans goes.observed goes.stands.3 c.requires.before.log.log c.args.ticket a.log.table.words.items goes.stands.0 goes.stands.1 c.requires.all w passes n c.close-found.ensures.tells free same);
         renewed = (refl, λ e. (e, refl));
         moves = (tt, omega arith);
-        left = reclose_over m.widths (words_in a.log.base.items) fresh ws c.args.part goes.stands.3 (g.B.Body.left a.log.body - 1) (length a.words.items) c.requires.all;
+        left = reclose_over m.widths (words_in a.log.table.base.items) fresh ws c.args.part goes.stands.3 (g.B.Body.left a.log.body - 1) (length a.log.table.words.items) c.requires.all;
         err = tt;
         script = refl;
         left_at_reset = refl;
@@ -191,26 +191,26 @@ advance-requires g c =
     let law = g.met.T.TxType.lawful a.log.ty.now in
     let sizes = g.T.Naming.sizes a.log.ty.now in
     let f = g.B.Body.script a.log.body in
-    let rs = map plain_reply a.log.replies.items in
+    let rs = map plain_reply a.log.table.replies.items in
     let v = g.C.Cells.view c.args.cells.now in
-    let fresh = a.extension.fresh.items in
-    let ws = map watched a.extension.watches.items in
+    let fresh = a.log.table.extension.fresh.items in
+    let ws = map watched a.log.table.extension.watches.items in
     let goes = c.requires.before.goes in
     let w = g.C.Cells.view c.close-found.new.self in
     let passes = g.C.Cells.passes c.args.cells.now in
     let n = c.close-found.result.0 in
     let free : is_free n ≡ true = locked_is (is_free n) (sym c.is_locked.ensures ∙ c.if-is_locked.false) in
     let same : ticket_of n ≡ c.args.ticket = sym c.ticket-newer.ensures.ticket ∙ c.if-newer-ticket.false in
-    let old = words_in a.log.base.items in
+    let old = words_in a.log.table.base.items in
     let e : slice_get ws (length fresh) ≡ Some (watched c.get-watch.result.now) =
-    slice_get-map watched a.extension.watches.items (length fresh) ∙ ap (option_map watched) (ap (slice_get a.extension.watches.items) (sym c.len-place.ensures) ∙ c.get-watch.ensures) in
+    slice_get-map watched a.log.table.extension.watches.items (length fresh) ∙ ap (option_map watched) (ap (slice_get a.log.table.extension.watches.items) (sym c.len-place.ensures) ∙ c.get-watch.ensures) in
     let next : IsNext (length m.widths) old fresh ws false c.args.part = goes.stands.3 in
     let is_next : next.next ≡ watched c.get-watch.result.now = some_same next.next (watched c.get-watch.result.now) (sym (next_place (length m.widths) old fresh ws false c.args.part next) ∙ e) in
     let preds : List Pred = c.get-watch.result.now.preds.items in
     let same_preds : next.next.preds ≡ preds = ap (λ (x : Watched). x.preds) is_next in
     let y : ReadEntry = entry_with c.args.part c.args.ticket c.as_slice-words.result.now in
     let made : c.push.new.self.items ≡ fresh ++ y ∷ [] = c.in_ok-push.ensures.ok in
-    let hold : AllTrueIn a.words.items next.next.preds = subst (λ (l : List Pred). AllTrueIn a.words.items l) (c.as_slice.ensures.items ∙ sym same_preds) (subst (λ (l : List ℤ). AllTrueIn l c.as_slice.result.now) c.as_slice-2.ensures.items (c.are_true.ensures.0 c.if-not-are_true.false)) in
+    let hold : AllTrueIn a.log.table.words.items next.next.preds = subst (λ (l : List Pred). AllTrueIn a.log.table.words.items l) (c.as_slice.ensures.items ∙ sym same_preds) (subst (λ (l : List ℤ). AllTrueIn l c.as_slice.result.now) c.as_slice-2.ensures.items (c.are_true.ensures.0 c.if-not-are_true.false)) in
     record {
       log = c.requires.before.log;
       observed = c.requires.before.goes.observed;
@@ -218,16 +218,16 @@ advance-requires g c =
       asks = c.requires.before.goes.asks;
       renewed =
           let is : (d : Parts) → g.T.Naming.valid sizes d → m.valid d = λ d h. (g.met.T.TxType.valid_is a.log.ty.now d).1 h in
-          let h = reclosed_renewed m law g.T.Naming.valid sizes is f a.at a.extension.bound c.args.part false a.log.base.items fresh a.log.set.items ws a.log.set.updates rs v goes.spans goes.observed goes.stands.3 c.requires.before.log.log c.args.ticket a.words.items goes.stands.0 goes.stands.1 c.requires.all w passes n c.close-found.ensures.tells free same y refl refl c.as_slice-words.ensures.items refl hold in
+          let h = reclosed_renewed m law g.T.Naming.valid sizes is f a.at a.log.table.extension.bound c.args.part false a.log.table.base.items fresh a.log.table.set.items ws a.log.table.set.updates rs v goes.spans goes.observed goes.stands.3 c.requires.before.log.log c.args.ticket a.log.table.words.items goes.stands.0 goes.stands.1 c.requires.all w passes n c.close-found.ensures.tells free same y refl refl c.as_slice-words.ensures.items refl hold in
           (next.more, subst (λ (l : List ReadEntry). IsRenewed (length m.widths) old l ws next.more) (sym made) h);
       bound = omega (arith, c.requires.before.goes.spans.above);
       some =
           let is : (d : Parts) → g.T.Naming.valid sizes d → m.valid d = λ d h. (g.met.T.TxType.valid_is a.log.ty.now d).1 h in
-          some_old m law g.T.Naming.valid sizes is f a.at a.extension.bound c.args.part false a.log.base.items fresh a.log.set.items ws a.log.set.updates rs v goes.spans goes.observed goes.stands.3 c.requires.before.log.log;
+          some_old m law g.T.Naming.valid sizes is f a.at a.log.table.extension.bound c.args.part false a.log.table.base.items fresh a.log.table.set.items ws a.log.table.set.updates rs v goes.spans goes.observed goes.stands.3 c.requires.before.log.log;
       some_new =
           let is : (d : Parts) → g.T.Naming.valid sizes d → m.valid d = λ d h. (g.met.T.TxType.valid_is a.log.ty.now d).1 h in
-          let h = reclosed_spans m law g.T.Naming.valid sizes is f a.at a.extension.bound c.args.part false a.log.base.items fresh a.log.set.items ws a.log.set.updates rs v goes.spans goes.observed goes.stands.3 c.requires.before.log.log c.args.ticket a.words.items goes.stands.0 goes.stands.1 c.requires.all w passes n c.close-found.ensures.tells free same y refl refl c.as_slice-words.ensures.items in
-          let d = some_anew m law g.T.Naming.valid sizes is f a.at a.extension.bound c.args.part false a.log.base.items fresh a.log.set.items ws a.log.set.updates rs v goes.spans goes.observed goes.stands.3 c.requires.before.log.log w (fresh ++ y ∷ []) h.0 in
+          let h = reclosed_spans m law g.T.Naming.valid sizes is f a.at a.log.table.extension.bound c.args.part false a.log.table.base.items fresh a.log.table.set.items ws a.log.table.set.updates rs v goes.spans goes.observed goes.stands.3 c.requires.before.log.log c.args.ticket a.log.table.words.items goes.stands.0 goes.stands.1 c.requires.all w passes n c.close-found.ensures.tells free same y refl refl c.as_slice-words.ensures.items in
+          let d = some_anew m law g.T.Naming.valid sizes is f a.at a.log.table.extension.bound c.args.part false a.log.table.base.items fresh a.log.table.set.items ws a.log.table.set.updates rs v goes.spans goes.observed goes.stands.3 c.requires.before.log.log w (fresh ++ y ∷ []) h.0 in
           subst (λ (l : List ReadEntry). (d : Parts) × m.valid d × IsPartOf (words_in l) d) (sym made) d;
     }
 
@@ -238,10 +238,10 @@ returns g c =
     let law = g.met.T.TxType.lawful a.log.ty.now in
     let sizes = g.T.Naming.sizes a.log.ty.now in
     let f = g.B.Body.script a.log.body in
-    let rs = map plain_reply a.log.replies.items in
+    let rs = map plain_reply a.log.table.replies.items in
     let v = g.C.Cells.view c.args.cells.now in
-    let fresh = a.extension.fresh.items in
-    let ws = map watched a.extension.watches.items in
+    let fresh = a.log.table.extension.fresh.items in
+    let ws = map watched a.log.table.extension.watches.items in
     let goes = c.requires.before.goes in
     let w = g.C.Cells.view c.close-found.new.self in
     let passes = g.C.Cells.passes c.args.cells.now in
@@ -251,14 +251,14 @@ returns g c =
     let y : ReadEntry = entry_with c.args.part c.args.ticket c.as_slice-words.result.now in
     let made : c.push.new.self.items ≡ fresh ++ y ∷ [] = c.in_ok-push.ensures.ok in
     let b = c.advance.new.self in
-    let old = words_in a.log.base.items in
+    let old = words_in a.log.table.base.items in
     let e : slice_get ws (length fresh) ≡ Some (watched c.get-watch.result.now) =
-    slice_get-map watched a.extension.watches.items (length fresh) ∙ ap (option_map watched) (ap (slice_get a.extension.watches.items) (sym c.len-place.ensures) ∙ c.get-watch.ensures) in
+    slice_get-map watched a.log.table.extension.watches.items (length fresh) ∙ ap (option_map watched) (ap (slice_get a.log.table.extension.watches.items) (sym c.len-place.ensures) ∙ c.get-watch.ensures) in
     let next : IsNext (length m.widths) old fresh ws false c.args.part = goes.stands.3 in
     let is_next : next.next ≡ watched c.get-watch.result.now = some_same next.next (watched c.get-watch.result.now) (sym (next_place (length m.widths) old fresh ws false c.args.part next) ∙ e) in
     let preds : List Pred = c.get-watch.result.now.preds.items in
     let same_preds : next.next.preds ≡ preds = ap (λ (x : Watched). x.preds) is_next in
-    let hold : AllTrueIn a.words.items next.next.preds = subst (λ (l : List Pred). AllTrueIn a.words.items l) (c.as_slice.ensures.items ∙ sym same_preds) (subst (λ (l : List ℤ). AllTrueIn l c.as_slice.result.now) c.as_slice-2.ensures.items (c.are_true.ensures.0 c.if-not-are_true.false)) in
+    let hold : AllTrueIn a.log.table.words.items next.next.preds = subst (λ (l : List Pred). AllTrueIn a.log.table.words.items l) (c.as_slice.ensures.items ∙ sym same_preds) (subst (λ (l : List ℤ). AllTrueIn l c.as_slice.result.now) c.as_slice-2.ensures.items (c.are_true.ensures.0 c.if-not-are_true.false)) in
     let before = g.B.Body.left a.log.body in
     record {
       steps = record {
@@ -266,28 +266,28 @@ returns g c =
         log = c.advance.ensures.log;
         turned =
             let is : (d : Parts) → g.T.Naming.valid sizes d → m.valid d = λ d h. (g.met.T.TxType.valid_is a.log.ty.now d).1 h in
-            let h = reclosed_spans m law g.T.Naming.valid sizes is f a.at a.extension.bound c.args.part false a.log.base.items fresh a.log.set.items ws a.log.set.updates rs v goes.spans goes.observed goes.stands.3 c.requires.before.log.log c.args.ticket a.words.items goes.stands.0 goes.stands.1 c.requires.all w passes n c.close-found.ensures.tells free same y refl refl c.as_slice-words.ensures.items in
-            c.advance.ensures.turned w (subst (λ (l : List ReadEntry). Spans m g.T.Naming.valid sizes a.at a.extension.bound a.log.base.items l w) (sym made) h.0) h.1;
+            let h = reclosed_spans m law g.T.Naming.valid sizes is f a.at a.log.table.extension.bound c.args.part false a.log.table.base.items fresh a.log.table.set.items ws a.log.table.set.updates rs v goes.spans goes.observed goes.stands.3 c.requires.before.log.log c.args.ticket a.log.table.words.items goes.stands.0 goes.stands.1 c.requires.all w passes n c.close-found.ensures.tells free same y refl refl c.as_slice-words.ensures.items in
+            c.advance.ensures.turned w (subst (λ (l : List ReadEntry). Spans m g.T.Naming.valid sizes a.at a.log.table.extension.bound a.log.table.base.items l w) (sym made) h.0) h.1;
         grown = c.advance.ensures.grown;
         alone = λ one first. absurd first;
-        reason = unaborted_ok (Close c.args.part) c.advance.new.self.log.set.items (g.C.Cells.view c.close-found.new.self) a.extension c.advance.result c.advance.ensures.unaborted;
+        reason = unaborted_ok (Close c.args.part) c.advance.new.self.log.table.set.items (g.C.Cells.view c.close-found.new.self) a.log.table.extension c.advance.result c.advance.ensures.unaborted;
         renewed =
-            let now = map plain_reply b.log.replies.items in
-            ok_map c.advance.result ((b.extension.bound ≡ a.extension.bound) × (b.extension.extended ≡ true → now ≡ rs)) ((b.extension.bound ≡ a.extension.bound) × (b.extension.extended ≡ true → (a.extension.extended ≡ true) × (now ≡ rs)))
+            let now = map plain_reply b.log.table.replies.items in
+            ok_map c.advance.result ((b.log.table.extension.bound ≡ a.log.table.extension.bound) × (b.log.table.extension.extended ≡ true → now ≡ rs)) ((b.log.table.extension.bound ≡ a.log.table.extension.bound) × (b.log.table.extension.extended ≡ true → (a.log.table.extension.extended ≡ true) × (now ≡ rs)))
             (λ h. (h.0, λ e. (c.requires.before.goes.extended, h.1 e))) c.advance.ensures.renewed;
         moves = c.advance.ensures.moves;
         left =
             let is : (d : Parts) → g.T.Naming.valid sizes d → m.valid d = λ d h. (g.met.T.TxType.valid_is a.log.ty.now d).1 h in
-            let h = reclosed_renewed m law g.T.Naming.valid sizes is f a.at a.extension.bound c.args.part false a.log.base.items fresh a.log.set.items ws a.log.set.updates rs v goes.spans goes.observed goes.stands.3 c.requires.before.log.log c.args.ticket a.words.items goes.stands.0 goes.stands.1 c.requires.all w passes n c.close-found.ensures.tells free same y refl refl c.as_slice-words.ensures.items refl hold in
+            let h = reclosed_renewed m law g.T.Naming.valid sizes is f a.at a.log.table.extension.bound c.args.part false a.log.table.base.items fresh a.log.table.set.items ws a.log.table.set.updates rs v goes.spans goes.observed goes.stands.3 c.requires.before.log.log c.args.ticket a.log.table.words.items goes.stands.0 goes.stands.1 c.requires.all w passes n c.close-found.ensures.tells free same y refl refl c.as_slice-words.ensures.items refl hold in
             let gone : drop (length c.push.new.self.items) ws ≡ next.more = ap (λ (l : List ReadEntry). drop (length l) ws) made ∙ left_watches (length m.widths) old (fresh ++ y ∷ []) ws next.more h in
-            let now = events_left (g.B.Body.left b.log.body) m.widths b.read_phase b.words.items b.extension b.log.base.items in
+            let now = events_left (g.B.Body.left b.log.body) m.widths b.read_phase b.log.table.words.items b.log.table.extension b.log.table.base.items in
             let fewer : OnOk c.advance.result (now < 1 + left_extending (before - 1) m.widths next.more) =
             subst (λ (l : List Watched). OnOk c.advance.result (now < 1 + left_extending (before - 1) m.widths l)) gone c.advance.ensures.left in
-            ok_map c.advance.result (now < 1 + left_extending (before - 1) m.widths next.more) (now < left_extending (before - 1) m.widths (drop (length fresh) ws) - (1 + length a.words.items))
-            (reclose_fewer m.widths old fresh ws c.args.part next (before - 1) (length a.words.items) now c.requires.all) fewer;
+            ok_map c.advance.result (now < 1 + left_extending (before - 1) m.widths next.more) (now < left_extending (before - 1) m.widths (drop (length fresh) ws) - (1 + length a.log.table.words.items))
+            (reclose_fewer m.widths old fresh ws c.args.part next (before - 1) (length a.log.table.words.items) now c.requires.all) fewer;
         err =
             let is : (d : Parts) → g.T.Naming.valid sizes d → m.valid d = λ d h. (g.met.T.TxType.valid_is a.log.ty.now d).1 h in
-            let left : IsLeft w = reclosed_left m law g.T.Naming.valid sizes is f a.at a.extension.bound c.args.part false a.log.base.items fresh a.log.set.items ws a.log.set.updates rs v goes.spans goes.observed goes.stands.3 c.requires.before.log.log c.args.ticket a.words.items goes.stands.0 goes.stands.1 c.requires.all w passes n c.close-found.ensures.tells in
+            let left : IsLeft w = reclosed_left m law g.T.Naming.valid sizes is f a.at a.log.table.extension.bound c.args.part false a.log.table.base.items fresh a.log.table.set.items ws a.log.table.set.updates rs v goes.spans goes.observed goes.stands.3 c.requires.before.log.log c.args.ticket a.log.table.words.items goes.stands.0 goes.stands.1 c.requires.all w passes n c.close-found.ensures.tells in
             always_err c.advance.result (IsLeft w) left;
         script = c.advance.ensures.script;
         left_at_reset = c.advance.ensures.left_at_reset;
@@ -295,8 +295,8 @@ returns g c =
       };
       stopped =
           let is : (d : Parts) → g.T.Naming.valid sizes d → m.valid d = λ d h. (g.met.T.TxType.valid_is a.log.ty.now d).1 h in
-          let spans = reclosed_spans m law g.T.Naming.valid sizes is f a.at a.extension.bound c.args.part false a.log.base.items fresh a.log.set.items ws a.log.set.updates rs v goes.spans goes.observed goes.stands.3 c.requires.before.log.log c.args.ticket a.words.items goes.stands.0 goes.stands.1 c.requires.all w passes n c.close-found.ensures.tells free same y refl refl c.as_slice-words.ensures.items in
-          c.advance.ensures.stopped w (subst (λ (l : List ReadEntry). Spans m g.T.Naming.valid sizes a.at a.extension.bound a.log.base.items l w) (sym made) spans.0);
+          let spans = reclosed_spans m law g.T.Naming.valid sizes is f a.at a.log.table.extension.bound c.args.part false a.log.table.base.items fresh a.log.table.set.items ws a.log.table.set.updates rs v goes.spans goes.observed goes.stands.3 c.requires.before.log.log c.args.ticket a.log.table.words.items goes.stands.0 goes.stands.1 c.requires.all w passes n c.close-found.ensures.tells free same y refl refl c.as_slice-words.ensures.items in
+          c.advance.ensures.stopped w (subst (λ (l : List ReadEntry). Spans m g.T.Naming.valid sizes a.at a.log.table.extension.bound a.log.table.base.items l w) (sym made) spans.0);
       same = c.close-found.ensures.same;
     }
 
@@ -308,15 +308,15 @@ returns-then-place g c =
     let sizes = g.T.Naming.sizes a.log.ty.now in
     let is : (d : Parts) → g.T.Naming.valid sizes d → m.valid d = λ d h. (g.met.T.TxType.valid_is a.log.ty.now d).1 h in
     let f = g.B.Body.script a.log.body in
-    let rs = map plain_reply a.log.replies.items in
+    let rs = map plain_reply a.log.table.replies.items in
     let v = g.C.Cells.view c.args.cells.now in
-    let fresh = a.extension.fresh.items in
-    let ws = map watched a.extension.watches.items in
+    let fresh = a.log.table.extension.fresh.items in
+    let ws = map watched a.log.table.extension.watches.items in
     let goes = c.requires.before.goes in
     let passes = g.C.Cells.passes c.args.cells.now in
     let w = g.C.Cells.view c.close-found.new.self in
     let n = c.close-found.result.0 in
-    let stops : IsLeft w × IsPrefix m f w a.at rs = (reclosed_left m law g.T.Naming.valid sizes is f a.at a.extension.bound c.args.part false a.log.base.items fresh a.log.set.items ws a.log.set.updates rs v goes.spans goes.observed goes.stands.3 c.requires.before.log.log c.args.ticket a.words.items goes.stands.0 goes.stands.1 c.requires.all w passes n c.close-found.ensures.tells, reclosed_prefix m law g.T.Naming.valid sizes is f a.at a.extension.bound c.args.part false a.log.base.items fresh a.log.set.items ws a.log.set.updates rs v goes.spans goes.observed goes.stands.3 c.requires.before.log.log c.args.ticket a.words.items goes.stands.0 goes.stands.1 c.requires.all w passes n c.close-found.ensures.tells) in
+    let stops : IsLeft w × IsPrefix m f w a.at rs = (reclosed_left m law g.T.Naming.valid sizes is f a.at a.log.table.extension.bound c.args.part false a.log.table.base.items fresh a.log.table.set.items ws a.log.table.set.updates rs v goes.spans goes.observed goes.stands.3 c.requires.before.log.log c.args.ticket a.log.table.words.items goes.stands.0 goes.stands.1 c.requires.all w passes n c.close-found.ensures.tells, reclosed_prefix m law g.T.Naming.valid sizes is f a.at a.log.table.extension.bound c.args.part false a.log.table.base.items fresh a.log.table.set.items ws a.log.table.set.updates rs v goes.spans goes.observed goes.stands.3 c.requires.before.log.log c.args.ticket a.log.table.words.items goes.stands.0 goes.stands.1 c.requires.all w passes n c.close-found.ensures.tells) in
     record {
       steps = record {
         event = search rules;
@@ -345,15 +345,15 @@ returns-in_err-push g c =
     let sizes = g.T.Naming.sizes a.log.ty.now in
     let is : (d : Parts) → g.T.Naming.valid sizes d → m.valid d = λ d h. (g.met.T.TxType.valid_is a.log.ty.now d).1 h in
     let f = g.B.Body.script a.log.body in
-    let rs = map plain_reply a.log.replies.items in
+    let rs = map plain_reply a.log.table.replies.items in
     let v = g.C.Cells.view c.args.cells.now in
-    let fresh = a.extension.fresh.items in
-    let ws = map watched a.extension.watches.items in
+    let fresh = a.log.table.extension.fresh.items in
+    let ws = map watched a.log.table.extension.watches.items in
     let goes = c.requires.before.goes in
     let passes = g.C.Cells.passes c.args.cells.now in
     let w = g.C.Cells.view c.close-found.new.self in
     let n = c.close-found.result.0 in
-    let stops : IsLeft w × IsPrefix m f w a.at rs = (reclosed_left m law g.T.Naming.valid sizes is f a.at a.extension.bound c.args.part false a.log.base.items fresh a.log.set.items ws a.log.set.updates rs v goes.spans goes.observed goes.stands.3 c.requires.before.log.log c.args.ticket a.words.items goes.stands.0 goes.stands.1 c.requires.all w passes n c.close-found.ensures.tells, reclosed_prefix m law g.T.Naming.valid sizes is f a.at a.extension.bound c.args.part false a.log.base.items fresh a.log.set.items ws a.log.set.updates rs v goes.spans goes.observed goes.stands.3 c.requires.before.log.log c.args.ticket a.words.items goes.stands.0 goes.stands.1 c.requires.all w passes n c.close-found.ensures.tells) in
+    let stops : IsLeft w × IsPrefix m f w a.at rs = (reclosed_left m law g.T.Naming.valid sizes is f a.at a.log.table.extension.bound c.args.part false a.log.table.base.items fresh a.log.table.set.items ws a.log.table.set.updates rs v goes.spans goes.observed goes.stands.3 c.requires.before.log.log c.args.ticket a.log.table.words.items goes.stands.0 goes.stands.1 c.requires.all w passes n c.close-found.ensures.tells, reclosed_prefix m law g.T.Naming.valid sizes is f a.at a.log.table.extension.bound c.args.part false a.log.table.base.items fresh a.log.table.set.items ws a.log.table.set.updates rs v goes.spans goes.observed goes.stands.3 c.requires.before.log.log c.args.ticket a.log.table.words.items goes.stands.0 goes.stands.1 c.requires.all w passes n c.close-found.ensures.tells) in
     record {
       steps = record {
         event = search rules;

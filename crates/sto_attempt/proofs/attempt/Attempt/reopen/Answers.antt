@@ -28,12 +28,12 @@ open-found-requires g c =
     let sizes = g.T.Naming.sizes a.log.ty.now in
     let is : (d : Parts) → g.T.Naming.valid sizes d → m.valid d = λ d h. (g.met.T.TxType.valid_is a.log.ty.now d).1 h in
     let f = g.B.Body.script a.log.body in
-    let rs = map plain_reply a.log.replies.items in
+    let rs = map plain_reply a.log.table.replies.items in
     let v = g.C.Cells.view c.args.cells.now in
-    let fresh = a.extension.fresh.items in
-    let ws = map watched a.extension.watches.items in
+    let fresh = a.log.table.extension.fresh.items in
+    let ws = map watched a.log.table.extension.watches.items in
     let goes = c.requires.goes in
-    reopen_allowed m law g.T.Naming.valid sizes is f a.at a.extension.bound c.args.part false a.log.base.items fresh a.log.set.items ws a.log.set.updates rs v goes.spans goes.observed goes.stands.1 c.requires.log.log goes.stands.0
+    reopen_allowed m law g.T.Naming.valid sizes is f a.at a.log.table.extension.bound c.args.part false a.log.table.base.items fresh a.log.table.set.items ws a.log.table.set.updates rs v goes.spans goes.observed goes.stands.1 c.requires.log.log goes.stands.0
 
 pub returns-then-is_locked-clause-made : goal.returns-then-is_locked-clause-made
 returns-then-is_locked-clause-made g c =
@@ -43,27 +43,27 @@ returns-then-is_locked-clause-made g c =
     let sizes = g.T.Naming.sizes a.log.ty.now in
     let is : (d : Parts) → g.T.Naming.valid sizes d → m.valid d = λ d h. (g.met.T.TxType.valid_is a.log.ty.now d).1 h in
     let f = g.B.Body.script a.log.body in
-    let rs = map plain_reply a.log.replies.items in
+    let rs = map plain_reply a.log.table.replies.items in
     let v = g.C.Cells.view c.args.cells.now in
-    let fresh = a.extension.fresh.items in
-    let ws = map watched a.extension.watches.items in
+    let fresh = a.log.table.extension.fresh.items in
+    let ws = map watched a.log.table.extension.watches.items in
     let goes = c.requires.goes in
     let w = g.C.Cells.view c.open-found.new.self in
     let passes = g.C.Cells.passes c.args.cells.now in
     let n = c.open-found.result.0 in
     let locked : is_free n ≡ false = unlocked_is (is_free n) (sym c.is_locked.ensures ∙ c.if-is_locked.true) in
-    let h = reopened_locked m law g.T.Naming.valid sizes is f a.at a.extension.bound c.args.part false a.log.base.items fresh a.log.set.items ws a.log.set.updates rs v goes.spans goes.observed goes.stands.1 c.requires.log.log goes.stands.0 w passes n c.open-found.ensures.tells (unsettled_calling f rs goes.asks) locked in
+    let h = reopened_locked m law g.T.Naming.valid sizes is f a.at a.log.table.extension.bound c.args.part false a.log.table.base.items fresh a.log.table.set.items ws a.log.table.set.updates rs v goes.spans goes.observed goes.stands.1 c.requires.log.log goes.stands.0 w passes n c.open-found.ensures.tells (unsettled_calling f rs goes.asks) locked in
     record {
       steps = record {
         event = search rules;
         log = c.requires.log;
-        turned = (refl, h.0, reopened_within m law g.T.Naming.valid sizes is f a.at a.extension.bound c.args.part false a.log.base.items fresh a.log.set.items ws a.log.set.updates rs v goes.spans goes.observed goes.stands.1 c.requires.log.log goes.stands.0 w passes n c.open-found.ensures.tells, (refl, h.1));
+        turned = (refl, h.0, reopened_within m law g.T.Naming.valid sizes is f a.at a.log.table.extension.bound c.args.part false a.log.table.base.items fresh a.log.table.set.items ws a.log.table.set.updates rs v goes.spans goes.observed goes.stands.1 c.requires.log.log goes.stands.0 w passes n c.open-found.ensures.tells, (refl, h.1));
         grown = heard_none _ _ _ _ _;
         alone = λ one first. absurd first;
         reason = search rules;
         renewed = (refl, λ e. (e, refl));
         moves = (tt, omega arith);
-        left = reopen_over m.widths (words_in a.log.base.items) fresh ws c.args.part goes.stands.1 (g.B.Body.left a.log.body - 1);
+        left = reopen_over m.widths (words_in a.log.table.base.items) fresh ws c.args.part goes.stands.1 (g.B.Body.left a.log.body - 1);
         err = tt;
         script = refl;
         left_at_reset = refl;
@@ -81,28 +81,28 @@ returns-then-ticket-self-clause-made g c =
     let sizes = g.T.Naming.sizes a.log.ty.now in
     let is : (d : Parts) → g.T.Naming.valid sizes d → m.valid d = λ d h. (g.met.T.TxType.valid_is a.log.ty.now d).1 h in
     let f = g.B.Body.script a.log.body in
-    let rs = map plain_reply a.log.replies.items in
+    let rs = map plain_reply a.log.table.replies.items in
     let v = g.C.Cells.view c.args.cells.now in
-    let fresh = a.extension.fresh.items in
-    let ws = map watched a.extension.watches.items in
+    let fresh = a.log.table.extension.fresh.items in
+    let ws = map watched a.log.table.extension.watches.items in
     let goes = c.requires.goes in
     let w = g.C.Cells.view c.open-found.new.self in
     let passes = g.C.Cells.passes c.args.cells.now in
     let n = c.open-found.result.0 in
     let free : is_free n ≡ true = locked_is (is_free n) (sym c.is_locked.ensures ∙ c.if-is_locked.false) in
-    let later : a.extension.bound < ticket_of n = omega (arith, c.if-ticket-self.true, c.ticket-ticket.ensures.ticket) in
-    let h = reopened_changed m law g.T.Naming.valid sizes is f a.at a.extension.bound c.args.part false a.log.base.items fresh a.log.set.items ws a.log.set.updates rs v goes.spans goes.observed goes.stands.1 c.requires.log.log goes.stands.0 w passes n c.open-found.ensures.tells (unsettled_calling f rs goes.asks) free later in
+    let later : a.log.table.extension.bound < ticket_of n = omega (arith, c.if-ticket-self.true, c.ticket-ticket.ensures.ticket) in
+    let h = reopened_changed m law g.T.Naming.valid sizes is f a.at a.log.table.extension.bound c.args.part false a.log.table.base.items fresh a.log.table.set.items ws a.log.table.set.updates rs v goes.spans goes.observed goes.stands.1 c.requires.log.log goes.stands.0 w passes n c.open-found.ensures.tells (unsettled_calling f rs goes.asks) free later in
     record {
       steps = record {
         event = search rules;
         log = c.requires.log;
-        turned = (refl, h.0, reopened_within m law g.T.Naming.valid sizes is f a.at a.extension.bound c.args.part false a.log.base.items fresh a.log.set.items ws a.log.set.updates rs v goes.spans goes.observed goes.stands.1 c.requires.log.log goes.stands.0 w passes n c.open-found.ensures.tells, (refl, subst (λ (k : ℕ). WasChanged m f w a.at c.args.part k rs) (sym c.ticket-ticket.ensures.ticket) h.1));
+        turned = (refl, h.0, reopened_within m law g.T.Naming.valid sizes is f a.at a.log.table.extension.bound c.args.part false a.log.table.base.items fresh a.log.table.set.items ws a.log.table.set.updates rs v goes.spans goes.observed goes.stands.1 c.requires.log.log goes.stands.0 w passes n c.open-found.ensures.tells, (refl, subst (λ (k : ℕ). WasChanged m f w a.at c.args.part k rs) (sym c.ticket-ticket.ensures.ticket) h.1));
         grown = heard_none _ _ _ _ _;
         alone = λ one first. absurd first;
-        reason = by_open a.log.set.items (g.C.Cells.view c.open-found.new.self) c.args.part c.ticket-ticket.result a.extension.extended a.extension.bound c.requires.goes.extended c.if-ticket-self.true;
+        reason = by_open a.log.table.set.items (g.C.Cells.view c.open-found.new.self) c.args.part c.ticket-ticket.result a.log.table.extension.extended a.log.table.extension.bound c.requires.goes.extended c.if-ticket-self.true;
         renewed = (refl, λ e. (e, refl));
         moves = (tt, omega arith);
-        left = reopen_over m.widths (words_in a.log.base.items) fresh ws c.args.part goes.stands.1 (g.B.Body.left a.log.body - 1);
+        left = reopen_over m.widths (words_in a.log.table.base.items) fresh ws c.args.part goes.stands.1 (g.B.Body.left a.log.body - 1);
         err = tt;
         script = refl;
         left_at_reset = refl;
@@ -120,32 +120,32 @@ returns-clause-made g c =
     let sizes = g.T.Naming.sizes a.log.ty.now in
     let is : (d : Parts) → g.T.Naming.valid sizes d → m.valid d = λ d h. (g.met.T.TxType.valid_is a.log.ty.now d).1 h in
     let f = g.B.Body.script a.log.body in
-    let rs = map plain_reply a.log.replies.items in
+    let rs = map plain_reply a.log.table.replies.items in
     let v = g.C.Cells.view c.args.cells.now in
-    let fresh = a.extension.fresh.items in
-    let ws = map watched a.extension.watches.items in
+    let fresh = a.log.table.extension.fresh.items in
+    let ws = map watched a.log.table.extension.watches.items in
     let goes = c.requires.goes in
     let w = g.C.Cells.view c.open-found.new.self in
     let passes = g.C.Cells.passes c.args.cells.now in
     let n = c.open-found.result.0 in
     let free : is_free n ≡ true = locked_is (is_free n) (sym c.is_locked.ensures ∙ c.if-is_locked.false) in
-    let early : ticket_of n ≤ a.extension.bound = omega (arith, c.if-ticket-self.false, c.ticket-ticket.ensures.ticket) in
-    let h = reopened_goes m law g.T.Naming.valid sizes is f a.at a.extension.bound c.args.part false a.log.base.items fresh a.log.set.items ws a.log.set.updates rs v goes.spans goes.observed goes.stands.1 c.requires.log.log goes.stands.0 w passes n c.open-found.ensures.tells free early in
+    let early : ticket_of n ≤ a.log.table.extension.bound = omega (arith, c.if-ticket-self.false, c.ticket-ticket.ensures.ticket) in
+    let h = reopened_goes m law g.T.Naming.valid sizes is f a.at a.log.table.extension.bound c.args.part false a.log.table.base.items fresh a.log.table.set.items ws a.log.table.set.updates rs v goes.spans goes.observed goes.stands.1 c.requires.log.log goes.stands.0 w passes n c.open-found.ensures.tells free early in
     let none : c.make_room.new.words.items ≡ [] = c.make_room.ensures in
-    let made : Renews m g.T.Naming.valid sizes (f rs) a.at (Rereading c.args.part (ticket_of n)) [] a.extension a.log.base.items a.log.set.items w = record { spans = h.0; observed = goes.observed; extended = goes.extended; asks = goes.asks; stands = (h.1, early, omega arith, goes.stands.1) } in
+    let made : Renews m g.T.Naming.valid sizes (f rs) a.at (Rereading c.args.part (ticket_of n)) [] a.log.table.extension a.log.table.base.items a.log.table.set.items w = record { spans = h.0; observed = goes.observed; extended = goes.extended; asks = goes.asks; stands = (h.1, early, omega arith, goes.stands.1) } in
     let most = left_extending (g.B.Body.left a.log.body - 1) m.widths (drop (length fresh) ws) in
     record {
       steps = record {
         event = search rules;
         log = c.requires.log;
-        turned = subst (λ (ks : List ℤ). Renews m g.T.Naming.valid sizes (f rs) a.at (Rereading c.args.part c.ticket-ticket.result) ks a.extension a.log.base.items a.log.set.items w) (sym none)
-            (subst (λ (k : ℕ). Renews m g.T.Naming.valid sizes (f rs) a.at (Rereading c.args.part k) [] a.extension a.log.base.items a.log.set.items w) (sym c.ticket-ticket.ensures.ticket) made);
+        turned = subst (λ (ks : List ℤ). Renews m g.T.Naming.valid sizes (f rs) a.at (Rereading c.args.part c.ticket-ticket.result) ks a.log.table.extension a.log.table.base.items a.log.table.set.items w) (sym none)
+            (subst (λ (k : ℕ). Renews m g.T.Naming.valid sizes (f rs) a.at (Rereading c.args.part k) [] a.log.table.extension a.log.table.base.items a.log.table.set.items w) (sym c.ticket-ticket.ensures.ticket) made);
         grown = heard_none _ _ _ _ _;
         alone = λ one first. absurd first;
         reason = search rules;
         renewed = (refl, λ e. (e, refl));
         moves = (tt, omega arith);
-        left = subst (λ (l : List ℤ). most - (1 + length l) < most) (sym none) (reopen_fewer m.widths (words_in a.log.base.items) fresh ws c.args.part goes.stands.1 (g.B.Body.left a.log.body - 1));
+        left = subst (λ (l : List ℤ). most - (1 + length l) < most) (sym none) (reopen_fewer m.widths (words_in a.log.table.base.items) fresh ws c.args.part goes.stands.1 (g.B.Body.left a.log.body - 1));
         err = tt;
         script = refl;
         left_at_reset = refl;
@@ -171,7 +171,7 @@ returns-then-ticket-self-clause-reads g c =
     let m = g.T.TxType.meaning a.log.ty.now in
     let f = g.B.Body.script a.log.body in
     let free : is_free n ≡ true = locked_is (is_free n) (sym c.is_locked.ensures ∙ c.if-is_locked.false) in
-    let later : a.extension.bound < c.ticket-ticket.result = omega (arith, c.if-ticket-self.true) in
+    let later : a.log.table.extension.bound < c.ticket-ticket.result = omega (arith, c.if-ticket-self.true) in
     record { number = n; value = pos 0; tells = c.open-found.ensures.tells; leads = reopen_changed_is m f (reader_of a) c.args.part n (pos 0) c.ticket-ticket.result free c.ticket-ticket.ensures.ticket later }
 
 pub returns-clause-reads : goal.returns-clause-reads
@@ -181,5 +181,5 @@ returns-clause-reads g c =
     let m = g.T.TxType.meaning a.log.ty.now in
     let f = g.B.Body.script a.log.body in
     let free : is_free n ≡ true = locked_is (is_free n) (sym c.is_locked.ensures ∙ c.if-is_locked.false) in
-    let early : c.ticket-ticket.result ≤ a.extension.bound = omega (arith, c.if-ticket-self.false) in
+    let early : c.ticket-ticket.result ≤ a.log.table.extension.bound = omega (arith, c.if-ticket-self.false) in
     record { number = n; value = pos 0; tells = c.open-found.ensures.tells; leads = reopen_reads_is m f (reader_of a) c.args.part n (pos 0) c.ticket-ticket.result c.make_room.new.words.items free c.ticket-ticket.ensures.ticket early c.make_room.ensures }

@@ -32,12 +32,12 @@ word-value-requires g c =
     let sizes = g.T.Naming.sizes a.log.ty.now in
     let is : (d : Parts) → g.T.Naming.valid sizes d → m.valid d = λ d h. (g.met.T.TxType.valid_is a.log.ty.now d).1 h in
     let f = g.B.Body.script a.log.body in
-    let rs = map plain_reply a.log.replies.items in
+    let rs = map plain_reply a.log.table.replies.items in
     let v = g.C.Cells.view c.args.cells.now in
-    let fresh = a.extension.fresh.items in
-    let ws = map watched a.extension.watches.items in
+    let fresh = a.log.table.extension.fresh.items in
+    let ws = map watched a.log.table.extension.watches.items in
     let goes = c.requires.before.goes in
-    subst (λ (i : ℕ). Allowed g.T.Naming.valid (Word c.args.part i) v) (sym c.len.ensures) (reread_allowed m law g.T.Naming.valid sizes is f a.at a.extension.bound c.args.part false a.log.base.items fresh a.log.set.items ws a.log.set.updates rs v goes.spans goes.observed goes.stands.3 c.requires.before.log.log c.args.ticket a.words.items goes.stands.0 goes.stands.1 c.requires.more)
+    subst (λ (i : ℕ). Allowed g.T.Naming.valid (Word c.args.part i) v) (sym c.len.ensures) (reread_allowed m law g.T.Naming.valid sizes is f a.at a.log.table.extension.bound c.args.part false a.log.table.base.items fresh a.log.table.set.items ws a.log.table.set.updates rs v goes.spans goes.observed goes.stands.3 c.requires.before.log.log c.args.ticket a.log.table.words.items goes.stands.0 goes.stands.1 c.requires.more)
 
 pub returns : goal.returns
 returns g c =
@@ -46,32 +46,32 @@ returns g c =
     let law = g.met.T.TxType.lawful a.log.ty.now in
     let sizes = g.T.Naming.sizes a.log.ty.now in
     let f = g.B.Body.script a.log.body in
-    let rs = map plain_reply a.log.replies.items in
+    let rs = map plain_reply a.log.table.replies.items in
     let v = g.C.Cells.view c.args.cells.now in
-    let fresh = a.extension.fresh.items in
-    let ws = map watched a.extension.watches.items in
+    let fresh = a.log.table.extension.fresh.items in
+    let ws = map watched a.log.table.extension.watches.items in
     let goes = c.requires.before.goes in
     let w = g.C.Cells.view c.word-value.new.self in
     let passes = g.C.Cells.passes c.args.cells.now in
     let x = c.word-value.result in
     let fit : FitsSigned w64 x = search rules in
-    let pushed : c.push.new.self.items ≡ a.words.items ++ x ∷ [] = simp to_z-of_z at c.in_ok-push.ensures.ok in
-    let tells : Tells g.T.Naming.valid passes (Word c.args.part (length a.words.items)) v 0 x w = subst (λ (i : ℕ). Tells g.T.Naming.valid passes (Word c.args.part i) v 0 x w) c.len.ensures c.word-value.ensures.tells in
-    let longer : length c.push.new.self.items ≡ length a.words.items + 1 = ap length pushed ∙ length-append a.words.items (x ∷ []) in
+    let pushed : c.push.new.self.items ≡ a.log.table.words.items ++ x ∷ [] = simp to_z-of_z at c.in_ok-push.ensures.ok in
+    let tells : Tells g.T.Naming.valid passes (Word c.args.part (length a.log.table.words.items)) v 0 x w = subst (λ (i : ℕ). Tells g.T.Naming.valid passes (Word c.args.part i) v 0 x w) c.len.ensures c.word-value.ensures.tells in
+    let longer : length c.push.new.self.items ≡ length a.log.table.words.items + 1 = ap length pushed ∙ length-append a.log.table.words.items (x ∷ []) in
     let calls = g.B.Body.left a.log.body in
     let most = left_extending (calls - 1) m.widths (drop (length fresh) ws) in
     let is : (d : Parts) → g.T.Naming.valid sizes d → m.valid d = λ d h. (g.met.T.TxType.valid_is a.log.ty.now d).1 h in
-    let h = reread_goes m law g.T.Naming.valid sizes is f a.at a.extension.bound c.args.part false a.log.base.items fresh a.log.set.items ws a.log.set.updates rs v goes.spans goes.observed goes.stands.3 c.requires.before.log.log c.args.ticket a.words.items goes.stands.0 goes.stands.1 w passes 0 x tells in
-    let made : Renews m g.T.Naming.valid sizes (f rs) a.at (Rereading c.args.part c.args.ticket) (a.words.items ++ x ∷ []) a.extension a.log.base.items a.log.set.items w =
-    record { spans = h.0; observed = goes.observed; extended = goes.extended; asks = goes.asks; stands = (h.1, goes.stands.1, omega (arith, c.requires.more, length-append a.words.items (x ∷ [])), goes.stands.3) } in
+    let h = reread_goes m law g.T.Naming.valid sizes is f a.at a.log.table.extension.bound c.args.part false a.log.table.base.items fresh a.log.table.set.items ws a.log.table.set.updates rs v goes.spans goes.observed goes.stands.3 c.requires.before.log.log c.args.ticket a.log.table.words.items goes.stands.0 goes.stands.1 w passes 0 x tells in
+    let made : Renews m g.T.Naming.valid sizes (f rs) a.at (Rereading c.args.part c.args.ticket) (a.log.table.words.items ++ x ∷ []) a.log.table.extension a.log.table.base.items a.log.table.set.items w =
+    record { spans = h.0; observed = goes.observed; extended = goes.extended; asks = goes.asks; stands = (h.1, goes.stands.1, omega (arith, c.requires.more, length-append a.log.table.words.items (x ∷ [])), goes.stands.3) } in
     record {
       event = search rules;
-      turned = subst (λ (s : ReadPhase). Goes m g.T.Naming.valid sizes f a.at s c.push.new.self.items a.extension a.log.base.items a.log.set.items a.log.set.updates rs w) (sym c.requires.read_phase)
-          (subst (λ (ks : List ℤ). Renews m g.T.Naming.valid sizes (f rs) a.at (Rereading c.args.part c.args.ticket) ks a.extension a.log.base.items a.log.set.items w) (sym pushed) made);
+      turned = subst (λ (s : ReadPhase). Goes m g.T.Naming.valid sizes f a.at s c.push.new.self.items a.log.table.extension a.log.table.base.items a.log.table.set.items a.log.table.set.updates rs w) (sym c.requires.read_phase)
+          (subst (λ (ks : List ℤ). Renews m g.T.Naming.valid sizes (f rs) a.at (Rereading c.args.part c.args.ticket) ks a.log.table.extension a.log.table.base.items a.log.table.set.items w) (sym pushed) made);
       moves = (subst HasBegun (sym c.requires.read_phase) tt, refl);
-      left = subst (λ (s : ReadPhase). events_left calls m.widths s c.push.new.self.items a.extension a.log.base.items < most - (1 + length a.words.items)) (sym c.requires.read_phase)
-          (subst (λ (k : ℕ). most - (1 + k) < most - (1 + length a.words.items)) (sym longer)
-          (reread_fewer m.widths (words_in a.log.base.items) fresh ws c.args.part goes.stands.3 (calls - 1) (length a.words.items) c.requires.more));
+      left = subst (λ (s : ReadPhase). events_left calls m.widths s c.push.new.self.items a.log.table.extension a.log.table.base.items < most - (1 + length a.log.table.words.items)) (sym c.requires.read_phase)
+          (subst (λ (k : ℕ). most - (1 + k) < most - (1 + length a.log.table.words.items)) (sym longer)
+          (reread_fewer m.widths (words_in a.log.table.base.items) fresh ws c.args.part goes.stands.3 (calls - 1) (length a.log.table.words.items) c.requires.more));
       alone = (λ first. absurd first, tt);
       err = search rules;
       one = search rules;
@@ -89,17 +89,17 @@ returns-in_err-push g c =
     let law = g.met.T.TxType.lawful a.log.ty.now in
     let sizes = g.T.Naming.sizes a.log.ty.now in
     let f = g.B.Body.script a.log.body in
-    let rs = map plain_reply a.log.replies.items in
+    let rs = map plain_reply a.log.table.replies.items in
     let v = g.C.Cells.view c.args.cells.now in
-    let fresh = a.extension.fresh.items in
-    let ws = map watched a.extension.watches.items in
+    let fresh = a.log.table.extension.fresh.items in
+    let ws = map watched a.log.table.extension.watches.items in
     let goes = c.requires.before.goes in
     let passes = g.C.Cells.passes c.args.cells.now in
     let w = g.C.Cells.view c.word-value.new.self in
     let x = c.word-value.result in
-    let tells : Tells g.T.Naming.valid passes (Word c.args.part (length a.words.items)) v 0 x w = subst (λ (i : ℕ). Tells g.T.Naming.valid passes (Word c.args.part i) v 0 x w) c.len.ensures c.word-value.ensures.tells in
+    let tells : Tells g.T.Naming.valid passes (Word c.args.part (length a.log.table.words.items)) v 0 x w = subst (λ (i : ℕ). Tells g.T.Naming.valid passes (Word c.args.part i) v 0 x w) c.len.ensures c.word-value.ensures.tells in
     let is : (d : Parts) → g.T.Naming.valid sizes d → m.valid d = λ d h. (g.met.T.TxType.valid_is a.log.ty.now d).1 h in
-    let h = reread_goes m law g.T.Naming.valid sizes is f a.at a.extension.bound c.args.part false a.log.base.items fresh a.log.set.items ws a.log.set.updates rs v goes.spans goes.observed goes.stands.3 c.requires.before.log.log c.args.ticket a.words.items goes.stands.0 goes.stands.1 w passes 0 x tells in
+    let h = reread_goes m law g.T.Naming.valid sizes is f a.at a.log.table.extension.bound c.args.part false a.log.table.base.items fresh a.log.table.set.items ws a.log.table.set.updates rs v goes.spans goes.observed goes.stands.3 c.requires.before.log.log c.args.ticket a.log.table.words.items goes.stands.0 goes.stands.1 w passes 0 x tells in
     record {
       event = search rules;
       turned = search rules;
@@ -107,7 +107,7 @@ returns-in_err-push g c =
       left = search rules;
       alone = search rules;
       err = always_err c.from_residual.result (IsLeft w × IsPrefix m f w a.at rs)
-          (left_idle m g.T.Naming.valid sizes a.at a.extension.bound a.log.base.items fresh f rs w h.0 (subst IsIdle (sym h.1) tt), prefix m f w a.at a.log.base.items a.log.set.items a.log.set.updates rs c.requires.before.log.log h.0.claimed);
+          (left_idle m g.T.Naming.valid sizes a.at a.log.table.extension.bound a.log.table.base.items fresh f rs w h.0 (subst IsIdle (sym h.1) tt), prefix m f w a.at a.log.table.base.items a.log.table.set.items a.log.table.set.updates rs c.requires.before.log.log h.0.claimed);
       one = search rules;
       longer = search rules;
       reads = search rules;

@@ -23,46 +23,42 @@ go_on-requires-clause-some g c =
     let whole = claims_fit g.T.Naming.valid v a.at h.fit in (
       whole.0,
       (g.met.T.TxType.valid_is a.log.ty.now whole.0).1 (subst (λ (l : List ℕ). g.T.Naming.valid l whole.0) h.own.same_sizes whole.1),
-      part_of_claims v a.at a.log.base.items whole.0 h.claimed whole.2,
+      part_of_claims v a.at a.log.table.base.items whole.0 h.claimed whole.2,
     )
 
 pub returns : goal.returns
 returns g c =
-    record {
+    rw c.in_ok-reached.ensures.rest (record {
       log = search rules;
       turned = λ v waits. (let a = c.args.self.now in
           let m = g.T.TxType.meaning a.log.ty.now in
           let sizes = g.T.Naming.sizes a.log.ty.now in
           let f = g.B.Body.script a.log.body in
-          let base = a.log.base.items in
-          let es = c.go_on.new.self.set.updates in
-          let rs = map plain_reply c.go_on.new.self.replies.items in
+          let base = a.log.table.base.items in
+          let es = c.go_on.new.self.table.set.updates in
+          let rs = map plain_reply c.go_on.new.self.table.replies.items in
           let h = waits.0 in
-          let fresh : Extension = record a.extension { extended = false } in
-          let same : c.go_on.new.self.base.items ≡ base = ap (λ (l : Listed ReadEntry). l.items) c.in_ok-reached.ensures.base in
-          subst (λ (b : List ReadEntry). Turned m g.T.Naming.valid sizes f a.at c.lead-read_phase.result.0 a.words.items fresh b c.go_on.new.self.set.items es rs v c.lead-read_phase.result.1) (sym same)
-          (turned m g.T.Naming.valid sizes f a.at a.words.items base c.go_on.new.self.set.items es rs v
+          let fresh : Extension = record a.log.table.extension { extended = false } in
+          turned m g.T.Naming.valid sizes f a.at a.log.table.words.items base c.go_on.new.self.table.set.items es rs v
           (record { own = h.own; unheld = h.unheld; decided = h.decided; draws = h.draws; number = h.number; fit = h.fit; phase = waits.1 })
           h.claimed h.only h.below fresh (λ e. cc) c.in_ok-reached.ensures.log.log c.in_ok-reached.reached c.lead-read_phase.result.0 c.lead-read_phase.result.1
-          c.in_ok-reached.ensures.reached c.lead-read_phase.ensures));
+          c.in_ok-reached.ensures.reached c.lead-read_phase.ensures);
       grown = search rules;
       comes = (let a = c.args.self.now in
           let m = g.T.TxType.meaning a.log.ty.now in
           let f = g.B.Body.script a.log.body in
-          let rs = map plain_reply c.go_on.new.self.replies.items in
-          let same : c.go_on.new.self.base.items ≡ a.log.base.items = ap (λ (l : Listed ReadEntry). l.items) c.in_ok-reached.ensures.base in
+          let rs = map plain_reply c.go_on.new.self.table.replies.items in
           let r : Reader = record (reader_of a) { extended = false } in
-          let set : Recorded = c.go_on.new.self.set in
+          let set : Recorded = c.go_on.new.self.table.set in
           let phase = c.lead-read_phase.result.0 in
           let turn = c.lead-read_phase.result.1 in
-          let s : Reader = record r { phase = phase; base = c.go_on.new.self.base.items; set = set; heard = rs } in
-          let here : s ≡ record r { set = set; heard = rs; extended = s.extended; phase = s.phase } = λ i. record r { phase = phase; base = same i; set = set; heard = rs } in
+          let s : Reader = record r { phase = phase; set = set; heard = rs } in
           let come : HasComeTo m f r set rs c.in_ok-reached.reached = c.in_ok-reached.ensures.comes r (refl, refl, refl) in
-          runs_on_is m f r s set rs c.in_ok-reached.reached turn come.0 come.1 c.lead-read_phase.ensures here ((λ e. cc), λ e. let no = e.0 in cc));
-      begun = led_begun c.args.self.now.at c.go_on.new.self.set.updates c.in_ok-reached.reached c.lead-read_phase.result.0 c.lead-read_phase.result.1 c.lead-read_phase.ensures;
-      alone = led_alone c.args.self.now.at c.go_on.new.self.set.updates c.in_ok-reached.reached c.lead-read_phase.result.0 c.lead-read_phase.result.1 c.lead-read_phase.ensures;
+          runs_on_is m f r s set rs c.in_ok-reached.reached turn come.0 come.1 c.lead-read_phase.ensures refl ((λ e. cc), λ e. let no = e.0 in cc));
+      begun = led_begun c.args.self.now.at c.go_on.new.self.table.set.updates c.in_ok-reached.reached c.lead-read_phase.result.0 c.lead-read_phase.result.1 c.lead-read_phase.ensures;
+      alone = led_alone c.args.self.now.at c.go_on.new.self.table.set.updates c.in_ok-reached.reached c.lead-read_phase.result.0 c.lead-read_phase.result.1 c.lead-read_phase.ensures;
       at = search rules;
       script = search rules;
       left_at_reset = search rules;
       ty = search rules;
-    }
+    })

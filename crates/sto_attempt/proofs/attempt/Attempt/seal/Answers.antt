@@ -13,7 +13,7 @@ stock-requires-clause-some g c =
     let whole = claims_fit g.T.Naming.valid v a.at h.fit in (
       whole.0,
       (g.met.T.TxType.valid_is a.log.ty.now whole.0).1 (subst (λ (l : List ℕ). g.T.Naming.valid l whole.0) h.own.same_sizes whole.1),
-      part_of_claims v a.at a.log.base.items whole.0 h.claimed whole.2,
+      part_of_claims v a.at a.log.table.base.items whole.0 h.claimed whole.2,
     )
 
 pub returns-in-Ok : goal.returns-in-Ok
@@ -21,14 +21,13 @@ returns-in-Ok g c =
     let a = c.args.self in
     let kept = c.in-Ok.ensures.kept in
     let it = c.in-Ok.ensures.stocked in
-    record {
+    rw kept (record {
       before = search rules;
       space = search rules;
       copy = search rules;
-      log = search rules;
-      at = search rules;
+      log = refl;
+      at = refl;
       left = search rules;
       undisturbed = search rules;
-      seals = gathered_sealed (reader_of a) _ it.gathered (ap (λ x. x.at) kept) (ap (λ x. x.log.base.items) kept) (ap (λ x. x.items) c.sort.ensures ∙ ap (λ x. x.log.set.items) kept) it.updates
-          (ap (λ x. map plain_reply x.log.replies.items) kept) it.unfound it.unloaded refl;
-    }
+      seals = gathered_sealed (reader_of a) _ it.gathered refl refl refl it.updates refl it.unfound it.unloaded refl;
+    })

@@ -34,11 +34,11 @@ width-requires g c =
     let sizes = g.T.Naming.sizes a.log.ty.now in
     let valid = g.T.Naming.valid in
     let f = g.B.Body.script a.log.body in
-    let rs = map plain_reply a.log.replies.items in
+    let rs = map plain_reply a.log.table.replies.items in
     let v = g.C.Cells.view c.args.cells.now in
     let p = c.in-Reading.part in
-    let goes : Fits m valid sizes f a.at (Reading p c.in-Reading.ticket) a.words.items a.log.base.items a.log.set.updates rs v × IsAsOf a.at a.extension =
-    subst (λ (s : ReadPhase). Goes m valid sizes f a.at s a.words.items a.extension a.log.base.items a.log.set.items a.log.set.updates rs v) c.in-Reading.is c.requires.goes in
+    let goes : Fits m valid sizes f a.at (Reading p c.in-Reading.ticket) a.log.table.words.items a.log.table.base.items a.log.table.set.updates rs v × IsAsOf a.at a.log.table.extension =
+    subst (λ (s : ReadPhase). Goes m valid sizes f a.at s a.log.table.words.items a.log.table.extension a.log.table.base.items a.log.table.set.items a.log.table.set.updates rs v) c.in-Reading.is c.requires.goes in
     omega (arith, touched_range m law f rs p (touched_next m f rs p goes.0.awaits.by_next), law.homes)
 
 pub begin-requires : goal.begin-requires
@@ -79,13 +79,13 @@ width-requires-in-Rereading g c =
     let sizes = g.T.Naming.sizes a.log.ty.now in
     let valid = g.T.Naming.valid in
     let f = g.B.Body.script a.log.body in
-    let rs = map plain_reply a.log.replies.items in
+    let rs = map plain_reply a.log.table.replies.items in
     let v = g.C.Cells.view c.args.cells.now in
     let is : (d : Parts) → valid sizes d → m.valid d = λ d h. (g.met.T.TxType.valid_is a.log.ty.now d).1 h in
     let p = c.in-Rereading.part in
-    let goes : Renews m valid sizes (f rs) a.at (Rereading p c.in-Rereading.ticket) a.words.items a.extension a.log.base.items a.log.set.items v =
-    subst (λ (s : ReadPhase). Goes m valid sizes f a.at s a.words.items a.extension a.log.base.items a.log.set.items a.log.set.updates rs v) c.in-Rereading.is c.requires.goes in
-    below_long m law valid sizes is f a.at a.extension.bound p false a.log.base.items a.extension.fresh.items a.log.set.items (map watched a.extension.watches.items) a.log.set.updates rs v goes.spans goes.observed goes.stands.3 c.requires.log.log
+    let goes : Renews m valid sizes (f rs) a.at (Rereading p c.in-Rereading.ticket) a.log.table.words.items a.log.table.extension a.log.table.base.items a.log.table.set.items v =
+    subst (λ (s : ReadPhase). Goes m valid sizes f a.at s a.log.table.words.items a.log.table.extension a.log.table.base.items a.log.table.set.items a.log.table.set.updates rs v) c.in-Rereading.is c.requires.goes in
+    below_long m law valid sizes is f a.at a.log.table.extension.bound p false a.log.table.base.items a.log.table.extension.fresh.items a.log.table.set.items (map watched a.log.table.extension.watches.items) a.log.table.set.updates rs v goes.spans goes.observed goes.stands.3 c.requires.log.log
 
 pub reclose-requires-clause-all : goal.reclose-requires-clause-all
 reclose-requires-clause-all g c =
@@ -94,11 +94,11 @@ reclose-requires-clause-all g c =
     let sizes = g.T.Naming.sizes a.log.ty.now in
     let valid = g.T.Naming.valid in
     let f = g.B.Body.script a.log.body in
-    let rs = map plain_reply a.log.replies.items in
+    let rs = map plain_reply a.log.table.replies.items in
     let v = g.C.Cells.view c.args.cells.now in
     let p = c.in-Rereading.part in
-    let goes : Renews m valid sizes (f rs) a.at (Rereading p c.in-Rereading.ticket) a.words.items a.extension a.log.base.items a.log.set.items v =
-    subst (λ (s : ReadPhase). Goes m valid sizes f a.at s a.words.items a.extension a.log.base.items a.log.set.items a.log.set.updates rs v) c.in-Rereading.is c.requires.goes in
+    let goes : Renews m valid sizes (f rs) a.at (Rereading p c.in-Rereading.ticket) a.log.table.words.items a.log.table.extension a.log.table.base.items a.log.table.set.items v =
+    subst (λ (s : ReadPhase). Goes m valid sizes f a.at s a.log.table.words.items a.log.table.extension a.log.table.base.items a.log.table.set.items a.log.table.set.updates rs v) c.in-Rereading.is c.requires.goes in
     omega (arith, width_got m.widths p c.width-in-Rereading.result c.width-in-Rereading.ensures, c.if-len-width-2.false, c.len-in-Rereading.ensures, goes.stands.2)
 
 pub returns-in-Unstarted-clause-prefix : goal.returns-in-Unstarted-clause-prefix
@@ -110,9 +110,9 @@ returns-in-Unstarted-clause-prefix g c =
     let f = g.B.Body.script a.log.body in
     let b = c.begin.new.self in
     let w = g.C.Cells.view c.begin.new.cells in
-    let now = map plain_reply b.log.replies.items in
-    any_prefix m valid sizes f b.at b.words.items b.extension b.log.base.items b.log.set.items b.log.set.updates now w b.read_phase c.begin.result (IsLeft w) c.begin.ensures.turned
-    (ok_map c.begin.result (IsOnLog m (g.B.Body.then b.log.body) f (g.B.Body.left b.log.body) (g.B.Body.may_ask b.log.body) b.log.base.items b.log.set b.log.cache b.log.replies.items) (IsLog m f (words_in b.log.base.items) b.log.set.items b.log.set.updates now) (λ h. h.log) c.begin.ensures.log) c.begin.ensures.err
+    let now = map plain_reply b.log.table.replies.items in
+    any_prefix m valid sizes f b.at b.log.table.words.items b.log.table.extension b.log.table.base.items b.log.table.set.items b.log.table.set.updates now w b.read_phase c.begin.result (IsLeft w) c.begin.ensures.turned
+    (ok_map c.begin.result (IsOnLog m (g.B.Body.then b.log.body) f (g.B.Body.left b.log.body) (g.B.Body.may_ask b.log.body) b.log.table.base.items b.log.table.set b.log.table.cache b.log.table.replies.items) (IsLog m f (words_in b.log.table.base.items) b.log.table.set.items b.log.table.set.updates now) (λ h. h.log) c.begin.ensures.log) c.begin.ensures.err
 
 pub returns-in-Opening-clause-prefix : goal.returns-in-Opening-clause-prefix
 returns-in-Opening-clause-prefix g c =
@@ -149,9 +149,9 @@ close-requires-clause-all g c =
     let a = c.args.self.now in
     let m = g.T.TxType.meaning a.log.ty.now in
     let f = g.B.Body.script a.log.body in
-    let rs = map plain_reply a.log.replies.items in
+    let rs = map plain_reply a.log.table.replies.items in
     let v = g.C.Cells.view c.args.cells.now in
-    let h = subst (λ (s : ReadPhase). Goes m g.T.Naming.valid (g.T.Naming.sizes a.log.ty.now) f a.at s a.words.items a.extension a.log.base.items a.log.set.items a.log.set.updates rs v) c.in-Reading.is c.requires.goes in
+    let h = subst (λ (s : ReadPhase). Goes m g.T.Naming.valid (g.T.Naming.sizes a.log.ty.now) f a.at s a.log.table.words.items a.log.table.extension a.log.table.base.items a.log.table.set.items a.log.table.set.updates rs v) c.in-Reading.is c.requires.goes in
     omega (arith, width_got m.widths c.in-Reading.part c.width.result c.width.ensures, c.if-len-width.false, c.len.ensures, h.0.stands.2)
 
 pub returns-in-Unstarted-clause-same : goal.returns-in-Unstarted-clause-same
@@ -190,19 +190,19 @@ returns-in-Unstarted-clause-steps g c =
     let w = g.C.Cells.view c.begin.new.cells in
     let b = c.begin.new.self in
     let f = g.B.Body.script a.log.body in
-    let rs = map plain_reply a.log.replies.items in
-    let now = map plain_reply b.log.replies.items in
-    let h = subst (λ (s : ReadPhase). Goes m g.T.Naming.valid (g.T.Naming.sizes a.log.ty.now) f a.at s a.words.items a.extension a.log.base.items a.log.set.items a.log.set.updates rs v) c.in-Unstarted.is c.requires.goes in
+    let rs = map plain_reply a.log.table.replies.items in
+    let now = map plain_reply b.log.table.replies.items in
+    let h = subst (λ (s : ReadPhase). Goes m g.T.Naming.valid (g.T.Naming.sizes a.log.ty.now) f a.at s a.log.table.words.items a.log.table.extension a.log.table.base.items a.log.table.set.items a.log.table.set.updates rs v) c.in-Unstarted.is c.requires.goes in
     record {
-      event = subst (λ (x : Event). OneEvent (λ e. e ≡ x) g.T.Naming.valid (g.C.Cells.passes c.args.cells.now) v w) (sym (ap (λ (s : ReadPhase). next_event m.widths s a.words.items) c.in-Unstarted.is)) c.begin.ensures.event;
+      event = subst (λ (x : Event). OneEvent (λ e. e ≡ x) g.T.Naming.valid (g.C.Cells.passes c.args.cells.now) v w) (sym (ap (λ (s : ReadPhase). next_event m.widths s a.log.table.words.items) c.in-Unstarted.is)) c.begin.ensures.event;
       log = c.begin.ensures.log;
       turned = c.begin.ensures.turned;
       grown = c.begin.ensures.grown;
       alone = λ one first. c.begin.ensures.alone;
-      reason = if_ok c.begin.result (λ turn. IsFirst b.read_phase × IsUnaborted turn) (λ turn. IsCaused (next_event m.widths a.read_phase a.words.items) b.log.set.items w a.extension turn) (λ turn h. unaborted_caused (next_event m.widths a.read_phase a.words.items) b.log.set.items w a.extension turn h.1) c.begin.ensures.alone;
-      renewed = ok_always c.begin.result (KeepsExtension a.read_phase w a.extension rs b.extension now) (subst (λ (s : ReadPhase). KeepsExtension s w a.extension rs b.extension now) (sym c.in-Unstarted.is) (keeps_fresh w a.extension b.extension rs now c.begin.ensures.extension h.4));
+      reason = if_ok c.begin.result (λ turn. IsFirst b.read_phase × IsUnaborted turn) (λ turn. IsCaused (next_event m.widths a.read_phase a.log.table.words.items) b.log.table.set.items w a.log.table.extension turn) (λ turn h. unaborted_caused (next_event m.widths a.read_phase a.log.table.words.items) b.log.table.set.items w a.log.table.extension turn h.1) c.begin.ensures.alone;
+      renewed = ok_always c.begin.result (KeepsExtension a.read_phase w a.log.table.extension rs b.log.table.extension now) (subst (λ (s : ReadPhase). KeepsExtension s w a.log.table.extension rs b.log.table.extension now) (sym c.in-Unstarted.is) (keeps_fresh w a.log.table.extension b.log.table.extension rs now c.begin.ensures.extension h.4));
       moves = subst (λ (s : ReadPhase). OnOk c.begin.result (Moves s a.at b.read_phase b.at w)) (sym c.in-Unstarted.is) c.begin.ensures.moves;
-      left = subst (λ (s : ReadPhase). OnOk c.begin.result (events_left (g.B.Body.left b.log.body) m.widths b.read_phase b.words.items b.extension b.log.base.items < events_left (g.B.Body.left a.log.body) m.widths s a.words.items a.extension a.log.base.items)) (sym c.in-Unstarted.is) c.begin.ensures.left;
+      left = subst (λ (s : ReadPhase). OnOk c.begin.result (events_left (g.B.Body.left b.log.body) m.widths b.read_phase b.log.table.words.items b.log.table.extension b.log.table.base.items < events_left (g.B.Body.left a.log.body) m.widths s a.log.table.words.items a.log.table.extension a.log.table.base.items)) (sym c.in-Unstarted.is) c.begin.ensures.left;
       err = err_map c.begin.result (IsLeft w × IsPrefix m f w b.at now) (IsLeft w) (λ h. h.0) c.begin.ensures.err;
       script = c.begin.ensures.script;
       left_at_reset = c.begin.ensures.left_at_reset;
@@ -218,8 +218,8 @@ pub returns-else-len-width-clause-steps : goal.returns-else-len-width-clause-ste
 returns-else-len-width-clause-steps g c =
     let a = c.args.self.now in
     let m = g.T.TxType.meaning a.log.ty.now in
-    let long : slice_index_or m.widths c.in-Reading.part 0 ≤ length a.words.items = omega (arith, width_got m.widths c.in-Reading.part c.width.result c.width.ensures, c.if-len-width.false, c.len.ensures) in
-    let to : next_event m.widths a.read_phase a.words.items ≡ Close c.in-Reading.part = ap (λ (s : ReadPhase). next_event m.widths s a.words.items) c.in-Reading.is ∙ close_next m.widths c.in-Reading.part a.words.items long in
+    let long : slice_index_or m.widths c.in-Reading.part 0 ≤ length a.log.table.words.items = omega (arith, width_got m.widths c.in-Reading.part c.width.result c.width.ensures, c.if-len-width.false, c.len.ensures) in
+    let to : next_event m.widths a.read_phase a.log.table.words.items ≡ Close c.in-Reading.part = ap (λ (s : ReadPhase). next_event m.widths s a.log.table.words.items) c.in-Reading.is ∙ close_next m.widths c.in-Reading.part a.log.table.words.items long in
     steps_as (of_type g.T.Naming g.T.TxType) g.B.Body (g.C.Cells.passes c.args.cells.now) a c.close.new.self (g.C.Cells.view c.args.cells.now) (g.C.Cells.view c.close.new.cells) c.close.result a.read_phase _ c.in-Reading.is (Close c.in-Reading.part) to c.close.ensures.made.steps
 
 pub returns-in-Renewing-clause-steps : goal.returns-in-Renewing-clause-steps
@@ -242,20 +242,20 @@ pub returns-else-len-width-2-clause-steps : goal.returns-else-len-width-2-clause
 returns-else-len-width-2-clause-steps g c =
     let a = c.args.self.now in
     let m = g.T.TxType.meaning a.log.ty.now in
-    let long : slice_index_or m.widths c.in-Rereading.part 0 ≤ length a.words.items = omega (arith, width_got m.widths c.in-Rereading.part c.width-in-Rereading.result c.width-in-Rereading.ensures, c.if-len-width-2.false, c.len-in-Rereading.ensures) in
-    let to : next_event m.widths a.read_phase a.words.items ≡ Close c.in-Rereading.part = ap (λ (s : ReadPhase). next_event m.widths s a.words.items) c.in-Rereading.is ∙ close_next m.widths c.in-Rereading.part a.words.items long in
+    let long : slice_index_or m.widths c.in-Rereading.part 0 ≤ length a.log.table.words.items = omega (arith, width_got m.widths c.in-Rereading.part c.width-in-Rereading.result c.width-in-Rereading.ensures, c.if-len-width-2.false, c.len-in-Rereading.ensures) in
+    let to : next_event m.widths a.read_phase a.log.table.words.items ≡ Close c.in-Rereading.part = ap (λ (s : ReadPhase). next_event m.widths s a.log.table.words.items) c.in-Rereading.is ∙ close_next m.widths c.in-Rereading.part a.log.table.words.items long in
     steps_as (of_type g.T.Naming g.T.TxType) g.B.Body (g.C.Cells.passes c.args.cells.now) a c.reclose.new.self (g.C.Cells.view c.args.cells.now) (g.C.Cells.view c.reclose.new.cells) c.reclose.result a.read_phase _ c.in-Rereading.is (Close c.in-Rereading.part) to c.reclose.ensures.steps
 
 pub read_word-requires-clause-more : goal.read_word-requires-clause-more
 read_word-requires-clause-more g c =
     let a = c.args.self.now in
     let m = g.T.TxType.meaning a.log.ty.now in
-    let short : length a.words.items < slice_index_or m.widths c.in-Reading.part 0 = omega (arith, width_got m.widths c.in-Reading.part c.width.result c.width.ensures, c.if-len-width.true, c.len.ensures) in
+    let short : length a.log.table.words.items < slice_index_or m.widths c.in-Reading.part 0 = omega (arith, width_got m.widths c.in-Reading.part c.width.result c.width.ensures, c.if-len-width.true, c.len.ensures) in
     rw c.in-Reading.is (omega (arith, short))
 
 pub read_word-requires-then-len-width-2-clause-more : goal.read_word-requires-then-len-width-2-clause-more
 read_word-requires-then-len-width-2-clause-more g c =
     let a = c.args.self.now in
     let m = g.T.TxType.meaning a.log.ty.now in
-    let short : length a.words.items < slice_index_or m.widths c.in-Rereading.part 0 = omega (arith, width_got m.widths c.in-Rereading.part c.width-in-Rereading.result c.width-in-Rereading.ensures, c.if-len-width-2.true, c.len-in-Rereading.ensures) in
+    let short : length a.log.table.words.items < slice_index_or m.widths c.in-Rereading.part 0 = omega (arith, width_got m.widths c.in-Rereading.part c.width-in-Rereading.result c.width-in-Rereading.ensures, c.if-len-width-2.true, c.len-in-Rereading.ensures) in
     rw c.in-Rereading.is (omega (arith, short))

@@ -30,10 +30,10 @@ word-value-requires g c =
     let sizes = g.T.Naming.sizes a.log.ty.now in
     let valid = g.T.Naming.valid in
     let f = g.B.Body.script a.log.body in
-    let rs = map plain_reply a.log.replies.items in
+    let rs = map plain_reply a.log.table.replies.items in
     let v = g.C.Cells.view c.args.cells.now in
     subst (λ (i : ℕ). Allowed valid (Word c.args.part i) v) (sym c.len.ensures)
-    (may_read m valid sizes f a.at c.args.part c.args.ticket a.words.items a.log.base.items a.log.set.items a.log.set.updates rs v c.requires.before.goes.0 law c.requires.more)
+    (may_read m valid sizes f a.at c.args.part c.args.ticket a.log.table.words.items a.log.table.base.items a.log.table.set.items a.log.table.set.updates rs v c.requires.before.goes.0 law c.requires.more)
 
 pub returns : goal.returns
 returns g c =
@@ -41,29 +41,29 @@ returns g c =
     let m = g.T.TxType.meaning a.log.ty.now in
     let sizes = g.T.Naming.sizes a.log.ty.now in
     let f = g.B.Body.script a.log.body in
-    let rs = map plain_reply a.log.replies.items in
+    let rs = map plain_reply a.log.table.replies.items in
     let v = g.C.Cells.view c.args.cells.now in
     let w = g.C.Cells.view c.word-value.new.self in
     let passes = g.C.Cells.passes c.args.cells.now in
     let x = c.word-value.result in
     let fit : FitsSigned w64 x = search rules in
-    let pushed : c.push.new.self.items ≡ a.words.items ++ x ∷ [] = simp to_z-of_z at c.in_ok-push.ensures.ok in
-    let tells : Tells g.T.Naming.valid passes (Word c.args.part (length a.words.items)) v 0 x w = subst (λ (i : ℕ). Tells g.T.Naming.valid passes (Word c.args.part i) v 0 x w) c.len.ensures c.word-value.ensures.tells in
+    let pushed : c.push.new.self.items ≡ a.log.table.words.items ++ x ∷ [] = simp to_z-of_z at c.in_ok-push.ensures.ok in
+    let tells : Tells g.T.Naming.valid passes (Word c.args.part (length a.log.table.words.items)) v 0 x w = subst (λ (i : ℕ). Tells g.T.Naming.valid passes (Word c.args.part i) v 0 x w) c.len.ensures c.word-value.ensures.tells in
     let h =
-    word_goes m g.T.Naming.valid sizes f a.at c.args.part c.args.ticket a.words.items a.log.base.items a.log.set.items a.log.set.updates rs v c.requires.before.goes.0 w passes 0 x tells c.requires.more in
+    word_goes m g.T.Naming.valid sizes f a.at c.args.part c.args.ticket a.log.table.words.items a.log.table.base.items a.log.table.set.items a.log.table.set.updates rs v c.requires.before.goes.0 w passes 0 x tells c.requires.more in
     let law = g.met.T.TxType.lawful a.log.ty.now in
-    let base = a.log.base.items in
-    let longer : length c.push.new.self.items ≡ length a.words.items + 1 = ap length pushed ∙ length-append a.words.items (x ∷ []) in
+    let base = a.log.table.base.items in
+    let longer : length c.push.new.self.items ≡ length a.log.table.words.items + 1 = ap length pushed ∙ length-append a.log.table.words.items (x ∷ []) in
     let calls = g.B.Body.left a.log.body in
-    let most = left_opening (calls - 1) m.widths a.extension.extended (words_in base) in
+    let most = left_opening (calls - 1) m.widths a.log.table.extension.extended (words_in base) in
     record {
       event = search rules;
-      turned = subst (λ (s : ReadPhase). Goes m g.T.Naming.valid sizes f a.at s c.push.new.self.items a.extension a.log.base.items a.log.set.items a.log.set.updates rs w) (sym c.requires.read_phase)
-          (subst (λ (ws : List ℤ). Fits m g.T.Naming.valid sizes f a.at (Reading c.args.part c.args.ticket) ws a.log.base.items a.log.set.updates rs w) (sym pushed) h, c.requires.before.goes.1);
+      turned = subst (λ (s : ReadPhase). Goes m g.T.Naming.valid sizes f a.at s c.push.new.self.items a.log.table.extension a.log.table.base.items a.log.table.set.items a.log.table.set.updates rs w) (sym c.requires.read_phase)
+          (subst (λ (ws : List ℤ). Fits m g.T.Naming.valid sizes f a.at (Reading c.args.part c.args.ticket) ws a.log.table.base.items a.log.table.set.updates rs w) (sym pushed) h, c.requires.before.goes.1);
       moves = (subst HasBegun (sym c.requires.read_phase) tt, refl);
-      left = subst (λ (s : ReadPhase). events_left calls m.widths s c.push.new.self.items a.extension base < most - (1 + length a.words.items)) (sym c.requires.read_phase)
-          (subst (λ (k : ℕ). most - (1 + k) < most - (1 + length a.words.items)) (sym longer)
-          (word_fewer m law f rs c.args.part base a.log.set.updates c.requires.before.goes.0.awaits (calls - 1) a.extension.extended (length a.words.items) c.requires.more));
+      left = subst (λ (s : ReadPhase). events_left calls m.widths s c.push.new.self.items a.log.table.extension base < most - (1 + length a.log.table.words.items)) (sym c.requires.read_phase)
+          (subst (λ (k : ℕ). most - (1 + k) < most - (1 + length a.log.table.words.items)) (sym longer)
+          (word_fewer m law f rs c.args.part base a.log.table.set.updates c.requires.before.goes.0.awaits (calls - 1) a.log.table.extension.extended (length a.log.table.words.items) c.requires.more));
       alone = (λ first. subst IsFirst (sym c.requires.read_phase) tt, tt);
       err = search rules;
       one = search rules;
@@ -81,13 +81,13 @@ returns-in_err-push g c =
     let sizes = g.T.Naming.sizes a.log.ty.now in
     let valid = g.T.Naming.valid in
     let f = g.B.Body.script a.log.body in
-    let rs = map plain_reply a.log.replies.items in
-    let base = a.log.base.items in
+    let rs = map plain_reply a.log.table.replies.items in
+    let base = a.log.table.base.items in
     let v = g.C.Cells.view c.args.cells.now in
     let passes = g.C.Cells.passes c.args.cells.now in
     let w = g.C.Cells.view c.word-value.new.self in
     let x = c.word-value.result in
-    let tells : Tells valid passes (Word c.args.part (length a.words.items)) v 0 x w = subst (λ (i : ℕ). Tells valid passes (Word c.args.part i) v 0 x w) c.len.ensures c.word-value.ensures.tells in
+    let tells : Tells valid passes (Word c.args.part (length a.log.table.words.items)) v 0 x w = subst (λ (i : ℕ). Tells valid passes (Word c.args.part i) v 0 x w) c.len.ensures c.word-value.ensures.tells in
     record {
       event = search rules;
       turned = search rules;
@@ -95,7 +95,7 @@ returns-in_err-push g c =
       left = search rules;
       alone = search rules;
       err = always_err c.from_residual.result (IsLeft w × IsPrefix m f w a.at rs)
-          (word_stops m valid sizes f a.at c.args.part c.args.ticket a.words.items base a.log.set.items a.log.set.updates rs v c.requires.before.goes.0 w passes 0 x tells c.requires.more c.requires.before.log.log);
+          (word_stops m valid sizes f a.at c.args.part c.args.ticket a.log.table.words.items base a.log.table.set.items a.log.table.set.updates rs v c.requires.before.goes.0 w passes 0 x tells c.requires.more c.requires.before.log.log);
       one = search rules;
       longer = search rules;
       reads = search rules;

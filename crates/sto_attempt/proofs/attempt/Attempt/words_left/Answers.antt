@@ -27,7 +27,7 @@ none_unread widths words Over first again = refl
 pub returns-in_default-clause-left : goal.returns-in_default-clause-left
 returns-in_default-clause-left g c =
     let a = c.args.self.now in
-    sym (none_unread (g.T.TxType.meaning a.log.ty.now).widths a.words.items a.read_phase c.in_default.not-Reading c.in_default.not-Rereading)
+    sym (none_unread (g.T.TxType.meaning a.log.ty.now).widths a.log.table.words.items a.read_phase c.in_default.not-Reading c.in_default.not-Rereading)
 
 pub width-requires : goal.width-requires
 width-requires g c =
@@ -37,11 +37,11 @@ width-requires g c =
     let sizes = g.T.Naming.sizes a.log.ty.now in
     let valid = g.T.Naming.valid in
     let f = g.B.Body.script a.log.body in
-    let rs = map plain_reply a.log.replies.items in
+    let rs = map plain_reply a.log.table.replies.items in
     let v = c.requires.0 in
     let p = c.in-Reading.part in
-    let goes : Fits m valid sizes f a.at (Reading p c.in-Reading.ticket) a.words.items a.log.base.items a.log.set.updates rs v × IsAsOf a.at a.extension =
-    subst (λ (s : ReadPhase). Goes m valid sizes f a.at s a.words.items a.extension a.log.base.items a.log.set.items a.log.set.updates rs v) c.in-Reading.is c.requires.1.goes in
+    let goes : Fits m valid sizes f a.at (Reading p c.in-Reading.ticket) a.log.table.words.items a.log.table.base.items a.log.table.set.updates rs v × IsAsOf a.at a.log.table.extension =
+    subst (λ (s : ReadPhase). Goes m valid sizes f a.at s a.log.table.words.items a.log.table.extension a.log.table.base.items a.log.table.set.items a.log.table.set.updates rs v) c.in-Reading.is c.requires.1.goes in
     omega (arith, touched_range m law f rs p (touched_next m f rs p goes.0.awaits.by_next), law.homes)
 
 pub overflow_sub-result : goal.overflow_sub-result
@@ -52,11 +52,11 @@ overflow_sub-result g c =
     let sizes = g.T.Naming.sizes a.log.ty.now in
     let valid = g.T.Naming.valid in
     let f = g.B.Body.script a.log.body in
-    let rs = map plain_reply a.log.replies.items in
+    let rs = map plain_reply a.log.table.replies.items in
     let v = c.requires.0 in
     let p = c.in-Reading.part in
-    let goes : Fits m valid sizes f a.at (Reading p c.in-Reading.ticket) a.words.items a.log.base.items a.log.set.updates rs v × IsAsOf a.at a.extension =
-    subst (λ (s : ReadPhase). Goes m valid sizes f a.at s a.words.items a.extension a.log.base.items a.log.set.items a.log.set.updates rs v) c.in-Reading.is c.requires.1.goes in
+    let goes : Fits m valid sizes f a.at (Reading p c.in-Reading.ticket) a.log.table.words.items a.log.table.base.items a.log.table.set.updates rs v × IsAsOf a.at a.log.table.extension =
+    subst (λ (s : ReadPhase). Goes m valid sizes f a.at s a.log.table.words.items a.log.table.extension a.log.table.base.items a.log.table.set.items a.log.table.set.updates rs v) c.in-Reading.is c.requires.1.goes in
     omega (arith, width_got m.widths p c.width.result c.width.ensures, c.len.ensures, goes.0.stands.2)
 
 pub returns-in-Reading-clause-left : goal.returns-in-Reading-clause-left
@@ -72,11 +72,11 @@ returns-in-Reading-clause-few g c some =
     let sizes = g.T.Naming.sizes a.log.ty.now in
     let valid = g.T.Naming.valid in
     let f = g.B.Body.script a.log.body in
-    let rs = map plain_reply a.log.replies.items in
+    let rs = map plain_reply a.log.table.replies.items in
     let v = c.requires.0 in
     let p = c.in-Reading.part in
-    let goes : Fits m valid sizes f a.at (Reading p c.in-Reading.ticket) a.words.items a.log.base.items a.log.set.updates rs v × IsAsOf a.at a.extension =
-    subst (λ (s : ReadPhase). Goes m valid sizes f a.at s a.words.items a.extension a.log.base.items a.log.set.items a.log.set.updates rs v) c.in-Reading.is c.requires.1.goes in
+    let goes : Fits m valid sizes f a.at (Reading p c.in-Reading.ticket) a.log.table.words.items a.log.table.base.items a.log.table.set.updates rs v × IsAsOf a.at a.log.table.extension =
+    subst (λ (s : ReadPhase). Goes m valid sizes f a.at s a.log.table.words.items a.log.table.extension a.log.table.base.items a.log.table.set.items a.log.table.set.updates rs v) c.in-Reading.is c.requires.1.goes in
     let wide : FitsWord w32 c.width.result = search rules in
     omega (arith, wide, width_got m.widths p c.width.result c.width.ensures, c.len.ensures, goes.0.stands.2)
 
@@ -88,13 +88,13 @@ width-requires-in-Rereading g c =
     let sizes = g.T.Naming.sizes a.log.ty.now in
     let valid = g.T.Naming.valid in
     let f = g.B.Body.script a.log.body in
-    let rs = map plain_reply a.log.replies.items in
+    let rs = map plain_reply a.log.table.replies.items in
     let v = c.requires.0 in
     let p = c.in-Rereading.part in
     let is : (d : Parts) → valid sizes d → m.valid d = λ d h. (g.met.T.TxType.valid_is a.log.ty.now d).1 h in
-    let goes : Renews m valid sizes (f rs) a.at (Rereading p c.in-Rereading.ticket) a.words.items a.extension a.log.base.items a.log.set.items v =
-    subst (λ (s : ReadPhase). Goes m valid sizes f a.at s a.words.items a.extension a.log.base.items a.log.set.items a.log.set.updates rs v) c.in-Rereading.is c.requires.1.goes in
-    below_long m law valid sizes is f a.at a.extension.bound p false a.log.base.items a.extension.fresh.items a.log.set.items (map watched a.extension.watches.items) a.log.set.updates rs v goes.spans goes.observed goes.stands.3 c.requires.1.log.log
+    let goes : Renews m valid sizes (f rs) a.at (Rereading p c.in-Rereading.ticket) a.log.table.words.items a.log.table.extension a.log.table.base.items a.log.table.set.items v =
+    subst (λ (s : ReadPhase). Goes m valid sizes f a.at s a.log.table.words.items a.log.table.extension a.log.table.base.items a.log.table.set.items a.log.table.set.updates rs v) c.in-Rereading.is c.requires.1.goes in
+    below_long m law valid sizes is f a.at a.log.table.extension.bound p false a.log.table.base.items a.log.table.extension.fresh.items a.log.table.set.items (map watched a.log.table.extension.watches.items) a.log.table.set.updates rs v goes.spans goes.observed goes.stands.3 c.requires.1.log.log
 
 pub overflow_sub-result-in-Rereading : goal.overflow_sub-result-in-Rereading
 overflow_sub-result-in-Rereading g c =
@@ -104,11 +104,11 @@ overflow_sub-result-in-Rereading g c =
     let sizes = g.T.Naming.sizes a.log.ty.now in
     let valid = g.T.Naming.valid in
     let f = g.B.Body.script a.log.body in
-    let rs = map plain_reply a.log.replies.items in
+    let rs = map plain_reply a.log.table.replies.items in
     let v = c.requires.0 in
     let p = c.in-Rereading.part in
-    let goes : Renews m valid sizes (f rs) a.at (Rereading p c.in-Rereading.ticket) a.words.items a.extension a.log.base.items a.log.set.items v =
-    subst (λ (s : ReadPhase). Goes m valid sizes f a.at s a.words.items a.extension a.log.base.items a.log.set.items a.log.set.updates rs v) c.in-Rereading.is c.requires.1.goes in
+    let goes : Renews m valid sizes (f rs) a.at (Rereading p c.in-Rereading.ticket) a.log.table.words.items a.log.table.extension a.log.table.base.items a.log.table.set.items v =
+    subst (λ (s : ReadPhase). Goes m valid sizes f a.at s a.log.table.words.items a.log.table.extension a.log.table.base.items a.log.table.set.items a.log.table.set.updates rs v) c.in-Rereading.is c.requires.1.goes in
     omega (arith, width_got m.widths p c.width-in-Rereading.result c.width-in-Rereading.ensures, c.len-in-Rereading.ensures, goes.stands.2)
 
 pub returns-in-Rereading-clause-left : goal.returns-in-Rereading-clause-left
@@ -124,10 +124,10 @@ returns-in-Rereading-clause-few g c some =
     let sizes = g.T.Naming.sizes a.log.ty.now in
     let valid = g.T.Naming.valid in
     let f = g.B.Body.script a.log.body in
-    let rs = map plain_reply a.log.replies.items in
+    let rs = map plain_reply a.log.table.replies.items in
     let v = c.requires.0 in
     let p = c.in-Rereading.part in
-    let goes : Renews m valid sizes (f rs) a.at (Rereading p c.in-Rereading.ticket) a.words.items a.extension a.log.base.items a.log.set.items v =
-    subst (λ (s : ReadPhase). Goes m valid sizes f a.at s a.words.items a.extension a.log.base.items a.log.set.items a.log.set.updates rs v) c.in-Rereading.is c.requires.1.goes in
+    let goes : Renews m valid sizes (f rs) a.at (Rereading p c.in-Rereading.ticket) a.log.table.words.items a.log.table.extension a.log.table.base.items a.log.table.set.items v =
+    subst (λ (s : ReadPhase). Goes m valid sizes f a.at s a.log.table.words.items a.log.table.extension a.log.table.base.items a.log.table.set.items a.log.table.set.updates rs v) c.in-Rereading.is c.requires.1.goes in
     let wide : FitsWord w32 c.width-in-Rereading.result = search rules in
     omega (arith, wide, width_got m.widths p c.width-in-Rereading.result c.width-in-Rereading.ensures, c.len-in-Rereading.ensures, goes.stands.2)

@@ -11,12 +11,12 @@ returns-then-is_written g c = (
   refl,
   refl,
   omega (arith, c.requires, c.len.ensures, c.if-place-len.false),
-  written_is c.as_slice.result.now c.args.self.now.updates.items c.args.self.now.tasks.items c.args.place c.get.result.now c.is_written.result true c.as_slice.ensures.items c.get.ensures c.is_written.ensures c.if-is_written.true,
+  written_is c.as_slice.result.now c.args.self.now.log.table.lists.updates.items c.args.self.now.log.table.lists.tasks.items c.args.place c.get.result.now c.is_written.result true c.as_slice.ensures.items c.get.ensures c.is_written.ensures c.if-is_written.true,
 )
 
 pub returns-else-is_written : goal.returns-else-is_written
 returns-else-is_written g c = (
   refl,
   omega (arith, c.requires, c.len.ensures, c.if-place-len.false),
-  written_is c.as_slice.result.now c.args.self.now.updates.items c.args.self.now.tasks.items c.args.place c.get.result.now c.is_written.result false c.as_slice.ensures.items c.get.ensures c.is_written.ensures c.if-is_written.false,
+  written_is c.as_slice.result.now c.args.self.now.log.table.lists.updates.items c.args.self.now.log.table.lists.tasks.items c.args.place c.get.result.now c.is_written.result false c.as_slice.ensures.items c.get.ensures c.is_written.ensures c.if-is_written.false,
 )

@@ -20,7 +20,7 @@ draw-ticket-requires g c =
     let sizes = c.requires.stands.going.sealed.own.same_sizes in
     let here : (x : Parts) → valid v.sizes x → m.valid x = λ x h. (g.met.T.TxType.valid_is a.log.ty.now x).1 (subst (λ (l : List ℕ). valid l x) sizes h) in
     let there : (x : Parts) → m.valid x → valid v.sizes x = λ x h. subst (λ (l : List ℕ). valid l x) (sym sizes) ((g.met.T.TxType.valid_is a.log.ty.now x).0 h) in
-    the_draw d (g.met.T.TxType.lawful a.log.ty.now) a.found_tickets a.loaded_words.items v c.requires.stands here there
+    the_draw d (g.met.T.TxType.lawful a.log.ty.now) a.log.table.lists.found_tickets a.log.table.lists.loaded_words.items v c.requires.stands here there
 
 pub returns : goal.returns
 returns g c =
@@ -34,15 +34,15 @@ returns g c =
     let here : (x : Parts) → valid v.sizes x → m.valid x = λ x h. (g.met.T.TxType.valid_is a.log.ty.now x).1 (subst (λ (l : List ℕ). valid l x) sizes h) in
     let there : (x : Parts) → m.valid x → valid v.sizes x = λ x h. subst (λ (l : List ℕ). valid l x) (sym sizes) ((g.met.T.TxType.valid_is a.log.ty.now x).0 h) in
     let tells = c.draw-ticket.ensures.tells in
-    let it = draw_goes d (g.met.T.TxType.lawful a.log.ty.now) a.found_tickets a.loaded_words.items v c.requires.stands here there w _ tells.0 c.draw-ticket.result tells.1 tells.2 in
+    let it = draw_goes d (g.met.T.TxType.lawful a.log.ty.now) a.log.table.lists.found_tickets a.log.table.lists.loaded_words.items v c.requires.stands here there w _ tells.0 c.draw-ticket.result tells.1 tells.2 in
     record {
       advances = record {
         event = search rules;
-        said = checks_next d 0 c.draw-ticket.result a.found_tickets a.loaded_words.items w it c.next_check-self.result c.next_check-self.ensures;
-        space = space_checks (g.T.TxType.meaning c.args.self.now.log.ty.now).widths c.args.self.now.tasks.items c.args.self.now.loaded_words c.args.self.now.checks.items 0 c.draw-ticket.result c.next_check-self.result c.next_check-self.ensures;
+        said = checks_next d 0 c.draw-ticket.result a.log.table.lists.found_tickets a.log.table.lists.loaded_words.items w it c.next_check-self.result c.next_check-self.ensures;
+        space = space_checks (g.T.TxType.meaning c.args.self.now.log.ty.now).widths c.args.self.now.log.table.lists.tasks.items c.args.self.now.log.table.lists.loaded_words c.args.self.now.log.table.lists.checks.items 0 c.draw-ticket.result c.next_check-self.result c.next_check-self.ensures;
         left = draw_lowers d c.draw-ticket.result c.next_check-self.result c.next_check-self.ensures;
-        reason = λ y e. absurd (checks_on a.checks.items 0 c.draw-ticket.result c.next_check-self.result c.next_check-self.ensures y e);
-        alone = λ one quiet. record { early = quiet.early; unaborted = λ y e. absurd (checks_on a.checks.items 0 c.draw-ticket.result c.next_check-self.result c.next_check-self.ensures y e) };
+        reason = λ y e. absurd (checks_on a.log.table.lists.checks.items 0 c.draw-ticket.result c.next_check-self.result c.next_check-self.ensures y e);
+        alone = λ one quiet. record { early = quiet.early; unaborted = λ y e. absurd (checks_on a.log.table.lists.checks.items 0 c.draw-ticket.result c.next_check-self.result c.next_check-self.ensures y e) };
         by = search rules;
         commits = record { number = tells.0; value = pos 0; tells = tells.2; leads = draw_on (g.T.TxType.meaning a.log.ty.now) (committer_of a) tells.0 (pos 0) c.draw-ticket.result c.next_check-self.result tells.1 c.next_check-self.ensures };
         kept = refl;

@@ -37,8 +37,8 @@ close-found-requires g c =
     let i = c.args.word in
     let t = c.args.ticket in
     let p = c.get-part.result.now in
-    let at : slice_index_or a.tasks.items n 0 ≡ p = get_or_from_slice_get a.tasks.items n p 0 c.get-part.ensures in
-    subst (λ (q : ℕ). MayClose v q v.phase × HasPart v q) at (may_end d law n i t a.found_tickets a.loaded_words.items v h all)
+    let at : slice_index_or a.log.table.lists.tasks.items n 0 ≡ p = get_or_from_slice_get a.log.table.lists.tasks.items n p 0 c.get-part.ensures in
+    subst (λ (q : ℕ). MayClose v q v.phase × HasPart v q) at (may_end d law n i t a.log.table.lists.found_tickets a.log.table.lists.loaded_words.items v h all)
 
 pub returns-then-is_locked-clause-advanced : goal.returns-then-is_locked-clause-advanced
 returns-then-is_locked-clause-advanced g c =
@@ -53,21 +53,21 @@ returns-then-is_locked-clause-advanced g c =
     let i = c.args.word in
     let t = c.args.ticket in
     let p = c.get-part.result.now in
-    let at : slice_index_or a.tasks.items n 0 ≡ p = get_or_from_slice_get a.tasks.items n p 0 c.get-part.ensures in
+    let at : slice_index_or a.log.table.lists.tasks.items n 0 ≡ p = get_or_from_slice_get a.log.table.lists.tasks.items n p 0 c.get-part.ensures in
     let w = g.C.Cells.view c.close-found.new.self in
     let passes = g.C.Cells.passes c.args.cells.now in
     let k = c.close-found.result.0 in
     let tells : Tells valid passes (Close (task d n)) v k _ w = subst (λ (q : ℕ). Tells valid passes (Close q) v k _ w) (sym at) c.close-found.ensures.tells in
     let busy : is_free k ≡ false = unlocked_is (is_free k) (sym c.is_locked.ensures ∙ c.if-is_locked.true) in
-    let it = end_locked d law n i t a.found_tickets a.loaded_words.items v h all w _ k _ tells (odd_version k t busy) busy in
+    let it = end_locked d law n i t a.log.table.lists.found_tickets a.log.table.lists.loaded_words.items v h all w _ k _ tells (odd_version k t busy) busy in
     record {
       advances = record {
         event = search rules;
         said = subst (λ (q : ℕ). IsLeaving d 0 c.len.result (Locked a.at q) w) at (subst (λ (e : ℕ). IsLeaving d 0 e (Locked a.at (task d n)) w) (sym c.len.ensures) it);
         space = search rules;
         left = fail_lowers d c.len.result c.len.ensures _;
-        reason = λ y e. inr (subst (λ z. HasReason (S.Tested c.args.place c.args.word c.args.ticket) a.log.set.items w z) e tt);
-        alone = λ one quiet. absurd (not_busy v (task d n) k (tells.learns.0.alone one) (end_unheld d law n i t a.found_tickets a.loaded_words.items v h all) busy);
+        reason = λ y e. inr (subst (λ z. HasReason (S.Tested c.args.place c.args.word c.args.ticket) a.log.table.set.items w z) e tt);
+        alone = λ one quiet. absurd (not_busy v (task d n) k (tells.learns.0.alone one) (end_unheld d law n i t a.log.table.lists.found_tickets a.log.table.lists.loaded_words.items v h all) busy);
         by = search rules;
         commits = record { number = k; value = pos 0; tells = subst (λ (e : Event). Tells valid passes e v k (pos 0) w) (sym (tested_end (g.T.TxType.meaning a.log.ty.now) (committer_of a) n i t all)) tells; leads = tested_busy (g.T.TxType.meaning a.log.ty.now) (committer_of a) n i t k (pos 0) p c.len.result all busy (sym at) c.len.ensures };
         kept = refl;
@@ -89,7 +89,7 @@ returns-then-newer-ticket-clause-advanced g c =
     let i = c.args.word in
     let t = c.args.ticket in
     let p = c.get-part.result.now in
-    let at : slice_index_or a.tasks.items n 0 ≡ p = get_or_from_slice_get a.tasks.items n p 0 c.get-part.ensures in
+    let at : slice_index_or a.log.table.lists.tasks.items n 0 ≡ p = get_or_from_slice_get a.log.table.lists.tasks.items n p 0 c.get-part.ensures in
     let w = g.C.Cells.view c.close-found.new.self in
     let passes = g.C.Cells.passes c.args.cells.now in
     let k = c.close-found.result.0 in
@@ -97,14 +97,14 @@ returns-then-newer-ticket-clause-advanced g c =
     let free : is_free k ≡ true = locked_is (is_free k) (sym c.is_locked.ensures ∙ c.if-is_locked.false) in
     let found : ticket_of k ≡ c.ticket-newer.result = sym c.ticket-newer.ensures.ticket in
     let differs : ticket_of k ≢ t = λ e. c.if-newer-ticket.true (sym found ∙ e) in
-    let it = end_newer d law n i t a.found_tickets a.loaded_words.items v h all w _ k _ tells (other_version k t differs) free differs in
+    let it = end_newer d law n i t a.log.table.lists.found_tickets a.log.table.lists.loaded_words.items v h all w _ k _ tells (other_version k t differs) free differs in
     record {
       advances = record {
         event = search rules;
-        said = leaving_as d (length a.updates.items) c.len-then-newer-ticket.result c.len-then-newer-ticket.ensures (task d n) p at (ticket_of k) c.ticket-newer.result found w it;
+        said = leaving_as d (length a.log.table.lists.updates.items) c.len-then-newer-ticket.result c.len-then-newer-ticket.ensures (task d n) p at (ticket_of k) c.ticket-newer.result found w it;
         space = search rules;
         left = fail_lowers d c.len-then-newer-ticket.result c.len-then-newer-ticket.ensures _;
-        reason = λ y e. inr (subst (λ z. HasReason (S.Tested c.args.place c.args.word c.args.ticket) a.log.set.items w z) e (inr (inr (subst (λ (q : ℕ). IsByTest a.log.set.items w q c.ticket-newer.result) at (subst (λ (r : ℕ). IsByTest a.log.set.items w (task d n) r) found (newer_reason d law n i t a.found_tickets a.loaded_words.items v h all w _ k _ tells (other_version k t differs) differs))))));
+        reason = λ y e. inr (subst (λ z. HasReason (S.Tested c.args.place c.args.word c.args.ticket) a.log.table.set.items w z) e (inr (inr (subst (λ (q : ℕ). IsByTest a.log.table.set.items w q c.ticket-newer.result) at (subst (λ (r : ℕ). IsByTest a.log.table.set.items w (task d n) r) found (newer_reason d law n i t a.log.table.lists.found_tickets a.log.table.lists.loaded_words.items v h all w _ k _ tells (other_version k t differs) differs))))));
         alone = λ one quiet. absurd (omega (arith, it.ends.1.later, (tells.learns.0.alone one).1, h.going.sealed.number));
         by = search rules;
         commits = record { number = k; value = pos 0; tells = subst (λ (e : Event). Tells valid passes e v k (pos 0) w) (sym (tested_end (g.T.TxType.meaning a.log.ty.now) (committer_of a) n i t all)) tells; leads = tested_newer (g.T.TxType.meaning a.log.ty.now) (committer_of a) n i t k (pos 0) p c.ticket-newer.result c.len-then-newer-ticket.result all free differs (sym at) (sym found) c.len-then-newer-ticket.ensures };
@@ -128,7 +128,7 @@ returns-then-all_so-clause-advanced g c =
     let i = c.args.word in
     let t = c.args.ticket in
     let p = c.get-part.result.now in
-    let at : slice_index_or a.tasks.items n 0 ≡ p = get_or_from_slice_get a.tasks.items n p 0 c.get-part.ensures in
+    let at : slice_index_or a.log.table.lists.tasks.items n 0 ≡ p = get_or_from_slice_get a.log.table.lists.tasks.items n p 0 c.get-part.ensures in
     let w = g.C.Cells.view c.close-found.new.self in
     let passes = g.C.Cells.passes c.args.cells.now in
     let k = c.close-found.result.0 in
@@ -137,19 +137,19 @@ returns-then-all_so-clause-advanced g c =
     let same : ticket_of k ≡ t = sym c.ticket-newer.ensures.ticket ∙ c.if-newer-ticket.false in
     let again : nat_eq k (2 * t) ≡ true = same_version k t free same in
     let wide : width_in v (task d n) ≡ slice_index_or m.widths (task d n) 0 = part_wide d law n v h.going.sealed h.going.planned h.below h.unwritten in
-    let good : list_all (is_so (task d n) a.loaded_words.items) a.log.set.items ≡ true = so_of p (task d n) at a.loaded_words.items a.loaded_words.items refl a.log.set.items c.all_so.result c.all_so.ensures true c.if-all_so.true in
-    let trues = all_true m.widths a.loaded_words.items v (task d n) wide a.log.set.items h.going.sealed.log.inside good in
-    let it = end_done d law n i t a.found_tickets a.loaded_words.items v h all w _ k _ tells again trues (n + 1) (omega arith) in
+    let good : list_all (is_so (task d n) a.log.table.lists.loaded_words.items) a.log.table.set.items ≡ true = so_of p (task d n) at a.log.table.lists.loaded_words.items a.log.table.lists.loaded_words.items refl a.log.table.set.items c.all_so.result c.all_so.ensures true c.if-all_so.true in
+    let trues = all_true m.widths a.log.table.lists.loaded_words.items v (task d n) wide a.log.table.set.items h.going.sealed.log.inside good in
+    let it = end_done d law n i t a.log.table.lists.found_tickets a.log.table.lists.loaded_words.items v h all w _ k _ tells again trues (n + 1) (omega arith) in
     record {
       advances = record {
         event = search rules;
-        said = aimed d (n + 1) a.found_tickets a.loaded_words.items w it c.aim-self.result c.aim-self.ensures;
-        space = space_ended m.widths a.tasks.items n i a.loaded_words c.requires.before.space h.below h.within a.updates.items (n + 1) (omega arith) c.aim-self.result c.aim-self.ensures;
+        said = aimed d (n + 1) a.log.table.lists.found_tickets a.log.table.lists.loaded_words.items w it c.aim-self.result c.aim-self.ensures;
+        space = space_ended m.widths a.log.table.lists.tasks.items n i a.log.table.lists.loaded_words c.requires.before.space h.below h.within a.log.table.lists.updates.items (n + 1) (omega arith) c.aim-self.result c.aim-self.ensures;
         left = tested_lowers d c.args.place c.args.word h.below c.args.ticket h.within (c.args.place + 1) (omega arith) c.aim-self.result c.aim-self.ensures;
-        reason = λ y e. absurd (aimed_on a.updates.items a.tasks.items (n + 1) c.aim-self.result c.aim-self.ensures y e);
-        alone = λ one quiet. record { early = quiet.early; unaborted = λ y e. absurd (aimed_on a.updates.items a.tasks.items (n + 1) c.aim-self.result c.aim-self.ensures y e) };
+        reason = λ y e. absurd (aimed_on a.log.table.lists.updates.items a.log.table.lists.tasks.items (n + 1) c.aim-self.result c.aim-self.ensures y e);
+        alone = λ one quiet. record { early = quiet.early; unaborted = λ y e. absurd (aimed_on a.log.table.lists.updates.items a.log.table.lists.tasks.items (n + 1) c.aim-self.result c.aim-self.ensures y e) };
         by = search rules;
-        commits = record { number = k; value = pos 0; tells = subst (λ (e : Event). Tells valid passes e v k (pos 0) w) (sym (tested_end (g.T.TxType.meaning a.log.ty.now) (committer_of a) n i t all)) tells; leads = tested_on (g.T.TxType.meaning a.log.ty.now) (committer_of a) n i t k (pos 0) c.aim-self.result all free same (goes_where_so a.seen.items a.log.set.items a.loaded_words.items (task d n) good) c.aim-self.ensures };
+        commits = record { number = k; value = pos 0; tells = subst (λ (e : Event). Tells valid passes e v k (pos 0) w) (sym (tested_end (g.T.TxType.meaning a.log.ty.now) (committer_of a) n i t all)) tells; leads = tested_on (g.T.TxType.meaning a.log.ty.now) (committer_of a) n i t k (pos 0) c.aim-self.result all free same (goes_where_so a.log.table.lists.seen.items a.log.table.set.items a.log.table.lists.loaded_words.items (task d n) good) c.aim-self.ensures };
         kept = refl;
       };
       kept = refl;
@@ -170,7 +170,7 @@ returns-clause-advanced g c =
     let i = c.args.word in
     let t = c.args.ticket in
     let p = c.get-part.result.now in
-    let at : slice_index_or a.tasks.items n 0 ≡ p = get_or_from_slice_get a.tasks.items n p 0 c.get-part.ensures in
+    let at : slice_index_or a.log.table.lists.tasks.items n 0 ≡ p = get_or_from_slice_get a.log.table.lists.tasks.items n p 0 c.get-part.ensures in
     let w = g.C.Cells.view c.close-found.new.self in
     let passes = g.C.Cells.passes c.args.cells.now in
     let k = c.close-found.result.0 in
@@ -179,20 +179,20 @@ returns-clause-advanced g c =
     let same : ticket_of k ≡ t = sym c.ticket-newer.ensures.ticket ∙ c.if-newer-ticket.false in
     let again : nat_eq k (2 * t) ≡ true = same_version k t free same in
     let wide : width_in v (task d n) ≡ slice_index_or m.widths (task d n) 0 = part_wide d law n v h.going.sealed h.going.planned h.below h.unwritten in
-    let bad : list_all (is_so (task d n) a.loaded_words.items) a.log.set.items ≡ false = so_of p (task d n) at a.loaded_words.items a.loaded_words.items refl a.log.set.items c.all_so.result c.all_so.ensures false c.if-all_so.false in
-    let f = one_fails m.widths a.loaded_words.items v (task d n) wide a.log.set.items h.going.sealed.log.inside bad in
+    let bad : list_all (is_so (task d n) a.log.table.lists.loaded_words.items) a.log.table.set.items ≡ false = so_of p (task d n) at a.log.table.lists.loaded_words.items a.log.table.lists.loaded_words.items refl a.log.table.set.items c.all_so.result c.all_so.ensures false c.if-all_so.false in
+    let f = one_fails m.widths a.log.table.lists.loaded_words.items v (task d n) wide a.log.table.set.items h.going.sealed.log.inside bad in
     let here : (y : Parts) → valid v.sizes y → m.valid y = λ y j. (g.met.T.TxType.valid_is a.log.ty.now y).1 (subst (λ (l : List ℕ). valid l y) h.going.sealed.own.same_sizes j) in
-    let it = end_fails d law n i t a.found_tickets a.loaded_words.items v h all w _ k _ tells again here f.pred f.there f.on f.fails in
+    let it = end_fails d law n i t a.log.table.lists.found_tickets a.log.table.lists.loaded_words.items v h all w _ k _ tells again here f.pred f.there f.on f.fails in
     record {
       advances = record {
         event = search rules;
-        said = leaving_as d (length a.updates.items) c.len-2.result c.len-2.ensures (task d n) p at t t refl w it;
+        said = leaving_as d (length a.log.table.lists.updates.items) c.len-2.result c.len-2.ensures (task d n) p at t t refl w it;
         space = search rules;
         left = fail_lowers d c.len-2.result c.len-2.ensures _;
-        reason = λ y e. inr (subst (λ z. HasReason (S.Tested c.args.place c.args.word c.args.ticket) a.log.set.items w z) e (inr (inl (subst (λ (q : ℕ). IsByPredicate a.log.set.items w q t) at (fails_reason d law n i t a.found_tickets a.loaded_words.items v h all w _ k _ tells again here f.pred f.there f.on f.fails)))));
+        reason = λ y e. inr (subst (λ z. HasReason (S.Tested c.args.place c.args.word c.args.ticket) a.log.table.set.items w z) e (inr (inl (subst (λ (q : ℕ). IsByPredicate a.log.table.set.items w q t) at (fails_reason d law n i t a.log.table.lists.found_tickets a.log.table.lists.loaded_words.items v h all w _ k _ tells again here f.pred f.there f.on f.fails)))));
         alone = λ one quiet. absurd (omega (arith, it.ends.1.later, same, (tells.learns.0.alone one).1, h.going.sealed.number));
         by = search rules;
-        commits = record { number = k; value = pos 0; tells = subst (λ (e : Event). Tells valid passes e v k (pos 0) w) (sym (tested_end (g.T.TxType.meaning a.log.ty.now) (committer_of a) n i t all)) tells; leads = tested_fails (g.T.TxType.meaning a.log.ty.now) (committer_of a) n i t k (pos 0) p t c.len-2.result all free same (stops_where_not d h.going.planned (task d n) a.loaded_words.items (task_loaded d law n v h.going.sealed h.going.planned h.below h.unwritten) bad) (sym at) (sym h.ticket) c.len-2.ensures };
+        commits = record { number = k; value = pos 0; tells = subst (λ (e : Event). Tells valid passes e v k (pos 0) w) (sym (tested_end (g.T.TxType.meaning a.log.ty.now) (committer_of a) n i t all)) tells; leads = tested_fails (g.T.TxType.meaning a.log.ty.now) (committer_of a) n i t k (pos 0) p t c.len-2.result all free same (stops_where_not d h.going.planned (task d n) a.log.table.lists.loaded_words.items (task_loaded d law n v h.going.sealed h.going.planned h.below h.unwritten) bad) (sym at) (sym h.ticket) c.len-2.ensures };
         kept = refl;
       };
       kept = refl;

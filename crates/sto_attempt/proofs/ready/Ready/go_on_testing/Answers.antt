@@ -7,19 +7,19 @@ pub width-width-requires : goal.width-width-requires
 width-width-requires g c =
     let a = c.args.self.now in
     let widths = (g.T.TxType.meaning a.log.ty.now).widths in
-    (each_get (λ (p : ℕ). (p < length widths) × (0 < slice_index_or widths p 0)) a.tasks.items c.args.place c.get.result.now c.get.ensures c.requires.stands.going.planned.in_range).0
+    (each_get (λ (p : ℕ). (p < length widths) × (0 < slice_index_or widths p 0)) a.log.table.lists.tasks.items c.args.place c.get.result.now c.get.ensures c.requires.stands.going.planned.in_range).0
 
 pub load_tested-requires-clause-width : goal.load_tested-requires-clause-width
 load_tested-requires-clause-width g c =
     let a = c.args.self.now in
     let widths = (g.T.TxType.meaning a.log.ty.now).widths in
     let p = c.get.result.now in
-    ap (λ (q : ℕ). slice_index_or widths q 0) (get_or_from_slice_get a.tasks.items c.args.place p 0 c.get.ensures) ∙ get_or_from_slice_get widths p c.width-width.result 0 c.width-width.ensures
+    ap (λ (q : ℕ). slice_index_or widths q 0) (get_or_from_slice_get a.log.table.lists.tasks.items c.args.place p 0 c.get.ensures) ∙ get_or_from_slice_get widths p c.width-width.result 0 c.width-width.ensures
 
 pub end_test-requires-clause-all : goal.end_test-requires-clause-all
 end_test-requires-clause-all g c =
     let a = c.args.self.now in
     let widths = (g.T.TxType.meaning a.log.ty.now).widths in
     let p = c.get.result.now in
-    let is : slice_index_or widths (slice_index_or a.tasks.items c.args.place 0) 0 ≡ c.width-width.result = ap (λ (q : ℕ). slice_index_or widths q 0) (get_or_from_slice_get a.tasks.items c.args.place p 0 c.get.ensures) ∙ get_or_from_slice_get widths p c.width-width.result 0 c.width-width.ensures in
+    let is : slice_index_or widths (slice_index_or a.log.table.lists.tasks.items c.args.place 0) 0 ≡ c.width-width.result = ap (λ (q : ℕ). slice_index_or widths q 0) (get_or_from_slice_get a.log.table.lists.tasks.items c.args.place p 0 c.get.ensures) ∙ get_or_from_slice_get widths p c.width-width.result 0 c.width-width.ensures in
     omega (arith, is, c.if-word-width.false)

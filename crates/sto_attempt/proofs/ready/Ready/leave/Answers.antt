@@ -32,7 +32,7 @@ returns-then-next-end g c =
         reason = λ y e. inl e;
         alone = λ one quiet. record { early = quiet.early; unaborted = quiet.unaborted };
         by = search rules;
-        commits = record { number = 0; value = pos 0; tells = subst (λ (q : ℕ). Tells g.T.Naming.valid (g.C.Cells.passes c.args.cells.now) (Unlock q) (g.C.Cells.view c.args.cells.now) 0 (pos 0) (g.C.Cells.view c.unlock.new.self)) (sym (written_part a.updates.items k (plain c.get.result.now) c.get.ensures)) c.unlock.ensures.tells; leads = leaves_on (g.T.TxType.meaning a.log.ty.now) (committer_of a) k c.args.end 0 (pos 0) c.args.verdict (omega (arith, c.if-next-end.true)) };
+        commits = record { number = 0; value = pos 0; tells = subst (λ (q : ℕ). Tells g.T.Naming.valid (g.C.Cells.passes c.args.cells.now) (Unlock q) (g.C.Cells.view c.args.cells.now) 0 (pos 0) (g.C.Cells.view c.unlock.new.self)) (sym (written_part a.log.table.lists.updates.items k (plain c.get.result.now) c.get.ensures)) c.unlock.ensures.tells; leads = leaves_on (g.T.TxType.meaning a.log.ty.now) (committer_of a) k c.args.end 0 (pos 0) c.args.verdict (omega (arith, c.if-next-end.true)) };
         kept = refl;
       };
       kept = refl;
@@ -57,7 +57,7 @@ returns g c =
         reason = λ y e. inl e;
         alone = λ one quiet. record { early = quiet.early; unaborted = quiet.unaborted };
         by = leave_by d c.args.place c.args.end c.args.verdict v c.requires.stands;
-        commits = record { number = 0; value = pos 0; tells = subst (λ (q : ℕ). Tells g.T.Naming.valid (g.C.Cells.passes c.args.cells.now) (Unlock q) (g.C.Cells.view c.args.cells.now) 0 (pos 0) (g.C.Cells.view c.unlock.new.self)) (sym (written_part a.updates.items k (plain c.get.result.now) c.get.ensures)) c.unlock.ensures.tells; leads = leaves_last (g.T.TxType.meaning a.log.ty.now) (committer_of a) k c.args.end 0 (pos 0) c.args.verdict (omega (arith, c.if-next-end.false)) };
+        commits = record { number = 0; value = pos 0; tells = subst (λ (q : ℕ). Tells g.T.Naming.valid (g.C.Cells.passes c.args.cells.now) (Unlock q) (g.C.Cells.view c.args.cells.now) 0 (pos 0) (g.C.Cells.view c.unlock.new.self)) (sym (written_part a.log.table.lists.updates.items k (plain c.get.result.now) c.get.ensures)) c.unlock.ensures.tells; leads = leaves_last (g.T.TxType.meaning a.log.ty.now) (committer_of a) k c.args.end 0 (pos 0) c.args.verdict (omega (arith, c.if-next-end.false)) };
         kept = refl;
       };
       kept = refl;

@@ -36,8 +36,8 @@ width-width-requires g c =
     let n = c.args.place in
     let i = c.args.word in
     let p = c.get-part.result.now in
-    let at : slice_index_or a.tasks.items n 0 ≡ p = get_or_from_slice_get a.tasks.items n p 0 c.get-part.ensures in
-    subst (λ (q : ℕ). q < length m.widths) at (in_widths d law n i a.found_tickets a.loaded_words.items v h)
+    let at : slice_index_or a.log.table.lists.tasks.items n 0 ≡ p = get_or_from_slice_get a.log.table.lists.tasks.items n p 0 c.get-part.ensures in
+    subst (λ (q : ℕ). q < length m.widths) at (in_widths d law n i a.log.table.lists.found_tickets a.log.table.lists.loaded_words.items v h)
 
 pub word-value-requires : goal.word-value-requires
 word-value-requires g c =
@@ -49,8 +49,8 @@ word-value-requires g c =
     let n = c.args.place in
     let i = c.args.word in
     let p = c.get-part.result.now in
-    let at : slice_index_or a.tasks.items n 0 ≡ p = get_or_from_slice_get a.tasks.items n p 0 c.get-part.ensures in
-    subst (λ (q : ℕ). MayRead v q v.phase × (HasPart v q × (i < width_in v q))) at (may_load d law n i a.found_tickets a.loaded_words.items v h)
+    let at : slice_index_or a.log.table.lists.tasks.items n 0 ≡ p = get_or_from_slice_get a.log.table.lists.tasks.items n p 0 c.get-part.ensures in
+    subst (λ (q : ℕ). MayRead v q v.phase × (HasPart v q × (i < width_in v q))) at (may_load d law n i a.log.table.lists.found_tickets a.log.table.lists.loaded_words.items v h)
 
 pub overflow_add-word : goal.overflow_add-word
 overflow_add-word g c =
@@ -59,8 +59,8 @@ overflow_add-word g c =
     let h = c.requires.stands in
     let n = c.args.place in
     let p = c.get-part.result.now in
-    let at : slice_index_or a.tasks.items n 0 ≡ p = get_or_from_slice_get a.tasks.items n p 0 c.get-part.ensures in
-    let width : slice_index_or m.widths (slice_index_or a.tasks.items n 0) 0 ≡ c.width-width.result = ap (λ (q : ℕ). slice_index_or m.widths q 0) at ∙ get_or_from_slice_get m.widths p c.width-width.result 0 c.width-width.ensures in
+    let at : slice_index_or a.log.table.lists.tasks.items n 0 ≡ p = get_or_from_slice_get a.log.table.lists.tasks.items n p 0 c.get-part.ensures in
+    let width : slice_index_or m.widths (slice_index_or a.log.table.lists.tasks.items n 0) 0 ≡ c.width-width.result = ap (λ (q : ℕ). slice_index_or m.widths q 0) at ∙ get_or_from_slice_get m.widths p c.width-width.result 0 c.width-width.ensures in
     let fit : Fits w32 c.width-width.result = search rules in
     omega (arith, h.within, width, fit)
 
@@ -76,23 +76,23 @@ returns-then-word-width g c =
     let n = c.args.place in
     let i = c.args.word in
     let p = c.get-part.result.now in
-    let at : slice_index_or a.tasks.items n 0 ≡ p = get_or_from_slice_get a.tasks.items n p 0 c.get-part.ensures in
-    let width : slice_index_or m.widths (slice_index_or a.tasks.items n 0) 0 ≡ c.width-width.result = ap (λ (q : ℕ). slice_index_or m.widths q 0) at ∙ get_or_from_slice_get m.widths p c.width-width.result 0 c.width-width.ensures in
+    let at : slice_index_or a.log.table.lists.tasks.items n 0 ≡ p = get_or_from_slice_get a.log.table.lists.tasks.items n p 0 c.get-part.ensures in
+    let width : slice_index_or m.widths (slice_index_or a.log.table.lists.tasks.items n 0) 0 ≡ c.width-width.result = ap (λ (q : ℕ). slice_index_or m.widths q 0) at ∙ get_or_from_slice_get m.widths p c.width-width.result 0 c.width-width.ensures in
     let w = g.C.Cells.view c.word-value.new.self in
     let passes = g.C.Cells.passes c.args.cells.now in
     let x = c.word-value.result in
     let tells : Tells valid passes (Word (task d n) i) v 0 x w = subst (λ (q : ℕ). Tells valid passes (Word q i) v 0 x w) (sym at) c.word-value.ensures.tells in
     let loaded_words = c.push_spare.new.self in
     let fit : FitsSigned w64 x = search rules in
-    let pushed : loaded_words.items ≡ a.loaded_words.items ++ record { part = p; word = i; value = x } ∷ [] = ap (λ (l : Listed LoadedWord). l.items) c.push_spare.ensures ∙ ap (λ (y : ℤ). a.loaded_words.items ++ record { part = p; word = i; value = y } ∷ []) (to_z-of_z w64 x fit) in
-    let items : loaded_words.items ≡ a.loaded_words.items ++ record { part = task d n; word = i; value = x } ∷ [] = pushed ∙ ap (λ (q : ℕ). a.loaded_words.items ++ record { part = q; word = i; value = x } ∷ []) (sym at) in
-    let it = load_goes d law n i a.found_tickets a.loaded_words.items v h w _ _ x tells (i + 1) (omega arith) (omega (arith, c.if-word-width.true, width)) in
+    let pushed : loaded_words.items ≡ a.log.table.lists.loaded_words.items ++ record { part = p; word = i; value = x } ∷ [] = ap (λ (l : Listed LoadedWord). l.items) c.push_spare.ensures ∙ ap (λ (y : ℤ). a.log.table.lists.loaded_words.items ++ record { part = p; word = i; value = y } ∷ []) (to_z-of_z w64 x fit) in
+    let items : loaded_words.items ≡ a.log.table.lists.loaded_words.items ++ record { part = task d n; word = i; value = x } ∷ [] = pushed ∙ ap (λ (q : ℕ). a.log.table.lists.loaded_words.items ++ record { part = q; word = i; value = x } ∷ []) (sym at) in
+    let it = load_goes d law n i a.log.table.lists.found_tickets a.log.table.lists.loaded_words.items v h w _ _ x tells (i + 1) (omega arith) (omega (arith, c.if-word-width.true, width)) in
     let k = c.args.place in
     record {
       advances = record {
         event = search rules;
-        said = subst (λ (l : List LoadedWord). IsLoadingWord d n (i + 1) a.found_tickets l w) (sym items) it;
-        space = space_more m.widths a.tasks.items n i a.loaded_words c.requires.space h.below h.within _ loaded_words c.push_spare.ensures (i + 1) (omega arith);
+        said = subst (λ (l : List LoadedWord). IsLoadingWord d n (i + 1) a.log.table.lists.found_tickets l w) (sym items) it;
+        space = space_more m.widths a.log.table.lists.tasks.items n i a.log.table.lists.loaded_words c.requires.space h.below h.within _ loaded_words c.push_spare.ensures (i + 1) (omega arith);
         left = load_lowers d k c.args.word h.below h.within (c.args.word + 1) (omega arith);
         reason = λ y e. absurd e;
         alone = λ one quiet. record { early = quiet.early; unaborted = λ y e. absurd e };
@@ -116,31 +116,31 @@ returns-then-goes_on g c =
     let n = c.args.place in
     let i = c.args.word in
     let p = c.get-part.result.now in
-    let at : slice_index_or a.tasks.items n 0 ≡ p = get_or_from_slice_get a.tasks.items n p 0 c.get-part.ensures in
-    let width : slice_index_or m.widths (slice_index_or a.tasks.items n 0) 0 ≡ c.width-width.result = ap (λ (q : ℕ). slice_index_or m.widths q 0) at ∙ get_or_from_slice_get m.widths p c.width-width.result 0 c.width-width.ensures in
+    let at : slice_index_or a.log.table.lists.tasks.items n 0 ≡ p = get_or_from_slice_get a.log.table.lists.tasks.items n p 0 c.get-part.ensures in
+    let width : slice_index_or m.widths (slice_index_or a.log.table.lists.tasks.items n 0) 0 ≡ c.width-width.result = ap (λ (q : ℕ). slice_index_or m.widths q 0) at ∙ get_or_from_slice_get m.widths p c.width-width.result 0 c.width-width.ensures in
     let w = g.C.Cells.view c.word-value.new.self in
     let passes = g.C.Cells.passes c.args.cells.now in
     let x = c.word-value.result in
     let tells : Tells valid passes (Word (task d n) i) v 0 x w = subst (λ (q : ℕ). Tells valid passes (Word q i) v 0 x w) (sym at) c.word-value.ensures.tells in
     let loaded_words = c.push_spare.new.self in
     let fit : FitsSigned w64 x = search rules in
-    let pushed : loaded_words.items ≡ a.loaded_words.items ++ record { part = p; word = i; value = x } ∷ [] = ap (λ (l : Listed LoadedWord). l.items) c.push_spare.ensures ∙ ap (λ (y : ℤ). a.loaded_words.items ++ record { part = p; word = i; value = y } ∷ []) (to_z-of_z w64 x fit) in
-    let items : loaded_words.items ≡ a.loaded_words.items ++ record { part = task d n; word = i; value = x } ∷ [] = pushed ∙ ap (λ (q : ℕ). a.loaded_words.items ++ record { part = q; word = i; value = x } ∷ []) (sym at) in
-    let more : List LoadedWord = a.loaded_words.items ++ record { part = task d n; word = i; value = x } ∷ [] in
-    let last : suc i ≡ slice_index_or m.widths (slice_index_or a.tasks.items n 0) 0 = omega (arith, h.within, width, c.if-word-width.false) in
-    let wide : width_in v (task d n) ≡ slice_index_or m.widths (task d n) 0 = task_wide d law n i a.found_tickets a.loaded_words.items v h in
-    let good : goes_on a.seen.items a.log.set.items more (task d n) ≡ true = goes_of a.seen.items p (task d n) at loaded_words.items more items a.log.set.items c.goes_on.result c.goes_on.ensures true c.if-goes_on.true in
-    let it = load_done d law n i a.found_tickets a.loaded_words.items v h w _ _ x tells last
-    (λ apart. all_true m.widths more v (task d n) wide a.log.set.items h.loading.going.sealed.log.inside (goes_true d more (task d n) good apart)) (n + 1) (omega arith) in
+    let pushed : loaded_words.items ≡ a.log.table.lists.loaded_words.items ++ record { part = p; word = i; value = x } ∷ [] = ap (λ (l : Listed LoadedWord). l.items) c.push_spare.ensures ∙ ap (λ (y : ℤ). a.log.table.lists.loaded_words.items ++ record { part = p; word = i; value = y } ∷ []) (to_z-of_z w64 x fit) in
+    let items : loaded_words.items ≡ a.log.table.lists.loaded_words.items ++ record { part = task d n; word = i; value = x } ∷ [] = pushed ∙ ap (λ (q : ℕ). a.log.table.lists.loaded_words.items ++ record { part = q; word = i; value = x } ∷ []) (sym at) in
+    let more : List LoadedWord = a.log.table.lists.loaded_words.items ++ record { part = task d n; word = i; value = x } ∷ [] in
+    let last : suc i ≡ slice_index_or m.widths (slice_index_or a.log.table.lists.tasks.items n 0) 0 = omega (arith, h.within, width, c.if-word-width.false) in
+    let wide : width_in v (task d n) ≡ slice_index_or m.widths (task d n) 0 = task_wide d law n i a.log.table.lists.found_tickets a.log.table.lists.loaded_words.items v h in
+    let good : goes_on a.log.table.lists.seen.items a.log.table.set.items more (task d n) ≡ true = goes_of a.log.table.lists.seen.items p (task d n) at loaded_words.items more items a.log.table.set.items c.goes_on.result c.goes_on.ensures true c.if-goes_on.true in
+    let it = load_done d law n i a.log.table.lists.found_tickets a.log.table.lists.loaded_words.items v h w _ _ x tells last
+    (λ apart. all_true m.widths more v (task d n) wide a.log.table.set.items h.loading.going.sealed.log.inside (goes_true d more (task d n) good apart)) (n + 1) (omega arith) in
     let k = c.args.place in
     record {
       advances = record {
         event = search rules;
-        said = subst (λ (l : List LoadedWord). Stands d a.found_tickets l c.aim-self.result w) (sym items) (aimed d (n + 1) a.found_tickets more w it c.aim-self.result c.aim-self.ensures);
-        space = space_aimed m.widths a.tasks.items n i a.loaded_words c.requires.space h.below h.within _ c.push_spare.new.self c.push_spare.ensures a.updates.items (n + 1) (omega arith) (omega (arith, width, c.if-word-width.false)) c.aim-self.result c.aim-self.ensures;
+        said = subst (λ (l : List LoadedWord). Stands d a.log.table.lists.found_tickets l c.aim-self.result w) (sym items) (aimed d (n + 1) a.log.table.lists.found_tickets more w it c.aim-self.result c.aim-self.ensures);
+        space = space_aimed m.widths a.log.table.lists.tasks.items n i a.log.table.lists.loaded_words c.requires.space h.below h.within _ c.push_spare.new.self c.push_spare.ensures a.log.table.lists.updates.items (n + 1) (omega arith) (omega (arith, width, c.if-word-width.false)) c.aim-self.result c.aim-self.ensures;
         left = loaded_lowers d k c.args.word h.below h.within (k + 1) (omega arith) c.aim-self.result c.aim-self.ensures;
-        reason = λ y e. absurd (aimed_on a.updates.items a.tasks.items (n + 1) c.aim-self.result c.aim-self.ensures y e);
-        alone = λ one quiet. record { early = quiet.early; unaborted = λ y e. absurd (aimed_on a.updates.items a.tasks.items (n + 1) c.aim-self.result c.aim-self.ensures y e) };
+        reason = λ y e. absurd (aimed_on a.log.table.lists.updates.items a.log.table.lists.tasks.items (n + 1) c.aim-self.result c.aim-self.ensures y e);
+        alone = λ one quiet. record { early = quiet.early; unaborted = λ y e. absurd (aimed_on a.log.table.lists.updates.items a.log.table.lists.tasks.items (n + 1) c.aim-self.result c.aim-self.ensures y e) };
         by = search rules;
         commits = record { number = 0; value = x; tells = tells; leads = load_all m (committer_of a) n i 0 x loaded_words.items c.aim-self.result items (omega (arith, c.if-word-width.false, width)) good c.aim-self.ensures };
         kept = refl;
@@ -161,33 +161,33 @@ returns g c =
     let n = c.args.place in
     let i = c.args.word in
     let p = c.get-part.result.now in
-    let at : slice_index_or a.tasks.items n 0 ≡ p = get_or_from_slice_get a.tasks.items n p 0 c.get-part.ensures in
-    let width : slice_index_or m.widths (slice_index_or a.tasks.items n 0) 0 ≡ c.width-width.result = ap (λ (q : ℕ). slice_index_or m.widths q 0) at ∙ get_or_from_slice_get m.widths p c.width-width.result 0 c.width-width.ensures in
+    let at : slice_index_or a.log.table.lists.tasks.items n 0 ≡ p = get_or_from_slice_get a.log.table.lists.tasks.items n p 0 c.get-part.ensures in
+    let width : slice_index_or m.widths (slice_index_or a.log.table.lists.tasks.items n 0) 0 ≡ c.width-width.result = ap (λ (q : ℕ). slice_index_or m.widths q 0) at ∙ get_or_from_slice_get m.widths p c.width-width.result 0 c.width-width.ensures in
     let w = g.C.Cells.view c.word-value.new.self in
     let passes = g.C.Cells.passes c.args.cells.now in
     let x = c.word-value.result in
     let tells : Tells valid passes (Word (task d n) i) v 0 x w = subst (λ (q : ℕ). Tells valid passes (Word q i) v 0 x w) (sym at) c.word-value.ensures.tells in
     let loaded_words = c.push_spare.new.self in
     let fit : FitsSigned w64 x = search rules in
-    let pushed : loaded_words.items ≡ a.loaded_words.items ++ record { part = p; word = i; value = x } ∷ [] = ap (λ (l : Listed LoadedWord). l.items) c.push_spare.ensures ∙ ap (λ (y : ℤ). a.loaded_words.items ++ record { part = p; word = i; value = y } ∷ []) (to_z-of_z w64 x fit) in
-    let items : loaded_words.items ≡ a.loaded_words.items ++ record { part = task d n; word = i; value = x } ∷ [] = pushed ∙ ap (λ (q : ℕ). a.loaded_words.items ++ record { part = q; word = i; value = x } ∷ []) (sym at) in
-    let more : List LoadedWord = a.loaded_words.items ++ record { part = task d n; word = i; value = x } ∷ [] in
-    let last : suc i ≡ slice_index_or m.widths (slice_index_or a.tasks.items n 0) 0 = omega (arith, h.within, width, c.if-word-width.false) in
-    let wide : width_in v (task d n) ≡ slice_index_or m.widths (task d n) 0 = task_wide d law n i a.found_tickets a.loaded_words.items v h in
-    let bad : goes_on a.seen.items a.log.set.items more (task d n) ≡ false = goes_of a.seen.items p (task d n) at loaded_words.items more items a.log.set.items c.goes_on.result c.goes_on.ensures false c.if-goes_on.false in
-    let f = one_fails m.widths more v (task d n) wide a.log.set.items h.loading.going.sealed.log.inside (stops_false d more (task d n) bad) in
+    let pushed : loaded_words.items ≡ a.log.table.lists.loaded_words.items ++ record { part = p; word = i; value = x } ∷ [] = ap (λ (l : Listed LoadedWord). l.items) c.push_spare.ensures ∙ ap (λ (y : ℤ). a.log.table.lists.loaded_words.items ++ record { part = p; word = i; value = y } ∷ []) (to_z-of_z w64 x fit) in
+    let items : loaded_words.items ≡ a.log.table.lists.loaded_words.items ++ record { part = task d n; word = i; value = x } ∷ [] = pushed ∙ ap (λ (q : ℕ). a.log.table.lists.loaded_words.items ++ record { part = q; word = i; value = x } ∷ []) (sym at) in
+    let more : List LoadedWord = a.log.table.lists.loaded_words.items ++ record { part = task d n; word = i; value = x } ∷ [] in
+    let last : suc i ≡ slice_index_or m.widths (slice_index_or a.log.table.lists.tasks.items n 0) 0 = omega (arith, h.within, width, c.if-word-width.false) in
+    let wide : width_in v (task d n) ≡ slice_index_or m.widths (task d n) 0 = task_wide d law n i a.log.table.lists.found_tickets a.log.table.lists.loaded_words.items v h in
+    let bad : goes_on a.log.table.lists.seen.items a.log.table.set.items more (task d n) ≡ false = goes_of a.log.table.lists.seen.items p (task d n) at loaded_words.items more items a.log.table.set.items c.goes_on.result c.goes_on.ensures false c.if-goes_on.false in
+    let f = one_fails m.widths more v (task d n) wide a.log.table.set.items h.loading.going.sealed.log.inside (stops_false d more (task d n) bad) in
     let unseen = stops_unseen d more (task d n) h.loading.going.planned bad in
     let here : (y : Parts) → valid v.sizes y → m.valid y = λ y k. (g.met.T.TxType.valid_is a.log.ty.now y).1 (subst (λ (l : List ℕ). valid l y) h.loading.going.sealed.own.same_sizes k) in
-    let it = load_fails d law n i a.found_tickets a.loaded_words.items v h w _ _ x tells last here f.pred f.there f.on f.fails unseen in
-    let ticket : ticket_from 0 a.found_tickets.items (task d n) ≡ c.ticket-ticket.result = ap (ticket_from 0 a.found_tickets.items) at ∙ sym c.ticket-ticket.ensures in
+    let it = load_fails d law n i a.log.table.lists.found_tickets a.log.table.lists.loaded_words.items v h w _ _ x tells last here f.pred f.there f.on f.fails unseen in
+    let ticket : ticket_from 0 a.log.table.lists.found_tickets.items (task d n) ≡ c.ticket-ticket.result = ap (ticket_from 0 a.log.table.lists.found_tickets.items) at ∙ sym c.ticket-ticket.ensures in
     record {
       advances = record {
         event = search rules;
-        said = leaving_as d (length a.updates.items) c.len.result c.len.ensures (task d n) p at (ticket_from 0 a.found_tickets.items (task d n)) c.ticket-ticket.result ticket w it;
+        said = leaving_as d (length a.log.table.lists.updates.items) c.len.result c.len.ensures (task d n) p at (ticket_from 0 a.log.table.lists.found_tickets.items (task d n)) c.ticket-ticket.result ticket w it;
         space = search rules;
         left = fail_lowers d c.len.result c.len.ensures _;
-        reason = λ y e. inr (subst (λ z. HasReason (S.Loading c.args.place c.args.word) a.log.set.items w z) e (inr (inl (subst (λ (q : ℕ). IsByPredicate a.log.set.items w q c.ticket-ticket.result) at (subst (λ (k : ℕ). IsByPredicate a.log.set.items w (task d n) k) ticket (load_reason d law n i a.found_tickets a.loaded_words.items v h w _ _ x tells last here f.pred f.there f.on f.fails unseen))))));
-        alone = λ one quiet. let early = early_ticket a.at a.found_tickets.items (task d n) 0 (omega arith) quiet.early in absurd (omega (arith, it.ends.1.later, early));
+        reason = λ y e. inr (subst (λ z. HasReason (S.Loading c.args.place c.args.word) a.log.table.set.items w z) e (inr (inl (subst (λ (q : ℕ). IsByPredicate a.log.table.set.items w q c.ticket-ticket.result) at (subst (λ (k : ℕ). IsByPredicate a.log.table.set.items w (task d n) k) ticket (load_reason d law n i a.log.table.lists.found_tickets a.log.table.lists.loaded_words.items v h w _ _ x tells last here f.pred f.there f.on f.fails unseen))))));
+        alone = λ one quiet. let early = early_ticket a.at a.log.table.lists.found_tickets.items (task d n) 0 (omega arith) quiet.early in absurd (omega (arith, it.ends.1.later, early));
         by = search rules;
         commits = record { number = 0; value = x; tells = tells; leads = load_stops m (committer_of a) n i 0 x loaded_words.items p c.ticket-ticket.result c.len.result items (omega (arith, c.if-word-width.false, width)) bad (sym at) (sym ticket) c.len.ensures };
         kept = refl;

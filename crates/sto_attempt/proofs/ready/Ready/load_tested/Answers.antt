@@ -25,8 +25,8 @@ word-value-requires g c =
     let n = c.args.place in
     let i = c.args.word in
     let p = c.get-part.result.now in
-    let at : slice_index_or a.tasks.items n 0 ≡ p = get_or_from_slice_get a.tasks.items n p 0 c.get-part.ensures in
-    subst (λ (q : ℕ). MayRead v q v.phase × (HasPart v q × (i < width_in v q))) at (may_read_word d law n i c.args.ticket a.found_tickets a.loaded_words.items v c.requires.before.stands (omega (arith, c.requires.more, c.requires.width)))
+    let at : slice_index_or a.log.table.lists.tasks.items n 0 ≡ p = get_or_from_slice_get a.log.table.lists.tasks.items n p 0 c.get-part.ensures in
+    subst (λ (q : ℕ). MayRead v q v.phase × (HasPart v q × (i < width_in v q))) at (may_read_word d law n i c.args.ticket a.log.table.lists.found_tickets a.log.table.lists.loaded_words.items v c.requires.before.stands (omega (arith, c.requires.more, c.requires.width)))
 
 pub overflow_add-self : goal.overflow_add-self
 overflow_add-self g c =
@@ -42,23 +42,23 @@ returns g c =
     let n = c.args.place in
     let i = c.args.word in
     let p = c.get-part.result.now in
-    let at : slice_index_or a.tasks.items n 0 ≡ p = get_or_from_slice_get a.tasks.items n p 0 c.get-part.ensures in
+    let at : slice_index_or a.log.table.lists.tasks.items n 0 ≡ p = get_or_from_slice_get a.log.table.lists.tasks.items n p 0 c.get-part.ensures in
     let w = g.C.Cells.view c.word-value.new.self in
     let passes = g.C.Cells.passes c.args.cells.now in
     let x = c.word-value.result in
     let tells : Tells g.T.Naming.valid passes (Word (task d n) i) v 0 x w = subst (λ (q : ℕ). Tells g.T.Naming.valid passes (Word q i) v 0 x w) (sym at) c.word-value.ensures.tells in
     let loaded_words = c.push_spare.new.self in
     let fit : FitsSigned w64 x = search rules in
-    let pushed : loaded_words.items ≡ a.loaded_words.items ++ record { part = p; word = i; value = x } ∷ [] = ap (λ (l : Listed LoadedWord). l.items) c.push_spare.ensures ∙ ap (λ (y : ℤ). a.loaded_words.items ++ record { part = p; word = i; value = y } ∷ []) (to_z-of_z w64 x fit) in
-    let items : loaded_words.items ≡ a.loaded_words.items ++ record { part = task d n; word = i; value = x } ∷ [] = pushed ∙ ap (λ (q : ℕ). a.loaded_words.items ++ record { part = q; word = i; value = x } ∷ []) (sym at) in
-    let it = word_goes d law n i c.args.ticket a.found_tickets a.loaded_words.items v c.requires.before.stands (omega (arith, c.requires.more, c.requires.width)) w _ _ x tells (i + 1) (omega arith) in
+    let pushed : loaded_words.items ≡ a.log.table.lists.loaded_words.items ++ record { part = p; word = i; value = x } ∷ [] = ap (λ (l : Listed LoadedWord). l.items) c.push_spare.ensures ∙ ap (λ (y : ℤ). a.log.table.lists.loaded_words.items ++ record { part = p; word = i; value = y } ∷ []) (to_z-of_z w64 x fit) in
+    let items : loaded_words.items ≡ a.log.table.lists.loaded_words.items ++ record { part = task d n; word = i; value = x } ∷ [] = pushed ∙ ap (λ (q : ℕ). a.log.table.lists.loaded_words.items ++ record { part = q; word = i; value = x } ∷ []) (sym at) in
+    let it = word_goes d law n i c.args.ticket a.log.table.lists.found_tickets a.log.table.lists.loaded_words.items v c.requires.before.stands (omega (arith, c.requires.more, c.requires.width)) w _ _ x tells (i + 1) (omega arith) in
     let h = c.requires.before.stands in
     let k = c.args.place in
     record {
       advances = record {
         event = search rules;
-        said = subst (λ (l : List LoadedWord). IsTestedWord d n (i + 1) c.args.ticket a.found_tickets l w) (sym items) it;
-        space = space_more (g.T.TxType.meaning a.log.ty.now).widths a.tasks.items c.args.place c.args.word a.loaded_words c.requires.before.space h.below (omega (arith, c.requires.more, c.requires.width)) _ c.push_spare.new.self c.push_spare.ensures (c.args.word + 1) (omega arith);
+        said = subst (λ (l : List LoadedWord). IsTestedWord d n (i + 1) c.args.ticket a.log.table.lists.found_tickets l w) (sym items) it;
+        space = space_more (g.T.TxType.meaning a.log.ty.now).widths a.log.table.lists.tasks.items c.args.place c.args.word a.log.table.lists.loaded_words c.requires.before.space h.below (omega (arith, c.requires.more, c.requires.width)) _ c.push_spare.new.self c.push_spare.ensures (c.args.word + 1) (omega arith);
         left = word_lowers d k c.args.word h.below c.args.ticket (omega (arith, c.requires.more, c.requires.width)) (c.args.word + 1) (omega arith);
         reason = λ y e. absurd e;
         alone = λ one quiet. record { early = quiet.early; unaborted = λ y e. absurd e };

@@ -32,7 +32,7 @@ pub lock-found-requires : goal.lock-found-requires
 lock-found-requires g c =
     let a = c.args.self.now in
     let d = deal_of (of_type g.T.Naming g.T.TxType) g.B.Body a in
-    may_lock d (g.met.T.TxType.lawful a.log.ty.now) c.args.place a.found_tickets a.loaded_words.items (g.C.Cells.view c.args.cells.now) c.requires.stands (plain c.get.result.now) c.get.ensures
+    may_lock d (g.met.T.TxType.lawful a.log.ty.now) c.args.place a.log.table.lists.found_tickets a.log.table.lists.loaded_words.items (g.C.Cells.view c.args.cells.now) c.requires.stands (plain c.get.result.now) c.get.ensures
 
 pub returns-then-is_locked : goal.returns-then-is_locked
 returns-then-is_locked g c =
@@ -44,25 +44,25 @@ returns-then-is_locked g c =
     let u = plain c.get.result.now in
     let n = c.lock-found.result.0 in
     let busy : is_free n ≡ false = unlocked_is (is_free n) (sym c.is_locked.ensures ∙ c.if-is_locked.true) in
-    let found_tickets : c.give_up.new.self.found_tickets ≡ a.found_tickets = ap (λ s. s.found_tickets) c.give_up.ensures.kept in
-    let loaded_words : c.give_up.new.self.loaded_words ≡ a.loaded_words = ap (λ s. s.loaded_words) c.give_up.ensures.kept in
-    let it : Said d a.found_tickets a.loaded_words.items c.give_up.new.self.commit_phase w c.give_up.result =
-    gives_up d c.args.place (Locked a.at u.0) w a.found_tickets a.loaded_words.items c.give_up.new.self.commit_phase c.give_up.result c.give_up.ensures.over c.give_up.ensures.more
-    (lock_ends d law c.args.place a.found_tickets a.loaded_words.items v c.requires.stands u c.get.ensures w _ n _ c.lock-found.ensures.tells busy)
-    (lock_leaves d law c.args.place a.found_tickets a.loaded_words.items v c.requires.stands u c.get.ensures w _ n _ c.lock-found.ensures.tells busy) in
+    let found_tickets : c.give_up.new.self.log.table.lists.found_tickets ≡ a.log.table.lists.found_tickets = ap (λ s. s.log.table.lists.found_tickets) c.give_up.ensures.kept in
+    let loaded_words : c.give_up.new.self.log.table.lists.loaded_words ≡ a.log.table.lists.loaded_words = ap (λ s. s.log.table.lists.loaded_words) c.give_up.ensures.kept in
+    let it : Said d a.log.table.lists.found_tickets a.log.table.lists.loaded_words.items c.give_up.new.self.commit_phase w c.give_up.result =
+    gives_up d c.args.place (Locked a.at u.0) w a.log.table.lists.found_tickets a.log.table.lists.loaded_words.items c.give_up.new.self.commit_phase c.give_up.result c.give_up.ensures.over c.give_up.ensures.more
+    (lock_ends d law c.args.place a.log.table.lists.found_tickets a.log.table.lists.loaded_words.items v c.requires.stands u c.get.ensures w _ n _ c.lock-found.ensures.tells busy)
+    (lock_leaves d law c.args.place a.log.table.lists.found_tickets a.log.table.lists.loaded_words.items v c.requires.stands u c.get.ensures w _ n _ c.lock-found.ensures.tells busy) in
     let h = c.requires.stands in
     let k = c.args.place in
     record {
       advances = record {
         event = search rules;
-        said = subst (λ (l : Listed FoundTicket). Said d l c.give_up.new.self.loaded_words.items c.give_up.new.self.commit_phase w c.give_up.result) (sym found_tickets)
-            (subst (λ (l : Listed LoadedWord). Said d a.found_tickets l.items c.give_up.new.self.commit_phase w c.give_up.result) (sym loaded_words) it);
-        space = space_left (g.T.TxType.meaning a.log.ty.now).widths a.tasks.items c.give_up.new.self.loaded_words c.args.place (Locked a.at c.get.result.now.0) c.give_up.new.self.commit_phase c.give_up.result c.give_up.ensures.over c.give_up.ensures.more;
+        said = subst (λ (l : Listed FoundTicket). Said d l c.give_up.new.self.log.table.lists.loaded_words.items c.give_up.new.self.commit_phase w c.give_up.result) (sym found_tickets)
+            (subst (λ (l : Listed LoadedWord). Said d a.log.table.lists.found_tickets l.items c.give_up.new.self.commit_phase w c.give_up.result) (sym loaded_words) it);
+        space = space_left (g.T.TxType.meaning a.log.ty.now).widths a.log.table.lists.tasks.items c.give_up.new.self.log.table.lists.loaded_words c.args.place (Locked a.at c.get.result.now.0) c.give_up.new.self.commit_phase c.give_up.result c.give_up.ensures.over c.give_up.ensures.more;
         left = give_lowers d k h.below (Locked a.at c.get.result.now.0) c.give_up.new.self.commit_phase c.give_up.result c.give_up.ensures.over c.give_up.ensures.more;
-        reason = λ y e. inr (subst (λ z. HasReason (Locking c.args.place) a.log.set.items w z) (given c.args.place (Locked a.at u.0) c.give_up.new.self.commit_phase c.give_up.result c.give_up.ensures.over c.give_up.ensures.more y e) tt);
-        alone = λ one quiet. absurd (not_busy v u.0 n (c.lock-found.ensures.tells.learns.alone one) (lock_unheld d law c.args.place a.found_tickets a.loaded_words.items v c.requires.stands u c.get.ensures) busy);
+        reason = λ y e. inr (subst (λ z. HasReason (Locking c.args.place) a.log.table.set.items w z) (given c.args.place (Locked a.at u.0) c.give_up.new.self.commit_phase c.give_up.result c.give_up.ensures.over c.give_up.ensures.more y e) tt);
+        alone = λ one quiet. absurd (not_busy v u.0 n (c.lock-found.ensures.tells.learns.alone one) (lock_unheld d law c.args.place a.log.table.lists.found_tickets a.log.table.lists.loaded_words.items v c.requires.stands u c.get.ensures) busy);
         by = give_by c.args.place a.at c.get.result.now.0 v c.give_up.new.self.commit_phase c.give_up.result c.give_up.ensures.over c.give_up.ensures.more c.requires.stands.phase;
-        commits = record { number = n; value = pos 0; tells = subst (λ (q : ℕ). Tells g.T.Naming.valid (g.C.Cells.passes c.args.cells.now) (Lock q) v n (pos 0) w) (sym (written_part a.updates.items k u c.get.ensures)) c.lock-found.ensures.tells; leads = (λ j. (committer_of (c.give_up.ensures.kept j), c.give_up.result)) ∙ lock_busy (g.T.TxType.meaning a.log.ty.now) (committer_of a) k n (pos 0) c.give_up.new.self.commit_phase c.give_up.result u.0 (sym (written_part a.updates.items k u c.get.ensures)) busy c.give_up.ensures.over c.give_up.ensures.more };
+        commits = record { number = n; value = pos 0; tells = subst (λ (q : ℕ). Tells g.T.Naming.valid (g.C.Cells.passes c.args.cells.now) (Lock q) v n (pos 0) w) (sym (written_part a.log.table.lists.updates.items k u c.get.ensures)) c.lock-found.ensures.tells; leads = (λ j. (committer_of (c.give_up.ensures.kept j), c.give_up.result)) ∙ lock_busy (g.T.TxType.meaning a.log.ty.now) (committer_of a) k n (pos 0) c.give_up.new.self.commit_phase c.give_up.result u.0 (sym (written_part a.log.table.lists.updates.items k u c.get.ensures)) busy c.give_up.ensures.over c.give_up.ensures.more };
         kept = kept_commit_phase a c.give_up.new.self c.give_up.ensures.kept;
       };
       kept = kept_but_phase a c.give_up.new.self c.give_up.ensures.kept;
@@ -88,15 +88,15 @@ returns g c =
         event = search rules;
         said = elim c.if-next-len.branch [
           | then-next-len x ↦
-              let it = lock_goes d law c.args.place a.found_tickets a.loaded_words.items v c.requires.stands u c.get.ensures w _ n _ c.lock-found.ensures.tells free c.ticket-ticket.result c.ticket-ticket.ensures.ticket found_tickets c.push_spare.ensures (c.args.place + 1) (omega arith) (omega (arith, x.if-next-len.true, c.len.ensures)) in
-              subst (λ (s : CommitPhase). Stands d found_tickets a.loaded_words.items s w) (sym x.self-is) it
+              let it = lock_goes d law c.args.place a.log.table.lists.found_tickets a.log.table.lists.loaded_words.items v c.requires.stands u c.get.ensures w _ n _ c.lock-found.ensures.tells free c.ticket-ticket.result c.ticket-ticket.ensures.ticket found_tickets c.push_spare.ensures (c.args.place + 1) (omega arith) (omega (arith, x.if-next-len.true, c.len.ensures)) in
+              subst (λ (s : CommitPhase). Stands d found_tickets a.log.table.lists.loaded_words.items s w) (sym x.self-is) it
           | else-next-len x ↦
-              let it = lock_done d law c.args.place a.found_tickets a.loaded_words.items v c.requires.stands u c.get.ensures w _ n _ c.lock-found.ensures.tells free c.ticket-ticket.result c.ticket-ticket.ensures.ticket found_tickets c.push_spare.ensures (omega (arith, x.if-next-len.false, c.len.ensures)) in
-              subst (λ (s : CommitPhase). Stands d found_tickets a.loaded_words.items s w) (sym x.self-is) (aimed d 0 found_tickets a.loaded_words.items w it x.aim-self.result x.aim-self.ensures)
+              let it = lock_done d law c.args.place a.log.table.lists.found_tickets a.log.table.lists.loaded_words.items v c.requires.stands u c.get.ensures w _ n _ c.lock-found.ensures.tells free c.ticket-ticket.result c.ticket-ticket.ensures.ticket found_tickets c.push_spare.ensures (omega (arith, x.if-next-len.false, c.len.ensures)) in
+              subst (λ (s : CommitPhase). Stands d found_tickets a.log.table.lists.loaded_words.items s w) (sym x.self-is) (aimed d 0 found_tickets a.log.table.lists.loaded_words.items w it x.aim-self.result x.aim-self.ensures)
         ];
         space = elim c.if-next-len.branch [
-          | then-next-len x ↦ subst (λ (s : CommitPhase). SpaceAt widths a.tasks.items a.loaded_words s) (sym x.self-is) c.requires.space
-          | else-next-len x ↦ subst (λ (s : CommitPhase). SpaceAt widths a.tasks.items a.loaded_words s) (sym x.self-is) (space_begun widths a.tasks.items a.loaded_words c.requires.space a.updates.items x.aim-self.result x.aim-self.ensures)
+          | then-next-len x ↦ subst (λ (s : CommitPhase). SpaceAt widths a.log.table.lists.tasks.items a.log.table.lists.loaded_words s) (sym x.self-is) c.requires.space
+          | else-next-len x ↦ subst (λ (s : CommitPhase). SpaceAt widths a.log.table.lists.tasks.items a.log.table.lists.loaded_words s) (sym x.self-is) (space_begun widths a.log.table.lists.tasks.items a.log.table.lists.loaded_words c.requires.space a.log.table.lists.updates.items x.aim-self.result x.aim-self.ensures)
         ];
         left = elim c.if-next-len.branch [
           | then-next-len x ↦ subst (λ (s : CommitPhase). commit_left d s < commit_left d (Locking k)) (sym x.self-is) (lock_lowers d k h.below (k + 1) (omega arith))
@@ -104,25 +104,25 @@ returns g c =
         ];
         reason = elim c.if-next-len.branch [
           | then-next-len x ↦ λ y e. absurd (subst (λ (s : CommitPhase). ComesTo None s y) x.self-is e)
-          | else-next-len x ↦ λ y e. absurd (aimed_on a.updates.items a.tasks.items 0 x.aim-self.result x.aim-self.ensures y (subst (λ (s : CommitPhase). ComesTo None s y) x.self-is e))
+          | else-next-len x ↦ λ y e. absurd (aimed_on a.log.table.lists.updates.items a.log.table.lists.tasks.items 0 x.aim-self.result x.aim-self.ensures y (subst (λ (s : CommitPhase). ComesTo None s y) x.self-is e))
         ];
         alone = λ one quiet. record {
-          early = early_more a.at a.found_tickets c.push_spare.new.self (record { part = u.0; ticket = c.ticket-ticket.result }) (ap (λ (l : Listed FoundTicket). l.items) c.push_spare.ensures) quiet.early (omega (arith, (c.lock-found.ensures.tells.learns.alone one).1, c.ticket-ticket.ensures.ticket, c.requires.stands.going.sealed.number));
+          early = early_more a.at a.log.table.lists.found_tickets c.push_spare.new.self (record { part = u.0; ticket = c.ticket-ticket.result }) (ap (λ (l : Listed FoundTicket). l.items) c.push_spare.ensures) quiet.early (omega (arith, (c.lock-found.ensures.tells.learns.alone one).1, c.ticket-ticket.ensures.ticket, c.requires.stands.going.sealed.number));
           unaborted = elim c.if-next-len.branch [
             | then-next-len x ↦ λ y e. absurd (subst (λ (s : CommitPhase). ComesTo None s y) x.self-is e)
-            | else-next-len x ↦ λ y e. absurd (aimed_on a.updates.items a.tasks.items 0 x.aim-self.result x.aim-self.ensures y (subst (λ (s : CommitPhase). ComesTo None s y) x.self-is e))
+            | else-next-len x ↦ λ y e. absurd (aimed_on a.log.table.lists.updates.items a.log.table.lists.tasks.items 0 x.aim-self.result x.aim-self.ensures y (subst (λ (s : CommitPhase). ComesTo None s y) x.self-is e))
           ];
         };
         by = search rules;
         commits = record {
           number = n;
           value = pos 0;
-          tells = subst (λ (q : ℕ). Tells g.T.Naming.valid (g.C.Cells.passes c.args.cells.now) (Lock q) v n (pos 0) w) (sym (written_part a.updates.items k u c.get.ensures)) c.lock-found.ensures.tells;
+          tells = subst (λ (q : ℕ). Tells g.T.Naming.valid (g.C.Cells.passes c.args.cells.now) (Lock q) v n (pos 0) w) (sym (written_part a.log.table.lists.updates.items k u c.get.ensures)) c.lock-found.ensures.tells;
           leads = elim c.if-next-len.branch [
-            | then-next-len x ↦ subst (λ (s : CommitPhase). now_at (committer_of a) c.push_spare.new.self.items a.loaded_words.items s None ≡ after_commit (g.T.TxType.meaning a.log.ty.now) (Locking k) (committer_of a) n (pos 0)) (sym x.self-is)
-                ((λ j. now_at (committer_of a) (ap (λ (l : Listed FoundTicket). l.items) c.push_spare.ensures j) a.loaded_words.items (Locking (k + 1)) None) ∙ lock_more (g.T.TxType.meaning a.log.ty.now) (committer_of a) k n (pos 0) u.0 c.ticket-ticket.result (sym (written_part a.updates.items k u c.get.ensures)) free c.ticket-ticket.ensures.ticket (omega (arith, x.if-next-len.true, c.len.ensures)))
-            | else-next-len x ↦ subst (λ (s : CommitPhase). now_at (committer_of a) c.push_spare.new.self.items a.loaded_words.items s None ≡ after_commit (g.T.TxType.meaning a.log.ty.now) (Locking k) (committer_of a) n (pos 0)) (sym x.self-is)
-                ((λ j. now_at (committer_of a) (ap (λ (l : Listed FoundTicket). l.items) c.push_spare.ensures j) a.loaded_words.items x.aim-self.result None) ∙ lock_all (g.T.TxType.meaning a.log.ty.now) (committer_of a) k n (pos 0) u.0 c.ticket-ticket.result x.aim-self.result (sym (written_part a.updates.items k u c.get.ensures)) free c.ticket-ticket.ensures.ticket (omega (arith, x.if-next-len.false, c.len.ensures)) x.aim-self.ensures)
+            | then-next-len x ↦ subst (λ (s : CommitPhase). now_at (committer_of a) c.push_spare.new.self.items a.log.table.lists.loaded_words.items s None ≡ after_commit (g.T.TxType.meaning a.log.ty.now) (Locking k) (committer_of a) n (pos 0)) (sym x.self-is)
+                ((λ j. now_at (committer_of a) (ap (λ (l : Listed FoundTicket). l.items) c.push_spare.ensures j) a.log.table.lists.loaded_words.items (Locking (k + 1)) None) ∙ lock_more (g.T.TxType.meaning a.log.ty.now) (committer_of a) k n (pos 0) u.0 c.ticket-ticket.result (sym (written_part a.log.table.lists.updates.items k u c.get.ensures)) free c.ticket-ticket.ensures.ticket (omega (arith, x.if-next-len.true, c.len.ensures)))
+            | else-next-len x ↦ subst (λ (s : CommitPhase). now_at (committer_of a) c.push_spare.new.self.items a.log.table.lists.loaded_words.items s None ≡ after_commit (g.T.TxType.meaning a.log.ty.now) (Locking k) (committer_of a) n (pos 0)) (sym x.self-is)
+                ((λ j. now_at (committer_of a) (ap (λ (l : Listed FoundTicket). l.items) c.push_spare.ensures j) a.log.table.lists.loaded_words.items x.aim-self.result None) ∙ lock_all (g.T.TxType.meaning a.log.ty.now) (committer_of a) k n (pos 0) u.0 c.ticket-ticket.result x.aim-self.result (sym (written_part a.log.table.lists.updates.items k u c.get.ensures)) free c.ticket-ticket.ensures.ticket (omega (arith, x.if-next-len.false, c.len.ensures)) x.aim-self.ensures)
           ];
         };
         kept = refl;

@@ -32,8 +32,8 @@ put-requires g c =
     let old_fit : FitsSigned w64 c.value.result = search rules in
     let old : ℤ = to_z w64 (of_z w64 c.value.result) in
     let old_same : to_z w64 (of_z w64 c.value.result) ≡ c.value.result = to_z-of_z w64 c.value.result old_fit in
-    let is = put_is d law c.args.place 0 c.args.ticket puts a.loaded_words.items v h y c.get.ensures a.log.set.updates c.requires.copy c.pending-change.result c.pending-change.ensures.change old (old_same ∙ c.value.ensures) value (same ∙ c.install-value.ensures) in
-    may_put d law c.args.place 0 c.args.ticket puts a.loaded_words.items v h refl y c.get.ensures value is
+    let is = put_is d law c.args.place 0 c.args.ticket puts a.log.table.lists.loaded_words.items v h y c.get.ensures a.log.table.set.updates c.requires.copy c.pending-change.result c.pending-change.ensures.change old (old_same ∙ c.value.ensures) value (same ∙ c.install-value.ensures) in
+    may_put d law c.args.place 0 c.args.ticket puts a.log.table.lists.loaded_words.items v h refl y c.get.ensures value is
 
 pub overflow_add-place : goal.overflow_add-place
 overflow_add-place g c =
@@ -60,17 +60,17 @@ returns g c =
         event = search rules;
         said =
             let h = c.requires.stands.1.1 in
-            let is = put_is d law c.args.place 0 c.args.ticket puts a.loaded_words.items v h y c.get.ensures a.log.set.updates c.requires.copy c.pending-change.result c.pending-change.ensures.change old (old_same ∙ c.value.ensures) value (same ∙ c.install-value.ensures) in
-            let it = put_goes d law c.args.place 0 c.args.ticket puts a.loaded_words.items v h refl y c.get.ensures value is w _ _ _ c.put.ensures.tells (c.args.place + 1) (omega arith) in
-            puts_next d (c.args.place + 1) c.args.ticket (puts ++ (y.0, y.1) ∷ []) a.found_tickets a.loaded_words.items w it it.sealed.some c.next_put-self.result c.next_put-self.ensures;
-        space = space_puts (g.T.TxType.meaning c.args.self.now.log.ty.now).widths c.args.self.now.tasks.items c.args.self.now.loaded_words c.args.self.now.places.items (c.args.place + 1) c.args.ticket c.next_put-self.result c.next_put-self.ensures;
+            let is = put_is d law c.args.place 0 c.args.ticket puts a.log.table.lists.loaded_words.items v h y c.get.ensures a.log.table.set.updates c.requires.copy c.pending-change.result c.pending-change.ensures.change old (old_same ∙ c.value.ensures) value (same ∙ c.install-value.ensures) in
+            let it = put_goes d law c.args.place 0 c.args.ticket puts a.log.table.lists.loaded_words.items v h refl y c.get.ensures value is w _ _ _ c.put.ensures.tells (c.args.place + 1) (omega arith) in
+            puts_next d (c.args.place + 1) c.args.ticket (puts ++ (y.0, y.1) ∷ []) a.log.table.lists.found_tickets a.log.table.lists.loaded_words.items w it it.sealed.some c.next_put-self.result c.next_put-self.ensures;
+        space = space_puts (g.T.TxType.meaning c.args.self.now.log.ty.now).widths c.args.self.now.log.table.lists.tasks.items c.args.self.now.log.table.lists.loaded_words c.args.self.now.log.table.lists.places.items (c.args.place + 1) c.args.ticket c.next_put-self.result c.next_put-self.ensures;
         left =
             let h = c.requires.stands in
             put_lowers d k c.args.ticket h.0 (k + 1) (omega arith) c.next_put-self.result c.next_put-self.ensures;
-        reason = λ y e. absurd (puts_on a.places.items (c.args.place + 1) c.args.ticket c.next_put-self.result c.next_put-self.ensures y e);
-        alone = λ one quiet. record { early = quiet.early; unaborted = λ y e. absurd (puts_on a.places.items (c.args.place + 1) c.args.ticket c.next_put-self.result c.next_put-self.ensures y e) };
+        reason = λ y e. absurd (puts_on a.log.table.lists.places.items (c.args.place + 1) c.args.ticket c.next_put-self.result c.next_put-self.ensures y e);
+        alone = λ one quiet. record { early = quiet.early; unaborted = λ y e. absurd (puts_on a.log.table.lists.places.items (c.args.place + 1) c.args.ticket c.next_put-self.result c.next_put-self.ensures y e) };
         by = search rules;
-        commits = record { number = 0; value = pos 0; tells = subst (λ (q : ℕ × ℕ). Tells g.T.Naming.valid (g.C.Cells.passes c.args.cells.now) (Put q.0 q.1 (value_put (committer_of a) q)) v 0 (pos 0) w) (sym (get_or_from_slice_get a.places.items k y (0, 0) c.get.ensures)) (subst (λ (z : ℤ). Tells g.T.Naming.valid (g.C.Cells.passes c.args.cells.now) (Put y.0 y.1 z) v 0 (pos 0) w) (same ∙ c.install-value.ensures ∙ ap (λ (ch : Change). applied ch old) (c.pending-change.ensures.change ∙ ap (λ (l : List Update). change_at l y.0 y.1) c.requires.copy) ∙ ap (applied (change_at a.updates.items y.0 y.1)) (old_same ∙ c.value.ensures)) c.put.ensures.tells); leads = put_on (g.T.TxType.meaning a.log.ty.now) (committer_of a) k c.args.ticket 0 (pos 0) c.next_put-self.result c.next_put-self.ensures };
+        commits = record { number = 0; value = pos 0; tells = subst (λ (q : ℕ × ℕ). Tells g.T.Naming.valid (g.C.Cells.passes c.args.cells.now) (Put q.0 q.1 (value_put (committer_of a) q)) v 0 (pos 0) w) (sym (get_or_from_slice_get a.log.table.lists.places.items k y (0, 0) c.get.ensures)) (subst (λ (z : ℤ). Tells g.T.Naming.valid (g.C.Cells.passes c.args.cells.now) (Put y.0 y.1 z) v 0 (pos 0) w) (same ∙ c.install-value.ensures ∙ ap (λ (ch : Change). applied ch old) (c.pending-change.ensures.change ∙ ap (λ (l : List Update). change_at l y.0 y.1) c.requires.copy) ∙ ap (applied (change_at a.log.table.lists.updates.items y.0 y.1)) (old_same ∙ c.value.ensures)) c.put.ensures.tells); leads = put_on (g.T.TxType.meaning a.log.ty.now) (committer_of a) k c.args.ticket 0 (pos 0) c.next_put-self.result c.next_put-self.ensures };
         kept = refl;
       };
       kept = refl;

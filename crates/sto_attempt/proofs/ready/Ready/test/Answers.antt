@@ -30,8 +30,8 @@ test-found-requires g c =
     let v = g.C.Cells.view c.args.cells.now in
     let n = c.args.place in
     let p = c.get-part.result.now in
-    let at : slice_index_or a.tasks.items n 0 ≡ p = get_or_from_slice_get a.tasks.items n p 0 c.get-part.ensures in
-    subst (λ (q : ℕ). (v.phase ≡ P.Locking) × HasPart v q × (holds q v.held ≡ false)) at (may_test d law n a.found_tickets a.loaded_words.items v c.requires.stands)
+    let at : slice_index_or a.log.table.lists.tasks.items n 0 ≡ p = get_or_from_slice_get a.log.table.lists.tasks.items n p 0 c.get-part.ensures in
+    subst (λ (q : ℕ). (v.phase ≡ P.Locking) × HasPart v q × (holds q v.held ≡ false)) at (may_test d law n a.log.table.lists.found_tickets a.log.table.lists.loaded_words.items v c.requires.stands)
 
 pub returns-then-is_locked : goal.returns-then-is_locked
 returns-then-is_locked g c =
@@ -44,18 +44,18 @@ returns-then-is_locked g c =
     let n = c.args.place in
     let m = c.test-found.result.0 in
     let p = c.get-part.result.now in
-    let at : slice_index_or a.tasks.items n 0 ≡ p = get_or_from_slice_get a.tasks.items n p 0 c.get-part.ensures in
+    let at : slice_index_or a.log.table.lists.tasks.items n 0 ≡ p = get_or_from_slice_get a.log.table.lists.tasks.items n p 0 c.get-part.ensures in
     let tells : Tells g.T.Naming.valid passes (Test (task d n)) v m _ w = subst (λ (q : ℕ). Tells g.T.Naming.valid passes (Test q) v m _ w) (sym at) c.test-found.ensures.tells in
     let busy : is_free m ≡ false = unlocked_is (is_free m) (sym c.is_locked.ensures ∙ c.if-is_locked.true) in
-    let it = test_leaves d law n a.found_tickets a.loaded_words.items v c.requires.stands w _ m _ tells busy in
+    let it = test_leaves d law n a.log.table.lists.found_tickets a.log.table.lists.loaded_words.items v c.requires.stands w _ m _ tells busy in
     record {
       advances = record {
         event = search rules;
         said = subst (λ (q : ℕ). IsLeaving d 0 c.len.result (Locked a.at q) w) at (subst (λ (k : ℕ). IsLeaving d 0 k (Locked a.at (task d n)) w) (sym c.len.ensures) it);
         space = search rules;
         left = fail_lowers d c.len.result c.len.ensures _;
-        reason = λ y e. inr (subst (λ z. HasReason (S.Testing c.args.place) a.log.set.items w z) e tt);
-        alone = λ one quiet. absurd (not_busy v (task d n) m (tells.learns.alone one) (test_unheld d law n a.found_tickets a.loaded_words.items v c.requires.stands) busy);
+        reason = λ y e. inr (subst (λ z. HasReason (S.Testing c.args.place) a.log.table.set.items w z) e tt);
+        alone = λ one quiet. absurd (not_busy v (task d n) m (tells.learns.alone one) (test_unheld d law n a.log.table.lists.found_tickets a.log.table.lists.loaded_words.items v c.requires.stands) busy);
         by = search rules;
         commits = record { number = m; value = pos 0; tells = tells; leads = test_busy (g.T.TxType.meaning a.log.ty.now) (committer_of a) n m (pos 0) p c.len.result busy (sym at) c.len.ensures };
         kept = refl;
@@ -75,21 +75,21 @@ returns g c =
     let n = c.args.place in
     let m = c.test-found.result.0 in
     let p = c.get-part.result.now in
-    let at : slice_index_or a.tasks.items n 0 ≡ p = get_or_from_slice_get a.tasks.items n p 0 c.get-part.ensures in
+    let at : slice_index_or a.log.table.lists.tasks.items n 0 ≡ p = get_or_from_slice_get a.log.table.lists.tasks.items n p 0 c.get-part.ensures in
     let tells : Tells g.T.Naming.valid passes (Test (task d n)) v m _ w = subst (λ (q : ℕ). Tells g.T.Naming.valid passes (Test q) v m _ w) (sym at) c.test-found.ensures.tells in
     let free : is_free m ≡ true = locked_is (is_free m) (sym c.is_locked.ensures ∙ c.if-is_locked.false) in
-    let pushed : c.push_spare.new.self ≡ record { items = a.found_tickets.items ++ record { part = task d n; ticket = c.ticket-ticket.result } ∷ []; spare = a.found_tickets.spare - 1 } =
-    c.push_spare.ensures ∙ ap (λ (q : ℕ). record { items = a.found_tickets.items ++ record { part = q; ticket = c.ticket-ticket.result } ∷ []; spare = a.found_tickets.spare - 1 }) (sym at) in
+    let pushed : c.push_spare.new.self ≡ record { items = a.log.table.lists.found_tickets.items ++ record { part = task d n; ticket = c.ticket-ticket.result } ∷ []; spare = a.log.table.lists.found_tickets.spare - 1 } =
+    c.push_spare.ensures ∙ ap (λ (q : ℕ). record { items = a.log.table.lists.found_tickets.items ++ record { part = q; ticket = c.ticket-ticket.result } ∷ []; spare = a.log.table.lists.found_tickets.spare - 1 }) (sym at) in
     let h = c.requires.stands in
     let k = c.args.place in
     record {
       advances = record {
         event = search rules;
-        said = test_goes d law n a.found_tickets a.loaded_words.items v c.requires.stands w _ m _ tells free c.ticket-ticket.result c.ticket-ticket.ensures.ticket c.push_spare.new.self pushed;
+        said = test_goes d law n a.log.table.lists.found_tickets a.log.table.lists.loaded_words.items v c.requires.stands w _ m _ tells free c.ticket-ticket.result c.ticket-ticket.ensures.ticket c.push_spare.new.self pushed;
         space = search rules;
         left = test_lowers d k 0 h.below c.ticket-ticket.result;
         reason = λ y e. absurd e;
-        alone = λ one quiet. record { early = early_more a.at a.found_tickets c.push_spare.new.self (record { part = task d n; ticket = c.ticket-ticket.result }) (ap (λ (l : Listed FoundTicket). l.items) pushed) quiet.early (omega (arith, (tells.learns.alone one).1, c.ticket-ticket.ensures.ticket, c.requires.stands.loading.going.sealed.number)); unaborted = λ y e. absurd e };
+        alone = λ one quiet. record { early = early_more a.at a.log.table.lists.found_tickets c.push_spare.new.self (record { part = task d n; ticket = c.ticket-ticket.result }) (ap (λ (l : Listed FoundTicket). l.items) pushed) quiet.early (omega (arith, (tells.learns.alone one).1, c.ticket-ticket.ensures.ticket, c.requires.stands.loading.going.sealed.number)); unaborted = λ y e. absurd e };
         by = search rules;
         commits = record { number = m; value = pos 0; tells = tells; leads = test_on (g.T.TxType.meaning a.log.ty.now) (committer_of a) n m (pos 0) c.push_spare.new.self.items c.ticket-ticket.result free (ap (λ (l : Listed FoundTicket). l.items) pushed) c.ticket-ticket.ensures.ticket };
         kept = refl;

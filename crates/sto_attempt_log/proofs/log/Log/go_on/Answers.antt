@@ -4,6 +4,8 @@ use Rattle.sto_type.specs.Known.{known}
 use Rattle.sto_attempt_log.specs.ReadSet.{words_in}
 use Rattle.sto_attempt_log.proofs.Onward.{heard_none, need_touched}
 use Rattle.sto_attempt_log.specs.Doing.{Reader}
+use Rattle.sto_attempt_log.specs.Tables.{with_table, run_to}
+use Rattle.sto_attempt_log.specs.declared.log.Log.{Log}
 use Rattle.sto_attempt_log.proofs.Onward.{pending_of}
 use Rattle.sto_attempt_log.proofs.ReadRuns.{ran_none, ran_halts}
 use Rattle.sto_attempt_log.proofs.log.Log.go_on.Goals as goal
@@ -17,7 +19,7 @@ pub take_in-requires-clause-says : goal.take_in-requires-clause-says
 take_in-requires-clause-says g c =
     let f = g.B.Body.script c.args.self.now.body in
     let was = c.loop-call.invariant.log in
-    let rs = map plain_reply c.loop-call.self.replies.items in
+    let rs = map plain_reply c.loop-call.self.table.replies.items in
     let asks = ap f (sym (append-nil rs)) ∙ sym (c.in-Ask.ensures.next ∙ was.then []) in
     record {
       call = c.in-Ask.call;
@@ -34,7 +36,7 @@ loop-call-preserved g c =
     record {
       log = rw (e.ty, e.base, ← i.script) k.log;
       some = rw (e.ty, e.base) i.some;
-      grown = rw (e.ty, e.base, ← i.script) (k.grown (map plain_reply c.args.self.now.replies.items) c.args.self.now.set (rw i.script i.grown));
+      grown = rw (e.ty, e.base, ← i.script) (k.grown (map plain_reply c.args.self.now.table.replies.items) c.args.self.now.table.set (rw i.script i.grown));
       ran = rw (e.ty, e.base, ← i.script) (λ r base set heard. k.ran r base (rw i.script (i.ran r base set heard)));
       left = omega (arith, i.left, e.left);
       script = e.script ∙ i.script;
@@ -42,20 +44,24 @@ loop-call-preserved g c =
       may = λ call h. i.may call (e.may call h);
       ty = e.ty ∙ i.ty;
       base = e.base ∙ i.base;
+      rest =
+          let now = c.take_in.new.self in
+          ap (λ (x : Log g.row.T.Denot g.row.B.Denot). with_table x (record x.table { pool = c.keep.new.self })) (e.rest ∙ ap (λ (x : Log g.row.T.Denot g.row.B.Denot). run_to x now) i.rest);
     }
 
 pub loop-call-init : goal.loop-call-init
 loop-call-init g c = record {
   log = c.requires.log;
   some = c.requires.some;
-  grown = heard_none (g.T.TxType.meaning c.args.self.now.ty.now) (g.B.Body.script c.args.self.now.body) (words_in c.args.self.now.base.items) (map plain_reply c.args.self.now.replies.items) c.args.self.now.set;
-  ran = λ r base set heard. ran_none (g.T.TxType.meaning c.args.self.now.ty.now) (g.B.Body.script c.args.self.now.body) r c.args.self.now.set (map plain_reply c.args.self.now.replies.items) set heard;
+  grown = heard_none (g.T.TxType.meaning c.args.self.now.ty.now) (g.B.Body.script c.args.self.now.body) (words_in c.args.self.now.table.base.items) (map plain_reply c.args.self.now.table.replies.items) c.args.self.now.table.set;
+  ran = λ r base set heard. ran_none (g.T.TxType.meaning c.args.self.now.ty.now) (g.B.Body.script c.args.self.now.body) r c.args.self.now.table.set (map plain_reply c.args.self.now.table.replies.items) set heard;
   left = omega arith;
   script = refl;
   left_at_reset = refl;
   may = λ call h. h;
   ty = refl;
   base = refl;
+  rest = refl;
 }
 
 pub returns-in-Need : goal.returns-in-Need
@@ -64,7 +70,7 @@ returns-in-Need g c =
     let f = g.B.Body.script c.args.self.now.body in
     let i = c.loop-call.invariant in
     let l = c.loop-call.self in
-    let rs = map plain_reply l.replies.items in
+    let rs = map plain_reply l.table.replies.items in
     let asks = ap f (sym (append-nil rs)) ∙ sym (c.in-Ask.ensures.next ∙ i.log.then []) in
     let unknown = c.in_ok-part-in-Ask.ensures.need c.in-Need.part c.in-Need.is in
     record {
@@ -73,7 +79,7 @@ returns-in-Need g c =
         unread = search rules;
         unput = search rules;
         by_next =
-            rw (← i.ty) (need_touched (g.T.TxType.meaning l.ty.now) f (words_in l.base.items) l.set.items l.set.updates rs c.in-Ask.call (known c.ask.new.cache) c.in-Need.part
+            rw (← i.ty) (need_touched (g.T.TxType.meaning l.ty.now) f (words_in l.table.base.items) l.table.set.items l.table.set.updates rs c.in-Ask.call (known c.ask.new.cache) c.in-Need.part
             i.log.log c.in_ok-part-in-Ask.ensures.cache i.some (i.log.taken c.in-Ask.call c.in-Ask.ensures.may) asks (rw c.in-Need.is at c.in_ok-part-in-Ask.ensures.plan));
       };
       grown = search rules;
@@ -81,8 +87,8 @@ returns-in-Need g c =
       comes = rw (← i.ty, ← i.base) (λ r at.
           let ran = i.ran r at.0 at.1 at.2 in (
             ran,
-            ran_halts (g.T.TxType.meaning l.ty.now) (g.met.T.TxType.lawful l.ty.now) f r l.base.items l.set rs at.0 ran
-                (pending_of (g.T.TxType.meaning l.ty.now) f (words_in l.base.items) l.set.items l.set.updates rs i.log.log i.some) (known c.ask.new.cache) c.in_ok-part-in-Ask.ensures.cache c.in-Ask.call asks
+            ran_halts (g.T.TxType.meaning l.ty.now) (g.met.T.TxType.lawful l.ty.now) f r l.table.base.items l.table.set rs at.0 ran
+                (pending_of (g.T.TxType.meaning l.ty.now) f (words_in l.table.base.items) l.table.set.items l.table.set.updates rs i.log.log i.some) (known c.ask.new.cache) c.in_ok-part-in-Ask.ensures.cache c.in-Ask.call asks
                 c.in-Need.part (rw c.in-Need.is at c.in_ok-part-in-Ask.ensures.plan) unknown.0 unknown.1,
           ));
       left = search rules;
@@ -92,13 +98,14 @@ returns-in-Need g c =
       may = search rules;
       ty = search rules;
       base = search rules;
+      rest = ap (λ (x : Log g.row.T.Denot g.row.B.Denot). with_table x (record x.table { scratch = c.ask.new.scratch; cache = c.ask.new.cache; pool = c.ask.new.pool })) i.rest;
     }
 
 pub returns-in-Commit : goal.returns-in-Commit
 returns-in-Commit g c =
     let f = g.B.Body.script c.args.self.now.body in
     let i = c.loop-call.invariant in
-    let rs = map plain_reply c.loop-call.self.replies.items in
+    let rs = map plain_reply c.loop-call.self.table.replies.items in
     let ends = ap f (sym (append-nil rs)) ∙ sym (c.in-Commit.ensures.next ∙ i.log.then []) in
     record {
       log = search rules;
@@ -113,13 +120,14 @@ returns-in-Commit g c =
       may = search rules;
       ty = search rules;
       base = search rules;
+      rest = i.rest;
     }
 
 pub returns-in-Cancel : goal.returns-in-Cancel
 returns-in-Cancel g c =
     let f = g.B.Body.script c.args.self.now.body in
     let i = c.loop-call.invariant in
-    let rs = map plain_reply c.loop-call.self.replies.items in
+    let rs = map plain_reply c.loop-call.self.table.replies.items in
     let ends = ap f (sym (append-nil rs)) ∙ sym (c.in-Cancel.ensures.next ∙ i.log.then []) in
     record {
       log = search rules;
@@ -134,4 +142,43 @@ returns-in-Cancel g c =
       may = search rules;
       ty = search rules;
       base = search rules;
+      rest = i.rest;
+    }
+
+pub returns-in_err-part-in-Ask : goal.returns-in_err-part-in-Ask
+returns-in_err-part-in-Ask g c =
+    let i = c.loop-call.invariant in
+    record {
+      log = search rules;
+      reached = search rules;
+      grown = search rules;
+      runs = search rules;
+      comes = search rules;
+      left = search rules;
+      asks = search rules;
+      script = search rules;
+      left_at_reset = search rules;
+      may = search rules;
+      ty = search rules;
+      base = search rules;
+      rest = ap (λ (x : Log g.row.T.Denot g.row.B.Denot). with_table x (record x.table { scratch = c.ask.new.scratch; cache = c.ask.new.cache; pool = c.ask.new.pool })) i.rest;
+    }
+
+pub returns-in_err-take_in-in-Done : goal.returns-in_err-take_in-in-Done
+returns-in_err-take_in-in-Done g c =
+    let i = c.loop-call.invariant in
+    record {
+      log = search rules;
+      reached = search rules;
+      grown = search rules;
+      runs = search rules;
+      comes = search rules;
+      left = search rules;
+      asks = search rules;
+      script = search rules;
+      left_at_reset = search rules;
+      may = search rules;
+      ty = search rules;
+      base = search rules;
+      rest = c.take_in.ensures.rest ∙ ap (λ (x : Log g.row.T.Denot g.row.B.Denot). run_to x c.take_in.new.self) i.rest;
     }

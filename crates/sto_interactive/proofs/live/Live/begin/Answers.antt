@@ -38,8 +38,8 @@ returns-clause-live g c =
       same_type = e.ty;
       same_script = e.script ∙ script_is;
       log =
-          subst (λ (y : g.row.T.Denot). IsOnLog (t.meaning y) (next_of a.log.body) (script_in a.log.body) (left_of a.log.body) (MayAskOf a.log.body) a.log.base.items a.log.set a.log.cache a.log.replies.items) (sym e.ty)
-          (subst (λ (f : Behaviour). IsOnLog (t.meaning ty) (next_of a.log.body) f (left_of a.log.body) (MayAskOf a.log.body) a.log.base.items a.log.set a.log.cache a.log.replies.items) (sym e.script) e.log);
+          subst (λ (y : g.row.T.Denot). IsOnLog (t.meaning y) (next_of a.log.body) (script_in a.log.body) (left_of a.log.body) (MayAskOf a.log.body) a.log.table.base.items a.log.table.set a.log.table.cache a.log.table.replies.items) (sym e.ty)
+          (subst (λ (f : Behaviour). IsOnLog (t.meaning ty) (next_of a.log.body) f (left_of a.log.body) (MayAskOf a.log.body) a.log.table.base.items a.log.table.set a.log.table.cache a.log.table.replies.items) (sym e.script) e.log);
     } in
     let k = c.in_ok-begin.ensures in
     record {

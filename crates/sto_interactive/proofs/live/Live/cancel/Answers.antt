@@ -105,6 +105,6 @@ returns-clause-cancelled g c passes ty calls rs begun v live =
     record {
       at = end.0;
       verdict = end.1;
-      ended = ended_as t.meaning t.valid t.sizes script_in next_of left_of MayAskOf passes ty f k.log.body c.end-heard.result.0.body k.log.replies c.end-heard.result.0.replies x begun v c.end-heard.ensures.body c.end-heard.ensures.replies come.0;
+      ended = ended_as t.meaning t.valid t.sizes script_in next_of left_of MayAskOf passes ty f k.log.body c.end-heard.result.body k.log.table.replies c.end-heard.result.replies x begun v c.end-heard.ensures.body c.end-heard.ensures.replies come.0;
       replies = ap (λ (l : Listed Reply). map plain_reply l.items) c.end-heard.ensures.replies ∙ same_replies calls (heard j) (heard k) all hears most ∙ before;
     }

@@ -72,7 +72,7 @@ returns-in-Ok-clause-committed g c ty calls rs begun live =
     let same = as_before t ty calls rs c.args.self k begun v live e.ty e.script e.at e.log e.grown e.begun c.in_ok-resume.field-0 e.alone turned (λ d h. (g.met.T.TxType.valid_is k.log.ty.now d).1 h) in
     record {
       ended = c.finish.ensures.ended ty f begun live.rests commits;
-      replies = ap (λ (l : Listed Reply). map plain_reply l.items) c.finish.ensures.replies ∙ ap (λ (l : Log g.row.T.Denot AskedCalls). map plain_reply l.replies.items) s.log ∙ same;
+      replies = ap (λ (l : Listed Reply). map plain_reply l.items) c.finish.ensures.replies ∙ ap (λ (l : Log g.row.T.Denot AskedCalls). map plain_reply l.table.replies.items) s.log ∙ same;
     }
 
 pub returns-in-Err-clause-err : goal.returns-in-Err-clause-err
@@ -92,7 +92,7 @@ returns-in-Ended-clause-committed g c ty calls rs begun live =
     let ends = ends_so t ty calls rs c.args.self k begun v live e.ty e.script e.at e.log e.grown e.begun c.in_ok-resume.field-0 e.alone turned passes x c.in-Ended.is in
     let same = as_before t ty calls rs c.args.self k begun v live e.ty e.script e.at e.log e.grown e.begun c.in_ok-resume.field-0 e.alone turned (λ d h. (g.met.T.TxType.valid_is k.log.ty.now d).1 h) in
     record {
-      ended = ended_as t.meaning t.valid t.sizes script_in next_of left_of MayAskOf passes ty f k.log.body c.end-heard.result.0.body k.log.replies c.end-heard.result.0.replies x begun v c.end-heard.ensures.body c.end-heard.ensures.replies ends;
+      ended = ended_as t.meaning t.valid t.sizes script_in next_of left_of MayAskOf passes ty f k.log.body c.end-heard.result.body k.log.table.replies c.end-heard.result.replies x begun v c.end-heard.ensures.body c.end-heard.ensures.replies ends;
       replies = ap (λ (l : Listed Reply). map plain_reply l.items) c.end-heard.ensures.replies ∙ same;
     }
 

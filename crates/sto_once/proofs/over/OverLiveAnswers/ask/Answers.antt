@@ -26,7 +26,7 @@ unreachable-requires g c =
     let so = subst (λ (o : Option StepError). StandsBy t g.C.Cells k o x.live (g.C.Cells.view x.cells)) none s.so in
     let a = c.in-Ok.ensures.asked k.ty so.0 so.1 k.begun so.2 in
     let items = c.as_slice.ensures.items ∙ ap (λ (l : Listed Reply). l.items) c.replies.ensures in
-    some_told c.ask.new.self.attempt.log.replies.items so.1 a.reply a.live.replies
+    some_told c.ask.new.self.attempt.log.table.replies.items so.1 a.reply a.live.replies
     (sym (ap option_copied c.in-None.is) ∙ c.last.ensures.value ∙ ap (λ (l : List Reply). slice_get l (length l - 1)) items)
 
 pub returns-in-Some : goal.returns-in-Some
@@ -41,7 +41,7 @@ returns-in-Some g c =
     let k = c.requires.0 in let s = c.requires.1 in
     let n = subst (λ (o : Option StepError). StandsBy t g.C.Cells k o x.live (g.C.Cells.view x.cells)) none s.so in
     let a = c.in-Ok.ensures.asked k.ty n.0 n.1 k.begun n.2 in
-    let told_is = last_told new.attempt.log.replies.items n.1 a.reply c.in-Some.reply.now a.live.replies value in (
+    let told_is = last_told new.attempt.log.table.replies.items n.1 a.reply c.in-Some.reply.now a.live.replies value in (
       (λ k s.
           let n = subst (λ (o : Option StepError). StandsBy t g.C.Cells k o x.live (g.C.Cells.view x.cells)) none s.so in
           let a = c.in-Ok.ensures.asked k.ty n.0 n.1 k.begun n.2 in

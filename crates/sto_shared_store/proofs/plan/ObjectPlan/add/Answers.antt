@@ -1,8 +1,7 @@
 use Rattle.std.specs.Prelude.{sum_by}
 use Rattle.std.proofs.Common.{rules, true, ◌≡◌, ◌≤◌, ◌<◌, ◌+◌, ◌^◌, List, [], ◌∷◌, ◌++◌, length, sym, ap, ◌∙◌, subst, arith}
 use Rattle.sto_model.specs.declared.shape.Shape.{Shape}
-use Rattle.sto_model.specs.Sizes.{part_count}
-use Rattle.sto_store.specs.Stores.{rank}
+use Rattle.sto_model.specs.Sizes.{part_count, rank}
 use Rattle.sto_shared_store.specs.Plans.{IsPlan, CanStand, last_rank, has_room}
 use Rattle.sto_shared_store.proofs.Ordered.{plan_more, parts_more, last_more}
 use Rattle.sto_shared_store.proofs.Roomy.{room_fits}

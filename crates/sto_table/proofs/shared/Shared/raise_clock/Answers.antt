@@ -18,5 +18,5 @@ fetch_add-requires g c =
       (omega arith),
       told_as g.T.Naming.valid sizes opening k.passes s.table.shared.table_id.slots c.args.seat.now.id me g.J.Telling.event
           (0) (λ n. (n + 1) % 2 ^ 64) g.J.Telling.passes c.requires.passes
-          (draws g.T.Naming.valid sizes opening k.passes s.table.shared.table_id.slots c.args.seat.now.id me live g.J.Telling.event c.args.updates.now.items c.args.seen.now.items c.args.loaded.now.items c.requires.event c.requires.allowed),
+          (draws g.T.Naming.valid sizes opening k.passes s.table.shared.table_id.slots c.args.seat.now.id me live g.J.Telling.event _ _ _ c.requires.event c.requires.allowed),
     )

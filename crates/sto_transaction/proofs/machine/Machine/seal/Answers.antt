@@ -24,7 +24,7 @@ returns-in-Ok-clause-left g c =
     let under = subst (λ (t : Machine g.row.T.Denot g.row.B.Denot). IsAtSeal g.T.TxType.meaning g.T.Naming.valid g.T.Naming.sizes g.B.Body.script g.B.Body.then g.B.Body.left g.B.Body.may_ask r.0 r.1 t r.2 r.3) is r.4 in
     let a = c.in-Running.attempt in
     let whole : machine_left g.T.TxType.meaning g.T.Naming.valid g.T.Naming.sizes g.B.Body.script g.B.Body.then g.B.Body.left g.B.Body.may_ask c.args.self.now ≡ machine_left g.T.TxType.meaning g.T.Naming.valid g.T.Naming.sizes g.B.Body.script g.B.Body.then g.B.Body.left g.B.Body.may_ask (Running a) = ap (machine_left g.T.TxType.meaning g.T.Naming.valid g.T.Naming.sizes g.B.Body.script g.B.Body.then g.B.Body.left g.B.Body.may_ask) is in
-    let committing = ap (λ (s : ReadPhase). events_left (g.B.Body.left a.log.body) (g.T.TxType.meaning a.log.ty.now).widths s a.words.items a.extension a.log.base.items) under.1.committing in
+    let committing = ap (λ (s : ReadPhase). events_left (g.B.Body.left a.log.body) (g.T.TxType.meaning a.log.ty.now).widths s a.log.table.words.items a.log.table.extension a.log.table.base.items) under.1.committing in
     let fewer = c.in-Ok.ensures.left in
     let now = ap (machine_left g.T.TxType.meaning g.T.Naming.valid g.T.Naming.sizes g.B.Body.script g.B.Body.then g.B.Body.left g.B.Body.may_ask) c.replace-in-Ok.ensures.after in
     omega (arith, whole, committing, fewer, now)

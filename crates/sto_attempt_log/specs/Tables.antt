@@ -1,0 +1,39 @@
+-- The table of an attempt.
+use Rattle.std.specs.Prelude.{◌≡◌, [], false, ℤ}
+use Rattle.sto_part.specs.Listed.{Listed}
+use Rattle.sto_attempt_log.specs.declared.lists.Lists.{Lists}
+use Rattle.sto_attempt_log.specs.declared.log.Log.{Log}
+use Rattle.sto_attempt_log.specs.declared.table.Table.{Table}
+
+-- nothing is found out on it
+pub record IsClear (t : Table) : Type 0 where
+  pub replies : t.replies.items ≡ []
+  pub set : t.set ≡ record { items = []; updates = [] }
+  pub base : t.base.items ≡ []
+  pub cache : t.cache ≡ []
+  pub words : t.words.items ≡ []
+  pub extended : t.extension.extended ≡ false
+
+module _ {T B : Type 0} where
+  -- the log on another table
+  abbrev pub with_table : Log T B → Table → Log T B
+  with_table l t = record l { table = t }
+
+  -- with other words of the open read
+  abbrev pub with_words : Log T B → Listed ℤ → Log T B
+  with_words l ws = with_table l (record l.table { words = ws })
+
+  -- with other lists of its commit
+  abbrev pub with_lists : Log T B → Lists → Log T B
+  with_lists l ls = with_table l (record l.table { lists = ls })
+
+  -- the log before, with what running the body changes taken from the one after: the body, the replies, the set and what is known
+  abbrev pub run_to : Log T B → Log T B → Log T B
+  run_to old new =
+      record (with_table old (record old.table {
+        replies = new.table.replies;
+        set = new.table.set;
+        cache = new.table.cache;
+        scratch = new.table.scratch;
+        pool = new.table.pool;
+      })) { body = new.body }

@@ -1,0 +1,8 @@
+use Rattle.sto_core.specs.Event.{Draw}
+use Rattle.sto_table.proofs.pass.PassCells.draw_by.Given as goal
+
+abbrev pub ghosts-raise_clock : goal.ghosts-raise_clock
+ghosts-raise_clock g a = record {
+  event = Draw (g.L.CommitLists.updates a.lists.now) (g.L.CommitLists.seen a.lists.now) (g.L.CommitLists.loaded a.lists.now);
+  passes = a.self.now.table.shared.key.passes;
+}
