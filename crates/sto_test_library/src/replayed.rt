@@ -1,5 +1,6 @@
 //! Code that is run over replies by hand.
-use crate::codes::{GiveUp, Swap};
+use crate::codes::{GiveUp, Swap, Unwanted};
+use std::convert::Infallible;
 use sto_library::{Action, BoxId, Call, Operation, ShortReply, Stop, Tx};
 use sto_model::Reply;
 
@@ -35,10 +36,10 @@ fn code_hears_replies(rt: HostRuntime) {
 
 #[test]
 fn code_gives_up(rt: HostRuntime) {
-    let done = [ShortReply::Done];
+    let heard = [ShortReply::Value(7), ShortReply::Done];
     assert_eq!(rt;
-        GiveUp(BoxId { number: 0 }).run(&mut Tx::of_heard(&done)),
-        Err(Stop::Cancels)
+        GiveUp(BoxId { number: 0 }).run(&mut Tx::of_heard(&heard)),
+        Err(Stop::Cancels(Unwanted { value: 7 }))
     );
 }
 
@@ -47,11 +48,11 @@ fn a_call_is_answered_by_what_was_heard(rt: HostRuntime) {
     let heard = [ShortReply::Flag(true)];
     let mut tx = Tx::of_heard(&heard);
     assert_eq!(rt;
-        tx.ask(call(Operation::Take, 3)),
+        tx.ask::<Infallible>(call(Operation::Take, 3)),
         Ok(ShortReply::Flag(true))
     );
     assert_eq!(rt;
-        tx.ask(call(Operation::Take, 3)),
+        tx.ask::<Infallible>(call(Operation::Take, 3)),
         Err(Stop::Asks(call(Operation::Take, 3)))
     );
 }
