@@ -23,7 +23,7 @@ history = record {
 }
 
 -- code of one call, whose value is the number that was answered
-abbrev asks_once : {E : Type 0} → Call → Prog E ℤ
+abbrev asks_once : Call → Prog (Unit {0}) ℤ
 asks_once call = Asks call (λ h. Gives (number h))
 
 -- it is not run a second time
