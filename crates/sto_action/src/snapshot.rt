@@ -46,10 +46,7 @@ impl<const B: usize, const C: usize> Action for Snapshot<B, C> {
 }
 
 // What boxes hold.
-fn boxes_held<E, const N: usize>(
-    boxes: &[BoxId; N],
-    tx: &mut Tx<'_>,
-) -> Result<[i64; N], Stop<E>>
+fn boxes_held<E, const N: usize>(boxes: &[BoxId; N], tx: &mut Tx<'_>) -> Result<[i64; N], Stop<E>>
     ensures { HasGot (map (λ x. x.number) boxes.now) tx.old tx.new result }
 {
     let mut held = [0; N];

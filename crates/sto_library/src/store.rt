@@ -154,7 +154,11 @@ impl<T: TxType> SharedStore<T> {
     ///
     /// What it gives is told as of `StoreWorker::run`: it is that of one state of all objects, after all that this worker had seen.
     /// `Snapshot` is such code. Code that writes is taken, too.
-    pub fn look<K: Action>(&mut self, alloc: Global, code: &K) -> Result<Done<K::Out, K::Reason>, LookError>
+    pub fn look<K: Action>(
+        &mut self,
+        alloc: Global,
+        code: &K,
+    ) -> Result<Done<K::Out, K::Reason>, LookError>
     where
         K::Out: Drop,
         K::Reason: Drop,

@@ -21,7 +21,10 @@ where
 
     ghost gives = { λ r before after told. HasGiven T.TxType before after (max r.0 1) (K.most r.1) (K.does r.1) told };
 
-    fn work(&self, worker: &mut StoreWorker<'_, T>) -> Result<Done<K::Out, K::Reason>, TransactionError> {
+    fn work(
+        &self,
+        worker: &mut StoreWorker<'_, T>,
+    ) -> Result<Done<K::Out, K::Reason>, TransactionError> {
         for _turn in 1..self.0 {
             let told = worker.run(&self.1);
             if told.is_err() {

@@ -57,7 +57,12 @@ fn run_over<'t, T: TxType, K: Code, C: Cells<T>>(
     shapes: &Shapes,
     cells: C,
     code: &K,
-) -> (Live<'t, T>, C, Option<StepError>, Result<K::Out, Halt<K::Reason>>)
+) -> (
+    Live<'t, T>,
+    C,
+    Option<StepError>,
+    Result<K::Out, Halt<K::Reason>>,
+)
     requires { (ty : T) × (begun : View) × MayRun T.TxType (key_of ty begun cells shapes.now.items) live (C.view cells) }
     ensures ran { (ty : T) (begun : View) → MayRun T.TxType (key_of ty begun cells shapes.now.items) live.entry (C.view cells)
         → After T.TxType C.Cells (key_of ty begun cells shapes.now.items) (K.does code.now) result.2 result.3 result.0 (C.view result.1) }

@@ -75,7 +75,10 @@ impl Action for ArrayCalls {
         4
     }
 
-    fn run(&self, tx: &mut Tx<'_>) -> Result<(Option<i64>, bool, bool, Option<i64>), Stop<Infallible>> {
+    fn run(
+        &self,
+        tx: &mut Tx<'_>,
+    ) -> Result<(Option<i64>, bool, bool, Option<i64>), Stop<Infallible>> {
         let was = self.0.get(tx, 2)?;
         let set = self.0.set(tx, 2, 6)?;
         let beyond = self.0.add(tx, 3, 1)?;
