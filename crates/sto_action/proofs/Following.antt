@@ -20,7 +20,7 @@ runs_of p old new (Err s) f = f
 -- a call, and what code makes of its answer, is a part
 pub asked_follows : {E R : Type 0} (call : Call) (answer : ShortReply → R) (old new : List ShortReply) (r : Result R (Stop E)) → HasAsked call answer old new r
     → Follows (Asks call (λ h. Gives (answer h))) old new r
-asked_follows call answer old new (Ok x) asked = subst (λ (l : List ShortReply). Leaves (Asks call (λ h. Gives (answer h))) l new x) (sym asked.1) (asked.2, refl)
+asked_follows {E} call answer old new (Ok x) asked = subst (λ (l : List ShortReply). Leaves {E = E} (Asks call (λ h. Gives (answer h))) l new x) (sym asked.1) (asked.2, refl)
 asked_follows {E} {R} call answer old new (Err s) asked =
     subst (λ (l : List ShortReply). Runs {E = E} {A = R} (Asks call (λ h. Gives (answer h))) l (Err s)) (sym asked.0)
     (subst (λ (y : Stop E). Runs {E = E} {A = R} (Asks call (λ h. Gives (answer h))) [] (Err y)) (sym asked.1) refl)

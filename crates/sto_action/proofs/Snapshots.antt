@@ -24,9 +24,9 @@ pub none_so_far : (held : List ℤ) (old : List ShortReply) → IsSoFar 0 held o
 none_so_far held old = record { heard = []; first = refl; many = refl; are = refl }
 
 -- one more
-pub one_more : {E : Type 0} (n : ℕ) (held : List ℤ) (old mid new : List ShortReply) (object : ℕ) (x : ℤ) → n < length held → IsSoFar n held old mid → Follows {E = E} {A = ℤ} (Asks (call_of object Get (pos 0) (pos 0)) (λ h. Gives (number h))) mid new (Ok x)
+pub one_more : (E : Type 0) (n : ℕ) (held : List ℤ) (old mid new : List ShortReply) (object : ℕ) (x : ℤ) → n < length held → IsSoFar n held old mid → Follows {E = E} {A = ℤ} (Asks (call_of object Get (pos 0) (pos 0)) (λ h. Gives (number h))) mid new (Ok x)
     → IsSoFar (n + 1) (set held n x) old new
-one_more {E} n held old mid new object x few so f = let asked = follows_asked {E = E} (call_of object Get (pos 0) (pos 0)) number mid new (Ok x) f in record {
+one_more E n held old mid new object x few so f = let asked = follows_asked {E = E} (call_of object Get (pos 0) (pos 0)) number mid new (Ok x) f in record {
   heard = so.heard ++ asked.0 ∷ [];
   first = so.first ∙ ap (λ l. so.heard ++ l) asked.1 ∙ sym (append_assoc so.heard (asked.0 ∷ []) new);
   many = (let a = so.many in let b = length-append so.heard (asked.0 ∷ []) in omega (arith, a, b));
@@ -34,8 +34,8 @@ one_more {E} n held old mid new object x few so f = let asked = follows_asked {E
 }
 
 -- all were got
-pub all_got : {E : Type 0} (objects : List ℕ) (n : ℕ) (held : List ℤ) (old new : List ShortReply) → length objects ≡ n → length held ≡ n → IsSoFar n held old new → HasGot {E = E} objects old new (Ok held)
-all_got objects n held old new e f so = (so.heard, so.first, so.many ∙ sym e, sym (take_all n held (omega (arith, f))) ∙ so.are)
+pub all_got : (E : Type 0) (objects : List ℕ) (n : ℕ) (held : List ℤ) (old new : List ShortReply) → length objects ≡ n → length held ≡ n → IsSoFar n held old new → HasGot {E = E} objects old new (Ok held)
+all_got E objects n held old new e f so = (so.heard, so.first, so.many ∙ sym e, sym (take_all n held (omega (arith, f))) ∙ so.are)
 
 -- the next one was not answered
 pub not_reached : {E : Type 0} (objects : List ℕ) (n : ℕ) (held : List ℤ) (old mid new : List ShortReply) (object : ℕ) (s : Stop E) → n < length objects → slice_index_or objects n 0 ≡ object → IsSoFar n held old mid
