@@ -14,7 +14,7 @@ use Rattle.sto_library.specs.Keeping.{IsKept, Any}
 use Rattle.sto_library.proofs.Branches.{counter, array, tree, either_way, where_so, or_cancel}
 use Rattle.sto_library.proofs.Calls.{Ends, HoldsAt, array_get_at, array_set_at, counter_add_at, counter_take_at, tree_get_at, tree_next_at, tree_put_at, tree_remove_at}
 use Rattle.sto_library.proofs.RowLaws.{all_with, all_without, all_at, counted_with}
-use Rattle.sto_example_seats.specs.declared.NoDeal.TheVariants.{NoSuchSeat, LineFull, TillStuck, Gone}
+use Rattle.sto_example_seats.specs.declared.NoDeal.TheVariants.{NoSuchSeat, NotYours, LineFull, TillStuck, Gone}
 use Rattle.sto_example_seats.specs.Evening.{pay, sell, wait, by_owner, pass_on, by_line, by_holder, deed, objects, paid_by, IsGuest, AllGuests}
 
 -- the till, the hall and the line of a show, in states by what is in the till, its seats and who waits
@@ -85,7 +85,7 @@ module _ {till hall line : ℕ} {state : ℤ → (seats waiting : List Row) → 
   held : (o : Option ℤ) → value_at seats seat ≡ o → Ends objects Q (by_holder (counter till) (array hall) (tree line) price seat guest o) here
   held None is = tt
   held (Some owner) is =
-      where_so objects Q (tree_next (tree line) (pos 0) (by_line (counter till) (array hall) (tree line) price seat guest)) here (int_eq owner guest) (λ mine.
+      where_so objects Q NotYours (tree_next (tree line) (pos 0) (by_line (counter till) (array hall) (tree line) price seat guest)) here (int_eq owner guest) (λ mine.
       tree_next_at objects Q (tree line) (pos 0) (by_line (counter till) (array hall) (tree line) price seat guest) here (show.line_at money seats waiting)
       (lined owner is (same_of owner guest mine) (least_from waiting (pos 0))))
 

@@ -52,19 +52,19 @@ module _ {E A : Type 0} (shapes : List Shape) (Q : A × State → Type 0) where
   on_state p same here = subst (Ends shapes Q p) (sym same) here
 
   -- code that may be given up first
-  pub unless : {reason : E} (p : Prog E A) (st : State) (b : Bool) → (b ≡ false → Ends shapes Q p st) → Ends shapes Q (if b then Cancels reason else p) st
-  unless p st true h = tt
-  unless p st false h = h refl
+  pub unless : (reason : E) (p : Prog E A) (st : State) (b : Bool) → (b ≡ false → Ends shapes Q p st) → Ends shapes Q (if b then Cancels reason else p) st
+  unless reason p st true h = tt
+  unless reason p st false h = h refl
 
   -- the same as the first part of code
-  pub unless_then : {B : Type 0} {reason : E} (p : Prog E B) (q : B → Prog E A) (st : State) (b : Bool) → (b ≡ false → Ends shapes Q (chain p q) st) → Ends shapes Q (chain (if b then Cancels reason else p) q) st
-  unless_then p q st true h = tt
-  unless_then p q st false h = h refl
+  pub unless_then : {B : Type 0} (reason : E) (p : Prog E B) (q : B → Prog E A) (st : State) (b : Bool) → (b ≡ false → Ends shapes Q (chain p q) st) → Ends shapes Q (chain (if b then Cancels reason else p) q) st
+  unless_then reason p q st true h = tt
+  unless_then reason p q st false h = h refl
 
   -- code that goes on only where this is so
-  pub where_so : {reason : E} (p : Prog E A) (st : State) (b : Bool) → (b ≡ true → Ends shapes Q p st) → Ends shapes Q (if b then p else Cancels reason) st
-  where_so p st true h = h refl
-  where_so p st false h = tt
+  pub where_so : (reason : E) (p : Prog E A) (st : State) (b : Bool) → (b ≡ true → Ends shapes Q p st) → Ends shapes Q (if b then p else Cancels reason) st
+  where_so reason p st true h = h refl
+  where_so reason p st false h = tt
 
   -- code that goes on one way or the other
   pub either_way : (p q : Prog E A) (st : State) (b : Bool) → (b ≡ true → Ends shapes Q p st) → (b ≡ false → Ends shapes Q q st) → Ends shapes Q (if b then p else q) st
@@ -81,7 +81,7 @@ module _ {E A : Type 0} (shapes : List Shape) (Why : E → Type 0) where
   excused_on p same here = subst (IsExcused p) (sym same) here
 
   -- code whose first part may be given up first
-  pub excused_unless_then : {B : Type 0} {reason : E} (p : Prog E B) (q : B → Prog E A) (st : State) (b : Bool) → (b ≡ true → Why reason) → (b ≡ false → IsExcused (chain p q) st)
+  pub excused_unless_then : {B : Type 0} (reason : E) (p : Prog E B) (q : B → Prog E A) (st : State) (b : Bool) → (b ≡ true → Why reason) → (b ≡ false → IsExcused (chain p q) st)
       → IsExcused (chain (if b then Cancels reason else p) q) st
-  excused_unless_then p q st true h k = h refl
-  excused_unless_then p q st false h k = k refl
+  excused_unless_then reason p q st true h k = h refl
+  excused_unless_then reason p q st false h k = k refl
