@@ -42,8 +42,8 @@ module _ {X : Type 0} (x : Answering X) where
   both_heard old mid new hs ks e f = f ∙ ap (λ (l : List Heard). l ++ ks) e ∙ append_assoc (x.heard old) hs ks
 
   -- a value, where nothing was asked
-  pub gives_goes : {E A : Type 0} (a : A) (old : X) → Goes x (Gives a) old old (Ok a)
-  gives_goes a old = ((λ k h. h), ([], sym (append-nil (x.heard old)), (refl, refl)))
+  pub gives_goes : (E : Type 0) {A : Type 0} (a : A) (old : X) → Goes x {E = E} (Gives a) old old (Ok a)
+  gives_goes E a old = ((λ k h. h), ([], sym (append-nil (x.heard old)), (refl, refl)))
 
   -- a call
   pub asked_goes : {E : Type 0} (call : Call) (old new : X) (r : Result ShortReply (Halt E)) → Adds x call old new r → Goes x (Asks call Gives) old new r
@@ -53,8 +53,8 @@ module _ {X : Type 0} (x : Answering X) where
   asked_goes call old new (Err (halts.Cancels r)) e = absurd e
 
   -- a call whose answer is a value of what was heard
-  pub answered_goes : {E A : Type 0} (call : Call) (f : ShortReply → A) (old new : X) (h : ShortReply) → Adds x call old new (Ok h) → Goes x (Asks call (λ h. Gives (f h))) old new (Ok (f h))
-  answered_goes call f old new h e = (e.0, ((call, h) ∷ [], e.1, (refl, (refl, refl))))
+  pub answered_goes : (E : Type 0) {A : Type 0} (call : Call) (f : ShortReply → A) (old new : X) (h : ShortReply) → Adds x {E = E} call old new (Ok h) → Goes x {E = E} (Asks call (λ h. Gives (f h))) old new (Ok (f h))
+  answered_goes E call f old new h e = (e.0, ((call, h) ∷ [], e.1, (refl, (refl, refl))))
 
   pub unanswered_goes : {E A : Type 0} (call : Call) (f : ShortReply → A) (old new : X) (e : Halt E) → Adds x call old new (Err e) → Goes x (Asks call (λ h. Gives (f h))) old new (Err e)
   unanswered_goes call f old new halts.Over e = e
