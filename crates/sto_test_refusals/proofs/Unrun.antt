@@ -46,21 +46,21 @@ heard_by k most (CancelledAt n) r rs ended told given = run_hears k most r rs (t
 heard_by k most (Locked n part) r rs ended told given = absurd cc
 heard_by k most (Changed n part ticket) r rs ended told given = absurd cc
 
-given_by : {E : Type 0} (most : ℕ) (verdict : Verdict) (replies : List PlainReply) → is_abort verdict ≡ false → IsTold box has_read (steps_of shapes most (gets {E = E})) replies verdict
+given_by : (E : Type 0) (most : ℕ) (verdict : Verdict) (replies : List PlainReply) → is_abort verdict ≡ false → IsTold box has_read (steps_of shapes most (gets {E = E})) replies verdict
     → IsGiven (gets {E = E}) (map short_of replies) (H.Value (pos 1)) → ⊥
-given_by most verdict [] ended told given = given
-given_by {E} most verdict (r ∷ rs) ended told given = heard_by {E = E} (λ h. Gives h) most verdict r rs ended told given
+given_by E most verdict [] ended told given = given
+given_by E most verdict (r ∷ rs) ended told given = heard_by {E = E} (λ h. Gives h) most verdict r rs ended told given
 
-pub get_not_1 : {E : Type 0} (tries left most : ℕ) → HasLed box unused has_read tries left shapes most (gets {E = E}) (Ok (Gave (H.Value (pos 1)))) → ⊥
-get_not_1 {E} tries left most led = given_by {E} most led.verdict led.replies led.ended led.told led.said
+pub get_not_1 : (E : Type 0) (tries left most : ℕ) → HasLed box unused has_read tries left shapes most (gets {E = E}) (Ok (Gave (H.Value (pos 1)))) → ⊥
+get_not_1 E tries left most led = given_by E most led.verdict led.replies led.ended led.told led.said
 
-reason_by : {A : Type 0} (most : ℕ) (verdict : Verdict) (replies : List PlainReply) → is_abort verdict ≡ false → IsTold box has_read (steps_of shapes most (gives_up {A = A})) replies verdict
+reason_by : (A : Type 0) (most : ℕ) (verdict : Verdict) (replies : List PlainReply) → is_abort verdict ≡ false → IsTold box has_read (steps_of shapes most (gives_up {A = A})) replies verdict
     → IsCancelled (gives_up {A = A}) (map short_of replies) (H.Value (pos 1)) → ⊥
-reason_by most verdict [] ended told given = given
-reason_by {A} most verdict (r ∷ rs) ended told given = heard_by {A = A} (λ h. Cancels h) most verdict r rs ended told given
+reason_by A most verdict [] ended told given = given
+reason_by A most verdict (r ∷ rs) ended told given = heard_by {A = A} (λ h. Cancels h) most verdict r rs ended told given
 
-pub reason_not_1 : {A : Type 0} (tries left most : ℕ) → HasLed box unused has_read tries left shapes most (gives_up {A = A}) (Ok (Cancelled (H.Value (pos 1)))) → ⊥
-reason_not_1 {A} tries left most led = reason_by {A} most led.verdict led.replies led.ended led.told led.said
+pub reason_not_1 : (A : Type 0) (tries left most : ℕ) → HasLed box unused has_read tries left shapes most (gives_up {A = A}) (Ok (Cancelled (H.Value (pos 1)))) → ⊥
+reason_not_1 A tries left most led = reason_by A most led.verdict led.replies led.ended led.told led.said
 
 -- A look of which nothing was begun is not refused as busy
 

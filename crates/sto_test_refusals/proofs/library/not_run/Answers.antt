@@ -12,7 +12,7 @@ pub returns-clause-cancelled : goal.returns-clause-cancelled
 returns-clause-cancelled g c = λ before after most p reason led gives. gives_no_cancel p _ reason gives led.said
 
 pub returns-clause-other_value : goal.returns-clause-other_value
-returns-clause-other_value g c = get_not_1
+returns-clause-other_value g c = get_not_1 g.row.E.Denot
 
 pub returns-clause-other_reason : goal.returns-clause-other_reason
-returns-clause-other_reason g c = reason_not_1
+returns-clause-other_reason g c = reason_not_1 g.row.A.Denot
