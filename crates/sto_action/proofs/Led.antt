@@ -14,7 +14,7 @@ use Rattle.sto_action.specs.Atomic.{EachFound, TakesNoEffect, HaveAborted, IsAto
 use Rattle.sto_action.proofs.Tried.{seen_later}
 
 -- the attempts before it saw more and took no effect
-pub atomic_since : {A : Type 0} (m : Meaning) (u v w : View) (shapes : List Shape) (most : ℕ) (p : Prog A) (says : List ShortReply → Type 0) → Grows u v → TakesNoEffect u v
+pub atomic_since : {E A : Type 0} (m : Meaning) (u v w : View) (shapes : List Shape) (most : ℕ) (p : Prog E A) (says : List ShortReply → Type 0) → Grows u v → TakesNoEffect u v
     → IsAtomic m v w shapes most p says → IsAtomic m u w shapes most p says
 atomic_since m u v w shapes most p says g none h = record {
   replies = h.replies;
@@ -51,13 +51,13 @@ aborted_more u v w some more g h k = record {
       (subst (λ (n : ℕ). EachFound w n k.verdicts) (let a = h.starts in let b = h.all in omega (arith, a, b)) k.found);
 }
 
-pub said_led : {A : Type 0} (m : Meaning) (v w : View) (tries left : ℕ) (shapes : List Shape) (most : ℕ) (p : Prog A) (r : Result A Stop)
+pub said_led : {E A : Type 0} (m : Meaning) (v w : View) (tries left : ℕ) (shapes : List Shape) (most : ℕ) (p : Prog E A) (r : Result A (Stop E))
     → IsAtomic m v w shapes most p (λ hs. Runs p hs r) → HasLed m v w tries left shapes most p (told_by r)
 said_led m v w tries left shapes most p (Ok a) h = h
-said_led m v w tries left shapes most p (Err stops.Cancels) h = h
+said_led m v w tries left shapes most p (Err (stops.Cancels e)) h = h
 said_led m v w tries left shapes most p (Err (stops.Asks call)) h = h
 
-pub said_undisturbed : {A : Type 0} (r : Result A Stop) → IsUndisturbed (told_by r)
+pub said_undisturbed : {E A : Type 0} (r : Result A (Stop E)) → IsUndisturbed (told_by r)
 said_undisturbed (Ok a) = tt
-said_undisturbed (Err stops.Cancels) = tt
+said_undisturbed (Err (stops.Cancels e)) = tt
 said_undisturbed (Err (stops.Asks call)) = tt

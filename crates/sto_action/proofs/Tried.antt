@@ -93,7 +93,7 @@ seen_later v w g n (inl h) = inl (let a = g.at in omega (arith, a, h))
 seen_later v w g n (inr (inl h)) = inr (inl (record { entry = h.entry; there = g.entries h.entry h.there h.committed; committed = h.committed; ticket = h.ticket }))
 seen_later v w g n (inr (inr h)) = inr (inr (record { claim = h.claim; there = g.wrote h.claim h.there; ticket = h.ticket }))
 
-pub record_atomic : {A : Type 0} (m : Meaning) (v w : View) (shapes : List Shape) (most : ℕ) (p : Prog A) (place : TransactionPlace) (x : Record) (says : List ShortReply → Type 0)
+pub record_atomic : {E A : Type 0} (m : Meaning) (v w : View) (shapes : List Shape) (most : ℕ) (p : Prog E A) (place : TransactionPlace) (x : Record) (says : List ShortReply → Type 0)
     → IsAdded m v w (λ rs. next_within shapes most p (map short_of rs)) place (plain x)
     → ((t : ℕ) → times_committed t w.entries ≡ times_committed t v.entries + wrote_with t (verdict x.verdict)) → is_abort (verdict x.verdict) ≡ false → says (map short_of (map plain_reply x.replies.items))
     → IsAtomic m v w shapes most p says
@@ -108,19 +108,19 @@ record_atomic m v w shapes most p place x says added entries ended said = record
 }
 
 -- a run of the code that was given, which added the first records
-pub same_run : {A K : Type 0} (does : K → Prog A) (m : Meaning) (sizes : List ℕ) (passes : ℕ) (v w : View) (place : TransactionPlace) (before later : List Record) (ended : Bool)
+pub same_run : {E A K : Type 0} (does : K → Prog E A) (m : Meaning) (sizes : List ℕ) (passes : ℕ) (v w : View) (place : TransactionPlace) (before later : List Record) (ended : Bool)
     (c code : K) (s shapes : Listed Shape) (n most : ℕ) → c ≡ code → s ≡ shapes → n ≡ most → before ≡ []
     → HasRun m sizes 1 passes v w (λ rs. next_within s.items n (does c) (map short_of rs)) place (map plain before) (map plain later) ended
     → HasRun m sizes 1 passes v w (λ rs. next_within shapes.items most (does code) (map short_of rs)) place [] (map plain later) ended
-same_run {A} {K} does m sizes passes v w place before later ended c code s shapes n most a b e none ran =
+same_run {E} {A} {K} does m sizes passes v w place before later ended c code s shapes n most a b e none ran =
     subst (λ (k : K). HasRun m sizes 1 passes v w (λ rs. next_within shapes.items most (does k) (map short_of rs)) place [] (map plain later) ended) a
     (subst (λ (k : Listed Shape). HasRun m sizes 1 passes v w (λ rs. next_within k.items most (does c) (map short_of rs)) place [] (map plain later) ended) b
     (subst (λ (k : ℕ). HasRun m sizes 1 passes v w (λ rs. next_within s.items k (does c) (map short_of rs)) place [] (map plain later) ended) e
     (subst (λ (k : List Record). HasRun m sizes 1 passes v w (λ rs. next_within s.items n (does c) (map short_of rs)) place (map plain k) (map plain later) ended) none ran)))
 
 -- what is so by the record that is told, where it is aborted and where it is not
-pub told_tried : {A : Type 0} (m : Meaning) (sizes : List ℕ) (passes : ℕ) (v w : View) (shapes : List Shape) (most : ℕ) (p : Prog A) (place : TransactionPlace) (left : List Record) (x : Record)
-    (rs : List Record) (ended : Bool) (said : Option (Result A Stop)) → rs ≡ left ++ x ∷ []
+pub told_tried : {E A : Type 0} (m : Meaning) (sizes : List ℕ) (passes : ℕ) (v w : View) (shapes : List Shape) (most : ℕ) (p : Prog E A) (place : TransactionPlace) (left : List Record) (x : Record)
+    (rs : List Record) (ended : Bool) (said : Option (Result A (Stop E))) → rs ≡ left ++ x ∷ []
     → HasRun m sizes 1 passes v w (λ rs. next_within shapes most p (map short_of rs)) place [] (map plain rs) ended
     → MatchOption said (is_abort (verdict x.verdict) ≡ true) (λ said. (is_abort (verdict x.verdict) ≡ false) × Runs p (map short_of (map plain_reply x.replies.items)) said)
     → HasTried m v w shapes most p (Ok said)
@@ -131,8 +131,8 @@ told_tried m sizes passes v w shapes most p place left x rs ended (Some said) al
     (last_added m sizes passes v w (λ rs. next_within shapes most p (map short_of rs)) place left x rs ended all ran)
     (last_entries m sizes passes v w (λ rs. next_within shapes most p (map short_of rs)) place left x rs ended all ran) h.0 h.1
 
-pub told_alone : {A : Type 0} (m : Meaning) (sizes : List ℕ) (passes : ℕ) (v w : View) (f : Behaviour) (place : TransactionPlace) (left : List Record) (x : Record)
-    (rs : List Record) (ended : Bool) (said : Option (Result A Stop)) (Q : Result A Stop → Type 0) → rs ≡ left ++ x ∷ [] → HasRun m sizes 1 passes v w f place [] (map plain rs) ended
+pub told_alone : {E A : Type 0} (m : Meaning) (sizes : List ℕ) (passes : ℕ) (v w : View) (f : Behaviour) (place : TransactionPlace) (left : List Record) (x : Record)
+    (rs : List Record) (ended : Bool) (said : Option (Result A (Stop E))) (Q : Result A (Stop E) → Type 0) → rs ≡ left ++ x ∷ [] → HasRun m sizes 1 passes v w f place [] (map plain rs) ended
     → MatchOption said (is_abort (verdict x.verdict) ≡ true) Q → passes ≡ 1 → IsSome said
 told_alone m sizes passes v w f place left x rs ended None Q all ran h one = absurd (not_alone m sizes passes v w f place left x rs ended all ran h one)
 told_alone m sizes passes v w f place left x rs ended (Some said) Q all ran h one = refl

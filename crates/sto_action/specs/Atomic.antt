@@ -53,13 +53,13 @@ pub record HaveAborted (v w : View) (many : ℕ) : Type 0 where
   pub found : EachFound w (v.starts + 1) verdicts
 
 -- what code does next after each list of replies, on objects of these shapes, where it may ask so many calls
-abbrev pub steps_of : {A : Type 0} → List Shape → ℕ → Prog A → Behaviour
+abbrev pub steps_of : {E A : Type 0} → List Shape → ℕ → Prog E A → Behaviour
 steps_of shapes most p = λ rs. next_within shapes most p (map short_of rs)
 
 -- The code, run alone, hears these replies and then says this. It is run on all valid contents that have what the pass w looked at: for
 -- a writer those right before its ticket, for a reader those as of its number (`IsTold`). It stands after all that the pass had seen, and
 -- is all that the pass committed from v to w
-pub record IsAtomic {A : Type 0} (m : Meaning) (v w : View) (shapes : List Shape) (most : ℕ) (p : Prog A) (says : List ShortReply → Type 0) : Type 0 where
+pub record IsAtomic {E A : Type 0} (m : Meaning) (v w : View) (shapes : List Shape) (most : ℕ) (p : Prog E A) (says : List ShortReply → Type 0) : Type 0 where
   pub replies : List PlainReply
   pub verdict : Verdict
   pub ended : is_abort verdict ≡ false
@@ -69,28 +69,28 @@ pub record IsAtomic {A : Type 0} (m : Meaning) (v w : View) (shapes : List Shape
   pub said : says (map short_of replies)
 
 -- what one attempt led to: the code said this at its end; or it was aborted, or memory was wanting
-abbrev pub HasTried : {A : Type 0} → Meaning → (v w : View) → List Shape → ℕ → Prog A → Result (Option (Result A Stop)) NoMemory → Type 0
+abbrev pub HasTried : {E A : Type 0} → Meaning → (v w : View) → List Shape → ℕ → Prog E A → Result (Option (Result A (Stop E))) NoMemory → Type 0
 HasTried m v w shapes most p (Ok (Some said)) = IsAtomic m v w shapes most p (λ hs. Runs p hs said)
 HasTried m v w shapes most p (Ok None) = HaveAborted v w 1
 HasTried m v w shapes most p (Err error) = TakesNoEffect v w
 
 -- what a transaction led to, which had so many tries and left so many tickets: all tries were made and aborted; or tries were made, fewer,
 -- and none is left
-abbrev pub HasLed : {A : Type 0} → Meaning → (v w : View) → (tries left : ℕ) → List Shape → ℕ → Prog A → Result (Done A) TransactionError → Type 0
+abbrev pub HasLed : {E A : Type 0} → Meaning → (v w : View) → (tries left : ℕ) → List Shape → ℕ → Prog E A → Result (Done A E) TransactionError → Type 0
 HasLed m v w tries left shapes most p (Ok (Gave value)) = IsAtomic m v w shapes most p (λ hs. IsGiven p hs value)
-HasLed m v w tries left shapes most p (Ok Cancelled) = IsAtomic m v w shapes most p (λ hs. IsCancelled p hs)
+HasLed m v w tries left shapes most p (Ok (Cancelled reason)) = IsAtomic m v w shapes most p (λ hs. IsCancelled p hs reason)
 HasLed m v w tries left shapes most p (Err (Refused call)) = IsAtomic m v w shapes most p (λ hs. IsAsked p hs call)
 HasLed m v w tries left shapes most p (Err Busy) = HaveAborted v w tries
 HasLed m v w tries left shapes most p (Err Worn) = (left ≡ 0) × ((many : ℕ) × (many < tries) × HaveAborted v w many)
 HasLed m v w tries left shapes most p (Err WantsMemory) = TakesNoEffect v w
 
 -- others were not in its way
-abbrev pub IsUndisturbed : {A : Type 0} → Result (Done A) TransactionError → Type 0
+abbrev pub IsUndisturbed : {E A : Type 0} → Result (Done A E) TransactionError → Type 0
 IsUndisturbed (Err Busy) = ⊥
 IsUndisturbed r = Unit {0}
 
 -- what a transaction gave by what its code said at its end
-abbrev pub told_by : {A : Type 0} → Result A Stop → Result (Done A) TransactionError
+abbrev pub told_by : {E A : Type 0} → Result A (Stop E) → Result (Done A E) TransactionError
 told_by (Ok value) = Ok (Gave value)
-told_by (Err stops.Cancels) = Ok Cancelled
+told_by (Err (stops.Cancels e)) = Ok (Cancelled e)
 told_by (Err (stops.Asks call)) = Err (Refused call)

@@ -30,9 +30,10 @@ pub fn atomically<T: TxType, K: Action, C: Cells<T>, W: AttemptWatch>(
     watch: &mut W,
     memory: &mut ActionLists,
     code: &K,
-) -> Result<Done<K::Out>, TransactionError>
+) -> Result<Done<K::Out, K::Reason>, TransactionError>
 where
     K::Out: Drop,
+    K::Reason: Drop,
     requires takes { (call : Call) → IsTakenCall shapes.now.items call → (T.meaning ty.now).takes call }
     requires rests { IsAtRest (T.meaning ty.now) (T.sizes ty.now) (C.view cells.old) }
     requires left { left.old ≤ (C.view cells.old).draws }
@@ -62,12 +63,12 @@ where
 }
 
 // What a transaction gave by what its code said at its end.
-fn told<A: Drop>(said: Result<A, Stop>) -> Result<Done<A>, TransactionError>
+fn told<A: Drop, E: Drop>(said: Result<A, Stop<E>>) -> Result<Done<A, E>, TransactionError>
     ensures { result ≡ told_by said }
 {
     match said {
         Ok(value) => Ok(Done::Gave(value)),
-        Err(Stop::Cancels) => Ok(Done::Cancelled),
+        Err(Stop::Cancels(reason)) => Ok(Done::Cancelled(reason)),
         Err(Stop::Asks(call)) => Err(TransactionError::Refused(call)),
     }
 }

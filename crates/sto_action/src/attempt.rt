@@ -31,9 +31,10 @@ pub(crate) fn attempt<T: TxType, K: Action, C: Cells<T>, W: AttemptWatch>(
     watch: &mut W,
     memory: &mut ActionLists,
     code: &K,
-) -> Result<Option<Result<K::Out, Stop>>, NoMemory>
+) -> Result<Option<Result<K::Out, Stop<K::Reason>>>, NoMemory>
 where
     K::Out: Drop,
+    K::Reason: Drop,
     requires takes { (call : Call) → IsTakenCall shapes.now.items call → (T.meaning ty.now).takes call }
     requires rests { IsAtRest (T.meaning ty.now) (T.sizes ty.now) (C.view cells.old) }
     requires draws { 1 ≤ (C.view cells.old).draws }
@@ -76,9 +77,10 @@ where
 
 // What the code says at its end by the record of an attempt; none where that was aborted.
 #[tactic(auto, using(crate::proofs::Following::runs_of))]
-fn said_by<K: Action>(code: &K, last: &Record) -> Option<Result<K::Out, Stop>>
+fn said_by<K: Action>(code: &K, last: &Record) -> Option<Result<K::Out, Stop<K::Reason>>>
 where
     K::Out: Drop,
+    K::Reason: Drop,
     ensures { MatchOption result (is_abort (verdict last.now.verdict) ≡ true) (λ said. (is_abort (verdict last.now.verdict) ≡ false)
         × Runs (K.does code.now) (map short_of (map plain_reply last.now.replies.items)) said) }
 {

@@ -50,6 +50,7 @@ impl<'c, K: Action> ActionBody<'c, K> {
 impl<K: Action> Body for ActionBody<'_, K>
 where
     K::Out: Drop,
+    K::Reason: Drop,
 {
     ghost use Rattle.sto_action.specs.Shortened.{short_of};
     ghost use Rattle.sto_action.specs.Progs.{next_within, IsTakenCall};
@@ -94,7 +95,7 @@ fn is_taken(shapes: &Shapes, call: Call) -> bool
 }
 
 // What is done next by what a run answered.
-fn next_by<R: Drop>(shapes: &Shapes, room: bool, ran: Result<R, Stop>) -> Next
+fn next_by<R: Drop, E: Drop>(shapes: &Shapes, room: bool, ran: Result<R, Stop<E>>) -> Next
     ensures next { result ≡ by_run shapes.now.items room ran }
     ensures may { MayAsk (IsTakenCall shapes.now.items) result }
 {
@@ -107,6 +108,6 @@ fn next_by<R: Drop>(shapes: &Shapes, room: bool, ran: Result<R, Stop>) -> Next
                 Next::Cancel
             }
         }
-        Err(Stop::Cancels) => Next::Cancel,
+        Err(Stop::Cancels(_)) => Next::Cancel,
     }
 }

@@ -12,8 +12,11 @@ pub trait Action {
     /// What it gives.
     type Out;
 
+    /// Why it may give the transaction up. Code that never does says `Infallible`, which has no values.
+    type Reason;
+
     /// What it does.
-    ghost does: { Self → Prog Self.Out };
+    ghost does: { Self → Prog Self.Reason Self.Out };
 
     /// How many calls it may ask; where it asks more, it is given up.
     ghost most: { Self → ℕ };
@@ -23,6 +26,6 @@ pub trait Action {
         ensures { result ≡ most self.now };
 
     /// Runs it over what its calls were answered, from the first on; what it needs not is left.
-    fn run(&self, tx: &mut Tx<'_>) -> Result<Self::Out, Stop>
+    fn run(&self, tx: &mut Tx<'_>) -> Result<Self::Out, Stop<Self::Reason>>
         ensures { Follows (does self.now) tx.old tx.new result };
 }

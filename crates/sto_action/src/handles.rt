@@ -17,7 +17,7 @@ pub struct BoxId {
 #[tactic(auto, using(crate::proofs::Following::asked_follows))]
 impl BoxId {
     /// Its value.
-    pub fn get(self, tx: &mut Tx<'_>) -> Result<i64, Stop>
+    pub fn get<E>(self, tx: &mut Tx<'_>) -> Result<i64, Stop<E>>
         ensures { Follows (box_get self Gives) tx.old tx.new result }
     {
         let heard = tx.ask(Call::new(self.number, Operation::Get, 0, 0))?;
@@ -25,7 +25,7 @@ impl BoxId {
     }
 
     /// Makes this its value.
-    pub fn set(self, tx: &mut Tx<'_>, value: i64) -> Result<(), Stop>
+    pub fn set<E>(self, tx: &mut Tx<'_>, value: i64) -> Result<(), Stop<E>>
         ensures { Follows (box_set self value (Gives tt)) tx.old tx.new result }
     {
         let _heard = tx.ask(Call::new(self.number, Operation::Set, value, 0))?;
@@ -42,7 +42,7 @@ pub struct CounterId {
 #[tactic(auto, using(crate::proofs::Following::asked_follows))]
 impl CounterId {
     /// Its value.
-    pub fn get(self, tx: &mut Tx<'_>) -> Result<i64, Stop>
+    pub fn get<E>(self, tx: &mut Tx<'_>) -> Result<i64, Stop<E>>
         ensures { Follows (counter_get self Gives) tx.old tx.new result }
     {
         let heard = tx.ask(Call::new(self.number, Operation::Get, 0, 0))?;
@@ -50,7 +50,7 @@ impl CounterId {
     }
 
     /// Adds to it; false where the sum would be no number of 64 bits, and then it stays.
-    pub fn add(self, tx: &mut Tx<'_>, by: i64) -> Result<bool, Stop>
+    pub fn add<E>(self, tx: &mut Tx<'_>, by: i64) -> Result<bool, Stop<E>>
         ensures { Follows (counter_add self by Gives) tx.old tx.new result }
     {
         let heard = tx.ask(Call::new(self.number, Operation::Add, by, 0))?;
@@ -58,7 +58,7 @@ impl CounterId {
     }
 
     /// Whether its value compares so.
-    pub fn test(self, tx: &mut Tx<'_>, test: Test, than: i64) -> Result<bool, Stop>
+    pub fn test<E>(self, tx: &mut Tx<'_>, test: Test, than: i64) -> Result<bool, Stop<E>>
         ensures { Follows (counter_test self test than Gives) tx.old tx.new result }
     {
         let heard = tx.ask(Call::new(self.number, Operation::Test, test_number(test), than))?;
@@ -66,7 +66,7 @@ impl CounterId {
     }
 
     /// Takes from it; false where it has less, or the rest would be no number of 64 bits, and then it stays.
-    pub fn take(self, tx: &mut Tx<'_>, by: i64) -> Result<bool, Stop>
+    pub fn take<E>(self, tx: &mut Tx<'_>, by: i64) -> Result<bool, Stop<E>>
         ensures { Follows (counter_take self by Gives) tx.old tx.new result }
     {
         let heard = tx.ask(Call::new(self.number, Operation::Take, by, 0))?;
@@ -83,7 +83,7 @@ pub struct ArrayId {
 #[tactic(auto, using(crate::proofs::Following::asked_follows))]
 impl ArrayId {
     /// The value at a place; None where it has no such place.
-    pub fn get(self, tx: &mut Tx<'_>, place: i64) -> Result<Option<i64>, Stop>
+    pub fn get<E>(self, tx: &mut Tx<'_>, place: i64) -> Result<Option<i64>, Stop<E>>
         ensures { Follows (array_get self place Gives) tx.old tx.new result }
     {
         let heard = tx.ask(Call::new(self.number, Operation::Get, place, 0))?;
@@ -91,7 +91,7 @@ impl ArrayId {
     }
 
     /// Makes this the value at a place; false where it has no such place.
-    pub fn set(self, tx: &mut Tx<'_>, place: i64, value: i64) -> Result<bool, Stop>
+    pub fn set<E>(self, tx: &mut Tx<'_>, place: i64, value: i64) -> Result<bool, Stop<E>>
         ensures { Follows (array_set self place value Gives) tx.old tx.new result }
     {
         let heard = tx.ask(Call::new(self.number, Operation::Set, place, value))?;
@@ -99,7 +99,7 @@ impl ArrayId {
     }
 
     /// Adds to the value at a place; false where it has no such place, or the sum would be no number of 64 bits.
-    pub fn add(self, tx: &mut Tx<'_>, place: i64, by: i64) -> Result<bool, Stop>
+    pub fn add<E>(self, tx: &mut Tx<'_>, place: i64, by: i64) -> Result<bool, Stop<E>>
         ensures { Follows (array_add self place by Gives) tx.old tx.new result }
     {
         let heard = tx.ask(Call::new(self.number, Operation::Add, place, by))?;
@@ -116,7 +116,7 @@ pub struct HashId {
 #[tactic(auto, using(crate::proofs::Following::asked_follows))]
 impl HashId {
     /// The value of a key.
-    pub fn get(self, tx: &mut Tx<'_>, key: i64) -> Result<Option<i64>, Stop>
+    pub fn get<E>(self, tx: &mut Tx<'_>, key: i64) -> Result<Option<i64>, Stop<E>>
         ensures { Follows (hash_get self key Gives) tx.old tx.new result }
     {
         let heard = tx.ask(Call::new(self.number, Operation::Get, key, 0))?;
@@ -124,7 +124,7 @@ impl HashId {
     }
 
     /// Gives a key this value; false where the key is new and its bucket is full.
-    pub fn put(self, tx: &mut Tx<'_>, key: i64, value: i64) -> Result<bool, Stop>
+    pub fn put<E>(self, tx: &mut Tx<'_>, key: i64, value: i64) -> Result<bool, Stop<E>>
         ensures { Follows (hash_put self key value Gives) tx.old tx.new result }
     {
         let heard = tx.ask(Call::new(self.number, Operation::Put, key, value))?;
@@ -132,7 +132,7 @@ impl HashId {
     }
 
     /// Takes a key away; false where it is not there.
-    pub fn remove(self, tx: &mut Tx<'_>, key: i64) -> Result<bool, Stop>
+    pub fn remove<E>(self, tx: &mut Tx<'_>, key: i64) -> Result<bool, Stop<E>>
         ensures { Follows (hash_remove self key Gives) tx.old tx.new result }
     {
         let heard = tx.ask(Call::new(self.number, Operation::Remove, key, 0))?;
@@ -140,7 +140,7 @@ impl HashId {
     }
 
     /// Whether a key is there.
-    pub fn has(self, tx: &mut Tx<'_>, key: i64) -> Result<bool, Stop>
+    pub fn has<E>(self, tx: &mut Tx<'_>, key: i64) -> Result<bool, Stop<E>>
         ensures { Follows (hash_has self key Gives) tx.old tx.new result }
     {
         let heard = tx.ask(Call::new(self.number, Operation::Has, key, 0))?;
@@ -148,7 +148,7 @@ impl HashId {
     }
 
     /// How many keys there are.
-    pub fn len(self, tx: &mut Tx<'_>) -> Result<i64, Stop>
+    pub fn len<E>(self, tx: &mut Tx<'_>) -> Result<i64, Stop<E>>
         ensures { Follows (hash_len self Gives) tx.old tx.new result }
     {
         let heard = tx.ask(Call::new(self.number, Operation::Len, 0, 0))?;
@@ -165,7 +165,7 @@ pub struct TreeId {
 #[tactic(auto, using(crate::proofs::Following::asked_follows))]
 impl TreeId {
     /// The value of a key.
-    pub fn get(self, tx: &mut Tx<'_>, key: i64) -> Result<Option<i64>, Stop>
+    pub fn get<E>(self, tx: &mut Tx<'_>, key: i64) -> Result<Option<i64>, Stop<E>>
         ensures { Follows (tree_get self key Gives) tx.old tx.new result }
     {
         let heard = tx.ask(Call::new(self.number, Operation::Get, key, 0))?;
@@ -173,7 +173,7 @@ impl TreeId {
     }
 
     /// Gives a key this value; false where the key is new and the tree is full.
-    pub fn put(self, tx: &mut Tx<'_>, key: i64, value: i64) -> Result<bool, Stop>
+    pub fn put<E>(self, tx: &mut Tx<'_>, key: i64, value: i64) -> Result<bool, Stop<E>>
         ensures { Follows (tree_put self key value Gives) tx.old tx.new result }
     {
         let heard = tx.ask(Call::new(self.number, Operation::Put, key, value))?;
@@ -181,7 +181,7 @@ impl TreeId {
     }
 
     /// Takes a key away; false where it is not there.
-    pub fn remove(self, tx: &mut Tx<'_>, key: i64) -> Result<bool, Stop>
+    pub fn remove<E>(self, tx: &mut Tx<'_>, key: i64) -> Result<bool, Stop<E>>
         ensures { Follows (tree_remove self key Gives) tx.old tx.new result }
     {
         let heard = tx.ask(Call::new(self.number, Operation::Remove, key, 0))?;
@@ -189,7 +189,7 @@ impl TreeId {
     }
 
     /// How many keys there are.
-    pub fn len(self, tx: &mut Tx<'_>) -> Result<i64, Stop>
+    pub fn len<E>(self, tx: &mut Tx<'_>) -> Result<i64, Stop<E>>
         ensures { Follows (tree_len self Gives) tx.old tx.new result }
     {
         let heard = tx.ask(Call::new(self.number, Operation::Len, 0, 0))?;
@@ -197,7 +197,7 @@ impl TreeId {
     }
 
     /// The least key from this one on.
-    pub fn next(self, tx: &mut Tx<'_>, from: i64) -> Result<Option<i64>, Stop>
+    pub fn next<E>(self, tx: &mut Tx<'_>, from: i64) -> Result<Option<i64>, Stop<E>>
         ensures { Follows (tree_next self from Gives) tx.old tx.new result }
     {
         let heard = tx.ask(Call::new(self.number, Operation::Next, from, 0))?;
@@ -205,7 +205,7 @@ impl TreeId {
     }
 
     /// How many keys there are from the first to the last.
-    pub fn count(self, tx: &mut Tx<'_>, first: i64, last: i64) -> Result<i64, Stop>
+    pub fn count<E>(self, tx: &mut Tx<'_>, first: i64, last: i64) -> Result<i64, Stop<E>>
         ensures { Follows (tree_count self first last Gives) tx.old tx.new result }
     {
         let heard = tx.ask(Call::new(self.number, Operation::Count, first, last))?;
@@ -222,7 +222,7 @@ pub struct VectorId {
 #[tactic(auto, using(crate::proofs::Following::asked_follows))]
 impl VectorId {
     /// The value at a place; None past its end.
-    pub fn get(self, tx: &mut Tx<'_>, place: i64) -> Result<Option<i64>, Stop>
+    pub fn get<E>(self, tx: &mut Tx<'_>, place: i64) -> Result<Option<i64>, Stop<E>>
         ensures { Follows (vector_get self place Gives) tx.old tx.new result }
     {
         let heard = tx.ask(Call::new(self.number, Operation::Get, place, 0))?;
@@ -230,7 +230,7 @@ impl VectorId {
     }
 
     /// Whether its length compares so.
-    pub fn test(self, tx: &mut Tx<'_>, test: Test, than: i64) -> Result<bool, Stop>
+    pub fn test<E>(self, tx: &mut Tx<'_>, test: Test, than: i64) -> Result<bool, Stop<E>>
         ensures { Follows (vector_test self test than Gives) tx.old tx.new result }
     {
         let heard = tx.ask(Call::new(self.number, Operation::Test, test_number(test), than))?;
@@ -238,7 +238,7 @@ impl VectorId {
     }
 
     /// How many values there are.
-    pub fn len(self, tx: &mut Tx<'_>) -> Result<i64, Stop>
+    pub fn len<E>(self, tx: &mut Tx<'_>) -> Result<i64, Stop<E>>
         ensures { Follows (vector_len self Gives) tx.old tx.new result }
     {
         let heard = tx.ask(Call::new(self.number, Operation::Len, 0, 0))?;
@@ -246,7 +246,7 @@ impl VectorId {
     }
 
     /// Adds a value last; false where it is full.
-    pub fn push(self, tx: &mut Tx<'_>, value: i64) -> Result<bool, Stop>
+    pub fn push<E>(self, tx: &mut Tx<'_>, value: i64) -> Result<bool, Stop<E>>
         ensures { Follows (vector_push self value Gives) tx.old tx.new result }
     {
         let heard = tx.ask(Call::new(self.number, Operation::Push, value, 0))?;
@@ -254,7 +254,7 @@ impl VectorId {
     }
 
     /// Takes the last value away.
-    pub fn pop(self, tx: &mut Tx<'_>) -> Result<Option<i64>, Stop>
+    pub fn pop<E>(self, tx: &mut Tx<'_>) -> Result<Option<i64>, Stop<E>>
         ensures { Follows (vector_pop self Gives) tx.old tx.new result }
     {
         let heard = tx.ask(Call::new(self.number, Operation::Pop, 0, 0))?;

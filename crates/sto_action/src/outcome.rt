@@ -3,11 +3,11 @@ use sto_model::Call;
 
 /// What a transaction that was run gave.
 #[derive(Drop)]
-pub enum Done<A> {
+pub enum Done<A, E> {
     /// It was committed, and gave this.
     Gave(A),
-    /// Its code gave it up. Nothing took effect.
-    Cancelled,
+    /// Its code gave it up, for this reason. Nothing took effect.
+    Cancelled(E),
 }
 
 /// Why a transaction was not run to its end. Nothing of it took effect, and the worker can go on with others.

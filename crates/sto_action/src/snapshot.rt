@@ -5,6 +5,7 @@ ghost use Rattle.sto_action.specs.Snapshots.{HasGot};
 use crate::code::Action;
 use crate::handles::{BoxId, CounterId};
 use crate::tx::{Stop, Tx};
+use std::convert::Infallible;
 
 /// Gives what boxes and counters hold, all of them at one time.
 #[derive(Clone, Copy)]
@@ -27,6 +28,8 @@ impl<const B: usize, const C: usize> Action for Snapshot<B, C> {
 
     type Out = SnapshotValues<B, C>;
 
+    type Reason = Infallible;
+
     ghost does = { λ s. snapshot s.boxes s.counters };
 
     ghost most = { λ s. length s.boxes + length s.counters };
@@ -35,7 +38,7 @@ impl<const B: usize, const C: usize> Action for Snapshot<B, C> {
         (self.boxes.len() + self.counters.len()) as u32
     }
 
-    fn run(&self, tx: &mut Tx<'_>) -> Result<SnapshotValues<B, C>, Stop> {
+    fn run(&self, tx: &mut Tx<'_>) -> Result<SnapshotValues<B, C>, Stop<Infallible>> {
         let boxes = boxes_held(&self.boxes, tx)?;
         let counters = counters_held(&self.counters, tx)?;
         Ok(SnapshotValues { boxes, counters })
@@ -43,7 +46,7 @@ impl<const B: usize, const C: usize> Action for Snapshot<B, C> {
 }
 
 // What boxes hold.
-fn boxes_held<const N: usize>(boxes: &[BoxId; N], tx: &mut Tx<'_>) -> Result<[i64; N], Stop>
+fn boxes_held<E, const N: usize>(boxes: &[BoxId; N], tx: &mut Tx<'_>) -> Result<[i64; N], Stop<E>>
     ensures { HasGot (map (λ x. x.number) boxes.now) tx.old tx.new result }
 {
     let mut held = [0; N];
@@ -55,10 +58,10 @@ fn boxes_held<const N: usize>(boxes: &[BoxId; N], tx: &mut Tx<'_>) -> Result<[i6
 }
 
 // What counters hold.
-fn counters_held<const N: usize>(
+fn counters_held<E, const N: usize>(
     counters: &[CounterId; N],
     tx: &mut Tx<'_>,
-) -> Result<[i64; N], Stop>
+) -> Result<[i64; N], Stop<E>>
     ensures { HasGot (map (λ x. x.number) counters.now) tx.old tx.new result }
 {
     let mut held = [0; N];

@@ -10,12 +10,12 @@ use std::marker::Model;
 use sto_model::{Call, Reply};
 
 /// Why code stops before its end. `?` hands it on; code looks no further into it.
-#[derive(Clone, Copy, PartialEq, Eq, Debug)]
-pub enum Stop {
+#[derive(Drop, PartialEq, Eq, Debug)]
+pub enum Stop<E> {
     /// It asks a call that has no answer yet.
     Asks(Call),
-    /// It gives the transaction up.
-    Cancels,
+    /// It gives the transaction up, for this reason.
+    Cancels(E),
 }
 
 /// What code asks its calls of. Contracts see what its next calls are answered.
@@ -59,7 +59,7 @@ impl<'h> Tx<'h> {
     }
 
     /// What the call was answered. Where it has no answer yet, the code is to stop.
-    pub fn ask(&mut self, call: Call) -> Result<ShortReply, Stop>
+    pub fn ask<E>(&mut self, call: Call) -> Result<ShortReply, Stop<E>>
         ensures { HasAsked call (λ h. h) self.old self.new result }
     {
         if let [first, rest @ ..] = self.heard {
@@ -77,10 +77,10 @@ impl<'h> Tx<'h> {
         }
     }
 
-    /// Gives the transaction up: `return tx.cancel();`
-    pub fn cancel<A>(&self) -> Result<A, Stop>
-        ensures { result ≡ Err Cancels }
+    /// Gives the transaction up, for a reason of the caller's own: `return tx.cancel(NoSale::SoldOut);`
+    pub fn cancel<A, E>(&self, reason: E) -> Result<A, Stop<E>>
+        ensures { result ≡ Err (Cancels reason) }
     {
-        Err(Stop::Cancels)
+        Err(Stop::Cancels(reason))
     }
 }

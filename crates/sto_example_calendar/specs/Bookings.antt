@@ -9,14 +9,16 @@ use Rattle.sto_model.specs.Run.{State}
 use Rattle.sto_action.specs.declared.handles.TreeId.{TreeId}
 use Rattle.sto_action.specs.Progs.{Prog, Gives, Cancels}
 use Rattle.sto_action.specs.Steps.{tree_count, tree_put}
+use Rattle.sto_example_calendar.specs.declared.NoBooking.{NoBooking}
+use Rattle.sto_example_calendar.specs.declared.NoBooking.TheVariants.{Taken, Full}
 
 -- it notes the guest at a day, where there is room, and gives the day
-abbrev pub note : TreeId → ℤ → ℤ → Prog ℤ
-note room day guest = tree_put room day guest (λ put. if put then Gives day else Cancels)
+abbrev pub note : TreeId → ℤ → ℤ → Prog NoBooking ℤ
+note room day guest = tree_put room day guest (λ put. if put then Gives day else Cancels Full)
 
 -- it books three days from this one on, where no booking begins so near that it has one of them
-abbrev pub book : TreeId → ℤ → ℤ → Prog ℤ
-book room day guest = tree_count room (day -ℤ pos 2) (day +ℤ pos 2) (λ many. if int_eq many (pos 0) then note room day guest else Cancels)
+abbrev pub book : TreeId → ℤ → ℤ → Prog NoBooking ℤ
+book room day guest = tree_count room (day -ℤ pos 2) (day +ℤ pos 2) (λ many. if int_eq many (pos 0) then note room day guest else Cancels Taken)
 
 -- the objects at the opening
 abbrev pub objects : List Shape

@@ -12,6 +12,15 @@ use sto_library::{
     wrapping_difference,
 };
 
+/// Why a booking is not made.
+#[derive(Clone, Copy, PartialEq, Eq, Debug)]
+pub enum NoBooking {
+    /// Another booking has one of the days.
+    Taken,
+    /// The calendar has no room for a further booking.
+    Full,
+}
+
 /// Books the room for three days from a day on, where all three are free. It gives that day.
 #[derive(Clone, Copy)]
 struct Booking {
@@ -23,6 +32,8 @@ struct Booking {
 impl Action for Booking {
     type Out = i64;
 
+    type Reason = NoBooking;
+
     ghost does = { λ b. book b.room (pos b.day) (pos b.guest) };
 
     ghost most = { λ _. 2 };
@@ -31,13 +42,13 @@ impl Action for Booking {
         2
     }
 
-    fn run(&self, tx: &mut Tx<'_>) -> Result<i64, Stop> {
+    fn run(&self, tx: &mut Tx<'_>) -> Result<i64, Stop<NoBooking>> {
         let day = i64::from(self.day);
         if self.room.count(tx, day - 2, day + 2)? != 0 {
-            return tx.cancel();
+            return tx.cancel(NoBooking::Taken);
         }
         if !self.room.put(tx, day, i64::from(self.guest))? {
-            return tx.cancel();
+            return tx.cancel(NoBooking::Full);
         }
         Ok(day)
     }

@@ -1,15 +1,37 @@
 //! An inventory: two sellers sell from one stock, never what is not there, and two clerks count at the same time.
 #![tactic(auto)]
 
-ghost use Rattle.std.specs.Prelude.{pos, IfOk};
-ghost use Rattle.sto_example_inventory.specs.Stock.{sale, count, IsDay};
+ghost use Rattle.std.specs.Prelude.{Some, pos, IfOk};
+ghost use Rattle.sto_example_inventory.specs.Stock.{sale, count, no_sale_text, IsDay};
 
 use std::alloc::Global;
+use std::convert::Infallible;
+use std::fmt;
 use std::thread::Threads;
 use sto_library::{
     Action, CounterId, Done, Either, HashId, Schema, State, Stop, StoreError, Times,
     TransactionError, Tx, wrapping_sum,
 };
+
+/// Why nothing is sold.
+#[derive(Clone, Copy, PartialEq, Eq, Debug)]
+pub enum NoSale {
+    /// So many pieces are not in stock.
+    SoldOut,
+    /// The book has no room for a further customer.
+    BookFull,
+}
+
+impl fmt::Display for NoSale {
+    ghost output = { λ why. Some (no_sale_text why) };
+
+    fn fmt<W: fmt::Write>(&self, f: &mut fmt::Formatter<W>) -> fmt::Result {
+        match self {
+            NoSale::SoldOut => write!(f, "not enough is in stock"),
+            NoSale::BookFull => write!(f, "the book is full"),
+        }
+    }
+}
 
 /// Takes pieces from the stock, where they are there, and notes them for a customer. It gives what that one has bought so far.
 #[derive(Clone, Copy)]
@@ -23,6 +45,8 @@ struct Sale {
 impl Action for Sale {
     type Out = i64;
 
+    type Reason = NoSale;
+
     ghost does = { λ s. sale s.stock s.book s.customer s.pieces };
 
     ghost most = { λ _. 3 };
@@ -31,14 +55,14 @@ impl Action for Sale {
         3
     }
 
-    fn run(&self, tx: &mut Tx<'_>) -> Result<i64, Stop> {
+    fn run(&self, tx: &mut Tx<'_>) -> Result<i64, Stop<NoSale>> {
         if !self.stock.take(tx, self.pieces)? {
-            return tx.cancel();
+            return tx.cancel(NoSale::SoldOut);
         }
         let line = self.book.get(tx, self.customer)?;
         let bought = wrapping_sum(line.unwrap_or(0), self.pieces);
         if !self.book.put(tx, self.customer, bought)? {
-            return tx.cancel();
+            return tx.cancel(NoSale::BookFull);
         }
         Ok(bought)
     }
@@ -54,6 +78,8 @@ struct Count {
 impl Action for Count {
     type Out = (i64, i64);
 
+    type Reason = Infallible;
+
     ghost does = { λ c. count c.stock c.book (pos 1) (pos 2) };
 
     ghost most = { λ _. 3 };
@@ -62,7 +88,7 @@ impl Action for Count {
         3
     }
 
-    fn run(&self, tx: &mut Tx<'_>) -> Result<(i64, i64), Stop> {
+    fn run(&self, tx: &mut Tx<'_>) -> Result<(i64, i64), Stop<Infallible>> {
         let left = self.stock.get(tx)?;
         let x = self.book.get(tx, 1)?;
         let y = self.book.get(tx, 2)?;
@@ -70,11 +96,14 @@ impl Action for Count {
     }
 }
 
+/// What a seller's sale led to: what the customer has bought so far, or why nothing was sold.
+pub type Sold = Result<Done<i64, NoSale>, TransactionError>;
+
 /// What a clerk's count led to: what is in stock, and what was sold.
-pub type Counted = Result<Done<(i64, i64)>, TransactionError>;
+pub type Counted = Result<Done<(i64, i64), Infallible>, TransactionError>;
 
 /// What the last transaction led to of somebody in the shop: a seller's sale, or a clerk's count.
-pub type Told = Either<Result<Done<i64>, TransactionError>, Counted>;
+pub type Told = Either<Sold, Counted>;
 
 /// What all told, first the sellers and then the clerks, and what all objects hold at the end.
 pub type Day = (Vec<Told>, State);

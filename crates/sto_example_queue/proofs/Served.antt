@@ -11,6 +11,7 @@ use Rattle.sto_library.specs.Vectors.{placed}
 use Rattle.sto_library.proofs.Branches.{counter, vector, at_two, on_state, or_cancel}
 use Rattle.sto_library.proofs.Calls.{Ends, counter_add_at, vector_push_at, vector_pop_none_at, vector_pop_some_at}
 use Rattle.sto_library.proofs.Totals.{total_last}
+use Rattle.sto_example_queue.specs.declared.NoTurn.TheVariants.{Full, TooMuch}
 use Rattle.sto_example_queue.specs.Line.{note, put, receive, take, objects, holding, IsServed}
 
 abbrev Kept : ℤ × State → Type 0
@@ -20,8 +21,8 @@ pub puts : {sent : CounterId} {line : VectorId} (amount : ℤ) → (sent.number 
 puts amount e = at_two (λ i j. Keeps objects IsServed Any (put (counter i) (vector j) amount)) e (λ st rises h.
     let last = total_last (placed h.waiting) (pos (length h.waiting), amount) in let all = h.all in
     on_state objects Kept (put (counter 0) (vector 2) amount) h.are
-    (vector_push_at objects Kept (vector 2) amount (or_cancel (note (counter 0) amount)) (holding h.sent h.received h.waiting) h.waiting (refl, refl) refl
-    (counter_add_at objects Kept (counter 0) amount (or_cancel (Gives amount)) (holding h.sent h.received (amount ∷ h.waiting)) (refl, refl) refl
+    (vector_push_at objects Kept (vector 2) amount (or_cancel Full (note (counter 0) amount)) (holding h.sent h.received h.waiting) h.waiting (refl, refl) refl
+    (counter_add_at objects Kept (counter 0) amount (or_cancel TooMuch (Gives amount)) (holding h.sent h.received (amount ∷ h.waiting)) (refl, refl) refl
     (tt, record { sent = h.sent +ℤ amount; received = h.received; waiting = amount ∷ h.waiting; are = refl; all = omega (arith, ints, all, last) }) tt) tt))
 
 -- of what waits, the last one is taken
@@ -30,7 +31,7 @@ takes_by sent received [] all = vector_pop_none_at objects Kept (vector 2) (rece
 takes_by sent received (x ∷ xs) all =
     let last = total_last (placed xs) (pos (length xs), x) in
     vector_pop_some_at objects Kept (vector 2) (receive (counter 1)) (holding sent received (x ∷ xs)) x xs (refl, refl) refl
-    (counter_add_at objects Kept (counter 1) x (or_cancel (Gives x)) (holding sent received xs) (refl, refl) refl
+    (counter_add_at objects Kept (counter 1) x (or_cancel TooMuch (Gives x)) (holding sent received xs) (refl, refl) refl
     (tt, record { sent = sent; received = received +ℤ x; waiting = xs; are = refl; all = omega (arith, ints, all, last) }) tt)
 
 pub takes : {received : CounterId} {line : VectorId} → (received.number ≡ 1) × (line.number ≡ 2) → Keeps objects IsServed Any (take received line)

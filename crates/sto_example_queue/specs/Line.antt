@@ -9,22 +9,24 @@ use Rattle.sto_action.specs.Progs.{Prog, Gives, Cancels}
 use Rattle.sto_action.specs.Steps.{counter_add, vector_push, vector_pop}
 use Rattle.sto_library.specs.Contents.{total}
 use Rattle.sto_library.specs.Vectors.{placed}
+use Rattle.sto_example_queue.specs.declared.NoTurn.{NoTurn}
+use Rattle.sto_example_queue.specs.declared.NoTurn.TheVariants.{Full, Empty, TooMuch}
 
 -- it adds an amount to what was counted, and gives it
-abbrev pub note : CounterId → ℤ → Prog ℤ
-note counted amount = counter_add counted amount (λ added. if added then Gives amount else Cancels)
+abbrev pub note : CounterId → ℤ → Prog NoTurn ℤ
+note counted amount = counter_add counted amount (λ added. if added then Gives amount else Cancels TooMuch)
 
 -- it puts an amount at the end of the line, where there is room, and notes it as sent
-abbrev pub put : CounterId → VectorId → ℤ → Prog ℤ
-put sent line amount = vector_push line amount (λ pushed. if pushed then note sent amount else Cancels)
+abbrev pub put : CounterId → VectorId → ℤ → Prog NoTurn ℤ
+put sent line amount = vector_push line amount (λ pushed. if pushed then note sent amount else Cancels Full)
 
 -- it notes what was taken as received, if something was
-abbrev pub receive : CounterId → Option ℤ → Prog ℤ
+abbrev pub receive : CounterId → Option ℤ → Prog NoTurn ℤ
 receive received (Some amount) = note received amount
-receive received None = Cancels
+receive received None = Cancels Empty
 
 -- it takes the amount at the end of the line, and notes it as received
-abbrev pub take : CounterId → VectorId → Prog ℤ
+abbrev pub take : CounterId → VectorId → Prog NoTurn ℤ
 take received line = vector_pop line (λ popped. receive received popped)
 
 -- the objects at the opening

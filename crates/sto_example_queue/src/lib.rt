@@ -10,6 +10,17 @@ use sto_library::{
     Action, CounterId, Either, Schema, State, Stop, StoreError, Times, Tx, VectorId,
 };
 
+/// Why an amount is not put or taken.
+#[derive(Clone, Copy, PartialEq, Eq, Debug)]
+pub enum NoTurn {
+    /// The line has no room.
+    Full,
+    /// Nothing waits in the line.
+    Empty,
+    /// No counter can count so much.
+    TooMuch,
+}
+
 /// Puts an amount at the end of the line, where there is room, and notes it as sent. It gives the amount.
 #[derive(Clone, Copy)]
 struct Put {
@@ -21,6 +32,8 @@ struct Put {
 impl Action for Put {
     type Out = i64;
 
+    type Reason = NoTurn;
+
     ghost does = { λ p. put p.sent p.line p.amount };
 
     ghost most = { λ _. 2 };
@@ -29,12 +42,12 @@ impl Action for Put {
         2
     }
 
-    fn run(&self, tx: &mut Tx<'_>) -> Result<i64, Stop> {
+    fn run(&self, tx: &mut Tx<'_>) -> Result<i64, Stop<NoTurn>> {
         if !self.line.push(tx, self.amount)? {
-            return tx.cancel();
+            return tx.cancel(NoTurn::Full);
         }
         if !self.sent.add(tx, self.amount)? {
-            return tx.cancel();
+            return tx.cancel(NoTurn::TooMuch);
         }
         Ok(self.amount)
     }
@@ -50,6 +63,8 @@ struct Take {
 impl Action for Take {
     type Out = i64;
 
+    type Reason = NoTurn;
+
     ghost does = { λ t. take t.received t.line };
 
     ghost most = { λ _. 2 };
@@ -58,12 +73,12 @@ impl Action for Take {
         2
     }
 
-    fn run(&self, tx: &mut Tx<'_>) -> Result<i64, Stop> {
+    fn run(&self, tx: &mut Tx<'_>) -> Result<i64, Stop<NoTurn>> {
         let Some(amount) = self.line.pop(tx)? else {
-            return tx.cancel();
+            return tx.cancel(NoTurn::Empty);
         };
         if !self.received.add(tx, amount)? {
-            return tx.cancel();
+            return tx.cancel(NoTurn::TooMuch);
         }
         Ok(amount)
     }

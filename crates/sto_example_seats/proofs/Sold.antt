@@ -14,6 +14,7 @@ use Rattle.sto_library.specs.Keeping.{IsKept, Any}
 use Rattle.sto_library.proofs.Branches.{counter, array, tree, either_way, where_so, or_cancel}
 use Rattle.sto_library.proofs.Calls.{Ends, HoldsAt, array_get_at, array_set_at, counter_add_at, counter_take_at, tree_get_at, tree_next_at, tree_put_at, tree_remove_at}
 use Rattle.sto_library.proofs.RowLaws.{all_with, all_without, all_at, counted_with}
+use Rattle.sto_example_seats.specs.declared.NoDeal.TheVariants.{NoSuchSeat, NotYours, LineFull, TillStuck, Gone}
 use Rattle.sto_example_seats.specs.Evening.{pay, sell, wait, by_owner, pass_on, by_line, by_holder, deed, objects, paid_by, IsGuest, AllGuests}
 
 -- the till, the hall and the line of a show, in states by what is in the till, its seats and who waits
@@ -54,10 +55,10 @@ module _ {till hall line : ℕ} {state : ℤ → (seats waiting : List Row) → 
       let more = handed owner guest is in let now = taken guest some in
       either_way objects Q (sell (counter till) (array hall) price seat guest) (wait (tree line) seat guest) here (int_eq owner (pos 0)) (λ none.
       let was = free owner none in
-      array_set_at objects Q (array hall) seat guest (or_cancel (pay (counter till) price)) here (show.hall_at money seats waiting) (show.hall_set money seats sold waiting) (λ there.
-      counter_add_at objects Q (counter till) price (or_cancel (Gives true)) (state money sold waiting) (show.till_at money sold waiting) (show.till_set money (money +ℤ price) sold waiting)
+      array_set_at objects Q (array hall) seat guest (or_cancel NoSuchSeat (pay (counter till) price)) here (show.hall_at money seats waiting) (show.hall_set money seats sold waiting) (λ there.
+      counter_add_at objects Q (counter till) price (or_cancel TillStuck (Gives true)) (state money sold waiting) (show.till_at money sold waiting) (show.till_set money (money +ℤ price) sold waiting)
       (tt, ok (money +ℤ price) sold waiting guests (omega (arith, ints, paid, more, was, now))) tt) tt)
-      (λ other. tree_put_at objects Q (tree line) ticket guest (or_cancel (Gives false)) here (show.line_at money seats waiting) (show.line_set money seats waiting longer)
+      (λ other. tree_put_at objects Q (tree line) ticket guest (or_cancel LineFull (Gives false)) here (show.line_at money seats waiting) (show.line_set money seats waiting longer)
       (tt, ok money seats longer (all_with (λ (r : Row). IsGuest r.1) waiting ticket guest guests some) paid) tt)
 
   passed : (owner ticket : ℤ) → value_at seats seat ≡ Some owner → owner ≡ guest → (o : Option ℤ) → value_at waiting ticket ≡ o
@@ -66,8 +67,8 @@ module _ {till hall line : ℕ} {state : ℤ → (seats waiting : List Row) → 
   passed owner ticket is mine (Some next) waits =
       let given = with_row seats seat next in let shorter = without waiting ticket in let more = handed owner next is in
       let was = ap (paid_by price) mine ∙ taken guest some in let now = taken next (all_at IsGuest waiting ticket guests waits) in
-      tree_remove_at objects Q (tree line) ticket (or_cancel (array_set (array hall) seat next (or_cancel (Gives true)))) here (show.line_at money seats waiting) (show.line_set money seats waiting shorter) (λ there.
-      array_set_at objects Q (array hall) seat next (or_cancel (Gives true)) (state money seats shorter) (show.hall_at money seats shorter) (show.hall_set money seats given shorter) (λ its.
+      tree_remove_at objects Q (tree line) ticket (or_cancel Gone (array_set (array hall) seat next (or_cancel NoSuchSeat (Gives true)))) here (show.line_at money seats waiting) (show.line_set money seats waiting shorter) (λ there.
+      array_set_at objects Q (array hall) seat next (or_cancel NoSuchSeat (Gives true)) (state money seats shorter) (show.hall_at money seats shorter) (show.hall_set money seats given shorter) (λ its.
       (tt, ok money given shorter (all_without (λ (r : Row). IsGuest r.1) waiting ticket guests) (omega (arith, ints, paid, more, was, now)))) tt) tt
 
   lined : (owner : ℤ) → value_at seats seat ≡ Some owner → owner ≡ guest → (o : Option ℤ) → Ends objects Q (by_line (counter till) (array hall) (tree line) price seat guest o) here
@@ -77,14 +78,14 @@ module _ {till hall line : ℕ} {state : ℤ → (seats waiting : List Row) → 
   lined owner is mine None =
       let empty = with_row seats seat (pos 0) in let less = handed owner (pos 0) is in
       let was = ap (paid_by price) mine ∙ taken guest some in let now = free (pos 0) refl in
-      array_set_at objects Q (array hall) seat (pos 0) (or_cancel (counter_take (counter till) price (or_cancel (Gives false)))) here (show.hall_at money seats waiting) (show.hall_set money seats empty waiting) (λ there.
-      counter_take_at objects Q (counter till) price (or_cancel (Gives false)) (state money empty waiting) (show.till_at money empty waiting) (show.till_set money (money -ℤ price) empty waiting)
+      array_set_at objects Q (array hall) seat (pos 0) (or_cancel NoSuchSeat (counter_take (counter till) price (or_cancel TillStuck (Gives false)))) here (show.hall_at money seats waiting) (show.hall_set money seats empty waiting) (λ there.
+      counter_take_at objects Q (counter till) price (or_cancel TillStuck (Gives false)) (state money empty waiting) (show.till_at money empty waiting) (show.till_set money (money -ℤ price) empty waiting)
       (λ enough. (tt, ok (money -ℤ price) empty waiting guests (omega (arith, ints, paid, less, was, now)))) tt) tt
 
   held : (o : Option ℤ) → value_at seats seat ≡ o → Ends objects Q (by_holder (counter till) (array hall) (tree line) price seat guest o) here
   held None is = tt
   held (Some owner) is =
-      where_so objects Q (tree_next (tree line) (pos 0) (by_line (counter till) (array hall) (tree line) price seat guest)) here (int_eq owner guest) (λ mine.
+      where_so objects Q NotYours (tree_next (tree line) (pos 0) (by_line (counter till) (array hall) (tree line) price seat guest)) here (int_eq owner guest) (λ mine.
       tree_next_at objects Q (tree line) (pos 0) (by_line (counter till) (array hall) (tree line) price seat guest) here (show.line_at money seats waiting)
       (lined owner is (same_of owner guest mine) (least_from waiting (pos 0))))
 

@@ -12,53 +12,55 @@ use Rattle.sto_action.specs.declared.handles.TreeId.{TreeId}
 use Rattle.sto_action.specs.Progs.{Prog, Gives, Cancels}
 use Rattle.sto_action.specs.Steps.{array_get, array_set, counter_add, counter_take, tree_put, tree_next, tree_get, tree_remove}
 use Rattle.sto_library.specs.Contents.{counted}
+use Rattle.sto_example_seats.specs.declared.NoDeal.{NoDeal}
+use Rattle.sto_example_seats.specs.declared.NoDeal.TheVariants.{NoSuchSeat, NotYours, LineFull, TillStuck, Gone}
 
--- it gives this where a call was done, and is given up where it was not
-abbrev pub done : Bool → Bool → Prog Bool
-done told was = if was then Gives told else Cancels
+-- it gives this where a call was done, and is given up for this reason where it was not
+abbrev pub done : NoDeal → Bool → Bool → Prog NoDeal Bool
+done reason told was = if was then Gives told else Cancels reason
 
 -- the price is in the till
-abbrev pub pay : CounterId → ℤ → Prog Bool
-pay till price = counter_add till price (done true)
+abbrev pub pay : CounterId → ℤ → Prog NoDeal Bool
+pay till price = counter_add till price (done TillStuck true)
 
 -- a seat is sold to a guest: the guest has it, and the price is in the till
-abbrev pub sell : CounterId → ArrayId → ℤ → ℤ → ℤ → Prog Bool
-sell till hall price seat guest = array_set hall seat guest (λ set. if set then pay till price else Cancels)
+abbrev pub sell : CounterId → ArrayId → ℤ → ℤ → ℤ → Prog NoDeal Bool
+sell till hall price seat guest = array_set hall seat guest (λ set. if set then pay till price else Cancels NoSuchSeat)
 
 -- a guest waits, with a ticket of its own for each seat
-abbrev pub wait : TreeId → ℤ → ℤ → Prog Bool
-wait line seat guest = tree_put line ((pos 100 *ℤ guest) +ℤ seat) guest (done false)
+abbrev pub wait : TreeId → ℤ → ℤ → Prog NoDeal Bool
+wait line seat guest = tree_put line ((pos 100 *ℤ guest) +ℤ seat) guest (done LineFull false)
 
 module _ (till : CounterId) (hall : ArrayId) (line : TreeId) (price seat guest : ℤ) where
   -- by who has the seat: where it is free it is sold, else the guest waits
-  abbrev pub by_owner : Option ℤ → Prog Bool
+  abbrev pub by_owner : Option ℤ → Prog NoDeal Bool
   by_owner (Some owner) = if int_eq owner (pos 0) then sell till hall price seat guest else wait line seat guest
-  by_owner None = Cancels
+  by_owner None = Cancels NoSuchSeat
 
   -- a guest asks for a seat; it tells whether it was sold
-  abbrev pub reserve : Prog Bool
+  abbrev pub reserve : Prog NoDeal Bool
   reserve = array_get hall seat by_owner
 
   -- the seat goes to whoever waits with this ticket, who pays for it what the other one gets back
-  abbrev pub pass_on : ℤ → Option ℤ → Prog Bool
-  pass_on ticket (Some next) = tree_remove line ticket (λ removed. if removed then array_set hall seat next (done true) else Cancels)
-  pass_on ticket None = Cancels
+  abbrev pub pass_on : ℤ → Option ℤ → Prog NoDeal Bool
+  pass_on ticket (Some next) = tree_remove line ticket (λ removed. if removed then array_set hall seat next (done NoSuchSeat true) else Cancels Gone)
+  pass_on ticket None = Cancels Gone
 
   -- by the first ticket: without one the seat is free, and its price is paid back
-  abbrev pub by_line : Option ℤ → Prog Bool
+  abbrev pub by_line : Option ℤ → Prog NoDeal Bool
   by_line (Some ticket) = tree_get line ticket (pass_on ticket)
-  by_line None = array_set hall seat (pos 0) (λ set. if set then counter_take till price (done false) else Cancels)
+  by_line None = array_set hall seat (pos 0) (λ set. if set then counter_take till price (done TillStuck false) else Cancels NoSuchSeat)
 
-  abbrev pub by_holder : Option ℤ → Prog Bool
-  by_holder (Some owner) = if int_eq owner guest then tree_next line (pos 0) by_line else Cancels
-  by_holder None = Cancels
+  abbrev pub by_holder : Option ℤ → Prog NoDeal Bool
+  by_holder (Some owner) = if int_eq owner guest then tree_next line (pos 0) by_line else Cancels NotYours
+  by_holder None = Cancels NoSuchSeat
 
   -- a guest gives a seat back; it tells whether another one has it now
-  abbrev pub give_back : Prog Bool
+  abbrev pub give_back : Prog NoDeal Bool
   give_back = array_get hall seat by_holder
 
 -- what a guest does about a seat: asks for it, or gives it back
-abbrev pub deed : CounterId → ArrayId → TreeId → ℤ → ℤ → Bool × ℕ → Prog Bool
+abbrev pub deed : CounterId → ArrayId → TreeId → ℤ → ℤ → Bool × ℕ → Prog NoDeal Bool
 deed till hall line price guest (true, seat) = reserve till hall line price (pos seat) guest
 deed till hall line price guest (false, seat) = give_back till hall line price (pos seat) guest
 

@@ -17,6 +17,21 @@ const OPERA: i64 = 90;
 
 const PLAY: i64 = 25;
 
+/// Why nothing is done about a seat.
+#[derive(Clone, Copy, PartialEq, Eq, Debug)]
+pub enum NoDeal {
+    /// The hall has no such seat.
+    NoSuchSeat,
+    /// The seat is not the guest's.
+    NotYours,
+    /// The waiting list has no room.
+    LineFull,
+    /// The till cannot hold the sum, or has less than is paid back.
+    TillStuck,
+    /// Whoever waits is not on the list any more.
+    Gone,
+}
+
 /// A show: its seats, each with the guest who has it or 0, those who wait, by their tickets, and what a seat costs.
 #[derive(Clone, Copy)]
 struct Show {
@@ -37,6 +52,8 @@ struct Reserve {
 impl Action for Reserve {
     type Out = bool;
 
+    type Reason = NoDeal;
+
     ghost does = { λ r. reserve r.till r.show.hall r.show.line r.show.price (pos r.seat) (pos r.guest) };
 
     ghost most = { λ _. 5 };
@@ -45,24 +62,24 @@ impl Action for Reserve {
         5
     }
 
-    fn run(&self, tx: &mut Tx<'_>) -> Result<bool, Stop> {
+    fn run(&self, tx: &mut Tx<'_>) -> Result<bool, Stop<NoDeal>> {
         let Reserve { till, show, .. } = *self;
         let seat = i64::from(self.seat);
         let guest = i64::from(self.guest);
         let Some(owner) = show.hall.get(tx, seat)? else {
-            return tx.cancel();
+            return tx.cancel(NoDeal::NoSuchSeat);
         };
         if owner != 0 {
             if !show.line.put(tx, 100 * guest + seat, guest)? {
-                return tx.cancel();
+                return tx.cancel(NoDeal::LineFull);
             }
             return Ok(false);
         }
         if !show.hall.set(tx, seat, guest)? {
-            return tx.cancel();
+            return tx.cancel(NoDeal::NoSuchSeat);
         }
         if !till.add(tx, show.price)? {
-            return tx.cancel();
+            return tx.cancel(NoDeal::TillStuck);
         }
         Ok(true)
     }
@@ -80,6 +97,8 @@ struct GiveBack {
 impl Action for GiveBack {
     type Out = bool;
 
+    type Reason = NoDeal;
+
     ghost does = { λ g. give_back g.till g.show.hall g.show.line g.show.price (pos g.seat) (pos g.guest) };
 
     ghost most = { λ _. 5 };
@@ -88,32 +107,32 @@ impl Action for GiveBack {
         5
     }
 
-    fn run(&self, tx: &mut Tx<'_>) -> Result<bool, Stop> {
+    fn run(&self, tx: &mut Tx<'_>) -> Result<bool, Stop<NoDeal>> {
         let GiveBack { till, show, .. } = *self;
         let seat = i64::from(self.seat);
         let Some(owner) = show.hall.get(tx, seat)? else {
-            return tx.cancel();
+            return tx.cancel(NoDeal::NoSuchSeat);
         };
         if owner != i64::from(self.guest) {
-            return tx.cancel();
+            return tx.cancel(NoDeal::NotYours);
         }
         let Some(ticket) = show.line.next(tx, 0)? else {
             if !show.hall.set(tx, seat, 0)? {
-                return tx.cancel();
+                return tx.cancel(NoDeal::NoSuchSeat);
             }
             if !till.take(tx, show.price)? {
-                return tx.cancel();
+                return tx.cancel(NoDeal::TillStuck);
             }
             return Ok(false);
         };
         let Some(next) = show.line.get(tx, ticket)? else {
-            return tx.cancel();
+            return tx.cancel(NoDeal::Gone);
         };
         if !show.line.remove(tx, ticket)? {
-            return tx.cancel();
+            return tx.cancel(NoDeal::Gone);
         }
         if !show.hall.set(tx, seat, next)? {
-            return tx.cancel();
+            return tx.cancel(NoDeal::NoSuchSeat);
         }
         Ok(true)
     }

@@ -24,9 +24,9 @@ use Rattle.sto_history.specs.Done.{HasDone, HaveHistory}
 use Rattle.sto_history.specs.Keeping.{KeepsState, RanWithin, HasKept, IsKeeping, HaveKept}
 use Rattle.sto_history.proofs.Keeping.{new_kept, kept_on, one_kept, none_kept, others_kept, first_all, second_all, kept_by_all}
 use Rattle.sto_action.specs.Shortened.{short_of}
-use Rattle.sto_action.specs.Progs.{Prog, IsGiven}
-use Rattle.sto_action.specs.Alone.{run_of}
-use Rattle.sto_action.proofs.Alone.{run_gives, run_commits}
+use Rattle.sto_action.specs.Progs.{Prog, IsGiven, IsCancelled}
+use Rattle.sto_action.specs.Alone.{run_of, reason_of}
+use Rattle.sto_action.proofs.Alone.{run_gives, run_cancels, run_commits}
 use Rattle.sto_shared_store.specs.declared.store.Store.{Store as Words}
 use Rattle.sto_action.specs.declared.outcome.Done.{Done}
 use Rattle.sto_action.specs.declared.outcome.Done.TheVariants.{Gave, Cancelled}
@@ -35,7 +35,7 @@ use Rattle.sto_action.specs.Atomic.{steps_of}
 use Rattle.sto_library.specs.Values.{Working, Stored}
 use Rattle.sto_library.specs.Tasks.{IsDone, TaskDone, tasks_of, outs_of, views_before, views_after, AreAllDone}
 use Rattle.sto_library.specs.Doings.{HasRunOnly, IsLedBy, HasGiven}
-use Rattle.sto_library.specs.Keeping.{Keeps, IsKept, IfGave}
+use Rattle.sto_library.specs.Keeping.{Keeps, Excuses, IsKept, IfGave, IfTold}
 use Rattle.sto_library.proofs.Doings.{RanSome}
 use Rattle.sto_library.proofs.Rising.{run_rises}
 
@@ -51,20 +51,20 @@ pub record HoldsRising (Inv : State → Type 0) (state : State) : Type 0 where
   pub holds : Inv state
 
 -- the same as `Keeps`, of sequential objects, for an invariant that says itself that the keys rise
-abbrev KeepsAlone : {A : Type 0} → List SequentialObject → (State → Type 0) → (A → Type 0) → Prog A → Type 0
+abbrev KeepsAlone : {E A : Type 0} → List SequentialObject → (State → Type 0) → (A → Type 0) → Prog E A → Type 0
 KeepsAlone ms Inv Good p = (st : State) → Inv st → IfSome (run_of ms p st) (IsKept Inv Good)
 
 rises_too : {A : Type 0} (Inv : State → Type 0) (Good : A → Type 0) (o : Option (A × State)) → IfSome o (λ r. AllRise r.1) → IfSome o (IsKept Inv Good) → IfSome o (IsKept (HoldsRising Inv) Good)
 rises_too Inv Good None h k = tt
 rises_too Inv Good (Some r) h k = (k.0, record { rises = h; holds = k.1 })
 
-alone_on : {A : Type 0} (ms : List SequentialObject) (Inv : State → Type 0) (Good : A → Type 0) (shapes : List Shape) (p : Prog A) → ms ≡ machines_of shapes → Keeps shapes Inv Good p
+alone_on : {E A : Type 0} (ms : List SequentialObject) (Inv : State → Type 0) (Good : A → Type 0) (shapes : List Shape) (p : Prog E A) → ms ≡ machines_of shapes → Keeps shapes Inv Good p
     → KeepsAlone ms (HoldsRising Inv) Good p
 alone_on ms Inv Good shapes p same law =
     subst (λ (l : List SequentialObject). KeepsAlone l (HoldsRising Inv) Good p) (sym same)
     (λ st h. rises_too Inv Good (run_of (machines_of shapes) p st) (run_rises shapes p st h.rises) (law st h.rises h.holds))
 
-module _ {A : Type 0} (ms : List SequentialObject) (Inv : State → Type 0) (Good : A → Type 0) (shapes : List Shape) (most : ℕ) (p : Prog A) (law : KeepsAlone ms Inv Good p) where
+module _ {E A : Type 0} (ms : List SequentialObject) (Inv : State → Type 0) (Good : A → Type 0) (shapes : List Shape) (most : ℕ) (p : Prog E A) (law : KeepsAlone ms Inv Good p) where
   -- what it gives on a state with the invariant
   gives_on : (t : Transaction) → t.steps ≡ steps_of shapes most p → (st : State) (a : A) → Inv st → IsRun ms t.steps st t.replies → IsGiven p (map short_of t.replies) a
       → Good a × Inv (state_along ms t.steps st t.replies)
@@ -82,8 +82,23 @@ module _ {A : Type 0} (ms : List SequentialObject) (Inv : State → Type 0) (Goo
   pub code_good : (t : Transaction) → t.steps ≡ steps_of shapes most p → (a : A) → RanWithin ms Inv t → IsGiven p (map short_of t.replies) a → Good a
   code_good t is a ran gave = (gives_on t is ran.state a ran.holds ran.runs gave).0
 
+-- the same as `Excuses`, of sequential objects
+abbrev ExcusesAlone : {E A : Type 0} → List SequentialObject → (State → Type 0) → (E → Type 0) → Prog E A → Type 0
+ExcusesAlone ms Inv Why p = (st : State) → Inv st → IfSome (reason_of ms p st) Why
+
+excuses_on : {E A : Type 0} (ms : List SequentialObject) (Inv : State → Type 0) (Why : E → Type 0) (shapes : List Shape) (p : Prog E A) → ms ≡ machines_of shapes → Excuses shapes Inv Why p
+    → ExcusesAlone ms (HoldsRising Inv) Why p
+excuses_on ms Inv Why shapes p same law = subst (λ (l : List SequentialObject). ExcusesAlone l (HoldsRising Inv) Why p) (sym same) (λ st h. law st h.rises h.holds)
+
+-- why it was given up, on a state with the invariant
+code_why : {E A : Type 0} (ms : List SequentialObject) (Inv : State → Type 0) (Why : E → Type 0) (shapes : List Shape) (most : ℕ) (p : Prog E A) → ExcusesAlone ms Inv Why p
+    → (t : Transaction) → t.steps ≡ steps_of shapes most p → (e : E) → RanWithin ms Inv t → IsCancelled p (map short_of t.replies) e → Why e
+code_why {E} ms Inv Why shapes most p law t is e ran gave =
+    let own = subst (λ f. IsRun ms f ran.state t.replies) is ran.runs in
+    subst (λ (r : Option E). IfSome r Why) (run_cancels ms shapes most p ran.state t.replies e own gave) (law ran.state ran.holds)
+
 -- a worker that ran code of a family which keeps the invariant, as a task by which what it knew went from the view v to the view w
-module _ {T I A : Type 0} (t : OfType T) (Inv : State → Type 0) (Good : A → Type 0) (words : Words T) (v w : View) (most : ℕ) (p : I → Prog A)
+module _ {T I E A : Type 0} (t : OfType T) (Inv : State → Type 0) (Good : A → Type 0) (words : Words T) (v w : View) (most : ℕ) (p : I → Prog E A)
     (law : (i : I) → KeepsAlone (t.meaning words.ty).machines Inv Good (p i)) (before after : Working T) (same : before.words ≡ words) (from : before.seat.me.0.view ≡ v)
     (to : after.seat.me.0.view ≡ w) (ran : HasRunOnly t before after most p) where
   abbrev own : List SequentialObject
@@ -106,17 +121,27 @@ pub record TaskKeeps {T Out : Type 0} (t : OfType T) (words : Words T) (Inv : St
   pub keeping : (shapes : List Shape) (v w : View) (out : Out) → IsDone words shapes v w gives out → IsKeeping (t.meaning words.ty) Inv v w (Good out)
 
 -- what one of the transactions gave, which were of this code
-given_good : {T A : Type 0} (ms : List SequentialObject) (Inv : State → Type 0) (Good : A → Type 0) (most : ℕ) (p : Prog A) (before : Working T) (did : List Transaction) → KeepsAlone ms Inv Good p
-    → All (RanSome before.shapes most (λ (once : Unit {0}). p)) did → (o : Result (Done A) TransactionError) → IsLedBy before did p o → All (RanWithin ms Inv) did → IfGave Good o
+given_good : {T E A : Type 0} (ms : List SequentialObject) (Inv : State → Type 0) (Good : A → Type 0) (most : ℕ) (p : Prog E A) (before : Working T) (did : List Transaction) → KeepsAlone ms Inv Good p
+    → All (RanSome before.shapes most (λ (once : Unit {0}). p)) did → (o : Result (Done A E) TransactionError) → IsLedBy before did p o → All (RanWithin ms Inv) did → IfGave Good o
 given_good ms Inv Good most p before did law each (Ok (Gave value)) k ran =
     code_good ms Inv Good before.shapes most p law k.transaction (all_among (RanSome before.shapes most (λ (once : Unit {0}). p)) did k.transaction k.there each).1 value
     (all_among (RanWithin ms Inv) did k.transaction k.there ran) k.said
-given_good ms Inv Good most p before did law each (Ok Cancelled) k ran = tt
+given_good ms Inv Good most p before did law each (Ok (Cancelled reason)) k ran = tt
 given_good ms Inv Good most p before did law each (Err error) k ran = tt
 
-module _ {T A : Type 0} {t : OfType T} {words : Words T} {Inv : State → Type 0} (shapes : List Shape) (Good : A → Type 0) (same : (t.meaning words.ty).machines ≡ machines_of shapes) where
+-- the same, and the reason for which it was given up
+given_told : {T E A : Type 0} (ms : List SequentialObject) (Inv : State → Type 0) (Good : A → Type 0) (Why : E → Type 0) (most : ℕ) (p : Prog E A) (before : Working T) (did : List Transaction)
+    → KeepsAlone ms Inv Good p → ExcusesAlone ms Inv Why p → All (RanSome before.shapes most (λ (once : Unit {0}). p)) did → (o : Result (Done A E) TransactionError) → IsLedBy before did p o
+    → All (RanWithin ms Inv) did → IfTold Good Why o
+given_told ms Inv Good Why most p before did law why each (Ok (Gave value)) k ran = given_good ms Inv Good most p before did law each (Ok (Gave value)) k ran
+given_told ms Inv Good Why most p before did law why each (Ok (Cancelled reason)) k ran =
+    code_why ms Inv Why before.shapes most p why k.transaction (all_among (RanSome before.shapes most (λ (once : Unit {0}). p)) did k.transaction k.there each).1 reason
+    (all_among (RanWithin ms Inv) did k.transaction k.there ran) k.said
+given_told ms Inv Good Why most p before did law why each (Err error) k ran = tt
+
+module _ {T E A : Type 0} {t : OfType T} {words : Words T} {Inv : State → Type 0} (shapes : List Shape) (Good : A → Type 0) (same : (t.meaning words.ty).machines ≡ machines_of shapes) where
   -- a task that runs code of a family which keeps the invariant
-  pub runs_keep : {I Out : Type 0} {most : ℕ} {p : I → Prog A} → ((i : I) → Keeps shapes Inv Good (p i))
+  pub runs_keep : {I Out : Type 0} {most : ℕ} {p : I → Prog E A} → ((i : I) → Keeps shapes Inv Good (p i))
       → TaskKeeps {Out = Out} t words (HoldsRising Inv) (λ before after out. HasRunOnly t before after most p) (λ out. Unit {0})
   runs_keep {most = most} {p = p} law = record {
     keeping = λ own_shapes v w out h.
@@ -124,12 +149,22 @@ module _ {T A : Type 0} {t : OfType T} {words : Words T} {Inv : State → Type 0
   }
 
   -- one that runs one code, so many times
-  pub times_keep : {times most : ℕ} {p : Prog A} → Keeps shapes Inv Good p → TaskKeeps t words (HoldsRising Inv) (λ before after o. HasGiven t before after times most p o) (IfGave Good)
+  pub times_keep : {times most : ℕ} {p : Prog E A} → Keeps shapes Inv Good p → TaskKeeps t words (HoldsRising Inv) (λ before after o. HasGiven t before after times most p o) (IfGave Good)
   times_keep {most = most} {p = p} law = record {
     keeping = λ own_shapes v w out h. (
         let ms = (t.meaning words.ty).machines in let own = alone_on ms Inv Good shapes p same law in
         is_keeping t (HoldsRising Inv) Good words v w most (λ (once : Unit {0}). p) (λ once. own) h.before h.after h.same_words h.from h.to h.gave.repeated
         (given_good ms (HoldsRising Inv) Good most p h.before h.gave.repeated.did own h.gave.repeated.each out h.gave.led));
+  }
+
+  -- the same, where it gives the transaction up for such reasons
+  pub times_tell : {times most : ℕ} {p : Prog E A} (Why : E → Type 0) → Keeps shapes Inv Good p → Excuses shapes Inv Why p
+      → TaskKeeps t words (HoldsRising Inv) (λ before after o. HasGiven t before after times most p o) (IfTold Good Why)
+  times_tell {most = most} {p = p} Why law why = record {
+    keeping = λ own_shapes v w out h. (
+        let ms = (t.meaning words.ty).machines in let own = alone_on ms Inv Good shapes p same law in
+        is_keeping t (HoldsRising Inv) Good words v w most (λ (once : Unit {0}). p) (λ once. own) h.before h.after h.same_words h.from h.to h.gave.repeated
+        (given_told ms (HoldsRising Inv) Good Why most p h.before h.gave.repeated.did own (excuses_on ms Inv Why shapes p same why) h.gave.repeated.each out h.gave.led));
   }
 
 -- the same task, as it was done

@@ -19,8 +19,8 @@ changed_rises (shape ∷ shapes) zero call (rows ∷ st) h = (effect_of-rises sh
 changed_rises (shape ∷ shapes) (suc n) call (rows ∷ st) h = (h.0, changed_rises shapes n call st h.1)
 
 -- code leaves such a state
-pub run_rises : {A : Type 0} (shapes : List Shape) (p : Prog A) (st : State) → AllRise st → IfSome (run_of (machines_of shapes) p st) (λ r. AllRise r.1)
+pub run_rises : {E A : Type 0} (shapes : List Shape) (p : Prog E A) (st : State) → AllRise st → IfSome (run_of (machines_of shapes) p st) (λ r. AllRise r.1)
 run_rises shapes (Asks call k) st h =
     run_rises shapes (k (short_of (reply_to (machines_of shapes) call st))) (state_after (machines_of shapes) call st) (changed_rises shapes call.object call st h)
 run_rises shapes (Gives a) st h = h
-run_rises shapes Cancels st h = tt
+run_rises shapes (Cancels e) st h = tt

@@ -17,7 +17,7 @@ use Rattle.sto_action.specs.Atomic.{steps_of, HasSeen, HaveAborted}
 use Rattle.sto_library.specs.Values.{Working}
 
 -- from one time to a later one the worker ran code of this family again and again, each time another one, and nothing else
-pub record HasRunOnly {T I A : Type 0} (t : OfType T) (before after : Working T) (most : ℕ) (p : I → Prog A) : Type 0 where
+pub record HasRunOnly {T I E A : Type 0} (t : OfType T) (before after : Working T) (most : ℕ) (p : I → Prog E A) : Type 0 where
   pub words : after.words ≡ before.words
   pub shapes : after.shapes ≡ before.shapes
   pub did : List Transaction
@@ -25,7 +25,7 @@ pub record HasRunOnly {T I A : Type 0} (t : OfType T) (before after : Working T)
   pub each : All (λ x. (i : I) × (x.steps ≡ steps_of before.shapes most (p i))) did
 
 -- it ran this code, some number of times, and nothing else
-abbrev pub HasRepeated : {T A : Type 0} → OfType T → (before after : Working T) → ℕ → Prog A → Type 0
+abbrev pub HasRepeated : {T E A : Type 0} → OfType T → (before after : Working T) → ℕ → Prog E A → Type 0
 HasRepeated t before after most p = HasRunOnly t before after most (λ (once : Unit {0}). p)
 
 -- one of the transactions, which stands after all that the worker had seen before, heard replies of which this is so
@@ -36,23 +36,23 @@ pub record HasHeard {T : Type 0} (before : Working T) (did : List Transaction) (
   pub said : says (map short_of transaction.replies)
 
 -- one of the transactions, which were of this code, led to this
-abbrev pub IsLedBy : {T A : Type 0} → Working T → List Transaction → Prog A → Result (Done A) TransactionError → Type 0
+abbrev pub IsLedBy : {T E A : Type 0} → Working T → List Transaction → Prog E A → Result (Done A E) TransactionError → Type 0
 IsLedBy before did p (Ok (Gave value)) = HasHeard before did (λ hs. IsGiven p hs value)
-IsLedBy before did p (Ok Cancelled) = HasHeard before did (λ hs. IsCancelled p hs)
+IsLedBy before did p (Ok (Cancelled reason)) = HasHeard before did (λ hs. IsCancelled p hs reason)
 IsLedBy before did p (Err (Refused call)) = HasHeard before did (λ hs. IsAsked p hs call)
 IsLedBy before did p (Err Busy) = Unit {0}
 IsLedBy before did p (Err Worn) = Unit {0}
 IsLedBy before did p (Err NoMemory) = Unit {0}
 
 -- the worker ran this code alone, at most so many times, and so many where none of them was in vain; and one of the runs led to this
-pub record HasGiven {T A : Type 0} (t : OfType T) (before after : Working T) (times most : ℕ) (p : Prog A) (outcome : Result (Done A) TransactionError) : Type 0 where
+pub record HasGiven {T E A : Type 0} (t : OfType T) (before after : Working T) (times most : ℕ) (p : Prog E A) (outcome : Result (Done A E) TransactionError) : Type 0 where
   pub repeated : HasRepeated t before after most p
   pub at_most : length repeated.did ≤ times
   pub each_time : OnOk outcome (times ≤ length repeated.did)
   pub led : IsLedBy before repeated.did p outcome
 
 -- why it was not run to its end, where it had so many tries: each was made and aborted; or fewer were, and no attempt is left to the worker
-abbrev pub HasCause : {T A : Type 0} → (before after : Working T) → (tries : ℕ) → Result (Done A) TransactionError → Type 0
+abbrev pub HasCause : {T E A : Type 0} → (before after : Working T) → (tries : ℕ) → Result (Done A E) TransactionError → Type 0
 HasCause before after tries (Err Busy) = HaveAborted before.seat.me.0.view after.seat.me.0.view tries
 HasCause before after tries (Err Worn) = (after.left ≡ 0) × ((many : ℕ) × (many < tries) × HaveAborted before.seat.me.0.view after.seat.me.0.view many)
 HasCause before after tries (Err NoMemory) = Unit {0}

@@ -20,18 +20,18 @@ pub record IsOneDone {T Out : Type 0} (old new : Stored T) (gives : Working T �
   pub are : new.views ≡ others ++ to ∷ []
   pub done : IsDone old.words old.shapes from to gives out
 
-module _ {T A : Type 0} (t : OfType T) (old new : Stored T) (most : ℕ) (p : Prog A) where
+module _ {T E A : Type 0} (t : OfType T) (old new : Stored T) (most : ℕ) (p : Prog E A) where
   -- a worker ran this code and nothing else, and one of the runs led to this; where it was not run to its end, that has its cause
-  abbrev pub IsLookOf : Result (Done A) TransactionError → Type 0
+  abbrev pub IsLookOf : Result (Done A E) TransactionError → Type 0
   IsLookOf outcome = IsOneDone old new (λ before after o. HasGiven t before after 1 most p o × HasCause before after (2 ^ 16) o) outcome
 
   -- what a look answers; where no worker rests, the store is as it was
-  abbrev pub HasLooked : Result (Done A) LookError → Type 0
+  abbrev pub HasLooked : Result (Done A E) LookError → Type 0
   HasLooked (Ok done) = IsLookOf (Ok done)
   HasLooked (Err (look_error.Transaction error)) = IsLookOf (Err error)
   HasLooked (Err look_error.NoWorker) = (old.views ≡ []) × (new ≡ old)
 
 -- what a look answers by what its transaction led to
-abbrev pub looked_by : {A : Type 0} → Result (Done A) TransactionError → Result (Done A) LookError
+abbrev pub looked_by : {E A : Type 0} → Result (Done A E) TransactionError → Result (Done A E) LookError
 looked_by (Ok done) = Ok done
 looked_by (Err error) = Err (look_error.Transaction error)

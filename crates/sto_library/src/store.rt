@@ -71,7 +71,7 @@ pub enum LookError {
 }
 
 // What a worker gave of which a look was asked, which rests again.
-type Looked<T, O> = (CountedRest<T>, Result<Done<O>, TransactionError>);
+type Looked<T, O, E> = (CountedRest<T>, Result<Done<O, E>, TransactionError>);
 
 // Has a worker run code as one transaction.
 fn look_by<T: TxType, K: Action>(
@@ -80,9 +80,10 @@ fn look_by<T: TxType, K: Action>(
     shapes: &Shapes,
     worker: CountedRest<T>,
     code: &K,
-) -> Looked<T, K::Out>
+) -> Looked<T, K::Out, K::Reason>
 where
     K::Out: Drop,
+    K::Reason: Drop,
     requires takes { TakeCalls T.TxType words.now shapes.now.items }
     requires serves { Serves T.TxType words.now worker.rest.seat }
     ensures serves { Serves T.TxType words.now result.0.rest.seat }
@@ -96,7 +97,9 @@ where
 }
 
 // What a look answers by what its transaction led to.
-fn looked<O: Drop>(told: Result<Done<O>, TransactionError>) -> Result<Done<O>, LookError>
+fn looked<O: Drop, E: Drop>(
+    told: Result<Done<O, E>, TransactionError>,
+) -> Result<Done<O, E>, LookError>
     ensures { result ≡ looked_by told }
 {
     match told {
@@ -151,9 +154,14 @@ impl<T: TxType> SharedStore<T> {
     ///
     /// What it gives is told as of `StoreWorker::run`: it is that of one state of all objects, after all that this worker had seen.
     /// `Snapshot` is such code. Code that writes is taken, too.
-    pub fn look<K: Action>(&mut self, alloc: Global, code: &K) -> Result<Done<K::Out>, LookError>
+    pub fn look<K: Action>(
+        &mut self,
+        alloc: Global,
+        code: &K,
+    ) -> Result<Done<K::Out, K::Reason>, LookError>
     where
         K::Out: Drop,
+        K::Reason: Drop,
         ensures words { (self.new.words ≡ self.old.words) × (self.new.shapes ≡ self.old.shapes) }
         ensures looked { HasLooked T.TxType self.old self.new (K.most code.now) (K.does code.now) result }
     {

@@ -15,12 +15,16 @@ pub struct Times<K>(pub u32, pub K);
 impl<T: TxType, K: Action> Task<T> for Times<K>
 where
     K::Out: Drop,
+    K::Reason: Drop,
 {
-    type Out = Result<Done<K::Out>, TransactionError>;
+    type Out = Result<Done<K::Out, K::Reason>, TransactionError>;
 
     ghost gives = { λ r before after told. HasGiven T.TxType before after (max r.0 1) (K.most r.1) (K.does r.1) told };
 
-    fn work(&self, worker: &mut StoreWorker<'_, T>) -> Result<Done<K::Out>, TransactionError> {
+    fn work(
+        &self,
+        worker: &mut StoreWorker<'_, T>,
+    ) -> Result<Done<K::Out, K::Reason>, TransactionError> {
         for _turn in 1..self.0 {
             let told = worker.run(&self.1);
             if told.is_err() {

@@ -69,9 +69,10 @@ impl<'s, T: TxType> StoreWorker<'s, T> {
     /// The value is that of the code run alone on the contents right before the transaction's ticket, or of a transaction that only
     /// reads, on those of the time as of which it read; after all that this worker had seen. On each error nothing took effect, and the
     /// worker can go on. Whatever happened, the worker ran this code and nothing else (clause `given`).
-    pub fn run<K: Action>(&mut self, code: &K) -> Result<Done<K::Out>, TransactionError>
+    pub fn run<K: Action>(&mut self, code: &K) -> Result<Done<K::Out, K::Reason>, TransactionError>
     where
         K::Out: Drop,
+        K::Reason: Drop,
         ensures led { HasLed (T.meaning self.old.words.ty) self.old.seat.me.0.view self.new.seat.me.0.view (2 ^ 16) self.new.left
             self.old.shapes (K.most code.now) (K.does code.now) result }
         ensures given { HasGiven T.TxType self.old self.new 1 (K.most code.now) (K.does code.now) result }
@@ -88,9 +89,10 @@ impl<'s, T: TxType> StoreWorker<'s, T> {
         tries: u32,
         watch: &mut W,
         code: &K,
-    ) -> Result<Done<K::Out>, TransactionError>
+    ) -> Result<Done<K::Out, K::Reason>, TransactionError>
     where
         K::Out: Drop,
+        K::Reason: Drop,
         ensures led { HasLed (T.meaning self.old.words.ty) self.old.seat.me.0.view self.new.seat.me.0.view tries self.new.left
             self.old.shapes (K.most code.now) (K.does code.now) result }
         ensures given { HasGiven T.TxType self.old self.new 1 (K.most code.now) (K.does code.now) result }
@@ -107,9 +109,10 @@ impl<'s, T: TxType> StoreWorker<'s, T> {
         tries: u32,
         watch: &mut W,
         code: &K,
-    ) -> Result<Done<K::Out>, TransactionError>
+    ) -> Result<Done<K::Out, K::Reason>, TransactionError>
     where
         K::Out: Drop,
+        K::Reason: Drop,
         ensures led { HasLed (T.meaning self.old.words.ty) self.old.seat.me.0.view self.new.seat.me.0.view tries self.new.left
             self.old.shapes (K.most code.now) (K.does code.now) result }
         ensures grows { Grows self.old.seat.me.0.view self.new.seat.me.0.view }

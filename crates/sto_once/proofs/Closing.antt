@@ -5,7 +5,7 @@ use Rattle.sto_part.specs.declared.NoMemory.{NoMemory}
 use Rattle.sto_model.specs.PlainReplies.{PlainReply}
 use Rattle.sto_model.specs.Run.{Behaviour}
 use Rattle.sto_model.specs.declared.call.Call.{Call}
-use Rattle.sto_model.specs.declared.run.End.TheVariants as E
+use Rattle.sto_model.specs.declared.run.End.TheVariants as script_end
 use Rattle.sto_model.specs.declared.shape.Shape.{Shape}
 use Rattle.sto_type.specs.Meaning.{Meaning}
 use Rattle.sto_type.specs.Traits.{OfType}
@@ -47,7 +47,7 @@ seen_known v n (inr (inl h)) = inr (inl (record { entry = h.entry; there = h.the
 seen_known v n (inr (inr h)) = inr (inr h)
 
 -- a record of a script that the tree agrees with tells of the tree
-pub tried_atomic : {A : Type 0} (m : Meaning) (v w : View) (f : Behaviour) (place : TransactionPlace) (r : Record) (shapes : List Shape) (most : ℕ) (p : Prog A) (says : List ShortReply → Type 0)
+pub tried_atomic : {E A : Type 0} (m : Meaning) (v w : View) (f : Behaviour) (place : TransactionPlace) (r : Record) (shapes : List Shape) (most : ℕ) (p : Prog E A) (says : List ShortReply → Type 0)
     → HasTried m v w f place r → is_abort r.verdict ≡ false → Agree f (steps_of shapes most p) r.replies → says (map short_of r.replies) → IsAtomic m v w shapes most p says
 tried_atomic m v w f place r shapes most p says h ended agree said = record {
   replies = r.replies;
@@ -72,15 +72,15 @@ tried_aborted m v w f place r h abort = record {
   found = (abort, subst (λ (n : ℕ). IsFound w n r.verdict) h.starts h.found, tt);
 }
 
-module _ {T C A : Type 0} (t : OfType T) (k : OverKey T C) (p : Prog A) (passes : ℕ) (w : View) where
+module _ {T C E A : Type 0} (t : OfType T) (k : OverKey T C) (p : Prog E A) (passes : ℕ) (w : View) where
   -- the record of an end, at any place
   abbrev EndedBy : Behaviour → FinishedAttempt AskedCalls → Type 0
   EndedBy f e = HasEnded t.meaning t.valid t.sizes script_in next_of left_of MayAskOf passes k.ty f e k.begun w
 
-  abbrev Once : Result (Option (Result A Halt)) NoMemory → Type 0
+  abbrev Once : Result (Option (Result A (Halt E))) NoMemory → Type 0
   Once r = HasTriedOnce (t.meaning k.ty) (t.sizes k.ty) passes k.begun w k.shapes p r
 
-  ended_once : (f : Behaviour) (e : FinishedAttempt AskedCalls) (r : Result (Option (Result A Halt)) NoMemory) → EndedBy f e → Says (t.meaning k.ty) k.begun w k.shapes p r → (passes ≡ 1 → IfOk r IsSome) → Once r
+  ended_once : (f : Behaviour) (e : FinishedAttempt AskedCalls) (r : Result (Option (Result A (Halt E))) NoMemory) → EndedBy f e → Says (t.meaning k.ty) k.begun w k.shapes p r → (passes ≡ 1 → IfOk r IsSome) → Once r
   ended_once f e r h says alone = record { rests = h.rests; draws = (h.tried (0, 1)).draws; grows = (h.tried (0, 1)).grows; says = says; alone = alone }
 
   pub aborted_once : (f : Behaviour) (e : FinishedAttempt AskedCalls) → EndedBy f e → is_abort (verdict e.verdict) ≡ true → Once (Ok None)
@@ -99,40 +99,40 @@ module _ {T C A : Type 0} (t : OfType T) (k : OverKey T C) (p : Prog A) (passes 
       → is_abort (verdict e.verdict) ≡ false → Once (Ok (Some (Ok a)))
   committed_once a l v s e h ended =
       let calls = s.0 in let rs = s.1 in
-      ended_once (script_of calls E.Commit) e (Ok (Some (Ok a))) h.ended
-      (λ most large. tried_atomic (t.meaning k.ty) k.begun w (script_of calls E.Commit) (0, 1) _ k.shapes most p (λ hs. IsGiven p hs a) (h.ended.tried (0, 1)) ended
-      (subst (Agree (script_of calls E.Commit) (steps_of k.shapes most p)) (sym h.replies) (gave_agree k.shapes most p calls rs a s.2.all (few_calls calls rs l v most s.2 large) s.3 s.4))
+      ended_once (script_of calls script_end.Commit) e (Ok (Some (Ok a))) h.ended
+      (λ most large. tried_atomic (t.meaning k.ty) k.begun w (script_of calls script_end.Commit) (0, 1) _ k.shapes most p (λ hs. IsGiven p hs a) (h.ended.tried (0, 1)) ended
+      (subst (Agree (script_of calls script_end.Commit) (steps_of k.shapes most p)) (sym h.replies) (gave_agree k.shapes most p calls rs a s.2.all (few_calls calls rs l v most s.2 large) s.3 s.4))
       (subst (λ (ss : List PlainReply). IsGiven p (map short_of ss) a) (sym h.replies) (gave_given p calls rs a s.2.all s.4)))
       (λ one. refl)
 
   pub commit_aborted : (a : A) (l : Live T) (v : View) (s : WaitsSo t k (λ hs. Gave p hs a) l v) (e : FinishedAttempt AskedCalls) → HasCommitted t passes k.ty s.0 s.1 e k.begun w
       → is_abort (verdict e.verdict) ≡ true → Once (Ok None)
-  commit_aborted a l v s e h abort = aborted_once (script_of s.0 E.Commit) e h.ended abort
+  commit_aborted a l v s e h abort = aborted_once (script_of s.0 script_end.Commit) e h.ended abort
 
-  pub cancelled_once : (l : Live T) (v : View) (s : WaitsSo t k (GaveUp p) l v) (e : FinishedAttempt AskedCalls) → HasCancelled t passes k.ty s.0 s.1 e k.begun w → Once (Ok (Some (Err halts.Cancels)))
-  cancelled_once l v s e h =
+  pub cancelled_once : (reason : E) (l : Live T) (v : View) (s : WaitsSo t k (λ hs. GaveUp p hs reason) l v) (e : FinishedAttempt AskedCalls) → HasCancelled t passes k.ty s.0 s.1 e k.begun w → Once (Ok (Some (Err (halts.Cancels reason))))
+  cancelled_once reason l v s e h =
       let calls = s.0 in let rs = s.1 in
-      ended_once (script_of calls E.Cancel) e (Ok (Some (Err halts.Cancels))) h.ended
-      (λ most large. tried_atomic (t.meaning k.ty) k.begun w (script_of calls E.Cancel) (0, 1) _ k.shapes most p (λ hs. IsCancelled p hs) (h.ended.tried (0, 1))
+      ended_once (script_of calls script_end.Cancel) e (Ok (Some (Err (halts.Cancels reason)))) h.ended
+      (λ most large. tried_atomic (t.meaning k.ty) k.begun w (script_of calls script_end.Cancel) (0, 1) _ k.shapes most p (λ hs. IsCancelled p hs reason) (h.ended.tried (0, 1))
       (ap (λ x. is_abort (verdict x)) h.verdict)
-      (subst (Agree (script_of calls E.Cancel) (steps_of k.shapes most p)) (sym h.replies) (gave_up_agree k.shapes most p calls rs s.2.all (few_calls calls rs l v most s.2 large) s.3 s.4))
-      (subst (λ (ss : List PlainReply). IsCancelled p (map short_of ss)) (sym h.replies) (gave_up_cancelled p calls rs s.2.all s.4)))
+      (subst (Agree (script_of calls script_end.Cancel) (steps_of k.shapes most p)) (sym h.replies) (gave_up_agree k.shapes most p calls rs reason s.2.all (few_calls calls rs l v most s.2 large) s.3 s.4))
+      (subst (λ (ss : List PlainReply). IsCancelled p (map short_of ss) reason) (sym h.replies) (gave_up_cancelled p calls rs reason s.2.all s.4)))
       (λ one. refl)
 
   pub refused_once : (call : Call) (l : Live T) (v : View) (s : WaitsSo t k (λ hs. Wants p hs call) l v) → is_taken k.shapes call ≡ false → (e : FinishedAttempt AskedCalls)
       → HasCancelled t passes k.ty s.0 s.1 e k.begun w → Once (Ok (Some (Err (halts.Untaken call))))
   refused_once call l v s refused e h =
       let calls = s.0 in let rs = s.1 in
-      ended_once (script_of calls E.Cancel) e (Ok (Some (Err (halts.Untaken call)))) h.ended
-      (λ most large. tried_atomic (t.meaning k.ty) k.begun w (script_of calls E.Cancel) (0, 1) _ k.shapes most p (λ hs. IsAsked p hs call) (h.ended.tried (0, 1))
+      ended_once (script_of calls script_end.Cancel) e (Ok (Some (Err (halts.Untaken call)))) h.ended
+      (λ most large. tried_atomic (t.meaning k.ty) k.begun w (script_of calls script_end.Cancel) (0, 1) _ k.shapes most p (λ hs. IsAsked p hs call) (h.ended.tried (0, 1))
       (ap (λ x. is_abort (verdict x)) h.verdict)
-      (subst (Agree (script_of calls E.Cancel) (steps_of k.shapes most p)) (sym h.replies)
+      (subst (Agree (script_of calls script_end.Cancel) (steps_of k.shapes most p)) (sym h.replies)
       (wants_agree k.shapes most p calls rs call s.2.all (few_calls calls rs l v most s.2 large) s.3 s.4 refused))
       (subst (λ (ss : List PlainReply). IsAsked p (map short_of ss) call) (sym h.replies) (wants_asked p calls rs call s.2.all s.4)))
       (λ one. refl)
 
 -- by why it stopped, or why its code did
-module _ {T C A : Type 0} (t : OfType T) (c : cells.Ghosts C T) (k : OverKey T C) (p : Prog A) where
+module _ {T C E A : Type 0} (t : OfType T) (c : cells.Ghosts C T) (k : OverKey T C) (p : Prog E A) where
   pub abort_once : (passes : ℕ) (w : View) (stop : StepError) (l : Live T) → c.passes k.start ≡ passes → is_aborted stop ≡ true → StandsBy t c k (Some stop) l w
       → HasTriedOnce (t.meaning k.ty) (t.sizes k.ty) passes k.begun w k.shapes p (Ok None)
   abort_once passes w (stops.Aborted x) l same is h =
@@ -147,24 +147,24 @@ module _ {T C A : Type 0} (t : OfType T) (c : cells.Ghosts C T) (k : OverKey T C
   want_once passes w stops.Untaken l error is h = absurd h
   want_once passes w stops.NoMemory l error is h = stopped_once t k p passes w error h
 
-  pub live_of : (halt : Halt) (l : Live T) (v : View) → After t c k p None (Err halt) l v → (ty : T) × (calls : List Call) × (rs : List PlainReply) × (begun : View) × (u : View) × IsLive t ty calls rs l begun u
+  pub live_of : (halt : Halt E) (l : Live T) (v : View) → After t c k p None (Err halt) l v → (ty : T) × (calls : List Call) × (rs : List PlainReply) × (begun : View) × (u : View) × IsLive t ty calls rs l begun u
   live_of halts.Over l v h = absurd h
   live_of (halts.Untaken call) l v h = (k.ty, h.0.0, h.0.1, k.begun, v, h.0.2)
-  live_of halts.Cancels l v h = (k.ty, h.0, h.1, k.begun, v, h.2)
+  live_of (halts.Cancels reason) l v h = (k.ty, h.0, h.1, k.begun, v, h.2)
 
-  pub cancel_once : (passes : ℕ) (halt : Halt) (l : Live T) (v : View) (e : FinishedAttempt AskedCalls) → After t c k p None (Err halt) l v
+  pub cancel_once : (passes : ℕ) (halt : Halt E) (l : Live T) (v : View) (e : FinishedAttempt AskedCalls) → After t c k p None (Err halt) l v
       → ((calls : List Call) (rs : List PlainReply) → IsLive t k.ty calls rs l k.begun v → HasCancelled t passes k.ty calls rs e k.begun v)
       → HasTriedOnce (t.meaning k.ty) (t.sizes k.ty) passes k.begun v k.shapes p (Ok (Some (Err halt)))
   cancel_once passes halts.Over l v e h ends = absurd h
   cancel_once passes (halts.Untaken call) l v e h ends = refused_once t k p passes v call l v h.0 h.1 e (ends h.0.0 h.0.1 h.0.2)
-  cancel_once passes halts.Cancels l v e h ends = cancelled_once t k p passes v l v h e (ends h.0 h.1 h.2)
+  cancel_once passes (halts.Cancels reason) l v e h ends = cancelled_once t k p passes v reason l v h e (ends h.0 h.1 h.2)
 
-  pub cancel_stopped : (passes : ℕ) (halt : Halt) (l : Live T) (v : View) (error : NoMemory) → After t c k p None (Err halt) l v
+  pub cancel_stopped : (passes : ℕ) (halt : Halt E) (l : Live T) (v : View) (error : NoMemory) → After t c k p None (Err halt) l v
       → ((calls : List Call) (rs : List PlainReply) → IsLive t k.ty calls rs l k.begun v → HasStopped (t.meaning k.ty) (t.sizes k.ty) k.begun v)
       → HasTriedOnce (t.meaning k.ty) (t.sizes k.ty) passes k.begun v k.shapes p (Err error)
   cancel_stopped passes halts.Over l v error h ends = absurd h
   cancel_stopped passes (halts.Untaken call) l v error h ends = stopped_once t k p passes v error (ends h.0.0 h.0.1 h.0.2)
-  cancel_stopped passes halts.Cancels l v error h ends = stopped_once t k p passes v error (ends h.0 h.1 h.2)
+  cancel_stopped passes (halts.Cancels reason) l v error h ends = stopped_once t k p passes v error (ends h.0 h.1 h.2)
 
-  pub after_as : (o o' : Option StepError) (r r' : Result A Halt) (l : Live T) (v : View) → o ≡ o' → r ≡ r' → After t c k p o r l v → After t c k p o' r' l v
-  after_as o o' r r' l v e f h = subst (λ (x : Option StepError). After t c k p x r' l v) e (subst (λ (x : Result A Halt). After t c k p o x l v) f h)
+  pub after_as : (o o' : Option StepError) (r r' : Result A (Halt E)) (l : Live T) (v : View) → o ≡ o' → r ≡ r' → After t c k p o r l v → After t c k p o' r' l v
+  after_as o o' r r' l v e f h = subst (λ (x : Option StepError). After t c k p x r' l v) e (subst (λ (x : Result A (Halt E)). After t c k p o x l v) f h)

@@ -13,15 +13,15 @@ use Rattle.sto_once.specs.Attempts.{Says}
 use Rattle.sto_once.specs.Telling.{told_once}
 
 -- the attempts before it saw more and took no effect
-pub led_by : {A : Type 0} (m : Meaning) (u v w : View) (tries left : ℕ) (shapes : List Shape) (p : Prog A) (r : Result A Halt) → Grows u v → TakesNoEffect u v → Says m v w shapes p (Ok (Some r))
+pub led_by : {E A : Type 0} (m : Meaning) (u v w : View) (tries left : ℕ) (shapes : List Shape) (p : Prog E A) (r : Result A (Halt E)) → Grows u v → TakesNoEffect u v → Says m v w shapes p (Ok (Some r))
     → (most : ℕ) → 2 ^ 32 ≤ most → HasLed m u w tries left shapes most p (told_once r)
 led_by m u v w tries left shapes p (Ok a) g none h most large = atomic_since m u v w shapes most p _ g none (h most large)
-led_by m u v w tries left shapes p (Err halts.Cancels) g none h most large = atomic_since m u v w shapes most p _ g none (h most large)
+led_by m u v w tries left shapes p (Err (halts.Cancels e)) g none h most large = atomic_since m u v w shapes most p _ g none (h most large)
 led_by m u v w tries left shapes p (Err (halts.Untaken call)) g none h most large = atomic_since m u v w shapes most p _ g none (h most large)
 led_by m u v w tries left shapes p (Err halts.Over) g none h most large = absurd h
 
-pub undisturbed_by : {A : Type 0} (m : Meaning) (v w : View) (shapes : List Shape) (p : Prog A) (r : Result A Halt) → Says m v w shapes p (Ok (Some r)) → IsUndisturbed (told_once r)
+pub undisturbed_by : {E A : Type 0} (m : Meaning) (v w : View) (shapes : List Shape) (p : Prog E A) (r : Result A (Halt E)) → Says m v w shapes p (Ok (Some r)) → IsUndisturbed (told_once r)
 undisturbed_by m v w shapes p (Ok a) h = tt
-undisturbed_by m v w shapes p (Err halts.Cancels) h = tt
+undisturbed_by m v w shapes p (Err (halts.Cancels e)) h = tt
 undisturbed_by m v w shapes p (Err (halts.Untaken call)) h = tt
 undisturbed_by m v w shapes p (Err halts.Over) h = absurd h

@@ -23,7 +23,7 @@ history = record {
 }
 
 -- code of one call, whose value is the number that was answered
-abbrev asks_once : Call → Prog ℤ
+abbrev asks_once : Call → Prog (Unit {0}) ℤ
 asks_once call = Asks call (λ h. Gives (number h))
 
 -- it is not run a second time
@@ -43,6 +43,6 @@ other_reply call g = other (subst (λ (hs : List Heard). Gave (asks_once call) h
   other h = let same : 2 ≡ 1 = ap natural h.1.0 in omega (arith, same)
 
 -- where two tries may be made, one does not tell that others were in the way
-pub busy_after_one_try : {A : Type 0} (m : Meaning) (v w : View) (left : ℕ) (shapes : List Shape) (most : ℕ) (p : Prog A) → w.starts ≡ v.starts + 1
+pub busy_after_one_try : {E A : Type 0} (m : Meaning) (v w : View) (left : ℕ) (shapes : List Shape) (most : ℕ) (p : Prog E A) → w.starts ≡ v.starts + 1
     → HasLed m v w 2 left shapes most p (Err Busy) → ⊥
 busy_after_one_try m v w left shapes most p one h = let all = h.starts in omega (arith, one, all)

@@ -42,27 +42,27 @@ WaitsSo t k P l v = (calls : List Call) × (rs : List PlainReply) × IsLive t k.
 
 module _ {T C : Type 0} (t : OfType T) (c : cells.Ghosts C T) where
   -- how it stands after code that does p
-  abbrev pub After : {A : Type 0} → OverKey T C → Prog A → Option StepError → Result A Halt → Live T → View → Type 0
+  abbrev pub After : {E A : Type 0} → OverKey T C → Prog E A → Option StepError → Result A (Halt E) → Live T → View → Type 0
   After k p (Some stop) said l v = StandsBy t c k (Some stop) l v
   After k p None (Ok a) l v = WaitsSo t k (λ hs. Gave p hs a) l v
   After k p None (Err halts.Over) l v = ⊥
   After k p None (Err (halts.Untaken call)) l v = WaitsSo t k (λ hs. Wants p hs call) l v × (is_taken k.shapes call ≡ false)
-  After k p None (Err halts.Cancels) l v = WaitsSo t k (GaveUp p) l v
+  After k p None (Err (halts.Cancels e)) l v = WaitsSo t k (λ hs. GaveUp p hs e) l v
 
 -- the code, run alone, hears these replies and then says this, however many calls it may ask from 2^32 on
-abbrev pub IsAtomicOnce : {A : Type 0} → Meaning → (v w : View) → List Shape → Prog A → (List ShortReply → Type 0) → Type 0
+abbrev pub IsAtomicOnce : {E A : Type 0} → Meaning → (v w : View) → List Shape → Prog E A → (List ShortReply → Type 0) → Type 0
 IsAtomicOnce m v w shapes p says = (most : ℕ) → 2 ^ 32 ≤ most → IsAtomic m v w shapes most p says
 
-abbrev pub Says : {A : Type 0} → Meaning → (v w : View) → List Shape → Prog A → Result (Option (Result A Halt)) NoMemory → Type 0
+abbrev pub Says : {E A : Type 0} → Meaning → (v w : View) → List Shape → Prog E A → Result (Option (Result A (Halt E))) NoMemory → Type 0
 Says m v w shapes p (Ok (Some (Ok a))) = IsAtomicOnce m v w shapes p (λ hs. IsGiven p hs a)
-Says m v w shapes p (Ok (Some (Err halts.Cancels))) = IsAtomicOnce m v w shapes p (λ hs. IsCancelled p hs)
+Says m v w shapes p (Ok (Some (Err (halts.Cancels e)))) = IsAtomicOnce m v w shapes p (λ hs. IsCancelled p hs e)
 Says m v w shapes p (Ok (Some (Err (halts.Untaken call)))) = IsAtomicOnce m v w shapes p (λ hs. IsAsked p hs call)
 Says m v w shapes p (Ok (Some (Err halts.Over))) = ⊥
 Says m v w shapes p (Ok None) = HaveAborted v w 1
 Says m v w shapes p (Err error) = TakesNoEffect v w
 
 -- what one attempt led to, from the view v to the view w
-pub record HasTriedOnce {A : Type 0} (m : Meaning) (sizes : List ℕ) (passes : ℕ) (v w : View) (shapes : List Shape) (p : Prog A) (result : Result (Option (Result A Halt)) NoMemory) : Type 0 where
+pub record HasTriedOnce {E A : Type 0} (m : Meaning) (sizes : List ℕ) (passes : ℕ) (v w : View) (shapes : List Shape) (p : Prog E A) (result : Result (Option (Result A (Halt E))) NoMemory) : Type 0 where
   pub rests : IsAtRest m sizes w
   pub draws : v.draws ≤ w.draws + 1
   pub grows : Grows v w

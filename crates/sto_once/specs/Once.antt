@@ -20,25 +20,25 @@ pub record Answering (X : Type 0) : Type 1 where
   pub refuses : X → Call → Type 0
 
 -- these calls, so answered, are those that the tree asks: then it gives the value
-abbrev pub Gave : {A : Type 0} → Prog A → List Heard → A → Type 0
+abbrev pub Gave : {E A : Type 0} → Prog E A → List Heard → A → Type 0
 Gave (Asks call k) [] a = ⊥
 Gave (Asks call k) (h ∷ hs) a = (h.0 ≡ call) × Gave (k h.1) hs a
 Gave (Gives b) hs a = (a ≡ b) × (hs ≡ [])
-Gave Cancels hs a = ⊥
+Gave (Cancels e) hs a = ⊥
 
--- the same: then it gives the transaction up
-abbrev pub GaveUp : {A : Type 0} → Prog A → List Heard → Type 0
-GaveUp (Asks call k) [] = ⊥
-GaveUp (Asks call k) (h ∷ hs) = (h.0 ≡ call) × GaveUp (k h.1) hs
-GaveUp (Gives b) hs = ⊥
-GaveUp Cancels hs = hs ≡ []
+-- the same: then it gives the transaction up, for this reason
+abbrev pub GaveUp : {E A : Type 0} → Prog E A → List Heard → E → Type 0
+GaveUp (Asks call k) [] e = ⊥
+GaveUp (Asks call k) (h ∷ hs) e = (h.0 ≡ call) × GaveUp (k h.1) hs e
+GaveUp (Gives b) hs e = ⊥
+GaveUp (Cancels r) hs e = (e ≡ r) × (hs ≡ [])
 
 -- the same: then it asks the call
-abbrev pub Wants : {A : Type 0} → Prog A → List Heard → Call → Type 0
+abbrev pub Wants : {E A : Type 0} → Prog E A → List Heard → Call → Type 0
 Wants (Asks call k) [] c = c ≡ call
 Wants (Asks call k) (h ∷ hs) c = (h.0 ≡ call) × Wants (k h.1) hs c
 Wants (Gives b) hs c = ⊥
-Wants Cancels hs c = ⊥
+Wants (Cancels e) hs c = ⊥
 
 module _ {X : Type 0} (x : Answering X) where
   -- it may be asked
@@ -54,15 +54,15 @@ module _ {X : Type 0} (x : Answering X) where
   Hears old new P = (hs : List Heard) × (x.heard new ≡ x.heard old ++ hs) × P hs
 
   -- a call was answered, and is the last that was heard; or it was not
-  abbrev pub Adds : Call → (old new : X) → Result ShortReply Halt → Type 0
+  abbrev pub Adds : {E : Type 0} → Call → (old new : X) → Result ShortReply (Halt E) → Type 0
   Adds call old new (Ok h) = Leads old new × (x.heard new ≡ x.heard old ++ (call, h) ∷ [])
   Adds call old new (Err halts.Over) = Leads old new × x.over new
   Adds call old new (Err (halts.Untaken c)) = Leads old new × (x.heard new ≡ x.heard old) × (c ≡ call) × x.refuses new c
-  Adds call old new (Err halts.Cancels) = ⊥
+  Adds call old new (Err (halts.Cancels e)) = ⊥
 
   -- what a part of code adds to the history, and does by that
-  abbrev pub Goes : {A : Type 0} → Prog A → (old new : X) → Result A Halt → Type 0
+  abbrev pub Goes : {E A : Type 0} → Prog E A → (old new : X) → Result A (Halt E) → Type 0
   Goes p old new (Ok a) = Leads old new × Hears old new (λ hs. Gave p hs a)
   Goes p old new (Err halts.Over) = Leads old new × x.over new
   Goes p old new (Err (halts.Untaken c)) = Leads old new × Hears old new (λ hs. Wants p hs c) × x.refuses new c
-  Goes p old new (Err halts.Cancels) = Leads old new × Hears old new (GaveUp p)
+  Goes p old new (Err (halts.Cancels e)) = Leads old new × Hears old new (λ hs. GaveUp p hs e)

@@ -30,9 +30,10 @@ pub fn atomically<T: TxType, K: Code, C: Cells<T>, W: AttemptWatch>(
     watch: &mut W,
     memory: &mut StepLists,
     code: &K,
-) -> (C, Result<Done<K::Out>, TransactionError>)
+) -> (C, Result<Done<K::Out, K::Reason>, TransactionError>)
 where
     K::Out: Drop,
+    K::Reason: Drop,
     requires takes { (call : Call) → IsTakenCall shapes.now.items call → (T.meaning ty.now).takes call }
     requires rests { IsAtRest (T.meaning ty.now) (T.sizes ty.now) (C.view cells) }
     requires left { left.old ≤ (C.view cells).draws }
@@ -65,12 +66,12 @@ where
 }
 
 // What a transaction gave by what its code said at its end.
-fn told<A: Drop>(said: Result<A, Halt>) -> Result<Done<A>, TransactionError>
+fn told<A: Drop, E: Drop>(said: Result<A, Halt<E>>) -> Result<Done<A, E>, TransactionError>
     ensures { result ≡ told_once said }
 {
     match said {
         Ok(value) => Ok(Done::Gave(value)),
-        Err(Halt::Cancels) => Ok(Done::Cancelled),
+        Err(Halt::Cancels(reason)) => Ok(Done::Cancelled(reason)),
         Err(Halt::Untaken(call)) => Err(TransactionError::Refused(call)),
         Err(Halt::Over) => Err(TransactionError::Busy),
     }

@@ -28,9 +28,10 @@ pub(crate) fn attempt<T: TxType, K: Code, C: Cells<T>>(
     cells: C,
     memory: &mut StepLists,
     code: &K,
-) -> (C, Result<Option<Result<K::Out, Halt>>, NoMemory>)
+) -> (C, Result<Option<Result<K::Out, Halt<K::Reason>>>, NoMemory>)
 where
     K::Out: Drop,
+    K::Reason: Drop,
     requires takes { (call : Call) → IsTakenCall shapes.now.items call → (T.meaning ty.now).takes call }
     requires rests { IsAtRest (T.meaning ty.now) (T.sizes ty.now) (C.view cells) }
     requires draws { 0 < (C.view cells).draws }
@@ -56,7 +57,12 @@ fn run_over<'t, T: TxType, K: Code, C: Cells<T>>(
     shapes: &Shapes,
     cells: C,
     code: &K,
-) -> (Live<'t, T>, C, Option<StepError>, Result<K::Out, Halt>)
+) -> (
+    Live<'t, T>,
+    C,
+    Option<StepError>,
+    Result<K::Out, Halt<K::Reason>>,
+)
     requires { (ty : T) × (begun : View) × MayRun T.TxType (key_of ty begun cells shapes.now.items) live (C.view cells) }
     ensures ran { (ty : T) (begun : View) → MayRun T.TxType (key_of ty begun cells shapes.now.items) live.entry (C.view cells)
         → After T.TxType C.Cells (key_of ty begun cells shapes.now.items) (K.does code.now) result.2 result.3 result.0 (C.view result.1) }
@@ -81,16 +87,16 @@ fn run_over<'t, T: TxType, K: Code, C: Cells<T>>(
 }
 
 // Ends a transaction by what its code said.
-fn end<T: TxType, C: Cells<T>, A: Drop>(
+fn end<T: TxType, C: Cells<T>, A: Drop, E: Drop>(
     alloc: Global,
     live: Live<'_, T>,
     cells: &mut C,
     memory: &mut StepLists,
     stopped: Option<StepError>,
-    said: Result<A, Halt>,
-) -> Result<Option<Result<A, Halt>>, NoMemory>
-    requires { (k : OverKey T C) × (p : Prog A) × After T.TxType C.Cells k p stopped said live (C.view cells.old) × C.same k.start cells.old }
-    ensures tried { (k : OverKey T C) (p : Prog A) → After T.TxType C.Cells k p stopped said live.entry (C.view cells.old)
+    said: Result<A, Halt<E>>,
+) -> Result<Option<Result<A, Halt<E>>>, NoMemory>
+    requires { (k : OverKey T C) × (p : Prog E A) × After T.TxType C.Cells k p stopped said live (C.view cells.old) × C.same k.start cells.old }
+    ensures tried { (k : OverKey T C) (p : Prog E A) → After T.TxType C.Cells k p stopped said live.entry (C.view cells.old)
         → C.same k.start cells.old
         → HasTriedOnce (T.meaning k.ty) (T.sizes k.ty) (C.passes k.start) k.begun (C.view cells.new) k.shapes p result }
     ensures same { C.same cells.old cells.new }
@@ -106,21 +112,21 @@ fn end<T: TxType, C: Cells<T>, A: Drop>(
         }
         None => match said {
             Ok(value) => commit(alloc, live, cells, memory, value),
-            Err(halt) => cancel::<T, C, A>(alloc, live, memory, halt),
+            Err(halt) => cancel::<T, C, A, E>(alloc, live, memory, halt),
         },
     }
 }
 
 // Commits a transaction whose code gave a value.
-fn commit<T: TxType, C: Cells<T>, A: Drop>(
+fn commit<T: TxType, C: Cells<T>, A: Drop, E: Drop>(
     alloc: Global,
     live: Live<'_, T>,
     cells: &mut C,
     memory: &mut StepLists,
     value: A,
-) -> Result<Option<Result<A, Halt>>, NoMemory>
-    requires { (k : OverKey T C) × (p : Prog A) × After T.TxType C.Cells k p None (Ok value) live (C.view cells.old) }
-    ensures tried { (k : OverKey T C) (p : Prog A) → After T.TxType C.Cells k p None (Ok value) live.entry (C.view cells.old)
+) -> Result<Option<Result<A, Halt<E>>>, NoMemory>
+    requires { (k : OverKey T C) × (p : Prog E A) × After T.TxType C.Cells k p None (Ok value) live (C.view cells.old) }
+    ensures tried { (k : OverKey T C) (p : Prog E A) → After T.TxType C.Cells k p None (Ok value) live.entry (C.view cells.old)
         → HasTriedOnce (T.meaning k.ty) (T.sizes k.ty) (C.passes cells.old) k.begun (C.view cells.new) k.shapes p result }
     ensures same { C.same cells.old cells.new }
 {
@@ -139,14 +145,14 @@ fn commit<T: TxType, C: Cells<T>, A: Drop>(
 }
 
 // Gives up a transaction whose code gave it up, or asked what is not taken.
-fn cancel<T: TxType, C: Cells<T>, A: Drop>(
+fn cancel<T: TxType, C: Cells<T>, A: Drop, E: Drop>(
     alloc: Global,
     live: Live<'_, T>,
     memory: &mut StepLists,
-    halt: Halt,
-) -> Result<Option<Result<A, Halt>>, NoMemory>
-    requires { (k : OverKey T C) × (p : Prog A) × (v : View) × After T.TxType C.Cells k p None (Err halt) live v }
-    ensures { (k : OverKey T C) (p : Prog A) (v : View) (passes : ℕ) → After T.TxType C.Cells k p None (Err halt) live.entry v
+    halt: Halt<E>,
+) -> Result<Option<Result<A, Halt<E>>>, NoMemory>
+    requires { (k : OverKey T C) × (p : Prog E A) × (v : View) × After T.TxType C.Cells k p None (Err halt) live v }
+    ensures { (k : OverKey T C) (p : Prog E A) (v : View) (passes : ℕ) → After T.TxType C.Cells k p None (Err halt) live.entry v
         → HasTriedOnce (T.meaning k.ty) (T.sizes k.ty) passes k.begun v k.shapes p result }
 {
     match live.cancel(alloc, memory) {

@@ -1,5 +1,5 @@
 //! What a store and its workers answer, beside what their transactions give.
-use crate::codes::{GiveUp, Swap};
+use crate::codes::{GiveUp, Swap, Unwanted};
 use std::alloc::Global;
 use sto_library::{
     BoxId, CloseError, CounterId, Done, LookError, Objects, PlanError, Schema, SharedStore,
@@ -74,7 +74,7 @@ fn a_hired_worker_runs(rt: HostRuntime) {
     assert_eq!(rt; run_by_hand(rt.alloc()), Some((7, 8, true, 4)));
 }
 
-// What two runs of a hired worker gave, whether one that gave up was told so, and how many attempts all of them took.
+// What two runs of a hired worker gave, whether one that gave up was told why, and how many attempts all of them took.
 fn run_by_hand(alloc: Global) -> Option<(i64, i64, bool, u64)> {
     let (mut store, of, _sales) = opened(alloc, 1)?;
     let idle = store.hire()?;
@@ -83,7 +83,10 @@ fn run_by_hand(alloc: Global) -> Option<(i64, i64, bool, u64)> {
     let Ok(Done::Gave(first)) = worker.run(&Swap(of, 8)) else {
         return None;
     };
-    let gave_up = matches!(worker.run(&GiveUp(of)), Ok(Done::Cancelled));
+    let gave_up = matches!(
+        worker.run(&GiveUp(of)),
+        Ok(Done::Cancelled(Unwanted { value: 8 }))
+    );
     let Ok(Done::Gave(second)) = worker.run_with(1, &mut Waits::new(), &Swap(of, 9)) else {
         return None;
     };

@@ -105,7 +105,7 @@ fn given_by_two_kinds<R: Threads + Sync>(rt: &R, alloc: Global) -> Option<(i64, 
     let told = store.run_tasks(rt, alloc, 2, &tasks).ok()?;
     match told.as_slice() {
         [Either::Left(Ok(Done::Gave(value))), Either::Right(Ok(done))] => {
-            Some((*value, matches!(done, Done::Cancelled)))
+            Some((*value, matches!(done, Done::Cancelled(_))))
         }
         _ => None,
     }

@@ -12,51 +12,59 @@ use Rattle.sto_action.specs.declared.short_reply.ShortReply.{ShortReply}
 use Rattle.sto_action.specs.declared.short_reply.ShortReply.TheVariants as H
 use Rattle.sto_action.specs.Progs.{Prog, Asks, Gives, Cancels, IsGiven, IsCancelled}
 use Rattle.sto_action.specs.Atomic.{steps_of, HasLed}
-use Rattle.sto_action.specs.declared.outcome.Done.TheVariants.{Gave}
+use Rattle.sto_action.specs.declared.outcome.Done.TheVariants.{Gave, Cancelled}
 use Rattle.sto_action.specs.declared.outcome.TransactionError.TheVariants.{Busy}
 use Rattle.sto_library.specs.Values.{Stored}
 use Rattle.sto_library.specs.Looks.{HasLooked}
 use Rattle.sto_library.specs.declared.store.LookError.TheVariants as look_error
 use Rattle.sto_test_premises.specs.Adding.{box}
 use Rattle.sto_test_premises.proofs.Adding.{box_opened}
-use Rattle.sto_test_refusals.specs.Runs.{AlwaysGives, gets, shapes, unused, has_read, opening_rows}
+use Rattle.sto_test_refusals.specs.Runs.{AlwaysGives, get_then, gets, gives_up, shapes, unused, has_read, opening_rows}
 use Rattle.sto_test_refusals.proofs.Lists.{none_behind, last_same}
 
 -- Code that always gives does not cancel
 
-pub gives_no_cancel : {A : Type 0} (p : Prog A) (hs : List ShortReply) → AlwaysGives p → IsCancelled p hs → ⊥
-gives_no_cancel (Asks call k) [] gives cancelled = cancelled
-gives_no_cancel (Asks call k) (h ∷ hs) gives cancelled = gives_no_cancel (k h) hs (gives h) cancelled
-gives_no_cancel (Gives value) hs gives cancelled = cancelled
-gives_no_cancel Cancels hs gives cancelled = gives
+pub gives_no_cancel : {E A : Type 0} (p : Prog E A) (hs : List ShortReply) (reason : E) → AlwaysGives p → IsCancelled p hs reason → ⊥
+gives_no_cancel (Asks call k) [] reason gives cancelled = cancelled
+gives_no_cancel (Asks call k) (h ∷ hs) reason gives cancelled = gives_no_cancel (k h) hs reason (gives h) cancelled
+gives_no_cancel (Gives value) hs reason gives cancelled = cancelled
+gives_no_cancel (Cancels e) hs reason gives cancelled = gives
 
--- A get of a box that holds 0 does not give 1
+-- A get of a box that holds 0 does not give 1, and is no reason 1 to give up
 
 -- what it is answered is 0
-run_hears : (most : ℕ) (r : PlainReply) (rs : List PlainReply) → IsRun box.machines (steps_of shapes most gets) opening_rows (r ∷ rs) → H.Value (pos 1) ≡ short_of r → ⊥
-run_hears zero r rs run given = run.0
-run_hears (suc most) r rs run given =
+run_hears : {E A : Type 0} (k : ShortReply → Prog E A) (most : ℕ) (r : PlainReply) (rs : List PlainReply) → IsRun box.machines (steps_of shapes most (get_then k)) opening_rows (r ∷ rs) → H.Value (pos 1) ≡ short_of r → ⊥
+run_hears k zero r rs run given = run.0
+run_hears k (suc most) r rs run given =
     let one : H.Value (pos 1) ≡ H.Value (pos 0) = given ∙ ap short_of (sym run.0) in absurd cc
 
-heard_by : (most : ℕ) (verdict : Verdict) (r : PlainReply) (rs : List PlainReply) → is_abort verdict ≡ false → IsTold box has_read (steps_of shapes most gets) (r ∷ rs) verdict
+heard_by : {E A : Type 0} (k : ShortReply → Prog E A) (most : ℕ) (verdict : Verdict) (r : PlainReply) (rs : List PlainReply) → is_abort verdict ≡ false → IsTold box has_read (steps_of shapes most (get_then k)) (r ∷ rs) verdict
     → H.Value (pos 1) ≡ short_of r → ⊥
-heard_by most (Wrote ticket) r rs ended told given = absurd cc
-heard_by most (Read n) r rs ended told given = run_hears most r rs (told.runs box.opened box_opened (each_one _ _ (λ same. refl))).run given
-heard_by most (CancelledAt n) r rs ended told given = run_hears most r rs (told.runs box.opened box_opened (each_one _ _ (λ same. refl))) given
-heard_by most (Locked n part) r rs ended told given = absurd cc
-heard_by most (Changed n part ticket) r rs ended told given = absurd cc
+heard_by k most (Wrote ticket) r rs ended told given = absurd cc
+heard_by k most (Read n) r rs ended told given = run_hears k most r rs (told.runs box.opened box_opened (each_one _ _ (λ same. refl))).run given
+heard_by k most (CancelledAt n) r rs ended told given = run_hears k most r rs (told.runs box.opened box_opened (each_one _ _ (λ same. refl))) given
+heard_by k most (Locked n part) r rs ended told given = absurd cc
+heard_by k most (Changed n part ticket) r rs ended told given = absurd cc
 
-given_by : (most : ℕ) (verdict : Verdict) (replies : List PlainReply) → is_abort verdict ≡ false → IsTold box has_read (steps_of shapes most gets) replies verdict
-    → IsGiven gets (map short_of replies) (H.Value (pos 1)) → ⊥
-given_by most verdict [] ended told given = given
-given_by most verdict (r ∷ rs) ended told given = heard_by most verdict r rs ended told given
+given_by : (E : Type 0) (most : ℕ) (verdict : Verdict) (replies : List PlainReply) → is_abort verdict ≡ false → IsTold box has_read (steps_of shapes most (gets {E = E})) replies verdict
+    → IsGiven (gets {E = E}) (map short_of replies) (H.Value (pos 1)) → ⊥
+given_by E most verdict [] ended told given = given
+given_by E most verdict (r ∷ rs) ended told given = heard_by {E = E} (λ h. Gives h) most verdict r rs ended told given
 
-pub get_not_1 : (tries left most : ℕ) → HasLed box unused has_read tries left shapes most gets (Ok (Gave (H.Value (pos 1)))) → ⊥
-get_not_1 tries left most led = given_by most led.verdict led.replies led.ended led.told led.said
+pub get_not_1 : (E : Type 0) (tries left most : ℕ) → HasLed box unused has_read tries left shapes most (gets {E = E}) (Ok (Gave (H.Value (pos 1)))) → ⊥
+get_not_1 E tries left most led = given_by E most led.verdict led.replies led.ended led.told led.said
+
+reason_by : (A : Type 0) (most : ℕ) (verdict : Verdict) (replies : List PlainReply) → is_abort verdict ≡ false → IsTold box has_read (steps_of shapes most (gives_up {A = A})) replies verdict
+    → IsCancelled (gives_up {A = A}) (map short_of replies) (H.Value (pos 1)) → ⊥
+reason_by A most verdict [] ended told given = given
+reason_by A most verdict (r ∷ rs) ended told given = heard_by {A = A} (λ h. Cancels h) most verdict r rs ended told given
+
+pub reason_not_1 : (A : Type 0) (tries left most : ℕ) → HasLed box unused has_read tries left shapes most (gives_up {A = A}) (Ok (Cancelled (H.Value (pos 1)))) → ⊥
+reason_not_1 A tries left most led = reason_by A most led.verdict led.replies led.ended led.told led.said
 
 -- A look of which nothing was begun is not refused as busy
 
-pub look_not_busy : {T A : Type 0} (t : OfType T) (old new : Stored T) (most : ℕ) (p : Prog A) → HasLooked t old new most p (Err (look_error.Transaction Busy)) → new.views ≡ old.views → ⊥
+pub look_not_busy : {T E A : Type 0} (t : OfType T) (old new : Stored T) (most : ℕ) (p : Prog E A) → HasLooked t old new most p (Err (look_error.Transaction Busy)) → new.views ≡ old.views → ⊥
 look_not_busy t old new most p looked same =
     let one : looked.from ≡ looked.to = last_same looked.others looked.from looked.to (sym looked.were ∙ sym same ∙ looked.are) in
     let from = looked.done.from in let to = looked.done.to in

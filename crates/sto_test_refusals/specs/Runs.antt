@@ -20,19 +20,27 @@ use Rattle.sto_test_premises.specs.LostUpdate.{third_core}
 use Rattle.sto_test_premises.specs.Adding.{box, reads, adds, by}
 
 -- the clause `led` of `run`, of a worker before and after it
-abbrev pub HasRun : {T A : Type 0} → OfType T → (before after : Working T) → (most : ℕ) → Prog A → Result (Done A) TransactionError → Type 0
+abbrev pub HasRun : {T E A : Type 0} → OfType T → (before after : Working T) → (most : ℕ) → Prog E A → Result (Done A E) TransactionError → Type 0
 HasRun t before after most p result =
     HasLed (t.meaning before.words.ty) before.seat.me.0.view after.seat.me.0.view (2 ^ 16) after.left before.shapes most p result
 
 -- whatever it hears, the code gives a value in the end
-abbrev pub AlwaysGives : {A : Type 0} → Prog A → Type 0
+abbrev pub AlwaysGives : {E A : Type 0} → Prog E A → Type 0
 AlwaysGives (Asks call k) = (h : ShortReply) → AlwaysGives (k h)
 AlwaysGives (Gives value) = Unit {0}
-AlwaysGives Cancels = ⊥
+AlwaysGives (Cancels e) = ⊥
+
+-- code that gets the value of the first object, and goes on by it
+abbrev pub get_then : {E A : Type 0} → (ShortReply → Prog E A) → Prog E A
+get_then next = Asks (call_of 0 Get (pos 0) (pos 0)) next
 
 -- code that gives what a get of the first object answers
-abbrev pub gets : Prog ShortReply
-gets = Asks (call_of 0 Get (pos 0) (pos 0)) (λ h. Gives h)
+abbrev pub gets : {E : Type 0} → Prog E ShortReply
+gets = get_then (λ h. Gives h)
+
+-- code that is given up for what a get of the first object answers
+abbrev pub gives_up : {A : Type 0} → Prog ShortReply A
+gives_up = get_then (λ h. Cancels h)
 
 -- a store of one box
 abbrev pub shapes : List Shape

@@ -18,34 +18,37 @@ ghost use Rattle.sto_library.specs.Looks.{HasLooked};
 ghost use Rattle.sto_library.specs.Tasks.{AreAllDone, HasFailed};
 ghost use Rattle.sto_library.specs.declared.task.TaskError.TheVariants.{NoWorker};
 ghost use Rattle.sto_test_premises.specs.Adding.{box, valid};
-ghost use Rattle.sto_test_refusals.specs.Runs.{HasRun, AlwaysGives, gets, shapes, unused, has_read, has_added, opening_rows, first_worker, second_worker, rows_with};
+ghost use Rattle.sto_test_refusals.specs.Runs.{HasRun, AlwaysGives, gets, gives_up, shapes, unused, has_read, has_added, opening_rows, first_worker, second_worker, rows_with};
 
 use sto_library::{Task, TxType};
 
 /// What `run` of a worker does not answer.
-pub fn not_run<T: TxType, A>()
+pub fn not_run<T: TxType, A, E>()
     // `Busy`, where no attempt was begun.
-    ensures busy_after_no_start { (before after : Working T) (most : ℕ) (p : Prog A) → HasRun T.TxType before after most p (Err Busy)
+    ensures busy_after_no_start { (before after : Working T) (most : ℕ) (p : Prog E A) → HasRun T.TxType before after most p (Err Busy)
         → after.seat.me.0.view.starts ≡ before.seat.me.0.view.starts → ⊥ }
     // `Worn`, with tickets left.
-    ensures worn_with_tickets_left { (before after : Working T) (most : ℕ) (p : Prog A) → HasRun T.TxType before after most p (Err Worn)
+    ensures worn_with_tickets_left { (before after : Working T) (most : ℕ) (p : Prog E A) → HasRun T.TxType before after most p (Err Worn)
         → (after.left ≡ 0 → ⊥) → ⊥ }
-    // That code cancelled which always gives a value.
-    ensures cancelled { (before after : Working T) (most : ℕ) (p : Prog A) → HasRun T.TxType before after most p (Ok Cancelled) → AlwaysGives p → ⊥ }
+    // That code was given up, for any reason, which always gives a value.
+    ensures cancelled { (before after : Working T) (most : ℕ) (p : Prog E A) (reason : E) → HasRun T.TxType before after most p (Ok (Cancelled reason))
+        → AlwaysGives p → ⊥ }
     // 1 as what a get of a box answers that holds 0, where nothing was written.
-    ensures other_value { (tries left most : ℕ) → HasLed box unused has_read tries left shapes most gets (Ok (Gave (Value (pos 1)))) → ⊥ }
+    ensures other_value { (tries left most : ℕ) → HasLed box unused has_read tries left shapes most (gets {E = E}) (Ok (Gave (Value (pos 1)))) → ⊥ }
+    // 1 as the reason of code that is given up for what a get of the box answers.
+    ensures other_reason { (tries left most : ℕ) → HasLed box unused has_read tries left shapes most (gives_up {A = A}) (Ok (Cancelled (Value (pos 1)))) → ⊥ }
 {}
 
 /// What `look` at a store does not answer.
-pub fn not_looked<T: TxType, A>()
+pub fn not_looked<T: TxType, A, E>()
     // That no worker rests, where one does.
-    ensures workers { (old new : Stored T) (most : ℕ) (p : Prog A) → HasLooked T.TxType old new most p (Err look_error.NoWorker) → (old.views ≡ [] → ⊥) → ⊥ }
+    ensures workers { (old new : Stored T) (most : ℕ) (p : Prog E A) → HasLooked T.TxType old new most p (Err look_error.NoWorker) → (old.views ≡ [] → ⊥) → ⊥ }
     // Anything else, where none does.
-    ensures done { (old new : Stored T) (most : ℕ) (p : Prog A) (d : Done A) → HasLooked T.TxType old new most p (Ok d) → old.views ≡ [] → ⊥ }
-    ensures unrun { (old new : Stored T) (most : ℕ) (p : Prog A) (e : TransactionError) → HasLooked T.TxType old new most p (Err (look_error.Transaction e))
+    ensures done { (old new : Stored T) (most : ℕ) (p : Prog E A) (d : Done A E) → HasLooked T.TxType old new most p (Ok d) → old.views ≡ [] → ⊥ }
+    ensures unrun { (old new : Stored T) (most : ℕ) (p : Prog E A) (e : TransactionError) → HasLooked T.TxType old new most p (Err (look_error.Transaction e))
         → old.views ≡ [] → ⊥ }
     // That others were in the way, where no worker has begun anything.
-    ensures busy_after_no_start { (old new : Stored T) (most : ℕ) (p : Prog A) → HasLooked T.TxType old new most p (Err (look_error.Transaction Busy))
+    ensures busy_after_no_start { (old new : Stored T) (most : ℕ) (p : Prog E A) → HasLooked T.TxType old new most p (Err (look_error.Transaction Busy))
         → new.views ≡ old.views → ⊥ }
 {}
 

@@ -11,5 +11,5 @@ loop-place-preserved g c =
     record {
       many = search rules;
       so = subst (λ (y : ℤ). IsSoFar (c.loop-place.place + 1) (slice_set c.loop-place.held c.loop-place.place y) c.args.tx.now c.get.new.tx) (sym (to_z-of_z w64 x (search rules)))
-          (one_more c.loop-place.place c.loop-place.held c.args.tx.now c.loop-place.tx c.get.new.tx 0 x (search rules) inv.so c.in_ok-value.ensures);
+          (one_more g.row.E.Denot c.loop-place.place c.loop-place.held c.args.tx.now c.loop-place.tx c.get.new.tx 0 x (search rules) inv.so c.in_ok-value.ensures);
     }

@@ -22,9 +22,9 @@ returns-in-Ok-Some-clause-led g c most large =
     let v = g.C.Cells.view c.loop-aborted.pass in
     let w = g.C.Cells.view c.attempt-back.result.0 in
     let ss = c.args.shapes.now.items in let p = g.K.Code.does c.args.code.now in
-    let ok = subst (λ (r : Result (Option (Result g.row.K-Out.Denot Halt)) NoMemory). Says m v w ss p r) c.in-Ok-Some.is c.attempt-back.ensures.tried.says in
-    let said = subst (λ (o : Option (Result g.row.K-Out.Denot Halt)). Says m v w ss p (Ok o)) c.in-Ok-Some.field-0-is ok in
-    subst (λ (r : Result (Done g.row.K-Out.Denot) TransactionError). HasLed m u w c.args.tries (c.loop-aborted.left - 1) ss most p r) (sym c.told.ensures)
+    let ok = subst (λ (r : Result (Option (Result g.row.K-Out.Denot (Halt g.row.K-Reason.Denot))) NoMemory). Says m v w ss p r) c.in-Ok-Some.is c.attempt-back.ensures.tried.says in
+    let said = subst (λ (o : Option (Result g.row.K-Out.Denot (Halt g.row.K-Reason.Denot))). Says m v w ss p (Ok o)) c.in-Ok-Some.field-0-is ok in
+    subst (λ (r : Result (Done g.row.K-Out.Denot g.row.K-Reason.Denot) TransactionError). HasLed m u w c.args.tries (c.loop-aborted.left - 1) ss most p r) (sym c.told.ensures)
     (led_by m u v w c.args.tries (c.loop-aborted.left - 1) ss p c.in-Ok-Some.said c.loop-aborted.invariant.grows c.loop-aborted.invariant.made.none said most large)
 
 pub returns-in-Err-clause-grows : goal.returns-in-Err-clause-grows
@@ -39,15 +39,15 @@ loop-aborted-preserved g c =
     let v = g.C.Cells.view c.loop-aborted.pass in
     let w = g.C.Cells.view c.attempt-back.result.0 in
     let ss = c.args.shapes.now.items in let p = g.K.Code.does c.args.code.now in
-    let ok = subst (λ (r : Result (Option (Result g.row.K-Out.Denot Halt)) NoMemory). Says m v w ss p r) c.in-Ok-None.is tried.says in
+    let ok = subst (λ (r : Result (Option (Result g.row.K-Out.Denot (Halt g.row.K-Reason.Denot))) NoMemory). Says m v w ss p r) c.in-Ok-None.is tried.says in
     record {
       rests = tried.rests;
       left = (let a = tried.draws in let b = inv.left in let n = c.if-left-eq0.false in omega (arith, a, b, n));
       grows = grows_on _ _ _ inv.grows tried.grows;
-      made = aborted_more u v w c.loop-aborted.aborted 1 tried.grows inv.made (subst (λ (o : Option (Result g.row.K-Out.Denot Halt)). Says m v w ss p (Ok o)) c.in-Ok-None.field-0-is ok);
+      made = aborted_more u v w c.loop-aborted.aborted 1 tried.grows inv.made (subst (λ (o : Option (Result g.row.K-Out.Denot (Halt g.row.K-Reason.Denot))). Says m v w ss p (Ok o)) c.in-Ok-None.field-0-is ok);
       alone = λ one.
-          let all = subst (λ (r : Result (Option (Result g.row.K-Out.Denot Halt)) NoMemory). IfOk r IsSome) c.in-Ok-None.is (tried.alone (g.met.C.Cells.same_passes _ _ inv.same ∙ one)) in
-          let there = subst (λ (o : Option (Result g.row.K-Out.Denot Halt)). IsSome o) c.in-Ok-None.field-0-is all in
+          let all = subst (λ (r : Result (Option (Result g.row.K-Out.Denot (Halt g.row.K-Reason.Denot))) NoMemory). IfOk r IsSome) c.in-Ok-None.is (tried.alone (g.met.C.Cells.same_passes _ _ inv.same ∙ one)) in
+          let there = subst (λ (o : Option (Result g.row.K-Out.Denot (Halt g.row.K-Reason.Denot))). IsSome o) c.in-Ok-None.field-0-is all in
           absurd (true≢false (sym there));
       same = g.met.C.Cells.same_through _ _ _ inv.same c.attempt-back.ensures.same;
     }

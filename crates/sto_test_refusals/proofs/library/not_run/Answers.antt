@@ -1,5 +1,5 @@
 use Rattle.std.proofs.Common.{arith}
-use Rattle.sto_test_refusals.proofs.Unrun.{gives_no_cancel, get_not_1}
+use Rattle.sto_test_refusals.proofs.Unrun.{gives_no_cancel, get_not_1, reason_not_1}
 use Rattle.sto_test_refusals.proofs.library.not_run.Goals as goal
 
 pub returns-clause-busy_after_no_start : goal.returns-clause-busy_after_no_start
@@ -9,7 +9,10 @@ pub returns-clause-worn_with_tickets_left : goal.returns-clause-worn_with_ticket
 returns-clause-worn_with_tickets_left g c = λ before after most p led left. left led.0
 
 pub returns-clause-cancelled : goal.returns-clause-cancelled
-returns-clause-cancelled g c = λ before after most p led gives. gives_no_cancel p _ gives led.said
+returns-clause-cancelled g c = λ before after most p reason led gives. gives_no_cancel p _ reason gives led.said
 
 pub returns-clause-other_value : goal.returns-clause-other_value
-returns-clause-other_value g c = get_not_1
+returns-clause-other_value g c = get_not_1 g.row.E.Denot
+
+pub returns-clause-other_reason : goal.returns-clause-other_reason
+returns-clause-other_reason g c = reason_not_1 g.row.A.Denot

@@ -41,7 +41,7 @@ returns-clause-looked g c =
     let all : c.self.inside.idle.items ≡ others ++ worker ∷ [] = c.in-Some.ensures.0 in
     let back : c.push_spare.new.self.items ≡ others ++ again ∷ [] = ap (λ l. l.items) c.push_spare.ensures in
     let new : Stored g.row.T.Denot = record { words = c.self.inside.words; shapes = c.self.inside.shapes.items; views = map V c.push_spare.new.self.items } in
-    subst (λ (r : Result (Done g.row.K-Out.Denot) LookError). HasLooked t old new most p r) (sym c.looked.ensures)
+    subst (λ (r : Result (Done g.row.K-Out.Denot g.row.K-Reason.Denot) LookError). HasLooked t old new most p r) (sym c.looked.ensures)
     (answered t old new most p out (record {
       others = map V others;
       from = V worker;
