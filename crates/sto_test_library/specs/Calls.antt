@@ -9,7 +9,6 @@ use Rattle.sto_action.specs.declared.handles.HashId.{HashId}
 use Rattle.sto_action.specs.declared.handles.TreeId.{TreeId}
 use Rattle.sto_action.specs.declared.handles.VectorId.{VectorId}
 use Rattle.sto_action.specs.Progs.{Prog, Gives, Cancels}
-use Rattle.sto_test_library.specs.declared.codes.Unwanted.{Unwanted}
 use Rattle.sto_action.specs.Steps.{box_get, box_set, counter_get, counter_add, counter_test, counter_take, array_get, array_set, array_add, hash_get, hash_put, hash_remove, hash_has, hash_len, tree_get, tree_put, tree_remove, tree_len, tree_next, tree_count, vector_get, vector_test, vector_len, vector_push, vector_pop}
 
 abbrev pub box_calls : BoxId → Prog Infallible (ℤ × ℤ)
@@ -51,6 +50,6 @@ vector_reads x = vector_get x (pos 0) (λ first. vector_test x Ge (pos 1) (λ so
 abbrev pub swap : BoxId → ℤ → Prog Infallible ℤ
 swap x value = box_get x (λ was. box_set x value (Gives was))
 
--- it gets the value of a box, writes another one, and then gives up for what it got
-abbrev pub give_up : BoxId → Prog Unwanted ℤ
-give_up x = box_get x (λ was. box_set x (pos 99) (Cancels (record { value = was })))
+-- it gets the value of a box, writes another one, and then gives up for a reason by what it got
+abbrev pub give_up : {E : Type 0} → (ℤ → E) → BoxId → Prog E ℤ
+give_up because x = box_get x (λ was. box_set x (pos 99) (Cancels (because was)))

@@ -15,6 +15,7 @@ fn opened(alloc: Global, schema: Schema) -> Option<SharedStore<Objects>> {
 fn given<K: Action>(alloc: Global, store: &mut SharedStore<Objects>, code: &K) -> Option<K::Out>
 where
     K::Out: Drop,
+    K::Reason: Drop,
 {
     match store.look(alloc, code) {
         Ok(Done::Gave(out)) => Some(out),

@@ -303,7 +303,7 @@ impl Action for GiveUp {
 
     type Reason = Unwanted;
 
-    ghost does = { λ c. give_up c.0 };
+    ghost does = { λ c. give_up {E = Unwanted} (λ value. record { value = value }) c.0 };
 
     ghost most = { λ _. 2 };
 

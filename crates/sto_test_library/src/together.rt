@@ -103,12 +103,13 @@ fn given_by_two_kinds<R: Threads + Sync>(rt: &R, alloc: Global) -> Option<(i64, 
         Either::Right(Times(2, GiveUp(of))),
     ];
     let told = store.run_tasks(rt, alloc, 2, &tasks).ok()?;
-    match told.as_slice() {
-        [Either::Left(Ok(Done::Gave(value))), Either::Right(Ok(done))] => {
-            Some((*value, matches!(done, Done::Cancelled(_))))
-        }
-        _ => None,
-    }
+    let Some(Either::Left(Ok(Done::Gave(value)))) = told.first() else {
+        return None;
+    };
+    let Some(Either::Right(Ok(done))) = told.get(1) else {
+        return None;
+    };
+    Some((*value, matches!(done, Done::Cancelled(_))))
 }
 
 #[test]
