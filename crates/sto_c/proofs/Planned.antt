@@ -13,7 +13,7 @@ use Rattle.sto_c.specs.declared.status.Status.{Status}
 use Rattle.sto_c.specs.declared.status.Status.TheVariants as status
 use Rattle.sto_c.specs.Crossing.{shape_in}
 use Rattle.sto_c.specs.Statuses.{of_unplanned, of_unopened}
-use Rattle.sto_c.specs.Stores.{IsUnfit, IsRefused, IsUnplanned, IsUnopened}
+use Rattle.sto_c.specs.Stores.{IsUnfit, IsRefused, ArePlanned, IsUnplanned, IsUnopened}
 use Rattle.sto_c.proofs.Copying.{drop_next, take_next}
 
 -- the shape at the place i cannot stand behind those before it
@@ -68,7 +68,7 @@ pub unplanned_unopened : (shapes : List ShapeIn) (workers : ℕ) (why : Status) 
 unplanned_unopened shapes workers status.BadWorkers h = absurd h.reason
 unplanned_unopened shapes workers why h = h
 
--- the same by what opening answered
-pub caused_unopened : (shapes : List ShapeIn) (workers : ℕ) (error : OpenError) → IsCause error workers → IsUnopened shapes workers (of_unopened error)
-caused_unopened shapes workers open_error.Workers cause = cause
-caused_unopened shapes workers open_error.NoMemory cause = tt
+-- the same by what opening answered, where all were planned
+pub caused_unopened : (shapes : List ShapeIn) (planned : List Shape) (workers : ℕ) (error : OpenError) → ArePlanned shapes planned → IsCause error workers → IsUnopened shapes workers (of_unopened error)
+caused_unopened shapes planned workers open_error.Workers all cause = ((planned, all), cause)
+caused_unopened shapes planned workers open_error.NoMemory all cause = tt

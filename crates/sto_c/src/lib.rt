@@ -28,9 +28,11 @@ ghost use Rattle.sto_c.specs.Steps.{
   HasToldLeft,
   HasToldRows,
 };
+ghost use Rattle.sto_c.specs.Walks.{HasWalked};
 ghost use Rattle.sto_c.specs.Whole.{HasRunWhole};
 
 mod calls;
+mod checking;
 mod content;
 mod crossing;
 mod handle;
@@ -40,6 +42,7 @@ mod loose;
 mod opening;
 mod status;
 mod telling;
+mod walking;
 
 use crossing::{CallIn, PairOut, ReplyOut, RowOut, ShapeIn};
 use handle::Handle;
@@ -141,6 +144,22 @@ pub extern "C" fn sto_pairs(
         (held worker.new) × IfErr done (λ why. why ≢ NoRoom → (pairs.new ≡ pairs.old) × (count.new ≡ count.old))) }
 {
     number_of(handles::pairs(alloc, worker, pairs, count))
+}
+
+/// Copies the next pairs of a tree.
+#[unsafe(no_mangle)]
+pub extern "C" fn sto_walk(
+    alloc: Global,
+    worker: &mut Handle,
+    object: u32,
+    from: i64,
+    pairs: &mut [PairOut],
+    count: &mut usize,
+) -> u32
+    ensures { Answers result (λ done. OfWorker (HasWalked object from pairs.old pairs.new count.new) (held worker.old) done
+        (held worker.new) × OnErr done (count.new ≡ count.old)) }
+{
+    number_of(handles::walk(alloc, worker, object, from, pairs, count))
 }
 
 /// Commits the transaction.

@@ -11,6 +11,7 @@ use Rattle.sto_c.specs.declared.status.Status.{Status}
 use Rattle.sto_c.specs.declared.status.Status.TheVariants.{BadKind}
 use Rattle.sto_c.specs.Statuses.{of_unplanned}
 use Rattle.sto_c.specs.Stores.{IsUnplanned}
+use Rattle.sto_c.proofs.Scalars.{few_scalars, scalars_next}
 use Rattle.sto_c.proofs.Planned.{refused_at, unplanned_at, stand_more, planned_next}
 use Rattle.sto_c.proofs.opening.plan_of.Goals as goal
 
@@ -35,6 +36,12 @@ returns-in_err-add-clause-refused c =
     by_error c.from_residual.result error (λ why. IsUnplanned gs why) c.from_residual.ensures.1
     (unplanned_at gs (get_or gs i any_shape) c.loop-given.plan c.in-Some.shape i error (slice_get-get_or gs i any_shape (omega arith)) c.loop-given.invariant.planned c.loop-given.invariant.stand c.in-Some.ensures c.in_err-add.ensures.reason)
 
+pub count_scalar-requires : goal.count_scalar-requires
+count_scalar-requires c =
+    let few = few_scalars c.loop-given.scalars c.loop-given.plan c.loop-given.invariant.scalars in
+    let more = c.in_ok-add.ensures.stands.few in
+    omega (arith, few, more)
+
 pub loop-given-preserved : goal.loop-given-preserved
 loop-given-preserved c =
     let gs = c.args.shapes.now in
@@ -42,4 +49,7 @@ loop-given-preserved c =
     record {
       planned = planned_next gs (get_or gs i any_shape) c.loop-given.plan c.add.new.self c.in-Some.shape i (slice_get-get_or gs i any_shape (omega arith)) c.loop-given.invariant.planned c.in-Some.ensures c.in_ok-add.ensures.added;
       stand = subst (λ (l : List Shape). AllStand [] l) (sym c.in_ok-add.ensures.added) (stand_more [] c.loop-given.plan c.in-Some.shape c.loop-given.invariant.stand c.in_ok-add.ensures.stands);
+      scalars =
+          scalars_next c.loop-given.scalars c.count_scalar.result c.loop-given.plan c.add.new.self c.in-Some.shape c.loop-given.invariant.scalars
+          c.in_ok-add.ensures.stands.order c.in_ok-add.ensures.added c.count_scalar.ensures.scalar c.count_scalar.ensures.other;
     }

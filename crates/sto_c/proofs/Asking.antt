@@ -1,0 +1,84 @@
+-- A call with which nothing is wrong is answered, or ends its transaction.
+use Rattle.std.proofs.Common.{◌≡◌, ◌≢◌, List, Option, Some, None, Err, refl, ap, sym, ◌∙◌, subst}
+use Rattle.std.specs.Prelude.{option_map, option_and_then}
+use Rattle.std.specs.Arc.{arc_value}
+use Rattle.sto_model.specs.declared.call.Call.{Call}
+use Rattle.sto_model.specs.PlainReplies.{PlainReply}
+use Rattle.sto_core.specs.declared.view.View.{View}
+use Rattle.sto_store.specs.declared.objects.Objects.{Objects}
+use Rattle.sto_store.specs.contracts.objects.ObjectsNaming.TheImpl.{ghosts as naming_ghosts}
+use Rattle.sto_interactive.specs.declared.asking.AskError.{AskError}
+use Rattle.sto_interactive.specs.declared.asking.AskError.TheVariants as ask_error
+use Rattle.sto_interactive.specs.declared.pause.RestingTransaction.{RestingTransaction}
+use Rattle.sto_interactive.specs.declared.session.Session.{Session}
+use Rattle.sto_interactive.specs.Sessions.{Stands}
+use Rattle.sto_interactive.specs.Steps.{HasAsked, HasAskedAfter}
+use Rattle.sto_shared_store.specs.declared.store.Store.{Store}
+use Rattle.sto_shared_store.specs.Owned.{Leads, IsAt, view_at}
+use Rattle.sto_shared_store.proofs.Since.{is_session}
+use Rattle.sto_c.specs.declared.content.WorkerHandle.{WorkerHandle}
+use Rattle.sto_c.specs.declared.crossing.CallIn.{CallIn}
+use Rattle.sto_c.specs.Content.{objects, IsWorker}
+use Rattle.sto_c.specs.declared.status.Status.{Status}
+use Rattle.sto_c.specs.declared.status.Status.TheVariants as status
+use Rattle.sto_c.specs.Calls.{Takes, HasObject, IsLawfulCall, IsFault}
+use Rattle.sto_c.specs.Crossing.{call_in}
+use Rattle.sto_c.specs.Statuses.{of_unasked}
+use Rattle.sto_c.specs.Steps.{Asks, HasAnswered}
+
+-- the transaction has ended
+Ends : AskError → Type 0
+Ends ask_error.Aborted = Unit {0}
+Ends ask_error.NoMemory = Unit {0}
+Ends _ = ⊥
+
+module _ (s : Store Objects) (v : View) (call : Call) (takes : (objects.meaning s.ty).takes call) where
+  by_error : (calls : List Call) (rs : List PlainReply) (begun : View) (error : AskError) (y : Session Objects naming_ghosts) → HasAskedAfter objects s.ty s.shared calls rs begun call (Err error) y → Ends error
+  by_error calls rs begun ask_error.NoTransaction y h = absurd h
+  by_error calls rs begun ask_error.Untaken y h = absurd (h.1 takes)
+  by_error calls rs begun ask_error.Aborted y h = tt
+  by_error calls rs begun ask_error.NoMemory y h = tt
+
+  by_live : (x y : Session Objects naming_ghosts) (error : AskError) (o : Option RestingTransaction) → x.live ≡ o → Stands objects s.ty s.shared o x.rest.seat x.left → x.live ≢ None
+      → HasAsked objects s.ty s.shared x call (Err error) y → Ends error
+  by_live x y error None e h within a = absurd (within e)
+  by_live x y error (Some p) e h within a = by_error h.0 h.1 h.2 error y (a.asking h.0 h.1 h.2 (record { paused = p; live = e; waits = h.3 }))
+
+  by_session : (error : AskError) (a b : Option (Session Objects naming_ghosts)) → IsAt objects s v a → option_and_then (λ x. option_map (λ p. p.attempt.table.replies) x.live) a ≢ None
+      → Leads (λ x y. HasAsked objects s.ty s.shared x call (Err error) y) a b → Ends error
+  by_session error None b h within l = absurd h
+  by_session error (Some x) None h within l = absurd l
+  by_session error (Some x) (Some y) h within l =
+      by_live x y error x.live refl (is_session objects s v x h) (λ none. within (ap (λ (o : Option RestingTransaction). option_map (λ p. p.attempt.table.replies) o) none)) l
+
+-- what becomes of it where it is not answered
+ends : (given : CallIn) (h : WorkerHandle) (call : Call) (error : AskError) (session : Option (Session Objects naming_ghosts)) → IsWorker h → IsLawfulCall given h call
+    → Leads (λ x y. HasAsked objects (arc_value h.worker.store).ty (arc_value h.worker.store).shared x call (Err error) y) h.worker.session session → Ends error
+ends given h call error session is lawful l =
+    by_session (arc_value h.worker.store) (view_at h.worker.slot) call lawful.0.2 error h.worker.session session is.at lawful.0.0.0 l
+
+-- so its status is that of an abort, or of want of memory
+pub unasked : (given : CallIn) (h k : WorkerHandle) (call : Call) (error : AskError) → IsWorker h → IsLawfulCall given h call → Asks h k call (Err error) → HasAnswered given h (Err (of_unasked error)) k
+unasked given h k call ask_error.NoTransaction is lawful asks = absurd (ends given h call ask_error.NoTransaction k.worker.session is lawful asks.1)
+unasked given h k call ask_error.Untaken is lawful asks = absurd (ends given h call ask_error.Untaken k.worker.session is lawful asks.1)
+unasked given h k call ask_error.Aborted is lawful asks = (call, lawful, asks)
+unasked given h k call ask_error.NoMemory is lawful asks = (call, lawful, asks)
+
+-- what is wrong with it is its status, and nothing changes
+pub faulted : (given : CallIn) (h : WorkerHandle) (why : Status) → IsFault given h why → HasAnswered given h (Err why) h
+faulted given h status.Aborted fault = absurd fault
+faulted given h status.NoMemory fault = absurd fault
+faulted given h why fault = (fault, refl)
+
+none_some : (call : Call) → None ≡ Some call → ⊥
+none_some call same = cc same
+
+some_same : (c d : Call) → Some c ≡ Some d → c ≡ d
+some_same c d same = cc same
+
+-- it is no call where its operation is none, and where the objects do not take it
+pub no_operation : (given : CallIn) (h : WorkerHandle) → HasObject given h → call_in given ≡ None → IsFault given h status.NoCall
+no_operation given h there none = (there, λ call is takes. none_some call (sym none ∙ is))
+
+pub not_taken : (given : CallIn) (h : WorkerHandle) (call : Call) → HasObject given h → call_in given ≡ Some call → (Takes h call → ⊥) → IsFault given h status.NoCall
+not_taken given h call there is no = (there, λ other same takes. no (subst (Takes h) (sym (some_same call other (sym is ∙ same))) takes))
