@@ -239,9 +239,10 @@ uint32_t sto_pairs(sto_handle *worker, sto_pair *pairs, size_t room, size_t *cou
 
 /* Copies the next pairs of a tree: those of its keys from `from` on, in their order, as many as there is room for, and writes how many
  * they are. Where it writes fewer than there is room for, the tree has no more; else the next piece begins behind the last key. It asks
- * STO_NEXT and STO_GET in turn and takes their time; the transaction has read nothing else, and its last reply has no pairs. Where the
- * answer is not STO_OK, some pairs may have been written, and they count for nothing. (No operation finds the keys of a hash table: a
- * program that is to walk them keeps them in a tree besides, or reads the rows of the closed store.) */
+ * STO_NEXT and STO_GET in turn and takes their time; the transaction has read nothing else, and its last reply has no pairs. Without
+ * room it asks nothing, but is refused where STO_NEXT would be. Where the answer is not STO_OK, some pairs may have been written, and
+ * they count for nothing. (No operation finds the keys of a hash table: a program that is to walk them keeps them in a tree besides, or
+ * reads the rows of the closed store.) */
 uint32_t sto_walk(sto_handle *worker, uint32_t object, int64_t from, sto_pair *pairs, size_t room, size_t *count);
 
 /* Commits the transaction, and writes its place in the order: its ticket, or the number as of which it read where it wrote

@@ -29,6 +29,7 @@ static void see_walk(sto_handle *worker)
     sto_reply reply;
     size_t count = 9;
     expect(sto_walk(worker, 2, 0, pairs, 2, &count), STO_NO_CALL, "walk of a hash table");
+    expect(sto_walk(worker, 2, 0, pairs, 0, &count), STO_NO_CALL, "walk of a hash table, without room");
     expect(sto_walk(worker, 9, 0, pairs, 2, &count), STO_NO_OBJECT, "walk of no object");
     need(sto_walk(worker, 3, 1, pairs, 0, &count), "sto_walk without room");
     if (count != 0) wrong++;
@@ -109,6 +110,7 @@ int main(void)
     expect(sto_cancel(&worker), STO_NO_TRANSACTION, "cancel outside");
     expect(sto_pairs(&worker, pairs, 4, &count), STO_NO_TRANSACTION, "pairs outside");
     expect(sto_walk(&worker, 3, 0, pairs, 4, &count), STO_NO_TRANSACTION, "walk outside");
+    expect(sto_walk(&worker, 3, 0, pairs, 0, &count), STO_NO_TRANSACTION, "walk outside, without room");
 
     /* within one: the transaction goes on */
     need(sto_begin(&worker), "sto_begin");

@@ -1,5 +1,5 @@
 -- A call with which nothing is wrong is answered, or ends its transaction.
-use Rattle.std.proofs.Common.{◌≡◌, ◌≢◌, List, Option, Some, None, Err, refl, ap, sym, ◌∙◌, subst}
+use Rattle.std.proofs.Common.{◌≡◌, ◌≢◌, ◌↔◌, Bool, true, false, is_some, IsTrue, MatchBool, List, Option, Some, None, Err, refl, ap, sym, ◌∙◌, subst}
 use Rattle.std.specs.Prelude.{option_map, option_and_then}
 use Rattle.std.specs.Arc.{arc_value}
 use Rattle.sto_model.specs.declared.call.Call.{Call}
@@ -25,6 +25,22 @@ use Rattle.sto_c.specs.Calls.{Takes, HasObject, IsLawfulCall, IsFault}
 use Rattle.sto_c.specs.Crossing.{call_in}
 use Rattle.sto_c.specs.Statuses.{of_unasked}
 use Rattle.sto_c.specs.Steps.{Asks, HasAnswered}
+
+some_there : {X : Type 0} (x : X) → Some x ≡ None → ⊥
+some_there x same = cc same
+
+-- whether there is something, where it is seen as something else
+pub is_there : {X Y : Type 0} (f : X → Y) (o : Option X) (rs : Option Y) (b : Bool) → option_map f o ≡ rs → b ≡ is_some o → MatchBool b (rs ≢ None) (rs ≡ None)
+is_there f None rs b same is = subst (λ (t : Bool). MatchBool t (rs ≢ None) (rs ≡ None)) (sym is) (sym same)
+is_there f (Some x) rs b same is = subst (λ (t : Bool). MatchBool t (rs ≢ None) (rs ≡ None)) (sym is) (λ none. some_there (f x) (same ∙ none))
+
+-- what a test tells
+pub by_test : (b : Bool) (P : Type 0) → (IsTrue b ↔ P) → MatchBool b P (P → ⊥)
+by_test true P h = h.0 refl
+by_test false P h = λ p. no_true (h.1 p)
+  where
+    no_true : false ≡ true → ⊥
+    no_true same = cc same
 
 -- the transaction has ended
 Ends : AskError → Type 0

@@ -8,5 +8,5 @@ pub mod Sending
 pub mod Walked
 pub mod Whole
 pub mod Gathering
-pub mod Refusals
+pub mod CallRefutations
 pub mod Refutations

@@ -1,13 +1,16 @@
 -- The pairs of a walk, one behind the other.
-use Rattle.std.proofs.Common.{◌≡◌, ◌≤◌, ◌<◌, ◌+◌, ℕ, ℤ, List, [], ◌∷◌, ◌++◌, length, take, drop, Option, Some, None, Ok, refl, sym, ap, ◌∙◌, subst}
+use Rattle.std.proofs.Common.{◌≡◌, ◌≤◌, ◌<◌, ◌+◌, ℕ, ℤ, List, [], ◌∷◌, ◌++◌, length, take, drop, Option, Some, None, Result, Ok, Err, refl, sym, ap, ◌∙◌, subst, arith, inl}
 use Rattle.std.specs.Prelude.{slice_set}
 use Rattle.std.proofs.lemmas.List.{length-take-le, take-append-drop, drop-set, drop-drop}
 use Rattle.sto_c.specs.declared.crossing.PairOut.{PairOut}
 use Rattle.sto_c.specs.declared.content.WorkerHandle.{WorkerHandle}
 use Rattle.sto_model.specs.declared.operation.Operation.TheVariants.{Get, Next}
 use Rattle.sto_c.specs.declared.crossing.ReplyOut.{ReplyOut}
+use Rattle.sto_c.specs.declared.status.Status.{Status}
+use Rattle.sto_c.specs.Calls.{IsFault}
 use Rattle.sto_c.specs.Steps.{HasAsked}
-use Rattle.sto_c.specs.Walks.{call_at, value_in, key_after, HasFound, HaveFound}
+use Rattle.sto_c.specs.Walks.{call_at, value_in, key_after, HasFound, HaveFound, HasStopped, HasWalkedOn, HasWalked}
+use Rattle.sto_c.proofs.Asking.{faulted}
 
 some_same : (f g : ℤ) → Some f ≡ Some g → f ≡ g
 some_same f g same = cc same
@@ -37,3 +40,34 @@ pub found_pair : (object : ℕ) (from key : ℤ) (first second : ReplyOut) (h m 
     → HasAsked (call_at object Get key) second m (Ok tt) k → HasFound object from (record { key = key; value = second.value }) h k
 found_pair object from key first second h m k next is get =
     record { at = m; key = first; value = second; asked_key = next; asked_value = get; is_key = is; is_value = refl }
+
+-- a walk that has found so many pairs, and stops
+pub has_walked_on : (object : ℕ) (from : ℤ) (old new : List PairOut) (n : ℕ) → length new ≡ length old → n ≤ length new → drop n new ≡ drop n old
+    → (h at : WorkerHandle) (to : Option ℤ) → HaveFound object (Some from) (take n new) to h at
+    → (count : ℕ) (done : Result (Unit {0}) Status) (k : WorkerHandle) → HasStopped object (take n new) to (length old) count at done k → HasWalkedOn object from old new count h done k
+has_walked_on object from old new n long within behind h at to found count done k stopped =
+    let many = length-take-le n new within in record {
+      pairs = take n new;
+      to = to;
+      at = at;
+      found = found;
+      fits = omega (arith, many, within, long);
+      written = written_at n new old within behind;
+      stopped = stopped;
+    }
+
+-- a walk that did not begin, since something was wrong with its first call
+pub not_begun : (object : ℕ) (from : ℤ) (old : List PairOut) (count : ℕ) (h : WorkerHandle) (why : Status) → IsFault (call_at object Next from) h why
+    → HasWalked object from old old count h (Err why) h
+not_begun object from old count h why fault = record {
+  may_ask = tt;
+  walked = record {
+    pairs = [];
+    to = Some from;
+    at = h;
+    found = (refl, refl);
+    fits = omega arith;
+    written = refl;
+    stopped = inl (faulted (call_at object Next from) h why fault);
+  };
+}

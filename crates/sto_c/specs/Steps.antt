@@ -122,6 +122,11 @@ OfWorker to (Closed rows) done y = (done ≡ Err status.OtherHandle) × (y ≡ C
 OfWorker to (Worker h) done (Worker k) = to h done k
 OfWorker to (Worker h) done _ = ⊥
 
+-- it holds no worker
+abbrev pub IsNoWorker : HandleContent → Type 0
+IsNoWorker (Worker h) = ⊥
+IsNoWorker _ = Unit {0}
+
 -- nothing changed; the rows that a closed store held were copied
 abbrev pub HasToldRows : (old new : List RowOut) → (counted count : ℕ) → HandleContent → Result (Unit {0}) Status → HandleContent → Type 0
 HasToldRows old new counted count Nothing done y = (done ≡ Err status.Empty) × (y ≡ Nothing) × (new ≡ old) × (count ≡ counted)

@@ -1,8 +1,9 @@
 -- What a walk over the keys of a tree leads to: it asks for the next key and for the value there, in turn.
-use Rattle.std.specs.Prelude.{◌≡◌, ◌≤◌, ◌⊎◌, ◌++◌, ◌+ℤ◌, ℕ, ℤ, pos, nat_eq, if◌then◌else◌, List, [], ◌∷◌, length, drop, Result, Ok, Err, Option, Some, None}
+use Rattle.std.specs.Prelude.{◌≡◌, ◌≤◌, ◌⊎◌, ◌++◌, ◌+ℤ◌, ℕ, ℤ, pos, nat_eq, if◌then◌else◌, List, [], ◌∷◌, length, drop, Result, Ok, Err, Option, Some, None, OnOk}
 use Rattle.std.specs.Ordering.{int_eq}
 use Rattle.sto_model.specs.Objects.{greatest}
 use Rattle.sto_model.specs.Operations.{code_of}
+use Rattle.sto_model.specs.declared.call.Call.{Call}
 use Rattle.sto_model.specs.declared.operation.Operation.{Operation}
 use Rattle.sto_model.specs.declared.operation.Operation.TheVariants.{Get, Next}
 use Rattle.sto_c.specs.declared.crossing.CallIn.{CallIn}
@@ -10,7 +11,8 @@ use Rattle.sto_c.specs.declared.crossing.PairOut.{PairOut}
 use Rattle.sto_c.specs.declared.crossing.ReplyOut.{ReplyOut}
 use Rattle.sto_c.specs.declared.content.WorkerHandle.{WorkerHandle}
 use Rattle.sto_c.specs.declared.status.Status.{Status}
-use Rattle.sto_c.specs.Steps.{IsOfSameStore, HasAnswered, HasAsked}
+use Rattle.sto_c.specs.Calls.{IsLawfulCall}
+use Rattle.sto_c.specs.Steps.{HasAnswered, HasAsked}
 
 -- the call of an operation of a tree at a key
 abbrev pub call_at : ℕ → Operation → ℤ → CallIn
@@ -59,7 +61,7 @@ module _ (object : ℕ) where
   HasStopped pairs (Some from) room count at (Err why) k = HasNotFound from at why k
 
   -- the pairs from a key on were written to the front of what there was before
-  pub record HasWalked (from : ℤ) (old new : List PairOut) (count : ℕ) (h : WorkerHandle) (done : Result (Unit {0}) Status) (k : WorkerHandle) : Type 0 where
+  pub record HasWalkedOn (from : ℤ) (old new : List PairOut) (count : ℕ) (h : WorkerHandle) (done : Result (Unit {0}) Status) (k : WorkerHandle) : Type 0 where
     pub pairs : List PairOut
     pub to : Option ℤ
     pub at : WorkerHandle
@@ -67,3 +69,12 @@ module _ (object : ℕ) where
     pub fits : length pairs ≤ length old
     pub written : new ≡ pairs ++ drop (length pairs) old
     pub stopped : HasStopped pairs to (length old) count at done k
+
+  -- nothing is wrong with a call for the next key
+  abbrev pub MayAskNext : ℤ → WorkerHandle → Type 0
+  MayAskNext from h = (call : Call) × IsLawfulCall (call_at object Next from) h call
+
+  -- a worker may walk where it may ask for the next key, also where there is no room for a pair
+  pub record HasWalked (from : ℤ) (old new : List PairOut) (count : ℕ) (h : WorkerHandle) (done : Result (Unit {0}) Status) (k : WorkerHandle) : Type 0 where
+    pub may_ask : OnOk done (MayAskNext from h)
+    pub walked : HasWalkedOn from old new count h done k

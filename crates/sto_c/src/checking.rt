@@ -1,5 +1,7 @@
 //! What is wrong with a call that C gives.
-ghost use Rattle.std.specs.Prelude.{◌≡◌, ◌↔◌, IfOk, IfErr, IsTrue};
+ghost use Rattle.std.specs.Prelude.{◌≡◌, ◌≢◌, None, IfOk, IfErr};
+ghost use Rattle.std.specs.Bool.{MatchBool};
+ghost use Rattle.sto_shared_store.specs.Owned.{replies_of};
 ghost use Rattle.sto_c.specs.Calls.{wanted, Takes, IsLawfulCall, IsFault};
 
 use crate::content::WorkerHandle;
@@ -30,9 +32,16 @@ fn wanted(is_scalar: bool, operation: Operation) -> u32
     }
 }
 
+// Whether a worker is in a transaction.
+fn is_within(held: &WorkerHandle) -> bool
+    ensures { MatchBool result (replies_of held.now.worker ≢ None) (replies_of held.now.worker ≡ None) }
+{
+    held.worker.replies().is_some()
+}
+
 // Whether the objects of its store take a call.
 fn is_taken(held: &WorkerHandle, call: &Call) -> bool
-    ensures { IsTrue result ↔ Takes held.now call.now }
+    ensures { MatchBool result (Takes held.now call.now) (Takes held.now call.now → ⊥) }
 {
     held.worker.store.ty.takes(call)
 }
@@ -42,7 +51,7 @@ pub(crate) fn call_of(held: &WorkerHandle, given: &CallIn) -> Result<Call, Statu
     ensures lawful { IfOk result (λ call. IsLawfulCall given.now held.now call) }
     ensures fault { IfErr result (λ why. IsFault given.now held.now why) }
 {
-    if held.worker.replies().is_none() {
+    if !is_within(held) {
         return Err(Status::NoTransaction);
     }
     if held.objects.all <= given.object {

@@ -24,6 +24,7 @@ ghost use Rattle.sto_c.specs.Steps.{
   HasToldPairs,
   HasToldLeft,
   HasToldRows,
+  IsNoWorker,
 };
 ghost use Rattle.sto_c.specs.Walks.{HasWalked};
 ghost use Rattle.sto_c.specs.Whole.{HasRunWhole};
@@ -228,6 +229,7 @@ pub(crate) fn walk(
 ) -> Result<(), Status>
     ensures walked { OfWorker (HasWalked object from pairs.old pairs.new count.new) (held worker.old) result (held worker.new) }
     ensures kept { OnErr result (count.new ≡ count.old) }
+    ensures untouched { IsNoWorker (held worker.old) → pairs.new ≡ pairs.old }
 {
     let Some(value) = worker.take(alloc) else {
         return Err(Status::Empty);

@@ -13,6 +13,7 @@ ghost use Rattle.sto_c.specs.Steps.{
   HasToldPairs,
   HasToldLeft,
   HasToldRows,
+  IsNoWorker,
 };
 ghost use Rattle.sto_c.specs.Walks.{HasWalked};
 ghost use Rattle.sto_c.specs.Whole.{HasRunWhole};
@@ -149,6 +150,7 @@ pub(crate) fn walk(
     ensures full { IsFull held.new }
     ensures walked { OfWorker (HasWalked object from pairs.old pairs.new count.new) held.old result held.new }
     ensures kept { OnErr result (count.new ≡ count.old) }
+    ensures untouched { IsNoWorker held.old → pairs.new ≡ pairs.old }
 {
     match held {
         HandleContent::Nothing => Err(Status::Empty),

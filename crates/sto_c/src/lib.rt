@@ -27,6 +27,7 @@ ghost use Rattle.sto_c.specs.Steps.{
   HasToldPairs,
   HasToldLeft,
   HasToldRows,
+  IsNoWorker,
 };
 ghost use Rattle.sto_c.specs.Walks.{HasWalked};
 ghost use Rattle.sto_c.specs.Whole.{HasRunWhole};
@@ -156,8 +157,9 @@ pub extern "C" fn sto_walk(
     pairs: &mut [PairOut],
     count: &mut usize,
 ) -> u32
-    ensures { Answers result (λ done. OfWorker (HasWalked object from pairs.old pairs.new count.new) (held worker.old) done
+    ensures walked { Answers result (λ done. OfWorker (HasWalked object from pairs.old pairs.new count.new) (held worker.old) done
         (held worker.new) × OnErr done (count.new ≡ count.old)) }
+    ensures untouched { IsNoWorker (held worker.old) → pairs.new ≡ pairs.old }
 {
     number_of(handles::walk(alloc, worker, object, from, pairs, count))
 }

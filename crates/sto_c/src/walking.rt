@@ -2,9 +2,10 @@
 ghost use Rattle.std.specs.Prelude.{◌≡◌, OnErr, IfOk, IfErr, IfSome, IfNone, Some};
 ghost use Rattle.sto_c.specs.Content.{IsWorker};
 ghost use Rattle.sto_c.specs.Steps.{IsOfSameStore};
-ghost use Rattle.sto_c.specs.Walks.{call_at, value_in, key_after, HasFound, HasNone, HasNotFound, HasWalked};
+ghost use Rattle.sto_c.specs.Walks.{call_at, value_in, key_after, HasFound, HasNone, HasNotFound, HasWalkedOn, HasWalked};
 
 use crate::calls::ask;
+use crate::checking::call_of;
 use crate::content::WorkerHandle;
 use crate::crossing::{CallIn, PairOut, ReplyOut};
 use crate::status::Status;
@@ -88,8 +89,8 @@ fn find(
     }
 }
 
-/// Copies the pairs of a tree from a key on, as many as there is room for.
-pub(crate) fn walk(
+// Copies the pairs of a tree from a key on, as many as there is room for.
+fn walk_on(
     alloc: Global,
     held: &mut WorkerHandle,
     object: u32,
@@ -100,7 +101,7 @@ pub(crate) fn walk(
     requires { IsWorker held.old }
     ensures worker { IsWorker held.new }
     ensures store { IsOfSameStore held.old held.new }
-    ensures walked { HasWalked object from pairs.old pairs.new count.new held.old result held.new }
+    ensures walked { HasWalkedOn object from pairs.old pairs.new count.new held.old result held.new }
     ensures kept { OnErr result (count.new ≡ count.old) }
 {
     let mut next = Some(from);
@@ -123,4 +124,25 @@ pub(crate) fn walk(
     }
     *count = pairs.len();
     Ok(())
+}
+
+/// Copies the pairs of a tree from a key on, as many as there is room for, where it may be asked for its keys.
+pub(crate) fn walk(
+    alloc: Global,
+    held: &mut WorkerHandle,
+    object: u32,
+    from: i64,
+    pairs: &mut [PairOut],
+    count: &mut usize,
+) -> Result<(), Status>
+    requires { IsWorker held.old }
+    ensures worker { IsWorker held.new }
+    ensures store { IsOfSameStore held.old held.new }
+    ensures walked { HasWalked object from pairs.old pairs.new count.new held.old result held.new }
+    ensures kept { OnErr result (count.new ≡ count.old) }
+{
+    match call_of(held, &call_at(object, Operation::Next, from)) {
+        Ok(_) => walk_on(alloc, held, object, from, pairs, count),
+        Err(status) => Err(status),
+    }
 }

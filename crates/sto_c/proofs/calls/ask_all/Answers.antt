@@ -11,7 +11,7 @@ use Rattle.sto_c.proofs.Whole.{have_asked_more, have_asked_all}
 use Rattle.sto_c.proofs.calls.ask_all.Goals as goal
 
 abbrev no_call : CallIn
-no_call = record { object = 0; operation = 0; a = pos 0; b = pos 0 }
+no_call = record { object = 0; operation = 0; numbers = 0; unused = 0; a = pos 0; b = pos 0 }
 
 pub loop-at-init : goal.loop-at-init
 loop-at-init c = record { worker = c.requires.worker; store = (refl, refl); long = refl; asked = refl; behind = refl }

@@ -5,7 +5,7 @@ use Rattle.std.proofs.lemmas.List.{take_more_set, length-take-le, length-set}
 use Rattle.sto_c.specs.declared.crossing.PairOut.{PairOut}
 use Rattle.sto_c.specs.Walks.{key_after, HaveFound, HasNone, HasNotFound}
 use Rattle.sto_c.proofs.Walked.{have_found_more, written_at, left_behind}
-use Rattle.sto_c.proofs.walking.walk.Goals as goal
+use Rattle.sto_c.proofs.walking.walk_on.Goals as goal
 
 pub loop-place-init : goal.loop-place-init
 loop-place-init c = record { worker = c.requires; store = (refl, refl); long = refl; found = (refl, refl); behind = refl; count = refl }

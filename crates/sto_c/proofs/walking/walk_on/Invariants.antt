@@ -3,7 +3,7 @@ use Rattle.std.proofs.Common.{◌≡◌, length, take, drop, Some}
 use Rattle.sto_c.specs.Content.{IsWorker}
 use Rattle.sto_c.specs.Steps.{IsOfSameStore}
 use Rattle.sto_c.specs.Walks.{HaveFound}
-use Rattle.sto_c.proofs.walking.walk.Given as goal
+use Rattle.sto_c.proofs.walking.walk_on.Given as goal
 
 abbrev pub invariant-loop-place : goal.invariant-loop-place
 invariant-loop-place l = record {
