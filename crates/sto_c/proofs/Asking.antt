@@ -3,8 +3,6 @@ use Rattle.std.proofs.Common.{◌≡◌, ◌≢◌, ◌↔◌, Bool, true, false
 use Rattle.std.specs.Prelude.{option_map, option_and_then}
 use Rattle.std.specs.Arc.{arc_value}
 use Rattle.sto_model.specs.declared.call.Call.{Call}
-use Rattle.sto_model.specs.PlainReplies.{PlainReply}
-use Rattle.sto_core.specs.declared.view.View.{View}
 use Rattle.sto_store.specs.declared.objects.Objects.{Objects}
 use Rattle.sto_store.specs.contracts.objects.ObjectsNaming.TheImpl.{ghosts as naming_ghosts}
 use Rattle.sto_interactive.specs.declared.asking.AskError.{AskError}
@@ -13,7 +11,6 @@ use Rattle.sto_interactive.specs.declared.pause.RestingTransaction.{RestingTrans
 use Rattle.sto_interactive.specs.declared.session.Session.{Session}
 use Rattle.sto_interactive.specs.Sessions.{Stands}
 use Rattle.sto_interactive.specs.Steps.{HasAsked, HasAskedAfter}
-use Rattle.sto_shared_store.specs.declared.store.Store.{Store}
 use Rattle.sto_shared_store.specs.Owned.{Leads, IsAt, view_at}
 use Rattle.sto_shared_store.proofs.Since.{is_session}
 use Rattle.sto_c.specs.declared.content.WorkerHandle.{WorkerHandle}
@@ -48,30 +45,35 @@ Ends ask_error.Aborted = Unit {0}
 Ends ask_error.NoMemory = Unit {0}
 Ends _ = ⊥
 
-module _ (s : Store Objects) (v : View) (call : Call) (takes : (objects.meaning s.ty).takes call) where
-  by_error : (calls : List Call) (rs : List PlainReply) (begun : View) (error : AskError) (y : Session Objects naming_ghosts) → HasAskedAfter objects s.ty s.shared calls rs begun call (Err error) y → Ends error
-  by_error calls rs begun ask_error.NoTransaction y h = absurd h
-  by_error calls rs begun ask_error.Untaken y h = absurd (h.1 takes)
-  by_error calls rs begun ask_error.Aborted y h = tt
-  by_error calls rs begun ask_error.NoMemory y h = tt
+-- the transaction of the session x, which was in one, is asked a call that its objects take
+module _ (h : WorkerHandle) (call : Call) (takes : Takes h call) (error : AskError) (x y : Session Objects naming_ghosts)
+    (asked : HasAsked objects (arc_value h.worker.store).ty (arc_value h.worker.store).shared x call (Err error) y) where
+  by_live : (o : Option RestingTransaction) → x.live ≡ o → Stands objects (arc_value h.worker.store).ty (arc_value h.worker.store).shared o x.rest.seat x.left → x.live ≢ None → Ends error
+  by_live None e stands within = absurd (within e)
+  by_live (Some p) e stands within =
+      by error (asked.asking stands.0 stands.1 stands.2 (record { paused = p; live = e; waits = stands.3 }))
+    where
+      by : (why : AskError) → HasAskedAfter objects (arc_value h.worker.store).ty (arc_value h.worker.store).shared stands.0 stands.1 stands.2 call (Err why) y → Ends why
+      by ask_error.NoTransaction after = absurd after
+      by ask_error.Untaken after = absurd (after.1 takes)
+      by ask_error.Aborted after = tt
+      by ask_error.NoMemory after = tt
 
-  by_live : (x y : Session Objects naming_ghosts) (error : AskError) (o : Option RestingTransaction) → x.live ≡ o → Stands objects s.ty s.shared o x.rest.seat x.left → x.live ≢ None
-      → HasAsked objects s.ty s.shared x call (Err error) y → Ends error
-  by_live x y error None e h within a = absurd (within e)
-  by_live x y error (Some p) e h within a = by_error h.0 h.1 h.2 error y (a.asking h.0 h.1 h.2 (record { paused = p; live = e; waits = h.3 }))
-
-  by_session : (error : AskError) (a b : Option (Session Objects naming_ghosts)) → IsAt objects s v a → option_and_then (λ x. option_map (λ p. p.attempt.table.replies) x.live) a ≢ None
-      → Leads (λ x y. HasAsked objects s.ty s.shared x call (Err error) y) a b → Ends error
-  by_session error None b h within l = absurd h
-  by_session error (Some x) None h within l = absurd l
-  by_session error (Some x) (Some y) h within l =
-      by_live x y error x.live refl (is_session objects s v x h) (λ none. within (ap (λ (o : Option RestingTransaction). option_map (λ p. p.attempt.table.replies) o) none)) l
+module _ (h : WorkerHandle) (call : Call) (takes : Takes h call) (error : AskError) where
+  by_session : (a b : Option (Session Objects naming_ghosts)) → IsAt objects (arc_value h.worker.store) (view_at h.worker.slot) a
+      → option_and_then (λ x. option_map (λ p. p.attempt.table.replies) x.live) a ≢ None
+      → Leads (λ x y. HasAsked objects (arc_value h.worker.store).ty (arc_value h.worker.store).shared x call (Err error) y) a b → Ends error
+  by_session None b at within l = absurd at
+  by_session (Some x) None at within l = absurd l
+  by_session (Some x) (Some y) at within l =
+      by_live h call takes error x y l x.live refl (is_session objects (arc_value h.worker.store) (view_at h.worker.slot) x at)
+      (λ none. within (ap (λ (o : Option RestingTransaction). option_map (λ p. p.attempt.table.replies) o) none))
 
 -- what becomes of it where it is not answered
 ends : (given : CallIn) (h : WorkerHandle) (call : Call) (error : AskError) (session : Option (Session Objects naming_ghosts)) → IsWorker h → IsLawfulCall given h call
     → Leads (λ x y. HasAsked objects (arc_value h.worker.store).ty (arc_value h.worker.store).shared x call (Err error) y) h.worker.session session → Ends error
 ends given h call error session is lawful l =
-    by_session (arc_value h.worker.store) (view_at h.worker.slot) call lawful.0.2 error h.worker.session session is.at lawful.0.0.0 l
+    by_session h call lawful.0.2 error h.worker.session session is.at lawful.0.0.0 l
 
 -- so its status is that of an abort, or of want of memory
 pub unasked : (given : CallIn) (h k : WorkerHandle) (call : Call) (error : AskError) → IsWorker h → IsLawfulCall given h call → Asks h k call (Err error) → HasAnswered given h (Err (of_unasked error)) k

@@ -1,5 +1,5 @@
 -- What becomes of stores: how they are opened, give workers out and take them back, and are closed.
-use Rattle.std.specs.Prelude.{◌≡◌, ◌≢◌, ◌<◌, ◌≤◌, ◌+◌, ◌⊎◌, ℕ, zero, suc, Result, Ok, Err, Option, Some, None, IfSome, List, [], ◌∷◌, ◌++◌, length, map}
+use Rattle.std.specs.Prelude.{◌≡◌, ◌≢◌, ◌<◌, ◌≤◌, ◌+◌, ◌^◌, ◌⊎◌, ℕ, zero, suc, Result, Ok, Err, Option, Some, None, IfSome, List, [], ◌∷◌, ◌++◌, length, map}
 use Rattle.std.specs.Arc.{arc_value}
 use Rattle.std.specs.List.{All}
 use Rattle.sto_model.specs.declared.shape.Shape.{Shape}
@@ -8,11 +8,12 @@ use Rattle.sto_model.specs.Rows.{Row}
 use Rattle.sto_model.specs.Sizes.{rank}
 use Rattle.sto_store.specs.declared.objects.Objects.{Objects}
 use Rattle.sto_store.specs.contracts.objects.ObjectsNaming.TheImpl.{ghosts as naming_ghosts}
+use Rattle.sto_shared_store.specs.declared.store.Store.{Store as StoreState}
 use Rattle.sto_shared_store.specs.declared.worker.CountedRest.{CountedRest}
 use Rattle.sto_shared_store.specs.declared.plan_error.PlanError.TheVariants as plan_error
 use Rattle.sto_shared_store.specs.Plans.{IsReason, AllStand}
 use Rattle.sto_history.specs.Done.{HaveHistory}
-use Rattle.sto_shared_store.specs.Working.{IsWorker, AreRowsAfter}
+use Rattle.sto_shared_store.specs.Working.{IsWorker, IsFresh, AreRowsAfter}
 use Rattle.sto_interactive.specs.Steps.{IsUnchanged}
 use Rattle.sto_shared_store.specs.Owned.{Leads}
 use Rattle.sto_shared_store.specs.declared.owned_store.OwnedStore.{OwnedStore}
@@ -40,7 +41,11 @@ AreScalars count [] = count ≡ 0
 AreScalars zero (shape ∷ shapes) = (2 ≤ rank shape) × AreScalars zero shapes
 AreScalars (suc count) (shape ∷ shapes) = (rank shape < 2) × AreScalars count shapes
 
--- a store of objects of these shapes, opened for so many workers, who all rest in it
+-- a worker of the store s that was just opened: it has done nothing, knows what the objects held at first, and may draw so many tickets
+abbrev pub IsNew : StoreState Objects → CountedRest Objects naming_ghosts → Type 0
+IsNew s w = IsFresh (objects.meaning s.ty) (objects.sizes s.ty) s.shared w.rest.seat × (w.left ≡ 2 ^ 40)
+
+-- a store of objects of these shapes, opened for so many workers, who all rest in it and are new
 pub record HasShapes (shapes : List ShapeIn) (workers : ℕ) (h : StoreHandle) : Type 0 where
   pub planned : List Shape
   pub all : map shape_in shapes ≡ map Some planned
@@ -49,6 +54,7 @@ pub record HasShapes (shapes : List ShapeIn) (workers : ℕ) (h : StoreHandle) :
   pub scalars : AreScalars h.objects.scalars planned
   pub passes : (arc_value h.store.store).shared.table.shared.key.passes ≡ workers
   pub rest : length h.store.idle.items ≡ workers
+  pub new : All (IsNew (arc_value h.store.store)) h.store.idle.items
   pub none_out : h.store.slots.items ≡ []
 
 abbrev pub IsStoreOf : List ShapeIn → ℕ → HandleContent → Type 0
