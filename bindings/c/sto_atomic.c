@@ -78,7 +78,7 @@ const char *sto_status_text(uint32_t status)
         "workers are out", "the operation wants another number of numbers of this object"};
     static const char *const of_door[] = {"the transaction gave itself up", "the transaction's time was over",
         "a transaction was begun within a transaction", "an object is full", "a sum is no number of 64 bits",
-        "an array has no such place", "an object of another store", "the store is not open", "the store is open already",
+        "an array has no such place", "an object of another store, or one that was not declared before the store was opened", "the store is not open", "the store is open already",
         "a transaction of the store is under way", "the store was opened before this process was forked",
         "another thread called on the transaction"};
     if (status < sizeof of_library / sizeof *of_library) return of_library[status];
@@ -245,9 +245,10 @@ static int64_t unmixed(int64_t key)
     return (int64_t)(x ^ x >> 32);
 }
 
+/* Whether a transaction is under way, or a thread waits for a change or for a worker. */
 static bool in_use(const sto_store *s)
 {
-    bool taken = false;
+    bool taken = atomic_load(&s->waiting) || atomic_load(&s->hungry);
     for (uint32_t i = 0; i < s->workers && !taken; i++) taken = atomic_load(&s->slots[i].taken);
     return taken;
 }

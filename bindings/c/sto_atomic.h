@@ -14,10 +14,11 @@
  *
  * A call within a transaction answers a plain value. Where the transaction met another one, or cannot go on, it stops. The stop
  * sticks to the sto_tx: each later call does nothing and answers 0 (false), and whatever the function then answers, nothing of it
- * takes effect. The transaction is tried again, or sto_atomically tells why it was not done. A loop that waits for an answer asks
- * sto_stopped too.
+ * takes effect. The transaction is tried again, or sto_atomically tells why it was not done. That 0 is no value of the object: ask
+ * sto_stopped before you divide by an answer, take it as a place in memory of your own, or loop on it.
  *
- * The function may run several times. It does not wait for a transaction of another thread, which may have to wait for this one.
+ * The function may run several times. It must not write, send, take a lock, change memory that counts elsewhere, or wait for a
+ * transaction of another thread, which may have to wait for this one.
  * It may leave by a C++ exception, which gives the transaction up; not by longjmp, and its thread is not cancelled meanwhile. A
  * sto_tx is good within its function, on its thread: a call of another thread stops the transaction, and one after its end does
  * nothing.
@@ -48,7 +49,7 @@ enum {
     STO_OTHER_STORE = 70,  /* the object is of another store, or was not declared before the store was opened */
     STO_NOT_OPEN = 71,     /* the store was not opened yet, or was lost as it was to be closed */
     STO_IS_OPEN = 72,      /* the store is open already */
-    STO_IN_USE = 73,       /* a transaction of the store is under way */
+    STO_IN_USE = 73,       /* a transaction of the store is under way, or a thread waits in it */
     STO_FORKED = 74,       /* the store was opened before this process was forked */
     STO_OTHER_THREAD = 75  /* another thread called on the transaction */
 };
@@ -128,7 +129,7 @@ void sto_table_put(sto_tx *, sto_table, int64_t key, int64_t value);  /* stops b
 bool sto_table_try_put(sto_tx *, sto_table, int64_t key, int64_t value);
 bool sto_table_remove(sto_tx *, sto_table, int64_t key);              /* whether it was there */
 bool sto_table_has(sto_tx *, sto_table, int64_t key);
-int64_t sto_table_len(sto_tx *, sto_table);
+int64_t sto_table_len(sto_tx *, sto_table); /* goes through all buckets: keep a counter beside a large table */
 
 bool sto_tree_get(sto_tx *, sto_tree, int64_t key, int64_t *value);   /* where it answers false, *value is left as it was */
 void sto_tree_put(sto_tx *, sto_tree, int64_t key, int64_t value);    /* stops by STO_IS_FULL */
