@@ -40,7 +40,7 @@ by_test false P h = λ p. no_true (h.1 p)
     no_true same = cc same
 
 -- the transaction has ended
-Ends : AskError → Type 0
+abbrev Ends : AskError → Type 0
 Ends ask_error.Aborted = Unit {0}
 Ends ask_error.NoMemory = Unit {0}
 Ends _ = ⊥
@@ -99,4 +99,4 @@ pub no_operation : (given : CallIn) (h : WorkerHandle) → HasObject given h →
 no_operation given h there none = (there, λ call is takes. none_some call (sym none ∙ is))
 
 pub not_taken : (given : CallIn) (h : WorkerHandle) (call : Call) → HasObject given h → call_in given ≡ Some call → (Takes h call → ⊥) → IsFault given h status.NoCall
-not_taken given h call there is no = (there, λ other same takes. no (subst (Takes h) (sym (some_same call other (sym is ∙ same))) takes))
+not_taken given h call there is untaken = (there, λ other same takes. untaken (subst (Takes h) (sym (some_same call other (sym is ∙ same))) takes))

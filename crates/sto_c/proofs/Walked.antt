@@ -1,5 +1,5 @@
 -- The pairs of a walk, one behind the other.
-use Rattle.std.proofs.Common.{◌≡◌, ◌≤◌, ◌<◌, ◌+◌, ℕ, ℤ, List, [], ◌∷◌, ◌++◌, length, take, drop, Option, Some, None, Result, Ok, Err, refl, sym, ap, ◌∙◌, subst, arith, inl}
+use Rattle.std.proofs.Common.{◌≡◌, ◌≤◌, ◌<◌, ◌+◌, ℕ, ℤ, List, [], ◌∷◌, ◌++◌, length, take, drop, Option, Some, None, Result, Ok, Err, refl, sym, ap, ◌∙◌, subst, arith, inl, inr}
 use Rattle.std.specs.Prelude.{slice_set}
 use Rattle.std.proofs.lemmas.List.{length-take-le, take-append-drop, drop-set, drop-drop}
 use Rattle.sto_c.specs.declared.crossing.PairOut.{PairOut}
@@ -8,8 +8,8 @@ use Rattle.sto_model.specs.declared.operation.Operation.TheVariants.{Get, Next}
 use Rattle.sto_c.specs.declared.crossing.ReplyOut.{ReplyOut}
 use Rattle.sto_c.specs.declared.status.Status.{Status}
 use Rattle.sto_c.specs.Calls.{IsFault}
-use Rattle.sto_c.specs.Steps.{HasAsked}
-use Rattle.sto_c.specs.Walks.{call_at, value_in, key_after, HasFound, HaveFound, HasStopped, HasWalkedOn, HasWalked}
+use Rattle.sto_c.specs.Steps.{HasAnswered, HasAsked}
+use Rattle.sto_c.specs.Walks.{call_at, value_in, key_after, HasFound, HasNotFound, HaveFound, HasStopped, HasWalkedOn, HasWalked}
 use Rattle.sto_c.proofs.Asking.{faulted}
 
 some_same : (f g : ℤ) → Some f ≡ Some g → f ≡ g
@@ -36,10 +36,27 @@ left_behind n pairs old x room same =
     sym (drop-drop 1 n (slice_set pairs n x)) ∙ written ∙ sym (drop-drop 1 n pairs) ∙ ap (drop 1) same ∙ drop-drop 1 n old
 
 -- a key was answered, and then its value
-pub found_pair : (object : ℕ) (from key : ℤ) (first second : ReplyOut) (h m k : WorkerHandle) → HasAsked (call_at object Next from) first h (Ok tt) m → value_in first ≡ Some key
-    → HasAsked (call_at object Get key) second m (Ok tt) k → HasFound object from (record { key = key; value = second.value }) h k
-found_pair object from key first second h m k next is get =
-    record { at = m; key = first; value = second; asked_key = next; asked_value = get; is_key = is; is_value = refl }
+module _ (object : ℕ) (from key : ℤ) (first second : ReplyOut) (for_key for_value : CallIn) (h m k : WorkerHandle)
+    (of_key : for_key ≡ call_at object Next from) (of_value : for_value ≡ call_at object Get key)
+    (next : HasAsked for_key first h (Ok tt) m) (is : value_in first ≡ Some key) where
+  asked_next : HasAsked (call_at object Next from) first h (Ok tt) m
+  asked_next = subst (λ (given : CallIn). HasAsked given first h (Ok tt) m) of_key next
+
+  pub found_pair : (pair : PairOut) → pair.key ≡ key → pair.value ≡ second.value → HasAsked for_value second m (Ok tt) k → HasFound object from pair h k
+  found_pair pair same_key same_value get =
+      record {
+        at = m;
+        key = first;
+        value = second;
+        asked_key = asked_next;
+        asked_value = subst (λ (x : ℤ). HasAsked (call_at object Get x) second m (Ok tt) k) (sym same_key) (subst (λ (given : CallIn). HasAsked given second m (Ok tt) k) of_value get);
+        is_key = is ∙ ap Some (sym same_key);
+        is_value = same_value;
+      }
+
+  -- or not
+  pub found_no_value : (why : Status) → HasAnswered for_value m (Err why) k → HasNotFound object from h why k
+  found_no_value why failed = inr (first, key, m, asked_next, is, subst (λ (given : CallIn). HasAnswered given m (Err why) k) of_value failed)
 
 -- a walk that has found so many pairs, and stops
 pub has_walked_on : (object : ℕ) (from : ℤ) (old new : List PairOut) (n : ℕ) → length new ≡ length old → n ≤ length new → drop n new ≡ drop n old
