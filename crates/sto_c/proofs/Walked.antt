@@ -2,6 +2,7 @@
 use Rattle.std.proofs.Common.{◌≡◌, ◌≤◌, ◌<◌, ◌+◌, ℕ, ℤ, List, [], ◌∷◌, ◌++◌, length, take, drop, Option, Some, None, Result, Ok, Err, refl, sym, ap, ◌∙◌, subst, arith, inl, inr}
 use Rattle.std.specs.Prelude.{slice_set}
 use Rattle.std.proofs.lemmas.List.{length-take-le, take-append-drop, drop-set, drop-drop}
+use Rattle.sto_c.specs.declared.crossing.CallIn.{CallIn}
 use Rattle.sto_c.specs.declared.crossing.PairOut.{PairOut}
 use Rattle.sto_c.specs.declared.content.WorkerHandle.{WorkerHandle}
 use Rattle.sto_model.specs.declared.operation.Operation.TheVariants.{Get, Next}

@@ -1,10 +1,10 @@
 -- Each pair is written behind those before it.
 use Rattle.std.proofs.Common.{◌≡◌, ◌+◌, ◌<◌, ◌≤◌, ℕ, ℤ, rules, w64, to_z, of_z, FitsSigned, List, length, take, drop, Option, Some, None, Ok, Err, refl, sym, ◌∙◌, subst, arith, inl, inr}
-use Rattle.std.specs.Prelude.{slice_set}
+use Rattle.std.specs.Prelude.{slice_set, IfSome, IfNone}
 use Rattle.std.proofs.lemmas.Int.{to_z-of_z}
 use Rattle.std.proofs.lemmas.List.{take_more_set, length-take-le, length-set}
 use Rattle.sto_c.specs.declared.crossing.PairOut.{PairOut}
-use Rattle.sto_c.specs.Walks.{key_after, HaveFound}
+use Rattle.sto_c.specs.Walks.{key_after, HaveFound, HasFound, HasNone, HasNotFound}
 use Rattle.sto_c.proofs.Walked.{have_found_more, left_behind, has_walked_on}
 use Rattle.sto_c.proofs.walking.walk_on.Goals as goal
 
@@ -25,7 +25,9 @@ loop-place-preserved c =
     let pair_fits : FitsSigned w64 pair.key = search rules in
     let room : n < length pairs = omega (arith, c.loop-place-test.true, i.long) in
     let found = simp to_z-of_z at i.found in
-    let one = simp to_z-of_z at c.in-Ok-Some.ensures.some in
+    let one : HasFound object c.in-Some.key pair c.loop-place.held c.find.new.held =
+    subst (λ (f : ℤ). HasFound object f pair c.loop-place.held c.find.new.held) (to_z-of_z w64 c.in-Some.key key_fits)
+    (subst (λ (o : Option PairOut). IfSome o (λ p. HasFound object (to_z w64 (of_z w64 c.in-Some.key)) p c.loop-place.held c.find.new.held)) c.in-Ok-Some.is c.in-Ok-Some.ensures.some) in
     let after : c.key_after-next.result ≡ key_after pair.key = simp to_z-of_z at c.key_after-next.ensures in
     let before = subst (λ (next : Option ℤ). HaveFound object (Some from) (take n pairs) next h c.loop-place.held) c.in-Some.is found in
     let more = have_found_more object (Some from) (take n pairs) c.in-Some.key pair h c.loop-place.held c.find.new.held before one in
@@ -62,7 +64,9 @@ returns-in-Ok-None-clause-walked c =
     let key_fits : FitsSigned w64 c.in-Some.key = search rules in
     let within : n ≤ length pairs = omega (arith, c.loop-place-test.true, i.long) in
     let found = simp to_z-of_z at i.found in
-    let none = simp to_z-of_z at c.in-Ok-None.ensures.none in
+    let none : HasNone c.args.object (Some c.in-Some.key) c.loop-place.held c.find.new.held =
+    subst (λ (f : ℤ). HasNone c.args.object (Some f) c.loop-place.held c.find.new.held) (to_z-of_z w64 c.in-Some.key key_fits)
+    (subst (λ (o : Option PairOut). IfNone o (HasNone c.args.object (Some (to_z w64 (of_z w64 c.in-Some.key))) c.loop-place.held c.find.new.held)) c.in-Ok-None.is c.in-Ok-None.ensures.none) in
     has_walked_on c.args.object c.args.from c.args.pairs.now pairs n i.long within i.behind c.args.held.now c.loop-place.held (Some c.in-Some.key)
     (subst (λ (next : Option ℤ). HaveFound c.args.object (Some c.args.from) (take n pairs) next c.args.held.now c.loop-place.held) c.in-Some.is found)
     n (Ok tt) c.find.new.held (sym (length-take-le n pairs within), inr none)
@@ -76,7 +80,7 @@ returns-in-Err-clause-walked c =
     let key_fits : FitsSigned w64 c.in-Some.key = search rules in
     let within : n ≤ length pairs = omega (arith, c.loop-place-test.true, i.long) in
     let found = simp to_z-of_z at i.found in
-    let failed = simp to_z-of_z at c.in-Err.ensures.failed in
+    let failed = subst (λ (f : ℤ). HasNotFound c.args.object f c.loop-place.held c.in-Err.status c.find.new.held) (to_z-of_z w64 c.in-Some.key key_fits) c.in-Err.ensures.failed in
     has_walked_on c.args.object c.args.from c.args.pairs.now pairs n i.long within i.behind c.args.held.now c.loop-place.held (Some c.in-Some.key)
     (subst (λ (next : Option ℤ). HaveFound c.args.object (Some c.args.from) (take n pairs) next c.args.held.now c.loop-place.held) c.in-Some.is found)
     _ (Err c.in-Err.status) c.find.new.held failed
