@@ -27,7 +27,7 @@ loop-place-preserved c =
     let found = simp to_z-of_z at i.found in
     let one : HasFound object c.in-Some.key pair c.loop-place.held c.find.new.held =
     subst (λ (f : ℤ). HasFound object f pair c.loop-place.held c.find.new.held) (to_z-of_z w64 c.in-Some.key key_fits)
-    (subst (λ (o : Option PairOut). IfSome o (λ p. HasFound object (to_z w64 (of_z w64 c.in-Some.key)) p c.loop-place.held c.find.new.held)) c.in-Ok-Some.is c.in-Ok-Some.ensures.some) in
+    (subst (λ (o : Option PairOut). IfSome o (λ p. HasFound object (to_z w64 (of_z w64 c.in-Some.key)) p c.loop-place.held c.find.new.held)) c.in-Ok-Some.field-0-is c.in-Ok-Some.ensures.some) in
     let after : c.key_after-next.result ≡ key_after pair.key = simp to_z-of_z at c.key_after-next.ensures in
     let before = subst (λ (next : Option ℤ). HaveFound object (Some from) (take n pairs) next h c.loop-place.held) c.in-Some.is found in
     let more = have_found_more object (Some from) (take n pairs) c.in-Some.key pair h c.loop-place.held c.find.new.held before one in
@@ -66,7 +66,7 @@ returns-in-Ok-None-clause-walked c =
     let found = simp to_z-of_z at i.found in
     let none : HasNone c.args.object (Some c.in-Some.key) c.loop-place.held c.find.new.held =
     subst (λ (f : ℤ). HasNone c.args.object (Some f) c.loop-place.held c.find.new.held) (to_z-of_z w64 c.in-Some.key key_fits)
-    (subst (λ (o : Option PairOut). IfNone o (HasNone c.args.object (Some (to_z w64 (of_z w64 c.in-Some.key))) c.loop-place.held c.find.new.held)) c.in-Ok-None.is c.in-Ok-None.ensures.none) in
+    (subst (λ (o : Option PairOut). IfNone o (HasNone c.args.object (Some (to_z w64 (of_z w64 c.in-Some.key))) c.loop-place.held c.find.new.held)) c.in-Ok-None.field-0-is c.in-Ok-None.ensures.none) in
     has_walked_on c.args.object c.args.from c.args.pairs.now pairs n i.long within i.behind c.args.held.now c.loop-place.held (Some c.in-Some.key)
     (subst (λ (next : Option ℤ). HaveFound c.args.object (Some c.args.from) (take n pairs) next c.args.held.now c.loop-place.held) c.in-Some.is found)
     n (Ok tt) c.find.new.held (sym (length-take-le n pairs within), inr none)
