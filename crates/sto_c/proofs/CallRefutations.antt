@@ -1,5 +1,5 @@
 -- What the clauses of calls, of shapes and of walks refuse.
-use Rattle.std.proofs.Common.{◌≡◌, ◌≢◌, ◌<◌, ◌≤◌, ◌⊎◌, ℕ, ℤ, nat_lt, Bool, false, List, [], ◌∷◌, length, map, Option, Some, None, Result, Ok, Err, refl, sym, ap, ◌∙◌, subst, arith, inl, inr}
+use Rattle.std.proofs.Common.{◌≡◌, ◌≢◌, ◌<◌, ◌≤◌, ◌⊎◌, ℕ, ℤ, nat_lt, Bool, false, List, [], ◌∷◌, length, map, Option, Some, None, Ok, Err, refl, sym, ap, ◌∙◌, subst, arith, inl, inr}
 use Rattle.std.proofs.lemmas.Bool.Decides.{nat_tests}
 use Rattle.sto_model.specs.Calls.{call_of}
 use Rattle.sto_model.specs.declared.call.Call.{Call}
@@ -62,12 +62,12 @@ no_workers_before_shapes given shapes workers kind a =
     no_none (map shape_in shapes) a.0.0 (subst (λ (o : Option Shape). o ∷ map shape_in shapes ≡ map Some a.0.0) kind a.0.1.0)
 
 -- nor is a number that is in range refused
-no_fault_of_one : (1 ≡ 0) ⊎ (65536 < 1) → ⊥
-no_fault_of_one (inl none) = omega (arith, none)
-no_fault_of_one (inr many) = omega (arith, many)
+no_fault_of_one : (workers : ℕ) → workers ≡ 1 → (workers ≡ 0) ⊎ (65536 < workers) → ⊥
+no_fault_of_one workers one (inl none) = omega (arith, one, none)
+no_fault_of_one workers one (inr many) = omega (arith, one, many)
 
 pub no_refusal_of_one_worker : (shapes : List ShapeIn) → IsUnopened shapes 1 status.BadWorkers → ⊥
-no_refusal_of_one_worker shapes a = no_fault_of_one a.1
+no_refusal_of_one_worker shapes a = no_fault_of_one 1 refl a.1
 
 module _ (shapes : List ShapeIn) (workers : ℕ) (h : StoreHandle) (opened : HasShapes shapes workers h) where
   scalars_of : (count : ℕ) (planned : List Shape) → h.objects.scalars ≡ count → opened.planned ≡ planned → AreScalars count planned

@@ -1,7 +1,6 @@
 -- The key is the one that was answered first, the value the one that was answered then.
-use Rattle.std.proofs.Common.{◌≡◌, ℤ, rules, w64, to_z, of_z, FitsSigned, Some, sym}
+use Rattle.std.proofs.Common.{rules, w64, FitsSigned, sym}
 use Rattle.std.proofs.lemmas.Int.{to_z-of_z}
-use Rattle.sto_c.specs.Walks.{value_in}
 use Rattle.sto_c.proofs.Walked.{found_pair, found_no_value}
 use Rattle.sto_c.proofs.walking.find.Goals as goal
 

@@ -1,5 +1,5 @@
 -- Each pair is written behind those before it.
-use Rattle.std.proofs.Common.{◌≡◌, ◌+◌, ◌<◌, ◌≤◌, ℕ, ℤ, rules, w64, to_z, of_z, FitsSigned, List, length, take, drop, Option, Some, None, Ok, Err, refl, sym, ◌∙◌, subst, arith, inl, inr}
+use Rattle.std.proofs.Common.{◌≡◌, ◌+◌, ◌<◌, ◌≤◌, ℤ, rules, w64, to_z, of_z, FitsSigned, List, length, take, Option, Some, None, Ok, Err, refl, sym, ◌∙◌, subst, arith, inl, inr}
 use Rattle.std.specs.Prelude.{slice_set, IfSome, IfNone}
 use Rattle.std.proofs.lemmas.Int.{to_z-of_z}
 use Rattle.std.proofs.lemmas.List.{take_more_set, length-take-le, length-set}
