@@ -1,5 +1,5 @@
 -- What the calls on a worker lead to: from what a handle holds before a call to what it holds after it, by the status.
-use Rattle.std.specs.Prelude.{◌≡◌, ◌<◌, ◌≤◌, ◌⊎◌, ◌++◌, ℕ, List, length, map, drop, Result, Ok, Err, Option, Some, None, option_map, option_and_then, IfSome, OnOk, MatchOption}
+use Rattle.std.specs.Prelude.{◌≡◌, ◌<◌, ◌++◌, ℕ, List, length, map, drop, Result, Ok, Err, Option, Some, option_map, option_and_then, IfSome, OnOk, MatchOption}
 use Rattle.std.specs.Arc.{arc_value}
 use Rattle.sto_model.specs.declared.call.Call.{Call}
 use Rattle.sto_model.specs.declared.reply.Reply.{Reply}

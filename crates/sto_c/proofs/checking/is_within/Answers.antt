@@ -1,5 +1,4 @@
 -- It is in one where there are replies of one.
-use Rattle.std.specs.Prelude.{option_map}
 use Rattle.sto_shared_store.specs.Owned.{replies_of}
 use Rattle.sto_c.proofs.Asking.{is_there}
 use Rattle.sto_c.proofs.checking.is_within.Goals as goal

@@ -1,5 +1,5 @@
 -- The next shape is planned, or is the first that cannot stand behind those before it.
-use Rattle.std.proofs.Common.{◌≡◌, ℕ, get_or, slice_get, List, [], Result, Ok, Err, pos, sym, subst, arith}
+use Rattle.std.proofs.Common.{◌≡◌, ℕ, get_or, List, [], Result, Ok, Err, pos, sym, subst, arith}
 use Rattle.std.specs.Prelude.{IfErr}
 use Rattle.std.specs.Result.{IsErrAnd}
 use Rattle.std.proofs.lemmas.Option.{slice_get-get_or}
